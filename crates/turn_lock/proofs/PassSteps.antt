@@ -1,5 +1,5 @@
 -- Splitting and joining seats keeps the rule, and what the seat that stands for all passes knows at the end.
-use Rattle.std.proofs.Common.{◌≡◌, ℕ, zero, suc, ◌+◌, ◌<◌, ◌≤◌, ◌≢◌, ◌⊎◌, true, false, eqb, leb, List, [], ◌∷◌, ◌++◌, set, Option, Some, refl, sym, ap, ◌∙◌, subst, inl, inr, ⊎_elim, arith, length-append, eq-eqb, ne_eqb}
+use Rattle.std.proofs.Common.{◌≡◌, ℕ, zero, suc, ◌+◌, ◌-◌, ◌<◌, ◌≤◌, ◌≢◌, ◌⊎◌, true, false, eqb, leb, List, [], ◌∷◌, ◌++◌, set, Option, Some, refl, sym, ap, ◌∙◌, subst, inl, inr, ⊎_elim, arith, length-append, eq-eqb, ne_eqb}
 use Rattle.std.proofs.lemmas.Bool.{le-leb}
 use Rattle.std.proofs.lemmas.List.Elements.{All-nil}
 use Rattle.std.proofs.lemmas.Bool.Decides.{leb_tells}
@@ -7,10 +7,10 @@ use mathlib.Core.Option as maybe
 use mathlib.Core.Logic.{dite}
 use native.Mathlib.Decide.{ℕ_discrete}
 use lib.ListN.{get_elem?}
-use Rattle.atomic_table.specs.Table.{State, opening, Splits, Joins, Final, Seen}
+use Rattle.atomic_table.specs.Table.{State, Me, opening, Splits, Joins, Final, Seen}
 use Rattle.atomic_table.proofs.Lists.{set_else, at_snoc, at_longer}
 use Rattle.turn_lock.specs.Histories.{Entry, own}
-use Rattle.turn_lock.specs.Views.{total, tickets, waits, parts_of, claims, is_number, taken_in, has_number, HasTicket, at_stage, claim_of, issuer, spent, issuer_after, issued, joined}
+use Rattle.turn_lock.specs.Views.{total, tickets, waits, parts_of, claims, is_number, taken_in, has_number, HasTicket, at_stage, claim_of, issuer, spent, issuer_after, issued, joined, claims_of}
 use Rattle.turn_lock.specs.Rule.{Fits, Each, Live, Issues, Knows, Placed, Kept, Ends}
 use Rattle.turn_lock.specs.declared.view.View.{View}
 use Rattle.turn_lock.specs.declared.view.Stage.{Stage}
@@ -37,6 +37,22 @@ cut_numbers m n = dite (ℕ_discrete n m)
 
     below : ((leb m n ≡ true) × (m ≤ n)) ⊎ ((leb m n ≡ false) × (n < m)) → n < m → leb m n ≡ false
     below t lt = ⊎_elim (λ (h : (leb m n ≡ true) × (m ≤ n)). let a = h.1 in absurd (omega arith)) (λ h. h.0) t
+
+-- an issuer that issued one more of so many passes
+pub issues_on : {S B : Type 0} (b : B) (count n : ℕ) (old now : Me S (View B)) → old ≡ (issuer b (count - n) n, []) → now ≡ (issuer_after old.0, old.1) → now ≡ (issuer b (count - (n + 1)) (n + 1), [])
+issues_on {S} {B} b count n old now was is =
+    let h : (count - n) - 1 ≡ count - (n + 1) = omega arith in
+    subst (λ (p : ℕ). now ≡ (issuer b p (n + 1), [])) h (subst (λ (m : Me S (View B)). now ≡ (issuer_after m.0, m.1)) was is)
+
+-- an idle seat that takes in a seat of one pass stands for one more, and claims what that one does
+pub took_in : {S B : Type 0} (old now : Me S (View B)) (w : View B) → old.0.stage ≡ Idle → old.1 ≡ [] → w.parts ≡ 1 → w.took ≡ [] → now ≡ (joined old.0 w, old.1)
+    → (now.0.stage ≡ Idle) × (now.1 ≡ []) × (now.0.parts ≡ suc old.0.parts) × (claims_of now.0 ≡ claims_of old.0 ++ claim_of w ∷ [])
+took_in old now w free empty one none e = (
+  ap (λ m. m.0.stage) e ∙ free,
+  ap (λ m. m.1) e ∙ empty,
+  (let n = ap (λ m. m.0.parts) e in omega arith),
+  ap (λ m. claims_of m.0) e ∙ ap (λ t. claims_of old.0 ++ claim_of w ∷ t) none,
+)
 
 module _ {T B : Type 0} (stands : T → B → List Entry → Type 0) (base : B) (passes : ℕ) where
   abbrev St : Type 0

@@ -5,16 +5,19 @@ use lib.ListN.{get_elem?}
 use Rattle.turn_lock.specs.Views.{total}
 
 module _ {A : Type 0} (f : A → ℕ) where
+  -- one element changes
   pub total_set : (l : List A) (i : ℕ) (a b : A) → get_elem? l i ≡ some a → total f (set l i b) + f a ≡ total f l + f b
   total_set [] i a b e = absurd (some-ne-none a (sym e))
   total_set (x ∷ xs) zero a b e = let h : f x ≡ f a = ap f (some-injective x a e) in omega arith
   total_set (x ∷ xs) (suc i) a b e = let h = total_set xs i a b e in omega arith
 
+  -- one element has no more than all
   pub total_one : (l : List A) (i : ℕ) (a : A) → get_elem? l i ≡ some a → f a ≤ total f l
   total_one [] i a e = absurd (some-ne-none a (sym e))
   total_one (x ∷ xs) zero a e = let h : f x ≡ f a = ap f (some-injective x a e) in omega arith
   total_one (x ∷ xs) (suc i) a e = let h = total_one xs i a e in omega arith
 
+  -- nor have two
   pub total_two : (l : List A) (i j : ℕ) (a b : A) → i ≢ j → get_elem? l i ≡ some a → get_elem? l j ≡ some b → f a + f b ≤ total f l
   total_two [] i j a b n e d = absurd (some-ne-none a (sym e))
   total_two (x ∷ xs) zero zero a b n e d = absurd (n refl)
@@ -26,26 +29,16 @@ module _ {A : Type 0} (f : A → ℕ) where
   total-append [] m = omega arith
   total-append (x ∷ xs) m = let h = total-append xs m in omega arith
 
+-- where each f is at most g, so is the sum
 pub total_le : {A : Type 0} (f g : A → ℕ) (l : List A) → ((i : ℕ) (a : A) → get_elem? l i ≡ some a → f a ≤ g a) → total f l ≤ total g l
 total_le f g [] h = omega arith
 total_le f g (x ∷ xs) h = let p = h zero x refl in let q = total_le f g xs (λ i. h (suc i)) in omega arith
 
--- where each f is at most 0
-pub total_none : {A : Type 0} (f : A → ℕ) (l : List A) → ((i : ℕ) (a : A) → get_elem? l i ≡ some a → f a ≡ 0) → total f l ≡ 0
-total_none f [] h = refl
-total_none f (x ∷ xs) h = let p = h zero x refl in let q = total_none f xs (λ i. h (suc i)) in omega arith
-
--- what one place alone has is the whole
-pub total_only : {A : Type 0} (f : A → ℕ) (l : List A) (i : ℕ) (a : A) → get_elem? l i ≡ some a → ((j : ℕ) (b : A) → j ≢ i → get_elem? l j ≡ some b → f b ≡ 0) → total f l ≡ f a
-total_only f [] i a e h = absurd (some-ne-none a (sym e))
-total_only f (x ∷ xs) zero a e h = let p : f x ≡ f a = ap f (some-injective x a e) in let q = total_none f xs (λ j b. h (suc j) b (λ z. omega arith)) in omega arith
-total_only f (x ∷ xs) (suc i) a e h = let p = h zero x (λ z. omega arith) refl in let q = total_only f xs i a e (λ j b n. h (suc j) b (λ z. n (omega arith))) in omega arith
-
-module _ {A : Type 0} where
-  pub at_set_here : (l : List A) (i : ℕ) (a b : A) → get_elem? l i ≡ some a → get_elem? (set l i b) i ≡ some b
-  at_set_here [] i a b e = absurd (some-ne-none a (sym e))
-  at_set_here (x ∷ xs) zero a b e = refl
-  at_set_here (x ∷ xs) (suc i) a b e = at_set_here xs i a b e
+-- what was set at a place of the list is found there
+pub at_set_here : {A : Type 0} (l : List A) (i : ℕ) (a b : A) → get_elem? l i ≡ some a → get_elem? (set l i b) i ≡ some b
+at_set_here [] i a b e = absurd (some-ne-none a (sym e))
+at_set_here (x ∷ xs) zero a b e = refl
+at_set_here (x ∷ xs) (suc i) a b e = at_set_here xs i a b e
 
 -- each place counts for nothing, or Q holds
 pub total_or : {A : Type 0} (f : A → ℕ) (l : List A) (Q : Type 0) → ((i : ℕ) (a : A) → get_elem? l i ≡ some a → (f a ≡ 0) ⊎ Q) → (total f l ≡ 0) ⊎ Q

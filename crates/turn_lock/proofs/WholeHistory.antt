@@ -1,18 +1,22 @@
 -- From what the last seat claims to what each pass knows.
-use Rattle.std.proofs.Common.{◌≡◌, ◌≢◌, ℕ, suc, ◌+◌, ◌≤◌, Bool, true, false, eqb, if◌then◌else◌, length, List, [], ◌∷◌, ◌++◌, All, refl, sym, ap, ◌∙◌, subst, arith, ne_eqb}
+use Rattle.std.proofs.Common.{◌≡◌, ◌≢◌, ℕ, ◌+◌, ◌≤◌, Bool, true, false, eqb, if◌then◌else◌, length, List, [], ◌∷◌, ◌++◌, Option, Some, All, refl, sym, ap, ◌∙◌, subst, arith, ne_eqb}
 use Rattle.std.proofs.lemmas.List.Elements.{All-nil, All-cons, All-head, All-tail, All-push, All-pop}
+use mathlib.Core.Option as maybe
 use mathlib.Core.Logic.{dite}
 use native.Mathlib.Decide.{ℕ_discrete}
+use lib.ListN.{get_elem?}
+use Rattle.atomic_table.specs.Table.{Final, Seen}
 use Rattle.turn_lock.specs.Histories.{Entry, own}
 use Rattle.turn_lock.specs.Passes.{IsPartOf, AreWhole, claims_back, pass_claim, pass_number, pass_seen, pass_mine}
 use Rattle.turn_lock.specs.Views.{total, is_number, taken_in, has_number, claims, claims_of}
-use Rattle.turn_lock.specs.Rule.{Fits, Each, Ends}
+use Rattle.turn_lock.specs.Rule.{Fits, Each, Kept, Ends}
 use Rattle.turn_lock.specs.declared.pass.PassOf.{PassOf}
 use Rattle.turn_lock.specs.declared.view.Claim.{Claim}
 use Rattle.turn_lock.specs.declared.view.View.{View}
 use Rattle.turn_lock.specs.declared.view.Stage.{Stage}
 use Rattle.turn_lock.specs.declared.view.Stage.TheVariants.{Idle}
 use Rattle.turn_lock.proofs.Totals.{total-append}
+use Rattle.turn_lock.proofs.PassSteps.{finals}
 use Rattle.turn_lock.proofs.OwnEntries.{chosen_if, same_counts}
 
 Each-cut : {A : Type 0} (P : A → Type 0) (xs : List A) (y : A) → Each P (xs ++ y ∷ []) → Each P xs × P y
@@ -99,4 +103,17 @@ module _ {T B : Type 0} where
       }
     where
       All-cut : (P : PassOf T B → Type 0) (xs : List (PassOf T B)) (x : PassOf T B) → All P (xs ++ x ∷ []) → All P xs × P x
-      All-cut P xs x h = All-pop P (xs ++ x ∷ []) xs (Rattle.std.proofs.Common.Some x) refl h
+      All-cut P xs x h = All-pop P (xs ++ x ∷ []) xs (Some x) refl h
+
+  -- what a lock gives that ends with a seat that stands for all of its passes
+  pub closes : (stands : T → B → List Entry → Type 0) (base own_base : B) → own_base ≡ base → (passes id : ℕ) (v : View B) (ws : List ℕ) (xs : List (Option T)) (first : PassOf T B) (rest all : List (PassOf T B)) → v.stage ≡ Idle → v.parts ≡ passes
+      → Final (Seen (Kept stands base passes) id v) ws xs → (value : T) → get_elem? xs 0 ≡ maybe.some (Some value) → claims_of v ≡ claims_of first.seat.me.0 ++ claims_back rest → all ≡ rest ++ first ∷ []
+      → (entries : List Entry) × stands value own_base entries × AreWhole entries all
+  closes stands base own_base same passes id v ws xs first rest all free full final value found claimed are =
+      let f = finals stands base passes id v ws xs free full final in
+      let here : maybe.some (Some f.0) ≡ maybe.some (Some value) = sym f.1 ∙ found in
+      let y : f.0 ≡ value = cc in (
+        f.2.entries,
+        subst (λ (z : T × B). stands z.0 z.1 f.2.entries) (λ i. (y i, sym same i)) f.2.standing,
+        whole stands base v f.0 first rest all f.2 free claimed are,
+      )

@@ -1,8 +1,8 @@
-use Rattle.std.proofs.Common.{rules, ◌≡◌, ℕ, ◌+◌, ◌-◌, ◌<◌, [], ap, ◌∙◌, arith}
-use Rattle.turn_lock.specs.Views.{issuer, issuer_after, next_of}
+use Rattle.std.proofs.Common.{rules, ◌≡◌, ℕ, ◌-◌, ◌<◌, ap, arith}
+use Rattle.turn_lock.specs.Views.{next_of}
 use Rattle.turn_lock.specs.Passes.{IsNewPass, pass_lock, pass_number, pass_seen, pass_mine, lock_id, lock_passes}
 use Rattle.turn_lock.proofs.Totals.{each_more}
-use Rattle.turn_lock.proofs.PassSteps.{splits}
+use Rattle.turn_lock.proofs.PassSteps.{splits, issues_on}
 use Rattle.turn_lock.proofs.lock.TurnLock.issue.Goals as goal
 
 pub split_seat-seat-requires : goal.split_seat-seat-requires
@@ -18,7 +18,7 @@ loop-number-preserved g c =
     let e = c.split_seat-seat.ensures in let root = c.loop-number.invariant.root in let n : ℕ = c.loop-number.number in
     let next : next_of c.loop-number.root.me.0.stage ≡ n = ap (λ m. next_of m.0.stage) root in record {
       table = search rules;
-      root = e.2 ∙ (ap (λ m. (issuer_after m.0, m.1)) root ∙ (λ i. (issuer g.base (let h : (c.args.count - n) - 1 ≡ c.args.count - (n + 1) = omega arith in h i) (n + 1), [])));
+      root = issues_on g.base c.args.count n c.loop-number.root.me c.split_seat-seat.new.seat.me root e.2;
       len = search rules;
       room = search rules;
       passes = rw c.push_reserved.ensures.items (each_more (IsNewPass c.args.self.now) _ _ c.loop-number.invariant.passes record {
