@@ -169,6 +169,7 @@ module _ {T B : Type 0} (stands : T → B → List Entry → Type 0) (base : B) 
           now = refl;
           begins = live.self.0;
           mine = live.self.1;
+          number = (let n = live.numbered in let few = k.few in omega arith);
           below = below_more passes 1024 k.few es k.below;
           standing = λ b e. subst (λ (z : B). stands home.0 z es) (some_same base b (sym live.based ∙ e)) home.2;
         },

@@ -1,5 +1,5 @@
 -- What the steps of a turn tell the seat that makes them.
-use Rattle.std.specs.Prelude.{◌≡◌, ◌≢◌, ℕ, ◌%◌, List, [], ◌∷◌, Option, Some}
+use Rattle.std.specs.Prelude.{◌≡◌, ◌≢◌, ℕ, ◌<◌, ◌%◌, List, [], ◌∷◌, Option, Some}
 use Rattle.atomic_table.specs.declared.shared.Seat.{Seat}
 use Rattle.atomic_table.specs.Table.{Me, Step, rest}
 use Rattle.turn_lock.specs.Histories.{Entry, own, Begins, AreNumberedBelow}
@@ -32,6 +32,7 @@ module _ {T B : Type 0} (stands : T → B → List Entry → Type 0) where
     pub now : m' ≡ (holding m.0 t entries, (0, Some value) ∷ m.1)
     pub begins : Begins m.0.seen entries
     pub mine : own m.0.number entries ≡ m.0.mine
+    pub number : m.0.number < 1024
     pub below : AreNumberedBelow 1024 entries
     pub standing : (b : B) → m.0.base ≡ Some b → stands value b entries
 
@@ -49,5 +50,6 @@ module _ {T B : Type 0} (stands : T → B → List Entry → Type 0) where
     pub now : q.me ≡ (holding p.me.0 ticket entries, (0, Some value) ∷ [])
     pub begins : Begins p.me.0.seen entries
     pub mine : own p.me.0.number entries ≡ p.me.0.mine
+    pub number : p.me.0.number < 1024
     pub below : AreNumberedBelow 1024 entries
     pub standing : (b : B) → p.me.0.base ≡ Some b → stands value b entries

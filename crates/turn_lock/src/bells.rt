@@ -8,6 +8,7 @@ use std::sync::atomic::Ordering::SeqCst;
 const BELLS: usize = 64;
 
 /// A bell for each ticket, shared by the tickets that are so many apart.
+#[derive(Drop)]
 pub(crate) struct Bells {
     bells: [AtomicU64; BELLS],
 }
@@ -25,7 +26,7 @@ impl Bells {
     }
 
     fn bell(&self, ticket: u64) -> &AtomicU64 {
-        &self.bells[(ticket % 64) as usize]
+        &self.bells[ticket as usize % BELLS]
     }
 
     /// How often the bell of this ticket has rung.
@@ -43,11 +44,5 @@ impl Bells {
         let bell = self.bell(ticket);
         bell.fetch_add(1, SeqCst);
         bell.wake_all();
-    }
-}
-
-impl Drop for Bells {
-    fn drop(self) {
-        let Self { bells: _ } = self;
     }
 }

@@ -22,6 +22,15 @@ pub struct PassOf<T, B> {
 }
 
 impl<T, B> PassOf<T, B> {
+    ghost use Rattle.turn_lock.specs.Passes.{pass_number};
+
+    /// The number of the pass: its place among those that `new` gave.
+    pub fn number(&self) -> u32
+        ensures { result ≡ pass_number self.now }
+    {
+        self.number
+    }
+
     // What the table knows it by.
     pub(crate) fn into_seat(self) -> Seat<Option<T>, View<B>>
         ensures { result ≡ self.seat }

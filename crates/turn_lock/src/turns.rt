@@ -1,5 +1,5 @@
 // A turn: draw a ticket, wait until it is served, take the value out, put it back, and let the next one come.
-ghost use Rattle.std.specs.Prelude.{◌≡◌, ◌%◌, ◌^◌, ◌++◌, ◌∷◌, [], ℕ, Some, None};
+ghost use Rattle.std.specs.Prelude.{◌≡◌, ◌<◌, ◌%◌, ◌^◌, ◌++◌, ◌∷◌, [], ℕ, Some, None};
 ghost use Rattle.turn_lock.specs.Histories.{own, Begins, AreNumberedBelow};
 ghost use Rattle.turn_lock.specs.Passes.{pass_lock, pass_number, pass_seen, pass_mine, IsPassOf, IsFree, IsInTurn, IsSamePass};
 ghost use Rattle.turn_lock.specs.Steps.{HasDrawn, TurnCame};
@@ -8,7 +8,7 @@ ghost use Rattle.turn_lock.specs.declared.view.Stage.TheVariants.{Idle, Waiting,
 
 use crate::lock::{LockSeat, SERVING, TICKET, Turn, TurnLock, VALUE};
 use crate::object::{Named, Object};
-use crate::pass::{Pass, PassOf};
+use crate::pass::Pass;
 use crate::steps::{Draw, Look, Raise};
 use std::hint;
 use std::marker::Brand;
@@ -17,19 +17,10 @@ use std::sync::Wait;
 // How often a thread looks again before it sleeps. A short turn is over by then.
 const LOOKS: u32 = 100;
 
-impl<T, B> PassOf<T, B> {
-    /// The number of the pass: its place among those that `new` gave.
-    pub fn number(&self) -> u32
-        ensures { result ≡ pass_number self.now }
-    {
-        self.number
-    }
-}
-
 impl<T: Object> TurnLock<T> {
     /// Waits for the turn of this pass. The value stands for all entries so far, which begin with those that the pass
-    /// had seen, and among which those with its number are its own. Where the lock is free this costs one atomic
-    /// addition and one load. It may wait for ever, as where a turn is never left.
+    /// had seen, and among which those with its number are its own. No number is above 1,023. Where the lock is free
+    /// this costs one atomic addition and one load. It may wait for ever, as where a turn is never left.
     pub fn enter<R: Wait>(&self, rt: &R, pass: &mut Pass<T>) -> Turn<T>
         requires own { IsPassOf self.now pass.old }
         requires free { IsFree pass.old }
@@ -38,6 +29,7 @@ impl<T: Object> TurnLock<T> {
         ensures seen { Begins (pass_seen pass.old) (pass_seen pass.new) }
         ensures mine { pass_mine pass.new ≡ pass_mine pass.old }
         ensures own { own (pass_number pass.new) (pass_seen pass.new) ≡ pass_mine pass.new }
+        ensures number { pass_number pass.new < 1024 }
         ensures numbers { AreNumberedBelow 1024 (pass_seen pass.new) }
         ensures value { T.stands result.value (pass_lock pass.new).base (pass_seen pass.new) }
     {

@@ -1,5 +1,5 @@
 -- What a turn, and a number of turns, leave of a pass.
-use Rattle.std.specs.Prelude.{◌≡◌, ℕ, List, [], ◌∷◌, ◌++◌, length}
+use Rattle.std.specs.Prelude.{◌≡◌, ◌<◌, ℕ, List, [], ◌∷◌, ◌++◌, length}
 use Rattle.turn_lock.specs.Histories.{Entry, AreNumberedBelow}
 use Rattle.turn_lock.specs.Passes.{pass_number, pass_seen, pass_mine, IsPassOf, IsFree, IsSamePass}
 use Rattle.turn_lock.specs.declared.lock.TurnLock.{TurnLock}
@@ -10,6 +10,7 @@ pub record TurnMade {T B : Type 0} (op : List ℕ) (p q : PassOf T B) : Type 0 w
   pub same : IsSamePass p q
   pub free : IsFree q
   pub between : List Entry
+  pub number : pass_number p < 1024
   pub below : AreNumberedBelow 1024 (pass_seen p ++ between)
   pub seen : pass_seen q ≡ (pass_seen p ++ between) ++ (pass_number p, op) ∷ []
   pub mine : pass_mine q ≡ pass_mine p ++ (pass_number p, op) ∷ []
