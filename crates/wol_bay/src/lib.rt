@@ -1,0 +1,9 @@
+//! Images of disks by name. An image goes out cut into parts, each a disk of its own, and comes back with what was
+//! written to them: the trait, a bay in memory that tells all of it, and a bay of files that tells nothing.
+#![tactic(auto)]
+
+mod bays;
+mod fault;
+
+pub use bays::Bay;
+pub use fault::BayFault;
