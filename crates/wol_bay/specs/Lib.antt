@@ -1,2 +1,4 @@
 pub mod Bay
 pub mod Parts
+pub mod FileBay
+pub mod FilePart

@@ -4,6 +4,8 @@
 
 mod bays;
 mod fault;
+mod files;
 
 pub use bays::Bay;
 pub use fault::BayFault;
+pub use files::{FileBay, FilePart};
