@@ -1,1 +1,3 @@
 pub mod PartLists
+pub mod NameLists
+pub mod BayMoves

@@ -1,5 +1,5 @@
 -- What a bay tells, and what its calls do to that.
-use Rattle.std.specs.Prelude.{◌≡◌, ◌*◌, ℕ, ◌+◌, List, [], ◌∷◌, ◌++◌, length, filter, map, not, Option, None, Some, IfSome, if◌then◌else◌}
+use Rattle.std.specs.Prelude.{◌≡◌, ◌*◌, ℕ, ◌+◌, List, [], ◌∷◌, ◌++◌, length, map, Option, None, Some, IfSome, if◌then◌else◌}
 use Rattle.std.specs.Str.{bytes_eq}
 use Rattle.wol_disk.specs.Disk.{Block, Values}
 
@@ -33,9 +33,10 @@ abbrev pub at_name : {A : Type 0} → Name → List (Name × A) → Option A
 at_name name [] = None
 at_name name (e ∷ es) = if bytes_eq e.0 name then Some e.1 else at_name name es
 
--- what stands under other names
+-- the entries without that name's
 abbrev pub without : {A : Type 0} → Name → List (Name × A) → List (Name × A)
-without name es = filter (λ e. not (bytes_eq e.0 name)) es
+without name [] = []
+without name (e ∷ es) = if bytes_eq e.0 name then es else e ∷ without name es
 
 -- the name isn't out
 abbrev pub IsHome : Name → BayState → Type 0

@@ -5,7 +5,12 @@
 mod bays;
 mod fault;
 mod files;
+mod held;
+mod memory;
+mod names;
+mod plans;
 
 pub use bays::Bay;
 pub use fault::BayFault;
 pub use files::{FileBay, FilePart};
+pub use memory::MemBay;
