@@ -1,12 +1,16 @@
 -- What goes out of a bay in memory and what comes back.
-use Rattle.std.proofs.Common.{◌≡◌, ℕ, ◌+◌, ◌<◌, suc, Bool, true, false, cond, List, [], ◌∷◌, ◌++◌, length, take, get_or, map, flat_map, Option, None, Some, option_map, refl, sym, ap, subst, ◌∙◌, arith}
+use Rattle.std.proofs.Common.{◌≡◌, ℕ, ◌+◌, ◌<◌, suc, Bool, true, false, cond, List, [], ◌∷◌, ◌++◌, length, take, get_or, map, flat_map, Option, None, Some, option_map, is_some, refl, sym, ap, subst, ◌∙◌, arith}
 use Rattle.std.specs.Str.{bytes_eq}
 use Rattle.std.specs.Prelude.{string_bytes, filter, not}
+use Rattle.std.proofs.lemmas.Slice.Eq.{bytes_eq-Decides}
 use Rattle.std.proofs.lemmas.List.{map-append, take_more}
-use Rattle.wol_bay.specs.Bay.{Name, Told, at_name, without, sent_out}
+use Rattle.wol_bay.specs.Bay.{Name, Told, Image, at_name, without, stored, each_place, sent_out, came_back}
+use Rattle.wol_bay.specs.Parts.{joined, blocks_of}
+use Rattle.wol_disk.specs.Memory.{mem_state, mem_values}
+use Rattle.wol_disk.specs.Stop.{inner_of, stop_state}
 use Rattle.wol_bay.specs.Names.{by_name}
 use Rattle.wol_bay.specs.Plans.{Planned, planned_of, is_for, calls_for, plans_without}
-use Rattle.wol_bay.specs.MemBay.{told_of, named_image, named_sizes, named_places, IsArmed, AreArmed}
+use Rattle.wol_bay.specs.MemBay.{stored_blocks, told_of, named_image, named_sizes, named_places, IsArmed, AreArmed}
 use Rattle.wol_bay.specs.declared.held.Image as held
 use Rattle.wol_bay.specs.declared.held.Leave.{Leave}
 use Rattle.wol_bay.specs.declared.held.Faulty.{Faulty}
@@ -39,6 +43,31 @@ module _ {T A : Type 0} (name_of : T → Name) (of : T → A) (name : Name) wher
   -- what holds of the entries holds of what they hold
   pub kept_by : (es es' : List T) → by_name name_of es' ≡ without name (by_name name_of es) → map named es' ≡ without name (map named es)
   kept_by es es' e = sym (named_again es') ∙ ap (λ l. map (λ (e : Name × T). (e.0, of e.1)) l) e ∙ sym (without_named es)
+
+  -- what stands under a name, seen by what it holds
+  at_named : (es : List T) → at_name name (map named es) ≡ option_map of (at_name name (by_name name_of es))
+  at_named [] = refl
+  at_named (e ∷ es) = go (bytes_eq (name_of e) name) (at_named es)
+    where
+      go : (b : Bool) → at_name name (map named es) ≡ option_map of (at_name name (by_name name_of es)) → cond b (Some (of e)) (at_name name (map named es)) ≡ option_map of (cond b (Some e) (at_name name (by_name name_of es)))
+      go true more = refl
+      go false more = more
+
+  -- the entry of a name, and what is known of it
+  pub found_of : (es : List T) (e : T) (a : A) → Some e ≡ at_name name (by_name name_of es) → at_name name (map named es) ≡ Some a → of e ≡ a
+  found_of es e a is at = let s : Some (of e) ≡ Some a = ap (option_map of) is ∙ sym (at_named es) ∙ at in cc
+
+  pub not_missing : (es : List T) (a : A) → None ≡ at_name name (by_name name_of es) → at_name name (map named es) ≡ Some a → ⊥
+  not_missing es a is at = let s : None ≡ Some a = ap (option_map of) is ∙ sym (at_named es) ∙ at in let f : false ≡ true = ap is_some s in cc
+
+  -- an entry that is found by a name has it
+  pub has_name : (es : List T) (e : T) → Some e ≡ at_name name (by_name name_of es) → name_of e ≡ name
+  has_name [] e is = let f : true ≡ false = ap is_some is in absurd cc
+  has_name (x ∷ es) e is = go (bytes_eq (name_of x) name) refl is (has_name es e)
+    where
+      go : (b : Bool) → bytes_eq (name_of x) name ≡ b → Some e ≡ cond b (Some x) (at_name name (by_name name_of es)) → (Some e ≡ at_name name (by_name name_of es) → name_of e ≡ name) → name_of e ≡ name
+      go true t is rest = let s : e ≡ x = cc in ap name_of s ∙ (bytes_eq-Decides (name_of x) name).0 t
+      go false f is rest = rest is
 
 -- the calls that one plan more makes fail
 pub calls_push : (name : Name) (place : ℕ) (ps : List Planned) (p : Planned) → calls_for name place (ps ++ p ∷ []) ≡ calls_for name place ps ++ cond (is_for name place p) (p.call ∷ []) []
@@ -78,6 +107,27 @@ planned_filter name (p ∷ plans) = go (not (bytes_eq (string_bytes p.name) name
     go : (b : Bool) → map planned_of kept ≡ plans_without name (map planned_of plans) → map planned_of (cond b (p ∷ kept) kept) ≡ cond b (planned_of p ∷ plans_without name (map planned_of plans)) (plans_without name (map planned_of plans))
     go true more = ap (λ l. planned_of p ∷ l) more
     go false more = more
+
+-- parts in memory tell their blocks
+pub blocks_told : (parts : List (StopDisk MemDisk)) → blocks_of (λ part. stop_state mem_state part) parts ≡ Some (stored_blocks parts)
+blocks_told [] = refl
+blocks_told (part ∷ parts) = ap (joined (Some (mem_values (inner_of part)))) (blocks_told parts)
+
+-- an image comes back to what the bay keeps
+pub came : (name : Name) (places : List ℕ) (parts : List (StopDisk MemDisk)) (images images' images'' : List held.Image) (out out' : List Leave) (faulty faulty' : List Faulty) (image : held.Image) (note : Faulty)
+    → by_name (λ leave. string_bytes leave.name) out' ≡ without name (by_name (λ leave. string_bytes leave.name) out)
+    → by_name (λ image. string_bytes image.name) images' ≡ without name (by_name (λ image. string_bytes image.name) images) → images'' ≡ images' ++ image ∷ []
+    → named_image image ≡ (name, record { blocks = stored_blocks parts; rest = [] })
+    → flat_map named_places faulty' ≡ flat_map named_places faulty ++ named_places note → named_places note ≡ each_place name places
+    → told_of images'' out' faulty' ≡ came_back name (blocks_of (λ part. stop_state mem_state part) parts) places (told_of images out faulty)
+came name places parts images images' images'' out out' faulty faulty' image note back gone more is noted places_are =
+    let rest : map named_image images' ≡ without name (map named_image images) = kept_by (λ image. string_bytes image.name) (λ image. (named_image image).1) name images images' gone in
+    let stored' : map named_image images'' ≡ stored name (blocks_of (λ part. stop_state mem_state part) parts) (map named_image images) =
+        ap (λ (l : List held.Image). map named_image l) more ∙ map-append named_image images' (image ∷ []) ∙ ap (λ l. l ++ named_image image ∷ []) rest
+        ∙ ap (λ (e : Name × Image). without name (map named_image images) ++ e ∷ []) is ∙ sym (ap (λ b. stored name b (map named_image images)) (blocks_told parts)) in
+    let out'' : map named_sizes out' ≡ without name (map named_sizes out) = kept_by (λ leave. string_bytes leave.name) (λ leave. (named_sizes leave).1) name out out' back in
+    let faulty'' : flat_map named_places faulty' ≡ flat_map named_places faulty ++ each_place name places = noted ∙ ap (λ l. flat_map named_places faulty ++ l) places_are in
+    λ i. record { images = stored' i; out = out'' i; faulty = faulty'' i }
 
 -- one armed part more
 pub armed_push : (name : Name) (k n : ℕ) (plans : List Planned) (fuse : Option Fuse) (parts : List (StopDisk MemDisk)) (part : StopDisk MemDisk) → n ≡ k + length parts → AreArmed name k plans fuse parts → AreArmed name n plans fuse (part ∷ []) → AreArmed name k plans fuse (parts ++ part ∷ [])

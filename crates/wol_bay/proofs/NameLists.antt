@@ -1,11 +1,15 @@
 -- Walks over lists whose entries have names.
 use Rattle.std.proofs.Common.{◌≡◌, ℕ, ◌+◌, ◌<◌, suc, Bool, true, false, cond, List, [], ◌∷◌, ◌++◌, length, take, drop, get_or, map, Option, None, Some, option_map, is_some, refl, sym, ap, ◌∙◌, add-one, append_assoc}
 use Rattle.std.specs.List.{remove}
+use Rattle.std.proofs.lemmas.Slice.Eq.{bytes_eq-Decides}
 use Rattle.std.proofs.lemmas.List.{get_or_default, length-map, map-append, drop-map, take-map}
 use Rattle.std.proofs.Math.ListN.{get_or-map}
 use Rattle.std.proofs.Math.Seq.{drop-cons, take-suc}
 use Rattle.std.specs.Str.{bytes_eq}
 use Rattle.wol_bay.specs.Bay.{Name, at_name, without}
+
+is_same : (name : Name) → bytes_eq name name ≡ true
+is_same name = (bytes_eq-Decides name name).1 refl
 
 -- where no entry has the name, nothing is taken out
 pub without_none : {A : Type 0} (name : Name) (es : List (Name × A)) → at_name name es ≡ None → without name es ≡ es
@@ -13,6 +17,24 @@ without_none name [] e = refl
 without_none name (x ∷ es) e = go (bytes_eq x.0 name) e (without_none name es)
   where
     go : (b : Bool) → cond b (Some x.1) (at_name name es) ≡ None → (at_name name es ≡ None → without name es ≡ es) → cond b es (x ∷ without name es) ≡ x ∷ es
+    go true e rest = let f : true ≡ false = ap is_some e in cc
+    go false e rest = ap (λ l. x ∷ l) (rest e)
+
+-- a name that was not there is, once an entry of it is at the end
+pub is_out : {A : Type 0} (name : Name) (es : List (Name × A)) (a : A) → at_name name es ≡ None → at_name name (es ++ (name, a) ∷ []) ≡ Some a
+is_out name [] a e = rw (is_same name)
+is_out name (x ∷ es) a e = go (bytes_eq x.0 name) e (is_out name es a)
+  where
+    go : (b : Bool) → cond b (Some x.1) (at_name name es) ≡ None → (at_name name es ≡ None → at_name name (es ++ (name, a) ∷ []) ≡ Some a) → cond b (Some x.1) (at_name name (es ++ (name, a) ∷ [])) ≡ Some a
+    go true e rest = let f : true ≡ false = ap is_some e in cc
+    go false e rest = rest e
+
+-- and taken out again the others are left
+pub out_again : {A : Type 0} (name : Name) (es : List (Name × A)) (a : A) → at_name name es ≡ None → without name (es ++ (name, a) ∷ []) ≡ es
+out_again name [] a e = rw (is_same name)
+out_again name (x ∷ es) a e = go (bytes_eq x.0 name) e (out_again name es a)
+  where
+    go : (b : Bool) → cond b (Some x.1) (at_name name es) ≡ None → (at_name name es ≡ None → without name (es ++ (name, a) ∷ []) ≡ es) → cond b (es ++ (name, a) ∷ []) (x ∷ without name (es ++ (name, a) ∷ [])) ≡ x ∷ es
     go true e rest = let f : true ≡ false = ap is_some e in cc
     go false e rest = ap (λ l. x ∷ l) (rest e)
 

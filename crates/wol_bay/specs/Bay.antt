@@ -55,10 +55,14 @@ abbrev pub stored : Name → Option (List (Values Block)) → List (Name × Imag
 stored name None images = without name images
 stored name (Some vs) images = without name images ++ (name, record { blocks = vs; rest = [] }) ∷ []
 
+-- parts of an image, by their places
+abbrev pub each_place : Name → List ℕ → List (Name × ℕ)
+each_place name places = map (λ place. (name, place)) places
+
 -- an image came back, with faults at these places
 abbrev pub came_back : Name → Option (List (Values Block)) → List ℕ → Told → Told
 came_back name blocks places t = record {
   images = stored name blocks t.images;
   out = without name t.out;
-  faulty = t.faulty ++ map (λ place. (name, place)) places;
+  faulty = t.faulty ++ each_place name places;
 }

@@ -10,7 +10,7 @@ use Rattle.wol_disk.specs.declared.stop.Fuse.{Fuse}
 use Rattle.wol_disk.specs.declared.stop.StopDisk.{StopDisk}
 use Rattle.wol_disk.specs.declared.memory.MemDisk.{MemDisk}
 use Rattle.wol_bay.specs.Plans.{Planned, planned_of, calls_for}
-use Rattle.wol_bay.specs.Bay.{Name, BayState, Told, Image}
+use Rattle.wol_bay.specs.Bay.{Name, each_place, BayState, Told, Image}
 use Rattle.wol_bay.specs.declared.held.Image as held
 use Rattle.wol_bay.specs.declared.held.Leave.{Leave}
 use Rattle.wol_bay.specs.declared.held.Faulty.{Faulty}
@@ -27,7 +27,7 @@ abbrev pub named_sizes : Leave → Name × List ℕ
 named_sizes l = (string_bytes l.name, l.sizes.items)
 
 abbrev pub named_places : Faulty → List (Name × ℕ)
-named_places f = map (λ place. (string_bytes f.name, place)) f.places.items
+named_places f = each_place (string_bytes f.name) f.places.items
 
 -- a part that has its plan, and the fuse of the bay
 pub record IsArmed (name : Name) (place : ℕ) (plans : List Planned) (fuse : Option Fuse) (part : StopDisk MemDisk) : Type 0 where

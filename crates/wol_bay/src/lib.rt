@@ -4,6 +4,7 @@
 
 mod bays;
 mod fault;
+mod faulty;
 mod files;
 mod held;
 mod memory;

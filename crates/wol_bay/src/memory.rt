@@ -1,9 +1,12 @@
 // Images in memory.
-ghost use Rattle.std.specs.Prelude.{◌≡◌, ◌≢◌, ◌+◌, ◌≤◌, [], ◌∷◌, Some, None, IfOk, OnOk, OnErr, IfErr, length, option_map, vec_len, vec_capacity};
-ghost use Rattle.wol_bay.specs.Parts.{AreBlank, faulty_places};
+ghost use Rattle.std.specs.Prelude.{◌≡◌, ◌≢◌, ◌+◌, ◌≤◌, [], ◌∷◌, Some, None, IfOk, OnOk, OnErr, IfErr, IsErrOf, ◌⊎◌, ◌++◌, length, option_map, vec_len, vec_capacity};
+ghost use Rattle.wol_bay.specs.Parts.{AreBlank, blocks_of, sizes_of, faulty_places};
+ghost use Rattle.wol_disk.specs.Disk.{Rose};
+ghost use Rattle.std.specs.Arc.{arc_value};
 
 use crate::bays::Bay;
 use crate::fault::BayFault;
+use crate::faulty::{keep_faulty, mark_faulty};
 use crate::held::{Faulty, Image, Leave};
 use crate::names::take_by_name;
 use crate::plans::{Plan, drop_plans};
@@ -27,13 +30,15 @@ pub struct MemBay {
 }
 
 impl MemBay {
-    ghost use Rattle.wol_bay.specs.Bay.{BayState, Told, sent_out};
-    ghost use Rattle.wol_bay.specs.Plans.{plans_without};
+    ghost use Rattle.wol_bay.specs.Bay.{BayState, Told, IsHome, sent_out};
+    ghost use Rattle.wol_bay.specs.Plans.{Planned, plans_without};
     ghost use Rattle.wol_bay.specs.MemBay.{mem_bay_state, plans_of, bay_fuse, AreArmed};
 
     /// A bay with no image.
     pub fn new(alloc: Global) -> MemBay
-        ensures { mem_bay_state result ≡ record { told = Some (record { images = []; out = []; faulty = [] }); faults = 0 } }
+        ensures state { mem_bay_state result ≡ record { told = Some (record { images = []; out = []; faulty = [] }); faults = 0 } }
+        ensures plans { plans_of result ≡ [] }
+        ensures fuse { bay_fuse result ≡ None }
     {
         MemBay {
             alloc,
@@ -44,6 +49,29 @@ impl MemBay {
             fuse: None,
             faults: 0,
         }
+    }
+
+    /// Makes a call of a part fail when the image is out next. Parts are named by their place, and the calls of a part
+    /// are counted from 0 when it goes out.
+    pub fn plan(&mut self, name: &str, part: u32, call: u64) -> Result<(), NoMemory>
+        requires { IsHome name.now (mem_bay_state self.old) }
+        ensures ok { OnOk result (plans_of self.new ≡ plans_of self.old ++ record { name = name.now; part = part; call = call } ∷ []) }
+        ensures err { OnErr result (plans_of self.new ≡ plans_of self.old) }
+        ensures state { mem_bay_state self.new ≡ mem_bay_state self.old }
+        ensures fuse { bay_fuse self.new ≡ bay_fuse self.old }
+    {
+        let name = String::from_str(self.alloc, name)?;
+        self.plans.push(Plan { name, part, call })?;
+        Ok(())
+    }
+
+    /// Gives this fuse to every part that goes out from now on. A new bay has none.
+    pub fn set_fuse(&mut self, fuse: Option<Arc<Fuse, Global>>)
+        ensures fuse { bay_fuse self.new ≡ option_map arc_value fuse }
+        ensures state { mem_bay_state self.new ≡ mem_bay_state self.old }
+        ensures plans { plans_of self.new ≡ plans_of self.old }
+    {
+        self.fuse = fuse;
     }
 
     // A part of zeros, with its plan and the fuse.
@@ -93,5 +121,71 @@ impl MemBay {
         let _gone = take_by_name(&mut self.images, name);
         drop_plans(&mut self.plans, name);
         Ok(())
+    }
+}
+
+impl Bay for MemBay {
+    type Part = StopDisk<MemDisk>;
+
+    ghost use Rattle.wol_bay.specs.MemBay.{mem_bay_state, plans_of, bay_fuse, AreArmed};
+    ghost use Rattle.wol_bay.specs.Plans.{Planned, plans_without};
+    ghost use Rattle.wol_bay.specs.Bay.{IsHome, IsOut, sent_out, came_back};
+
+    ghost state = { mem_bay_state };
+
+    fn create(&mut self, name: &str, sizes: &[u64]) -> Result<Vec<StopDisk<MemDisk>>, BayFault>
+        requires { IsHome name.now (mem_bay_state self.old) }
+        ensures parts { IfOk result (λ parts. AreBlank ⟦<StopDisk<MemDisk> as Disk>⟧.state (mem_bay_state self.old).told sizes.now parts.items) }
+        ensures ok { OnOk result ((mem_bay_state self.new).told ≡ option_map (sent_out name.now sizes.now) (mem_bay_state self.old).told) }
+        ensures err { OnErr result ((mem_bay_state self.new).told ≡ (mem_bay_state self.old).told) }
+        ensures faults { IfErr result (λ e. (e ≡ BayFault.Failed) ⊎ (e ≡ BayFault.NoMemory)) }
+        ensures cause { IsErrOf result BayFault.Failed → Rose (mem_bay_state self.old).faults (mem_bay_state self.new).faults }
+        ensures calm { (IsErrOf result BayFault.Failed → ⊥) → (mem_bay_state self.new).faults ≡ (mem_bay_state self.old).faults }
+        ensures counts { (mem_bay_state self.old).faults ≤ (mem_bay_state self.new).faults }
+
+        // It never fails, and its parts have the plans for them and the fuse.
+        ensures never_failed { IfErr result (λ e. e ≡ BayFault.NoMemory) }
+        ensures armed { IfOk result (λ parts. AreArmed name.now 0 (plans_of self.old) (bay_fuse self.old) parts.items) }
+        ensures plans { OnOk result (plans_of self.new ≡ plans_without name.now (plans_of self.old)) }
+        ensures plans_err { OnErr result (plans_of self.new ≡ plans_of self.old) }
+        ensures fuse { bay_fuse self.new ≡ bay_fuse self.old }
+    {
+        let Ok(parts) = self.blank_parts(name, sizes) else {
+            return Err(BayFault::NoMemory);
+        };
+        match self.send_out(name, sizes) {
+            Ok(()) => Ok(parts),
+            Err(_) => Err(BayFault::NoMemory),
+        }
+    }
+
+    fn detach(&mut self, name: &str, parts: Vec<StopDisk<MemDisk>>)
+        requires { IsOut name.now (sizes_of ⟦<StopDisk<MemDisk> as Disk>⟧.state parts.items) (mem_bay_state self.old) }
+        ensures back { (mem_bay_state self.new).told ≡ option_map (came_back name.now (blocks_of ⟦<StopDisk<MemDisk> as Disk>⟧.state parts.items) (faulty_places ⟦<StopDisk<MemDisk> as Disk>⟧.state parts.items)) (mem_bay_state self.old).told }
+        ensures cause { faulty_places ⟦<StopDisk<MemDisk> as Disk>⟧.state parts.items ≢ [] → Rose (mem_bay_state self.old).faults (mem_bay_state self.new).faults }
+        ensures calm { faulty_places ⟦<StopDisk<MemDisk> as Disk>⟧.state parts.items ≡ [] → (mem_bay_state self.new).faults ≡ (mem_bay_state self.old).faults }
+        ensures counts { (mem_bay_state self.old).faults ≤ (mem_bay_state self.new).faults }
+        ensures plans { plans_of self.new ≡ plans_of self.old }
+        ensures fuse { bay_fuse self.new ≡ bay_fuse self.old }
+    {
+        let Some(leave) = take_by_name(&mut self.out, name) else {
+            unreachable!()
+        };
+        let Leave {
+            name: own_name,
+            mut faulty,
+            ..
+        } = leave;
+        mark_faulty(&mut faulty.places, &parts);
+        if keep_faulty(&mut self.faulty, faulty) {
+            self.faults = self.faults.saturating_add(1);
+        }
+        let _older = take_by_name(&mut self.images, name);
+        let image = Image {
+            name: own_name,
+            parts,
+            rest: Vec::new(self.alloc),
+        };
+        self.images.push(image).unwrap();
     }
 }
