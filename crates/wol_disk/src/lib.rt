@@ -13,3 +13,6 @@ mod touch;
 pub use disk::{Block, Disk, Failed, NoMemory};
 pub use memory::MemDisk;
 pub use stop::{Fuse, StopDisk};
+
+#[cfg(test)]
+mod tests;
