@@ -1,16 +1,16 @@
 -- What goes out of a bay in memory and what comes back.
-use Rattle.std.proofs.Common.{◌≡◌, ℕ, ◌+◌, ◌<◌, suc, Bool, true, false, cond, List, [], ◌∷◌, ◌++◌, length, take, get_or, map, flat_map, Option, None, Some, option_map, is_some, refl, sym, ap, subst, ◌∙◌, arith}
+use Rattle.std.proofs.Common.{◌≡◌, ℕ, ◌+◌, ◌<◌, Bool, true, false, cond, List, [], ◌∷◌, ◌++◌, length, take, get_or, map, flat_map, Option, None, Some, option_map, is_some, refl, sym, ap, subst, ◌∙◌, arith}
 use Rattle.std.specs.Str.{bytes_eq}
 use Rattle.std.specs.Prelude.{string_bytes, filter, not}
 use Rattle.std.proofs.lemmas.Slice.Eq.{bytes_eq-Decides}
 use Rattle.std.proofs.lemmas.List.{map-append, take_more}
-use Rattle.wol_bay.specs.Bay.{Name, Told, Image, at_name, without, stored, each_place, sent_out, came_back}
+use Rattle.wol_bay.specs.Bay.{Name, Image, at_name, without, stored, each_place, sent_out, came_back}
 use Rattle.wol_bay.specs.Parts.{joined, blocks_of}
 use Rattle.wol_disk.specs.Memory.{mem_state, mem_values}
 use Rattle.wol_disk.specs.Stop.{inner_of, stop_state}
 use Rattle.wol_bay.specs.Names.{by_name}
 use Rattle.wol_bay.specs.Plans.{Planned, planned_of, is_for, calls_for, plans_without}
-use Rattle.wol_bay.specs.MemBay.{stored_blocks, told_of, named_image, named_sizes, named_places, IsArmed, AreArmed}
+use Rattle.wol_bay.specs.MemBay.{stored_blocks, told_of, named_image, named_sizes, named_places, AreArmed}
 use Rattle.wol_bay.specs.declared.held.Image as held
 use Rattle.wol_bay.specs.declared.held.Leave.{Leave}
 use Rattle.wol_bay.specs.declared.held.Faulty.{Faulty}
@@ -34,8 +34,10 @@ module _ {T A : Type 0} (name_of : T → Name) (of : T → A) (name : Name) wher
     where
       rest : List (Name × A)
       rest = without name (map named es)
+
       others : List (Name × T)
       others = without name (by_name name_of es)
+
       go : (b : Bool) → rest ≡ map (λ (e : Name × T). (e.0, of e.1)) others → cond b (map named es) (named e ∷ rest) ≡ map (λ (e : Name × T). (e.0, of e.1)) (cond b (by_name name_of es) ((name_of e, e) ∷ others))
       go true _ = sym (named_again es)
       go false more = ap (λ l. named e ∷ l) more
@@ -94,7 +96,7 @@ pub sent : (name : Name) (sizes : List ℕ) (images images' : List held.Image) (
 sent name sizes images images' out out' faulty faulty' leave gone more named sized same =
     let gone' : map named_image images' ≡ without name (map named_image images) = kept_by (λ image. string_bytes image.name) (λ image. (named_image image).1) name images images' gone in
     let more' : map named_sizes out' ≡ map named_sizes out ++ (name, sizes) ∷ [] =
-        ap (λ (l : List Leave). map named_sizes l) more ∙ map-append named_sizes out (leave ∷ []) ∙ ap (λ (n : Name). map named_sizes out ++ (n, leave.sizes.items) ∷ []) named ∙ ap (λ (n : List ℕ). map named_sizes out ++ (name, n) ∷ []) sized in
+    ap (λ (l : List Leave). map named_sizes l) more ∙ map-append named_sizes out (leave ∷ []) ∙ ap (λ (n : Name). map named_sizes out ++ (n, leave.sizes.items) ∷ []) named ∙ ap (λ (n : List ℕ). map named_sizes out ++ (name, n) ∷ []) sized in
     λ i. record { images = gone' i; out = more' i; faulty = flat_map named_places (same i) }
 
 -- the plans that are kept, as callers see them
@@ -104,6 +106,7 @@ planned_filter name (p ∷ plans) = go (not (bytes_eq (string_bytes p.name) name
   where
     kept : List Plan
     kept = filter (λ p. not (bytes_eq (string_bytes p.name) name)) plans
+
     go : (b : Bool) → map planned_of kept ≡ plans_without name (map planned_of plans) → map planned_of (cond b (p ∷ kept) kept) ≡ cond b (planned_of p ∷ plans_without name (map planned_of plans)) (plans_without name (map planned_of plans))
     go true more = ap (λ l. planned_of p ∷ l) more
     go false more = more
@@ -123,8 +126,8 @@ pub came : (name : Name) (places : List ℕ) (parts : List (StopDisk MemDisk)) (
 came name places parts images images' images'' out out' faulty faulty' image note back gone more is noted places_are =
     let rest : map named_image images' ≡ without name (map named_image images) = kept_by (λ image. string_bytes image.name) (λ image. (named_image image).1) name images images' gone in
     let stored' : map named_image images'' ≡ stored name (blocks_of (λ part. stop_state mem_state part) parts) (map named_image images) =
-        ap (λ (l : List held.Image). map named_image l) more ∙ map-append named_image images' (image ∷ []) ∙ ap (λ l. l ++ named_image image ∷ []) rest
-        ∙ ap (λ (e : Name × Image). without name (map named_image images) ++ e ∷ []) is ∙ sym (ap (λ b. stored name b (map named_image images)) (blocks_told parts)) in
+    ap (λ (l : List held.Image). map named_image l) more ∙ map-append named_image images' (image ∷ []) ∙ ap (λ l. l ++ named_image image ∷ []) rest
+    ∙ ap (λ (e : Name × Image). without name (map named_image images) ++ e ∷ []) is ∙ sym (ap (λ b. stored name b (map named_image images)) (blocks_told parts)) in
     let out'' : map named_sizes out' ≡ without name (map named_sizes out) = kept_by (λ leave. string_bytes leave.name) (λ leave. (named_sizes leave).1) name out out' back in
     let faulty'' : flat_map named_places faulty' ≡ flat_map named_places faulty ++ each_place name places = noted ∙ ap (λ l. flat_map named_places faulty ++ l) places_are in
     λ i. record { images = stored' i; out = out'' i; faulty = faulty'' i }

@@ -1,9 +1,8 @@
 -- Lists of parts, one part further.
-use Rattle.std.proofs.Common.{◌≡◌, ◌≢◌, ℕ, ◌+◌, ◌<◌, suc, nat_lt, Bool, true, false, cond, List, [], ◌∷◌, ◌++◌, length, take, drop, get_or, Option, refl, sym, ap, subst, ◌∙◌, add-one, arith, drop-cons}
-use Rattle.std.proofs.lemmas.List.{take_more}
+use Rattle.std.proofs.Common.{◌≡◌, ℕ, ◌+◌, ◌<◌, suc, nat_lt, cond, List, [], ◌∷◌, ◌++◌, length, drop, get_or, Option, sym, ap, ◌∙◌, add-one, drop-cons}
 use Rattle.wol_disk.specs.Disk.{State}
 use Rattle.wol_bay.specs.Bay.{Told}
-use Rattle.wol_bay.specs.Parts.{IsFresh, AreBlank, faulty_from}
+use Rattle.wol_bay.specs.Parts.{AreBlank, faulty_from}
 
 module _ {D : Type 0} (state : D → State) where
   -- one blank part more

@@ -1,5 +1,5 @@
 -- What a bay tells, and what its calls do to that.
-use Rattle.std.specs.Prelude.{◌≡◌, ◌*◌, ℕ, ◌+◌, List, [], ◌∷◌, ◌++◌, length, map, Option, None, Some, IfSome, if◌then◌else◌}
+use Rattle.std.specs.Prelude.{◌≡◌, ◌*◌, ℕ, ◌+◌, List, [], ◌∷◌, ◌++◌, length, map, Option, None, Some, option_map, IfSome, if◌then◌else◌}
 use Rattle.std.specs.Str.{bytes_eq}
 use Rattle.wol_disk.specs.Disk.{Block, Values}
 
@@ -37,6 +37,10 @@ at_name name (e ∷ es) = if bytes_eq e.0 name then Some e.1 else at_name name e
 abbrev pub without : {A : Type 0} → Name → List (Name × A) → List (Name × A)
 without name [] = []
 without name (e ∷ es) = if bytes_eq e.0 name then es else e ∷ without name es
+
+-- the names that are out, where they are told
+abbrev pub outs : BayState → Option (List (Name × List ℕ))
+outs b = option_map (λ t. t.out) b.told
 
 -- the name isn't out
 abbrev pub IsHome : Name → BayState → Type 0

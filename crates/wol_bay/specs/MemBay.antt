@@ -1,6 +1,5 @@
 -- A bay in memory, as callers see it: it tells all.
-use Rattle.std.specs.Prelude.{◌≡◌, ℕ, ◌+◌, nat_eq, ◌&&◌, not, Bool, List, [], ◌∷◌, Option, Some, map, flat_map, filter, option_map, string_bytes, ⊤, if◌then◌else◌}
-use Rattle.std.specs.Str.{bytes_eq}
+use Rattle.std.specs.Prelude.{◌≡◌, ℕ, ◌+◌, List, [], ◌∷◌, Option, Some, map, flat_map, option_map, string_bytes, ⊤}
 use Rattle.std.specs.Arc.{arc_value}
 use Rattle.wol_disk.specs.Disk.{Block, Values}
 use Rattle.wol_disk.specs.Memory.{mem_values, plan_of}

@@ -1,5 +1,5 @@
 -- Lists whose entries have names.
-use Rattle.std.specs.Prelude.{ℕ, List, map}
+use Rattle.std.specs.Prelude.{List, map}
 use Rattle.wol_bay.specs.Bay.{Name}
 
 -- each entry under its name

@@ -15,3 +15,6 @@ pub use bays::Bay;
 pub use fault::BayFault;
 pub use files::{FileBay, FilePart};
 pub use memory::MemBay;
+
+#[cfg(test)]
+mod tests;

@@ -1,4 +1,4 @@
-use Rattle.std.proofs.Common.{◌≡◌, sym, rules}
+use Rattle.std.proofs.Common.{sym, rules}
 use Rattle.wol_bay.proofs.NameLists.{without_none}
 use Rattle.wol_bay.proofs.names.take_by_name.Goals as goal
 
