@@ -106,12 +106,12 @@ abbrev pub payload : Request → blocks.Write
 payload r = record { first = r.first; blocks = map (payload_block r.line) (range_with_len r.first r.count); version = None }
 
 -- the writes of volume v among requests
-abbrev pub write_of : (v : ℕ) → Request → Kind → Option blocks.Write
-write_of v r Read = None
-write_of v r Write = if r.volume == v then Some (payload r) else None
+abbrev pub write_to : (v : ℕ) → Request → Kind → Option blocks.Write
+write_to v r Read = None
+write_to v r Write = if r.volume == v then Some (payload r) else None
 
 abbrev pub payloads : (v : ℕ) → List Request → List blocks.Write
-payloads v rs = filter_map (λ (r : Request). write_of v r r.kind) rs
+payloads v rs = filter_map (λ (r : Request). write_to v r r.kind) rs
 
 -- the mark that a read gives: that of its range in its volume's array after the writes of the earlier requests; a write gives none
 abbrev pub answer : (arrays : ℕ → List Block) → (earlier : List Request) → Request → Kind → Option ℕ
