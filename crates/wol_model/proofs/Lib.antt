@@ -17,3 +17,11 @@ pub mod Arrays
 pub mod Spellings
 pub mod Pieces
 pub mod TwelveLines
+pub mod Cells
+pub mod OverlappingOffloads
+pub mod StaleFetch
+pub mod TornHomeWrite
+pub mod StaleHead
+pub mod GroupOfFour
+pub mod HeadVectors
+pub mod TwinVersions

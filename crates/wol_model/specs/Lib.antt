@@ -6,6 +6,7 @@ pub mod Extents
 pub mod Log
 pub mod Recovered
 pub mod History
+pub mod Images
 pub mod Index
 pub mod ArrayLaws
 pub mod HistoryLaws

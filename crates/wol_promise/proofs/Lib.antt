@@ -1,0 +1,4 @@
+pub mod Choices
+pub mod Stops
+pub mod ReadCode
+pub mod PlainAnswers
