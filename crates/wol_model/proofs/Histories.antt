@@ -15,7 +15,7 @@ pub one_more_reply : OneMoreReply
 one_more_reply a [] e replies reply = (subst (λ (x : List Block). IsLegalNext x e.operation) (after_none a) reply, tt)
 one_more_reply a (d ∷ entries) e replies reply = (replies.0, one_more_reply (after a (written_by d.operation)) entries e replies.1 (subst (λ (x : List Block). IsLegalNext x e.operation) (after_more a (written_by d.operation) (writes entries)) reply))
 
-all_more : {X : Type 0} (P : X → Type 0) (xs : List X) (x : X) → AllByRecursion P xs → P x → AllByRecursion P (xs ++ x ∷ [])
+pub all_more : {X : Type 0} (P : X → Type 0) (xs : List X) (x : X) → AllByRecursion P xs → P x → AllByRecursion P (xs ++ x ∷ [])
 all_more P [] x all p = (p, tt)
 all_more P (y ∷ xs) x all p = (all.0, all_more P xs x all.1 p)
 
@@ -23,7 +23,7 @@ op : Entry → Operation
 op e = e.operation
 
 -- one more operation behind those that have no Broke, or a Kept
-breaks_more : (entries : List Entry) (e : Entry) → BreaksOnce (map (λ e. e.operation) entries) → (flight_of entries ≡ None) ⊎ IsKept e.operation → BreaksOnce (map (λ e. e.operation) (entries ++ e ∷ []))
+pub breaks_more : (entries : List Entry) (e : Entry) → BreaksOnce (map (λ e. e.operation) entries) → (flight_of entries ≡ None) ⊎ IsKept e.operation → BreaksOnce (map (λ e. e.operation) (entries ++ e ∷ []))
 breaks_more [] e breaks may = alone e.operation
   where
     alone : (o : Operation) → BreaksOnce (o ∷ [])

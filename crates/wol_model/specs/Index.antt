@@ -1,7 +1,7 @@
 -- An index of records: which blocks are live, due and may go, and what reclaim makes of it.
 use Rattle.std.specs.Prelude.{⊤, ◌≡◌, ◌<◌, ℕ, ◌+◌, Bool, true, not, ◌&&◌, ◌||◌, List, [], ◌∷◌, map, length, sum_by}
 use Rattle.std.specs.List.{list_any, range_with_len, count_by, AllByRecursion}
-use Rattle.wol_model.specs.Extents.{Cover, marked, remarked, may_go, has_newer}
+use Rattle.wol_model.specs.Extents.{Cover, marked, remarked, may_go, has_newer, has_older}
 
 -- a record in an index: for each block from `first` on whether it is kept and whether it is home too, and its lane
 pub record Listed : Type 0 where
@@ -44,13 +44,26 @@ has_due es e = list_any (is_due es e) (block_numbers e)
 abbrev pub has_going : List Listed → Listed → Bool
 has_going es e = list_any (goes es e) (block_numbers e)
 
-abbrev pub keeps_any : Listed → Bool
-keeps_any e = list_any (cover_of e).covers (block_numbers e)
+abbrev pub keeps_a_block : Listed → Bool
+keeps_a_block e = list_any (cover_of e).covers (block_numbers e)
 
--- marks of home exist for each block of the record, and are set for live blocks alone
+-- the kept blocks that an older record keeps too
+abbrev pub is_older : List Listed → Listed → ℕ → Bool
+is_older es e b = (cover_of e).covers b && has_older (listed_covers es) e.version b
+
+-- there is a mark of home for each block of the record, and it is set for live blocks alone
 pub record IsListed (es : List Listed) (e : Listed) : Type 0 where
-  pub sized : length e.homed ≡ length e.keep
-  pub live : (b : ℕ) → is_homed e b ≡ true → is_live es e b ≡ true
+  pub marks : length e.homed ≡ length e.keep
+  pub homed_are_live : (b : ℕ) → is_homed e b ≡ true → is_live es e b ≡ true
+
+-- a listed record with its place: the index of its segment on the lane's logger, and the position of its head there
+pub record Indexed : Type 0 where
+  pub listed : Listed
+  pub index : ℕ
+  pub pos : ℕ
+
+abbrev pub listed_in : List Indexed → List Listed
+listed_in indexed = map (λ e. e.listed) indexed
 
 -- blocks of a record become homed
 abbrev pub homing : (put : ℕ → Bool) → Listed → Listed

@@ -120,3 +120,12 @@ spindle_after timeout s (u ∷ uses) = spindle_after timeout (used timeout s u.0
 abbrev pub AreUses : (timeout : ℕ) → SpindleState → List (ℕ × Use) → Type 0
 AreUses timeout s [] = ⊤
 AreUses timeout s (u ∷ uses) = MayUse s u.0 u.1 × AreUses timeout (used timeout s u.0 u.1) uses
+
+-- whether a pass that made these uses has a Needed without its Done, where it had one before or not
+abbrev pub needs_after : (needs : Bool) → List Use → Bool
+needs_after needs [] = needs
+needs_after needs (Needed ∷ uses) = needs_after true uses
+needs_after needs (Done ∷ uses) = needs_after false uses
+needs_after needs (Started t ∷ uses) = needs_after needs uses
+needs_after needs (Began t ∷ uses) = needs_after needs uses
+needs_after needs (Stayed ∷ uses) = needs_after needs uses

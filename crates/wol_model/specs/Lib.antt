@@ -2,6 +2,8 @@ pub mod Blocks
 pub mod Heads
 pub mod Trace
 pub mod Journal
+pub mod Pools
+pub mod Placing
 pub mod Extents
 pub mod Log
 pub mod Recovered

@@ -1,3 +1,5 @@
+pub mod Lists
+pub mod OneMore
 pub mod Choices
 pub mod Stops
 pub mod ReadCode

@@ -3,11 +3,11 @@ use Rattle.std.specs.Prelude.{◌≡◌, ◌⊎◌, ℕ, Bool, List, [], ◌∷�
 use Rattle.std.specs.List.{AllByRecursion, AllZip, flat_map, filter_map, list_any}
 use Rattle.wol_disk.specs.Disk.{Block}
 use Rattle.wol_model.specs.Blocks.{Write}
-use Rattle.wol_model.specs.Heads.{free_block, owned_block}
 use Rattle.wol_model.specs.Extents.{Extent, IsValid}
+use Rattle.wol_model.specs.Heads.{free_block, owned_block}
+use Rattle.wol_model.specs.Index.{Listed, Indexed, listed_in, is_homed, AreRising, IsListed}
 use Rattle.wol_model.specs.Log.{Record, extent_of, marks_of, position_of}
 use Rattle.wol_model.specs.Recovered.{recovered}
-use Rattle.wol_model.specs.Index.{Listed, is_homed, AreRising, IsListed}
 use Rattle.wol_promise.specs.Policy.{Look}
 
 -- What contracts see of parts of images: whether their content is told, which images each may have,
@@ -31,12 +31,6 @@ pub record Held (P : Type 0) : Type 0 where
   pub index : ℕ
   pub broken : Bool
   pub records : List Record
-
--- a listed record with its place: the segment's index, and the position of its head there
-pub record Indexed : Type 0 where
-  pub listed : Listed
-  pub index : ℕ
-  pub position : ℕ
 
 pub record ManagerSeen (P : Type 0) : Type 0 where
   pub home : P
@@ -62,9 +56,6 @@ pub record Base : Type 0 where
   -- the loggers, by place
   pub view : List ℕ
   pub look : Look
-
-abbrev pub listed_in : List Indexed → List Listed
-listed_in indexed = map (λ e. e.listed) indexed
 
 abbrev pub look_of : {P : Type 0} → ManagerSeen P → Look
 look_of m = record { home_up = m.home_up; ups = m.ups; next = m.next; listed = listed_in m.indexed }
@@ -95,7 +86,7 @@ pub record IsEntryOf {P : Type 0} (s : Held P) (k : ℕ) (r : Record) (e : Index
   pub keep : e.listed.keep ≡ marks_of r.head.count r.head.mask
   pub lane : e.listed.lane ≡ s.lane
   pub index : e.index ≡ s.index
-  pub position : e.position ≡ position_of s.records k
+  pub pos : e.pos ≡ position_of s.records k
 
 -- a valid record of a held segment with its entry in the index, and an index entry with its record
 pub record IsFound {P : Type 0} (indexed : List Indexed) (s : Held P) (k : ℕ) (r : Record) : Type 0 where

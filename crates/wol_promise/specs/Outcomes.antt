@@ -2,11 +2,11 @@
 use Rattle.std.specs.Prelude.{⊤, ◌≡◌, ◌==◌, ℕ, Bool, true, false, List, [], ◌∷◌, map, Option, None, Some, length, is_some, take, drop}
 use Rattle.std.specs.List.{filter, AllByRecursion}
 use Rattle.wol_disk.specs.Disk.{Block}
-use Rattle.wol_model.specs.declared.trace.Kind.TheVariants as kind
-use Rattle.wol_model.specs.Blocks.{Write, after}
 use Rattle.wol_model.specs.ArrayLaws.{unversioned}
+use Rattle.wol_model.specs.Blocks.{Write, after}
 use Rattle.wol_model.specs.History.{Entry, Operation, Wrote, Read, Kept, Broke, AreLegalNext}
 use Rattle.wol_model.specs.Trace.{Request, payload, payloads, mark, plain_after}
+use Rattle.wol_model.specs.declared.trace.Kind.TheVariants as kind
 
 -- what became of a request: read, with the mark; written, home or to a log, perhaps after a drain; or not answered
 pub data Outcome : Type 0 where

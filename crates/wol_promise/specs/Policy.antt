@@ -4,25 +4,8 @@ use Rattle.std.specs.List.{list_any, zip, range_with_len, filter, AllByRecursion
 use Rattle.std.specs.Option.{option_map_or}
 use Rattle.wol_model.specs.Blocks.{Write}
 use Rattle.wol_model.specs.Extents.{newest, remarked}
-use Rattle.wol_model.specs.Index.{Listed, cover_of, is_covered, is_due, has_due, has_going, keeps_any, homing, keeping}
-
--- where a write goes: home, to the log on the logger at a place of the view, or nowhere
-pub data Place : Type 0 where
-  Home : Place
-  Log : (lane : ℕ) → Place
-  Full : Place
-
-abbrev pub log_or : Option ℕ → Place → Place
-log_or None other = other
-log_or (Some lane) other = Log lane
-
--- home where it is awake and no block is covered; else the first awake logger with room;
--- else home, woken, where no block is covered; else the first other logger with room, woken
-abbrev pub place : (home_up covered : Bool) → (ups rooms : List Bool) → Place
-place home_up covered ups rooms =
-    if home_up && not covered then Home
-    else log_or (position (λ l. l.0 && l.1) (zip ups rooms))
-    (if covered then log_or (position (λ l. not l.0 && l.1) (zip ups rooms)) Full else Home)
+use Rattle.wol_model.specs.Index.{Listed, cover_of, is_covered, is_due, has_due, has_going, keeps_a_block, homing, keeping}
+use Rattle.wol_model.specs.Placing.{Place, Home, Log, Full, place}
 
 -- what decides of placing and reclaim: which disks are awake, the next version, and the records by rising version
 pub record Look : Type 0 where
@@ -103,7 +86,7 @@ pub data IsReclaim (l m : Look) : Type 0 where
   puts_home : (k : ℕ) (put : ℕ → Bool) (e : Listed) → IsTrue l.home_up → slice_get l.listed k ≡ Some e → ((b : ℕ) → put b ≡ true → is_due l.listed e b ≡ true)
       → m ≡ record l { listed = slice_set l.listed k (homing put e) } → IsReclaim l m
   gives_up : (k : ℕ) (e : Listed) → position (λ d. is_within_reach l d && has_going l.listed d) l.listed ≡ Some k → slice_get l.listed k ≡ Some e
-      → m ≡ record l { listed = filter keeps_any (slice_set l.listed k (keeping l.listed e)) } → IsReclaim l m
+      → m ≡ record l { listed = filter keeps_a_block (slice_set l.listed k (keeping l.listed e)) } → IsReclaim l m
 
 -- any number of them
 pub data AreReclaims : Look → Look → Type 0 where

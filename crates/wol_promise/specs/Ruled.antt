@@ -3,7 +3,8 @@ use Rattle.std.specs.Prelude.{⊤, ◌≡◌, ◌⊎◌, ◌≤◌, ◌==◌, �
 use Rattle.std.specs.List.{list_any, count_by}
 use Rattle.wol_model.specs.Blocks.{Write}
 use Rattle.wol_model.specs.History.{Entry, Operation, Wrote, Read, Kept, Broke, worker, helper, keeper}
-use Rattle.wol_promise.specs.Policy.{Look, Full, place_of, AreWrites, drained, woken, IsReclaim, AreReclaims}
+use Rattle.wol_model.specs.Placing.{Full}
+use Rattle.wol_promise.specs.Policy.{Look, place_of, AreWrites, drained, woken, IsReclaim, AreReclaims}
 use Rattle.std.specs.Prelude.{None}
 
 -- an entry with what is noted beside it

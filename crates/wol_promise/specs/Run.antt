@@ -2,12 +2,12 @@
 use Rattle.std.specs.Prelude.{◌≡◌, ◌≢◌, ◌<◌, ◌≤◌, ◌^◌, ℕ, List, [], ◌∷◌, ◌++◌, Option, None, Some, length, take, drop, slice_get, nat_lt, if◌then◌else◌}
 use Rattle.std.specs.List.{flat_map, AllByRecursion}
 use Rattle.wol_disk.specs.Disk.{Block}
-use Rattle.wol_model.specs.declared.trace.Kind.TheVariants as kind
 use Rattle.wol_model.specs.Heads.{Shape}
 use Rattle.wol_model.specs.History.{IsCut}
 use Rattle.wol_model.specs.Images.{Images, image_of, image_size, recovered_from, AreSound}
 use Rattle.wol_model.specs.Trace.{Request, payloads, answer}
 use Rattle.wol_promise.specs.Outcomes.{of_volume}
+use Rattle.wol_model.specs.declared.trace.Kind.TheVariants as kind
 
 -- ---- Histories
 

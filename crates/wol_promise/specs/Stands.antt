@@ -5,11 +5,11 @@ use Rattle.wol_disk.specs.Disk.{Block}
 use Rattle.wol_model.specs.Blocks.{Write, AreApart}
 use Rattle.wol_model.specs.Extents.{IsValid, AreDistinct, covers_of}
 use Rattle.wol_model.specs.History.{Entry, worker, writes, flight_of, AreLegalNext, BreaksOnce, IsHelp, IsCut}
-use Rattle.wol_model.specs.Log.{IsLog, extent_of}
-use Rattle.wol_model.specs.Index.{Listed, AreRising}
 use Rattle.wol_model.specs.Holding.{Holds}
+use Rattle.wol_model.specs.Index.{Listed, AreRising, Indexed}
+use Rattle.wol_model.specs.Log.{IsLog, extent_of}
+use Rattle.wol_promise.specs.Manager.{Parts, PartName, Held, ManagerSeen, Base, look_of, IsPartOf, extents_held, AllRecords, Recovers, IsIndexOf, IsSorted, AreInUse, is_homed_in, SaysOwnerOrFree, versions, WasWritten}
 use Rattle.wol_promise.specs.Ruled.{Noted, entries_of, AreRuled, last_look}
-use Rattle.wol_promise.specs.Manager.{Parts, PartName, Held, Indexed, ManagerSeen, Base, look_of, IsPartOf, extents_held, AllRecords, Recovers, IsIndexOf, IsSorted, AreInUse, is_homed_in, SaysOwnerOrFree, versions, WasWritten}
 
 -- ---- The beginning
 
@@ -96,8 +96,8 @@ pub record IsPlaced {P : Type 0} (parts : Parts P) (held : List (Held P)) (e : I
   pub is_held : Contains held segment
   pub lane : e.listed.lane ≡ segment.lane
   pub index : e.index ≡ segment.index
-  pub behind : 1 ≤ e.position
-  pub within : e.position + length e.listed.keep < parts.size segment.part
+  pub behind : 1 ≤ e.pos
+  pub within : e.pos + length e.listed.keep < parts.size segment.part
 
 -- ---- While nothing broke
 
