@@ -2,7 +2,6 @@ pub mod Blocks
 pub mod Heads
 pub mod Trace
 pub mod Journal
-pub mod Pools
 pub mod Placing
 pub mod Extents
 pub mod Log

@@ -2,7 +2,7 @@ pub mod Policy
 pub mod Ruled
 pub mod Manager
 pub mod Stands
-pub mod Pool
+pub mod Segments
 pub mod Spindle
 pub mod Outcomes
 pub mod Run

@@ -5,7 +5,7 @@ use Rattle.wol_disk.specs.Disk.{Block}
 use Rattle.wol_model.specs.Blocks.{Write}
 use Rattle.wol_model.specs.Extents.{Extent, IsValid}
 use Rattle.wol_model.specs.Heads.{free_block, owned_block}
-use Rattle.wol_model.specs.Index.{Listed, Indexed, listed_in, is_homed, AreRising, IsListed}
+use Rattle.wol_model.specs.Index.{Indexed, listed_in, is_homed, AreRising, IsListed}
 use Rattle.wol_model.specs.Log.{Record, extent_of, marks_of, position_of}
 use Rattle.wol_model.specs.Recovered.{recovered}
 use Rattle.wol_promise.specs.Policy.{Look}

@@ -1,6 +1,6 @@
 -- Where writes are placed, and how a manager's look at its records goes on.
-use Rattle.std.specs.Prelude.{⊤, ◌≡◌, ◌≢◌, ◌⊎◌, ◌≤◌, ℕ, ◌+◌, Bool, true, false, not, ◌&&◌, ◌||◌, List, [], ◌∷◌, ◌++◌, map, Option, None, Some, length, nat_le, nat_lt, if◌then◌else◌, ◌==◌, slice_get, slice_set, slice_index_or, IsTrue, position, replicate}
-use Rattle.std.specs.List.{list_any, zip, range_with_len, filter, AllByRecursion}
+use Rattle.std.specs.Prelude.{⊤, ◌≡◌, ◌≢◌, ◌⊎◌, ◌≤◌, ℕ, ◌+◌, Bool, true, false, not, ◌&&◌, ◌||◌, List, [], ◌∷◌, ◌++◌, map, Option, None, Some, length, nat_le, nat_lt, ◌==◌, slice_get, slice_set, slice_index_or, IsTrue, position, replicate}
+use Rattle.std.specs.List.{list_any, range_with_len, filter, AllByRecursion}
 use Rattle.std.specs.Option.{option_map_or}
 use Rattle.wol_model.specs.Blocks.{Write}
 use Rattle.wol_model.specs.Extents.{newest, remarked}
