@@ -1,7 +1,6 @@
 -- Laws of spellings: a block spells at most one value of each kind, and a log is of one list of records.
 use Rattle.std.specs.Prelude.{◌≡◌, ◌↔◌, ℕ, List, Some}
 use Rattle.wol_disk.specs.Disk.{Block}
-use Rattle.wol_model.specs.Blocks.{IsBlock}
 use Rattle.wol_model.specs.Heads.{Shape, SegmentHead, RecordHead, SpellsLabel, SpellsView, SpellsSegment, SpellsRecord, gate_block}
 use Rattle.wol_model.specs.Log.{Record, IsIdle, IsLog}
 use Rattle.wol_model.specs.Recovered.{spelled_head, read_log}
@@ -36,7 +35,3 @@ OneLog = (bs : List Block) (owner other : ℕ) (rs ss : List Record) → IsLog b
 
 abbrev pub NotBoth : Type 0
 NotBoth = (bs : List Block) (owner : ℕ) (rs : List Record) → IsIdle bs → IsLog bs owner rs → ⊥
-
--- what is spelled has 512 bytes
-abbrev pub HeadsAreBlocks : Type 0
-HeadsAreBlocks = (b : Block) (h : RecordHead) → SpellsRecord b h → IsBlock b
