@@ -47,7 +47,7 @@ all_covers P [] a = tt
 all_covers P (x ∷ xs) a = (a.0, all_covers P xs a.1)
 
 -- one more, apart from each
-distinct_more : (front back : List Extent) (r : Extent) → AreDistinct (covers_of (front ++ back)) → AllByRecursion (λ s. s.cover.version < r.cover.version) (front ++ back) → AreDistinct (covers_of (front ++ r ∷ back))
+pub distinct_more : (front back : List Extent) (r : Extent) → AreDistinct (covers_of (front ++ back)) → AllByRecursion (λ s. s.cover.version < r.cover.version) (front ++ back) → AreDistinct (covers_of (front ++ r ∷ back))
 distinct_more [] back r d low = (covers_all (λ e. IsValid r.cover → IsValid e → r.cover.version ≢ e.version) back (all_map (λ s. s.cover.version < r.cover.version) (λ s. IsValid r.cover → IsValid s.cover → r.cover.version ≢ s.cover.version) (λ s lt u v. omega arith) back low), d)
 distinct_more (x ∷ front) back r d low = (covers_all Q (front ++ r ∷ back) (all_joined (λ s. Q s.cover) front (r ∷ back) (all_front (λ s. Q s.cover) front back old) ((λ u v. let lt : x.cover.version < r.cover.version = low.0 in omega arith), all_back (λ s. Q s.cover) front back old)), distinct_more front back r d.1 low.1)
   where
@@ -57,7 +57,7 @@ distinct_more (x ∷ front) back r d low = (covers_all Q (front ++ r ∷ back) (
     old : AllByRecursion (λ s. IsValid x.cover → IsValid s.cover → x.cover.version ≢ s.cover.version) (front ++ back)
     old = all_covers (λ e. IsValid x.cover → IsValid e → x.cover.version ≢ e.version) (front ++ back) d.0
 
-distinct_swap : (front back : List Extent) (r s : Extent) → s.cover.version ≡ r.cover.version → (IsValid s.cover → IsValid r.cover) → AreDistinct (covers_of (front ++ r ∷ back)) → AreDistinct (covers_of (front ++ s ∷ back))
+pub distinct_swap : (front back : List Extent) (r s : Extent) → s.cover.version ≡ r.cover.version → (IsValid s.cover → IsValid r.cover) → AreDistinct (covers_of (front ++ r ∷ back)) → AreDistinct (covers_of (front ++ s ∷ back))
 distinct_swap [] back r s v f d = (
   covers_all (λ e. IsValid s.cover → IsValid e → s.cover.version ≢ e.version) back
       (all_map (λ e. IsValid r.cover → IsValid e.cover → r.cover.version ≢ e.cover.version) (λ e. IsValid s.cover → IsValid e.cover → s.cover.version ≢ e.cover.version) (λ e n a b k. n (f a) b (sym v ∙ k)) back (all_covers (λ e. IsValid r.cover → IsValid e → r.cover.version ≢ e.version) back d.0)),
@@ -78,7 +78,7 @@ distinct_swap (x ∷ front) back r s v f d = (
     new : AllByRecursion (λ e. IsValid x.cover → IsValid e.cover → x.cover.version ≢ e.cover.version) (r ∷ back)
     new = all_back (λ e. IsValid x.cover → IsValid e.cover → x.cover.version ≢ e.cover.version) front (r ∷ back) old
 
-distinct_less : (front back : List Extent) (r : Extent) → AreDistinct (covers_of (front ++ r ∷ back)) → AreDistinct (covers_of (front ++ back))
+pub distinct_less : (front back : List Extent) (r : Extent) → AreDistinct (covers_of (front ++ r ∷ back)) → AreDistinct (covers_of (front ++ back))
 distinct_less [] back r d = d.1
 distinct_less (x ∷ front) back r d = (
   covers_all (λ e. IsValid x.cover → IsValid e → x.cover.version ≢ e.version) (front ++ back)

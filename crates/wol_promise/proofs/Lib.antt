@@ -1,5 +1,13 @@
 pub mod Lists
 pub mod OneMore
+pub mod Index
+pub mod Known
+pub mod Kept
+pub mod Broke
+pub mod HomeWrites
+pub mod LogWrites
+pub mod Claims
+pub mod ReadBreaks
 pub mod Choices
 pub mod Stops
 pub mod ReadCode

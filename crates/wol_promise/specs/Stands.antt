@@ -114,6 +114,7 @@ pub record IsCalm {P : Type 0} (parts : Parts P) (base : Base) (ws : List Write)
   pub unbroken : AllByRecursion (λ s. s.broken ≡ false) held
   pub untaken : taken ≡ []
   pub sorted : IsSorted indexed
+  pub below : AllByRecursion (λ e. e.listed.version < next) indexed
   pub placed : AllByRecursion (IsPlaced parts held) indexed
   pub whole : parts.told → IsWhole parts base ws next home held indexed
 
