@@ -7,6 +7,9 @@ pub mod Reading
 pub mod GivingUp
 pub mod Images
 pub mod Live
+pub mod Counts
+pub mod DrainPuts
+pub mod DrainGives
 pub mod Marks
 pub mod Masks
 pub mod Mixed
@@ -17,6 +20,7 @@ pub mod Arrays
 pub mod Spellings
 pub mod Pieces
 pub mod TwelveLines
+pub mod TwelveLinesJournals
 pub mod Cells
 pub mod OverlappingOffloads
 pub mod StaleFetch

@@ -1,11 +1,12 @@
 -- Laws of an index of records and of masks.
 use Rattle.std.specs.Prelude.{◌≡◌, ◌⊎◌, ◌<◌, ◌≤◌, ◌^◌, ◌-◌, ℕ, Bool, true, false, not, ◌&&◌, ◌||◌, List, [], ◌∷◌, ◌++◌, None, Some, slice_get, length, bit_and, bit_or, unwrap_or}
-use Rattle.std.specs.List.{AllByRecursion}
+use Rattle.std.specs.List.{AllByRecursion, filter}
 use Rattle.std.specs.Int.{bit_not, w128}
 use Rattle.wol_disk.specs.Disk.{Block}
 use Rattle.wol_model.specs.Blocks.{block_of}
 use Rattle.wol_model.specs.Extents.{Cover, Extent, newest, newest_block, with_extents, has_newer, may_go, covers_of, AreDistinct, IsValid, KeepsAll}
 use Rattle.wol_model.specs.Log.{Record, has_bit, extent_of}
+use Rattle.wol_model.specs.Index.{Listed, is_due, goes, keeps_a_block, homing, keeping, left}
 
 -- a block that no newer record covers is the newest record's
 abbrev pub LiveIsNewest : Type 0
@@ -52,3 +53,16 @@ MaskAnd = (m n i : ℕ) → has_bit (bit_and m n) i ≡ (has_bit m i && has_bit 
 
 abbrev pub MaskWithout : Type 0
 MaskWithout = (m n i : ℕ) → m < 2 ^ 128 → n < 2 ^ 128 → has_bit (bit_and m (bit_not w128 n)) i ≡ (has_bit m i && not (has_bit n i))
+
+-- ---- What a drain lowers
+
+-- a step that puts due blocks home, at least one of them, lowers what is left
+abbrev pub PuttingLowers : Type 0
+PuttingLowers = (front back : List Listed) (e : Listed) (put : ℕ → Bool) (b : ℕ) → length e.homed ≡ length e.keep
+    → ((c : ℕ) → put c ≡ true → is_due (front ++ e ∷ back) e c ≡ true) → put b ≡ true
+    → left (front ++ homing put e ∷ back) < left (front ++ e ∷ back)
+
+-- so does a step in which a record gives up the blocks that go, at least one
+abbrev pub GivingUpLowers : Type 0
+GivingUpLowers = (front back : List Listed) (e : Listed) (b : ℕ) → goes (front ++ e ∷ back) e b ≡ true
+    → left (filter keeps_a_block (front ++ keeping (front ++ e ∷ back) e ∷ back)) < left (front ++ e ∷ back)

@@ -4,7 +4,7 @@ ghost use Rattle.wol_model.specs.HistoryLaws.{OneMoreReply, OneMoreEntry, Writes
 ghost use Rattle.wol_model.specs.HeadLaws.{OneLabel, OneView, OneSegmentHead, OneRecordHead, GateIsNoHead, ReadingHeads, ReadingLogs, OneLog, NotBoth};
 ghost use Rattle.wol_model.specs.RecoveryLaws.{GivingUp, Emptied, Logging, WritingHome, CutShort, PuttingHome, Trimming, Retiring, Claiming, Appending};
 ghost use Rattle.wol_model.specs.Holding.{OpeningStep, LoggingStep, HomeStep, HomeInFlight, PuttingStep, PuttingInFlight, GivingUpStep, EmptyStep, FewerHomed};
-ghost use Rattle.wol_model.specs.IndexLaws.{LiveIsNewest, LeastGoesOrIsDue, FullMask, MaskOr, MaskAnd, MaskWithout, IndexFinds, IndexFindsNone, Reading};
+ghost use Rattle.wol_model.specs.IndexLaws.{LiveIsNewest, LeastGoesOrIsDue, FullMask, MaskOr, MaskAnd, MaskWithout, IndexFinds, IndexFindsNone, Reading, PuttingLowers, GivingUpLowers};
 
 /// Arrays after writes, and writes as a disk puts them.
 pub fn array_laws()
@@ -90,4 +90,10 @@ pub fn mask_laws()
     ensures or { MaskOr }
     ensures and { MaskAnd }
     ensures without { MaskWithout }
+{}
+
+/// Each step of a drain lowers the kept blocks and the due blocks together, so that a drain ends.
+pub fn drain_laws()
+    ensures putting { PuttingLowers }
+    ensures giving_up { GivingUpLowers }
 {}

@@ -12,3 +12,7 @@ pub mod Choices
 pub mod Stops
 pub mod ReadCode
 pub mod PlainAnswers
+pub mod Data
+pub mod TwelveLinesLooks
+pub mod LogOfOneSegment
+pub mod PlacingRules

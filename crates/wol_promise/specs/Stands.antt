@@ -157,3 +157,7 @@ pub record IsDataOf (base : Base) (ws : List Write) (version first : ℕ) (block
   pub named : write.version ≡ Some version
   pub range : write.first ≡ first
   pub data_ : write.blocks ≡ blocks
+
+-- what was fetched of a version stays its data, whatever is written later
+abbrev pub DataStays : Type 0
+DataStays = (base : Base) (ws more : List Write) (version first : ℕ) (blocks : List Block) → IsDataOf base ws version first blocks → IsDataOf base (ws ++ more) version first blocks
