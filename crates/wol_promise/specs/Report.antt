@@ -1,8 +1,8 @@
 -- The counts that a report prints, from the histories.
-use Rattle.std.specs.Prelude.{◌≡◌, ◌+◌, ◌==◌, ◌&&◌, ℕ, Bool, true, false, not, List, [], ◌∷◌, map, is_some}
-use Rattle.std.specs.List.{list_any, filter, flat_map, count_by}
+use Rattle.std.specs.Prelude.{◌≢◌, IsTrue, ◌≡◌, ◌+◌, ◌==◌, ◌&&◌, ℕ, Bool, true, false, not, List, [], ◌∷◌, map, is_some}
+use Rattle.std.specs.List.{AllByRecursion, list_any, filter, flat_map, count_by}
 use Rattle.wol_model.specs.Blocks.{Write}
-use Rattle.wol_model.specs.History.{Operation, Wrote, Read, Kept, Broke, writes, keeper, worker}
+use Rattle.wol_model.specs.History.{Operation, Wrote, Read, Kept, Broke, writes, keeper, helper, worker}
 use Rattle.wol_model.specs.Index.{Listed, is_due, block_numbers}
 use Rattle.wol_model.specs.Log.{Record, marks_of}
 use Rattle.wol_promise.specs.Policy.{Look, IsIdleLook}
@@ -78,6 +78,14 @@ pub record IsBegun (home_up : Bool) (ups : List Bool) (n : Noted) : Type 0 where
   pub keeper : n.entry.pass ≡ keeper
   pub home : n.look.home_up ≡ home_up
   pub loggers : n.look.ups ≡ ups
+
+-- each of these entries follows the rules
+abbrev pub AreAllRuled : (added : List Noted) → Type 0
+AreAllRuled added = AllByRecursion (λ n. IsTrue n.ruled) added
+
+-- where nothing is reclaimed beside the requests, the helper adds no entry
+abbrev pub HasNoHelp : (added : List Noted) → Type 0
+HasNoHelp added = AllByRecursion (λ n. n.entry.pass ≢ helper) added
 
 -- the worker's entries
 abbrev pub by_worker : List Noted → List Noted

@@ -1,12 +1,7 @@
--- Spindles over their history of uses, and which passes may wake a disk.
+-- The accesses that passes begin at spindles, and which of them may wake a disk.
 use Rattle.std.specs.Prelude.{◌≡◌, ◌<◌, ℕ, Bool, true, false, List, ◌∷◌, map}
 use Rattle.std.specs.List.{count_by}
-use Rattle.wol_model.specs.Journal.{Use, Started, Began, Needed, Done, Stayed, SpindleState, new_spindle, spindle_after, AreUses}
-
--- a spindle stands for the uses since it was made: they may follow one another, and it is as they leave it
-pub record SpindleStandsFor (timeout : ℕ) (state : SpindleState) (uses : List (ℕ × Use)) : Type 0 where
-  pub may : AreUses timeout new_spindle uses
-  pub is_so : state ≡ spindle_after timeout new_spindle uses
+use Rattle.wol_model.specs.Journal.{Use, Started, Began, Needed, Done, Stayed}
 
 abbrev pub is_need : Use → Bool
 is_need Needed = true

@@ -1,5 +1,5 @@
 -- What a manager stands for.
-use Rattle.std.specs.Prelude.{⊤, ◌≡◌, ◌≢◌, ◌<◌, ◌≤◌, ◌^◌, ℕ, ◌+◌, Bool, true, false, List, [], ◌∷◌, ◌++◌, map, Option, None, Some, is_some, unwrap_or, length, Contains, slice_get}
+use Rattle.std.specs.Prelude.{⊤, ◌≡◌, ◌≢◌, ◌<◌, ◌≤◌, ◌^◌, ℕ, ◌+◌, Bool, true, false, List, [], ◌∷◌, ◌++◌, map, Option, None, Some, is_some, unwrap_or, length, max, Contains, slice_get}
 use Rattle.std.specs.List.{AllByRecursion, range_with_len}
 use Rattle.wol_disk.specs.Disk.{Block}
 use Rattle.wol_model.specs.Blocks.{Write, AreApart}
@@ -7,7 +7,7 @@ use Rattle.wol_model.specs.Extents.{IsValid, AreDistinct, covers_of}
 use Rattle.wol_model.specs.History.{Entry, worker, writes, flight_of, AreLegalNext, BreaksOnce, IsHelp, IsCut}
 use Rattle.wol_model.specs.Holding.{Holds}
 use Rattle.wol_model.specs.Index.{Listed, AreRising, Indexed}
-use Rattle.wol_model.specs.Log.{IsLog, extent_of}
+use Rattle.wol_model.specs.Log.{Record, IsLog, extent_of}
 use Rattle.wol_promise.specs.Manager.{Parts, PartName, Held, ManagerSeen, Base, look_of, IsPartOf, extents_held, AllRecords, Recovers, IsIndexOf, IsSorted, AreInUse, is_homed_in, SaysOwnerOrFree, versions, WasWritten}
 use Rattle.wol_promise.specs.Ruled.{Noted, entries_of, AreRuled, last_look}
 
@@ -33,6 +33,11 @@ pub record IsOpening (base : Base) : Type 0 where
   pub rising : AreRising (map (λ e. e.version) base.look.listed)
   pub listed : AllByRecursion (IsOpened base) base.look.listed
   pub sized : length base.array ≡ base.home_blocks
+
+-- the next version at opening: one above the greatest of all records, valid or not, and 1 where there is none
+abbrev pub next_version : List Record → ℕ
+next_version [] = 1
+next_version (r ∷ rs) = max (r.head.version + 1) (next_version rs)
 
 -- ---- The history
 
