@@ -7,6 +7,7 @@ pub mod Broke
 pub mod HomeWrites
 pub mod LogWrites
 pub mod Claims
+pub mod Puts
 pub mod ReadBreaks
 pub mod Choices
 pub mod Stops
