@@ -8,6 +8,8 @@ pub mod HomeWrites
 pub mod LogWrites
 pub mod Claims
 pub mod Puts
+pub mod Covers
+pub mod Trims
 pub mod ReadBreaks
 pub mod Choices
 pub mod Stops
