@@ -1,0 +1,19 @@
+//! Block traces in the format of MSR Cambridge: lines read from a stream and written, the pieces of a request, and what a
+//! replayed write stores.
+#![tactic(auto)]
+
+mod decimal;
+mod fields;
+mod format;
+mod host;
+mod intake;
+
+mod parse;
+mod reading;
+
+pub use format::{BadLine, Line, LineFault, TraceFault};
+pub use host::HostName;
+pub use decimal::number;
+pub use parse::read_line;
+pub use reading::Lines;
+pub use wol_model::{Kind, Piece};
