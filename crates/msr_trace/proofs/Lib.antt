@@ -4,4 +4,6 @@ pub mod Holding
 pub mod Marked
 pub mod Splitting
 pub mod Taking
-pub mod Cutting
+pub mod FirstLine
+pub mod Runs
+pub mod Stamps

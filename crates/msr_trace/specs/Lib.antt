@@ -2,3 +2,5 @@ pub mod Numbers
 pub mod Lines
 pub mod Intake
 pub mod Reading
+pub mod Payload
+pub mod Pieces

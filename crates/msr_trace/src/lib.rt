@@ -2,6 +2,7 @@
 //! replayed write stores.
 #![tactic(auto)]
 
+mod cutting;
 mod decimal;
 mod fields;
 mod format;
@@ -9,11 +10,14 @@ mod host;
 mod intake;
 
 mod parse;
+mod payload;
 mod reading;
 
 pub use format::{BadLine, Line, LineFault, TraceFault};
 pub use host::HostName;
+pub use cutting::Pieces;
 pub use decimal::number;
 pub use parse::read_line;
+pub use payload::{fill, mark};
 pub use reading::Lines;
 pub use wol_model::{Kind, Piece};

@@ -3,7 +3,7 @@ use Rattle.std.specs.Prelude.{option_map}
 use Rattle.std.specs.List.{position_or_len}
 use Rattle.msr_trace.specs.declared.format.LineFault.TheVariants as fault
 use Rattle.msr_trace.specs.Lines.{is_feed, trace_line, read_of}
-use Rattle.msr_trace.proofs.Cutting.{gives_line, refuses_line}
+use Rattle.msr_trace.proofs.FirstLine.{gives_line, refuses_line}
 use Rattle.msr_trace.proofs.Feeds.{none_before}
 use Rattle.msr_trace.proofs.reading.give_first.Goals as goal
 
