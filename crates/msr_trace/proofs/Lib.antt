@@ -1,6 +1,7 @@
 pub mod Digits
 pub mod Feeds
 pub mod Holding
+pub mod Joined
 pub mod Marked
 pub mod Splitting
 pub mod Taking

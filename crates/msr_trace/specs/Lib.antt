@@ -4,3 +4,4 @@ pub mod Intake
 pub mod Reading
 pub mod Payload
 pub mod Pieces
+pub mod Spelling
