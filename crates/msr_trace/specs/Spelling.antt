@@ -1,10 +1,11 @@
 -- How a line of a trace is spelled: seven fields with commas between them, maybe with a carriage return behind.
-use Rattle.std.specs.Prelude.{◌≡◌, ◌≢◌, ℕ, ◌+◌, ◌≤◌, ◌<◌, ◌^◌, ◌⊎◌, List, [], ◌∷◌, ◌++◌, length, codes, decimal, All, Option, None, Some, Result, Ok}
+use Rattle.std.specs.Prelude.{◌≡◌, ℕ, ◌≤◌, ◌<◌, ◌^◌, ◌⊎◌, ◌==◌, ◌||◌, Bool, false, List, [], ◌∷◌, ◌++◌, length, codes, decimal, None, Some, Ok}
+use Rattle.std.specs.List.{list_any}
 use Rattle.wol_model.specs.Trace.{TraceLine}
 use Rattle.wol_model.specs.declared.trace.Kind.{Kind}
 use Rattle.wol_model.specs.declared.trace.Kind.TheVariants as kind
 use Rattle.msr_trace.specs.Numbers.{number_of}
-use Rattle.msr_trace.specs.Lines.{Fits, read_of}
+use Rattle.msr_trace.specs.Lines.{Fits, is_mark, read_of}
 
 abbrev pub kind_text : Kind → List ℕ
 kind_text kind.Read = codes "Read"
@@ -22,11 +23,9 @@ pub record Digits : Type 0 where
 abbrev pub fields_text : TraceLine → Digits → List ℕ
 fields_text l d = d.time ++ 44 ∷ (l.host ++ 44 ∷ (d.disk ++ 44 ∷ (kind_text l.kind ++ 44 ∷ (d.offset ++ 44 ∷ (d.size ++ 44 ∷ d.response)))))
 
--- no comma, no quotation mark and no carriage return
-pub record IsPlain (b : ℕ) : Type 0 where
-  pub comma : b ≢ 44
-  pub quote : b ≢ 34
-  pub carriage_return : b ≢ 13
+-- a comma, a quotation mark or a carriage return, none of which a host has
+abbrev pub is_reserved : ℕ → Bool
+is_reserved b = (b == 44) || is_mark b
 
 -- the digits are those of the line, which is within its bounds
 pub record AreDigits (l : TraceLine) (d : Digits) : Type 0 where
@@ -41,7 +40,7 @@ pub record AreDigits (l : TraceLine) (d : Digits) : Type 0 where
 -- a text, less its line feed, is a spelling of the line
 pub record Spells (text : List ℕ) (l : TraceLine) (d : Digits) : Type 0 where
   pub short : length text ≤ 4096
-  pub host : All IsPlain l.host
+  pub host : list_any is_reserved l.host ≡ false
   pub digits : AreDigits l d
   pub whole : (text ≡ fields_text l d) ⊎ (text ≡ fields_text l d ++ 13 ∷ [])
 
@@ -69,7 +68,7 @@ line_text l = fields_text l (digits_of l)
 
 -- a line whose text can be read again
 pub record IsWritable (l : TraceLine) : Type 0 where
-  pub host : All IsPlain l.host
+  pub host : list_any is_reserved l.host ≡ false
   pub time : l.time < 2 ^ 64
   pub disk : l.disk < 2 ^ 32
   pub response : l.response < 2 ^ 64
