@@ -43,6 +43,10 @@ pub record StandsFor (s : SpindleView) (b : SpindleBase) (entries : List Entry) 
   pub legal : AreUses b.timeout new_spindle (uses_of entries)
   pub shows : Shows s (state_after b entries)
 
+-- the base of a new spindle's lock
+abbrev pub base_of : SpindleView → SpindleBase
+base_of s = record { volume = s.volume; timeout = s.timeout }
+
 -- the use of a turn in which `begin` gave this answer
 abbrev pub begun : ℕ → Result Bool NoMemory → Use
 begun at (Ok awake) = Began at

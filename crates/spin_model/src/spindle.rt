@@ -5,7 +5,7 @@ ghost use Rattle.wol_model.specs.declared.journal.Turned.TheVariants.{Down, Up};
 ghost use Rattle.turn_lock.specs.Histories.{Entry};
 ghost use Rattle.spin_model.specs.Spun.{token_volume};
 ghost use Rattle.spin_model.specs.Operations.{operation_of};
-ghost use Rattle.spin_model.specs.Spindles.{SpindleView, StandsFor, IsSameSpindle, state_after, begun};
+ghost use Rattle.spin_model.specs.Spindles.{SpindleView, StandsFor, IsSameSpindle, base_of, state_after, begun};
 
 use crate::Awake;
 use std::alloc::Global;
@@ -54,7 +54,9 @@ impl Object for Spindle {
 impl Spindle {
     /// A spindle that is awake, with an empty journal and all moments 0. It takes no memory.
     pub fn new(alloc: Global, volume: u32, timeout: u64) -> Spindle
-        ensures { StandsFor result (record { volume = volume; timeout = timeout }) [] }
+        ensures volume { result.volume ≡ volume }
+        ensures timeout { result.timeout ≡ timeout }
+        ensures stands { StandsFor result (base_of result) [] }
     {
         Spindle {
             volume,
