@@ -1,7 +1,7 @@
 -- What a pass's own entries say of the segments that it holds.
 use Rattle.std.proofs.Common.{◌≡◌, ◌≢◌, ◌<◌, ℕ, eqb, is_some, arith, Bool, true, false, cond, if◌then◌else◌, List, [], ◌∷◌, ◌++◌, length, map, Option, None, Some, set, refl, sym, ap, ◌∙◌, subst, ⊎_elim}
 use mathlib.Core.List.{map-append}
-use Rattle.std.proofs.lemmas.Bool.{eq-eqb, eqb-true}
+use Rattle.std.proofs.lemmas.Bool.{eq-eqb, eqb-true, ne_eqb}
 use Rattle.std.proofs.lemmas.List.{length-set}
 use Rattle.std.proofs.lemmas.Bool.Decides.{eqb_tells}
 use Rattle.turn_lock.specs.Histories.{Entry, own}
@@ -111,3 +111,24 @@ module _ {T : Type 0} (blank : ℕ → ℕ → T → Type 0) (p : Pool T) (b : P
 -- the entries that a pass has seen after its turn
 pub legal_after : (l m : LockId PoolBase) (es fs : List Entry) → m ≡ l → fs ≡ es → ArePoolUses l.base.holders (uses_of es) → ArePoolUses m.base.holders (uses_of fs)
 legal_after l m es fs lock entries legal = subst (λ (xs : List Entry). ArePoolUses m.base.holders (uses_of xs)) (sym entries) (subst (λ (x : LockId PoolBase). ArePoolUses x.base.holders (uses_of es)) (sym lock) legal)
+
+same_pass : (l m : LockId PoolBase) (es fs : List Entry) (n k i : ℕ) → m ≡ l → k ≡ n → holds l.base n fs i ≡ true → holds m.base k fs i ≡ true
+same_pass l m es fs n k i lock number has = subst (λ (x : LockId PoolBase). holds x.base k fs i ≡ true) (sym lock) (subst (λ (j : ℕ). holds l.base j fs i ≡ true) (sym number) has)
+
+-- what a pass holds it holds after taking another, or none
+pub kept_taking : (l m : LockId PoolBase) (es fs : List Entry) (n k j i : ℕ) (o : Option ℕ) → m ≡ l → k ≡ n → fs ≡ es ++ (j, operation_of (Took o)) ∷ [] → holds l.base n es i ≡ true → holds m.base k fs i ≡ true
+kept_taking l m es fs n k j i o lock number are has =
+    same_pass l m es fs n k i lock number (ap (λ (xs : List Entry). holds l.base n xs i) are ∙ (holds_more l.base es n j i (Took o) ∙ (ap (λ (b : Bool). holds_after i b (Took o ∷ [])) has ∙ still o)))
+  where
+    same : (b : Bool) → (if b then true else true) ≡ true
+    same true = refl
+    same false = refl
+
+    still : (o : Option ℕ) → holds_after i true (Took o ∷ []) ≡ true
+    still None = refl
+    still (Some x) = same (eqb x i)
+
+-- and after giving another
+pub kept_giving : (l m : LockId PoolBase) (es fs : List Entry) (n k j i index : ℕ) → m ≡ l → k ≡ n → i ≢ index → fs ≡ es ++ (j, operation_of (Gave index)) ∷ [] → holds l.base n es i ≡ true → holds m.base k fs i ≡ true
+kept_giving l m es fs n k j i index lock number other are has =
+    same_pass l m es fs n k i lock number (ap (λ (xs : List Entry). holds l.base n xs i) are ∙ (holds_more l.base es n j i (Gave index) ∙ (ap (λ (b : Bool). if b then false else holds l.base n es i) (ne_eqb index i (λ is. other (sym is))) ∙ has)))

@@ -5,6 +5,8 @@
 mod base;
 mod laws;
 mod pool;
+#[cfg(test)]
+mod tests;
 mod uses;
 
 pub use base::{Holder, PoolBase};

@@ -1,10 +1,9 @@
 // Turns of a pool's lock, one use each.
-ghost use Rattle.std.specs.Prelude.{true, ◌≡◌, ◌<◌, ◌∷◌, [], ◌++◌, List, None, Some, IfSome, option_map};
+ghost use Rattle.std.specs.Prelude.{true, ◌≡◌, ◌≢◌, ◌∷◌, [], ◌++◌, ℕ, List, IfSome};
 ghost use Rattle.turn_lock.specs.Histories.{Entry, Begins};
 ghost use Rattle.turn_lock.specs.Passes.{pass_lock, pass_number, pass_seen, pass_mine, IsPassOf, IsFree, IsSamePass};
-ghost use Rattle.seg_pool.specs.Holders.{ArePoolUses};
+ghost use Rattle.seg_pool.specs.Holders.{Gave, ArePoolUses};
 ghost use Rattle.seg_pool.specs.Operations.{operation_of, uses_of, holds, taken};
-ghost use Rattle.seg_pool.specs.Holders.{Gave};
 
 use crate::{Blank, Pool};
 use std::sync::Wait;
@@ -31,6 +30,7 @@ pub fn take_item<R: Wait, T: Blank>(
     ensures seen { (before : List Entry) × Begins (pass_seen pass.old) before × (pass_seen pass.new ≡ before ++ (pass_number pass.old, operation_of (taken result)) ∷ []) }
     ensures legal { ArePoolUses (pass_lock pass.new).base.holders (uses_of (pass_seen pass.new)) }
     ensures holds { IfSome result (λ r. holds (pass_lock pass.new).base (pass_number pass.new) (pass_mine pass.new) r.0 ≡ true) }
+    ensures kept { (index : ℕ) → holds (pass_lock pass.old).base (pass_number pass.old) (pass_mine pass.old) index ≡ true → holds (pass_lock pass.new).base (pass_number pass.new) (pass_mine pass.new) index ≡ true }
     ensures blank { IfSome result (λ r. T.blank (pass_lock pass.new).base.volume (pass_lock pass.new).base.blocks r.1) }
 {
     let mut turn = lock.enter(rt, pass);
@@ -64,6 +64,7 @@ pub fn give_item<R: Wait, T: Blank>(
     ensures mine { pass_mine pass.new ≡ pass_mine pass.old ++ (pass_number pass.old, operation_of (Gave index)) ∷ [] }
     ensures seen { (before : List Entry) × Begins (pass_seen pass.old) before × (pass_seen pass.new ≡ before ++ (pass_number pass.old, operation_of (Gave index)) ∷ []) }
     ensures legal { ArePoolUses (pass_lock pass.new).base.holders (uses_of (pass_seen pass.new)) }
+    ensures kept { (i : ℕ) → i ≢ index → holds (pass_lock pass.old).base (pass_number pass.old) (pass_mine pass.old) i ≡ true → holds (pass_lock pass.new).base (pass_number pass.new) (pass_mine pass.new) i ≡ true }
 {
     let mut turn = lock.enter(rt, pass);
     turn.value.give(index, item);

@@ -8,7 +8,7 @@ use Rattle.seg_pool.specs.declared.pool.Pool.{Pool}
 use Rattle.seg_pool.specs.Holders.{Gave, holder, MayUsePool}
 use Rattle.seg_pool.specs.Operations.{holds, operation_of}
 use Rattle.seg_pool.specs.Pools.{StandsFor, holders_after}
-use Rattle.seg_pool.proofs.Holding.{is_holder, held_within, held_not_free, legal_after}
+use Rattle.seg_pool.proofs.Holding.{is_holder, held_within, held_not_free, kept_giving, legal_after}
 use Rattle.seg_pool.proofs.uses.give_item.Goals as goal
 
 -- what a pass held before its turn it holds in it
@@ -42,5 +42,10 @@ pub returns-clause-legal : goal.returns-clause-legal
 returns-clause-legal g c =
     let e = c.enter-turn.ensures in
     let st = after_giving g.T.Blank.blank c.enter-turn.result.value c.give.new.self (pass_lock c.enter-turn.new.pass).base (pass_number c.enter-turn.new.pass) (pass_seen c.enter-turn.new.pass) c.args.index c.from.result c.give.ensures.stands e.value
-          (held g.T.Blank.blank c.enter-turn.result.value (pass_lock c.args.pass.now) (pass_lock c.enter-turn.new.pass) (pass_number c.args.pass.now) (pass_number c.enter-turn.new.pass) (pass_seen c.enter-turn.new.pass) (pass_mine c.args.pass.now) c.args.index e.value e.same.0 e.same.1 (e.own ∙ e.mine) c.requires.holds) c.from.ensures in
+    (held g.T.Blank.blank c.enter-turn.result.value (pass_lock c.args.pass.now) (pass_lock c.enter-turn.new.pass) (pass_number c.args.pass.now) (pass_number c.enter-turn.new.pass) (pass_seen c.enter-turn.new.pass) (pass_mine c.args.pass.now) c.args.index e.value e.same.0 e.same.1 (e.own ∙ e.mine) c.requires.holds) c.from.ensures in
     legal_after (pass_lock c.enter-turn.new.pass) (pass_lock c.leave_as.new.pass) _ (pass_seen c.leave_as.new.pass) c.leave_as.ensures.same.0 c.leave_as.ensures.seen st.legal
+
+pub returns-clause-kept : goal.returns-clause-kept
+returns-clause-kept g c i other has =
+    let e = c.enter-turn.ensures in let l = c.leave_as.ensures in
+    kept_giving (pass_lock c.args.pass.now) (pass_lock c.leave_as.new.pass) (pass_mine c.args.pass.now) (pass_mine c.leave_as.new.pass) (pass_number c.args.pass.now) (pass_number c.leave_as.new.pass) (pass_number c.enter-turn.new.pass) i c.from.result (l.same.0 ∙ e.same.0) (l.same.1 ∙ e.same.1) (λ is. other (is ∙ c.from.ensures)) (l.mine ∙ ap (λ (es : List Entry). es ++ (pass_number c.enter-turn.new.pass, 3 ∷ c.from.result ∷ []) ∷ []) e.mine) has

@@ -1,10 +1,10 @@
-use Rattle.std.proofs.Common.{◌≡◌, ℕ, List, [], ◌∷◌, ◌++◌, sym, subst}
+use Rattle.std.proofs.Common.{◌≡◌, ℕ, List, [], ◌∷◌, ◌++◌, None, Some, ap, sym, ◌∙◌, subst}
 use Rattle.turn_lock.specs.Histories.{Entry}
 use Rattle.turn_lock.specs.Passes.{pass_lock, pass_number, pass_seen, pass_mine}
 use Rattle.seg_pool.specs.declared.base.PoolBase.{PoolBase}
 use Rattle.seg_pool.specs.declared.pool.Pool.{Pool}
 use Rattle.seg_pool.specs.Pools.{StandsFor}
-use Rattle.seg_pool.proofs.Holding.{holds_taken, legal_after}
+use Rattle.seg_pool.proofs.Holding.{holds_taken, kept_taking, legal_after}
 use Rattle.seg_pool.proofs.uses.take_item.Goals as goal
 
 -- the pool stands for one more entry
@@ -22,3 +22,13 @@ returns-in-Some-clause-legal g c =
 
 pub returns-in-Some-clause-holds : goal.returns-in-Some-clause-holds
 returns-in-Some-clause-holds g c = holds_taken (pass_lock c.leave_as.new.pass).base (pass_mine c.enter-turn.new.pass) (pass_mine c.leave_as.new.pass) (pass_number c.leave_as.new.pass) (pass_number c.enter-turn.new.pass) c.in-Some.index c.from.result c.leave_as.ensures.mine c.from.ensures
+
+pub returns-in-Some-clause-kept : goal.returns-in-Some-clause-kept
+returns-in-Some-clause-kept g c i has =
+    let e = c.enter-turn.ensures in let l = c.leave_as.ensures in
+    kept_taking (pass_lock c.args.pass.now) (pass_lock c.leave_as.new.pass) (pass_mine c.args.pass.now) (pass_mine c.leave_as.new.pass) (pass_number c.args.pass.now) (pass_number c.leave_as.new.pass) (pass_number c.enter-turn.new.pass) i (Some c.from.result) (l.same.0 ∙ e.same.0) (l.same.1 ∙ e.same.1) (l.mine ∙ ap (λ (es : List Entry). es ++ (pass_number c.enter-turn.new.pass, 1 ∷ c.from.result ∷ []) ∷ []) e.mine) has
+
+pub returns-in-None-clause-kept : goal.returns-in-None-clause-kept
+returns-in-None-clause-kept g c i has =
+    let e = c.enter-turn.ensures in let l = c.leave_as-in-None.ensures in
+    kept_taking (pass_lock c.args.pass.now) (pass_lock c.leave_as-in-None.new.pass) (pass_mine c.args.pass.now) (pass_mine c.leave_as-in-None.new.pass) (pass_number c.args.pass.now) (pass_number c.leave_as-in-None.new.pass) (pass_number c.enter-turn.new.pass) i None (l.same.0 ∙ e.same.0) (l.same.1 ∙ e.same.1) (l.mine ∙ ap (λ (es : List Entry). es ++ (pass_number c.enter-turn.new.pass, 2 ∷ []) ∷ []) e.mine) has
