@@ -15,7 +15,7 @@ use Rattle.solo.specs.declared.fault.Fault.{Fault}
 use Rattle.solo.specs.declared.fault.Fault.TheVariants as fault
 use Rattle.solo.specs.declared.tally.Tally.{Tally}
 use Rattle.solo.specs.Faults.{fault_of_bay}
-use Rattle.solo.specs.Images.{BeginsBlank, IsOnePart, LeavesImages, RunsInBay, RunsOnFirst, Stores}
+use Rattle.solo.specs.Images.{BeginsBlank, IsOnePart, LeavesImages, RunsInBay, RunsOnFirst, Stores, LeavesBy}
 use Rattle.solo.specs.Requests.{asked_of}
 use Rattle.solo.specs.Runs.{Ends, EndsBy, Runs, RunsWhole, StopsBy}
 use Rattle.solo.specs.Served.{IsSettled, LeavesCuts, content_of}
@@ -92,17 +92,33 @@ module _ {D : Type 0} (state : D → State) where
   ran_in_bay target trace left told mid new sizes places (part ∷ []) (part' ∷ []) ran old out blank same sent back runs =
       (content_of (state part).values, blank_begins target told (state part) blank.0, (state part').values, stores told mid new sizes places (state part').values sent back, runs)
 
-leaves : {T : Type 0} (result : Result T Fault) (old new : Option Told) (values : Option (List (Values Block))) → Stores old new values → LeavesImages result old new values
-leaves (Ok x) old new values there = there
-leaves (Err e) old new values there = inr there
+left_by : (e : Fault) (old new : Option Told) (values : Option (List (Values Block))) (target : Target) (trace left : Option (List ℕ)) (array : Option (List Block)) (was now : Option (List ℕ))
+    → StopsBy e target trace left array was now values → Stores old new values → LeavesBy e old new values
+left_by fault.Bay old new values target trace left array was now stops there = absurd stops
+left_by fault.NoMemory old new values target trace left array was now stops there = inr there
+left_by fault.Disk old new values target trace left array was now stops there = there
+left_by fault.Sink old new values target trace left array was now stops there = there
+left_by fault.Source old new values target trace left array was now stops there = there
+left_by fault.Spent old new values target trace left array was now stops there = there
+left_by (fault.BadLine line why) old new values target trace left array was now stops there = there
+
+leaves : {T : Type 0} (result : Result T Fault) (old new : Option Told) (values : Option (List (Values Block))) (was now : Option (List ℕ)) (text : List ℕ) → SumsUp result was now text → Stores old new values → LeavesImages result old new values
+leaves (Ok x) old new values was now text sums there = there
+leaves (Err fault.Bay) old new values was now text sums there = absurd sums
+leaves (Err fault.NoMemory) old new values was now text sums there = inr there
+leaves (Err fault.Disk) old new values was now text sums there = there
+leaves (Err fault.Sink) old new values was now text sums there = there
+leaves (Err fault.Source) old new values was now text sums there = there
+leaves (Err fault.Spent) old new values was now text sums there = there
+leaves (Err (fault.BadLine line why)) old new values was now text sums there = there
 
 pub ends_summed : {T : Type 0} (target : Target) (trace left : Option (List ℕ)) (told new : Option Told) (tally : Tally) (result : Result T Fault) (old mid out : Option (List ℕ))
     → RanInBay target trace left told new (Ok tally) old mid → SumsUp result mid out (summary_text tally) → RunsInBay target trace left told new result old out
 ends_summed target trace left told new tally result old mid out (array, begins, values, left_there, runs) sums =
-    (array, begins, values, leaves result told new values left_there, summed target trace left array tally result old mid out values runs sums)
+    (array, begins, values, leaves result told new values mid out (summary_text tally) sums left_there, summed target trace left array tally result old mid out values runs sums)
 
 pub ends_stopped : (T : Type 0) (target : Target) (trace left : Option (List ℕ)) (told new : Option Told) (e : Fault) (old out : Option (List ℕ)) → RanInBay target trace left told new (Err e) old out → RunsInBay {T = T} target trace left told new (Err e) old out
-ends_stopped T target trace left told new e old out (array, begins, values, left_there, runs) = (array, begins, values, inr left_there, stopped e target trace left array old out values runs)
+ends_stopped T target trace left told new e old out (array, begins, values, left_there, runs) = (array, begins, values, left_by e told new values target trace left array old out runs left_there, stopped e target trace left array old out values runs)
 
 -- parts that were lent as a slice
 pub written_back : {D : Type 0} (state : D → State) (n : ℕ) (parts lent parts' : List D) → lent ≡ parts → n ≡ length parts → sizes_of state parts' ≡ sizes_of state lent → take n (parts' ++ drop (length parts') parts) ≡ parts'
@@ -129,6 +145,12 @@ ends_early bay.Absent target trace left array old = keeps_same old
 ends_early bay.Failed target trace left array old = keeps_same old
 ends_early (bay.WrongLength bytes) target trace left array old = keeps_same old
 
+not_there : (e : BayFault) (old new : Option Told) → new ≡ old → LeavesBy (fault_of_bay e) old new None
+not_there bay.NoMemory old new same = inl same
+not_there bay.Absent old new same = same
+not_there bay.Failed old new same = same
+not_there (bay.WrongLength bytes) old new same = same
+
 pub not_made : (T : Type 0) (e : BayFault) (target : Target) (trace left : Option (List ℕ)) (told new : Option Told) (old : Option (List ℕ)) → new ≡ told → RunsInBay {T = T} target trace left told new (Err (fault_of_bay e)) old old
-not_made T e target trace left None new old same = (None, tt, None, inl same, ends_early e target trace left None old)
-not_made T e target trace left (Some t) new old same = (Some (zeros target.home), refl, None, inl same, ends_early e target trace left (Some (zeros target.home)) old)
+not_made T e target trace left None new old same = (None, tt, None, not_there e None new same, ends_early e target trace left None old)
+not_made T e target trace left (Some t) new old same = (Some (zeros target.home), refl, None, not_there e (Some t) new same, ends_early e target trace left (Some (zeros target.home)) old)

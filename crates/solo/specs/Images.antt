@@ -5,6 +5,7 @@ use Rattle.wol_disk.specs.Zeros.{zeros}
 use Rattle.wol_bay.specs.Bay.{BayState, Told, stored, without}
 use Rattle.wol_model.specs.Trace.{Target}
 use Rattle.solo.specs.declared.fault.Fault.{Fault}
+use Rattle.solo.specs.declared.fault.Fault.TheVariants as fault
 use Rattle.solo.specs.declared.tally.Tally.{Tally}
 use Rattle.solo.specs.Served.{IsSettled, content_of}
 use Rattle.solo.specs.Runs.{Ends, Runs}
@@ -23,9 +24,18 @@ Stores None new values = ⊤
 Stores (Some old) None values = ⊥
 Stores (Some old) (Some new) values = new.images ≡ stored (codes "solo") values (without (codes "solo") old.images)
 
--- .. or the image wasn't made, and all is as it was
-abbrev pub LeavesImages : {T E : Type 0} → Result T E → (old new : Option Told) → (values : Option (List (Values Block))) → Type 0
-LeavesImages result old new values = MatchResult result (λ _. Stores old new values) (λ _. (new ≡ old) ⊎ Stores old new values)
+-- what a fault leaves of the images: all as it was where the image wasn't made, which want of memory may also come of
+abbrev pub LeavesBy : Fault → (old new : Option Told) → (values : Option (List (Values Block))) → Type 0
+LeavesBy fault.Bay old new values = new ≡ old
+LeavesBy fault.NoMemory old new values = (new ≡ old) ⊎ Stores old new values
+LeavesBy fault.Disk old new values = Stores old new values
+LeavesBy fault.Sink old new values = Stores old new values
+LeavesBy fault.Source old new values = Stores old new values
+LeavesBy fault.Spent old new values = Stores old new values
+LeavesBy (fault.BadLine line why) old new values = Stores old new values
+
+abbrev pub LeavesImages : {T : Type 0} → Result T Fault → (old new : Option Told) → (values : Option (List (Values Block))) → Type 0
+LeavesImages result old new values = MatchResult result (λ _. Stores old new values) (λ e. LeavesBy e old new values)
 
 -- there is one part, of this size, without a fault, and with one value for each block
 abbrev pub IsOnePart : {D : Type 0} → (D → State) → (size : ℕ) → List D → Type 0

@@ -12,7 +12,7 @@ use Rattle.solo.specs.Images.{RunsInBay}
 use Rattle.solo.specs.Requests.{asked_of}
 use Rattle.solo.specs.Runs.{EndsBy}
 use Rattle.wol.specs.Statuses.{IsStatus, fault_text, status_of}
-use Rattle.wol.specs.Tops.{EndsWith, HasCause, RunsSolo, TellsFault, TellsStatus}
+use Rattle.wol.specs.Tops.{HasBadLine, HasCause, HasMoreLines, RunsSolo, TellsFault, TellsStatus}
 use Rattle.wol.specs.Words.{IsSolo, NoSolo}
 
 -- what a fault comes of
@@ -37,7 +37,7 @@ module _ (target : Target) (trace left : Option (List ℕ)) (told told' : Option
   pub told_fault : (T : Type 0) (e : Fault) → HasCause e bay bay' source source' → TellsFault e status mid new → RunsInBay {T = T} target trace left told told' (Err e) old mid → RunsSolo target trace left told told' bay bay' source source' status old new
   told_fault T (fault.BadLine line why) cause (inl tells) (array, begins, values, images, ends) = (array, begins, values, inr (fault.BadLine line why, tt, (images, mid, ends, tells)))
   told_fault T (fault.BadLine line why) cause (inr tells) (array, begins, values, images, ends) =
-      (array, begins, values, inr (fault.NoMemory, tt, (images, mid, no_memory_instead line why target trace left array old mid values ends, tells)))
+      (array, begins, values, inr (fault.NoMemory, tt, (inr images, mid, no_memory_instead line why target trace left array old mid values ends, tells)))
   told_fault T fault.Bay cause tells (array, begins, values, images, ends) = (array, begins, values, inr (fault.Bay, cause, (images, mid, ends, tells)))
   told_fault T fault.Disk cause tells (array, begins, values, images, ends) = (array, begins, values, inr (fault.Disk, cause, (images, mid, ends, tells)))
   told_fault T fault.Sink cause tells (array, begins, values, images, ends) = (array, begins, values, inr (fault.Sink, cause, (images, mid, ends, tells)))
@@ -58,3 +58,27 @@ same_target words target other is so =
     let disk : target.disk ≡ other.disk = decimal_injective target.disk other.disk (omega (arith, is.disk)) (omega (arith, so.disk)) (cc whole) in
     let home : target.home ≡ other.home = decimal_injective target.home other.home (omega (arith, is.blocks.1)) (omega (arith, so.blocks.1)) (cc whole) in
     λ i. record { host = host i; disk = disk i; home = home i }
+
+-- ---- What the statuses of the trace come of
+
+pub comes_of_bad_line : (T : Type 0) (e : Fault) (status : ℕ) (target : Target) (trace left : Option (List ℕ)) (told told' : Option Told) (old mid : Option (List ℕ)) → TellsStatus e status → status ≡ 3 → RunsInBay {T = T} target trace left told told' (Err e) old mid → HasBadLine trace
+comes_of_bad_line T e status target trace left told told' old mid (inr (inl is)) three runs = absurd (omega (arith, is, three))
+comes_of_bad_line T e status target trace left told told' old mid (inr (inr is)) three runs = absurd (omega (arith, is, three))
+comes_of_bad_line T (fault.BadLine line why) status target trace left told told' old mid (inl is) three (array, begins, values, images, (lines, more, has, number, all)) = (lines, why, more, has)
+comes_of_bad_line T fault.Bay status target trace left told told' old mid (inl is) three runs = absurd (omega (arith, is, three))
+comes_of_bad_line T fault.Disk status target trace left told told' old mid (inl is) three runs = absurd (omega (arith, is, three))
+comes_of_bad_line T fault.Sink status target trace left told told' old mid (inl is) three runs = absurd (omega (arith, is, three))
+comes_of_bad_line T fault.Source status target trace left told told' old mid (inl is) three runs = absurd (omega (arith, is, three))
+comes_of_bad_line T fault.NoMemory status target trace left told told' old mid (inl is) three runs = absurd (omega (arith, is, three))
+comes_of_bad_line T fault.Spent status target trace left told told' old mid (inl is) three runs = absurd (omega (arith, is, three))
+
+pub comes_of_lines : (T : Type 0) (e : Fault) (status : ℕ) (target : Target) (trace left : Option (List ℕ)) (told told' : Option Told) (old mid : Option (List ℕ)) → TellsStatus e status → status ≡ 10 → RunsInBay {T = T} target trace left told told' (Err e) old mid → HasMoreLines trace
+comes_of_lines T e status target trace left told told' old mid (inr (inl is)) ten runs = absurd (omega (arith, is, ten))
+comes_of_lines T e status target trace left told told' old mid (inr (inr is)) ten runs = absurd (omega (arith, is, ten))
+comes_of_lines T fault.Spent status target trace left told told' old mid (inl is) ten (array, begins, values, images, (lines, next, more, has, number, all)) = (lines, next, more, has, number)
+comes_of_lines T (fault.BadLine line why) status target trace left told told' old mid (inl is) ten runs = absurd (omega (arith, is, ten))
+comes_of_lines T fault.Bay status target trace left told told' old mid (inl is) ten runs = absurd (omega (arith, is, ten))
+comes_of_lines T fault.Disk status target trace left told told' old mid (inl is) ten runs = absurd (omega (arith, is, ten))
+comes_of_lines T fault.Sink status target trace left told told' old mid (inl is) ten runs = absurd (omega (arith, is, ten))
+comes_of_lines T fault.Source status target trace left told told' old mid (inl is) ten runs = absurd (omega (arith, is, ten))
+comes_of_lines T fault.NoMemory status target trace left told told' old mid (inl is) ten runs = absurd (omega (arith, is, ten))

@@ -1,13 +1,15 @@
 -- What a run of the program leaves, by its exit status.
-use Rattle.std.specs.Prelude.{◌≡◌, ℕ, ◌⊎◌, ⊤, List, Option, codes}
+use Rattle.std.specs.Prelude.{◌≡◌, ℕ, ◌⊎◌, ⊤, List, Option, codes, ◌^◌, ◌∷◌, length, Err}
 use Rattle.std.specs.Io.KnownBytes.{Appends}
 use Rattle.wol_disk.specs.Disk.{Block, Rose, Values}
 use Rattle.wol_io.specs.Streams.{AppendsFront}
 use Rattle.wol_bay.specs.Bay.{Told}
-use Rattle.wol_model.specs.Trace.{Target}
+use Rattle.wol_model.specs.Trace.{Target, TraceLine}
+use Rattle.msr_trace.specs.declared.format.BadLine.{BadLine}
+use Rattle.solo.specs.Requests.{HasLines, LineRead}
 use Rattle.solo.specs.declared.fault.Fault.{Fault}
 use Rattle.solo.specs.declared.fault.Fault.TheVariants as fault
-use Rattle.solo.specs.Images.{BeginsBlank, Stores}
+use Rattle.solo.specs.Images.{BeginsBlank, LeavesBy, Stores}
 use Rattle.solo.specs.Runs.{EndsBy, Prints}
 use Rattle.wol.specs.Statuses.{bad_line_text, fault_text, status_of}
 
@@ -47,7 +49,7 @@ IsDone target trace array told told' values status old new = (status ≡ 0) × S
 -- a run that a fault ended: what was printed before it, and then its line
 abbrev pub IsFaulty : Fault → Target → (trace left : Option (List ℕ)) → (array : Option (List Block)) → (told told' : Option Told) → (values : Option (List (Values Block))) → (status : ℕ) → (old new : Option (List ℕ)) → Type 0
 IsFaulty e target trace left array told told' values status old new =
-    ((told' ≡ told) ⊎ Stores told told' values) × (printed : Option (List ℕ)) × EndsBy e target trace left array old printed values × EndsWith (fault_text e) (status_of e) status printed new
+    LeavesBy e told told' values × (printed : Option (List ℕ)) × EndsBy e target trace left array old printed values × EndsWith (fault_text e) (status_of e) status printed new
 
 -- a run of `solo`
 abbrev pub RunsSolo : Target → (trace left : Option (List ℕ)) → (told told' : Option Told) → (bay bay' source source' : ℕ) → (status : ℕ) → (old new : Option (List ℕ)) → Type 0
@@ -55,3 +57,10 @@ RunsSolo target trace left told told' bay bay' source source' status old new =
     (array : Option (List Block)) × BeginsBlank target told array × (values : Option (List (Values Block)))
     × (IsDone target trace array told told' values status old new
     ⊎ ((e : Fault) × HasCause e bay bay' source source' × IsFaulty e target trace left array told told' values status old new))
+
+-- a trace with a bad line, and one with more lines than are run
+abbrev pub HasBadLine : (trace : Option (List ℕ)) → Type 0
+HasBadLine trace = (lines : List (Option TraceLine)) × (why : BadLine) × (more : List LineRead) × HasLines trace lines (Err why ∷ more)
+
+abbrev pub HasMoreLines : (trace : Option (List ℕ)) → Type 0
+HasMoreLines trace = (lines : List (Option TraceLine)) × (next : LineRead) × (more : List LineRead) × HasLines trace lines (next ∷ more) × (length lines ≡ 2 ^ 32)

@@ -3,6 +3,8 @@
 
 mod command;
 mod status;
+#[cfg(test)]
+mod tests;
 mod top;
 
 use std::alloc::Global;

@@ -6,7 +6,7 @@ ghost use Rattle.wol_model.specs.Trace.{Target};
 ghost use Rattle.solo.specs.Images.{NoneOut};
 ghost use Rattle.wol.specs.Words.{IsSolo, NoSolo};
 ghost use Rattle.wol.specs.Statuses.{IsStatus};
-ghost use Rattle.wol.specs.Tops.{EndsWith, RunsSolo, TellsFault, TellsStatus};
+ghost use Rattle.wol.specs.Tops.{EndsWith, HasBadLine, HasMoreLines, RunsSolo, TellsFault, TellsStatus};
 
 use crate::command::solo_words;
 use crate::status::{bad_line_text, fault_text, status_of};
@@ -49,6 +49,8 @@ where
     ensures refused { NoSolo (map string_bytes words.now) → EndsWith (codes "fault 1 words\n") 1 result (K.taken out.old) (K.taken out.new) }
     ensures words { result ≡ 1 → NoSolo (map string_bytes words.now) }
     ensures end { result ≡ 0 → IsAtEnd (S.left trace.new) }
+    ensures bad_line { result ≡ 3 → HasBadLine (S.left trace.old) }
+    ensures spent { result ≡ 10 → HasMoreLines (S.left trace.old) }
     ensures bay { result ≡ 4 → Rose (B.state bay.old).faults (B.state bay.new).faults }
     ensures source { result ≡ 8 → Rose (S.faults trace.old) (S.faults trace.new) }
     // Exactly where the sink failed. A count at its last value stands still, so one direction has the strict order.

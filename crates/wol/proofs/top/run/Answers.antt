@@ -1,7 +1,7 @@
 use Rattle.std.proofs.Common.{◌≡◌, Err, ap, map}
 use Rattle.std.specs.Prelude.{string_bytes}
 use Rattle.solo.specs.Volume.{target_of}
-use Rattle.wol.proofs.Telling.{has_cause, same_target, told_done, told_fault}
+use Rattle.wol.proofs.Telling.{comes_of_bad_line, comes_of_lines, has_cause, same_target, told_done, told_fault}
 use Rattle.wol.proofs.top.run.Goals as goal
 
 pub returns-in-Ok-clause-content : goal.returns-in-Ok-clause-content
@@ -20,3 +20,9 @@ returns-in-Err-clause-content g c target is =
 
 pub returns-in-Err-clause-refused : goal.returns-in-Err-clause-refused
 returns-in-Err-clause-refused g c none = absurd (none (target_of c.in-Some.volume) c.in-Some.ensures.some)
+
+pub returns-in-Err-clause-bad_line : goal.returns-in-Err-clause-bad_line
+returns-in-Err-clause-bad_line g c three = comes_of_bad_line (Unit {0}) c.in-Err.fault c.tell.result (target_of c.in-Some.volume) _ _ _ _ _ _ c.tell.ensures.status three c.in-Err.ensures.content
+
+pub returns-in-Err-clause-spent : goal.returns-in-Err-clause-spent
+returns-in-Err-clause-spent g c ten = comes_of_lines (Unit {0}) c.in-Err.fault c.tell.result (target_of c.in-Some.volume) _ _ _ _ _ _ c.tell.ensures.status ten c.in-Err.ensures.content
