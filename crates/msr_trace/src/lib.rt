@@ -2,6 +2,7 @@
 //! replayed write stores.
 #![tactic(auto)]
 
+pub mod calls;
 mod chunk;
 mod cutting;
 mod decimal;
