@@ -10,6 +10,8 @@ pub mod Claims
 pub mod Puts
 pub mod Covers
 pub mod Trims
+pub mod GiveUps
+pub mod Retires
 pub mod ReadBreaks
 pub mod Choices
 pub mod Stops
