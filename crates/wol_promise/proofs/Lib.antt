@@ -12,6 +12,8 @@ pub mod Covers
 pub mod Trims
 pub mod GiveUps
 pub mod Retires
+pub mod SegmentBreaks
+pub mod ClaimBreaks
 pub mod ReadBreaks
 pub mod Choices
 pub mod Stops
