@@ -65,7 +65,7 @@ module _ {P : Type 0} (parts : Parts P) (base : Base) (m : ManagerSeen P) (home_
   claim_breaks = broke_more parts base m claim_failed notes n ws fl (SegmentPart logger index) u refl none broke (λ other. absurd (other client)) unruled
       (lie_flying base.home_blocks base.records ws fl u.lie lies) refl refl known places (part, (t, member_mid front t back, named, refl, refl), rose)
       (λ told. let w = (u.calm refl).whole told in quiet_stops (parts.may_be m.home) (λ v. parts.may_be v.part) base.owner base.array ws fl m.next (is_homed_in m.indexed) (front ++ t ∷ back)
-        (all_insert (IsQuiet (λ (v : Held P). parts.may_be v.part) base.owner) front t back (λ bs is. ⊎_elim (λ log. inl log) (λ idle. inr (tt, idle)) (images bs is))
-            (subst (AllByRecursion (IsQuiet (λ (v : Held P). parts.may_be v.part) base.owner)) held
-            (all_map (λ (v : Held P). (bs : List Block) → parts.may_be v.part bs → IsLog bs base.owner v.records) (IsQuiet (λ (v : Held P). parts.may_be v.part) base.owner) (λ v log bs is. inl (log bs is)) m.held w.logs)))
-        (λ home is. subst (λ (l : List Extent). Holds base.array ws m.next home l (is_homed_in m.indexed)) (sym same_extents) (w.holds home is)))
+      (all_insert (IsQuiet (λ (v : Held P). parts.may_be v.part) base.owner) front t back (λ bs is. ⊎_elim (λ log. inl log) (λ idle. inr (tt, idle)) (images bs is))
+      (subst (AllByRecursion (IsQuiet (λ (v : Held P). parts.may_be v.part) base.owner)) held
+      (all_map (λ (v : Held P). (bs : List Block) → parts.may_be v.part bs → IsLog bs base.owner v.records) (IsQuiet (λ (v : Held P). parts.may_be v.part) base.owner) (λ v log bs is. inl (log bs is)) m.held w.logs)))
+      (λ home is. subst (λ (l : List Extent). Holds base.array ws m.next home l (is_homed_in m.indexed)) (sym same_extents) (w.holds home is)))

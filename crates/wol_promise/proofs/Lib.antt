@@ -23,3 +23,5 @@ pub mod Data
 pub mod TwelveLinesLooks
 pub mod LogOfOneSegment
 pub mod PlacingRules
+pub mod OpenedManager
+pub mod WhatIsRefused

@@ -38,14 +38,14 @@ module _ {P : Type 0} (of_home : List Block → Type 0) (of_held : Held P → Li
   same_array_then home front (s ∷ held) [] quiet choice = absurd choice
   same_array_then home front (s ∷ held) (bs ∷ images) quiet choice = ⊎_elim
       (λ log.
-        ap (λ (l : List Extent). with_extents home (front ++ (l ++ extents_of owner images))) (kept owner bs s.records log)
-        ∙ ap (with_extents home) (sym (append_assoc front (map extent_of s.records) (extents_of owner images)))
-        ∙ same_array_then home (front ++ map extent_of s.records) held images quiet.1 choice.1
-        ∙ ap (with_extents home) (append_assoc front (map extent_of s.records) (extents_held held)))
+      ap (λ (l : List Extent). with_extents home (front ++ (l ++ extents_of owner images))) (kept owner bs s.records log)
+      ∙ ap (with_extents home) (sym (append_assoc front (map extent_of s.records) (extents_of owner images)))
+      ∙ same_array_then home (front ++ map extent_of s.records) held images quiet.1 choice.1
+      ∙ ap (with_extents home) (append_assoc front (map extent_of s.records) (extents_held held)))
       (λ idle.
-        ap (λ (l : List Extent). with_extents home (front ++ (l ++ extents_of owner images))) (idle_none owner bs idle.1)
-        ∙ same_array_then home front held images quiet.1 choice.1
-        ∙ sym (emptied_lem home front (map extent_of s.records) (extents_held held) (empty_extents s.records idle.0)))
+      ap (λ (l : List Extent). with_extents home (front ++ (l ++ extents_of owner images))) (idle_none owner bs idle.1)
+      ∙ same_array_then home front held images quiet.1 choice.1
+      ∙ sym (emptied_lem home front (map extent_of s.records) (extents_held held) (empty_extents s.records idle.0)))
       (quiet.0 bs choice.0)
 
   -- nothing is written that counts
@@ -93,9 +93,9 @@ module _ {P : Type 0} (parts : Parts P) (base : Base) (m : ManagerSeen P) (home_
   pub empty_breaks : AreEmpty s.records → ((bs : List Block) → parts.may_be part bs → IsLog bs base.owner s.records ⊎ IsIdle bs) → StandsFor parts base segment_failed (notes ++ n ∷ [])
   empty_breaks empty images = breaks (λ bs is. ⊎_elim (says_owner base.owner bs s.records) (says_free bs) (images bs is))
       (λ told. let w = calm.whole told in quiet_stops (parts.may_be m.home) (λ v. parts.may_be v.part) base.owner base.array ws [] m.next (is_homed_in m.indexed) (front ++ t ∷ back)
-        (all_swap (λ (v : Held P). (bs : List Block) → parts.may_be v.part bs → IsLog bs base.owner v.records) (IsQuiet (λ (v : Held P). parts.may_be v.part) base.owner) (λ v log bs is. inl (log bs is)) front s t back
-            (λ log bs is. ⊎_elim (λ l. inl l) (λ idle. inr (empty, idle)) (images bs is)) w.logs)
-        (λ home is. subst (λ (l : List Extent). Holds base.array ws m.next home l (is_homed_in m.indexed)) (around front s back ∙ sym (around front t back)) (w.holds home is)))
+      (all_swap (λ (v : Held P). (bs : List Block) → parts.may_be v.part bs → IsLog bs base.owner v.records) (IsQuiet (λ (v : Held P). parts.may_be v.part) base.owner) (λ v log bs is. inl (log bs is)) front s t back
+      (λ log bs is. ⊎_elim (λ l. inl l) (λ idle. inr (empty, idle)) (images bs is)) w.logs)
+      (λ home is. subst (λ (l : List Extent). Holds base.array ws m.next home l (is_homed_in m.indexed)) (around front s back ∙ sym (around front t back)) (w.holds home is)))
 
   -- a record that was to give up blocks that may go keeps them or not
   pub trim_breaks : (fs : List Record) (r k : Record) (gs : List Record) (given : ℕ → Bool) → s.records ≡ fs ++ r ∷ gs → GivesUp given (extent_of r) (extent_of k)
@@ -103,11 +103,11 @@ module _ {P : Type 0} (parts : Parts P) (base : Base) (m : ManagerSeen P) (home_
       → ((bs : List Block) → parts.may_be part bs → IsLog bs base.owner (fs ++ r ∷ gs) ⊎ IsLog bs base.owner (fs ++ k ∷ gs)) → StandsFor parts base segment_failed (notes ++ n ∷ [])
   trim_breaks fs r k gs given records gives may images = breaks (λ bs is. ⊎_elim (says_owner base.owner bs (fs ++ r ∷ gs)) (says_owner base.owner bs (fs ++ k ∷ gs)) (images bs is))
       (λ told. let w = calm.whole told in
-        let sides = all_parts (λ (v : Held P). (bs : List Block) → parts.may_be v.part bs → IsLog bs base.owner v.records) front s back w.logs in
-        giving_up_stops (parts.may_be m.home) (λ v. parts.may_be v.part) base.owner base.array ws m.next (is_homed_in m.indexed) front back t sides.0 sides.1 (map extent_of fs) (map extent_of gs) (extent_of r) (extent_of k) given [] gives
-            (subst (λ (l : List Extent). (b : ℕ) → given b ≡ true → may_go (covers_of l) (is_homed_in m.indexed) (extent_of r).cover b ≡ true) extents (may told))
-            (λ home is. subst (λ (l : List Extent). Holds base.array ws m.next home l (is_homed_in m.indexed)) extents (w.holds home is))
-            (λ bs is. ⊎_elim (λ log. inl (kept base.owner bs (fs ++ r ∷ gs) log ∙ map-append extent_of fs (r ∷ gs))) (λ log. inr (kept base.owner bs (fs ++ k ∷ gs) log ∙ map-append extent_of fs (k ∷ gs))) (images bs is)))
+      let sides = all_parts (λ (v : Held P). (bs : List Block) → parts.may_be v.part bs → IsLog bs base.owner v.records) front s back w.logs in
+      giving_up_stops (parts.may_be m.home) (λ v. parts.may_be v.part) base.owner base.array ws m.next (is_homed_in m.indexed) front back t sides.0 sides.1 (map extent_of fs) (map extent_of gs) (extent_of r) (extent_of k) given [] gives
+      (subst (λ (l : List Extent). (b : ℕ) → given b ≡ true → may_go (covers_of l) (is_homed_in m.indexed) (extent_of r).cover b ≡ true) extents (may told))
+      (λ home is. subst (λ (l : List Extent). Holds base.array ws m.next home l (is_homed_in m.indexed)) extents (w.holds home is))
+      (λ bs is. ⊎_elim (λ log. inl (kept base.owner bs (fs ++ r ∷ gs) log ∙ map-append extent_of fs (r ∷ gs))) (λ log. inr (kept base.owner bs (fs ++ k ∷ gs) log ∙ map-append extent_of fs (k ∷ gs))) (images bs is)))
     where
       extents : extents_held (front ++ s ∷ back) ≡ (extents_held front ++ map extent_of fs) ++ extent_of r ∷ (map extent_of gs ++ extents_held back)
       extents = around front s back ∙ ap (λ (l : List Record). extents_held front ++ (map extent_of l ++ extents_held back)) records
