@@ -1,0 +1,4 @@
+pub mod Holders
+pub mod Laws
+pub mod Operations
+pub mod Pools

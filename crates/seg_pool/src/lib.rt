@@ -1,0 +1,15 @@
+//! A pool of the free segments of one volume's log, which the volumes that log there share.
+//! It tells of each segment who has it: the pool, a pass of the pool's lock, or neither.
+#![tactic(auto)]
+
+mod base;
+mod laws;
+mod pool;
+#[cfg(test)]
+mod tests;
+mod uses;
+
+pub use base::{Holder, PoolBase};
+pub use laws::{opening_laws, pool_laws};
+pub use pool::{Blank, Pool};
+pub use uses::{give_item, take_item};

@@ -1,0 +1,5 @@
+pub mod Alternating
+pub mod Owning
+pub mod Steps
+pub mod Tokens
+pub mod Using

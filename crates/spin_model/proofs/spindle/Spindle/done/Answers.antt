@@ -1,0 +1,10 @@
+use Rattle.std.proofs.Common.{◌-◌, ◌++◌, ◌∷◌, [], sym, subst}
+use Rattle.wol_model.specs.Journal.{Done}
+use Rattle.spin_model.specs.Operations.{operation_of}
+use Rattle.spin_model.specs.Spindles.{SpindleView, StandsFor}
+use Rattle.spin_model.proofs.Steps.{stands_done}
+use Rattle.spin_model.proofs.spindle.Spindle.done.Goals as goal
+
+pub returns-clause-stands : goal.returns-clause-stands
+returns-clause-stands c b es n st may =
+    subst (λ (v : SpindleView). StandsFor (record v { out = v.out - 1 }) b (es ++ (n, operation_of Done) ∷ [])) (sym c.self.view_is) (stands_done c.args.self.now b es n st may)

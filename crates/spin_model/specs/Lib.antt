@@ -1,0 +1,4 @@
+pub mod Laws
+pub mod Operations
+pub mod Spindles
+pub mod Spun

@@ -1,0 +1,103 @@
+// Turns of a spindle's lock, one use each.
+ghost use Rattle.std.specs.Prelude.{true, false, ◌≡◌, ◌∷◌, [], ◌++◌, List, IfOk};
+ghost use Rattle.turn_lock.specs.Histories.{Entry, Begins};
+ghost use Rattle.turn_lock.specs.Passes.{pass_lock, pass_number, pass_seen, pass_mine, IsPassOf, IsFree, IsSamePass};
+ghost use Rattle.wol_model.specs.Journal.{Started, Needed, Done};
+ghost use Rattle.spin_model.specs.Spun.{token_volume};
+ghost use Rattle.spin_model.specs.Operations.{operation_of, has_token};
+ghost use Rattle.spin_model.specs.Spindles.{state_after, begun};
+
+use crate::{Awake, Spindle};
+use std::sync::Wait;
+use turn_lock::{Pass, TurnLock};
+use wol_disk::NoMemory;
+
+const STARTED: u64 = 1;
+
+const BEGAN: u64 = 2;
+
+const NEEDED: u64 = 3;
+
+const DONE: u64 = 4;
+
+const STAYED: u64 = 5;
+
+/// One turn, in which the account starts at `t0` where the disk never went down before.
+pub fn start_turn<R: Wait>(rt: &R, lock: &TurnLock<Spindle>, pass: &mut Pass<Spindle>, t0: u64)
+    requires own { IsPassOf lock.now pass.old }
+    requires free { IsFree pass.old }
+    ensures same { IsSamePass pass.old pass.new }
+    ensures free { IsFree pass.new }
+    ensures mine { pass_mine pass.new ≡ pass_mine pass.old ++ (pass_number pass.old, operation_of (Started t0)) ∷ [] }
+    ensures seen { (before : List Entry) × Begins (pass_seen pass.old) before × (pass_seen pass.new ≡ before ++ (pass_number pass.old, operation_of (Started t0)) ∷ []) }
+{
+    let mut turn = lock.enter(rt, pass);
+    turn.value.start(t0);
+    lock.leave_as(turn, pass, &[STARTED, t0]);
+}
+
+/// One turn, in which the moment `t` comes and the disk may go down. The answer is whether it is awake.
+/// After `NoMemory` the turn has changed nothing, and its entry says so.
+pub fn begin_turn<R: Wait>(
+    rt: &R,
+    lock: &TurnLock<Spindle>,
+    pass: &mut Pass<Spindle>,
+    t: u64,
+) -> Result<bool, NoMemory>
+    requires own { IsPassOf lock.now pass.old }
+    requires free { IsFree pass.old }
+    ensures same { IsSamePass pass.old pass.new }
+    ensures free { IsFree pass.new }
+    ensures mine { pass_mine pass.new ≡ pass_mine pass.old ++ (pass_number pass.old, operation_of (begun t result)) ∷ [] }
+    ensures seen { (before : List Entry) × Begins (pass_seen pass.old) before × (pass_seen pass.new ≡ before ++ (pass_number pass.old, operation_of (begun t result)) ∷ []) }
+    ensures answer { IfOk result (λ awake. awake ≡ (state_after (pass_lock pass.new).base (pass_seen pass.new)).awake) }
+{
+    let mut turn = lock.enter(rt, pass);
+    let answer = turn.value.begin(t);
+    match answer {
+        Ok(awake) => {
+            lock.leave_as(turn, pass, &[BEGAN, t]);
+            Ok(awake)
+        }
+        Err(refusal) => {
+            lock.leave_as(turn, pass, &[STAYED]);
+            Err(refusal)
+        }
+    }
+}
+
+/// One turn, in which the disk is needed. The token is for accesses to the parts of the spindle's volume,
+/// and the pass has no other one.
+pub fn take_token<R: Wait>(rt: &R, lock: &TurnLock<Spindle>, pass: &mut Pass<Spindle>) -> Awake
+    requires own { IsPassOf lock.now pass.old }
+    requires free { IsFree pass.old }
+    requires has_none { has_token (pass_mine pass.old) ≡ false }
+    ensures same { IsSamePass pass.old pass.new }
+    ensures free { IsFree pass.new }
+    ensures mine { pass_mine pass.new ≡ pass_mine pass.old ++ (pass_number pass.old, operation_of Needed) ∷ [] }
+    ensures seen { (before : List Entry) × Begins (pass_seen pass.old) before × (pass_seen pass.new ≡ before ++ (pass_number pass.old, operation_of Needed) ∷ []) }
+    ensures has_one { has_token (pass_mine pass.new) ≡ true }
+    ensures volume { token_volume result ≡ (pass_lock pass.old).base.volume }
+{
+    let mut turn = lock.enter(rt, pass);
+    let token = turn.value.need();
+    lock.leave_as(turn, pass, &[NEEDED]);
+    token
+}
+
+/// One turn, in which the token comes back.
+pub fn give_token<R: Wait>(rt: &R, lock: &TurnLock<Spindle>, pass: &mut Pass<Spindle>, token: Awake)
+    requires own { IsPassOf lock.now pass.old }
+    requires free { IsFree pass.old }
+    requires has_one { has_token (pass_mine pass.old) ≡ true }
+    requires volume { token_volume token ≡ (pass_lock pass.old).base.volume }
+    ensures same { IsSamePass pass.old pass.new }
+    ensures free { IsFree pass.new }
+    ensures mine { pass_mine pass.new ≡ pass_mine pass.old ++ (pass_number pass.old, operation_of Done) ∷ [] }
+    ensures seen { (before : List Entry) × Begins (pass_seen pass.old) before × (pass_seen pass.new ≡ before ++ (pass_number pass.old, operation_of Done) ∷ []) }
+    ensures has_none { has_token (pass_mine pass.new) ≡ false }
+{
+    let mut turn = lock.enter(rt, pass);
+    turn.value.done(token);
+    lock.leave_as(turn, pass, &[DONE]);
+}
