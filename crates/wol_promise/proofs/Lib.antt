@@ -25,3 +25,4 @@ pub mod LogOfOneSegment
 pub mod PlacingRules
 pub mod OpenedManager
 pub mod WhatIsRefused
+pub mod LookSteps
