@@ -32,5 +32,6 @@ pub record IsWindow (cost : Timed → ℕ) (w : Window) : Type 0 where
 abbrev pub WindowsHaveAll : Type 0
 WindowsHaveAll = (most : ℕ) (targets : List Target) (lines : List (Option TraceLine)) → flat_map (λ (w : Window). w.lines) (windows most targets lines) ≡ timed lines
 
+-- each window of a trace is as the rules of windows say
 abbrev pub WindowsAre : Type 0
 WindowsAre = (most : ℕ) (targets : List Target) (lines : List (Option TraceLine)) → AllByRecursion (IsWindow (pieces_of most targets)) (windows most targets lines)
