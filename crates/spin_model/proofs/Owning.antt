@@ -7,10 +7,10 @@ use Rattle.std.proofs.lemmas.Bool.{eq-eqb}
 use Rattle.std.proofs.lemmas.List.Elements.{All-head, All-tail}
 use Rattle.std.proofs.lemmas.Bool.Decides.{eqb_tells}
 use Rattle.turn_lock.specs.Histories.{Entry, own, AreNumberedBelow}
-use Rattle.wol_model.specs.Journal.{Use, Started, Began, Needed, Done, Stayed, SpindleState, new_spindle, is_empty, used, spindle_after, MayUse}
+use Rattle.wol_model.specs.Journal.{Use, Started, Began, Needed, Done, Stayed, SpindleState, new_spindle, is_empty, used, spindle_after, MayUse, needs_after}
 use Rattle.wol_model.specs.declared.journal.Turned.TheVariants.{Down, Up}
 use Rattle.spin_model.specs.declared.spindle.SpindleBase.{SpindleBase}
-use Rattle.spin_model.specs.Operations.{operation_of, use_of, uses_of, needs_after, has_token}
+use Rattle.spin_model.specs.Operations.{operation_of, use_of, uses_of, has_token}
 use Rattle.spin_model.specs.Spindles.{SpindleView, StandsFor, state_after}
 use Rattle.spin_model.proofs.Tokens.{is_in, others, AreApart, AreBelow, is_in-others_same, is_in-others_other, length-le_apart, some_in, below-others_kept}
 use Rattle.spin_model.proofs.Steps.{tokens_apart}
