@@ -1,0 +1,15 @@
+pub mod Digits
+pub mod Feeds
+pub mod FirstLine
+pub mod Holding
+pub mod Joined
+pub mod Marked
+pub mod Numerals
+pub mod Parts
+pub mod ReadBack
+pub mod Returns
+pub mod Runs
+pub mod Spelled
+pub mod Splitting
+pub mod Stamps
+pub mod Taking

@@ -1,0 +1,7 @@
+pub mod Numbers
+pub mod Lines
+pub mod Intake
+pub mod Reading
+pub mod Payload
+pub mod Pieces
+pub mod Spelling

@@ -1,0 +1,60 @@
+// What a replayed write stores, and the mark of what is read.
+ghost use Rattle.std.specs.Prelude.{◌≡◌, ◌+◌, ◌≤◌, ◌^◌, length, map};
+ghost use Rattle.std.specs.List.{range_with_len};
+ghost use Rattle.wol_model.specs.Trace.{block_mark, mark, payload_block};
+ghost use Rattle.msr_trace.specs.Payload.{stamp};
+
+use wol_disk::Block;
+
+/// Fills blocks from `lbn` on with what the line with this number writes there: the numbers of the line and of the block,
+/// 32 times, each as eight little-endian bytes.
+pub fn fill(line: u64, lbn: u64, out: &mut [Block])
+    requires { lbn + length out.old ≤ 2 ^ 64 }
+    ensures { out.new ≡ map (payload_block line) (range_with_len lbn (length out.old)) }
+{
+    for (i, block) in out.iter_mut().enumerate() {
+        *block = payload_of(line, lbn + i as u64);
+    }
+}
+
+// What a line writes in a block.
+fn payload_of(line: u64, lbn: u64) -> Block
+    ensures { result ≡ payload_block line lbn }
+{
+    let mut block: Block = [0; 512];
+    let stamp = stamp_of(line, lbn);
+    for i in 0..32 {
+        let at: usize = 16 * i;
+        block[at..at + 16].copy_from_slice(&stamp);
+    }
+    block
+}
+
+fn stamp_of(line: u64, lbn: u64) -> [u8; 16]
+    ensures { result ≡ stamp line lbn }
+{
+    let mut stamp = [0u8; 16];
+    stamp[..8].copy_from_slice(&line.to_le_bytes());
+    stamp[8..].copy_from_slice(&lbn.to_le_bytes());
+    stamp
+}
+
+/// The mark of what a read gives: the sum, modulo 2^64, of the first eight bytes of each block as a little-endian number.
+#[tactic(auto, unfolding(wol_model::specs::Trace::mark))]
+pub fn mark(content: &[Block]) -> u64
+    ensures { result ≡ mark content.now }
+{
+    let mut sum = 0u64;
+    for block in content {
+        sum = sum.wrapping_add(first_number(block));
+    }
+    sum
+}
+
+fn first_number(block: &Block) -> u64
+    ensures { result ≡ block_mark block.now }
+{
+    let mut bytes = [0u8; 8];
+    bytes.copy_from_slice(&block[..8]);
+    u64::from_le_bytes(bytes)
+}

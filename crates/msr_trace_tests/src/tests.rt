@@ -1,0 +1,164 @@
+// The format's own examples: what is refused and in which order, where lines are cut, pieces, texts and payloads.
+use msr_trace::{BadLine, HostName, Kind, Line, Lines, Piece, TraceFault, fill, mark, write_line};
+use std::alloc::Global;
+use std::test::Fail;
+use wol_io::MemSource;
+
+// The first refusal of a trace, read in cuts of so many bytes.
+fn first_fault(alloc: Global, text: &[u8], cut: usize) -> Result<Option<TraceFault>, Fail> {
+    let cuts = vec![in alloc; cut; text.len()]?;
+    let mut lines = Lines::new(alloc, MemSource::new(text.to_vec(alloc)?, cuts, None));
+    for _ in 0..10 {
+        if !lines.is_live() {
+            return Ok(None);
+        }
+        match lines.next() {
+            Ok(Some(_)) => {}
+            Ok(None) => return Ok(None),
+            Err(fault) => return Ok(Some(fault)),
+        }
+    }
+    Ok(None)
+}
+
+#[test]
+fn refusals_come_in_order(rt: HostRuntime) -> Result<(), Fail> {
+    let cases: [(&[u8], Option<BadLine>); 20] = [
+        (b"1,usr,0,Read,0,512,1\r\n", None),
+        (b"\r\n", None),
+        (b"1,,0,Write,18446744073709551615,0,01", None),
+        (b"1,usr,0,Read,0,67108864,1", None),
+        (b"1,usr,0,Read,0,512", Some(BadLine::FieldCount)),
+        (b"1,usr,0,Read,0,512,1,", Some(BadLine::FieldCount)),
+        (b" ", Some(BadLine::FieldCount)),
+        (b"\xEF\xBB\xBF1,usr", Some(BadLine::FieldCount)),
+        (b"\xEF\xBB\xBF1,usr,0,Read,0,512,1", Some(BadLine::Number(1))),
+        (b",usr,4294967296,Reed,0,512,1", Some(BadLine::Number(1))),
+        (b"1,usr,4294967296,Reed,0,512,1", Some(BadLine::Number(3))),
+        (b"1,usr,0,Reed,,512,1", Some(BadLine::Kind)),
+        (b"1,usr,0,Read,18446744073709551616,-1,1", Some(BadLine::Number(5))),
+        (b"1,usr,0,Read,0,+1,1", Some(BadLine::Number(6))),
+        (b"1,usr,0,Read,0,67108865,000000000000000000001", Some(BadLine::Number(7))),
+        (b"1,usr,0,Read,18446744073709551615,67108865,1", Some(BadLine::TooLarge)),
+        (b"1,usr,0,Read,18446744073709551615,1,1", Some(BadLine::PastEnd)),
+        (b"1,\"usr\",0,Read,0,512,1", Some(BadLine::Quote)),
+        (b"1,usr\r,0", Some(BadLine::Quote)),
+        (b"1,usr,0,Read,0,512,1\r\r\n", Some(BadLine::Quote)),
+    ];
+    for (text, why) in cases {
+        let want = why.map(|why| TraceFault::Bad { line: 1, why });
+        assert_eq!(rt; first_fault(rt.alloc(), text, 8192)?, want, "{text:?}");
+        assert_eq!(rt; first_fault(rt.alloc(), text, 1)?, want, "{text:?} byte by byte");
+    }
+    Ok(())
+}
+
+#[test]
+fn a_line_has_at_most_4096_bytes(rt: HostRuntime) -> Result<(), Fail> {
+    let blank = b"\n\r\n".to_vec(rt.alloc())?;
+    for (bytes, end, why) in [
+        (4096, b"\n".as_slice(), BadLine::FieldCount),
+        (4096, b"", BadLine::FieldCount),
+        (4095, b"\r\n", BadLine::FieldCount),
+        (4096, b"\r\n", BadLine::LineTooLong),
+        (4097, b"\n", BadLine::LineTooLong),
+        (9000, b"", BadLine::LineTooLong),
+    ] {
+        let mut text = blank.clone()?;
+        text.extend_from_slice(&vec![in rt.alloc(); b'a'; bytes]?)?;
+        text.extend_from_slice(end)?;
+        let want = Some(TraceFault::Bad { line: 3, why });
+        assert_eq!(rt; first_fault(rt.alloc(), &text, 8192)?, want, "{bytes} bytes");
+        assert_eq!(rt; first_fault(rt.alloc(), &text, 7)?, want, "{bytes} bytes in cuts");
+    }
+    Ok(())
+}
+
+#[test]
+fn lines_are_numbered_and_written_again(rt: HostRuntime) -> Result<(), Fail> {
+    let text = b"\n128166372000147231,web,0,Write,227328,6144,1000\r\n07,usr,4294967295,Read,0,0,1";
+    let written = b"128166372000147231,web,0,Write,227328,6144,1000\n7,usr,4294967295,Read,0,0,1\n";
+    for cut in [1, 48, 49, 50, 8192] {
+        let cuts = vec![in rt.alloc(); cut; 100]?;
+        let mut lines = Lines::new(rt.alloc(), MemSource::new(text.to_vec(rt.alloc())?, cuts, None));
+        let mut out = Vec::new(rt.alloc());
+        for number in 1..=3 {
+            assert!(rt; lines.is_live());
+            let Some((found, line)) = lines.next()? else {
+                return Err("no line")?;
+            };
+            assert_eq!(rt; found, number);
+            match line {
+                Some(line) => write_line(&line, &mut out).map_err(|_| "memory")?,
+                None => assert_eq!(rt; number, 1),
+            }
+        }
+        assert!(rt; lines.is_live());
+        assert_eq!(rt; out.as_slice(), written.as_slice(), "in cuts of {cut}");
+        assert!(rt; lines.next()?.is_none());
+        let _source = lines.into_source();
+    }
+    Ok(())
+}
+
+#[test]
+fn a_source_that_fails_gives_the_whole_lines_before(rt: HostRuntime) -> Result<(), Fail> {
+    let text = b"1,usr,0,Read,0,512,1\n1,usr";
+    let cuts = vec![in rt.alloc(); 22; 1]?;
+    let mut lines = Lines::new(rt.alloc(), MemSource::new(text.to_vec(rt.alloc())?, cuts, Some(1)));
+    assert!(rt; lines.next()?.is_some());
+    assert!(rt; lines.is_live());
+    assert!(rt; matches!(lines.next(), Err(TraceFault::Source)));
+    assert!(rt; !lines.is_live());
+    Ok(())
+}
+
+#[test]
+fn pieces_are_cut_at_the_end_and_at_the_most(rt: HostRuntime) -> Result<(), Fail> {
+    let cases: [(u64, u64, u64, u32, &[(u64, u32)]); 6] = [
+        (700, 1000, 1000, 128, &[(1, 3)]),
+        (4608, 1536, 10, 128, &[(9, 1), (0, 2)]),
+        (0, 66048, 1000, 128, &[(0, 128), (128, 1)]),
+        (0, 10240, 1000, 14, &[(0, 14), (14, 6)]),
+        (700, 0, 1000, 128, &[]),
+        (u64::MAX, 1, 4, 1, &[(3, 1)]),
+    ];
+    for (offset, size, home, most, want) in cases {
+        let line = line_at(rt.alloc(), offset, size)?;
+        assert!(rt; home > 0 && most > 0);
+        let mut pieces = line.pieces(home, most);
+        for (lbn, count) in want {
+            assert_eq!(rt; pieces.next(), Some(Piece { lbn: *lbn, count: *count }));
+        }
+        assert_eq!(rt; pieces.next(), None);
+    }
+    let largest = line_at(rt.alloc(), 0, 67_108_864)?;
+    let mut pieces = largest.pieces(200_000, 128);
+    for i in 0..1024 {
+        assert_eq!(rt; pieces.next(), Some(Piece { lbn: 128 * i, count: 128 }));
+    }
+    assert_eq!(rt; pieces.next(), None);
+    Ok(())
+}
+
+fn line_at(alloc: Global, offset: u64, size: u64) -> Result<Line, Fail> {
+    let host = HostName::new(alloc, b"usr").map_err(|_| "memory")?;
+    Ok(Line {
+        time: 1,
+        host,
+        disk: 0,
+        kind: Kind::Read,
+        offset,
+        size,
+        response: 1,
+    })
+}
+
+#[test]
+fn payloads_hold_the_line_and_the_block(rt: HostRuntime) {
+    let mut blocks = [[1u8; 512]; 3];
+    fill(2, 5, &mut blocks);
+    assert_eq!(rt; &blocks[0][..16], [2, 0, 0, 0, 0, 0, 0, 0, 5, 0, 0, 0, 0, 0, 0, 0].as_slice());
+    assert_eq!(rt; &blocks[2][496..], [2, 0, 0, 0, 0, 0, 0, 0, 7, 0, 0, 0, 0, 0, 0, 0].as_slice());
+    assert_eq!(rt; mark(&blocks), 6);
+}

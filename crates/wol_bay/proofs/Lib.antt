@@ -1,0 +1,4 @@
+pub mod PartLists
+pub mod NameLists
+pub mod BayMoves
+pub mod OneImage

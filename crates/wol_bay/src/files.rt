@@ -1,0 +1,231 @@
+// Images in a folder, each in a file of its own.
+ghost use Rattle.std.specs.Prelude.{◌≡◌, ◌≢◌, ◌+◌, ◌≤◌, [], None, OnOk, OnErr, IfOk, MatchBool, length, option_map, ◌<◌, ◌^◌};
+ghost use Rattle.wol_bay.specs.Parts.{AreBlank, blocks_of, faulty_places};
+ghost use Rattle.wol_bay.specs.Bay.{came_back};
+ghost use Rattle.wol_disk.specs.Disk.{Rose};
+
+use crate::bays::Bay;
+use crate::fault::BayFault;
+use std::alloc::Global;
+use std::fs::{File, OpenOptions};
+use std::io;
+use std::os::unix::fs::FileExt;
+use std::rt::Files;
+use std::sync::Arc;
+use wol_disk::{Block, Disk, Failed, NoMemory};
+
+const BLOCK_BYTES: u64 = 512;
+
+/// A folder of images, which tells nothing of them. The image NAME is the file `NAME.vol`. The file is locked while
+/// the image is out, so another bay that would hand out the same image fails.
+#[derive(Drop)]
+pub struct FileBay<'a, R: Files<File = File>> {
+    rt: R,
+    alloc: Global,
+    folder: &'a str,
+    faults: u64,
+}
+
+/// A part of an image in a file. The parts of an image share its open file, whose lock ends with the last of them.
+#[derive(Drop)]
+pub struct FilePart {
+    file: Arc<File, Global>,
+    first: u64,
+    blocks: u64,
+    faults: u64,
+    ghost small: { blocks < 2 ^ 64 },
+}
+
+impl<'a, R: Files<File = File>> FileBay<'a, R> {
+    ghost use Rattle.wol_bay.specs.FileBay.{file_bay_state};
+    ghost use Rattle.wol_bay.specs.Bay.{BayState};
+
+    /// The bay of this folder.
+    pub fn new(rt: R, alloc: Global, folder: &'a str) -> FileBay<'a, R>
+        ensures { file_bay_state result ≡ record { told = None; faults = 0 } }
+    {
+        FileBay {
+            rt,
+            alloc,
+            folder,
+            faults: 0,
+        }
+    }
+
+    fn path_of(&self, name: &str) -> Result<String, NoMemory> {
+        let folder = self.folder;
+        Ok(format!(in self.alloc; "{folder}/{name}.vol")?)
+    }
+
+    // Makes the file anew, of so many zero bytes. It is emptied only once it is locked, since another bay may have
+    // it out, and its entry in the folder is synced with it.
+    fn make(&self, path: &str, bytes: u64) -> io::Result<File> {
+        let file = OpenOptions::new()
+            .read(true)
+            .write(true)
+            .create(true)
+            .open(&self.rt, path)?;
+        file.try_lock()?;
+        file.set_len(0)?;
+        file.set_len(bytes)?;
+        file.sync_all()?;
+        File::open(&self.rt, self.folder)?.sync_all()?;
+        Ok(file)
+    }
+
+    fn failed(&mut self) -> BayFault
+        ensures fault { result ≡ BayFault.Failed }
+        ensures counts { self.old.faults ≤ self.new.faults }
+        ensures rose { Rose self.old.faults self.new.faults }
+    {
+        self.faults = self.faults.saturating_add(1);
+        BayFault::Failed
+    }
+}
+
+impl<'a, R: Files<File = File>> Bay for FileBay<'a, R> {
+    type Part = FilePart;
+
+    ghost use Rattle.wol_bay.specs.FileBay.{file_bay_state};
+
+    ghost state = { file_bay_state };
+
+    fn create(&mut self, name: &str, sizes: &[u64]) -> Result<Vec<FilePart>, BayFault> {
+        let Ok(path) = self.path_of(name) else {
+            return Err(BayFault::NoMemory);
+        };
+        let Some(bytes) = bytes_of_parts(sizes) else {
+            return Err(self.failed());
+        };
+        let Ok(file) = self.make(path.as_str(), bytes) else {
+            return Err(self.failed());
+        };
+        match parts_of(self.alloc, file, sizes) {
+            Ok(parts) => Ok(parts),
+            Err(_) => Err(BayFault::NoMemory),
+        }
+    }
+
+    fn detach(&mut self, name: &str, parts: Vec<FilePart>)
+        ensures back { (file_bay_state self.new).told ≡ option_map (came_back name.now (blocks_of ⟦<FilePart as Disk>⟧.state parts.items) (faulty_places ⟦<FilePart as Disk>⟧.state parts.items)) (file_bay_state self.old).told }
+        ensures cause { faulty_places ⟦<FilePart as Disk>⟧.state parts.items ≢ [] → Rose (file_bay_state self.old).faults (file_bay_state self.new).faults }
+        ensures calm { faulty_places ⟦<FilePart as Disk>⟧.state parts.items ≡ [] → (file_bay_state self.new).faults ≡ (file_bay_state self.old).faults }
+        ensures counts { (file_bay_state self.old).faults ≤ (file_bay_state self.new).faults }
+    {
+        if has_fault(&parts) {
+            self.failed();
+        }
+    }
+}
+
+// The length of an image of these parts, where a file can have it.
+fn bytes_of_parts(sizes: &[u64]) -> Option<u64> {
+    let mut blocks: u64 = 0;
+    for size in sizes {
+        blocks = blocks.checked_add(*size)?;
+    }
+    blocks.checked_mul(BLOCK_BYTES)
+}
+
+// The parts of a file.
+fn parts_of(alloc: Global, file: File, sizes: &[u64]) -> Result<Vec<FilePart>, NoMemory>
+    ensures { IfOk result (λ parts. AreBlank ⟦<FilePart as Disk>⟧.state None sizes.now parts.items) }
+{
+    let shared = Arc::new(alloc, file)?;
+    let mut parts = Vec::new(alloc);
+    let mut first: u64 = 0;
+    for size in sizes {
+        let file = Arc::try_clone(&shared)?;
+        parts.push(FilePart {
+            file,
+            first,
+            blocks: *size,
+            faults: 0,
+        })?;
+        first = first.saturating_add(*size);
+    }
+    Ok(parts)
+}
+
+fn has_fault(parts: &[FilePart]) -> bool
+    ensures { MatchBool result (faulty_places ⟦<FilePart as Disk>⟧.state parts.now ≢ []) (faulty_places ⟦<FilePart as Disk>⟧.state parts.now ≡ []) }
+{
+    for part in parts {
+        if part.faults > 0 {
+            return true;
+        }
+    }
+    false
+}
+
+impl FilePart {
+    // Where a block begins in the file.
+    fn offset_of(&self, at: u64) -> Result<u64, Failed> {
+        self.first
+            .checked_add(at)
+            .and_then(|block| block.checked_mul(BLOCK_BYTES))
+            .ok_or(Failed)
+    }
+
+    fn read_blocks(&self, at: u64, out: &mut [Block]) -> Result<(), Failed>
+        ensures { length out.new ≡ length out.old }
+    {
+        let offset = self.offset_of(at)?;
+        match self.file.read_exact_at(out.as_flattened_mut(), offset) {
+            Ok(()) => Ok(()),
+            Err(_) => Err(Failed),
+        }
+    }
+
+    fn write_blocks(&self, at: u64, from: &[Block]) -> Result<(), Failed> {
+        let offset = self.offset_of(at)?;
+        match self.file.write_all_at(from.as_flattened(), offset) {
+            Ok(()) => Ok(()),
+            Err(_) => Err(Failed),
+        }
+    }
+
+    // Counts what a call answered.
+    fn counted(&mut self, done: Result<(), Failed>) -> Result<(), Failed>
+        ensures result { result ≡ done }
+        ensures blocks { self.new.blocks ≡ self.old.blocks }
+        ensures counts { self.old.faults ≤ self.new.faults }
+        ensures cause { OnErr done (Rose self.old.faults self.new.faults) }
+        ensures calm { OnOk done (self.new.faults ≡ self.old.faults) }
+    {
+        if done.is_err() {
+            self.faults = self.faults.saturating_add(1);
+        }
+        done
+    }
+}
+
+impl Disk for FilePart {
+    ghost use Rattle.wol_bay.specs.FilePart.{file_part_state, file_part_sound};
+
+    ghost state = { file_part_state };
+
+    ghost sound = { file_part_sound };
+
+    fn blocks(&self) -> u64 {
+        self.blocks
+    }
+
+    fn read(&mut self, at: u64, out: &mut [Block]) -> Result<(), Failed> {
+        let done = self.read_blocks(at, out);
+        self.counted(done)
+    }
+
+    fn write(&mut self, at: u64, from: &[Block]) -> Result<(), Failed> {
+        let done = self.write_blocks(at, from);
+        self.counted(done)
+    }
+
+    fn sync(&mut self) -> Result<(), Failed> {
+        let done = match self.file.sync_data() {
+            Ok(()) => Ok(()),
+            Err(_) => Err(Failed),
+        };
+        self.counted(done)
+    }
+}

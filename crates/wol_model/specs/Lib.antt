@@ -1,0 +1,17 @@
+pub mod Blocks
+pub mod Heads
+pub mod Trace
+pub mod Journal
+pub mod Placing
+pub mod Extents
+pub mod Log
+pub mod Recovered
+pub mod History
+pub mod Images
+pub mod Index
+pub mod ArrayLaws
+pub mod HistoryLaws
+pub mod HeadLaws
+pub mod RecoveryLaws
+pub mod IndexLaws
+pub mod Holding

@@ -1,0 +1,10 @@
+pub mod Policy
+pub mod Ruled
+pub mod Manager
+pub mod Stands
+pub mod Segments
+pub mod Spindle
+pub mod Outcomes
+pub mod Run
+pub mod Report
+pub mod Code

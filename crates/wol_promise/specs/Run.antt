@@ -1,0 +1,72 @@
+-- What a run over a trace leaves: histories, bytes and images.
+use Rattle.std.specs.Prelude.{◌≡◌, ◌≢◌, ◌<◌, ◌≤◌, ◌^◌, ℕ, List, [], ◌∷◌, ◌++◌, Option, None, Some, length, take, drop, slice_get, nat_lt, if◌then◌else◌}
+use Rattle.std.specs.List.{flat_map, AllByRecursion}
+use Rattle.wol_disk.specs.Disk.{Block}
+use Rattle.wol_model.specs.Heads.{Shape}
+use Rattle.wol_model.specs.History.{IsCut}
+use Rattle.wol_model.specs.Images.{Images, image_of, image_size, recovered_from, AreSound}
+use Rattle.wol_model.specs.Trace.{Request, payloads, answer}
+use Rattle.wol_promise.specs.Outcomes.{of_volume}
+use Rattle.wol_model.specs.declared.trace.Kind.TheVariants as kind
+
+-- ---- Histories
+
+-- `n v` is how many requests of volume v were answered, and these are the first ones: all of the windows before the last,
+-- and all of the last too, but where a part of the volume was at fault, its versions ended, or the run ended at status 7 or 9
+pub record AreAnswered (n : ℕ → ℕ) (asked before_last : List Request) (status : ℕ) (is_faulty : ℕ → Type 0) (next : ℕ → ℕ) : Type 0 where
+  pub within : (v : ℕ) → n v ≤ length (of_volume v asked)
+  pub windows_before : (v : ℕ) → length (of_volume v before_last) ≤ n v
+  pub unless : (v : ℕ) → status ≢ 7 → status ≢ 9 → (is_faulty v → ⊥) → next v < 2 ^ 63 → n v ≡ length (of_volume v asked)
+  pub at_0 : (v : ℕ) → status ≡ 0 → n v ≡ length (of_volume v asked)
+
+-- ---- Bytes
+
+-- the lines of the answered reads, in trace order; `text` is the line of a read with its mark
+abbrev pub read_text : (text : Request → ℕ → List ℕ) → Request → Option ℕ → List (List ℕ)
+read_text text r None = []
+read_text text r (Some mark) = text r mark ∷ []
+
+abbrev pub read_lines_after : (text : Request → ℕ → List ℕ) → (arrays : ℕ → List Block) → (n : ℕ → ℕ) → (earlier : List Request) → List Request → List (List ℕ)
+read_lines_after text arrays n earlier [] = []
+read_lines_after text arrays n earlier (r ∷ rs) =
+    (if nat_lt (length (of_volume r.volume earlier)) (n r.volume) then read_text text r (answer arrays earlier r r.kind) else [])
+    ++ read_lines_after text arrays n (earlier ++ r ∷ []) rs
+
+abbrev pub read_lines : (text : Request → ℕ → List ℕ) → (arrays : ℕ → List Block) → (n : ℕ → ℕ) → List Request → List (List ℕ)
+read_lines text arrays n asked = read_lines_after text arrays n [] asked
+
+abbrev pub joined_lines : List (List ℕ) → List ℕ
+joined_lines lines = flat_map (λ l. l) lines
+
+-- What a sink took: the lines, then what ends the output at this status; at 9 some first lines, whole, then the fault's text;
+-- at 7 a prefix of what it may have taken at 0, at 9, or at another status whose cause holds.
+pub data Prints (lines : List (List ℕ)) (ending : ℕ → List ℕ) (has_cause : ℕ → Type 0) : ℕ → List ℕ → Type 0 where
+  whole : (status : ℕ) → status ≢ 7 → status ≢ 9 → Prints lines ending has_cause status (joined_lines lines ++ ending status)
+  short_of_memory : (k : ℕ) → Prints lines ending has_cause 9 (joined_lines (take k lines) ++ ending 9)
+  cut_off : (other : ℕ) (text : List ℕ) (k : ℕ) → other ≢ 7 → (other ≢ 0 → other ≢ 9 → has_cause other) → Prints lines ending has_cause other text → Prints lines ending has_cause 7 (take k text)
+
+-- ---- Images
+
+-- Whatever image is left of each volume, it recovers to what its answered requests wrote to the array at entry, and to a cut of
+-- the writes that directly follow, if a part of the volume was at fault.
+pub record LeavesCuts (shapes : List Shape) (may_be : Images → Type 0) (entry : Images) (asked : List Request) (n : ℕ → ℕ) (is_faulty : ℕ → Type 0) : Type 0 where
+  -- the requests that may have been in flight
+  pub flight : ℕ → List Request
+  pub follow : (v : ℕ) → flight v ≡ take (length (flight v)) (drop (n v) (of_volume v asked))
+  pub are_writes : (v : ℕ) → AllByRecursion (λ (r : Request). r.kind ≡ kind.Write) (flight v)
+  pub unless : (v : ℕ) → (is_faulty v → ⊥) → flight v ≡ []
+  pub cuts : (images : Images) → may_be images → (v : ℕ) → v < length shapes
+      → IsCut (recovered_from shapes entry v) (payloads v (take (n v) (of_volume v asked))) (payloads v (flight v)) (recovered_from shapes images v)
+
+-- a volume's image is there with the configured length
+abbrev pub IsThere : List Shape → Images → (v : ℕ) → Type 0
+IsThere shapes images v = (s : Shape) × (image : List Block) × (slice_get shapes v ≡ Some s) × (image_of images v ≡ Some image) × (length image ≡ image_size s)
+
+-- where a run ended before all volumes were open, each image left recovers to what one at entry did
+abbrev pub LeavesEntry : List Shape → (was may_be : Images → Type 0) → Type 0
+LeavesEntry shapes was may_be = (images : Images) → may_be images → (v : ℕ) → IsThere shapes images v
+    → (before : Images) × was before × (recovered_from shapes images v ≡ recovered_from shapes before v)
+
+-- where every image at entry was sound, every image at exit is
+abbrev pub KeepsSound : List Shape → (was may_be : Images → Type 0) → Type 0
+KeepsSound shapes was may_be = ((images : Images) → was images → AreSound shapes images) → (images : Images) → may_be images → AreSound shapes images
