@@ -1,5 +1,5 @@
 -- Laws of a spindle's uses and operations.
-use Rattle.std.specs.Prelude.{◌≡◌, ◌≤◌, ◌==◌, ℕ, List, [], ◌∷◌, ◌++◌, length}
+use Rattle.std.specs.Prelude.{◌≡◌, ◌≤◌, ◌==◌, ℕ, List, [], ◌∷◌, ◌++◌}
 use Rattle.std.specs.List.{list_any}
 use Rattle.turn_lock.specs.Histories.{Entry, own, AreNumberedBelow}
 use Rattle.wol_model.specs.Journal.{Use, IsJournal, needs_after}

@@ -23,7 +23,10 @@ fn sleeps_after_its_timeout_and_wakes_when_needed(rt: HostRuntime) -> Result<(),
     let token = spindle.need();
     assert_eq!(rt; token.volume(), 3);
     assert!(rt; spindle.is_awake());
-    assert_eq!(rt; spindle.journal(), [Turned::Down(600_000_000), Turned::Up(1_000_000_000)].as_slice());
+    assert_eq!(rt;
+        spindle.journal(),
+        [Turned::Down(600_000_000), Turned::Up(1_000_000_000)].as_slice()
+    );
     spindle.done(token);
     Ok(())
 }
@@ -83,6 +86,9 @@ fn a_part_is_reached_in_turns_of_its_spindle(rt: HostRuntime) -> Result<(), Fail
     let (awake, byte, spindle) = one_window(&rt, rt.alloc(), &mut part).ok_or("no memory")?;
     assert_eq!(rt; awake, Ok(false));
     assert_eq!(rt; byte, Some(7));
-    assert_eq!(rt; spindle.journal(), [Turned::Down(120), Turned::Up(130)].as_slice());
+    assert_eq!(rt;
+        spindle.journal(),
+        [Turned::Down(120), Turned::Up(130)].as_slice()
+    );
     Ok(())
 }
