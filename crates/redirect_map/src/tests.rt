@@ -1,0 +1,1 @@
+// Two off-loads that overlap, and what is kept of them.
