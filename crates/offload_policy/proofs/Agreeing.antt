@@ -8,7 +8,7 @@ use Rattle.offload_policy.specs.declared.Room.TheVariants.{Unknown, Yes, No}
 use Rattle.offload_policy.specs.declared.Step.{Step}
 use Rattle.offload_policy.specs.declared.Step.TheVariants.{Home, WakeHome, Log, WakeLog, Full}
 use Rattle.offload_policy.specs.Placing.{may_hold, is_open, log_or, step_of, IsRoom, AreRooms, place_of}
-use Rattle.wol_promise.specs.Policy.{Place, Home as AtHome, Log as InLog, Full as Nowhere, place, log_or as log_or_in}
+use Rattle.wol_model.specs.Placing.{Place, Home as AtHome, Log as InLog, Full as Nowhere, place, log_or as log_or_in}
 
 -- both find none; or the first one's room isn't known; or it has room, and both find it
 pub Agree : ℕ → List Room → Option ℕ → Option ℕ → Type 0

@@ -5,7 +5,7 @@ use Rattle.offload_policy.specs.declared.Room.{Room}
 use Rattle.offload_policy.specs.declared.Room.TheVariants.{Unknown, Yes, No}
 use Rattle.offload_policy.specs.declared.Step.{Step}
 use Rattle.offload_policy.specs.declared.Step.TheVariants.{Home, WakeHome, Log, WakeLog, Ask, Full}
-use Rattle.wol_promise.specs.Policy.{Place, Home as AtHome, Log as InLog, Full as Nowhere}
+use Rattle.wol_model.specs.Placing.{Place, Home as AtHome, Log as InLog, Full as Nowhere}
 
 -- a logger that may have room
 abbrev pub may_hold : Room → Bool

@@ -4,7 +4,7 @@
 ghost use Rattle.std.specs.Prelude.{◌≡◌, ◌<◌, ◌≤◌, ◌^◌, List, Bool, length, position, IfSome, slice_get};
 ghost use Rattle.std.specs.List.{zip};
 ghost use Rattle.offload_policy.specs.Placing.{step_of, decided_by, is_open, place_of, AreRooms};
-ghost use Rattle.wol_promise.specs.Policy.{place as place_in};
+ghost use Rattle.wol_model.specs.Placing.{place as place_in};
 
 /// What is known of a logger's room for a write.
 #[derive(Clone, Copy, Debug, PartialEq, Eq)]

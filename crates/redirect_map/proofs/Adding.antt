@@ -141,7 +141,7 @@ seen_unhomed r o n fresh h =
         homed = remarked-marks_of o.record.lbn o.record.count o.homed n.homed (λ b m. m && not ((cover_at (entry_of r 0)).covers b)) bits j;
       };
       index = o.record.segment;
-      position = o.record.pos;
+      pos = o.record.pos;
     })
 
 all_unhomed : (r : Rec) (old new : List Entry) → IsNew r → AllZip (IsUnhomed r) old new → map seen new ≡ map (unhomed (cover_at (entry_of r 0))) (map seen old)

@@ -12,10 +12,10 @@ use Rattle.std.proofs.lemmas.List.Folds.{find-append}
 use Rattle.std.proofs.lemmas.Grind.{common_steps}
 use Rattle.wol_model.specs.Log.{has_bit}
 use Rattle.wol_model.specs.Extents.{newest, newer_of, has_newer}
-use Rattle.wol_model.specs.Index.{Indexed, AreRising, cover_of, listed_covers, is_homed, is_live, is_older, is_covered, keeps_any}
+use Rattle.wol_model.specs.Index.{listed_in, Indexed, AreRising, cover_of, listed_covers, is_homed, is_live, is_older, is_covered, keeps_a_block}
 use Rattle.redirect_map.specs.declared.entry.Entry.{Entry}
 use Rattle.redirect_map.specs.Masks.{IsMask}
-use Rattle.redirect_map.specs.Index.{listed_of, cover_at, has_version, entry_at, HasVersion, IsRecordOf, IsAnswer, IsEntry, IsIndex}
+use Rattle.redirect_map.specs.Index.{cover_at, has_version, entry_at, HasVersion, IsRecordOf, IsAnswer, IsEntry, IsIndex}
 use Rattle.redirect_map.specs.Kept.{seen, keeps, one_keeps, IsKept, is_version, IsInRange, AreLive, AreEntries}
 use Rattle.redirect_map.proofs.Bits.{has_bit-above, has_bit-and, has_bit-without, some_bit}
 use Rattle.redirect_map.proofs.Found.{find-map}
@@ -48,21 +48,21 @@ record_seen e r = record {
   within = r.keep_within;
   lane = refl;
   segment = refl;
-  position = refl;
+  pos = refl;
 }
 
 -- which of an entry's blocks a newer one covers, and which an older one
 newer_there : (items : List Entry) (version k : ℕ) (e : Entry) (b : ℕ) → AreEntries items → IsAt items version k e
-    → has_newer (listed_covers (listed_of (map seen items))) e.record.version b ≡ one_keeps (drop (suc k) items) b
+    → has_newer (listed_covers (listed_in (map seen items))) e.record.version b ≡ one_keeps (drop (suc k) items) b
 newer_there items version k e b es at = newer_at items k e b es.rising es.ranges at.at
 
 pub live_there : (items : List Entry) (version k : ℕ) (e : Entry) (i : ℕ) → AreEntries items → IsAt items version k e
-    → is_live (listed_of (map seen items)) (seen e).listed (e.record.lbn + i) ≡ (has_bit e.record.keep i && not (one_keeps (drop (suc k) items) (e.record.lbn + i)))
+    → is_live (listed_in (map seen items)) (seen e).listed (e.record.lbn + i) ≡ (has_bit e.record.keep i && not (one_keeps (drop (suc k) items) (e.record.lbn + i)))
 live_there items version k e i es at =
     λ j. (covers_seen e (e.record.lbn + i) (range_at items k e es at.at) ∙ in_mask-bit e.record.lbn e.record.keep i) j && not (newer_there items version k e (e.record.lbn + i) es at j)
 
 pub older_there : (items : List Entry) (version k : ℕ) (e : Entry) (i : ℕ) → AreEntries items → IsAt items version k e
-    → is_older (listed_of (map seen items)) (seen e).listed (e.record.lbn + i) ≡ (has_bit e.record.keep i && one_keeps (take k items) (e.record.lbn + i))
+    → is_older (listed_in (map seen items)) (seen e).listed (e.record.lbn + i) ≡ (has_bit e.record.keep i && one_keeps (take k items) (e.record.lbn + i))
 older_there items version k e i es at =
     λ j. (covers_seen e (e.record.lbn + i) (range_at items k e es at.at) ∙ in_mask-bit e.record.lbn e.record.keep i) j && older_at items k e (e.record.lbn + i) es.rising es.ranges at.at j
 
@@ -80,20 +80,20 @@ in_128 keep i b f fits = ⊎_elim
     (cases_lt i 128)
 
 pub live_is : (items : List Entry) (version k : ℕ) (e : Entry) (newer : ℕ) → AreEntries items → IsAt items version k e → newer < 2 ^ 128 → IsKept e.record.lbn (drop (suc k) items) newer
-    → IfSome (entry_at (map seen items) version) (λ d. IsMask d.listed.first (is_live (listed_of (map seen items)) d.listed) (bit_and e.record.keep (bit_not w128 newer)))
+    → IfSome (entry_at (map seen items) version) (λ d. IsMask d.listed.first (is_live (listed_in (map seen items)) d.listed) (bit_and e.record.keep (bit_not w128 newer)))
 live_is items version k e newer es at fits bits =
     let range = range_at items k e es at.at in
     let keep_fits : e.record.keep < 2 ^ 128 = wide e.record.keep e.record.count range.keep_within range.count in
-    of_entry items version k e (λ d. IsMask d.listed.first (is_live (listed_of (map seen items)) d.listed) (bit_and e.record.keep (bit_not w128 newer))) at
+    of_entry items version k e (λ d. IsMask d.listed.first (is_live (listed_in (map seen items)) d.listed) (bit_and e.record.keep (bit_not w128 newer))) at
     (λ i. has_bit-without e.record.keep newer i keep_fits fits ∙ ap (λ (t : Bool). has_bit e.record.keep i && not t) (bits i)
     ∙ in_128 e.record.keep i (one_keeps (drop (suc k) items) (e.record.lbn + i)) not keep_fits ∙ sym (live_there items version k e i es at))
 
 pub older_is : (items : List Entry) (version k : ℕ) (e : Entry) (older : ℕ) → AreEntries items → IsAt items version k e → IsKept e.record.lbn (take k items) older
-    → IfSome (entry_at (map seen items) version) (λ d. IsMask d.listed.first (is_older (listed_of (map seen items)) d.listed) (bit_and e.record.keep older))
+    → IfSome (entry_at (map seen items) version) (λ d. IsMask d.listed.first (is_older (listed_in (map seen items)) d.listed) (bit_and e.record.keep older))
 older_is items version k e older es at bits =
     let range = range_at items k e es at.at in
     let keep_fits : e.record.keep < 2 ^ 128 = wide e.record.keep e.record.count range.keep_within range.count in
-    of_entry items version k e (λ d. IsMask d.listed.first (is_older (listed_of (map seen items)) d.listed) (bit_and e.record.keep older)) at
+    of_entry items version k e (λ d. IsMask d.listed.first (is_older (listed_in (map seen items)) d.listed) (bit_and e.record.keep older)) at
     (λ i. has_bit-and e.record.keep older i ∙ ap (λ (t : Bool). has_bit e.record.keep i && t) (bits i)
     ∙ in_128 e.record.keep i (one_keeps (take k items) (e.record.lbn + i)) (λ t. t) keep_fits ∙ sym (older_there items version k e i es at))
 
@@ -112,15 +112,15 @@ live_entry (x ∷ xs) zero e live at i homed =
 live_entry (x ∷ xs) (suc k) e live at i homed = live_entry xs k e live.1 at i homed
 
 pub live_bit : (items : List Entry) (version k : ℕ) (e : Entry) (i : ℕ) → AreEntries items → IsAt items version k e → has_bit e.homed i ≡ true
-    → is_live (listed_of (map seen items)) (seen e).listed (e.record.lbn + i) ≡ true
+    → is_live (listed_in (map seen items)) (seen e).listed (e.record.lbn + i) ≡ true
 live_bit items version k e i es at homed =
     let facts = live_entry items k e es.live at.at i homed in
     live_there items version k e i es at ∙ (λ j. facts.0 j && not (facts.1 j))
 
 pub homed_live : (items : List Entry) (version k : ℕ) (e : Entry) → AreEntries items → IsAt items version k e
-    → IfSome (entry_at (map seen items) version) (λ d. (i : ℕ) → has_bit e.homed i ≡ true → is_live (listed_of (map seen items)) d.listed (d.listed.first + i) ≡ true)
+    → IfSome (entry_at (map seen items) version) (λ d. (i : ℕ) → has_bit e.homed i ≡ true → is_live (listed_in (map seen items)) d.listed (d.listed.first + i) ≡ true)
 homed_live items version k e es at =
-    of_entry items version k e (λ d. (i : ℕ) → has_bit e.homed i ≡ true → is_live (listed_of (map seen items)) d.listed (d.listed.first + i) ≡ true) at
+    of_entry items version k e (λ d. (i : ℕ) → has_bit e.homed i ≡ true → is_live (listed_in (map seen items)) d.listed (d.listed.first + i) ≡ true) at
     (λ i homed. live_bit items version k e i es at homed)
 
 -- a look-up by version
@@ -190,7 +190,7 @@ newest_some items b e es found =
     rw (newest_is b items es.rising es.ranges, found) (record_seen e range)
 
 -- which blocks are covered
-pub covered_seen : (items : List Entry) (b : ℕ) → AllByRecursion IsInRange items → is_covered (listed_of (map seen items)) b ≡ one_keeps items b
+pub covered_seen : (items : List Entry) (b : ℕ) → AllByRecursion IsInRange items → is_covered (listed_in (map seen items)) b ≡ one_keeps items b
 covered_seen [] b ranges = refl
 covered_seen (x ∷ xs) b ranges = λ i. covers_seen x b ranges.0 i || covered_seen xs b ranges.1 i
 
@@ -213,15 +213,15 @@ any_block : (p q : ℕ → Bool) → ((b : ℕ) → p b ≡ q b) → (bs : List 
 any_block p q same [] = refl
 any_block p q same (b ∷ bs) = λ i. same b i || any_block p q same bs i
 
-pub covered_is : (items : List Entry) (bs : List ℕ) → AllByRecursion IsInRange items → list_any (λ e. list_any (keeps e) bs) items ≡ list_any (is_covered (listed_of (map seen items))) bs
-covered_is items bs ranges = swapped items ∙ any_block (one_keeps items) (is_covered (listed_of (map seen items))) (λ b. sym (covered_seen items b ranges)) bs
+pub covered_is : (items : List Entry) (bs : List ℕ) → AllByRecursion IsInRange items → list_any (λ e. list_any (keeps e) bs) items ≡ list_any (is_covered (listed_in (map seen items))) bs
+covered_is items bs ranges = swapped items ∙ any_block (one_keeps items) (is_covered (listed_in (map seen items))) (λ b. sym (covered_seen items b ranges)) bs
   where
     swapped : (es : List Entry) → list_any (λ e. list_any (keeps e) bs) es ≡ list_any (one_keeps es) bs
     swapped [] = sym (no_any bs)
     swapped (x ∷ xs) = ap (λ (t : Bool). list_any (keeps x) bs || t) (swapped xs) ∙ either_any (keeps x) (one_keeps xs) bs
 
 -- what is so of each index
-pub keeps_some : (e : Entry) → IsInRange e → keeps_any (seen e).listed ≡ true
+pub keeps_some : (e : Entry) → IsInRange e → keeps_a_block (seen e).listed ≡ true
 keeps_some e r =
     let one = some_bit e.record.keep r.keeps (wide e.record.keep e.record.count r.keep_within r.count) in
     let inside : one.0 < e.record.count = ⊎_elim (λ less. less) (λ more. absurd (false≢true (sym (has_bit-above e.record.keep e.record.count one.0 r.keep_within more) ∙ one.1))) (cases_lt one.0 e.record.count) in
@@ -244,7 +244,7 @@ at_own items k e es at = record {
   found = find-map (has_version e.record.version) seen items ∙ ap (option_map seen) (same_version items k e es.rising at);
 }
 
-entry_there : (items : List Entry) (k : ℕ) (e : Entry) → AreEntries items → slice_get items k ≡ Some e → IsEntry (listed_of (map seen items)) (seen e).listed
+entry_there : (items : List Entry) (k : ℕ) (e : Entry) → AreEntries items → slice_get items k ≡ Some e → IsEntry (listed_in (map seen items)) (seen e).listed
 entry_there items k e es at =
     let r = range_at items k e es at in
     let size = length-marks_of e.record.count e.record.keep in
@@ -253,12 +253,12 @@ entry_there items k e es at =
       within = rw size r.within;
       keeps = keeps_some e r;
       homed = record {
-        sized = length-marks_of e.record.count e.homed ∙ sym size;
-        live = λ b homed.
+        marks = length-marks_of e.record.count e.homed ∙ sym size;
+        homed_are_live = λ b homed.
             let parts = and_parts (leb e.record.lbn b) (has_bit e.homed (b - e.record.lbn)) (sym (homed_seen e b r) ∙ homed) in
             let reached : e.record.lbn ≤ b = leb-true e.record.lbn b parts.0 in
             let same : e.record.lbn + (b - e.record.lbn) ≡ b = omega arith in
-            subst (λ (n : ℕ). is_live (listed_of (map seen items)) (seen e).listed n ≡ true) same (live_bit items e.record.version k e (b - e.record.lbn) es (at_own items k e es at) parts.1);
+            subst (λ (n : ℕ). is_live (listed_in (map seen items)) (seen e).listed n ≡ true) same (live_bit items e.record.version k e (b - e.record.lbn) es (at_own items k e es at) parts.1);
       };
     }
 
@@ -269,7 +269,7 @@ rising_seen (x ∷ xs) = λ i. x.record.version ∷ rising_seen xs i
 pub index_is : (items : List Entry) → AreEntries items → IsIndex (map seen items)
 index_is items es = record {
   rising = subst AreRising (rising_seen items) es.rising;
-  each = all_of_map (λ e. IsEntry (listed_of (map seen items)) e.listed) seen items (all_from_places (λ e. IsEntry (listed_of (map seen items)) (seen e).listed) items (λ k e at. entry_there items k e es at));
+  each = all_of_map (λ e. IsEntry (listed_in (map seen items)) e.listed) seen items (all_from_places (λ e. IsEntry (listed_in (map seen items)) (seen e).listed) items (λ k e at. entry_there items k e es at));
 }
 
 -- the record at a place

@@ -9,10 +9,10 @@ use Rattle.std.proofs.lemmas.Nat.{pow_pos}
 use Rattle.std.proofs.lemmas.Bool.{and_parts, or_parts, or_from, false_from_ne_true, false≢true, eq-eqb, ne_eqb, not-true}
 use Rattle.wol_model.specs.Log.{has_bit, marks_of}
 use Rattle.wol_model.specs.Extents.{marked, remarked}
-use Rattle.wol_model.specs.Index.{Indexed, AreRising, cover_of, is_live, keeps_any}
+use Rattle.wol_model.specs.Index.{listed_in, Indexed, AreRising, cover_of, is_live, keeps_a_block}
 use Rattle.redirect_map.specs.declared.entry.Entry.{Entry}
 use Rattle.redirect_map.specs.Masks.{in_mask}
-use Rattle.redirect_map.specs.Index.{listed_of, entry_at, changed, with_homed, given_up}
+use Rattle.redirect_map.specs.Index.{entry_at, changed, with_homed, given_up}
 use Rattle.redirect_map.specs.Kept.{seen, keeps, one_keeps, IsInRange, AreLive, AreEntries}
 use Rattle.redirect_map.proofs.Bits.{has_bit-above, has_bit-zero, has_bit-without, small_from_bits}
 use Rattle.redirect_map.proofs.Meeting.{none_in_range}
@@ -86,7 +86,7 @@ changed_set (x ∷ xs) (suc k) e f h rising at same =
 
 -- the blocks of a mask of live blocks are kept, and no later entry keeps them
 live_bits : (items : List Entry) (version k : ℕ) (e : Entry) (mask : ℕ) → AreEntries items → IsAt items version k e
-    → ForSome (entry_at (map seen items) version) (λ d. (i : ℕ) → has_bit mask i ≡ true → is_live (listed_of (map seen items)) d.listed (d.listed.first + i) ≡ true)
+    → ForSome (entry_at (map seen items) version) (λ d. (i : ℕ) → has_bit mask i ≡ true → is_live (listed_in (map seen items)) d.listed (d.listed.first + i) ≡ true)
     → (i : ℕ) → has_bit mask i ≡ true → (has_bit e.record.keep i ≡ true) × (one_keeps (drop (suc k) items) (e.record.lbn + i) ≡ false)
 live_bits items version k e mask es at live i on =
     let parts = and_parts (has_bit e.record.keep i) (not (one_keeps (drop (suc k) items) (e.record.lbn + i))) (sym (live_there items version k e i es at) ∙ live (seen e) at.found i on) in
@@ -99,7 +99,7 @@ unfoldable pub homed_entry : Entry → ℕ → Entry
 homed_entry e mask = record { «record» = e.record; homed = mask }
 
 pub entries_homed : (items : List Entry) (version k : ℕ) (e : Entry) (mask : ℕ) → AreEntries items → IsAt items version k e
-    → ForSome (entry_at (map seen items) version) (λ d. (i : ℕ) → has_bit mask i ≡ true → is_live (listed_of (map seen items)) d.listed (d.listed.first + i) ≡ true)
+    → ForSome (entry_at (map seen items) version) (λ d. (i : ℕ) → has_bit mask i ≡ true → is_live (listed_in (map seen items)) d.listed (d.listed.first + i) ≡ true)
     → AreEntries (set items k (homed_entry e mask))
 unfolding homed_entry
 entries_homed items version k e mask es at live =
@@ -117,7 +117,7 @@ changed_homed items version k e mask es at =
     (λ i. record {
       listed = record { version = e.record.version; first = e.record.lbn; keep = marks_of e.record.count e.record.keep; lane = e.record.lane; homed = marks_of (sym (length-marks_of e.record.count e.record.keep) i) mask };
       index = e.record.segment;
-      position = e.record.pos;
+      pos = e.record.pos;
     })
     ∙ ap (λ (v : ℕ). changed v (with_homed mask) (map seen items)) at.version_is
 
@@ -161,7 +161,7 @@ seen_trimmed e mask r fits =
         homed = remarked-marks_of e.record.lbn e.record.count e.homed (bit_and e.homed (bit_not w128 mask)) (λ b m. m && not (in_mask e.record.lbn mask b)) homed_bits j;
       };
       index = e.record.segment;
-      position = e.record.pos;
+      pos = e.record.pos;
     }
 
 trimmed_bit : (e : Entry) (mask i : ℕ) → IsInRange e → mask < 2 ^ 128 → has_bit (bit_and e.record.keep (bit_not w128 mask)) i ≡ (has_bit e.record.keep i && not (has_bit mask i))
@@ -198,16 +198,16 @@ entries_trimmed items k e mask es at fits some =
     still_none false keep gone now is none = refl
 
 -- entries that keep a block pass the test that one is kept
-pub filter_seen : (items : List Entry) → AllByRecursion IsInRange items → filter (λ (d : Indexed). keeps_any d.listed) (map seen items) ≡ map seen items
+pub filter_seen : (items : List Entry) → AllByRecursion IsInRange items → filter (λ (d : Indexed). keeps_a_block d.listed) (map seen items) ≡ map seen items
 filter_seen [] ranges = refl
 filter_seen (x ∷ xs) ranges =
-    ap (λ (t : Bool). cond t (seen x ∷ filter (λ (d : Indexed). keeps_any d.listed) (map seen xs)) (filter (λ (d : Indexed). keeps_any d.listed) (map seen xs))) (keeps_some x ranges.0) ∙ ap (λ (ys : List Indexed). seen x ∷ ys) (filter_seen xs ranges.1)
+    ap (λ (t : Bool). cond t (seen x ∷ filter (λ (d : Indexed). keeps_a_block d.listed) (map seen xs)) (filter (λ (d : Indexed). keeps_a_block d.listed) (map seen xs))) (keeps_some x ranges.0) ∙ ap (λ (ys : List Indexed). seen x ∷ ys) (filter_seen xs ranges.1)
 
 pub changed_trimmed : (items : List Entry) (version k : ℕ) (e : Entry) (mask : ℕ) → AreEntries items → IsAt items version k e → mask < 2 ^ 128 → 0 < bit_and e.record.keep (bit_not w128 mask)
-    → map seen (set items k (trimmed e mask)) ≡ filter (λ (d : Indexed). keeps_any d.listed) (changed version (given_up mask) (map seen items))
+    → map seen (set items k (trimmed e mask)) ≡ filter (λ (d : Indexed). keeps_a_block d.listed) (changed version (given_up mask) (map seen items))
 changed_trimmed items version k e mask es at fits some =
     sym (filter_seen (set items k (trimmed e mask)) (entries_trimmed items k e mask es at.at fits some).ranges)
-    ∙ ap (filter (λ (d : Indexed). keeps_any d.listed)) (changed_set items k e (trimmed e mask) (given_up mask) es.rising at.at (seen_trimmed e mask (range_at items k e es at.at) fits) ∙ ap (λ (v : ℕ). changed v (given_up mask) (map seen items)) at.version_is)
+    ∙ ap (filter (λ (d : Indexed). keeps_a_block d.listed)) (changed_set items k e (trimmed e mask) (given_up mask) es.rising at.at (seen_trimmed e mask (range_at items k e es at.at) fits) ∙ ap (λ (v : ℕ). changed v (given_up mask) (map seen items)) at.version_is)
 
 -- ---- An entry that goes
 
@@ -247,27 +247,27 @@ pub entries_removed : (items : List Entry) (k : ℕ) → AreEntries items → Ar
 entries_removed items k es = record { rising = rising_removed items k es.rising; ranges = ranges_removed items k es.ranges; live = live_removed items k es.live }
 
 -- the other entries stay
-filter_removed : (items : List Entry) (k : ℕ) (e : Entry) (h : Indexed → Indexed) → AreRising (map (λ (d : Entry). d.record.version) items) → AllByRecursion IsInRange items → slice_get items k ≡ Some e → keeps_any (h (seen e)).listed ≡ false
-    → map seen (take k items ++ drop (suc k) items) ≡ filter (λ (d : Indexed). keeps_any d.listed) (changed e.record.version h (map seen items))
+filter_removed : (items : List Entry) (k : ℕ) (e : Entry) (h : Indexed → Indexed) → AreRising (map (λ (d : Entry). d.record.version) items) → AllByRecursion IsInRange items → slice_get items k ≡ Some e → keeps_a_block (h (seen e)).listed ≡ false
+    → map seen (take k items ++ drop (suc k) items) ≡ filter (λ (d : Indexed). keeps_a_block d.listed) (changed e.record.version h (map seen items))
 filter_removed [] k e h rising ranges at none = absurd (cc)
 filter_removed (x ∷ xs) zero e h rising ranges at none =
     let here : x ≡ e = cc in
-    subst (λ (d : Entry). keeps_any (h (seen d)).listed ≡ false → map seen xs ≡ filter (λ (y : Indexed). keeps_any y.listed) (changed d.record.version h (map seen (x ∷ xs)))) here
-    (λ gone. sym (ap (λ (y : Indexed). filter (λ (z : Indexed). keeps_any z.listed) (y ∷ changed x.record.version h (map seen xs))) (ap (λ (t : Bool). cond t (h (seen x)) (seen x)) (eq-eqb x.record.version x.record.version refl))
-    ∙ ap (λ (t : Bool). cond t (h (seen x) ∷ filter (λ (z : Indexed). keeps_any z.listed) (changed x.record.version h (map seen xs))) (filter (λ (z : Indexed). keeps_any z.listed) (changed x.record.version h (map seen xs)))) gone
-    ∙ ap (filter (λ (z : Indexed). keeps_any z.listed)) (unchanged x.record.version h xs rising.0) ∙ filter_seen xs ranges.1)) none
+    subst (λ (d : Entry). keeps_a_block (h (seen d)).listed ≡ false → map seen xs ≡ filter (λ (y : Indexed). keeps_a_block y.listed) (changed d.record.version h (map seen (x ∷ xs)))) here
+    (λ gone. sym (ap (λ (y : Indexed). filter (λ (z : Indexed). keeps_a_block z.listed) (y ∷ changed x.record.version h (map seen xs))) (ap (λ (t : Bool). cond t (h (seen x)) (seen x)) (eq-eqb x.record.version x.record.version refl))
+    ∙ ap (λ (t : Bool). cond t (h (seen x) ∷ filter (λ (z : Indexed). keeps_a_block z.listed) (changed x.record.version h (map seen xs))) (filter (λ (z : Indexed). keeps_a_block z.listed) (changed x.record.version h (map seen xs)))) gone
+    ∙ ap (filter (λ (z : Indexed). keeps_a_block z.listed)) (unchanged x.record.version h xs rising.0) ∙ filter_seen xs ranges.1)) none
 filter_removed (x ∷ xs) (suc k) e h rising ranges at none =
     let less : x.record.version < e.record.version = above_at x xs k e rising.0 at in
-    sym (ap (λ (y : Indexed). filter (λ (z : Indexed). keeps_any z.listed) (y ∷ changed e.record.version h (map seen xs))) (ap (λ (t : Bool). cond t (h (seen x)) (seen x)) (ne_eqb x.record.version e.record.version (λ equal. absurd (omega arith))))
-    ∙ ap (λ (t : Bool). cond t (seen x ∷ filter (λ (z : Indexed). keeps_any z.listed) (changed e.record.version h (map seen xs))) (filter (λ (z : Indexed). keeps_any z.listed) (changed e.record.version h (map seen xs)))) (keeps_some x ranges.0)
+    sym (ap (λ (y : Indexed). filter (λ (z : Indexed). keeps_a_block z.listed) (y ∷ changed e.record.version h (map seen xs))) (ap (λ (t : Bool). cond t (h (seen x)) (seen x)) (ne_eqb x.record.version e.record.version (λ equal. absurd (omega arith))))
+    ∙ ap (λ (t : Bool). cond t (seen x ∷ filter (λ (z : Indexed). keeps_a_block z.listed) (changed e.record.version h (map seen xs))) (filter (λ (z : Indexed). keeps_a_block z.listed) (changed e.record.version h (map seen xs)))) (keeps_some x ranges.0)
     ∙ ap (λ (ys : List Indexed). seen x ∷ ys) (sym (filter_removed xs k e h rising.1 ranges.1 at none)))
 
-keeps_none : (e : Entry) (mask : ℕ) → IsInRange e → mask < 2 ^ 128 → bit_and e.record.keep (bit_not w128 mask) ≡ 0 → keeps_any (given_up mask (seen e)).listed ≡ false
+keeps_none : (e : Entry) (mask : ℕ) → IsInRange e → mask < 2 ^ 128 → bit_and e.record.keep (bit_not w128 mask) ≡ 0 → keeps_a_block (given_up mask (seen e)).listed ≡ false
 unfolding trimmed
 keeps_none e mask r fits none =
     let no_block : (b : ℕ) → (cover_of (seen (trimmed e mask)).listed).covers b ≡ false = λ b.
     ap (λ (m : ℕ). marked e.record.lbn (marks_of e.record.count m) b) none ∙ marked-marks_of e.record.lbn e.record.count 0 b (pow_pos e.record.count) ∙ empty e.record.lbn b in
-    ap (λ (d : Indexed). keeps_any d.listed) (sym (seen_trimmed e mask r fits))
+    ap (λ (d : Indexed). keeps_a_block d.listed) (sym (seen_trimmed e mask r fits))
     ∙ none_in_range (cover_of (seen (trimmed e mask)).listed).covers e.record.lbn (length (seen (trimmed e mask)).listed.keep) (λ b from to. no_block b)
   where
     empty : (first b : ℕ) → in_mask first 0 b ≡ false
@@ -278,7 +278,7 @@ keeps_none e mask r fits none =
         at false = refl
 
 pub changed_removed : (items : List Entry) (version k : ℕ) (e : Entry) (mask : ℕ) → AreEntries items → IsAt items version k e → mask < 2 ^ 128 → bit_and e.record.keep (bit_not w128 mask) ≡ 0
-    → map seen (remove items k) ≡ filter (λ (d : Indexed). keeps_any d.listed) (changed version (given_up mask) (map seen items))
+    → map seen (remove items k) ≡ filter (λ (d : Indexed). keeps_a_block d.listed) (changed version (given_up mask) (map seen items))
 changed_removed items version k e mask es at fits none =
     filter_removed items k e (given_up mask) es.rising es.ranges at.at (keeps_none e mask (range_at items k e es at.at) fits none)
-    ∙ ap (λ (v : ℕ). filter (λ (d : Indexed). keeps_any d.listed) (changed v (given_up mask) (map seen items))) at.version_is
+    ∙ ap (λ (v : ℕ). filter (λ (d : Indexed). keeps_a_block d.listed) (changed v (given_up mask) (map seen items))) at.version_is

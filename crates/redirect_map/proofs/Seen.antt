@@ -8,10 +8,10 @@ use Rattle.std.proofs.lemmas.List.FromFn.{get_or-map-range_with_len, length-map-
 use Rattle.std.proofs.lemmas.Option.{slice_get-get_or}
 use Rattle.wol_model.specs.Log.{has_bit, marks_of}
 use Rattle.wol_model.specs.Extents.{marked, has_newer, has_older}
-use Rattle.wol_model.specs.Index.{AreRising, listed_covers, is_homed}
+use Rattle.wol_model.specs.Index.{listed_in, AreRising, listed_covers, is_homed}
 use Rattle.redirect_map.specs.declared.entry.Entry.{Entry}
 use Rattle.redirect_map.specs.Masks.{in_mask}
-use Rattle.redirect_map.specs.Index.{listed_of, cover_at, has_version, entry_at}
+use Rattle.redirect_map.specs.Index.{cover_at, has_version, entry_at}
 use Rattle.redirect_map.specs.Kept.{seen, keeps, one_keeps, is_version, IsInRange}
 use Rattle.redirect_map.proofs.Bits.{has_bit-above}
 use Rattle.redirect_map.proofs.Found.{find-map}
@@ -73,7 +73,7 @@ and_true false = refl
 
 -- where all versions are above v, a newer one covers a block just where one keeps it
 all_newer : (v b : ℕ) (items : List Entry) → AllByRecursion (λ w. v < w) (map (λ (e : Entry). e.record.version) items) → AllByRecursion IsInRange items
-    → has_newer (listed_covers (listed_of (map seen items))) v b ≡ one_keeps items b
+    → has_newer (listed_covers (listed_in (map seen items))) v b ≡ one_keeps items b
 all_newer v b [] above ranges = refl
 all_newer v b (x ∷ xs) above ranges = λ i. here i || all_newer v b xs above.1 ranges.1 i
   where
@@ -81,7 +81,7 @@ all_newer v b (x ∷ xs) above ranges = λ i. here i || all_newer v b xs above.1
     here = ap (λ (t : Bool). (cover_at (seen x)).covers b && t) (lt-ltb v x.record.version above.0) ∙ and_true ((cover_at (seen x)).covers b) ∙ covers_seen x b ranges.0
 
 -- and where all are at v or above, none is older
-none_older : (v b : ℕ) (items : List Entry) → AllByRecursion (λ w. v < w) (map (λ (e : Entry). e.record.version) items) → has_older (listed_covers (listed_of (map seen items))) v b ≡ false
+none_older : (v b : ℕ) (items : List Entry) → AllByRecursion (λ w. v < w) (map (λ (e : Entry). e.record.version) items) → has_older (listed_covers (listed_in (map seen items))) v b ≡ false
 none_older v b [] above = refl
 none_older v b (x ∷ xs) above = λ i. here i || none_older v b xs above.1 i
   where
@@ -92,11 +92,11 @@ none_older v b (x ∷ xs) above = λ i. here i || none_older v b xs above.1 i
 
 -- the newer entries are those behind
 pub newer_at : (items : List Entry) (k : ℕ) (e : Entry) (b : ℕ) → AreRising (map (λ (d : Entry). d.record.version) items) → AllByRecursion IsInRange items → slice_get items k ≡ Some e
-    → has_newer (listed_covers (listed_of (map seen items))) e.record.version b ≡ one_keeps (drop (suc k) items) b
+    → has_newer (listed_covers (listed_in (map seen items))) e.record.version b ≡ one_keeps (drop (suc k) items) b
 newer_at [] k e b rising ranges at = absurd (cc)
 newer_at (x ∷ xs) zero e b rising ranges at =
     let f : x ≡ e = cc in
-    subst (λ (d : Entry). (((cover_at (seen x)).covers b && ltb d.record.version x.record.version) || has_newer (listed_covers (listed_of (map seen xs))) d.record.version b) ≡ one_keeps xs b) f
+    subst (λ (d : Entry). (((cover_at (seen x)).covers b && ltb d.record.version x.record.version) || has_newer (listed_covers (listed_in (map seen xs))) d.record.version b) ≡ one_keeps xs b) f
     (λ i. (ap (λ (t : Bool). (cover_at (seen x)).covers b && t) (le-ltb x.record.version x.record.version (omega arith)) ∙ and_false ((cover_at (seen x)).covers b)) i || all_newer x.record.version b xs rising.0 ranges.1 i)
 newer_at (x ∷ xs) (suc k) e b rising ranges at =
     let less : x.record.version < e.record.version = all_at (λ (d : Entry). x.record.version < d.record.version) xs k e (all_before_map (λ w. x.record.version < w) (λ (d : Entry). d.record.version) xs rising.0) at in
@@ -104,11 +104,11 @@ newer_at (x ∷ xs) (suc k) e b rising ranges at =
 
 -- the older ones are those before
 pub older_at : (items : List Entry) (k : ℕ) (e : Entry) (b : ℕ) → AreRising (map (λ (d : Entry). d.record.version) items) → AllByRecursion IsInRange items → slice_get items k ≡ Some e
-    → has_older (listed_covers (listed_of (map seen items))) e.record.version b ≡ one_keeps (take k items) b
+    → has_older (listed_covers (listed_in (map seen items))) e.record.version b ≡ one_keeps (take k items) b
 older_at [] k e b rising ranges at = absurd (cc)
 older_at (x ∷ xs) zero e b rising ranges at =
     let f : x ≡ e = cc in
-    subst (λ (d : Entry). (((cover_at (seen x)).covers b && ltb x.record.version d.record.version) || has_older (listed_covers (listed_of (map seen xs))) d.record.version b) ≡ false) f
+    subst (λ (d : Entry). (((cover_at (seen x)).covers b && ltb x.record.version d.record.version) || has_older (listed_covers (listed_in (map seen xs))) d.record.version b) ≡ false) f
     (λ i. (ap (λ (t : Bool). (cover_at (seen x)).covers b && t) (le-ltb x.record.version x.record.version (omega arith)) ∙ and_false ((cover_at (seen x)).covers b)) i || none_older x.record.version b xs rising.0 i)
 older_at (x ∷ xs) (suc k) e b rising ranges at =
     let less : x.record.version < e.record.version = all_at (λ (d : Entry). x.record.version < d.record.version) xs k e (all_before_map (λ w. x.record.version < w) (λ (d : Entry). d.record.version) xs rising.0) at in

@@ -4,7 +4,7 @@ use Rattle.std.specs.Prelude.{⊤, ◌≡◌, ◌<◌, ◌≤◌, ◌^◌, ◌+�
 use Rattle.std.specs.List.{AllByRecursion}
 use Rattle.wol_model.specs.Log.{marks_of}
 use Rattle.wol_model.specs.Extents.{Cover, remarked}
-use Rattle.wol_model.specs.Index.{Listed, Indexed, AreRising, IsListed, cover_of, keeps_any}
+use Rattle.wol_model.specs.Index.{Listed, Indexed, listed_in, AreRising, IsListed, cover_of, keeps_a_block}
 use Rattle.redirect_map.specs.declared.record.Rec.{Rec}
 use Rattle.redirect_map.specs.Masks.{in_mask}
 
@@ -12,10 +12,6 @@ use Rattle.redirect_map.specs.Masks.{in_mask}
 pub record Contents : Type 0 where
   pub entries : List Indexed
   pub reserved : ℕ
-
--- the records without their places
-abbrev pub listed_of : List Indexed → List Listed
-listed_of es = map (λ e. e.listed) es
 
 abbrev pub cover_at : Indexed → Cover
 cover_at e = cover_of e.listed
@@ -35,7 +31,7 @@ abbrev pub entry_of : Rec → ℕ → Indexed
 entry_of r homed = record {
   listed = record { version = r.version; first = r.lbn; keep = marks_of r.count r.keep; lane = r.lane; homed = marks_of r.count homed };
   index = r.segment;
-  position = r.pos;
+  pos = r.pos;
 }
 
 -- r is the record of entry e
@@ -47,7 +43,7 @@ pub record IsRecordOf (e : Indexed) (r : Rec) : Type 0 where
   pub within : r.keep < 2 ^ r.count
   pub lane : r.lane ≡ e.listed.lane
   pub segment : r.segment ≡ e.index
-  pub position : r.pos ≡ e.position
+  pub pos : r.pos ≡ e.pos
 
 -- the answer is the record of the entry that is looked for, and none where there is none
 abbrev pub IsAnswer : Option Indexed → Option Rec → Type 0
@@ -81,10 +77,10 @@ given_up mask e = record e {
 pub record IsEntry (es : List Listed) (e : Listed) : Type 0 where
   pub count : length e.keep ≤ 128
   pub within : e.first + length e.keep ≤ 2 ^ 32
-  pub keeps : keeps_any e ≡ true
+  pub keeps : keeps_a_block e ≡ true
   pub homed : IsListed es e
 
 -- what is so of each index
 pub record IsIndex (es : List Indexed) : Type 0 where
   pub rising : AreRising (map (λ e. e.listed.version) es)
-  pub each : AllByRecursion (λ e. IsEntry (listed_of es) e.listed) es
+  pub each : AllByRecursion (λ e. IsEntry (listed_in es) e.listed) es

@@ -4,10 +4,10 @@ ghost use Rattle.std.specs.Option.{ForSome};
 ghost use Rattle.std.specs.List.{list_any, range_with_len, AllByRecursion};
 ghost use Rattle.wol_model.specs.Log.{has_bit, marks_of};
 ghost use Rattle.wol_model.specs.Extents.{newest};
-ghost use Rattle.wol_model.specs.Index.{is_covered, is_live, is_older, is_homed, goes, keeps_any};
+ghost use Rattle.wol_model.specs.Index.{listed_in, is_covered, is_live, is_older, is_homed, goes, keeps_a_block};
 ghost use Rattle.redirect_map.specs.Masks.{IsMask};
 ghost use Rattle.redirect_map.specs.Runs.{runs_of};
-ghost use Rattle.redirect_map.specs.Index.{listed_of, cover_at, entry_at, HasVersion, entry_of, IsRecordOf, IsAnswer, changed, unhomed, with_homed, given_up, IsIndex};
+ghost use Rattle.redirect_map.specs.Index.{cover_at, entry_at, HasVersion, entry_of, IsRecordOf, IsAnswer, changed, unhomed, with_homed, given_up, IsIndex};
 
 use crate::entry::{Entry, any_meets, kept_from, last_with, place_of, unhome, with_version};
 use crate::record::Rec;
@@ -54,10 +54,8 @@ impl Index {
         ensures room { self.old.reserved ≤ self.new.reserved }
         ensures unchanged { self.new.entries ≡ self.old.entries }
     {
-        match self.entries.reserve(more as usize) {
-            Ok(()) => Ok(()),
-            Err(_) => Err(NoMemory),
-        }
+        self.entries.reserve(more as usize)?;
+        Ok(())
     }
 
     /// Adds a record whose version is above all others. It takes one reserved place for each run of kept
@@ -92,7 +90,7 @@ impl Index {
 
     /// Whether a record covers at least one block of the range.
     pub fn covered(&self, lbn: u64, count: u32) -> bool
-        ensures { result ≡ list_any (is_covered (listed_of self.now.entries)) (range_with_len lbn count) }
+        ensures { result ≡ list_any (is_covered (listed_in self.now.entries)) (range_with_len lbn count) }
     {
         any_meets(&self.entries, lbn, count)
     }
@@ -109,7 +107,7 @@ impl Index {
     pub fn live(&self, version: u64) -> u128
         requires { HasVersion self.now.entries version }
         ensures { IfSome (entry_at self.now.entries version)
-            (λ e. IsMask e.listed.first (is_live (listed_of self.now.entries) e.listed) result) }
+            (λ e. IsMask e.listed.first (is_live (listed_in self.now.entries) e.listed) result) }
     {
         let place = place_of(&self.entries, version);
         let record = self.entries[place].record;
@@ -120,7 +118,7 @@ impl Index {
     pub fn older(&self, version: u64) -> u128
         requires { HasVersion self.now.entries version }
         ensures { IfSome (entry_at self.now.entries version)
-            (λ e. IsMask e.listed.first (is_older (listed_of self.now.entries) e.listed) result) }
+            (λ e. IsMask e.listed.first (is_older (listed_in self.now.entries) e.listed) result) }
     {
         let place = place_of(&self.entries, version);
         let record = self.entries[place].record;
@@ -134,7 +132,7 @@ impl Index {
             (λ e. IsMask e.listed.first (is_homed e.listed) result) }
         ensures live { IfSome (entry_at self.now.entries version)
             (λ e. (i : ℕ) → has_bit result i ≡ true
-            → is_live (listed_of self.now.entries) e.listed (e.listed.first + i) ≡ true) }
+            → is_live (listed_in self.now.entries) e.listed (e.listed.first + i) ≡ true) }
     {
         let place = place_of(&self.entries, version);
         self.entries[place].homed
@@ -146,7 +144,7 @@ impl Index {
         requires there { HasVersion self.old.entries version }
         requires live { ForSome (entry_at self.old.entries version)
             (λ e. (i : ℕ) → has_bit mask i ≡ true
-            → is_live (listed_of self.old.entries) e.listed (e.listed.first + i) ≡ true) }
+            → is_live (listed_in self.old.entries) e.listed (e.listed.first + i) ≡ true) }
 
         ensures entries { self.new.entries ≡ changed version (with_homed mask) self.old.entries }
         ensures room { self.new.reserved ≡ self.old.reserved }
@@ -162,10 +160,10 @@ impl Index {
         requires some { 0 < mask }
         requires goes { ForSome (entry_at self.old.entries version)
             (λ e. (i : ℕ) → has_bit mask i ≡ true
-            → goes (listed_of self.old.entries) e.listed (e.listed.first + i) ≡ true) }
+            → goes (listed_in self.old.entries) e.listed (e.listed.first + i) ≡ true) }
 
         ensures entries { self.new.entries
-            ≡ filter (λ e. keeps_any e.listed) (changed version (given_up mask) self.old.entries) }
+            ≡ filter (λ e. keeps_a_block e.listed) (changed version (given_up mask) self.old.entries) }
         ensures room { self.old.reserved ≤ self.new.reserved }
     {
         let place = place_of(&self.entries, version);
