@@ -1,18 +1,18 @@
 -- The blocks that may go, and those that are due, by their bits.
-use Rattle.std.proofs.Common.{◌≡◌, ◌⊎◌, inl, inr, ⊎_elim, ◌<◌, ◌≤◌, ◌+◌, ◌-◌, ◌^◌, ℕ, zero, suc, Bool, true, false, cond, not, ◌&&◌, ◌||◌, List, [], ◌∷◌, map, length, get_or, Option, None, Some, refl, sym, ap, ◌∙◌, subst, arith, eqb, ltb, leb, bit_and, bit_or}
+use Rattle.std.proofs.Common.{◌≡◌, ◌⊎◌, inl, inr, ⊎_elim, ◌<◌, ◌≤◌, ◌+◌, ◌-◌, ◌^◌, ℕ, Bool, true, false, cond, not, ◌&&◌, ◌||◌, List, [], ◌∷◌, length, get_or, Option, None, Some, refl, sym, ap, ◌∙◌, arith, eqb, leb, bit_and, bit_or}
 use Rattle.std.specs.Prelude.{IfSome, ◌↔◌}
 use Rattle.std.specs.Int.{bit_not, w128}
 use Rattle.std.specs.List.{AllByRecursion, list_any, range_with_len}
 use Rattle.std.proofs.lemmas.Nat.{and_le_l, or_lt}
-use Rattle.std.proofs.lemmas.Bool.{cases_lt, le-ltb, false≢true, and_parts, leb-true, eq-eqb, ne_eqb, eqb-true, cases_eq}
+use Rattle.std.proofs.lemmas.Bool.{cases_lt, le-ltb, false≢true, and_parts, eq-eqb, ne_eqb, eqb-true, cases_eq}
 use Rattle.std.proofs.lemmas.List.{get_or_past}
-use Rattle.wol_model.specs.Log.{has_bit, marks_of}
-use Rattle.wol_model.specs.Extents.{Cover, marked, has_newer, has_older}
+use Rattle.wol_model.specs.Log.{has_bit}
+use Rattle.wol_model.specs.Extents.{marked, has_newer, has_older}
 use Rattle.wol_model.specs.Index.{listed_in, Listed, Indexed, cover_of, listed_covers, is_homed, is_live, is_older, is_due, goes, block_numbers}
 use Rattle.redirect_map.specs.declared.record.Rec.{Rec}
-use Rattle.redirect_map.specs.Masks.{in_mask, IsMask}
+use Rattle.redirect_map.specs.Masks.{IsMask}
 use Rattle.redirect_map.specs.Index.{entry_at, IsRecordOf, IsAnswer}
-use Rattle.redirect_map.proofs.Bits.{has_bit-or, has_bit-and, has_bit-without, has_bit-zero, some_bit}
+use Rattle.redirect_map.proofs.Bits.{has_bit-or, has_bit-without, has_bit-zero, some_bit}
 use Rattle.redirect_map.proofs.Meeting.{any_in_range, none_in_range}
 use Rattle.redirect_map.proofs.Seen.{marked-marks_of, in_mask-bit}
 
@@ -47,7 +47,7 @@ may_go_is es (Some e) keep live homed older k l h o keeps lives homes on olders 
     has_bit-or (bit_and keep (bit_not w128 live)) (bit_and homed (bit_not w128 older)) i
     ∙ (λ j. (has_bit-without keep live i k l ∙ (λ m. keeps i m && not (lives i m))) j || (has_bit-without homed older i h o ∙ (λ m. homes i m && not (olders i m))) j)
     ∙ going ((cover_of e.listed).covers (e.listed.first + i)) (has_newer (listed_covers (listed_in es)) e.listed.version (e.listed.first + i)) (is_homed e.listed (e.listed.first + i))
-      (has_older (listed_covers (listed_in es)) e.listed.version (e.listed.first + i)) (λ there. on i (homes i ∙ there))
+    (has_older (listed_covers (listed_in es)) e.listed.version (e.listed.first + i)) (λ there. on i (homes i ∙ there))
 
 pub due_is : (es : List Indexed) (o : Option Indexed) (live homed : ℕ) → live < 2 ^ 128 → homed < 2 ^ 128
     → IfSome o (λ e. IsMask e.listed.first (is_live (listed_in es) e.listed) live) → IfSome o (λ e. IsMask e.listed.first (is_homed e.listed) homed)

@@ -1,8 +1,8 @@
 -- A change of an index leaves its records on their lanes.
-use Rattle.std.proofs.Common.{◌≡◌, ℕ, Bool, true, false, cond, eqb, List, [], ◌∷◌, map, refl, sym, subst}
+use Rattle.std.proofs.Common.{ℕ, Bool, true, false, cond, eqb, List, [], ◌∷◌}
 use Rattle.std.specs.List.{AllByRecursion, filter}
 use Rattle.wol_model.specs.Index.{Indexed}
-use Rattle.redirect_map.specs.Index.{has_version, changed}
+use Rattle.redirect_map.specs.Index.{changed}
 
 pub all_changed : (P : Indexed → Type 0) (version : ℕ) (f : Indexed → Indexed) (es : List Indexed) → ((e : Indexed) → P e → P (f e)) → AllByRecursion P es → AllByRecursion P (changed version f es)
 all_changed P version f [] kept all = tt

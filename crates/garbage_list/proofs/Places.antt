@@ -1,8 +1,8 @@
 -- What the record at a place answers.
-use Rattle.std.proofs.Common.{◌≡◌, ◌<◌, ◌^◌, ℕ, zero, suc, Bool, true, false, cond, not, ◌&&◌, List, [], ◌∷◌, map, length, get_or, Option, None, Some, refl, sym, ap, ◌∙◌, subst, arith, eqb}
+use Rattle.std.proofs.Common.{◌≡◌, ◌<◌, ◌^◌, ℕ, zero, suc, Bool, true, false, cond, not, ◌&&◌, List, [], ◌∷◌, length, Option, None, Some, refl, sym, ap, ◌∙◌, subst, arith, eqb}
 use Rattle.std.specs.Prelude.{slice_get, IfSome, slice_index_or}
 use Rattle.std.specs.List.{list_any}
-use Rattle.wol_model.specs.Index.{Listed, Indexed, AreRising, cover_of, block_numbers}
+use Rattle.wol_model.specs.Index.{Listed, Indexed, cover_of, block_numbers}
 use Rattle.redirect_map.specs.declared.record.Rec.{Rec}
 use Rattle.redirect_map.specs.Masks.{IsMask}
 use Rattle.redirect_map.specs.Index.{entry_at, HasVersion, IsRecordOf, IsIndex}
@@ -41,5 +41,5 @@ answers lanes es k r p mask t index within is covered fits bits test =
     let at = at_place es k r index within is in
     let mine : IsMask at.entry.listed.first (p at.entry.listed) mask = subst (λ (o : Option Indexed). IfSome o (λ e. IsMask e.listed.first (p e.listed) mask)) at.own bits in
     let same : (is_awake lanes at.entry && list_any (p at.entry.listed) (block_numbers at.entry.listed)) ≡ t =
-      (λ i. slice_index_or lanes (sym at.is.lane i) false && sym (some_block at.entry.listed (p at.entry.listed) mask fits mine (covered at.entry.listed)) i) ∙ test in
+    (λ i. slice_index_or lanes (sym at.is.lane i) false && sym (some_block at.entry.listed (p at.entry.listed) mask fits mine (covered at.entry.listed)) i) ∙ test in
     rw (at.there, same) (λ i. cond t (Some (at.is.version i)) None)

@@ -12,10 +12,8 @@ fn going_at(index: &Index, lanes: &[bool], place: u64) -> Option<u64>
     requires there { place < length index.now.entries }
     requires index { IsIndex index.now.entries }
     requires lanes { AllByRecursion (HasLane lanes.now) index.now.entries }
-    ensures {
-        IfSome (slice_get index.now.entries place)
-            (λ e. result ≡ (if can_go lanes.now index.now.entries e then Some e.listed.version else None))
-    }
+    ensures { IfSome (slice_get index.now.entries place)
+        (λ e. result ≡ (if can_go lanes.now index.now.entries e then Some e.listed.version else None)) }
 {
     let record = index.at(place);
     if !lanes[record.lane as usize] {
@@ -32,10 +30,8 @@ fn due_at(index: &Index, lanes: &[bool], place: u64) -> Option<u64>
     requires there { place < length index.now.entries }
     requires index { IsIndex index.now.entries }
     requires lanes { AllByRecursion (HasLane lanes.now) index.now.entries }
-    ensures {
-        IfSome (slice_get index.now.entries place)
-            (λ e. result ≡ (if can_go_home lanes.now index.now.entries e then Some e.listed.version else None))
-    }
+    ensures { IfSome (slice_get index.now.entries place)
+        (λ e. result ≡ (if can_go_home lanes.now index.now.entries e then Some e.listed.version else None)) }
 {
     let record = index.at(place);
     if !lanes[record.lane as usize] {
@@ -53,20 +49,14 @@ pub fn next_to_go(index: &Index, lanes: &[bool]) -> Option<u64>
     requires { AllByRecursion (HasLane lanes.now) index.now.entries }
 
     // The index rises, so the first such record is the least.
-    ensures value {
-        result ≡ first_version (can_go lanes.now index.now.entries) index.now.entries
-    }
-    ensures stated {
-        IfSome result
-            (λ v. IsSomeAnd (entry_at index.now.entries v)
-                (λ e. can_go lanes.now index.now.entries e ≡ true))
-    }
-    ensures least {
-        IfSome result
-            (λ v. AllByRecursion
-                (λ e. can_go lanes.now index.now.entries e ≡ true → v ≤ e.listed.version)
-                index.now.entries)
-    }
+    ensures value { result ≡ first_version (can_go lanes.now index.now.entries) index.now.entries }
+    ensures stated { IfSome result
+        (λ v. IsSomeAnd (entry_at index.now.entries v)
+        (λ e. can_go lanes.now index.now.entries e ≡ true)) }
+    ensures least { IfSome result
+        (λ v. AllByRecursion
+        (λ e. can_go lanes.now index.now.entries e ≡ true → v ≤ e.listed.version)
+        index.now.entries) }
 {
     for place in 0..index.len() {
         if let Some(version) = going_at(index, lanes, place) {
@@ -81,20 +71,14 @@ pub fn next_to_go(index: &Index, lanes: &[bool]) -> Option<u64>
 pub fn next_due(index: &Index, lanes: &[bool]) -> Option<u64>
     requires { AllByRecursion (HasLane lanes.now) index.now.entries }
 
-    ensures value {
-        result ≡ first_version (can_go_home lanes.now index.now.entries) index.now.entries
-    }
-    ensures stated {
-        IfSome result
-            (λ v. IsSomeAnd (entry_at index.now.entries v)
-                (λ e. can_go_home lanes.now index.now.entries e ≡ true))
-    }
-    ensures least {
-        IfSome result
-            (λ v. AllByRecursion
-                (λ e. can_go_home lanes.now index.now.entries e ≡ true → v ≤ e.listed.version)
-                index.now.entries)
-    }
+    ensures value { result ≡ first_version (can_go_home lanes.now index.now.entries) index.now.entries }
+    ensures stated { IfSome result
+        (λ v. IsSomeAnd (entry_at index.now.entries v)
+        (λ e. can_go_home lanes.now index.now.entries e ≡ true)) }
+    ensures least { IfSome result
+        (λ v. AllByRecursion
+        (λ e. can_go_home lanes.now index.now.entries e ≡ true → v ≤ e.listed.version)
+        index.now.entries) }
 {
     for place in 0..index.len() {
         if let Some(version) = due_at(index, lanes, place) {

@@ -3,7 +3,6 @@
 
 mod find;
 mod masks;
-
 #[cfg(test)]
 mod tests;
 

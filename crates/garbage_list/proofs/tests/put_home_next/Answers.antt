@@ -7,4 +7,4 @@ use Rattle.garbage_list.proofs.tests.put_home_next.Goals as goal
 
 pub returns : goal.returns
 returns c = subst (AllByRecursion (HasLane c.args.lanes.now)) (sym c.set_homed.ensures.entries)
-    (all_changed (HasLane c.args.lanes.now) _ (with_homed c.live.result) c.args.index.now.entries (λ e on. on) c.requires)
+    (all_changed (HasLane c.args.lanes.now) _ (with_homed c.live-live.result) c.args.index.now.entries (λ e on. on) c.requires)
