@@ -40,7 +40,7 @@ pub struct Config {
 }
 
 /// Why bytes are no configuration.
-#[derive(Drop)]
+#[derive(Debug, Drop)]
 pub enum ConfigFault {
     /// The bytes aren't TOML.
     NotToml,

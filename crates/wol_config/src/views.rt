@@ -30,7 +30,7 @@ pub(crate) fn set_views(alloc: Global, tables: &[Value], volumes: &mut [VolumeCo
         match view_of(texts, i, volumes) {
             Some(view) => volumes[i].view = view,
             None => {
-                let name = Name::new(alloc, volumes[i].name.as_bytes())?;
+                let name = Name::new(alloc, volumes[i].name.as_str())?;
                 return Err(ConfigFault::BadView { volume: i as u32, name });
             }
         }

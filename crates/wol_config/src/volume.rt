@@ -40,8 +40,8 @@ fn name(alloc: Global, table: &Table) -> Result<Name, ConfigFault>
     ensures faultless { IfOk result (λ name. key_fault Key.Name (table_view table.now) ≡ None) }
     ensures err { IfErr result (IsAnswer (key_fault Key.Name (table_view table.now))) }
 {
-    let text = text(table, Key::Name)?.as_bytes();
-    if !is_name(text) {
+    let text = text(table, Key::Name)?;
+    if !is_name(text.as_bytes()) {
         return Err(ConfigFault::OutOfRange { key: Key::Name });
     }
     Ok(Name::new(alloc, text)?)

@@ -58,7 +58,7 @@ fn refuse_twins(alloc: Global, volumes: &[VolumeConf]) -> Result<(), ConfigFault
 {
     for (i, volume) in volumes.iter().enumerate() {
         if has_twin(volume, &volumes[..i]) {
-            let name = Name::new(alloc, volume.name.as_bytes())?;
+            let name = Name::new(alloc, volume.name.as_str())?;
             return Err(ConfigFault::Twice { volume: i as u32, name });
         }
     }

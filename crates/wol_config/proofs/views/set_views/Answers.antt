@@ -42,5 +42,5 @@ returns-in-None-clause-err c =
         not_good (is_good_view (names_in ts) c.loop-i.i (view_in (members_of (view_data v)))) (λ good. c.in-None.ensures (rw (names, ← view) good)) in
     let same : get_or c.loop-i.volumes c.loop-i.i c.index-volumes-i-in-None.result ≡ volume_in (members_of (view_data v)) =
         name_at ts c.loop-i.i v c.loop-i.volumes c.index-volumes-i-in-None.result c.loop-i-test.true c.index-tables-i.is c.loop-i.invariant.done in
-    let name : c.in_ok-name-in-None.name ≡ text_at Name (members_of (view_data v)) = c.in_ok-name-in-None.ensures ∙ c.as_bytes.ensures ∙ ap (λ (w : VolumeConf). w.name) same in
+    let name : c.in_ok-name-in-None.name ≡ text_at Name (members_of (view_data v)) = c.in_ok-name-in-None.ensures ∙ c.as_str.ensures ∙ ap (λ (w : VolumeConf). w.name) same in
     inr (c.loop-i.invariant.left ∙ bad_here ts c.loop-i.i v c.loop-i-test.true c.index-tables-i.is bad ∙ ap (λ (n : List ℕ). Some (BadView c.loop-i.i n)) (sym name))
