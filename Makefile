@@ -3,8 +3,10 @@
 
 .PHONY: build demo test clean
 
+# The command proves the program, builds it and runs it; on words that are no command it touches no file and ends with 1.
 build:
-	cd crates/wol && rt run -- solo nobody 0 1 </dev/null >/dev/null
+	rm -f crates/wol/out/wol
+	cd crates/wol && { rt run -- none </dev/null >/dev/null || test -x out/wol; }
 	mkdir -p build
 	cp crates/wol/out/wol build/wol
 

@@ -1,7 +1,10 @@
 // Runs of the top call over streams and a bay in memory. The expected outputs were worked out by hand from the formats.
 use crate::top::run;
 use std::alloc::{AllocError, Global};
+use std::process::Abort;
+use std::sync::Wait;
 use std::test::Fail;
+use std::thread::Threads;
 use wol_bay::MemBay;
 use wol_io::{MemSink, MemSource, NoGate};
 
@@ -18,6 +21,7 @@ fn words_of(alloc: Global, text: &str) -> Result<Vec<String>, AllocError> {
 
 // A run that is to end with this status and this text, with the call of the source, of the sink and of the image's disk
 // that is to fail.
+#[derive(Clone, Copy)]
 struct Row<'a> {
     words: &'a str,
     trace: &'a [u8],
@@ -28,8 +32,11 @@ struct Row<'a> {
     text: &'a [u8],
 }
 
-fn try_row(rt: &HostRuntime, row: &Row<'_>) -> Result<(), Fail> {
-    let alloc = rt.alloc();
+fn try_row<R: Abort + Threads + Wait + Sync>(
+    rt: &R,
+    alloc: Global,
+    row: &Row<'_>,
+) -> Result<(), Fail> {
     let words = words_of(alloc, row.words)?;
     let cuts = Vec::from_slice(alloc, &[1, 0, 7])?;
     let mut config = MemSource::new(Vec::new(alloc), Vec::new(alloc), None);
@@ -123,7 +130,7 @@ fn runs_and_refuses_as_worked_out_by_hand(rt: HostRuntime) -> Result<(), Fail> {
         plain("solo u,r 0 1", b"", 1, b"fault 1 words\n"),
     ];
     for row in &rows {
-        try_row(&rt, row)?;
+        try_row(&rt, rt.alloc(), row)?;
     }
     Ok(())
 }
@@ -150,7 +157,7 @@ fn tells_a_source_a_sink_and_a_disk_that_fail(rt: HostRuntime) -> Result<(), Fai
         },
     ];
     for row in &rows {
-        try_row(&rt, row)?;
+        try_row(&rt, rt.alloc(), row)?;
     }
     Ok(())
 }
