@@ -10,6 +10,10 @@ pub mod Claims
 pub mod Puts
 pub mod Covers
 pub mod Trims
+pub mod GiveUps
+pub mod Retires
+pub mod SegmentBreaks
+pub mod ClaimBreaks
 pub mod ReadBreaks
 pub mod Choices
 pub mod Stops
@@ -19,3 +23,6 @@ pub mod Data
 pub mod TwelveLinesLooks
 pub mod LogOfOneSegment
 pub mod PlacingRules
+pub mod OpenedManager
+pub mod WhatIsRefused
+pub mod LookSteps
