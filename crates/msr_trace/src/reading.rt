@@ -3,7 +3,6 @@ ghost use Rattle.std.specs.Prelude.{◌≡◌, ◌≢◌, ◌≤◌, ◌<◌, �
 ghost use Rattle.std.specs.List.{list_any, position_or_len};
 ghost use Rattle.std.specs.Io.KnownBytes.{Keeps};
 ghost use Rattle.wol_disk.specs.Disk.{Rose};
-ghost use Rattle.wol_model.specs.Trace.{TraceLine};
 ghost use Rattle.msr_trace.specs.Intake.{to_give};
 ghost use Rattle.msr_trace.specs.Lines.{Fits, is_feed, trace_line};
 ghost use Rattle.msr_trace.specs.Reading.{IsDone, RefusesLine, TakesLine, is_no_memory, pending};

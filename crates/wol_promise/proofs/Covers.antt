@@ -3,7 +3,7 @@ use Rattle.std.proofs.Common.{◌≡◌, ◌⊎◌, inl, inr, ⊎_elim, ◌+◌,
 use Rattle.std.specs.Prelude.{Contains, slice_get}
 use Rattle.std.specs.List.{AllByRecursion, list_any}
 use Rattle.std.proofs.lemmas.List.Elements.{Contains-append_left, Contains-append_right}
-use Rattle.wol_model.specs.Extents.{Cover, Extent, IsValid, covers_of, AreDistinct, has_newer, has_older, may_go}
+use Rattle.wol_model.specs.Extents.{marked, Cover, Extent, IsValid, covers_of, has_newer, has_older, may_go}
 use Rattle.wol_model.specs.Index.{Indexed, listed_in, listed_covers, cover_of, is_homed, goes}
 use Rattle.wol_model.specs.Log.{Record, extent_of}
 use Rattle.wol_model.proofs.Counts.{both, either, true_or, not_true, not_false}
@@ -33,7 +33,7 @@ any_found p (x ∷ xs) is = ⊎_elim
 
 -- an entry has its record's cover
 pub same_cover : {P : Type 0} (s : Held P) (k : ℕ) (r : Record) (e : Indexed) → IsEntryOf s k r e → cover_of e.listed ≡ (extent_of r).cover
-same_cover s k r e is = λ i. record { version = is.version i; covers = Rattle.wol_model.specs.Extents.marked (is.first i) (is.keep i) }
+same_cover s k r e is = λ i. record { version = is.version i; covers = marked (is.first i) (is.keep i) }
 
 extent_among : {P : Type 0} (held : List (Held P)) (s : Held P) (r : Record) → Contains held s → Contains s.records r → Contains (extents_held held) (extent_of r)
 extent_among [] s r has is = absurd (let lt = has.1 in omega arith)

@@ -6,6 +6,7 @@ pub mod Kept
 pub mod Broke
 pub mod HomeWrites
 pub mod LogWrites
+pub mod Opens
 pub mod Claims
 pub mod Puts
 pub mod Covers
