@@ -1,6 +1,5 @@
-use Rattle.std.proofs.Common.{rules, ◌≡◌, Some, option_map}
 use Rattle.msr_trace.proofs.Splitting.{line_record, no_special}
-use Rattle.msr_trace.proofs.fields.split_fields.Goals as goal
+use Rattle.msr_trace.proofs.fields.split_alone.Goals as goal
 
 pub unreachable-requires : goal.unreachable-requires
 unreachable-requires c =
