@@ -46,9 +46,9 @@ own_is_bad names own ts i v name inside here is some good =
     let place : i < length (texts_in ts) = rw (length-map ts (λ w. text_of (view w))) inside in
     let number : ℕ → List ℕ → ℕ = λ d n. unwrap_or (number_named names n) d in
     let told : eqb (get_or (numbers_named names (texts_in ts)) i own) own ≡ true =
-        rw (get_or-map (number 0) (texts_in ts) i (text_of (view v)) own place, text_at_place ts i v inside here, ← is, ← some) (eq-eqb own own refl) in
+    rw (get_or-map (number 0) (texts_in ts) i (text_of (view v)) own place, text_at_place ts i v inside here, ← is, ← some) (eq-eqb own own refl) in
     let stands : stands_in (numbers_named names (texts_in ts)) own ≡ true =
-        list_any_at (λ m. eqb m own) (numbers_named names (texts_in ts)) i own (rw (length-map (texts_in ts) (number 0)) place) told in
+    list_any_at (λ m. eqb m own) (numbers_named names (texts_in ts)) i own (rw (length-map (texts_in ts) (number 0)) place) told in
     let others = (and_parts (not (stands_in (numbers_named names (texts_in ts)) own)) _ (and_parts (list_all (is_known names) (texts_in ts)) _ good).1).0 in
     let e : not true ≡ true = rw stands at others in
     cc
@@ -108,9 +108,9 @@ view_answer r names own ts ids i end few room known others found answer =
     let no_own : not (stands_in ns own) ≡ true = let e : stands_in ns own ≡ false = rw whole at others in rw e refl in
     some_iff r (take (length ts) ids) ns answer same
     (λ h. let list : IsViewList ns = subst IsViewList same h in
-        both_true _ _ all_known (both_true _ _ no_own (test_apart ns list.distinct)))
+    both_true _ _ all_known (both_true _ _ no_own (test_apart ns list.distinct)))
     (λ good. subst IsViewList (sym same) (record {
-        few = rw (length-numbers names ts) few;
-        in_range = small_numbers names (texts_in ts) room;
-        distinct = apart_test ns (and_parts (not (stands_in ns own)) (are_apart ns) (and_parts (list_all (is_known names) (texts_in ts)) _ good).1).1;
+      few = rw (length-numbers names ts) few;
+      in_range = small_numbers names (texts_in ts) room;
+      distinct = apart_test ns (and_parts (not (stands_in ns own)) (are_apart ns) (and_parts (list_all (is_known names) (texts_in ts)) _ good).1).1;
     }))

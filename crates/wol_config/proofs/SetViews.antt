@@ -29,9 +29,9 @@ pub faultless_view : (ts : List Value) (i : ℕ) (v : Value) → i < length ts �
 faultless_view ts i v inside here h =
     let place : i < length (members_in ts) = rw (length-map ts (λ w. members_of (view w))) inside in
     let same : get_or (members_in ts) i (members_of (view v)) ≡ members_of (view v) =
-        get_or-map (λ w. members_of (view w)) ts i v (members_of (view v)) inside ∙ rw (← here) refl in
+    get_or-map (λ w. members_of (view w)) ts i v (members_of (view v)) inside ∙ rw (← here) refl in
     let none : first_fault volume_keys (members_of (view v)) ≡ None =
-        subst (λ (m : Members). first_fault volume_keys m ≡ None) same (none_of_each (members_in ts) i (members_of (view v)) place h) in
+    subst (λ (m : Members). first_fault volume_keys m ≡ None) same (none_of_each (members_in ts) i (members_of (view v)) place h) in
     each_key volume_keys (members_of (view v)) 5 Name (lit< tt) none
 
 -- ---- Names and texts

@@ -147,9 +147,9 @@ apart_at : (tables : List Members) (i j : ℕ) (d : VolumeConf) → i < j → j 
 apart_at tables i j d before inside twice items is =
     let names = map (text_at Name) tables in
     let at : (k : ℕ) → k < length tables → get_or items k d ≡ volume_of names (get_or tables k no_members) =
-        λ k within. ap (λ (vs : List VolumeConf). get_or vs k d) is ∙ get_or-map (volume_of names) tables k no_members d within in
+    λ k within. ap (λ (vs : List VolumeConf). get_or vs k d) is ∙ get_or-map (volume_of names) tables k no_members d within in
     let bare : (k : ℕ) → k < length tables → get_or (map volume_in tables) k d ≡ volume_in (get_or tables k no_members) =
-        λ k within. get_or-map volume_in tables k no_members d within in
+    λ k within. get_or-map volume_in tables k no_members d within in
     let size : length (map volume_in tables) ≡ length tables = length-map tables volume_in in
     let lower : i < length tables = omega arith in
     let pair : AreApart (get_or (map volume_in tables) i d) (get_or (map volume_in tables) j d) = apart_pair (map volume_in tables) i j d twice before (rw size inside) in
@@ -169,8 +169,8 @@ valid_config document config is =
     let views = none_right (twice_fault [] (map volume_in tables)) (view_fault names 0 tables) rest in
     let fault : (i : ℕ) → i < 6 → key_fault (get_or document_keys i SegmentBlocks) document ≡ None = λ i inside. each_key document_keys document i SegmentBlocks inside keys in
     let count : (1 ≤ length tables) × (length tables ≤ 64) =
-        let n = tables_in_range Volume 1 64 (get_member (key_text Volume) document) refl (fault 5 (lit< tt)) in
-        rw (length-map (list_at Volume document) members_of) n in
+    let n = tables_in_range Volume 1 64 (get_member (key_text Volume) document) refl (fault 5 (lit< tt)) in
+    rw (length-map (list_at Volume document) members_of) n in
     let size : length config.volumes.items ≡ length tables = ap length is.volumes ∙ length-map tables (volume_of names) in
     let named : length names ≡ length tables = length-map tables (text_at Name) in
     let blocks = number_in_range SegmentBlocks 4 65536 (get_member (key_text SegmentBlocks) document) refl (fault 0 (lit< tt)) in

@@ -69,9 +69,9 @@ pub fault_at_last : (ts : List Value) (i : ℕ) (v : Value) (e : ConfigFault) �
     → IsAnswer (first_fault volume_keys (members_of (view v))) e → IsAnswer (volumes_fault (members_in ts)) e
 fault_at_last ts i v e inside here before h =
     let all : members_in ts ≡ members_in (take i ts) ++ (members_of (view v) ∷ drop (i + 1) (members_in ts)) =
-        sym (take-append-drop i (members_in ts)) ∙ rw (take-map (λ w. members_of (view w)) i ts) (ap (λ rest. members_in (take i ts) ++ rest) (drop_table ts i v inside here)) in
+    sym (take-append-drop i (members_in ts)) ∙ rw (take-map (λ w. members_of (view w)) i ts) (ap (λ rest. members_in (take i ts) ++ rest) (drop_table ts i v inside here)) in
     let split : volumes_fault (members_in ts) ≡ option_or (volumes_fault (members_in (take i ts))) (volumes_fault (members_of (view v) ∷ drop (i + 1) (members_in ts))) =
-        ap volumes_fault all ∙ volumes_fault-append (members_in (take i ts)) (members_of (view v) ∷ drop (i + 1) (members_in ts)) in
+    ap volumes_fault all ∙ volumes_fault-append (members_in (take i ts)) (members_of (view v) ∷ drop (i + 1) (members_in ts)) in
     subst (λ f. IsAnswer f e) (sym split) (answer_next (volumes_fault (members_in (take i ts))) _ e before
     (answer_first (first_fault volume_keys (members_of (view v))) (volumes_fault (drop (i + 1) (members_in ts))) e h))
 

@@ -16,7 +16,11 @@ use std::alloc::Global;
 use toml::Value;
 
 // Gives each volume the view of its table, or refuses the first view that isn't good.
-pub(crate) fn set_views(alloc: Global, tables: &[Value], volumes: &mut [VolumeConf]) -> Result<(), ConfigFault>
+pub(crate) fn set_views(
+    alloc: Global,
+    tables: &[Value],
+    volumes: &mut [VolumeConf],
+) -> Result<(), ConfigFault>
     requires tables { list_all (λ v. is_table (view v)) tables.now ≡ true }
     requires few { length tables.now ≤ 64 }
     requires faultless { volumes_fault (members_in tables.now) ≡ None }
@@ -31,7 +35,10 @@ pub(crate) fn set_views(alloc: Global, tables: &[Value], volumes: &mut [VolumeCo
             Some(view) => volumes[i].view = view,
             None => {
                 let name = Name::new(alloc, volumes[i].name.as_str())?;
-                return Err(ConfigFault::BadView { volume: i as u32, name });
+                return Err(ConfigFault::BadView {
+                    volume: i as u32,
+                    name,
+                });
             }
         }
     }

@@ -59,7 +59,10 @@ fn refuse_twins(alloc: Global, volumes: &[VolumeConf]) -> Result<(), ConfigFault
     for (i, volume) in volumes.iter().enumerate() {
         if has_twin(volume, &volumes[..i]) {
             let name = Name::new(alloc, volume.name.as_str())?;
-            return Err(ConfigFault::Twice { volume: i as u32, name });
+            return Err(ConfigFault::Twice {
+                volume: i as u32,
+                name,
+            });
         }
     }
     Ok(())
@@ -74,5 +77,6 @@ fn has_twin(volume: &VolumeConf, earlier: &[VolumeConf]) -> bool
 fn are_twins(v: &VolumeConf, w: &VolumeConf) -> bool
     ensures { result ≡ are_twins v.now w.now }
 {
-    v.name.as_bytes() == w.name.as_bytes() || v.host.as_bytes() == w.host.as_bytes() && v.disk == w.disk
+    v.name.as_bytes() == w.name.as_bytes()
+        || v.host.as_bytes() == w.host.as_bytes() && v.disk == w.disk
 }

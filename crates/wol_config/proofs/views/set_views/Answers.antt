@@ -24,7 +24,7 @@ loop-i-preserved c =
     let view : view_in (members_of (view_data v)) ≡ texts_in c.in_ok-texts.texts.now = texts_are_view (members_of (view_data v)) c.in_ok-texts.texts.now (rw (← c.as_members.ensures) c.in_ok-texts.ensures.ok) in
     let good : is_good_view (names_in ts) c.loop-i.i (view_in (members_of (view_data v))) ≡ true = rw (← names, view) c.in-Some.ensures.0 in
     let same : get_or c.loop-i.volumes c.loop-i.i c.index-volumes-i.result ≡ volume_in (members_of (view_data v)) =
-        name_at ts c.loop-i.i v c.loop-i.volumes c.index-volumes-i.result c.loop-i-test.true c.index-tables-i.is c.loop-i.invariant.done in
+    name_at ts c.loop-i.i v c.loop-i.volumes c.index-volumes-i.result c.loop-i-test.true c.index-tables-i.is c.loop-i.invariant.done in
     let numbers : c.in-Some.view ≡ numbers_named (names_in ts) (view_in (members_of (view_data v))) = c.in-Some.ensures.1 ∙ rw (names, view) refl in
     record {
       done = done_more ts c.loop-i.i v c.loop-i.volumes _ c.loop-i-test.true c.index-tables-i.is c.loop-i.invariant.done
@@ -39,8 +39,8 @@ returns-in-None-clause-err c =
     let names : names_of c.loop-i.volumes ≡ names_in ts = names_stay (members_in ts) (names_in ts) c.loop-i.volumes c.loop-i.i c.loop-i.invariant.done in
     let view : view_in (members_of (view_data v)) ≡ texts_in c.in_ok-texts.texts.now = texts_are_view (members_of (view_data v)) c.in_ok-texts.texts.now (rw (← c.as_members.ensures) c.in_ok-texts.ensures.ok) in
     let bad : is_good_view (names_in ts) c.loop-i.i (view_in (members_of (view_data v))) ≡ false =
-        not_good (is_good_view (names_in ts) c.loop-i.i (view_in (members_of (view_data v)))) (λ good. c.in-None.ensures (rw (names, ← view) good)) in
+    not_good (is_good_view (names_in ts) c.loop-i.i (view_in (members_of (view_data v)))) (λ good. c.in-None.ensures (rw (names, ← view) good)) in
     let same : get_or c.loop-i.volumes c.loop-i.i c.index-volumes-i-in-None.result ≡ volume_in (members_of (view_data v)) =
-        name_at ts c.loop-i.i v c.loop-i.volumes c.index-volumes-i-in-None.result c.loop-i-test.true c.index-tables-i.is c.loop-i.invariant.done in
+    name_at ts c.loop-i.i v c.loop-i.volumes c.index-volumes-i-in-None.result c.loop-i-test.true c.index-tables-i.is c.loop-i.invariant.done in
     let name : c.in_ok-name-in-None.name ≡ text_at Name (members_of (view_data v)) = c.in_ok-name-in-None.ensures ∙ c.as_str.ensures ∙ ap (λ (w : VolumeConf). w.name) same in
     inr (c.loop-i.invariant.left ∙ bad_here ts c.loop-i.i v c.loop-i-test.true c.index-tables-i.is bad ∙ ap (λ (n : List ℕ). Some (BadView c.loop-i.i n)) (sym name))

@@ -12,11 +12,11 @@ returns-in_default c good =
     let names = names_of c.args.volumes.now in
     elim c.in_default.branch [
       | in_default-via-in-Some+else-number-own w ↦
-        own_is_bad names c.args.own c.args.texts.now c.loop-i.i c.index-texts-i.result c.as_text.result.now c.loop-i-test.true c.index-texts-i.is c.as_text.ensures
-        (ap Some (sym w.if-number-own.false) ∙ sym w.in-Some.is ∙ c.number_named.ensures.found) good
+          own_is_bad names c.args.own c.args.texts.now c.loop-i.i c.index-texts-i.result c.as_text.result.now c.loop-i-test.true c.index-texts-i.is c.as_text.ensures
+          (ap Some (sym w.if-number-own.false) ∙ sym w.in-Some.is ∙ c.number_named.ensures.found) good
       | in_default-via-in_default w ↦
-        unknown_is_bad names c.args.own c.args.texts.now c.loop-i.i c.index-texts-i.result c.as_text.result.now c.loop-i-test.true c.index-texts-i.is c.as_text.ensures
-        (sym w.in_default.is ∙ c.number_named.ensures.found) good
+          unknown_is_bad names c.args.own c.args.texts.now c.loop-i.i c.index-texts-i.result c.as_text.result.now c.loop-i-test.true c.index-texts-i.is c.as_text.ensures
+          (sym w.in_default.is ∙ c.number_named.ensures.found) good
     ]
 
 pub returns : goal.returns

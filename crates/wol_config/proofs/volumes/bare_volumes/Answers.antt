@@ -16,10 +16,10 @@ returns-in_err-volume-clause-err c =
 pub loop-table-preserved : goal.loop-table-preserved
 loop-table-preserved c = record {
   made =
-    c.in_ok-push.ensures.items
-    ∙ made_more c.args.tables.now c.loop-table.table-index c.table-item.result c.loop-table.volumes.items c.in_ok-volume.volume c.loop-table-test.true c.table-item.is
+      c.in_ok-push.ensures.items
+      ∙ made_more c.args.tables.now c.loop-table.table-index c.table-item.result c.loop-table.volumes.items c.in_ok-volume.volume c.loop-table-test.true c.table-item.is
       c.loop-table.invariant.made (c.in_ok-volume.ensures.ok ∙ ap volume_in c.as_members.ensures);
   faultless =
-    no_fault_more c.args.tables.now c.loop-table.table-index c.table-item.result c.loop-table-test.true c.table-item.is c.loop-table.invariant.faultless
-    (rw (← c.as_members.ensures) c.in_ok-volume.ensures.faultless);
+      no_fault_more c.args.tables.now c.loop-table.table-index c.table-item.result c.loop-table-test.true c.table-item.is c.loop-table.invariant.faultless
+      (rw (← c.as_members.ensures) c.in_ok-volume.ensures.faultless);
 }
