@@ -1,5 +1,5 @@
 -- A number read digit by digit.
-use Rattle.std.proofs.Common.{◌≡◌, ℕ, ◌+◌, ◌*◌, ◌^◌, ◌≤◌, ◌<◌, ◌&&◌, Bool, true, false, nat_lt, List, [], ◌∷◌, length, get_or, drop, Option, None, Some, if◌then◌else◌, inl, inr, refl, sym, ◌∙◌, arith}
+use Rattle.std.proofs.Common.{◌≡◌, ℕ, ◌+◌, ◌*◌, ◌^◌, ◌≤◌, ◌<◌, ◌&&◌, Bool, true, false, nat_lt, List, [], ◌∷◌, length, get_or, drop, None, Some, inl, inr, refl, ◌∙◌, arith}
 use Rattle.std.proofs.lemmas.Bool.{cases_Bool, ltb-false, lt-ltb, le-ltb}
 use Rattle.std.proofs.lemmas.List.{at_drop_more}
 use Rattle.std.specs.List.{list_all}
@@ -23,9 +23,9 @@ value_stops n b bytes h = elim (cases_Bool (is_digit b 10)) [
   | inl digit ↦ elim (cases_Bool (nat_lt (n * 10 + digit_value b) (2 ^ 64))) [
     | inl small ↦ absurd (cc (rw (digit, small) at h))
     | inr large ↦
-      let more = grows (n * 10 + digit_value b) bytes in
-      let big : 2 ^ 64 ≤ digits_value_after 10 (n * 10 + digit_value b) bytes = omega (arith, more, ltb-false (n * 10 + digit_value b) (2 ^ 64) large) in
-      rw (both_no (is_digit b 10 && list_all (λ d. is_digit d 10) bytes) _ (le-ltb _ (2 ^ 64) big)) refl
+        let more = grows (n * 10 + digit_value b) bytes in
+        let big : 2 ^ 64 ≤ digits_value_after 10 (n * 10 + digit_value b) bytes = omega (arith, more, ltb-false (n * 10 + digit_value b) (2 ^ 64) large) in
+        rw (both_no (is_digit b 10 && list_all (λ d. is_digit d 10) bytes) _ (le-ltb _ (2 ^ 64) big)) refl
   ]
 ]
 
@@ -40,8 +40,8 @@ value_goes_on n m b bytes h = elim (cases_Bool (is_digit b 10)) [
   | inl digit ↦ elim (cases_Bool (nat_lt (n * 10 + digit_value b) (2 ^ 64))) [
     | inr large ↦ absurd (cc (rw (digit, large) at h))
     | inl small ↦
-      let is : n * 10 + digit_value b ≡ m = (let k = rw (digit, small) at h in cc k) in
-      rw (digit, is) refl
+        let is : n * 10 + digit_value b ≡ m = (let k = rw (digit, small) at h in cc k) in
+        rw (digit, is) refl
   ]
 ]
 

@@ -1,6 +1,6 @@
 -- The first line is cut off the bytes that are held.
-use Rattle.std.proofs.Common.{◌≡◌, ℕ, ◌+◌, ◌-◌, ◌≤◌, ◌<◌, ◌==◌, Bool, true, false, min, List, [], ◌∷◌, ◌++◌, length, take, drop, Option, None, Some, Result, Ok, Err, inl, inr, ◌⊎◌, refl, sym, ap, ◌∙◌, append-nil, arith, nat_lt, length-append}
-use Rattle.std.specs.List.{list_any, position_or_len, slice_split, onto_first, before_first, after_first}
+use Rattle.std.proofs.Common.{◌≡◌, ℕ, ◌+◌, ◌≤◌, ◌<◌, ◌==◌, Bool, true, false, min, List, [], ◌∷◌, ◌++◌, length, take, drop, Option, None, Some, Ok, Err, inl, inr, ◌⊎◌, refl, sym, ap, ◌∙◌, append-nil, arith, nat_lt, length-append}
+use Rattle.std.specs.List.{list_any, position_or_len, slice_split, before_first, after_first}
 use Rattle.std.specs.Io.KnownBytes.{IsAtEnd, prepend_known}
 use Rattle.std.proofs.lemmas.Bool.{cases_Bool, ne_eqb, lt-ltb, ltb-true, ltb-false}
 use Rattle.std.proofs.lemmas.List.{take-append-le, drop-append-le, take_all, drop_all}
@@ -102,23 +102,23 @@ pub gives_line : (held : List ℕ) (left : Option (List ℕ)) (end : ℕ) (ended
 gives_line held None end ended line some first whole known read = tt
 gives_line held (Some rest) end ended line some first whole known read = elim (cases_Bool (nat_lt end (length held))) [
   | inl found ↦
-    let h = ltb-true end (length held) found in
-    let count : min (length held) (end + 1) ≡ end + 1 = omega (arith, h) in
-    (take end held, rw count (cut_held held rest end first h), read)
+      let h = ltb-true end (length held) found in
+      let count : min (length held) (end + 1) ≡ end + 1 = omega (arith, h) in
+      (take end held, rw count (cut_held held rest end first h), read)
   | inr none ↦
-    let all = all_held held end first (ltb-false end (length held) none) in
-    let text : take end held ≡ held = take_all end held (omega (arith, all)) in
-    let nothing : drop (min (length held) (end + 1)) held ≡ [] = drop_all (min (length held) (end + 1)) held (omega (arith, all)) in
-    let none_held : list_any is_feed held ≡ false = none_at_all is_feed held (sym all ∙ first) in
-    elim whole [
-      | inl less ↦ absurd (omega (arith, less, all))
-      | inr (inl over) ↦
-        let last : rest ≡ [] = known over in
-        (held, rw (nothing, last, append-nil held) (cut_last held some none_held), rw text at read)
-      | inr (inr long) ↦
-        let refused = too_long held (omega (arith, long, all)) in
-        absurd (cc (rw (text, refused) at read))
-    ]
+      let all = all_held held end first (ltb-false end (length held) none) in
+      let text : take end held ≡ held = take_all end held (omega (arith, all)) in
+      let nothing : drop (min (length held) (end + 1)) held ≡ [] = drop_all (min (length held) (end + 1)) held (omega (arith, all)) in
+      let none_held : list_any is_feed held ≡ false = none_at_all is_feed held (sym all ∙ first) in
+      elim whole [
+        | inl less ↦ absurd (omega (arith, less, all))
+        | inr (inl over) ↦
+            let last : rest ≡ [] = known over in
+            (held, rw (nothing, last, append-nil held) (cut_last held some none_held), rw text at read)
+        | inr (inr long) ↦
+            let refused = too_long held (omega (arith, long, all)) in
+            absurd (cc (rw (text, refused) at read))
+      ]
 ]
 
 -- what is refused is the first line
@@ -130,18 +130,18 @@ refuses_line held None end ended why some first whole known read = tt
 refuses_line held (Some rest) end ended why some first whole known read = elim (cases_Bool (nat_lt end (length held))) [
   | inl found ↦ (take end held, lines_of (drop (end + 1) held ++ rest), cut_held held rest end first (ltb-true end (length held) found), read)
   | inr none ↦
-    let all = all_held held end first (ltb-false end (length held) none) in
-    let text : take end held ≡ held = take_all end held (omega (arith, all)) in
-    let none_held : list_any is_feed held ≡ false = none_at_all is_feed held (sym all ∙ first) in
-    elim whole [
-      | inl less ↦ absurd (omega (arith, less, all))
-      | inr (inl over) ↦
-        let last : rest ≡ [] = known over in
-        (held, lines_of [], rw (last, append-nil held) (cut_last held some none_held), rw text at read)
-      | inr (inr long) ↦
-        let cut = cut_front held rest some none_held in
-        let refused = too_long held (omega (arith, long, all)) in
-        let same : Err bad.LineTooLong ≡ Err why = sym refused ∙ (rw text at read) in
-        (held ++ cut.0, cut.1, cut.2, too_long (held ++ cut.0) (omega (arith, long, all, length-append held cut.0)) ∙ same)
-    ]
+      let all = all_held held end first (ltb-false end (length held) none) in
+      let text : take end held ≡ held = take_all end held (omega (arith, all)) in
+      let none_held : list_any is_feed held ≡ false = none_at_all is_feed held (sym all ∙ first) in
+      elim whole [
+        | inl less ↦ absurd (omega (arith, less, all))
+        | inr (inl over) ↦
+            let last : rest ≡ [] = known over in
+            (held, lines_of [], rw (last, append-nil held) (cut_last held some none_held), rw text at read)
+        | inr (inr long) ↦
+            let cut = cut_front held rest some none_held in
+            let refused = too_long held (omega (arith, long, all)) in
+            let same : Err bad.LineTooLong ≡ Err why = sym refused ∙ (rw text at read) in
+            (held ++ cut.0, cut.1, cut.2, too_long (held ++ cut.0) (omega (arith, long, all, length-append held cut.0)) ∙ same)
+      ]
 ]

@@ -1,5 +1,5 @@
 -- Fields that are appended one after another are the line's text.
-use Rattle.std.proofs.Common.{◌≡◌, ℕ, List, [], ◌∷◌, ◌++◌, refl, sym, ap, ◌∙◌, append_assoc}
+use Rattle.std.proofs.Common.{◌≡◌, ℕ, List, [], ◌∷◌, ◌++◌, refl, ap, ◌∙◌, append_assoc}
 
 -- a field and the byte behind it, and then others
 then_others : (v field rest : List ℕ) (end : ℕ) → (v ++ (field ++ end ∷ [])) ++ rest ≡ v ++ (field ++ end ∷ rest)

@@ -1,10 +1,8 @@
 -- A line whose first byte begins a byte order mark has a first field that is no number.
-use Rattle.std.proofs.Common.{◌≡◌, ◌≢◌, ℕ, ◌+◌, ◌<◌, ◌==◌, ◌&&◌, Bool, true, false, not, inl, inr, List, [], ◌∷◌, length, get_or, Option, None, Some, Result, Ok, Err, refl, sym, ap, ◌∙◌, arith, nat_lt, nat_le, if◌then◌else◌}
+use Rattle.std.proofs.Common.{◌≡◌, ◌≢◌, ℕ, ◌+◌, ◌<◌, ◌==◌, ◌&&◌, Bool, true, false, List, [], ◌∷◌, length, get_or, None, Err, refl, arith, nat_le, if◌then◌else◌}
 use Rattle.std.specs.List.{count_by, onto_first}
-use Rattle.std.proofs.lemmas.Bool.{cases_Bool, ne_eqb, eqb-true}
+use Rattle.std.proofs.lemmas.Bool.{ne_eqb}
 use Rattle.std.proofs.lemmas.List.Splits.{length-slice_split}
-use Rattle.wol_model.specs.Trace.{TraceLine}
-use Rattle.msr_trace.specs.declared.format.BadLine.{BadLine}
 use Rattle.msr_trace.specs.declared.format.BadLine.TheVariants as bad
 use Rattle.msr_trace.specs.Numbers.{number_of, value_after}
 use Rattle.msr_trace.specs.Lines.{fields_of, line_in, number_in}

@@ -1,10 +1,10 @@
 -- What is read is spelled.
-use Rattle.std.proofs.Common.{inl, inr, ◌^◌, ◌≡◌, ℕ, ◌+◌, ◌-◌, ◌≤◌, ◌<◌, ◌==◌, ◌||◌, ◌⊎◌, Bool, true, false, List, [], ◌∷◌, ◌++◌, Option, None, Some, Result, Ok, Err, length, refl, sym, ap, ◌∙◌, arith, nat_le, nat_lt, codes, if◌then◌else◌}
-use Rattle.std.specs.List.{AllByRecursion, list_any, slice_split, join_with_byte}
+use Rattle.std.proofs.Common.{inl, inr, ◌^◌, ◌≡◌, ℕ, ◌+◌, ◌≤◌, ◌<◌, ◌==◌, ◌⊎◌, true, false, List, [], ◌∷◌, ◌++◌, Option, None, Some, Result, Ok, Err, length, refl, sym, ap, ◌∙◌, arith, nat_le, nat_lt, codes, if◌then◌else◌}
+use Rattle.std.specs.List.{AllByRecursion, list_any, join_with_byte}
 use Rattle.std.specs.Option.{ok_or}
 use Rattle.std.specs.Str.{bytes_eq}
 use Rattle.std.proofs.lemmas.Slice.Eq.{bytes_eq-Decides}
-use Rattle.std.proofs.lemmas.Bool.{cases_Bool, eqb-true, eqb-false, ltb-true, ltb-false, leb-false}
+use Rattle.std.proofs.lemmas.Bool.{cases_Bool, eqb-true, ltb-true, ltb-false, leb-false}
 use Rattle.std.proofs.lemmas.List.{nil_from_length}
 use Rattle.std.proofs.lemmas.List.Splits.{join_with_byte-slice_split}
 use Rattle.wol_model.specs.Trace.{TraceLine}
@@ -13,7 +13,7 @@ use Rattle.wol_model.specs.declared.trace.Kind.TheVariants as kind
 use Rattle.msr_trace.specs.declared.format.BadLine.{BadLine}
 use Rattle.msr_trace.specs.declared.format.BadLine.TheVariants as bad
 use Rattle.msr_trace.specs.Numbers.{number_of}
-use Rattle.msr_trace.specs.Lines.{Fits, ◌>>=◌, body_of, disk_in, fields_of, is_mark, kind_in, line_in, number_in, read_of, without_return}
+use Rattle.msr_trace.specs.Lines.{◌>>=◌, body_of, disk_in, fields_of, is_mark, kind_in, line_in, number_in, read_of, without_return}
 use Rattle.msr_trace.specs.Spelling.{AreDigits, Digits, Spells, fields_text, is_reserved, kind_text}
 use Rattle.msr_trace.proofs.Parts.{None_in, parts_free, none_parts, none_either}
 use Rattle.msr_trace.proofs.Returns.{with_return}
@@ -59,8 +59,8 @@ read_sizes f0 f1 f2 f3 f4 f5 f6 t n o z r k l et en small ek eo ez er h = elim (
   | inr fits ↦ elim (cases_Bool (nat_le (2 ^ 64) (o + z))) [
     | inl past ↦ absurd (cc (rw (fits, past) at h))
     | inr end ↦
-      let is : record { time = t; host = f1; disk = n; kind = k; offset = o; size = z; response = r } ≡ l = (let e = rw (fits, end) at h in cc e) in
-      read_end f0 f1 f2 f3 f4 f5 f6 t n o z r k l et en small ek eo ez er (ltb-false 67108864 z fits) (leb-false (2 ^ 64) (o + z) end) is
+        let is : record { time = t; host = f1; disk = n; kind = k; offset = o; size = z; response = r } ≡ l = (let e = rw (fits, end) at h in cc e) in
+        read_end f0 f1 f2 f3 f4 f5 f6 t n o z r k l et en small ek eo ez er (ltb-false 67108864 z fits) (leb-false (2 ^ 64) (o + z) end) is
   ]
 ]
 
@@ -138,8 +138,7 @@ body_spelled body l marks h =
     let whole : body ≡ s.f0 ++ 44 ∷ (s.f1 ++ 44 ∷ (s.f2 ++ 44 ∷ (s.f3 ++ 44 ∷ (s.f4 ++ 44 ∷ (s.f5 ++ 44 ∷ s.f6))))) = sym (join_with_byte-slice_split 44 body) ∙ ap (join_with_byte 44) s.is in
     let parts : AllByRecursion (None_in (λ b. b == 44)) (s.f0 ∷ s.f1 ∷ s.f2 ∷ s.f3 ∷ s.f4 ∷ s.f5 ∷ s.f6 ∷ []) = rw s.is at (parts_free (λ b. b == 44) body) in
     let after_time = (none_parts is_mark s.f0 _ (rw whole at marks)).1 in
-    let host_marks : list_any is_mark s.f1 ≡ false = (none_parts is_mark s.f1 _ after_time).0 in
-    (
+    let host_marks : list_any is_mark s.f1 ≡ false = (none_parts is_mark s.f1 _ after_time).0 in (
       record { time = s.f0; disk = s.f2; offset = s.f4; size = s.f5; response = s.f6 },
       read.digits,
       rw (← read.host) (none_either (λ b. b == 44) is_mark s.f1 parts.1.0 host_marks),
@@ -182,17 +181,19 @@ read_is_spelled text l h =
     elim (body_cases (without_return text) (Some l) read.1) [
       | inl (empty, none) ↦ absurd (cc none)
       | inr line ↦
-        let same : line.line ≡ l = (let k = line.given in cc k) in
-        let spelled = body_spelled (without_return text) l line.free (rw same at line.read) in
-        (spelled.0, record {
-          short = read.0;
-          host = spelled.2;
-          digits = spelled.1;
-          whole = elim (with_return text) [
-            | inl whole ↦ inl (whole ∙ spelled.3)
-            | inr longer ↦ inr (longer ∙ ap (λ (body : List ℕ). body ++ 13 ∷ []) spelled.3)
-          ];
-        })
+          let same : line.line ≡ l = (let k = line.given in cc k) in
+          let spelled = body_spelled (without_return text) l line.free (rw same at line.read) in (
+            spelled.0,
+            record {
+              short = read.0;
+              host = spelled.2;
+              digits = spelled.1;
+              whole = elim (with_return text) [
+                | inl whole ↦ inl (whole ∙ spelled.3)
+                | inr longer ↦ inr (longer ∙ ap (λ (body : List ℕ). body ++ 13 ∷ []) spelled.3)
+              ];
+            },
+          )
     ]
 
 pub blank_is_empty : (text : List ℕ) → read_of text ≡ Ok None → (text ≡ []) ⊎ (text ≡ 13 ∷ [])
@@ -201,9 +202,9 @@ blank_is_empty text h =
     elim (body_cases (without_return text) None read.1) [
       | inr line ↦ absurd (let k = line.given in cc k)
       | inl (empty, none) ↦
-        let nothing : without_return text ≡ [] = nil_from_length (without_return text) empty in
-        elim (with_return text) [
-          | inl whole ↦ inl (whole ∙ nothing)
-          | inr longer ↦ inr (longer ∙ ap (λ (body : List ℕ). body ++ 13 ∷ []) nothing)
-        ]
+          let nothing : without_return text ≡ [] = nil_from_length (without_return text) empty in
+          elim (with_return text) [
+            | inl whole ↦ inl (whole ∙ nothing)
+            | inr longer ↦ inr (longer ∙ ap (λ (body : List ℕ). body ++ 13 ∷ []) nothing)
+          ]
     ]

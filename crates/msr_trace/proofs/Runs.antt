@@ -1,5 +1,5 @@
 -- The pieces of a run of blocks, one after another.
-use Rattle.std.proofs.Common.{◌≡◌, ℕ, ◌+◌, ◌-◌, ◌*◌, ◌%◌, ◌/◌, ◌≤◌, ◌<◌, ◌==◌, Bool, true, false, zero, suc, min, List, [], ◌∷◌, inl, inr, refl, sym, ap, ◌∙◌, arith, if◌then◌else◌, length}
+use Rattle.std.proofs.Common.{◌≡◌, ℕ, ◌+◌, ◌-◌, ◌%◌, ◌/◌, ◌≤◌, ◌<◌, ◌==◌, false, zero, suc, min, List, [], ◌∷◌, inl, inr, refl, sym, ap, arith}
 use Rattle.std.specs.Prelude.{All}
 use Rattle.std.specs.List.{AllByRecursion}
 use Rattle.std.proofs.lemmas.List.Elements.{All-from_recursion}
@@ -20,11 +20,11 @@ enough (suc f) zero home most first count a b m h = let e : count ≡ 0 = omega 
 enough (suc f) (suc g) home most first count a b m h = elim (cases_Bool (count == 0)) [
   | inl none ↦ rw none refl
   | inr some ↦
-    let positive : 0 < count = omega (arith, eqb-false count 0 some) in
-    let n = min count (min most (home - first)) in
-    let step : 0 < n = omega (arith, positive, m, h) in
-    let within : (first + n) % home < home = mod_below (first + n) home (omega (arith, h)) in
-    rw some (ap (λ (ps : List Piece). record { lbn = first; count = n } ∷ ps) (enough f g home most ((first + n) % home) (count - n) (omega (arith, a, step)) (omega (arith, b, step)) m within))
+      let positive : 0 < count = omega (arith, eqb-false count 0 some) in
+      let n = min count (min most (home - first)) in
+      let step : 0 < n = omega (arith, positive, m, h) in
+      let within : (first + n) % home < home = mod_below (first + n) home (omega (arith, h)) in
+      rw some (ap (λ (ps : List Piece). record { lbn = first; count = n } ∷ ps) (enough f g home most ((first + n) % home) (count - n) (omega (arith, a, step)) (omega (arith, b, step)) m within))
 ]
 
 first_of : (fuel home most first count : ℕ) → 0 < count → count ≡ fuel → 0 < most → first < home
@@ -47,10 +47,10 @@ lie zero home most first count m h = tt
 lie (suc fuel) home most first count m h = elim (cases_Bool (count == 0)) [
   | inl none ↦ rw none tt
   | inr some ↦
-    let positive : 0 < count = omega (arith, eqb-false count 0 some) in
-    let n = min count (min most (home - first)) in
-    let within : (first + n) % home < home = mod_below (first + n) home (omega (arith, h)) in
-    rw some (record { some = omega (arith, positive, m, h); short = omega arith; within = omega (arith, h) }, lie fuel home most ((first + n) % home) (count - n) m within)
+      let positive : 0 < count = omega (arith, eqb-false count 0 some) in
+      let n = min count (min most (home - first)) in
+      let within : (first + n) % home < home = mod_below (first + n) home (omega (arith, h)) in
+      rw some (record { some = omega (arith, positive, m, h); short = omega arith; within = omega (arith, h) }, lie fuel home most ((first + n) % home) (count - n) m within)
 ]
 
 -- each piece lies in the volume

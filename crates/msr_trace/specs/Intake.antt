@@ -1,7 +1,6 @@
 -- Bytes that are taken from a source and held until they are given.
-use Rattle.std.specs.Prelude.{◌≡◌, ◌≤◌, ◌<◌, ℕ, Bool, true, false, List, ◌++◌, length, Option, OnOk, OnErr, Result, ⊤}
-use Rattle.std.specs.Io.KnownBytes.{Keeps, IsAtEnd, prepend_known}
-use Rattle.wol_disk.specs.Disk.{Rose}
+use Rattle.std.specs.Prelude.{◌≡◌, ◌≤◌, ℕ, Bool, List, ◌++◌, Option}
+use Rattle.std.specs.Io.KnownBytes.{Keeps, prepend_known}
 
 -- the source, the bytes that are held, and whether the source has told that nothing is left
 pub record Held (S : Type 0) : Type 0 where

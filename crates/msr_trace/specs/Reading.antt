@@ -1,5 +1,5 @@
 -- Lines that are read from a source: what is taken and not given yet, and what a call does to it.
-use Rattle.std.specs.Prelude.{◌≡◌, ◌≢◌, ◌≤◌, ◌<◌, ◌^◌, ℕ, Bool, true, false, List, [], ◌∷◌, Option, None, Some, Result, Ok, Err, ⊤}
+use Rattle.std.specs.Prelude.{◌≡◌, ℕ, Bool, true, false, List, [], ◌∷◌, Option, None, Some, Result, Err, ⊤}
 use Rattle.std.specs.Io.KnownBytes.{Keeps, IsAtEnd, prepend_known}
 use Rattle.wol_model.specs.Trace.{TraceLine}
 use Rattle.msr_trace.specs.declared.format.BadLine.{BadLine}

@@ -1,5 +1,5 @@
 // The pieces of a request: runs of blocks that lie in the volume and aren't too long.
-ghost use Rattle.std.specs.Prelude.{◌≡◌, ◌+◌, ◌-◌, ◌*◌, ◌/◌, ◌%◌, ◌<◌, ◌≤◌, All, length};
+ghost use Rattle.std.specs.Prelude.{◌≡◌, ◌+◌, ◌-◌, ◌/◌, ◌%◌, ◌<◌, All};
 ghost use Rattle.std.specs.Iterator.{YieldsFirst, item_count};
 ghost use Rattle.wol_model.specs.Trace as trace;
 ghost use Rattle.msr_trace.specs.Lines.{trace_line};

@@ -1,15 +1,123 @@
 // The fields of a line, by `csv`.
-ghost use Rattle.std.specs.Prelude.{◌≡◌, ◌≢◌, ◌<◌, [], false, length, slice_index, IfOk, option_map};
-ghost use Rattle.std.specs.List.{list_any};
+ghost use Rattle.std.specs.Prelude.{◌≡◌, ◌≢◌, ◌==◌, ◌<◌, ◌≤◌, [], true, false, length, slice_index, position, IfOk, OnOk, option_map};
+ghost use Rattle.std.specs.List.{list_any, position_or_len};
 ghost use Rattle.csv.specs.Machine.{next_record};
 ghost use Rattle.csv.specs.Reading.{default_config, strip_bom};
 ghost use Rattle.csv.specs.Records as records;
 ghost use Rattle.csv.specs.declared.parser.State.TheVariants as st;
 ghost use Rattle.msr_trace.specs.Lines.{fields_of, is_feed, is_mark};
 
-use csv::{ByteRecord, ReaderBuilder};
+use crate::chunk::Chunk;
+use csv::{ByteRecord, Reader, ReaderBuilder};
 use std::alloc::Global;
 use wol_disk::NoMemory;
+
+// How many bytes are worth a reader of their own: making one costs as much as reading some hundred lines.
+const WORTH: usize = 1024;
+
+/// Splits lines into their fields. One reader of `csv` serves all lines of a chunk, and one row all lines. A row that it
+/// gives is taken only where it is what the line splits into; else the line is read by a reader of its own.
+#[derive(Drop)]
+pub struct Fields {
+    alloc: Global,
+    reader: Option<Reader<Chunk>>,
+    row: ByteRecord,
+}
+
+impl Fields {
+    pub fn new(alloc: Global) -> Fields {
+        Fields {
+            alloc,
+            reader: None,
+            row: ByteRecord::new(alloc),
+        }
+    }
+
+    /// Takes the lines that come next, unless lines that were taken earlier are left.
+    pub fn expect(&mut self, bytes: &[u8]) {
+        if self.reader.is_none() && bytes.len() >= WORTH {
+            let reader = ReaderBuilder::new()
+                .has_headers(false)
+                .from_reader(self.alloc, Chunk::new(bytes));
+            self.reader = Some(reader);
+        }
+    }
+
+    /// Splits a line. `csv` takes a byte order mark off the front of a text, so a line that may begin with one isn't split
+    /// here.
+    pub fn split(&mut self, line: &[u8]) -> Result<(), NoMemory>
+        requires some { 0 < length line.now }
+        requires marks { list_any is_mark line.now ≡ false }
+        requires feeds { list_any is_feed line.now ≡ false }
+        requires start { slice_index line.now 0 ≢ 239 }
+        ensures { OnOk result (records.fields_of self.new.row ≡ fields_of line.now) }
+    {
+        if read_row(&mut self.reader, &mut self.row) && is_split(&self.row, line) {
+            return Ok(());
+        }
+        self.reader = None;
+        match split_alone(self.alloc, line) {
+            Ok(row) => {
+                self.row = row;
+                Ok(())
+            }
+            Err(NoMemory) => Err(NoMemory),
+        }
+    }
+
+    /// The fields of the line that was split last.
+    pub fn row(&self) -> &ByteRecord
+        ensures { result.now ≡ self.now.row }
+    {
+        &self.row
+    }
+}
+
+// The next row of a reader, if there is one.
+fn read_row(reader: &mut Option<Reader<Chunk>>, row: &mut ByteRecord) -> bool {
+    match reader {
+        Some(reader) => matches!(reader.read_byte_record(row), Ok(true)),
+        None => false,
+    }
+}
+
+// Whether a row has what a line splits into.
+fn is_split(row: &ByteRecord, line: &[u8]) -> bool
+    ensures { result ≡ true → records.fields_of row.now ≡ fields_of line.now }
+{
+    let mut at = 0;
+    for i in 0..row.len() {
+        let rest = &line[at..];
+        let end = first_comma(rest);
+        let Some(field) = row.get(i) else {
+            return false;
+        };
+        if field != &rest[..end] {
+            return false;
+        }
+        if end == rest.len() {
+            return i + 1 == row.len();
+        }
+        at += end + 1;
+    }
+    false
+}
+
+fn first_comma(bytes: &[u8]) -> usize
+    ensures first { result ≡ position_or_len (λ b. b == 44) bytes.now }
+    ensures within { result ≤ length bytes.now }
+{
+    match comma_in(bytes) {
+        Some(at) => at,
+        None => bytes.len(),
+    }
+}
+
+fn comma_in(bytes: &[u8]) -> Option<usize>
+    ensures { result ≡ position (λ b. b == 44) bytes.now }
+{
+    bytes.iter().position(|byte| *byte == b',')
+}
 
 // The first record of a text that has no header row, if it has one.
 fn first_record(alloc: Global, text: &[u8]) -> Result<Option<ByteRecord>, NoMemory>
@@ -27,8 +135,8 @@ fn first_record(alloc: Global, text: &[u8]) -> Result<Option<ByteRecord>, NoMemo
     }
 }
 
-/// The fields of a line. `csv` takes a byte order mark off the front, so a line that may begin with one isn't read here.
-pub fn split_fields(alloc: Global, line: &[u8]) -> Result<ByteRecord, NoMemory>
+// The fields of a line, by a reader of its own.
+fn split_alone(alloc: Global, line: &[u8]) -> Result<ByteRecord, NoMemory>
     requires some { 0 < length line.now }
     requires marks { list_any is_mark line.now ≡ false }
     requires feeds { list_any is_feed line.now ≡ false }

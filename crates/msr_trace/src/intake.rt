@@ -1,5 +1,5 @@
 // The bytes that were taken from a source and not given yet.
-ghost use Rattle.std.specs.Prelude.{◌≡◌, ◌≢◌, ◌+◌, ◌-◌, ◌<◌, ◌≤◌, ◌⊎◌, ◌++◌, true, false, [], length, drop, take, position, MatchBool, OnOk, OnErr, IfOk};
+ghost use Rattle.std.specs.Prelude.{◌≡◌, ◌+◌, ◌-◌, ◌<◌, ◌≤◌, ◌⊎◌, true, false, [], length, drop, take, position, MatchBool, OnOk, OnErr, IfOk};
 ghost use Rattle.std.specs.List.{list_any, position_or_len};
 ghost use Rattle.std.specs.Io.KnownBytes.{Consumes, IsAtEnd, Keeps};
 ghost use Rattle.wol_disk.specs.Disk.{Rose};
@@ -11,10 +11,7 @@ use std::marker::Model;
 use wol_disk::Failed;
 use wol_io::Source;
 
-// How many bytes are held at most.
-const ROOM: usize = 8192;
-
-/// A source, and what was taken from it.
+/// A source, and what was taken from it: at most 8,192 bytes are held.
 #[derive(Drop)]
 pub struct Intake<S: Source> {
     source: S,

@@ -9,5 +9,4 @@ pub fn spelling_laws()
     ensures blank_is_read { BlankIsRead }
     ensures blank_is_empty { BlankIsEmpty }
     ensures written_is_read { WrittenIsRead }
-{
-}
+{}

@@ -2,6 +2,8 @@
 //! replayed write stores.
 #![tactic(auto)]
 
+pub mod calls;
+mod chunk;
 mod cutting;
 mod decimal;
 mod fields;
@@ -9,19 +11,18 @@ mod format;
 mod host;
 mod intake;
 mod laws;
-
 mod parse;
 mod payload;
 mod reading;
 mod write;
 
-pub use format::{BadLine, Line, LineFault, TraceFault};
-pub use host::HostName;
 pub use cutting::Pieces;
 pub use decimal::number;
+pub use format::{BadLine, Line, LineFault, TraceFault};
+pub use host::HostName;
 pub use laws::spelling_laws;
 pub use parse::read_line;
 pub use payload::{fill, mark};
 pub use reading::Lines;
-pub use write::write_line;
 pub use wol_model::{Kind, Piece};
+pub use write::write_line;

@@ -1,13 +1,13 @@
 // A line of a trace from its bytes.
-ghost use Rattle.std.specs.Prelude.{◌≡◌, ◌+◌, ◌<◌, ◌≤◌, ◌^◌, ◌==◌, true, false, length, slice_index, IfOk, IfSome, option_map, count_by, Err};
+ghost use Rattle.std.specs.Prelude.{◌≡◌, ◌<◌, ◌==◌, false, length, slice_index, IfOk, IfSome, option_map, count_by, Err};
 ghost use Rattle.std.specs.List.{list_any};
 ghost use Rattle.csv.specs.Records as records;
 ghost use Rattle.msr_trace.specs.Lines.{Fits, Gives, body_of, disk_in, field_at, fields_of, is_feed, is_mark, kind_in, line_in, number_in, read_of, trace_line, without_return};
 
-use crate::fields::split_fields;
+use crate::decimal::number;
+use crate::fields::Fields;
 use crate::format::{BadLine, Line, LineFault};
 use crate::host::HostName;
-use crate::decimal::number;
 use csv::ByteRecord;
 use std::alloc::Global;
 use wol_disk::NoMemory;
@@ -21,8 +21,21 @@ pub const SIZE_MAX: u64 = 67_108_864;
 
 /// Reads a line, given without its line feed; a blank line is None. The first refusal that applies is answered, in this
 /// order: `LineTooLong`, `Quote`, `FieldCount`, the first wrong field of 1, 3, 4, 5, 6 and 7, `TooLarge`, `PastEnd`.
-#[tactic(auto, unfolding(crate::specs::Lines::read_of))]
 pub fn read_line(alloc: Global, line: &[u8]) -> Result<Option<Line>, LineFault>
+    requires { list_any is_feed line.now ≡ false }
+    ensures content { Gives (option_map trace_line) result (read_of line.now) }
+    ensures fits { IfOk result (λ o. IfSome o (λ l. Fits (trace_line l))) }
+{
+    parse_line(alloc, &mut Fields::new(alloc), line)
+}
+
+/// The same, where `fields` splits the line.
+#[tactic(auto, unfolding(crate::specs::Lines::read_of))]
+pub fn parse_line(
+    alloc: Global,
+    fields: &mut Fields,
+    line: &[u8],
+) -> Result<Option<Line>, LineFault>
     requires { list_any is_feed line.now ≡ false }
     ensures content { Gives (option_map trace_line) result (read_of line.now) }
     ensures fits { IfOk result (λ o. IfSome o (λ l. Fits (trace_line l))) }
@@ -30,12 +43,12 @@ pub fn read_line(alloc: Global, line: &[u8]) -> Result<Option<Line>, LineFault>
     if line.len() > LINE_MAX {
         return Err(LineFault::Bad(BadLine::LineTooLong));
     }
-    read_body(alloc, without_return(line))
+    parse_body(alloc, fields, without_return(line))
 }
 
 // Reads a line without the carriage return at its end.
 #[tactic(auto, unfolding(crate::specs::Lines::body_of))]
-fn read_body(alloc: Global, body: &[u8]) -> Result<Option<Line>, LineFault>
+fn parse_body(alloc: Global, fields: &mut Fields, body: &[u8]) -> Result<Option<Line>, LineFault>
     requires { list_any is_feed body.now ≡ false }
     ensures content { Gives (option_map trace_line) result (body_of body.now) }
     ensures fits { IfOk result (λ o. IfSome o (λ l. Fits (trace_line l))) }
@@ -50,10 +63,10 @@ fn read_body(alloc: Global, body: &[u8]) -> Result<Option<Line>, LineFault>
     if body[0] == 0xEF {
         return Err(LineFault::Bad(no_first_number(body)));
     }
-    let Ok(row) = split_fields(alloc, body) else {
+    if fields.split(body).is_err() {
         return Err(LineFault::NoMemory);
-    };
-    let line = line_in(alloc, &row)?;
+    }
+    let line = line_in(alloc, fields.row())?;
     Ok(Some(line))
 }
 

@@ -3,14 +3,14 @@ ghost use Rattle.std.specs.Prelude.{◌≡◌, ◌≢◌, ◌≤◌, ◌<◌, �
 ghost use Rattle.std.specs.List.{list_any, position_or_len};
 ghost use Rattle.std.specs.Io.KnownBytes.{Keeps};
 ghost use Rattle.wol_disk.specs.Disk.{Rose};
-ghost use Rattle.wol_model.specs.Trace.{TraceLine};
 ghost use Rattle.msr_trace.specs.Intake.{to_give};
 ghost use Rattle.msr_trace.specs.Lines.{Fits, is_feed, trace_line};
 ghost use Rattle.msr_trace.specs.Reading.{IsDone, RefusesLine, TakesLine, is_no_memory, pending};
 
-use crate::format::{BadLine, Line, LineFault, TraceFault};
+use crate::fields::Fields;
+use crate::format::{Line, LineFault, TraceFault};
 use crate::intake::Intake;
-use crate::parse::read_line;
+use crate::parse::parse_line;
 use std::alloc::Global;
 use std::marker::Model;
 use wol_io::Source;
@@ -23,6 +23,7 @@ const LINES_MAX: u64 = 4_294_967_296;
 pub struct Lines<S: Source> {
     alloc: Global,
     intake: Intake<S>,
+    fields: Fields,
     given: u64,
     live: bool,
 }
@@ -45,6 +46,7 @@ impl<S: Source> Lines<S> {
         Lines {
             alloc,
             intake: Intake::new(source),
+            fields: Fields::new(alloc),
             given: 0,
             live: true,
         }
@@ -90,7 +92,7 @@ impl<S: Source> Lines<S> {
             self.live = false;
             return Err(TraceFault::Source);
         };
-        match give_first(self.alloc, &mut self.intake, end) {
+        match give_first(self.alloc, &mut self.fields, &mut self.intake, end) {
             Ok(line) => {
                 self.given += 1;
                 Ok(Some((self.given, line)))
@@ -118,6 +120,7 @@ impl<S: Source> Lines<S> {
         let Lines {
             alloc: _,
             intake,
+            fields: _,
             given: _,
             live: _,
         } = self;
@@ -128,6 +131,7 @@ impl<S: Source> Lines<S> {
 // Reads the first line that is held, which has so many bytes, and gives it.
 fn give_first<S: Source>(
     alloc: Global,
+    fields: &mut Fields,
     intake: &mut Intake<S>,
     end: usize,
 ) -> Result<Option<Line>, LineFault>
@@ -142,7 +146,8 @@ fn give_first<S: Source>(
     ensures size { length intake.new.bytes ≤ 8192 }
 {
     let held = intake.bytes();
-    let line = match read_line(alloc, &held[..end]) {
+    fields.expect(held);
+    let line = match parse_line(alloc, fields, &held[..end]) {
         Ok(line) => line,
         Err(fault) => return Err(fault),
     };

@@ -1,6 +1,6 @@
 -- A pool as one more use is made.
-use Rattle.std.proofs.Common.{◌≡◌, ◌≢◌, ◌<◌, ◌≤◌, ◌⊎◌, ℕ, eqb, Bool, true, false, List, [], ◌∷◌, ◌++◌, length, map, Option, None, Some, is_some, get_or, set, refl, sym, ap, ◌∙◌, subst, arith, ⊎_elim, get_or-set_same, get_or-set_other}
-use Rattle.std.proofs.lemmas.List.{get_or_past, length-set}
+use Rattle.std.proofs.Common.{◌≡◌, ◌≢◌, ◌<◌, ℕ, true, false, List, [], ◌∷◌, ◌++◌, length, None, Some, is_some, get_or, set, refl, sym, ap, ◌∙◌, subst, arith, ⊎_elim, get_or-set_same, get_or-set_other}
+use Rattle.std.proofs.lemmas.List.{get_or_past}
 use Rattle.std.proofs.lemmas.Bool.Decides.{eqb_tells, leb_tells}
 use Rattle.turn_lock.specs.Histories.{Entry}
 use Rattle.seg_pool.specs.declared.base.Holder.{Holder}
@@ -11,7 +11,7 @@ use Rattle.seg_pool.specs.declared.pool.Slot.{Slot}
 use Rattle.seg_pool.specs.declared.pool.Slot.TheVariants.{Empty}
 use Rattle.seg_pool.specs.Holders.{PoolUse, Took, Gave, holder, pool_used, MayUsePool, pool_after, ArePoolUses, is_in_pool}
 use Rattle.seg_pool.specs.Operations.{operation_of, use_of, uses_of, entries_of}
-use Rattle.seg_pool.specs.Pools.{item_in, note_in, item_at, note_at, IsEmptyPool, IsSamePool, ChangesOnly, StandsFor, holders_after}
+use Rattle.seg_pool.specs.Pools.{item_in, note_in, item_at, IsEmptyPool, IsSamePool, ChangesOnly, StandsFor, holders_after}
 
 -- the numbers of a use are read back as that use
 pub use_of-operation_of : (u : PoolUse) → use_of (operation_of u) ≡ u

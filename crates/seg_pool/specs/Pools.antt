@@ -1,5 +1,5 @@
 -- A pool as callers see it, and what it stands for.
-use Rattle.std.specs.Prelude.{◌≡◌, ◌≢◌, ℕ, List, [], ◌∷◌, ◌++◌, Option, None, Some, is_some, count_by, map, length, slice_index_or}
+use Rattle.std.specs.Prelude.{◌≡◌, ◌≢◌, ℕ, List, Option, None, Some, is_some, count_by, map, length, slice_index_or}
 use Rattle.turn_lock.specs.Histories.{Entry}
 use Rattle.seg_pool.specs.declared.base.Holder.{Holder}
 use Rattle.seg_pool.specs.declared.base.Holder.TheVariants.{Elsewhere, InPool, HeldBy}

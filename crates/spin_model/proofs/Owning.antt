@@ -1,18 +1,17 @@
 -- What a pass's own entries say of its token, and how many tokens are out.
-use Rattle.std.proofs.Common.{◌≡◌, ◌<◌, ◌≤◌, ◌⊎◌, ℕ, zero, suc, ◌+◌, ◌^◌, eqb, Bool, true, false, not, ◌&&◌, ◌||◌, if◌then◌else◌, List, [], ◌∷◌, ◌++◌, length, map, max, refl, sym, ap, ◌∙◌, subst, arith, ⊎_elim, All, cond, lit<}
-use Rattle.std.specs.Prelude.{nat_le, IsTrue, ⊤}
-use Rattle.std.specs.List.{filter}
+use Rattle.std.proofs.Common.{◌≡◌, ◌<◌, ◌≤◌, ℕ, ◌+◌, eqb, Bool, true, false, ◌&&◌, ◌||◌, if◌then◌else◌, List, [], ◌∷◌, ◌++◌, map, max, refl, sym, ap, ◌∙◌, subst, arith, ⊎_elim, cond}
+use Rattle.std.specs.Prelude.{nat_le}
 use mathlib.Core.List.{map-append}
 use Rattle.std.proofs.lemmas.Bool.{eq-eqb}
 use Rattle.std.proofs.lemmas.List.Elements.{All-head, All-tail}
 use Rattle.std.proofs.lemmas.Bool.Decides.{eqb_tells}
 use Rattle.turn_lock.specs.Histories.{Entry, own, AreNumberedBelow}
-use Rattle.wol_model.specs.Journal.{Use, Started, Began, Needed, Done, Stayed, SpindleState, new_spindle, is_empty, used, spindle_after, MayUse}
-use Rattle.wol_model.specs.declared.journal.Turned.TheVariants.{Down, Up}
+use Rattle.wol_model.specs.Journal.{Use, Started, Began, Needed, Done, Stayed, SpindleState, new_spindle, is_empty, used, spindle_after, needs_after}
+use Rattle.wol_model.specs.declared.journal.Turned.TheVariants.{Down}
 use Rattle.spin_model.specs.declared.spindle.SpindleBase.{SpindleBase}
-use Rattle.spin_model.specs.Operations.{operation_of, use_of, uses_of, needs_after, has_token}
+use Rattle.spin_model.specs.Operations.{operation_of, use_of, uses_of, has_token}
 use Rattle.spin_model.specs.Spindles.{SpindleView, StandsFor, state_after}
-use Rattle.spin_model.proofs.Tokens.{is_in, others, AreApart, AreBelow, is_in-others_same, is_in-others_other, length-le_apart, some_in, below-others_kept}
+use Rattle.spin_model.proofs.Tokens.{is_in, AreBelow, is_in-others_same, is_in-others_other, length-le_apart, some_in, below-others_kept}
 use Rattle.spin_model.proofs.Steps.{tokens_apart}
 use Rattle.spin_model.proofs.Using.{use_of-operation_of}
 
@@ -98,3 +97,13 @@ needs_after-append b (u ∷ us) vs = needs_after-cons b u (us ++ vs) ∙ (needs_
 -- one more entry of the pass
 pub has_token-push : (es : List Entry) (n : ℕ) (u : Use) → has_token (es ++ (n, operation_of u) ∷ []) ≡ needs_after (has_token es) (u ∷ [])
 has_token-push es n u = ap (needs_after false) (map-append use_in es ((n, operation_of u) ∷ [])) ∙ (needs_after-append false (map use_in es) (use_of (operation_of u) ∷ []) ∙ ap (λ (v : Use). needs_after (has_token es) (v ∷ [])) (use_of-operation_of u))
+
+-- who starts the account or begins a moment has the token that it had
+pub token_started : (es : List Entry) (n t : ℕ) → has_token (es ++ (n, operation_of (Started t)) ∷ []) ≡ has_token es
+token_started es n t = has_token-push es n (Started t)
+
+pub token_begun : (es : List Entry) (n t : ℕ) → has_token (es ++ (n, operation_of (Began t)) ∷ []) ≡ has_token es
+token_begun es n t = has_token-push es n (Began t)
+
+pub token_stayed : (es : List Entry) (n : ℕ) → has_token (es ++ (n, operation_of Stayed) ∷ []) ≡ has_token es
+token_stayed es n = has_token-push es n Stayed

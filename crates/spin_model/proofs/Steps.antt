@@ -1,16 +1,15 @@
 -- What a spindle shows after each use.
-use Rattle.std.proofs.Common.{◌≡◌, ◌≢◌, ◌<◌, ◌≤◌, ℕ, zero, suc, ◌+◌, ◌-◌, eqb, Bool, true, false, not, ◌&&◌, ◌||◌, cond, if◌then◌else◌, List, [], ◌∷◌, ◌++◌, length, max, refl, sym, ap, ◌∙◌, subst, arith}
-use Rattle.std.specs.Prelude.{nat_le, IsTrue, Result, Ok, Err, IsErr}
+use Rattle.std.proofs.Common.{◌≡◌, ℕ, ◌+◌, ◌-◌, eqb, Bool, true, false, ◌&&◌, if◌then◌else◌, List, [], ◌∷◌, ◌++◌, length, max, refl, sym, ap, ◌∙◌, subst, arith}
+use Rattle.std.specs.Prelude.{nat_le, Result, Ok, Err, IsErr}
 use Rattle.wol_disk.specs.declared.disk.NoMemory.{NoMemory}
 use Rattle.std.proofs.Math.Dec.{eqb-suc-zero}
 use Rattle.turn_lock.specs.Histories.{Entry}
-use Rattle.wol_model.specs.Journal.{Use, Started, Began, Needed, Done, Stayed, SpindleState, new_spindle, is_empty, rested, used, spindle_after, MayUse, AreUses}
-use Rattle.wol_model.specs.declared.journal.Turned.{Turned}
+use Rattle.wol_model.specs.Journal.{Use, Started, Began, Needed, Done, Stayed, SpindleState, new_spindle, is_empty, used, spindle_after, MayUse, AreUses}
 use Rattle.wol_model.specs.declared.journal.Turned.TheVariants.{Down, Up}
 use Rattle.spin_model.specs.declared.spindle.SpindleBase.{SpindleBase}
 use Rattle.spin_model.specs.Operations.{operation_of}
 use Rattle.spin_model.specs.Spindles.{SpindleView, Shows, StandsFor, state_after, begun}
-use Rattle.spin_model.proofs.Tokens.{is_in, others, AreApart, apart-others, length-others, some_in}
+use Rattle.spin_model.proofs.Tokens.{is_in, AreApart, apart-others, length-others}
 use Rattle.spin_model.proofs.Using.{stands_more}
 
 -- the passes with a token differ

@@ -1,15 +1,10 @@
 -- A spindle as one more use is made.
-use Rattle.std.proofs.Common.{◌≡◌, ◌<◌, ℕ, eqb, Bool, true, false, not, ◌||◌, cond, List, [], ◌∷◌, ◌++◌, length, map, refl, sym, ap, ◌∙◌, subst}
-use Rattle.std.specs.List.{filter}
-use Rattle.std.proofs.lemmas.Bool.Decides.{eqb_tells}
-use Rattle.std.specs.Prelude.{◌⊎◌}
-use mathlib.Core.List.{map-append}
-use Rattle.turn_lock.specs.Histories.{Entry, own}
+use Rattle.std.proofs.Common.{◌≡◌, ℕ, List, [], ◌∷◌, ◌++◌, refl, sym, ap, ◌∙◌, subst}
+use Rattle.turn_lock.specs.Histories.{Entry}
 use Rattle.wol_model.specs.Journal.{Use, Started, Began, Needed, Done, Stayed, SpindleState, new_spindle, used, spindle_after, MayUse, AreUses}
 use Rattle.spin_model.specs.declared.spindle.SpindleBase.{SpindleBase}
-use Rattle.spin_model.specs.Operations.{operation_of, use_of, uses_of, entries_of, has_token}
+use Rattle.spin_model.specs.Operations.{operation_of, use_of, uses_of, entries_of}
 use Rattle.spin_model.specs.Spindles.{SpindleView, Shows, StandsFor, state_after}
-use Rattle.spin_model.proofs.Tokens.{is_in, others, AreApart, apart-others}
 
 -- the numbers of a use are read back as that use
 pub use_of-operation_of : (u : Use) → use_of (operation_of u) ≡ u

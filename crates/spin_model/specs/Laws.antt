@@ -1,10 +1,10 @@
 -- Laws of a spindle's uses and operations.
-use Rattle.std.specs.Prelude.{◌≡◌, ◌≤◌, ◌==◌, ℕ, List, [], ◌∷◌, ◌++◌, length}
+use Rattle.std.specs.Prelude.{◌≡◌, ◌≤◌, ◌==◌, ℕ, List, [], ◌∷◌, ◌++◌}
 use Rattle.std.specs.List.{list_any}
 use Rattle.turn_lock.specs.Histories.{Entry, own, AreNumberedBelow}
-use Rattle.wol_model.specs.Journal.{Use, IsJournal}
+use Rattle.wol_model.specs.Journal.{Use, IsJournal, needs_after}
 use Rattle.spin_model.specs.declared.spindle.SpindleBase.{SpindleBase}
-use Rattle.spin_model.specs.Operations.{operation_of, use_of, needs_after, has_token}
+use Rattle.spin_model.specs.Operations.{operation_of, use_of, has_token}
 use Rattle.spin_model.specs.Spindles.{SpindleView, StandsFor, state_after}
 
 -- the numbers of a use are read back as that use, so no two uses have the same

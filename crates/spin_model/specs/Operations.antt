@@ -1,7 +1,7 @@
 -- The uses of a spindle as the operations of its lock. Each use has a list of numbers of its own.
-use Rattle.std.specs.Prelude.{ℕ, ◌==◌, Bool, true, false, List, [], ◌∷◌, map, if◌then◌else◌}
+use Rattle.std.specs.Prelude.{ℕ, ◌==◌, Bool, false, List, [], ◌∷◌, map, if◌then◌else◌}
 use Rattle.turn_lock.specs.Histories.{Entry}
-use Rattle.wol_model.specs.Journal.{Use, Started, Began, Needed, Done, Stayed}
+use Rattle.wol_model.specs.Journal.{Use, Started, Began, Needed, Done, Stayed, needs_after}
 
 -- the numbers of a use
 abbrev pub operation_of : Use → List ℕ
@@ -25,15 +25,6 @@ uses_of entries = map (λ (e : Entry). (e.0, use_of e.1)) entries
 -- the entries of uses
 abbrev pub entries_of : List (ℕ × Use) → List Entry
 entries_of uses = map (λ (u : ℕ × Use). (u.0, operation_of u.1)) uses
-
--- whether a pass that made these uses has a token, where it had one before or not
-abbrev pub needs_after : Bool → List Use → Bool
-needs_after needs [] = needs
-needs_after needs (Needed ∷ uses) = needs_after true uses
-needs_after needs (Done ∷ uses) = needs_after false uses
-needs_after needs (Started at ∷ uses) = needs_after needs uses
-needs_after needs (Began at ∷ uses) = needs_after needs uses
-needs_after needs (Stayed ∷ uses) = needs_after needs uses
 
 -- whether a pass that made these entries has a token
 abbrev pub has_token : List Entry → Bool

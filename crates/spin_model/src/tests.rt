@@ -1,7 +1,8 @@
 // A spindle alone, and one under its lock with a part of its disk.
-ghost use Rattle.std.specs.Prelude.{false, ◌≡◌, ◌≤◌, All};
+ghost use Rattle.std.specs.Prelude.{false, ◌≡◌, ◌≤◌, ◌∷◌, [], IfOk};
 ghost use Rattle.turn_lock.specs.Passes.{pass_lock, pass_mine, IsPassOf, IsFree};
 ghost use Rattle.wol_disk.specs.Memory.{mem_state};
+ghost use Rattle.wol_model.specs.declared.journal.Turned.TheVariants.{Down, Up};
 ghost use Rattle.spin_model.specs.Spun.{volume_of, disk_of};
 ghost use Rattle.spin_model.specs.Operations.{has_token};
 
@@ -13,18 +14,29 @@ use turn_lock::{Pass, TurnLock};
 use wol_disk::{MemDisk, NoMemory};
 use wol_model::Turned;
 
+// A disk with a timeout of a minute, whose account starts at 0, and which is needed after a window at 100 seconds:
+// whether it was awake in that window, and its spindle.
+fn needed_after_a_nap(alloc: Global) -> Result<(bool, Spindle), NoMemory>
+    ensures asleep { IfOk result (λ r. r.0 ≡ false) }
+    ensures journal { IfOk result (λ r. r.1.journal ≡ Down 600000000 ∷ Up 1000000000 ∷ []) }
+{
+    let mut spindle = Spindle::new(alloc, 3, 600_000_000);
+    spindle.start(0);
+    let awake = spindle.begin(1_000_000_000)?;
+    let token = spindle.need();
+    spindle.done(token);
+    Ok((awake, spindle))
+}
+
 #[test]
 fn sleeps_after_its_timeout_and_wakes_when_needed(rt: HostRuntime) -> Result<(), Fail> {
-    let mut spindle = Spindle::new(rt.alloc(), 3, 600_000_000);
-    spindle.start(0);
-    assert!(rt; spindle.is_awake());
-    let awake = spindle.begin(1_000_000_000)?;
+    let (awake, spindle) = needed_after_a_nap(rt.alloc())?;
     assert!(rt; !awake);
-    let token = spindle.need();
-    assert_eq!(rt; token.volume(), 3);
     assert!(rt; spindle.is_awake());
-    assert_eq!(rt; spindle.journal(), [Turned::Down(600_000_000), Turned::Up(1_000_000_000)].as_slice());
-    spindle.done(token);
+    assert_eq!(rt;
+        spindle.journal(),
+        [Turned::Down(600_000_000), Turned::Up(1_000_000_000)].as_slice()
+    );
     Ok(())
 }
 
@@ -83,6 +95,9 @@ fn a_part_is_reached_in_turns_of_its_spindle(rt: HostRuntime) -> Result<(), Fail
     let (awake, byte, spindle) = one_window(&rt, rt.alloc(), &mut part).ok_or("no memory")?;
     assert_eq!(rt; awake, Ok(false));
     assert_eq!(rt; byte, Some(7));
-    assert_eq!(rt; spindle.journal(), [Turned::Down(120), Turned::Up(130)].as_slice());
+    assert_eq!(rt;
+        spindle.journal(),
+        [Turned::Down(120), Turned::Up(130)].as_slice()
+    );
     Ok(())
 }

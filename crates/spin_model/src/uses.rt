@@ -30,6 +30,7 @@ pub fn start_turn<R: Wait>(rt: &R, lock: &TurnLock<Spindle>, pass: &mut Pass<Spi
     ensures free { IsFree pass.new }
     ensures mine { pass_mine pass.new ≡ pass_mine pass.old ++ (pass_number pass.old, operation_of (Started t0)) ∷ [] }
     ensures seen { (before : List Entry) × Begins (pass_seen pass.old) before × (pass_seen pass.new ≡ before ++ (pass_number pass.old, operation_of (Started t0)) ∷ []) }
+    ensures token { has_token (pass_mine pass.new) ≡ has_token (pass_mine pass.old) }
 {
     let mut turn = lock.enter(rt, pass);
     turn.value.start(t0);
@@ -50,6 +51,7 @@ pub fn begin_turn<R: Wait>(
     ensures free { IsFree pass.new }
     ensures mine { pass_mine pass.new ≡ pass_mine pass.old ++ (pass_number pass.old, operation_of (begun t result)) ∷ [] }
     ensures seen { (before : List Entry) × Begins (pass_seen pass.old) before × (pass_seen pass.new ≡ before ++ (pass_number pass.old, operation_of (begun t result)) ∷ []) }
+    ensures token { has_token (pass_mine pass.new) ≡ has_token (pass_mine pass.old) }
     ensures answer { IfOk result (λ awake. awake ≡ (state_after (pass_lock pass.new).base (pass_seen pass.new)).awake) }
 {
     let mut turn = lock.enter(rt, pass);

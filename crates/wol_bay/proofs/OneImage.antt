@@ -1,9 +1,8 @@
 -- What a caller knows that takes one image out and puts it back.
 use Rattle.std.proofs.Common.{◌≡◌, ℕ, List, [], ◌∷◌, ◌++◌, Option, None, Some, option_map, IfSome, refl, sym, ap, ◌∙◌, subst}
-use Rattle.wol_disk.specs.Disk.{State, Values, Block, only}
-use Rattle.wol_disk.specs.Zeros.{zeros}
+use Rattle.wol_disk.specs.Disk.{State, Values, Block}
 use Rattle.wol_bay.specs.Bay.{Name, BayState, Told, at_name, outs, IsHome, IsOut, sent_out, came_back}
-use Rattle.wol_bay.specs.Parts.{IsFresh, AreBlank, sizes_of}
+use Rattle.wol_bay.specs.Parts.{IsBlank, AreBlank, sizes_of}
 use Rattle.wol_bay.proofs.NameLists.{is_out, out_again}
 
 -- after it went out the name is out
@@ -24,7 +23,7 @@ comes_home name sizes blocks places b b' b'' home sent back = ap (option_map (λ
     go (Some t) home = ap Some (out_again name t.out sizes home)
 
 -- of one size there is one part
-pub one_part : {D : Type 0} (state : D → State) (told : Option Told) (n : ℕ) (front : List D) (part : D) → AreBlank state told (n ∷ []) (front ++ part ∷ []) → (front ≡ []) × IsFresh n (option_map (λ t. only (zeros n)) told) (state part)
+pub one_part : {D : Type 0} (state : D → State) (told : Option Told) (n : ℕ) (front : List D) (part : D) → AreBlank state told (n ∷ []) (front ++ part ∷ []) → (front ≡ []) × IsBlank n told (state part)
 one_part state told n [] part blank = (refl, blank.0)
 one_part state told n (p ∷ []) part blank = absurd blank.1
 one_part state told n (p ∷ q ∷ front) part blank = absurd blank.1

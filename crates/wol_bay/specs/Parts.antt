@@ -10,12 +10,20 @@ pub record IsFresh (size : ℕ) (values : Option (List (Values Block))) (part : 
   pub quiet : part.faults ≡ 0
   pub content : IfSome values (λ vs. part.values ≡ Some vs)
 
+-- a part of zeros as it goes out: of this size, without a fault, zero in every image where it tells them, and told
+-- where the bay tells
+pub record IsBlank (size : ℕ) (told : Option Told) (part : State) : Type 0 where
+  pub sized : part.size ≡ size
+  pub quiet : part.faults ≡ 0
+  pub content : IfSome told (λ t. part.values ≡ Some (only (zeros size)))
+  pub zero : IfSome part.values (λ vs. vs ≡ only (zeros size))
+
 -- parts of these sizes in order, all zero in every image
 abbrev pub AreBlank : {D : Type 0} → (D → State) → Option Told → List ℕ → List D → Type 0
 AreBlank state told [] [] = ⊤
 AreBlank state told [] (part ∷ parts) = ⊥
 AreBlank state told (n ∷ ns) [] = ⊥
-AreBlank state told (n ∷ ns) (part ∷ parts) = IsFresh n (option_map (λ t. only (zeros n)) told) (state part) × AreBlank state told ns parts
+AreBlank state told (n ∷ ns) (part ∷ parts) = IsBlank n told (state part) × AreBlank state told ns parts
 
 -- parts of these sizes in order, cut from these blocks
 abbrev pub AreCut : {D : Type 0} → (D → State) → Option (List (Values Block)) → List ℕ → List D → Type 0

@@ -1,5 +1,5 @@
 // Readers and writers of std as sources and sinks.
-ghost use Rattle.std.specs.Prelude.{◌≡◌, ◌≤◌, IsErr, OnOk, OnErr};
+ghost use Rattle.std.specs.Prelude.{◌≡◌, ◌≤◌};
 ghost use Rattle.wol_disk.specs.Disk.{Rose};
 ghost use Rattle.wol_io.specs.Streams.{SinkTakes};
 

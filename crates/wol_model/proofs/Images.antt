@@ -29,7 +29,7 @@ and_false : (t : Bool) → (t && false) ≡ false
 and_false true = refl
 and_false false = refl
 
-idle_none : (owner : ℕ) (bs : List Block) → IsIdle bs → extents_in owner bs ≡ []
+pub idle_none : (owner : ℕ) (bs : List Block) → IsIdle bs → extents_in owner bs ≡ []
 unfolding extents_in read_log
 idle_none owner [] idle = absurd idle
 idle_none owner (b ∷ bs) idle = ap records (ap (λ (t : Bool). ltb owner (2 ^ 32) && t) (ap (λ (c : Block). bytes_eq c (owned_block owner)) idle ∙ free_not_owned owner) ∙ and_false (ltb owner (2 ^ 32)))

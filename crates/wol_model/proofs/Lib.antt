@@ -29,3 +29,4 @@ pub mod StaleHead
 pub mod GroupOfFour
 pub mod HeadVectors
 pub mod TwinVersions
+pub mod TraceLaws

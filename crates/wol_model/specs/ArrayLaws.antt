@@ -3,6 +3,7 @@ use Rattle.std.specs.Prelude.{◌≡◌, ◌≤◌, ℕ, ◌+◌, List, [], ◌�
 use Rattle.wol_disk.specs.Disk.{Block, put, IsBlend}
 use Rattle.wol_model.specs.Blocks.{Write, after}
 
+-- no writes leave the array as it is
 abbrev pub AfterNothing : Type 0
 AfterNothing = (a : List Block) → after a [] ≡ a
 
@@ -10,6 +11,7 @@ AfterNothing = (a : List Block) → after a [] ≡ a
 abbrev pub AfterMore : Type 0
 AfterMore = (a : List Block) (ws vs : List Write) → after a (ws ++ vs) ≡ after (after a ws) vs
 
+-- writes leave its length
 abbrev pub AfterLength : Type 0
 AfterLength = (a : List Block) (ws : List Write) → length (after a ws) ≡ length a
 
@@ -30,9 +32,10 @@ unversioned w = record { first = w.first; blocks = w.blocks; version = None }
 abbrev pub AfterVersions : Type 0
 AfterVersions = (a : List Block) (ws : List Write) → after a (map unversioned ws) ≡ after a ws
 
--- an array is a blend of itself before and after writes, at both ends
+-- an array before writes is a blend of itself before and after them
 abbrev pub BlendBefore : Type 0
 BlendBefore = (a : List Block) (ws : List Write) → IsBlend a (after a ws) a
 
+-- and at the other end
 abbrev pub BlendAfter : Type 0
 BlendAfter = (a : List Block) (ws : List Write) → IsBlend a (after a ws) (after a ws)

@@ -29,6 +29,7 @@ abbrev pub overlaid_from : ℕ → List Block → (ℕ → Option Block) → Lis
 overlaid_from b [] over = []
 overlaid_from b (x ∷ xs) over = unwrap_or (over b) x ∷ overlaid_from (b + 1) xs over
 
+-- the same from block 0 on
 abbrev pub overlaid : List Block → (ℕ → Option Block) → List Block
 overlaid a over = overlaid_from 0 a over
 

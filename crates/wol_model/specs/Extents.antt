@@ -43,6 +43,7 @@ newest_block rs b = option_and_then (λ r. block_of r.first r.blocks b) (newest 
 unfoldable pub with_extents : List Block → List Extent → List Block
 with_extents home rs = overlaid home (newest_block rs)
 
+-- the covers of extents
 abbrev pub covers_of : List Extent → List Cover
 covers_of rs = map (λ r. r.cover) rs
 
@@ -55,10 +56,11 @@ abbrev pub AreDistinct : List Cover → Type 0
 AreDistinct [] = ⊤
 AreDistinct (c ∷ cs) = AllByRecursion (λ d. IsValid c → IsValid d → c.version ≢ d.version) cs × AreDistinct cs
 
--- it covers no block; it covers each block that it has
+-- it covers no block
 abbrev pub CoversNothing : Extent → Type 0
 CoversNothing r = (b : ℕ) → r.cover.covers b ≡ false
 
+-- it covers each block that it has
 abbrev pub KeepsAll : Extent → Type 0
 KeepsAll r = (b : ℕ) → r.cover.covers b ≡ is_some (block_of r.first r.blocks b)
 
@@ -68,10 +70,11 @@ write_of r = record { first = r.first; blocks = r.blocks; version = Some r.cover
 
 -- ---- What may be given up
 
--- a newer one covers block b, an older one
+-- a newer one covers block b
 abbrev pub has_newer : List Cover → (version b : ℕ) → Bool
 has_newer cs version b = list_any (λ c. c.covers b && nat_lt version c.version) cs
 
+-- an older one covers block b
 abbrev pub has_older : List Cover → (version b : ℕ) → Bool
 has_older cs version b = list_any (λ c. c.covers b && nat_lt c.version version) cs
 
@@ -90,9 +93,10 @@ pub record GivesUp (given : ℕ → Bool) (r s : Extent) : Type 0 where
 abbrev pub HoldsHomed : List Block → List Extent → (homed : ℕ → Bool) → Type 0
 HoldsHomed home rs homed = (b : ℕ) (x y : Block) → homed b ≡ true → newest_block rs b ≡ Some x → slice_get home b ≡ Some y → y ≡ x
 
--- no extent covers a block of the write; one covers each
+-- no extent covers a block of the write
 abbrev pub IsUncovered : List Extent → Write → Type 0
 IsUncovered rs w = (b : ℕ) → is_some (block_of w.first w.blocks b) ≡ true → newest_block rs b ≡ None
 
+-- an extent covers each block of the write
 abbrev pub IsCovered : List Extent → Write → Type 0
 IsCovered rs w = (b : ℕ) → is_some (block_of w.first w.blocks b) ≡ true → is_some (newest_block rs b) ≡ true

@@ -18,11 +18,13 @@ pub record Shape : Type 0 where
   pub segments : ℕ
   pub segment_blocks : ℕ
 
+-- the sizes are in their ranges
 pub record IsShape (s : Shape) : Type 0 where
   pub home : (1 ≤ s.home) × (s.home ≤ 2 ^ 32)
   pub segments : s.segments ≤ 1024
   pub segment_blocks : (4 ≤ s.segment_blocks) × (s.segment_blocks ≤ 65536)
 
+-- the bytes of a label: name, id and sizes
 unfoldable pub label_block : ℕ → Shape → Block
 label_block id s =
     padded (codes "WOLVOL01" ++ (little_bytes 4 id ++ (little_bytes 8 s.home ++ (little_bytes 4 s.segments ++ little_bytes 4 s.segment_blocks))))
@@ -35,11 +37,13 @@ pub record SpellsLabel (b : Block) (id : ℕ) (s : Shape) : Type 0 where
 
 -- ---- View: the loggers of a volume, in order
 
+-- at most 16 ids, all different
 pub record IsViewList (ids : List ℕ) : Type 0 where
   pub few : length ids ≤ 16
   pub in_range : AllByRecursion (λ id. id < 2 ^ 32) ids
   pub distinct : AreApart ids
 
+-- the bytes of a view: name, number of ids, ids
 unfoldable pub view_block : List ℕ → Block
 view_block ids = padded (codes "WOLVIEW1" ++ (little_bytes 4 (length ids) ++ flat_map (little_bytes 4) ids))
 
@@ -50,20 +54,25 @@ pub record SpellsView (b : Block) (ids : List ℕ) : Type 0 where
 
 -- ---- Segment head: free, or the volume that owns the segment
 
+-- what the first block of a segment says
 pub data SegmentHead : Type 0 where
   Free : SegmentHead
   Owned : (owner : ℕ) → SegmentHead
 
+-- the owner is in its range
 abbrev pub IsSegmentHead : SegmentHead → Type 0
 IsSegmentHead Free = ⊤
 IsSegmentHead (Owned owner) = owner < 2 ^ 32
 
+-- the first block of a free segment
 unfoldable pub free_block : Block
 free_block = padded (codes "WOLSEGF1")
 
+-- the first block of a segment that this volume owns
 unfoldable pub owned_block : ℕ → Block
 owned_block owner = padded (codes "WOLSEGO1" ++ little_bytes 4 owner)
 
+-- the block of a segment head
 abbrev pub segment_block : SegmentHead → Block
 segment_block Free = free_block
 segment_block (Owned owner) = owned_block owner
@@ -89,6 +98,7 @@ pub record RecordHead : Type 0 where
 abbrev pub IsMask : ℕ → ℕ → ℕ → Type 0
 IsMask form count mask = (form ≡ 2) ⊎ ((form ≡ 1) × ((mask ≡ 0) ⊎ (mask ≡ 2 ^ count - 1)))
 
+-- the fields are in their ranges
 pub record IsRecordHead (h : RecordHead) : Type 0 where
   pub owner : h.owner < 2 ^ 32
   pub version : (1 ≤ h.version) × (h.version < 2 ^ 63)
@@ -115,5 +125,6 @@ pub record SpellsRecord (b : Block) (h : RecordHead) : Type 0 where
 
 -- ---- Gate: what stands behind the last record
 
+-- 512 zeros
 unfoldable pub gate_block : Block
 gate_block = replicate 512 0

@@ -12,20 +12,24 @@ pub data Operation : Type 0 where
   -- with the writes that were in flight
   Broke : (writes : List Write) → Operation
 
+-- an operation with the number of the pass that did it
 pub record Entry : Type 0 where
   pub pass : ℕ
   pub operation : Operation
 
--- the passes of a volume: the worker's, which is its one client, the helper's and the keeper's
+-- the pass that serves requests: a volume's one client
 abbrev pub worker : ℕ
 worker = 0
 
+-- the pass that reclaims beside the worker
 abbrev pub helper : ℕ
 helper = 1
 
+-- the pass that begins windows
 abbrev pub keeper : ℕ
 keeper = 2
 
+-- the writes that an operation acknowledges
 abbrev pub written_by : Operation → List Write
 written_by (Wrote ws) = ws
 written_by (Read first reply) = []
@@ -48,6 +52,7 @@ abbrev pub AreLegalNext : List Block → List Entry → Type 0
 AreLegalNext a [] = ⊤
 AreLegalNext a (e ∷ entries) = IsLegalNext a e.operation × AreLegalNext (after a (written_by e.operation)) entries
 
+-- an operation that leaves the content as it was
 abbrev pub IsKept : Operation → Type 0
 IsKept Kept = ⊤
 IsKept (Wrote ws) = ⊥
@@ -88,6 +93,7 @@ flight_from (Wrote ws) rest = rest
 flight_from (Read first reply) rest = rest
 flight_from Kept rest = rest
 
+-- the same of a history
 abbrev pub flight_of : List Entry → Option (List Write)
 flight_of [] = None
 flight_of (e ∷ entries) = flight_from e.operation (flight_of entries)

@@ -14,6 +14,7 @@ abbrev pub OneMoreEntry : Type 0
 OneMoreEntry = (a : List Block) (entries : List Entry) (e : Entry) → IsLegal a entries → IsLegalNext (after a (writes entries)) e.operation
     → (flight_of entries ≡ None) ⊎ IsKept e.operation → (e.pass ≢ worker → IsHelp e.operation) → IsLegal a (entries ++ e ∷ [])
 
+-- the writes of joined histories are joined
 abbrev pub WritesMore : Type 0
 WritesMore = (entries more : List Entry) → writes (entries ++ more) ≡ writes entries ++ writes more
 

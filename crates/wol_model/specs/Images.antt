@@ -9,12 +9,15 @@ use Rattle.wol_model.specs.Recovered.{extents_of, recovered}
 
 -- ---- The parts of an image: label and view, home, and the segments one after another
 
+-- the number of blocks of an image
 abbrev pub image_size : Shape → ℕ
 image_size s = 2 + s.home + s.segments * s.segment_blocks
 
+-- home: the blocks behind label and view
 abbrev pub home_of : Shape → List Block → List Block
 home_of s image = slice_range image 2 (2 + s.home)
 
+-- segment `index`: so many blocks, one segment behind the other
 abbrev pub segment_of : Shape → List Block → (index : ℕ) → List Block
 segment_of s image i = slice_range image (2 + s.home + i * s.segment_blocks) (2 + s.home + (i + 1) * s.segment_blocks)
 
@@ -27,6 +30,7 @@ segments_of s (Some image) = if length image == image_size s then map (segment_o
 abbrev pub Images : Type 0
 Images = List (Option (List Block))
 
+-- the image of a volume, if it is there
 abbrev pub image_of : Images → (volume : ℕ) → Option (List Block)
 image_of images v = unwrap_or (slice_get images v) None
 
@@ -35,6 +39,7 @@ abbrev pub accepted_from : (volume : ℕ) → (refused : ℕ → Bool) → Image
 accepted_from v refused [] = []
 accepted_from v refused (image ∷ images) = (if refused v then None else image) ∷ accepted_from (v + 1) refused images
 
+-- the same from volume 0 on
 abbrev pub accepted : (refused : ℕ → Bool) → Images → Images
 accepted refused images = accepted_from 0 refused images
 
@@ -44,6 +49,7 @@ all_segments [] images = []
 all_segments (s ∷ shapes) [] = []
 all_segments (s ∷ shapes) (image ∷ images) = segments_of s image ++ all_segments shapes images
 
+-- the image of home, empty where there is no image
 abbrev pub home_in : Option Shape → Option (List Block) → List Block
 home_in None image = []
 home_in (Some s) None = []

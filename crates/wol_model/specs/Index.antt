@@ -11,15 +11,19 @@ pub record Listed : Type 0 where
   pub lane : ℕ
   pub homed : List Bool
 
+-- the blocks that a listed record keeps, under its version
 abbrev pub cover_of : Listed → Cover
 cover_of e = record { version = e.version; covers = marked e.first e.keep }
 
+-- block b of the record is home too
 abbrev pub is_homed : Listed → ℕ → Bool
 is_homed e = marked e.first e.homed
 
+-- the covers of listed records
 abbrev pub listed_covers : List Listed → List Cover
 listed_covers es = map cover_of es
 
+-- a listed record keeps block b
 abbrev pub is_covered : List Listed → ℕ → Bool
 is_covered es b = list_any (λ e. (cover_of e).covers b) es
 
@@ -35,15 +39,19 @@ is_due es e b = is_live es e b && not (is_homed e b)
 abbrev pub goes : List Listed → Listed → ℕ → Bool
 goes es e b = may_go (listed_covers es) (is_homed e) (cover_of e) b
 
+-- the numbers of all blocks of a record, kept or not
 abbrev pub block_numbers : Listed → List ℕ
 block_numbers e = range_with_len e.first (length e.keep)
 
+-- a block of the record is due
 abbrev pub has_due : List Listed → Listed → Bool
 has_due es e = list_any (is_due es e) (block_numbers e)
 
+-- a block of the record goes
 abbrev pub has_going : List Listed → Listed → Bool
 has_going es e = list_any (goes es e) (block_numbers e)
 
+-- the record keeps a block
 abbrev pub keeps_a_block : Listed → Bool
 keeps_a_block e = list_any (cover_of e).covers (block_numbers e)
 
@@ -62,6 +70,7 @@ pub record Indexed : Type 0 where
   pub index : ℕ
   pub pos : ℕ
 
+-- listed records without their places
 abbrev pub listed_in : List Indexed → List Listed
 listed_in indexed = map (λ e. e.listed) indexed
 
@@ -82,5 +91,6 @@ AreRising (v ∷ vs) = AllByRecursion (λ w. v < w) vs × AreRising vs
 abbrev pub left_in : List Listed → Listed → ℕ
 left_in es e = count_by (cover_of e).covers (block_numbers e) + count_by (is_due es e) (block_numbers e)
 
+-- the same of all records
 abbrev pub left : List Listed → ℕ
 left es = sum_by (left_in es) es

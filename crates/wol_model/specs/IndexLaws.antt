@@ -20,6 +20,7 @@ LeastGoesOrIsDue = (cs : List Cover) (homed : ℕ → Bool) (c : Cover) (b : ℕ
 
 -- ---- Reading by an index
 
+-- a cover is one of these
 abbrev pub IsOneOf : Cover → List Cover → Type 0
 IsOneOf c [] = ⊥
 IsOneOf c (d ∷ ds) = (c ≡ d) ⊎ IsOneOf c ds
@@ -44,13 +45,15 @@ Reading = (home : List Block) (rs : List Extent) (b : ℕ) (x : Block) → slice
 abbrev pub FullMask : Type 0
 FullMask = (r : Record) → length r.blocks ≡ r.head.count → r.head.mask ≡ 2 ^ r.head.count - 1 → KeepsAll (extent_of r)
 
--- masks as sets of blocks
+-- or of masks: in one or the other
 abbrev pub MaskOr : Type 0
 MaskOr = (m n i : ℕ) → has_bit (bit_or m n) i ≡ (has_bit m i || has_bit n i)
 
+-- and of masks: in both
 abbrev pub MaskAnd : Type 0
 MaskAnd = (m n i : ℕ) → has_bit (bit_and m n) i ≡ (has_bit m i && has_bit n i)
 
+-- and-not of masks: in one and not in the other
 abbrev pub MaskWithout : Type 0
 MaskWithout = (m n i : ℕ) → m < 2 ^ 128 → n < 2 ^ 128 → has_bit (bit_and m (bit_not w128 n)) i ≡ (has_bit m i && not (has_bit n i))
 

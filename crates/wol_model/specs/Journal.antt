@@ -33,13 +33,16 @@ standby (Up at ∷ rest) to = standby rest to
 abbrev pub awake_time : List Turned → (from to : ℕ) → ℕ
 awake_time journal from to = (to - from) - standby journal to
 
+-- a turn that wakes the disk
 abbrev pub turns_up : Turned → Bool
 turns_up (Up at) = true
 turns_up (Down at) = false
 
+-- how often the disk woke
 abbrev pub wakes : List Turned → ℕ
 wakes journal = count_by turns_up journal
 
+-- how often it went into standby
 abbrev pub sleeps : List Turned → ℕ
 sleeps journal = count_by (λ t. not (turns_up t)) journal
 
@@ -51,6 +54,7 @@ units p journal from to = awake_time journal from to * p.awake_mw + standby jour
 abbrev pub millijoules : ℕ → ℕ
 millijoules n = n / 10 ^ 7
 
+-- powers in their ranges
 pub record ArePowers (p : Powers) : Type 0 where
   pub awake : p.awake_mw ≤ 1000000
   pub standby : p.standby_mw ≤ 1000000
@@ -66,6 +70,7 @@ pub data Use : Type 0 where
   Done : Use
   Stayed : Use
 
+-- a spindle between two uses
 pub record SpindleState : Type 0 where
   -- the start of the account
   pub from : ℕ
@@ -76,9 +81,11 @@ pub record SpindleState : Type 0 where
   pub needing : List ℕ
   pub journal : List Turned
 
+-- a new spindle is awake, and all its moments are 0
 abbrev pub new_spindle : SpindleState
 new_spindle = record { from = 0; now = 0; last_use = 0; awake = true; needing = []; journal = [] }
 
+-- the list is empty
 abbrev pub is_empty : {X : Type 0} → List X → Bool
 is_empty [] = true
 is_empty (x ∷ xs) = false

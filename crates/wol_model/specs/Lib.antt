@@ -15,3 +15,4 @@ pub mod HeadLaws
 pub mod RecoveryLaws
 pub mod IndexLaws
 pub mod Holding
+pub mod TraceLaws

@@ -11,6 +11,7 @@ pub record Record : Type 0 where
   pub head : RecordHead
   pub blocks : List Block
 
+-- the blocks of a record as it is written
 abbrev pub written : Record → List Block
 written r = head_block r.head ∷ r.blocks
 
@@ -38,10 +39,11 @@ pub record IsLog (bs : List Block) (owner : ℕ) (rs : List Record) : Type 0 whe
   pub named : AllByRecursion (IsNamed owner) rs
   pub ends : EndsLog rest
 
--- the position in its segment of the head of record k, and the position behind the last record
+-- the position in its segment of the head of record k
 abbrev pub position_of : List Record → (k : ℕ) → ℕ
 position_of rs k = 1 + length (flat_map written (take k rs))
 
+-- the position behind the last record
 abbrev pub end_of : List Record → ℕ
 end_of rs = 1 + length (flat_map written rs)
 
@@ -64,10 +66,11 @@ pub record HasFirstOf (bs : List Block) (owner : ℕ) (rs group : List Record) :
 
 -- ---- What a record keeps
 
--- a mask's bits, as marks of its first blocks
+-- block i of a record is in the mask
 abbrev pub has_bit : (mask i : ℕ) → Bool
 has_bit mask i = bit_at mask i == 1
 
+-- a mask's bits, as marks of its first `count` blocks
 abbrev pub marks_of : (count mask : ℕ) → List Bool
 marks_of count mask = map (has_bit mask) (range_with_len 0 count)
 

@@ -8,6 +8,7 @@ pub data Place : Type 0 where
   Log : (lane : ℕ) → Place
   Full : Place
 
+-- the log at this place of the view, or another place where there is none
 abbrev pub log_or : Option ℕ → Place → Place
 log_or None other = other
 log_or (Some lane) other = Log lane

@@ -67,6 +67,7 @@ read_log owner (b ∷ bs) = if nat_lt owner (2 ^ 32) && bytes_eq b (owned_block 
 unfoldable pub extents_in : (owner : ℕ) → List Block → List Extent
 extents_in owner bs = map extent_of (unwrap_or (read_log owner bs) [])
 
+-- those of all segments, in order
 abbrev pub extents_of : (owner : ℕ) → List (List Block) → List Extent
 extents_of owner segments = flat_map (extents_in owner) segments
 

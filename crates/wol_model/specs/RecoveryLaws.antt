@@ -16,6 +16,7 @@ GivingUp = (home : List Block) (front back : List Extent) (r s : Extent) (homed 
     → GivesUp given r s
     → with_extents home (front ++ s ∷ back) ≡ with_extents home (front ++ r ∷ back)
 
+-- extents that cover nothing count for nothing
 abbrev pub Emptied : Type 0
 Emptied = (home : List Block) (front empty back : List Extent) → AllByRecursion CoversNothing empty → with_extents home (front ++ (empty ++ back)) ≡ with_extents home (front ++ back)
 

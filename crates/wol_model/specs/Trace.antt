@@ -61,6 +61,7 @@ pub record Target : Type 0 where
   pub disk : ℕ
   pub home : ℕ
 
+-- what one piece of a line asks of a volume
 pub record Request : Type 0 where
   pub line : ℕ
   pub volume : ℕ
@@ -72,6 +73,7 @@ pub record Request : Type 0 where
 abbrev pub volume_of : List Target → TraceLine → Option ℕ
 volume_of targets l = position (λ t. bytes_eq t.host l.host && t.disk == l.disk) targets
 
+-- the home blocks of volume v
 abbrev pub home_of : List Target → ℕ → ℕ
 home_of targets v = option_map_or (λ (t : Target). t.home) (slice_get targets v) 0
 
@@ -81,6 +83,7 @@ requests_on most targets number l None = []
 requests_on most targets number l (Some v) =
     map (λ (p : Piece). record { line = number; volume = v; kind = l.kind; first = p.lbn; count = p.count }) (pieces (home_of targets v) most l)
 
+-- the requests of a line, by its host and disk
 abbrev pub requests_of : (most : ℕ) → List Target → (number : ℕ) → TraceLine → List Request
 requests_of most targets number l = requests_on most targets number l (volume_of targets l)
 
@@ -110,6 +113,7 @@ abbrev pub write_to : (v : ℕ) → Request → Kind → Option blocks.Write
 write_to v r Read = None
 write_to v r Write = if r.volume == v then Some (payload r) else None
 
+-- what these requests write to volume v, in order
 abbrev pub payloads : (v : ℕ) → List Request → List blocks.Write
 payloads v rs = filter_map (λ (r : Request). write_to v r r.kind) rs
 
@@ -118,6 +122,7 @@ abbrev pub answer : (arrays : ℕ → List Block) → (earlier : List Request) �
 answer arrays earlier r Read = Some (mark (slice_range (after (arrays r.volume) (payloads r.volume earlier)) r.first (r.first + r.count)))
 answer arrays earlier r Write = None
 
+-- the answers to requests that come after earlier ones
 abbrev pub plain_after : (arrays : ℕ → List Block) → (earlier : List Request) → List Request → List (Option ℕ)
 plain_after arrays earlier [] = []
 plain_after arrays earlier (r ∷ rs) = answer arrays earlier r r.kind ∷ plain_after arrays (earlier ++ r ∷ []) rs
@@ -139,6 +144,7 @@ abbrev pub timed_from : ℕ → List Numbered → List Timed
 timed_from time [] = []
 timed_from time (n ∷ lines) = record { time = max time n.line.time; number = n.number; line = n.line } ∷ timed_from (max time n.line.time) lines
 
+-- the lines of a trace that are not blank, with their times
 abbrev pub timed : List (Option TraceLine) → List Timed
 timed lines = timed_from 0 (numbered_from 1 lines)
 
@@ -152,9 +158,11 @@ pub record Window : Type 0 where
 abbrev pub joins : Window → Timed → (more : ℕ) → Bool
 joins w l more = nat_lt l.time (w.moment + 10000000) && (nat_lt (length w.lines) 4096 && nat_le (w.pieces + more) 65536)
 
+-- a window of one line
 abbrev pub opened : Timed → (cost : ℕ) → Window
 opened l cost = record { moment = l.time; pieces = cost; lines = l ∷ [] }
 
+-- a window with one line more
 abbrev pub joined : Window → Timed → (cost : ℕ) → Window
 joined w l cost = record { moment = w.moment; pieces = w.pieces + cost; lines = w.lines ++ l ∷ [] }
 
@@ -165,10 +173,12 @@ windows_from cost w (l ∷ lines) =
     if joins w l (cost l) then windows_from cost (joined w l (cost l)) lines
     else w ∷ windows_from cost (opened l (cost l)) lines
 
+-- the first line opens the first window
 abbrev pub windows_by : (cost : Timed → ℕ) → List Timed → List Window
 windows_by cost [] = []
 windows_by cost (l ∷ lines) = windows_from cost (opened l (cost l)) lines
 
+-- the number of pieces of a line
 abbrev pub pieces_of : (most : ℕ) → List Target → Timed → ℕ
 pieces_of most targets l = length (requests_of most targets l.number l.line)
 
@@ -176,14 +186,16 @@ pieces_of most targets l = length (requests_of most targets l.number l.line)
 unfoldable pub windows : (most : ℕ) → List Target → List (Option TraceLine) → List Window
 windows most targets lines = windows_by (pieces_of most targets) (timed lines)
 
--- the account of a trace: from the time of its first line to that of its last
+-- the account of a trace begins with its first line and ends with its last
 abbrev pub last_time : ℕ → List Timed → ℕ
 last_time time [] = time
 last_time time (l ∷ lines) = last_time l.time lines
 
+-- the time of the first line, and 0 where there is none
 abbrev pub started : List Timed → ℕ
 started [] = 0
 started (l ∷ lines) = l.time
 
+-- the time of the last line
 abbrev pub ended : List Timed → ℕ
 ended lines = last_time 0 lines

@@ -4,6 +4,7 @@ ghost use Rattle.wol_model.specs.HistoryLaws.{OneMoreReply, OneMoreEntry, Writes
 ghost use Rattle.wol_model.specs.HeadLaws.{OneLabel, OneView, OneSegmentHead, OneRecordHead, GateIsNoHead, ReadingHeads, ReadingLogs, OneLog, NotBoth};
 ghost use Rattle.wol_model.specs.RecoveryLaws.{GivingUp, Emptied, Logging, WritingHome, CutShort, PuttingHome, Trimming, Retiring, Claiming, Appending};
 ghost use Rattle.wol_model.specs.Holding.{OpeningStep, LoggingStep, HomeStep, HomeInFlight, PuttingStep, PuttingInFlight, GivingUpStep, EmptyStep, FewerHomed};
+ghost use Rattle.wol_model.specs.TraceLaws.{PiecesLie, PiecesCover, WindowsHaveAll, WindowsAre};
 ghost use Rattle.wol_model.specs.IndexLaws.{LiveIsNewest, LeastGoesOrIsDue, FullMask, MaskOr, MaskAnd, MaskWithout, IndexFinds, IndexFindsNone, Reading, PuttingLowers, GivingUpLowers};
 
 /// Arrays after writes, and writes as a disk puts them.
@@ -96,4 +97,12 @@ pub fn mask_laws()
 pub fn drain_laws()
     ensures putting { PuttingLowers }
     ensures giving_up { GivingUpLowers }
+{}
+
+/// The pieces of a line lie in its volume and are what it touches; the windows have each line once.
+pub fn trace_laws()
+    ensures lie { PiecesLie }
+    ensures cover { PiecesCover }
+    ensures all { WindowsHaveAll }
+    ensures windows { WindowsAre }
 {}

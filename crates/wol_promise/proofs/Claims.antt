@@ -16,7 +16,7 @@ use Rattle.wol_promise.proofs.Lists.{all_map, all_insert, member_insert}
 abbrev pub empty_segment : {P : Type 0} → P → (lane index : ℕ) → Held P
 empty_segment part lane index = record { part = part; lane = lane; index = index; broken = false; records = [] }
 
-places_insert : {P : Type 0} (front : List (Held P)) (t : Held P) (back : List (Held P)) → AllByRecursion (λ (v : Held P). place_in v ≢ place_in t) (front ++ back) → AreApartPlaces (map place_in (front ++ back)) → AreApartPlaces (map place_in (front ++ t ∷ back))
+pub places_insert : {P : Type 0} (front : List (Held P)) (t : Held P) (back : List (Held P)) → AllByRecursion (λ (v : Held P). place_in v ≢ place_in t) (front ++ back) → AreApartPlaces (map place_in (front ++ back)) → AreApartPlaces (map place_in (front ++ t ∷ back))
 places_insert {P} [] t back other apart = (from back other, apart)
   where
     from : (l : List (Held P)) → AllByRecursion (λ v. place_in v ≢ place_in t) l → ApartFrom (place_in t) (map place_in l)

@@ -3,7 +3,7 @@ use Rattle.std.proofs.Common.{◌≡◌, ◌⊎◌, inl, inr, ⊎_elim, ◌+◌,
 use Rattle.std.specs.Prelude.{Contains, slice_get}
 use Rattle.std.specs.List.{AllByRecursion, list_any}
 use Rattle.std.proofs.lemmas.List.Elements.{Contains-append_left, Contains-append_right}
-use Rattle.wol_model.specs.Extents.{Cover, Extent, IsValid, covers_of, AreDistinct, has_newer, has_older, may_go}
+use Rattle.wol_model.specs.Extents.{marked, Cover, Extent, IsValid, covers_of, has_newer, has_older, may_go}
 use Rattle.wol_model.specs.Index.{Indexed, listed_in, listed_covers, cover_of, is_homed, goes}
 use Rattle.wol_model.specs.Log.{Record, extent_of}
 use Rattle.wol_model.proofs.Counts.{both, either, true_or, not_true, not_false}
@@ -33,7 +33,7 @@ any_found p (x ∷ xs) is = ⊎_elim
 
 -- an entry has its record's cover
 pub same_cover : {P : Type 0} (s : Held P) (k : ℕ) (r : Record) (e : Indexed) → IsEntryOf s k r e → cover_of e.listed ≡ (extent_of r).cover
-same_cover s k r e is = λ i. record { version = is.version i; covers = Rattle.wol_model.specs.Extents.marked (is.first i) (is.keep i) }
+same_cover s k r e is = λ i. record { version = is.version i; covers = marked (is.first i) (is.keep i) }
 
 extent_among : {P : Type 0} (held : List (Held P)) (s : Held P) (r : Record) → Contains held s → Contains s.records r → Contains (extents_held held) (extent_of r)
 extent_among [] s r has is = absurd (let lt = has.1 in omega arith)
@@ -50,7 +50,7 @@ listed_is_held {P} held indexed c is has = at indexed is.only has
     at [] all has = absurd (let lt = has.1 in omega arith)
     at (e ∷ es) all has = ⊎_elim
         (λ same. let b = all.0 in subst (Contains (covers_of (extents_held held))) (sym (same_cover b.segment b.k b.record_ e b.is_its) ∙ same)
-          (member_map (λ (x : Extent). x.cover) (extents_held held) (extent_of b.record_) (extent_among held b.segment b.record_ b.is_held (member_of b.segment.records b.record_ b.k b.is_there))))
+        (member_map (λ (x : Extent). x.cover) (extents_held held) (extent_of b.record_) (extent_among held b.segment b.record_ b.is_held (member_of b.segment.records b.record_ b.k b.is_there))))
         (λ there. at es all.1 there)
         (member_front (cover_of e.listed) (listed_covers (listed_in es)) c has)
 
@@ -106,8 +106,8 @@ goes_is_may_go held indexed s k r e b is its has given =
     why (inr homed) =
         let parts = both (is_homed e.listed b) (not (has_older (listed_covers (listed_in indexed)) e.listed.version b)) homed in
         true_or (has_newer (covers_of (extents_held held)) e.listed.version b) (is_homed_in indexed b && not (has_older (covers_of (extents_held held)) e.listed.version b))
-            (λ i. any_member (λ (d : Indexed). is_homed d.listed b) indexed e has parts.0 i && not_false (has_older (covers_of (extents_held held)) e.listed.version b)
-            (none_older (has_older (covers_of (extents_held held)) e.listed.version b) refl (not_true (has_older (listed_covers (listed_in indexed)) e.listed.version b) parts.1)) i)
+        (λ i. any_member (λ (d : Indexed). is_homed d.listed b) indexed e has parts.0 i && not_false (has_older (covers_of (extents_held held)) e.listed.version b)
+        (none_older (has_older (covers_of (extents_held held)) e.listed.version b) refl (not_true (has_older (listed_covers (listed_in indexed)) e.listed.version b) parts.1)) i)
       where
         none_older : (t : Bool) → has_older (covers_of (extents_held held)) e.listed.version b ≡ t → has_older (listed_covers (listed_in indexed)) e.listed.version b ≡ false → has_older (covers_of (extents_held held)) e.listed.version b ≡ false
         none_older true is_older none = absurd (let no : true ≡ false = sym (older_listed held indexed e.listed.version b is is_older) ∙ none in cc)

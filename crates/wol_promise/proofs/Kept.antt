@@ -1,5 +1,5 @@
 -- One Kept more, other flags, and one read more.
-use Rattle.std.proofs.Common.{◌≡◌, ◌≢◌, inl, inr, ℕ, Bool, true, false, List, [], ◌∷◌, ◌++◌, length, Option, None, Some, refl, sym, ap, subst, ◌∙◌}
+use Rattle.std.proofs.Common.{◌+◌, ◌≡◌, inl, inr, ℕ, Bool, true, false, List, [], ◌∷◌, ◌++◌, length, Option, None, Some, refl, sym, ap, subst, ◌∙◌}
 use Rattle.std.specs.Prelude.{IsTrue, is_some, slice_range}
 use Rattle.std.proofs.lemmas.List.{append-nil}
 use Rattle.wol_disk.specs.Disk.{Block}
@@ -68,7 +68,7 @@ module _ {P : Type 0} (parts : Parts P) (base : Base) (m : ManagerSeen P) (notes
 
   -- a read by the worker, whose reply is that of the array where content is told
   pub read_more : (first : ℕ) (reply : List Block) → n.entry.operation ≡ Read first reply → n.entry.pass ≡ worker → flight_of (entries_of notes) ≡ None
-      → (parts.told → reply ≡ slice_range (after base.array (writes (entries_of notes))) first (Rattle.std.proofs.Common.◌+◌ first (length reply)))
+      → (parts.told → reply ≡ slice_range (after base.array (writes (entries_of notes))) first (first + length reply))
       → Upholds parts base m notes (writes (entries_of notes)) None → n.look ≡ look_of m → StandsFor parts base m (notes ++ n ∷ [])
   read_more first reply read client none legal u look = stands_then parts base m notes n (writes (entries_of notes)) None
       (writes_then notes n (Read first reply) read ∙ append-nil (writes (entries_of notes)))

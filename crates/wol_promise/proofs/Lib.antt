@@ -6,10 +6,15 @@ pub mod Kept
 pub mod Broke
 pub mod HomeWrites
 pub mod LogWrites
+pub mod Opens
 pub mod Claims
 pub mod Puts
 pub mod Covers
 pub mod Trims
+pub mod GiveUps
+pub mod Retires
+pub mod SegmentBreaks
+pub mod ClaimBreaks
 pub mod ReadBreaks
 pub mod Choices
 pub mod Stops
@@ -19,3 +24,6 @@ pub mod Data
 pub mod TwelveLinesLooks
 pub mod LogOfOneSegment
 pub mod PlacingRules
+pub mod OpenedManager
+pub mod WhatIsRefused
+pub mod LookSteps

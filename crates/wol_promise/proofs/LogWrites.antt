@@ -1,8 +1,7 @@
 -- One write to a log more, and one that failed.
 use Rattle.std.proofs.Common.{◌≡◌, ◌⊎◌, inl, inr, ⊎_elim, ◌<◌, ◌≤◌, ◌+◌, ◌^◌, ℕ, Bool, true, false, not, ◌&&◌, ◌||◌, List, [], ◌∷◌, ◌++◌, map, length, None, Some, refl, sym, ap, subst, ◌∙◌, arith, append_assoc}
-use Rattle.std.specs.Prelude.{IsTrue, is_some, Contains}
-use Rattle.std.specs.List.{AllByRecursion, list_any}
-use Rattle.std.specs.Option.{option_or}
+use Rattle.std.specs.Prelude.{slice_get, IsTrue, is_some}
+use Rattle.std.specs.List.{AllByRecursion}
 use mathlib.Core.Path.{fun_ext}
 use Rattle.std.proofs.lemmas.List.{map-append}
 use Rattle.std.proofs.lemmas.List.Folds.{list_any-append}
@@ -46,7 +45,7 @@ places_with_segment parts base home front s t back ups lane index size volume ow
   home_size = p.home_size;
   home_volume = p.home_volume;
   each = all_swap (IsHeldBy parts base) (IsHeldBy parts base) (λ u by. by) front s t back (λ by. record {
-    logger = ap (Rattle.std.specs.Prelude.slice_get base.view) lane ∙ by.logger ∙ ap Some (sym volume);
+    logger = ap (slice_get base.view) lane ∙ by.logger ∙ ap Some (sym volume);
     room = subst (λ (n : ℕ). base.most + 2 ≤ n) (sym size) by.room;
     owned = owned;
   }) p.each;
@@ -98,7 +97,7 @@ says_owner owner bs rs log = subst (SaysOwnerOrFree owner) (sym log.joined) (inl
 pub around : {P : Type 0} (front : List (Held P)) (t : Held P) (back : List (Held P)) → extents_held (front ++ t ∷ back) ≡ extents_held front ++ (map extent_of t.records ++ extents_held back)
 around {P} front t back = flat_map-append (λ (u : Held P). map extent_of u.records) front (t ∷ back)
 
-low_extents : {P : Type 0} (v : ℕ) (held : List (Held P)) → AllRecords (λ r. r.head.version < v) held → AllByRecursion (λ (x : Extent). x.cover.version < v) (extents_held held)
+pub low_extents : {P : Type 0} (v : ℕ) (held : List (Held P)) → AllRecords (λ r. r.head.version < v) held → AllByRecursion (λ (x : Extent). x.cover.version < v) (extents_held held)
 low_extents v [] all = tt
 low_extents {P} v (s ∷ held) all = each (low_extents v held all.1) s.records all.0
   where
@@ -228,7 +227,7 @@ module _ {P : Type 0} (parts : Parts P) (base : Base) (m : ManagerSeen P) (home_
         (λ _. look)
 
   -- a write to the log that failed: the record is there or not; the segment is broken
-  module _ (images : (bs : List Block) → parts.may_be part bs → IsLog bs base.owner s.records ⊎ IsLog bs base.owner (s.records ++ r ∷ [])) (logger : ℕ) (named : Rattle.std.specs.Prelude.slice_get base.view s.lane ≡ Some logger)
+  module _ (images : (bs : List Block) → parts.may_be part bs → IsLog bs base.owner s.records ⊎ IsLog bs base.owner (s.records ++ r ∷ [])) (logger : ℕ) (named : slice_get base.view s.lane ≡ Some logger)
       (broke : n.entry.operation ≡ Broke (w ∷ [])) (unruled : n.after_drain ≡ false) (rose : 0 < parts.faults part) where
     abbrev t : Held P
     t = record s { part = part; broken = true }

@@ -1,5 +1,6 @@
 -- One entry more in a history with its notes.
 use Rattle.std.proofs.Common.{◌≡◌, ◌≢◌, ◌⊎◌, List, [], ◌∷◌, ◌++◌, map, Option, None, Some, refl, sym, ap, subst, ◌∙◌}
+use Rattle.std.specs.List.{AllByRecursion}
 use Rattle.std.specs.Prelude.{IsTrue}
 use Rattle.std.specs.Option.{option_or}
 use Rattle.std.proofs.lemmas.List.{map-append, append-nil}
@@ -37,7 +38,7 @@ pub history_more : (told : Type 0) (base : Base) (notes : List Noted) (n : Noted
 history_more told base notes n has may = record {
   replies = λ t. subst (AreLegalNext base.array) (sym (entries_more notes n)) (one_more_reply base.array (entries_of notes) n.entry (has.replies t) (may.legal t));
   breaks = subst (λ (es : List Entry). BreaksOnce (map (λ e. e.operation) es)) (sym (entries_more notes n)) (breaks_more (entries_of notes) n.entry has.breaks may.unbroken);
-  helpers = subst (Rattle.std.specs.List.AllByRecursion (λ e. e.pass ≢ worker → IsHelp e.operation)) (sym (entries_more notes n)) (all_more (λ (d : Entry). d.pass ≢ worker → IsHelp d.operation) (entries_of notes) n.entry has.helpers may.helps);
+  helpers = subst (AllByRecursion (λ e. e.pass ≢ worker → IsHelp e.operation)) (sym (entries_more notes n)) (all_more (λ (d : Entry). d.pass ≢ worker → IsHelp d.operation) (entries_of notes) n.entry has.helpers may.helps);
   ruled = ruled_more base.look notes n has.ruled may.step;
 }
 

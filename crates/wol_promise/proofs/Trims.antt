@@ -120,7 +120,7 @@ module _ {P : Type 0} (hf : List (Held P)) (old_part part : P) (lane index : ℕ
   not_e its u j q d at is other same = ⊎_elim
       (λ apart. apart (λ i. (place.0 i, place.1 i)))
       (λ here. here.1 (same_position (fs ++ r ∷ gs) j (length fs) (subst (λ (v : Held P). j < length v.records) here.0 (within_of u.records q j at)) (within_of (fs ++ r ∷ gs) r (length fs) (get_here fs r gs))
-        (sym (ap (λ (v : Held P). position_of v.records j) here.0) ∙ sym is.pos ∙ ap (λ (x : Indexed). x.pos) (sym same) ∙ its.pos)))
+      (sym (ap (λ (v : Held P). position_of v.records j) here.0) ∙ sym is.pos ∙ ap (λ (x : Indexed). x.pos) (sym same) ∙ its.pos)))
       other
     where
       place : (u.lane ≡ lane) × (u.index ≡ index)
@@ -141,9 +141,9 @@ module _ {P : Type 0} (hf : List (Held P)) (old_part part : P) (lane index : ℕ
     here all of_k j q at valid = ⊎_elim
         (λ mid. subst (λ (n : ℕ). IsFound new t n q) (sym mid.0) (subst (λ (x : Record). IsFound new t (length fs) x) mid.1 (of_k (subst (λ (x : Record). IsValid (extent_of x).cover) (sym mid.1) valid))))
         (λ other.
-          let found = all j q other.1 valid in
-          let moved : IsEntryOf t j q found.entry = (let is = found.is_its in record { version = is.version; first = is.first; keep = is.keep; lane = is.lane; index = is.index; pos = is.pos ∙ sym (positions_stay fs r k gs j refl) }) in
-          ⊎_elim (λ there. record { entry = found.entry; listed = there; is_its = moved }) (λ same. absurd (not_e its s j q found.entry other.1 found.is_its (inr (refl, other.0)) same)) (stays found.entry found.listed))
+        let found = all j q other.1 valid in
+        let moved : IsEntryOf t j q found.entry = (let is = found.is_its in record { version = is.version; first = is.first; keep = is.keep; lane = is.lane; index = is.index; pos = is.pos ∙ sym (positions_stay fs r k gs j refl) }) in
+        ⊎_elim (λ there. record { entry = found.entry; listed = there; is_its = moved }) (λ same. absurd (not_e its s j q found.entry other.1 found.is_its (inr (refl, other.0)) same)) (stays found.entry found.listed))
         (get_mid fs r k gs j q at)
 
     pub each_trimmed : AreApartPlaces (map place_in (hf ++ s ∷ hb)) → (IsValid (extent_of k).cover → IsFound new t (length fs) k)
@@ -153,7 +153,7 @@ module _ {P : Type 0} (hf : List (Held P)) (old_part part : P) (lane index : ℕ
     each_trimmed apart of_k all =
         let others = other_places hf s hb apart in
         all_joined (Each new) hf (t ∷ hb) (all_with (Each old) (λ (u : Held P). place_in u ≢ place_in s) (Each new) elsewhere hf (all_front (Each old) hf (s ∷ hb) all) others.0)
-            (here (all_mid (Each old) hf s hb all) of_k, all_with (Each old) (λ (u : Held P). place_in u ≢ place_in s) (Each new) elsewhere hb (all_back (Each old) hf (s ∷ hb) all).1 others.1)
+        (here (all_mid (Each old) hf s hb all) of_k, all_with (Each old) (λ (u : Held P). place_in u ≢ place_in s) (Each new) elsewhere hb (all_back (Each old) hf (s ∷ hb) all).1 others.1)
 
   -- an entry of another record stays one
   backed_then : (its : IsEntryOf s (length fs) r e) (d : Indexed) → IsBacked (hf ++ s ∷ hb) d → d.listed.version ≢ e.listed.version → IsBacked (hf ++ t ∷ hb) d
@@ -168,8 +168,15 @@ module _ {P : Type 0} (hf : List (Held P)) (old_part part : P) (lane index : ℕ
           let is : IsEntryOf s b.k b.record_ d = subst (λ (u : Held P). IsEntryOf u b.k b.record_ d) (sym same) b.is_its in
           ⊎_elim
           (λ mid. absurd (other (is.version ∙ ap (λ (x : Record). x.head.version) (sym mid.1) ∙ sym its.version)))
-          (λ elsewhere_. record { segment = t; is_held = member_mid hf t hb; k = b.k; record_ = b.record_; is_there = elsewhere_.1; valid = b.valid;
-            is_its = record { version = is.version; first = is.first; keep = is.keep; lane = is.lane; index = is.index; pos = is.pos ∙ sym (positions_stay fs r k gs b.k refl) } })
+          (λ elsewhere_. record {
+            segment = t;
+            is_held = member_mid hf t hb;
+            k = b.k;
+            record_ = b.record_;
+            is_there = elsewhere_.1;
+            valid = b.valid;
+            is_its = record { version = is.version; first = is.first; keep = is.keep; lane = is.lane; index = is.index; pos = is.pos ∙ sym (positions_stay fs r k gs b.k refl) };
+          })
           (get_mid fs k r gs b.k b.record_ at)
 
   -- where the record keeps a block still
@@ -177,9 +184,10 @@ module _ {P : Type 0} (hf : List (Held P)) (old_part part : P) (lane index : ℕ
       → AreRising (map (λ (d : Indexed). d.listed.version) old) → IsIndexOf old (hf ++ s ∷ hb) → IsIndexOf (front ++ e' ∷ back) (hf ++ t ∷ hb)
   index_trimmed its kept valid apart rising is = record {
     each = each_trimmed (front ++ e' ∷ back) (λ d has. member_swap front e e' back d has) its apart (λ v. record { entry = e'; listed = member_mid front e' back; is_its = of_k }) is.each;
-    only = all_joined (IsBacked (hf ++ t ∷ hb)) front (e' ∷ back) (all_with (IsBacked (hf ++ s ∷ hb)) (λ (d : Indexed). d.listed.version ≢ e.listed.version) (IsBacked (hf ++ t ∷ hb)) (backed_then its) front (all_front (IsBacked (hf ++ s ∷ hb)) front (e ∷ back) is.only) others.0)
-        (record { segment = t; is_held = member_mid hf t hb; k = length fs; record_ = k; is_there = get_here fs k gs; valid = valid; is_its = of_k },
-        all_with (IsBacked (hf ++ s ∷ hb)) (λ (d : Indexed). d.listed.version ≢ e.listed.version) (IsBacked (hf ++ t ∷ hb)) (backed_then its) back (all_back (IsBacked (hf ++ s ∷ hb)) front (e ∷ back) is.only).1 others.1);
+    only = all_joined (IsBacked (hf ++ t ∷ hb)) front (e' ∷ back) (all_with (IsBacked (hf ++ s ∷ hb)) (λ (d : Indexed). d.listed.version ≢ e.listed.version) (IsBacked (hf ++ t ∷ hb)) (backed_then its) front (all_front (IsBacked (hf ++ s ∷ hb)) front (e ∷ back) is.only) others.0) (
+      record { segment = t; is_held = member_mid hf t hb; k = length fs; record_ = k; is_there = get_here fs k gs; valid = valid; is_its = of_k },
+      all_with (IsBacked (hf ++ s ∷ hb)) (λ (d : Indexed). d.listed.version ≢ e.listed.version) (IsBacked (hf ++ t ∷ hb)) (backed_then its) back (all_back (IsBacked (hf ++ s ∷ hb)) front (e ∷ back) is.only).1 others.1,
+    );
   }
     where
       others : AllByRecursion (λ (d : Indexed). d.listed.version ≢ e.listed.version) front × AllByRecursion (λ (d : Indexed). d.listed.version ≢ e.listed.version) back

@@ -32,6 +32,7 @@ pub record Held (P : Type 0) : Type 0 where
   pub broken : Bool
   pub records : List Record
 
+-- a manager as contracts see it
 pub record ManagerSeen (P : Type 0) : Type 0 where
   pub home : P
   pub held : List (Held P)
@@ -57,6 +58,7 @@ pub record Base : Type 0 where
   pub view : List ℕ
   pub look : Look
 
+-- the look of a manager: its flags, next version and listed records
 abbrev pub look_of : {P : Type 0} → ManagerSeen P → Look
 look_of m = record { home_up = m.home_up; ups = m.ups; next = m.next; listed = listed_in m.indexed }
 
@@ -70,6 +72,7 @@ IsPartOf {P} view m (SegmentPart logger index) p =
 abbrev pub extents_held : {P : Type 0} → List (Held P) → List Extent
 extents_held held = flat_map (λ s. map extent_of s.records) held
 
+-- each record of each held segment passes
 abbrev pub AllRecords : {P : Type 0} → (Record → Type 0) → List (Held P) → Type 0
 AllRecords Test held = AllByRecursion (λ s. AllByRecursion Test s.records) held
 
@@ -88,12 +91,13 @@ pub record IsEntryOf {P : Type 0} (s : Held P) (k : ℕ) (r : Record) (e : Index
   pub index : e.index ≡ s.index
   pub pos : e.pos ≡ position_of s.records k
 
--- a valid record of a held segment with its entry in the index, and an index entry with its record
+-- a record of a held segment with its entry in the index
 pub record IsFound {P : Type 0} (indexed : List Indexed) (s : Held P) (k : ℕ) (r : Record) : Type 0 where
   pub entry : Indexed
   pub listed : Contains indexed entry
   pub is_its : IsEntryOf s k r entry
 
+-- an index entry with its record, which is valid
 pub record IsBacked {P : Type 0} (held : List (Held P)) (e : Indexed) : Type 0 where
   pub segment : Held P
   pub is_held : Contains held segment
@@ -117,9 +121,11 @@ pub record IsSorted (indexed : List Indexed) : Type 0 where
 abbrev pub AreInUse : {P : Type 0} → List (Held P) → Type 0
 AreInUse held = AllByRecursion (λ s. (r : Record) × Contains s.records r × IsValid (extent_of r).cover) held
 
+-- block b is homed by an entry of the index
 abbrev pub is_homed_in : List Indexed → ℕ → Bool
 is_homed_in indexed b = list_any (λ e. is_homed e.listed b) indexed
 
+-- the first block says this owner, or free
 abbrev pub SaysOwnerOrFree : (owner : ℕ) → List Block → Type 0
 SaysOwnerOrFree owner [] = ⊥
 SaysOwnerOrFree owner (b ∷ bs) = (b ≡ owned_block owner) ⊎ (b ≡ free_block)
@@ -134,5 +140,6 @@ pub record IsWriteOf (r : Record) (w : Write) : Type 0 where
   pub first : w.first ≡ r.head.first
   pub blocks : w.blocks ≡ r.blocks
 
+-- a record is among these writes
 abbrev pub WasWritten : List Write → Record → Type 0
 WasWritten ws r = (w : Write) × Contains ws w × IsWriteOf r w

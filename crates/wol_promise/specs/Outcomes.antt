@@ -14,6 +14,7 @@ pub data Outcome : Type 0 where
   WasWritten : (logged drained : Bool) → Outcome
   Unanswered : Outcome
 
+-- the request was answered
 abbrev pub is_answered : Outcome → Bool
 is_answered (WasRead mark) = true
 is_answered (WasWritten logged drained) = true
@@ -29,6 +30,7 @@ pub record IsPayload (r : Request) (logged : Bool) (w : Write) : Type 0 where
   pub same : unversioned w ≡ payload r
   pub place : is_some w.version ≡ logged
 
+-- an outcome of a write, whose payload is this write of the history
 abbrev pub IsWriteOf : Outcome → Request → Write → Type 0
 IsWriteOf (WasWritten logged drained) r w = (r.kind ≡ kind.Write) × IsPayload r logged w
 IsWriteOf (WasRead mark) r w = ⊥

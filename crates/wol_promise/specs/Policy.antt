@@ -20,6 +20,7 @@ is_within_reach l e = slice_index_or l.ups e.lane false
 
 -- ---- Reads
 
+-- the newest record of block b is on this lane's logger
 abbrev pub has_newest_on : List Listed → (lane b : ℕ) → Bool
 has_newest_on es lane b = option_map_or (λ (e : Listed). e.lane == lane) (newest cover_of es b) false
 
@@ -36,9 +37,11 @@ woken l first count = record l {
 abbrev pub rooms_but : (passed : List ℕ) → List Bool → List Bool
 rooms_but passed ups = map (λ k. not (list_any (λ p. p == k) passed)) (range_with_len 0 (length ups))
 
+-- where a write goes with this look, when the pools at these places of the view were found empty
 abbrev pub place_of : (passed : List ℕ) → Look → Write → Place
 place_of passed l w = place l.home_up (list_any (is_covered l.listed) (range_with_len w.first (length w.blocks))) l.ups (rooms_but passed l.ups)
 
+-- block b is one of the write
 abbrev pub is_in : Write → ℕ → Bool
 is_in w b = nat_le w.first b && nat_lt b (w.first + length w.blocks)
 
@@ -54,6 +57,7 @@ placed Home l w = record l { home_up = true }
 placed (Log lane) l w = record l { ups = slice_set l.ups lane true; next = l.next + 1; listed = listing l lane w }
 placed Full l w = l
 
+-- the version that a write gets at this place: the next one in a log, none at home
 abbrev pub version_at : Place → Look → Option ℕ
 version_at Home l = None
 version_at (Log lane) l = Some l.next

@@ -10,10 +10,11 @@ use Rattle.wol_promise.specs.Ruled.{Noted, entries_of, last_look}
 
 -- ---- Placed
 
--- the acknowledged writes that went to logs, and those that went home
+-- the acknowledged writes that went to logs
 abbrev pub logged_writes : List Noted → ℕ
 logged_writes notes = count_by (λ (w : Write). is_some w.version) (writes (entries_of notes))
 
+-- the acknowledged writes that went home
 abbrev pub home_writes : List Noted → ℕ
 home_writes notes = count_by (λ (w : Write). not (is_some w.version)) (writes (entries_of notes))
 
@@ -24,6 +25,7 @@ is_drained_write after_drain (Read first reply) = false
 is_drained_write after_drain Kept = false
 is_drained_write after_drain (Broke ws) = false
 
+-- how many writes went home after a drain
 abbrev pub drains : List Noted → ℕ
 drains notes = count_by (λ n. is_drained_write n.after_drain n.entry.operation) notes
 
@@ -33,9 +35,11 @@ drains notes = count_by (λ n. is_drained_write n.after_drain n.entry.operation)
 abbrev pub dues_of : Look → Listed → List (ℕ × ℕ)
 dues_of l e = map (λ b. (e.version, b)) (filter (is_due l.listed e) (block_numbers e))
 
+-- the due blocks of all records of a look
 abbrev pub dues : Look → List (ℕ × ℕ)
 dues l = flat_map (dues_of l) l.listed
 
+-- a pair is among these
 abbrev pub is_among : List (ℕ × ℕ) → (ℕ × ℕ) → Bool
 is_among ps p = list_any (λ q. q.0 == p.0 && q.1 == p.1) ps
 
@@ -55,6 +59,7 @@ abbrev pub put_home_by : Bool → (l m : Look) → ℕ
 put_home_by true l m = no_longer_due l m
 put_home_by false l m = 0
 
+-- the blocks put home by the entries that follow a look
 abbrev pub blocks_put_home : Look → List Noted → ℕ
 blocks_put_home l [] = 0
 blocks_put_home l (n ∷ notes) = put_home_by (reclaims n.after_drain n.entry.operation) l n.look + blocks_put_home n.look notes
@@ -67,6 +72,7 @@ AreGone gone at_opening logged at_exit = gone + at_exit ≡ at_opening + logged
 abbrev pub keeps_a_block : Record → Bool
 keeps_a_block r = list_any (λ m. m) (marks_of r.head.count r.head.mask)
 
+-- how many of these records keep a block
 abbrev pub valid_among : List Record → ℕ
 valid_among rs = count_by keeps_a_block rs
 

@@ -17,6 +17,7 @@ pub record Noted : Type 0 where
   pub after_drain : Bool
   pub ruled : Bool
 
+-- the entries without their notes
 abbrev pub entries_of : List Noted → List Entry
 entries_of notes = map (λ n. n.entry) notes
 
@@ -53,6 +54,7 @@ abbrev pub AreRuled : Look → List Noted → Type 0
 AreRuled l [] = ⊤
 AreRuled l (n ∷ notes) = (IsTrue n.ruled → IsStep n n.entry.pass n.entry.operation l n.look) × AreRuled n.look notes
 
+-- the look that the last entry leaves
 abbrev pub last_look : Look → List Noted → Look
 last_look l [] = l
 last_look l (n ∷ notes) = last_look n.look notes

@@ -26,15 +26,18 @@ abbrev pub read_text : (text : Request → ℕ → List ℕ) → Request → Opt
 read_text text r None = []
 read_text text r (Some mark) = text r mark ∷ []
 
+-- the lines of requests that come after earlier ones
 abbrev pub read_lines_after : (text : Request → ℕ → List ℕ) → (arrays : ℕ → List Block) → (n : ℕ → ℕ) → (earlier : List Request) → List Request → List (List ℕ)
 read_lines_after text arrays n earlier [] = []
 read_lines_after text arrays n earlier (r ∷ rs) =
     (if nat_lt (length (of_volume r.volume earlier)) (n r.volume) then read_text text r (answer arrays earlier r r.kind) else [])
     ++ read_lines_after text arrays n (earlier ++ r ∷ []) rs
 
+-- the lines of all answered reads of a trace
 abbrev pub read_lines : (text : Request → ℕ → List ℕ) → (arrays : ℕ → List Block) → (n : ℕ → ℕ) → List Request → List (List ℕ)
 read_lines text arrays n asked = read_lines_after text arrays n [] asked
 
+-- the lines one after the other
 abbrev pub joined_lines : List (List ℕ) → List ℕ
 joined_lines lines = flat_map (λ l. l) lines
 

@@ -3,6 +3,7 @@ use Rattle.std.specs.Prelude.{◌≡◌, ◌<◌, ℕ, Bool, true, false, List, 
 use Rattle.std.specs.List.{count_by}
 use Rattle.wol_model.specs.Journal.{Use, Started, Began, Needed, Done, Stayed}
 
+-- the use begins an access
 abbrev pub is_need : Use → Bool
 is_need Needed = true
 is_need Done = false
@@ -10,6 +11,7 @@ is_need (Started at) = false
 is_need (Began at) = false
 is_need Stayed = false
 
+-- the use ends an access
 abbrev pub is_done : Use → Bool
 is_done Done = true
 is_done Needed = false
@@ -17,10 +19,11 @@ is_done (Started at) = false
 is_done (Began at) = false
 is_done Stayed = false
 
--- the accesses that a pass's own uses began, and those that are over
+-- the accesses that a pass's own uses began
 abbrev pub needs_in : (mine : List Use) → ℕ
 needs_in mine = count_by is_need mine
 
+-- the accesses that are over
 abbrev pub dones_in : (mine : List Use) → ℕ
 dones_in mine = count_by is_done mine
 

@@ -73,13 +73,15 @@ pub record IsHeldBy {P : Type 0} (parts : Parts P) (base : Base) (s : Held P) : 
   pub room : base.most + 2 ≤ parts.size s.part
   pub owned : (bs : List Block) → parts.may_be s.part bs → SaysOwnerOrFree base.owner bs
 
+-- the lane and the index of a held segment
 abbrev pub place_in : {P : Type 0} → Held P → ℕ × ℕ
 place_in s = (s.lane, s.index)
 
--- no two are the same
+-- a place is none of these
 abbrev pub ApartFrom : (ℕ × ℕ) → List (ℕ × ℕ) → Type 0
 ApartFrom p ps = AllByRecursion (λ q. p ≢ q) ps
 
+-- no two of these places are the same
 abbrev pub AreApartPlaces : List (ℕ × ℕ) → Type 0
 AreApartPlaces [] = ⊤
 AreApartPlaces (p ∷ ps) = ApartFrom p ps × AreApartPlaces ps

@@ -1,4 +1,4 @@
-use Rattle.std.proofs.Common.{arith, refl, ◌∙◌, ◌≡◌, ◌+◌, length, ◌<◌, ap, ◌++◌, ◌∷◌, [], sym}
+use Rattle.std.proofs.Common.{arith, refl, ◌+◌, length, ◌<◌, sym}
 use Rattle.std.proofs.lemmas.List.{take_more_set}
 use Rattle.std.proofs.lemmas.List.FromFn.{map-range_with_len_more}
 use Rattle.wol_model.specs.Trace.{payload_block}

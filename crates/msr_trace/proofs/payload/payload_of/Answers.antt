@@ -1,5 +1,4 @@
-use Rattle.std.proofs.Common.{arith, ◌≡◌, ◌+◌, ◌*◌, ◌∙◌, sym, length, take, drop, ap, refl, add-one, List, ℕ, ◌++◌, length-drop, length-append}
-use Rattle.std.specs.List.{flat_map, range_with_len}
+use Rattle.std.proofs.Common.{arith, ◌≡◌, ◌*◌, ◌∙◌, sym, length, refl, add-one, ℕ, length-drop, length-append}
 use Rattle.std.proofs.lemmas.Slice.{take-put_mid}
 use Rattle.std.proofs.lemmas.List.{take_all, length-take}
 use Rattle.wol_model.specs.Trace.{payload_block}
@@ -17,7 +16,7 @@ loop-i-preserved c =
     record {
       long = omega (arith, long, length-take {A = ℕ}, length-drop {A = ℕ}, length-append {A = ℕ});
       so_far = take-put_mid (16 * c.loop-i.i) _ c.loop-i.block c.copy_from_slice.new.self _ (omega (arith, long)) (omega arith)
-        ∙ rw (c.loop-i.invariant.so_far, same, c.stamp_of-stamp.ensures, add-one) (sym (stamps_more (λ _. stamp c.args.line c.args.lbn) c.loop-i.i));
+          ∙ rw (c.loop-i.invariant.so_far, same, c.stamp_of-stamp.ensures, add-one) (sym (stamps_more (λ _. stamp c.args.line c.args.lbn) c.loop-i.i));
     }
 
 pub returns : goal.returns

@@ -1,14 +1,13 @@
-use Rattle.std.proofs.Common.{rules, arith, ◌≡◌, ◌+◌, ◌≤◌, ◌∙◌, sym, ap, length, take, min, Ok, Err, refl}
+use Rattle.std.proofs.Common.{arith, ◌≡◌, ◌+◌, length, take, min, Ok, Err}
 use Rattle.std.specs.Prelude.{option_map}
-use Rattle.std.specs.List.{position_or_len}
 use Rattle.msr_trace.specs.declared.format.LineFault.TheVariants as fault
 use Rattle.msr_trace.specs.Lines.{is_feed, trace_line, read_of}
 use Rattle.msr_trace.proofs.FirstLine.{gives_line, refuses_line}
 use Rattle.msr_trace.proofs.Feeds.{none_before}
 use Rattle.msr_trace.proofs.reading.give_first.Goals as goal
 
-pub read_line-requires : goal.read_line-requires
-read_line-requires g c = rw c.bytes-held.ensures.value (none_before is_feed c.args.end c.args.intake.now.bytes (omega (arith, c.requires.first)))
+pub parse_line-requires : goal.parse_line-requires
+parse_line-requires g c = rw c.bytes-held.ensures.value (none_before is_feed c.args.end c.args.intake.now.bytes (omega (arith, c.requires.first)))
 
 pub returns-in-Err-clause-bad : goal.returns-in-Err-clause-bad
 returns-in-Err-clause-bad g c = λ why is.

@@ -1,4 +1,4 @@
-use Rattle.std.proofs.Common.{◌≡◌, false, ap, ◌∙◌, sym}
+use Rattle.std.proofs.Common.{ap, ◌∙◌}
 use Rattle.turn_lock.specs.Passes.{pass_lock, pass_seen, pass_number, pass_mine}
 use Rattle.wol_model.specs.Journal.{Done}
 use Rattle.spin_model.specs.Operations.{has_token}

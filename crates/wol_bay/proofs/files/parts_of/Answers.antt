@@ -9,4 +9,4 @@ loop-size-preserved c =
     let i = c.loop-size.size-index in
     let n = get_or c.args.sizes.now i 0 in
     rw (take_more c.args.sizes.now i 0 (omega arith), c.in_ok-push.ensures.items)
-    (blank_push file_part_state None (take i c.args.sizes.now) n c.loop-size.parts.items _ c.loop-size.invariant (record { sized = refl; quiet = refl; content = tt }, tt))
+    (blank_push file_part_state None (take i c.args.sizes.now) n c.loop-size.parts.items _ c.loop-size.invariant (record { sized = refl; quiet = refl; content = tt; zero = tt }, tt))

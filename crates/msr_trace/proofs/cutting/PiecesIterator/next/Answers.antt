@@ -1,4 +1,4 @@
-use Rattle.std.proofs.Common.{rules, arith, ◌≡◌, ◌∙◌, ◌-◌, ◌+◌, ◌<◌, ◌%◌, ◌∷◌, sym}
+use Rattle.std.proofs.Common.{rules, arith, ◌≡◌, ◌∙◌, ◌-◌, ◌+◌, ◌%◌, ◌∷◌, sym}
 use Rattle.wol_model.specs.Trace.{cut_run}
 use Rattle.msr_trace.proofs.Runs.{next_piece}
 use Rattle.msr_trace.proofs.cutting.PiecesIterator.next.Goals as goal

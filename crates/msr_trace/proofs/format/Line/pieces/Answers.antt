@@ -1,4 +1,4 @@
-use Rattle.std.proofs.Common.{arith, ◌<◌, ◌/◌, ◌%◌}
+use Rattle.std.proofs.Common.{◌/◌, ◌%◌}
 use Rattle.std.proofs.lemmas.Nat.{mod_below}
 use Rattle.msr_trace.specs.Lines.{trace_line}
 use Rattle.msr_trace.proofs.Runs.{line_run, run_lies}

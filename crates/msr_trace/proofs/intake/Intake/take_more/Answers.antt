@@ -1,4 +1,4 @@
-use Rattle.std.proofs.Common.{◌≡◌, ◌+◌, ◌-◌, ap, take, drop, arith, refl}
+use Rattle.std.proofs.Common.{◌≡◌, ◌+◌, ◌-◌, ap, take, drop, arith}
 use Rattle.msr_trace.specs.Intake.{Held}
 use Rattle.msr_trace.proofs.Holding.{more}
 use Rattle.msr_trace.proofs.Taking.{takes_some}

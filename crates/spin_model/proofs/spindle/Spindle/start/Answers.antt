@@ -1,5 +1,5 @@
-use Rattle.std.proofs.Common.{◌++◌, ◌∷◌, [], sym, subst, not, ap, ◌∙◌, arith}
-use Rattle.wol_model.specs.Journal.{Started, is_empty}
+use Rattle.std.proofs.Common.{◌++◌, ◌∷◌, [], sym, subst, ◌∙◌, arith}
+use Rattle.wol_model.specs.Journal.{Started}
 use Rattle.spin_model.specs.Operations.{operation_of}
 use Rattle.spin_model.specs.Spindles.{SpindleView, StandsFor}
 use Rattle.spin_model.proofs.Steps.{stands_started, stands_not_started}

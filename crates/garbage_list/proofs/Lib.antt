@@ -1,0 +1,4 @@
+pub mod Going
+pub mod Finding
+pub mod Places
+pub mod Lanes

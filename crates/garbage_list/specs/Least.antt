@@ -1,0 +1,23 @@
+-- The records within reach that have something to give up, or to put home.
+use Rattle.std.specs.Prelude.{◌<◌, ℕ, Bool, false, ◌&&◌, List, length, find, Option, option_map, slice_index_or}
+use Rattle.wol_model.specs.Index.{listed_in, Indexed, has_due, has_going}
+
+-- there is a flag for the record's lane
+abbrev pub HasLane : List Bool → Indexed → Type 0
+HasLane lanes e = e.listed.lane < length lanes
+
+-- the record's lane is true in the list: its logger is awake
+abbrev pub is_awake : List Bool → Indexed → Bool
+is_awake lanes e = slice_index_or lanes e.listed.lane false
+
+-- and a block of the record may go
+abbrev pub can_go : List Bool → List Indexed → Indexed → Bool
+can_go lanes es e = is_awake lanes e && has_going (listed_in es) e.listed
+
+-- or is due
+abbrev pub can_go_home : List Bool → List Indexed → Indexed → Bool
+can_go_home lanes es e = is_awake lanes e && has_due (listed_in es) e.listed
+
+-- the version of the first record that passes
+abbrev pub first_version : (Indexed → Bool) → List Indexed → Option ℕ
+first_version test es = option_map (λ e. e.listed.version) (find test es)

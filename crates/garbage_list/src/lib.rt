@@ -1,0 +1,10 @@
+//! What of the records in logs may be given up, and what has to be put home first.
+#![tactic(auto)]
+
+mod find;
+mod masks;
+#[cfg(test)]
+mod tests;
+
+pub use find::{next_due, next_to_go};
+pub use masks::{due, may_go};

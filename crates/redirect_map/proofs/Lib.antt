@@ -1,0 +1,10 @@
+pub mod Bits
+pub mod Meeting
+pub mod Counting
+pub mod Found
+pub mod Keeping
+pub mod Seen
+pub mod Answering
+pub mod Versions
+pub mod Changing
+pub mod Adding

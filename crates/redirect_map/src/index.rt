@@ -1,0 +1,202 @@
+// The index of a volume's records.
+ghost use Rattle.std.specs.Prelude.{◌≡◌, ◌<◌, ◌≤◌, ◌^◌, ◌+◌, ◌==◌, ℕ, true, length, map, filter, slice_get, ◌++◌, ◌∷◌, [], OnOk, OnErr, IfSome};
+ghost use Rattle.std.specs.Option.{ForSome};
+ghost use Rattle.std.specs.List.{list_any, range_with_len, AllByRecursion};
+ghost use Rattle.wol_model.specs.Log.{has_bit, marks_of};
+ghost use Rattle.wol_model.specs.Extents.{newest};
+ghost use Rattle.wol_model.specs.Index.{listed_in, is_covered, is_live, is_older, is_homed, goes, keeps_a_block};
+ghost use Rattle.redirect_map.specs.Masks.{IsMask};
+ghost use Rattle.redirect_map.specs.Runs.{runs_of};
+ghost use Rattle.redirect_map.specs.Index.{cover_at, entry_at, HasVersion, entry_of, IsRecordOf, IsAnswer, changed, unhomed, with_homed, given_up, IsIndex};
+
+use crate::entry::{Entry, any_meets, kept_from, last_with, place_of, unhome, with_version};
+use crate::record::Rec;
+use std::alloc::Global;
+use std::marker::Model;
+use wol_disk::NoMemory;
+
+/// The records of a volume by rising version, each with the blocks that it keeps and those of them that are
+/// home. Contracts see that list, and the number of runs of kept blocks for which room is reserved.
+///
+/// A block of a record is live where the record keeps it and no newer record does. Only live blocks are homed.
+#[derive(Drop)]
+pub struct Index {
+    entries: Vec<Entry>,
+}
+
+impl Model for Index {
+    ghost use Rattle.std.specs.Prelude.{◌-◌, map, vec_len, vec_capacity};
+    ghost use Rattle.redirect_map.specs.Index.{Contents};
+    ghost use Rattle.redirect_map.specs.Kept.{seen, AreEntries};
+
+    ghost Value = { Contents };
+
+    ghost view = { λ a. record { entries = map seen a.entries.items; reserved = vec_capacity a.entries - vec_len a.entries } };
+
+    ghost invariant = { λ a. AreEntries a.entries.items };
+}
+
+impl Index {
+    /// An index without records.
+    pub fn new(alloc: Global) -> Index
+        ensures { result.entries ≡ [] }
+    {
+        Index {
+            entries: Vec::new(alloc),
+        }
+    }
+
+    /// Makes room for records with `more` runs of kept blocks in all, counting the room that is there. This
+    /// is the one call that takes memory; after want of memory the index is as it was.
+    pub fn reserve(&mut self, more: u32) -> Result<(), NoMemory>
+        ensures ok { OnOk result (more ≤ self.new.reserved) }
+        ensures err { OnErr result (self.old.reserved < more) }
+        ensures room { self.old.reserved ≤ self.new.reserved }
+        ensures unchanged { self.new.entries ≡ self.old.entries }
+    {
+        self.entries.reserve(more as usize)?;
+        Ok(())
+    }
+
+    /// Adds a record whose version is above all others. It takes one reserved place for each run of kept
+    /// blocks. The blocks that it keeps are homed no more in older records.
+    pub fn add(&mut self, entry: Rec)
+        requires newest { AllByRecursion (λ e. e.listed.version < entry.version) self.old.entries }
+        requires some { 1 ≤ entry.count }
+        requires count { entry.count ≤ 128 }
+        requires within { entry.lbn + entry.count ≤ 2 ^ 32 }
+        requires keeps { 0 < entry.keep }
+        requires keep_within { entry.keep < 2 ^ entry.count }
+        requires reserved { runs_of (marks_of entry.count entry.keep) ≤ self.old.reserved }
+
+        ensures entries { self.new.entries
+            ≡ map (unhomed (cover_at (entry_of entry 0))) self.old.entries ++ entry_of entry 0 ∷ [] }
+        ensures room { self.old.reserved ≤ self.new.reserved + runs_of (marks_of entry.count entry.keep) }
+    {
+        unhome(&mut self.entries, &entry);
+        self.entries.push_reserved(Entry {
+            record: entry,
+            homed: 0,
+        });
+    }
+
+    /// The newest record that covers the block, and none where no record covers it.
+    pub fn newest(&self, lbn: u64) -> Option<Rec>
+        ensures { IsAnswer (newest cover_at self.now.entries lbn) result }
+    {
+        let entry = last_with(&self.entries, lbn)?;
+        Some(entry.record)
+    }
+
+    /// Whether a record covers at least one block of the range.
+    pub fn covered(&self, lbn: u64, count: u32) -> bool
+        ensures { result ≡ list_any (is_covered (listed_in self.now.entries)) (range_with_len lbn count) }
+    {
+        any_meets(&self.entries, lbn, count)
+    }
+
+    /// The record of this version, and none where there is none.
+    pub fn find(&self, version: u64) -> Option<Rec>
+        ensures { IsAnswer (entry_at self.now.entries version) result }
+    {
+        let entry = with_version(&self.entries, version)?;
+        Some(entry.record)
+    }
+
+    /// The live blocks of this version's record.
+    pub fn live(&self, version: u64) -> u128
+        requires { HasVersion self.now.entries version }
+        ensures { IfSome (entry_at self.now.entries version)
+            (λ e. IsMask e.listed.first (is_live (listed_in self.now.entries) e.listed) result) }
+    {
+        let place = place_of(&self.entries, version);
+        let record = self.entries[place].record;
+        record.keep & !kept_from(&self.entries[place + 1..], record.lbn)
+    }
+
+    /// The kept blocks of this version's record that an older record keeps too.
+    pub fn older(&self, version: u64) -> u128
+        requires { HasVersion self.now.entries version }
+        ensures { IfSome (entry_at self.now.entries version)
+            (λ e. IsMask e.listed.first (is_older (listed_in self.now.entries) e.listed) result) }
+    {
+        let place = place_of(&self.entries, version);
+        let record = self.entries[place].record;
+        record.keep & kept_from(&self.entries[..place], record.lbn)
+    }
+
+    /// The homed blocks of this version's record: those of its live blocks that are noted to be home.
+    pub fn homed(&self, version: u64) -> u128
+        requires { HasVersion self.now.entries version }
+        ensures value { IfSome (entry_at self.now.entries version)
+            (λ e. IsMask e.listed.first (is_homed e.listed) result) }
+        ensures live { IfSome (entry_at self.now.entries version)
+            (λ e. (i : ℕ) → has_bit result i ≡ true
+            → is_live (listed_in self.now.entries) e.listed (e.listed.first + i) ≡ true) }
+    {
+        let place = place_of(&self.entries, version);
+        self.entries[place].homed
+    }
+
+    /// Notes which blocks of this version's record are home: those of the mask, which are live, and no
+    /// others.
+    pub fn set_homed(&mut self, version: u64, mask: u128)
+        requires there { HasVersion self.old.entries version }
+        requires live { ForSome (entry_at self.old.entries version)
+            (λ e. (i : ℕ) → has_bit mask i ≡ true
+            → is_live (listed_in self.old.entries) e.listed (e.listed.first + i) ≡ true) }
+
+        ensures entries { self.new.entries ≡ changed version (with_homed mask) self.old.entries }
+        ensures room { self.new.reserved ≡ self.old.reserved }
+    {
+        let place = place_of(&self.entries, version);
+        self.entries[place].homed = mask;
+    }
+
+    /// Gives up the blocks of the mask, which may go, of this version's record. A record that keeps nothing
+    /// then is gone from the index. Takes no memory.
+    pub fn trim(&mut self, version: u64, mask: u128)
+        requires there { HasVersion self.old.entries version }
+        requires some { 0 < mask }
+        requires goes { ForSome (entry_at self.old.entries version)
+            (λ e. (i : ℕ) → has_bit mask i ≡ true
+            → goes (listed_in self.old.entries) e.listed (e.listed.first + i) ≡ true) }
+
+        ensures entries { self.new.entries
+            ≡ filter (λ e. keeps_a_block e.listed) (changed version (given_up mask) self.old.entries) }
+        ensures room { self.old.reserved ≤ self.new.reserved }
+    {
+        let place = place_of(&self.entries, version);
+        let mut entry = self.entries[place];
+        entry.record.keep &= !mask;
+        entry.homed &= !mask;
+        if entry.record.keep == 0 {
+            self.entries.remove(place);
+        } else {
+            self.entries[place] = entry;
+        }
+    }
+
+    /// How many records there are.
+    pub fn len(&self) -> u64
+        ensures value { result ≡ length self.now.entries }
+        ensures index { IsIndex self.now.entries }
+    {
+        self.entries.len() as u64
+    }
+
+    /// Whether there is no record.
+    pub fn is_empty(&self) -> bool
+        ensures { result ≡ (length self.now.entries == 0) }
+    {
+        self.entries.is_empty()
+    }
+
+    /// The record at this place of the list, which begins at 0.
+    pub fn at(&self, place: u64) -> Rec
+        requires { place < length self.now.entries }
+        ensures { IfSome (slice_get self.now.entries place) (λ e. IsRecordOf e result) }
+    {
+        self.entries[place as usize].record
+    }
+}

@@ -1,0 +1,156 @@
+-- The image of a run: it goes out blank and comes back as the run left it.
+use Rattle.std.proofs.Common.{◌≡◌, inl, inr, ℕ, List, [], ◌∷◌, ◌++◌, Option, None, Some, Result, Ok, Err, refl, sym, ap, ◌∙◌, append-nil, length, take, drop, arith}
+use Rattle.std.proofs.lemmas.List.{drop_all, length-map, take_all}
+use Rattle.std.specs.Prelude.{codes, option_map, IfSome}
+use Rattle.wol_disk.specs.Disk.{Block, State, Values, only, reads}
+use Rattle.wol_disk.specs.Zeros.{zeros}
+use Rattle.wol_disk.proofs.Images.{reads_only}
+use Rattle.wol_bay.specs.Bay.{Told, came_back, sent_out, stored, without}
+use Rattle.wol_bay.specs.Parts.{AreBlank, IsBlank, blocks_of, joined, sizes_of}
+use Rattle.wol_bay.specs.declared.fault.BayFault.{BayFault}
+use Rattle.wol_bay.specs.declared.fault.BayFault.TheVariants as bay
+use Rattle.wol_io.proofs.Appending.{appends_both, appends_kept, front_last, keeps_same}
+use Rattle.wol_model.specs.Trace.{Target}
+use Rattle.solo.specs.declared.fault.Fault.{Fault}
+use Rattle.solo.specs.declared.fault.Fault.TheVariants as fault
+use Rattle.solo.specs.declared.tally.Tally.{Tally}
+use Rattle.solo.specs.Faults.{fault_of_bay}
+use Rattle.solo.specs.Images.{BeginsBlank, IsOnePart, LeavesImages, RunsInBay, RunsOnFirst, Stores, LeavesBy}
+use Rattle.solo.specs.Requests.{asked_of}
+use Rattle.solo.specs.Runs.{Ends, EndsBy, Runs, RunsWhole, StopsBy}
+use Rattle.solo.specs.Served.{IsSettled, LeavesCuts, content_of}
+use Rattle.solo.specs.Summed.{SumsUp}
+use Rattle.solo.specs.Texts.{summary_text}
+use Rattle.solo.proofs.Answering.{answered_none}
+use Rattle.solo.proofs.Running.{has_none, has_some, none_asked}
+
+-- ---- The last line
+
+-- all was run, and then the last line was written
+pub summed : {T : Type 0} (target : Target) (trace left : Option (List ℕ)) (array : Option (List Block)) (tally : Tally) (result : Result T Fault) (old mid new : Option (List ℕ)) (values : Option (List (Values Block)))
+    → RunsWhole target trace array tally old mid values → SumsUp result mid new (summary_text tally) → Ends target trace left array result old new values
+summed target trace left array tally (Ok x) old mid new values (lines, has, few, counted, ((marks, are, took), cuts)) sums =
+    (lines, has, few, marks, are, appends_both old mid new _ _ took (rw counted at sums), cuts)
+summed target trace left array tally (Err fault.Sink) old mid new values (lines, has, few, counted, ((marks, are, took), cuts)) sums =
+    inr (lines, has, few, marks, are, front_last old mid new _ _ took (rw counted at sums), cuts)
+summed target trace left array tally (Err fault.NoMemory) old mid new values (lines, has, few, counted, ((marks, are, took), cuts)) sums =
+    (lines, [], has, (asked_of target lines, [], (sym (append-nil (asked_of target lines)), cuts), (marks, are, appends_kept old mid new _ took sums)))
+summed target trace left array tally (Err fault.Bay) old mid new values whole sums = absurd sums
+summed target trace left array tally (Err fault.Disk) old mid new values whole sums = absurd sums
+summed target trace left array tally (Err (fault.BadLine line why)) old mid new values whole sums = absurd sums
+summed target trace left array tally (Err fault.Spent) old mid new values whole sums = absurd sums
+summed target trace left array tally (Err fault.Source) old mid new values whole sums = absurd sums
+
+-- the trace wasn't run to its end
+pub stopped : (e : Fault) (target : Target) (trace left : Option (List ℕ)) (array : Option (List Block)) (old new : Option (List ℕ)) (values : Option (List (Values Block))) → StopsBy e target trace left array old new values → EndsBy e target trace left array old new values
+stopped fault.Bay target trace left array old new values stops = absurd stops
+stopped fault.Sink target trace left array old new values stops = inl stops
+stopped fault.Disk target trace left array old new values stops = stops
+stopped fault.NoMemory target trace left array old new values stops = stops
+stopped (fault.BadLine line why) target trace left array old new values stops = stops
+stopped fault.Spent target trace left array old new values stops = stops
+stopped fault.Source target trace left array old new values stops = stops
+
+-- ---- The image
+
+zero_settled : (values : Option (List (Values Block))) (n : ℕ) → IfSome values (λ vs. vs ≡ only (zeros n)) → IsSettled values
+zero_settled None n zero = refl
+zero_settled (Some vs) n zero = ap Some (zero ∙ ap only (sym (reads_only (zeros n)) ∙ ap reads (sym zero)))
+
+blank_begins : (target : Target) (told : Option Told) (part : State) → IsBlank target.home told part → BeginsBlank target told (content_of part.values)
+blank_begins target None part blank = tt
+blank_begins target (Some t) part blank = ap content_of blank.content ∙ ap Some (reads_only (zeros target.home))
+
+came_stored : (values : Option (List (Values Block))) → joined values (Some []) ≡ values
+came_stored None = refl
+came_stored (Some vs) = ap Some (append-nil vs)
+
+stores : (told mid new : Option Told) (sizes places : List ℕ) (values : Option (List (Values Block))) → mid ≡ option_map (sent_out (codes "solo") sizes) told
+    → new ≡ option_map (came_back (codes "solo") (joined values (Some [])) places) mid → Stores told new values
+stores None mid new sizes places values sent back = tt
+stores (Some t) mid new sizes places values sent back =
+    rw (back, sent) (ap (λ (vs : Option (List (Values Block))). stored (codes "solo") vs (without (codes "solo") t.images)) (came_stored values))
+
+abbrev RanInBay : Target → (trace left : Option (List ℕ)) → (told new : Option Told) → Result Tally Fault → (old out : Option (List ℕ)) → Type 0
+RanInBay target trace left told new ran old out =
+    (array : Option (List Block)) × BeginsBlank target told array × (values : Option (List (Values Block))) × Stores told new values × Runs target trace left array ran old out values
+
+module _ {D : Type 0} (state : D → State) where
+  pub one_part : (told : Option Told) (n : ℕ) (parts : List D) → AreBlank state told (n ∷ []) parts → IsOnePart state n parts
+  one_part told n [] blank = absurd blank
+  one_part told n (part ∷ []) blank = (blank.0.sized, blank.0.quiet, zero_settled (state part).values n blank.0.zero)
+  one_part told n (part ∷ next ∷ parts) blank = absurd blank.1
+
+  -- what was run on the part comes back
+  pub ran_in_bay : (target : Target) (trace left : Option (List ℕ)) (told mid new : Option Told) (sizes places : List ℕ) (parts parts' : List D) (ran : Result Tally Fault) (old out : Option (List ℕ))
+      → AreBlank state told (target.home ∷ []) parts → sizes_of state parts' ≡ sizes_of state parts → mid ≡ option_map (sent_out (codes "solo") sizes) told
+      → new ≡ option_map (came_back (codes "solo") (blocks_of state parts') places) mid → RunsOnFirst state target trace left parts parts' ran old out → RanInBay target trace left told new ran old out
+  ran_in_bay target trace left told mid new sizes places [] parts' ran old out blank same sent back runs = absurd blank
+  ran_in_bay target trace left told mid new sizes places (part ∷ next ∷ parts) parts' ran old out blank same sent back runs = absurd blank.1
+  ran_in_bay target trace left told mid new sizes places (part ∷ []) [] ran old out blank same sent back runs = absurd runs
+  ran_in_bay target trace left told mid new sizes places (part ∷ []) (part' ∷ next ∷ parts') ran old out blank same sent back runs = absurd (cc same)
+  ran_in_bay target trace left told mid new sizes places (part ∷ []) (part' ∷ []) ran old out blank same sent back runs =
+      (content_of (state part).values, blank_begins target told (state part) blank.0, (state part').values, stores told mid new sizes places (state part').values sent back, runs)
+
+left_by : (e : Fault) (old new : Option Told) (values : Option (List (Values Block))) (target : Target) (trace left : Option (List ℕ)) (array : Option (List Block)) (was now : Option (List ℕ))
+    → StopsBy e target trace left array was now values → Stores old new values → LeavesBy e old new values
+left_by fault.Bay old new values target trace left array was now stops there = absurd stops
+left_by fault.NoMemory old new values target trace left array was now stops there = inr there
+left_by fault.Disk old new values target trace left array was now stops there = there
+left_by fault.Sink old new values target trace left array was now stops there = there
+left_by fault.Source old new values target trace left array was now stops there = there
+left_by fault.Spent old new values target trace left array was now stops there = there
+left_by (fault.BadLine line why) old new values target trace left array was now stops there = there
+
+leaves : {T : Type 0} (result : Result T Fault) (old new : Option Told) (values : Option (List (Values Block))) (was now : Option (List ℕ)) (text : List ℕ) → SumsUp result was now text → Stores old new values → LeavesImages result old new values
+leaves (Ok x) old new values was now text sums there = there
+leaves (Err fault.Bay) old new values was now text sums there = absurd sums
+leaves (Err fault.NoMemory) old new values was now text sums there = inr there
+leaves (Err fault.Disk) old new values was now text sums there = there
+leaves (Err fault.Sink) old new values was now text sums there = there
+leaves (Err fault.Source) old new values was now text sums there = there
+leaves (Err fault.Spent) old new values was now text sums there = there
+leaves (Err (fault.BadLine line why)) old new values was now text sums there = there
+
+pub ends_summed : {T : Type 0} (target : Target) (trace left : Option (List ℕ)) (told new : Option Told) (tally : Tally) (result : Result T Fault) (old mid out : Option (List ℕ))
+    → RanInBay target trace left told new (Ok tally) old mid → SumsUp result mid out (summary_text tally) → RunsInBay target trace left told new result old out
+ends_summed target trace left told new tally result old mid out (array, begins, values, left_there, runs) sums =
+    (array, begins, values, leaves result told new values mid out (summary_text tally) sums left_there, summed target trace left array tally result old mid out values runs sums)
+
+pub ends_stopped : (T : Type 0) (target : Target) (trace left : Option (List ℕ)) (told new : Option Told) (e : Fault) (old out : Option (List ℕ)) → RanInBay target trace left told new (Err e) old out → RunsInBay {T = T} target trace left told new (Err e) old out
+ends_stopped T target trace left told new e old out (array, begins, values, left_there, runs) = (array, begins, values, left_by e told new values target trace left array old out runs left_there, stopped e target trace left array old out values runs)
+
+-- parts that were lent as a slice
+pub written_back : {D : Type 0} (state : D → State) (n : ℕ) (parts lent parts' : List D) → lent ≡ parts → n ≡ length parts → sizes_of state parts' ≡ sizes_of state lent → take n (parts' ++ drop (length parts') parts) ≡ parts'
+written_back {D} state n parts lent parts' is count same =
+    let as_many : length parts' ≡ length lent = sym (length-map parts' (λ (part : D). (state part).size)) ∙ ap (λ (sizes : List ℕ). length sizes) same ∙ length-map lent (λ (part : D). (state part).size) in
+    let all : length parts' ≡ length parts = as_many ∙ ap (λ (ps : List D). length ps) is in
+    let none : drop (length parts') parts ≡ [] = drop_all (length parts') parts (omega (arith, all)) in
+    rw (none, append-nil) (take_all n parts' (omega (arith, all, count)))
+
+-- ---- The image wasn't made
+
+no_cuts : (array : Option (List Block)) → LeavesCuts array [] [] None
+no_cuts None = tt
+no_cuts (Some a) = λ image is. absurd is
+
+no_memory : (target : Target) (trace left : Option (List ℕ)) (array : Option (List Block)) (old : Option (List ℕ)) → StopsBy fault.NoMemory target trace left array old old None
+no_memory target trace left array old =
+    let (more, has) = has_some trace trace [] (has_none trace) in
+    ([], more, has, ([], [], (none_asked target, no_cuts array), answered_none array old old (keeps_same old)))
+
+ends_early : (e : BayFault) (target : Target) (trace left : Option (List ℕ)) (array : Option (List Block)) (old : Option (List ℕ)) → EndsBy (fault_of_bay e) target trace left array old old None
+ends_early bay.NoMemory target trace left array old = no_memory target trace left array old
+ends_early bay.Absent target trace left array old = keeps_same old
+ends_early bay.Failed target trace left array old = keeps_same old
+ends_early (bay.WrongLength bytes) target trace left array old = keeps_same old
+
+not_there : (e : BayFault) (old new : Option Told) → new ≡ old → LeavesBy (fault_of_bay e) old new None
+not_there bay.NoMemory old new same = inl same
+not_there bay.Absent old new same = same
+not_there bay.Failed old new same = same
+not_there (bay.WrongLength bytes) old new same = same
+
+pub not_made : (T : Type 0) (e : BayFault) (target : Target) (trace left : Option (List ℕ)) (told new : Option Told) (old : Option (List ℕ)) → new ≡ told → RunsInBay {T = T} target trace left told new (Err (fault_of_bay e)) old old
+not_made T e target trace left None new old same = (None, tt, None, not_there e None new same, ends_early e target trace left None old)
+not_made T e target trace left (Some t) new old same = (Some (zeros target.home), refl, None, not_there e (Some t) new same, ends_early e target trace left (Some (zeros target.home)) old)

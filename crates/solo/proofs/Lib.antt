@@ -1,0 +1,9 @@
+pub mod Marks
+pub mod Answering
+pub mod Cuts
+pub mod Stored
+pub mod Running
+pub mod Steps
+pub mod Tallies
+pub mod LinePieces
+pub mod Imaging

@@ -1,0 +1,88 @@
+-- The lines of a trace, and what they ask of the one volume of a run.
+use Rattle.std.specs.Prelude.{◌≡◌, ℕ, ◌+◌, Bool, true, false, List, [], ◌∷◌, ◌++◌, length, map, count_by, Option, None, Some, is_none, Result, Ok, ⊤}
+use Rattle.wol_model.specs.Trace as model
+use Rattle.wol_model.specs.Trace.{Target, TraceLine, pieces, requests, requests_of, volume_of}
+use Rattle.wol_model.specs.declared.trace.Kind.{Kind}
+use Rattle.wol_model.specs.declared.trace.Kind.TheVariants as kind
+use Rattle.wol_model.specs.declared.trace.Piece.{Piece}
+use Rattle.msr_trace.specs.Lines.{lines_of, read_of}
+use Rattle.msr_trace.specs.declared.format.BadLine.{BadLine}
+use Rattle.solo.specs.declared.request.Request.{Request}
+use Rattle.solo.specs.declared.tally.Tally.{Tally}
+
+-- what a line is read as: a blank line as none, and a bad line as its refusal
+abbrev pub LineRead : Type 0
+LineRead = Result (Option TraceLine) BadLine
+
+abbrev pub lines_read : List ℕ → List LineRead
+lines_read trace = map read_of (lines_of trace)
+
+-- a trace, where it is told, has these lines, none of which is bad, and then more
+abbrev pub HasLines : (trace : Option (List ℕ)) → (lines : List (Option TraceLine)) → (more : List LineRead) → Type 0
+HasLines None lines more = ⊤
+HasLines (Some trace) lines more = lines_read trace ≡ map Ok lines ++ more
+
+-- .. and these bytes are left of it
+abbrev pub HasLinesBefore : (trace : Option (List ℕ)) → (lines : List (Option TraceLine)) → (left : Option (List ℕ)) → Type 0
+HasLinesBefore None lines left = ⊤
+HasLinesBefore (Some trace) lines None = ⊥
+HasLinesBefore (Some trace) lines (Some left) = HasLines (Some trace) lines (lines_read left)
+
+-- the requests that these lines ask of the volume, in pieces of at most 128 blocks; the volume has number 0
+abbrev pub asked_of : Target → List (Option TraceLine) → List model.Request
+asked_of target lines = requests 128 (target ∷ []) lines
+
+-- a request of the program as the definitions see it
+abbrev pub request_of : Request → model.Request
+request_of r = record { line = r.line; volume = 0; kind = r.kind; first = r.first; count = r.count }
+
+-- the requests that a line asks of a volume of `home` blocks to which it belongs
+abbrev pub piece_request : (number : ℕ) → Kind → Piece → model.Request
+piece_request number kind piece = record { line = number; volume = 0; kind = kind; first = piece.lbn; count = piece.count }
+
+abbrev pub line_requests : (home number : ℕ) → TraceLine → List model.Request
+line_requests home number line = map (piece_request number line.kind) (pieces home 128 line)
+
+abbrev pub is_read : Kind → Bool
+is_read kind.Read = true
+is_read kind.Write = false
+
+abbrev pub is_write : Kind → Bool
+is_write kind.Read = false
+is_write kind.Write = true
+
+-- a line that doesn't belong to the volume
+abbrev pub is_skipped : Target → Option TraceLine → Bool
+is_skipped target None = false
+is_skipped target (Some line) = is_none (volume_of (target ∷ []) line)
+
+-- the requests of one line
+abbrev pub requests_at : Target → (number : ℕ) → Option TraceLine → List model.Request
+requests_at target number None = []
+requests_at target number (Some line) = requests_of 128 (target ∷ []) number line
+
+abbrev pub reads_in : List model.Request → ℕ
+reads_in rs = count_by (λ (r : model.Request). is_read r.kind) rs
+
+abbrev pub writes_in : List model.Request → ℕ
+writes_in rs = count_by (λ (r : model.Request). is_write r.kind) rs
+
+-- what is counted of these lines and of all their requests
+unfoldable pub tally_of : Target → List (Option TraceLine) → Tally
+tally_of target lines = record {
+  lines = length lines;
+  blank = count_by is_none lines;
+  skipped = count_by (is_skipped target) lines;
+  reads = reads_in (asked_of target lines);
+  writes = writes_in (asked_of target lines);
+}
+
+-- the same with one more line
+unfoldable pub tally_with : Target → (number : ℕ) → Option TraceLine → Tally → Tally
+tally_with target number line t = record {
+  lines = t.lines + 1;
+  blank = t.blank + count_by is_none (line ∷ []);
+  skipped = t.skipped + count_by (is_skipped target) (line ∷ []);
+  reads = t.reads + reads_in (requests_at target number line);
+  writes = t.writes + writes_in (requests_at target number line);
+}

@@ -1,0 +1,71 @@
+-- What requests leave of a disk and of a sink.
+use Rattle.std.specs.Prelude.{◌≡◌, ℕ, ⊤, List, ◌++◌, take, Option, None, Some, option_map, Result, MatchResult}
+use Rattle.std.specs.Io.KnownBytes.{Appends}
+use Rattle.wol_disk.specs.Disk.{Block, IsImageOf, Values, only, reads}
+use Rattle.wol_io.specs.Streams.{AppendsFront}
+use Rattle.wol_model.specs.Blocks.{after}
+use Rattle.wol_model.specs.History.{IsCut}
+use Rattle.wol_model.specs.Trace.{Request, payloads}
+use Rattle.solo.specs.declared.fault.Fault.{Fault}
+use Rattle.solo.specs.declared.fault.Fault.TheVariants as fault
+use Rattle.solo.specs.Texts.{AreMarks, read_lines}
+
+-- what a disk reads as, where it tells its content
+abbrev pub content_of : Option (List (Values Block)) → Option (List Block)
+content_of values = option_map reads values
+
+-- the same after the writes among requests
+abbrev pub content_after : List Request → Option (List Block) → Option (List Block)
+content_after rs array = option_map (λ a. after a (payloads 0 rs)) array
+
+-- each block of a disk has one value, as after a sync
+abbrev pub IsSettled : Option (List (Values Block)) → Type 0
+IsSettled values = values ≡ option_map only (content_of values)
+
+-- a stop leaves the array after the answered writes, and maybe some blocks of the write in flight
+abbrev pub LeavesCuts : (array : Option (List Block)) → (answered flight : List Request) → (values : Option (List (Values Block))) → Type 0
+LeavesCuts None answered flight values = ⊤
+LeavesCuts (Some a) answered flight values = (image : List Block) → IsImageOf values image → IsCut a (payloads 0 answered) (payloads 0 flight) image
+
+-- the sink took the lines of the reads
+abbrev pub Answered : (array : Option (List Block)) → List Request → (old new : Option (List ℕ)) → Type 0
+Answered array rs old new = (marks : List (Option ℕ)) × AreMarks array rs marks × Appends old new (read_lines rs marks)
+
+-- .. or a front of them
+abbrev pub AnsweredFront : (array : Option (List Block)) → List Request → (old new : Option (List ℕ)) → Type 0
+AnsweredFront array rs old new = (marks : List (Option ℕ)) × AreMarks array rs marks × AppendsFront old new (read_lines rs marks)
+
+-- some first requests were answered, and no more than the next one was in flight
+abbrev pub StopsAfter : (first rest : List Request) → (array : Option (List Block)) → List Request → (values : Option (List (Values Block))) → Type 0
+StopsAfter first rest array rs values = (rs ≡ first ++ rest) × LeavesCuts array first (take 1 rest) values
+
+-- how requests end that weren't all answered: only by their disk, the sink, or want of memory
+abbrev pub LeftBy : Fault → (array : Option (List Block)) → List Request → (old new : Option (List ℕ)) → (values : Option (List (Values Block))) → Type 0
+LeftBy fault.Disk array rs old new values = (first rest : List Request) × StopsAfter first rest array rs values × Answered array first old new
+LeftBy fault.NoMemory array rs old new values = (first rest : List Request) × StopsAfter first rest array rs values × Answered array first old new
+LeftBy fault.Sink array rs old new values = (first rest : List Request) × StopsAfter first rest array rs values × AnsweredFront array first old new
+LeftBy fault.Bay array rs old new values = ⊥
+LeftBy (fault.BadLine line why) array rs old new values = ⊥
+LeftBy fault.Spent array rs old new values = ⊥
+LeftBy fault.Source array rs old new values = ⊥
+
+-- what requests in order leave of the sink, and of the disk where they weren't all answered
+abbrev pub Serves : {T : Type 0} → (array : Option (List Block)) → List Request → Result T Fault → (old new : Option (List ℕ)) → (values : Option (List (Values Block))) → Type 0
+Serves array rs result old new values = MatchResult result (λ _. Answered array rs old new) (λ e. LeftBy e array rs old new values)
+
+-- the count of a sink that isn't the fault is as before
+abbrev pub CalmBut : Fault → (before now : ℕ) → Type 0
+CalmBut fault.Sink before now = ⊤
+CalmBut fault.Disk before now = now ≡ before
+CalmBut fault.NoMemory before now = now ≡ before
+CalmBut fault.Bay before now = now ≡ before
+CalmBut (fault.BadLine line why) before now = now ≡ before
+CalmBut fault.Spent before now = now ≡ before
+CalmBut fault.Source before now = now ≡ before
+
+abbrev pub IsCalm : {T : Type 0} → Result T Fault → (before now : ℕ) → Type 0
+IsCalm result before now = MatchResult result (λ _. now ≡ before) (λ e. CalmBut e before now)
+
+-- the only refusal is that of the disk
+abbrev pub IsOnlyDisk : {T : Type 0} → Result T Fault → Type 0
+IsOnlyDisk result = MatchResult result (λ _. ⊤) (λ e. e ≡ fault.Disk)

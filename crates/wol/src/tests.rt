@@ -1,0 +1,163 @@
+// Runs of the top call over streams and a bay in memory. The expected outputs were worked out by hand from the formats.
+use crate::top::run;
+use std::alloc::{AllocError, Global};
+use std::process::Abort;
+use std::sync::Wait;
+use std::test::Fail;
+use std::thread::Threads;
+use wol_bay::MemBay;
+use wol_io::{MemSink, MemSource, NoGate};
+
+const WRITE_AND_READ: &[u8] =
+    b"128166372003061629,usr,0,Write,0,512,100\n128166372003061630,usr,0,Read,0,512,100\n";
+
+fn words_of(alloc: Global, text: &str) -> Result<Vec<String>, AllocError> {
+    let mut words = Vec::new(alloc);
+    for word in text.split_whitespace() {
+        words.push(word.to_string(alloc)?)?;
+    }
+    Ok(words)
+}
+
+// A run that is to end with this status and this text, with the call of the source, of the sink and of the image's disk
+// that is to fail.
+#[derive(Clone, Copy)]
+struct Row<'a> {
+    words: &'a str,
+    trace: &'a [u8],
+    source: Option<u64>,
+    sink: Option<u64>,
+    disk: Option<u64>,
+    status: u8,
+    text: &'a [u8],
+}
+
+fn try_row<R: Abort + Threads + Wait + Sync>(
+    rt: &R,
+    alloc: Global,
+    row: &Row<'_>,
+) -> Result<(), Fail> {
+    let words = words_of(alloc, row.words)?;
+    let cuts = Vec::from_slice(alloc, &[1, 0, 7])?;
+    let mut config = MemSource::new(Vec::new(alloc), Vec::new(alloc), None);
+    let mut trace = MemSource::new(Vec::from_slice(alloc, row.trace)?, cuts, row.source);
+    let mut out = MemSink::new(alloc, row.sink);
+    let mut bay = MemBay::new(alloc);
+    if let Some(call) = row.disk {
+        assert!(rt; bay.plan("solo", 0, call).is_ok());
+    }
+    let status = run(
+        rt,
+        alloc,
+        &words,
+        &mut config,
+        &mut trace,
+        &mut out,
+        &mut bay,
+        &NoGate,
+    );
+    assert_eq!(rt; status, row.status, "{}", row.words);
+    assert_eq!(rt; out.bytes(), row.text, "{}", row.words);
+    Ok(())
+}
+
+fn plain<'a>(words: &'a str, trace: &'a [u8], status: u8, text: &'a [u8]) -> Row<'a> {
+    Row {
+        words,
+        trace,
+        source: None,
+        sink: None,
+        disk: None,
+        status,
+        text,
+    }
+}
+
+const USR: &str = "solo usr 0 100";
+
+#[test]
+fn runs_and_refuses_as_worked_out_by_hand(rt: HostRuntime) -> Result<(), Fail> {
+    let long = [b'1'; 4097];
+    let rows = [
+        plain(
+            USR,
+            WRITE_AND_READ,
+            0,
+            b"read 2 0 1 1\nsolo lines 2 blank 0 skipped 0 reads 1 writes 1\n",
+        ),
+        plain(
+            USR,
+            b"1,usr,0,Read,512,1024,1\r\n\n1,web,0,Read,0,512,1",
+            0,
+            b"read 1 1 2 0\nsolo lines 3 blank 1 skipped 1 reads 1 writes 0\n",
+        ),
+        plain(
+            USR,
+            b"1,usr,0,Write,50688,1024,1\n1,usr,0,Read,50176,2048,1\n",
+            0,
+            b"read 2 98 2 1\nread 2 0 2 1\nsolo lines 2 blank 0 skipped 0 reads 2 writes 2\n",
+        ),
+        plain(
+            USR,
+            b"1,usr,0,Write,0,0,1\n1,usr,0,Write,0,67108865,1\n1,usr,0,Read,0,512,1\n",
+            3,
+            b"fault 3 line 2 too large\n",
+        ),
+        plain(
+            USR,
+            b"1,usr,0,Read,0,512,1\n1,usr,0,Read,18446744073709551615,1,1\n",
+            3,
+            b"read 1 0 1 0\nfault 3 line 2 past end\n",
+        ),
+        plain(USR, b"1,usr,0,Read,0,512", 3, b"fault 3 line 1 fields\n"),
+        plain(USR, b"1,usr,0,Reed,0,512,1", 3, b"fault 3 line 1 kind\n"),
+        plain(
+            USR,
+            b"1,usr,x,Read,0,512,1",
+            3,
+            b"fault 3 line 1 number 3\n",
+        ),
+        plain(
+            USR,
+            b"\"1\",usr,0,Read,0,512,1",
+            3,
+            b"fault 3 line 1 quote\n",
+        ),
+        plain(USR, &long, 3, b"fault 3 line 1 too long\n"),
+        plain("spin", b"", 1, b"fault 1 words\n"),
+        plain("solo usr 00 100", b"", 1, b"fault 1 words\n"),
+        plain("solo usr 0 0", b"", 1, b"fault 1 words\n"),
+        plain("solo u,r 0 1", b"", 1, b"fault 1 words\n"),
+    ];
+    for row in &rows {
+        try_row(&rt, rt.alloc(), row)?;
+    }
+    Ok(())
+}
+
+#[test]
+fn tells_a_source_a_sink_and_a_disk_that_fail(rt: HostRuntime) -> Result<(), Fail> {
+    let rows = [
+        Row {
+            source: Some(0),
+            ..plain(USR, WRITE_AND_READ, 8, b"fault 8 trace\n")
+        },
+        Row {
+            sink: Some(0),
+            ..plain(USR, WRITE_AND_READ, 7, b"")
+        },
+        Row {
+            disk: Some(0),
+            ..plain(USR, WRITE_AND_READ, 4, b"fault 4 solo disk home\n")
+        },
+        // The disk's read fails, after its write and its sync.
+        Row {
+            disk: Some(2),
+            ..plain(USR, WRITE_AND_READ, 4, b"fault 4 solo disk home\n")
+        },
+    ];
+    for row in &rows {
+        try_row(&rt, rt.alloc(), row)?;
+    }
+    Ok(())
+}

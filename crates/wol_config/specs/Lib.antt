@@ -1,0 +1,4 @@
+pub mod Configs
+pub mod Documents
+pub mod Keys
+pub mod Tables
