@@ -3,11 +3,16 @@ use Rattle.std.specs.Prelude.{◌≡◌, ◌<◌, ◌≤◌, ◌-◌, ℕ, true,
 use Rattle.wol_disk.specs.Disk.{State}
 use Rattle.wol_disk.specs.declared.disk.Failed.{Failed}
 use Rattle.spin_model.specs.Spun.{state_of, volume_of}
+use Rattle.spin_model.specs.declared.spun.Spun.{Spun}
 use Rattle.wol_model.specs.Log.{Record, end_of}
 use Rattle.log_segment.specs.Records.{count_valid}
 use Rattle.log_segment.specs.Kept.{Keeps, IsFreeInAll}
 use Rattle.log_segment.specs.declared.segment.Segment.{Segment}
 use Rattle.log_segment.specs.declared.free.FreeSegment.{FreeSegment}
+
+-- the part that a segment is
+abbrev pub part_of : {D : Type 0} → Segment D → Spun D
+part_of seg = seg.part
 
 -- the state of a segment's disk
 abbrev pub disk_of : {D : Type 0} → (D → State) → Segment D → State
@@ -74,6 +79,9 @@ given_by (Ok seg) = seg
 given_by (Err refusal) = refusal.1
 
 -- ---- Free segments
+
+abbrev pub free_part : {D : Type 0} → FreeSegment D → Spun D
+free_part seg = seg.part
 
 abbrev pub free_disk : {D : Type 0} → (D → State) → FreeSegment D → State
 free_disk state seg = state_of state seg.part

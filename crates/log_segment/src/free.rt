@@ -24,14 +24,14 @@ impl<D: Disk> Blank for FreeSegment<D> {
 }
 
 impl<D: Disk> FreeSegment<D> {
-    ghost use Rattle.log_segment.specs.Segment.{IsSegment, IsFree, IsWhole, IsBroken, Holds, given_by, disk_of, free_disk, free_volume, free_blocks, segment_volume, owner_of, blocks_of, place_of, valid_of};
+    ghost use Rattle.log_segment.specs.Segment.{IsSegment, IsFree, IsWhole, IsBroken, Holds, given_by, free_part, disk_of, free_disk, free_volume, free_blocks, segment_volume, owner_of, blocks_of, place_of, valid_of};
 
     /// The segment that is this part.
     pub fn new(part: Spun<D>) -> FreeSegment<D>
         requires size { (4 ≤ (state_of D.state part).size) × ((state_of D.state part).size ≤ 65536) }
         requires idle { IsFreeInAll (state_of D.state part) }
         ensures shape { IsFree D.state result }
-        ensures part { result.part ≡ part }
+        ensures part { free_part result ≡ part }
     {
         let blocks = part.blocks() as u32;
         FreeSegment { part, blocks }
@@ -39,7 +39,7 @@ impl<D: Disk> FreeSegment<D> {
 
     /// The part, for a bay that takes it back.
     pub fn into_part(self) -> Spun<D>
-        ensures { result ≡ self.part }
+        ensures { result ≡ free_part self }
     {
         let FreeSegment { part, blocks: _ } = self;
         part

@@ -2,11 +2,11 @@
 ghost use Rattle.std.specs.Prelude.{◌≡◌, ◌↔◌, ◌+◌, ◌-◌, ◌<◌, ◌≤◌, ◌^◌, ◌==◌, if◌then◌else◌, ℕ, [], ◌∷◌, ◌++◌, length, take, drop, List, Some, slice_get, slice_set, OnOk, OnErr, IfOk, IfErr, IsErr, IsTrue};
 ghost use Rattle.wol_disk.specs.Disk.{Block, Values, LeavesOnly, Rose};
 ghost use Rattle.wol_model.specs.Heads.{IsRecordHead};
-ghost use Rattle.wol_model.specs.Log.{Record, IsLog, HasFirstOf, position_of};
-ghost use Rattle.spin_model.specs.Spun.{token_volume};
+ghost use Rattle.wol_model.specs.Log.{Record, IsLog, HasFirstOf, position_of, end_of};
+ghost use Rattle.spin_model.specs.Spun.{state_of, token_volume};
 ghost use Rattle.log_layout.specs.Values.{record_head};
 ghost use Rattle.log_segment.specs.Records.{new_record, group_of, count_of, trimmed, count_valid, AreItems, IsSameHead, IsProperPart};
-ghost use Rattle.log_segment.specs.Kept.{IsFreeInAll, IsWithOrWithout, IsKeptOrTrimmed, IsKeptOrIdle};
+ghost use Rattle.log_segment.specs.Kept.{Keeps, IsFreeInAll, IsWithOrWithout, IsKeptOrTrimmed, IsKeptOrIdle};
 
 use crate::group::append_records;
 use crate::head::{retire_part, store_head};
@@ -29,7 +29,7 @@ pub struct Segment<D: Disk> {
 }
 
 impl<D: Disk> Segment<D> {
-    ghost use Rattle.log_segment.specs.Segment.{IsSegment, IsFree, IsWhole, IsBroken, IsSame, Breaks, Holds, room_of, disk_of, free_disk, free_volume, free_blocks, segment_volume, owner_of, blocks_of, place_of, valid_of};
+    ghost use Rattle.log_segment.specs.Segment.{IsSegment, IsFree, IsWhole, IsBroken, IsSame, Breaks, Holds, room_of, part_of, disk_of, free_disk, free_volume, free_blocks, segment_volume, owner_of, blocks_of, place_of, valid_of};
 
     // A segment without a record.
     pub(crate) fn with(part: Spun<D>, owner: u32, blocks: u32, broken: bool) -> Segment<D>
@@ -42,6 +42,30 @@ impl<D: Disk> Segment<D> {
             end: 1,
             valid: 0,
             broken,
+        }
+    }
+
+    /// The segment that a scan of its part found: its records end in front of `end`, and so many of them keep a block.
+    pub fn restored(part: Spun<D>, owner: u32, end: u32, valid: u32) -> Segment<D>
+        requires size { (4 ≤ (state_of D.state part).size) × ((state_of D.state part).size ≤ 65536) }
+        requires place { (1 ≤ end) × (end ≤ (state_of D.state part).size) }
+        requires few { valid < end }
+        ensures shape { IsSegment D.state result }
+        ensures whole { IsWhole result }
+        ensures part { part_of result ≡ part }
+        ensures owner { owner_of result ≡ owner }
+        ensures place { place_of result ≡ end }
+        ensures valid { valid_of result ≡ valid }
+        ensures holds { (rs : List Record) → Keeps (state_of D.state part) owner rs → end ≡ end_of rs → valid ≡ count_valid rs → Holds D.state result rs }
+    {
+        let blocks = part.blocks() as u32;
+        Segment {
+            part,
+            owner,
+            blocks,
+            end,
+            valid,
+            broken: false,
         }
     }
 
@@ -76,7 +100,7 @@ impl<D: Disk> Segment<D> {
 
     /// The part, for a bay that takes it back.
     pub fn into_part(self) -> Spun<D>
-        ensures { result ≡ self.part }
+        ensures { result ≡ part_of self }
     {
         let Segment {
             part,
