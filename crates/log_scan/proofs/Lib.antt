@@ -1,0 +1,4 @@
+pub mod Placed
+pub mod Walk
+pub mod Blocks
+pub mod Adopting

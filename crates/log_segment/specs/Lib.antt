@@ -1,0 +1,4 @@
+pub mod Records
+pub mod Kept
+pub mod Group
+pub mod Segment
