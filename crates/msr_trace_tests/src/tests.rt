@@ -32,15 +32,30 @@ fn refusals_come_in_order(rt: HostRuntime) -> Result<(), Fail> {
         (b"1,usr,0,Read,0,512,1,", Some(BadLine::FieldCount)),
         (b" ", Some(BadLine::FieldCount)),
         (b"\xEF\xBB\xBF1,usr", Some(BadLine::FieldCount)),
-        (b"\xEF\xBB\xBF1,usr,0,Read,0,512,1", Some(BadLine::Number(1))),
+        (
+            b"\xEF\xBB\xBF1,usr,0,Read,0,512,1",
+            Some(BadLine::Number(1)),
+        ),
         (b",usr,4294967296,Reed,0,512,1", Some(BadLine::Number(1))),
         (b"1,usr,4294967296,Reed,0,512,1", Some(BadLine::Number(3))),
         (b"1,usr,0,Reed,,512,1", Some(BadLine::Kind)),
-        (b"1,usr,0,Read,18446744073709551616,-1,1", Some(BadLine::Number(5))),
+        (
+            b"1,usr,0,Read,18446744073709551616,-1,1",
+            Some(BadLine::Number(5)),
+        ),
         (b"1,usr,0,Read,0,+1,1", Some(BadLine::Number(6))),
-        (b"1,usr,0,Read,0,67108865,000000000000000000001", Some(BadLine::Number(7))),
-        (b"1,usr,0,Read,18446744073709551615,67108865,1", Some(BadLine::TooLarge)),
-        (b"1,usr,0,Read,18446744073709551615,1,1", Some(BadLine::PastEnd)),
+        (
+            b"1,usr,0,Read,0,67108865,000000000000000000001",
+            Some(BadLine::Number(7)),
+        ),
+        (
+            b"1,usr,0,Read,18446744073709551615,67108865,1",
+            Some(BadLine::TooLarge),
+        ),
+        (
+            b"1,usr,0,Read,18446744073709551615,1,1",
+            Some(BadLine::PastEnd),
+        ),
         (b"1,\"usr\",0,Read,0,512,1", Some(BadLine::Quote)),
         (b"1,usr\r,0", Some(BadLine::Quote)),
         (b"1,usr,0,Read,0,512,1\r\r\n", Some(BadLine::Quote)),
@@ -48,7 +63,11 @@ fn refusals_come_in_order(rt: HostRuntime) -> Result<(), Fail> {
     for (text, why) in cases {
         let want = why.map(|why| TraceFault::Bad { line: 1, why });
         assert_eq!(rt; first_fault(rt.alloc(), text, 8192)?, want, "{text:?}");
-        assert_eq!(rt; first_fault(rt.alloc(), text, 1)?, want, "{text:?} byte by byte");
+        assert_eq!(rt;
+            first_fault(rt.alloc(), text, 1)?,
+            want,
+            "{text:?} byte by byte"
+        );
     }
     Ok(())
 }
@@ -68,8 +87,16 @@ fn a_line_has_at_most_4096_bytes(rt: HostRuntime) -> Result<(), Fail> {
         text.extend_from_slice(&vec![in rt.alloc(); b'a'; bytes]?)?;
         text.extend_from_slice(end)?;
         let want = Some(TraceFault::Bad { line: 3, why });
-        assert_eq!(rt; first_fault(rt.alloc(), &text, 8192)?, want, "{bytes} bytes");
-        assert_eq!(rt; first_fault(rt.alloc(), &text, 7)?, want, "{bytes} bytes in cuts");
+        assert_eq!(rt;
+            first_fault(rt.alloc(), &text, 8192)?,
+            want,
+            "{bytes} bytes"
+        );
+        assert_eq!(rt;
+            first_fault(rt.alloc(), &text, 7)?,
+            want,
+            "{bytes} bytes in cuts"
+        );
     }
     Ok(())
 }
@@ -80,7 +107,10 @@ fn lines_are_numbered_and_written_again(rt: HostRuntime) -> Result<(), Fail> {
     let written = b"128166372000147231,web,0,Write,227328,6144,1000\n7,usr,4294967295,Read,0,0,1\n";
     for cut in [1, 48, 49, 50, 8192] {
         let cuts = vec![in rt.alloc(); cut; 100]?;
-        let mut lines = Lines::new(rt.alloc(), MemSource::new(text.to_vec(rt.alloc())?, cuts, None));
+        let mut lines = Lines::new(
+            rt.alloc(),
+            MemSource::new(text.to_vec(rt.alloc())?, cuts, None),
+        );
         let mut out = Vec::new(rt.alloc());
         for number in 1..=3 {
             assert!(rt; lines.is_live());
@@ -105,7 +135,10 @@ fn lines_are_numbered_and_written_again(rt: HostRuntime) -> Result<(), Fail> {
 fn a_source_that_fails_gives_the_whole_lines_before(rt: HostRuntime) -> Result<(), Fail> {
     let text = b"1,usr,0,Read,0,512,1\n1,usr";
     let cuts = vec![in rt.alloc(); 22; 1]?;
-    let mut lines = Lines::new(rt.alloc(), MemSource::new(text.to_vec(rt.alloc())?, cuts, Some(1)));
+    let mut lines = Lines::new(
+        rt.alloc(),
+        MemSource::new(text.to_vec(rt.alloc())?, cuts, Some(1)),
+    );
     assert!(rt; lines.next()?.is_some());
     assert!(rt; lines.is_live());
     assert!(rt; matches!(lines.next(), Err(TraceFault::Source)));
@@ -128,14 +161,26 @@ fn pieces_are_cut_at_the_end_and_at_the_most(rt: HostRuntime) -> Result<(), Fail
         assert!(rt; home > 0 && most > 0);
         let mut pieces = line.pieces(home, most);
         for (lbn, count) in want {
-            assert_eq!(rt; pieces.next(), Some(Piece { lbn: *lbn, count: *count }));
+            assert_eq!(rt;
+                pieces.next(),
+                Some(Piece {
+                    lbn: *lbn,
+                    count: *count
+                })
+            );
         }
         assert_eq!(rt; pieces.next(), None);
     }
     let largest = line_at(rt.alloc(), 0, 67_108_864)?;
     let mut pieces = largest.pieces(200_000, 128);
     for i in 0..1024 {
-        assert_eq!(rt; pieces.next(), Some(Piece { lbn: 128 * i, count: 128 }));
+        assert_eq!(rt;
+            pieces.next(),
+            Some(Piece {
+                lbn: 128 * i,
+                count: 128
+            })
+        );
     }
     assert_eq!(rt; pieces.next(), None);
     Ok(())
@@ -158,7 +203,13 @@ fn line_at(alloc: Global, offset: u64, size: u64) -> Result<Line, Fail> {
 fn payloads_hold_the_line_and_the_block(rt: HostRuntime) {
     let mut blocks = [[1u8; 512]; 3];
     fill(2, 5, &mut blocks);
-    assert_eq!(rt; &blocks[0][..16], [2, 0, 0, 0, 0, 0, 0, 0, 5, 0, 0, 0, 0, 0, 0, 0].as_slice());
-    assert_eq!(rt; &blocks[2][496..], [2, 0, 0, 0, 0, 0, 0, 0, 7, 0, 0, 0, 0, 0, 0, 0].as_slice());
+    assert_eq!(rt;
+        &blocks[0][..16],
+        [2, 0, 0, 0, 0, 0, 0, 0, 5, 0, 0, 0, 0, 0, 0, 0].as_slice()
+    );
+    assert_eq!(rt;
+        &blocks[2][496..],
+        [2, 0, 0, 0, 0, 0, 0, 0, 7, 0, 0, 0, 0, 0, 0, 0].as_slice()
+    );
     assert_eq!(rt; mark(&blocks), 6);
 }

@@ -14,4 +14,4 @@ mod volumes;
 pub use config::{Config, ConfigFault, VolumeConf};
 pub use key::Key;
 pub use name::Name;
-pub use read::read_config;
+pub use read::{MOST_BYTES, read_config};

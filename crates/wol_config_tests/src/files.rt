@@ -51,6 +51,18 @@ segments = 1
 view = []
 "#;
 
+const ONE_BLOCK_EACH: &str = r#"segment_blocks = 16
+timeout_ms = 60000
+awake_mw = 8000
+standby_mw = 1000
+wake_mj = 50000
+volume = [
+  { name = "a", host = "a", disk = 0, home_blocks = 1, segments = 1, view = ["b"] },
+  { name = "b", host = "b", disk = 0, home_blocks = 1, segments = 1, view = [] },
+  { name = "c", host = "c", disk = 0, home_blocks = 1, segments = 1, view = [] },
+]
+"#;
+
 #[test]
 fn three_volumes_that_off_load(rt: HostRuntime) -> Result<(), Fail> {
     let config = read_config(rt.alloc(), THREE_THAT_OFF_LOAD.as_bytes())?;
@@ -84,5 +96,18 @@ fn a_log_of_one_segment(rt: HostRuntime) -> Result<(), Fail> {
     assert_eq!(rt; config.volumes[0].view.ids(), [1].as_slice());
     assert_eq!(rt; config.volumes[1].name.as_bytes(), b"b".as_slice());
     assert_eq!(rt; config.volumes[1].segments, 1);
+    Ok(())
+}
+
+#[test]
+fn three_volumes_of_one_block(rt: HostRuntime) -> Result<(), Fail> {
+    let config = read_config(rt.alloc(), ONE_BLOCK_EACH.as_bytes())?;
+    assert_eq!(rt; config.volumes.len(), 3);
+    for volume in &config.volumes {
+        assert_eq!(rt; volume.home, 1);
+        assert_eq!(rt; volume.segments, 1);
+    }
+    assert_eq!(rt; config.volumes[0].view.ids(), [1].as_slice());
+    assert!(rt; config.volumes[2].view.is_empty());
     Ok(())
 }
