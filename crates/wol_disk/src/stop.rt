@@ -90,6 +90,13 @@ impl<D: Disk> StopDisk<D> {
         self.faults
     }
 
+    /// The inner disk.
+    pub fn inner(&self) -> &D
+        ensures { result.now ≡ inner_of self.now }
+    {
+        &self.inner
+    }
+
     /// Gives the inner disk back.
     pub fn into_inner(self) -> D
     where
