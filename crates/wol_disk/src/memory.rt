@@ -137,13 +137,7 @@ impl MemDisk {
         ensures faults { (mem_state self.new).faults ≡ (mem_state self.old).faults }
         ensures plan { plan_of self.new ≡ plan_of self.old }
     {
-        overwrite(
-            self.alloc,
-            &mut self.now,
-            &mut self.calls,
-            at,
-            &[value],
-        )
+        overwrite(self.alloc, &mut self.now, &mut self.calls, at, &[value])
     }
 
     // More values of one block, the latest last.
