@@ -10,7 +10,8 @@ use Rattle.wol_disk.specs.Memory.{mem_state, mem_values}
 use Rattle.wol_disk.specs.Stop.{inner_of, stop_state}
 use Rattle.wol_bay.specs.Names.{by_name}
 use Rattle.wol_bay.specs.Plans.{Planned, planned_of, is_for, calls_for, plans_without}
-use Rattle.wol_bay.specs.MemBay.{stored_blocks, told_of, named_image, named_sizes, named_places, AreArmed}
+use Rattle.wol_bay.specs.Stored.{stored_blocks}
+use Rattle.wol_bay.specs.MemBay.{told_of, named_image, named_sizes, named_places, AreArmed}
 use Rattle.wol_bay.specs.declared.held.Image as held
 use Rattle.wol_bay.specs.declared.held.Leave.{Leave}
 use Rattle.wol_bay.specs.declared.held.Faulty.{Faulty}
@@ -47,7 +48,7 @@ module _ {T A : Type 0} (name_of : T → Name) (of : T → A) (name : Name) wher
   kept_by es es' e = sym (named_again es') ∙ ap (λ l. map (λ (e : Name × T). (e.0, of e.1)) l) e ∙ sym (without_named es)
 
   -- what stands under a name, seen by what it holds
-  at_named : (es : List T) → at_name name (map named es) ≡ option_map of (at_name name (by_name name_of es))
+  pub at_named : (es : List T) → at_name name (map named es) ≡ option_map of (at_name name (by_name name_of es))
   at_named [] = refl
   at_named (e ∷ es) = go (bytes_eq (name_of e) name) (at_named es)
     where

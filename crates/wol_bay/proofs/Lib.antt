@@ -2,3 +2,4 @@ pub mod PartLists
 pub mod NameLists
 pub mod BayMoves
 pub mod OneImage
+pub mod Attached

@@ -1,7 +1,9 @@
 pub mod Bay
 pub mod Parts
+pub mod Refusals
 pub mod Names
 pub mod FileBay
 pub mod FilePart
 pub mod Plans
+pub mod Stored
 pub mod MemBay

@@ -1,23 +1,19 @@
 -- A bay in memory, as callers see it: it tells all.
 use Rattle.std.specs.Prelude.{◌≡◌, ℕ, ◌+◌, List, [], ◌∷◌, Option, Some, map, flat_map, option_map, string_bytes, ⊤}
 use Rattle.std.specs.Arc.{arc_value}
-use Rattle.wol_disk.specs.Disk.{Block, Values}
-use Rattle.wol_disk.specs.Memory.{mem_values, plan_of}
+use Rattle.wol_disk.specs.Memory.{plan_of}
 use Rattle.wol_disk.specs.Plan.{no_plan}
 use Rattle.wol_disk.specs.Stop.{inner_of, fuse_of}
 use Rattle.wol_disk.specs.declared.stop.Fuse.{Fuse}
 use Rattle.wol_disk.specs.declared.stop.StopDisk.{StopDisk}
 use Rattle.wol_disk.specs.declared.memory.MemDisk.{MemDisk}
+use Rattle.wol_bay.specs.Stored.{stored_blocks}
 use Rattle.wol_bay.specs.Plans.{Planned, planned_of, calls_for}
 use Rattle.wol_bay.specs.Bay.{Name, each_place, BayState, Told, Image}
 use Rattle.wol_bay.specs.declared.held.Image as held
 use Rattle.wol_bay.specs.declared.held.Leave.{Leave}
 use Rattle.wol_bay.specs.declared.held.Faulty.{Faulty}
 use Rattle.wol_bay.specs.declared.memory.MemBay.{MemBay}
-
--- the blocks of all parts
-abbrev pub stored_blocks : List (StopDisk MemDisk) → List (Values Block)
-stored_blocks parts = flat_map (λ part. mem_values (inner_of part)) parts
 
 abbrev pub named_image : held.Image → Name × Image
 named_image i = (string_bytes i.name, record { blocks = stored_blocks i.parts.items; rest = i.rest.items })

@@ -2,6 +2,7 @@
 ghost use Rattle.std.specs.Prelude.{◌≡◌, ◌≢◌, ◌≤◌, ◌<◌, ◌*◌, ◌⊎◌, [], length, sum, option_map, option_and_then, IfOk, IfErr, IfSome, OnOk, OnErr, IsErrOf, None};
 ghost use Rattle.wol_disk.specs.Disk.{Rose};
 ghost use Rattle.wol_bay.specs.Bay.{BayState, IsHome, IsOut, at_name, bytes_of, sent_out, came_back};
+ghost use Rattle.wol_bay.specs.Refusals.{blocks_at, refusal, IsAnswered};
 ghost use Rattle.wol_bay.specs.Parts.{AreBlank, AreCut, blocks_of, sizes_of, faulty_places};
 
 use crate::fault::BayFault;
@@ -26,6 +27,19 @@ pub trait Bay {
         ensures ok { OnOk result ((state self.new).told ≡ option_map (sent_out name.now sizes.now) (state self.old).told) }
         ensures err { OnErr result ((state self.new).told ≡ (state self.old).told) }
         ensures faults { IfErr result (λ e. (e ≡ BayFault.Failed) ⊎ (e ≡ BayFault.NoMemory)) }
+        ensures cause { IsErrOf result BayFault.Failed → Rose (state self.old).faults (state self.new).faults }
+        ensures calm { (IsErrOf result BayFault.Failed → ⊥) → (state self.new).faults ≡ (state self.old).faults }
+        ensures counts { (state self.old).faults ≤ (state self.new).faults };
+
+    /// Hands the image out, cut into parts of so many blocks in this order, each with a count of 0. `Absent` comes
+    /// exactly where no image has that name, and `WrongLength` exactly where its length in bytes isn't 512 times the
+    /// number of all their blocks. After a refusal the image is as it was.
+    fn attach(&mut self, name: &str, sizes: &[u64]) -> Result<Vec<Self::Part>, BayFault>
+        requires { IsHome name.now (state self.old) }
+        ensures parts { IfOk result (λ parts. AreCut Self.Part.state (blocks_at name.now (state self.old).told) sizes.now parts.items) }
+        ensures ok { OnOk result ((state self.new).told ≡ option_map (sent_out name.now sizes.now) (state self.old).told) }
+        ensures err { OnErr result ((state self.new).told ≡ (state self.old).told) }
+        ensures refused { IfSome (state self.old).told (λ t. IsAnswered (refusal name.now sizes.now t) result) }
         ensures cause { IsErrOf result BayFault.Failed → Rose (state self.old).faults (state self.new).faults }
         ensures calm { (IsErrOf result BayFault.Failed → ⊥) → (state self.new).faults ≡ (state self.old).faults }
         ensures counts { (state self.old).faults ≤ (state self.new).faults };

@@ -1,20 +1,19 @@
 // Images in a folder, each in a file of its own.
 ghost use Rattle.std.specs.Prelude.{◌≡◌, ◌≢◌, ◌+◌, ◌≤◌, [], None, OnOk, OnErr, IfOk, MatchBool, length, option_map, ◌<◌, ◌^◌};
-ghost use Rattle.wol_bay.specs.Parts.{AreBlank, blocks_of, faulty_places};
+ghost use Rattle.wol_bay.specs.Parts.{AreBlank, AreCut, blocks_of, faulty_places};
 ghost use Rattle.wol_bay.specs.Bay.{came_back};
 ghost use Rattle.wol_disk.specs.Disk.{Rose};
 
 use crate::bays::Bay;
 use crate::fault::BayFault;
+use crate::lengths::{BLOCK_BYTES, bytes_of_parts, is_length};
 use std::alloc::Global;
 use std::fs::{File, OpenOptions};
-use std::io;
+use std::io::{self, ErrorKind};
 use std::os::unix::fs::FileExt;
 use std::rt::Files;
 use std::sync::Arc;
 use wol_disk::{Block, Disk, Failed, NoMemory};
-
-const BLOCK_BYTES: u64 = 512;
 
 /// A folder of images, which tells nothing of them. The image NAME is the file `NAME.vol`. The file is locked while
 /// the image is out, so another bay that would hand out the same image fails.
@@ -73,6 +72,22 @@ impl<'a, R: Files<File = File>> FileBay<'a, R> {
         Ok(file)
     }
 
+    // Opens the file, locks it, and tells its length. `None` is std's answer that there is no such file.
+    fn open(&self, path: &str) -> io::Result<Option<(File, u64)>> {
+        let opened = OpenOptions::new()
+            .read(true)
+            .write(true)
+            .open(&self.rt, path);
+        let file = match opened {
+            Ok(file) => file,
+            Err(e) if e.kind() == ErrorKind::NotFound => return Ok(None),
+            Err(e) => return Err(e),
+        };
+        file.try_lock()?;
+        let bytes = file.metadata()?.len();
+        Ok(Some((file, bytes)))
+    }
+
     fn failed(&mut self) -> BayFault
         ensures fault { result ≡ BayFault.Failed }
         ensures counts { self.old.faults ≤ self.new.faults }
@@ -106,6 +121,25 @@ impl<'a, R: Files<File = File>> Bay for FileBay<'a, R> {
         }
     }
 
+    fn attach(&mut self, name: &str, sizes: &[u64]) -> Result<Vec<FilePart>, BayFault> {
+        let Ok(path) = self.path_of(name) else {
+            return Err(BayFault::NoMemory);
+        };
+        let Ok(opened) = self.open(path.as_str()) else {
+            return Err(self.failed());
+        };
+        let Some((file, bytes)) = opened else {
+            return Err(BayFault::Absent);
+        };
+        if !is_length(bytes, sizes) {
+            return Err(BayFault::WrongLength { bytes });
+        }
+        match parts_of(self.alloc, file, sizes) {
+            Ok(parts) => Ok(parts),
+            Err(_) => Err(BayFault::NoMemory),
+        }
+    }
+
     fn detach(&mut self, name: &str, parts: Vec<FilePart>)
         ensures back { (file_bay_state self.new).told ≡ option_map (came_back name.now (blocks_of ⟦<FilePart as Disk>⟧.state parts.items) (faulty_places ⟦<FilePart as Disk>⟧.state parts.items)) (file_bay_state self.old).told }
         ensures cause { faulty_places ⟦<FilePart as Disk>⟧.state parts.items ≢ [] → Rose (file_bay_state self.old).faults (file_bay_state self.new).faults }
@@ -118,18 +152,10 @@ impl<'a, R: Files<File = File>> Bay for FileBay<'a, R> {
     }
 }
 
-// The length of an image of these parts, where a file can have it.
-fn bytes_of_parts(sizes: &[u64]) -> Option<u64> {
-    let mut blocks: u64 = 0;
-    for size in sizes {
-        blocks = blocks.checked_add(*size)?;
-    }
-    blocks.checked_mul(BLOCK_BYTES)
-}
-
 // The parts of a file.
 fn parts_of(alloc: Global, file: File, sizes: &[u64]) -> Result<Vec<FilePart>, NoMemory>
-    ensures { IfOk result (λ parts. AreBlank ⟦<FilePart as Disk>⟧.state None sizes.now parts.items) }
+    ensures blank { IfOk result (λ parts. AreBlank ⟦<FilePart as Disk>⟧.state None sizes.now parts.items) }
+    ensures cut { IfOk result (λ parts. AreCut ⟦<FilePart as Disk>⟧.state None sizes.now parts.items) }
 {
     let shared = Arc::new(alloc, file)?;
     let mut parts = Vec::new(alloc);

@@ -1,16 +1,21 @@
 // What a bay in memory keeps: its images, the names that are out, and the faults that it was told of.
-ghost use Rattle.std.specs.Prelude.{◌≡◌, ◌≤◌, [], IfOk, length, string_bytes, vec_capacity, vec_len};
+ghost use Rattle.std.specs.Prelude.{◌≡◌, ◌≤◌, ◌<◌, ◌+◌, ◌*◌, [], IfOk, length, sum, string_bytes, vec_capacity, vec_len};
+ghost use Rattle.wol_bay.specs.Stored.{stored_blocks};
 
 use crate::names::Entry;
 use std::alloc::Global;
 use wol_disk::{MemDisk, NoMemory, StopDisk};
 
-// An image that is in the bay: the parts as which it came back, and the bytes behind its last block.
+// An image that is in the bay: the parts as which it came back, the bytes behind its last block, and its length in
+// bytes.
 #[derive(Drop)]
 pub struct Image {
     pub name: String,
     pub parts: Vec<StopDisk<MemDisk>>,
     pub rest: Vec<u8>,
+    pub bytes: u64,
+    ghost in_all: { bytes ≡ 512 * length (stored_blocks parts.items) + length rest.items },
+    ghost short: { length rest.items < 512 },
 }
 
 // The places of those parts of an image that came back with a fault.
@@ -20,19 +25,24 @@ pub struct Faulty {
     pub places: Vec<usize>,
 }
 
-// A name that is out, with the sizes of its parts, and with the room for what there is to tell when it comes back.
+// A name that is out, with the sizes of its parts and the length of its image in bytes, and with the room for what
+// there is to tell when it comes back.
 #[derive(Drop)]
 pub struct Leave {
     pub name: String,
     pub sizes: Vec<u64>,
+    pub bytes: u64,
     pub faulty: Faulty,
+    ghost in_all: { bytes ≡ 512 * sum sizes.items },
     ghost same_name: { string_bytes faulty.name ≡ string_bytes name },
     ghost none: { faulty.places.items ≡ [] },
     ghost room: { length sizes.items ≤ vec_capacity faulty.places },
 }
 
 impl Leave {
-    pub fn new(alloc: Global, name: &str, sizes: &[u64]) -> Result<Leave, NoMemory>
+    // `bytes` is the length of the image.
+    pub fn new(alloc: Global, name: &str, sizes: &[u64], bytes: u64) -> Result<Leave, NoMemory>
+        requires { bytes ≡ 512 * sum sizes.now }
         ensures name { IfOk result (λ leave. string_bytes leave.name ≡ name.now) }
         ensures sizes { IfOk result (λ leave. leave.sizes.items ≡ sizes.now) }
     {
@@ -43,6 +53,7 @@ impl Leave {
         Ok(Leave {
             name: String::from_str(alloc, name)?,
             sizes: Vec::from_slice(alloc, sizes)?,
+            bytes,
             faulty,
         })
     }

@@ -7,6 +7,7 @@ mod fault;
 mod faulty;
 mod files;
 mod held;
+mod lengths;
 mod memory;
 mod names;
 mod plans;

@@ -1,6 +1,8 @@
 // Images in memory.
-ghost use Rattle.std.specs.Prelude.{◌≡◌, ◌≢◌, ◌+◌, ◌≤◌, [], ◌∷◌, Some, None, IfOk, OnOk, OnErr, IfErr, IsErrOf, ◌⊎◌, ◌++◌, length, option_map, vec_len, vec_capacity};
-ghost use Rattle.wol_bay.specs.Parts.{AreBlank, blocks_of, sizes_of, faulty_places};
+ghost use Rattle.std.specs.Prelude.{◌≡◌, ◌≢◌, ◌+◌, ◌*◌, ◌≤◌, [], ◌∷◌, Some, None, IfSome, IfOk, OnOk, OnErr, IfErr, IsErrOf, ◌⊎◌, ◌++◌, length, sum, option_map, vec_len, vec_capacity};
+ghost use Rattle.wol_bay.specs.Parts.{AreBlank, AreCut, blocks_of, sizes_of, faulty_places};
+ghost use Rattle.wol_bay.specs.Stored.{stored_blocks};
+ghost use Rattle.wol_disk.specs.BlockValues.{all_values};
 ghost use Rattle.wol_disk.specs.Disk.{Rose};
 ghost use Rattle.std.specs.Arc.{arc_value};
 
@@ -8,11 +10,12 @@ use crate::bays::Bay;
 use crate::fault::BayFault;
 use crate::faulty::{keep_faulty, mark_faulty};
 use crate::held::{Faulty, Image, Leave};
-use crate::names::take_by_name;
+use crate::lengths::{bytes_of_parts, is_length};
+use crate::names::{place_of, take_by_name};
 use crate::plans::{Plan, drop_plans};
 use std::alloc::Global;
 use std::sync::Arc;
-use wol_disk::{Disk, Fuse, MemDisk, NoMemory, StopDisk};
+use wol_disk::{BlockValues, Disk, Fuse, MemDisk, NoMemory, StopDisk};
 
 /// Images in memory, all of which it tells. Its parts fail as planned, for want of memory, and where a fuse stops
 /// them; the bay itself never fails.
@@ -29,7 +32,21 @@ pub struct MemBay {
     ghost faulty_room: { vec_len faulty + vec_len out ≤ vec_capacity faulty },
 }
 
+// The values of the blocks of all parts.
+fn list_parts(alloc: Global, parts: &[StopDisk<MemDisk>]) -> Result<Vec<BlockValues>, NoMemory>
+    ensures { IfOk result (λ list. all_values list.items ≡ stored_blocks parts.now) }
+{
+    let mut list = Vec::new(alloc);
+    for part in parts {
+        part.inner().list_values(&mut list)?;
+    }
+    Ok(list)
+}
+
 impl MemBay {
+    ghost use Rattle.wol_disk.specs.Plan.{no_plan};
+    ghost use Rattle.wol_disk.specs.Memory.{mem_state, plan_of};
+    ghost use Rattle.wol_bay.specs.Refusals.{blocks_at, refusal};
     ghost use Rattle.wol_bay.specs.Bay.{BayState, Told, IsHome, sent_out};
     ghost use Rattle.wol_bay.specs.Plans.{Planned, plans_without};
     ghost use Rattle.wol_bay.specs.MemBay.{mem_bay_state, plans_of, bay_fuse, AreArmed};
@@ -74,12 +91,19 @@ impl MemBay {
         self.fuse = fuse;
     }
 
-    // A part of zeros, with its plan and the fuse.
-    fn blank(&self, name: &str, place: usize, size: u64) -> Result<StopDisk<MemDisk>, NoMemory>
-        ensures blank { IfOk result (λ part. AreBlank ⟦<StopDisk<MemDisk> as Disk>⟧.state (mem_bay_state self.now).told (size ∷ []) (part ∷ [])) }
+    // A part with its plan and the fuse.
+    fn armed(
+        &self,
+        mut disk: MemDisk,
+        name: &str,
+        place: usize,
+    ) -> Result<StopDisk<MemDisk>, NoMemory>
+        requires { plan_of disk ≡ no_plan }
+        ensures values { IfOk result (λ part. (⟦<StopDisk<MemDisk> as Disk>⟧.state part).values ≡ (mem_state disk).values) }
+        ensures size { IfOk result (λ part. (⟦<StopDisk<MemDisk> as Disk>⟧.state part).size ≡ (mem_state disk).size) }
+        ensures faults { IfOk result (λ part. (⟦<StopDisk<MemDisk> as Disk>⟧.state part).faults ≡ 0) }
         ensures armed { IfOk result (λ part. AreArmed name.now place (plans_of self.now) (bay_fuse self.now) (part ∷ [])) }
     {
-        let mut disk = MemDisk::new(self.alloc, size)?;
         for plan in &self.plans {
             if plan.is_for(name, place) {
                 disk.fail(plan.call)?;
@@ -90,6 +114,15 @@ impl MemBay {
             None => None,
         };
         Ok(StopDisk::new(disk, fuse))
+    }
+
+    // A part of zeros.
+    fn blank(&self, name: &str, place: usize, size: u64) -> Result<StopDisk<MemDisk>, NoMemory>
+        ensures blank { IfOk result (λ part. AreBlank ⟦<StopDisk<MemDisk> as Disk>⟧.state (mem_bay_state self.now).told (size ∷ []) (part ∷ [])) }
+        ensures armed { IfOk result (λ part. AreArmed name.now place (plans_of self.now) (bay_fuse self.now) (part ∷ [])) }
+    {
+        let disk = MemDisk::new(self.alloc, size)?;
+        self.armed(disk, name, place)
     }
 
     // Parts of zeros.
@@ -104,8 +137,56 @@ impl MemBay {
         Ok(parts)
     }
 
+    // Why an image doesn't go out as parts of these sizes.
+    fn refusal(&self, name: &str, sizes: &[u64]) -> Option<BayFault>
+        ensures fault { IfSome (mem_bay_state self.now).told (λ t. result ≡ refusal name.now sizes.now t) }
+    {
+        let Some(at) = place_of(&self.images, name) else {
+            return Some(BayFault::Absent);
+        };
+        let bytes = self.images[at].bytes;
+        if is_length(bytes, sizes) {
+            None
+        } else {
+            Some(BayFault::WrongLength { bytes })
+        }
+    }
+
+    // The values of all blocks of an image, and none where no image has the name.
+    fn list_blocks(&self, name: &str) -> Result<Vec<BlockValues>, NoMemory>
+        ensures { IfOk result (λ list. IfSome (blocks_at name.now (mem_bay_state self.now).told) (λ vs. all_values list.items ≡ vs)) }
+    {
+        match place_of(&self.images, name) {
+            Some(at) => list_parts(self.alloc, &self.images[at].parts),
+            None => Ok(Vec::new(self.alloc)),
+        }
+    }
+
+    // Parts of these values.
+    fn cut_parts(
+        &self,
+        name: &str,
+        sizes: &[u64],
+        values: &[BlockValues],
+    ) -> Result<Vec<StopDisk<MemDisk>>, NoMemory>
+        requires { sum sizes.now ≡ length values.now }
+        ensures cut { IfOk result (λ parts. AreCut ⟦<StopDisk<MemDisk> as Disk>⟧.state (Some (all_values values.now)) sizes.now parts.items) }
+        ensures armed { IfOk result (λ parts. AreArmed name.now 0 (plans_of self.now) (bay_fuse self.now) parts.items) }
+    {
+        let mut parts = Vec::with_capacity(self.alloc, sizes.len())?;
+        let mut first: usize = 0;
+        for (place, size) in sizes.iter().enumerate() {
+            let end = first + *size as usize;
+            let disk = MemDisk::from_values(self.alloc, &values[first..end])?;
+            parts.push(self.armed(disk, name, place)?)?;
+            first = end;
+        }
+        Ok(parts)
+    }
+
     // Enters a name that goes out. After an error nothing has changed.
-    fn send_out(&mut self, name: &str, sizes: &[u64]) -> Result<(), NoMemory>
+    fn send_out(&mut self, name: &str, sizes: &[u64], bytes: u64) -> Result<(), NoMemory>
+        requires { bytes ≡ 512 * sum sizes.now }
         ensures ok { OnOk result ((mem_bay_state self.new).told ≡ option_map (sent_out name.now sizes.now) (mem_bay_state self.old).told) }
         ensures err { OnErr result ((mem_bay_state self.new).told ≡ (mem_bay_state self.old).told) }
         ensures calm { (mem_bay_state self.new).faults ≡ (mem_bay_state self.old).faults }
@@ -113,7 +194,7 @@ impl MemBay {
         ensures plans_err { OnErr result (plans_of self.new ≡ plans_of self.old) }
         ensures fuse { bay_fuse self.new ≡ bay_fuse self.old }
     {
-        let leave = Leave::new(self.alloc, name, sizes)?;
+        let leave = Leave::new(self.alloc, name, sizes, bytes)?;
         let more = self.out.len() + 1;
         self.images.reserve(more)?;
         self.faulty.reserve(more)?;
@@ -130,6 +211,7 @@ impl Bay for MemBay {
     ghost use Rattle.wol_bay.specs.MemBay.{mem_bay_state, plans_of, bay_fuse, AreArmed};
     ghost use Rattle.wol_bay.specs.Plans.{Planned, plans_without};
     ghost use Rattle.wol_bay.specs.Bay.{IsHome, IsOut, sent_out, came_back};
+    ghost use Rattle.wol_bay.specs.Refusals.{blocks_at, refusal, IsAnswered};
 
     ghost state = { mem_bay_state };
 
@@ -150,10 +232,49 @@ impl Bay for MemBay {
         ensures plans_err { OnErr result (plans_of self.new ≡ plans_of self.old) }
         ensures fuse { bay_fuse self.new ≡ bay_fuse self.old }
     {
+        // No memory holds an image whose length no number can tell.
+        let Some(bytes) = bytes_of_parts(sizes) else {
+            return Err(BayFault::NoMemory);
+        };
         let Ok(parts) = self.blank_parts(name, sizes) else {
             return Err(BayFault::NoMemory);
         };
-        match self.send_out(name, sizes) {
+        match self.send_out(name, sizes, bytes) {
+            Ok(()) => Ok(parts),
+            Err(_) => Err(BayFault::NoMemory),
+        }
+    }
+
+    fn attach(&mut self, name: &str, sizes: &[u64]) -> Result<Vec<StopDisk<MemDisk>>, BayFault>
+        requires { IsHome name.now (mem_bay_state self.old) }
+        ensures parts { IfOk result (λ parts. AreCut ⟦<StopDisk<MemDisk> as Disk>⟧.state (blocks_at name.now (mem_bay_state self.old).told) sizes.now parts.items) }
+        ensures ok { OnOk result ((mem_bay_state self.new).told ≡ option_map (sent_out name.now sizes.now) (mem_bay_state self.old).told) }
+        ensures err { OnErr result ((mem_bay_state self.new).told ≡ (mem_bay_state self.old).told) }
+        ensures refused { IfSome (mem_bay_state self.old).told (λ t. IsAnswered (refusal name.now sizes.now t) result) }
+        ensures cause { IsErrOf result BayFault.Failed → Rose (mem_bay_state self.old).faults (mem_bay_state self.new).faults }
+        ensures calm { (IsErrOf result BayFault.Failed → ⊥) → (mem_bay_state self.new).faults ≡ (mem_bay_state self.old).faults }
+        ensures counts { (mem_bay_state self.old).faults ≤ (mem_bay_state self.new).faults }
+
+        // It never fails, and its parts have the plans for them and the fuse.
+        ensures never_failed { IfErr result (λ e. e ≢ BayFault.Failed) }
+        ensures armed { IfOk result (λ parts. AreArmed name.now 0 (plans_of self.old) (bay_fuse self.old) parts.items) }
+        ensures plans { OnOk result (plans_of self.new ≡ plans_without name.now (plans_of self.old)) }
+        ensures plans_err { OnErr result (plans_of self.new ≡ plans_of self.old) }
+        ensures fuse { bay_fuse self.new ≡ bay_fuse self.old }
+    {
+        if let Some(fault) = self.refusal(name, sizes) {
+            return Err(fault);
+        }
+        let Some(bytes) = bytes_of_parts(sizes) else {
+            return Err(BayFault::NoMemory);
+        };
+        let Ok(values) = self.list_blocks(name) else {
+            return Err(BayFault::NoMemory);
+        };
+        let Ok(parts) = self.cut_parts(name, sizes, &values) else {
+            return Err(BayFault::NoMemory);
+        };
+        match self.send_out(name, sizes, bytes) {
             Ok(()) => Ok(parts),
             Err(_) => Err(BayFault::NoMemory),
         }
@@ -173,6 +294,7 @@ impl Bay for MemBay {
         };
         let Leave {
             name: own_name,
+            bytes,
             mut faulty,
             ..
         } = leave;
@@ -185,6 +307,7 @@ impl Bay for MemBay {
             name: own_name,
             parts,
             rest: Vec::new(self.alloc),
+            bytes,
         };
         self.images.push(image).unwrap();
     }

@@ -42,6 +42,18 @@ fn images_go_out_and_come_back(rt: HostRuntime) -> Result<(), Fail> {
 }
 
 #[test]
+fn an_image_goes_out_in_parts(rt: HostRuntime) -> Result<(), Fail> {
+    let mut bay = MemBay::new(rt.alloc());
+    assert_eq!(rt; write_image(&mut bay, "usr0", 1)?, Ok(()));
+    assert_eq!(rt; bay.attach("web0", &[4]).err(), Some(BayFault::Absent));
+    let wrong = BayFault::WrongLength { bytes: 2048 };
+    assert_eq!(rt; bay.attach("usr0", &[4, 1]).err(), Some(wrong));
+    let parts = bay.attach("usr0", &[1, 3])?;
+    assert_eq!(rt; parts.len(), 2);
+    Ok(())
+}
+
+#[test]
 fn planned_calls_of_parts_fail_once(rt: HostRuntime) -> Result<(), Fail> {
     let mut bay = MemBay::new(rt.alloc());
     bay.plan("usr0", 0, 1)?;
@@ -83,6 +95,16 @@ fn a_file_holds_its_image_and_goes_out_once_at_a_time(rt: HostRuntime) -> Result
     assert_eq!(rt; bytes.get(511), Some(&0));
     assert_eq!(rt; bytes.get(512), Some(&7));
     assert_eq!(rt; bytes.get(1023), Some(&7));
+
+    assert_eq!(rt; one.attach("web0", &[4]).err(), Some(BayFault::Absent));
+    let wrong = BayFault::WrongLength { bytes: 2048 };
+    assert_eq!(rt; one.attach("usr0", &[4, 1]).err(), Some(wrong));
+    let parts = one.attach("usr0", &[1, 3])?;
+    assert_eq!(rt; parts.len(), 2);
+    assert_eq!(rt; two.attach("usr0", &[4]).err(), Some(BayFault::Failed));
+    one.detach("usr0", parts);
+    let bytes = fs::read(&rt, file.as_str())?;
+    assert_eq!(rt; bytes.get(512), Some(&7));
 
     let parts = one.create("usr0", &[2, 2])?;
     assert_eq!(rt; parts.len(), 2);

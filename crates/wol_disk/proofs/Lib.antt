@@ -5,3 +5,4 @@ pub mod Calls
 pub mod Replay
 pub mod Chosen
 pub mod Planned
+pub mod Building

@@ -6,3 +6,5 @@ pub mod RecordSound
 pub mod Zeros
 pub mod Memory
 pub mod Touch
+pub mod Later
+pub mod BlockValues

@@ -9,10 +9,12 @@ mod record;
 mod restart;
 mod stop;
 mod touch;
+mod values;
 
 pub use disk::{Block, Disk, Failed, NoMemory};
 pub use memory::MemDisk;
 pub use stop::{Fuse, StopDisk};
+pub use values::BlockValues;
 
 #[cfg(test)]
 mod tests;

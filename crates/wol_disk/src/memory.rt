@@ -9,6 +9,7 @@ ghost use Rattle.wol_disk.specs.declared.record.Call.TheVariants.{Wrote, Synced}
 use crate::plan::FaultPlan;
 use crate::record::Call;
 use crate::restart::choose_all;
+use crate::values::BlockValues;
 use crate::{Block, Disk, Failed, NoMemory};
 use std::alloc::{AllocError, Global};
 
@@ -78,7 +79,9 @@ fn note_sync(calls: &mut Vec<Call>) -> Result<(), AllocError>
 }
 
 impl MemDisk {
-    ghost use Rattle.wol_disk.specs.Memory.{mem_state, plan_of};
+    ghost use Rattle.wol_disk.specs.Memory.{mem_state, mem_values, plan_of};
+    ghost use Rattle.wol_disk.specs.Later.{added_each};
+    ghost use Rattle.wol_disk.specs.BlockValues.{all_values};
 
     /// A disk of so many zero blocks, of which no call is planned to fail.
     pub fn new(alloc: Global, blocks: u64) -> Result<MemDisk, NoMemory>
@@ -106,6 +109,73 @@ impl MemDisk {
         ensures unchanged { IsUnchanged (mem_state self.old) (mem_state self.new) }
     {
         self.plan.add(call)?;
+        Ok(())
+    }
+
+    // A disk that begins with these blocks.
+    fn of_blocks(alloc: Global, first: Vec<Block>) -> Result<MemDisk, AllocError>
+        ensures values { IfOk result (λ m. mem_values m ≡ only first.items) }
+        ensures size { IfOk result (λ m. (mem_state m).size ≡ length first.items) }
+        ensures faults { IfOk result (λ m. (mem_state m).faults ≡ 0) }
+        ensures plan { IfOk result (λ m. plan_of m ≡ no_plan) }
+    {
+        let now = Vec::from_slice(alloc, &first)?;
+        Ok(MemDisk {
+            alloc,
+            first,
+            now,
+            calls: Vec::new(alloc),
+            plan: FaultPlan::new(alloc),
+        })
+    }
+
+    // One more value of one block. It is no call of the disk.
+    fn add_value(&mut self, at: usize, value: Block) -> Result<(), AllocError>
+        requires { at < (mem_state self.old).size }
+        ensures values { OnOk result (mem_values self.new ≡ added at (value ∷ []) (mem_values self.old)) }
+        ensures size { (mem_state self.new).size ≡ (mem_state self.old).size }
+        ensures faults { (mem_state self.new).faults ≡ (mem_state self.old).faults }
+        ensures plan { plan_of self.new ≡ plan_of self.old }
+    {
+        overwrite(self.alloc, &mut self.now, &mut self.calls, at, &[value])
+    }
+
+    // More values of one block, the latest last.
+    fn add_values(&mut self, at: usize, later: &[Block]) -> Result<(), AllocError>
+        requires { at < (mem_state self.old).size }
+        ensures values { OnOk result (mem_values self.new ≡ added_each at later.now (mem_values self.old)) }
+        ensures size { (mem_state self.new).size ≡ (mem_state self.old).size }
+        ensures faults { (mem_state self.new).faults ≡ (mem_state self.old).faults }
+        ensures plan { plan_of self.new ≡ plan_of self.old }
+    {
+        for value in later {
+            self.add_value(at, *value)?;
+        }
+        Ok(())
+    }
+
+    /// A disk whose blocks have these values, and of which no call is planned to fail.
+    pub fn from_values(alloc: Global, values: &[BlockValues]) -> Result<MemDisk, NoMemory>
+        ensures values { IfOk result (λ m. (mem_state m).values ≡ Some (all_values values.now)) }
+        ensures size { IfOk result (λ m. (mem_state m).size ≡ length values.now) }
+        ensures faults { IfOk result (λ m. (mem_state m).faults ≡ 0) }
+        ensures plan { IfOk result (λ m. plan_of m ≡ no_plan) }
+    {
+        let oldest = BlockValues::oldest_blocks(alloc, values)?;
+        let mut disk = MemDisk::of_blocks(alloc, oldest)?;
+        for (at, block) in values.iter().enumerate() {
+            disk.add_values(at, block.later())?;
+        }
+        Ok(disk)
+    }
+
+    /// Adds the values of its blocks to the list, in order.
+    pub fn list_values(&self, list: &mut Vec<BlockValues>) -> Result<(), NoMemory>
+        ensures { OnOk result (all_values list.new.items ≡ all_values list.old.items ++ mem_values self.entry.now) }
+    {
+        for (i, first) in self.first.iter().enumerate() {
+            list.push(BlockValues::after(self.alloc, first, &self.calls, i)?)?;
+        }
         Ok(())
     }
 

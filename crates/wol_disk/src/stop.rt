@@ -1,8 +1,8 @@
 // A disk that stops once its fuse has passed so many calls.
 ghost use Rattle.std.specs.Prelude.{◌≡◌, ◌+◌, ◌≤◌, length, take, drop, option_map, OnOk, OnErr, IfSome, IsErr, IsNone};
-ghost use Rattle.wol_disk.specs.Disk.{State, reads, added, settled, Rose, AddsSomeOf, Passes, IsUnchanged};
+ghost use Rattle.wol_disk.specs.Disk.{State, only, reads, added, settled, Rose, AddsSomeOf, Passes, IsUnchanged};
 
-use crate::{Block, Disk, Failed};
+use crate::{Block, Disk, Failed, MemDisk};
 use std::alloc::Global;
 use std::sync::Arc;
 use std::sync::atomic::{AtomicU64, Ordering};
@@ -90,6 +90,13 @@ impl<D: Disk> StopDisk<D> {
         self.faults
     }
 
+    /// The inner disk.
+    pub fn inner(&self) -> &D
+        ensures { result.now ≡ inner_of self.now }
+    {
+        &self.inner
+    }
+
     /// Gives the inner disk back.
     pub fn into_inner(self) -> D
     where
@@ -116,6 +123,23 @@ impl<D: Disk> StopDisk<D> {
         ensures rose { Rose self.old.faults self.new.faults }
     {
         self.faults = self.faults.saturating_add(1);
+    }
+}
+
+impl StopDisk<MemDisk> {
+    ghost use Rattle.wol_disk.specs.Memory.{mem_state, mem_values, plan_of};
+    ghost use Rattle.wol_disk.specs.Stop.{inner_of, fuse_of};
+    ghost use Rattle.wol_disk.specs.Record.{chosen};
+
+    /// Leaves one image of the inner disk, as a crash does.
+    pub fn restart(&mut self, choice: &[u32])
+        ensures values { mem_values (inner_of self.new) ≡ only (chosen choice.now (mem_values (inner_of self.old))) }
+        ensures size { (mem_state (inner_of self.new)).size ≡ (mem_state (inner_of self.old)).size }
+        ensures plan { plan_of (inner_of self.new) ≡ plan_of (inner_of self.old) }
+        ensures fuse { fuse_of self.new ≡ fuse_of self.old }
+        ensures faults { self.new.faults ≡ self.old.faults }
+    {
+        self.inner.restart(choice);
     }
 }
 

@@ -1,13 +1,14 @@
-use Rattle.std.proofs.Common.{◌≡◌, length, Some, ap, ◌∙◌, arith}
+use Rattle.std.proofs.Common.{◌≡◌, ◌*◌, sym, length, Some, ap, ◌∙◌, arith}
 use Rattle.std.proofs.lemmas.List.{length-map}
-use Rattle.std.specs.Prelude.{string_bytes}
+use Rattle.std.specs.Prelude.{string_bytes, sum}
 use Rattle.wol_disk.specs.Memory.{mem_state}
 use Rattle.wol_disk.specs.Stop.{stop_state}
 use Rattle.wol_bay.specs.Bay.{each_place}
 use Rattle.wol_bay.specs.Parts.{faulty_places, sizes_of}
-use Rattle.wol_bay.specs.MemBay.{stored_blocks}
+use Rattle.wol_bay.specs.Stored.{stored_blocks}
 use Rattle.wol_bay.specs.declared.held.Faulty.{Faulty}
 use Rattle.wol_bay.proofs.BayMoves.{came, found_of, not_missing, has_name}
+use Rattle.wol_bay.proofs.Attached.{stored_size}
 use Rattle.wol_bay.proofs.memory.MemBayBay.detach.Goals as goal
 
 pub unreachable-requires : goal.unreachable-requires
@@ -33,3 +34,13 @@ returns-clause-back c =
     c.args.self.now.out.items c.take_by_name.new.entries.items c.args.self.now.faulty.items c.keep_faulty.new.list.items _ note
     c.take_by_name.ensures.entries c.take_by_name-older.ensures.entries more
     (λ i. (named i, record { blocks = stored_blocks c.args.parts.items; rest = c.new.ensures.items i })) c.keep_faulty.ensures.list (λ i. each_place (whose i) (marks i)))
+
+pub invariant_of-image : goal.invariant_of-image
+invariant_of-image c =
+    let leave = c.in-Some.leave in
+    let parts = c.args.parts.items in
+    let sizes : leave.sizes.items ≡ sizes_of (λ part. stop_state mem_state part) parts =
+    found_of (λ leave. string_bytes leave.name) (λ leave. leave.sizes.items) c.args.name.now c.args.self.now.out.items leave _ c.in-Some.ensures.result c.requires in
+    let rest : length c.new.result.items ≡ 0 = ap length c.new.ensures.items in
+    let all : leave.bytes ≡ 512 * length (stored_blocks parts) = leave.in_all ∙ ap (λ n. 512 * n) (ap sum sizes ∙ sym (stored_size parts)) in
+    record { in_all = omega (arith, all, rest); short = omega (arith, rest) }

@@ -5,8 +5,8 @@ use Rattle.wol_disk.specs.Memory.{mem_state, plan_of}
 use Rattle.wol_bay.specs.Plans.{planned_of, is_for, calls_for}
 use Rattle.wol_bay.specs.declared.plans.Plan.{Plan}
 use Rattle.wol_bay.proofs.BayMoves.{calls_step}
-use Rattle.wol_bay.proofs.memory.MemBay.blank.Goals as goal
-use Rattle.wol_bay.proofs.memory.MemBay.blank.Goals.{then-is_for+in_ok-fail, else-is_for}
+use Rattle.wol_bay.proofs.memory.MemBay.armed.Goals as goal
+use Rattle.wol_bay.proofs.memory.MemBay.armed.Goals.{then-is_for+in_ok-fail, else-is_for}
 
 pub loop-plan-preserved : goal.loop-plan-preserved
 loop-plan-preserved c =
