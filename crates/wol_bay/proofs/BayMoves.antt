@@ -4,7 +4,7 @@ use Rattle.std.specs.Str.{bytes_eq}
 use Rattle.std.specs.Prelude.{string_bytes, filter, not}
 use Rattle.std.proofs.lemmas.Slice.Eq.{bytes_eq-Decides}
 use Rattle.std.proofs.lemmas.List.{map-append, take_more}
-use Rattle.wol_bay.specs.Bay.{Name, Image, at_name, without, stored, each_place, sent_out, came_back}
+use Rattle.wol_bay.specs.Bay.{Name, Image, at_name, without, stored, each_place, sent_out, came_back, removed}
 use Rattle.wol_bay.specs.Parts.{joined, blocks_of}
 use Rattle.wol_disk.specs.Memory.{mem_state, mem_values}
 use Rattle.wol_disk.specs.Stop.{inner_of, stop_state}
@@ -99,6 +99,13 @@ sent name sizes images images' out out' faulty faulty' leave gone more named siz
     let more' : map named_sizes out' ≡ map named_sizes out ++ (name, sizes) ∷ [] =
     ap (λ (l : List Leave). map named_sizes l) more ∙ map-append named_sizes out (leave ∷ []) ∙ ap (λ (n : Name). map named_sizes out ++ (n, leave.sizes.items) ∷ []) named ∙ ap (λ (n : List ℕ). map named_sizes out ++ (name, n) ∷ []) sized in
     λ i. record { images = gone' i; out = more' i; faulty = flat_map named_places (same i) }
+
+-- an image is gone for good
+pub lost : (name : Name) (images images' : List held.Image) (out : List Leave) (faulty : List Faulty) → by_name (λ image. string_bytes image.name) images' ≡ without name (by_name (λ image. string_bytes image.name) images)
+    → told_of images' out faulty ≡ removed name (told_of images out faulty)
+lost name images images' out faulty gone =
+    let gone' : map named_image images' ≡ without name (map named_image images) = kept_by (λ image. string_bytes image.name) (λ image. (named_image image).1) name images images' gone in
+    λ i. record { images = gone' i; out = map named_sizes out; faulty = flat_map named_places faulty }
 
 -- the plans that are kept, as callers see them
 pub planned_filter : (name : Name) (plans : List Plan) → map planned_of (filter (λ p. not (bytes_eq (string_bytes p.name) name)) plans) ≡ plans_without name (map planned_of plans)

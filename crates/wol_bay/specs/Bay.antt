@@ -1,5 +1,5 @@
 -- What a bay tells, and what its calls do to that.
-use Rattle.std.specs.Prelude.{◌≡◌, ◌*◌, ℕ, ◌+◌, List, [], ◌∷◌, ◌++◌, length, map, Option, None, Some, option_map, IfSome, if◌then◌else◌}
+use Rattle.std.specs.Prelude.{◌≡◌, ◌*◌, ℕ, ◌+◌, List, [], ◌∷◌, ◌++◌, length, map, Option, None, Some, option_map, IfSome, IsSome, if◌then◌else◌}
 use Rattle.std.specs.Str.{bytes_eq}
 use Rattle.wol_disk.specs.Disk.{Block, Values}
 
@@ -49,6 +49,14 @@ IsHome name b = IfSome b.told (λ t. at_name name t.out ≡ None)
 -- the name is out with parts of these sizes
 abbrev pub IsOut : Name → List ℕ → BayState → Type 0
 IsOut name sizes b = IfSome b.told (λ t. at_name name t.out ≡ Some sizes)
+
+-- an image has the name
+abbrev pub Holds : Name → BayState → Type 0
+Holds name b = IfSome b.told (λ t. IsSome (at_name name t.images))
+
+-- an image is gone for good
+abbrev pub removed : Name → Told → Told
+removed name t = record t { images = without name t.images }
 
 -- an image went out
 abbrev pub sent_out : Name → List ℕ → Told → Told

@@ -47,7 +47,7 @@ impl MemBay {
     ghost use Rattle.wol_disk.specs.Plan.{no_plan};
     ghost use Rattle.wol_disk.specs.Memory.{mem_state, plan_of};
     ghost use Rattle.wol_bay.specs.Refusals.{blocks_at, refusal};
-    ghost use Rattle.wol_bay.specs.Bay.{BayState, Told, IsHome, sent_out};
+    ghost use Rattle.wol_bay.specs.Bay.{BayState, Told, IsHome, Holds, sent_out, removed};
     ghost use Rattle.wol_bay.specs.Plans.{Planned, plans_without};
     ghost use Rattle.wol_bay.specs.MemBay.{mem_bay_state, plans_of, bay_fuse, AreArmed};
 
@@ -89,6 +89,18 @@ impl MemBay {
         ensures plans { plans_of self.new ≡ plans_of self.old }
     {
         self.fuse = fuse;
+    }
+
+    /// Takes an image away, as one who deletes its file does. Plans for the name stay.
+    pub fn remove(&mut self, name: &str)
+        requires home { IsHome name.now (mem_bay_state self.old) }
+        requires there { Holds name.now (mem_bay_state self.old) }
+        ensures gone { (mem_bay_state self.new).told ≡ option_map (removed name.now) (mem_bay_state self.old).told }
+        ensures calm { (mem_bay_state self.new).faults ≡ (mem_bay_state self.old).faults }
+        ensures plans { plans_of self.new ≡ plans_of self.old }
+        ensures fuse { bay_fuse self.new ≡ bay_fuse self.old }
+    {
+        let _removed = take_by_name(&mut self.images, name);
     }
 
     // A part with its plan and the fuse.
