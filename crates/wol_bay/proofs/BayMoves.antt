@@ -4,7 +4,7 @@ use Rattle.std.specs.Str.{bytes_eq}
 use Rattle.std.specs.Prelude.{string_bytes, filter, not}
 use Rattle.std.proofs.lemmas.Slice.Eq.{bytes_eq-Decides}
 use Rattle.std.proofs.lemmas.List.{map-append, take_more}
-use Rattle.wol_bay.specs.Bay.{Name, Image, at_name, without, stored, each_place, sent_out, came_back, removed}
+use Rattle.wol_bay.specs.Bay.{Name, Image, at_name, without, stored, each_place, sent_out, came_back, removed, with_image}
 use Rattle.wol_bay.specs.Parts.{joined, blocks_of}
 use Rattle.wol_disk.specs.Memory.{mem_state, mem_values}
 use Rattle.wol_disk.specs.Stop.{inner_of, stop_state}
@@ -106,6 +106,15 @@ pub lost : (name : Name) (images images' : List held.Image) (out : List Leave) (
 lost name images images' out faulty gone =
     let gone' : map named_image images' ≡ without name (map named_image images) = kept_by (λ image. string_bytes image.name) (λ image. (named_image image).1) name images images' gone in
     λ i. record { images = gone' i; out = map named_sizes out; faulty = flat_map named_places faulty }
+
+-- an image stands in the place of another
+pub replaced : (name : Name) (i : Image) (images images' images'' : List held.Image) (out : List Leave) (faulty : List Faulty) (image : held.Image) → by_name (λ image. string_bytes image.name) images' ≡ without name (by_name (λ image. string_bytes image.name) images)
+    → images'' ≡ images' ++ image ∷ [] → named_image image ≡ (name, i) → told_of images'' out faulty ≡ with_image name i (told_of images out faulty)
+replaced name i images images' images'' out faulty image gone more is =
+    let rest : map named_image images' ≡ without name (map named_image images) = kept_by (λ image. string_bytes image.name) (λ image. (named_image image).1) name images images' gone in
+    let all : map named_image images'' ≡ without name (map named_image images) ++ (name, i) ∷ [] =
+    ap (λ (l : List held.Image). map named_image l) more ∙ map-append named_image images' (image ∷ []) ∙ ap (λ l. l ++ named_image image ∷ []) rest ∙ ap (λ (e : Name × Image). without name (map named_image images) ++ e ∷ []) is in
+    λ j. record { images = all j; out = map named_sizes out; faulty = flat_map named_places faulty }
 
 -- the plans that are kept, as callers see them
 pub planned_filter : (name : Name) (plans : List Plan) → map planned_of (filter (λ p. not (bytes_eq (string_bytes p.name) name)) plans) ≡ plans_without name (map planned_of plans)

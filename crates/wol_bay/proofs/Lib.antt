@@ -3,3 +3,4 @@ pub mod NameLists
 pub mod BayMoves
 pub mod OneImage
 pub mod Attached
+pub mod Crashes

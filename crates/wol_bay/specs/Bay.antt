@@ -1,7 +1,8 @@
 -- What a bay tells, and what its calls do to that.
 use Rattle.std.specs.Prelude.{◌≡◌, ◌*◌, ℕ, ◌+◌, List, [], ◌∷◌, ◌++◌, length, map, Option, None, Some, option_map, IfSome, IsSome, if◌then◌else◌}
 use Rattle.std.specs.Str.{bytes_eq}
-use Rattle.wol_disk.specs.Disk.{Block, Values}
+use Rattle.wol_disk.specs.Disk.{Block, Values, only}
+use Rattle.wol_disk.specs.Record.{chosen}
 
 -- the bytes of an image's name
 abbrev pub Name : Type 0
@@ -57,6 +58,22 @@ Holds name b = IfSome b.told (λ t. IsSome (at_name name t.images))
 -- an image is gone for good
 abbrev pub removed : Name → Told → Told
 removed name t = record t { images = without name t.images }
+
+-- this image stands under the name, whatever stood there
+abbrev pub with_image : Name → Image → Told → Told
+with_image name i t = record t { images = without name t.images ++ (name, i) ∷ [] }
+
+-- one of the images that a crash may leave: of each block one value, by the number that is chosen for it
+abbrev pub crashed : List ℕ → Image → Image
+crashed choice i = record i { blocks = only (chosen choice i.blocks) }
+
+abbrev pub restarted_as : Name → List ℕ → Option Image → Told → Told
+restarted_as name choice None t = t
+restarted_as name choice (Some i) t = with_image name (crashed choice i) t
+
+-- the image of a name is left so
+abbrev pub restarted : Name → List ℕ → Told → Told
+restarted name choice t = restarted_as name choice (at_name name t.images) t
 
 -- an image went out
 abbrev pub sent_out : Name → List ℕ → Told → Told

@@ -11,6 +11,7 @@ mod lengths;
 mod memory;
 mod names;
 mod plans;
+mod restart;
 
 pub use bays::Bay;
 pub use fault::BayFault;

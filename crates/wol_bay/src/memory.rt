@@ -13,6 +13,7 @@ use crate::held::{Faulty, Image, Leave};
 use crate::lengths::{bytes_of_parts, is_length};
 use crate::names::{place_of, take_by_name};
 use crate::plans::{Plan, drop_plans};
+use crate::restart::restart_parts;
 use std::alloc::Global;
 use std::sync::Arc;
 use wol_disk::{BlockValues, Disk, Fuse, MemDisk, NoMemory, StopDisk};
@@ -47,7 +48,7 @@ impl MemBay {
     ghost use Rattle.wol_disk.specs.Plan.{no_plan};
     ghost use Rattle.wol_disk.specs.Memory.{mem_state, plan_of};
     ghost use Rattle.wol_bay.specs.Refusals.{blocks_at, refusal};
-    ghost use Rattle.wol_bay.specs.Bay.{BayState, Told, IsHome, Holds, sent_out, removed};
+    ghost use Rattle.wol_bay.specs.Bay.{BayState, Told, IsHome, Holds, sent_out, removed, restarted};
     ghost use Rattle.wol_bay.specs.Plans.{Planned, plans_without};
     ghost use Rattle.wol_bay.specs.MemBay.{mem_bay_state, plans_of, bay_fuse, AreArmed};
 
@@ -101,6 +102,36 @@ impl MemBay {
         ensures fuse { bay_fuse self.new ≡ bay_fuse self.old }
     {
         let _removed = take_by_name(&mut self.images, name);
+    }
+
+    /// Leaves one of the images that a crash may leave of a disk that came back: block i takes the value at place
+    /// `choice[i]` modulo the number of its values since the last sync, the oldest at place 0, and the last value where
+    /// `choice` is shorter. The bytes behind the last block stay.
+    pub fn restart(&mut self, name: &str, choice: &[u32])
+        requires home { IsHome name.now (mem_bay_state self.old) }
+        requires there { Holds name.now (mem_bay_state self.old) }
+        ensures left { (mem_bay_state self.new).told ≡ option_map (restarted name.now choice.now) (mem_bay_state self.old).told }
+        ensures calm { (mem_bay_state self.new).faults ≡ (mem_bay_state self.old).faults }
+        ensures plans { plans_of self.new ≡ plans_of self.old }
+        ensures fuse { bay_fuse self.new ≡ bay_fuse self.old }
+    {
+        let Some(image) = take_by_name(&mut self.images, name) else {
+            unreachable!()
+        };
+        let Image {
+            name,
+            mut parts,
+            rest,
+            bytes,
+        } = image;
+        restart_parts(&mut parts, choice);
+        let left = Image {
+            name,
+            parts,
+            rest,
+            bytes,
+        };
+        self.images.push(left).unwrap();
     }
 
     // A part with its plan and the fuse.
