@@ -4,3 +4,4 @@ pub mod BayMoves
 pub mod OneImage
 pub mod Attached
 pub mod Crashes
+pub mod Written

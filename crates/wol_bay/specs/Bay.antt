@@ -1,5 +1,6 @@
 -- What a bay tells, and what its calls do to that.
-use Rattle.std.specs.Prelude.{◌≡◌, ◌*◌, ℕ, ◌+◌, List, [], ◌∷◌, ◌++◌, length, map, Option, None, Some, option_map, IfSome, IsSome, if◌then◌else◌}
+use Rattle.std.specs.Prelude.{◌≡◌, ◌*◌, ◌/◌, ℕ, drop, ◌+◌, List, [], ◌∷◌, ◌++◌, length, map, Option, None, Some, option_map, IfSome, IsSome, if◌then◌else◌}
+use Rattle.std.specs.Simd.{first_chunks}
 use Rattle.std.specs.Str.{bytes_eq}
 use Rattle.wol_disk.specs.Disk.{Block, Values, only}
 use Rattle.wol_disk.specs.Record.{chosen}
@@ -62,6 +63,10 @@ removed name t = record t { images = without name t.images }
 -- this image stands under the name, whatever stood there
 abbrev pub with_image : Name → Image → Told → Told
 with_image name i t = record t { images = without name t.images ++ (name, i) ∷ [] }
+
+-- the image that these bytes are: their whole blocks, the same in every image of the disk, and the bytes behind the last
+abbrev pub image_of : List ℕ → Image
+image_of bytes = record { blocks = only (first_chunks 512 (length bytes / 512) bytes); rest = drop (length bytes / 512 * 512) bytes }
 
 -- one of the images that a crash may leave: of each block one value, by the number that is chosen for it
 abbrev pub crashed : List ℕ → Image → Image

@@ -1,10 +1,12 @@
 // What a bay in memory keeps: its images, the names that are out, and the faults that it was told of.
 ghost use Rattle.std.specs.Prelude.{◌≡◌, ◌≤◌, ◌<◌, ◌+◌, ◌*◌, [], IfOk, length, sum, string_bytes, vec_capacity, vec_len};
+ghost use Rattle.wol_disk.specs.Disk.{only};
+ghost use Rattle.wol_disk.specs.Memory.{mem_values};
 ghost use Rattle.wol_bay.specs.Stored.{stored_blocks};
 
 use crate::names::Entry;
 use std::alloc::Global;
-use wol_disk::{MemDisk, NoMemory, StopDisk};
+use wol_disk::{Block, Disk, MemDisk, NoMemory, StopDisk};
 
 // An image that is in the bay: the parts as which it came back, the bytes behind its last block, and its length in
 // bytes.
@@ -37,6 +39,42 @@ pub struct Leave {
     ghost same_name: { string_bytes faulty.name ≡ string_bytes name },
     ghost none: { faulty.places.items ≡ [] },
     ghost room: { length sizes.items ≤ vec_capacity faulty.places },
+}
+
+// A disk that has these blocks and no other values of them.
+fn disk_of(alloc: Global, blocks: &[Block]) -> Result<MemDisk, NoMemory>
+    ensures { IfOk result (λ disk. mem_values disk ≡ only blocks.now) }
+{
+    let mut disk = MemDisk::new(alloc, blocks.len() as u64)?;
+    // No call of it is planned to fail, so it fails for want of memory only.
+    let Ok(()) = disk.write(0, blocks) else {
+        return Err(NoMemory);
+    };
+    let Ok(()) = disk.sync() else {
+        return Err(NoMemory);
+    };
+    Ok(disk)
+}
+
+impl Image {
+    ghost use Rattle.wol_bay.specs.Bay.{image_of};
+    ghost use Rattle.wol_bay.specs.MemBay.{named_image};
+
+    // The image that these bytes are.
+    pub fn from_bytes(alloc: Global, name: &str, image: &[u8]) -> Result<Image, NoMemory>
+        ensures { IfOk result (λ made. named_image made ≡ (name.now, image_of image.now)) }
+    {
+        let (blocks, rest) = image.as_chunks();
+        let disk = disk_of(alloc, blocks)?;
+        let mut parts = Vec::with_capacity(alloc, 1)?;
+        parts.push(StopDisk::new(disk, None))?;
+        Ok(Image {
+            name: String::from_str(alloc, name)?,
+            parts,
+            rest: Vec::from_slice(alloc, rest)?,
+            bytes: image.len() as u64,
+        })
+    }
 }
 
 impl Leave {

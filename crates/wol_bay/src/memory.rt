@@ -48,7 +48,7 @@ impl MemBay {
     ghost use Rattle.wol_disk.specs.Plan.{no_plan};
     ghost use Rattle.wol_disk.specs.Memory.{mem_state, plan_of};
     ghost use Rattle.wol_bay.specs.Refusals.{blocks_at, refusal};
-    ghost use Rattle.wol_bay.specs.Bay.{BayState, Told, IsHome, Holds, sent_out, removed, restarted};
+    ghost use Rattle.wol_bay.specs.Bay.{BayState, Told, IsHome, Holds, sent_out, image_of, removed, restarted, with_image};
     ghost use Rattle.wol_bay.specs.Plans.{Planned, plans_without};
     ghost use Rattle.wol_bay.specs.MemBay.{mem_bay_state, plans_of, bay_fuse, AreArmed};
 
@@ -90,6 +90,24 @@ impl MemBay {
         ensures plans { plans_of self.new ≡ plans_of self.old }
     {
         self.fuse = fuse;
+    }
+
+    /// Makes an image of these bytes, or replaces the one of that name. They are there in every image of the disk, also
+    /// those behind the last whole block. After an error nothing has changed.
+    pub fn put(&mut self, name: &str, image: &[u8]) -> Result<(), NoMemory>
+        requires { IsHome name.now (mem_bay_state self.old) }
+        ensures ok { OnOk result ((mem_bay_state self.new).told ≡ option_map (with_image name.now (image_of image.now)) (mem_bay_state self.old).told) }
+        ensures err { OnErr result ((mem_bay_state self.new).told ≡ (mem_bay_state self.old).told) }
+        ensures calm { (mem_bay_state self.new).faults ≡ (mem_bay_state self.old).faults }
+        ensures plans { plans_of self.new ≡ plans_of self.old }
+        ensures fuse { bay_fuse self.new ≡ bay_fuse self.old }
+    {
+        let made = Image::from_bytes(self.alloc, name, image)?;
+        let more = self.out.len() + 1;
+        self.images.reserve(more)?;
+        let _replaced = take_by_name(&mut self.images, name);
+        self.images.push(made).unwrap();
+        Ok(())
     }
 
     /// Takes an image away, as one who deletes its file does. Plans for the name stay.
