@@ -10,5 +10,5 @@ returns-clause-ok c =
     let bay = c.args.self.now in
     let more = rw c.unwrap.ensures at c.push.ensures.items in
     ap Some (replaced c.args.name.now (image_of c.args.image.now) bay.images.items c.take_by_name-replaced.new.entries.items c.push.new.self.items bay.out.items bay.faulty.items c.in_ok-made.made
-        (c.take_by_name-replaced.ensures.entries ∙ ap (λ l. without c.args.name.now (by_name (λ image. string_bytes image.name) l)) c.reserve.ensures.items)
-        more c.in_ok-made.ensures)
+    (c.take_by_name-replaced.ensures.entries ∙ ap (λ l. without c.args.name.now (by_name (λ image. string_bytes image.name) l)) c.reserve.ensures.items)
+    more c.in_ok-made.ensures)

@@ -39,5 +39,5 @@ returns-clause-left c =
     ap stored_blocks kept ∙ c.restart_parts.ensures ∙ ap (λ (l : List (StopDisk MemDisk)). only (chosen choice (stored_blocks l))) c.deref_mut.ensures.value in
     let more = rw c.unwrap.ensures at c.push.ensures.items in
     ap Some (replaced name (crashed choice (named_image image).1) bay.images.items c.take_by_name.new.entries.items c.push.new.self.items bay.out.items bay.faulty.items _
-        c.take_by_name.ensures.entries more (λ i. (named i, record { blocks = left i; rest = image.rest.items }))
-        ∙ sym (ap (λ o. restarted_as name choice o (told_of bay.images.items bay.out.items bay.faulty.items)) (told_image name bay.images.items image (sym c.in-Some.ensures.result))))
+    c.take_by_name.ensures.entries more (λ i. (named i, record { blocks = left i; rest = image.rest.items }))
+    ∙ sym (ap (λ o. restarted_as name choice o (told_of bay.images.items bay.out.items bay.faulty.items)) (told_image name bay.images.items image (sym c.in-Some.ensures.result))))
