@@ -227,11 +227,16 @@ impl FilePart {
 }
 
 impl Disk for FilePart {
-    ghost use Rattle.wol_bay.specs.FilePart.{file_part_state, file_part_sound};
+    ghost use Rattle.wol_bay.specs.FilePart.{file_part_state, file_part_sound, file_part_told};
+    ghost use Rattle.std.specs.Prelude.{false};
 
     ghost state = { file_part_state };
 
     ghost sound = { file_part_sound };
+
+    ghost tells = { false };
+
+    ghost told = { file_part_told };
 
     fn blocks(&self) -> u64 {
         self.blocks

@@ -112,6 +112,10 @@ pub record IsDisk (d : State) : Type 0 where
   pub counts_now : (t : ℕ) (c : List Block) → t ≤ d.clock → IsImageOf d.values c → d.since t c
   pub only_now : (c : List Block) → d.since d.clock c → IsImageOf d.values c
 
+-- the values of its blocks are told
+abbrev pub TellsContent : State → Type 0
+TellsContent d = (vs : List (Values Block)) × (d.values ≡ Some vs)
+
 -- Each image at a moment since old has P.
 pub record LeavesOnly (old new : State) (P : List Block → Type 0) : Type 0 where
   pub later : old.clock ≤ new.clock

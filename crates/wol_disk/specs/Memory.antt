@@ -1,6 +1,6 @@
 -- A disk in memory, as callers see it.
-use Rattle.std.specs.Prelude.{◌+◌, List}
-use Rattle.wol_disk.specs.Disk.{Block, Values, State, only, IsDisk}
+use Rattle.std.specs.Prelude.{◌+◌, List, refl}
+use Rattle.wol_disk.specs.Disk.{Block, Values, State, only, IsDisk, TellsContent}
 use Rattle.wol_disk.specs.Plan.{Plan}
 use Rattle.wol_disk.specs.Record.{values_after, record_state}
 use Rattle.wol_disk.specs.RecordSound.{record_sound, length-only}
@@ -21,3 +21,6 @@ plan_of m = m.plan
 
 pub mem_sound : (m : MemDisk) → IsDisk (mem_state m)
 mem_sound m = record_sound (only m.first.items) m.calls.items (m.plan.planned + m.plan.short) (omega (arith, length-only m.first.items, m.first.ok, m.first.small))
+
+pub mem_told : (m : MemDisk) → TellsContent (mem_state m)
+mem_told m = (mem_values m, refl)

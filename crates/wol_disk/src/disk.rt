@@ -1,6 +1,6 @@
 // A disk as its callers see it.
-ghost use Rattle.std.specs.Prelude.{◌≡◌, ◌+◌, ◌≤◌, length, take, drop, option_map, OnOk, OnErr, IfSome, IsErr, ⊤};
-ghost use Rattle.wol_disk.specs.Disk.{State, Passes, IsDisk, added, settled, reads, AddsSomeOf};
+ghost use Rattle.std.specs.Prelude.{◌≡◌, ◌+◌, ◌≤◌, length, take, drop, option_map, OnOk, OnErr, IfSome, IsErr, IsTrue, Bool, ⊤};
+ghost use Rattle.wol_disk.specs.Disk.{State, Passes, IsDisk, TellsContent, added, settled, reads, AddsSomeOf};
 
 use std::alloc::{AllocError, AllocFailed};
 
@@ -35,6 +35,10 @@ pub trait Disk {
     /// Its blocks, its clock, the images since each moment of it, and its count of faults.
     ghost state: { Self → State };
 
+    /// Whether disks of this type tell their content. It is a fact of the type, so that of several disks of one
+    /// type all tell it or none needs to.
+    ghost tells: { Bool };
+
     /// The number of blocks, which never changes.
     fn blocks(&self) -> u64
         ensures { result ≡ (state self.now).size };
@@ -61,4 +65,7 @@ pub trait Disk {
 
     /// What holds of each disk: the disk as it reads is one of its images.
     ghost sound: { (d : Self) → IsDisk (state d) };
+
+    /// Each disk of a type that tells its content tells it.
+    ghost told: { IsTrue tells → (d : Self) → TellsContent (state d) };
 }

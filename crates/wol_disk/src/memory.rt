@@ -197,11 +197,16 @@ impl MemDisk {
 }
 
 impl Disk for MemDisk {
-    ghost use Rattle.wol_disk.specs.Memory.{mem_state, mem_sound, plan_of};
+    ghost use Rattle.wol_disk.specs.Memory.{mem_state, mem_sound, mem_told, plan_of};
+    ghost use Rattle.std.specs.Prelude.{true};
 
     ghost state = { mem_state };
 
     ghost sound = { mem_sound };
+
+    ghost tells = { true };
+
+    ghost told = { λ yes m. mem_told m };
 
     fn blocks(&self) -> u64 {
         self.now.len() as u64

@@ -150,6 +150,10 @@ impl<D: Disk> Disk for StopDisk<D> {
 
     ghost sound = { λ s. counted_sound (D.state (inner_of s)) s.faults (D.sound (inner_of s)) };
 
+    ghost tells = { D.tells };
+
+    ghost told = { λ yes s. D.told yes (inner_of s) };
+
     fn blocks(&self) -> u64 {
         self.inner.blocks()
     }

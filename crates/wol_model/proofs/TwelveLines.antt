@@ -33,22 +33,22 @@ targets =
     ∷ record { host = codes "src"; disk = 0; home = 1000 }
     ∷ []
 
-abbrev request : ℕ → ℕ → Kind → ℕ → ℕ → Request
-request line volume kind first count = record { line = line; volume = volume; kind = kind; first = first; count = count }
+abbrev asks : ℕ → ℕ → Kind → ℕ → ℕ → Request
+asks line volume kind first count = record { line = line; volume = volume; kind = kind; first = first; count = count }
 
 asked : requests 14 targets trace ≡
-    request 1 0 Write 0 8
-    ∷ request 2 1 Write 16 2
-    ∷ request 3 1 Read 16 2
-    ∷ request 4 1 Write 0 1
-    ∷ request 5 0 Write 0 2
-    ∷ request 6 0 Read 0 2
-    ∷ request 7 2 Write 10 1
-    ∷ request 8 0 Read 2 2
-    ∷ request 9 0 Write 0 1
-    ∷ request 10 1 Read 0 1
-    ∷ request 11 2 Read 10 1
-    ∷ request 12 2 Read 10 2
+    asks 1 0 Write 0 8
+    ∷ asks 2 1 Write 16 2
+    ∷ asks 3 1 Read 16 2
+    ∷ asks 4 1 Write 0 1
+    ∷ asks 5 0 Write 0 2
+    ∷ asks 6 0 Read 0 2
+    ∷ asks 7 2 Write 10 1
+    ∷ asks 8 0 Read 2 2
+    ∷ asks 9 0 Write 0 1
+    ∷ asks 10 1 Read 0 1
+    ∷ asks 11 2 Read 10 1
+    ∷ asks 12 2 Read 10 2
     ∷ []
 unfolding requests pieces
 asked = refl
