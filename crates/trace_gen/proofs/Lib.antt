@@ -1,0 +1,3 @@
+pub mod Drawing
+pub mod Standing
+pub mod Times
