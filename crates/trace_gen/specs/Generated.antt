@@ -1,11 +1,13 @@
 -- Generated traces: the lines that a seed gives on volumes.
-use Rattle.std.specs.Prelude.{◌≡◌, ℕ, zero, suc, ◌+◌, ◌*◌, ◌/◌, ◌%◌, List, [], length, map, replicate, slice_index_or, ◌==◌, if◌then◌else◌}
+use Rattle.std.specs.Prelude.{◌≡◌, ℕ, zero, suc, ◌+◌, ◌*◌, ◌/◌, ◌%◌, List, [], ◌∷◌, ◌++◌, length, map, replicate, slice_index_or, ◌==◌, if◌then◌else◌}
+use Rattle.std.specs.List.{flat_map, range_with_len}
 use Rattle.rand_core.specs.Stream.{Stream, u64_call}
 use Rattle.rand_core.specs.Steps.{stream_of}
 use Rattle.rand_xoshiro.specs.SplitMix64.{splitmix_steps}
 use Rattle.wol_model.specs.declared.trace.Kind.{Kind}
 use Rattle.wol_model.specs.declared.trace.Kind.TheVariants.{Read, Write}
 use Rattle.wol_model.specs.Trace.{Target, TraceLine}
+use Rattle.msr_trace.specs.Spelling.{line_text}
 use Rattle.wol_config.specs.declared.config.VolumeConf.{VolumeConf}
 use Rattle.wol_config.specs.declared.config.Config.{Config}
 use Rattle.trace_gen.specs.declared.words.Words.{Words}
@@ -76,6 +78,14 @@ line_of target time words = record {
 -- line n of a seed, counted from 0
 unfoldable pub line : List Target → (seed n : ℕ) → TraceLine
 line targets seed n = let words = words_of seed n in line_of (chosen targets words.volume) (time_after seed (suc n)) words
+
+-- the first lines of a seed
+abbrev pub lines : List Target → (seed count : ℕ) → List TraceLine
+lines targets seed count = map (line targets seed) (range_with_len 0 count)
+
+-- lines as they are written, each with a line feed
+abbrev pub text_of : List TraceLine → List ℕ
+text_of ls = flat_map (λ l. line_text l ++ 10 ∷ []) ls
 
 -- ---- The generator
 
