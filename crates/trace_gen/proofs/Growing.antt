@@ -16,3 +16,9 @@ length-lines targets seed n = length-map-range_with_len (line targets seed) 0 n
 -- one line's text more
 pub text_more : (ls : List TraceLine) (l : TraceLine) → text_of (ls ++ l ∷ []) ≡ text_of ls ++ (line_text l ++ 10 ∷ [])
 text_more ls l = flat_map-append (λ (m : TraceLine). line_text m ++ 10 ∷ []) ls (l ∷ []) ∙ ap (λ (t : List ℕ). text_of ls ++ t) (append-nil (line_text l ++ 10 ∷ []))
+
+-- the next line is written behind the first n
+pub written_more : (targets : List Target) (seed n : ℕ) (old new : List ℕ) (l : TraceLine) → old ≡ text_of (lines targets seed n) → l ≡ line targets seed n
+    → new ≡ old ++ (line_text l ++ 10 ∷ []) → new ≡ text_of (lines targets seed (n + 1))
+written_more targets seed n old new l before is h =
+    h ∙ rw (before, is) (sym (text_more (lines targets seed n) (line targets seed n))) ∙ ap text_of (sym (lines_more targets seed n))
