@@ -1,5 +1,5 @@
--- The first lines of a seed, worked out by hand.
-use Rattle.std.proofs.Common.{◌≡◌, ℕ, List, [], ◌∷◌, codes, refl}
+-- The first line of seed 0 on three volumes, worked out apart from the definitions.
+use Rattle.std.proofs.Common.{◌≡◌, List, [], ◌∷◌, codes, refl}
 use Rattle.rand_core.specs.Steps.{stream_of}
 use Rattle.wol_model.specs.declared.trace.Kind.TheVariants.{Write}
 use Rattle.wol_model.specs.Trace.{Target}

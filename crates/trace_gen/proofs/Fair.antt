@@ -1,10 +1,10 @@
 -- The volumes of a valid configuration as a trace may name them.
-use Rattle.std.proofs.Common.{◌≡◌, ℕ, ◌%◌, ◌^◌, ◌<◌, ◌≤◌, List, [], ◌∷◌, length, map, get_or, refl, sym, ap, ◌∙◌, arith}
+use Rattle.std.proofs.Common.{◌≡◌, ℕ, ◌%◌, ◌^◌, ◌<◌, ◌≤◌, [], length, get_or, arith}
 use Rattle.std.proofs.lemmas.List.{get_or-map, length-map}
 use Rattle.wol_model.specs.Trace.{Target}
 use Rattle.wol_config.specs.declared.config.Config.{Config}
 use Rattle.wol_config.specs.declared.config.VolumeConf.{VolumeConf}
-use Rattle.wol_config.specs.Configs.{IsHost, IsValid, IsValidVolume}
+use Rattle.wol_config.specs.Configs.{IsHost, IsValid}
 use Rattle.trace_gen.specs.Generated.{chosen, target_of, targets_of}
 
 pub record IsFair (t : Target) : Type 0 where

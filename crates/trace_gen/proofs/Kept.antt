@@ -1,9 +1,9 @@
 -- Times never fall, so that none is raised.
-use Rattle.std.proofs.Common.{◌≡◌, ℕ, zero, suc, ◌+◌, ◌≤◌, max, List, map, Some, refl, ap, add-one, arith}
+use Rattle.std.proofs.Common.{◌≡◌, ℕ, zero, suc, ◌+◌, ◌≤◌, max, List, map, Some, add-one, arith}
 use Rattle.std.specs.List.{All, range_with_len}
 use Rattle.std.proofs.lemmas.List.Elements.{All-nil, All-cons}
 use Rattle.wol_model.specs.Trace.{Target, Timed, numbered_from, timed_from}
-use Rattle.trace_gen.specs.Generated.{gap_of, line, time_after, words_of}
+use Rattle.trace_gen.specs.Generated.{line, time_after}
 use Rattle.trace_gen.specs.Laws.{TimesAreKept, TimesRise}
 
 pub times_rise : TimesRise

@@ -1,13 +1,12 @@
 -- What is written of a trace is read as the trace.
-use Rattle.std.proofs.Common.{◌≡◌, ℕ, zero, suc, ◌+◌, ◌^◌, ◌<◌, ◌≤◌, ◌==◌, Bool, true, false, List, [], ◌∷◌, ◌++◌, length, decimal, map, Option, Some, Result, Ok, refl, sym, ap, ◌∙◌, inl, inr, arith, append_assoc}
+use Rattle.std.proofs.Common.{◌≡◌, ℕ, zero, suc, ◌+◌, ◌^◌, ◌<◌, ◌≤◌, ◌==◌, true, false, List, [], ◌∷◌, ◌++◌, decimal, map, Some, Ok, refl, ap, ◌∙◌, inl, inr, arith, append_assoc}
 use Rattle.std.specs.List.{AllByRecursion, list_any, range_with_len, slice_split}
 use Rattle.std.specs.Str.Parse.{AllDigits}
 use Rattle.std.proofs.lemmas.Bool.{cases_Bool, eqb-true}
 use Rattle.std.proofs.lemmas.Fmt.{decimal_is_IsNumeral}
 use Rattle.wol_model.specs.declared.trace.Kind.{Kind}
 use Rattle.wol_model.specs.declared.trace.Kind.TheVariants as kind
-use Rattle.wol_model.specs.Trace.{Target, TraceLine}
-use Rattle.msr_trace.specs.declared.format.BadLine.{BadLine}
+use Rattle.wol_model.specs.Trace.{TraceLine}
 use Rattle.msr_trace.specs.Lines.{is_feed, lines_of, read_of, without_empty_last}
 use Rattle.msr_trace.specs.Spelling.{IsWritable, kind_text, line_text}
 use Rattle.msr_trace.proofs.Parts.{cut_at, none_both}

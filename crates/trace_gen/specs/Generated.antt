@@ -1,7 +1,7 @@
 -- Generated traces: the lines that a seed gives on volumes.
 use Rattle.std.specs.Prelude.{◌≡◌, ℕ, zero, suc, ◌+◌, ◌*◌, ◌/◌, ◌%◌, List, [], ◌∷◌, ◌++◌, length, map, replicate, slice_index_or, ◌==◌, if◌then◌else◌}
 use Rattle.std.specs.List.{flat_map, range_with_len}
-use Rattle.rand_core.specs.Stream.{Stream, u64_call}
+use Rattle.rand_core.specs.Stream.{u64_call}
 use Rattle.rand_core.specs.Steps.{stream_of}
 use Rattle.rand_xoshiro.specs.SplitMix64.{splitmix_steps}
 use Rattle.wol_model.specs.declared.trace.Kind.{Kind}

@@ -63,7 +63,8 @@ impl Gen {
         self.given
     }
 
-    /// The next line, on one of the volumes of a configuration. After `NoMemory` the next call gives the same line.
+    /// The next line, on one of the volumes of a configuration, which may be another one at each call. There are 2^31 lines.
+    /// After `NoMemory` the next call gives the same line.
     pub fn next(&mut self, alloc: Global, config: &Config) -> Result<Line, NoMemory>
         requires valid { IsValid config.now }
         requires few { self.old.given < 2 ^ 31 }

@@ -44,7 +44,12 @@ fn kind(word: u64) -> Kind
 }
 
 /// The line on a volume at a time.
-pub fn line_of(alloc: Global, volume: &VolumeConf, time: u64, words: Words) -> Result<Line, NoMemory>
+pub fn line_of(
+    alloc: Global,
+    volume: &VolumeConf,
+    time: u64,
+    words: Words,
+) -> Result<Line, NoMemory>
     requires some { 1 ≤ volume.now.home }
     requires small { volume.now.home ≤ 2 ^ 32 }
     ensures { IfOk result (λ l. trace_line l ≡ line_of (target_of volume.now) time words) }

@@ -56,7 +56,10 @@ fn written(alloc: Global, config: &Config, seed: u64, count: u32) -> Result<Vec<
 fn first_line_of_seed_0(rt: HostRuntime) -> Result<(), Fail> {
     let config = read_config(rt.alloc(), THREE_VOLUMES.as_bytes())?;
     let text = written(rt.alloc(), &config, 0, 1)?;
-    assert_eq!(rt; text.as_slice(), b"128166372000147231,web,0,Write,227328,6144,1000\n".as_slice());
+    assert_eq!(rt;
+        text.as_slice(),
+        b"128166372000147231,web,0,Write,227328,6144,1000\n".as_slice()
+    );
     Ok(())
 }
 
