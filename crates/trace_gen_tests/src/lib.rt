@@ -1,0 +1,5 @@
+//! Tests of generated traces over a whole configuration.
+#![tactic(auto)]
+
+#[cfg(test)]
+mod lines;
