@@ -8,7 +8,7 @@ use Rattle.std.proofs.Math.Seq.{drop-cons, take-suc}
 use Rattle.std.specs.Str.{bytes_eq}
 use Rattle.wol_bay.specs.Bay.{Name, at_name, without}
 
-is_same : (name : Name) → bytes_eq name name ≡ true
+pub is_same : (name : Name) → bytes_eq name name ≡ true
 is_same name = (bytes_eq-Decides name name).1 refl
 
 -- where no entry has the name, nothing is taken out

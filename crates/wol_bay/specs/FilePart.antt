@@ -14,4 +14,4 @@ pub file_part_sound : (p : FilePart) → IsDisk (file_part_state p)
 file_part_sound p = record { small = p.small; each_block = λ vs e. absurd (none_is_some vs e); counts_now = λ t c le i. i; only_now = λ c i. i }
 
 pub file_part_told : IsTrue false → (p : FilePart) → TellsContent (file_part_state p)
-file_part_told yes p = absurd (let e : false ≡ true = yes in cc)
+file_part_told is p = absurd (let e : false ≡ true = is in cc)
