@@ -9,7 +9,7 @@ use spin_model::{Awake, Spindle, Spun};
 use std::alloc::Global;
 use std::process::Abort;
 use std::test::Fail;
-use wol_disk::{Block, MemDisk, NoMemory};
+use wol_disk::{Block, Failed, MemDisk, NoMemory};
 
 const LABEL: Label = Label {
     id: 0,
@@ -61,11 +61,66 @@ fn store_and_load(rt: &impl Abort, alloc: Global, token: &Awake) -> Result<(), F
     Ok(())
 }
 
+// The first of two damaged blocks is told, and a failed call before any damage.
+fn load_damaged(rt: &impl Abort, alloc: Global, token: &Awake) -> Result<(), Fail>
+    requires { token_volume token.now ≡ 3 }
+{
+    let mut part = zeros(alloc)?;
+    let segments_of_three = block(b"WOLVOL01\0\0\0\0\xe8\x03\0\0\0\0\0\0\x04\0\0\0\x03\0\0\0");
+    let view = block(b"WOLVIEW1\x01\0\0\0\x03\0\0\0");
+    part.write(token, 0, &[segments_of_three, view])?;
+    let both = load(token, &mut part, 3);
+    assert!(rt; matches!(&both, Err(ViewFault::Damaged { block: 0 })));
+    for call in 0..2 {
+        let mut disk = MemDisk::new(alloc, 2)?;
+        disk.fail(call)?;
+        let failed = load(token, &mut Spun::new(3, disk), 3);
+        assert!(rt; matches!(&failed, Err(ViewFault::Failed)));
+    }
+    Ok(())
+}
+
+// A part of zeros becomes a free segment; a failed call is told.
+fn free_segment(rt: &impl Abort, alloc: Global, token: &Awake) -> Result<(), Fail>
+    requires { token_volume token.now ≡ 3 }
+{
+    let mut part = Spun::new(3, MemDisk::new(alloc, 4)?);
+    store_free(token, &mut part)?;
+    let mut blocks = [[9; 512]; 2];
+    part.read(token, 0, &mut blocks)?;
+    assert!(rt; blocks[0] == block(b"WOLSEGF1"));
+    assert!(rt; blocks[1] == [0; 512]);
+    for call in 0..2 {
+        let mut disk = MemDisk::new(alloc, 4)?;
+        disk.fail(call)?;
+        assert_eq!(rt; store_free(token, &mut Spun::new(3, disk)), Err(Failed));
+    }
+    Ok(())
+}
+
 #[test]
 fn what_was_stored_is_loaded(rt: HostRuntime) -> Result<(), Fail> {
     let mut spindle = Spindle::new(rt.alloc(), 3, 100);
     let token = spindle.need();
     let done = store_and_load(&rt, rt.alloc(), &token);
+    spindle.done(token);
+    done
+}
+
+#[test]
+fn the_first_damaged_block_is_told(rt: HostRuntime) -> Result<(), Fail> {
+    let mut spindle = Spindle::new(rt.alloc(), 3, 100);
+    let token = spindle.need();
+    let done = load_damaged(&rt, rt.alloc(), &token);
+    spindle.done(token);
+    done
+}
+
+#[test]
+fn a_part_of_zeros_becomes_a_free_segment(rt: HostRuntime) -> Result<(), Fail> {
+    let mut spindle = Spindle::new(rt.alloc(), 3, 100);
+    let token = spindle.need();
+    let done = free_segment(&rt, rt.alloc(), &token);
     spindle.done(token);
     done
 }
