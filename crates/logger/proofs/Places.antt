@@ -46,7 +46,7 @@ module _ {D : Type 0} where
 
 module _ {D : Type 0} (state : D → State) where
   -- the indexes of a lane lie below the number of segments for which it has room
-  all_below : (logger owner segments : ℕ) (p : PassOf (Pool (FreeSegment D)) PoolBase) (items : List (HeldSegment D)) (t : Option (ℕ × FreeSegment D)) → AllByRecursion (IsHeld state logger owner segments p) items → IfSome t (IsTaken state logger segments p)
+  pub all_below : (logger owner segments : ℕ) (p : PassOf (Pool (FreeSegment D)) PoolBase) (items : List (HeldSegment D)) (t : Option (ℕ × FreeSegment D)) → AllByRecursion (IsHeld state logger owner segments p) items → IfSome t (IsTaken state logger segments p)
       → AllByRecursion (λ i. i < segments) (map (λ (h : HeldSegment D). h.index) items ++ map (λ (u : ℕ × FreeSegment D). u.0) (option_to_list t))
   all_below logger owner segments p [] None each is = tt
   all_below logger owner segments p [] (Some u) each is = (is.below, tt)

@@ -1,10 +1,10 @@
 -- What a lane's passes made in a call, and what its segments are to it then.
-use Rattle.std.proofs.Common.{◌≡◌, ◌≢◌, ◌<◌, ◌≤◌, ℕ, Bool, true, false, List, [], ◌∷◌, ◌++◌, length, Option, Some, None, IfSome, refl, sym, ap, subst, ◌∙◌, arith, append_assoc}
+use Rattle.std.proofs.Common.{◌≡◌, ◌≢◌, ◌<◌, ◌≤◌, ℕ, Bool, true, false, List, [], ◌∷◌, ◌++◌, length, vec_len, slice_index_or, Option, Some, None, IfSome, refl, sym, ap, subst, ◌∙◌, arith, append_assoc}
 use Rattle.std.specs.List.{AllByRecursion}
 use Rattle.wol_disk.specs.Disk.{State}
 use Rattle.turn_lock.specs.Histories.{Entry}
 use Rattle.turn_lock.specs.LockIds.{LockId}
-use Rattle.turn_lock.specs.Passes.{pass_lock, pass_number, pass_mine, IsSamePass}
+use Rattle.turn_lock.specs.Passes.{lock_id, pass_lock, pass_number, pass_mine, IsSamePass}
 use Rattle.turn_lock.specs.declared.pass.PassOf.{PassOf}
 use Rattle.seg_pool.specs.Operations.{holds}
 use Rattle.seg_pool.specs.declared.base.PoolBase.{PoolBase}
@@ -12,13 +12,24 @@ use Rattle.seg_pool.specs.declared.pool.Pool.{Pool}
 use Rattle.log_segment.specs.Segment.{IsSegment, IsBlank, IsSame, segment_volume, owner_of, blocks_of}
 use Rattle.log_segment.specs.declared.free.FreeSegment.{FreeSegment}
 use Rattle.log_segment.specs.declared.segment.Segment.{Segment}
-use Rattle.logger.specs.Lanes.{IsHeld, IsTaken}
+use Rattle.logger.specs.Lanes.{IsHeld, IsTaken, IsAt, IsSameLane}
 use Rattle.logger.specs.declared.lane.HeldSegment.{HeldSegment}
+use Rattle.logger.specs.declared.lane.Lane.{Lane}
+use Rattle.logger.specs.declared.shared.Shared.{Shared}
 
 -- two entries, one after the other
 pub two_entries : (old mid new : List Entry) (n m : ℕ) (needed done : List ℕ) → mid ≡ old ++ (n, needed) ∷ [] → m ≡ n → new ≡ mid ++ (m, done) ∷ [] → new ≡ old ++ (n, needed) ∷ (n, done) ∷ []
 two_entries old mid new n m needed done first same second =
     second ∙ (ap (λ (es : List Entry). es ++ (m, done) ∷ []) first ∙ (append_assoc old ((n, needed) ∷ []) ((m, done) ∷ []) ∙ ap (λ k. old ++ (n, needed) ∷ (k, done) ∷ []) same))
+
+-- a lane whose passes are the same is at the same locks
+pub at_same : {D : Type 0} (shared : Shared D) (old new : Lane D) → IsSameLane old new → IsAt shared old → IsAt shared new
+at_same shared old new same at = record {
+  pool_in = subst (λ n. n < vec_len shared.pools) (sym same.logger) at.pool_in;
+  spindle_in = subst (λ n. n < vec_len shared.spindles) (sym same.logger) at.spindle_in;
+  pool = λ d. same.pool.0 ∙ (at.pool d ∙ ap (λ n. lock_id (slice_index_or shared.pools.items n d)) (sym same.logger));
+  spindle = λ d. same.spindle.0 ∙ (at.spindle d ∙ ap (λ n. lock_id (slice_index_or shared.spindles.items n d)) (sym same.logger));
+}
 
 module _ {D : Type 0} (state : D → State) (logger owner segments : ℕ) where
   -- a held segment that is the same in all that no call changes

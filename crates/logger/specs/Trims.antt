@@ -12,12 +12,12 @@ use Rattle.logger.specs.declared.lane.HeldSegment.{HeldSegment}
 
 module _ {D : Type 0} (state : D → State) where
   -- the segment at this place is of this volume, whole, and no record of it keeps a block
-  pub record IsBareAt (volume : ℕ) (hs : List (HeldSegment D)) (place : ℕ) : Type 0 where
+  pub record IsBareAt (on : ℕ) (hs : List (HeldSegment D)) (place : ℕ) : Type 0 where
     pub segment : HeldSegment D
     pub there : slice_get hs place ≡ Some segment
     pub shape : IsSegment state segment.segment
     pub whole : IsWhole segment.segment
-    pub volume : segment_volume segment.segment ≡ volume
+    pub volume : segment_volume segment.segment ≡ on
     pub bare : valid_of segment.segment ≡ 0
 
   -- it was taken out and freed
@@ -44,12 +44,12 @@ module _ {D : Type 0} (state : D → State) where
     pub cause : Rose (disk_of state segment.segment).faults (disk_of state after.segment).faults
 
   -- the segment at this place is of this volume and owner, whole, and has this position
-  pub record IsCuttable (volume : ℕ) (hs : List (HeldSegment D)) (place pos owner : ℕ) : Type 0 where
+  pub record IsCuttable (on : ℕ) (hs : List (HeldSegment D)) (place pos owner : ℕ) : Type 0 where
     pub segment : HeldSegment D
     pub there : slice_get hs place ≡ Some segment
     pub shape : IsSegment state segment.segment
     pub whole : IsWhole segment.segment
-    pub volume : segment_volume segment.segment ≡ volume
+    pub volume : segment_volume segment.segment ≡ on
     pub owned : owner_of segment.segment ≡ owner
     pub fits : pos < blocks_of segment.segment
 
