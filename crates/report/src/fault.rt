@@ -59,11 +59,7 @@ impl Fault {
 ///
 /// No volumes stand for `solo`, whose one volume has the number 0 and the name `solo`. A configuration that was refused for
 /// want of memory has no line of its own: that fault is `Memory`.
-pub fn fault_text(
-    volumes: &[VolumeConf],
-    fault: &Fault,
-    out: &mut Vec<u8>,
-) -> Result<(), NoMemory>
+pub fn fault_text(volumes: &[VolumeConf], fault: &Fault, out: &mut Vec<u8>) -> Result<(), NoMemory>
     requires names { NamesAmong (length (printed_names volumes.now)) fault.now }
     requires told { fault.now ≢ Fault.Config ConfigFault.NoMemory }
     ensures ok { OnOk result (out.new.items ≡ out.old.items ++ fault_text (printed_names volumes.now) fault.now) }

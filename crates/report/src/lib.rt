@@ -15,3 +15,5 @@ pub use totals::{Totals, solo_line, summary};
 pub use trouble::{Trouble, trouble_text};
 pub use words::{Word, append_line, append_words};
 
+#[cfg(test)]
+mod tests;

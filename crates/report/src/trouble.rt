@@ -15,11 +15,16 @@ pub enum Trouble {
     /// The bay has no such image.
     Absent,
     /// The image has so many bytes, which aren't as many as it should have.
-    Length { bytes: u64 },
+    Length {
+        bytes: u64,
+    },
     /// The label isn't that of the configuration.
     LabelDiffers,
     /// This block is damaged.
-    Damaged { volume: u32, block: u64 },
+    Damaged {
+        volume: u32,
+        block: u64,
+    },
     /// The valid records at these two blocks have one version.
     Twins {
         first_volume: u32,
@@ -28,9 +33,14 @@ pub enum Trouble {
         second: u64,
     },
     /// The volume owns this segment, whose logger isn't in its view.
-    OutsideView { logger: u32, segment: u32 },
+    OutsideView {
+        logger: u32,
+        segment: u32,
+    },
     /// A logger of the view isn't configured, or its image was refused.
-    LoggerMissing { id: u32 },
+    LoggerMissing {
+        id: u32,
+    },
     /// A call of the bay failed.
     Bay,
     /// A call of the label failed.
@@ -38,7 +48,10 @@ pub enum Trouble {
     /// A call of home failed.
     Home,
     /// A call of this segment failed.
-    Segment { logger: u32, index: u32 },
+    Segment {
+        logger: u32,
+        index: u32,
+    },
 }
 
 impl Trouble {
