@@ -18,12 +18,16 @@ solo_text t =
     line_of (codes "solo lines" ∷ decimal t.lines ∷ codes "blank" ∷ decimal t.blank ∷ codes "skipped" ∷ decimal t.skipped
     ∷ codes "reads" ∷ decimal t.reads ∷ codes "writes" ∷ decimal t.writes ∷ [])
 
--- what a run counted, in five lines
-unfoldable pub totals_text : Totals → List ℕ
-totals_text t =
+-- the lines that were read, and the requests that were answered
+unfoldable pub requests_text : Totals → List ℕ
+requests_text t =
     line_of (codes "lines" ∷ decimal t.lines ∷ codes "blank" ∷ decimal t.blank ∷ codes "skipped" ∷ decimal t.skipped ∷ [])
     ++ line_of (codes "reads" ∷ decimal t.reads ∷ codes "writes" ∷ decimal t.writes ∷ [])
-    ++ line_of (codes "placed home" ∷ decimal t.home ∷ codes "log" ∷ decimal t.log ∷ codes "drains" ∷ decimal t.drains ∷ [])
+
+-- where writes went, what was reclaimed, and the time from the first line to the last
+unfoldable pub places_text : Totals → List ℕ
+places_text t =
+    line_of (codes "placed home" ∷ decimal t.home ∷ codes "log" ∷ decimal t.log ∷ codes "drains" ∷ decimal t.drains ∷ [])
     ++ line_of (codes "reclaimed blocks" ∷ decimal t.blocks ∷ codes "records" ∷ decimal t.records ∷ [])
     ++ line_of (codes "span" ∷ decimal t.span ∷ [])
 
@@ -57,4 +61,4 @@ total_text amounts =
 
 -- the summary of a run over volumes of these names
 unfoldable pub summary_text : Totals → (names : List (List ℕ)) → List Amounts → List ℕ
-summary_text t names amounts = totals_text t ++ volumes_text names amounts ++ total_text amounts
+summary_text t names amounts = requests_text t ++ places_text t ++ volumes_text names amounts ++ total_text amounts

@@ -2,7 +2,7 @@
 ghost use Rattle.std.specs.Prelude.{◌≡◌, ◌++◌, ◌≤◌, ◌<◌, ◌^◌, length, OnOk, OnErr};
 ghost use Rattle.std.specs.Io.{StartsWith};
 ghost use Rattle.report.specs.Names.{printed_names};
-ghost use Rattle.report.specs.Summaries.{energy_of, sleeps_of, solo_text, summary_text, total_text, totals_text, units_of, volume_text, wakes_of};
+ghost use Rattle.report.specs.Summaries.{energy_of, places_text, requests_text, sleeps_of, solo_text, summary_text, total_text, units_of, volume_text, wakes_of};
 
 use crate::names::name_at;
 use crate::words::Word::{Large, Number, Text};
@@ -100,17 +100,18 @@ fn put_summary(
     ensures ok { OnOk result (out.new.items ≡ out.old.items ++ summary_text totals.now (printed_names volumes.now) amounts.now) }
     ensures starts { StartsWith out.new.items out.old.items }
 {
-    put_totals(totals, out)?;
+    put_requests(totals, out)?;
+    put_places(totals, out)?;
     for (number, used) in amounts.iter().enumerate() {
         append_volume(name_at(volumes, number as u32), used, out)?;
     }
     append_total(amounts, out)
 }
 
-// What was counted.
-#[tactic(auto, unfolding(crate::specs::Summaries::totals_text))]
-fn put_totals(totals: &Totals, out: &mut Vec<u8>) -> Result<(), NoMemory>
-    ensures ok { OnOk result (out.new.items ≡ out.old.items ++ totals_text totals.now) }
+// What was read and answered.
+#[tactic(auto, unfolding(crate::specs::Summaries::requests_text))]
+fn put_requests(totals: &Totals, out: &mut Vec<u8>) -> Result<(), NoMemory>
+    ensures ok { OnOk result (out.new.items ≡ out.old.items ++ requests_text totals.now) }
     ensures starts { StartsWith out.new.items out.old.items }
 {
     append_line(
@@ -132,7 +133,15 @@ fn put_totals(totals: &Totals, out: &mut Vec<u8>) -> Result<(), NoMemory>
             Number(totals.writes),
         ],
         out,
-    )?;
+    )
+}
+
+// Where writes went, what was reclaimed, and how long it took.
+#[tactic(auto, unfolding(crate::specs::Summaries::places_text))]
+fn put_places(totals: &Totals, out: &mut Vec<u8>) -> Result<(), NoMemory>
+    ensures ok { OnOk result (out.new.items ≡ out.old.items ++ places_text totals.now) }
+    ensures starts { StartsWith out.new.items out.old.items }
+{
     append_line(
         &[
             Text(b"placed home"),

@@ -1,7 +1,7 @@
 // What is wrong with a volume, and the text that says so.
 ghost use Rattle.std.specs.Prelude.{◌≡◌, ◌++◌, length, OnOk, OnErr};
 ghost use Rattle.report.specs.Names.{printed_names};
-ghost use Rattle.report.specs.Troubles.{IsAmong, trouble_status, trouble_text};
+ghost use Rattle.report.specs.Troubles.{IsAmong, place_text, trouble_status, trouble_text, twins_text};
 
 use crate::names::name_at;
 use crate::words::Word::{Number, Text};
@@ -93,54 +93,80 @@ pub fn trouble_text(
         Trouble::Length { bytes } => append_words(&[Text(b"length"), Number(bytes)], out),
         Trouble::LabelDiffers => append_words(&[Text(b"label differs")], out),
         Trouble::Damaged { volume, block } => {
-            let name = name_at(volumes, volume);
-            append_words(
-                &[Text(b"damaged"), Number(block), Text(b"of"), Text(name)],
-                out,
-            )
+            append_place(b"damaged", block, name_at(volumes, volume), out)
         }
         Trouble::Twins {
             first_volume,
             first,
             second_volume,
             second,
-        } => append_words(
-            &[
-                Text(b"twins"),
-                Number(first),
-                Text(b"of"),
-                Text(name_at(volumes, first_volume)),
-                Text(b"and"),
-                Number(second),
-                Text(b"of"),
-                Text(name_at(volumes, second_volume)),
-            ],
-            out,
-        ),
-        Trouble::OutsideView { logger, segment } => append_words(
-            &[
-                Text(b"outside view segment"),
-                Number(u64::from(segment)),
-                Text(b"of"),
-                Text(name_at(volumes, logger)),
-            ],
-            out,
-        ),
-        Trouble::LoggerMissing { id } => append_words(
-            &[Text(b"logger"), Number(u64::from(id)), Text(b"missing")],
-            out,
-        ),
+        } => {
+            let name = name_at(volumes, first_volume);
+            let other = name_at(volumes, second_volume);
+            append_twins(first, name, second, other, out)
+        }
+        Trouble::OutsideView { logger, segment } => {
+            let segment = u64::from(segment);
+            append_place(
+                b"outside view segment",
+                segment,
+                name_at(volumes, logger),
+                out,
+            )
+        }
+        Trouble::LoggerMissing { id } => {
+            let id = Number(u64::from(id));
+            append_words(&[Text(b"logger"), id, Text(b"missing")], out)
+        }
         Trouble::Bay => append_words(&[Text(b"disk bay")], out),
         Trouble::Label => append_words(&[Text(b"disk label")], out),
         Trouble::Home => append_words(&[Text(b"disk home")], out),
-        Trouble::Segment { logger, index } => append_words(
-            &[
-                Text(b"disk segment"),
-                Number(u64::from(index)),
-                Text(b"of"),
-                Text(name_at(volumes, logger)),
-            ],
-            out,
-        ),
+        Trouble::Segment { logger, index } => {
+            append_place(
+                b"disk segment",
+                u64::from(index),
+                name_at(volumes, logger),
+                out,
+            )
+        }
     }
+}
+
+// Appends a place in the image of the volume of this name.
+fn append_place<'a>(
+    what: &'a [u8],
+    number: u64,
+    name: &'a [u8],
+    out: &mut Vec<u8>,
+) -> Result<(), NoMemory>
+    ensures ok { OnOk result (out.new.items ≡ out.old.items ++ place_text what.now number name.now) }
+    ensures err { OnErr result (out.new.items ≡ out.old.items) }
+{
+    append_words(&[Text(what), Number(number), Text(b"of"), Text(name)], out)
+}
+
+// Appends two places with records of one version.
+fn append_twins<'a>(
+    first: u64,
+    name: &'a [u8],
+    second: u64,
+    other: &'a [u8],
+    out: &mut Vec<u8>,
+) -> Result<(), NoMemory>
+    ensures ok { OnOk result (out.new.items ≡ out.old.items ++ twins_text first name.now second other.now) }
+    ensures err { OnErr result (out.new.items ≡ out.old.items) }
+{
+    append_words(
+        &[
+            Text(b"twins"),
+            Number(first),
+            Text(b"of"),
+            Text(name),
+            Text(b"and"),
+            Number(second),
+            Text(b"of"),
+            Text(other),
+        ],
+        out,
+    )
 }

@@ -5,4 +5,4 @@ pub returns-in-Segment-clause-ok : goal.returns-in-Segment-clause-ok
 unfolding trouble_text
 returns-in-Segment-clause-ok c =
     rw c.in-Segment.is
-    (rw (c.from-in-Segment.ensures, c.name_at-in-Segment.ensures) at c.append_words-in-Segment.ensures.ok)
+    (rw (c.from-in-Segment.ensures, c.name_at-in-Segment.ensures) at c.append_place-in-Segment.ensures.ok)
