@@ -1,0 +1,3 @@
+pub mod Joining
+pub mod VolumeLines
+pub mod VolumeNames

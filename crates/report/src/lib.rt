@@ -1,0 +1,19 @@
+//! The texts of the program: the lines of reads, what is counted of a run and what its disks used, what is wrong with a
+//! volume, and the lines of faults.
+#![tactic(auto)]
+
+mod fault;
+mod names;
+mod reads;
+mod totals;
+mod trouble;
+mod words;
+
+pub use fault::{Fault, fault_text};
+pub use reads::read_line_text;
+pub use totals::{Totals, solo_line, summary};
+pub use trouble::{Trouble, trouble_text};
+pub use words::{Word, append_line, append_words};
+
+#[cfg(test)]
+mod tests;
