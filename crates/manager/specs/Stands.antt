@@ -17,18 +17,18 @@ use Rattle.log_segment.specs.Segment.{IsWhole, Holds, blocks_of}
 use Rattle.offload_policy.specs.declared.Room.{Room}
 use Rattle.offload_policy.specs.declared.Room.TheVariants.{Unknown, Yes, No}
 use Rattle.wol_model.specs.Blocks.{Write}
-use Rattle.wol_model.specs.History.{Operation, worker}
+use Rattle.wol_model.specs.History.{Operation, worker, writes, flight_of}
 use Rattle.wol_model.specs.Index.{Indexed}
 use Rattle.wol_promise.specs.Code.{code_of, noted_of}
-use Rattle.wol_promise.specs.Manager.{Base}
+use Rattle.wol_promise.specs.Manager.{Base, AreInUse}
 use Rattle.wol_promise.specs.Policy.{Look}
-use Rattle.wol_promise.specs.Ruled.{Noted, IsStep, last_look, HasPassed}
-use Rattle.wol_promise.specs.Stands.{StandsFor, StandsAtRest}
+use Rattle.wol_promise.specs.Ruled.{Noted, entries_of, IsStep, last_look, HasPassed}
+use Rattle.wol_promise.specs.Stands.{Upholds}
 use Rattle.logger.specs.Lanes.{IsLane, IsAt, logger_of, lane_owner, held_in, taken_in, pool_of, spindle_of}
 use Rattle.logger.specs.declared.lane.Lane.{Lane}
 use Rattle.logger.specs.declared.lane.HeldSegment.{HeldSegment}
 use Rattle.logger.specs.declared.shared.Shared.{Shared}
-use Rattle.manager.specs.Seen.{Logs, AllLanesHold, parts_of, seen, look_of_manager}
+use Rattle.manager.specs.Seen.{Logs, AllLanesHold, all_held, parts_of, seen, look_of_manager}
 use Rattle.manager.specs.declared.base.LaneBase.{LaneBase}
 use Rattle.manager.specs.declared.base.ManagerBase.{ManagerBase}
 use Rattle.manager.specs.declared.manager.Manager.{Manager}
@@ -145,19 +145,24 @@ pub record IsShared {D : Type 0} (shared : Shared D) (b : ManagerBase) : Type 0 
 
 -- ---- The whole
 
--- What a manager stands for: what it began with and the entries since, at the end of a turn.
-pub record Stands {D : Type 0} (tells : Bool) (state : D → State) (m : Manager D) (b : ManagerBase) (notes : List Noted) : Type 0 where
+-- What a manager keeps up for what it began with and the entries since, at the end of a step of a turn.
+pub record Keeps {D : Type 0} (tells : Bool) (state : D → State) (m : Manager D) (b : ManagerBase) (notes : List Noted) : Type 0 where
   -- the records of each held segment
   pub logs : Logs
   -- each held segment has its place among them, also after a failed call; while nothing failed its disk keeps them, where it tells its content
   pub held : AllLanesHold (λ h rs. IsTrue tells → m.down ≡ None → Holds state h.segment rs) m.lanes.items logs
-  pub stands : StandsAtRest (parts_of tells state) b.volume.began (seen m logs) notes
-  -- the last entry left the look that the manager has
-  pub look : last_look b.volume.began.look notes ≡ look_of_manager m
+  pub upholds : Upholds (parts_of tells state) b.volume.began (seen m logs) notes (writes (entries_of notes)) (flight_of (entries_of notes))
+  -- each held segment has a valid record
+  pub in_use : IsTrue tells → m.down ≡ None → AreInUse (all_held 0 m.lanes.items logs)
   -- no pool was said to be empty more often than it was found so
   pub passed : HasPassed (nones_at m.lanes.items b.lanes) notes
   pub ready : IsReady state m
   pub locks : HasLocks m b
+
+-- What a manager stands for at the end of a turn: this, and the last entry left the look that it has.
+pub record Stands {D : Type 0} (tells : Bool) (state : D → State) (m : Manager D) (b : ManagerBase) (notes : List Noted) : Type 0 where
+  pub keeps : Keeps tells state m b notes
+  pub look : last_look b.volume.began.look notes ≡ look_of_manager m
 
 -- the entries of a lock's history, as they were noted
 abbrev pub notes_of : List Entry → List Noted
@@ -178,7 +183,7 @@ passed_in rooms = filter (λ k. is_no (slice_index_or rooms k Unknown)) (range_w
     is_no Yes = false
     is_no No = true
 
--- An entry with its notes, of a call before which the look was l: its operation, the look that it leaves, the pools that were found empty;
+-- An entry with its notes, behind entries the last of which left the look l: its operation, the look that it leaves, the pools that were found empty;
 -- and where it is ruled it goes by the rules.
 pub record IsNote (l : Look) (operation : Operation) (passed : List ℕ) (m : Look) (n : Noted) : Type 0 where
   pub operation_is : n.entry.operation ≡ operation
@@ -187,10 +192,10 @@ pub record IsNote (l : Look) (operation : Operation) (passed : List ℕ) (m : Lo
   pub drain : n.after_drain ≡ false
   pub follows : IsTrue n.ruled → IsStep n n.entry.pass n.entry.operation l n.look
 
--- a call leaves this entry: what the manager stood for, it stands for with the entry
+-- a call leaves this entry: what the manager kept up for the entries before, it stands for with the entry
 abbrev pub Leaves : {D : Type 0} → (tells : Bool) → (D → State) → (old new : Manager D) → Operation → (passed : List ℕ) → (pass : ℕ) → Type 0
-Leaves tells state old new operation passed pass = (b : ManagerBase) (notes : List Noted) (n : Noted) → n.entry.pass ≡ pass → IsNote (look_of_manager old) operation passed (look_of_manager new) n
-    → Stands tells state old b notes → Stands tells state new b (notes ++ n ∷ [])
+Leaves tells state old new operation passed pass = (b : ManagerBase) (notes : List Noted) (n : Noted) → n.entry.pass ≡ pass → IsNote (last_look b.volume.began.look notes) operation passed (look_of_manager new) n
+    → Keeps tells state old b notes → Stands tells state new b (notes ++ n ∷ [])
 
 -- what no call of a manager changes
 pub record IsSameManager {D : Type 0} (old new : Manager D) : Type 0 where
