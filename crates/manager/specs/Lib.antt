@@ -2,3 +2,4 @@ pub mod Seen
 pub mod Stands
 pub mod Answers
 pub mod Stops
+pub mod Offers

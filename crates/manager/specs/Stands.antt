@@ -1,24 +1,28 @@
 -- What a manager stands for, over the locks that it shares with others.
 use Rattle.std.specs.Prelude.{⊤, ◌≡◌, ◌≢◌, ◌<◌, ◌≤◌, ◌^◌, ◌+◌, ◌-◌, ◌==◌, ℕ, Bool, true, false, List, [], ◌∷◌, ◌++◌, map, filter, length, vec_len, slice_get, slice_index_or, Contains, Option, None, Some, IfSome, IsTrue}
 use Rattle.std.specs.List.{AllByRecursion, count_by, range_with_len}
+use Rattle.std.specs.declared.alloc.Global.{Global}
+use Rattle.std.specs.declared.vec.Vec.{Vec}
 use Rattle.wol_disk.specs.Disk.{State, Block}
 use Rattle.turn_lock.specs.Histories.{Entry}
 use Rattle.turn_lock.specs.LockIds.{LockId}
 use Rattle.turn_lock.specs.Passes.{lock_id, pass_lock, pass_number, pass_mine, IsFree}
 use Rattle.turn_lock.specs.declared.pass.PassOf.{PassOf}
 use Rattle.spin_model.specs.Spun.{state_of, volume_of}
-use Rattle.spin_model.specs.Operations.{has_token}
+use Rattle.spin_model.specs.Operations.{has_token, operation_of}
 use Rattle.spin_model.specs.declared.spun.Spun.{Spun}
 use Rattle.spin_model.specs.declared.spindle.Spindle.{Spindle}
 use Rattle.spin_model.specs.declared.spindle.SpindleBase.{SpindleBase}
 use Rattle.seg_pool.specs.Holders.{Took}
 use Rattle.seg_pool.specs.Operations.{use_of}
 use Rattle.log_segment.specs.Segment.{IsWhole, Holds, blocks_of}
+use Rattle.redirect_map.specs.Index.{Contents}
 use Rattle.offload_policy.specs.declared.Room.{Room}
 use Rattle.offload_policy.specs.declared.Room.TheVariants.{Unknown, Yes, No}
 use Rattle.wol_model.specs.Blocks.{Write}
 use Rattle.wol_model.specs.History.{Operation, worker, writes, flight_of}
 use Rattle.wol_model.specs.Index.{Indexed}
+use Rattle.wol_model.specs.Journal.{Needed, Done}
 use Rattle.wol_promise.specs.Code.{code_of, noted_of}
 use Rattle.wol_promise.specs.Manager.{Base, AreInUse}
 use Rattle.wol_promise.specs.Policy.{Look}
@@ -76,6 +80,22 @@ pub record IsReady {D : Type 0} (state : D → State) (m : Manager D) : Type 0 w
   pub next : (1 ≤ m.next) × (m.next ≤ 2 ^ 63)
   pub up : m.down ≡ None → IsUp m.lanes.items m.index.entries
 
+-- a manager that was just opened: home and all loggers are awake for it
+abbrev pub opened : {D : Type 0} → (id : ℕ) → Spun D → PassOf Spindle SpindleBase → Vec (Lane D) Global → Contents → (next most : ℕ) → Manager D
+opened {D} id home spindle lanes index next most = record {
+  id = id;
+  home = home;
+  spindle = spindle;
+  lanes = lanes;
+  index = index;
+  next = next;
+  most = most;
+  home_up = true;
+  ups = record { items = map (λ (l : Lane D). true) lanes.items };
+  rooms = record { items = map (λ (l : Lane D). Unknown) lanes.items };
+  down = None;
+}
+
 -- ---- Its locks
 
 -- its passes are of the locks of these shared ones
@@ -103,6 +123,7 @@ pub record IsNamed {D : Type 0} (l : Lane D) (b : LaneBase) : Type 0 where
   pub pool_number : pass_number (pool_of l) ≡ b.pool_number
   pub spindle : pass_lock (spindle_of l) ≡ b.spindle.id
   pub spindle_number : pass_number (spindle_of l) ≡ b.spindle_number
+  pub nones : b.nones ≤ nones_in (pass_mine (pool_of l))
 
 abbrev pub AreNamed : {D : Type 0} → List (Lane D) → List LaneBase → Type 0
 AreNamed [] [] = ⊤
@@ -201,3 +222,7 @@ Leaves tells state old new operation passed pass = (b : ManagerBase) (notes : Li
 pub record IsSameManager {D : Type 0} (old new : Manager D) : Type 0 where
   pub id : new.id ≡ old.id
   pub most : new.most ≡ old.most
+
+-- home's spindle was needed in one turn of this manager, and done in the next
+abbrev pub HasUsedHome : {D : Type 0} → (old new : Manager D) → Type 0
+HasUsedHome old new = pass_mine new.spindle ≡ pass_mine old.spindle ++ (pass_number old.spindle, operation_of Needed) ∷ (pass_number old.spindle, operation_of Done) ∷ []

@@ -8,5 +8,5 @@ mod object;
 mod part;
 
 pub use base::{LaneBase, ManagerBase, Volume};
-pub use manager::Manager;
+pub use manager::{Manager, ManagerParts};
 pub use part::{Part, Place, ReadRefusal, Sources, StepFault, WriteRefusal};
