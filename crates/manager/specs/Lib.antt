@@ -1,3 +1,4 @@
+pub mod Accesses
 pub mod Seen
 pub mod Stands
 pub mod Answers

@@ -9,7 +9,7 @@ use Rattle.turn_lock.specs.LockIds.{LockId}
 use Rattle.turn_lock.specs.Passes.{lock_id, pass_lock, pass_number, pass_mine, IsFree}
 use Rattle.turn_lock.specs.declared.pass.PassOf.{PassOf}
 use Rattle.spin_model.specs.Spun.{state_of, volume_of}
-use Rattle.spin_model.specs.Operations.{has_token, operation_of}
+use Rattle.spin_model.specs.Operations.{has_token}
 use Rattle.spin_model.specs.declared.spun.Spun.{Spun}
 use Rattle.spin_model.specs.declared.spindle.Spindle.{Spindle}
 use Rattle.spin_model.specs.declared.spindle.SpindleBase.{SpindleBase}
@@ -22,7 +22,6 @@ use Rattle.offload_policy.specs.declared.Room.TheVariants.{Unknown, Yes, No}
 use Rattle.wol_model.specs.Blocks.{Write}
 use Rattle.wol_model.specs.History.{Operation, worker, writes, flight_of}
 use Rattle.wol_model.specs.Index.{Indexed}
-use Rattle.wol_model.specs.Journal.{Needed, Done}
 use Rattle.wol_promise.specs.Code.{code_of, noted_of}
 use Rattle.wol_promise.specs.Manager.{Base, AreInUse}
 use Rattle.wol_promise.specs.Policy.{Look}
@@ -222,7 +221,3 @@ Leaves tells state old new operation passed pass = (b : ManagerBase) (notes : Li
 pub record IsSameManager {D : Type 0} (old new : Manager D) : Type 0 where
   pub id : new.id ≡ old.id
   pub most : new.most ≡ old.most
-
--- home's spindle was needed in one turn of this manager, and done in the next
-abbrev pub HasUsedHome : {D : Type 0} → (old new : Manager D) → Type 0
-HasUsedHome old new = pass_mine new.spindle ≡ pass_mine old.spindle ++ (pass_number old.spindle, operation_of Needed) ∷ (pass_number old.spindle, operation_of Done) ∷ []

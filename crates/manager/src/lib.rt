@@ -3,6 +3,7 @@
 #![tactic(auto)]
 
 mod base;
+mod home;
 mod manager;
 mod object;
 mod part;

@@ -2,8 +2,9 @@
 ghost use Rattle.std.specs.Prelude.{◌≡◌, ◌<◌, ◌≤◌, [], ℕ, true, length, slice_get, IfSome};
 ghost use Rattle.wol_model.specs.History.{Kept};
 ghost use Rattle.logger.specs.Lanes.{logger_of};
+ghost use Rattle.manager.specs.Accesses.{HasUsedOnce};
 ghost use Rattle.manager.specs.Seen.{look_of_manager};
-ghost use Rattle.manager.specs.Stands.{IsReady, IsHome, Leaves, HasUsedHome, opened};
+ghost use Rattle.manager.specs.Stands.{IsReady, IsHome, Leaves, opened};
 
 use crate::Part;
 use arrayvec::ArrayVec;
@@ -100,7 +101,7 @@ impl<D: Disk> Manager<D> {
         ensures at { IsHome shared.now self.new }
         ensures stands { (pass : ℕ) → Leaves D.tells D.state self.old self.new Kept [] pass }
         ensures unchanged { self.new ≡ record self.old { home_up = true; spindle = self.new.spindle } }
-        ensures waking { HasUsedHome self.old self.new }
+        ensures waking { HasUsedOnce self.old.spindle self.new.spindle }
     {
         let lock = &shared.spindles[self.id as usize];
         let token = take_token(rt, lock, &mut self.spindle);
