@@ -1,7 +1,7 @@
 -- What a manager keeps up when its flags, its rooms, home's pass or the room of its index change, and with an entry more.
-use Rattle.std.proofs.Common.{◌≡◌, ◌+◌, ℕ, Bool, false, List, [], ◌∷◌, ◌++◌, length, cond, refl, sym, ap, subst, ◌∙◌, arith}
+use Rattle.std.proofs.Common.{◌≡◌, ◌<◌, ◌+◌, ℕ, Bool, false, List, [], ◌∷◌, ◌++◌, length, cond, refl, sym, ap, subst, ◌∙◌, arith}
 use Rattle.std.specs.Prelude.{◌==◌}
-use Rattle.std.specs.List.{list_any}
+use Rattle.std.specs.List.{list_any, AllByRecursion}
 use Rattle.std.proofs.lemmas.List.Sums.{sum_by-append}
 use Rattle.wol_disk.specs.Disk.{State}
 use Rattle.turn_lock.specs.LockIds.{LockId}
@@ -54,6 +54,7 @@ ready_reframed state m home_up ups rooms spindle index long wide pass free settl
     most_ = s.most_;
   };
   next = r.next;
+  below = subst (AllByRecursion (λ (e : Indexed). e.listed.version < m.next)) (sym entries) r.below;
   up = λ is. subst (IsUp m.lanes.items) (sym entries) (r.up is);
 }
 
