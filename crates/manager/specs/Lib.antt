@@ -5,3 +5,4 @@ pub mod Answers
 pub mod Causes
 pub mod Stops
 pub mod Offers
+pub mod Writing

@@ -4,6 +4,7 @@
 
 mod base;
 mod home;
+mod log;
 mod manager;
 mod object;
 mod part;
