@@ -1,2 +1,4 @@
 pub mod Accessed
+pub mod Copies
 pub mod Frames
+pub mod Lanes

@@ -1,5 +1,5 @@
 -- What a write does to a manager, by its answer.
-use Rattle.std.specs.Prelude.{⊤, ◌≡◌, ◌&&◌, ◌==◌, ◌∷◌, ℕ, Bool, true, false, List, [], Option, Some, Result, Ok, Err, slice_get, MatchBool}
+use Rattle.std.specs.Prelude.{⊤, ◌≡◌, ◌⊎◌, ◌&&◌, ◌==◌, ◌∷◌, ℕ, Bool, true, false, List, [], Option, Some, length, Result, Ok, Err, slice_get, MatchBool}
 use Rattle.std.specs.List.{AllByRecursion}
 use Rattle.wol_disk.specs.Disk.{Block, State}
 use Rattle.turn_lock.specs.Passes.{pass_mine}
@@ -9,34 +9,21 @@ use Rattle.wol_model.specs.Placing as placing
 use Rattle.wol_promise.specs.Policy.{Look, placed}
 use Rattle.offload_policy.specs.declared.Room.{Room}
 use Rattle.offload_policy.specs.declared.Room.TheVariants.{Unknown, Yes, No}
-use Rattle.logger.specs.Lanes.{HasUsed, pool_of, spindle_of}
+use Rattle.logger.specs.Lanes.{HasUsed, spindle_of}
 use Rattle.logger.specs.declared.lane.Lane.{Lane}
 use Rattle.manager.specs.Accesses.{HasUsedOnce}
 use Rattle.manager.specs.Answers.{home_write, log_write, failed_write}
 use Rattle.manager.specs.Causes.{PartRoseOrClaimed}
-use Rattle.manager.specs.Offers.{IsTurnedAway}
-use Rattle.manager.specs.Stands.{nones_in}
+use Rattle.manager.specs.Offers.{IsTurnedAway, HasTakenWrite, IsOn}
 use Rattle.manager.specs.declared.manager.Manager.{Manager}
 use Rattle.manager.specs.declared.part.Part.{Part}
+use Rattle.manager.specs.declared.part.Part.TheVariants as part
 use Rattle.manager.specs.declared.part.Place.{Place}
 use Rattle.manager.specs.declared.part.Place.TheVariants as place
 use Rattle.manager.specs.declared.part.WriteRefusal.{WriteRefusal}
 use Rattle.manager.specs.declared.part.WriteRefusal.TheVariants.{Full, DiskFault, Down, VersionsSpent, NoMemory}
 
--- ---- Rooms
-
--- What a lane answered of its room in a write: it was turned away exactly where that is noted.
-pub record HasAnswered {D : Type 0} (count : ℕ) (r : Room) (old new : Lane D) : Type 0 where
-  pub refused : r ≡ No → IsTurnedAway count old new
-  pub others : (r ≡ No → ⊥) → nones_in (pass_mine (pool_of new)) ≡ nones_in (pass_mine (pool_of old))
-
--- each lane by its answer
-abbrev pub HaveAnswered : {D : Type 0} → (count : ℕ) → List Room → (old new : List (Lane D)) → Type 0
-HaveAnswered count [] [] [] = ⊤
-HaveAnswered count (r ∷ rooms) (o ∷ old) (n ∷ new) = HasAnswered count r o n × HaveAnswered count rooms old new
-HaveAnswered count rooms old new = ⊥
-
--- ---- Looks and disks
+-- ---- Places
 
 -- whether a disk was to take the write
 abbrev pub was_tried : Result Place WriteRefusal → Bool
@@ -46,15 +33,6 @@ was_tried (Err Full) = false
 was_tried (Err (Down p)) = false
 was_tried (Err VersionsSpent) = false
 was_tried (Err NoMemory) = false
-
--- An answered write leaves the look of its place, and one that was refused before a disk was tried leaves the look as it was.
-abbrev pub HasLook : placing.Place → Write → Result Place WriteRefusal → (old new : Look) → Type 0
-HasLook p w (Ok answer) old new = new ≡ placed p old w
-HasLook p w (Err (DiskFault fault)) old new = ⊤
-HasLook p w (Err Full) old new = new ≡ old
-HasLook p w (Err (Down d)) old new = new ≡ old
-HasLook p w (Err VersionsSpent) old new = new ≡ old
-HasLook p w (Err NoMemory) old new = new ≡ old
 
 -- whether home took the write
 abbrev pub is_at_home : placing.Place → Bool
@@ -67,6 +45,32 @@ abbrev pub is_in_log : (k : ℕ) → placing.Place → Bool
 is_in_log k AtHome = false
 is_in_log k (InLog lane) = lane == k
 is_in_log k Nowhere = false
+
+-- ---- Lanes
+
+-- What became of a lane in a write: it took the write, or it was turned away exactly where that is noted, or it is as it was.
+abbrev pub HasAnswered : {D : Type 0} → (count : ℕ) → (took : Bool) → Room → (old new : Lane D) → Type 0
+HasAnswered count true r old new = (r ≡ Unknown) × HasTakenWrite old new
+HasAnswered count false No old new = IsTurnedAway count old new
+HasAnswered count false Unknown old new = new ≡ old
+HasAnswered count false Yes old new = ⊥
+
+-- each lane by what is noted of its room
+pub record HaveAnswered {D : Type 0} (count : ℕ) (took : ℕ → Bool) (rooms : List Room) (old new : List (Lane D)) : Type 0 where
+  pub noted : length rooms ≡ length old
+  pub same : length new ≡ length old
+  pub each : (k : ℕ) (r : Room) (o n : Lane D) → slice_get rooms k ≡ Some r → slice_get old k ≡ Some o → slice_get new k ≡ Some n → HasAnswered count (took k) r o n
+
+-- ---- Looks and disks
+
+-- An answered write leaves the look of its place, and one that was refused before a disk was tried leaves the look as it was.
+abbrev pub HasLook : placing.Place → Write → Result Place WriteRefusal → (old new : Look) → Type 0
+HasLook p w (Ok answer) old new = new ≡ placed p old w
+HasLook p w (Err (DiskFault fault)) old new = ⊤
+HasLook p w (Err Full) old new = new ≡ old
+HasLook p w (Err (Down d)) old new = new ≡ old
+HasLook p w (Err VersionsSpent) old new = new ≡ old
+HasLook p w (Err NoMemory) old new = new ≡ old
 
 -- home's spindle was needed exactly where home took the write
 abbrev pub NeedsHome : {D : Type 0} → placing.Place → Result Place WriteRefusal → (old new : Manager D) → Type 0
@@ -119,3 +123,19 @@ in_flight next first blocks (Err Full) = []
 in_flight next first blocks (Err (Down p)) = []
 in_flight next first blocks (Err VersionsSpent) = []
 in_flight next first blocks (Err NoMemory) = []
+
+-- ---- Answers of the parts of a write
+
+-- a write went home, or home failed
+abbrev pub IsHomeAnswer : (volume : ℕ) → Result Place WriteRefusal → Type 0
+IsHomeAnswer volume answer = (answer ≡ Ok place.Home) ⊎ (answer ≡ Err (DiskFault (part.Home volume)))
+
+-- a write went to the logger at this place of the view, or a segment on it failed
+abbrev pub IsLogAnswer : (view : List ℕ) → (lane : ℕ) → Result Place WriteRefusal → Type 0
+IsLogAnswer view lane (Ok place.Home) = ⊥
+IsLogAnswer view lane (Ok (place.Log logger)) = slice_get view lane ≡ Some logger
+IsLogAnswer view lane (Err (DiskFault p)) = IsOn view lane p
+IsLogAnswer view lane (Err Full) = ⊥
+IsLogAnswer view lane (Err (Down p)) = ⊥
+IsLogAnswer view lane (Err VersionsSpent) = ⊥
+IsLogAnswer view lane (Err NoMemory) = ⊥

@@ -8,6 +8,7 @@ mod log;
 mod manager;
 mod object;
 mod part;
+mod write;
 
 pub use base::{LaneBase, ManagerBase, Volume};
 pub use manager::{Manager, ManagerParts};
