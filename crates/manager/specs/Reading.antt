@@ -18,13 +18,11 @@ use Rattle.spin_model.specs.declared.spun.Spun.{Spun}
 use Rattle.log_segment.specs.Segment.{IsSame, Holds, disk_of, owner_of}
 use Rattle.redirect_map.specs.Index.{cover_at, IsAnswer}
 use Rattle.redirect_map.specs.declared.record.Rec.{Rec}
-use Rattle.logger.specs.Lanes.{IsSameLane, logger_of, held_in, taken_in, pool_of, spindle_of}
+use Rattle.logger.specs.Lanes.{IsSameLane, held_in, taken_in, pool_of, spindle_of}
 use Rattle.logger.specs.declared.lane.HeldSegment.{HeldSegment}
 use Rattle.logger.specs.declared.lane.Lane.{Lane}
 use Rattle.manager.specs.Stands.{IsSameManager}
 use Rattle.manager.specs.declared.manager.Manager.{Manager}
-use Rattle.manager.specs.declared.part.Part.{Part}
-use Rattle.manager.specs.declared.part.Part.TheVariants.{Home, Segment}
 
 -- ---- Sources
 
@@ -102,25 +100,3 @@ pub record IsReadThrough {D : Type 0} (state : D → State) (old new : Manager D
   pub next : new.next ≡ old.next
   pub rooms : new.rooms ≡ old.rooms
   pub down : new.down ≡ old.down
-
--- ---- Faults
-
--- the count of faults of a segment that this lane holds rose
-pub record SegmentRose {D : Type 0} (state : D → State) (old new : Manager D) (logger index : ℕ) : Type 0 where
-  pub lane : ℕ
-  pub place : ℕ
-  pub old_lane : Lane D
-  pub new_lane : Lane D
-  pub old_segment : HeldSegment D
-  pub new_segment : HeldSegment D
-  pub was_lane : slice_get old.lanes.items lane ≡ Some old_lane
-  pub is_lane : slice_get new.lanes.items lane ≡ Some new_lane
-  pub was_there : slice_get (held_in old_lane) place ≡ Some old_segment
-  pub is_there : slice_get (held_in new_lane) place ≡ Some new_segment
-  pub named : (logger ≡ logger_of old_lane) × (index ≡ old_segment.index)
-  pub rose : Rose (disk_of state old_segment.segment).faults (disk_of state new_segment.segment).faults
-
--- the count of faults of this part of the manager rose
-abbrev pub PartRose : {D : Type 0} → (D → State) → (old new : Manager D) → Part → Type 0
-PartRose state old new (Home volume) = (volume ≡ old.id) × Rose (state_of state old.home).faults (state_of state new.home).faults
-PartRose state old new (Segment volume index) = SegmentRose state old new volume index

@@ -1,10 +1,10 @@
 // Reads of a part that is reached under the lock of its spindle.
-ghost use Rattle.std.specs.Prelude.{false, ◌≡◌, ◌+◌, ◌≤◌, ◌∷◌, [], ◌++◌, length, take, drop, OnOk, IfSome, IsErr};
-ghost use Rattle.turn_lock.specs.Passes.{pass_lock, pass_number, pass_mine, IsPassOf, IsFree, IsSamePass};
+ghost use Rattle.std.specs.Prelude.{false, ◌≡◌, ◌+◌, ◌≤◌, length, take, drop, OnOk, IfSome, IsErr};
+ghost use Rattle.turn_lock.specs.Passes.{pass_lock, pass_mine, IsPassOf, IsFree, IsSamePass};
 ghost use Rattle.wol_disk.specs.Disk.{LeavesOnly, IsImageOf, Rose, reads};
-ghost use Rattle.wol_model.specs.Journal.{Needed, Done};
-ghost use Rattle.spin_model.specs.Operations.{has_token, operation_of};
+ghost use Rattle.spin_model.specs.Operations.{has_token};
 ghost use Rattle.spin_model.specs.Spun.{state_of, volume_of};
+ghost use Rattle.manager.specs.Accesses.{HasUsedOnce};
 
 use spin_model::{Spindle, Spun, give_token, take_token};
 use std::sync::Wait;
@@ -28,7 +28,7 @@ pub(crate) fn fetch_at<R: Wait, D: Disk>(
     ensures same { IsSamePass spindle.old spindle.new }
     ensures free { IsFree spindle.new }
     ensures settled { has_token (pass_mine spindle.new) ≡ false }
-    ensures used { pass_mine spindle.new ≡ pass_mine spindle.old ++ (pass_number spindle.old, operation_of Needed) ∷ (pass_number spindle.old, operation_of Done) ∷ [] }
+    ensures used { HasUsedOnce spindle.old spindle.new }
     ensures volume { volume_of part.new ≡ volume_of part.old }
     ensures size { (state_of D.state part.new).size ≡ (state_of D.state part.old).size }
     ensures values { (state_of D.state part.new).values ≡ (state_of D.state part.old).values }

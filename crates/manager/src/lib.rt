@@ -3,10 +3,13 @@
 #![tactic(auto)]
 
 mod base;
+mod fetch;
+mod home;
 mod manager;
 mod object;
 mod part;
+mod read;
 
 pub use base::{LaneBase, ManagerBase, Volume};
-pub use manager::Manager;
+pub use manager::{Manager, ManagerParts};
 pub use part::{Part, Place, ReadRefusal, Sources, StepFault, WriteRefusal};
