@@ -5,26 +5,25 @@ use Rattle.wol_disk.specs.Disk.{State, Block, IsImageOf}
 use Rattle.wol_model.specs.Log.{Record}
 use Rattle.spin_model.specs.Spun.{state_of, volume_of}
 use Rattle.spin_model.specs.declared.spun.Spun.{Spun}
-use Rattle.log_segment.specs.Segment.{part_of, Holds}
-use Rattle.log_segment.specs.declared.segment.Segment.{Segment}
+use Rattle.log_segment.specs.Segment.{part_of}
 use Rattle.wol_promise.specs.Policy.{Look}
 use Rattle.wol_promise.specs.Manager.{Parts, PartName, HomePart, SegmentPart, Held, ManagerSeen, look_of}
 use Rattle.logger.specs.Lanes.{held_in, taken_in}
 use Rattle.logger.specs.declared.lane.Lane.{Lane}
 use Rattle.logger.specs.declared.lane.HeldSegment.{HeldSegment}
 use Rattle.manager.specs.declared.part.Part.{Part}
-use Rattle.manager.specs.declared.part.Part.TheVariants.{Home, Segment}
+use Rattle.manager.specs.declared.part.Part.TheVariants as part
 use Rattle.manager.specs.declared.manager.Manager.{Manager}
 
 -- the images of a part
 abbrev pub may_be : {D : Type 0} → (D → State) → Spun D → List Block → Type 0
 may_be state p bs = IsImageOf (state_of state p).values bs
 
--- what contracts see of the parts of a type of disks, which tell their content or don't
+-- what contracts see of the parts of a type of disks, which tell their content or don't; those that don't have no images to speak of
 abbrev pub parts_of : {D : Type 0} → (tells : Bool) → (D → State) → Parts (Spun D)
 parts_of tells state = record {
   told = IsTrue tells;
-  may_be = may_be state;
+  may_be = λ p bs. IsTrue tells × may_be state p bs;
   size = λ p. (state_of state p).size;
   volume = volume_of;
   faults = λ p. (state_of state p).faults;
@@ -74,8 +73,8 @@ AllLanesHold R (l ∷ lanes) (ls ∷ logs) = AllHold R (held_in l) ls × AllLane
 
 -- the name of a part: a segment goes by its logger
 abbrev pub name_of : Part → PartName
-name_of (Home volume) = HomePart
-name_of (Segment volume index) = SegmentPart volume index
+name_of (part.Home volume) = HomePart
+name_of (part.Segment volume index) = SegmentPart volume index
 
 abbrev pub down_of : Option Part → Option PartName
 down_of None = None

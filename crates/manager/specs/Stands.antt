@@ -1,6 +1,8 @@
 -- What a manager stands for, over the locks that it shares with others.
 use Rattle.std.specs.Prelude.{⊤, ◌≡◌, ◌≢◌, ◌<◌, ◌≤◌, ◌^◌, ◌+◌, ◌-◌, ◌==◌, ℕ, Bool, true, false, List, [], ◌∷◌, ◌++◌, map, filter, length, vec_len, slice_get, slice_index_or, Contains, Option, None, Some, IfSome, IsTrue}
 use Rattle.std.specs.List.{AllByRecursion, count_by, range_with_len}
+use Rattle.std.specs.declared.alloc.Global.{Global}
+use Rattle.std.specs.declared.vec.Vec.{Vec}
 use Rattle.wol_disk.specs.Disk.{State, Block}
 use Rattle.turn_lock.specs.Histories.{Entry}
 use Rattle.turn_lock.specs.LockIds.{LockId}
@@ -14,6 +16,7 @@ use Rattle.spin_model.specs.declared.spindle.SpindleBase.{SpindleBase}
 use Rattle.seg_pool.specs.Holders.{Took}
 use Rattle.seg_pool.specs.Operations.{use_of}
 use Rattle.log_segment.specs.Segment.{IsWhole, Holds, blocks_of}
+use Rattle.redirect_map.specs.Index.{Contents}
 use Rattle.offload_policy.specs.declared.Room.{Room}
 use Rattle.offload_policy.specs.declared.Room.TheVariants.{Unknown, Yes, No}
 use Rattle.wol_model.specs.Blocks.{Write}
@@ -76,6 +79,22 @@ pub record IsReady {D : Type 0} (state : D → State) (m : Manager D) : Type 0 w
   pub next : (1 ≤ m.next) × (m.next ≤ 2 ^ 63)
   pub up : m.down ≡ None → IsUp m.lanes.items m.index.entries
 
+-- a manager that was just opened: home and all loggers are awake for it
+abbrev pub opened : {D : Type 0} → (id : ℕ) → Spun D → PassOf Spindle SpindleBase → Vec (Lane D) Global → Contents → (next most : ℕ) → Manager D
+opened {D} id home spindle lanes index next most = record {
+  id = id;
+  home = home;
+  spindle = spindle;
+  lanes = lanes;
+  index = index;
+  next = next;
+  most = most;
+  home_up = true;
+  ups = record { items = map (λ (l : Lane D). true) lanes.items };
+  rooms = record { items = map (λ (l : Lane D). Unknown) lanes.items };
+  down = None;
+}
+
 -- ---- Its locks
 
 -- its passes are of the locks of these shared ones
@@ -103,6 +122,7 @@ pub record IsNamed {D : Type 0} (l : Lane D) (b : LaneBase) : Type 0 where
   pub pool_number : pass_number (pool_of l) ≡ b.pool_number
   pub spindle : pass_lock (spindle_of l) ≡ b.spindle.id
   pub spindle_number : pass_number (spindle_of l) ≡ b.spindle_number
+  pub nones : b.nones ≤ nones_in (pass_mine (pool_of l))
 
 abbrev pub AreNamed : {D : Type 0} → List (Lane D) → List LaneBase → Type 0
 AreNamed [] [] = ⊤

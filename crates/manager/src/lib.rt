@@ -3,10 +3,11 @@
 #![tactic(auto)]
 
 mod base;
+mod home;
 mod manager;
 mod object;
 mod part;
 
 pub use base::{LaneBase, ManagerBase, Volume};
-pub use manager::Manager;
+pub use manager::{Manager, ManagerParts};
 pub use part::{Part, Place, ReadRefusal, Sources, StepFault, WriteRefusal};
