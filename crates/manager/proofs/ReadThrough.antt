@@ -1,6 +1,7 @@
 -- Reads go on: what each of them leaves of a manager's parts, they leave together.
-use Rattle.std.proofs.Common.{◌≡◌, ◌⊎◌, inl, inr, ⊎_elim, ◌<◌, ◌≤◌, ◌+◌, ◌-◌, ◌^◌, ℕ, zero, suc, Bool, true, false, ◌||◌, List, [], ◌∷◌, ◌++◌, map, length, Option, None, Some, refl, sym, ap, subst, ◌∙◌, arith}
-use Rattle.std.specs.Prelude.{◌↔◌, IsTrue, slice_get, slice_set}
+use Rattle.std.proofs.Common.{◌≡◌, ◌⊎◌, inl, inr, ⊎_elim, ◌<◌, ◌≤◌, ◌+◌, ◌-◌, ◌^◌, ℕ, zero, suc, Bool, true, false, ◌||◌, List, [], ◌∷◌, ◌++◌, map, length, Option, None, Some, Result, Ok, Err, OnOk, is_ok, refl, sym, ap, subst, ◌∙◌, arith}
+use Rattle.std.specs.Prelude.{IsErr, slice_get, slice_set}
+use Rattle.turn_lock.specs.Passes.{pass_mine}
 use Rattle.std.specs.List.{AllByRecursion, AllZip}
 use Rattle.std.proofs.lemmas.Option.{none-some, same_Some}
 use Rattle.wol_disk.specs.Disk.{State, Block, Values, LeavesOnly, Rose, IsDisk, IsImageOf, only}
@@ -10,7 +11,7 @@ use Rattle.wol_model.specs.Log.{Record, IsLog}
 use Rattle.spin_model.specs.Spun.{state_of}
 use Rattle.spin_model.specs.declared.spun.Spun.{Spun}
 use Rattle.log_segment.specs.Segment.{IsSame, Holds, disk_of, owner_of}
-use Rattle.logger.specs.Lanes.{IsSameLane, held_in}
+use Rattle.logger.specs.Lanes.{held_in, spindle_of}
 use Rattle.logger.specs.declared.lane.HeldSegment.{HeldSegment}
 use Rattle.logger.specs.declared.lane.Lane.{Lane}
 use Rattle.manager.specs.Reading.{Counted, HomeRead, SegmentRead, LaneRead, IsReadThrough}
@@ -163,3 +164,20 @@ module _ {D : Type 0} (state : D → State) (sound : (d : D) → IsDisk (state d
     rooms = b.rooms ∙ a.rooms;
     down = b.down ∙ a.down;
   }
+
+-- ---- answers
+
+-- the count of a call, from what it ensures of either answer
+pub counted_of : {T E : Type 0} (r : Result T E) (a b : ℕ) → OnOk r (b ≡ a) → (IsErr r → Rose a b) → Counted a b
+counted_of (Ok x) a b ok err = inl ok
+counted_of (Err e) a b ok err = inr (err refl)
+
+-- what follows from an answer, of one that is like it
+pub on_ok_like : {T E U F P Q : Type 0} (r : Result T E) (s : Result U F) → is_ok s ≡ is_ok r → (P → Q) → OnOk r P → OnOk s Q
+on_ok_like (Ok x) (Ok y) like so ok = so ok
+on_ok_like (Ok x) (Err f) like so ok = tt
+on_ok_like (Err e) (Ok y) like so ok = absurd (let no : true ≡ false = like in cc)
+on_ok_like (Err e) (Err f) like so ok = tt
+
+pub same_lane_spindle : {D : Type 0} (lanes : List (Lane D)) (k : ℕ) (o n : Lane D) → slice_get lanes k ≡ Some o → slice_get lanes k ≡ Some n → pass_mine (spindle_of n) ≡ pass_mine (spindle_of o)
+same_lane_spindle {D} lanes k o n was is = ap (λ (l : Lane D). pass_mine (spindle_of l)) (sym (same_Some o n (sym was ∙ is)))
