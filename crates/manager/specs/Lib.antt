@@ -6,3 +6,4 @@ pub mod Causes
 pub mod Stops
 pub mod Offers
 pub mod Writing
+pub mod Reading

@@ -3,11 +3,13 @@
 #![tactic(auto)]
 
 mod base;
+mod fetch;
 mod home;
 mod log;
 mod manager;
 mod object;
 mod part;
+mod read;
 mod write;
 
 pub use base::{LaneBase, ManagerBase, Volume};
