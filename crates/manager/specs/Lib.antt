@@ -4,3 +4,4 @@ pub mod Stands
 pub mod Answers
 pub mod Stops
 pub mod Offers
+pub mod Puts
