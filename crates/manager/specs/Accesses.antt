@@ -1,8 +1,7 @@
--- What an access to a part does, and what it leaves at each moment.
-use Rattle.std.specs.Prelude.{◌≡◌, ◌∷◌, [], ◌++◌, ℕ, List, length, take, drop, Option, option_map, Result, OnOk, OnErr, IfSome}
+-- What a write of a part does, and what it leaves at each moment.
+use Rattle.std.specs.Prelude.{◌≡◌, ◌∷◌, [], ◌++◌, ℕ, List, Option, option_map, Result, OnOk, OnErr}
 use Rattle.wol_disk.specs.Disk.{State, Block, Values, IsImageOf, IsBlend, LeavesOnly, Rose, only, put, reads}
 use Rattle.wol_model.specs.Journal.{Needed, Done}
-use Rattle.turn_lock.specs.Histories.{Entry}
 use Rattle.turn_lock.specs.Passes.{pass_mine, pass_number}
 use Rattle.turn_lock.specs.declared.pass.PassOf.{PassOf}
 use Rattle.spin_model.specs.Operations.{operation_of}
@@ -24,15 +23,5 @@ pub record Stored {D T E : Type 0} (state : D → State) (old new : Spun D) (at 
   pub ok : OnOk res ((state_of state new).values ≡ option_map (λ vs. only (put at xs (reads vs))) (state_of state old).values)
   pub images : (c : List Block) → IsImageOf (state_of state new).values c → IsTornFrom (state_of state old).values at xs c
   pub any_moment : LeavesOnly (state_of state old) (state_of state new) (IsTornFrom (state_of state old).values at xs)
-  pub cause : OnErr res (Rose (state_of state old).faults (state_of state new).faults)
-  pub calm : OnOk res ((state_of state new).faults ≡ (state_of state old).faults)
-
--- a part before and after blocks were read, into the place of those in `before`
-pub record Fetched {D T E : Type 0} (state : D → State) (old new : Spun D) (at : ℕ) (before after : List Block) (res : Result T E) : Type 0 where
-  pub volume : volume_of new ≡ volume_of old
-  pub size : (state_of state new).size ≡ (state_of state old).size
-  pub values : (state_of state new).values ≡ (state_of state old).values
-  pub content : OnOk res (IfSome (state_of state old).values (λ vs. after ≡ take (length before) (drop at (reads vs))))
-  pub any_moment : LeavesOnly (state_of state old) (state_of state new) (IsImageOf (state_of state old).values)
   pub cause : OnErr res (Rose (state_of state old).faults (state_of state new).faults)
   pub calm : OnOk res ((state_of state new).faults ≡ (state_of state old).faults)

@@ -1,13 +1,16 @@
 -- What became of a lane that was offered a write.
-use Rattle.std.specs.Prelude.{◌≡◌, ◌⊎◌, ◌∷◌, ◌++◌, ℕ, List, [], slice_get, slice_set, None, Some}
+use Rattle.std.specs.Prelude.{⊤, ◌≡◌, ◌⊎◌, ◌∷◌, ◌++◌, ℕ, List, [], slice_get, slice_set, None, Some}
 use Rattle.turn_lock.specs.Passes.{pass_number, pass_mine}
 use Rattle.seg_pool.specs.Holders.{Took}
 use Rattle.seg_pool.specs.Operations.{operation_of}
-use Rattle.logger.specs.Lanes.{IsSameLane, HasUsed, held_in, taken_in, pool_of, spindle_of}
+use Rattle.logger.specs.Lanes.{IsSameLane, HasUsed, HasNoRoom, held_in, taken_in, pool_of, spindle_of}
 use Rattle.logger.specs.declared.lane.Lane.{Lane}
+use Rattle.offload_policy.specs.declared.Room.{Room}
+use Rattle.offload_policy.specs.declared.Room.TheVariants.{Unknown, Yes, No}
 
--- It has no room: its pool was asked in one turn and was empty. Else it is as it was.
-pub record IsTurnedAway {D : Type 0} (old new : Lane D) : Type 0 where
+-- It has no room for so many blocks: no held segment has it, and its pool was asked in one turn and was empty. Else it is as it was.
+pub record IsTurnedAway {D : Type 0} (count : ℕ) (old new : Lane D) : Type 0 where
+  pub full : HasNoRoom count (held_in old)
   pub same : IsSameLane old new
   pub held : held_in new ≡ held_in old
   pub taken : taken_in new ≡ taken_in old
@@ -28,3 +31,17 @@ pub record ChangesLane {D : Type 0} (Change : Lane D → Lane D → Type 0) (k :
   pub there : slice_get old k ≡ Some before
   pub set : new ≡ slice_set old k after
   pub change : Change before after
+
+-- ---- All lanes in one write
+
+-- what a lane answered of its room: where it was asked in vain it was turned away, and else it is as it was
+abbrev pub HasAnswered : {D : Type 0} → (count : ℕ) → Room → (old new : Lane D) → Type 0
+HasAnswered count Unknown old new = new ≡ old
+HasAnswered count Yes old new = ⊥
+HasAnswered count No old new = IsTurnedAway count old new
+
+-- each lane by its answer
+abbrev pub HaveAnswered : {D : Type 0} → (count : ℕ) → List Room → (old new : List (Lane D)) → Type 0
+HaveAnswered count [] [] [] = ⊤
+HaveAnswered count (r ∷ rooms) (o ∷ old) (n ∷ new) = HasAnswered count r o n × HaveAnswered count rooms old new
+HaveAnswered count rooms old new = ⊥

@@ -77,6 +77,7 @@ pub record IsUp {D : Type 0} (lanes : List (Lane D)) (indexed : List Indexed) : 
 pub record IsReady {D : Type 0} (state : D → State) (m : Manager D) : Type 0 where
   pub ready : Ready state m.id m.most m.home m.spindle m.lanes.items m.ups.items m.rooms.items
   pub next : (1 ≤ m.next) × (m.next ≤ 2 ^ 63)
+  pub below : AllByRecursion (λ e. e.listed.version < m.next) m.index.entries
   pub up : m.down ≡ None → IsUp m.lanes.items m.index.entries
 
 -- a manager that was just opened: home and all loggers are awake for it
