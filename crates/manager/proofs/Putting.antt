@@ -1,6 +1,6 @@
 -- What is known of a manager that is up when a write is put into one of its lanes.
 use Rattle.std.proofs.Common.{◌≡◌, ◌⊎◌, ⊎_elim, ◌<◌, ◌≤◌, ◌+◌, ◌-◌, ◌^◌, ℕ, sym, subst, ◌∙◌, arith, List, [], ◌∷◌, ◌++◌, length, map, Bool, Option, None, Some, refl, ap}
-use Rattle.std.specs.Prelude.{slice_get, IsTrue, is_some}
+use Rattle.std.specs.Prelude.{slice_get, slice_set, IsTrue, is_some}
 use Rattle.std.specs.List.{AllByRecursion}
 use Rattle.std.specs.Option.{option_map}
 use Rattle.std.proofs.lemmas.Option.{slice_get-map}
@@ -9,24 +9,26 @@ use Rattle.wol_disk.proofs.Calls.{settled_only}
 use Rattle.wol_model.specs.Blocks.{Write}
 use Rattle.wol_model.specs.Extents.{KeepsAll, IsValid, write_of}
 use Rattle.wol_model.specs.History.{writes, flight_of}
+use Rattle.wol_model.specs.Index.{Indexed}
 use Rattle.wol_model.specs.Log.{Record, IsLog, extent_of}
 use Rattle.spin_model.specs.declared.spun.Spun.{Spun}
 use Rattle.spin_model.specs.Spun.{state_of}
 use Rattle.log_segment.specs.Records.{new_record}
 use Rattle.log_segment.specs.Segment.{Holds, disk_of, owner_of}
 use Rattle.log_segment.specs.declared.segment.Segment.{Segment}
-use Rattle.wol_promise.specs.Manager.{Parts, Base}
+use Rattle.wol_promise.specs.Manager.{Parts, Base, AreInUse}
 use Rattle.wol_promise.specs.Ruled.{Noted, entries_of}
 use Rattle.wol_promise.specs.Stands.{Upholds, LiesIn}
 use Rattle.wol_promise.proofs.Kept.{not_broken}
 use Rattle.wol_promise.proofs.Lists.{all_map}
 use Rattle.logger.specs.Lanes.{logger_of, lane_owner, taken_in}
 use Rattle.logger.specs.declared.lane.Lane.{Lane}
-use Rattle.manager.specs.Seen.{parts_of, seen, all_taken, down_of}
+use Rattle.manager.specs.Seen.{Logs, AllLanesHold, parts_of, seen, all_held, all_taken, down_of}
 use Rattle.manager.specs.Stands.{Keeps, IsReadyLane}
 use Rattle.manager.specs.declared.base.ManagerBase.{ManagerBase}
 use Rattle.manager.specs.declared.manager.Manager.{Manager}
-use Rattle.manager.proofs.Lanes.{all_at, none_taken}
+use Rattle.manager.specs.declared.part.Part.{Part}
+use Rattle.manager.proofs.Lanes.{all_at, all_set, none_taken}
 use Rattle.manager.proofs.NewRecord.{new_keeps, new_valid}
 
 -- each image of a segment that holds records is a log of them
@@ -78,3 +80,16 @@ module _ {D : Type 0} (tells : Bool) (state : D → State) (m : Manager D) (b : 
 
       pub lies : LiesIn base.home_blocks (write_of (extent_of new_one))
       lies = subst (λ (n : ℕ). lbn + length from ≤ n) kp.upholds.places.home_size fits
+
+-- What a manager keeps up with an entry more, when its lanes, the entries of its index, its next version, flags and part at fault are these:
+-- all but what holds between its calls whatever the entries are.
+pub record Pieces {D : Type 0} (tells : Bool) (state : D → State) (m : Manager D) (b : ManagerBase) (notes : List Noted) (lanes : List (Lane D)) (indexed : List Indexed) (next : ℕ) (ups : List Bool) (down : Option Part) : Type 0 where
+  pub logs : Logs
+  pub held : AllLanesHold (λ h rs. IsTrue tells → down ≡ None → Holds state h.segment rs) lanes logs
+  pub upholds : Upholds (parts_of tells state) b.volume.began (record { home = m.home; held = all_held 0 lanes logs; taken = all_taken 0 lanes; indexed = indexed; next = next; home_up = m.home_up; ups = ups; down = down_of down }) notes (writes (entries_of notes)) (flight_of (entries_of notes))
+  pub in_use : IsTrue tells → down ≡ None → AreInUse (all_held 0 lanes logs)
+
+-- no lane has a taken segment, before and after
+pub untaken_set : {D : Type 0} (state : D → State) (id most : ℕ) (lanes : List (Lane D)) (k : ℕ) (new : Lane D) → AllByRecursion (IsReadyLane state id most) lanes → taken_in new ≡ None → all_taken 0 lanes ≡ all_taken 0 (slice_set lanes k new)
+untaken_set {D} state id most lanes k new ready is = let all = all_map (IsReadyLane state id most) (λ (l : Lane D). taken_in l ≡ None) (λ l is. is.untaken) lanes ready in
+    none_taken 0 lanes all ∙ sym (none_taken 0 (slice_set lanes k new) (all_set (λ (l : Lane D). taken_in l ≡ None) lanes k new all is))
