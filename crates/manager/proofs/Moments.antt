@@ -9,6 +9,8 @@ use Rattle.wol_model.specs.History.{writes, flight_of, IsCut}
 use Rattle.wol_model.specs.Holding.{Holds}
 use Rattle.wol_model.specs.Log.{Record, IsLog, extent_of}
 use Rattle.spin_model.specs.declared.spun.Spun.{Spun}
+use Rattle.log_segment.specs.Segment as segment
+use Rattle.wol_model.specs.Recovered.{recovered}
 use Rattle.wol_promise.specs.Manager.{Held, Recovers, extents_held, is_homed_in}
 use Rattle.wol_promise.specs.Ruled.{Noted, entries_of}
 use Rattle.wol_promise.specs.Stands.{place_in, ApartFrom, AreApartPlaces, StopsSafely, IsWhole}
@@ -122,16 +124,16 @@ module _ {D : Type 0} (tells : Bool) (state : D → State) (sound : (d : D) → 
   home_holds home image = whole_now.holds home (told, (sound m.home.inner).only_now home image)
 
   -- what holds with the records that the manager stands for holds with any
-  pub stops_so : (lanes : List (Lane D)) (logs : Logs) (flight : List Write) (R : HeldSegment D → List Record → Type 0) → AllLanesHold R lanes logs
-      → Recovers (ImageSince state m.home m.home) Since b.volume.began.owner (all_held 0 lanes logs) (IsCut b.volume.began.array (writes (entries_of notes)) flight)
+  pub stops_so : (of_home : List Block → Type 0) (lanes : List (Lane D)) (logs : Logs) (flight : List Write) (R : HeldSegment D → List Record → Type 0) → AllLanesHold R lanes logs
+      → Recovers of_home Since b.volume.began.owner (all_held 0 lanes logs) (IsCut b.volume.began.array (writes (entries_of notes)) flight)
       → (before after : Logs) → AllLanesHold (λ h rs. ⊤) m.lanes.items before → AllLanesHold (λ h rs. ⊤) lanes after
-      → StopsSafely (ImageSince state m.home m.home) (HeldSince state (all_held 0 m.lanes.items before) claimed) b.volume.began (entries_of notes) (all_held 0 lanes after) flight
-  stops_so lanes logs flight R shape recovers before after was is home segments of_home choice =
-      subst (λ (o : Option (List Write)). IsCut b.volume.began.array (writes (entries_of notes)) (unwrap_or o flight) (Rattle.wol_model.specs.Recovered.recovered b.volume.began.owner home segments)) (sym (none tells state m b notes kp up))
-      (recovers home segments of_home (rezip (HeldSince state (all_held 0 m.lanes.items before) claimed) Since so (all_held 0 lanes after) (all_held 0 lanes logs) segments (same_held (λ h rs. ⊤) R 0 lanes after logs is shape) choice))
+      → StopsSafely of_home (HeldSince state (all_held 0 m.lanes.items before) claimed) b.volume.began (entries_of notes) (all_held 0 lanes after) flight
+  stops_so of_home lanes logs flight R shape recovers before after was is home segments home_is choice =
+      subst (λ (o : Option (List Write)). IsCut b.volume.began.array (writes (entries_of notes)) (unwrap_or o flight) (recovered b.volume.began.owner home segments)) (sym (none tells state m b notes kp up))
+      (recovers home segments home_is (rezip (HeldSince state (all_held 0 m.lanes.items before) claimed) Since so (all_held 0 lanes after) (all_held 0 lanes logs) segments (same_held (λ h rs. ⊤) R 0 lanes after logs is shape) choice))
     where
       olds : AllZip IsSameHeld (all_held 0 m.lanes.items before) held
-      olds = same_held (λ h rs. ⊤) (λ h rs. IsTrue tells → m.down ≡ None → Rattle.log_segment.specs.Segment.Holds state h.segment rs) 0 m.lanes.items before kp.logs was kp.held
+      olds = same_held (λ h rs. ⊤) (λ h rs. IsTrue tells → m.down ≡ None → segment.Holds state h.segment rs) 0 m.lanes.items before kp.logs was kp.held
 
       so : (v w : Held (Spun D)) (bs : List Block) → IsSameHeld v w → HeldSince state (all_held 0 m.lanes.items before) claimed v bs → Since w bs
       so v w bs same (was_held o has place image) =

@@ -57,7 +57,7 @@ module _ {D : Type 0} (tells : Bool) (state : D → State) (sound : (d : D) → 
       → Recovers (ImageSince state m.home m.home) (HeldSince state (all_held 0 m.lanes.items kp.logs) claimed) b.volume.began.owner (all_held 0 (slice_set m.lanes.items k new) logs) (IsCut b.volume.began.array (writes (entries_of notes)) flight)
       → Stops state m m' claimed b notes flight
   stops_then claimed logs S shape recovers = subst (At claimed m'.home) (sym lanes) (subst (λ (p : Spun D). At claimed p (slice_set m.lanes.items k new)) (sym home)
-      (stops_so tells state sound told m b notes kp up claimed (slice_set m.lanes.items k new) logs flight S shape recovers))
+      (stops_so tells state sound told m b notes kp up claimed (ImageSince state m.home m.home) (slice_set m.lanes.items k new) logs flight S shape recovers))
 
   -- the lane's held segments are as they were
   pub quiet_stops : held_in new ≡ held_in old → Stops state m m' None b notes flight
