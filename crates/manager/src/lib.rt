@@ -3,10 +3,14 @@
 #![tactic(auto)]
 
 mod base;
+mod fetch;
 mod home;
+mod log;
 mod manager;
 mod object;
 mod part;
+mod read;
+mod write;
 
 pub use base::{LaneBase, ManagerBase, Volume};
 pub use manager::{Manager, ManagerParts};

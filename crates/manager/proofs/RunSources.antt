@@ -1,0 +1,104 @@
+-- The sources of blocks, as the index answers them, and the accesses that passes begin.
+use Rattle.std.proofs.Common.{◌≡◌, ⊎_elim, ◌<◌, ◌≤◌, ◌+◌, ◌-◌, ℕ, zero, suc, Bool, true, false, cond, ◌||◌, List, [], ◌∷◌, ◌++◌, map, length, Option, None, Some, refl, sym, ap, subst, ◌∙◌, arith}
+use Rattle.std.specs.Prelude.{◌↔◌, IsTrue, Contains, slice_get}
+use Rattle.std.specs.List.{AllByRecursion, count_by}
+use Rattle.std.specs.Option.{option_map}
+use Rattle.std.proofs.lemmas.List.{map-append}
+use Rattle.std.proofs.lemmas.Bool.{false≢true}
+use Rattle.std.proofs.lemmas.List.Sums.{sum_by-append}
+use Rattle.turn_lock.specs.Histories.{Entry}
+use Rattle.turn_lock.specs.Passes.{pass_mine}
+use Rattle.turn_lock.specs.declared.pass.PassOf.{PassOf}
+use Rattle.wol_model.specs.Extents.{newest}
+use Rattle.wol_model.specs.Index.{Listed, Indexed, listed_in, cover_of, AreRising}
+use Rattle.wol_model.specs.Journal.{Use, Needed, Done}
+use Rattle.wol_model.proofs.Counts.{marked_within}
+use Rattle.wol_promise.specs.Spindle.{is_need, needs_in}
+use Rattle.wol_promise.proofs.Lists.{all_member, member_front, member_map}
+use Rattle.spin_model.specs.Operations.{use_of, operation_of}
+use Rattle.spin_model.specs.declared.spindle.Spindle.{Spindle}
+use Rattle.spin_model.specs.declared.spindle.SpindleBase.{SpindleBase}
+use Rattle.redirect_map.specs.Index.{cover_at, IsAnswer, IsRecordOf}
+use Rattle.redirect_map.specs.declared.record.Rec.{Rec}
+use Rattle.manager.specs.Reading.{IsSource, needs_of, NeedsWhere}
+use Rattle.manager.proofs.RunContent.{newest_listed, newest_is}
+use Rattle.manager.proofs.Woken.{IsBareRun, IsLaneRun}
+
+-- ---- sources
+
+none_answer : (o : Option Indexed) → IsAnswer o None → o ≡ None
+none_answer None is = refl
+none_answer (Some e) is = absurd is
+
+-- the entry that an answer is of
+pub record Answers (o : Option Indexed) (r : Rec) : Type 0 where
+  pub entry : Indexed
+  pub is : o ≡ Some entry
+  pub record_ : IsRecordOf entry r
+
+pub some_answer : (o : Option Indexed) (r : Rec) → IsAnswer o (Some r) → Answers o r
+some_answer None r is = absurd is
+some_answer (Some e) r is = record { entry = e; is = refl; record_ = is }
+
+module _ (es : List Indexed) (first n : ℕ) where
+  -- blocks that are read at home
+  pub bare_source : IsSource es first n None → (b : ℕ) → first ≤ b → b < first + n → newest cover_at es b ≡ None
+  bare_source source b le lt = none_answer (newest cover_at es b) (source b le lt)
+
+  pub bare_run_of : IsSource es first n None → IsBareRun (listed_in es) first n
+  bare_run_of source b le lt = newest_listed es b ∙ ap (option_map (λ (e : Indexed). e.listed)) (bare_source source b le lt)
+
+  -- blocks that are read in a record
+  pub entry_for : (r : Rec) → IsSource es first n (Some r) → (b : ℕ) → first ≤ b → b < first + n → Answers (newest cover_at es b) r
+  entry_for r source b le lt = some_answer (newest cover_at es b) r (source b le lt)
+
+  pub lane_run_of : (r : Rec) → IsSource es first n (Some r) → IsLaneRun (listed_in es) r.lane first n
+  lane_run_of r source b le lt = let a = entry_for r source b le lt in
+      (a.entry.listed, newest_listed es b ∙ ap (option_map (λ (e : Indexed). e.listed)) a.is, sym a.record_.lane)
+
+  -- they lie in the record's range
+  pub in_record : (r : Rec) → IsSource es first n (Some r) → (b : ℕ) → first ≤ b → b < first + n → (r.lbn ≤ b) × (b < r.lbn + r.count)
+  in_record r source b le lt =
+      let a = entry_for r source b le lt in
+      let w = marked_within a.entry.listed.first a.entry.listed.keep b (newest_is cover_at es b a.entry a.is).covers in
+      let f : r.lbn ≡ a.entry.listed.first = a.record_.first in
+      let c : r.count ≡ length a.entry.listed.keep = a.record_.count in
+      (omega (arith, w.0), omega (arith, w.1))
+
+-- entries of one version are the same
+pub same_version : (es : List Indexed) (d e : Indexed) → AreRising (map (λ (x : Indexed). x.listed.version) es) → Contains es d → Contains es e → d.listed.version ≡ e.listed.version → d ≡ e
+same_version [] d e rising has has' same = absurd (let lt = has.1 in omega arith)
+same_version (x ∷ es) d e rising has has' same = ⊎_elim
+    (λ here. ⊎_elim (λ here'. sym here ∙ here')
+    (λ there'. let lt : x.listed.version < e.listed.version = later e there' in let v : x.listed.version ≡ d.listed.version = ap (λ (z : Indexed). z.listed.version) here in absurd (omega arith))
+    (member_front x es e has'))
+    (λ there. ⊎_elim
+    (λ here'. let lt : x.listed.version < d.listed.version = later d there in let v : x.listed.version ≡ e.listed.version = ap (λ (z : Indexed). z.listed.version) here' in absurd (omega arith))
+    (λ there'. same_version es d e rising.1 there there' same)
+    (member_front x es e has'))
+    (member_front x es d has)
+  where
+    later : (y : Indexed) → Contains es y → x.listed.version < y.listed.version
+    later y there = all_member (λ (v : ℕ). x.listed.version < v) (map (λ (z : Indexed). z.listed.version) es) y.listed.version rising.0 (member_map (λ (z : Indexed). z.listed.version) es y there)
+
+-- ---- accesses
+
+abbrev uses_in : List Entry → List Use
+uses_in entries = map (λ (e : Entry). use_of e.1) entries
+
+module _ (p q : PassOf Spindle SpindleBase) where
+  needed_once : (n k : ℕ) → pass_mine q ≡ pass_mine p ++ (n, operation_of Needed) ∷ (k, operation_of Done) ∷ [] → needs_of q ≡ needs_of p + 1
+  needed_once n k is =
+      ap (λ (entries : List Entry). needs_in (uses_in entries)) is
+      ∙ ap needs_in (map-append (λ (e : Entry). use_of e.1) (pass_mine p) ((n, operation_of Needed) ∷ (k, operation_of Done) ∷ []))
+      ∙ sum_by-append (λ (u : Use). cond (is_need u) 1 0) (uses_in (pass_mine p)) (Needed ∷ Done ∷ [])
+
+  -- an access
+  pub needs_one : (n k : ℕ) → pass_mine q ≡ pass_mine p ++ (n, operation_of Needed) ∷ (k, operation_of Done) ∷ [] → NeedsWhere p q true
+  needs_one n k is = let e = needed_once n k is in record { no_less = omega (arith, e); exactly = (λ _. refl, λ _. omega (arith, e)) }
+
+  -- none
+  pub needs_none : pass_mine q ≡ pass_mine p → NeedsWhere p q false
+  needs_none is =
+      let e : needs_of q ≡ needs_of p = ap (λ (entries : List Entry). needs_in (uses_in entries)) is in
+      record { no_less = omega (arith, e); exactly = (λ lt. absurd (omega (arith, e)), λ no. absurd (false≢true no)) }

@@ -1,0 +1,155 @@
+// Reads: each run of blocks comes from home or from its newest record.
+ghost use Rattle.std.specs.Prelude.{◌≡◌, ◌↔◌, ◌+◌, ◌≤◌, ◌^◌, ◌<◌, ℕ, [], List, length, slice_range, OnOk, IfOk, IfErr, IsTrue, IsSome, None, Some, Ok, Err};
+ghost use Rattle.std.specs.List.{count_by, range_with_len};
+ghost use Rattle.spin_model.specs.Spun.{state_of};
+ghost use Rattle.wol_model.specs.Blocks.{after};
+ghost use Rattle.wol_model.specs.History.{worker, writes};
+ghost use Rattle.wol_model.specs.Index.{listed_in, is_covered};
+ghost use Rattle.wol_promise.specs.Policy.{woken};
+ghost use Rattle.wol_promise.specs.Ruled.{Noted, entries_of};
+ghost use Rattle.manager.specs.Answers.{was_read};
+ghost use Rattle.manager.specs.Causes.{PartRose};
+ghost use Rattle.manager.specs.Reading.{IsSource, IsReadThrough, NeedsSources};
+ghost use Rattle.manager.specs.Seen.{look_of_manager};
+ghost use Rattle.manager.specs.Stands.{Keeps, IsReady, IsHome, IsSameManager, Leaves};
+ghost use Rattle.manager.specs.declared.base.ManagerBase.{ManagerBase};
+
+use crate::fetch::fetch_at;
+use crate::{Manager, Part, Sources};
+use logger::{Shared, Spot};
+use redirect_map::Rec;
+use std::sync::Wait;
+use wol_disk::{Block, Disk};
+
+impl<D: Disk> Manager<D> {
+    // Where this block is read, and how many blocks from it on, at most `most`, are read there.
+    fn run_from(&self, lbn: u64, most: usize) -> (Option<Rec>, usize)
+        requires some { 1 ≤ most }
+        requires fits { lbn + most < 2 ^ 64 }
+        ensures source { IsSource self.now.index.entries lbn result.1 result.0 }
+        ensures some { 1 ≤ result.1 }
+        ensures most { result.1 ≤ most }
+    {
+        let source = self.index.newest(lbn);
+        for count in 1..most {
+            if self.index.newest(lbn + count as u64) != source {
+                return (source, count);
+            }
+        }
+        (source, most)
+    }
+
+    // Reads blocks that no record covers. The refusal names home.
+    fn read_home<R: Wait>(
+        &mut self,
+        rt: &R,
+        shared: &Shared<D>,
+        lbn: u64,
+        out: &mut [Block],
+    ) -> Result<(), Part>
+        requires ready { IsReady D.state self.old }
+        requires at { IsHome shared.now self.old }
+        requires up { self.old.down ≡ None }
+        requires some { 1 ≤ length out.old }
+        requires fits { lbn + length out.old ≤ (state_of D.state self.old.home).size }
+        requires source { IsSource self.old.index.entries lbn (length out.old) None }
+        ensures ready { IsReady D.state self.new }
+        ensures at { IsHome shared.now self.new }
+        ensures read { IsReadThrough D.state self.old self.new }
+        ensures look { look_of_manager self.new ≡ woken (look_of_manager self.old) lbn (length out.old) }
+        ensures needs { NeedsSources self.old self.new lbn (length out.old) }
+        ensures content { IsTrue D.tells → (b : ManagerBase) (notes : List Noted) → Keeps D.tells D.state self.old b notes
+            → OnOk result (out.new ≡ slice_range (after b.volume.began.array (writes (entries_of notes))) lbn (lbn + length out.old)) }
+        ensures cause { IfErr result (PartRose D.state self.old self.new) }
+    {
+        self.home_up = true;
+        let home = Part::Home { volume: self.id };
+        let lock = &shared.spindles[self.id as usize];
+        fetch_at(rt, lock, &mut self.spindle, &mut self.home, lbn, out).map_err(|_failed| home)
+    }
+
+    // Reads blocks of which this record is the newest one. The refusal names its segment.
+    fn read_log<R: Wait>(
+        &mut self,
+        rt: &R,
+        shared: &Shared<D>,
+        record: &Rec,
+        lbn: u64,
+        out: &mut [Block],
+    ) -> Result<(), Part>
+        requires ready { IsReady D.state self.old }
+        requires at { IsHome shared.now self.old }
+        requires up { self.old.down ≡ None }
+        requires some { 1 ≤ length out.old }
+        requires fits { lbn + length out.old ≤ (state_of D.state self.old.home).size }
+        requires source { IsSource self.old.index.entries lbn (length out.old) (Some «record».now) }
+        ensures ready { IsReady D.state self.new }
+        ensures at { IsHome shared.now self.new }
+        ensures read { IsReadThrough D.state self.old self.new }
+        ensures look { look_of_manager self.new ≡ woken (look_of_manager self.old) lbn (length out.old) }
+        ensures needs { NeedsSources self.old self.new lbn (length out.old) }
+        ensures content { IsTrue D.tells → (b : ManagerBase) (notes : List Noted) → Keeps D.tells D.state self.old b notes
+            → OnOk result (out.new ≡ slice_range (after b.volume.began.array (writes (entries_of notes))) lbn (lbn + length out.old)) }
+        ensures cause { IfErr result (PartRose D.state self.old self.new) }
+    {
+        let place = record.lane as usize;
+        self.ups[place] = true;
+        let lane = &mut self.lanes[place];
+        let spot = Spot {
+            segment: record.segment,
+            pos: record.pos,
+        };
+        let segment = Part::Segment {
+            volume: lane.logger(),
+            index: record.segment,
+        };
+        let skip = (lbn - record.lbn) as u32;
+        lane.read(rt, shared, &spot, skip, out)
+            .map_err(|_failed| segment)
+    }
+
+    // Reads blocks that have one source, and tells it.
+    fn read_run<R: Wait>(
+        &mut self,
+        rt: &R,
+        shared: &Shared<D>,
+        source: Option<Rec>,
+        lbn: u64,
+        out: &mut [Block],
+    ) -> Result<Sources, Part>
+        requires ready { IsReady D.state self.old }
+        requires at { IsHome shared.now self.old }
+        requires up { self.old.down ≡ None }
+        requires some { (1 ≤ length out.old) × (length out.old ≤ 128) }
+        requires fits { lbn + length out.old ≤ (state_of D.state self.old.home).size }
+        requires source { IsSource self.old.index.entries lbn (length out.old) source }
+        ensures ready { IsReady D.state self.new }
+        ensures at { IsHome shared.now self.new }
+        ensures read { IsReadThrough D.state self.old self.new }
+        ensures look { look_of_manager self.new ≡ woken (look_of_manager self.old) lbn (length out.old) }
+        ensures needs { NeedsSources self.old self.new lbn (length out.old) }
+        ensures content { IsTrue D.tells → (b : ManagerBase) (notes : List Noted) → Keeps D.tells D.state self.old b notes
+            → OnOk result (out.new ≡ slice_range (after b.volume.began.array (writes (entries_of notes))) lbn (lbn + length out.old)) }
+        ensures logged { IfOk result (λ s. s.logged ≡ count_by (is_covered (listed_in self.old.index.entries)) (range_with_len lbn (length out.old))) }
+        ensures all { IfOk result (λ s. s.home + s.logged ≡ length out.old) }
+        ensures cause { IfErr result (PartRose D.state self.old self.new) }
+    {
+        let count = out.len() as u32;
+        match source {
+            None => {
+                self.read_home(rt, shared, lbn, out)?;
+                Ok(Sources {
+                    home: count,
+                    logged: 0,
+                })
+            }
+            Some(record) => {
+                self.read_log(rt, shared, &record, lbn, out)?;
+                Ok(Sources {
+                    home: 0,
+                    logged: count,
+                })
+            }
+        }
+    }
+}
