@@ -48,7 +48,7 @@ use Rattle.manager.proofs.Putting.{is_up, none, upheld, old_lane, owner, logger,
 
 -- ---- A new index is apart from all others of its lane, and no other lane has its place
 
-apart_last : {D : Type 0} (hs : List (HeldSegment D)) (n : HeldSegment D) (rest : List ℕ) → AreApart (map (λ (h : HeldSegment D). h.index) (hs ++ n ∷ []) ++ rest) → AllByRecursion (λ (h : HeldSegment D). h.index ≢ n.index) hs
+pub apart_last : {D : Type 0} (hs : List (HeldSegment D)) (n : HeldSegment D) (rest : List ℕ) → AreApart (map (λ (h : HeldSegment D). h.index) (hs ++ n ∷ []) ++ rest) → AllByRecursion (λ (h : HeldSegment D). h.index ≢ n.index) hs
 apart_last [] n rest apart = tt
 apart_last {D} (h ∷ hs) n rest apart = (from hs apart.0, apart_last hs n rest apart.1)
   where
