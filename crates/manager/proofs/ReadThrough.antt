@@ -1,5 +1,5 @@
 -- Reads go on: what each of them leaves of a manager's parts, they leave together.
-use Rattle.std.proofs.Common.{◌≡◌, ◌⊎◌, inl, inr, ⊎_elim, ◌<◌, ◌≤◌, ◌+◌, ◌-◌, ◌^◌, ℕ, zero, suc, Bool, true, false, ◌||◌, List, [], ◌∷◌, ◌++◌, map, length, Option, None, Some, Result, Ok, Err, OnOk, is_ok, refl, sym, ap, subst, ◌∙◌, arith}
+use Rattle.std.proofs.Common.{◌≡◌, ◌⊎◌, inl, inr, ⊎_elim, ◌<◌, ◌≤◌, ◌+◌, ◌-◌, ◌^◌, ℕ, zero, suc, Bool, true, false, ◌||◌, List, [], ◌∷◌, ◌++◌, map, length, Option, None, Some, Result, Ok, Err, OnOk, OnErr, IfErr, is_ok, refl, sym, ap, subst, ◌∙◌, arith}
 use Rattle.std.specs.Prelude.{IsErr, slice_get, slice_set}
 use Rattle.turn_lock.specs.Passes.{pass_mine}
 use Rattle.std.specs.List.{AllByRecursion, AllZip}
@@ -181,3 +181,10 @@ on_ok_like (Err e) (Err f) like so ok = tt
 
 pub same_lane_spindle : {D : Type 0} (lanes : List (Lane D)) (k : ℕ) (o n : Lane D) → slice_get lanes k ≡ Some o → slice_get lanes k ≡ Some n → pass_mine (spindle_of n) ≡ pass_mine (spindle_of o)
 same_lane_spindle {D} lanes k o n was is = ap (λ (l : Lane D). pass_mine (spindle_of l)) (sym (same_Some o n (sym was ∙ is)))
+
+-- what follows from a refusal that names a part, of one that is like it
+pub err_like : {T U E F P : Type 0} (Q : F → Type 0) {p : F} (r : Result T E) (s : Result U F) → is_ok s ≡ is_ok r → IfErr s (λ q. q ≡ p) → OnErr r P → (P → Q p) → IfErr s Q
+err_like Q (Ok x) (Ok y) like named err so = tt
+err_like Q (Ok x) (Err f) like named err so = absurd (let no : false ≡ true = like in cc)
+err_like Q (Err e) (Ok y) like named err so = tt
+err_like Q (Err e) (Err f) like named err so = subst Q (sym named) (so err)

@@ -1,13 +1,14 @@
 -- The sources of blocks, as the index answers them, and the accesses that passes begin.
-use Rattle.std.proofs.Common.{◌≡◌, ⊎_elim, ◌<◌, ◌≤◌, ◌+◌, ◌-◌, ℕ, zero, suc, Bool, true, false, cond, ◌||◌, List, [], ◌∷◌, ◌++◌, map, length, Option, None, Some, refl, sym, ap, subst, ◌∙◌, arith}
-use Rattle.std.specs.Prelude.{◌↔◌, IsTrue, Contains, slice_get}
+use Rattle.std.proofs.Common.{◌≡◌, ⊎_elim, ◌<◌, ◌≤◌, ◌+◌, ◌-◌, ℕ, zero, suc, Bool, true, false, cond, ◌||◌, List, [], ◌∷◌, ◌++◌, map, length, Option, None, Some, refl, sym, ap, subst, ◌∙◌, arith, eqb}
+use Rattle.std.specs.Prelude.{◌↔◌, IsTrue, Contains, slice_get, slice_set}
 use Rattle.std.specs.List.{AllByRecursion, count_by}
 use Rattle.std.specs.Option.{option_map}
 use Rattle.std.proofs.lemmas.List.{map-append}
-use Rattle.std.proofs.lemmas.Bool.{false≢true}
+use Rattle.std.proofs.lemmas.Bool.{false≢true, cases_eq, eq-eqb, ne_eqb}
+use Rattle.std.proofs.lemmas.Option.{same_Some}
 use Rattle.std.proofs.lemmas.List.Sums.{sum_by-append}
 use Rattle.turn_lock.specs.Histories.{Entry}
-use Rattle.turn_lock.specs.Passes.{pass_mine}
+use Rattle.turn_lock.specs.Passes.{pass_mine, pass_number}
 use Rattle.turn_lock.specs.declared.pass.PassOf.{PassOf}
 use Rattle.wol_model.specs.Extents.{newest}
 use Rattle.wol_model.specs.Index.{Listed, Indexed, listed_in, cover_of, AreRising}
@@ -21,6 +22,9 @@ use Rattle.spin_model.specs.declared.spindle.SpindleBase.{SpindleBase}
 use Rattle.redirect_map.specs.Index.{cover_at, IsAnswer, IsRecordOf}
 use Rattle.redirect_map.specs.declared.record.Rec.{Rec}
 use Rattle.manager.specs.Reading.{IsSource, needs_of, NeedsWhere}
+use Rattle.logger.specs.Lanes.{HasUsed, spindle_of}
+use Rattle.logger.specs.declared.lane.Lane.{Lane}
+use Rattle.manager.proofs.Lanes.{get_set, get_other}
 use Rattle.manager.proofs.RunContent.{newest_listed, newest_is}
 use Rattle.manager.proofs.Woken.{IsBareRun, IsLaneRun}
 
@@ -102,3 +106,15 @@ module _ (p q : PassOf Spindle SpindleBase) where
   needs_none is =
       let e : needs_of q ≡ needs_of p = ap (λ (entries : List Entry). needs_in (uses_in entries)) is in
       record { no_less = omega (arith, e); exactly = (λ lt. absurd (omega (arith, e)), λ no. absurd (false≢true no)) }
+
+-- of these lanes one was used once
+pub needs_set : {D : Type 0} (lanes : List (Lane D)) (k : ℕ) (l m : Lane D) → slice_get lanes k ≡ Some l → HasUsed l m → (j : ℕ) (o n : Lane D) → slice_get lanes j ≡ Some o → slice_get (slice_set lanes k m) j ≡ Some n → NeedsWhere (spindle_of o) (spindle_of n) (eqb k j)
+needs_set {D} lanes k l m lane used j o n was is = ⊎_elim
+    (λ same.
+    let old : l ≡ o = same_Some l o (sym lane ∙ ap (slice_get lanes) (sym same) ∙ was) in
+    let new : m ≡ n = same_Some m n (sym (get_set lanes k l m lane) ∙ ap (slice_get (slice_set lanes k m)) (sym same) ∙ is) in
+    rw (eq-eqb k j (sym same)) (needs_one (spindle_of o) (spindle_of n) _ _
+    (ap (λ (q : Lane D). pass_mine (spindle_of q)) (sym new) ∙ used ∙ ap (λ (q : Lane D). pass_mine (spindle_of q) ++ (pass_number (spindle_of q), operation_of Needed) ∷ (pass_number (spindle_of q), operation_of Done) ∷ []) old)))
+    (λ other. rw (ne_eqb k j (λ e. other (sym e))) (needs_none (spindle_of o) (spindle_of n)
+    (ap (λ (q : Lane D). pass_mine (spindle_of q)) (same_Some n o (sym is ∙ get_other lanes k j m other ∙ was)))))
+    (cases_eq j k)

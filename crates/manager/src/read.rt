@@ -1,5 +1,5 @@
 // Reads: each run of blocks comes from home or from its newest record.
-ghost use Rattle.std.specs.Prelude.{◌≡◌, ◌↔◌, ◌+◌, ◌≤◌, ◌^◌, ◌<◌, ℕ, [], List, length, slice_range, OnOk, IfOk, IfErr, IsTrue, IsSome, None, Some, Ok, Err};
+ghost use Rattle.std.specs.Prelude.{◌≡◌, ◌+◌, ◌≤◌, ◌^◌, ◌<◌, List, length, slice_range, OnOk, IfOk, IfErr, IsTrue, is_ok, None, Some};
 ghost use Rattle.std.specs.List.{count_by, range_with_len};
 ghost use Rattle.spin_model.specs.Spun.{state_of};
 ghost use Rattle.wol_model.specs.Blocks.{after};
@@ -19,7 +19,18 @@ use crate::{Manager, Part, Sources};
 use logger::{Shared, Spot};
 use redirect_map::Rec;
 use std::sync::Wait;
-use wol_disk::{Block, Disk};
+use wol_disk::{Block, Disk, Failed};
+
+// The same answer, where the refusal names the part.
+fn at_part(part: Part, answer: Result<(), Failed>) -> Result<(), Part>
+    ensures like { is_ok result ≡ is_ok answer }
+    ensures part { IfErr result (λ p. p ≡ part) }
+{
+    match answer {
+        Ok(()) => Ok(()),
+        Err(Failed) => Err(part),
+    }
+}
 
 impl<D: Disk> Manager<D> {
     // Where this block is read, and how many blocks from it on, at most `most`, are read there.
@@ -65,7 +76,8 @@ impl<D: Disk> Manager<D> {
         self.home_up = true;
         let home = Part::Home { volume: self.id };
         let lock = &shared.spindles[self.id as usize];
-        fetch_at(rt, lock, &mut self.spindle, &mut self.home, lbn, out).map_err(|_failed| home)
+        let answer = fetch_at(rt, lock, &mut self.spindle, &mut self.home, lbn, out);
+        at_part(home, answer)
     }
 
     // Reads blocks of which this record is the newest one. The refusal names its segment.
@@ -104,8 +116,8 @@ impl<D: Disk> Manager<D> {
             index: record.segment,
         };
         let skip = (lbn - record.lbn) as u32;
-        lane.read(rt, shared, &spot, skip, out)
-            .map_err(|_failed| segment)
+        let answer = lane.read(rt, shared, &spot, skip, out);
+        at_part(segment, answer)
     }
 
     // Reads blocks that have one source, and tells it.
