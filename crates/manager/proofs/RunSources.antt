@@ -1,7 +1,7 @@
 -- The sources of blocks, as the index answers them, and the accesses that passes begin.
 use Rattle.std.proofs.Common.{◌≡◌, ⊎_elim, ◌<◌, ◌≤◌, ◌+◌, ◌-◌, ℕ, zero, suc, Bool, true, false, cond, ◌||◌, List, [], ◌∷◌, ◌++◌, map, length, Option, None, Some, refl, sym, ap, subst, ◌∙◌, arith, eqb}
-use Rattle.std.specs.Prelude.{◌↔◌, IsTrue, Contains, slice_get, slice_set}
-use Rattle.std.specs.List.{AllByRecursion, count_by}
+use Rattle.std.specs.Prelude.{Contains, slice_get, slice_set, is_some}
+use Rattle.std.specs.List.{AllByRecursion, count_by, range_with_len}
 use Rattle.std.specs.Option.{option_map}
 use Rattle.std.proofs.lemmas.List.{map-append}
 use Rattle.std.proofs.lemmas.Bool.{false≢true, cases_eq, eq-eqb, ne_eqb}
@@ -11,7 +11,7 @@ use Rattle.turn_lock.specs.Histories.{Entry}
 use Rattle.turn_lock.specs.Passes.{pass_mine, pass_number}
 use Rattle.turn_lock.specs.declared.pass.PassOf.{PassOf}
 use Rattle.wol_model.specs.Extents.{newest}
-use Rattle.wol_model.specs.Index.{Listed, Indexed, listed_in, cover_of, AreRising}
+use Rattle.wol_model.specs.Index.{Indexed, listed_in, is_covered, AreRising}
 use Rattle.wol_model.specs.Journal.{Use, Needed, Done}
 use Rattle.wol_model.proofs.Counts.{marked_within}
 use Rattle.wol_promise.specs.Spindle.{is_need, needs_in}
@@ -26,7 +26,7 @@ use Rattle.logger.specs.Lanes.{HasUsed, spindle_of}
 use Rattle.logger.specs.declared.lane.Lane.{Lane}
 use Rattle.manager.proofs.Lanes.{get_set, get_other}
 use Rattle.manager.proofs.RunContent.{newest_listed, newest_is}
-use Rattle.manager.proofs.Woken.{IsBareRun, IsLaneRun}
+use Rattle.manager.proofs.Woken.{IsBareRun, IsLaneRun, covered_is, count_all, count_none}
 
 -- ---- sources
 
@@ -59,6 +59,13 @@ module _ (es : List Indexed) (first n : ℕ) where
   pub lane_run_of : (r : Rec) → IsSource es first n (Some r) → IsLaneRun (listed_in es) r.lane first n
   lane_run_of r source b le lt = let a = entry_for r source b le lt in
       (a.entry.listed, newest_listed es b ∙ ap (option_map (λ (e : Indexed). e.listed)) a.is, sym a.record_.lane)
+
+  -- how many of them are covered
+  pub bare_count : IsSource es first n None → count_by (is_covered (listed_in es)) (range_with_len first n) ≡ 0
+  bare_count source = count_none (is_covered (listed_in es)) first n (λ b le lt. covered_is (listed_in es) b ∙ ap is_some (bare_run_of source b le lt))
+
+  pub log_count : (r : Rec) → IsSource es first n (Some r) → count_by (is_covered (listed_in es)) (range_with_len first n) ≡ n
+  log_count r source = count_all (is_covered (listed_in es)) first n (λ b le lt. covered_is (listed_in es) b ∙ ap is_some (lane_run_of r source b le lt).1)
 
   -- they lie in the record's range
   pub in_record : (r : Rec) → IsSource es first n (Some r) → (b : ℕ) → first ≤ b → b < first + n → (r.lbn ≤ b) × (b < r.lbn + r.count)
