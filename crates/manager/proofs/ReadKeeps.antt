@@ -1,30 +1,40 @@
 -- What a manager keeps up, it keeps up after reads.
 use Rattle.std.proofs.Common.{◌≡◌, ◌<◌, ◌≤◌, ◌+◌, ◌-◌, ℕ, zero, suc, Bool, List, [], ◌∷◌, ◌++◌, map, length, Option, None, Some, refl, sym, ap, subst, ◌∙◌, arith}
-use Rattle.std.specs.Prelude.{⊤, IsTrue, Contains, slice_get}
+use Rattle.std.specs.Prelude.{IsTrue, slice_get, slice_range, option_map}
 use Rattle.std.specs.List.{AllByRecursion, AllZip}
+use Rattle.std.proofs.lemmas.Option.{slice_get-map}
 use Rattle.wol_disk.specs.Disk.{State, Block, Values, IsDisk, IsImageOf}
 use Rattle.wol_disk.proofs.Images.{only_image}
-use Rattle.wol_model.specs.History.{writes, flight_of}
+use Rattle.wol_model.specs.History.{Read, Broke, worker, writes}
+use Rattle.wol_model.specs.Blocks.{after}
 use Rattle.wol_model.specs.Log.{Record, IsLog}
-use Rattle.wol_promise.specs.Manager.{Held, ManagerSeen}
-use Rattle.wol_promise.specs.Ruled.{Noted, entries_of, HasPassed}
-use Rattle.wol_promise.specs.Stands.{Upholds}
+use Rattle.redirect_map.specs.Index.{Contents}
+use Rattle.wol_promise.proofs.Lists.{all_map}
+use Rattle.wol_promise.specs.Manager.{Held, ManagerSeen, PartName, IsPartOf, AreInUse}
+use Rattle.wol_promise.specs.Ruled.{Noted, entries_of, HasPassed, last_look, times_passed}
+use Rattle.wol_promise.specs.Stands.{Upholds, StandsFor}
 use Rattle.spin_model.specs.Spun.{state_of}
 use Rattle.spin_model.specs.declared.spun.Spun.{Spun}
 use Rattle.log_segment.specs.Segment.{Holds, part_of, disk_of, owner_of}
 use Rattle.turn_lock.specs.Passes.{pass_mine}
-use Rattle.logger.specs.Lanes.{held_in, taken_in, logger_of, pool_of, IsHeld}
+use Rattle.logger.specs.Lanes.{held_in, taken_in, logger_of, lane_owner, segments_in, pool_of, IsHeld}
 use Rattle.logger.specs.declared.lane.HeldSegment.{HeldSegment}
 use Rattle.logger.specs.declared.lane.Lane.{Lane}
+use Rattle.manager.specs.Causes.{PartRose}
 use Rattle.manager.specs.Reading.{SegmentRead, LaneRead, IsReadThrough}
-use Rattle.manager.specs.Seen.{Logs, AllHold, AllLanesHold, held_with, all_held, all_taken, parts_of, seen, down_of}
-use Rattle.manager.specs.Stands.{Keeps, IsReady, IsReadyLane, IsNamed, AreNamed, Locks, nones_in, nones_at}
+use Rattle.manager.specs.Seen.{Logs, AllHold, AllLanesHold, held_with, all_held, all_taken, parts_of, seen, down_of, name_of, look_of_manager}
+use Rattle.manager.specs.Stands.{Keeps, Stands, IsNote, IsReady, IsReadyLane, IsNamed, AreNamed, Locks, nones_in, nones_at}
 use Rattle.manager.specs.declared.base.LaneBase.{LaneBase}
 use Rattle.manager.specs.declared.base.ManagerBase.{ManagerBase}
 use Rattle.manager.specs.declared.manager.Manager.{Manager}
-use Rattle.manager.proofs.ReadContent.{unbroken, upholds_up}
-use Rattle.manager.proofs.ReadThrough.{zip_length}
-use Rattle.manager.proofs.Touched.{IsTouched, touched, same_use}
+use Rattle.manager.specs.declared.part.Part.{Part}
+use Rattle.manager.specs.declared.part.Part.TheVariants.{Home, Segment}
+use Rattle.wol_promise.proofs.Kept.{read_more}
+use Rattle.wol_promise.proofs.OneMore.{last_more}
+use Rattle.manager.proofs.Frames.{none_passed}
+use Rattle.manager.proofs.ReadContent.{held_as, standing, unbroken, upholds_up}
+use Rattle.manager.proofs.ReadThrough.{zip_length, zip_at, above_none}
+use Rattle.manager.proofs.Touched.{IsTouched, touched_, touched, read_breaks, same_use}
 
 -- ---- lanes
 
@@ -51,7 +61,7 @@ module _ {D : Type 0} (state : D → State) where
   same_taken k [] [] zip = refl
   same_taken k [] (m ∷ ms) zip = absurd zip
   same_taken k (l ∷ ls) [] zip = absurd zip
-  same_taken k (l ∷ ls) (m ∷ ms) zip = ?
+  same_taken k (l ∷ ls) (m ∷ ms) zip = rw (zip.0.taken, same_taken (k + 1) ls ms zip.1) refl
 
   pub same_loggers : (ls ms : List (Lane D)) → AllZip (LaneRead state) ls ms → map logger_of ms ≡ map logger_of ls
   same_loggers [] [] zip = refl
@@ -126,3 +136,127 @@ module _ {D : Type 0} (state : D → State) where
     touched_lanes k (l ∷ ls) (m ∷ ms) [] zip owned all = tt
     touched_lanes k (l ∷ ls) (m ∷ ms) (rs ∷ logs) zip owned all = zip_append (IsTouched (parts_of tells state) owner) (held_with k (held_in l) rs) (all_held (k + 1) ls logs) (held_with k (held_in m) rs) (all_held (k + 1) ms logs)
         (touched_hold k (held_in l) (held_in m) rs zip.0.held owned.0 all.0) (touched_lanes (k + 1) ls ms logs zip.1 owned.1 all.1)
+
+-- ---- the manager
+
+module _ {D : Type 0} (tells : Bool) (state : D → State) (old new : Manager D) (b : ManagerBase) (notes : List Noted) (read : IsReadThrough state old new) (ready : IsReady state new) (up : old.down ≡ None) (k : Keeps tells state old b notes) where
+  zip : AllZip (IsTouched (parts_of tells state) b.volume.began.owner) (all_held 0 old.lanes.items k.logs) (all_held 0 new.lanes.items k.logs)
+  zip = touched_lanes state tells b.volume.began.owner (old.down ≡ None) up 0 old.lanes.items new.lanes.items k.logs read.lanes
+      (all_map (IsReadyLane state old.id old.most) (λ (l : Lane D). AllByRecursion (λ (h : HeldSegment D). owner_of h.segment ≡ b.volume.began.owner) (held_in l))
+      (λ l is. all_map (IsHeld state (logger_of l) (lane_owner l) (segments_in l) (pool_of l)) (λ (h : HeldSegment D). owner_of h.segment ≡ b.volume.began.owner) (λ h held. held.owned ∙ is.owner ∙ k.locks.owner) (held_in l) is.lane.each) old.lanes.items k.ready.ready.each) k.held
+
+  flags : length new.ups.items ≡ length old.ups.items
+  flags = ready.ready.flags ∙ zip_length (LaneRead state) old.lanes.items new.lanes.items read.lanes ∙ sym k.ready.ready.flags
+
+  same_home : (bs : List Block) → IsTrue tells × IsImageOf (state_of state new.home).values bs → IsTrue tells × IsImageOf (state_of state old.home).values bs
+  same_home bs is = (is.0, subst (λ (o : Option (List (Values Block))). IsImageOf o bs) read.home.values is.1)
+
+  -- the old manager with the new parts and flags is the new one, but for what is down
+  abbrev reached : (down : Option PartName) → ManagerSeen (Spun D)
+  reached down = record (touched_ (parts_of tells state) b.volume.began (seen old k.logs) new.home (all_held 0 new.lanes.items k.logs) new.home_up new.ups.items flags read.home.size read.home.volume same_home zip) { down = down }
+
+  is_seen : (name : Option PartName) (down : Option Part) → name ≡ down_of down → reached name ≡ seen (record new { down = down }) k.logs
+  is_seen name down same = λ i. record {
+    home = new.home;
+    held = all_held 0 new.lanes.items k.logs;
+    taken = sym (same_taken state 0 old.lanes.items new.lanes.items read.lanes) i;
+    indexed = ap (λ (c : Contents). c.entries) (sym read.index) i;
+    next = sym read.next i;
+    home_up = new.home_up;
+    ups = new.ups.items;
+    down = same i;
+  }
+
+  same_locks : Locks new.id new.most new.spindle new.lanes.items b
+  same_locks = let l = k.locks in record {
+    pass = read.spindle.0 ∙ l.pass;
+    number = read.spindle.1 ∙ l.number;
+    each = same_named state old.lanes.items new.lanes.items b.lanes read.lanes l.each;
+    owner = read.same.id ∙ l.owner;
+    most_ = read.same.most ∙ l.most_;
+    view = same_loggers state old.lanes.items new.lanes.items read.lanes ∙ l.view;
+  }
+
+  same_passed : HasPassed (nones_at new.lanes.items b.lanes) notes
+  same_passed j = subst (λ (n : ℕ). times_passed j notes ≤ n) (sym (same_nones state old.lanes.items new.lanes.items b.lanes j read.lanes)) (k.passed j)
+
+  pub upholds_read : Upholds (parts_of tells state) b.volume.began (seen new k.logs) notes (writes (entries_of notes)) None
+  upholds_read = subst (λ (m : ManagerSeen (Spun D)). Upholds (parts_of tells state) b.volume.began m notes (writes (entries_of notes)) None)
+      (is_seen (down_of old.down) new.down (ap down_of (sym read.down)))
+      (touched (parts_of tells state) b.volume.began (seen old k.logs) new.home (all_held 0 new.lanes.items k.logs) new.home_up new.ups.items flags read.home.size read.home.volume same_home zip notes (writes (entries_of notes)) (ap down_of up) (upholds_up tells state old b notes k up))
+
+  -- the records of each segment are what they were
+  pub held_read : AllLanesHold (λ h rs. IsTrue tells → new.down ≡ None → Holds state h.segment rs) new.lanes.items k.logs
+  held_read = lanes_read state (λ h rs. IsTrue tells → old.down ≡ None → Holds state h.segment rs) (λ h rs. IsTrue tells → new.down ≡ None → Holds state h.segment rs)
+      (λ h i rs r holds told none. r.keeps rs (holds told up)) old.lanes.items new.lanes.items k.logs read.lanes k.held
+
+  use_read : IsTrue tells → new.down ≡ None → AreInUse (all_held 0 new.lanes.items k.logs)
+  use_read told none = same_use (parts_of tells state) b.volume.began.owner (all_held 0 old.lanes.items k.logs) (all_held 0 new.lanes.items k.logs) zip (k.in_use told up)
+
+  -- after reads that were answered
+  pub keeps_read : Keeps tells state new b notes
+  keeps_read = record {
+    logs = k.logs;
+    held = held_read;
+    upholds = subst (Upholds (parts_of tells state) b.volume.began (seen new k.logs) notes (writes (entries_of notes))) (sym (unbroken tells state old b notes k up)) upholds_read;
+    in_use = use_read;
+    passed = same_passed;
+    ready = ready;
+    locks = same_locks;
+  }
+
+  -- an answered read more
+  pub stands_read : (n : Noted) (first : ℕ) (reply : List Block) → n.entry.pass ≡ worker → IsNote (last_look b.volume.began.look notes) (Read first reply) [] (look_of_manager new) n
+      → (IsTrue tells → reply ≡ slice_range (after b.volume.began.array (writes (entries_of notes))) first (first + length reply)) → Stands tells state new b (notes ++ n ∷ [])
+  stands_read n first reply client note legal = record {
+    keeps = record {
+      logs = k.logs;
+      held = held_read;
+      upholds = (read_more (parts_of tells state) b.volume.began (seen new k.logs) notes n note.follows first reply note.operation_is client (unbroken tells state old b notes k up) legal upholds_read note.look_is).upholds;
+      in_use = use_read;
+      passed = none_passed (nones_at new.lanes.items b.lanes) notes n note.passed_is same_passed;
+      ready = ready;
+      locks = same_locks;
+    };
+    look = last_more b.volume.began.look notes n ∙ note.look_is;
+  }
+
+  -- a read that failed at this part
+  module _ (p : Part) (rose : PartRose state old new p) where
+    abbrev failed : Manager D
+    failed = record new { down = Some p }
+
+    -- the part stands among the manager's parts, and had a fault
+    is_part : (q : Part) → PartRose state old new q → (s : Spun D) × IsPartOf b.volume.began.view (reached (Some (name_of q))) (name_of q) s × (0 < (state_of state s).faults)
+    is_part (Home volume) r = (new.home, refl, above_none (state_of state old.home).faults (state_of state new.home).faults r.1)
+    is_part (Segment volume index) r =
+        let there = standing (λ h rs. IsTrue tells → new.down ≡ None → Holds state h.segment rs) 0 r.lane r.lane new.lanes.items k.logs r.new_lane r.place r.new_segment (omega arith) held_read r.is_lane r.is_there in
+        (part_of r.new_segment.segment, (held_as r.lane r.new_segment there.records, there.among, named, same.index ∙ sym r.named.1, refl),
+        above_none (disk_of state r.old_segment.segment).faults (disk_of state r.new_segment.segment).faults r.rose)
+      where
+        named : slice_get b.volume.began.view r.lane ≡ Some volume
+        named = ap (λ (v : List ℕ). slice_get v r.lane) (sym k.locks.view) ∙ slice_get-map logger_of old.lanes.items r.lane ∙ ap (option_map logger_of) r.was_lane ∙ ap Some (sym r.named.0)
+
+        same : SegmentRead state r.old_segment r.new_segment
+        same = zip_at (SegmentRead state) (held_in r.old_lane) (held_in r.new_lane) r.place r.old_segment r.new_segment
+            (zip_at (LaneRead state) old.lanes.items new.lanes.items r.lane r.old_lane r.new_lane read.lanes r.was_lane r.is_lane).held r.was_there r.is_there
+
+    ready_failed : IsReady state failed
+    ready_failed = record { ready = ready.ready; next = ready.next; below = ready.below; up = λ no. absurd (let wrong : Some p ≡ None = no in cc) }
+
+    pub stands_broken : (n : Noted) → IsNote (last_look b.volume.began.look notes) (Broke []) [] (look_of_manager failed) n → Stands tells state failed b (notes ++ n ∷ [])
+    stands_broken n note = record {
+      keeps = record {
+        logs = k.logs;
+        held = lanes_read state (λ h rs. IsTrue tells → old.down ≡ None → Holds state h.segment rs) (λ h rs. IsTrue tells → failed.down ≡ None → Holds state h.segment rs)
+            (λ h i rs r holds told no. absurd (let wrong : Some p ≡ None = no in cc)) old.lanes.items new.lanes.items k.logs read.lanes k.held;
+        upholds = (subst (λ (m : ManagerSeen (Spun D)). StandsFor (parts_of tells state) b.volume.began m (notes ++ n ∷ [])) (is_seen (Some (name_of p)) (Some p) refl)
+            (read_breaks (parts_of tells state) b.volume.began (seen old k.logs) new.home (all_held 0 new.lanes.items k.logs) new.home_up new.ups.items flags read.home.size read.home.volume same_home zip
+            notes n (upholds_up tells state old b notes k up) (unbroken tells state old b notes k up) note.operation_is note.drain (name_of p) (is_part p rose))).upholds;
+        in_use = λ told no. absurd (let wrong : Some p ≡ None = no in cc);
+        passed = none_passed (nones_at new.lanes.items b.lanes) notes n note.passed_is same_passed;
+        ready = ready_failed;
+        locks = same_locks;
+      };
+      look = last_more b.volume.began.look notes n ∙ note.look_is;
+    }

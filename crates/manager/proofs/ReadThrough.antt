@@ -43,6 +43,9 @@ zip_get R (z ∷ xs) [] k x zip is = absurd zip
 zip_get {X} {Y} R (z ∷ xs) (y ∷ ys) zero x zip is = (y, refl, subst (λ (w : X). R w y) (same_Some z x is) zip.0)
 zip_get R (z ∷ xs) (y ∷ ys) (suc k) x zip is = zip_get R xs ys k x zip.1 is
 
+pub zip_at : {X Y : Type 0} (R : X → Y → Type 0) (xs : List X) (ys : List Y) (k : ℕ) (x : X) (y : Y) → AllZip R xs ys → slice_get xs k ≡ Some x → slice_get ys k ≡ Some y → R x y
+zip_at R xs ys k x y zip was is = let there = zip_get R xs ys k x zip was in subst (R x) (same_Some there.0 y (sym there.1 ∙ is)) there.2
+
 pub zip_length : {X Y : Type 0} (R : X → Y → Type 0) (xs : List X) (ys : List Y) → AllZip R xs ys → length ys ≡ length xs
 zip_length R [] [] zip = refl
 zip_length R [] (y ∷ ys) zip = absurd zip
