@@ -1,10 +1,10 @@
 -- The sources of blocks, as the index answers them, and the accesses that passes begin.
-use Rattle.std.proofs.Common.{◌≡◌, ⊎_elim, ◌<◌, ◌≤◌, ◌+◌, ◌-◌, ℕ, zero, suc, Bool, true, false, cond, ◌||◌, List, [], ◌∷◌, ◌++◌, map, length, Option, None, Some, refl, sym, ap, subst, ◌∙◌, arith, eqb}
-use Rattle.std.specs.Prelude.{Contains, slice_get, slice_set, is_some}
+use Rattle.std.proofs.Common.{◌≡◌, ⊎_elim, ◌<◌, ◌≤◌, ◌+◌, ◌-◌, ℕ, zero, suc, Bool, true, false, cond, ◌||◌, not, List, [], ◌∷◌, ◌++◌, map, length, Option, None, Some, refl, sym, ap, subst, ◌∙◌, arith, eqb}
+use Rattle.std.specs.Prelude.{◌↔◌, IsTrue, Contains, slice_get, slice_set, is_some}
 use Rattle.std.specs.List.{AllByRecursion, count_by, range_with_len}
 use Rattle.std.specs.Option.{option_map}
 use Rattle.std.proofs.lemmas.List.{map-append}
-use Rattle.std.proofs.lemmas.Bool.{false≢true, cases_eq, eq-eqb, ne_eqb}
+use Rattle.std.proofs.lemmas.Bool.{false≢true, cases_lt, cases_eq, eq-eqb, ne_eqb}
 use Rattle.std.proofs.lemmas.Option.{same_Some}
 use Rattle.std.proofs.lemmas.List.Sums.{sum_by-append}
 use Rattle.turn_lock.specs.Histories.{Entry}
@@ -19,14 +19,18 @@ use Rattle.wol_promise.proofs.Lists.{all_member, member_front, member_map}
 use Rattle.spin_model.specs.Operations.{use_of, operation_of}
 use Rattle.spin_model.specs.declared.spindle.Spindle.{Spindle}
 use Rattle.spin_model.specs.declared.spindle.SpindleBase.{SpindleBase}
-use Rattle.redirect_map.specs.Index.{cover_at, IsAnswer, IsRecordOf}
+use Rattle.redirect_map.specs.Index.{Contents, cover_at, IsAnswer, IsRecordOf}
 use Rattle.redirect_map.specs.declared.record.Rec.{Rec}
-use Rattle.manager.specs.Reading.{IsSource, needs_of, NeedsWhere}
+use Rattle.manager.specs.Reading.{IsSource, reads_home, reads_lane, needs_of, HasNeeded, NeedsWhere, NeedsSources, LaneRead, IsReadThrough}
 use Rattle.logger.specs.Lanes.{HasUsed, spindle_of}
 use Rattle.logger.specs.declared.lane.Lane.{Lane}
 use Rattle.manager.proofs.Lanes.{get_set, get_other}
+use Rattle.wol_disk.specs.Disk.{State}
+use Rattle.wol_promise.specs.Policy.{has_newest_on}
+use Rattle.manager.specs.declared.manager.Manager.{Manager}
+use Rattle.manager.proofs.ReadThrough.{zip_get, same_lane_spindle}
 use Rattle.manager.proofs.RunContent.{newest_listed, newest_is}
-use Rattle.manager.proofs.Woken.{IsBareRun, IsLaneRun, covered_is, count_all, count_none}
+use Rattle.manager.proofs.Woken.{IsBareRun, IsLaneRun, covered_is, any_joined, count_all, count_none}
 
 -- ---- sources
 
@@ -125,3 +129,33 @@ needs_set {D} lanes k l m lane used j o n was is = ⊎_elim
     (λ other. rw (ne_eqb k j (λ e. other (sym e))) (needs_none (spindle_of o) (spindle_of n)
     (ap (λ (q : Lane D). pass_mine (spindle_of q)) (same_Some n o (sym is ∙ get_other lanes k j m other ∙ was)))))
     (cases_eq j k)
+
+-- one range behind another
+pub needs_then : (p q r : PassOf Spindle SpindleBase) (s t : Bool) → NeedsWhere p q s → NeedsWhere q r t → NeedsWhere p r (s || t)
+needs_then p q r s t a b = record { no_less = omega (arith, a.no_less, b.no_less); exactly = (forth s a.exactly, back s a.exactly) }
+  where
+    forth : (u : Bool) → HasNeeded p q ↔ IsTrue u → HasNeeded p r → IsTrue (u || t)
+    forth true is lt = refl
+    forth false is lt = b.exactly.0 (⊎_elim (λ less. absurd (false≢true (is.0 less))) (λ same. omega (arith, lt, same)) (cases_lt (needs_of p) (needs_of q)))
+
+    back : (u : Bool) → HasNeeded p q ↔ IsTrue u → IsTrue (u || t) → HasNeeded p r
+    back true is holds = let lt = is.1 refl in omega (arith, lt, b.no_less)
+    back false is holds = let lt = b.exactly.1 holds in omega (arith, lt, a.no_less)
+
+module _ {D : Type 0} (state : D → State) (old mid new : Manager D) (read : IsReadThrough state old mid) where
+  pub needs_more : (first n m : ℕ) → NeedsSources old mid first n → NeedsSources mid new (first + n) m → NeedsSources old new first (n + m)
+  needs_more first n m a b = record {
+    home = rw (any_joined (λ c. not (is_covered (listed_in old.index.entries) c)) first n m)
+        (needs_then old.spindle mid.spindle new.spindle _ _ a.home (subst (λ (i : Contents). NeedsWhere mid.spindle new.spindle (reads_home (listed_in i.entries) (first + n) m)) read.index b.home));
+    lanes = λ k o l was is.
+        let there = zip_get (LaneRead state) old.lanes.items mid.lanes.items k o read.lanes was in
+        rw (any_joined (has_newest_on (listed_in old.index.entries) k) first n m)
+        (needs_then (spindle_of o) (spindle_of there.0) (spindle_of l) _ _ (a.lanes k o there.0 was there.1)
+        (subst (λ (i : Contents). NeedsWhere (spindle_of there.0) (spindle_of l) (reads_lane (listed_in i.entries) k (first + n) m)) read.index (b.lanes k there.0 l there.1 is)));
+  }
+
+pub needs_nothing : {D : Type 0} (m : Manager D) (first : ℕ) → NeedsSources m m first 0
+needs_nothing m first = record {
+  home = needs_none m.spindle m.spindle refl;
+  lanes = λ k o n was is. needs_none (spindle_of o) (spindle_of n) (same_lane_spindle m.lanes.items k o n was is);
+}

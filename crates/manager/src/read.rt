@@ -9,7 +9,7 @@ ghost use Rattle.wol_promise.specs.Policy.{woken};
 ghost use Rattle.wol_promise.specs.Ruled.{Noted, entries_of};
 ghost use Rattle.manager.specs.Answers.{was_read};
 ghost use Rattle.manager.specs.Causes.{PartRose};
-ghost use Rattle.manager.specs.Reading.{IsSource, IsReadThrough, NeedsSources};
+ghost use Rattle.manager.specs.Reading.{IsSource, IsReadThrough, NeedsSources, NeedsFirstOf};
 ghost use Rattle.manager.specs.Seen.{look_of_manager};
 ghost use Rattle.manager.specs.Stands.{Keeps, IsReady, IsHome, IsSameManager, Leaves};
 ghost use Rattle.manager.specs.declared.base.ManagerBase.{ManagerBase};
@@ -163,5 +163,43 @@ impl<D: Disk> Manager<D> {
                 })
             }
         }
+    }
+
+    // Reads run after run.
+    fn read_runs<R: Wait>(
+        &mut self,
+        rt: &R,
+        shared: &Shared<D>,
+        lbn: u64,
+        out: &mut [Block],
+    ) -> Result<Sources, Part>
+        requires ready { IsReady D.state self.old }
+        requires at { IsHome shared.now self.old }
+        requires up { self.old.down ≡ None }
+        requires most { length out.old ≤ 128 }
+        requires fits { lbn + length out.old ≤ (state_of D.state self.old.home).size }
+        ensures ready { IsReady D.state self.new }
+        ensures at { IsHome shared.now self.new }
+        ensures read { IsReadThrough D.state self.old self.new }
+        ensures look { OnOk result (look_of_manager self.new ≡ woken (look_of_manager self.old) lbn (length out.old)) }
+        ensures needs { NeedsFirstOf self.old self.new lbn (length out.old) }
+        ensures needs_all { OnOk result (NeedsSources self.old self.new lbn (length out.old)) }
+        ensures content { IsTrue D.tells → (b : ManagerBase) (notes : List Noted) → Keeps D.tells D.state self.old b notes
+            → OnOk result (out.new ≡ slice_range (after b.volume.began.array (writes (entries_of notes))) lbn (lbn + length out.old)) }
+        ensures logged { IfOk result (λ s. s.logged ≡ count_by (is_covered (listed_in self.old.index.entries)) (range_with_len lbn (length out.old))) }
+        ensures all { IfOk result (λ s. s.home + s.logged ≡ length out.old) }
+        ensures cause { IfErr result (PartRose D.state self.old self.new) }
+    {
+        let mut sources = Sources { home: 0, logged: 0 };
+        let mut done = 0;
+        'runs: while done < out.len() {
+            let at = lbn + done as u64;
+            let (source, count) = self.run_from(at, out.len() - done);
+            let run = self.read_run(rt, shared, source, at, &mut out[done..done + count])?;
+            sources.home += run.home;
+            sources.logged += run.logged;
+            done += count;
+        }
+        Ok(sources)
     }
 }
