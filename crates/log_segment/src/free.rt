@@ -37,6 +37,13 @@ impl<D: Disk> FreeSegment<D> {
         FreeSegment { part, blocks }
     }
 
+    /// How many blocks of 512 bytes it has.
+    pub fn blocks(&self) -> u32
+        ensures { result ≡ free_blocks self.now }
+    {
+        self.blocks
+    }
+
     /// The part, for a bay that takes it back.
     pub fn into_part(self) -> Spun<D>
         ensures { result ≡ free_part self }

@@ -61,6 +61,14 @@ marked_full first n b = at (leb first b) refl
     at true is = inside (b - first) (let le : first ≤ b = leb-true first b is in omega arith)
     at false is = refl
 
+-- a new record as the index is given it, with its place
+abbrev pub rec_at : (version lbn : ℕ) → List Block → (lane segment pos : ℕ) → Rec
+rec_at version lbn from lane segment pos = record { version = version; lbn = lbn; count = length from; keep = 2 ^ length from - 1; lane = lane; segment = segment; pos = pos }
+
+-- the entries once the index has it
+abbrev pub entered : List Indexed → Rec → List Indexed
+entered es rec = map (unhomed (cover_at (entry_of rec 0))) es ++ entry_of rec 0 ∷ []
+
 module _ (owner version lbn : ℕ) (from : List Block) where
   abbrev r : Record
   r = new_record owner version lbn from
@@ -79,20 +87,13 @@ module _ (owner version lbn : ℕ) (from : List Block) where
 
   -- ---- Its entry
 
-  -- the record as the index is given it, with its place
-  abbrev rec_at : (lane segment pos : ℕ) → Rec
-  rec_at lane segment pos = record { version = version; lbn = lbn; count = length from; keep = 2 ^ length from - 1; lane = lane; segment = segment; pos = pos }
-
-  abbrev entered : List Indexed → Rec → List Indexed
-  entered es rec = map (unhomed (cover_at (entry_of rec 0))) es ++ entry_of rec 0 ∷ []
-
   -- the index with it is that of the promise, where it stands behind the records of its segment
-  pub indexed_so : {P : Type 0} (rec : Rec) (es : List Indexed) (s : Held P) → rec ≡ rec_at s.lane s.index (end_of s.records) → entered es rec ≡ indexed_with es s r
+  pub indexed_so : {P : Type 0} (rec : Rec) (es : List Indexed) (s : Held P) → rec ≡ rec_at version lbn from s.lane s.index (end_of s.records) → entered es rec ≡ indexed_with es s r
   indexed_so rec es s is = ap (entered es) is
       ∙ (λ i. map (cleared (extent_of r).cover.covers) es ++ record { listed = record { version = version; first = lbn; keep = marks_of (length from) (2 ^ length from - 1); lane = s.lane; homed = no_marks (length from) i }; index = s.index; pos = end_of s.records } ∷ [])
 
   -- and the look is that of a write placed there
-  pub look_so : (rec : Rec) (es : List Indexed) (home_up : Bool) (ups : List Bool) (lane segment pos : ℕ) → rec ≡ rec_at lane segment pos
+  pub look_so : (rec : Rec) (es : List Indexed) (home_up : Bool) (ups : List Bool) (lane segment pos : ℕ) → rec ≡ rec_at version lbn from lane segment pos
       → (let l : Look = record { home_up = home_up; ups = slice_set ups lane true; next = version + 1; listed = listed_in (entered es rec) } in l)
       ≡ placed (Log lane) (record { home_up = home_up; ups = ups; next = version; listed = listed_in es }) (log_write version lbn from)
   look_so rec es home_up ups lane segment pos is = λ i. record { home_up = home_up; ups = slice_set ups lane true; next = version + 1; listed = (ap (λ (q : Rec). listed_in (entered es q)) is ∙ listed_then es ∙ marks) i }
@@ -103,7 +104,7 @@ module _ (owner version lbn : ℕ) (from : List Block) where
       clear : (ℕ → Bool) → Listed → Listed
       clear covers e = record e { homed = remarked e.first e.homed (λ b m. m && not (covers b)) }
 
-      listed_then : (ds : List Indexed) → listed_in (entered ds (rec_at lane segment pos)) ≡ map (clear (extent_of r).cover.covers) (listed_in ds) ++ new (marks_of (length from) (2 ^ length from - 1)) (marks_of (length from) 0) ∷ []
+      listed_then : (ds : List Indexed) → listed_in (entered ds (rec_at version lbn from lane segment pos)) ≡ map (clear (extent_of r).cover.covers) (listed_in ds) ++ new (marks_of (length from) (2 ^ length from - 1)) (marks_of (length from) 0) ∷ []
       listed_then [] = refl
       listed_then (d ∷ ds) = λ i. clear (extent_of r).cover.covers d.listed ∷ listed_then ds i
 

@@ -1,8 +1,10 @@
 pub mod Accesses
-pub mod Seen
-pub mod Stands
 pub mod Answers
 pub mod Causes
-pub mod Stops
 pub mod Offers
+pub mod Puts
 pub mod Reading
+pub mod Seen
+pub mod Stands
+pub mod Stops
+pub mod Writing

@@ -1,12 +1,17 @@
 -- What became of a lane that was offered a write.
-use Rattle.std.specs.Prelude.{⊤, ◌≡◌, ◌⊎◌, ◌∷◌, ◌++◌, ℕ, List, [], slice_get, slice_set, None, Some}
+use Rattle.std.specs.Prelude.{◌≡◌, ◌⊎◌, ◌∷◌, ◌++◌, ℕ, List, [], slice_get, slice_set, None, Some}
 use Rattle.turn_lock.specs.Passes.{pass_number, pass_mine}
 use Rattle.seg_pool.specs.Holders.{Took}
 use Rattle.seg_pool.specs.Operations.{operation_of}
 use Rattle.logger.specs.Lanes.{IsSameLane, HasUsed, HasNoRoom, held_in, taken_in, pool_of, spindle_of}
 use Rattle.logger.specs.declared.lane.Lane.{Lane}
-use Rattle.offload_policy.specs.declared.Room.{Room}
-use Rattle.offload_policy.specs.declared.Room.TheVariants.{Unknown, Yes, No}
+use Rattle.wol_disk.specs.Disk.{Block}
+use Rattle.wol_model.specs.History.{Operation, Wrote, Kept, Broke}
+use Rattle.manager.specs.Answers.{log_write}
+use Rattle.manager.specs.declared.log.Offered.{Offered}
+use Rattle.manager.specs.declared.log.Offered.TheVariants.{NoRoom, Written, Failed}
+use Rattle.manager.specs.declared.part.Part.{Part}
+use Rattle.manager.specs.declared.part.Part.TheVariants as part
 
 -- It has no room for so many blocks: no held segment has it, and its pool was asked in one turn and was empty. Else it is as it was.
 pub record IsTurnedAway {D : Type 0} (count : ℕ) (old new : Lane D) : Type 0 where
@@ -32,16 +37,13 @@ pub record ChangesLane {D : Type 0} (Change : Lane D → Lane D → Type 0) (k :
   pub set : new ≡ slice_set old k after
   pub change : Change before after
 
--- ---- All lanes in one write
+-- a segment of the logger at this place of the view
+abbrev pub IsOn : (view : List ℕ) → (lane : ℕ) → Part → Type 0
+IsOn view lane (part.Home volume) = ⊥
+IsOn view lane (part.Segment logger index) = slice_get view lane ≡ Some logger
 
--- what a lane answered of its room: where it was asked in vain it was turned away, and else it is as it was
-abbrev pub HasAnswered : {D : Type 0} → (count : ℕ) → Room → (old new : Lane D) → Type 0
-HasAnswered count Unknown old new = new ≡ old
-HasAnswered count Yes old new = ⊥
-HasAnswered count No old new = IsTurnedAway count old new
-
--- each lane by its answer
-abbrev pub HaveAnswered : {D : Type 0} → (count : ℕ) → List Room → (old new : List (Lane D)) → Type 0
-HaveAnswered count [] [] [] = ⊤
-HaveAnswered count (r ∷ rooms) (o ∷ old) (n ∷ new) = HasAnswered count r o n × HaveAnswered count rooms old new
-HaveAnswered count rooms old new = ⊥
+-- what a lane leaves in the history that was offered a write of these blocks
+abbrev pub offered : (next first : ℕ) → List Block → Offered → Operation
+offered next first blocks NoRoom = Kept
+offered next first blocks Written = Wrote (log_write next first blocks ∷ [])
+offered next first blocks (Failed p) = Broke (log_write next first blocks ∷ [])

@@ -1,5 +1,5 @@
 -- What a manager stands for, over the locks that it shares with others.
-use Rattle.std.specs.Prelude.{⊤, ◌≡◌, ◌≢◌, ◌<◌, ◌≤◌, ◌^◌, ◌+◌, ◌-◌, ◌==◌, ℕ, Bool, true, false, List, [], ◌∷◌, ◌++◌, map, filter, length, vec_len, slice_get, slice_index_or, Contains, Option, None, Some, IfSome, IsTrue}
+use Rattle.std.specs.Prelude.{⊤, ◌≡◌, ◌≢◌, ◌<◌, ◌≤◌, ◌^◌, ◌+◌, ◌-◌, ◌==◌, ℕ, Bool, true, false, List, [], ◌∷◌, ◌++◌, map, filter, length, replicate, vec_len, slice_get, slice_index_or, Contains, Option, None, Some, IfSome, IsTrue}
 use Rattle.std.specs.List.{AllByRecursion, count_by, range_with_len}
 use Rattle.std.specs.declared.alloc.Global.{Global}
 use Rattle.std.specs.declared.vec.Vec.{Vec}
@@ -91,8 +91,8 @@ opened {D} id home spindle lanes index next most = record {
   next = next;
   most = most;
   home_up = true;
-  ups = record { items = map (λ (l : Lane D). true) lanes.items };
-  rooms = record { items = map (λ (l : Lane D). Unknown) lanes.items };
+  ups = record { items = replicate (length lanes.items) true };
+  rooms = record { items = replicate (length lanes.items) Unknown };
   down = None;
 }
 

@@ -5,10 +5,12 @@
 mod base;
 mod fetch;
 mod home;
+mod log;
 mod manager;
 mod object;
 mod part;
 mod read;
+mod write;
 
 pub use base::{LaneBase, ManagerBase, Volume};
 pub use manager::{Manager, ManagerParts};

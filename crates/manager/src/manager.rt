@@ -1,5 +1,5 @@
 // The manager of a volume: how it is made and taken apart, what it tells, and which disks it counts as awake.
-ghost use Rattle.std.specs.Prelude.{◌≡◌, ◌<◌, ◌≤◌, [], ℕ, true, length, slice_get, IfSome};
+ghost use Rattle.std.specs.Prelude.{◌≡◌, ◌<◌, ◌≤◌, [], ℕ, true, length, replicate, slice_get, IfSome};
 ghost use Rattle.wol_model.specs.History.{Kept};
 ghost use Rattle.logger.specs.Lanes.{logger_of};
 ghost use Rattle.manager.specs.Accesses.{HasUsedOnce};
@@ -17,7 +17,7 @@ use turn_lock::{Pass, PassOf};
 use wol_disk::Disk;
 
 /// The most loggers of a view.
-pub(crate) const LANES: usize = 16;
+const LANES: usize = 16;
 
 /// The one who reads and writes a volume, over its home and its segments on the logs of other volumes.
 ///
@@ -45,6 +45,16 @@ pub struct ManagerParts<D: Disk> {
     pub lanes: Vec<Lane<D>>,
 }
 
+// The notes of so many loggers' rooms before one is asked.
+pub(crate) fn unasked(lanes: usize) -> ArrayVec<Room, 16>
+    requires { lanes ≤ 16 }
+    ensures { result.items ≡ replicate lanes Room.Unknown }
+{
+    let mut rooms = ArrayVec::from([Room::Unknown; LANES]);
+    rooms.truncate(lanes);
+    rooms
+}
+
 impl<D: Disk> Manager<D> {
     /// The manager of a volume that was opened: its home, its pass of home's spindle, a lane for each logger of its view
     /// in order, the index of the records in the lanes' segments, the next version, and the most blocks of one write.
@@ -64,8 +74,7 @@ impl<D: Disk> Manager<D> {
     {
         let mut ups = ArrayVec::from([true; LANES]);
         ups.truncate(lanes.len());
-        let mut rooms = ArrayVec::from([Room::Unknown; LANES]);
-        rooms.truncate(lanes.len());
+        let rooms = unasked(lanes.len());
         Manager {
             id,
             home,

@@ -108,6 +108,21 @@ module _ {T : Type 0} (blank : ℕ → ℕ → T → Type 0) (p : Pool T) (b : P
   pub held_not_free : (n index : ℕ) → holder (holders_after b es) index ≡ HeldBy n → item_at p index ≡ None
   held_not_free n index held = none_of (item_at p index) (st.free index ∙ ap is_in_pool held)
 
+free_there : (h : Holder) → is_in_pool h ≡ true → h ≡ InPool
+free_there InPool is = refl
+free_there (HeldBy p) is = cc
+free_there Elsewhere is = cc
+
+-- an index that is free no pass holds, and it is one of the pool's
+pub not_held : {T : Type 0} (blank : ℕ → ℕ → T → Type 0) (p : Pool T) (l m : LockId PoolBase) (n k : ℕ) (seen mine : List Entry) (i : ℕ) (x : T) → StandsFor blank p m.base seen → m ≡ l → k ≡ n → own k seen ≡ mine → item_at p i ≡ Some x → holds l.base n mine i ≡ false
+not_held blank p l m n k seen mine i x st lock number entries has =
+    let free = free_there (holder (holders_after m.base seen) i) (sym (st.free i) ∙ ap is_some has) in
+    let not : holds m.base k (own k seen) i ≡ false = sym (holder_own m.base seen k i st.legal) ∙ ap (is_held_by k) free in
+    subst (λ (es : List Entry). holds l.base n es i ≡ false) entries (subst (λ (j : ℕ). holds l.base j (own k seen) i ≡ false) number (subst (λ (y : LockId PoolBase). holds y.base k (own k seen) i ≡ false) lock not))
+
+pub free_within : {T : Type 0} (blank : ℕ → ℕ → T → Type 0) (p : Pool T) (l m : LockId PoolBase) (seen : List Entry) (i : ℕ) → StandsFor blank p m.base seen → l ≡ m → i < room_of p → i < length l.base.holders
+free_within blank p l m seen i st lock lt = let room = st.room in let same : length l.base.holders ≡ length m.base.holders = ap (λ (y : LockId PoolBase). length y.base.holders) lock in omega arith
+
 -- the entries that a pass has seen after its turn
 pub legal_after : (l m : LockId PoolBase) (es fs : List Entry) → m ≡ l → fs ≡ es → ArePoolUses l.base.holders (uses_of es) → ArePoolUses m.base.holders (uses_of fs)
 legal_after l m es fs lock entries legal = subst (λ (xs : List Entry). ArePoolUses m.base.holders (uses_of xs)) (sym entries) (subst (λ (x : LockId PoolBase). ArePoolUses x.base.holders (uses_of es)) (sym lock) legal)

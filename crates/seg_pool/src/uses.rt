@@ -1,5 +1,5 @@
 // Turns of a pool's lock, one use each.
-ghost use Rattle.std.specs.Prelude.{true, ◌≡◌, ◌≢◌, ◌∷◌, [], ◌++◌, ℕ, List, IfSome};
+ghost use Rattle.std.specs.Prelude.{true, false, ◌≡◌, ◌≢◌, ◌<◌, ◌∷◌, [], ◌++◌, ℕ, List, length, IfSome};
 ghost use Rattle.turn_lock.specs.Histories.{Entry, Begins};
 ghost use Rattle.turn_lock.specs.Passes.{pass_lock, pass_number, pass_seen, pass_mine, IsPassOf, IsFree, IsSamePass};
 ghost use Rattle.seg_pool.specs.Holders.{Gave, ArePoolUses};
@@ -30,6 +30,8 @@ pub fn take_item<R: Wait, T: Blank>(
     ensures seen { (before : List Entry) × Begins (pass_seen pass.old) before × (pass_seen pass.new ≡ before ++ (pass_number pass.old, operation_of (taken result)) ∷ []) }
     ensures legal { ArePoolUses (pass_lock pass.new).base.holders (uses_of (pass_seen pass.new)) }
     ensures holds { IfSome result (λ r. holds (pass_lock pass.new).base (pass_number pass.new) (pass_mine pass.new) r.0 ≡ true) }
+    ensures fresh { IfSome result (λ r. holds (pass_lock pass.old).base (pass_number pass.old) (pass_mine pass.old) r.0 ≡ false) }
+    ensures within { IfSome result (λ r. r.0 < length (pass_lock pass.new).base.holders) }
     ensures kept { (index : ℕ) → holds (pass_lock pass.old).base (pass_number pass.old) (pass_mine pass.old) index ≡ true → holds (pass_lock pass.new).base (pass_number pass.new) (pass_mine pass.new) index ≡ true }
     ensures blank { IfSome result (λ r. T.blank (pass_lock pass.new).base.volume (pass_lock pass.new).base.blocks r.1) }
 {

@@ -4,7 +4,7 @@ use Rattle.turn_lock.specs.Passes.{pass_lock, pass_number, pass_seen, pass_mine}
 use Rattle.seg_pool.specs.declared.base.PoolBase.{PoolBase}
 use Rattle.seg_pool.specs.declared.pool.Pool.{Pool}
 use Rattle.seg_pool.specs.Pools.{StandsFor}
-use Rattle.seg_pool.proofs.Holding.{holds_taken, kept_taking, legal_after}
+use Rattle.seg_pool.proofs.Holding.{holds_taken, kept_taking, legal_after, not_held, free_within}
 use Rattle.seg_pool.proofs.uses.take_item.Goals as goal
 
 -- the pool stands for one more entry
@@ -22,6 +22,14 @@ returns-in-Some-clause-legal g c =
 
 pub returns-in-Some-clause-holds : goal.returns-in-Some-clause-holds
 returns-in-Some-clause-holds g c = holds_taken (pass_lock c.leave_as.new.pass).base (pass_mine c.enter-turn.new.pass) (pass_mine c.leave_as.new.pass) (pass_number c.leave_as.new.pass) (pass_number c.enter-turn.new.pass) c.in-Some.index c.from.result c.leave_as.ensures.mine c.from.ensures
+
+pub returns-in-Some-clause-fresh : goal.returns-in-Some-clause-fresh
+returns-in-Some-clause-fresh g c =
+    let e = c.enter-turn.ensures in
+    not_held g.T.Blank.blank c.enter-turn.result.value (pass_lock c.args.pass.now) (pass_lock c.enter-turn.new.pass) (pass_number c.args.pass.now) (pass_number c.enter-turn.new.pass) (pass_seen c.enter-turn.new.pass) (pass_mine c.args.pass.now) c.in-Some.index c.in-Some.item e.value e.same.0 e.same.1 (e.own ∙ e.mine) c.in-Some.ensures.item
+
+pub returns-in-Some-clause-within : goal.returns-in-Some-clause-within
+returns-in-Some-clause-within g c = free_within g.T.Blank.blank c.enter-turn.result.value (pass_lock c.leave_as.new.pass) (pass_lock c.enter-turn.new.pass) (pass_seen c.enter-turn.new.pass) c.in-Some.index c.enter-turn.ensures.value c.leave_as.ensures.same.0 c.in-Some.ensures.within
 
 pub returns-in-Some-clause-kept : goal.returns-in-Some-clause-kept
 returns-in-Some-clause-kept g c i has =

@@ -1,0 +1,6 @@
+pub mod Held
+pub mod Indexes
+pub mod Rooms
+pub mod Uses
+pub mod Places
+pub mod Results

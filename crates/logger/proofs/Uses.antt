@@ -1,0 +1,62 @@
+-- What a lane's passes made in a call, and what its segments are to it then.
+use Rattle.std.proofs.Common.{◌≡◌, ◌≢◌, ◌<◌, ◌≤◌, ℕ, Bool, true, false, List, [], ◌∷◌, ◌++◌, length, vec_len, slice_index_or, Option, Some, None, IfSome, refl, sym, ap, subst, ◌∙◌, arith, append_assoc}
+use Rattle.std.specs.List.{AllByRecursion}
+use Rattle.wol_disk.specs.Disk.{State}
+use Rattle.turn_lock.specs.Histories.{Entry}
+use Rattle.turn_lock.specs.LockIds.{LockId}
+use Rattle.turn_lock.specs.Passes.{lock_id, pass_lock, pass_number, pass_mine, IsSamePass}
+use Rattle.turn_lock.specs.declared.pass.PassOf.{PassOf}
+use Rattle.seg_pool.specs.Operations.{holds}
+use Rattle.seg_pool.specs.declared.base.PoolBase.{PoolBase}
+use Rattle.seg_pool.specs.declared.pool.Pool.{Pool}
+use Rattle.log_segment.specs.Segment.{IsSegment, IsBlank, IsSame, segment_volume, owner_of, blocks_of}
+use Rattle.log_segment.specs.declared.free.FreeSegment.{FreeSegment}
+use Rattle.log_segment.specs.declared.segment.Segment.{Segment}
+use Rattle.logger.specs.Lanes.{IsHeld, IsTaken, IsAt, IsSameLane}
+use Rattle.logger.specs.declared.lane.HeldSegment.{HeldSegment}
+use Rattle.logger.specs.declared.lane.Lane.{Lane}
+use Rattle.logger.specs.declared.shared.Shared.{Shared}
+
+-- two entries, one after the other
+pub two_entries : (old mid new : List Entry) (n m : ℕ) (needed done : List ℕ) → mid ≡ old ++ (n, needed) ∷ [] → m ≡ n → new ≡ mid ++ (m, done) ∷ [] → new ≡ old ++ (n, needed) ∷ (n, done) ∷ []
+two_entries old mid new n m needed done first same second =
+    second ∙ (ap (λ (es : List Entry). es ++ (m, done) ∷ []) first ∙ (append_assoc old ((n, needed) ∷ []) ((m, done) ∷ []) ∙ ap (λ k. old ++ (n, needed) ∷ (k, done) ∷ []) same))
+
+-- a lane whose passes are the same is at the same locks
+pub at_same : {D : Type 0} (shared : Shared D) (old new : Lane D) → IsSameLane old new → IsAt shared old → IsAt shared new
+at_same shared old new same at = record {
+  pool_in = subst (λ n. n < vec_len shared.pools) (sym same.logger) at.pool_in;
+  spindle_in = subst (λ n. n < vec_len shared.spindles) (sym same.logger) at.spindle_in;
+  pool = λ d. same.pool.0 ∙ (at.pool d ∙ ap (λ n. lock_id (slice_index_or shared.pools.items n d)) (sym same.logger));
+  spindle = λ d. same.spindle.0 ∙ (at.spindle d ∙ ap (λ n. lock_id (slice_index_or shared.spindles.items n d)) (sym same.logger));
+}
+
+module _ {D : Type 0} (state : D → State) (logger owner segments : ℕ) where
+  -- a held segment that is the same in all that no call changes
+  pub held_same : (p : PassOf (Pool (FreeSegment D)) PoolBase) (o n : HeldSegment D) → IsHeld state logger owner segments p o → n.index ≡ o.index → IsSegment state n.segment → IsSame o.segment n.segment → IsHeld state logger owner segments p n
+  held_same p o n h index shape same = record {
+    shape = shape;
+    volume = same.volume ∙ h.volume;
+    owned = same.owner ∙ h.owned;
+    blocks = same.blocks ∙ h.blocks;
+    below = subst (λ i. i < segments) (sym index) h.below;
+    holding = subst (λ i. holds (pass_lock p).base (pass_number p) (pass_mine p) i ≡ true) (sym index) h.holding;
+  }
+
+  -- after a turn of the pool's lock in which the pass went on holding it
+  pub held_on : (p q : PassOf (Pool (FreeSegment D)) PoolBase) (h : HeldSegment D) → IsSamePass p q → holds (pass_lock q).base (pass_number q) (pass_mine q) h.index ≡ true → IsHeld state logger owner segments p h → IsHeld state logger owner segments q h
+  held_on p q h same has is = record {
+    shape = is.shape;
+    volume = is.volume;
+    owned = is.owned;
+    blocks = is.blocks ∙ sym (ap (λ (l : LockId PoolBase). l.base.blocks) same.0);
+    below = is.below;
+    holding = has;
+  }
+
+  pub taken_on : (p q : PassOf (Pool (FreeSegment D)) PoolBase) (t : ℕ × FreeSegment D) → IsSamePass p q → holds (pass_lock q).base (pass_number q) (pass_mine q) t.0 ≡ true → IsTaken state logger segments p t → IsTaken state logger segments q t
+  taken_on p q t same has is = record {
+    blank = subst (λ n. IsBlank state logger n t.1) (sym (ap (λ (l : LockId PoolBase). l.base.blocks) same.0)) is.blank;
+    below = is.below;
+    holding = has;
+  }

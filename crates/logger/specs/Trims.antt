@@ -1,0 +1,60 @@
+-- The steps of giving up blocks of a held segment, whose lane is in the midst of a call.
+use Rattle.std.specs.Prelude.{◌≡◌, ◌<◌, ℕ, List, slice_get, slice_set, remove, Option, None, Some, Result, Ok, IfOk, IsErr}
+use Rattle.wol_disk.specs.Disk.{State, LeavesOnly, Rose}
+use Rattle.wol_disk.specs.declared.disk.Failed.{Failed}
+use Rattle.wol_model.specs.Heads.{RecordHead}
+use Rattle.wol_model.specs.Log.{Record}
+use Rattle.log_segment.specs.Kept.{IsKeptOrIdle}
+use Rattle.log_segment.specs.Segment.{IsSegment, IsWhole, IsBroken, IsBlank, IsSame, Holds, disk_of, free_disk, segment_volume, owner_of, blocks_of, place_of, valid_of}
+use Rattle.log_segment.specs.declared.free.FreeSegment.{FreeSegment}
+use Rattle.logger.specs.Lanes.{CutDown, GaveUp, Stayed}
+use Rattle.logger.specs.declared.lane.HeldSegment.{HeldSegment}
+
+module _ {D : Type 0} (state : D → State) where
+  -- the segment at this place is of this volume, whole, and no record of it keeps a block
+  pub record IsBareAt (on : ℕ) (hs : List (HeldSegment D)) (place : ℕ) : Type 0 where
+    pub segment : HeldSegment D
+    pub there : slice_get hs place ≡ Some segment
+    pub shape : IsSegment state segment.segment
+    pub whole : IsWhole segment.segment
+    pub volume : segment_volume segment.segment ≡ on
+    pub bare : valid_of segment.segment ≡ 0
+
+  -- it was taken out and freed
+  pub record FreedAt (hs hs' : List (HeldSegment D)) (place : ℕ) (free : FreeSegment D) : Type 0 where
+    pub segment : HeldSegment D
+    pub there : slice_get hs place ≡ Some segment
+    pub gone : hs' ≡ remove hs place
+    pub blank : IsBlank state (segment_volume segment.segment) (blocks_of segment.segment) free
+    pub any_moment : (rs : List Record) → Holds state segment.segment rs → LeavesOnly (disk_of state segment.segment) (free_disk state free) (IsKeptOrIdle (owner_of segment.segment) rs)
+    pub calm : (free_disk state free).faults ≡ (disk_of state segment.segment).faults
+
+  -- it could not be freed, and is broken
+  pub record StaysAt (hs hs' : List (HeldSegment D)) (place : ℕ) : Type 0 where
+    pub segment : HeldSegment D
+    pub there : slice_get hs place ≡ Some segment
+    pub after : HeldSegment D
+    pub held : hs' ≡ slice_set hs place after
+    pub index : after.index ≡ segment.index
+    pub shape : IsSegment state after.segment
+    pub same : IsSame segment.segment after.segment
+    pub end : place_of after.segment ≡ place_of segment.segment
+    pub broken : IsBroken after.segment
+    pub any_moment : (rs : List Record) → Holds state segment.segment rs → LeavesOnly (disk_of state segment.segment) (disk_of state after.segment) (IsKeptOrIdle (owner_of segment.segment) rs)
+    pub cause : Rose (disk_of state segment.segment).faults (disk_of state after.segment).faults
+
+  -- the segment at this place is of this volume and owner, whole, and has this position
+  pub record IsCuttable (on : ℕ) (hs : List (HeldSegment D)) (place pos owner : ℕ) : Type 0 where
+    pub segment : HeldSegment D
+    pub there : slice_get hs place ≡ Some segment
+    pub shape : IsSegment state segment.segment
+    pub whole : IsWhole segment.segment
+    pub volume : segment_volume segment.segment ≡ on
+    pub owned : owner_of segment.segment ≡ owner
+    pub fits : pos < blocks_of segment.segment
+
+  -- a record of it was trimmed: it stays, or it was freed, or it could not be
+  pub data Cut (hs hs' : List (HeldSegment D)) (place pos : ℕ) (head : RecordHead) (keep : ℕ) (res : Result (Option (FreeSegment D)) Failed) : Type 0 where
+    stays : (o n : HeldSegment D) → slice_get hs place ≡ Some o → hs' ≡ slice_set hs place n → IsSegment state n.segment → IfOk res (λ freed. freed ≡ None) → CutDown state o n pos head keep res → Cut hs hs' place pos head keep res
+    freed : (o : HeldSegment D) (free : FreeSegment D) → slice_get hs place ≡ Some o → hs' ≡ remove hs place → res ≡ Ok (Some free) → GaveUp state o (blocks_of o.segment) free pos head keep → Cut hs hs' place pos head keep res
+    could_not : (o n : HeldSegment D) → slice_get hs place ≡ Some o → hs' ≡ slice_set hs place n → IsSegment state n.segment → IsErr res → Stayed state o n pos head keep → Cut hs hs' place pos head keep res
