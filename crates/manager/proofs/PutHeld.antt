@@ -60,7 +60,7 @@ made_up_ends (suc (suc n)) le = let l : length (flat_map written (made_up (suc (
 module _ {D : Type 0} (tells : Bool) (state : D → State) (m : Manager D) (b : ManagerBase) (notes : List Noted) (kp : Keeps tells state m b notes) (up : m.down ≡ None)
     (k : ℕ) (old new : Lane D) (lane : slice_get m.lanes.items k ≡ Some old) (is_lane : IsLane state new) (same : IsSameLane old new)
     (i : ℕ) (o n : HeldSegment D) (at : slice_get (held_in old) i ≡ Some o) (held : held_in new ≡ slice_set (held_in old) i n) (index : n.index ≡ o.index) where
-  abbrev R : HeldSegment D → List Record → Type 0
+  abbrev pub R : HeldSegment D → List Record → Type 0
   R h rs = IsTrue tells → m.down ≡ None → Holds state h.segment rs
 
   pub split : InLanes R k 0 m.lanes.items kp.logs k i old o

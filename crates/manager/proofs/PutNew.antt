@@ -48,7 +48,7 @@ use Rattle.manager.proofs.Putting.{is_up, none, upheld, old_lane, owner, logger,
 
 -- ---- A new index is apart from all others of its lane, and no other lane has its place
 
-apart_last : {D : Type 0} (hs : List (HeldSegment D)) (n : HeldSegment D) (rest : List ℕ) → AreApart (map (λ (h : HeldSegment D). h.index) (hs ++ n ∷ []) ++ rest) → AllByRecursion (λ (h : HeldSegment D). h.index ≢ n.index) hs
+pub apart_last : {D : Type 0} (hs : List (HeldSegment D)) (n : HeldSegment D) (rest : List ℕ) → AreApart (map (λ (h : HeldSegment D). h.index) (hs ++ n ∷ []) ++ rest) → AllByRecursion (λ (h : HeldSegment D). h.index ≢ n.index) hs
 apart_last [] n rest apart = tt
 apart_last {D} (h ∷ hs) n rest apart = (from hs apart.0, apart_last hs n rest apart.1)
   where
@@ -89,7 +89,7 @@ says_free id (b ∷ bs) idle = inr idle
 module _ {D : Type 0} (tells : Bool) (state : D → State) (m : Manager D) (b : ManagerBase) (notes : List Noted) (kp : Keeps tells state m b notes) (up : m.down ≡ None)
     (k : ℕ) (old new : Lane D) (lane : slice_get m.lanes.items k ≡ Some old) (is_lane : IsLane state new) (same : IsSameLane old new) (untaken_now : taken_in new ≡ None)
     (n : HeldSegment D) (held : held_in new ≡ held_in old ++ n ∷ []) where
-  abbrev R : HeldSegment D → List Record → Type 0
+  abbrev pub R : HeldSegment D → List Record → Type 0
   R h rs = IsTrue tells → m.down ≡ None → Holds state h.segment rs
 
   pub ends : AtEnd R k 0 m.lanes.items kp.logs k old
@@ -111,7 +111,7 @@ module _ {D : Type 0} (tells : Bool) (state : D → State) (m : Manager D) (b : 
   fresh : AllByRecursion (λ (h : HeldSegment D). h.index ≢ n.index) (held_in old)
   fresh = apart_last (held_in old) n (map (λ (t : ℕ × FreeSegment D). t.0) (option_to_list (taken_in new))) (subst (λ (hs : List (HeldSegment D)). AreApart (map (λ (h : HeldSegment D). h.index) hs ++ map (λ (t : ℕ × FreeSegment D). t.0) (option_to_list (taken_in new)))) held is_lane.apart)
 
-  new_one : AllByRecursion (λ (v : Held (Spun D)). place_in v ≢ (k, n.index)) (ends.front ++ ends.back)
+  pub new_one : AllByRecursion (λ (v : Held (Spun D)). place_in v ≢ (k, n.index)) (ends.front ++ ends.back)
   new_one = subst (AllByRecursion (λ (v : Held (Spun D)). place_in v ≢ (k, n.index))) ends.is (new_place k n.index 0 m.lanes.items kp.logs k old (omega arith) lane fresh)
 
   by : (broken : Bool) (p : Spun D) → (state_of state p).size ≡ (disk_of state n.segment).size → volume_of p ≡ segment_volume n.segment → ((bs : List Block) → IsTrue tells × may_be state p bs → SaysOwnerOrFree b.volume.began.owner bs)
