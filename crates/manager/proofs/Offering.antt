@@ -196,3 +196,96 @@ module _ {D : Type 0} (state : D → State) (m : Manager D) (k : ℕ) (old new :
       below = subst (AllByRecursion (λ (e : Indexed). e.listed.version < m.next + 1)) (sym entries) below_then;
       up = λ is. subst (λ (l : List (Lane D)). IsUp l index.entries) (sym lanes) (subst (IsUp (slice_set m.lanes.items k new)) (sym entries) up_then);
     }
+
+  -- ---- What it stands for
+
+  -- with these pieces the manager stands for the entries, where the last one left its look
+  stands_so : (tells : Bool) (b : ManagerBase) (notes : List Noted) (nt : Noted) (kp : Keeps tells state m b notes) (v : Vec (Lane D) Global) (index : Contents) (next : ℕ) (ups : List Bool) (down : Option Part) → v.items ≡ slice_set m.lanes.items k new
+      → nones_in (pass_mine (pool_of old)) ≤ nones_in (pass_mine (pool_of new)) → Pieces tells state m b (notes ++ nt ∷ []) (slice_set m.lanes.items k new) index.entries next ups down
+      → IsReady state (record m { lanes = v; index = index; next = next; ups = record { items = ups }; down = down }) → HasPassed (nones_at v.items b.lanes) (notes ++ nt ∷ [])
+      → nt.look ≡ look_of_manager (record m { lanes = v; index = index; next = next; ups = record { items = ups }; down = down })
+      → Stands tells state (record m { lanes = v; index = index; next = next; ups = record { items = ups }; down = down }) b (notes ++ nt ∷ [])
+  stands_so tells b notes nt kp v index next ups down lanes more pieces is_ready passed look = record {
+    keeps = record {
+      logs = pieces.logs;
+      held = subst (λ (l : List (Lane D)). AllLanesHold (λ h rs. IsTrue tells → down ≡ None → Holds state h.segment rs) l pieces.logs) (sym lanes) pieces.held;
+      upholds = subst (λ (l : List (Lane D)). Upholds (parts_of tells state) b.volume.began (record { home = m.home; held = all_held 0 l pieces.logs; taken = all_taken 0 l; indexed = index.entries; next = next; home_up = m.home_up; ups = ups; down = down_of down }) (notes ++ nt ∷ []) (writes (entries_of (notes ++ nt ∷ []))) (flight_of (entries_of (notes ++ nt ∷ []))))
+          (sym lanes) pieces.upholds;
+      in_use = λ told is. subst (λ (l : List (Lane D)). AreInUse (all_held 0 l pieces.logs)) (sym lanes) (pieces.in_use told is);
+      passed = passed;
+      ready = is_ready;
+      locks = subst (λ (l : List (Lane D)). Locks m.id m.most m.spindle l b) (sym lanes) (locks_set state m.id m.most m.lanes.items k old new lane same kp.locks more);
+    };
+    look = last_more b.volume.began.look notes nt ∙ look;
+  }
+
+  module _ (tells : Bool) (told : IsTrue tells → (d : D) → TellsContent (state d)) (sound : (d : D) → IsDisk (state d)) (fits : lbn + length from ≤ (state_of state m.home).size) (room : m.next < 2 ^ 63) (took : HasTakenWrite old new)
+      (b : ManagerBase) (notes : List Noted) (nt : Noted) (client : nt.entry.pass ≡ worker) (kp : Keeps tells state m b notes) where
+    -- answered
+    module _ (spot : Spot) (rec : Rec) (rec_is : rec ≡ rec_at m.next lbn from k spot.segment spot.pos) (wrote : nt.entry.operation ≡ Wrote (log_write m.next lbn from ∷ [])) (step : IsTrue nt.ruled → IsStep nt nt.entry.pass nt.entry.operation (last_look b.volume.began.look notes) nt.look)
+        (look : nt.look ≡ (let l : Look = record { home_up = m.home_up; ups = slice_set m.ups.items k true; next = m.next + 1; listed = listed_in (entered m.index.entries rec) } in l)) where
+      written_pieces : PutIn state old new (length from) (r ∷ []) (Ok spot) → Pieces tells state m b (notes ++ nt ∷ []) (slice_set m.lanes.items k new) (entered m.index.entries rec) (m.next + 1) (slice_set m.ups.items k true) m.down
+      written_pieces (to_held i o n at space held grown is) = put_written tells state m b notes kp up k old new lane is_lane same i o n at held grown.index lbn from count.0 fits nt client untaken space room grown.ok grown.whole
+          (all_at (λ (h : HeldSegment D). IsWhole h.segment) (held_in old) i o at was_whole) rec (rec_is ∙ (λ j. rec_at m.next lbn from k (is.0 j) (is.1 j))) wrote step look
+      written_pieces (to_new f n blank held claimed is) = claim_written tells state m b notes kp up k old new lane is_lane same untaken n held lbn from count.0 count.1 fits nt client room
+          (λ t. let c = claimed.claimed (told t f.part.inner).0 (told t f.part.inner).1 in (c.0, c.1, c.2, c.4)) (λ t. claimed.ok (told t f.part.inner).0 (told t f.part.inner).1) claimed.whole
+          rec (rec_is ∙ (λ j. rec_at m.next lbn from k (is.0 j) (is.1 j))) wrote step look
+
+      pub stands_written : PutIn state old new (length from) (r ∷ []) (Ok spot) → (v : Vec (Lane D) Global) (index : Contents) (ups : List Bool) → v.items ≡ slice_set m.lanes.items k new → index.entries ≡ entered m.index.entries rec → ups ≡ slice_set m.ups.items k true
+          → IsReady state (record m { lanes = v; index = index; next = m.next + 1; ups = record { items = ups } }) → HasPassed (nones_at v.items b.lanes) (notes ++ nt ∷ [])
+          → Stands tells state (record m { lanes = v; index = index; next = m.next + 1; ups = record { items = ups } }) b (notes ++ nt ∷ [])
+      stands_written put v index ups lanes entries flags is_ready passed = stands_so tells b notes nt kp v index (m.next + 1) ups m.down lanes (taken_same old new took)
+          (subst (λ (u : List Bool). Pieces tells state m b (notes ++ nt ∷ []) (slice_set m.lanes.items k new) index.entries (m.next + 1) u m.down) (sym flags)
+          (subst (λ (es : List Indexed). Pieces tells state m b (notes ++ nt ∷ []) (slice_set m.lanes.items k new) es (m.next + 1) (slice_set m.ups.items k true) m.down) (sym entries) (written_pieces put)))
+          is_ready passed (look ∙ (λ j. record { home_up = m.home_up; ups = sym flags j; next = m.next + 1; listed = listed_in (sym entries j) }))
+
+    -- a call failed
+    module _ (refusal : ℕ × Failed) (broke : nt.entry.operation ≡ Broke (log_write m.next lbn from ∷ [])) (unruled : nt.after_drain ≡ false) where
+      failed_pieces : PutIn state old new (length from) (r ∷ []) (Err refusal) → Pieces tells state m b (notes ++ nt ∷ []) (slice_set m.lanes.items k new) m.index.entries m.next m.ups.items (Some (part.Segment (logger_of old) refusal.0))
+      failed_pieces (to_held i o n at space held grown is) = subst (λ (x : ℕ). Pieces tells state m b (notes ++ nt ∷ []) (slice_set m.lanes.items k new) m.index.entries m.next m.ups.items (Some (part.Segment (logger_of old) x))) (sym is)
+          (put_failed tells state m b notes kp up k old new lane is_lane same i o n at held grown.index lbn from count.0 fits nt client untaken sound grown.any_moment grown.broken grown.cause broke unruled)
+      failed_pieces (to_new f n blank held claimed is) = subst (λ (x : ℕ). Pieces tells state m b (notes ++ nt ∷ []) (slice_set m.lanes.items k new) m.index.entries m.next m.ups.items (Some (part.Segment (logger_of old) x))) (sym is)
+          (claim_failed tells state m b notes kp up k old new lane is_lane same untaken n held lbn from count.0 count.1 fits nt client sound f (λ t. claimed.any_moment (told t f.part.inner).0 (told t f.part.inner).1) claimed.broken claimed.cause broke unruled)
+
+      pub stands_failed : PutIn state old new (length from) (r ∷ []) (Err refusal) → (v : Vec (Lane D) Global) → v.items ≡ slice_set m.lanes.items k new
+          → IsReady state (record m { lanes = v; down = Some (part.Segment (logger_of old) refusal.0) }) → HasPassed (nones_at v.items b.lanes) (notes ++ nt ∷ []) → nt.look ≡ look_of_manager m
+          → Stands tells state (record m { lanes = v; down = Some (part.Segment (logger_of old) refusal.0) }) b (notes ++ nt ∷ [])
+      stands_failed put v lanes is_ready passed look = stands_so tells b notes nt kp v m.index m.next m.ups.items (Some (part.Segment (logger_of old) refusal.0)) lanes (taken_same old new took) (failed_pieces put) is_ready passed look
+
+  -- ---- Stopped at any moment, and why it failed
+
+  pub stops_put : {res : Result Spot (ℕ × Failed)} (tells : Bool) (told : IsTrue tells → (d : D) → TellsContent (state d)) (sound : (d : D) → IsDisk (state d)) → PutIn state old new (length from) (r ∷ []) res → (m' : Manager D) → m'.lanes.items ≡ slice_set m.lanes.items k new → m'.home ≡ m.home
+      → IsTrue tells → (claimed : Option (Spun D)) × ((b : ManagerBase) (notes : List Noted) → Keeps tells state m b notes → Stops state m m' claimed b notes (log_write m.next lbn from ∷ []))
+  stops_put tells told sound (to_held i o n at space held grown is) m' lanes home t = (None, λ b notes kp. held_stops tells state sound t m b notes kp up k old new lane m' lanes home is_lane same lbn from i o n at held grown.index grown.any_moment)
+  stops_put tells told sound (to_new f n blank held claimed is) m' lanes home t = (Some (free_part f), λ b notes kp. claim_stops tells state sound t m b notes kp up k old new lane m' lanes home is_lane same lbn from untaken f n held (claimed.any_moment (told t f.part.inner).0 (told t f.part.inner).1))
+
+  pub cause_put : (refusal : ℕ × Failed) → PutIn state old new (length from) (r ∷ []) (Err refusal) → (m' : Manager D) → m'.lanes.items ≡ slice_set m.lanes.items k new → PartRoseOrClaimed state m m' (part.Segment (logger_of old) refusal.0)
+  cause_put refusal (to_held i o n at space held grown is) m' lanes = inl (record {
+    lane = k;
+    place = i;
+    old_lane = old;
+    new_lane = new;
+    old_segment = o;
+    new_segment = n;
+    was_lane = lane;
+    is_lane = ap (λ (l : List (Lane D)). slice_get l k) lanes ∙ get_set m.lanes.items k old new lane;
+    was_there = at;
+    is_there = ap (λ (hs : List (HeldSegment D)). slice_get hs i) held ∙ get_set (held_in old) i o n at;
+    named = (refl, is);
+    rose = grown.cause;
+  })
+  cause_put refusal (to_new f n blank held claimed is) m' lanes = inr (record {
+    lane = k;
+    old_lane = old;
+    new_lane = new;
+    free = f;
+    segment = n;
+    was_lane = lane;
+    is_lane = ap (λ (l : List (Lane D)). slice_get l k) lanes ∙ get_set m.lanes.items k old new lane;
+    was_apart = subst (λ (x : ℕ). AllByRecursion (λ (h : HeldSegment D). h.index ≢ x) (held_in old)) (sym is)
+        (apart_last (held_in old) n (map (λ (t : ℕ × FreeSegment D). t.0) (option_to_list (taken_in new))) (subst (λ (hs : List (HeldSegment D)). AreApart (map (λ (h : HeldSegment D). h.index) hs ++ map (λ (t : ℕ × FreeSegment D). t.0) (option_to_list (taken_in new)))) held is_lane.apart));
+    is_there = subst (λ (hs : List (HeldSegment D)). Contains hs n) (sym held) (Contains-push (held_in old) n);
+    named = (refl, is);
+    volume = sym claimed.volume;
+    rose = claimed.cause;
+  })
