@@ -197,6 +197,14 @@ module _ {D : Type 0} (state : D → State) (m : Manager D) (k : ℕ) (old new :
       up = λ is. subst (λ (l : List (Lane D)). IsUp l index.entries) (sym lanes) (subst (IsUp (slice_set m.lanes.items k new)) (sym entries) up_then);
     }
 
+  pub ready_failed : (v : Vec (Lane D) Global) → v.items ≡ slice_set m.lanes.items k new → (p : Part) → IsReady state (record m { lanes = v; down = Some p })
+  ready_failed v lanes p = record {
+    ready = subst (λ (l : List (Lane D)). Ready state m.id m.most m.home m.spindle l m.ups.items m.rooms.items) (sym lanes) (ready_set state m.id m.most m.lanes.items k old new lane same ready.ready is_lane untaken refl);
+    next = ready.next;
+    below = ready.below;
+    up = λ is. absurd (let no : Some p ≡ None = is in cc);
+  }
+
   -- ---- What it stands for
 
   -- with these pieces the manager stands for the entries, where the last one left its look
