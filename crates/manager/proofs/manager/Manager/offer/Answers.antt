@@ -55,9 +55,11 @@ returns-in-None-clause-keeps g c _ b notes kp =
 
 pub returns-in-None-clause-any_moment : goal.returns-in-None-clause-any_moment
 returns-in-None-clause-any_moment g c told =
-    let m = c.args.self.now in let e = c.in-None.ensures in let t = e.turn in let old = c.index_mut-reached.result.now in
-    (None, λ b notes kp. quiet_stops g.D.Disk.tells g.D.Disk.state g.met.D.Disk.sound told m b notes kp c.requires.up c.args.lane old c.put.new.lane
-    (slice_get_read m.lanes.items (length m.lanes.items) c.args.lane old refl c.requires.lane c.index_mut-reached.ensures.value) (record m { lanes = with_item m.lanes c.args.lane c.put.new.lane }) refl refl _ t.held)
+    let m = c.args.self.now in let e = c.in-None.ensures in let t = e.turn in let old = c.index_mut-reached.result.now in (
+      None,
+      λ b notes kp. quiet_stops g.D.Disk.tells g.D.Disk.state g.met.D.Disk.sound told m b notes kp c.requires.up c.args.lane old c.put.new.lane
+          (slice_get_read m.lanes.items (length m.lanes.items) c.args.lane old refl c.requires.lane c.index_mut-reached.ensures.value) (record m { lanes = with_item m.lanes c.args.lane c.put.new.lane }) refl refl _ t.held,
+    )
 
 pub returns-in-Some-Ok-clause-ready : goal.returns-in-Some-Ok-clause-ready
 returns-in-Some-Ok-clause-ready g c =
@@ -109,7 +111,7 @@ returns-in-Some-Err-clause-stands g c _ b notes passed n client note has kp =
     let m = c.args.self.now in let e = c.in-Some-Err.ensures in let old = c.index_mut-reached.result.now in let new = c.put.new.lane in let index = c.in-Some-Err.index in let v = with_item m.lanes c.args.lane new in
     let lane : slice_get m.lanes.items c.args.lane ≡ Some old = slice_get_read m.lanes.items (length m.lanes.items) c.args.lane old refl c.requires.lane c.index_mut-reached.ensures.value in
     let put : PutIn g.D.Disk.state old new (length c.args.from.now) (new_record (lane_owner old) m.next c.args.lbn c.args.from.now ∷ []) (Err (index, c.in-Some-Err.field-0-0-1)) =
-        subst (λ (q : Result Spot (ℕ × Failed)). PutIn g.D.Disk.state old new (length c.args.from.now) (new_record (lane_owner old) m.next c.args.lbn c.args.from.now ∷ []) q) c.in-Some-Err.field-0-is e.put in
+    subst (λ (q : Result Spot (ℕ × Failed)). PutIn g.D.Disk.state old new (length c.args.from.now) (new_record (lane_owner old) m.next c.args.lbn c.args.from.now ∷ []) q) c.in-Some-Err.field-0-is e.put in
     subst (λ (x : ℕ). Stands g.D.Disk.tells g.D.Disk.state (record m { lanes = v; down = Some (part.Segment x index) }) b (notes ++ n ∷ [])) (sym c.logger-logger.ensures)
     (stands_failed g.D.Disk.state m c.args.lane old new lane e.lane e.turn.same e.none c.args.lbn c.args.from.now c.requires.count c.requires.ready c.requires.up
     g.D.Disk.tells g.met.D.Disk.told g.met.D.Disk.sound c.requires.fits c.requires.next e.turn b notes n client kp (index, c.in-Some-Err.field-0-0-1) note.operation_is note.drain put v refl
@@ -128,7 +130,7 @@ returns-in-Some-Err-clause-cause g c p is =
     let m' = record m { lanes = v; down = Some (part.Segment c.logger-logger.result index) } in
     let lane : slice_get m.lanes.items c.args.lane ≡ Some old = slice_get_read m.lanes.items (length m.lanes.items) c.args.lane old refl c.requires.lane c.index_mut-reached.ensures.value in
     let put : PutIn g.D.Disk.state old new (length c.args.from.now) (new_record (lane_owner old) m.next c.args.lbn c.args.from.now ∷ []) (Err (index, c.in-Some-Err.field-0-0-1)) =
-        subst (λ (q : Result Spot (ℕ × Failed)). PutIn g.D.Disk.state old new (length c.args.from.now) (new_record (lane_owner old) m.next c.args.lbn c.args.from.now ∷ []) q) c.in-Some-Err.field-0-is e.put in
+    subst (λ (q : Result Spot (ℕ × Failed)). PutIn g.D.Disk.state old new (length c.args.from.now) (new_record (lane_owner old) m.next c.args.lbn c.args.from.now ∷ []) q) c.in-Some-Err.field-0-is e.put in
     let part_is : part.Segment (logger_of old) index ≡ p = ap (λ (x : ℕ). part.Segment x index) (sym c.logger-logger.ensures) ∙ cc in
     subst (PartRoseOrClaimed g.D.Disk.state m m') part_is
     (cause_put g.D.Disk.state m c.args.lane old new lane e.lane e.turn.same e.none c.args.lbn c.args.from.now c.requires.count c.requires.ready c.requires.up (index, c.in-Some-Err.field-0-0-1) put m' refl)
