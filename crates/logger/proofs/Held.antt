@@ -1,8 +1,7 @@
 -- Lists of held segments, one of which changes, goes or comes, and their indexes.
-use Rattle.std.proofs.Common.{◌≡◌, ◌≢◌, ◌⊎◌, inl, inr, ⊎_elim, ◌<◌, ◌≤◌, ◌+◌, ℕ, zero, suc, Bool, true, false, List, [], ◌∷◌, ◌++◌, map, length, get_or, set, take, drop, insert, remove, slice_get, Some, refl, sym, ap, subst, ◌∙◌, arith}
+use Rattle.std.proofs.Common.{◌≡◌, ◌<◌, ℕ, zero, suc, List, [], ◌∷◌, ◌++◌, map, length, get_or, set, insert, remove, slice_get, Some, refl, sym, ap, subst, ◌∙◌, arith}
 use Rattle.std.specs.List.{AllByRecursion}
 use Rattle.std.proofs.lemmas.Option.{none-some, same_Some}
-use Rattle.wol_model.specs.Blocks.{AreApart}
 
 module _ {X : Type 0} where
   pub all_get : (P : X → Type 0) (xs : List X) (k : ℕ) (x : X) → AllByRecursion P xs → slice_get xs k ≡ Some x → P x
@@ -58,3 +57,22 @@ module _ {X : Type 0} where
   pub length-map : {Y : Type 0} (f : X → Y) (xs : List X) → length (map f xs) ≡ length xs
   length-map f [] = refl
   length-map f (y ∷ ys) = ap suc (length-map f ys)
+
+  pub get-set : (xs : List X) (k : ℕ) (x y : X) → slice_get xs k ≡ Some x → slice_get (set xs k y) k ≡ Some y
+  get-set [] k x y is = absurd (none-some x is)
+  get-set (z ∷ zs) zero x y is = refl
+  get-set (z ∷ zs) (suc k) x y is = get-set zs k x y is
+
+  pub remove-set : (xs : List X) (k : ℕ) (y : X) → remove (set xs k y) k ≡ remove xs k
+  remove-set [] k y = refl
+  remove-set (z ∷ zs) zero y = refl
+  remove-set (z ∷ zs) (suc k) y = λ i. z ∷ remove-set zs k y i
+
+  pub set-set : (xs : List X) (k : ℕ) (x y : X) → set (set xs k x) k y ≡ set xs k y
+  set-set [] k x y = refl
+  set-set (z ∷ zs) zero x y = refl
+  set-set (z ∷ zs) (suc k) x y = λ i. z ∷ set-set zs k x y i
+
+  pub all_both : (P Q : X → Type 0) (xs : List X) → AllByRecursion P xs → AllByRecursion Q xs → AllByRecursion (λ x. P x × Q x) xs
+  all_both P Q [] ps qs = tt
+  all_both P Q (x ∷ xs) ps qs = ((ps.0, qs.0), all_both P Q xs ps.1 qs.1)

@@ -1,10 +1,10 @@
 -- Indexes of segments: no two are the same, so there are no more of them than the bound below which they lie.
-use Rattle.std.proofs.Common.{◌≡◌, ◌≢◌, ◌⊎◌, inl, inr, ⊎_elim, ◌<◌, ◌≤◌, ◌+◌, ℕ, zero, suc, Bool, true, false, eqb, List, [], ◌∷◌, ◌++◌, map, length, take, drop, remove, slice_get, Some, refl, sym, ap, subst, ◌∙◌, arith}
+use Rattle.std.proofs.Common.{◌≡◌, ◌≢◌, ⊎_elim, ◌<◌, ◌≤◌, ℕ, zero, suc, List, [], ◌∷◌, ◌++◌, map, length, remove, slice_get, Some, refl, sym, ap, subst, ◌∙◌, arith}
 use Rattle.std.specs.List.{AllByRecursion}
 use Rattle.std.proofs.lemmas.Bool.Decides.{eqb_tells}
 use Rattle.std.proofs.lemmas.Option.{none-some, same_Some}
 use Rattle.wol_model.specs.Blocks.{AreApart}
-use Rattle.logger.proofs.Held.{all_push, all_map}
+use Rattle.logger.proofs.Held.{all_push}
 
 -- none of them is v
 abbrev Lacks : (v : ℕ) → List ℕ → Type 0

@@ -4,3 +4,4 @@ pub mod Rooms
 pub mod Uses
 pub mod Places
 pub mod Results
+pub mod Trimming

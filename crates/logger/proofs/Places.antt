@@ -1,10 +1,9 @@
 -- The place of a segment by its index, and what a lane's room is worth.
-use Rattle.std.proofs.Common.{◌≡◌, ◌≢◌, ◌⊎◌, ◌<◌, ◌≤◌, ◌+◌, ℕ, zero, suc, Bool, true, false, List, [], ◌∷◌, ◌++◌, map, length, get_or, slice_get, vec_len, vec_capacity, Option, Some, None, IfSome, option_to_list, refl, sym, ap, subst, ◌∙◌, arith, length-append, append-nil}
+use Rattle.std.proofs.Common.{◌≡◌, ◌≢◌, ◌<◌, ◌≤◌, ℕ, true, false, List, [], ◌∷◌, ◌++◌, map, length, get_or, slice_get, vec_len, vec_capacity, Option, Some, None, IfSome, option_to_list, sym, ap, subst, ◌∙◌, arith, length-append, append-nil}
 use Rattle.std.specs.List.{AllByRecursion}
 use Rattle.std.proofs.lemmas.Option.{same_Some}
 use Rattle.wol_disk.specs.Disk.{State}
 use Rattle.wol_model.specs.Blocks.{AreApart}
-use Rattle.turn_lock.specs.LockIds.{LockId}
 use Rattle.turn_lock.specs.Passes.{pass_lock, pass_number, pass_mine}
 use Rattle.turn_lock.specs.declared.pass.PassOf.{PassOf}
 use Rattle.seg_pool.specs.Operations.{holds}
@@ -15,7 +14,7 @@ use Rattle.log_segment.specs.declared.free.FreeSegment.{FreeSegment}
 use Rattle.logger.specs.Lanes.{IsLane, IsHeld, IsTaken, HasIndex, indexes_in}
 use Rattle.logger.specs.declared.lane.HeldSegment.{HeldSegment}
 use Rattle.logger.specs.declared.lane.Lane.{Lane}
-use Rattle.logger.proofs.Held.{there_get, within, all_map, length-map, map-push}
+use Rattle.logger.proofs.Held.{there_get, within, length-map, map-push}
 use Rattle.logger.proofs.Indexes.{few, same_place, apart_push}
 
 pub if_some : {T : Type 0} (P : T → Type 0) (o : Option T) (x : T) → IfSome o P → o ≡ Some x → P x
@@ -39,6 +38,12 @@ module _ {D : Type 0} where
   found hs items place index o are at is =
       let there : slice_get items place ≡ Some at.segment = subst (λ (xs : List (HeldSegment D)). slice_get xs place ≡ Some at.segment) are at.there in
       let here = there_get items place o (within items place at.segment there) is in record { there = here; named = ap (λ (h : HeldSegment D). h.index) (same_Some o at.segment (sym here ∙ there)) ∙ at.named }
+
+  -- the place of an index is that of any segment that has it
+  pub place_is : (hs items : List (HeldSegment D)) (ws : List ℕ) (p q index : ℕ) (s : HeldSegment D) → hs ≡ items → HasIndex hs p index → slice_get items q ≡ Some s → s.index ≡ index → AreApart (map (λ (h : HeldSegment D). h.index) items ++ ws) → slice_get items p ≡ Some s
+  place_is hs items ws p q index s are at there named apart =
+      let here : slice_get items p ≡ Some at.segment = subst (λ (xs : List (HeldSegment D)). slice_get xs p ≡ Some at.segment) are at.there in
+      ap (slice_get items) (same_place index_of items ws p q at.segment s apart here there (at.named ∙ sym named)) ∙ there
 
   -- no two segments have one index
   pub same_segment : (items : List (HeldSegment D)) (ws : List ℕ) (p q : ℕ) (s t : HeldSegment D) → AreApart (map (λ (h : HeldSegment D). h.index) items ++ ws) → slice_get items p ≡ Some s → slice_get items q ≡ Some t → s.index ≡ t.index → s ≡ t

@@ -1,10 +1,10 @@
 -- Held segments with room.
-use Rattle.std.proofs.Common.{◌≡◌, ◌⊎◌, inl, inr, ⊎_elim, ◌<◌, ◌≤◌, ◌+◌, ◌-◌, ℕ, zero, suc, Bool, true, false, is_some, List, [], ◌∷◌, length, get_or, take, slice_get, Option, Some, None, MatchOption, refl, sym, ap, subst, ◌∙◌, arith, get_or-take, length-take}
+use Rattle.std.proofs.Common.{◌≡◌, ◌⊎◌, inl, inr, ⊎_elim, ◌<◌, ◌≤◌, ◌+◌, ◌-◌, ℕ, zero, suc, true, false, is_some, List, [], ◌∷◌, length, get_or, take, slice_get, Option, Some, None, MatchOption, refl, sym, ap, subst, ◌∙◌, arith, get_or-take, length-take}
 use Rattle.std.proofs.lemmas.Bool.Decides.{leb_tells}
 use Rattle.std.proofs.lemmas.Option.{get_or_from_slice_get, same_Some}
 use Rattle.log_segment.specs.Segment.{room_of}
 use Rattle.log_segment.specs.declared.item.Item.{Item}
-use Rattle.logger.specs.Lanes.{HasRoom, HasNoRoom, IsFirstWithRoom, IsFit, held_in, taken_in, pool_blocks, first_count}
+use Rattle.logger.specs.Lanes.{HasRoom, HasNoRoom, IsFirstWithRoom, IsFit, held_in, pool_blocks, first_count}
 use Rattle.logger.specs.declared.lane.HeldSegment.{HeldSegment}
 use Rattle.logger.specs.declared.lane.Lane.{Lane}
 use Rattle.logger.proofs.Held.{there_get, within}

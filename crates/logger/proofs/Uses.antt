@@ -1,5 +1,5 @@
 -- What a lane's passes made in a call, and what its segments are to it then.
-use Rattle.std.proofs.Common.{◌≡◌, ◌≢◌, ◌<◌, ◌≤◌, ℕ, Bool, true, false, List, [], ◌∷◌, ◌++◌, length, vec_len, slice_index_or, Option, Some, None, IfSome, refl, sym, ap, subst, ◌∙◌, arith, append_assoc}
+use Rattle.std.proofs.Common.{◌≡◌, ◌≢◌, ◌<◌, ℕ, true, List, [], ◌∷◌, ◌++◌, map, vec_len, slice_index_or, Option, Some, None, IfSome, option_to_list, sym, ap, subst, ◌∙◌, append_assoc}
 use Rattle.std.specs.List.{AllByRecursion}
 use Rattle.wol_disk.specs.Disk.{State}
 use Rattle.turn_lock.specs.Histories.{Entry}
@@ -9,9 +9,8 @@ use Rattle.turn_lock.specs.declared.pass.PassOf.{PassOf}
 use Rattle.seg_pool.specs.Operations.{holds}
 use Rattle.seg_pool.specs.declared.base.PoolBase.{PoolBase}
 use Rattle.seg_pool.specs.declared.pool.Pool.{Pool}
-use Rattle.log_segment.specs.Segment.{IsSegment, IsBlank, IsSame, segment_volume, owner_of, blocks_of}
+use Rattle.log_segment.specs.Segment.{IsSegment, IsBlank, IsSame}
 use Rattle.log_segment.specs.declared.free.FreeSegment.{FreeSegment}
-use Rattle.log_segment.specs.declared.segment.Segment.{Segment}
 use Rattle.logger.specs.Lanes.{IsHeld, IsTaken, IsAt, IsSameLane}
 use Rattle.logger.specs.declared.lane.HeldSegment.{HeldSegment}
 use Rattle.logger.specs.declared.lane.Lane.{Lane}
@@ -60,3 +59,16 @@ module _ {D : Type 0} (state : D → State) (logger owner segments : ℕ) where
     below = is.below;
     holding = has;
   }
+
+  -- those that stay when the pass gave one back
+  pub each_on : (p q : PassOf (Pool (FreeSegment D)) PoolBase) (index : ℕ) (items : List (HeldSegment D)) → IsSamePass p q
+      → ((i : ℕ) → i ≢ index → holds (pass_lock p).base (pass_number p) (pass_mine p) i ≡ true → holds (pass_lock q).base (pass_number q) (pass_mine q) i ≡ true)
+      → AllByRecursion (IsHeld state logger owner segments p) items → AllByRecursion (λ (h : HeldSegment D). h.index ≢ index) items → AllByRecursion (IsHeld state logger owner segments q) items
+  each_on p q index [] same kept each others = tt
+  each_on p q index (h ∷ items) same kept each others = (held_on p q h same (kept h.index others.0 each.0.holding) each.0, each_on p q index items same kept each.1 others.1)
+
+  pub taken_still : (p q : PassOf (Pool (FreeSegment D)) PoolBase) (index : ℕ) (t : Option (ℕ × FreeSegment D)) → IsSamePass p q
+      → ((i : ℕ) → i ≢ index → holds (pass_lock p).base (pass_number p) (pass_mine p) i ≡ true → holds (pass_lock q).base (pass_number q) (pass_mine q) i ≡ true)
+      → IfSome t (IsTaken state logger segments p) → AllByRecursion (λ w. index ≢ w) (map (λ (u : ℕ × FreeSegment D). u.0) (option_to_list t)) → IfSome t (IsTaken state logger segments q)
+  taken_still p q index None same kept is others = tt
+  taken_still p q index (Some t) same kept is others = taken_on p q t same (kept t.0 (λ e. others.0 (sym e)) is.holding) is

@@ -1,5 +1,5 @@
 -- A lane as its manager sees it: the segments that one volume holds on one logger.
-use Rattle.std.specs.Prelude.{⊤, ◌≡◌, ◌≢◌, ◌<◌, ◌≤◌, ◌⊎◌, ◌+◌, ◌∷◌, ◌++◌, ℕ, Bool, true, false, List, [], map, All, length, take, drop, slice_get, slice_set, remove, vec_len, vec_capacity, slice_index_or, Option, None, Some, IfSome, is_some, Result, Ok, Err, OnOk, OnErr, IsOk, IsErr}
+use Rattle.std.specs.Prelude.{◌≡◌, ◌<◌, ◌≤◌, ◌⊎◌, ◌+◌, ◌∷◌, ◌++◌, ℕ, Bool, true, false, List, [], map, All, length, take, drop, slice_get, slice_set, remove, vec_len, vec_capacity, slice_index_or, Option, None, Some, IfSome, is_some, Result, Ok, Err, OnOk, OnErr, IsOk, IsErr}
 use Rattle.std.specs.List.{AllByRecursion}
 use Rattle.std.specs.Option.{option_to_list}
 use Rattle.wol_disk.specs.Disk.{Block, State, Values, LeavesOnly, Rose}
@@ -186,7 +186,7 @@ pub record Claimed {D T E : Type 0} (state : D → State) (owner : ℕ) (old : F
   pub owned : owner_of new ≡ owner
   pub blocks : blocks_of new ≡ free_blocks old
   -- it had no record once it was claimed
-  pub claimed : (vs : List (Values Block)) → (free_disk state old).values ≡ Some vs → OnOk res ((s : Segment D) × IsSame s new × IsWhole s × Holds state s [])
+  pub claimed : (vs : List (Values Block)) → (free_disk state old).values ≡ Some vs → OnOk res ((s : Segment D) × IsSegment state s × IsSame s new × IsWhole s × Holds state s [])
   pub ok : (vs : List (Values Block)) → (free_disk state old).values ≡ Some vs → OnOk res (Holds state new added)
   pub whole : OnOk res (IsWhole new)
   pub broken : OnErr res (IsBroken new)

@@ -20,28 +20,36 @@ module _ {D : Type 0} (state : D → State) where
     pub volume : segment_volume segment.segment ≡ on
     pub bare : valid_of segment.segment ≡ 0
 
-  -- it was taken out and freed
+  -- a held segment that was freed
+  pub record Freed (old : HeldSegment D) (free : FreeSegment D) : Type 0 where
+    pub blank : IsBlank state (segment_volume old.segment) (blocks_of old.segment) free
+    pub any_moment : (rs : List Record) → Holds state old.segment rs → LeavesOnly (disk_of state old.segment) (free_disk state free) (IsKeptOrIdle (owner_of old.segment) rs)
+    pub calm : (free_disk state free).faults ≡ (disk_of state old.segment).faults
+
+  -- it was taken out of these
   pub record FreedAt (hs hs' : List (HeldSegment D)) (place : ℕ) (free : FreeSegment D) : Type 0 where
     pub segment : HeldSegment D
     pub there : slice_get hs place ≡ Some segment
     pub gone : hs' ≡ remove hs place
-    pub blank : IsBlank state (segment_volume segment.segment) (blocks_of segment.segment) free
-    pub any_moment : (rs : List Record) → Holds state segment.segment rs → LeavesOnly (disk_of state segment.segment) (free_disk state free) (IsKeptOrIdle (owner_of segment.segment) rs)
-    pub calm : (free_disk state free).faults ≡ (disk_of state segment.segment).faults
+    pub freed : Freed segment free
 
-  -- it could not be freed, and is broken
+  -- a held segment that could not be freed, and is broken
+  pub record NotFreed (old new : HeldSegment D) : Type 0 where
+    pub index : new.index ≡ old.index
+    pub shape : IsSegment state new.segment
+    pub same : IsSame old.segment new.segment
+    pub end : place_of new.segment ≡ place_of old.segment
+    pub broken : IsBroken new.segment
+    pub any_moment : (rs : List Record) → Holds state old.segment rs → LeavesOnly (disk_of state old.segment) (disk_of state new.segment) (IsKeptOrIdle (owner_of old.segment) rs)
+    pub cause : Rose (disk_of state old.segment).faults (disk_of state new.segment).faults
+
+  -- it is at its place among these
   pub record StaysAt (hs hs' : List (HeldSegment D)) (place : ℕ) : Type 0 where
     pub segment : HeldSegment D
     pub there : slice_get hs place ≡ Some segment
     pub after : HeldSegment D
     pub held : hs' ≡ slice_set hs place after
-    pub index : after.index ≡ segment.index
-    pub shape : IsSegment state after.segment
-    pub same : IsSame segment.segment after.segment
-    pub end : place_of after.segment ≡ place_of segment.segment
-    pub broken : IsBroken after.segment
-    pub any_moment : (rs : List Record) → Holds state segment.segment rs → LeavesOnly (disk_of state segment.segment) (disk_of state after.segment) (IsKeptOrIdle (owner_of segment.segment) rs)
-    pub cause : Rose (disk_of state segment.segment).faults (disk_of state after.segment).faults
+    pub stays : NotFreed segment after
 
   -- the segment at this place is of this volume and owner, whole, and has this position
   pub record IsCuttable (on : ℕ) (hs : List (HeldSegment D)) (place pos owner : ℕ) : Type 0 where

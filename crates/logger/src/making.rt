@@ -62,6 +62,13 @@ impl<D: Disk> Lane<D> {
         })
     }
 
+    /// The volume on whose log its segments are.
+    pub fn logger(&self) -> u32
+        ensures { result ≡ logger_of self.now }
+    {
+        self.logger
+    }
+
     /// Holds a segment of the owner, behind those that are held. The lane's pass has its index by the pool's history.
     pub fn hold(&mut self, index: u32, segment: Segment<D>)
         requires lane { IsLane D.state self.old }

@@ -1,5 +1,5 @@
 -- Reads go on: what each of them leaves of a manager's parts, they leave together.
-use Rattle.std.proofs.Common.{◌≡◌, ◌⊎◌, inl, inr, ⊎_elim, ◌<◌, ◌≤◌, ◌+◌, ◌-◌, ◌^◌, ℕ, zero, suc, Bool, true, false, ◌||◌, List, [], ◌∷◌, ◌++◌, map, length, Option, None, Some, Result, Ok, Err, OnOk, is_ok, refl, sym, ap, subst, ◌∙◌, arith}
+use Rattle.std.proofs.Common.{◌≡◌, ◌⊎◌, inl, inr, ⊎_elim, ◌<◌, ◌≤◌, ◌+◌, ◌-◌, ◌^◌, ℕ, zero, suc, Bool, true, false, ◌||◌, List, [], ◌∷◌, ◌++◌, map, length, Option, None, Some, Result, Ok, Err, OnOk, OnErr, IfErr, is_ok, refl, sym, ap, subst, ◌∙◌, arith}
 use Rattle.std.specs.Prelude.{IsErr, slice_get, slice_set}
 use Rattle.turn_lock.specs.Passes.{pass_mine}
 use Rattle.std.specs.List.{AllByRecursion, AllZip}
@@ -14,8 +14,11 @@ use Rattle.log_segment.specs.Segment.{IsSame, Holds, disk_of, owner_of}
 use Rattle.logger.specs.Lanes.{held_in, spindle_of}
 use Rattle.logger.specs.declared.lane.HeldSegment.{HeldSegment}
 use Rattle.logger.specs.declared.lane.Lane.{Lane}
+use Rattle.manager.specs.Causes.{PartRose}
 use Rattle.manager.specs.Reading.{Counted, HomeRead, SegmentRead, LaneRead, IsReadThrough}
 use Rattle.manager.specs.declared.manager.Manager.{Manager}
+use Rattle.manager.specs.declared.part.Part.{Part}
+use Rattle.manager.specs.declared.part.Part.TheVariants.{Home, Segment}
 
 -- ---- zipped lists
 
@@ -42,6 +45,15 @@ zip_get R [] ys k x zip is = absurd (none-some x is)
 zip_get R (z ∷ xs) [] k x zip is = absurd zip
 zip_get {X} {Y} R (z ∷ xs) (y ∷ ys) zero x zip is = (y, refl, subst (λ (w : X). R w y) (same_Some z x is) zip.0)
 zip_get R (z ∷ xs) (y ∷ ys) (suc k) x zip is = zip_get R xs ys k x zip.1 is
+
+pub zip_at : {X Y : Type 0} (R : X → Y → Type 0) (xs : List X) (ys : List Y) (k : ℕ) (x : X) (y : Y) → AllZip R xs ys → slice_get xs k ≡ Some x → slice_get ys k ≡ Some y → R x y
+zip_at R xs ys k x y zip was is = let there = zip_get R xs ys k x zip was in subst (R x) (same_Some there.0 y (sym there.1 ∙ is)) there.2
+
+pub zip_back : {X Y : Type 0} (R : X → Y → Type 0) (xs : List X) (ys : List Y) (k : ℕ) (y : Y) → AllZip R xs ys → slice_get ys k ≡ Some y → (x : X) × (slice_get xs k ≡ Some x) × R x y
+zip_back R xs [] k y zip is = absurd (none-some y is)
+zip_back R [] (z ∷ ys) k y zip is = absurd zip
+zip_back {X} {Y} R (x ∷ xs) (z ∷ ys) zero y zip is = (x, refl, subst (λ (w : Y). R x w) (same_Some z y is) zip.0)
+zip_back R (x ∷ xs) (z ∷ ys) (suc k) y zip is = zip_back R xs ys k y zip.1 is
 
 pub zip_length : {X Y : Type 0} (R : X → Y → Type 0) (xs : List X) (ys : List Y) → AllZip R xs ys → length ys ≡ length xs
 zip_length R [] [] zip = refl
@@ -165,6 +177,27 @@ module _ {D : Type 0} (state : D → State) (sound : (d : D) → IsDisk (state d
     down = b.down ∙ a.down;
   }
 
+  -- what rose in the last of them rose in all
+  pub rose_through : (k l m : Manager D) → IsReadThrough state k l → (p : Part) → PartRose state l m p → PartRose state k m p
+  rose_through k l m a (Home volume) r = (r.0 ∙ a.same.id, rose_then (state_of state k.home).faults (state_of state l.home).faults (state_of state m.home).faults a.home.faults r.1)
+  rose_through k l m a (Segment volume index) r =
+      let lane = zip_back (LaneRead state) k.lanes.items l.lanes.items r.lane r.old_lane a.lanes r.was_lane in
+      let segment = zip_back (SegmentRead state) (held_in lane.0) (held_in r.old_lane) r.place r.old_segment lane.2.held r.was_there in
+      record {
+        lane = r.lane;
+        place = r.place;
+        old_lane = lane.0;
+        new_lane = r.new_lane;
+        old_segment = segment.0;
+        new_segment = r.new_segment;
+        was_lane = lane.1;
+        is_lane = r.is_lane;
+        was_there = segment.1;
+        is_there = r.is_there;
+        named = (r.named.0 ∙ lane.2.same.logger, r.named.1 ∙ segment.2.index);
+        rose = rose_then (disk_of state segment.0.segment).faults (disk_of state r.old_segment.segment).faults (disk_of state r.new_segment.segment).faults segment.2.faults r.rose;
+      }
+
 -- ---- answers
 
 -- the count of a call, from what it ensures of either answer
@@ -181,3 +214,10 @@ on_ok_like (Err e) (Err f) like so ok = tt
 
 pub same_lane_spindle : {D : Type 0} (lanes : List (Lane D)) (k : ℕ) (o n : Lane D) → slice_get lanes k ≡ Some o → slice_get lanes k ≡ Some n → pass_mine (spindle_of n) ≡ pass_mine (spindle_of o)
 same_lane_spindle {D} lanes k o n was is = ap (λ (l : Lane D). pass_mine (spindle_of l)) (sym (same_Some o n (sym was ∙ is)))
+
+-- what follows from a refusal that names a part, of one that is like it
+pub err_like : {T U E F P : Type 0} (Q : F → Type 0) {p : F} (r : Result T E) (s : Result U F) → is_ok s ≡ is_ok r → IfErr s (λ q. q ≡ p) → OnErr r P → (P → Q p) → IfErr s Q
+err_like Q (Ok x) (Ok y) like named err so = tt
+err_like Q (Ok x) (Err f) like named err so = absurd (let no : false ≡ true = like in cc)
+err_like Q (Err e) (Ok y) like named err so = tt
+err_like Q (Err e) (Err f) like named err so = subst Q (sym named) (so err)

@@ -59,6 +59,12 @@ pub record NeedsSources {D : Type 0} (old new : Manager D) (first count : ℕ) :
   pub lanes : (k : ℕ) (o n : Lane D) → slice_get old.lanes.items k ≡ Some o → slice_get new.lanes.items k ≡ Some n
       → NeedsWhere (spindle_of o) (spindle_of n) (reads_lane (listed_in old.index.entries) k first count)
 
+-- so it is for some first blocks of the range
+pub record NeedsFirstOf {D : Type 0} (old new : Manager D) (first count : ℕ) : Type 0 where
+  pub blocks : ℕ
+  pub within : blocks ≤ count
+  pub needs : NeedsSources old new first blocks
+
 -- ---- Parts
 
 -- a count of faults in which nothing or some failure was counted

@@ -1,5 +1,5 @@
 -- What a manager stands for, over the locks that it shares with others.
-use Rattle.std.specs.Prelude.{⊤, ◌≡◌, ◌≢◌, ◌<◌, ◌≤◌, ◌^◌, ◌+◌, ◌-◌, ◌==◌, ℕ, Bool, true, false, List, [], ◌∷◌, ◌++◌, map, filter, length, replicate, vec_len, slice_get, slice_index_or, Contains, Option, None, Some, IfSome, IsTrue}
+use Rattle.std.specs.Prelude.{⊤, ◌≡◌, ◌≢◌, ◌<◌, ◌≤◌, ◌^◌, ◌+◌, ◌-◌, ◌==◌, ℕ, Bool, true, false, not, List, [], ◌∷◌, ◌++◌, map, filter, length, replicate, vec_len, slice_get, slice_index_or, Contains, Option, None, Some, IfSome, IsTrue}
 use Rattle.std.specs.List.{AllByRecursion, count_by, range_with_len}
 use Rattle.std.specs.declared.alloc.Global.{Global}
 use Rattle.std.specs.declared.vec.Vec.{Vec}
@@ -17,8 +17,9 @@ use Rattle.seg_pool.specs.Holders.{Took}
 use Rattle.seg_pool.specs.Operations.{use_of}
 use Rattle.log_segment.specs.Segment.{IsWhole, Holds, blocks_of}
 use Rattle.redirect_map.specs.Index.{Contents}
+use Rattle.offload_policy.specs.Placing.{may_hold}
 use Rattle.offload_policy.specs.declared.Room.{Room}
-use Rattle.offload_policy.specs.declared.Room.TheVariants.{Unknown, Yes, No}
+use Rattle.offload_policy.specs.declared.Room.TheVariants.{Unknown}
 use Rattle.wol_model.specs.Blocks.{Write}
 use Rattle.wol_model.specs.History.{Operation, worker, writes, flight_of}
 use Rattle.wol_model.specs.Index.{Indexed}
@@ -197,12 +198,7 @@ StandsCoded tells state m b entries = Stands tells state m b (notes_of entries)
 
 -- the places of the view whose pools answered in the last write that they are empty
 abbrev pub passed_in : List Room → List ℕ
-passed_in rooms = filter (λ k. is_no (slice_index_or rooms k Unknown)) (range_with_len 0 (length rooms))
-  where
-    is_no : Room → Bool
-    is_no Unknown = false
-    is_no Yes = false
-    is_no No = true
+passed_in rooms = filter (λ k. not (may_hold (slice_index_or rooms k Unknown))) (range_with_len 0 (length rooms))
 
 -- An entry with its notes, behind entries the last of which left the look l: its operation, the look that it leaves, the pools that were found empty;
 -- and where it is ruled it goes by the rules.

@@ -6,7 +6,7 @@ use Rattle.turn_lock.specs.Passes.{pass_mine}
 use Rattle.wol_model.specs.Blocks.{Write}
 use Rattle.wol_model.specs.Placing.{Home as AtHome, Log as InLog, Full as Nowhere}
 use Rattle.wol_model.specs.Placing as placing
-use Rattle.wol_promise.specs.Policy.{Look, placed}
+use Rattle.wol_promise.specs.Policy.{Look, placed, place_of}
 use Rattle.offload_policy.specs.declared.Room.{Room}
 use Rattle.offload_policy.specs.declared.Room.TheVariants.{Unknown, Yes, No}
 use Rattle.logger.specs.Lanes.{HasUsed, spindle_of}
@@ -15,6 +15,8 @@ use Rattle.manager.specs.Accesses.{HasUsedOnce}
 use Rattle.manager.specs.Answers.{home_write, log_write, failed_write}
 use Rattle.manager.specs.Causes.{PartRoseOrClaimed}
 use Rattle.manager.specs.Offers.{IsTurnedAway, HasTakenWrite, IsOn}
+use Rattle.manager.specs.Seen.{look_of_manager}
+use Rattle.manager.specs.Stands.{passed_in}
 use Rattle.manager.specs.declared.manager.Manager.{Manager}
 use Rattle.manager.specs.declared.part.Part.{Part}
 use Rattle.manager.specs.declared.part.Part.TheVariants as part
@@ -34,6 +36,10 @@ was_tried (Err (Down p)) = false
 was_tried (Err VersionsSpent) = false
 was_tried (Err NoMemory) = false
 
+-- where the rule places a write of these blocks, with room in each lane but those that are noted to have none
+abbrev pub ruled_place : {D : Type 0} → (old new : Manager D) → (first : ℕ) → List Block → placing.Place
+ruled_place old new first blocks = place_of (passed_in new.rooms.items) (look_of_manager old) (home_write first blocks)
+
 -- whether home took the write
 abbrev pub is_at_home : placing.Place → Bool
 is_at_home AtHome = true
@@ -45,6 +51,10 @@ abbrev pub is_in_log : (k : ℕ) → placing.Place → Bool
 is_in_log k AtHome = false
 is_in_log k (InLog lane) = lane == k
 is_in_log k Nowhere = false
+
+-- whether the lane at place k took a write that has this place and this answer
+abbrev pub takes_at : placing.Place → Result Place WriteRefusal → (k : ℕ) → Bool
+takes_at p answer k = was_tried answer && is_in_log k p
 
 -- ---- Lanes
 
@@ -79,7 +89,7 @@ NeedsHome p answer old new = MatchBool (was_tried answer && is_at_home p) (HasUs
 -- and a logger's exactly where its log took it
 abbrev pub NeedsLogs : {D : Type 0} → placing.Place → Result Place WriteRefusal → (old new : Manager D) → Type 0
 NeedsLogs {D} p answer old new = (k : ℕ) (o n : Lane D) → slice_get old.lanes.items k ≡ Some o → slice_get new.lanes.items k ≡ Some n
-    → MatchBool (was_tried answer && is_in_log k p) (HasUsed o n) (pass_mine (spindle_of n) ≡ pass_mine (spindle_of o))
+    → MatchBool (takes_at p answer k) (HasUsed o n) (pass_mine (spindle_of n) ≡ pass_mine (spindle_of o))
 
 -- ---- Refusals
 

@@ -1,4 +1,3 @@
-use Rattle.std.proofs.Common.{arith}
 use Rattle.logger.proofs.Rooms.{first_at, none_more}
 use Rattle.logger.proofs.secure.first_with_room.Goals as goal
 

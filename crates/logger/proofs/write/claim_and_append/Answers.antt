@@ -1,8 +1,8 @@
-use Rattle.std.proofs.Common.{◌≡◌, ◌⊎◌, inl, inr, ⊎_elim, ◌≤◌, ℕ, List, [], OnOk, ◌∙◌, subst, arith}
+use Rattle.std.proofs.Common.{inl, inr, ⊎_elim, ℕ, [], OnOk, ◌∙◌, subst, arith}
 use Rattle.std.proofs.lemmas.Result.{on_ok_weaker, on_err_weaker}
-use Rattle.wol_disk.specs.Disk.{Block, Rose}
+use Rattle.wol_disk.specs.Disk.{Rose}
 use Rattle.wol_disk.proofs.Moments.{then_leaves, widened}
-use Rattle.wol_model.specs.Log.{IsLog, HasFirstOf}
+use Rattle.wol_model.specs.Log.{HasFirstOf}
 use Rattle.log_segment.specs.Records.{group_of}
 use Rattle.log_segment.specs.Segment.{Holds, disk_of}
 use Rattle.logger.proofs.Results.{on_err, on_ok_any}
@@ -16,7 +16,7 @@ returns-in-Ok-clause-claimed g c =
       volume = a.same.volume ∙ k.volume;
       owned = a.same.owner ∙ k.owner;
       blocks = a.same.blocks ∙ k.blocks;
-      claimed = λ vs told. on_ok_any _ w (s, a.same, k.whole, k.ok vs told);
+      claimed = λ vs told. on_ok_any _ w (s, k.shape, a.same, k.whole, k.ok vs told);
       ok = λ vs told. subst (λ (u : ℕ). OnOk w (Holds state n (group_of u c.args.version c.args.items.now c.args.from.now))) k.owner (a.ok [] (k.ok vs told));
       whole = a.whole;
       broken = on_err_weaker w (λ b. b.broken) a.err;

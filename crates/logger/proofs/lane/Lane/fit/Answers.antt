@@ -1,4 +1,4 @@
-use Rattle.std.proofs.Common.{◌≡◌, ◌<◌, ℕ, List, length, vec_len, vec_capacity, Some, ap, ◌∙◌, sym, subst, arith}
+use Rattle.std.proofs.Common.{List, vec_capacity, ap, ◌∙◌, sym, subst, arith}
 use Rattle.std.specs.List.{AllByRecursion}
 use Rattle.std.proofs.lemmas.Option.{same_Some}
 use Rattle.log_segment.specs.Segment.{IsSegment, room_of}

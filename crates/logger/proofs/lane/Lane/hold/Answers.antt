@@ -1,9 +1,9 @@
-use Rattle.std.proofs.Common.{◌≡◌, ◌<◌, ◌≤◌, ◌++◌, ◌∷◌, [], ℕ, List, map, length, vec_len, vec_capacity, option_to_list, ap, ◌∙◌, sym, subst, arith, length-append}
+use Rattle.std.proofs.Common.{◌≡◌, ◌++◌, ◌∷◌, ℕ, List, map, length, vec_capacity, option_to_list, ap, ◌∙◌, sym, subst, arith, length-append}
 use Rattle.std.specs.Prelude.{IfSome}
 use Rattle.std.specs.List.{AllByRecursion}
 use Rattle.wol_model.specs.Blocks.{AreApart}
 use Rattle.log_segment.specs.declared.free.FreeSegment.{FreeSegment}
-use Rattle.logger.specs.Lanes.{IsHeld, IsTaken, indexes_in}
+use Rattle.logger.specs.Lanes.{IsHeld, IsTaken}
 use Rattle.logger.specs.declared.lane.HeldSegment.{HeldSegment}
 use Rattle.logger.proofs.Held.{all_push, map-push, length-map}
 use Rattle.logger.proofs.Indexes.{few, apart_insert}
@@ -26,7 +26,7 @@ returns-clause-lane g c =
     let idx : List ℕ = map (λ (h : HeldSegment g.row.D.Denot). h.index) self.held.items in
     let ts : List ℕ = map (λ (t : ℕ × FreeSegment g.row.D.Denot). t.0) (option_to_list self.taken) in
     let each = all_push (IsHeld state self.logger self.owner n self.pool) self.held.items h l.each
-        (record { shape = c.requires.shape; volume = c.requires.volume; owned = c.requires.owner; blocks = c.requires.blocks; below = c.requires.below; holding = c.requires.holds }) in record {
+    (record { shape = c.requires.shape; volume = c.requires.volume; owned = c.requires.owner; blocks = c.requires.blocks; below = c.requires.below; holding = c.requires.holds }) in record {
       pool_free = l.pool_free;
       spindle_free = l.spindle_free;
       pool_volume = l.pool_volume;

@@ -1,4 +1,4 @@
-use Rattle.std.proofs.Common.{◌≡◌, ◌≤◌, ◌+◌, ◌++◌, ℕ, List, map, length, vec_capacity, option_to_list, ap, ◌∙◌, sym, refl, subst, arith}
+use Rattle.std.proofs.Common.{◌≤◌, ◌+◌, ◌++◌, ℕ, List, map, length, vec_capacity, option_to_list, ap, ◌∙◌, sym, refl, subst, arith}
 use Rattle.wol_model.specs.Blocks.{AreApart}
 use Rattle.turn_lock.specs.LockIds.{LockId}
 use Rattle.spin_model.specs.declared.spindle.SpindleBase.{SpindleBase}

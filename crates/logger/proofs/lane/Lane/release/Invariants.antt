@@ -1,5 +1,4 @@
-use Rattle.std.proofs.Common.{◌≡◌, ◌≤◌, ◌+◌, ◌++◌, ℕ, List, map, reverse, vec_len, vec_capacity}
-use Rattle.spin_model.specs.declared.spun.Spun.{Spun}
+use Rattle.std.proofs.Common.{◌≡◌, ◌≤◌, ◌+◌, ◌++◌, map, reverse, vec_len, vec_capacity}
 use Rattle.log_segment.specs.Segment.{part_of}
 use Rattle.logger.specs.declared.lane.HeldSegment.{HeldSegment}
 use Rattle.logger.proofs.lane.Lane.release.Given as goal

@@ -1,14 +1,13 @@
-use Rattle.std.proofs.Common.{◌≡◌, ◌≤◌, ◌++◌, ◌∷◌, [], ℕ, List, map, length, vec_capacity, is_some, Option, None, IfSome, option_to_list, ap, ◌∙◌, sym, refl, subst}
+use Rattle.std.proofs.Common.{◌≤◌, ◌++◌, ◌∷◌, [], ℕ, map, length, vec_capacity, is_some, Option, IfSome, option_to_list, ap, ◌∙◌, sym, subst}
 use Rattle.std.specs.List.{AllByRecursion}
 use Rattle.wol_model.specs.Blocks.{AreApart}
-use Rattle.turn_lock.specs.Histories.{Entry}
 use Rattle.turn_lock.specs.LockIds.{LockId}
 use Rattle.turn_lock.specs.Passes.{pass_lock, pass_mine, pass_number}
 use Rattle.seg_pool.specs.Operations.{operation_of, taken}
 use Rattle.seg_pool.specs.declared.base.PoolBase.{PoolBase}
 use Rattle.log_segment.specs.Segment.{IsSegment}
 use Rattle.log_segment.specs.declared.free.FreeSegment.{FreeSegment}
-use Rattle.logger.specs.Lanes.{IsHeld, IsTaken, HasNoRoom, Secured, asked}
+use Rattle.logger.specs.Lanes.{IsHeld, IsTaken, HasNoRoom, asked}
 use Rattle.logger.specs.declared.lane.HeldSegment.{HeldSegment}
 use Rattle.logger.proofs.Held.{all_map}
 use Rattle.logger.proofs.Places.{took, apart_taking}

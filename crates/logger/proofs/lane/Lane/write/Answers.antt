@@ -1,4 +1,4 @@
-use Rattle.std.proofs.Common.{ℕ, List, length, refl, subst}
+use Rattle.std.proofs.Common.{List, length, refl, subst}
 use Rattle.wol_model.specs.Log.{Record}
 use Rattle.log_segment.specs.declared.item.Item.{Item}
 use Rattle.log_segment.proofs.Grouped.{group_of_one}

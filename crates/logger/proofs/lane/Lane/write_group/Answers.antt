@@ -1,4 +1,4 @@
-use Rattle.std.proofs.Common.{◌≡◌, ◌≤◌, ◌+◌, ◌-◌, ℕ, List, length, vec_capacity, sym, subst, arith}
+use Rattle.std.proofs.Common.{◌+◌, ◌-◌, ℕ, List, length, vec_capacity, sym, subst, arith}
 use Rattle.std.specs.List.{AllByRecursion}
 use Rattle.log_segment.specs.Segment.{IsSegment}
 use Rattle.logger.specs.Lanes.{IsHeld, IsFirstWithRoom, HasNoRoom, held_in, taken_in, first_count}
@@ -22,7 +22,7 @@ write_held-requires-clause-place g c =
 pub write_held-requires-clause-room : goal.write_held-requires-clause-room
 write_held-requires-clause-room g c o there =
     let f = subst (λ (hs : List (HeldSegment g.row.D.Denot)). IsFirstWithRoom (first_count c.args.items.now) hs c.in-Some.place) c.deref.ensures.value
-        (subst (λ (n : ℕ). IsFirstWithRoom n c.deref.result.now c.in-Some.place) (first_is c.args.items.now _ c.requires.some) c.in-Some.ensures) in
+    (subst (λ (n : ℕ). IsFirstWithRoom n c.deref.result.now c.in-Some.place) (first_is c.args.items.now _ c.requires.some) c.in-Some.ensures) in
     group_room (first_count c.args.items.now) c.requires.fits.0 (length c.args.from.now + (length c.args.items.now - 1)) c.args.self.now c.in-Some.place f o c.requires.fits.1 c.requires.fits.2 there
 
 pub write_taken-requires-clause-none : goal.write_taken-requires-clause-none
@@ -33,13 +33,13 @@ write_taken-requires-clause-none g c =
 pub write_taken-requires-clause-taken : goal.write_taken-requires-clause-taken
 write_taken-requires-clause-taken g c =
     let none = subst (λ (hs : List (HeldSegment g.row.D.Denot)). HasNoRoom (first_count c.args.items.now) hs) c.deref.ensures.value
-        (subst (λ (n : ℕ). HasNoRoom n c.deref.result.now) (first_is c.args.items.now _ c.requires.some) c.in-None.ensures) in
+    (subst (λ (n : ℕ). HasNoRoom n c.deref.result.now) (first_is c.args.items.now _ c.requires.some) c.in-None.ensures) in
     taken_then (first_count c.args.items.now) (held_in c.args.self.now) (taken_in c.args.self.now) c.requires.secured none
 
 pub write_taken-requires-clause-room : goal.write_taken-requires-clause-room
 write_taken-requires-clause-room g c =
     let none = subst (λ (hs : List (HeldSegment g.row.D.Denot)). HasNoRoom (first_count c.args.items.now) hs) c.deref.ensures.value
-        (subst (λ (n : ℕ). HasNoRoom n c.deref.result.now) (first_is c.args.items.now _ c.requires.some) c.in-None.ensures) in
+    (subst (λ (n : ℕ). HasNoRoom n c.deref.result.now) (first_is c.args.items.now _ c.requires.some) c.in-None.ensures) in
     let fit = c.requires.fits.1.unclaimed none in let le = c.requires.fits.2 in omega (arith, fit, le)
 
 pub returns-in-Some-clause-at : goal.returns-in-Some-clause-at

@@ -1,8 +1,7 @@
-use Rattle.std.proofs.Common.{◌≡◌, ◌≤◌, ◌+◌, ◌-◌, ◌++◌, ◌∷◌, ℕ, List, map, length, vec_capacity, option_to_list, Result, ap, ◌∙◌, sym, refl, subst, arith}
+use Rattle.std.proofs.Common.{◌++◌, ℕ, List, map, vec_capacity, option_to_list, Result, ap, ◌∙◌, sym, refl, subst, arith}
 use Rattle.wol_disk.specs.declared.disk.Failed.{Failed}
 use Rattle.wol_model.specs.Blocks.{AreApart}
 use Rattle.turn_lock.specs.LockIds.{LockId}
-use Rattle.turn_lock.specs.Passes.{pass_mine, pass_number}
 use Rattle.spin_model.specs.declared.spindle.SpindleBase.{SpindleBase}
 use Rattle.log_segment.specs.Records.{group_of}
 use Rattle.log_segment.specs.Segment.{IsWhole, place_of}

@@ -1,9 +1,8 @@
-use Rattle.std.proofs.Common.{◌≡◌, ◌≤◌, ◌<◌, ◌+◌, ◌-◌, ◌++◌, ◌∷◌, ℕ, List, map, length, vec_len, vec_capacity, Option, Some, IfSome, option_to_list, Result, ap, ◌∙◌, sym, refl, subst, arith}
+use Rattle.std.proofs.Common.{◌≤◌, ◌+◌, ◌-◌, ℕ, length, vec_capacity, Option, IfSome, Result, ap, ◌∙◌, sym, refl, subst, arith}
 use Rattle.std.specs.List.{AllByRecursion}
 use Rattle.wol_disk.specs.declared.disk.Failed.{Failed}
 use Rattle.wol_model.specs.Blocks.{AreApart}
 use Rattle.turn_lock.specs.LockIds.{LockId}
-use Rattle.turn_lock.specs.Passes.{pass_mine, pass_number}
 use Rattle.spin_model.specs.declared.spindle.SpindleBase.{SpindleBase}
 use Rattle.log_segment.specs.Records.{group_of}
 use Rattle.log_segment.specs.declared.free.FreeSegment.{FreeSegment}
@@ -43,7 +42,7 @@ returns-clause-lane g c =
     let is = if_some (IsTaken state self.logger (vec_capacity self.held) self.pool) self.taken (c.in-Some.index, c.in-Some.free) l.unclaimed has in
     let n : HeldSegment g.row.D.Denot = record { index = c.in-Some.index; segment = c.claim_and_append-segment.result.0 } in
     let each = all_push (IsHeld state self.logger self.owner (vec_capacity self.held) self.pool) self.held.items n l.each
-        (record { shape = made.shape; volume = made.volume ∙ is.blank.of; owned = made.owned; blocks = made.blocks ∙ is.blank.long; below = is.below; holding = is.holding }) in record {
+    (record { shape = made.shape; volume = made.volume ∙ is.blank.of; owned = made.owned; blocks = made.blocks ∙ is.blank.long; below = is.below; holding = is.holding }) in record {
       pool_free = l.pool_free;
       spindle_free = c.give_token.ensures.free;
       pool_volume = l.pool_volume;
