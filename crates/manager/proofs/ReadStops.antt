@@ -1,15 +1,15 @@
 -- A read that is stopped at any moment leaves what was acknowledged.
-use Rattle.std.proofs.Common.{◌≡◌, ◌+◌, ℕ, Bool, List, [], ◌∷◌, ◌++◌, map, Option, None, Some, refl, sym, ap, subst, ◌∙◌}
+use Rattle.std.proofs.Common.{◌≡◌, ◌+◌, ℕ, Bool, true, false, List, [], ◌∷◌, ◌++◌, map, Option, None, Some, refl, sym, ap, subst, ◌∙◌}
 use Rattle.std.specs.Prelude.{⊤, IsTrue, Contains, unwrap_or, is_some}
 use Rattle.std.specs.List.{AllByRecursion, AllZip}
-use Rattle.wol_disk.specs.Disk.{State, Block, IsDisk, LeavesOnly}
+use Rattle.wol_disk.specs.Disk.{State, Block, IsDisk, IsImageOf, LeavesOnly}
 use Rattle.wol_model.specs.Blocks.{Write}
 use Rattle.wol_model.specs.Extents.{Extent}
 use Rattle.wol_model.specs.History.{writes, flight_of, IsCut}
 use Rattle.wol_model.specs.Holding.{Holds as HoldsArray}
 use Rattle.wol_model.specs.Log.{Record, IsLog, extent_of}
 use Rattle.wol_model.specs.Recovered.{recovered}
-use Rattle.wol_promise.specs.Manager.{Held, extents_held, is_homed_in}
+use Rattle.wol_promise.specs.Manager.{Held, Recovers, extents_held, is_homed_in}
 use Rattle.wol_promise.specs.Ruled.{Noted, entries_of}
 use Rattle.wol_promise.specs.Stands.{place_in}
 use Rattle.wol_promise.proofs.Choices.{AreLogs}
@@ -110,3 +110,42 @@ module _ {D : Type 0} (tells : Bool) (state : D → State) (sound : (d : D) → 
     stops_read = stops_so tells state sound told old b notes k up None (ImageSince state old.home new.home) new.lanes.items k.logs []
         (λ h rs. IsTrue tells → new.down ≡ None → Holds state h.segment rs) (held_read tells state old new b notes read ready up k)
         (still_stops (ImageSince state old.home new.home) (HeldSince state held None) b.volume.began.owner b.volume.began.array (writes (entries_of notes)) old.next (is_homed_in old.index.entries) held' [] logs home_kept)
+
+-- ---- a refused call of a manager that is down
+
+image_now : {D : Type 0} (state : D → State) (sound : (d : D) → IsDisk (state d)) (p q : Spun D) (bs : List Block) → p ≡ q → ImageSince state p q bs → IsImageOf (state_of state q).values bs
+image_now {D = D} state sound p q bs same image = (sound q.inner).only_now bs (subst (λ (o : Spun D). ImageSince state o q bs) same image)
+
+zip_with : {X Y : Type 0} (P : X → Type 0) (R S : X → Y → Type 0) → ((x : X) (y : Y) → P x → R x y → S x y) → (xs : List X) (ys : List Y) → AllByRecursion P xs → AllZip R xs ys → AllZip S xs ys
+zip_with P R S so [] [] all zip = tt
+zip_with P R S so [] (y ∷ ys) all zip = absurd zip
+zip_with P R S so (x ∷ xs) [] all zip = absurd zip
+zip_with P R S so (x ∷ xs) (y ∷ ys) all zip = (so x y all.0 zip.0, zip_with P R S so xs ys all.1 zip.1)
+
+module _ {D : Type 0} (tells : Bool) (state : D → State) (sound : (d : D) → IsDisk (state d)) (told : IsTrue tells) (m : Manager D) (b : ManagerBase) (notes : List Noted) (k : Keeps tells state m b notes) (p : Part) (down : m.down ≡ Some p) where
+  abbrev at_rest : List (Held (Spun D))
+  at_rest = all_held 0 m.lanes.items k.logs
+
+  abbrev Begun : Held (Spun D) → List Block → Type 0
+  Begun = HeldSince state at_rest None
+
+  cut_now : (o : Option (List Write)) → flight_of (entries_of notes) ≡ o → is_some (down_of m.down) ≡ is_some o → Recovers (ImageSince state m.home m.home) Begun b.volume.began.owner at_rest (IsCut b.volume.began.array (writes (entries_of notes)) (unwrap_or o []))
+  cut_now None flight same home segments is choice = absurd (let no : true ≡ false = ap (λ (d : Option Part). is_some (down_of d)) (sym down) ∙ same in cc)
+  cut_now (Some fl) flight same home segments is choice = k.upholds.cut told fl flight home segments (told, (sound m.home.inner).only_now home is)
+      (zip_with (Contains at_rest) Begun (λ s bs. (parts_of tells state).may_be s.part bs) each at_rest segments (each_member at_rest) choice)
+    where
+      each : (s : Held (Spun D)) (bs : List Block) → Contains at_rest s → Begun s bs → (parts_of tells state).may_be s.part bs
+      each s bs has (was_held o was same image) = (told, image_now state sound o.part s.part bs (ap (λ (w : Held (Spun D)). w.part) (one_of_place at_rest o s k.upholds.places.apart was has same)) image)
+      each s bs has (was_free q none other image) = absurd (let no : None ≡ Some q = none in cc)
+
+  pub stops_down : Stops state m m None b notes []
+  stops_down before after was is home segments home_is choice =
+      cut_now (flight_of (entries_of notes)) refl k.upholds.is_down home segments home_is
+      (rezip (HeldSince state (all_held 0 m.lanes.items before) None) Begun so (all_held 0 m.lanes.items after) at_rest segments
+      (same_held (λ h rs. ⊤) (λ h rs. IsTrue tells → m.down ≡ None → Holds state h.segment rs) 0 m.lanes.items after k.logs is k.held) choice)
+    where
+      so : (v w : Held (Spun D)) (bs : List Block) → IsSameHeld v w → HeldSince state (all_held 0 m.lanes.items before) None v bs → Begun w bs
+      so v w bs same (was_held o has place image) =
+          let o' = same_member (all_held 0 m.lanes.items before) at_rest o (same_held (λ h rs. ⊤) (λ h rs. IsTrue tells → m.down ≡ None → Holds state h.segment rs) 0 m.lanes.items before k.logs was k.held) has in
+          was_held o'.0 o'.1 (o'.2.1 ∙ place ∙ sym same.1) (subst (λ (q : Spun D). ImageSince state o'.0.part q bs) (sym same.0) (subst (λ (q : Spun D). ImageSince state q v.part bs) (sym o'.2.0) image))
+      so v w bs same (was_free q none other image) = absurd (let no : None ≡ Some q = none in cc)
