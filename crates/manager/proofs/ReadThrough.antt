@@ -198,7 +198,29 @@ module _ {D : Type 0} (state : D → State) (sound : (d : D) → IsDisk (state d
         rose = rose_then (disk_of state segment.0.segment).faults (disk_of state r.old_segment.segment).faults (disk_of state r.new_segment.segment).faults segment.2.faults r.rose;
       }
 
+-- what rose did so whatever the manager tells of it
+pub rose_down : {D : Type 0} (state : D → State) (old new : Manager D) (down : Option Part) (p : Part) → PartRose state old new p → PartRose state old (record new { down = down }) p
+rose_down state old new down (Home volume) r = r
+rose_down state old new down (Segment volume index) r = record {
+  lane = r.lane;
+  place = r.place;
+  old_lane = r.old_lane;
+  new_lane = r.new_lane;
+  old_segment = r.old_segment;
+  new_segment = r.new_segment;
+  was_lane = r.was_lane;
+  is_lane = r.is_lane;
+  was_there = r.was_there;
+  is_there = r.is_there;
+  named = r.named;
+  rose = r.rose;
+}
+
 -- ---- answers
+
+pub never_some : {X : Type 0} (o : Option X) → ((x : X) → o ≡ Some x → ⊥) → o ≡ None
+never_some None never = refl
+never_some (Some x) never = absurd (never x refl)
 
 -- the count of a call, from what it ensures of either answer
 pub counted_of : {T E : Type 0} (r : Result T E) (a b : ℕ) → OnOk r (b ≡ a) → (IsErr r → Rose a b) → Counted a b
