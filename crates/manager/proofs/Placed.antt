@@ -37,7 +37,7 @@ use Rattle.manager.specs.Offers.{HasTakenWrite, ChangesLane}
 use Rattle.manager.specs.Seen.{Logs, AllHold, AllLanesHold, held_with, all_held, look_of_manager}
 use Rattle.manager.specs.Stands.{Keeps, nones_at, passed_in}
 use Rattle.manager.specs.Stops.{ImageSince, HeldSince, Stops}
-use Rattle.manager.specs.Writing.{HaveAnswered, HasLook, NeedsHome, TellsFault, IsHomeAnswer, IsLogAnswer, ruled_place, takes_at, was_tried, is_at_home, is_in_log}
+use Rattle.manager.specs.Writing.{HaveAnswered, HasLook, NeedsHome, TellsFault, IsHomeAnswer, IsLogAnswer, IsPlacedAnswer, ruled_place, takes_at, was_tried, is_at_home, is_in_log}
 use Rattle.manager.specs.declared.base.ManagerBase.{ManagerBase}
 use Rattle.manager.specs.declared.manager.Manager.{Manager}
 use Rattle.manager.specs.declared.part.Part.{Part}
@@ -84,6 +84,17 @@ log_placed view lane (Err Full) q answer is = absurd answer
 log_placed view lane (Err (Down p)) q answer is = absurd answer
 log_placed view lane (Err VersionsSpent) q answer is = absurd answer
 log_placed view lane (Err NoMemory) q answer is = absurd answer
+
+pub home_only : (id : ℕ) (r : Result Place WriteRefusal) → IsHomeAnswer id r → IsPlacedAnswer r
+home_only id r answer = ⊎_elim (λ e. subst IsPlacedAnswer (sym e) tt) (λ e. subst IsPlacedAnswer (sym e) tt) answer
+
+pub log_only : (view : List ℕ) (lane : ℕ) (r : Result Place WriteRefusal) → IsLogAnswer view lane r → IsPlacedAnswer r
+log_only view lane (Ok p) answer = tt
+log_only view lane (Err (DiskFault p)) answer = tt
+log_only view lane (Err Full) answer = tt
+log_only view lane (Err (Down p)) answer = absurd answer
+log_only view lane (Err VersionsSpent) answer = absurd answer
+log_only view lane (Err NoMemory) answer = absurd answer
 
 -- ---- Lanes whose held segments are as before
 

@@ -1,9 +1,9 @@
 -- A write that went home, and one that failed there.
-use Rattle.std.proofs.Common.{◌≡◌, ◌⊎◌, ⊎_elim, ◌<◌, ◌≤◌, ◌+◌, ◌-◌, ℕ, zero, suc, Bool, true, false, ◌||◌, List, [], ◌∷◌, ◌++◌, length, Option, None, Some, refl, sym, ap, subst, ◌∙◌, arith}
-use Rattle.std.specs.Prelude.{IsTrue, is_some, option_map, slice_get, nat_le, if◌then◌else◌}
+use Rattle.std.proofs.Common.{◌≡◌, ◌⊎◌, inl, inr, ⊎_elim, ◌<◌, ◌≤◌, ◌+◌, ◌-◌, ℕ, zero, suc, Bool, true, false, ◌||◌, List, [], ◌∷◌, ◌++◌, length, Option, None, Some, refl, sym, ap, subst, ◌∙◌, arith}
+use Rattle.std.specs.Prelude.{⊤, IsTrue, is_some, option_map, slice_get, nat_le, if◌then◌else◌}
 use Rattle.std.specs.List.{list_any, range_with_len}
 use Rattle.std.proofs.lemmas.Bool.{leb-true}
-use Rattle.wol_disk.specs.Disk.{State, Block, Values, IsImageOf, IsBlend, Rose, only, put, reads}
+use Rattle.wol_disk.specs.Disk.{State, Block, Values, IsDisk, IsImageOf, IsBlend, LeavesOnly, Rose, only, put, reads}
 use Rattle.wol_disk.proofs.Calls.{settled_from}
 use Rattle.wol_disk.proofs.Images.{image_reads}
 use Rattle.turn_lock.specs.Passes.{IsSamePass}
@@ -14,31 +14,33 @@ use Rattle.spin_model.specs.declared.spindle.SpindleBase.{SpindleBase}
 use Rattle.spin_model.specs.declared.spun.Spun.{Spun}
 use Rattle.log_segment.specs.Segment.{Holds}
 use Rattle.wol_model.specs.Blocks.{Write, block_of, after}
-use Rattle.wol_model.specs.Extents.{IsUncovered, covers_of, AreDistinct}
+use Rattle.wol_model.specs.Extents.{IsUncovered, covers_of, AreDistinct, newest}
 use Rattle.wol_model.specs.History.{Wrote, Broke, worker, writes, flight_of}
 use Rattle.wol_model.specs.Index.{Indexed, listed_in, is_covered}
 use Rattle.wol_model.specs.Log.{Record}
 use Rattle.wol_model.proofs.Arrays.{after_put}
-use Rattle.wol_promise.specs.Manager.{Held, ManagerSeen, IsIndexOf, extents_held}
+use Rattle.wol_promise.specs.Manager.{Held, IsIndexOf, extents_held, is_homed_in}
 use Rattle.wol_promise.specs.Ruled.{Noted, HasPassed, last_look, entries_of}
-use Rattle.wol_promise.specs.Stands.{IsWhole, LiesIn}
+use Rattle.wol_promise.specs.Stands.{IsWhole, LiesIn, StopsSafely}
 use Rattle.wol_promise.proofs.HomeWrites.{home_more, home_breaks}
 use Rattle.wol_promise.proofs.OneMore.{last_more}
+use Rattle.wol_promise.proofs.Stops.{home_stops}
 use Rattle.redirect_map.specs.Index.{cover_at}
 use Rattle.logger.specs.declared.lane.HeldSegment.{HeldSegment}
 use Rattle.manager.specs.Accesses.{IsTornFrom, Stored}
 use Rattle.manager.specs.Answers.{home_write}
-use Rattle.manager.specs.Seen.{parts_of, seen, all_held, look_of_manager}
+use Rattle.manager.specs.Seen.{Logs, AllLanesHold, parts_of, seen, all_held, down_of, look_of_manager}
 use Rattle.manager.specs.Stands.{Keeps, Stands, IsReady, IsNote, nones_at}
+use Rattle.manager.specs.Stops.{ImageSince, HeldSince}
 use Rattle.manager.specs.declared.base.ManagerBase.{ManagerBase}
 use Rattle.manager.specs.declared.manager.Manager.{Manager}
 use Rattle.manager.specs.declared.part.Part.{Part}
 use Rattle.manager.specs.declared.part.Part.TheVariants.{Home}
 use Rattle.manager.proofs.Lanes.{lanes_map}
+use Rattle.manager.proofs.Moments.{stops_so, still_logs}
 use Rattle.manager.proofs.ReadContent.{unbroken, upholds_up}
 use Rattle.manager.proofs.RunContent.{bare_block, newest_listed}
 use Rattle.manager.proofs.Woken.{covered_is}
-use Rattle.wol_model.specs.Extents.{newest}
 
 -- ---- blocks that no record covers
 
@@ -53,10 +55,10 @@ none_in p a (suc n) none b le lt =
     ⊎_elim (λ same. subst (λ (k : ℕ). p k ≡ false) same both.0) (λ past. none_in p (a + 1) n both.1 b past (omega arith)) (at_or_past a b le)
   where
     at_or_past : (a b : ℕ) → a ≤ b → (a ≡ b) ⊎ (a + 1 ≤ b)
-    at_or_past zero zero le = Rattle.std.proofs.Common.inl refl
-    at_or_past zero (suc b) le = Rattle.std.proofs.Common.inr (omega arith)
+    at_or_past zero zero le = inl refl
+    at_or_past zero (suc b) le = inr (omega arith)
     at_or_past (suc a) zero le = absurd (omega arith)
-    at_or_past (suc a) (suc b) le = ⊎_elim (λ e. Rattle.std.proofs.Common.inl (ap suc e)) (λ l. Rattle.std.proofs.Common.inr (omega arith)) (at_or_past a b (omega arith))
+    at_or_past (suc a) (suc b) le = ⊎_elim (λ e. inl (ap suc e)) (λ l. inr (omega arith)) (at_or_past a b (omega arith))
 
 get_inside : (xs : List Block) (i : ℕ) → is_some (slice_get xs i) ≡ true → i < length xs
 get_inside [] i is = absurd (let no : false ≡ true = is in cc)
@@ -113,6 +115,15 @@ module _ {D : Type 0} (tells : Bool) (state : D → State) (m : Manager D) (b : 
   lies : LiesIn b.volume.began.home_blocks (home_write first blocks)
   lies = let size = (upholds_up tells state m b notes keeps up).places.home_size in subst (λ (k : ℕ). first + length blocks ≤ k) size fits
 
+  -- stopped at any moment, it leaves a cut
+  pub home_stopped : (sound : (d : D) → IsDisk (state d)) → told_ → (part : Spun D) → LeavesOnly (state_of state m.home) (state_of state part) (IsTornFrom (state_of state m.home).values first blocks)
+      → (before after : Logs) → AllLanesHold (λ h rs. ⊤) m.lanes.items before → AllLanesHold (λ h rs. ⊤) m.lanes.items after
+      → StopsSafely (ImageSince state m.home part) (HeldSince state (all_held 0 m.lanes.items before) None) b.volume.began (entries_of notes) (all_held 0 m.lanes.items after) (home_write first blocks ∷ [])
+  home_stopped sound told part leaves = stops_so tells state sound told m b notes keeps up None (ImageSince state m.home part) m.lanes.items keeps.logs (home_write first blocks ∷ []) (λ h rs. IsTrue tells → m.down ≡ None → Holds state h.segment rs) keeps.held
+      (home_stops (ImageSince state m.home part) (HeldSince state (all_held 0 m.lanes.items keeps.logs) None) b.volume.began.owner b.volume.began.array (writes (entries_of notes)) m.next (is_homed_in m.index.entries) (all_held 0 m.lanes.items keeps.logs) (home_write first blocks)
+      (still_logs tells state sound told m b notes keeps up None) (uncovered_up told) refl
+      (λ x image. let torn = torn_image (state_of state m.home).values first blocks x (leaves.each x image) in (torn.0, (whole_up told).holds torn.0 (told, torn.1), torn.2)))
+
   module _ (part : Spun D) (spindle : PassOf Spindle SpindleBase) (volume : volume_of part ≡ volume_of m.home) (size : (state_of state part).size ≡ (state_of state m.home).size) (pass : IsSamePass m.spindle spindle)
       (n : Noted) (client : n.entry.pass ≡ worker) (passed : HasPassed (nones_at m.lanes.items b.lanes) (notes ++ n ∷ [])) where
     -- it was written and synced
@@ -124,7 +135,7 @@ module _ {D : Type 0} (tells : Bool) (state : D → State) (m : Manager D) (b : 
         logs = keeps.logs;
         held = keeps.held;
         upholds = (home_more (parts_of tells state) b.volume.began (seen m keeps.logs) part size volume notes n (home_write first blocks) (upholds_up tells state m b notes keeps up) (unbroken tells state m b notes keeps up) client refl uncovered_up lies
-            (ap Rattle.manager.specs.Seen.down_of up) note.operation_is
+            (ap down_of up) note.operation_is
             (λ bs may. let from = stored_image (state_of state m.home).values (state_of state part).values first blocks bs is may.1 in (from.0, (may.0, from.1), from.2))
             note.follows note.look_is).upholds;
         in_use = keeps.in_use;

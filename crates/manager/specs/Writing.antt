@@ -149,3 +149,12 @@ IsLogAnswer view lane (Err Full) = ⊥
 IsLogAnswer view lane (Err (Down p)) = ⊥
 IsLogAnswer view lane (Err VersionsSpent) = ⊥
 IsLogAnswer view lane (Err NoMemory) = ⊥
+
+-- an answer that comes when the write was placed, or when the rule ended without a place
+abbrev pub IsPlacedAnswer : Result Place WriteRefusal → Type 0
+IsPlacedAnswer (Ok p) = ⊤
+IsPlacedAnswer (Err Full) = ⊤
+IsPlacedAnswer (Err (DiskFault p)) = ⊤
+IsPlacedAnswer (Err (Down p)) = ⊥
+IsPlacedAnswer (Err VersionsSpent) = ⊥
+IsPlacedAnswer (Err NoMemory) = ⊥

@@ -14,7 +14,7 @@ ghost use Rattle.manager.specs.Offers.{IsTurnedAway, HasTakenWrite, ChangesLane}
 ghost use Rattle.manager.specs.Seen.{look_of_manager};
 ghost use Rattle.manager.specs.Stands.{Keeps, Stands, IsReady, IsHome, IsNote, IsSameManager, Leaves, nones_at, passed_in};
 ghost use Rattle.manager.specs.Stops.{Stops};
-ghost use Rattle.manager.specs.Writing.{HaveAnswered, HasLook, NeedsHome, NeedsLogs, TellsFault, IsAsBefore, IsHomeAnswer, IsLogAnswer, ruled_place, takes_at, in_flight};
+ghost use Rattle.manager.specs.Writing.{HaveAnswered, HasLook, NeedsHome, NeedsLogs, TellsFault, IsAsBefore, IsHomeAnswer, IsLogAnswer, IsPlacedAnswer, ruled_place, takes_at, in_flight};
 ghost use Rattle.manager.specs.declared.base.ManagerBase.{ManagerBase};
 ghost use Rattle.manager.specs.declared.part.Part.{Part};
 
@@ -136,6 +136,7 @@ impl<D: Disk> Manager<D> {
         ensures ready { IsReady D.state self.new }
         ensures at { IsHome shared.now self.new }
         ensures same { IsSameManager self.old self.new }
+        ensures answer { IsPlacedAnswer result }
         ensures stands { Leaves D.tells D.state self.old self.new (written self.old.next lbn from.now result) (passed_in self.new.rooms.items) worker }
         ensures placed { IsPlaceOf (map logger_of self.old.lanes.items) result (ruled_place self.old self.new lbn from.now) }
         ensures look { HasLook (ruled_place self.old self.new lbn from.now) (home_write lbn from.now) result (look_of_manager self.old) (look_of_manager self.new) }
