@@ -29,11 +29,11 @@ get_copies v zero k x is = absurd (none-some x is)
 get_copies v (suc n) zero x is = sym (same_Some v x is)
 get_copies v (suc n) (suc k) x is = get_copies v n k x is
 
-length_copies : {A : Type 0} (v : A) (n : ℕ) → length (replicate n v) ≡ n
+pub length_copies : {A : Type 0} (v : A) (n : ℕ) → length (replicate n v) ≡ n
 length_copies v zero = refl
 length_copies v (suc n) = ap suc (length_copies v n)
 
-get_inside : {X : Type 0} (xs : List X) (k : ℕ) → k < length xs → (x : X) × (slice_get xs k ≡ Some x)
+pub get_inside : {X : Type 0} (xs : List X) (k : ℕ) → k < length xs → (x : X) × (slice_get xs k ≡ Some x)
 get_inside [] k lt = absurd (omega arith)
 get_inside (x ∷ xs) zero lt = (x, refl)
 get_inside (x ∷ xs) (suc k) lt = get_inside xs k (omega arith)
