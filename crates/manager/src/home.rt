@@ -11,12 +11,7 @@ use turn_lock::{Pass, TurnLock};
 use wol_disk::{Block, Disk, Failed};
 
 // Writes and syncs.
-fn store<D: Disk>(
-    part: &mut Spun<D>,
-    token: &Awake,
-    at: u64,
-    from: &[Block],
-) -> Result<(), Failed>
+fn store<D: Disk>(part: &mut Spun<D>, token: &Awake, at: u64, from: &[Block]) -> Result<(), Failed>
     requires volume { token_volume token.now ≡ volume_of part.old }
     requires fits { at + length from.now ≤ (state_of D.state part.old).size }
     ensures { Stored D.state part.old part.new at from.now result }

@@ -11,16 +11,18 @@ returns g c =
     let wide : c.len-2.result ≡ length lanes.items = c.len-2.ensures ∙ lanes.ok.0 in
     let ups = c.truncate.ensures.items ∙ ((λ i. take (long i) (c.from-ups.ensures.0 i)) ∙ take-replicate true (length lanes.items) 16 c.requires.few) in
     let rooms = c.unasked-rooms.ensures ∙ (λ i. replicate (wide i) Unknown) in
-    record { value = λ i. record {
-      id = c.args.id;
-      home = c.args.home;
-      spindle = c.args.spindle;
-      lanes = lanes;
-      index = c.args.index;
-      next = c.args.next;
-      most = c.args.most;
-      home_up = true;
-      ups = record { items = ups i };
-      rooms = record { items = rooms i };
-      down = None;
-    } }
+    record {
+      value = λ i. record {
+        id = c.args.id;
+        home = c.args.home;
+        spindle = c.args.spindle;
+        lanes = lanes;
+        index = c.args.index;
+        next = c.args.next;
+        most = c.args.most;
+        home_up = true;
+        ups = record { items = ups i };
+        rooms = record { items = rooms i };
+        down = None;
+      };
+    }

@@ -55,47 +55,49 @@ returns-in-Some-clause-stands g c b notes n client note k =
     c.in-Some.ensures.stands b notes (passed_in new.rooms.items) n client
     (subst (λ (v : ℕ). IsNote (last_look b.volume.began.look notes) (written v c.args.lbn c.args.from.now c.in-Some.answer) (passed_in new.rooms.items) (look_of_manager new) n) (sym (ap (λ (m : Manager g.row.D.Denot). m.next) a.rest)) note)
     (passed_log g.D.Disk.tells g.D.Disk.state c.args.shared.now c.args.lbn c.args.from.now c.args.self.now now a new c.in-Some.answer (ap (λ (m : Manager g.row.D.Denot). m.rooms.items) t.0) c.in-Ask.lane
-        (unknown_at now.home_up c.args.covered now.ups.items c.deref.result.now now.rooms.items c.deref-in-asking.result.now c.in-Ask.lane c.in-Ask.ensures.value c.deref-in-asking.ensures.0) c.in-Some.ensures.answer
-        (place_led g.D.Disk.tells g.D.Disk.state c.args.shared.now c.args.lbn c.args.from.now c.args.self.now now a (Ask c.in-Ask.lane) c.args.covered c.deref.result.now c.deref-in-asking.result.now c.in-Ask.ensures.value c.deref.ensures.0 c.deref-in-asking.ensures.0 c.requires.covered) t.1 b notes n note.passed_is k)
+    (unknown_at now.home_up c.args.covered now.ups.items c.deref.result.now now.rooms.items c.deref-in-asking.result.now c.in-Ask.lane c.in-Ask.ensures.value c.deref-in-asking.ensures.0) c.in-Some.ensures.answer
+    (place_led g.D.Disk.tells g.D.Disk.state c.args.shared.now c.args.lbn c.args.from.now c.args.self.now now a (Ask c.in-Ask.lane) c.args.covered c.deref.result.now c.deref-in-asking.result.now c.in-Ask.ensures.value c.deref.ensures.0 c.deref-in-asking.ensures.0 c.requires.covered) t.1 b notes n note.passed_is k)
     (a.keeps b notes k)
 
 pub returns-in-Some-clause-placed : goal.returns-in-Some-clause-placed
 returns-in-Some-clause-placed g c =
     let now = c.asking.self in let a = c.asking.invariant in let new = c.try_lane.new.self in let t = c.in-Some.ensures.taken refl in
     placed_log g.D.Disk.tells g.D.Disk.state c.args.shared.now c.args.lbn c.args.from.now c.args.self.now now a new c.in-Some.answer (ap (λ (m : Manager g.row.D.Denot). m.rooms.items) t.0) c.in-Ask.lane
-        (unknown_at now.home_up c.args.covered now.ups.items c.deref.result.now now.rooms.items c.deref-in-asking.result.now c.in-Ask.lane c.in-Ask.ensures.value c.deref-in-asking.ensures.0) c.in-Some.ensures.answer
-        (place_led g.D.Disk.tells g.D.Disk.state c.args.shared.now c.args.lbn c.args.from.now c.args.self.now now a (Ask c.in-Ask.lane) c.args.covered c.deref.result.now c.deref-in-asking.result.now c.in-Ask.ensures.value c.deref.ensures.0 c.deref-in-asking.ensures.0 c.requires.covered) t.1
+    (unknown_at now.home_up c.args.covered now.ups.items c.deref.result.now now.rooms.items c.deref-in-asking.result.now c.in-Ask.lane c.in-Ask.ensures.value c.deref-in-asking.ensures.0) c.in-Some.ensures.answer
+    (place_led g.D.Disk.tells g.D.Disk.state c.args.shared.now c.args.lbn c.args.from.now c.args.self.now now a (Ask c.in-Ask.lane) c.args.covered c.deref.result.now c.deref-in-asking.result.now c.in-Ask.ensures.value c.deref.ensures.0 c.deref-in-asking.ensures.0 c.requires.covered) t.1
 
 pub returns-in-Some-clause-look : goal.returns-in-Some-clause-look
 returns-in-Some-clause-look g c =
     let now = c.asking.self in let a = c.asking.invariant in let new = c.try_lane.new.self in let t = c.in-Some.ensures.taken refl in
     look_log g.D.Disk.tells g.D.Disk.state c.args.shared.now c.args.lbn c.args.from.now c.args.self.now now a new c.in-Some.answer (ap (λ (m : Manager g.row.D.Denot). m.rooms.items) t.0) c.in-Ask.lane
-        (unknown_at now.home_up c.args.covered now.ups.items c.deref.result.now now.rooms.items c.deref-in-asking.result.now c.in-Ask.lane c.in-Ask.ensures.value c.deref-in-asking.ensures.0) c.in-Some.ensures.answer
-        (place_led g.D.Disk.tells g.D.Disk.state c.args.shared.now c.args.lbn c.args.from.now c.args.self.now now a (Ask c.in-Ask.lane) c.args.covered c.deref.result.now c.deref-in-asking.result.now c.in-Ask.ensures.value c.deref.ensures.0 c.deref-in-asking.ensures.0 c.requires.covered) t.1 c.in-Some.ensures.look
+    (unknown_at now.home_up c.args.covered now.ups.items c.deref.result.now now.rooms.items c.deref-in-asking.result.now c.in-Ask.lane c.in-Ask.ensures.value c.deref-in-asking.ensures.0) c.in-Some.ensures.answer
+    (place_led g.D.Disk.tells g.D.Disk.state c.args.shared.now c.args.lbn c.args.from.now c.args.self.now now a (Ask c.in-Ask.lane) c.args.covered c.deref.result.now c.deref-in-asking.result.now c.in-Ask.ensures.value c.deref.ensures.0 c.deref-in-asking.ensures.0 c.requires.covered) t.1 c.in-Some.ensures.look
 
 pub returns-in-Some-clause-answered : goal.returns-in-Some-clause-answered
 returns-in-Some-clause-answered g c =
     let now = c.asking.self in let a = c.asking.invariant in let new = c.try_lane.new.self in let t = c.in-Some.ensures.taken refl in
     answered_log g.D.Disk.tells g.D.Disk.state c.args.shared.now c.args.lbn c.args.from.now c.args.self.now now a new c.in-Some.answer (ap (λ (m : Manager g.row.D.Denot). m.rooms.items) t.0) c.in-Ask.lane
-        (unknown_at now.home_up c.args.covered now.ups.items c.deref.result.now now.rooms.items c.deref-in-asking.result.now c.in-Ask.lane c.in-Ask.ensures.value c.deref-in-asking.ensures.0) c.in-Some.ensures.answer
-        (place_led g.D.Disk.tells g.D.Disk.state c.args.shared.now c.args.lbn c.args.from.now c.args.self.now now a (Ask c.in-Ask.lane) c.args.covered c.deref.result.now c.deref-in-asking.result.now c.in-Ask.ensures.value c.deref.ensures.0 c.deref-in-asking.ensures.0 c.requires.covered) t.1
+    (unknown_at now.home_up c.args.covered now.ups.items c.deref.result.now now.rooms.items c.deref-in-asking.result.now c.in-Ask.lane c.in-Ask.ensures.value c.deref-in-asking.ensures.0) c.in-Some.ensures.answer
+    (place_led g.D.Disk.tells g.D.Disk.state c.args.shared.now c.args.lbn c.args.from.now c.args.self.now now a (Ask c.in-Ask.lane) c.args.covered c.deref.result.now c.deref-in-asking.result.now c.in-Ask.ensures.value c.deref.ensures.0 c.deref-in-asking.ensures.0 c.requires.covered) t.1
 
 pub returns-in-Some-clause-waking : goal.returns-in-Some-clause-waking
 returns-in-Some-clause-waking g c =
     let now = c.asking.self in let a = c.asking.invariant in let new = c.try_lane.new.self in let t = c.in-Some.ensures.taken refl in
     waking_log g.D.Disk.tells g.D.Disk.state c.args.shared.now c.args.lbn c.args.from.now c.args.self.now now a new c.in-Some.answer (ap (λ (m : Manager g.row.D.Denot). m.rooms.items) t.0) c.in-Ask.lane
-        (unknown_at now.home_up c.args.covered now.ups.items c.deref.result.now now.rooms.items c.deref-in-asking.result.now c.in-Ask.lane c.in-Ask.ensures.value c.deref-in-asking.ensures.0) c.in-Some.ensures.answer
-        (place_led g.D.Disk.tells g.D.Disk.state c.args.shared.now c.args.lbn c.args.from.now c.args.self.now now a (Ask c.in-Ask.lane) c.args.covered c.deref.result.now c.deref-in-asking.result.now c.in-Ask.ensures.value c.deref.ensures.0 c.deref-in-asking.ensures.0 c.requires.covered) t.1
-        (ap (λ (m : Manager g.row.D.Denot). m.spindle) t.0)
+    (unknown_at now.home_up c.args.covered now.ups.items c.deref.result.now now.rooms.items c.deref-in-asking.result.now c.in-Ask.lane c.in-Ask.ensures.value c.deref-in-asking.ensures.0) c.in-Some.ensures.answer
+    (place_led g.D.Disk.tells g.D.Disk.state c.args.shared.now c.args.lbn c.args.from.now c.args.self.now now a (Ask c.in-Ask.lane) c.args.covered c.deref.result.now c.deref-in-asking.result.now c.in-Ask.ensures.value c.deref.ensures.0 c.deref-in-asking.ensures.0 c.requires.covered) t.1
+    (ap (λ (m : Manager g.row.D.Denot). m.spindle) t.0)
 
 pub returns-in-Some-clause-fault : goal.returns-in-Some-clause-fault
 returns-in-Some-clause-fault g c = fault_before g.D.Disk.tells g.D.Disk.state c.args.shared.now c.args.lbn c.args.from.now c.args.self.now c.asking.self c.asking.invariant c.try_lane.new.self c.in-Some.answer c.in-Some.ensures.fault
 
 pub returns-in-Some-clause-any_moment : goal.returns-in-Some-clause-any_moment
 returns-in-Some-clause-any_moment g c told =
-    let a = c.asking.invariant in let new = c.try_lane.new.self in let m = c.in-Some.ensures.any_moment told in
-    (m.0, λ b notes k. subst (λ (v : ℕ). Stops g.D.Disk.state c.args.self.now new m.0 b notes (in_flight v c.args.lbn c.args.from.now c.in-Some.answer)) (ap (λ (o : Manager g.row.D.Denot). o.next) a.rest)
-        (stops_before g.D.Disk.tells g.D.Disk.state c.args.shared.now c.args.lbn c.args.from.now c.args.self.now c.asking.self a new m.0 b notes (in_flight c.asking.self.next c.args.lbn c.args.from.now c.in-Some.answer) (m.1 b notes (a.keeps b notes k))))
+    let a = c.asking.invariant in let new = c.try_lane.new.self in let m = c.in-Some.ensures.any_moment told in (
+      m.0,
+      λ b notes k. subst (λ (v : ℕ). Stops g.D.Disk.state c.args.self.now new m.0 b notes (in_flight v c.args.lbn c.args.from.now c.in-Some.answer)) (ap (λ (o : Manager g.row.D.Denot). o.next) a.rest)
+          (stops_before g.D.Disk.tells g.D.Disk.state c.args.shared.now c.args.lbn c.args.from.now c.args.self.now c.asking.self a new m.0 b notes (in_flight c.asking.self.next c.args.lbn c.args.from.now c.in-Some.answer) (m.1 b notes (a.keeps b notes k))),
+    )
 
 -- ---- It went home
 
@@ -114,7 +116,7 @@ returns-in-Home-clause-stands g c b notes n client note k =
     c.write_home.ensures.stands b notes (passed_in new.rooms.items) n client
     (subst (λ (v : ℕ). IsNote (last_look b.volume.began.look notes) (written v c.args.lbn c.args.from.now c.write_home.result) (passed_in new.rooms.items) (look_of_manager new) n) (sym (ap (λ (m : Manager g.row.D.Denot). m.next) a.rest)) note)
     (subst (λ (m : Manager g.row.D.Denot). HasPassed (nones_at m.lanes.items b.lanes) (notes ++ n ∷ [])) (sym u)
-        (passed_unplaced g.D.Disk.tells g.D.Disk.state c.args.shared.now c.args.lbn c.args.from.now c.args.self.now now a b notes n (note.passed_is ∙ ap (λ (m : Manager g.row.D.Denot). passed_in m.rooms.items) u) k))
+    (passed_unplaced g.D.Disk.tells g.D.Disk.state c.args.shared.now c.args.lbn c.args.from.now c.args.self.now now a b notes n (note.passed_is ∙ ap (λ (m : Manager g.row.D.Denot). passed_in m.rooms.items) u) k))
     (a.keeps b notes k)
 
 pub returns-in-Home-clause-placed : goal.returns-in-Home-clause-placed
@@ -149,9 +151,11 @@ returns-in-Home-clause-fault g c = fault_before g.D.Disk.tells g.D.Disk.state c.
 
 pub returns-in-Home-clause-any_moment : goal.returns-in-Home-clause-any_moment
 returns-in-Home-clause-any_moment g c told =
-    let a = c.asking.invariant in let new = c.write_home.new.self in
-    (None, λ b notes k. subst (λ (v : ℕ). Stops g.D.Disk.state c.args.self.now new None b notes (in_flight v c.args.lbn c.args.from.now c.write_home.result)) (ap (λ (o : Manager g.row.D.Denot). o.next) a.rest)
-        (stops_before g.D.Disk.tells g.D.Disk.state c.args.shared.now c.args.lbn c.args.from.now c.args.self.now c.asking.self a new None b notes (in_flight c.asking.self.next c.args.lbn c.args.from.now c.write_home.result) (c.write_home.ensures.any_moment told b notes (a.keeps b notes k))))
+    let a = c.asking.invariant in let new = c.write_home.new.self in (
+      None,
+      λ b notes k. subst (λ (v : ℕ). Stops g.D.Disk.state c.args.self.now new None b notes (in_flight v c.args.lbn c.args.from.now c.write_home.result)) (ap (λ (o : Manager g.row.D.Denot). o.next) a.rest)
+          (stops_before g.D.Disk.tells g.D.Disk.state c.args.shared.now c.args.lbn c.args.from.now c.args.self.now c.asking.self a new None b notes (in_flight c.asking.self.next c.args.lbn c.args.from.now c.write_home.result) (c.write_home.ensures.any_moment told b notes (a.keeps b notes k))),
+    )
 
 -- ---- The rule ended without a place
 
