@@ -65,8 +65,12 @@ module _ {D : Type 0} (R : HeldSegment D → List Record → Type 0) where
       let same : m ≡ l = same_Some m l is in
       let here = in_lane lane (held_in m) ls i h all.0 (ap (λ (n : Lane D). slice_get (held_in n) i) same ∙ there) in
       let at : j ≡ lane = omega arith in
-      record { records = here.records; has = here.has; among = Contains-append_left (held_with j (held_in m) ls) (all_held (j + 1) lanes logs) (held_as lane h here.records)
-          (subst (λ (n : ℕ). Contains (held_with n (held_in m) ls) (held_as lane h here.records)) (sym at) here.among) }
+      record {
+        records = here.records;
+        has = here.has;
+        among = Contains-append_left (held_with j (held_in m) ls) (all_held (j + 1) lanes logs) (held_as lane h here.records)
+            (subst (λ (n : ℕ). Contains (held_with n (held_in m) ls) (held_as lane h here.records)) (sym at) here.among);
+      }
   standing j lane (suc k) (m ∷ lanes) (ls ∷ logs) l i h place all is there =
       let rest = standing (j + 1) lane k lanes logs l i h (omega arith) all.1 is there in
       record { records = rest.records; has = rest.has; among = Contains-append_right (held_with j (held_in m) ls) (all_held (j + 1) lanes logs) (held_as lane h rest.records) rest.among }

@@ -75,14 +75,17 @@ module _ {D : Type 0} (state : D → State) where
   same_named [] (m ∷ ms) bs zip named = absurd zip
   same_named (l ∷ ls) [] bs zip named = absurd zip
   same_named (l ∷ ls) (m ∷ ms) [] zip named = absurd named
-  same_named (l ∷ ls) (m ∷ ms) (b ∷ bs) zip named = let s = zip.0.same in let n = named.0 in (record {
-    logger = s.logger ∙ n.logger;
-    pool = s.pool.0 ∙ n.pool;
-    pool_number = s.pool.1 ∙ n.pool_number;
-    spindle = s.spindle.0 ∙ n.spindle;
-    spindle_number = s.spindle.1 ∙ n.spindle_number;
-    nones = subst (λ es. b.nones ≤ nones_in es) (sym zip.0.pool) n.nones;
-  }, same_named ls ms bs zip.1 named.1)
+  same_named (l ∷ ls) (m ∷ ms) (b ∷ bs) zip named = let s = zip.0.same in let n = named.0 in (
+    record {
+      logger = s.logger ∙ n.logger;
+      pool = s.pool.0 ∙ n.pool;
+      pool_number = s.pool.1 ∙ n.pool_number;
+      spindle = s.spindle.0 ∙ n.spindle;
+      spindle_number = s.spindle.1 ∙ n.spindle_number;
+      nones = subst (λ es. b.nones ≤ nones_in es) (sym zip.0.pool) n.nones;
+    },
+    same_named ls ms bs zip.1 named.1,
+  )
 
   pub same_nones : (ls ms : List (Lane D)) (bs : List LaneBase) (k : ℕ) → AllZip (LaneRead state) ls ms → nones_at ms bs k ≡ nones_at ls bs k
   same_nones [] [] bs k zip = refl
@@ -112,15 +115,18 @@ module _ {D : Type 0} (state : D → State) where
     touched_hold k [] (i ∷ is) logs zip owned all = absurd zip
     touched_hold k (h ∷ hs) [] logs zip owned all = absurd zip
     touched_hold k (h ∷ hs) (i ∷ is) [] zip owned all = tt
-    touched_hold k (h ∷ hs) (i ∷ is) (rs ∷ logs) zip owned all = let r = zip.0 in (record {
-      lane = refl;
-      index = r.index;
-      broken = r.broken;
-      records = refl;
-      size = r.size;
-      volume = r.same.volume;
-      images = λ bs is_image. images_of i rs (r.keeps rs (all.0 is_image.0 told)) (r.same.owner ∙ owned.0) bs is_image.1;
-    }, touched_hold k hs is logs zip.1 owned.1 all.1)
+    touched_hold k (h ∷ hs) (i ∷ is) (rs ∷ logs) zip owned all = let r = zip.0 in (
+      record {
+        lane = refl;
+        index = r.index;
+        broken = r.broken;
+        records = refl;
+        size = r.size;
+        volume = r.same.volume;
+        images = λ bs is_image. images_of i rs (r.keeps rs (all.0 is_image.0 told)) (r.same.owner ∙ owned.0) bs is_image.1;
+      },
+      touched_hold k hs is logs zip.1 owned.1 all.1,
+    )
 
     zip_append : {X Y : Type 0} (R : X → Y → Type 0) (xs us : List X) (ys vs : List Y) → AllZip R xs ys → AllZip R us vs → AllZip R (xs ++ us) (ys ++ vs)
     zip_append R [] us [] vs p q = q
@@ -230,9 +236,11 @@ module _ {D : Type 0} (tells : Bool) (state : D → State) (old new : Manager D)
     is_part : (q : Part) → PartRose state old new q → (s : Spun D) × IsPartOf b.volume.began.view (reached (Some (name_of q))) (name_of q) s × (0 < (state_of state s).faults)
     is_part (Home volume) r = (new.home, refl, above_none (state_of state old.home).faults (state_of state new.home).faults r.1)
     is_part (Segment volume index) r =
-        let there = standing (λ h rs. IsTrue tells → new.down ≡ None → Holds state h.segment rs) 0 r.lane r.lane new.lanes.items k.logs r.new_lane r.place r.new_segment (omega arith) held_read r.is_lane r.is_there in
-        (part_of r.new_segment.segment, (held_as r.lane r.new_segment there.records, there.among, named, same.index ∙ sym r.named.1, refl),
-        above_none (disk_of state r.old_segment.segment).faults (disk_of state r.new_segment.segment).faults r.rose)
+        let there = standing (λ h rs. IsTrue tells → new.down ≡ None → Holds state h.segment rs) 0 r.lane r.lane new.lanes.items k.logs r.new_lane r.place r.new_segment (omega arith) held_read r.is_lane r.is_there in (
+          part_of r.new_segment.segment,
+          (held_as r.lane r.new_segment there.records, there.among, named, same.index ∙ sym r.named.1, refl),
+          above_none (disk_of state r.old_segment.segment).faults (disk_of state r.new_segment.segment).faults r.rose,
+        )
       where
         named : slice_get b.volume.began.view r.lane ≡ Some volume
         named = ap (λ (v : List ℕ). slice_get v r.lane) (sym k.locks.view) ∙ slice_get-map logger_of old.lanes.items r.lane ∙ ap (option_map logger_of) r.was_lane ∙ ap Some (sym r.named.0)

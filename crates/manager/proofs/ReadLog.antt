@@ -103,17 +103,20 @@ pub record Spotted {D : Type 0} (m : Manager D) (r : Rec) (first n : ℕ) (lane 
 
 module _ {D : Type 0} (state : D → State) (m : Manager D) (ready : IsReady state m) (up : m.down ≡ None) where
   pub spotted : (r : Rec) (first n : ℕ) → 1 ≤ n → IsSource m.index.entries first n (Some r) → (l : Lane D) × Spotted m r first n l
-  spotted r first n some source = (placed.lane, record {
-    lane_is = ap (slice_get m.lanes.items) entry.record_.lane ∙ placed.lane_is;
-    place = there.0;
-    segment = placed.segment;
-    there = there.1;
-    index = placed.index ∙ sym entry.record_.segment;
-    whole = all_at (λ (l : Lane D). AreWhole (held_in l)) m.lanes.items entry.entry.listed.lane placed.lane placed.lane_is (ready.up up).whole;
-    behind = begins.0;
-    short = (let a = begins.0 in let b = begins.1 in omega arith);
-    fits = (let a = begins.0 in let b = ends.1 in let w = placed.within in let p = entry.record_.pos in let c = entry.record_.count in omega arith);
-  })
+  spotted r first n some source = (
+    placed.lane,
+    record {
+      lane_is = ap (slice_get m.lanes.items) entry.record_.lane ∙ placed.lane_is;
+      place = there.0;
+      segment = placed.segment;
+      there = there.1;
+      index = placed.index ∙ sym entry.record_.segment;
+      whole = all_at (λ (l : Lane D). AreWhole (held_in l)) m.lanes.items entry.entry.listed.lane placed.lane placed.lane_is (ready.up up).whole;
+      behind = begins.0;
+      short = (let a = begins.0 in let b = begins.1 in omega arith);
+      fits = (let a = begins.0 in let b = ends.1 in let w = placed.within in let p = entry.record_.pos in let c = entry.record_.count in omega arith);
+    },
+  )
     where
       entry : Answers (newest cover_at m.index.entries first) r
       entry = entry_for m.index.entries first n r source first (omega arith) (omega arith)

@@ -52,11 +52,14 @@ module _ {D : Type 0} (state : D → State) (tells : Bool) (owner : ℕ) (P : Ty
   moved_hold k [] (i ∷ is) logs zip owned all = absurd zip
   moved_hold k (h ∷ hs) [] logs zip owned all = absurd zip
   moved_hold k (h ∷ hs) (i ∷ is) [] zip owned all = tt
-  moved_hold k (h ∷ hs) (i ∷ is) (rs ∷ logs) zip owned all = let r = zip.0 in (record {
-    place = λ j. (k, r.index j);
-    records = refl;
-    leaves = subst (λ (o : ℕ). LeavesOnly (state_of state h.segment.part) (state_of state i.segment.part) (λ c. IsLog c o rs)) owned.0 (r.any_moment rs (all.0 told now));
-  }, moved_hold k hs is logs zip.1 owned.1 all.1)
+  moved_hold k (h ∷ hs) (i ∷ is) (rs ∷ logs) zip owned all = let r = zip.0 in (
+    record {
+      place = λ j. (k, r.index j);
+      records = refl;
+      leaves = subst (λ (o : ℕ). LeavesOnly (state_of state h.segment.part) (state_of state i.segment.part) (λ c. IsLog c o rs)) owned.0 (r.any_moment rs (all.0 told now));
+    },
+    moved_hold k hs is logs zip.1 owned.1 all.1,
+  )
 
   zip_append : {X Y : Type 0} (R : X → Y → Type 0) (xs us : List X) (ys vs : List Y) → AllZip R xs ys → AllZip R us vs → AllZip R (xs ++ us) (ys ++ vs)
   zip_append R [] us [] vs p q = q

@@ -136,8 +136,8 @@ module _ {P : Type 0} (held : List (Held P)) (indexed : List Indexed) (index : I
           let listed = held_is_listed held indexed found.item index found.among (b, parts.0) in
           let above_it : has_newer (listed_covers (listed_in indexed)) backed.record_.head.version b ≡ true = any_member (λ (c : Cover). c.covers b && ltb backed.record_.head.version c.version) (listed_covers (listed_in indexed)) found.item listed found.passes in
           let is_above : has_newer (listed_covers (listed_in indexed)) backed.record_.head.version b ≡ ltb backed.record_.head.version e.listed.version =
-              newer_is_above cover_of (listed_in indexed) backed.record_.head.version b
-              ∙ ap (above cover_of backed.record_.head.version) (newest_listed indexed b ∙ ap (option_map (λ (d : Indexed). d.listed)) is) in
+          newer_is_above cover_of (listed_in indexed) backed.record_.head.version b
+          ∙ ap (above cover_of backed.record_.head.version) (newest_listed indexed b ∙ ap (option_map (λ (d : Indexed). d.listed)) is) in
           let lt : backed.record_.head.version < e.listed.version = ltb-true backed.record_.head.version e.listed.version (sym is_above ∙ above_it) in
           let version : e.listed.version ≡ backed.record_.head.version = backed.is_its.version in
           absurd (omega arith)

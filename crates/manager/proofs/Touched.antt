@@ -100,17 +100,19 @@ module _ {P : Type 0} (parts : Parts P) (owner : ℕ) where
       backed [] all = tt
       backed (e ∷ es) all =
           let b = all.0 in
-          let now = became (IsTouched parts owner) held held' b.segment zip b.is_held in
-          (record { segment = now.item; is_held = now.among; k = b.k; record_ = b.record_; is_there = ap (λ (l : List Record). slice_get l b.k) now.from.records ∙ b.is_there; valid = b.valid; is_its = entry_of_touched b.segment now.item b.k b.record_ e now.from b.is_its },
-          backed es all.1)
+          let now = became (IsTouched parts owner) held held' b.segment zip b.is_held in (
+            record { segment = now.item; is_held = now.among; k = b.k; record_ = b.record_; is_there = ap (λ (l : List Record). slice_get l b.k) now.from.records ∙ b.is_there; valid = b.valid; is_its = entry_of_touched b.segment now.item b.k b.record_ e now.from b.is_its },
+            backed es all.1,
+          )
 
   same_placed : (held held' : List (Held P)) → AreTouched held held' → (es : List Indexed) → AllByRecursion (IsPlaced parts held) es → AllByRecursion (IsPlaced parts held') es
   same_placed held held' zip [] all = tt
   same_placed held held' zip (e ∷ es) all =
       let p = all.0 in
-      let now = became (IsTouched parts owner) held held' p.segment zip p.is_held in
-      (record { segment = now.item; is_held = now.among; lane = p.lane ∙ sym now.from.lane; index = p.index ∙ sym now.from.index; behind = p.behind; within = subst (λ (n : ℕ). e.pos + length e.listed.keep < n) (sym now.from.size) p.within },
-      same_placed held held' zip es all.1)
+      let now = became (IsTouched parts owner) held held' p.segment zip p.is_held in (
+        record { segment = now.item; is_held = now.among; lane = p.lane ∙ sym now.from.lane; index = p.index ∙ sym now.from.index; behind = p.behind; within = subst (λ (n : ℕ). e.pos + length e.listed.keep < n) (sym now.from.size) p.within },
+        same_placed held held' zip es all.1,
+      )
 
   pub same_use : (held held' : List (Held P)) → AreTouched held held' → AreInUse held → AreInUse held'
   same_use held held' zip use_ = of_records (λ (rs : List Record). (r : Record) × Contains rs r × IsValid (extent_of r).cover) held held' zip use_
