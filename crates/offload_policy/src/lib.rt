@@ -7,9 +7,10 @@ ghost use Rattle.offload_policy.specs.Placing.{step_of, decided_by, is_open, pla
 ghost use Rattle.wol_model.specs.Placing.{place as place_in};
 
 /// What is known of a logger's room for a write.
-#[derive(Clone, Copy, Debug, PartialEq, Eq)]
+#[derive(Clone, Copy, Debug, Default, PartialEq, Eq)]
 pub enum Room {
     /// No held segment has the room, and the pool hasn't been asked for one in this turn.
+    #[default]
     Unknown,
     /// A held segment has the room, or the pool gave a segment in this turn.
     Yes,

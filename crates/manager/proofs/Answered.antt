@@ -1,0 +1,197 @@
+-- The lanes of a manager in a write: which were turned away, and which one took it.
+use Rattle.std.proofs.Common.{◌≡◌, ◌⊎◌, inl, inr, ⊎_elim, ◌<◌, ◌≤◌, ◌+◌, ◌-◌, ℕ, zero, suc, Bool, true, false, cond, not, List, [], ◌∷◌, ◌++◌, map, length, Option, None, Some, refl, sym, ap, subst, ◌∙◌, arith}
+use Rattle.std.specs.Prelude.{slice_get, slice_set, replicate, ◌==◌}
+use Rattle.std.specs.List.{AllByRecursion, AllZip, list_any}
+use Rattle.std.proofs.Math.ListN.{length-set}
+use Rattle.std.proofs.lemmas.Bool.Decides.{eqb_tells}
+use Rattle.std.proofs.lemmas.Option.{same_Some, none-some, slice_get_within}
+use Rattle.turn_lock.specs.Passes.{pass_mine, pass_number}
+use Rattle.offload_policy.specs.Placing.{may_hold}
+use Rattle.offload_policy.specs.declared.Room.{Room}
+use Rattle.offload_policy.specs.declared.Room.TheVariants.{Unknown, Yes, No}
+use Rattle.wol_promise.specs.Ruled.{Noted, HasPassed, times_passed}
+use Rattle.logger.specs.Lanes.{logger_of, held_in, pool_of}
+use Rattle.logger.specs.declared.lane.HeldSegment.{HeldSegment}
+use Rattle.logger.specs.declared.lane.Lane.{Lane}
+use Rattle.manager.specs.Offers.{IsTurnedAway, HasTakenWrite, ChangesLane}
+use Rattle.manager.specs.Stands.{AreNamed, IsNamed, nones_in, nones_at, passed_in}
+use Rattle.manager.specs.Writing.{HasAnswered, HaveAnswered}
+use Rattle.manager.specs.declared.base.LaneBase.{LaneBase}
+use Rattle.manager.proofs.Frames.{times_more}
+use Rattle.manager.proofs.Lanes.{get_set, get_other}
+use Rattle.manager.proofs.Placing.{is_passed, none_passed_beyond}
+use Rattle.manager.proofs.ReadyLanes.{nones_none, nones_some}
+
+-- ---- Elements by their places
+
+get_copies : {A : Type 0} (v : A) (n k : ℕ) (x : A) → slice_get (replicate n v) k ≡ Some x → x ≡ v
+get_copies v zero k x is = absurd (none-some x is)
+get_copies v (suc n) zero x is = sym (same_Some v x is)
+get_copies v (suc n) (suc k) x is = get_copies v n k x is
+
+pub length_copies : {A : Type 0} (v : A) (n : ℕ) → length (replicate n v) ≡ n
+length_copies v zero = refl
+length_copies v (suc n) = ap suc (length_copies v n)
+
+pub get_inside : {X : Type 0} (xs : List X) (k : ℕ) → k < length xs → (x : X) × (slice_get xs k ≡ Some x)
+get_inside [] k lt = absurd (omega arith)
+get_inside (x ∷ xs) zero lt = (x, refl)
+get_inside (x ∷ xs) (suc k) lt = get_inside xs k (omega arith)
+
+-- what holds of the elements at each place
+pub zip_of : {X Y : Type 0} (R : X → Y → Type 0) (xs : List X) (ys : List Y) → length ys ≡ length xs → ((k : ℕ) (x : X) (y : Y) → slice_get xs k ≡ Some x → slice_get ys k ≡ Some y → R x y) → AllZip R xs ys
+zip_of R [] [] long each = tt
+zip_of R [] (y ∷ ys) long each = absurd (let no : suc (length ys) ≡ 0 = long in omega arith)
+zip_of R (x ∷ xs) [] long each = absurd (let no : 0 ≡ suc (length xs) = long in omega arith)
+zip_of R (x ∷ xs) (y ∷ ys) long each = (each 0 x y refl refl, zip_of R xs ys (let e : suc (length ys) ≡ suc (length xs) = long in omega arith) (λ k a b is_a is_b. each (suc k) a b is_a is_b))
+
+same_maps : {X Y : Type 0} (f : X → Y) (xs ys : List X) → AllZip (λ x y. f y ≡ f x) xs ys → map f ys ≡ map f xs
+same_maps f [] [] all = refl
+same_maps f [] (y ∷ ys) all = absurd all
+same_maps f (x ∷ xs) [] all = absurd all
+same_maps f (x ∷ xs) (y ∷ ys) all = λ i. all.0 i ∷ same_maps f xs ys all.1 i
+
+-- ---- Pools
+
+nones_beyond : {D : Type 0} (lanes : List (Lane D)) (bs : List LaneBase) (k : ℕ) → length lanes ≤ k → nones_at lanes bs k ≡ 0
+nones_beyond [] bs k le = refl
+nones_beyond (l ∷ lanes) bs zero le = absurd (omega arith)
+nones_beyond (l ∷ lanes) [] (suc k) le = nones_beyond lanes [] k (omega arith)
+nones_beyond (l ∷ lanes) (b ∷ bs) (suc k) le = nones_beyond lanes bs k (omega arith)
+
+nones_at_is : {D : Type 0} (lanes : List (Lane D)) (bs : List LaneBase) (k : ℕ) (l : Lane D) (b : LaneBase) → slice_get lanes k ≡ Some l → slice_get bs k ≡ Some b → nones_at lanes bs k ≡ nones_in (pass_mine (pool_of l)) - b.nones
+nones_at_is [] bs k l b is is_b = absurd (none-some l is)
+nones_at_is (x ∷ lanes) [] k l b is is_b = absurd (none-some b is_b)
+nones_at_is (x ∷ lanes) (c ∷ bs) zero l b is is_b = λ i. nones_in (pass_mine (pool_of (same_Some x l is i))) - (same_Some c b is_b i).nones
+nones_at_is (x ∷ lanes) (c ∷ bs) (suc k) l b is is_b = nones_at_is lanes bs k l b is is_b
+
+record NamedAt {D : Type 0} (bs : List LaneBase) (k : ℕ) (l : Lane D) : Type 0 where
+  base : LaneBase
+  there : slice_get bs k ≡ Some base
+  named : IsNamed l base
+
+named_at : {D : Type 0} (lanes : List (Lane D)) (bs : List LaneBase) (k : ℕ) (l : Lane D) → AreNamed lanes bs → slice_get lanes k ≡ Some l → NamedAt bs k l
+named_at [] bs k l all is = absurd (none-some l is)
+named_at (x ∷ lanes) [] k l all is = absurd all
+named_at {D} (x ∷ lanes) (b ∷ bs) zero l all is = record { base = b; there = refl; named = let P : Lane D → Type 0 = λ q. IsNamed q b in subst P (same_Some x l is) all.0 }
+named_at (x ∷ lanes) (b ∷ bs) (suc k) l all is = let rest = named_at lanes bs k l all.1 is in record { base = rest.base; there = rest.there; named = rest.named }
+
+module _ {D : Type 0} (count : ℕ) where
+  -- ---- Lanes in turn
+
+  -- none was asked yet
+  pub none_asked : (rooms : List Room) (lanes : List (Lane D)) → rooms ≡ replicate (length lanes) Unknown → HaveAnswered count (λ k. false) rooms lanes lanes
+  none_asked rooms lanes is = record {
+    noted = ap length is ∙ length_copies Unknown (length lanes);
+    same = refl;
+    each = λ k r o n is_r is_o is_n. subst (λ (x : Room). HasAnswered count false x o n) (sym (get_copies Unknown (length lanes) k r (sym (ap (λ (l : List Room). slice_get l k) is) ∙ is_r)))
+        (same_Some n o (sym is_n ∙ is_o));
+  }
+
+  module _ (rooms : List Room) (old mid new : List (Lane D)) (before : HaveAnswered count (λ k. false) rooms old mid) (lane : ℕ) (unknown : slice_get rooms lane ≡ Some Unknown) where
+    -- one more was turned away
+    pub one_turned_away : ChangesLane (IsTurnedAway count) lane mid new → HaveAnswered count (λ k. false) (slice_set rooms lane No) old new
+    one_turned_away change = record {
+      noted = length-set rooms lane No ∙ before.noted;
+      same = ap length change.set ∙ (length-set mid lane change.after ∙ before.same);
+      each = λ k r o n is_r is_o is_n. ⊎_elim (λ here. at_lane k r o n is_r is_o is_n here.1) (λ other. elsewhere k r o n is_r is_o is_n other.1) (eqb_tells lane k);
+    }
+      where
+        at_lane : (k : ℕ) (r : Room) (o n : Lane D) → slice_get (slice_set rooms lane No) k ≡ Some r → slice_get old k ≡ Some o → slice_get new k ≡ Some n → lane ≡ k → HasAnswered count false r o n
+        at_lane k r o n is_r is_o is_n here =
+            let no_room : No ≡ r = same_Some No r (sym (get_set rooms lane Unknown No unknown) ∙ (ap (slice_get (slice_set rooms lane No)) here ∙ is_r)) in
+            let first : change.before ≡ o = before.each lane Unknown o change.before unknown (ap (slice_get old) here ∙ is_o) change.there in
+            let last : change.after ≡ n = same_Some change.after n (sym (get_set mid lane change.before change.after change.there) ∙ (sym (ap (λ (l : List (Lane D)). slice_get l lane) change.set) ∙ (ap (slice_get new) here ∙ is_n))) in
+            subst (λ (x : Room). HasAnswered count false x o n) no_room (subst (λ (x : Lane D). IsTurnedAway count x n) first (subst (λ (x : Lane D). IsTurnedAway count change.before x) last change.change))
+
+        elsewhere : (k : ℕ) (r : Room) (o n : Lane D) → slice_get (slice_set rooms lane No) k ≡ Some r → slice_get old k ≡ Some o → slice_get new k ≡ Some n → (lane ≡ k → ⊥) → HasAnswered count false r o n
+        elsewhere k r o n is_r is_o is_n other =
+            before.each k r o n (sym (get_other rooms lane k No (λ e. other (sym e))) ∙ is_r) is_o (sym (ap (λ (l : List (Lane D)). slice_get l k) change.set ∙ get_other mid lane k change.after (λ e. other (sym e))) ∙ is_n)
+
+    -- one took the write
+    pub one_takes : ChangesLane HasTakenWrite lane mid new → HaveAnswered count (λ k. lane == k) rooms old new
+    one_takes change = record {
+      noted = before.noted;
+      same = ap length change.set ∙ (length-set mid lane change.after ∙ before.same);
+      each = λ k r o n is_r is_o is_n. ⊎_elim
+          (λ here. subst (λ (t : Bool). HasAnswered count t r o n) (sym here.0) (at_lane k r o n is_r is_o is_n here.1))
+          (λ other. subst (λ (t : Bool). HasAnswered count t r o n) (sym other.0) (elsewhere k r o n is_r is_o is_n other.1)) (eqb_tells lane k);
+    }
+      where
+        at_lane : (k : ℕ) (r : Room) (o n : Lane D) → slice_get rooms k ≡ Some r → slice_get old k ≡ Some o → slice_get new k ≡ Some n → lane ≡ k → (r ≡ Unknown) × HasTakenWrite o n
+        at_lane k r o n is_r is_o is_n here =
+            let first : change.before ≡ o = before.each lane Unknown o change.before unknown (ap (slice_get old) here ∙ is_o) change.there in
+            let last : change.after ≡ n = same_Some change.after n (sym (get_set mid lane change.before change.after change.there) ∙ (sym (ap (λ (l : List (Lane D)). slice_get l lane) change.set) ∙ (ap (slice_get new) here ∙ is_n))) in
+            (same_Some r Unknown (sym is_r ∙ (sym (ap (slice_get rooms) here) ∙ unknown)), subst (λ (x : Lane D). HasTakenWrite x n) first (subst (λ (x : Lane D). HasTakenWrite change.before x) last change.change))
+
+        elsewhere : (k : ℕ) (r : Room) (o n : Lane D) → slice_get rooms k ≡ Some r → slice_get old k ≡ Some o → slice_get new k ≡ Some n → (lane ≡ k → ⊥) → HasAnswered count false r o n
+        elsewhere k r o n is_r is_o is_n other =
+            before.each k r o n is_r is_o (sym (ap (λ (l : List (Lane D)). slice_get l k) change.set ∙ get_other mid lane k change.after (λ e. other (sym e))) ∙ is_n)
+
+  -- ---- What answers tell
+
+  same_logger : (took : Bool) (r : Room) (o n : Lane D) → HasAnswered count took r o n → logger_of n ≡ logger_of o
+  same_logger true r o n is = is.1.same.logger
+  same_logger false No o n is = is.same.logger
+  same_logger false Unknown o n is = ap logger_of is
+  same_logger false Yes o n is = absurd is
+
+  same_held_in : (r : Room) (o n : Lane D) → HasAnswered count false r o n → held_in n ≡ held_in o
+  same_held_in No o n is = is.held
+  same_held_in Unknown o n is = ap held_in is
+  same_held_in Yes o n is = absurd is
+
+  nones_of : (took : Bool) (r : Room) (o n : Lane D) → HasAnswered count took r o n → nones_in (pass_mine (pool_of n)) ≡ nones_in (pass_mine (pool_of o)) + cond (not (may_hold r)) 1 0
+  nones_of true r o n is =
+      let none = ap (λ (x : Room). cond {A = ℕ} (not (may_hold x)) 1 0) is.0 in
+      let same : nones_in (pass_mine (pool_of n)) ≡ nones_in (pass_mine (pool_of o)) = ⊎_elim (λ e. ap nones_in e) (λ s. ap nones_in s.1 ∙ nones_some (pass_mine (pool_of o)) (pass_number (pool_of o)) s.0) is.1.pool in
+      omega (arith, none, same)
+  nones_of false No o n is = ap nones_in is.pool ∙ nones_none (pass_mine (pool_of o)) (pass_number (pool_of o))
+  nones_of false Unknown o n is = let same = ap (λ (l : Lane D). nones_in (pass_mine (pool_of l))) is in omega (arith, same)
+  nones_of false Yes o n is = absurd is
+
+  module _ (took : ℕ → Bool) (rooms : List Room) (old new : List (Lane D)) (all : HaveAnswered count took rooms old new) where
+    -- what is so of each answer
+    each_so : (R : Lane D → Lane D → Type 0) → ((k : ℕ) (r : Room) (o n : Lane D) → slice_get rooms k ≡ Some r → slice_get old k ≡ Some o → slice_get new k ≡ Some n → HasAnswered count (took k) r o n → R o n) → AllZip R old new
+    each_so R so = zip_of R old new all.same (λ k o n is_o is_n.
+        let r = get_inside rooms k (let lt = slice_get_within old k o is_o in let e = all.noted in omega arith) in so k r.0 o n r.1 is_o is_n (all.each k r.0 o n r.1 is_o is_n))
+
+    pub loggers_same : map logger_of new ≡ map logger_of old
+    loggers_same = same_maps logger_of old new (each_so (λ o n. logger_of n ≡ logger_of o) (λ k r o n is_r is_o is_n is. same_logger (took k) r o n is))
+
+    -- no pool is said to be empty more often than it was found so
+    pub passed_more : (bs : List LaneBase) (notes : List Noted) (n : Noted) → AreNamed old bs → n.passed ≡ passed_in rooms → HasPassed (nones_at old bs) notes → HasPassed (nones_at new bs) (notes ++ n ∷ [])
+    passed_more bs notes n named is has k =
+        ⊎_elim (λ lt. inside (get_inside old k lt)) (λ past. beyond past) (below_or_past k (length old))
+      where
+        below_or_past : (a b : ℕ) → (a < b) ⊎ (b ≤ a)
+        below_or_past a zero = inr (omega arith)
+        below_or_past zero (suc b) = inl (omega arith)
+        below_or_past (suc a) (suc b) = ⊎_elim (λ lt. inl (omega arith)) (λ le. inr (omega arith)) (below_or_past a b)
+
+        inside : (o : Lane D) × (slice_get old k ≡ Some o) → times_passed k (notes ++ n ∷ []) ≤ nones_at new bs k
+        inside there =
+            let o = there.0 in
+            let r = get_inside rooms k (let lt = slice_get_within old k o there.1 in let e = all.noted in omega arith) in
+            let m = get_inside new k (let lt = slice_get_within old k o there.1 in let e = all.same in omega arith) in
+            let b = named_at old bs k o named there.1 in
+            let more = times_more k notes n in
+            let passed = ap (λ (t : Bool). cond {A = ℕ} t 1 0) (ap (λ (ps : List ℕ). list_any (λ p. p == k) ps) is ∙ is_passed rooms k r.0 r.1) in
+            let was = nones_at_is old bs k o b.base there.1 b.there in
+            let now = nones_at_is new bs k m.0 b.base m.1 b.there in
+            let found = nones_of (took k) r.0 o m.0 (all.each k r.0 o m.0 r.1 there.1 m.1) in
+            let least = b.named.nones in
+            omega (arith, more, passed, was, now, found, least, has k)
+
+        beyond : length old ≤ k → times_passed k (notes ++ n ∷ []) ≤ nones_at new bs k
+        beyond past =
+            let more = times_more k notes n in
+            let passed = ap (λ (t : Bool). cond {A = ℕ} t 1 0) (ap (λ (ps : List ℕ). list_any (λ p. p == k) ps) is ∙ none_passed_beyond rooms k (let e = all.noted in omega arith)) in
+            let was = nones_beyond old bs k past in
+            omega (arith, more, passed, was, has k)
+
+  -- ---- Lanes of which none took the write
+
+  module _ (rooms : List Room) (old new : List (Lane D)) (all : HaveAnswered count (λ k. false) rooms old new) where
+    pub held_same : AllZip (λ o n. held_in n ≡ held_in o) old new
+    held_same = each_so (λ k. false) rooms old new all (λ o n. held_in n ≡ held_in o) (λ k r o n is_r is_o is_n is. same_held_in r o n is)

@@ -1,0 +1,93 @@
+-- What a manager keeps up when its flags, its rooms, home's pass or the room of its index change, and with an entry more.
+use Rattle.std.proofs.Common.{◌≡◌, ◌<◌, ◌+◌, ℕ, Bool, false, List, [], ◌∷◌, ◌++◌, length, cond, refl, sym, ap, subst, ◌∙◌, arith}
+use Rattle.std.specs.Prelude.{◌==◌}
+use Rattle.std.specs.List.{list_any, AllByRecursion}
+use Rattle.std.proofs.lemmas.List.Sums.{sum_by-append}
+use Rattle.wol_disk.specs.Disk.{State}
+use Rattle.turn_lock.specs.LockIds.{LockId}
+use Rattle.turn_lock.specs.Passes.{pass_mine, IsFree, IsSamePass}
+use Rattle.turn_lock.specs.declared.pass.PassOf.{PassOf}
+use Rattle.spin_model.specs.Operations.{has_token}
+use Rattle.spin_model.specs.declared.spindle.Spindle.{Spindle}
+use Rattle.spin_model.specs.declared.spindle.SpindleBase.{SpindleBase}
+use Rattle.wol_model.specs.History.{Kept, writes, flight_of}
+use Rattle.wol_model.specs.Index.{Indexed}
+use Rattle.wol_promise.specs.Ruled.{Noted, HasPassed, last_look, times_passed, entries_of}
+use Rattle.wol_promise.specs.Stands.{Upholds}
+use Rattle.wol_promise.proofs.Kept.{other_flags, kept_more}
+use Rattle.wol_promise.proofs.OneMore.{last_more}
+use Rattle.offload_policy.specs.declared.Room.{Room}
+use Rattle.redirect_map.specs.Index.{Contents}
+use Rattle.manager.specs.Seen.{parts_of, seen, look_of_manager}
+use Rattle.manager.specs.Stands.{Keeps, Stands, IsReady, IsUp, IsNote, nones_at}
+use Rattle.manager.specs.declared.base.ManagerBase.{ManagerBase}
+use Rattle.manager.specs.declared.manager.Manager.{Manager}
+
+-- ---- pools that were found empty
+
+pub times_more : (k : ℕ) (notes : List Noted) (n : Noted) → times_passed k (notes ++ n ∷ []) ≡ times_passed k notes + cond (list_any (λ p. p == k) n.passed) 1 0
+times_more k notes n = let e = sum_by-append (λ (m : Noted). cond (list_any (λ p. p == k) m.passed) 1 0) notes (n ∷ []) in omega (arith, e)
+
+pub none_passed : (nones : ℕ → ℕ) (notes : List Noted) (n : Noted) → n.passed ≡ [] → HasPassed nones notes → HasPassed nones (notes ++ n ∷ [])
+none_passed nones notes n is has k =
+    let e = times_more k notes n in
+    let z = ap (λ (ps : List ℕ). cond {A = ℕ} (list_any (λ p. p == k) ps) 1 0) is in
+    omega (arith, e, z, has k)
+
+-- ---- frames
+
+-- a manager that is ready stays so with other flags, rooms, home's pass and room of the index
+pub ready_reframed : {D : Type 0} (state : D → State) (m : Manager D) (home_up : Bool) (ups : List Bool) (rooms : List Room) (spindle : PassOf Spindle SpindleBase) (index : Contents)
+    → length ups ≡ length m.ups.items → length rooms ≡ length m.rooms.items → IsSamePass m.spindle spindle → IsFree spindle → has_token (pass_mine spindle) ≡ false → index.entries ≡ m.index.entries
+    → IsReady state m → IsReady state (record m { home_up = home_up; ups = record { items = ups }; rooms = record { items = rooms }; spindle = spindle; index = index })
+ready_reframed state m home_up ups rooms spindle index long wide pass free settled entries r = record {
+  ready = let s = r.ready in record {
+    home_volume = s.home_volume;
+    home_small = s.home_small;
+    spindle_volume = ap (λ (l : LockId SpindleBase). l.base.volume) pass.0 ∙ s.spindle_volume;
+    spindle_free = free;
+    settled = settled;
+    each = s.each;
+    flags = long ∙ s.flags;
+    rooms_ = wide ∙ s.rooms_;
+    few = s.few;
+    most_ = s.most_;
+  };
+  next = r.next;
+  below = subst (AllByRecursion (λ (e : Indexed). e.listed.version < m.next)) (sym entries) r.below;
+  up = λ is. subst (IsUp m.lanes.items) (sym entries) (r.up is);
+}
+
+module _ {D : Type 0} (tells : Bool) (state : D → State) (m : Manager D) (b : ManagerBase) (notes : List Noted) where
+  -- other flags, rooms, home's pass and room of the index
+  pub reframed : (home_up : Bool) (ups : List Bool) (rooms : List Room) (spindle : PassOf Spindle SpindleBase) (index : Contents)
+      → length ups ≡ length m.ups.items → IsSamePass m.spindle spindle → index.entries ≡ m.index.entries
+      → IsReady state (record m { home_up = home_up; ups = record { items = ups }; rooms = record { items = rooms }; spindle = spindle; index = index })
+      → Keeps tells state m b notes
+      → Keeps tells state (record m { home_up = home_up; ups = record { items = ups }; rooms = record { items = rooms }; spindle = spindle; index = index }) b notes
+  reframed home_up ups rooms spindle index same pass entries ready k = record {
+    logs = k.logs;
+    held = k.held;
+    upholds = subst (λ (es : List Indexed). Upholds (parts_of tells state) b.volume.began (record (seen m k.logs) { home_up = home_up; ups = ups; indexed = es }) notes (writes (entries_of notes)) (flight_of (entries_of notes)))
+        (sym entries) (other_flags (parts_of tells state) b.volume.began (seen m k.logs) home_up ups notes (writes (entries_of notes)) (flight_of (entries_of notes)) k.upholds same);
+    in_use = k.in_use;
+    passed = k.passed;
+    ready = ready;
+    locks = let l = k.locks in record { pass = pass.0 ∙ l.pass; number = pass.1 ∙ l.number; each = l.each; owner = l.owner; most_ = l.most_; view = l.view };
+  }
+
+  -- a Kept more
+  pub stands_kept : (n : Noted) (passed : List ℕ) → IsNote (last_look b.volume.began.look notes) Kept passed (look_of_manager m) n → HasPassed (nones_at m.lanes.items b.lanes) (notes ++ n ∷ [])
+      → Keeps tells state m b notes → Stands tells state m b (notes ++ n ∷ [])
+  stands_kept n passed note has k = record {
+    keeps = record {
+      logs = k.logs;
+      held = k.held;
+      upholds = (kept_more (parts_of tells state) b.volume.began (seen m k.logs) notes n note.follows note.operation_is k.upholds (λ _. note.look_is)).upholds;
+      in_use = k.in_use;
+      passed = has;
+      ready = k.ready;
+      locks = k.locks;
+    };
+    look = last_more b.volume.began.look notes n ∙ note.look_is;
+  }

@@ -1,0 +1,95 @@
+-- What is known of a manager that is up when a write is put into one of its lanes.
+use Rattle.std.proofs.Common.{◌≡◌, ◌⊎◌, ⊎_elim, ◌<◌, ◌≤◌, ◌+◌, ◌-◌, ◌^◌, ℕ, sym, subst, ◌∙◌, arith, List, [], ◌∷◌, ◌++◌, length, map, Bool, Option, None, Some, refl, ap}
+use Rattle.std.specs.Prelude.{slice_get, slice_set, IsTrue, is_some}
+use Rattle.std.specs.List.{AllByRecursion}
+use Rattle.std.specs.Option.{option_map}
+use Rattle.std.proofs.lemmas.Option.{slice_get-map}
+use Rattle.wol_disk.specs.Disk.{State, Block, IsImageOf, Rose}
+use Rattle.wol_disk.proofs.Calls.{settled_only}
+use Rattle.wol_model.specs.Blocks.{Write}
+use Rattle.wol_model.specs.Extents.{KeepsAll, IsValid, write_of}
+use Rattle.wol_model.specs.History.{writes, flight_of}
+use Rattle.wol_model.specs.Index.{Indexed}
+use Rattle.wol_model.specs.Log.{Record, IsLog, extent_of}
+use Rattle.spin_model.specs.declared.spun.Spun.{Spun}
+use Rattle.spin_model.specs.Spun.{state_of}
+use Rattle.log_segment.specs.Records.{new_record}
+use Rattle.log_segment.specs.Segment.{Holds, disk_of, owner_of}
+use Rattle.log_segment.specs.declared.segment.Segment.{Segment}
+use Rattle.wol_promise.specs.Manager.{Parts, Base, AreInUse}
+use Rattle.wol_promise.specs.Ruled.{Noted, entries_of}
+use Rattle.wol_promise.specs.Stands.{Upholds, LiesIn}
+use Rattle.wol_promise.proofs.Kept.{not_broken}
+use Rattle.wol_promise.proofs.Lists.{all_map}
+use Rattle.logger.specs.Lanes.{logger_of, lane_owner, taken_in}
+use Rattle.logger.specs.declared.lane.Lane.{Lane}
+use Rattle.manager.specs.Seen.{Logs, AllLanesHold, parts_of, seen, all_held, all_taken, down_of}
+use Rattle.manager.specs.Stands.{Keeps, IsReadyLane}
+use Rattle.manager.specs.declared.base.ManagerBase.{ManagerBase}
+use Rattle.manager.specs.declared.manager.Manager.{Manager}
+use Rattle.manager.specs.declared.part.Part.{Part}
+use Rattle.manager.proofs.Lanes.{all_at, all_set, none_taken}
+use Rattle.manager.proofs.NewRecord.{new_keeps, new_valid}
+
+-- each image of a segment that holds records is a log of them
+pub image_is_log : {D : Type 0} (state : D → State) (seg : Segment D) (rs : List Record) (c : List Block) → Holds state seg rs → IsImageOf (disk_of state seg).values c → IsLog c (owner_of seg) rs
+image_is_log state seg rs c holds is = subst (λ (bs : List Block). IsLog bs (owner_of seg) rs) (sym (settled_only (disk_of state seg).values holds.disk.bs c holds.disk.settled is)) holds.disk.log
+
+pub some_fault : (old new : ℕ) → Rose old new → 0 < new
+some_fault old new rose = ⊎_elim (λ more. omega arith) (λ full. omega arith) rose
+
+module _ {D : Type 0} (tells : Bool) (state : D → State) (m : Manager D) (b : ManagerBase) (notes : List Noted) (kp : Keeps tells state m b notes) where
+  abbrev pub parts : Parts (Spun D)
+  parts = parts_of tells state
+
+  abbrev pub base : Base
+  base = b.volume.began
+
+  abbrev pub ws : List Write
+  ws = writes (entries_of notes)
+
+  pub untaken : all_taken 0 m.lanes.items ≡ []
+  untaken = none_taken 0 m.lanes.items (all_map (IsReadyLane state m.id m.most) (λ (l : Lane D). taken_in l ≡ None) (λ l is. is.untaken) m.lanes.items kp.ready.ready.each)
+
+  module _ (up : m.down ≡ None) where
+    pub is_up : down_of m.down ≡ None
+    is_up = ap down_of up
+
+    pub none : flight_of (entries_of notes) ≡ None
+    none = not_broken parts base (seen m kp.logs) notes ws (flight_of (entries_of notes)) kp.upholds is_up
+
+    pub upheld : Upholds parts base (seen m kp.logs) notes ws None
+    upheld = subst (Upholds parts base (seen m kp.logs) notes ws) none kp.upholds
+
+  module _ (k : ℕ) (old : Lane D) (lane : slice_get m.lanes.items k ≡ Some old) where
+    pub old_lane : IsReadyLane state m.id m.most old
+    old_lane = all_at (IsReadyLane state m.id m.most) m.lanes.items k old lane kp.ready.ready.each
+
+    pub owner : lane_owner old ≡ base.owner
+    owner = old_lane.owner ∙ kp.locks.owner
+
+    pub logger : slice_get base.view k ≡ Some (logger_of old)
+    logger = ap (λ (l : List ℕ). slice_get l k) (sym kp.locks.view) ∙ slice_get-map logger_of m.lanes.items k ∙ ap (option_map logger_of) lane
+
+    module _ (lbn : ℕ) (from : List Block) (fits : lbn + length from ≤ (state_of state m.home).size) where
+      abbrev pub new_one : Record
+      new_one = new_record (lane_owner old) m.next lbn from
+
+      pub keeps : KeepsAll (extent_of new_one)
+      keeps = new_keeps (lane_owner old) m.next lbn from
+
+      pub lies : LiesIn base.home_blocks (write_of (extent_of new_one))
+      lies = subst (λ (n : ℕ). lbn + length from ≤ n) kp.upholds.places.home_size fits
+
+-- What a manager keeps up with an entry more, when its lanes, the entries of its index, its next version, flags and part at fault are these:
+-- all but what holds between its calls whatever the entries are.
+pub record Pieces {D : Type 0} (tells : Bool) (state : D → State) (m : Manager D) (b : ManagerBase) (notes : List Noted) (lanes : List (Lane D)) (indexed : List Indexed) (next : ℕ) (ups : List Bool) (down : Option Part) : Type 0 where
+  pub logs : Logs
+  pub held : AllLanesHold (λ h rs. IsTrue tells → down ≡ None → Holds state h.segment rs) lanes logs
+  pub upholds : Upholds (parts_of tells state) b.volume.began (record { home = m.home; held = all_held 0 lanes logs; taken = all_taken 0 lanes; indexed = indexed; next = next; home_up = m.home_up; ups = ups; down = down_of down }) notes (writes (entries_of notes)) (flight_of (entries_of notes))
+  pub in_use : IsTrue tells → down ≡ None → AreInUse (all_held 0 lanes logs)
+
+-- no lane has a taken segment, before and after
+pub untaken_set : {D : Type 0} (state : D → State) (id most : ℕ) (lanes : List (Lane D)) (k : ℕ) (new : Lane D) → AllByRecursion (IsReadyLane state id most) lanes → taken_in new ≡ None → all_taken 0 lanes ≡ all_taken 0 (slice_set lanes k new)
+untaken_set {D} state id most lanes k new ready is = let all = all_map (IsReadyLane state id most) (λ (l : Lane D). taken_in l ≡ None) (λ l is. is.untaken) lanes ready in
+    none_taken 0 lanes all ∙ sym (none_taken 0 (slice_set lanes k new) (all_set (λ (l : Lane D). taken_in l ≡ None) lanes k new all is))

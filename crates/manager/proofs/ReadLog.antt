@@ -1,0 +1,159 @@
+-- A lane's read, as its manager sees it.
+use Rattle.std.proofs.Common.{◌≡◌, inl, inr, ◌<◌, ◌≤◌, ◌+◌, ◌-◌, ℕ, Bool, List, [], ◌∷◌, ◌++◌, length, take, drop, Option, None, Some, Result, Ok, Err, OnOk, OnErr, IfErr, get_or, refl, sym, ap, subst, ◌∙◌, arith}
+use Rattle.std.specs.Prelude.{Contains, slice_get, slice_set}
+use Rattle.std.specs.List.{AllByRecursion, AllZip, refill}
+use Rattle.std.specs.Vec.{with_item}
+use Rattle.std.proofs.Math.ListN.{length-set}
+use Rattle.std.proofs.lemmas.Option.{same_Some, slice_get_read, slice_get_within}
+use Rattle.std.proofs.lemmas.List.{append-nil}
+use Rattle.wol_disk.specs.Disk.{State, Block, Rose, IsDisk}
+use Rattle.wol_model.specs.Extents.{newest}
+use Rattle.wol_model.specs.Index.{Indexed}
+use Rattle.wol_promise.proofs.Lists.{all_map, all_member}
+use Rattle.turn_lock.specs.Passes.{pass_mine}
+use Rattle.log_segment.specs.Segment.{IsWhole, blocks_of, disk_of}
+use Rattle.redirect_map.specs.Index.{cover_at}
+use Rattle.redirect_map.specs.declared.record.Rec.{Rec}
+use Rattle.logger.specs.Lanes.{IsLane, IsHeld, IsSameLane, AreWhole, ReadFrom, held_in, taken_in, pool_of, logger_of}
+use Rattle.logger.specs.declared.lane.HeldSegment.{HeldSegment}
+use Rattle.logger.specs.declared.lane.Lane.{Lane}
+use Rattle.logger.specs.declared.lane.Spot.{Spot}
+use Rattle.manager.specs.Reading.{Counted, IsSource, SegmentRead, LaneRead}
+use Rattle.manager.specs.Stands.{IsReady, IsReadyLane, IsUp, IsPlacedIn}
+use Rattle.manager.specs.declared.manager.Manager.{Manager}
+use Rattle.manager.proofs.Lanes.{all_at, all_set, get_set}
+use Rattle.manager.proofs.ReadyLanes.{get_of, ready_set, placed_set, stays_set}
+use Rattle.manager.proofs.ReadThrough.{zip_set, segment_self}
+use Rattle.manager.proofs.RunContent.{newest_is}
+use Rattle.manager.proofs.RunSources.{Answers, entry_for, in_record}
+
+-- ---- flags
+
+take_all : {X : Type 0} (xs : List X) → take (length xs) xs ≡ xs
+take_all [] = refl
+take_all (x ∷ xs) = λ i. x ∷ take_all xs i
+
+drop_all : {X : Type 0} (xs : List X) → drop (length xs) xs ≡ []
+drop_all [] = refl
+drop_all (x ∷ xs) = drop_all xs
+
+-- flags of which one was set
+pub flags_set : (ups lent : List Bool) (k : ℕ) (t : Bool) → lent ≡ ups → refill (length ups) ups (slice_set lent k t) ≡ slice_set ups k t
+flags_set ups lent k t same =
+    let long : length (slice_set lent k t) ≡ length ups = length-set lent k t ∙ ap length same in
+    ap (λ (n : ℕ). take (length ups) (slice_set lent k t ++ drop n ups)) long
+    ∙ ap (λ (l : List Bool). take (length ups) (slice_set lent k t ++ l)) (drop_all ups)
+    ∙ ap (take (length ups)) (append-nil (slice_set lent k t))
+    ∙ ap (λ (n : ℕ). take n (slice_set lent k t)) (sym long)
+    ∙ take_all (slice_set lent k t)
+    ∙ ap (λ (l : List Bool). slice_set l k t) same
+
+-- ---- the lane
+
+count_of : {T E : Type 0} (r : Result T E) (a b : ℕ) → OnOk r (b ≡ a) → OnErr r (Rose a b) → Counted a b
+count_of (Ok x) a b ok err = inl ok
+count_of (Err e) a b ok err = inr err
+
+module _ {D T E : Type 0} (state : D → State) (sound : (d : D) → IsDisk (state d)) (l l' : Lane D) (spot : Spot) (skip : ℕ) (before after_ : List Block) (res : Result T E)
+    (was : IsLane state l) (is : IsLane state l') (whole : AreWhole (held_in l)) (same : IsSameLane l l') (moved : ReadFrom state l l' spot skip before after_ res) where
+  segment_read : SegmentRead state moved.old_segment moved.new_segment
+  segment_read = record {
+    index = moved.index;
+    same = moved.same;
+    broken = moved.whole ∙ sym (all_at (λ (h : HeldSegment D). IsWhole h.segment) (held_in l) moved.place moved.old_segment moved.there whole);
+    size = (all_at (IsHeld state _ _ _ _) (held_in l') moved.place moved.new_segment there' is.each).shape.size ∙ moved.same.blocks ∙ sym (all_at (IsHeld state _ _ _ _) (held_in l) moved.place moved.old_segment moved.there was.each).shape.size;
+    keeps = moved.keeps;
+    any_moment = moved.any_moment;
+    faults = count_of res _ _ moved.calm moved.cause;
+  }
+    where
+      there' : slice_get (held_in l') moved.place ≡ Some moved.new_segment
+      there' = ap (λ (hs : List (HeldSegment D)). slice_get hs moved.place) moved.held ∙ get_set (held_in l) moved.place moved.old_segment moved.new_segment moved.there
+
+  pub lane_read : taken_in l' ≡ taken_in l → pass_mine (pool_of l') ≡ pass_mine (pool_of l) → LaneRead state l l'
+  lane_read taken pool = record {
+    same = same;
+    taken = taken;
+    pool = pool;
+    held = subst (λ (hs : List (HeldSegment D)). AllZip (SegmentRead state) (held_in l) hs) (sym moved.held)
+        (zip_set (SegmentRead state) (segment_self state sound) (held_in l) moved.place moved.old_segment moved.new_segment moved.there segment_read);
+  }
+
+  -- its segments are whole still
+  pub whole_after : AreWhole (held_in l')
+  whole_after = subst (AllByRecursion (λ (h : HeldSegment D). IsWhole h.segment)) (sym moved.held) (all_set (λ (h : HeldSegment D). IsWhole h.segment) (held_in l) moved.place moved.new_segment whole moved.whole)
+
+  pub stays_after : (h : HeldSegment D) → Contains (held_in l) h → (t : HeldSegment D) × Contains (held_in l') t × (t.index ≡ h.index) × (blocks_of t.segment ≡ blocks_of h.segment)
+  stays_after h has = let t = stays_set (held_in l) moved.place moved.old_segment moved.new_segment moved.there moved.index moved.same.blocks h has in
+      (t.0, subst (λ (hs : List (HeldSegment D)). Contains hs t.0) (sym moved.held) t.1, t.2, t.3)
+
+-- ---- the spot of a run
+
+-- the segment that the index names for a run of blocks
+pub record Spotted {D : Type 0} (m : Manager D) (r : Rec) (first n : ℕ) (lane : Lane D) : Type 0 where
+  pub lane_is : slice_get m.lanes.items r.lane ≡ Some lane
+  pub place : ℕ
+  pub segment : HeldSegment D
+  pub there : slice_get (held_in lane) place ≡ Some segment
+  pub index : segment.index ≡ r.segment
+  pub whole : AreWhole (held_in lane)
+  pub behind : r.lbn ≤ first
+  pub short : first - r.lbn < r.count
+  pub fits : r.pos + 1 + (first - r.lbn) + n ≤ blocks_of segment.segment
+
+module _ {D : Type 0} (state : D → State) (m : Manager D) (ready : IsReady state m) (up : m.down ≡ None) where
+  pub spotted : (r : Rec) (first n : ℕ) → 1 ≤ n → IsSource m.index.entries first n (Some r) → (l : Lane D) × Spotted m r first n l
+  spotted r first n some source = (
+    placed.lane,
+    record {
+      lane_is = ap (slice_get m.lanes.items) entry.record_.lane ∙ placed.lane_is;
+      place = there.0;
+      segment = placed.segment;
+      there = there.1;
+      index = placed.index ∙ sym entry.record_.segment;
+      whole = all_at (λ (l : Lane D). AreWhole (held_in l)) m.lanes.items entry.entry.listed.lane placed.lane placed.lane_is (ready.up up).whole;
+      behind = begins.0;
+      short = (let a = begins.0 in let b = begins.1 in omega arith);
+      fits = (let a = begins.0 in let b = ends.1 in let w = placed.within in let p = entry.record_.pos in let c = entry.record_.count in omega arith);
+    },
+  )
+    where
+      entry : Answers (newest cover_at m.index.entries first) r
+      entry = entry_for m.index.entries first n r source first (omega arith) (omega arith)
+
+      placed : IsPlacedIn m.lanes.items entry.entry
+      placed = all_member (IsPlacedIn m.lanes.items) m.index.entries entry.entry (ready.up up).placed (newest_is cover_at m.index.entries first entry.entry entry.is).among
+
+      there : (k : ℕ) × (slice_get (held_in placed.lane) k ≡ Some placed.segment)
+      there = get_of (held_in placed.lane) placed.segment placed.held
+
+      begins : (r.lbn ≤ first) × (first < r.lbn + r.count)
+      begins = in_record m.index.entries first n r source first (omega arith) (omega arith)
+
+      ends : (r.lbn ≤ first + n - 1) × (first + n - 1 < r.lbn + r.count)
+      ends = in_record m.index.entries first n r source (first + n - 1) (omega arith) (omega arith)
+
+  -- in the lane that the code reaches
+  pub spotted_in : (r : Rec) (first n : ℕ) → 1 ≤ n → IsSource m.index.entries first n (Some r) → (l : Lane D) → l ≡ get_or m.lanes.items r.lane l → Spotted m r first n l
+  spotted_in r first n some source l is =
+      let s = spotted r first n some source in
+      let lt = slice_get_within m.lanes.items r.lane s.0 s.1.lane_is in
+      subst (Spotted m r first n) (same_Some s.0 l (sym s.1.lane_is ∙ slice_get_read m.lanes.items (length m.lanes.items) r.lane l refl lt is)) s.1
+
+  -- ready again with another lane at one place
+  pub ready_after : (k : ℕ) (l l' : Lane D) (ups : List Bool) → slice_get m.lanes.items k ≡ Some l → IsSameLane l l' → IsLane state l' → taken_in l' ≡ taken_in l → AreWhole (held_in l')
+      → ((h : HeldSegment D) → Contains (held_in l) h → (t : HeldSegment D) × Contains (held_in l') t × (t.index ≡ h.index) × (blocks_of t.segment ≡ blocks_of h.segment)) → length ups ≡ length m.ups.items
+      → IsReady state (record m { lanes = with_item m.lanes k l'; ups = record { items = ups } })
+  ready_after k l l' ups lane_is same is taken whole stays flags = record {
+    ready = ready_set state m.id m.most m.lanes.items k l l' lane_is same ready.ready is (taken ∙ (all_at (IsReadyLane state m.id m.most) m.lanes.items k l lane_is ready.ready.each).untaken) flags;
+    next = ready.next;
+    below = ready.below;
+    up = λ none. let u = ready.up up in record {
+      whole = all_set (λ (q : Lane D). AreWhole (held_in q)) m.lanes.items k l' u.whole whole;
+      placed = all_map (IsPlacedIn m.lanes.items) (IsPlacedIn (slice_set m.lanes.items k l')) (placed_set m.lanes.items k l l' lane_is stays) m.index.entries u.placed;
+    };
+  }
+
+-- the segment of a spot is whole
+pub segment_after : {D : Type 0} {m : Manager D} {r : Rec} {first n : ℕ} {l : Lane D} (s : Spotted m r first n l) → IsWhole s.segment.segment
+segment_after {l = l} s = all_at (λ h. IsWhole h.segment) (held_in l) s.place s.segment s.there s.whole

@@ -1,0 +1,42 @@
+-- Home is read where no record covers the blocks.
+use Rattle.std.proofs.Common.{◌≡◌, ◌+◌, ◌-◌, ◌≤◌, ℕ, List, length, take, drop, Option, Some, refl, sym, ap, subst, ◌∙◌, arith}
+use Rattle.std.specs.Prelude.{IfSome, slice_range, OnOk}
+use Rattle.wol_disk.specs.Disk.{Block, Values, reads}
+use Rattle.wol_model.specs.Index.{listed_in}
+use Rattle.logger.specs.Lanes.{spindle_of}
+use Rattle.manager.specs.Seen.{look_of_manager}
+use Rattle.manager.proofs.ReadContent.{home_content}
+use Rattle.manager.proofs.ReadThrough.{lanes_self, counted_of, same_lane_spindle, on_ok_like}
+use Rattle.manager.proofs.RunSources.{bare_run_of, needs_one, needs_none}
+use Rattle.manager.proofs.Woken.{woken_home, bare_reads_home, bare_reads_lane}
+use Rattle.manager.proofs.manager.Manager.read_home.Goals as goal
+
+pub returns-clause-read : goal.returns-clause-read
+returns-clause-read g c = let e = c.fetch_at-answer.ensures in record {
+  same = record { id = refl; most = refl };
+  home = record { volume = e.volume; size = e.size; values = e.values; any_moment = e.any_moment; faults = counted_of c.fetch_at-answer.result _ _ e.calm e.cause };
+  spindle = e.same;
+  lanes = lanes_self g.D.Disk.state g.met.D.Disk.sound c.args.self.now.lanes.items;
+  index = refl;
+  next = refl;
+  rooms = refl;
+  down = refl;
+}
+
+pub returns-clause-look : goal.returns-clause-look
+returns-clause-look g c = sym (woken_home (look_of_manager c.args.self.now) c.args.lbn (length c.args.out.now) c.requires.some (bare_run_of c.args.self.now.index.entries c.args.lbn (length c.args.out.now) c.requires.source))
+
+pub returns-clause-needs : goal.returns-clause-needs
+returns-clause-needs g c = let m = c.args.self.now in let bare = bare_run_of m.index.entries c.args.lbn (length c.args.out.now) c.requires.source in record {
+  home = rw (bare_reads_home (listed_in m.index.entries) c.args.lbn (length c.args.out.now) c.requires.some bare) (needs_one m.spindle c.fetch_at-answer.new.spindle _ _ c.fetch_at-answer.ensures.used);
+  lanes = λ k o n was is. rw (bare_reads_lane (listed_in m.index.entries) c.args.lbn (length c.args.out.now) c.requires.some bare k) (needs_none (spindle_of o) (spindle_of n) (same_lane_spindle m.lanes.items k o n was is));
+}
+
+pub returns-clause-content : goal.returns-clause-content
+returns-clause-content g c told b notes keeps =
+    let m = c.args.self.now in
+    let t = g.met.D.Disk.told told m.home.inner in
+    let out : List Block = c.fetch_at-answer.new.out in
+    on_ok_like c.fetch_at-answer.result c.at_part.result c.at_part.ensures.like
+    (λ is. is ∙ home_content g.D.Disk.tells g.D.Disk.state m b notes keeps c.requires.up told t.0 t.1 c.args.lbn (length c.args.out.now) c.requires.source)
+    (let P : Option (List (Values Block)) → Type 0 = λ o. OnOk c.fetch_at-answer.result (IfSome o (λ vs. out ≡ take (length c.args.out.now) (drop c.args.lbn (reads vs)))) in subst P t.1 c.fetch_at-answer.ensures.content)

@@ -1,0 +1,127 @@
+-- A log is read where one of its records is the newest one of the blocks.
+use Rattle.std.proofs.Common.{◌≡◌, ◌+◌, ◌-◌, ◌<◌, ◌≤◌, ℕ, Bool, true, List, length, take, drop, Some, refl, sym, ap, subst, ◌∙◌, arith}
+use Rattle.std.specs.Prelude.{slice_get, slice_set}
+use Rattle.std.specs.Vec.{with_item}
+use Rattle.std.proofs.Math.ListN.{length-set}
+use Rattle.std.proofs.lemmas.Option.{slice_get_within}
+use Rattle.wol_disk.specs.Disk.{Block}
+use Rattle.wol_model.specs.Index.{listed_in}
+use Rattle.logger.specs.Lanes.{IsAt, held_in, spindle_of}
+use Rattle.logger.specs.declared.lane.Lane.{Lane}
+use Rattle.manager.specs.Causes.{SegmentRose}
+use Rattle.manager.specs.Seen.{look_of_manager}
+use Rattle.manager.specs.Stands.{IsReady, IsReadyLane}
+use Rattle.manager.proofs.Lanes.{all_at, get_set}
+use Rattle.manager.proofs.ReadContent.{log_content}
+use Rattle.manager.proofs.ReadLog.{spotted, spotted_in, flags_set, lane_read, whole_after, stays_after, ready_after, segment_after}
+use Rattle.manager.proofs.ReadThrough.{home_self, lanes_set, on_ok_like, err_like}
+use Rattle.manager.proofs.RunSources.{lane_run_of, needs_set, needs_none}
+use Rattle.manager.proofs.Woken.{woken_log, log_reads_home, log_reads_lane}
+use Rattle.manager.proofs.manager.Manager.read_log.Goals as goal
+
+pub bounds-deref_mut-place : goal.bounds-deref_mut-place
+bounds-deref_mut-place g c =
+    let m = c.args.self.now in
+    let s = spotted g.D.Disk.state m c.requires.ready c.requires.up c.args.record.now c.args.lbn (length c.args.out.now) c.requires.some c.requires.source in
+    let lt = slice_get_within m.lanes.items c.args.record.now.lane s.0 s.1.lane_is in
+    let e = ap length c.deref_mut.ensures.value in
+    omega (arith, lt, e, c.requires.ready.ready.flags)
+
+pub index_mut-lane-requires : goal.index_mut-lane-requires
+index_mut-lane-requires g c =
+    let m = c.args.self.now in
+    let s = spotted g.D.Disk.state m c.requires.ready c.requires.up c.args.record.now c.args.lbn (length c.args.out.now) c.requires.some c.requires.source in
+    let lt = slice_get_within m.lanes.items c.args.record.now.lane s.0 s.1.lane_is in
+    omega (arith, lt, m.lanes.ok.0)
+
+pub overflow_sub-skip : goal.overflow_sub-skip
+overflow_sub-skip g c = (spotted g.D.Disk.state c.args.self.now c.requires.ready c.requires.up c.args.record.now c.args.lbn (length c.args.out.now) c.requires.some c.requires.source).1.behind
+
+pub read-answer-requires-clause-lane : goal.read-answer-requires-clause-lane
+read-answer-requires-clause-lane g c =
+    let m = c.args.self.now in
+    let s = spotted_in g.D.Disk.state m c.requires.ready c.requires.up c.args.record.now c.args.lbn (length c.args.out.now) c.requires.some c.requires.source c.index_mut-lane.result.now c.index_mut-lane.ensures.value in
+    (all_at (IsReadyLane g.D.Disk.state m.id m.most) m.lanes.items c.args.record.now.lane c.index_mut-lane.result.now s.lane_is c.requires.ready.ready.each).lane
+
+pub read-answer-requires-clause-at : goal.read-answer-requires-clause-at
+read-answer-requires-clause-at g c =
+    let m = c.args.self.now in
+    let s = spotted_in g.D.Disk.state m c.requires.ready c.requires.up c.args.record.now c.args.lbn (length c.args.out.now) c.requires.some c.requires.source c.index_mut-lane.result.now c.index_mut-lane.ensures.value in
+    all_at (IsAt c.args.shared.now) m.lanes.items c.args.record.now.lane c.index_mut-lane.result.now s.lane_is c.requires.at.lanes_
+
+pub read-answer-requires-clause-spot : goal.read-answer-requires-clause-spot
+read-answer-requires-clause-spot g c =
+    let m = c.args.self.now in
+    let s = spotted_in g.D.Disk.state m c.requires.ready c.requires.up c.args.record.now c.args.lbn (length c.args.out.now) c.requires.some c.requires.source c.index_mut-lane.result.now c.index_mut-lane.ensures.value in
+    record { place = s.place; segment = s.segment; there = s.there; named = s.index; whole = segment_after s; fits = s.fits }
+
+pub returns-clause-ready : goal.returns-clause-ready
+returns-clause-ready g c =
+    let m = c.args.self.now in let state = g.D.Disk.state in let k = c.args.record.now.lane in let l = c.index_mut-lane.result.now in let e = c.read-answer.ensures in let l' = c.read-answer.new.self in
+    let s = spotted_in state m c.requires.ready c.requires.up c.args.record.now c.args.lbn (length c.args.out.now) c.requires.some c.requires.source l c.index_mut-lane.ensures.value in
+    let was = all_at (IsReadyLane state m.id m.most) m.lanes.items k l s.lane_is c.requires.ready.ready.each in
+    subst (λ (ups : List Bool). IsReady state (record m { lanes = with_item m.lanes k l'; ups = record { items = ups } })) (sym (flags_set m.ups.items c.deref_mut.result.now k true c.deref_mut.ensures.value))
+    (ready_after state m c.requires.ready c.requires.up k l l' (slice_set m.ups.items k true) s.lane_is e.same e.lane e.taken
+    (whole_after state g.met.D.Disk.sound l l' _ _ _ _ c.read-answer.result was.lane e.lane s.whole e.same e.moved) (stays_after state g.met.D.Disk.sound l l' _ _ _ _ c.read-answer.result was.lane e.lane s.whole e.same e.moved) (length-set m.ups.items k true))
+
+pub returns-clause-read : goal.returns-clause-read
+returns-clause-read g c =
+    let m = c.args.self.now in let state = g.D.Disk.state in let k = c.args.record.now.lane in let l = c.index_mut-lane.result.now in let e = c.read-answer.ensures in let l' = c.read-answer.new.self in
+    let s = spotted_in state m c.requires.ready c.requires.up c.args.record.now c.args.lbn (length c.args.out.now) c.requires.some c.requires.source l c.index_mut-lane.ensures.value in
+    let was = all_at (IsReadyLane state m.id m.most) m.lanes.items k l s.lane_is c.requires.ready.ready.each in
+    record {
+      same = record { id = refl; most = refl };
+      home = home_self state g.met.D.Disk.sound m.home;
+      spindle = (refl, refl);
+      lanes = lanes_set state g.met.D.Disk.sound m.lanes.items k l l' s.lane_is (lane_read state g.met.D.Disk.sound l l' _ _ _ _ c.read-answer.result was.lane e.lane s.whole e.same e.moved e.taken e.pool);
+      index = refl;
+      next = refl;
+      rooms = refl;
+      down = refl;
+    }
+
+pub returns-clause-look : goal.returns-clause-look
+returns-clause-look g c =
+    let m = c.args.self.now in let k = c.args.record.now.lane in
+    let s = spotted_in g.D.Disk.state m c.requires.ready c.requires.up c.args.record.now c.args.lbn (length c.args.out.now) c.requires.some c.requires.source c.index_mut-lane.result.now c.index_mut-lane.ensures.value in
+    let lt = slice_get_within m.lanes.items k c.index_mut-lane.result.now s.lane_is in
+    (λ i. record { home_up = m.home_up; ups = flags_set m.ups.items c.deref_mut.result.now k true c.deref_mut.ensures.value i; next = m.next; listed = listed_in m.index.entries })
+    ∙ sym (woken_log (look_of_manager m) c.args.lbn (length c.args.out.now) k c.requires.some (omega (arith, lt, c.requires.ready.ready.flags)) (lane_run_of m.index.entries c.args.lbn (length c.args.out.now) c.args.record.now c.requires.source))
+
+pub returns-clause-needs : goal.returns-clause-needs
+returns-clause-needs g c =
+    let m = c.args.self.now in let k = c.args.record.now.lane in let l = c.index_mut-lane.result.now in
+    let run = lane_run_of m.index.entries c.args.lbn (length c.args.out.now) c.args.record.now c.requires.source in
+    let s = spotted_in g.D.Disk.state m c.requires.ready c.requires.up c.args.record.now c.args.lbn (length c.args.out.now) c.requires.some c.requires.source l c.index_mut-lane.ensures.value in
+    record {
+      home = rw (log_reads_home (listed_in m.index.entries) c.args.lbn (length c.args.out.now) c.requires.some k run) (needs_none m.spindle m.spindle refl);
+      lanes = λ j o n was is. rw (log_reads_lane (listed_in m.index.entries) c.args.lbn (length c.args.out.now) c.requires.some k run j) (needs_set m.lanes.items k l c.read-answer.new.self s.lane_is c.read-answer.ensures.used j o n was is);
+    }
+
+pub returns-clause-content : goal.returns-clause-content
+returns-clause-content g c told b notes keeps =
+    let m = c.args.self.now in let state = g.D.Disk.state in let r = c.args.record.now in let l = c.index_mut-lane.result.now in let moved = c.read-answer.ensures.moved in
+    let t = g.met.D.Disk.told told m.home.inner in
+    let s = spotted_in state m c.requires.ready c.requires.up r c.args.lbn (length c.args.out.now) c.requires.some c.requires.source l c.index_mut-lane.ensures.value in
+    let long : length t.0 ≡ (state m.home.inner).size = (g.met.D.Disk.sound m.home.inner).each_block t.0 t.1 in
+    let found = log_content g.D.Disk.tells state m b notes keeps c.requires.up told t.0 t.1 c.args.lbn (length c.args.out.now) (omega (arith, long, c.requires.fits)) c.requires.some r c.requires.source l moved.place moved.old_segment s.lane_is moved.there moved.named in
+    on_ok_like c.read-answer.result c.at_part.result c.at_part.ensures.like (λ is. is ∙ found.content) (moved.content found.records found.place found.record_ found.holds found.there found.position found.within)
+
+pub returns-clause-cause : goal.returns-clause-cause
+returns-clause-cause g c =
+    let m = c.args.self.now in let state = g.D.Disk.state in let k = c.args.record.now.lane in let l = c.index_mut-lane.result.now in let l' = c.read-answer.new.self in let moved = c.read-answer.ensures.moved in
+    let s = spotted_in state m c.requires.ready c.requires.up c.args.record.now c.args.lbn (length c.args.out.now) c.requires.some c.requires.source l c.index_mut-lane.ensures.value in
+    err_like _ c.read-answer.result c.at_part.result c.at_part.ensures.like c.at_part.ensures.part moved.cause (λ rose. record {
+      lane = k;
+      place = moved.place;
+      old_lane = l;
+      new_lane = l';
+      old_segment = moved.old_segment;
+      new_segment = moved.new_segment;
+      was_lane = s.lane_is;
+      is_lane = get_set m.lanes.items k l l' s.lane_is;
+      was_there = moved.there;
+      is_there = ap (λ hs. slice_get hs moved.place) moved.held ∙ get_set (held_in l) moved.place moved.old_segment moved.new_segment moved.there;
+      named = (c.logger.ensures, sym moved.named);
+      rose = rose;
+    })

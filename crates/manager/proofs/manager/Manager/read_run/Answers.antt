@@ -1,0 +1,15 @@
+-- The covered blocks of a run are all of them or none.
+use Rattle.std.proofs.Common.{Some, None, length, sym, subst}
+use Rattle.manager.specs.Reading.{IsSource}
+use Rattle.manager.proofs.RunSources.{bare_count, log_count}
+use Rattle.manager.proofs.manager.Manager.read_run.Goals as goal
+
+pub returns-in_ok-read_home-in-None-clause-logged : goal.returns-in_ok-read_home-in-None-clause-logged
+returns-in_ok-read_home-in-None-clause-logged g c =
+    let es = c.args.self.now.index.entries in
+    sym (bare_count es c.args.lbn (length c.args.out.now) (subst (IsSource es c.args.lbn (length c.args.out.now)) c.in-None.is c.requires.source))
+
+pub returns-in_ok-read_log-in-Some-clause-logged : goal.returns-in_ok-read_log-in-Some-clause-logged
+returns-in_ok-read_log-in-Some-clause-logged g c =
+    let es = c.args.self.now.index.entries in
+    sym (log_count es c.args.lbn (length c.args.out.now) c.in-Some.record (subst (IsSource es c.args.lbn (length c.args.out.now)) c.in-Some.is c.requires.source))

@@ -1,0 +1,38 @@
+-- Run after run.
+use Rattle.std.proofs.Common.{◌+◌, ◌≤◌, length, sym, arith}
+use Rattle.std.proofs.lemmas.Result.{err_from_is_err_and}
+use Rattle.manager.proofs.ReadRuns.{nothing_read, part_length, needs_too, run_read}
+use Rattle.manager.proofs.ReadThrough.{through_then, rose_through}
+use Rattle.manager.proofs.manager.Manager.read_runs.Goals as goal
+
+pub runs-init : goal.runs-init
+runs-init g c = nothing_read g.D.Disk.tells g.D.Disk.state g.met.D.Disk.sound c.args.shared.now c.args.self.now c.args.lbn (length c.args.out.now) c.args.out.now c.requires.ready c.requires.at
+
+pub returns-in_err-run-clause-read : goal.returns-in_err-run-clause-read
+returns-in_err-run-clause-read g c = through_then g.D.Disk.state g.met.D.Disk.sound c.args.self.now c.runs.self c.read_run.new.self c.runs.invariant.read c.read_run.ensures.read
+
+pub returns-in_err-run-clause-needs : goal.returns-in_err-run-clause-needs
+returns-in_err-run-clause-needs g c =
+    let count = c.run_from-source.result.1 in
+    let within : c.runs.done + count ≤ length c.args.out.now = omega (arith, c.run_from-source.ensures.most) in
+    let long = part_length c.runs.done count c.runs.out (omega arith) in
+    record {
+      blocks = c.runs.done + count;
+      within = within;
+      needs = needs_too g.D.Disk.tells g.D.Disk.state g.met.D.Disk.sound c.args.shared.now c.args.self.now c.args.lbn (length c.args.out.now) c.runs.self c.read_run.new.self c.runs.done count _ long c.runs.out c.read_run.new.out c.runs.sources c.runs.sources
+          c.runs.invariant c.requires.up c.read_run.ensures.ready c.read_run.ensures.at c.read_run.ensures.read c.read_run.ensures.look c.read_run.ensures.needs;
+    }
+
+pub returns-in_err-run-clause-cause : goal.returns-in_err-run-clause-cause
+returns-in_err-run-clause-cause g c =
+    let p = err_from_is_err_and c.from_residual.result c.from_residual.ensures.1 in
+    rw (p.1, p.2) (rose_through g.D.Disk.state g.met.D.Disk.sound c.args.self.now c.runs.self c.read_run.new.self c.runs.invariant.read c.in_err-run.field-0.0 c.in_err-run.ensures.cause)
+
+pub runs-preserved : goal.runs-preserved
+runs-preserved g c =
+    let count = c.run_from-source.result.1 in
+    let within : c.runs.done + count ≤ length c.args.out.now = omega (arith, c.run_from-source.ensures.most) in
+    let long = part_length c.runs.done count c.runs.out (omega arith) in
+    run_read g.D.Disk.tells g.D.Disk.state g.met.D.Disk.sound c.args.shared.now c.args.self.now c.args.lbn (length c.args.out.now) c.runs.self c.read_run.new.self c.runs.done count _ long c.runs.out c.read_run.new.out c.runs.sources c.in_ok-run.run'
+    c.runs.invariant c.requires.up c.read_run.ensures.ready c.read_run.ensures.at c.read_run.ensures.read c.read_run.ensures.look c.read_run.ensures.needs c.in_ok-run.ensures.content c.in_ok-run.ensures.logged c.in_ok-run.ensures.all
+    within (sym c.runs.auto.out) c.read_run.auto.out

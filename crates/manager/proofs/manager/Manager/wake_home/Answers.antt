@@ -1,0 +1,10 @@
+use Rattle.std.proofs.Common.{◌≡◌, List, Bool, true, [], length, refl, ◌∙◌, rules}
+use Rattle.manager.proofs.Frames.{reframed, stands_kept, none_passed}
+use Rattle.manager.specs.Stands.{nones_at}
+use Rattle.manager.proofs.manager.Manager.wake_home.Goals as goal
+
+pub returns-clause-stands : goal.returns-clause-stands
+returns-clause-stands g c pass b notes n is note k =
+    let m = c.args.self.now in let first = c.take_token-token.ensures.same in let then_ = c.give_token.ensures.same in
+    stands_kept g.D.Disk.tells g.D.Disk.state _ b notes n [] note (none_passed (nones_at m.lanes.items b.lanes) notes n note.passed_is k.passed)
+    (reframed g.D.Disk.tells g.D.Disk.state m b notes true m.ups.items m.rooms.items c.give_token.new.pass m.index refl (then_.0 ∙ first.0, then_.1 ∙ first.1) refl (search rules) k)

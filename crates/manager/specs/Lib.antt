@@ -1,0 +1,10 @@
+pub mod Accesses
+pub mod Answers
+pub mod Causes
+pub mod Offers
+pub mod Puts
+pub mod Reading
+pub mod Seen
+pub mod Stands
+pub mod Stops
+pub mod Writing

@@ -1,0 +1,220 @@
+-- What a manager stands for, over the locks that it shares with others.
+use Rattle.std.specs.Prelude.{⊤, ◌≡◌, ◌≢◌, ◌<◌, ◌≤◌, ◌^◌, ◌+◌, ◌-◌, ◌==◌, ℕ, Bool, true, false, not, List, [], ◌∷◌, ◌++◌, map, filter, length, replicate, vec_len, slice_get, slice_index_or, Contains, Option, None, Some, IfSome, IsTrue}
+use Rattle.std.specs.List.{AllByRecursion, count_by, range_with_len}
+use Rattle.std.specs.declared.alloc.Global.{Global}
+use Rattle.std.specs.declared.vec.Vec.{Vec}
+use Rattle.wol_disk.specs.Disk.{State, Block}
+use Rattle.turn_lock.specs.Histories.{Entry}
+use Rattle.turn_lock.specs.LockIds.{LockId}
+use Rattle.turn_lock.specs.Passes.{lock_id, pass_lock, pass_number, pass_mine, IsFree}
+use Rattle.turn_lock.specs.declared.pass.PassOf.{PassOf}
+use Rattle.spin_model.specs.Spun.{state_of, volume_of}
+use Rattle.spin_model.specs.Operations.{has_token}
+use Rattle.spin_model.specs.declared.spun.Spun.{Spun}
+use Rattle.spin_model.specs.declared.spindle.Spindle.{Spindle}
+use Rattle.spin_model.specs.declared.spindle.SpindleBase.{SpindleBase}
+use Rattle.seg_pool.specs.Holders.{Took}
+use Rattle.seg_pool.specs.Operations.{use_of}
+use Rattle.log_segment.specs.Segment.{IsWhole, Holds, blocks_of}
+use Rattle.redirect_map.specs.Index.{Contents}
+use Rattle.offload_policy.specs.Placing.{may_hold}
+use Rattle.offload_policy.specs.declared.Room.{Room}
+use Rattle.offload_policy.specs.declared.Room.TheVariants.{Unknown}
+use Rattle.wol_model.specs.Blocks.{Write}
+use Rattle.wol_model.specs.History.{Operation, worker, writes, flight_of}
+use Rattle.wol_model.specs.Index.{Indexed}
+use Rattle.wol_promise.specs.Code.{code_of, noted_of}
+use Rattle.wol_promise.specs.Manager.{Base, AreInUse}
+use Rattle.wol_promise.specs.Policy.{Look}
+use Rattle.wol_promise.specs.Ruled.{Noted, entries_of, IsStep, last_look, HasPassed}
+use Rattle.wol_promise.specs.Stands.{Upholds}
+use Rattle.logger.specs.Lanes.{IsLane, IsAt, logger_of, lane_owner, held_in, taken_in, pool_of, spindle_of}
+use Rattle.logger.specs.declared.lane.Lane.{Lane}
+use Rattle.logger.specs.declared.lane.HeldSegment.{HeldSegment}
+use Rattle.logger.specs.declared.shared.Shared.{Shared}
+use Rattle.manager.specs.Seen.{Logs, AllLanesHold, all_held, parts_of, seen, look_of_manager}
+use Rattle.manager.specs.declared.base.LaneBase.{LaneBase}
+use Rattle.manager.specs.declared.base.ManagerBase.{ManagerBase}
+use Rattle.manager.specs.declared.manager.Manager.{Manager}
+use Rattle.manager.specs.declared.part.Part.{Part}
+
+-- ---- Safety: what holds of each manager between its calls, whether or not its disks tell their content
+
+-- a lane is this volume's, between calls, and its pool's segments have room for any write
+pub record IsReadyLane {D : Type 0} (state : D → State) (id most : ℕ) (l : Lane D) : Type 0 where
+  pub lane : IsLane state l
+  pub owner : lane_owner l ≡ id
+  pub untaken : taken_in l ≡ None
+  pub long : most + 2 ≤ (pass_lock (pool_of l)).base.blocks
+
+-- its locks, lanes and flags
+pub record Ready {D : Type 0} (state : D → State) (id most : ℕ) (home : Spun D) (spindle : PassOf Spindle SpindleBase) (lanes : List (Lane D)) (ups : List Bool) (rooms : List Room) : Type 0 where
+  pub home_volume : volume_of home ≡ id
+  pub home_small : (1 ≤ (state_of state home).size) × ((state_of state home).size ≤ 2 ^ 32)
+  pub spindle_volume : (pass_lock spindle).base.volume ≡ id
+  pub spindle_free : IsFree spindle
+  pub settled : has_token (pass_mine spindle) ≡ false
+  pub each : AllByRecursion (IsReadyLane state id most) lanes
+  pub flags : length ups ≡ length lanes
+  pub rooms_ : length rooms ≡ length lanes
+  pub few : length lanes ≤ 16
+  pub most_ : (1 ≤ most) × (most ≤ 128)
+
+-- an entry of the index has its place inside a held segment of its lane
+pub record IsPlacedIn {D : Type 0} (lanes : List (Lane D)) (e : Indexed) : Type 0 where
+  pub lane : Lane D
+  pub segment : HeldSegment D
+  pub lane_is : slice_get lanes e.listed.lane ≡ Some lane
+  pub held : Contains (held_in lane) segment
+  pub index : segment.index ≡ e.index
+  pub behind : 1 ≤ e.pos
+  pub within : e.pos + length e.listed.keep < blocks_of segment.segment
+
+-- while nothing failed: no segment is broken, and each entry of the index has its place
+pub record IsUp {D : Type 0} (lanes : List (Lane D)) (indexed : List Indexed) : Type 0 where
+  pub whole : AllByRecursion (λ (l : Lane D). AllByRecursion (λ (h : HeldSegment D). IsWhole h.segment) (held_in l)) lanes
+  pub placed : AllByRecursion (IsPlacedIn lanes) indexed
+
+pub record IsReady {D : Type 0} (state : D → State) (m : Manager D) : Type 0 where
+  pub ready : Ready state m.id m.most m.home m.spindle m.lanes.items m.ups.items m.rooms.items
+  pub next : (1 ≤ m.next) × (m.next ≤ 2 ^ 63)
+  pub below : AllByRecursion (λ e. e.listed.version < m.next) m.index.entries
+  pub up : m.down ≡ None → IsUp m.lanes.items m.index.entries
+
+-- a manager that was just opened: home and all loggers are awake for it
+abbrev pub opened : {D : Type 0} → (id : ℕ) → Spun D → PassOf Spindle SpindleBase → Vec (Lane D) Global → Contents → (next most : ℕ) → Manager D
+opened {D} id home spindle lanes index next most = record {
+  id = id;
+  home = home;
+  spindle = spindle;
+  lanes = lanes;
+  index = index;
+  next = next;
+  most = most;
+  home_up = true;
+  ups = record { items = replicate (length lanes.items) true };
+  rooms = record { items = replicate (length lanes.items) Unknown };
+  down = None;
+}
+
+-- ---- Its locks
+
+-- its passes are of the locks of these shared ones
+pub record At {D : Type 0} (shared : Shared D) (id : ℕ) (spindle : PassOf Spindle SpindleBase) (lanes : List (Lane D)) : Type 0 where
+  pub spindle_in : id < vec_len shared.spindles
+  pub spindle_is : (d : _) → pass_lock spindle ≡ lock_id (slice_index_or shared.spindles.items id d)
+  pub lanes_ : AllByRecursion (IsAt shared) lanes
+
+abbrev pub IsHome : {D : Type 0} → Shared D → Manager D → Type 0
+IsHome shared m = At shared m.id m.spindle m.lanes.items
+
+-- in how many of these turns of a pool it was found empty
+abbrev pub nones_in : List Entry → ℕ
+nones_in entries = count_by (λ (e : Entry). is_none (use_of e.1)) entries
+  where
+    is_none : Rattle.seg_pool.specs.Holders.PoolUse → Bool
+    is_none (Took None) = true
+    is_none (Took (Some index)) = false
+    is_none (Rattle.seg_pool.specs.Holders.Gave index) = false
+
+-- a lane's passes are those that the base names
+pub record IsNamed {D : Type 0} (l : Lane D) (b : LaneBase) : Type 0 where
+  pub logger : logger_of l ≡ b.logger
+  pub pool : pass_lock (pool_of l) ≡ b.pool.id
+  pub pool_number : pass_number (pool_of l) ≡ b.pool_number
+  pub spindle : pass_lock (spindle_of l) ≡ b.spindle.id
+  pub spindle_number : pass_number (spindle_of l) ≡ b.spindle_number
+  pub nones : b.nones ≤ nones_in (pass_mine (pool_of l))
+
+abbrev pub AreNamed : {D : Type 0} → List (Lane D) → List LaneBase → Type 0
+AreNamed [] [] = ⊤
+AreNamed [] (b ∷ bs) = ⊥
+AreNamed (l ∷ ls) [] = ⊥
+AreNamed (l ∷ ls) (b ∷ bs) = IsNamed l b × AreNamed ls bs
+
+-- how often since the opening the pass of the lane at place k found its pool empty
+abbrev pub nones_at : {D : Type 0} → List (Lane D) → List LaneBase → (k : ℕ) → ℕ
+nones_at lanes bs k = nones_since (slice_get lanes k) (slice_get bs k)
+  where
+    nones_since : {D : Type 0} → Option (Lane D) → Option LaneBase → ℕ
+    nones_since None b = 0
+    nones_since (Some l) None = 0
+    nones_since (Some l) (Some b) = nones_in (pass_mine (pool_of l)) - b.nones
+
+-- the manager is the one that the base names
+pub record Locks {D : Type 0} (id most : ℕ) (spindle : PassOf Spindle SpindleBase) (lanes : List (Lane D)) (b : ManagerBase) : Type 0 where
+  pub pass : pass_lock spindle ≡ b.spindle.id
+  pub number : pass_number spindle ≡ b.spindle_number
+  pub each : AreNamed lanes b.lanes
+  pub owner : id ≡ b.volume.began.owner
+  pub most_ : most ≡ b.volume.began.most
+  pub view : map logger_of lanes ≡ b.volume.began.view
+
+abbrev pub HasLocks : {D : Type 0} → Manager D → ManagerBase → Type 0
+HasLocks m b = Locks m.id m.most m.spindle m.lanes.items b
+
+-- the locks that a base names are those of these shared ones
+pub record IsLaneShared {D : Type 0} (shared : Shared D) (b : LaneBase) : Type 0 where
+  pub pool_in : b.logger < vec_len shared.pools
+  pub spindle_in : b.logger < vec_len shared.spindles
+  pub pool : (d : _) → b.pool.id ≡ lock_id (slice_index_or shared.pools.items b.logger d)
+  pub spindle : (d : _) → b.spindle.id ≡ lock_id (slice_index_or shared.spindles.items b.logger d)
+
+pub record IsShared {D : Type 0} (shared : Shared D) (b : ManagerBase) : Type 0 where
+  pub spindle_in : b.volume.began.owner < vec_len shared.spindles
+  pub spindle : (d : _) → b.spindle.id ≡ lock_id (slice_index_or shared.spindles.items b.volume.began.owner d)
+  pub lanes : AllByRecursion (IsLaneShared shared) b.lanes
+
+-- ---- The whole
+
+-- What a manager keeps up for what it began with and the entries since, at the end of a step of a turn.
+pub record Keeps {D : Type 0} (tells : Bool) (state : D → State) (m : Manager D) (b : ManagerBase) (notes : List Noted) : Type 0 where
+  -- the records of each held segment
+  pub logs : Logs
+  -- each held segment has its place among them, also after a failed call; while nothing failed its disk keeps them, where it tells its content
+  pub held : AllLanesHold (λ h rs. IsTrue tells → m.down ≡ None → Holds state h.segment rs) m.lanes.items logs
+  pub upholds : Upholds (parts_of tells state) b.volume.began (seen m logs) notes (writes (entries_of notes)) (flight_of (entries_of notes))
+  -- each held segment has a valid record
+  pub in_use : IsTrue tells → m.down ≡ None → AreInUse (all_held 0 m.lanes.items logs)
+  -- no pool was said to be empty more often than it was found so
+  pub passed : HasPassed (nones_at m.lanes.items b.lanes) notes
+  pub ready : IsReady state m
+  pub locks : HasLocks m b
+
+-- What a manager stands for at the end of a turn: this, and the last entry left the look that it has.
+pub record Stands {D : Type 0} (tells : Bool) (state : D → State) (m : Manager D) (b : ManagerBase) (notes : List Noted) : Type 0 where
+  pub keeps : Keeps tells state m b notes
+  pub look : last_look b.volume.began.look notes ≡ look_of_manager m
+
+-- the entries of a lock's history, as they were noted
+abbrev pub notes_of : List Entry → List Noted
+notes_of entries = map (λ (e : Entry). noted_of e.0 e.1) entries
+
+-- what the manager stands for, as its lock has it
+abbrev pub StandsCoded : {D : Type 0} → (tells : Bool) → (D → State) → Manager D → ManagerBase → List Entry → Type 0
+StandsCoded tells state m b entries = Stands tells state m b (notes_of entries)
+
+-- ---- What a call leaves
+
+-- the places of the view whose pools answered in the last write that they are empty
+abbrev pub passed_in : List Room → List ℕ
+passed_in rooms = filter (λ k. not (may_hold (slice_index_or rooms k Unknown))) (range_with_len 0 (length rooms))
+
+-- An entry with its notes, behind entries the last of which left the look l: its operation, the look that it leaves, the pools that were found empty;
+-- and where it is ruled it goes by the rules.
+pub record IsNote (l : Look) (operation : Operation) (passed : List ℕ) (m : Look) (n : Noted) : Type 0 where
+  pub operation_is : n.entry.operation ≡ operation
+  pub look_is : n.look ≡ m
+  pub passed_is : n.passed ≡ passed
+  pub drain : n.after_drain ≡ false
+  pub follows : IsTrue n.ruled → IsStep n n.entry.pass n.entry.operation l n.look
+
+-- a call leaves this entry: what the manager kept up for the entries before, it stands for with the entry
+abbrev pub Leaves : {D : Type 0} → (tells : Bool) → (D → State) → (old new : Manager D) → Operation → (passed : List ℕ) → (pass : ℕ) → Type 0
+Leaves tells state old new operation passed pass = (b : ManagerBase) (notes : List Noted) (n : Noted) → n.entry.pass ≡ pass → IsNote (last_look b.volume.began.look notes) operation passed (look_of_manager new) n
+    → Keeps tells state old b notes → Stands tells state new b (notes ++ n ∷ [])
+
+-- what no call of a manager changes
+pub record IsSameManager {D : Type 0} (old new : Manager D) : Type 0 where
+  pub id : new.id ≡ old.id
+  pub most : new.most ≡ old.most

@@ -1,0 +1,17 @@
+//! The manager of a volume: it reads and writes over the volume's home and its segments on the logs of other
+//! volumes, decides where each write goes, and tells after a failed disk call which part it was.
+#![tactic(auto)]
+
+mod base;
+mod fetch;
+mod home;
+mod log;
+mod manager;
+mod object;
+mod part;
+mod read;
+mod write;
+
+pub use base::{LaneBase, ManagerBase, Volume};
+pub use manager::{Manager, ManagerParts};
+pub use part::{Part, Place, ReadRefusal, Sources, StepFault, WriteRefusal};

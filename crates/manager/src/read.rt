@@ -1,0 +1,252 @@
+// Reads: each run of blocks comes from home or from its newest record.
+ghost use Rattle.std.specs.Prelude.{◌≡◌, ◌↔◌, ◌+◌, ◌≤◌, ◌^◌, ◌<◌, ℕ, List, [], length, slice_range, OnOk, IfOk, IfErr, IsTrue, IsSome, is_ok, None, Some};
+ghost use Rattle.std.specs.List.{count_by, range_with_len};
+ghost use Rattle.spin_model.specs.Spun.{state_of};
+ghost use Rattle.wol_model.specs.Blocks.{after};
+ghost use Rattle.wol_model.specs.History.{worker, writes};
+ghost use Rattle.wol_model.specs.Index.{listed_in, is_covered};
+ghost use Rattle.wol_promise.specs.Policy.{woken};
+ghost use Rattle.wol_promise.specs.Ruled.{Noted, entries_of};
+ghost use Rattle.manager.specs.Answers.{was_read};
+ghost use Rattle.manager.specs.Causes.{PartRose};
+ghost use Rattle.manager.specs.Reading.{IsSource, IsReadThrough, NeedsSources, NeedsFirstOf};
+ghost use Rattle.manager.specs.Seen.{look_of_manager};
+ghost use Rattle.manager.specs.Stands.{Keeps, IsReady, IsHome, IsSameManager, Leaves};
+ghost use Rattle.manager.specs.Stops.{Stops};
+ghost use Rattle.manager.specs.declared.base.ManagerBase.{ManagerBase};
+ghost use Rattle.manager.specs.declared.part.Part.{Part};
+
+use crate::fetch::fetch_at;
+use crate::{Manager, Part, ReadRefusal, Sources};
+use logger::{Shared, Spot};
+use redirect_map::Rec;
+use std::sync::Wait;
+use wol_disk::{Block, Disk, Failed};
+
+// The same answer, where the refusal names the part.
+fn at_part(part: Part, answer: Result<(), Failed>) -> Result<(), Part>
+    ensures like { is_ok result ≡ is_ok answer }
+    ensures part { IfErr result (λ p. p ≡ part) }
+{
+    match answer {
+        Ok(()) => Ok(()),
+        Err(Failed) => Err(part),
+    }
+}
+
+impl<D: Disk> Manager<D> {
+    /// Reads the blocks from block `lbn` of the volume on: each as its newest record in a log has it, or as home has it
+    /// where no record covers it. Only the disks that have them are woken. Tells how many blocks came from home and
+    /// how many from logs. It takes no memory. `DiskFault` brings the manager down; after it the bytes in `out` are open.
+    pub fn read<R: Wait>(
+        &mut self,
+        rt: &R,
+        shared: &Shared<D>,
+        lbn: u64,
+        out: &mut [Block],
+    ) -> Result<Sources, ReadRefusal>
+        requires ready { IsReady D.state self.old }
+        requires at { IsHome shared.now self.old }
+        requires count { (1 ≤ length out.old) × (length out.old ≤ self.old.most) }
+        requires fits { lbn + length out.old ≤ (state_of D.state self.old.home).size }
+        ensures ready { IsReady D.state self.new }
+        ensures at { IsHome shared.now self.new }
+        ensures same { IsSameManager self.old self.new }
+        ensures stands { Leaves D.tells D.state self.old self.new (was_read lbn out.new result) [] worker }
+        ensures look { OnOk result (look_of_manager self.new ≡ woken (look_of_manager self.old) lbn (length out.old)) }
+        ensures logged { IfOk result (λ s. s.logged ≡ count_by (is_covered (listed_in self.old.index.entries)) (range_with_len lbn (length out.old))) }
+        ensures all { IfOk result (λ s. s.home + s.logged ≡ length out.old) }
+
+        // Home is needed exactly where a block isn't covered, and a logger exactly where it has the newest record of one.
+        // A refused read needs what some first blocks of the range need.
+        ensures needs { NeedsFirstOf self.old self.new lbn (length out.old) }
+        ensures needs_all { OnOk result (NeedsSources self.old self.new lbn (length out.old)) }
+
+        ensures down { (p : Part) → (result ≡ Err (ReadRefusal.Down p)) ↔ (self.old.down ≡ Some p) }
+        ensures unchanged { IsSome self.old.down → (self.new ≡ self.old) × (out.new ≡ out.old) }
+        ensures cause { (p : Part) → result ≡ Err (ReadRefusal.DiskFault p) → (self.new.down ≡ Some p) × PartRose D.state self.old self.new p }
+        ensures up { OnOk result (self.new.down ≡ None) }
+        ensures any_moment { IsTrue D.tells → (b : ManagerBase) (notes : List Noted) → Keeps D.tells D.state self.old b notes → Stops D.state self.old self.new None b notes [] }
+    {
+        if let Some(part) = self.down {
+            return Err(ReadRefusal::Down(part));
+        }
+        match self.read_runs(rt, shared, lbn, out) {
+            Ok(sources) => Ok(sources),
+            Err(part) => {
+                self.down = Some(part);
+                Err(ReadRefusal::DiskFault(part))
+            }
+        }
+    }
+
+    // Where this block is read, and how many blocks from it on, at most `most`, are read there.
+    fn run_from(&self, lbn: u64, most: usize) -> (Option<Rec>, usize)
+        requires some { 1 ≤ most }
+        requires fits { lbn + most < 2 ^ 64 }
+        ensures source { IsSource self.now.index.entries lbn result.1 result.0 }
+        ensures some { 1 ≤ result.1 }
+        ensures most { result.1 ≤ most }
+    {
+        let source = self.index.newest(lbn);
+        for count in 1..most {
+            if self.index.newest(lbn + count as u64) != source {
+                return (source, count);
+            }
+        }
+        (source, most)
+    }
+
+    // Reads blocks that no record covers. The refusal names home.
+    fn read_home<R: Wait>(
+        &mut self,
+        rt: &R,
+        shared: &Shared<D>,
+        lbn: u64,
+        out: &mut [Block],
+    ) -> Result<(), Part>
+        requires ready { IsReady D.state self.old }
+        requires at { IsHome shared.now self.old }
+        requires up { self.old.down ≡ None }
+        requires some { 1 ≤ length out.old }
+        requires fits { lbn + length out.old ≤ (state_of D.state self.old.home).size }
+        requires source { IsSource self.old.index.entries lbn (length out.old) None }
+        ensures ready { IsReady D.state self.new }
+        ensures at { IsHome shared.now self.new }
+        ensures read { IsReadThrough D.state self.old self.new }
+        ensures look { look_of_manager self.new ≡ woken (look_of_manager self.old) lbn (length out.old) }
+        ensures needs { NeedsSources self.old self.new lbn (length out.old) }
+        ensures content { IsTrue D.tells → (b : ManagerBase) (notes : List Noted) → Keeps D.tells D.state self.old b notes
+            → OnOk result (out.new ≡ slice_range (after b.volume.began.array (writes (entries_of notes))) lbn (lbn + length out.old)) }
+        ensures cause { IfErr result (PartRose D.state self.old self.new) }
+    {
+        self.home_up = true;
+        let home = Part::Home { volume: self.id };
+        let lock = &shared.spindles[self.id as usize];
+        let answer = fetch_at(rt, lock, &mut self.spindle, &mut self.home, lbn, out);
+        at_part(home, answer)
+    }
+
+    // Reads blocks of which this record is the newest one. The refusal names its segment.
+    fn read_log<R: Wait>(
+        &mut self,
+        rt: &R,
+        shared: &Shared<D>,
+        record: &Rec,
+        lbn: u64,
+        out: &mut [Block],
+    ) -> Result<(), Part>
+        requires ready { IsReady D.state self.old }
+        requires at { IsHome shared.now self.old }
+        requires up { self.old.down ≡ None }
+        requires some { 1 ≤ length out.old }
+        requires fits { lbn + length out.old ≤ (state_of D.state self.old.home).size }
+        requires source { IsSource self.old.index.entries lbn (length out.old) (Some «record».now) }
+        ensures ready { IsReady D.state self.new }
+        ensures at { IsHome shared.now self.new }
+        ensures read { IsReadThrough D.state self.old self.new }
+        ensures look { look_of_manager self.new ≡ woken (look_of_manager self.old) lbn (length out.old) }
+        ensures needs { NeedsSources self.old self.new lbn (length out.old) }
+        ensures content { IsTrue D.tells → (b : ManagerBase) (notes : List Noted) → Keeps D.tells D.state self.old b notes
+            → OnOk result (out.new ≡ slice_range (after b.volume.began.array (writes (entries_of notes))) lbn (lbn + length out.old)) }
+        ensures cause { IfErr result (PartRose D.state self.old self.new) }
+    {
+        let place = record.lane as usize;
+        self.ups[place] = true;
+        let lane = &mut self.lanes[place];
+        let spot = Spot {
+            segment: record.segment,
+            pos: record.pos,
+        };
+        let segment = Part::Segment {
+            volume: lane.logger(),
+            index: record.segment,
+        };
+        let skip = (lbn - record.lbn) as u32;
+        let answer = lane.read(rt, shared, &spot, skip, out);
+        at_part(segment, answer)
+    }
+
+    // Reads blocks that have one source, and tells it.
+    fn read_run<R: Wait>(
+        &mut self,
+        rt: &R,
+        shared: &Shared<D>,
+        source: Option<Rec>,
+        lbn: u64,
+        out: &mut [Block],
+    ) -> Result<Sources, Part>
+        requires ready { IsReady D.state self.old }
+        requires at { IsHome shared.now self.old }
+        requires up { self.old.down ≡ None }
+        requires some { (1 ≤ length out.old) × (length out.old ≤ 128) }
+        requires fits { lbn + length out.old ≤ (state_of D.state self.old.home).size }
+        requires source { IsSource self.old.index.entries lbn (length out.old) source }
+        ensures ready { IsReady D.state self.new }
+        ensures at { IsHome shared.now self.new }
+        ensures read { IsReadThrough D.state self.old self.new }
+        ensures look { look_of_manager self.new ≡ woken (look_of_manager self.old) lbn (length out.old) }
+        ensures needs { NeedsSources self.old self.new lbn (length out.old) }
+        ensures content { IsTrue D.tells → (b : ManagerBase) (notes : List Noted) → Keeps D.tells D.state self.old b notes
+            → OnOk result (out.new ≡ slice_range (after b.volume.began.array (writes (entries_of notes))) lbn (lbn + length out.old)) }
+        ensures logged { IfOk result (λ s. s.logged ≡ count_by (is_covered (listed_in self.old.index.entries)) (range_with_len lbn (length out.old))) }
+        ensures all { IfOk result (λ s. s.home + s.logged ≡ length out.old) }
+        ensures cause { IfErr result (PartRose D.state self.old self.new) }
+    {
+        let count = out.len() as u32;
+        match source {
+            None => {
+                self.read_home(rt, shared, lbn, out)?;
+                Ok(Sources {
+                    home: count,
+                    logged: 0,
+                })
+            }
+            Some(record) => {
+                self.read_log(rt, shared, &record, lbn, out)?;
+                Ok(Sources {
+                    home: 0,
+                    logged: count,
+                })
+            }
+        }
+    }
+
+    // Reads run after run.
+    fn read_runs<R: Wait>(
+        &mut self,
+        rt: &R,
+        shared: &Shared<D>,
+        lbn: u64,
+        out: &mut [Block],
+    ) -> Result<Sources, Part>
+        requires ready { IsReady D.state self.old }
+        requires at { IsHome shared.now self.old }
+        requires up { self.old.down ≡ None }
+        requires most { length out.old ≤ 128 }
+        requires fits { lbn + length out.old ≤ (state_of D.state self.old.home).size }
+        ensures ready { IsReady D.state self.new }
+        ensures at { IsHome shared.now self.new }
+        ensures read { IsReadThrough D.state self.old self.new }
+        ensures look { OnOk result (look_of_manager self.new ≡ woken (look_of_manager self.old) lbn (length out.old)) }
+        ensures needs { NeedsFirstOf self.old self.new lbn (length out.old) }
+        ensures needs_all { OnOk result (NeedsSources self.old self.new lbn (length out.old)) }
+        ensures content { IsTrue D.tells → (b : ManagerBase) (notes : List Noted) → Keeps D.tells D.state self.old b notes
+            → OnOk result (out.new ≡ slice_range (after b.volume.began.array (writes (entries_of notes))) lbn (lbn + length out.old)) }
+        ensures logged { IfOk result (λ s. s.logged ≡ count_by (is_covered (listed_in self.old.index.entries)) (range_with_len lbn (length out.old))) }
+        ensures all { IfOk result (λ s. s.home + s.logged ≡ length out.old) }
+        ensures cause { IfErr result (PartRose D.state self.old self.new) }
+    {
+        let mut sources = Sources { home: 0, logged: 0 };
+        let mut done = 0;
+        'runs: while done < out.len() {
+            let at = lbn + done as u64;
+            let (source, count) = self.run_from(at, out.len() - done);
+            let run = self.read_run(rt, shared, source, at, &mut out[done..done + count])?;
+            sources.home += run.home;
+            sources.logged += run.logged;
+            done += count;
+        }
+        Ok(sources)
+    }
+}
