@@ -1,5 +1,6 @@
 -- Blocks given up, and what became of the segment.
 use Rattle.std.proofs.Common.{◌≡◌, inl, inr, ⊎_elim, ℕ, true, false, List, ◌++◌, map, set, remove, slice_get, Option, Some, None, Result, Ok, Err, IfOk, IsErr, is_ok, refl, sym, ap, subst, ◌∙◌}
+use Rattle.std.specs.Prelude.{◌-◌, ◌==◌, if◌then◌else◌}
 use Rattle.std.specs.List.{AllByRecursion}
 use Rattle.wol_disk.specs.Disk.{State, LeavesOnly, Rose}
 use Rattle.wol_disk.specs.declared.disk.Failed.{Failed}
@@ -30,6 +31,7 @@ module _ {D : Type 0} (state : D → State) where
     pub same : IsSame o.segment n.segment
     pub end : place_of n.segment ≡ place_of o.segment
     pub bare : valid_of n.segment ≡ 0
+    pub fewer : valid_of n.segment ≡ valid_of o.segment - (if keep == 0 then 1 else 0)
     pub ok : (rs : List Record) (j : ℕ) (r : Record) → Holds state o.segment rs → IsHeadAt rs j r pos head → Holds state n.segment (set rs j (trimmed keep r))
     pub any_moment : (rs : List Record) (j : ℕ) (r : Record) → Holds state o.segment rs → IsHeadAt rs j r pos head → LeavesOnly (disk_of state o.segment) (disk_of state n.segment) (IsKeptOrTrimmed (owner_of o.segment) rs j (trimmed keep r))
     pub calm : (disk_of state n.segment).faults ≡ (disk_of state o.segment).faults
@@ -41,6 +43,7 @@ module _ {D : Type 0} (state : D → State) where
   gave_up o n free pos head keep b f = record {
     blank = subst (λ (v : ℕ). IsBlank state v (blocks_of o.segment) free) b.same.volume (subst (λ (k : ℕ). IsBlank state (segment_volume n.segment) k free) b.same.blocks f.blank);
     bare = bare_after o n pos head keep b;
+    fewer = sym b.fewer ∙ b.bare;
     any_moment = λ rs j r h at. then_leaves (widened (b.any_moment rs j r h at) (λ d is. inl is)) (f.any_moment (set rs j (trimmed keep r)) (b.ok rs j r h at))
         (λ d is. ⊎_elim (λ log. inl (inr (subst (λ (u : ℕ). IsLog d u (set rs j (trimmed keep r))) b.same.owner log))) (λ idle. inr idle) is);
     calm = f.calm ∙ b.calm;
@@ -53,6 +56,7 @@ module _ {D : Type 0} (state : D → State) where
     end = f.end ∙ b.end;
     broken = f.broken;
     bare = bare_after o n pos head keep b;
+    fewer = sym b.fewer ∙ b.bare;
     any_moment = λ rs j r h at. then_leaves (widened (b.any_moment rs j r h at) (λ d is. inl is)) (f.any_moment (set rs j (trimmed keep r)) (b.ok rs j r h at))
         (λ d is. ⊎_elim (λ log. inl (inr (subst (λ (u : ℕ). IsLog d u (set rs j (trimmed keep r))) b.same.owner log))) (λ idle. inr idle) is);
     cause = subst (λ (m : ℕ). Rose m (disk_of state after.segment).faults) b.calm f.cause;
@@ -60,10 +64,10 @@ module _ {D : Type 0} (state : D → State) where
 
   -- what is said of one answer, said of another that is as good
   pub cut_as : {T E U F : Type 0} (o n : HeldSegment D) (pos : ℕ) (head : RecordHead) (keep : ℕ) (w : Result T E) (r : Result U F) → is_ok w ≡ is_ok r → CutDown state o n pos head keep w → CutDown state o n pos head keep r
-  cut_as o n pos head keep (Ok x) (Ok y) same c = record { index = c.index; same = c.same; end = c.end; ok = c.ok; whole = c.whole; valid = c.valid; broken = c.broken; any_moment = c.any_moment; cause = c.cause; calm = c.calm }
+  cut_as o n pos head keep (Ok x) (Ok y) same c = record { index = c.index; same = c.same; end = c.end; ok = c.ok; whole = c.whole; valid = c.valid; fewer = c.fewer; broken = c.broken; any_moment = c.any_moment; cause = c.cause; calm = c.calm }
   cut_as o n pos head keep (Ok x) (Err y) same c = cc
   cut_as o n pos head keep (Err x) (Ok y) same c = cc
-  cut_as o n pos head keep (Err x) (Err y) same c = record { index = c.index; same = c.same; end = c.end; ok = c.ok; whole = c.whole; valid = c.valid; broken = c.broken; any_moment = c.any_moment; cause = c.cause; calm = c.calm }
+  cut_as o n pos head keep (Err x) (Err y) same c = record { index = c.index; same = c.same; end = c.end; ok = c.ok; whole = c.whole; valid = c.valid; fewer = c.fewer; broken = c.broken; any_moment = c.any_moment; cause = c.cause; calm = c.calm }
 
   kept_none : (res : Result (Option (FreeSegment D)) Failed) (f : FreeSegment D) → IfOk res (λ x. x ≡ None) → res ≡ Ok (Some f) → ⊥
   kept_none (Ok x) f none is = let y = none in cc

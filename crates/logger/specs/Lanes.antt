@@ -1,5 +1,5 @@
 -- A lane as its manager sees it: the segments that one volume holds on one logger.
-use Rattle.std.specs.Prelude.{◌≡◌, ◌<◌, ◌≤◌, ◌⊎◌, ◌+◌, ◌∷◌, ◌++◌, ℕ, Bool, true, false, List, [], map, All, length, take, drop, slice_get, slice_set, remove, vec_len, vec_capacity, slice_index_or, Option, None, Some, IfSome, is_some, Result, Ok, Err, OnOk, OnErr, IsOk, IsErr}
+use Rattle.std.specs.Prelude.{◌≡◌, ◌<◌, ◌≤◌, ◌⊎◌, ◌+◌, ◌-◌, ◌==◌, if◌then◌else◌, ◌∷◌, ◌++◌, ℕ, Bool, true, false, List, [], map, All, length, take, drop, slice_get, slice_set, remove, vec_len, vec_capacity, slice_index_or, Option, None, Some, IfSome, is_some, Result, Ok, Err, OnOk, OnErr, IsOk, IsErr}
 use Rattle.std.specs.List.{AllByRecursion}
 use Rattle.std.specs.Option.{option_to_list}
 use Rattle.wol_disk.specs.Disk.{Block, State, Values, LeavesOnly, Rose}
@@ -173,6 +173,7 @@ pub record Grown {D T E : Type 0} (state : D → State) (old new : HeldSegment D
   pub index : new.index ≡ old.index
   pub same : IsSame old.segment new.segment
   pub ok : (rs : List Record) → Holds state old.segment rs → OnOk res (Holds state new.segment (rs ++ added))
+  pub valid : OnOk res (valid_of new.segment ≡ valid_of old.segment + length added)
   pub whole : OnOk res (IsWhole new.segment)
   pub broken : OnErr res (IsBroken new.segment)
   pub any_moment : (rs : List Record) → Holds state old.segment rs → LeavesOnly (disk_of state old.segment) (disk_of state new.segment) (λ c. HasFirstOf c (owner_of old.segment) rs added)
@@ -188,6 +189,7 @@ pub record Claimed {D T E : Type 0} (state : D → State) (owner : ℕ) (old : F
   -- it had no record once it was claimed
   pub claimed : (vs : List (Values Block)) → (free_disk state old).values ≡ Some vs → OnOk res ((s : Segment D) × IsSegment state s × IsSame s new × IsWhole s × Holds state s [])
   pub ok : (vs : List (Values Block)) → (free_disk state old).values ≡ Some vs → OnOk res (Holds state new added)
+  pub valid : OnOk res (valid_of new ≡ length added)
   pub whole : OnOk res (IsWhole new)
   pub broken : OnErr res (IsBroken new)
   pub any_moment : (vs : List (Values Block)) → (free_disk state old).values ≡ Some vs → LeavesOnly (free_disk state old) (disk_of state new) (λ c. IsIdle c ⊎ HasFirstOf c owner [] added)
@@ -267,6 +269,7 @@ pub record CutDown {D T E : Type 0} (state : D → State) (old new : HeldSegment
   pub ok : (rs : List Record) (j : ℕ) (r : Record) → Holds state old.segment rs → IsHeadAt rs j r pos head → OnOk res (Holds state new.segment (slice_set rs j (trimmed keep r)))
   pub whole : OnOk res (IsWhole new.segment)
   pub valid : OnOk res (0 < valid_of new.segment)
+  pub fewer : OnOk res (valid_of new.segment ≡ valid_of old.segment - (if keep == 0 then 1 else 0))
   pub broken : OnErr res (IsBroken new.segment)
   pub any_moment : (rs : List Record) (j : ℕ) (r : Record) → Holds state old.segment rs → IsHeadAt rs j r pos head
       → LeavesOnly (disk_of state old.segment) (disk_of state new.segment) (IsKeptOrTrimmed (owner_of old.segment) rs j (trimmed keep r))
@@ -281,6 +284,7 @@ IsBareAfter state old pos head keep = (rs : List Record) (j : ℕ) (r : Record) 
 pub record GaveUp {D : Type 0} (state : D → State) (old : HeldSegment D) (blocks : ℕ) (given : FreeSegment D) (pos : ℕ) (head : RecordHead) (keep : ℕ) : Type 0 where
   pub blank : IsBlank state (segment_volume old.segment) blocks given
   pub bare : IsBareAfter state old.segment pos head keep
+  pub fewer : valid_of old.segment - (if keep == 0 then 1 else 0) ≡ 0
   pub any_moment : (rs : List Record) (j : ℕ) (r : Record) → Holds state old.segment rs → IsHeadAt rs j r pos head
       → LeavesOnly (disk_of state old.segment) (free_disk state given) (IsKeptTrimmedOrIdle (owner_of old.segment) rs j (trimmed keep r))
   pub calm : (free_disk state given).faults ≡ (disk_of state old.segment).faults
@@ -292,6 +296,7 @@ pub record Stayed {D : Type 0} (state : D → State) (old new : HeldSegment D) (
   pub end : place_of new.segment ≡ place_of old.segment
   pub broken : IsBroken new.segment
   pub bare : IsBareAfter state old.segment pos head keep
+  pub fewer : valid_of old.segment - (if keep == 0 then 1 else 0) ≡ 0
   pub any_moment : (rs : List Record) (j : ℕ) (r : Record) → Holds state old.segment rs → IsHeadAt rs j r pos head
       → LeavesOnly (disk_of state old.segment) (disk_of state new.segment) (IsKeptTrimmedOrIdle (owner_of old.segment) rs j (trimmed keep r))
   pub cause : Rose (disk_of state old.segment).faults (disk_of state new.segment).faults

@@ -69,6 +69,6 @@ returns-clause-moved g c =
     let held = all_get (IsHeld state self.logger self.owner (vec_capacity self.held) self.pool) items p o c.requires.lane.each there in
     let n : HeldSegment g.row.D.Denot = record { index = o.index; segment = c.append_group-written.new.self } in
     let added = group_of self.owner c.args.version c.args.items.now c.args.from.now in
-    let grown : Grown state o n added w = grown_of state o n self.owner c.args.version c.args.items.now c.args.from.now w held.owned refl a.same a.ok a.whole a.err a.any_moment a.cause a.calm in
+    let grown : Grown state o n added w = grown_of state o n self.owner c.args.version c.args.items.now c.args.from.now w held.owned refl a.same a.ok a.valid a.whole a.err a.any_moment a.cause a.calm in
     to_held p o n f there refl refl (subst (λ (r : Result Spot (ℕ × Failed)). Grown state o n added r) (sym c.spot_of.ensures) (grown_spot state o n added o.index w grown))
     (subst (IsSpot o.index (place_of o.segment)) (sym c.spot_of.ensures) (spot_is o.index (place_of o.segment) w a.position))
