@@ -1,5 +1,5 @@
 -- An access to a part, from the calls of its disk.
-use Rattle.std.proofs.Common.{◌≡◌, ◌⊎◌, inl, inr, ℕ, zero, suc, true, false, List, [], ◌∷◌, length, Option, Result, Ok, Err, OnOk, OnErr, refl, sym, subst, ◌∙◌, arith}
+use Rattle.std.proofs.Common.{◌≡◌, inl, ℕ, suc, true, false, List, [], ◌∷◌, length, Option, Result, Ok, Err, OnOk, OnErr, refl, subst, ◌∙◌, arith}
 use Rattle.std.specs.Prelude.{option_map, IsErr}
 use Rattle.std.proofs.lemmas.Result.{on_ok_weaker}
 use Rattle.wol_disk.specs.Disk.{State, Block, Values, Passes, IsDisk, LeavesOnly, IsImageOf, IsBlend, AddsSomeOf, Rose, added, put, settled}

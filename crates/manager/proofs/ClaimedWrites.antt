@@ -1,6 +1,6 @@
 -- A write to a segment that is claimed for it: one entry more, and one that failed. And where content isn't told, the records don't matter.
-use Rattle.std.proofs.Common.{◌≡◌, ◌≢◌, ◌⊎◌, inl, inr, ⊎_elim, ◌<◌, ◌+◌, ◌^◌, ℕ, Bool, true, false, List, [], ◌∷◌, ◌++◌, map, length, Option, None, Some, refl, sym, ap, subst, ◌∙◌}
-use Rattle.std.specs.Prelude.{Contains, slice_get, IsTrue}
+use Rattle.std.proofs.Common.{◌≡◌, ◌≢◌, ◌⊎◌, inl, inr, ⊎_elim, ◌<◌, ◌+◌, ◌^◌, ℕ, Bool, false, List, [], ◌∷◌, ◌++◌, map, length, None, Some, refl, sym, ap, subst, ◌∙◌}
+use Rattle.std.specs.Prelude.{slice_get, IsTrue}
 use Rattle.std.specs.List.{AllByRecursion}
 use Rattle.std.proofs.lemmas.Grind.{flat_map-append}
 use Rattle.wol_disk.specs.Disk.{Block}
@@ -8,18 +8,17 @@ use Rattle.wol_model.specs.Blocks.{Write}
 use Rattle.wol_model.specs.Extents.{Extent, IsValid, KeepsAll, write_of}
 use Rattle.wol_model.specs.History.{Wrote, Broke, worker, writes, flight_of}
 use Rattle.wol_model.specs.Holding.{Holds}
-use Rattle.wol_model.specs.Index.{Indexed}
-use Rattle.wol_model.specs.Log.{Record, IsLog, IsIdle, extent_of, end_of}
+use Rattle.wol_model.specs.Log.{Record, IsLog, IsIdle, extent_of}
 use Rattle.wol_model.proofs.Images.{kept, idle_none}
 use Rattle.wol_promise.specs.Ruled.{Noted, entries_of, IsStep, last_look}
-use Rattle.wol_promise.specs.Manager.{Parts, SegmentPart, Held, ManagerSeen, Base, look_of, IsPartOf, extents_held, is_homed_in, WasWritten, SaysOwnerOrFree}
+use Rattle.wol_promise.specs.Manager.{Parts, SegmentPart, Held, ManagerSeen, Base, look_of, extents_held, is_homed_in, WasWritten}
 use Rattle.wol_promise.specs.Stands.{AreKnown, IsHeldBy, place_in, AreApartPlaces, HasPlaces, LiesIn, IsPlaced, IsCalm, Upholds, StandsFor}
 use Rattle.wol_promise.proofs.Broke.{broke_more}
 use Rattle.wol_promise.proofs.ClaimBreaks.{broken_segment}
 use Rattle.wol_promise.proofs.Claims.{empty_segment, with_empty, empty_more, places_insert}
 use Rattle.wol_promise.proofs.HomeWrites.{lie_flying, known_flying}
 use Rattle.wol_promise.proofs.Index.{grown, indexed_with}
-use Rattle.wol_promise.proofs.Lists.{all_map, all_swap, all_parts, all_front, all_back, all_insert, member_mid}
+use Rattle.wol_promise.proofs.Lists.{all_map, all_swap, all_front, all_back, all_insert, member_mid}
 use Rattle.wol_promise.proofs.LogWrites.{places_with_segment, placed_with_segment, log_more}
 use Rattle.wol_promise.proofs.Stops.{log_stops}
 

@@ -1,12 +1,11 @@
 -- Lists of lanes and of the records in their segments: one lane is another, and one segment in it is another or is new.
-use Rattle.std.proofs.Common.{◌≡◌, ◌<◌, ◌+◌, ℕ, zero, suc, sym, subst, ◌∙◌, arith, append_assoc, List, [], ◌∷◌, ◌++◌, length, map, Option, None, Some, refl, ap}
+use Rattle.std.proofs.Common.{◌≡◌, ◌+◌, ℕ, zero, suc, sym, subst, ◌∙◌, arith, append_assoc, List, [], ◌∷◌, ◌++◌, map, None, Some, refl, ap}
 use Rattle.std.specs.Prelude.{slice_get, slice_set}
 use Rattle.std.specs.List.{AllByRecursion}
 use Rattle.std.proofs.lemmas.Option.{same_Some, none-some}
 use Rattle.wol_model.specs.Log.{Record}
 use Rattle.spin_model.specs.declared.spun.Spun.{Spun}
 use Rattle.log_segment.specs.Segment.{part_of}
-use Rattle.log_segment.specs.declared.free.FreeSegment.{FreeSegment}
 use Rattle.wol_promise.specs.Manager.{Held}
 use Rattle.logger.specs.Lanes.{held_in, taken_in}
 use Rattle.logger.specs.declared.lane.HeldSegment.{HeldSegment}

@@ -1,13 +1,12 @@
 -- Images at any moment of a call: whichever records the segments are given, what a stop leaves is the same.
-use Rattle.std.proofs.Common.{◌≡◌, ◌≢◌, ◌+◌, ℕ, zero, suc, Bool, sym, subst, ◌∙◌, arith, List, [], ◌∷◌, ◌++◌, length, map, Option, None, Some, refl, ap}
+use Rattle.std.proofs.Common.{◌≡◌, ◌+◌, ℕ, zero, suc, Bool, sym, subst, ◌∙◌, arith, List, [], ◌∷◌, ◌++◌, map, Option, None, refl, ap}
 use Rattle.std.specs.Prelude.{⊤, Contains, IsTrue, unwrap_or}
 use Rattle.std.specs.List.{AllByRecursion, AllZip}
 use Rattle.wol_disk.specs.Disk.{State, Block, IsDisk}
 use Rattle.wol_model.specs.Blocks.{Write}
-use Rattle.wol_model.specs.Extents.{Extent}
-use Rattle.wol_model.specs.History.{writes, flight_of, IsCut}
+use Rattle.wol_model.specs.History.{writes, IsCut}
 use Rattle.wol_model.specs.Holding.{Holds}
-use Rattle.wol_model.specs.Log.{Record, IsLog, extent_of}
+use Rattle.wol_model.specs.Log.{Record, IsLog}
 use Rattle.spin_model.specs.declared.spun.Spun.{Spun}
 use Rattle.log_segment.specs.Segment as segment
 use Rattle.wol_model.specs.Recovered.{recovered}
@@ -16,17 +15,15 @@ use Rattle.wol_promise.specs.Ruled.{Noted, entries_of}
 use Rattle.wol_promise.specs.Stands.{place_in, ApartFrom, AreApartPlaces, StopsSafely, IsWhole}
 use Rattle.wol_promise.proofs.Choices.{AreLogs}
 use Rattle.wol_promise.proofs.Lists.{all_map, all_member, member_behind, member_of}
-use Rattle.wol_promise.proofs.Stops.{still_stops}
 use Rattle.logger.specs.Lanes.{held_in}
 use Rattle.logger.specs.declared.lane.HeldSegment.{HeldSegment}
 use Rattle.logger.specs.declared.lane.Lane.{Lane}
-use Rattle.manager.specs.Seen.{Logs, AllHold, AllLanesHold, held_with, all_held, parts_of, seen}
+use Rattle.manager.specs.Seen.{Logs, AllHold, AllLanesHold, held_with, all_held, parts_of}
 use Rattle.manager.specs.Stands.{Keeps}
-use Rattle.manager.specs.Stops.{ImageSince, HeldSince, was_held, was_free, Stops}
+use Rattle.manager.specs.Stops.{ImageSince, HeldSince, was_held, was_free}
 use Rattle.manager.specs.declared.base.ManagerBase.{ManagerBase}
 use Rattle.manager.specs.declared.manager.Manager.{Manager}
-use Rattle.manager.proofs.Lanes.{held_as}
-use Rattle.manager.proofs.Putting.{is_up, none, upheld}
+use Rattle.manager.proofs.Putting.{none, upheld}
 
 -- ---- Two lists of held segments that differ in their records alone
 

@@ -1,15 +1,14 @@
 -- A record that was just written: all its blocks are kept, and its entry in the index is that of the promise.
-use Rattle.std.proofs.Common.{◌≡◌, ◌<◌, ◌≤◌, ◌+◌, ◌-◌, ◌^◌, ◌⊎◌, ⊎_elim, ℕ, zero, suc, Bool, true, false, not, ◌&&◌, List, [], ◌∷◌, ◌++◌, map, length, Some, refl, sym, ap, ◌∙◌, arith, eqb, leb, ltb, get_or, replicate}
+use Rattle.std.proofs.Common.{◌≡◌, ◌<◌, ◌≤◌, ◌+◌, ◌-◌, ◌^◌, ⊎_elim, ℕ, zero, suc, Bool, true, false, not, ◌&&◌, List, [], ◌∷◌, ◌++◌, map, length, refl, sym, ap, ◌∙◌, arith, eqb, leb, ltb, get_or, replicate}
 use Rattle.std.specs.Prelude.{slice_set}
 use Rattle.std.specs.List.{range_with_len}
 use Rattle.std.proofs.lemmas.Bool.{leb-true, lt-ltb, le-ltb, cases_lt}
 use Rattle.std.proofs.lemmas.Bool.Decides.{nat_tests}
-use Rattle.std.proofs.lemmas.List.{get_or-replicate, get_or_past, map-append}
+use Rattle.std.proofs.lemmas.List.{get_or-replicate, get_or_past}
 use Rattle.std.proofs.lemmas.Nat.Bits.{bit_at_ones, bit_at-zero}
 use mathlib.Core.Path.{fun_ext}
 use Rattle.wol_disk.specs.Disk.{Block}
-use Rattle.wol_model.specs.Blocks.{Write}
-use Rattle.wol_model.specs.Extents.{marked, remarked, KeepsAll, IsValid, write_of}
+use Rattle.wol_model.specs.Extents.{marked, remarked, KeepsAll, IsValid}
 use Rattle.wol_model.specs.Index.{Listed, Indexed, listed_in}
 use Rattle.wol_model.specs.Log.{Record, has_bit, marks_of, extent_of, end_of}
 use Rattle.wol_model.specs.Placing.{Log}
@@ -19,7 +18,7 @@ use Rattle.redirect_map.specs.Index.{entry_of, unhomed, cover_at}
 use Rattle.redirect_map.specs.Runs.{runs_after, runs_of}
 use Rattle.redirect_map.specs.declared.record.Rec.{Rec}
 use Rattle.wol_promise.specs.Manager.{Held}
-use Rattle.wol_promise.specs.Policy.{Look, placed, listing, is_in}
+use Rattle.wol_promise.specs.Policy.{Look, placed, is_in}
 use Rattle.wol_promise.proofs.Index.{cleared, indexed_with}
 use Rattle.manager.specs.Answers.{log_write}
 

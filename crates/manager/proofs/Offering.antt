@@ -2,16 +2,15 @@
 use Rattle.std.proofs.Common.{◌≡◌, ◌≢◌, ◌⊎◌, inl, inr, ◌<◌, ◌≤◌, ◌+◌, ◌-◌, ◌^◌, ℕ, Bool, true, false, sym, subst, ◌∙◌, arith, List, [], ◌∷◌, ◌++◌, length, map, Option, None, Some, refl, ap}
 use Rattle.std.specs.Prelude.{Contains, slice_get, slice_set, IsTrue, Result, Ok, Err}
 use Rattle.std.specs.List.{AllByRecursion}
-use Rattle.std.specs.Option.{option_map, option_to_list}
+use Rattle.std.specs.Option.{option_to_list}
 use Rattle.std.specs.declared.alloc.Global.{Global}
 use Rattle.std.specs.declared.vec.Vec.{Vec}
-use Rattle.std.proofs.lemmas.Option.{slice_get-map}
 use Rattle.std.proofs.lemmas.List.Elements.{Contains-push}
 use Rattle.std.proofs.lemmas.List.FromFn.{length-map-range_with_len}
 use Rattle.std.proofs.Math.ListN.{length-set}
-use Rattle.wol_disk.specs.Disk.{State, Block, Values, IsDisk, TellsContent, Rose}
+use Rattle.wol_disk.specs.Disk.{State, Block, IsDisk, TellsContent}
 use Rattle.wol_disk.specs.declared.disk.Failed.{Failed}
-use Rattle.wol_model.specs.Blocks.{Write, AreApart}
+use Rattle.wol_model.specs.Blocks.{AreApart}
 use Rattle.wol_model.specs.History.{Wrote, Broke, worker, writes, flight_of}
 use Rattle.wol_model.specs.Index.{Indexed, listed_in}
 use Rattle.wol_model.specs.Log.{Record, has_bit}
@@ -22,27 +21,26 @@ use Rattle.turn_lock.specs.LockIds.{LockId}
 use Rattle.turn_lock.specs.Passes.{pass_mine, pass_number}
 use Rattle.seg_pool.specs.declared.base.PoolBase.{PoolBase}
 use Rattle.log_segment.specs.Records.{new_record}
-use Rattle.log_segment.specs.Segment.{IsSegment, IsSame, IsWhole, Holds, blocks_of, disk_of, free_disk, free_part, room_of, place_of}
+use Rattle.log_segment.specs.Segment.{IsWhole, Holds, blocks_of, free_part}
 use Rattle.log_segment.specs.declared.free.FreeSegment.{FreeSegment}
-use Rattle.log_segment.specs.declared.segment.Segment.{Segment}
 use Rattle.redirect_map.specs.Index.{Contents, entry_of, unhomed, cover_at}
 use Rattle.redirect_map.specs.declared.record.Rec.{Rec}
-use Rattle.wol_promise.specs.Manager.{Held, ManagerSeen, AreInUse}
+use Rattle.wol_promise.specs.Manager.{ManagerSeen, AreInUse}
 use Rattle.wol_promise.specs.Policy.{Look}
 use Rattle.wol_promise.specs.Ruled.{Noted, HasPassed, entries_of, IsStep, last_look}
 use Rattle.wol_promise.specs.Stands.{Upholds}
 use Rattle.wol_promise.proofs.Lists.{all_push, all_map, all_mapped, all_back, member_of}
 use Rattle.wol_promise.proofs.OneMore.{last_more}
-use Rattle.logger.specs.Lanes.{IsLane, IsHeld, IsSameLane, Grown, Claimed, AreWhole, held_in, taken_in, lane_owner, logger_of, segments_in, pool_of, pool_blocks}
+use Rattle.logger.specs.Lanes.{IsLane, IsHeld, IsSameLane, AreWhole, held_in, taken_in, lane_owner, logger_of, segments_in, pool_of}
 use Rattle.logger.specs.declared.lane.HeldSegment.{HeldSegment}
 use Rattle.logger.specs.declared.lane.Lane.{Lane}
 use Rattle.logger.specs.declared.lane.Spot.{Spot}
 use Rattle.manager.specs.Answers.{log_write}
-use Rattle.manager.specs.Causes.{PartRoseOrClaimed, SegmentRose, ClaimRose}
+use Rattle.manager.specs.Causes.{PartRoseOrClaimed}
 use Rattle.manager.specs.Offers.{IsTurnedAway, HasTakenWrite}
 use Rattle.manager.specs.Puts.{PutIn, to_held, to_new}
-use Rattle.manager.specs.Seen.{Logs, AllLanesHold, parts_of, seen, all_held, all_taken, down_of, look_of_manager}
-use Rattle.manager.specs.Stands.{Keeps, Stands, IsReady, IsReadyLane, IsUp, IsPlacedIn, Ready, IsNote, Locks, nones_in, nones_at}
+use Rattle.manager.specs.Seen.{AllLanesHold, parts_of, seen, all_held, all_taken, down_of, look_of_manager}
+use Rattle.manager.specs.Stands.{Keeps, Stands, IsReady, IsReadyLane, IsUp, IsPlacedIn, Ready, Locks, nones_in, nones_at}
 use Rattle.manager.specs.Stops.{Stops}
 use Rattle.manager.specs.declared.base.ManagerBase.{ManagerBase}
 use Rattle.manager.specs.declared.manager.Manager.{Manager}
@@ -52,7 +50,7 @@ use Rattle.manager.proofs.Lanes.{all_at, all_set, get_set, quiet_held, quiet_all
 use Rattle.manager.proofs.NewRecord.{rec_at, entered}
 use Rattle.manager.proofs.PutHeld.{put_written, put_failed}
 use Rattle.manager.proofs.PutNew.{apart_last, claim_written, claim_failed}
-use Rattle.manager.proofs.PutStops.{quiet_stops, held_stops, claim_stops}
+use Rattle.manager.proofs.PutStops.{held_stops, claim_stops}
 use Rattle.manager.proofs.Putting.{Pieces, untaken_set}
 use Rattle.manager.proofs.ReadyLanes.{ready_set, locks_set, placed_set, stays_set, stays_push, nones_at_set, nones_none, nones_some}
 

@@ -1,6 +1,6 @@
 -- How a write ends that was placed: its answer, its look, its lanes and its entry.
-use Rattle.std.proofs.Common.{◌≡◌, ◌⊎◌, inl, inr, ⊎_elim, ◌+◌, ℕ, zero, suc, Bool, true, false, ◌&&◌, List, [], ◌∷◌, ◌++◌, map, length, Option, None, Some, Result, Ok, Err, refl, sym, ap, subst, ◌∙◌}
-use Rattle.std.specs.Prelude.{⊤, slice_get, slice_set, ◌==◌, IsTrue, MatchBool}
+use Rattle.std.proofs.Common.{◌≡◌, inl, inr, ⊎_elim, ◌+◌, ℕ, zero, suc, Bool, true, false, ◌&&◌, List, [], ◌∷◌, ◌++◌, map, length, Option, None, Some, Result, Ok, Err, refl, sym, ap, subst, ◌∙◌}
+use Rattle.std.specs.Prelude.{⊤, slice_get, ◌==◌, IsTrue, MatchBool}
 use Rattle.std.specs.List.{AllByRecursion, AllZip, list_any, range_with_len}
 use Rattle.std.specs.Option.{option_map}
 use Rattle.std.proofs.lemmas.Option.{none-some, same_Some, slice_get-map}
@@ -32,7 +32,7 @@ use Rattle.logger.specs.declared.lane.Lane.{Lane}
 use Rattle.logger.specs.declared.shared.Shared.{Shared}
 use Rattle.manager.specs.Accesses.{HasUsedOnce}
 use Rattle.manager.specs.Answers.{home_write, IsPlaceOf}
-use Rattle.manager.specs.Causes.{SegmentRose, ClaimRose, PartRoseOrClaimed}
+use Rattle.manager.specs.Causes.{PartRoseOrClaimed}
 use Rattle.manager.specs.Offers.{HasTakenWrite, ChangesLane}
 use Rattle.manager.specs.Seen.{Logs, AllHold, AllLanesHold, held_with, all_held, look_of_manager}
 use Rattle.manager.specs.Stands.{Keeps, nones_at, passed_in}

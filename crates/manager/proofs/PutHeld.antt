@@ -1,8 +1,7 @@
 -- A write to a held segment: what the manager keeps up with its entry, and where it failed.
-use Rattle.std.proofs.Common.{◌≡◌, ◌⊎◌, inl, inr, ⊎_elim, ◌<◌, ◌≤◌, ◌+◌, ◌-◌, ◌*◌, ◌^◌, ℕ, zero, suc, Bool, true, false, sym, subst, ◌∙◌, arith, List, [], ◌∷◌, ◌++◌, length, Option, None, Some, refl, ap, replicate}
+use Rattle.std.proofs.Common.{◌≡◌, inl, inr, ⊎_elim, ◌<◌, ◌≤◌, ◌+◌, ◌^◌, ℕ, zero, suc, Bool, true, false, sym, subst, ◌∙◌, arith, List, [], ◌∷◌, ◌++◌, length, None, Some, refl, ap, replicate}
 use Rattle.std.specs.Prelude.{Contains, slice_get, slice_set, IsTrue}
-use Rattle.std.specs.List.{AllByRecursion, flat_map}
-use Rattle.std.proofs.lemmas.Option.{slice_get_within}
+use Rattle.std.specs.List.{flat_map}
 use Rattle.std.proofs.lemmas.List.Elements.{Contains-push}
 use Rattle.std.proofs.lemmas.List.{append-nil, length-replicate}
 use Rattle.turn_lock.specs.LockIds.{LockId}
@@ -10,39 +9,36 @@ use Rattle.seg_pool.specs.declared.base.PoolBase.{PoolBase}
 use Rattle.std.proofs.Math.ListN.{length-set}
 use Rattle.wol_disk.specs.Disk.{State, Block, IsDisk, LeavesOnly, Rose}
 use Rattle.wol_disk.proofs.Calls.{now_leaves}
-use Rattle.wol_model.specs.Blocks.{Write}
 use Rattle.wol_model.specs.Extents.{IsValid}
 use Rattle.wol_model.specs.History.{Wrote, Broke, worker, writes, flight_of}
-use Rattle.wol_model.specs.Index.{Indexed, listed_in}
+use Rattle.wol_model.specs.Index.{listed_in}
 use Rattle.wol_model.specs.Log.{Record, IsLog, HasFirstOf, extent_of, written, end_of}
 use Rattle.spin_model.specs.declared.spun.Spun.{Spun}
-use Rattle.log_segment.specs.Segment.{IsSegment, IsSame, IsWhole, IsBroken, Holds, part_of, disk_of, owner_of, place_of, room_of, segment_volume}
-use Rattle.log_segment.specs.declared.segment.Segment.{Segment}
+use Rattle.log_segment.specs.Segment.{IsWhole, IsBroken, Holds, part_of, disk_of, owner_of, place_of, room_of, segment_volume}
 use Rattle.log_segment.proofs.Grouped.{with_or_without}
 use Rattle.redirect_map.specs.declared.record.Rec.{Rec}
 use Rattle.spin_model.specs.Spun.{state_of}
 use Rattle.log_segment.specs.Records.{new_record}
-use Rattle.wol_promise.specs.Manager.{Held, ManagerSeen, Parts, SegmentPart, AreInUse}
+use Rattle.wol_promise.specs.Manager.{Held, ManagerSeen, SegmentPart, AreInUse}
 use Rattle.wol_promise.specs.Policy.{Look}
 use Rattle.wol_promise.specs.Ruled.{Noted, entries_of, IsStep, last_look}
 use Rattle.wol_promise.specs.Stands.{Upholds, StandsFor}
 use Rattle.wol_promise.proofs.Index.{grown, indexed_with}
-use Rattle.wol_promise.proofs.Lists.{all_swap, member_of}
+use Rattle.wol_promise.proofs.Lists.{all_swap}
 use Rattle.wol_promise.proofs.LogWrites.{log_more, log_breaks}
 use Rattle.logger.specs.Lanes.{IsLane, IsHeld, IsSameLane, held_in, taken_in, lane_owner, logger_of, segments_in, pool_of}
 use Rattle.logger.specs.declared.lane.HeldSegment.{HeldSegment}
 use Rattle.logger.specs.declared.lane.Lane.{Lane}
 use Rattle.manager.specs.Answers.{log_write}
-use Rattle.manager.specs.Seen.{Logs, AllLanesHold, parts_of, seen, all_held, all_taken, down_of}
-use Rattle.manager.specs.Stands.{Keeps, IsReadyLane}
+use Rattle.manager.specs.Seen.{parts_of, seen, all_held, all_taken, down_of}
+use Rattle.manager.specs.Stands.{Keeps}
 use Rattle.manager.specs.declared.base.ManagerBase.{ManagerBase}
 use Rattle.manager.specs.declared.manager.Manager.{Manager}
-use Rattle.manager.specs.declared.part.Part.{Part}
 use Rattle.manager.specs.declared.part.Part.TheVariants as part
-use Rattle.manager.proofs.Lanes.{all_at, get_set, held_as, InLanes, in_lanes, none_taken}
+use Rattle.manager.proofs.Lanes.{all_at, get_set, held_as, InLanes, in_lanes}
 use Rattle.manager.proofs.NewRecord.{rec_at, entered, indexed_so, new_valid}
 use Rattle.manager.proofs.ClaimedWrites.{other_records}
-use Rattle.manager.proofs.Putting.{parts, base, ws, untaken, is_up, none, upheld, old_lane, owner, logger, new_one, keeps, lies, image_is_log, some_fault, Pieces, untaken_set}
+use Rattle.manager.proofs.Putting.{parts, base, ws, is_up, none, upheld, old_lane, owner, logger, keeps, lies, image_is_log, some_fault, Pieces, untaken_set}
 
 -- ---- Records that end at a place
 

@@ -1,28 +1,28 @@
 -- A write to a segment that was claimed for it: what the manager keeps up with its entry, and where it failed.
-use Rattle.std.proofs.Common.{◌≡◌, ◌≢◌, ◌⊎◌, inl, inr, ⊎_elim, ◌<◌, ◌≤◌, ◌+◌, ◌-◌, ◌^◌, ℕ, zero, suc, Bool, true, false, sym, subst, ◌∙◌, arith, List, [], ◌∷◌, ◌++◌, length, map, Option, None, Some, refl, ap}
+use Rattle.std.proofs.Common.{◌≡◌, ◌≢◌, ◌⊎◌, inl, inr, ⊎_elim, ◌<◌, ◌≤◌, ◌+◌, ◌^◌, ℕ, zero, suc, Bool, true, false, sym, subst, ◌∙◌, arith, List, [], ◌∷◌, ◌++◌, length, map, None, Some, refl, ap}
 use Rattle.std.specs.Prelude.{Contains, slice_get, slice_set, IsTrue}
 use Rattle.std.specs.List.{AllByRecursion}
 use Rattle.std.specs.Option.{option_to_list}
-use Rattle.std.proofs.lemmas.Option.{same_Some, none-some}
+use Rattle.std.proofs.lemmas.Option.{same_Some}
 use Rattle.std.proofs.Math.ListN.{length-set}
-use Rattle.wol_disk.specs.Disk.{State, Block, Values, IsDisk, LeavesOnly, Rose, TellsContent}
+use Rattle.wol_disk.specs.Disk.{State, Block, IsDisk, LeavesOnly, Rose}
 use Rattle.wol_disk.proofs.Calls.{now_leaves}
-use Rattle.wol_model.specs.Blocks.{Write, AreApart}
+use Rattle.wol_model.specs.Blocks.{AreApart}
 use Rattle.wol_model.specs.Extents.{IsValid}
 use Rattle.wol_model.specs.History.{Wrote, Broke, worker, writes, flight_of}
-use Rattle.wol_model.specs.Index.{Indexed, listed_in}
+use Rattle.wol_model.specs.Index.{listed_in}
 use Rattle.wol_model.specs.Log.{Record, IsLog, IsIdle, HasFirstOf, extent_of}
 use Rattle.turn_lock.specs.LockIds.{LockId}
 use Rattle.spin_model.specs.Spun.{state_of, volume_of}
 use Rattle.spin_model.specs.declared.spun.Spun.{Spun}
 use Rattle.seg_pool.specs.declared.base.PoolBase.{PoolBase}
 use Rattle.log_segment.specs.Records.{new_record}
-use Rattle.log_segment.specs.Segment.{IsSegment, IsSame, IsWhole, IsBroken, IsBlank, Holds, part_of, disk_of, free_disk, owner_of, segment_volume, blocks_of}
+use Rattle.log_segment.specs.Segment.{IsSegment, IsSame, IsWhole, IsBroken, Holds, part_of, disk_of, free_disk, owner_of, segment_volume}
 use Rattle.log_segment.specs.declared.free.FreeSegment.{FreeSegment}
 use Rattle.log_segment.specs.declared.segment.Segment.{Segment}
 use Rattle.log_segment.proofs.Grouped.{with_or_without}
 use Rattle.redirect_map.specs.declared.record.Rec.{Rec}
-use Rattle.wol_promise.specs.Manager.{Held, ManagerSeen, Parts, SegmentPart, AreInUse, SaysOwnerOrFree}
+use Rattle.wol_promise.specs.Manager.{Held, ManagerSeen, SegmentPart, AreInUse, SaysOwnerOrFree}
 use Rattle.wol_promise.specs.Policy.{Look}
 use Rattle.wol_promise.specs.Ruled.{Noted, entries_of, IsStep, last_look}
 use Rattle.wol_promise.specs.Stands.{Upholds, StandsFor, IsHeldBy, place_in}
@@ -31,17 +31,16 @@ use Rattle.wol_promise.proofs.Claims.{empty_segment}
 use Rattle.wol_promise.proofs.Index.{indexed_with}
 use Rattle.wol_promise.proofs.Lists.{all_back, all_insert, all_joined, member_of}
 use Rattle.wol_promise.proofs.LogWrites.{says_owner}
-use Rattle.logger.specs.Lanes.{IsLane, IsHeld, IsSameLane, held_in, taken_in, indexes_in, lane_owner, logger_of, segments_in, pool_of, pool_blocks}
+use Rattle.logger.specs.Lanes.{IsLane, IsHeld, IsSameLane, held_in, taken_in, lane_owner, logger_of, segments_in, pool_of, pool_blocks}
 use Rattle.logger.specs.declared.lane.HeldSegment.{HeldSegment}
 use Rattle.logger.specs.declared.lane.Lane.{Lane}
 use Rattle.manager.specs.Answers.{log_write}
-use Rattle.manager.specs.Seen.{Logs, AllLanesHold, parts_of, may_be, seen, held_with, all_held, all_taken, down_of}
-use Rattle.manager.specs.Stands.{Keeps, IsReadyLane}
+use Rattle.manager.specs.Seen.{Logs, parts_of, may_be, seen, held_with, all_held, all_taken, down_of}
+use Rattle.manager.specs.Stands.{Keeps}
 use Rattle.manager.specs.declared.base.ManagerBase.{ManagerBase}
 use Rattle.manager.specs.declared.manager.Manager.{Manager}
-use Rattle.manager.specs.declared.part.Part.{Part}
 use Rattle.manager.specs.declared.part.Part.TheVariants as part
-use Rattle.manager.proofs.Lanes.{held_as, AtEnd, at_end}
+use Rattle.manager.proofs.Lanes.{AtEnd, at_end}
 use Rattle.manager.proofs.NewRecord.{rec_at, entered, indexed_so, new_valid}
 use Rattle.manager.proofs.ClaimedWrites.{claimed_more, claimed_breaks}
 use Rattle.manager.proofs.Putting.{is_up, none, upheld, old_lane, owner, logger, keeps, lies, image_is_log, some_fault, Pieces, untaken_set}

@@ -1,8 +1,8 @@
 -- A write to a log that is stopped at any moment of it.
-use Rattle.std.proofs.Common.{◌≡◌, ◌≢◌, ◌⊎◌, inl, inr, ⊎_elim, ◌≤◌, ◌+◌, ◌-◌, ◌^◌, ℕ, Bool, sym, subst, ◌∙◌, arith, List, [], ◌∷◌, ◌++◌, length, map, Option, None, Some, refl, ap}
+use Rattle.std.proofs.Common.{◌≡◌, ◌≢◌, ◌⊎◌, inl, inr, ⊎_elim, ℕ, Bool, sym, subst, ◌∙◌, List, [], ◌∷◌, ◌++◌, map, Option, None, Some, refl, ap}
 use Rattle.std.specs.Prelude.{⊤, Contains, slice_get, slice_set, IsTrue}
 use Rattle.std.specs.List.{AllByRecursion}
-use Rattle.std.proofs.lemmas.Option.{same_Some, none-some}
+use Rattle.std.proofs.lemmas.Option.{same_Some}
 use Rattle.std.proofs.lemmas.Grind.{flat_map-append}
 use Rattle.std.proofs.lemmas.List.{map-append}
 use Rattle.wol_disk.specs.Disk.{State, Block, IsDisk, LeavesOnly}
@@ -11,9 +11,7 @@ use Rattle.wol_model.specs.Extents.{Extent}
 use Rattle.wol_model.specs.History.{writes, IsCut}
 use Rattle.wol_model.specs.Holding.{Holds}
 use Rattle.wol_model.specs.Log.{Record, IsLog, IsIdle, HasFirstOf, extent_of}
-use Rattle.wol_model.specs.Recovered.{extents_in}
 use Rattle.wol_model.proofs.Images.{kept, idle_none}
-use Rattle.spin_model.specs.Spun.{state_of}
 use Rattle.spin_model.specs.declared.spun.Spun.{Spun}
 use Rattle.log_segment.specs.Records.{new_record}
 use Rattle.log_segment.specs.Segment as segment
@@ -27,7 +25,7 @@ use Rattle.wol_promise.proofs.Choices.{AreLogs}
 use Rattle.wol_promise.proofs.Lists.{all_parts, all_front, all_back, all_member, member_mid}
 use Rattle.wol_promise.proofs.LogWrites.{around}
 use Rattle.wol_promise.proofs.Stops.{log_stops, still_stops}
-use Rattle.logger.specs.Lanes.{IsLane, IsSameLane, held_in, taken_in, lane_owner, logger_of}
+use Rattle.logger.specs.Lanes.{IsLane, IsSameLane, held_in, taken_in, lane_owner}
 use Rattle.logger.specs.declared.lane.HeldSegment.{HeldSegment}
 use Rattle.logger.specs.declared.lane.Lane.{Lane}
 use Rattle.manager.specs.Answers.{log_write}
@@ -37,7 +35,7 @@ use Rattle.manager.specs.Stops.{ImageSince, HeldSince, was_held, was_free, Stops
 use Rattle.manager.specs.declared.base.ManagerBase.{ManagerBase}
 use Rattle.manager.specs.declared.manager.Manager.{Manager}
 use Rattle.manager.proofs.Lanes.{InLanes, AtEnd, held_as, quiet_held, quiet_all}
-use Rattle.manager.proofs.Moments.{Since, still_logs, home_holds, stops_so, one_of_place}
+use Rattle.manager.proofs.Moments.{still_logs, home_holds, stops_so, one_of_place}
 use Rattle.manager.proofs.NewRecord.{new_keeps}
 use Rattle.manager.proofs.PutHeld as put_held
 use Rattle.manager.proofs.PutNew as put_new

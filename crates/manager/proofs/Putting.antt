@@ -1,13 +1,13 @@
 -- What is known of a manager that is up when a write is put into one of its lanes.
-use Rattle.std.proofs.Common.{◌≡◌, ◌⊎◌, ⊎_elim, ◌<◌, ◌≤◌, ◌+◌, ◌-◌, ◌^◌, ℕ, sym, subst, ◌∙◌, arith, List, [], ◌∷◌, ◌++◌, length, map, Bool, Option, None, Some, refl, ap}
-use Rattle.std.specs.Prelude.{slice_get, slice_set, IsTrue, is_some}
+use Rattle.std.proofs.Common.{◌≡◌, ⊎_elim, ◌<◌, ◌≤◌, ◌+◌, ℕ, sym, subst, ◌∙◌, arith, List, [], length, Bool, Option, None, Some, ap}
+use Rattle.std.specs.Prelude.{slice_get, slice_set, IsTrue}
 use Rattle.std.specs.List.{AllByRecursion}
 use Rattle.std.specs.Option.{option_map}
 use Rattle.std.proofs.lemmas.Option.{slice_get-map}
 use Rattle.wol_disk.specs.Disk.{State, Block, IsImageOf, Rose}
 use Rattle.wol_disk.proofs.Calls.{settled_only}
 use Rattle.wol_model.specs.Blocks.{Write}
-use Rattle.wol_model.specs.Extents.{KeepsAll, IsValid, write_of}
+use Rattle.wol_model.specs.Extents.{KeepsAll, write_of}
 use Rattle.wol_model.specs.History.{writes, flight_of}
 use Rattle.wol_model.specs.Index.{Indexed}
 use Rattle.wol_model.specs.Log.{Record, IsLog, extent_of}
@@ -29,7 +29,7 @@ use Rattle.manager.specs.declared.base.ManagerBase.{ManagerBase}
 use Rattle.manager.specs.declared.manager.Manager.{Manager}
 use Rattle.manager.specs.declared.part.Part.{Part}
 use Rattle.manager.proofs.Lanes.{all_at, all_set, none_taken}
-use Rattle.manager.proofs.NewRecord.{new_keeps, new_valid}
+use Rattle.manager.proofs.NewRecord.{new_keeps}
 
 -- each image of a segment that holds records is a log of them
 pub image_is_log : {D : Type 0} (state : D → State) (seg : Segment D) (rs : List Record) (c : List Block) → Holds state seg rs → IsImageOf (disk_of state seg).values c → IsLog c (owner_of seg) rs

@@ -1,21 +1,19 @@
 -- What a run's source gives is what the volume's array has there.
-use Rattle.std.proofs.Common.{◌≡◌, ◌≢◌, ⊎_elim, ◌<◌, ◌≤◌, ◌+◌, ◌-◌, ℕ, zero, suc, Bool, List, [], ◌∷◌, ◌++◌, map, length, take, drop, Option, None, Some, refl, sym, ap, subst, ◌∙◌, arith}
+use Rattle.std.proofs.Common.{◌≡◌, ◌≢◌, ⊎_elim, ◌<◌, ◌≤◌, ◌+◌, ◌-◌, ℕ, zero, suc, Bool, List, [], ◌∷◌, map, length, take, drop, Option, None, Some, refl, sym, ap, subst, ◌∙◌, arith}
 use Rattle.std.specs.Prelude.{IsTrue, Contains, slice_get, slice_range}
-use Rattle.std.specs.List.{AllByRecursion}
 use Rattle.std.proofs.lemmas.Option.{none-some, same_Some}
 use Rattle.std.proofs.lemmas.List.{length-map}
 use Rattle.std.proofs.lemmas.List.Elements.{Contains-append_left, Contains-append_right}
 use Rattle.std.proofs.lemmas.List.FromFn.{length-map-range_with_len}
-use Rattle.wol_disk.specs.Disk.{State, Block, Values, IsDisk, IsImageOf, reads}
+use Rattle.wol_disk.specs.Disk.{State, Block, Values, IsImageOf, reads}
 use Rattle.wol_disk.proofs.Images.{image_reads}
 use Rattle.wol_model.specs.Blocks.{after}
-use Rattle.wol_model.specs.Extents.{newest, newest_block}
+use Rattle.wol_model.specs.Extents.{newest}
 use Rattle.wol_model.specs.History.{writes, flight_of}
-use Rattle.wol_model.specs.Index.{Indexed, AreRising}
-use Rattle.wol_model.specs.Log.{Record, IsNamed, has_bit, marks_of, position_of}
-use Rattle.wol_promise.specs.Manager.{Held, IsBacked, IsIndexOf, extents_held}
+use Rattle.wol_model.specs.Log.{Record, IsNamed, has_bit, position_of}
+use Rattle.wol_promise.specs.Manager.{Held, IsBacked, extents_held}
 use Rattle.wol_promise.specs.Ruled.{Noted, entries_of}
-use Rattle.wol_promise.specs.Stands.{IsWhole, IsCalm, Upholds, place_in, ApartFrom, AreApartPlaces}
+use Rattle.wol_promise.specs.Stands.{IsWhole, Upholds, place_in, AreApartPlaces}
 use Rattle.wol_promise.proofs.Kept.{not_broken}
 use Rattle.wol_promise.proofs.Lists.{all_member, member_front, member_map, member_behind, member_of}
 use Rattle.spin_model.specs.Spun.{state_of}

@@ -3,27 +3,26 @@ use Rattle.std.proofs.Common.{◌≡◌, ◌<◌, ◌≤◌, ◌+◌, ◌-◌, �
 use Rattle.std.specs.Prelude.{IsTrue, slice_get, slice_range, option_map}
 use Rattle.std.specs.List.{AllByRecursion, AllZip}
 use Rattle.std.proofs.lemmas.Option.{slice_get-map}
-use Rattle.wol_disk.specs.Disk.{State, Block, Values, IsDisk, IsImageOf}
+use Rattle.wol_disk.specs.Disk.{State, Block, Values, IsImageOf}
 use Rattle.wol_disk.proofs.Images.{only_image}
 use Rattle.wol_model.specs.History.{Read, Broke, worker, writes}
 use Rattle.wol_model.specs.Blocks.{after}
 use Rattle.wol_model.specs.Log.{Record, IsLog}
 use Rattle.redirect_map.specs.Index.{Contents}
 use Rattle.wol_promise.proofs.Lists.{all_map}
-use Rattle.wol_promise.specs.Manager.{Held, ManagerSeen, PartName, IsPartOf, AreInUse}
+use Rattle.wol_promise.specs.Manager.{ManagerSeen, PartName, IsPartOf, AreInUse}
 use Rattle.wol_promise.specs.Ruled.{Noted, entries_of, HasPassed, last_look, times_passed}
 use Rattle.wol_promise.specs.Stands.{Upholds, StandsFor}
 use Rattle.spin_model.specs.Spun.{state_of}
 use Rattle.spin_model.specs.declared.spun.Spun.{Spun}
 use Rattle.log_segment.specs.Segment.{Holds, part_of, disk_of, owner_of}
-use Rattle.turn_lock.specs.Passes.{pass_mine}
-use Rattle.logger.specs.Lanes.{held_in, taken_in, logger_of, lane_owner, segments_in, pool_of, IsHeld}
+use Rattle.logger.specs.Lanes.{held_in, logger_of, lane_owner, segments_in, pool_of, IsHeld}
 use Rattle.logger.specs.declared.lane.HeldSegment.{HeldSegment}
 use Rattle.logger.specs.declared.lane.Lane.{Lane}
 use Rattle.manager.specs.Causes.{PartRose}
 use Rattle.manager.specs.Reading.{SegmentRead, LaneRead, IsReadThrough}
 use Rattle.manager.specs.Seen.{Logs, AllHold, AllLanesHold, held_with, all_held, all_taken, parts_of, seen, down_of, name_of, look_of_manager}
-use Rattle.manager.specs.Stands.{Keeps, Stands, IsNote, IsReady, IsReadyLane, IsNamed, AreNamed, Locks, nones_in, nones_at}
+use Rattle.manager.specs.Stands.{Keeps, Stands, IsNote, IsReady, IsReadyLane, AreNamed, Locks, nones_in, nones_at}
 use Rattle.manager.specs.declared.base.LaneBase.{LaneBase}
 use Rattle.manager.specs.declared.base.ManagerBase.{ManagerBase}
 use Rattle.manager.specs.declared.manager.Manager.{Manager}

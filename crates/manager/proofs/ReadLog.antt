@@ -1,5 +1,5 @@
 -- A lane's read, as its manager sees it.
-use Rattle.std.proofs.Common.{◌≡◌, inl, inr, ◌<◌, ◌≤◌, ◌+◌, ◌-◌, ℕ, Bool, List, [], ◌∷◌, ◌++◌, length, take, drop, Option, None, Some, Result, Ok, Err, OnOk, OnErr, IfErr, get_or, refl, sym, ap, subst, ◌∙◌, arith}
+use Rattle.std.proofs.Common.{◌≡◌, inl, inr, ◌<◌, ◌≤◌, ◌+◌, ◌-◌, ℕ, Bool, List, [], ◌∷◌, ◌++◌, length, take, drop, None, Some, Result, Ok, Err, OnOk, OnErr, get_or, refl, sym, ap, subst, ◌∙◌, arith}
 use Rattle.std.specs.Prelude.{Contains, slice_get, slice_set}
 use Rattle.std.specs.List.{AllByRecursion, AllZip, refill}
 use Rattle.std.specs.Vec.{with_item}
@@ -8,18 +8,17 @@ use Rattle.std.proofs.lemmas.Option.{same_Some, slice_get_read, slice_get_within
 use Rattle.std.proofs.lemmas.List.{append-nil}
 use Rattle.wol_disk.specs.Disk.{State, Block, Rose, IsDisk}
 use Rattle.wol_model.specs.Extents.{newest}
-use Rattle.wol_model.specs.Index.{Indexed}
 use Rattle.wol_promise.proofs.Lists.{all_map, all_member}
 use Rattle.turn_lock.specs.Passes.{pass_mine}
-use Rattle.log_segment.specs.Segment.{IsWhole, blocks_of, disk_of}
+use Rattle.log_segment.specs.Segment.{IsWhole, blocks_of}
 use Rattle.redirect_map.specs.Index.{cover_at}
 use Rattle.redirect_map.specs.declared.record.Rec.{Rec}
-use Rattle.logger.specs.Lanes.{IsLane, IsHeld, IsSameLane, AreWhole, ReadFrom, held_in, taken_in, pool_of, logger_of}
+use Rattle.logger.specs.Lanes.{IsLane, IsHeld, IsSameLane, AreWhole, ReadFrom, held_in, taken_in, pool_of}
 use Rattle.logger.specs.declared.lane.HeldSegment.{HeldSegment}
 use Rattle.logger.specs.declared.lane.Lane.{Lane}
 use Rattle.logger.specs.declared.lane.Spot.{Spot}
 use Rattle.manager.specs.Reading.{Counted, IsSource, SegmentRead, LaneRead}
-use Rattle.manager.specs.Stands.{IsReady, IsReadyLane, IsUp, IsPlacedIn}
+use Rattle.manager.specs.Stands.{IsReady, IsReadyLane, IsPlacedIn}
 use Rattle.manager.specs.declared.manager.Manager.{Manager}
 use Rattle.manager.proofs.Lanes.{all_at, all_set, get_set}
 use Rattle.manager.proofs.ReadyLanes.{get_of, ready_set, placed_set, stays_set}

@@ -8,7 +8,6 @@ use Rattle.wol_model.specs.Extents.{Extent}
 use Rattle.wol_model.specs.History.{writes, flight_of, IsCut}
 use Rattle.wol_model.specs.Holding.{Holds as HoldsArray}
 use Rattle.wol_model.specs.Log.{Record, IsLog, extent_of}
-use Rattle.wol_model.specs.Recovered.{recovered}
 use Rattle.wol_promise.specs.Manager.{Held, Recovers, extents_held, is_homed_in}
 use Rattle.wol_promise.specs.Ruled.{Noted, entries_of}
 use Rattle.wol_promise.specs.Stands.{place_in}
@@ -22,7 +21,7 @@ use Rattle.logger.specs.Lanes.{held_in, logger_of, lane_owner, segments_in, pool
 use Rattle.logger.specs.declared.lane.HeldSegment.{HeldSegment}
 use Rattle.logger.specs.declared.lane.Lane.{Lane}
 use Rattle.manager.specs.Reading.{SegmentRead, LaneRead, IsReadThrough}
-use Rattle.manager.specs.Seen.{Logs, AllHold, AllLanesHold, held_with, all_held, parts_of, seen, down_of}
+use Rattle.manager.specs.Seen.{Logs, AllHold, AllLanesHold, held_with, all_held, parts_of, down_of}
 use Rattle.manager.specs.Stands.{Keeps, IsReady, IsReadyLane}
 use Rattle.manager.specs.Stops.{ImageSince, HeldSince, was_held, was_free, Stops}
 use Rattle.manager.specs.declared.base.ManagerBase.{ManagerBase}

@@ -1,16 +1,16 @@
 -- Reads go on: what each of them leaves of a manager's parts, they leave together.
-use Rattle.std.proofs.Common.{◌≡◌, ◌⊎◌, inl, inr, ⊎_elim, ◌<◌, ◌≤◌, ◌+◌, ◌-◌, ◌^◌, ℕ, zero, suc, Bool, true, false, ◌||◌, List, [], ◌∷◌, ◌++◌, map, length, Option, None, Some, Result, Ok, Err, OnOk, OnErr, IfErr, is_ok, refl, sym, ap, subst, ◌∙◌, arith}
+use Rattle.std.proofs.Common.{◌≡◌, inl, inr, ◌<◌, ℕ, zero, suc, true, false, List, [], ◌∷◌, length, Option, None, Some, Result, Ok, Err, OnOk, OnErr, IfErr, is_ok, refl, sym, ap, subst, ◌∙◌, arith}
 use Rattle.std.specs.Prelude.{IsErr, slice_get, slice_set}
 use Rattle.turn_lock.specs.Passes.{pass_mine}
-use Rattle.std.specs.List.{AllByRecursion, AllZip}
+use Rattle.std.specs.List.{AllZip}
 use Rattle.std.proofs.lemmas.Option.{none-some, same_Some}
-use Rattle.wol_disk.specs.Disk.{State, Block, Values, LeavesOnly, Rose, IsDisk, IsImageOf, only}
+use Rattle.wol_disk.specs.Disk.{State, Block, Values, Rose, IsDisk, IsImageOf}
 use Rattle.wol_disk.proofs.Images.{only_image}
 use Rattle.wol_disk.proofs.Moments.{started, then_leaves}
-use Rattle.wol_model.specs.Log.{Record, IsLog}
+use Rattle.wol_model.specs.Log.{IsLog}
 use Rattle.spin_model.specs.Spun.{state_of}
 use Rattle.spin_model.specs.declared.spun.Spun.{Spun}
-use Rattle.log_segment.specs.Segment.{IsSame, Holds, disk_of, owner_of}
+use Rattle.log_segment.specs.Segment.{disk_of, owner_of}
 use Rattle.logger.specs.Lanes.{held_in, spindle_of}
 use Rattle.logger.specs.declared.lane.HeldSegment.{HeldSegment}
 use Rattle.logger.specs.declared.lane.Lane.{Lane}

@@ -1,7 +1,6 @@
 -- What holds of a manager between its calls, where one of its lanes is another.
-use Rattle.std.proofs.Common.{◌≡◌, ◌⊎◌, inl, inr, ⊎_elim, ◌<◌, ◌≤◌, ◌+◌, ◌-◌, ℕ, zero, suc, Bool, sym, subst, ◌∙◌, arith, List, [], ◌∷◌, ◌++◌, length, map, None, Some, refl, ap}
-use Rattle.std.specs.Prelude.{Contains, slice_get, slice_set, is_some}
-use Rattle.std.specs.List.{AllByRecursion, count_by}
+use Rattle.std.proofs.Common.{◌≡◌, ◌⊎◌, inl, inr, ⊎_elim, ◌<◌, ◌≤◌, ◌+◌, ℕ, zero, suc, Bool, sym, subst, ◌∙◌, arith, List, [], ◌∷◌, ◌++◌, length, None, Some, refl, ap}
+use Rattle.std.specs.Prelude.{Contains, slice_get, slice_set}
 use Rattle.std.proofs.lemmas.Option.{same_Some, none-some}
 use Rattle.std.proofs.Math.ListN.{length-set}
 use Rattle.std.proofs.lemmas.List.Sums.{sum_by-append}
@@ -10,23 +9,22 @@ use Rattle.wol_disk.specs.Disk.{State}
 use Rattle.turn_lock.specs.Histories.{Entry}
 use Rattle.turn_lock.specs.LockIds.{LockId}
 use Rattle.seg_pool.specs.declared.base.PoolBase.{PoolBase}
-use Rattle.turn_lock.specs.Passes.{pass_number, pass_mine}
+use Rattle.turn_lock.specs.Passes.{pass_mine}
 use Rattle.turn_lock.specs.declared.pass.PassOf.{PassOf}
 use Rattle.spin_model.specs.declared.spindle.Spindle.{Spindle}
 use Rattle.spin_model.specs.declared.spindle.SpindleBase.{SpindleBase}
 use Rattle.spin_model.specs.declared.spun.Spun.{Spun}
 use Rattle.seg_pool.specs.Holders.{Took}
 use Rattle.seg_pool.specs.Operations.{operation_of}
-use Rattle.log_segment.specs.Segment.{IsWhole, blocks_of}
+use Rattle.log_segment.specs.Segment.{blocks_of}
 use Rattle.offload_policy.specs.declared.Room.{Room}
 use Rattle.wol_model.specs.Index.{Indexed}
-use Rattle.wol_promise.proofs.Lists.{all_map, member_of}
+use Rattle.wol_promise.proofs.Lists.{member_of}
 use Rattle.logger.specs.Lanes.{IsLane, IsAt, IsSameLane, held_in, taken_in, pool_of, logger_of}
 use Rattle.logger.specs.declared.lane.HeldSegment.{HeldSegment}
 use Rattle.logger.specs.declared.lane.Lane.{Lane}
 use Rattle.logger.specs.declared.shared.Shared.{Shared}
-use Rattle.manager.specs.Stands.{IsReadyLane, Ready, IsPlacedIn, IsUp, At, Locks, IsNamed, AreNamed, nones_in, nones_at}
-use Rattle.manager.specs.Offers.{IsTurnedAway, HasTakenWrite}
+use Rattle.manager.specs.Stands.{IsReadyLane, Ready, IsPlacedIn, At, Locks, nones_in, nones_at}
 use Rattle.manager.specs.declared.base.LaneBase.{LaneBase}
 use Rattle.manager.specs.declared.base.ManagerBase.{ManagerBase}
 use Rattle.manager.proofs.Lanes.{all_at, all_set, get_set, get_other, map_set, named_set}

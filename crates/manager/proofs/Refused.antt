@@ -1,13 +1,13 @@
 -- A write before a pool is asked: the notes of rooms and the room of the index are all that may have changed.
 use Rattle.std.proofs.Common.{◌≡◌, inl, inr, ⊎_elim, ℕ, zero, suc, Bool, true, false, List, [], ◌∷◌, ◌++◌, length, Option, None, Some, Result, Ok, Err, refl, sym, ap, subst, ◌∙◌, arith}
-use Rattle.std.specs.Prelude.{IsTrue, replicate, slice_get, MatchBool}
+use Rattle.std.specs.Prelude.{IsTrue, replicate, MatchBool}
 use Rattle.std.specs.List.{AllByRecursion}
 use Rattle.std.proofs.lemmas.Option.{slice_get_within}
 use Rattle.wol_disk.specs.Disk.{State, Block, IsDisk}
 use Rattle.turn_lock.specs.Passes.{pass_mine}
 use Rattle.log_segment.specs.Segment.{Holds}
 use Rattle.wol_model.specs.History.{Kept, writes}
-use Rattle.wol_model.specs.Index.{Indexed, listed_in}
+use Rattle.wol_model.specs.Index.{listed_in}
 use Rattle.wol_model.specs.Placing as placing
 use Rattle.wol_promise.specs.Manager.{is_homed_in}
 use Rattle.wol_promise.specs.Policy.{Look, place_of}

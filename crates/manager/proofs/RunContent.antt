@@ -1,20 +1,20 @@
 -- What the array has for a run of blocks with one source: home, or one record of a held segment.
-use Rattle.std.proofs.Common.{◌≡◌, ◌⊎◌, ⊎_elim, ◌<◌, ◌≤◌, ◌+◌, ◌-◌, ℕ, zero, suc, Bool, true, false, cond, ◌&&◌, ◌||◌, List, [], ◌∷◌, ◌++◌, map, length, take, drop, Option, None, Some, refl, sym, ap, subst, ◌∙◌, arith, ltb, leb, length-drop}
+use Rattle.std.proofs.Common.{◌≡◌, ⊎_elim, ◌<◌, ◌≤◌, ◌+◌, ◌-◌, ℕ, zero, suc, Bool, true, false, cond, ◌&&◌, ◌||◌, List, [], ◌∷◌, ◌++◌, map, length, take, drop, Option, None, Some, refl, sym, ap, subst, ◌∙◌, arith, ltb, leb, length-drop}
 use Rattle.std.specs.Prelude.{Contains, slice_get, is_some, unwrap_or}
-use Rattle.std.specs.List.{AllByRecursion, list_any}
+use Rattle.std.specs.List.{list_any}
 use Rattle.std.specs.Option.{option_map, option_and_then}
 use Rattle.std.proofs.lemmas.Option.{same_Some, none-some}
 use Rattle.std.proofs.lemmas.Bool.{le-leb, ltb-true, false≢true}
 use Rattle.std.proofs.lemmas.List.Elements.{Contains-append_left, Contains-append_right}
 use Rattle.wol_disk.specs.Disk.{Block}
-use Rattle.wol_model.specs.Blocks.{block_of, overlaid_from, overlaid}
-use Rattle.wol_model.specs.Extents.{Cover, Extent, newest, newer_of, newest_block, with_extents, covers_of, AreDistinct, IsValid, has_newer, marked}
+use Rattle.wol_model.specs.Blocks.{block_of, overlaid_from}
+use Rattle.wol_model.specs.Extents.{Cover, Extent, newest, newer_of, newest_block, with_extents, covers_of, AreDistinct, has_newer}
 use Rattle.wol_model.specs.Index.{Listed, Indexed, listed_in, listed_covers, cover_of, is_covered}
-use Rattle.wol_model.specs.Log.{Record, extent_of, marks_of}
-use Rattle.wol_model.proofs.Counts.{both, marked_within}
+use Rattle.wol_model.specs.Log.{Record, extent_of}
+use Rattle.wol_model.proofs.Counts.{both}
 use Rattle.wol_model.proofs.Live.{live_is_newest}
 use Rattle.wol_model.proofs.Newest.{above, newer_is_above}
-use Rattle.wol_promise.specs.Manager.{Held, IsEntryOf, IsBacked, IsIndexOf, extents_held}
+use Rattle.wol_promise.specs.Manager.{Held, IsBacked, IsIndexOf, extents_held}
 use Rattle.wol_promise.proofs.Covers.{any_member, any_found, same_cover, held_is_listed}
 use Rattle.wol_promise.proofs.Lists.{member_map, member_of, member_front, member_behind}
 use Rattle.redirect_map.specs.Index.{cover_at}

@@ -1,17 +1,17 @@
 -- Parts that were read: each is as it was for what a manager upholds.
-use Rattle.std.proofs.Common.{◌≡◌, ◌≢◌, inl, ◌<◌, ◌≤◌, ◌+◌, ℕ, zero, suc, Bool, true, false, List, [], ◌∷◌, ◌++◌, map, length, Option, None, Some, refl, sym, ap, subst, ◌∙◌, arith}
+use Rattle.std.proofs.Common.{◌≡◌, ◌<◌, ◌≤◌, ◌+◌, ℕ, zero, suc, Bool, false, List, [], ◌∷◌, ◌++◌, map, length, None, Some, refl, sym, ap, subst, ◌∙◌, arith}
 use Rattle.std.specs.Prelude.{Contains, slice_get}
 use Rattle.std.specs.List.{AllByRecursion, AllZip}
 use Rattle.wol_disk.specs.Disk.{Block}
 use Rattle.wol_model.specs.Blocks.{Write}
 use Rattle.wol_model.specs.Extents.{Extent, IsValid, AreDistinct, covers_of}
-use Rattle.wol_model.specs.History.{Broke, writes, flight_of, IsCut}
+use Rattle.wol_model.specs.History.{Broke, writes, flight_of}
 use Rattle.wol_model.specs.Holding.{Holds}
 use Rattle.wol_model.specs.Index.{Indexed}
 use Rattle.wol_model.specs.Log.{Record, IsLog, extent_of, position_of}
 use Rattle.wol_promise.specs.Ruled.{Noted, entries_of}
-use Rattle.wol_promise.specs.Manager.{Parts, PartName, Held, ManagerSeen, Base, IsPartOf, IsEntryOf, IsFound, IsBacked, IsIndexOf, AreInUse, extents_held, is_homed_in, WasWritten, SaysOwnerOrFree}
-use Rattle.wol_promise.specs.Stands.{AreKnown, IsHeldBy, place_in, AreApartPlaces, HasPlaces, IsPlaced, IsWhole, IsCalm, Upholds, StandsFor}
+use Rattle.wol_promise.specs.Manager.{Parts, PartName, Held, ManagerSeen, Base, IsPartOf, IsEntryOf, IsFound, IsBacked, IsIndexOf, AreInUse, extents_held, is_homed_in, WasWritten}
+use Rattle.wol_promise.specs.Stands.{AreKnown, IsHeldBy, place_in, AreApartPlaces, HasPlaces, IsPlaced, IsWhole, Upholds, StandsFor}
 use Rattle.wol_promise.proofs.Broke.{broke_more}
 use Rattle.wol_promise.proofs.Lists.{member_behind}
 use Rattle.wol_promise.proofs.LogWrites.{says_owner}

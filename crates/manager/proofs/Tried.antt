@@ -1,6 +1,6 @@
 -- A lane that was offered a write: what its answer says in the words of a write.
 use Rattle.std.proofs.Common.{◌≡◌, ℕ, List, map, Some, refl, sym, ap, subst, ◌∙◌, Option}
-use Rattle.std.specs.Prelude.{slice_get, slice_set, IfSome}
+use Rattle.std.specs.Prelude.{slice_get, IfSome}
 use Rattle.std.specs.Option.{option_map}
 use Rattle.std.proofs.lemmas.Option.{slice_get-map}
 use Rattle.wol_disk.specs.Disk.{Block}

@@ -13,11 +13,10 @@ use Rattle.spin_model.specs.declared.spindle.Spindle.{Spindle}
 use Rattle.spin_model.specs.declared.spindle.SpindleBase.{SpindleBase}
 use Rattle.spin_model.specs.declared.spun.Spun.{Spun}
 use Rattle.log_segment.specs.Segment.{Holds}
-use Rattle.wol_model.specs.Blocks.{Write, block_of, after}
+use Rattle.wol_model.specs.Blocks.{block_of, after}
 use Rattle.wol_model.specs.Extents.{IsUncovered, covers_of, AreDistinct, newest}
-use Rattle.wol_model.specs.History.{Wrote, Broke, worker, writes, flight_of}
+use Rattle.wol_model.specs.History.{Wrote, Broke, worker, writes}
 use Rattle.wol_model.specs.Index.{Indexed, listed_in, is_covered}
-use Rattle.wol_model.specs.Log.{Record}
 use Rattle.wol_model.proofs.Arrays.{after_put}
 use Rattle.wol_promise.specs.Manager.{Held, IsIndexOf, extents_held, is_homed_in}
 use Rattle.wol_promise.specs.Ruled.{Noted, HasPassed, last_look, entries_of}
@@ -26,8 +25,7 @@ use Rattle.wol_promise.proofs.HomeWrites.{home_more, home_breaks}
 use Rattle.wol_promise.proofs.OneMore.{last_more}
 use Rattle.wol_promise.proofs.Stops.{home_stops}
 use Rattle.redirect_map.specs.Index.{cover_at}
-use Rattle.logger.specs.declared.lane.HeldSegment.{HeldSegment}
-use Rattle.manager.specs.Accesses.{IsTornFrom, Stored}
+use Rattle.manager.specs.Accesses.{IsTornFrom}
 use Rattle.manager.specs.Answers.{home_write}
 use Rattle.manager.specs.Seen.{Logs, AllLanesHold, parts_of, seen, all_held, down_of, look_of_manager}
 use Rattle.manager.specs.Stands.{Keeps, Stands, IsReady, IsNote, nones_at}

@@ -1,12 +1,11 @@
 -- The operation that an answer stands for, and where a write goes.
-use Rattle.std.specs.Prelude.{⊤, ◌≡◌, ◌≢◌, ◌⊎◌, ◌<◌, ◌≤◌, ◌+◌, ◌^◌, ℕ, Bool, false, List, [], ◌∷◌, length, Option, None, Some, Result, Ok, Err, slice_get}
-use Rattle.wol_disk.specs.Disk.{State, Block, Rose}
+use Rattle.std.specs.Prelude.{⊤, ◌≡◌, ◌<◌, ◌≤◌, ◌+◌, ℕ, false, List, [], ◌∷◌, None, Some, Result, Ok, Err, slice_get}
+use Rattle.wol_disk.specs.Disk.{Block}
 use Rattle.wol_model.specs.Blocks.{Write}
 use Rattle.wol_model.specs.History.{Operation, Wrote, Read, Kept, Broke}
 use Rattle.wol_model.specs.Index.{Listed, is_covered}
 use Rattle.wol_model.specs.Placing.{Home as AtHome, Log as InLog, Full as Nowhere}
 use Rattle.wol_model.specs.Placing as placing
-use Rattle.wol_promise.specs.Policy.{Look, place_of}
 use Rattle.manager.specs.declared.part.Part.{Part}
 use Rattle.manager.specs.declared.part.Part.TheVariants as part
 use Rattle.manager.specs.declared.part.Place.{Place}

@@ -1,5 +1,5 @@
 -- What reads make of a manager and its parts: none of them has other records or an image that it didn't have.
-use Rattle.std.specs.Prelude.{◌≡◌, ◌⊎◌, ◌<◌, ◌≤◌, ◌+◌, ◌↔◌, ℕ, Bool, not, List, map, length, slice_get, Option, Some, IsTrue}
+use Rattle.std.specs.Prelude.{◌≡◌, ◌⊎◌, ◌<◌, ◌≤◌, ◌+◌, ◌↔◌, ℕ, Bool, not, List, map, slice_get, Option, Some, IsTrue}
 use Rattle.std.specs.List.{AllZip, list_any, range_with_len}
 use Rattle.turn_lock.specs.Histories.{Entry}
 use Rattle.turn_lock.specs.Passes.{pass_mine, IsSamePass}

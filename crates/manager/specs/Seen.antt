@@ -1,6 +1,5 @@
 -- A manager as the promise of wol_promise sees it.
-use Rattle.std.specs.Prelude.{⊤, ◌≡◌, ℕ, ◌+◌, Bool, List, [], ◌∷◌, ◌++◌, map, Option, None, Some, IsTrue, length}
-use Rattle.std.specs.List.{AllByRecursion}
+use Rattle.std.specs.Prelude.{⊤, ℕ, ◌+◌, Bool, List, [], ◌∷◌, ◌++◌, Option, None, Some, IsTrue}
 use Rattle.wol_disk.specs.Disk.{State, Block, IsImageOf}
 use Rattle.wol_model.specs.Log.{Record}
 use Rattle.spin_model.specs.Spun.{state_of, volume_of}

@@ -1,11 +1,10 @@
 -- What a manager stands for, over the locks that it shares with others.
-use Rattle.std.specs.Prelude.{⊤, ◌≡◌, ◌≢◌, ◌<◌, ◌≤◌, ◌^◌, ◌+◌, ◌-◌, ◌==◌, ℕ, Bool, true, false, not, List, [], ◌∷◌, ◌++◌, map, filter, length, replicate, vec_len, slice_get, slice_index_or, Contains, Option, None, Some, IfSome, IsTrue}
+use Rattle.std.specs.Prelude.{⊤, ◌≡◌, ◌<◌, ◌≤◌, ◌^◌, ◌+◌, ◌-◌, ℕ, Bool, true, false, not, List, [], ◌∷◌, ◌++◌, map, filter, length, replicate, vec_len, slice_get, slice_index_or, Contains, Option, None, Some, IsTrue}
 use Rattle.std.specs.List.{AllByRecursion, count_by, range_with_len}
 use Rattle.std.specs.declared.alloc.Global.{Global}
 use Rattle.std.specs.declared.vec.Vec.{Vec}
-use Rattle.wol_disk.specs.Disk.{State, Block}
+use Rattle.wol_disk.specs.Disk.{State}
 use Rattle.turn_lock.specs.Histories.{Entry}
-use Rattle.turn_lock.specs.LockIds.{LockId}
 use Rattle.turn_lock.specs.Passes.{lock_id, pass_lock, pass_number, pass_mine, IsFree}
 use Rattle.turn_lock.specs.declared.pass.PassOf.{PassOf}
 use Rattle.spin_model.specs.Spun.{state_of, volume_of}
@@ -20,11 +19,10 @@ use Rattle.redirect_map.specs.Index.{Contents}
 use Rattle.offload_policy.specs.Placing.{may_hold}
 use Rattle.offload_policy.specs.declared.Room.{Room}
 use Rattle.offload_policy.specs.declared.Room.TheVariants.{Unknown}
-use Rattle.wol_model.specs.Blocks.{Write}
-use Rattle.wol_model.specs.History.{Operation, worker, writes, flight_of}
+use Rattle.wol_model.specs.History.{Operation, writes, flight_of}
 use Rattle.wol_model.specs.Index.{Indexed}
-use Rattle.wol_promise.specs.Code.{code_of, noted_of}
-use Rattle.wol_promise.specs.Manager.{Base, AreInUse}
+use Rattle.wol_promise.specs.Code.{noted_of}
+use Rattle.wol_promise.specs.Manager.{AreInUse}
 use Rattle.wol_promise.specs.Policy.{Look}
 use Rattle.wol_promise.specs.Ruled.{Noted, entries_of, IsStep, last_look, HasPassed}
 use Rattle.wol_promise.specs.Stands.{Upholds}
@@ -36,7 +34,6 @@ use Rattle.manager.specs.Seen.{Logs, AllLanesHold, all_held, parts_of, seen, loo
 use Rattle.manager.specs.declared.base.LaneBase.{LaneBase}
 use Rattle.manager.specs.declared.base.ManagerBase.{ManagerBase}
 use Rattle.manager.specs.declared.manager.Manager.{Manager}
-use Rattle.manager.specs.declared.part.Part.{Part}
 
 -- ---- Safety: what holds of each manager between its calls, whether or not its disks tell their content
 

@@ -1,5 +1,5 @@
 -- A call that is stopped at any moment of it: each part may be any of its images since the call began.
-use Rattle.std.specs.Prelude.{⊤, ◌≡◌, ◌≢◌, ℕ, List, Contains, Option, None, Some}
+use Rattle.std.specs.Prelude.{⊤, ◌≡◌, ◌≢◌, List, Contains, Option, Some}
 use Rattle.wol_disk.specs.Disk.{State, Block}
 use Rattle.spin_model.specs.Spun.{state_of}
 use Rattle.spin_model.specs.declared.spun.Spun.{Spun}
@@ -8,7 +8,6 @@ use Rattle.wol_promise.specs.Manager.{Held}
 use Rattle.wol_promise.specs.Ruled.{Noted, entries_of}
 use Rattle.wol_promise.specs.Stands.{place_in, StopsSafely}
 use Rattle.manager.specs.Seen.{Logs, AllLanesHold, all_held}
-use Rattle.manager.specs.Stands.{Stands}
 use Rattle.manager.specs.declared.base.ManagerBase.{ManagerBase}
 use Rattle.manager.specs.declared.manager.Manager.{Manager}
 

@@ -1,5 +1,5 @@
 -- What a write does to a manager, by its answer.
-use Rattle.std.specs.Prelude.{⊤, ◌≡◌, ◌⊎◌, ◌&&◌, ◌==◌, ◌∷◌, ℕ, Bool, true, false, List, [], Option, Some, length, Result, Ok, Err, slice_get, MatchBool}
+use Rattle.std.specs.Prelude.{⊤, ◌≡◌, ◌⊎◌, ◌&&◌, ◌==◌, ◌∷◌, ℕ, Bool, true, false, List, [], Some, length, Result, Ok, Err, slice_get, MatchBool}
 use Rattle.std.specs.List.{AllByRecursion}
 use Rattle.wol_disk.specs.Disk.{Block, State}
 use Rattle.turn_lock.specs.Passes.{pass_mine}
@@ -18,7 +18,6 @@ use Rattle.manager.specs.Offers.{IsTurnedAway, HasTakenWrite, IsOn}
 use Rattle.manager.specs.Seen.{look_of_manager}
 use Rattle.manager.specs.Stands.{passed_in}
 use Rattle.manager.specs.declared.manager.Manager.{Manager}
-use Rattle.manager.specs.declared.part.Part.{Part}
 use Rattle.manager.specs.declared.part.Part.TheVariants as part
 use Rattle.manager.specs.declared.part.Place.{Place}
 use Rattle.manager.specs.declared.part.Place.TheVariants as place

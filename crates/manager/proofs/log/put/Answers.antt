@@ -1,7 +1,7 @@
 use Rattle.std.proofs.Common.{◌≡◌, ◌≤◌, ℕ, List, [], ◌∷◌, ◌++◌, length, Some, sym, ap, subst, ◌∙◌}
 use Rattle.std.specs.Prelude.{IfSome, slice_get, slice_set, Option, Result}
 use Rattle.std.proofs.lemmas.Option.{same_Some}
-use Rattle.wol_disk.specs.Disk.{State, Block}
+use Rattle.wol_disk.specs.Disk.{State}
 use Rattle.wol_disk.specs.declared.disk.Failed.{Failed}
 use Rattle.wol_model.specs.Log.{Record}
 use Rattle.turn_lock.specs.LockIds.{LockId}

@@ -1,4 +1,4 @@
-use Rattle.std.proofs.Common.{◌≡◌, List, Bool, [], length, refl, sym}
+use Rattle.std.proofs.Common.{[], refl, sym}
 use Rattle.std.specs.List.{length_refill}
 use Rattle.manager.proofs.Frames.{reframed, ready_reframed, stands_kept, none_passed}
 use Rattle.manager.specs.Stands.{nones_at}

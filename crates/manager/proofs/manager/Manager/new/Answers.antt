@@ -1,4 +1,4 @@
-use Rattle.std.proofs.Common.{◌≡◌, ◌≤◌, true, None, length, take, ap, ◌∙◌, arith}
+use Rattle.std.proofs.Common.{◌≡◌, true, None, length, take, ◌∙◌}
 use Rattle.std.specs.Prelude.{replicate}
 use Rattle.offload_policy.specs.declared.Room.TheVariants.{Unknown}
 use Rattle.manager.proofs.Copies.{take-replicate}

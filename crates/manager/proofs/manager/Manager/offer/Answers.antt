@@ -1,5 +1,5 @@
-use Rattle.std.proofs.Common.{◌≡◌, ◌<◌, ◌≤◌, ◌+◌, ◌-◌, ◌^◌, ℕ, Bool, true, List, [], ◌∷◌, ◌++◌, map, length, Option, Some, None, refl, sym, ap, subst, ◌∙◌, arith}
-use Rattle.std.specs.Prelude.{slice_get, slice_set, Result, Err}
+use Rattle.std.proofs.Common.{◌≡◌, ◌≤◌, ◌+◌, ◌^◌, ℕ, true, [], ◌∷◌, ◌++◌, map, length, Some, None, refl, sym, ap, subst, ◌∙◌, arith}
+use Rattle.std.specs.Prelude.{slice_get, Result, Err}
 use Rattle.std.proofs.Math.Pow.{pow_mono}
 use Rattle.manager.specs.Causes.{PartRoseOrClaimed}
 use Rattle.manager.specs.Offers.{IsOn}
@@ -12,18 +12,12 @@ use Rattle.logger.specs.declared.lane.Spot.{Spot}
 use Rattle.manager.specs.Puts.{PutIn}
 use Rattle.std.specs.Option.{option_map}
 use Rattle.std.proofs.lemmas.Option.{slice_get_read, slice_get-map}
-use Rattle.wol_disk.specs.Disk.{State}
 use Rattle.wol_model.specs.Log.{marks_of}
 use Rattle.logger.specs.Lanes.{logger_of, lane_owner}
-use Rattle.logger.specs.declared.lane.Lane.{Lane}
 use Rattle.redirect_map.specs.Runs.{runs_of}
-use Rattle.redirect_map.specs.declared.record.Rec.{Rec}
-use Rattle.manager.specs.declared.log.Offered.{Offered}
-use Rattle.manager.specs.declared.log.Offered.TheVariants as variant
-use Rattle.manager.specs.declared.part.Part.{Part}
 use Rattle.manager.specs.declared.part.Part.TheVariants as part
 use Rattle.manager.proofs.Copies.{refill_set}
-use Rattle.manager.proofs.NewRecord.{one_run, look_so, rec_at}
+use Rattle.manager.proofs.NewRecord.{one_run, look_so}
 use Rattle.manager.proofs.Offering.{away_more, ready_away, keeps_away, ready_written, ready_failed, stands_written, stands_failed, stops_put, cause_put}
 use Rattle.manager.proofs.PutStops.{quiet_stops}
 use Rattle.manager.proofs.manager.Manager.offer.Goals as goal

@@ -1,12 +1,11 @@
 -- A read, answered or refused.
-use Rattle.std.proofs.Common.{◌≡◌, ◌+◌, length, sym, ap, subst, ◌∙◌, Some, None, []}
+use Rattle.std.proofs.Common.{◌≡◌, ◌+◌, sym, ap, subst, ◌∙◌, Some, []}
 use Rattle.std.specs.Prelude.{slice_range}
 use Rattle.wol_model.specs.Blocks.{after}
 use Rattle.wol_model.specs.History.{writes}
 use Rattle.wol_promise.specs.Ruled.{entries_of}
 use Rattle.manager.specs.Causes.{PartRose}
 use Rattle.manager.specs.Stands.{nones_at}
-use Rattle.manager.specs.declared.part.Part.{Part}
 use Rattle.manager.proofs.Frames.{stands_kept, none_passed}
 use Rattle.manager.proofs.ReadKeeps.{stands_read, stands_broken}
 use Rattle.manager.proofs.ReadThrough.{never_some, rose_down}

@@ -1,6 +1,6 @@
 -- Home is read where no record covers the blocks.
-use Rattle.std.proofs.Common.{◌≡◌, ◌+◌, ◌-◌, ◌≤◌, ℕ, List, length, take, drop, Option, Some, refl, sym, ap, subst, ◌∙◌, arith}
-use Rattle.std.specs.Prelude.{IfSome, slice_range, OnOk}
+use Rattle.std.proofs.Common.{◌≡◌, List, length, take, drop, Option, refl, sym, subst, ◌∙◌}
+use Rattle.std.specs.Prelude.{IfSome, OnOk}
 use Rattle.wol_disk.specs.Disk.{Block, Values, reads}
 use Rattle.wol_model.specs.Index.{listed_in}
 use Rattle.logger.specs.Lanes.{spindle_of}

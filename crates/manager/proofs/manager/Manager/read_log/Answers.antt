@@ -1,14 +1,11 @@
 -- A log is read where one of its records is the newest one of the blocks.
-use Rattle.std.proofs.Common.{◌≡◌, ◌+◌, ◌-◌, ◌<◌, ◌≤◌, ℕ, Bool, true, List, length, take, drop, Some, refl, sym, ap, subst, ◌∙◌, arith}
+use Rattle.std.proofs.Common.{◌≡◌, Bool, true, List, length, refl, sym, ap, subst, ◌∙◌, arith}
 use Rattle.std.specs.Prelude.{slice_get, slice_set}
 use Rattle.std.specs.Vec.{with_item}
 use Rattle.std.proofs.Math.ListN.{length-set}
 use Rattle.std.proofs.lemmas.Option.{slice_get_within}
-use Rattle.wol_disk.specs.Disk.{Block}
 use Rattle.wol_model.specs.Index.{listed_in}
-use Rattle.logger.specs.Lanes.{IsAt, held_in, spindle_of}
-use Rattle.logger.specs.declared.lane.Lane.{Lane}
-use Rattle.manager.specs.Causes.{SegmentRose}
+use Rattle.logger.specs.Lanes.{IsAt, held_in}
 use Rattle.manager.specs.Seen.{look_of_manager}
 use Rattle.manager.specs.Stands.{IsReady, IsReadyLane}
 use Rattle.manager.proofs.Lanes.{all_at, get_set}

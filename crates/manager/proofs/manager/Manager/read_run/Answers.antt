@@ -1,5 +1,5 @@
 -- The covered blocks of a run are all of them or none.
-use Rattle.std.proofs.Common.{Some, None, length, sym, subst}
+use Rattle.std.proofs.Common.{length, sym, subst}
 use Rattle.manager.specs.Reading.{IsSource}
 use Rattle.manager.proofs.RunSources.{bare_count, log_count}
 use Rattle.manager.proofs.manager.Manager.read_run.Goals as goal

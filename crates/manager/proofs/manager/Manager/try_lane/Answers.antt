@@ -1,15 +1,12 @@
-use Rattle.std.proofs.Common.{◌≡◌, ℕ, List, [], ◌∷◌, Option, refl, sym, ap, subst, ◌∙◌}
+use Rattle.std.proofs.Common.{◌≡◌, [], ◌∷◌, refl, sym, ap, subst, ◌∙◌}
 use Rattle.std.specs.Prelude.{slice_set}
-use Rattle.spin_model.specs.declared.spun.Spun.{Spun}
 use Rattle.wol_model.specs.Blocks.{Write}
-use Rattle.wol_model.specs.History.{Operation, Broke}
-use Rattle.wol_promise.specs.Ruled.{Noted, last_look}
+use Rattle.wol_model.specs.History.{Broke}
+use Rattle.wol_promise.specs.Ruled.{last_look}
 use Rattle.offload_policy.specs.declared.Room.TheVariants.{No}
-use Rattle.logger.specs.Lanes.{logger_of}
 use Rattle.manager.specs.Seen.{look_of_manager}
-use Rattle.manager.specs.Stands.{Keeps, IsNote}
+use Rattle.manager.specs.Stands.{IsNote}
 use Rattle.manager.specs.Stops.{Stops}
-use Rattle.manager.specs.declared.base.ManagerBase.{ManagerBase}
 use Rattle.manager.specs.declared.manager.Manager.{Manager}
 use Rattle.manager.proofs.Copies.{refill_set}
 use Rattle.manager.proofs.Tried.{logger_at, failed_in_log}

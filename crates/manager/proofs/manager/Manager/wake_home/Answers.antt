@@ -1,4 +1,4 @@
-use Rattle.std.proofs.Common.{◌≡◌, List, Bool, true, [], length, refl, ◌∙◌, rules}
+use Rattle.std.proofs.Common.{true, [], refl, ◌∙◌, rules}
 use Rattle.manager.proofs.Frames.{reframed, stands_kept, none_passed}
 use Rattle.manager.specs.Stands.{nones_at}
 use Rattle.manager.proofs.manager.Manager.wake_home.Goals as goal

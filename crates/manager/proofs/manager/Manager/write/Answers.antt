@@ -1,4 +1,4 @@
-use Rattle.std.proofs.Common.{◌≡◌, None, refl, sym, ap, ◌∙◌, length}
+use Rattle.std.proofs.Common.{None, refl, ◌∙◌, length}
 use Rattle.std.specs.Prelude.{replicate}
 use Rattle.offload_policy.specs.declared.Room.TheVariants.{Unknown}
 use Rattle.manager.specs.Writing.{ruled_place}

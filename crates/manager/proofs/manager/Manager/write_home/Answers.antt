@@ -1,4 +1,4 @@
-use Rattle.std.proofs.Common.{◌≡◌, rules}
+use Rattle.std.proofs.Common.{rules}
 use Rattle.manager.proofs.WentHome.{home_stands, home_fails, home_stopped}
 use Rattle.manager.proofs.manager.Manager.write_home.Goals as goal
 

@@ -1,22 +1,17 @@
-use Rattle.std.proofs.Common.{◌≡◌, ⊎_elim, ◌<◌, ℕ, Bool, false, List, [], ◌∷◌, ◌++◌, length, Option, None, Some, Result, refl, sym, ap, subst, ◌∙◌}
+use Rattle.std.proofs.Common.{◌≡◌, ⊎_elim, ◌<◌, ℕ, Bool, List, [], ◌∷◌, ◌++◌, length, None, Some, refl, sym, ap, subst, ◌∙◌}
 use Rattle.std.specs.Prelude.{slice_get, is_some}
 use Rattle.std.specs.List.{AllByRecursion, list_any, range_with_len}
-use Rattle.std.proofs.lemmas.Option.{slice_get_within}
-use Rattle.spin_model.specs.declared.spun.Spun.{Spun}
-use Rattle.wol_model.specs.Index.{Indexed, listed_in, is_covered}
-use Rattle.wol_model.specs.Placing.{Home as AtHome, Log as InLog}
-use Rattle.wol_promise.specs.Ruled.{Noted, HasPassed, last_look}
+use Rattle.wol_model.specs.Index.{listed_in, is_covered}
+use Rattle.wol_promise.specs.Ruled.{HasPassed, last_look}
 use Rattle.offload_policy.specs.Placing.{step_of}
 use Rattle.offload_policy.specs.declared.Room.{Room}
 use Rattle.offload_policy.specs.declared.Room.TheVariants.{Unknown, Yes}
-use Rattle.offload_policy.specs.declared.Step.{Step}
-use Rattle.offload_policy.specs.declared.Step.TheVariants.{Home, WakeHome, Ask, Full}
+use Rattle.offload_policy.specs.declared.Step.TheVariants.{Ask, Full}
 use Rattle.manager.specs.Answers.{written}
 use Rattle.manager.specs.Seen.{look_of_manager}
-use Rattle.manager.specs.Stands.{Keeps, Stands, IsNote, nones_at, passed_in}
+use Rattle.manager.specs.Stands.{IsNote, nones_at, passed_in}
 use Rattle.manager.specs.Stops.{Stops}
-use Rattle.manager.specs.Writing.{ruled_place, in_flight}
-use Rattle.manager.specs.declared.base.ManagerBase.{ManagerBase}
+use Rattle.manager.specs.Writing.{in_flight}
 use Rattle.manager.specs.declared.manager.Manager.{Manager}
 use Rattle.manager.proofs.Asking.{asking_none, asking_more}
 use Rattle.manager.proofs.Frames.{stands_kept}
