@@ -8,6 +8,7 @@ use Rattle.turn_lock.specs.LockIds.{LockId}
 use Rattle.turn_lock.specs.Passes.{pass_mine, IsFree, IsSamePass}
 use Rattle.turn_lock.specs.declared.pass.PassOf.{PassOf}
 use Rattle.spin_model.specs.Operations.{has_token}
+use Rattle.spin_model.specs.Spun.{state_of}
 use Rattle.spin_model.specs.declared.spindle.Spindle.{Spindle}
 use Rattle.spin_model.specs.declared.spindle.SpindleBase.{SpindleBase}
 use Rattle.wol_model.specs.History.{Kept, writes, flight_of}
@@ -19,7 +20,7 @@ use Rattle.wol_promise.proofs.OneMore.{last_more}
 use Rattle.offload_policy.specs.declared.Room.{Room}
 use Rattle.redirect_map.specs.Index.{Contents}
 use Rattle.manager.specs.Seen.{parts_of, seen, look_of_manager}
-use Rattle.manager.specs.Stands.{Keeps, Stands, IsReady, IsUp, IsNote, nones_at}
+use Rattle.manager.specs.Stands.{Keeps, Stands, IsReady, IsUp, IsInVolume, IsNote, nones_at}
 use Rattle.manager.specs.declared.base.ManagerBase.{ManagerBase}
 use Rattle.manager.specs.declared.manager.Manager.{Manager}
 
@@ -55,6 +56,7 @@ ready_reframed state m home_up ups rooms spindle index long wide pass free settl
   };
   next = r.next;
   below = subst (AllByRecursion (λ (e : Indexed). e.listed.version < m.next)) (sym entries) r.below;
+  ranges = subst (AllByRecursion (IsInVolume (state_of state m.home).size)) (sym entries) r.ranges;
   up = λ is. subst (IsUp m.lanes.items) (sym entries) (r.up is);
 }
 

@@ -1,11 +1,13 @@
 -- A write that was offered to a lane: what holds of the manager then.
-use Rattle.std.proofs.Common.{◌≡◌, ◌≢◌, ◌⊎◌, inl, inr, ◌<◌, ◌≤◌, ◌+◌, ◌-◌, ◌^◌, ℕ, Bool, true, false, sym, subst, ◌∙◌, arith, List, [], ◌∷◌, ◌++◌, length, map, Option, None, Some, refl, ap}
+use Rattle.std.proofs.Common.{◌≡◌, ◌≢◌, ◌⊎◌, inl, inr, ⊎_elim, ◌&&◌, cond, eqb, ◌<◌, ◌≤◌, ◌+◌, ◌-◌, ◌^◌, ℕ, Bool, true, false, sym, subst, ◌∙◌, arith, List, [], ◌∷◌, ◌++◌, length, map, Option, None, Some, refl, ap}
 use Rattle.std.specs.Prelude.{Contains, slice_get, slice_set, IsTrue, Result, Ok, Err}
 use Rattle.std.specs.List.{AllByRecursion}
 use Rattle.std.specs.Option.{option_to_list}
 use Rattle.std.specs.declared.alloc.Global.{Global}
 use Rattle.std.specs.declared.vec.Vec.{Vec}
+use Rattle.std.proofs.lemmas.Option.{slice_get-map, same_Some}
 use Rattle.std.proofs.lemmas.List.Elements.{Contains-push}
+use Rattle.std.proofs.lemmas.List.Sums.{sum_by-cons, sum_by_push}
 use Rattle.std.proofs.lemmas.List.FromFn.{length-map-range_with_len}
 use Rattle.std.proofs.Math.ListN.{length-set}
 use Rattle.wol_disk.specs.Disk.{State, Block, IsDisk, TellsContent}
@@ -21,7 +23,7 @@ use Rattle.turn_lock.specs.LockIds.{LockId}
 use Rattle.turn_lock.specs.Passes.{pass_mine, pass_number}
 use Rattle.seg_pool.specs.declared.base.PoolBase.{PoolBase}
 use Rattle.log_segment.specs.Records.{new_record}
-use Rattle.log_segment.specs.Segment.{IsWhole, Holds, blocks_of, free_part}
+use Rattle.log_segment.specs.Segment.{IsSegment, IsSame, IsWhole, Holds, blocks_of, valid_of, disk_of, free_disk, free_part, room_of, place_of}
 use Rattle.log_segment.specs.declared.free.FreeSegment.{FreeSegment}
 use Rattle.redirect_map.specs.Index.{Contents, entry_of, unhomed, cover_at}
 use Rattle.redirect_map.specs.declared.record.Rec.{Rec}
@@ -29,7 +31,7 @@ use Rattle.wol_promise.specs.Manager.{ManagerSeen, AreInUse}
 use Rattle.wol_promise.specs.Policy.{Look}
 use Rattle.wol_promise.specs.Ruled.{Noted, HasPassed, entries_of, IsStep, last_look}
 use Rattle.wol_promise.specs.Stands.{Upholds}
-use Rattle.wol_promise.proofs.Lists.{all_push, all_map, all_mapped, all_back, member_of}
+use Rattle.wol_promise.proofs.Lists.{all_push, all_member, all_map, all_mapped, all_back, member_of}
 use Rattle.wol_promise.proofs.OneMore.{last_more}
 use Rattle.logger.specs.Lanes.{IsLane, IsHeld, IsSameLane, AreWhole, held_in, taken_in, lane_owner, logger_of, segments_in, pool_of}
 use Rattle.logger.specs.declared.lane.HeldSegment.{HeldSegment}
@@ -39,20 +41,22 @@ use Rattle.manager.specs.Answers.{log_write}
 use Rattle.manager.specs.Causes.{PartRoseOrClaimed}
 use Rattle.manager.specs.Offers.{IsTurnedAway, HasTakenWrite}
 use Rattle.manager.specs.Puts.{PutIn, to_held, to_new}
-use Rattle.manager.specs.Seen.{AllLanesHold, parts_of, seen, all_held, all_taken, down_of, look_of_manager}
-use Rattle.manager.specs.Stands.{Keeps, Stands, IsReady, IsReadyLane, IsUp, IsPlacedIn, Ready, Locks, nones_in, nones_at}
+use Rattle.manager.specs.Seen.{Logs, AllLanesHold, parts_of, seen, all_held, all_taken, down_of, look_of_manager}
+use Rattle.manager.specs.Stands.{Keeps, Stands, IsReady, IsReadyLane, IsUp, IsPlacedIn, IsInVolume, AreCounted, entries_at, Ready, IsNote, Locks, nones_in, nones_at}
 use Rattle.manager.specs.Stops.{Stops}
 use Rattle.manager.specs.declared.base.ManagerBase.{ManagerBase}
 use Rattle.manager.specs.declared.manager.Manager.{Manager}
 use Rattle.manager.specs.declared.part.Part.{Part}
 use Rattle.manager.specs.declared.part.Part.TheVariants as part
+use Rattle.logger.proofs.Indexes.{same_place}
+use Rattle.manager.proofs.Counted.{counted_same, counted_set, held_set, none_there, lies_there, lies_elsewhere}
 use Rattle.manager.proofs.Lanes.{all_at, all_set, get_set, quiet_held, quiet_all}
 use Rattle.manager.proofs.NewRecord.{rec_at, entered}
 use Rattle.manager.proofs.PutHeld.{put_written, put_failed}
 use Rattle.manager.proofs.PutNew.{apart_last, claim_written, claim_failed}
 use Rattle.manager.proofs.PutStops.{held_stops, claim_stops}
 use Rattle.manager.proofs.Putting.{Pieces, untaken_set}
-use Rattle.manager.proofs.ReadyLanes.{ready_set, locks_set, placed_set, stays_set, stays_push, nones_at_set, nones_none, nones_some}
+use Rattle.manager.proofs.ReadyLanes.{ready_set, locks_set, placed_set, stays_set, stays_push, nones_at_set, nones_none, nones_some, same_or_not}
 
 -- ---- How often a pool was found empty
 
@@ -74,6 +78,7 @@ module _ {D : Type 0} (state : D → State) (m : Manager D) (k : ℕ) (old new :
     quiet_up u = record {
       whole = let all = u.whole in all_set (λ (l : Lane D). AreWhole (held_in l)) m.lanes.items k new all (subst AreWhole (sym quiet) (all_at (λ (l : Lane D). AreWhole (held_in l)) m.lanes.items k old lane all));
       placed = all_map (IsPlacedIn m.lanes.items) (IsPlacedIn (slice_set m.lanes.items k new)) (placed_set m.lanes.items k old new lane (λ h has. (h, subst (λ (hs : List (HeldSegment D)). Contains hs h) (sym quiet) has, refl, refl))) m.index.entries u.placed;
+      counted = counted_same m.lanes.items k old new m.index.entries lane quiet u.counted;
     }
 
     pub ready_away : IsReady state m → IsReady state (record m { lanes = v })
@@ -81,6 +86,7 @@ module _ {D : Type 0} (state : D → State) (m : Manager D) (k : ℕ) (old new :
       ready = subst (λ (l : List (Lane D)). Ready state m.id m.most m.home m.spindle l m.ups.items m.rooms.items) (sym lanes) (ready_set state m.id m.most m.lanes.items k old new lane same r.ready is_lane untaken refl);
       next = r.next;
       below = r.below;
+      ranges = r.ranges;
       up = λ is. subst (λ (l : List (Lane D)). IsUp l m.index.entries) (sym lanes) (quiet_up (r.up is));
     }
 
@@ -170,9 +176,62 @@ module _ {D : Type 0} (state : D → State) (m : Manager D) (k : ℕ) (old new :
     abbrev its : Rec
     its = rec_at m.next lbn from k spot.segment spot.pos
 
+    -- an entry more in its segment, and as many as before in each other
+    counts_its : (j index : ℕ) → entries_at j index (entered m.index.entries its) ≡ entries_at j index m.index.entries + cond (eqb k j && eqb spot.segment index) 1 0
+    counts_its j index = sum_by_push here (map (unhomed (cover_at (entry_of its 0))) m.index.entries) (entry_of its 0) ∙ ap (λ (c : ℕ). c + cond (eqb k j && eqb spot.segment index) 1 0) (unhomed_count m.index.entries)
+      where
+        here : Indexed → ℕ
+        here e = cond (eqb e.listed.lane j && eqb e.index index) 1 0
+
+        unhomed_count : (es : List Indexed) → entries_at j index (map (unhomed (cover_at (entry_of its 0))) es) ≡ entries_at j index es
+        unhomed_count [] = refl
+        unhomed_count (e ∷ es) = sum_by-cons here (unhomed (cover_at (entry_of its 0)) e) (map (unhomed (cover_at (entry_of its 0))) es) ∙ ap (λ (n : ℕ). here e + n) (unhomed_count es) ∙ sym (sum_by-cons here e es)
+
+    not_more : (j index : ℕ) → (k ≢ j) ⊎ (spot.segment ≢ index) → entries_at j index (entered m.index.entries its) ≡ entries_at j index m.index.entries
+    not_more j index other = let e = counts_its j index in let z = ap (λ (t : Bool). cond {A = ℕ} t 1 0) (lies_elsewhere j index (entry_of its 0) other) in omega (arith, e, z)
+
+    one_more : (index : ℕ) → spot.segment ≡ index → entries_at k index (entered m.index.entries its) ≡ entries_at k index m.index.entries + 1
+    one_more index here = let e = counts_its k index in let z = ap (λ (t : Bool). cond {A = ℕ} t 1 0) (lies_there k index (entry_of its 0) refl here) in omega (arith, e, z)
+
+    was_counted : AllByRecursion (λ (h : HeldSegment D). valid_of h.segment ≡ entries_at k h.index m.index.entries) (held_in old)
+    was_counted = (ready.up up).counted k old lane
+
+    counted_then : PutIn state old new (length from) (r ∷ []) (Ok spot) → AllByRecursion (λ (h : HeldSegment D). valid_of h.segment ≡ entries_at k h.index (entered m.index.entries its)) (held_in new)
+    counted_then (to_held i o n at room held grown is) = subst (AllByRecursion Counted) (sym held) (held_set Counted (held_in old) i n
+        (λ j h other there. all_at Was (held_in old) j h there was_counted ∙ sym (not_more k h.index (inr (λ e. other (same_place (λ (g : HeldSegment D). g.index) (held_in old) (map (λ (t : ℕ × FreeSegment D). t.0) (option_to_list (taken_in old))) j i h o was_lane.lane.apart there at (sym e ∙ is.0))))))
+        (let g : valid_of n.segment ≡ valid_of o.segment + 1 = grown.valid in let w : valid_of o.segment ≡ entries_at k o.index m.index.entries = all_at Was (held_in old) i o at was_counted in
+        let e : entries_at k n.index m.index.entries ≡ entries_at k o.index m.index.entries = ap (λ (x : ℕ). entries_at k x m.index.entries) grown.index in omega (arith, g, w, e, one_more n.index (is.0 ∙ sym grown.index))))
+      where
+        Counted : HeldSegment D → Type 0
+        Counted h = valid_of h.segment ≡ entries_at k h.index (entered m.index.entries its)
+
+        Was : HeldSegment D → Type 0
+        Was h = valid_of h.segment ≡ entries_at k h.index m.index.entries
+    counted_then (to_new f n blank held claimed is) = subst (AllByRecursion Counted) (sym held) (all_push Counted (held_in old) n (olds (held_in old) fresh was_counted)
+        (let v : valid_of n.segment ≡ 1 = claimed.valid in let z = none_there (λ (e : Indexed). eqb e.listed.lane k && eqb e.index n.index) m.index.entries (all_map (IsPlacedIn m.lanes.items) (λ (e : Indexed). (eqb e.listed.lane k && eqb e.index n.index) ≡ false) elsewhere m.index.entries (ready.up up).placed) in
+        omega (arith, v, z, one_more n.index is.0)))
+      where
+        Counted : HeldSegment D → Type 0
+        Counted h = valid_of h.segment ≡ entries_at k h.index (entered m.index.entries its)
+
+        fresh : AllByRecursion (λ (h : HeldSegment D). h.index ≢ n.index) (held_in old)
+        fresh = apart_last (held_in old) n (map (λ (t : ℕ × FreeSegment D). t.0) (option_to_list (taken_in new))) (subst (λ (hs : List (HeldSegment D)). AreApart (map (λ (h : HeldSegment D). h.index) hs ++ map (λ (t : ℕ × FreeSegment D). t.0) (option_to_list (taken_in new)))) held is_lane.apart)
+
+        olds : (hs : List (HeldSegment D)) → AllByRecursion (λ (h : HeldSegment D). h.index ≢ n.index) hs → AllByRecursion (λ (h : HeldSegment D). valid_of h.segment ≡ entries_at k h.index m.index.entries) hs → AllByRecursion Counted hs
+        olds [] apart was = tt
+        olds (h ∷ hs) apart was = (was.0 ∙ sym (not_more k h.index (inr (λ e. apart.0 (sym e ∙ is.0)))), olds hs apart.1 was.1)
+
+        elsewhere : (e : Indexed) → IsPlacedIn m.lanes.items e → (eqb e.listed.lane k && eqb e.index n.index) ≡ false
+        elsewhere e p = lies_elsewhere k n.index e (⊎_elim
+            (λ here. inr (λ same_index. let is_old : p.lane ≡ old = same_Some p.lane old (sym p.lane_is ∙ ap (slice_get m.lanes.items) here ∙ lane) in
+            all_member (λ (h : HeldSegment D). h.index ≢ n.index) (held_in old) p.segment fresh (subst (λ (l : Lane D). Contains (held_in l) p.segment) is_old p.held) (p.index ∙ same_index)))
+            (λ other. inl other) (same_or_not e.listed.lane k))
+
     up_then : IsUp (slice_set m.lanes.items k new) (entered m.index.entries rec)
     up_then = record {
       whole = all_set (λ (l : Lane D). AreWhole (held_in l)) m.lanes.items k new (ready.up up).whole (whole_then put);
+      counted = subst (λ (q : Rec). AreCounted (slice_set m.lanes.items k new) (entered m.index.entries q)) (sym rec_is)
+          (counted_set m.lanes.items k old new m.index.entries (entered m.index.entries its) lane (λ j index other. not_more j index (inl (λ e. other (sym e)))) (counted_then put) (ready.up up).counted);
       placed = subst (λ (q : Rec). AllByRecursion (IsPlacedIn (slice_set m.lanes.items k new)) (entered m.index.entries q)) (sym rec_is)
           (all_push (IsPlacedIn (slice_set m.lanes.items k new)) (map (unhomed (cover_at (entry_of its 0))) m.index.entries) (entry_of its 0)
           (all_mapped (IsPlacedIn (slice_set m.lanes.items k new)) (unhomed (cover_at (entry_of its 0))) m.index.entries
@@ -186,12 +245,20 @@ module _ {D : Type 0} (state : D → State) (m : Manager D) (k : ℕ) (old new :
         (all_mapped (λ (e : Indexed). e.listed.version < m.next + 1) (unhomed (cover_at (entry_of its 0))) m.index.entries
         (all_map (λ (e : Indexed). e.listed.version < m.next) (λ (e : Indexed). e.listed.version < m.next + 1) (λ e lt. omega arith) m.index.entries ready.below)) (omega arith))
 
-    pub ready_written : (v : Vec (Lane D) Global) (index : Contents) (ups : List Bool) → v.items ≡ slice_set m.lanes.items k new → index.entries ≡ entered m.index.entries rec → ups ≡ slice_set m.ups.items k true → m.next < 2 ^ 63
+    ranges_then : lbn + length from ≤ (state_of state m.home).size → AllByRecursion (IsInVolume (state_of state m.home).size) (entered m.index.entries rec)
+    ranges_then fits = subst (λ (q : Rec). AllByRecursion (IsInVolume (state_of state m.home).size) (entered m.index.entries q)) (sym rec_is)
+        (all_push (IsInVolume (state_of state m.home).size) (map (unhomed (cover_at (entry_of its 0))) m.index.entries) (entry_of its 0)
+        (all_mapped (IsInVolume (state_of state m.home).size) (unhomed (cover_at (entry_of its 0))) m.index.entries
+        (all_map (IsInVolume (state_of state m.home).size) (λ (e : Indexed). IsInVolume (state_of state m.home).size (unhomed (cover_at (entry_of its 0)) e)) (λ e in_volume. record { least = in_volume.least; lies = in_volume.lies }) m.index.entries ready.ranges))
+        (record { least = ready.next.0; lies = let l = keep_long in omega arith }))
+
+    pub ready_written : lbn + length from ≤ (state_of state m.home).size → (v : Vec (Lane D) Global) (index : Contents) (ups : List Bool) → v.items ≡ slice_set m.lanes.items k new → index.entries ≡ entered m.index.entries rec → ups ≡ slice_set m.ups.items k true → m.next < 2 ^ 63
         → IsReady state (record m { lanes = v; index = index; next = m.next + 1; ups = record { items = ups } })
-    ready_written v index ups lanes entries flags room = record {
+    ready_written fits v index ups lanes entries flags room = record {
       ready = subst (λ (l : List (Lane D)). Ready state m.id m.most m.home m.spindle l ups m.rooms.items) (sym lanes) (ready_set state m.id m.most m.lanes.items k old new lane same ready.ready is_lane untaken (ap length flags ∙ length-set m.ups.items k true));
       next = (omega arith, omega arith);
       below = subst (AllByRecursion (λ (e : Indexed). e.listed.version < m.next + 1)) (sym entries) below_then;
+      ranges = subst (AllByRecursion (IsInVolume (state_of state m.home).size)) (sym entries) (ranges_then fits);
       up = λ is. subst (λ (l : List (Lane D)). IsUp l index.entries) (sym lanes) (subst (IsUp (slice_set m.lanes.items k new)) (sym entries) up_then);
     }
 
@@ -200,6 +267,7 @@ module _ {D : Type 0} (state : D → State) (m : Manager D) (k : ℕ) (old new :
     ready = subst (λ (l : List (Lane D)). Ready state m.id m.most m.home m.spindle l m.ups.items m.rooms.items) (sym lanes) (ready_set state m.id m.most m.lanes.items k old new lane same ready.ready is_lane untaken refl);
     next = ready.next;
     below = ready.below;
+    ranges = ready.ranges;
     up = λ is. absurd (let no : Some p ≡ None = is in cc);
   }
 

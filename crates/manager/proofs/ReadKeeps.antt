@@ -249,7 +249,7 @@ module _ {D : Type 0} (tells : Bool) (state : D → State) (old new : Manager D)
             (zip_at (LaneRead state) old.lanes.items new.lanes.items r.lane r.old_lane r.new_lane read.lanes r.was_lane r.is_lane).held r.was_there r.is_there
 
     ready_failed : IsReady state failed
-    ready_failed = record { ready = ready.ready; next = ready.next; below = ready.below; up = λ no. absurd (let wrong : Some p ≡ None = no in cc) }
+    ready_failed = record { ready = ready.ready; next = ready.next; below = ready.below; ranges = ready.ranges; up = λ no. absurd (let wrong : Some p ≡ None = no in cc) }
 
     pub stands_broken : (n : Noted) → IsNote (last_look b.volume.began.look notes) (Broke []) [] (look_of_manager failed) n → Stands tells state failed b (notes ++ n ∷ [])
     stands_broken n note = record {

@@ -10,7 +10,7 @@ use Rattle.wol_disk.specs.Disk.{State, Block, Rose, IsDisk}
 use Rattle.wol_model.specs.Extents.{newest}
 use Rattle.wol_promise.proofs.Lists.{all_map, all_member}
 use Rattle.turn_lock.specs.Passes.{pass_mine}
-use Rattle.log_segment.specs.Segment.{IsWhole, blocks_of}
+use Rattle.log_segment.specs.Segment.{IsWhole, blocks_of, valid_of}
 use Rattle.redirect_map.specs.Index.{cover_at}
 use Rattle.redirect_map.specs.declared.record.Rec.{Rec}
 use Rattle.logger.specs.Lanes.{IsLane, IsHeld, IsSameLane, AreWhole, ReadFrom, held_in, taken_in, pool_of}
@@ -18,8 +18,9 @@ use Rattle.logger.specs.declared.lane.HeldSegment.{HeldSegment}
 use Rattle.logger.specs.declared.lane.Lane.{Lane}
 use Rattle.logger.specs.declared.lane.Spot.{Spot}
 use Rattle.manager.specs.Reading.{Counted, IsSource, SegmentRead, LaneRead}
-use Rattle.manager.specs.Stands.{IsReady, IsReadyLane, IsPlacedIn}
+use Rattle.manager.specs.Stands.{IsReady, entries_at, IsReadyLane, IsPlacedIn}
 use Rattle.manager.specs.declared.manager.Manager.{Manager}
+use Rattle.manager.proofs.Counted.{counted_set}
 use Rattle.manager.proofs.Lanes.{all_at, all_set, get_set}
 use Rattle.manager.proofs.ReadyLanes.{get_of, ready_set, placed_set, stays_set}
 use Rattle.manager.proofs.ReadThrough.{zip_set, segment_self}
@@ -82,6 +83,12 @@ module _ {D T E : Type 0} (state : D → State) (sound : (d : D) → IsDisk (sta
   pub whole_after : AreWhole (held_in l')
   whole_after = subst (AllByRecursion (λ (h : HeldSegment D). IsWhole h.segment)) (sym moved.held) (all_set (λ (h : HeldSegment D). IsWhole h.segment) (held_in l) moved.place moved.new_segment whole moved.whole)
 
+  -- each has as many records that keep a block
+  pub counted_after : (k : ℕ) (es : List Indexed) → AllByRecursion (λ (h : HeldSegment D). valid_of h.segment ≡ entries_at k h.index es) (held_in l) → AllByRecursion (λ (h : HeldSegment D). valid_of h.segment ≡ entries_at k h.index es) (held_in l')
+  counted_after k es counted = subst (AllByRecursion (λ (h : HeldSegment D). valid_of h.segment ≡ entries_at k h.index es)) (sym moved.held)
+      (all_set (λ (h : HeldSegment D). valid_of h.segment ≡ entries_at k h.index es) (held_in l) moved.place moved.new_segment counted
+      (moved.valid ∙ all_at (λ (h : HeldSegment D). valid_of h.segment ≡ entries_at k h.index es) (held_in l) moved.place moved.old_segment moved.there counted ∙ ap (λ (i : ℕ). entries_at k i es) (sym moved.index)))
+
   pub stays_after : (h : HeldSegment D) → Contains (held_in l) h → (t : HeldSegment D) × Contains (held_in l') t × (t.index ≡ h.index) × (blocks_of t.segment ≡ blocks_of h.segment)
   stays_after h has = let t = stays_set (held_in l) moved.place moved.old_segment moved.new_segment moved.there moved.index moved.same.blocks h has in
       (t.0, subst (λ (hs : List (HeldSegment D)). Contains hs t.0) (sym moved.held) t.1, t.2, t.3)
@@ -141,15 +148,17 @@ module _ {D : Type 0} (state : D → State) (m : Manager D) (ready : IsReady sta
 
   -- ready again with another lane at one place
   pub ready_after : (k : ℕ) (l l' : Lane D) (ups : List Bool) → slice_get m.lanes.items k ≡ Some l → IsSameLane l l' → IsLane state l' → taken_in l' ≡ taken_in l → AreWhole (held_in l')
-      → ((h : HeldSegment D) → Contains (held_in l) h → (t : HeldSegment D) × Contains (held_in l') t × (t.index ≡ h.index) × (blocks_of t.segment ≡ blocks_of h.segment)) → length ups ≡ length m.ups.items
+      → ((h : HeldSegment D) → Contains (held_in l) h → (t : HeldSegment D) × Contains (held_in l') t × (t.index ≡ h.index) × (blocks_of t.segment ≡ blocks_of h.segment)) → AllByRecursion (λ (h : HeldSegment D). valid_of h.segment ≡ entries_at k h.index m.index.entries) (held_in l') → length ups ≡ length m.ups.items
       → IsReady state (record m { lanes = with_item m.lanes k l'; ups = record { items = ups } })
-  ready_after k l l' ups lane_is same is taken whole stays flags = record {
+  ready_after k l l' ups lane_is same is taken whole stays counted flags = record {
     ready = ready_set state m.id m.most m.lanes.items k l l' lane_is same ready.ready is (taken ∙ (all_at (IsReadyLane state m.id m.most) m.lanes.items k l lane_is ready.ready.each).untaken) flags;
     next = ready.next;
     below = ready.below;
+    ranges = ready.ranges;
     up = λ none. let u = ready.up up in record {
       whole = all_set (λ (q : Lane D). AreWhole (held_in q)) m.lanes.items k l' u.whole whole;
       placed = all_map (IsPlacedIn m.lanes.items) (IsPlacedIn (slice_set m.lanes.items k l')) (placed_set m.lanes.items k l l' lane_is stays) m.index.entries u.placed;
+      counted = counted_set m.lanes.items k l l' m.index.entries m.index.entries lane_is (λ j index other. refl) counted u.counted;
     };
   }
 

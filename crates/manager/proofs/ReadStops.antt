@@ -75,7 +75,7 @@ module _ {D : Type 0} (state : D → State) (tells : Bool) (owner : ℕ) (P : Ty
   moved_lanes k (l ∷ ls) (m ∷ ms) (rs ∷ logs) zip owned all = zip_append (IsMoved state owner) (held_with k (held_in l) rs) (all_held (k + 1) ls logs) (held_with k (held_in m) rs) (all_held (k + 1) ms logs)
       (moved_hold k (held_in l) (held_in m) rs zip.0.held owned.0 all.0) (moved_lanes (k + 1) ls ms logs zip.1 owned.1 all.1)
 
-moved_extents : {D : Type 0} (state : D → State) (owner : ℕ) (held held' : List (Held (Spun D))) → AllZip (IsMoved state owner) held held' → extents_held held' ≡ extents_held held
+pub moved_extents : {D : Type 0} (state : D → State) (owner : ℕ) (held held' : List (Held (Spun D))) → AllZip (IsMoved state owner) held held' → extents_held held' ≡ extents_held held
 moved_extents state owner [] [] zip = refl
 moved_extents state owner [] (t ∷ held') zip = absurd zip
 moved_extents state owner (s ∷ held) [] zip = absurd zip
@@ -85,18 +85,18 @@ moved_extents state owner (s ∷ held) (t ∷ held') zip = λ i. map extent_of (
 
 module _ {D : Type 0} (tells : Bool) (state : D → State) (sound : (d : D) → IsDisk (state d)) (told : IsTrue tells) (old : Manager D) (b : ManagerBase) (notes : List Noted) (k : Keeps tells state old b notes) where
   module _ (new : Manager D) (read : IsReadThrough state old new) (ready : IsReady state new) (up : old.down ≡ None) where
-    abbrev held : List (Held (Spun D))
+    abbrev pub held : List (Held (Spun D))
     held = all_held 0 old.lanes.items k.logs
 
-    abbrev held' : List (Held (Spun D))
+    abbrev pub held' : List (Held (Spun D))
     held' = all_held 0 new.lanes.items k.logs
 
-    moved : AllZip (IsMoved state b.volume.began.owner) held held'
+    pub moved : AllZip (IsMoved state b.volume.began.owner) held held'
     moved = moved_lanes state tells b.volume.began.owner (old.down ≡ None) told up 0 old.lanes.items new.lanes.items k.logs read.lanes
         (all_map (IsReadyLane state old.id old.most) (λ (l : Lane D). AllByRecursion (λ (h : HeldSegment D). owner_of h.segment ≡ b.volume.began.owner) (held_in l))
         (λ l is. all_map (IsHeld state (logger_of l) (lane_owner l) (segments_in l) (pool_of l)) (λ (h : HeldSegment D). owner_of h.segment ≡ b.volume.began.owner) (λ h held. held.owned ∙ is.owner ∙ k.locks.owner) (held_in l) is.lane.each) old.lanes.items k.ready.ready.each) k.held
 
-    logs : AreLogs (HeldSince state held None) b.volume.began.owner held'
+    pub logs : AreLogs (HeldSince state held None) b.volume.began.owner held'
     logs = zip_all (IsMoved state b.volume.began.owner) (Contains held) (λ (t : Held (Spun D)). (bs : List Block) → HeldSince state held None t bs → IsLog bs b.volume.began.owner t.records) of_moved held held' moved (each_member held)
       where
         of_moved : (s t : Held (Spun D)) → IsMoved state b.volume.began.owner s t → Contains held s → (bs : List Block) → HeldSince state held None t bs → IsLog bs b.volume.began.owner t.records

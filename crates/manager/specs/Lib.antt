@@ -4,6 +4,7 @@ pub mod Causes
 pub mod Offers
 pub mod Puts
 pub mod Reading
+pub mod Reclaim
 pub mod Seen
 pub mod Stands
 pub mod Stops

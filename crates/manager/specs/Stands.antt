@@ -1,5 +1,5 @@
 -- What a manager stands for, over the locks that it shares with others.
-use Rattle.std.specs.Prelude.{⊤, ◌≡◌, ◌<◌, ◌≤◌, ◌^◌, ◌+◌, ◌-◌, ℕ, Bool, true, false, not, List, [], ◌∷◌, ◌++◌, map, filter, length, replicate, vec_len, slice_get, slice_index_or, Contains, Option, None, Some, IsTrue}
+use Rattle.std.specs.Prelude.{⊤, ◌≡◌, ◌<◌, ◌≤◌, ◌^◌, ◌+◌, ◌-◌, ◌==◌, ◌&&◌, ℕ, Bool, true, false, not, List, [], ◌∷◌, ◌++◌, map, filter, length, replicate, vec_len, slice_get, slice_index_or, Contains, Option, None, Some, IsTrue}
 use Rattle.std.specs.List.{AllByRecursion, count_by, range_with_len}
 use Rattle.std.specs.declared.alloc.Global.{Global}
 use Rattle.std.specs.declared.vec.Vec.{Vec}
@@ -14,7 +14,7 @@ use Rattle.spin_model.specs.declared.spindle.Spindle.{Spindle}
 use Rattle.spin_model.specs.declared.spindle.SpindleBase.{SpindleBase}
 use Rattle.seg_pool.specs.Holders.{Took}
 use Rattle.seg_pool.specs.Operations.{use_of}
-use Rattle.log_segment.specs.Segment.{IsWhole, Holds, blocks_of}
+use Rattle.log_segment.specs.Segment.{IsWhole, Holds, blocks_of, valid_of}
 use Rattle.redirect_map.specs.Index.{Contents}
 use Rattle.offload_policy.specs.Placing.{may_hold}
 use Rattle.offload_policy.specs.declared.Room.{Room}
@@ -67,15 +67,30 @@ pub record IsPlacedIn {D : Type 0} (lanes : List (Lane D)) (e : Indexed) : Type 
   pub behind : 1 ≤ e.pos
   pub within : e.pos + length e.listed.keep < blocks_of segment.segment
 
--- while nothing failed: no segment is broken, and each entry of the index has its place
+-- how many entries of the index lie in the segment of this index of the lane at place k
+abbrev pub entries_at : (k index : ℕ) → List Indexed → ℕ
+entries_at k index es = count_by (λ (e : Indexed). e.listed.lane == k && e.index == index) es
+
+-- each held segment has as many records that keep a block as the index has entries in it
+abbrev pub AreCounted : {D : Type 0} → List (Lane D) → List Indexed → Type 0
+AreCounted {D} lanes es = (k : ℕ) (l : Lane D) → slice_get lanes k ≡ Some l → AllByRecursion (λ (h : HeldSegment D). valid_of h.segment ≡ entries_at k h.index es) (held_in l)
+
+-- while nothing failed: no segment is broken, each entry of the index has its place, and the segments have no other records
 pub record IsUp {D : Type 0} (lanes : List (Lane D)) (indexed : List Indexed) : Type 0 where
   pub whole : AllByRecursion (λ (l : Lane D). AllByRecursion (λ (h : HeldSegment D). IsWhole h.segment) (held_in l)) lanes
   pub placed : AllByRecursion (IsPlacedIn lanes) indexed
+  pub counted : AreCounted lanes indexed
+
+-- an entry of the index has a version, and lies in the volume
+pub record IsInVolume (size : ℕ) (e : Indexed) : Type 0 where
+  pub least : 1 ≤ e.listed.version
+  pub lies : e.listed.first + length e.listed.keep ≤ size
 
 pub record IsReady {D : Type 0} (state : D → State) (m : Manager D) : Type 0 where
   pub ready : Ready state m.id m.most m.home m.spindle m.lanes.items m.ups.items m.rooms.items
   pub next : (1 ≤ m.next) × (m.next ≤ 2 ^ 63)
   pub below : AllByRecursion (λ e. e.listed.version < m.next) m.index.entries
+  pub ranges : AllByRecursion (IsInVolume (state_of state m.home).size) m.index.entries
   pub up : m.down ≡ None → IsUp m.lanes.items m.index.entries
 
 -- a manager that was just opened: home and all loggers are awake for it

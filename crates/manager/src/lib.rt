@@ -9,7 +9,9 @@ mod log;
 mod manager;
 mod object;
 mod part;
+mod put;
 mod read;
+mod reclaim;
 mod write;
 
 pub use base::{LaneBase, ManagerBase, Volume};

@@ -62,7 +62,7 @@ returns-in-Some-Ok-clause-ready g c =
     spot (subst (λ (q : Result Spot (ℕ × Failed)). PutIn g.D.Disk.state old new (length c.args.from.now) (new_record (lane_owner old) m.next c.args.lbn c.args.from.now ∷ []) q) c.in-Some-Ok.field-0-is e.put)
     (record { version = m.next; lbn = c.args.lbn; count = length c.args.from.now; keep = c.all_kept.result; lane = c.args.lane; segment = spot.segment; pos = spot.pos })
     (λ j. record { version = m.next; lbn = c.args.lbn; count = length c.args.from.now; keep = c.all_kept.ensures j; lane = c.args.lane; segment = spot.segment; pos = spot.pos })
-    _ _ _ refl c.add.ensures.entries (refill_set m.ups.items c.deref_mut.result.now c.args.lane true c.deref_mut.ensures.value) c.requires.next
+    c.requires.fits _ _ _ refl c.add.ensures.entries (refill_set m.ups.items c.deref_mut.result.now c.args.lane true c.deref_mut.ensures.value) c.requires.next
 
 pub returns-in-Some-Ok-clause-taken : goal.returns-in-Some-Ok-clause-taken
 returns-in-Some-Ok-clause-taken g c _ =

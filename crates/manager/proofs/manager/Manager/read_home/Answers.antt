@@ -1,6 +1,10 @@
 -- Home is read where no record covers the blocks.
-use Rattle.std.proofs.Common.{◌≡◌, List, length, take, drop, Option, refl, sym, subst, ◌∙◌}
+use Rattle.std.proofs.Common.{◌≡◌, ◌≤◌, ◌^◌, ℕ, List, length, take, drop, Option, refl, sym, ap, subst, ◌∙◌}
 use Rattle.std.specs.Prelude.{IfSome, OnOk}
+use Rattle.std.specs.List.{AllByRecursion}
+use Rattle.turn_lock.specs.LockIds.{LockId}
+use Rattle.spin_model.specs.declared.spindle.SpindleBase.{SpindleBase}
+use Rattle.manager.specs.Stands.{IsInVolume}
 use Rattle.wol_disk.specs.Disk.{Block, Values, reads}
 use Rattle.wol_model.specs.Index.{listed_in}
 use Rattle.logger.specs.Lanes.{spindle_of}
@@ -40,3 +44,23 @@ returns-clause-content g c told b notes keeps =
     on_ok_like c.fetch_at-answer.result c.at_part.result c.at_part.ensures.like
     (λ is. is ∙ home_content g.D.Disk.tells g.D.Disk.state m b notes keeps c.requires.up told t.0 t.1 c.args.lbn (length c.args.out.now) c.requires.source)
     (let P : Option (List (Values Block)) → Type 0 = λ o. OnOk c.fetch_at-answer.result (IfSome o (λ vs. out ≡ take (length c.args.out.now) (drop c.args.lbn (reads vs)))) in subst P t.1 c.fetch_at-answer.ensures.content)
+
+pub returns-clause-ready : goal.returns-clause-ready
+returns-clause-ready g c = let e = c.fetch_at-answer.ensures in let r = c.requires.ready in let s = r.ready in record {
+  ready = record {
+    home_volume = e.volume ∙ s.home_volume;
+    home_small = subst (λ (n : ℕ). (1 ≤ n) × (n ≤ 2 ^ 32)) (sym e.size) s.home_small;
+    spindle_volume = ap (λ (l : LockId SpindleBase). l.base.volume) e.same.0 ∙ s.spindle_volume;
+    spindle_free = e.free;
+    settled = e.settled;
+    each = s.each;
+    flags = s.flags;
+    rooms_ = s.rooms_;
+    few = s.few;
+    most_ = s.most_;
+  };
+  next = r.next;
+  below = r.below;
+  ranges = subst (λ (n : ℕ). AllByRecursion (IsInVolume n) c.args.self.now.index.entries) (sym e.size) r.ranges;
+  up = r.up;
+}

@@ -10,7 +10,7 @@ use Rattle.manager.specs.Seen.{look_of_manager}
 use Rattle.manager.specs.Stands.{IsReady, IsReadyLane}
 use Rattle.manager.proofs.Lanes.{all_at, get_set}
 use Rattle.manager.proofs.ReadContent.{log_content}
-use Rattle.manager.proofs.ReadLog.{spotted, spotted_in, flags_set, lane_read, whole_after, stays_after, ready_after, segment_after}
+use Rattle.manager.proofs.ReadLog.{spotted, spotted_in, flags_set, lane_read, whole_after, counted_after, stays_after, ready_after, segment_after}
 use Rattle.manager.proofs.ReadThrough.{home_self, lanes_set, on_ok_like, err_like}
 use Rattle.manager.proofs.RunSources.{lane_run_of, needs_set, needs_none}
 use Rattle.manager.proofs.Woken.{woken_log, log_reads_home, log_reads_lane}
@@ -59,7 +59,8 @@ returns-clause-ready g c =
     let was = all_at (IsReadyLane state m.id m.most) m.lanes.items k l s.lane_is c.requires.ready.ready.each in
     subst (λ (ups : List Bool). IsReady state (record m { lanes = with_item m.lanes k l'; ups = record { items = ups } })) (sym (flags_set m.ups.items c.deref_mut.result.now k true c.deref_mut.ensures.value))
     (ready_after state m c.requires.ready c.requires.up k l l' (slice_set m.ups.items k true) s.lane_is e.same e.lane e.taken
-    (whole_after state g.met.D.Disk.sound l l' _ _ _ _ c.read-answer.result was.lane e.lane s.whole e.same e.moved) (stays_after state g.met.D.Disk.sound l l' _ _ _ _ c.read-answer.result was.lane e.lane s.whole e.same e.moved) (length-set m.ups.items k true))
+    (whole_after state g.met.D.Disk.sound l l' _ _ _ _ c.read-answer.result was.lane e.lane s.whole e.same e.moved) (stays_after state g.met.D.Disk.sound l l' _ _ _ _ c.read-answer.result was.lane e.lane s.whole e.same e.moved)
+    (counted_after state g.met.D.Disk.sound l l' _ _ _ _ c.read-answer.result was.lane e.lane s.whole e.same e.moved k m.index.entries ((c.requires.ready.up c.requires.up).counted k l s.lane_is)) (length-set m.ups.items k true))
 
 pub returns-clause-read : goal.returns-clause-read
 returns-clause-read g c =

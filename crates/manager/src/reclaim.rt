@@ -1,0 +1,187 @@
+// Steps of reclaim: a record is read, its due blocks are put home, and what may go of it is given up.
+ghost use Rattle.std.specs.Prelude.{◌≡◌, ◌+◌, ◌<◌, ℕ, true, None, Ok, length, OnOk, IfOk, IsTrue, is_none};
+ghost use Rattle.std.specs.Option.{ForSome};
+ghost use Rattle.wol_model.specs.Log.{has_bit};
+ghost use Rattle.wol_model.specs.Index.{listed_in, is_due, has_going};
+ghost use Rattle.redirect_map.specs.Index.{entry_at, HasVersion};
+ghost use Rattle.manager.specs.Reading.{IsReadThrough};
+ghost use Rattle.manager.specs.Reclaim.{OnTried, OnKept, OnFailed, TellsStep, KeepsOn, BreaksOff, StopsSince, Always, AreOf, HasFetched, HasStored, HasDropped};
+ghost use Rattle.manager.specs.Stands.{Keeps, IsReady, IsHome};
+ghost use Rattle.manager.specs.declared.base.ManagerBase.{ManagerBase};
+ghost use Rattle.wol_promise.specs.Ruled.{Noted};
+
+use crate::put::put_at;
+use crate::{Manager, Part, StepFault};
+use garbage_list::may_go;
+use log_layout::RecHead;
+use logger::{Shared, Spot};
+use std::sync::Wait;
+use wol_disk::{Block, Disk, Failed};
+
+impl<D: Disk> Manager<D> {
+    /// Reads the record of this version, all its blocks, kept or not. `DiskFault` comes only where the count of faults of
+    /// the record's segment rose in this call, and brings the manager down; `Down` exactly where it is down.
+    pub fn fetch_rec<R: Wait>(
+        &mut self,
+        rt: &R,
+        shared: &Shared<D>,
+        version: u64,
+        out: &mut [Block],
+    ) -> Result<(), StepFault>
+        requires ready { IsReady D.state self.old }
+        requires at { IsHome shared.now self.old }
+        requires there { HasVersion self.old.index.entries version }
+        requires count { ForSome (entry_at self.old.index.entries version) (λ e. length out.old ≡ length e.listed.keep) }
+        ensures ready { IsReady D.state self.new }
+        ensures at { IsHome shared.now self.new }
+        ensures fault { TellsStep D.state result self.old self.new }
+        ensures fetched { OnTried result (ForSome (entry_at self.old.index.entries version) (λ e. HasFetched e.listed.lane self.old self.new)) }
+        ensures read { OnOk result (IsReadThrough D.state self.old self.new) }
+        ensures content { (b : ManagerBase) (notes : List Noted) → Keeps D.tells D.state self.old b notes → OnOk result (AreOf D.tells self.old.index.entries version out.new b notes) }
+        ensures keeps { OnKept result (KeepsOn D.tells D.state self.old self.new Always) }
+        ensures broke { OnFailed result (BreaksOff D.tells D.state self.old self.new Always) }
+        ensures any_moment { OnTried result (IsTrue D.tells → StopsSince D.tells D.state self.old self.new Always) }
+    {
+        if let Some(part) = self.down {
+            return Err(StepFault::Down(part));
+        }
+        let Some(record) = self.index.find(version) else {
+            unreachable!()
+        };
+        let place = record.lane as usize;
+        self.ups[place] = true;
+        let lane = &mut self.lanes[place];
+        let spot = Spot {
+            segment: record.segment,
+            pos: record.pos,
+        };
+        let segment = Part::Segment {
+            volume: lane.logger(),
+            index: record.segment,
+        };
+        match lane.read(rt, shared, &spot, 0, out) {
+            Ok(()) => Ok(()),
+            Err(Failed) => {
+                self.down = Some(segment);
+                Err(StepFault::DiskFault(segment))
+            }
+        }
+    }
+
+    /// Writes home the blocks of the mask, which are due in the record of this version, syncs once, and then counts them as
+    /// home. `from` has the record's blocks, as `fetch_rec` reads them. `DiskFault` comes only where home's count of faults
+    /// rose in this call, and brings the manager down; `Down` exactly where it is down.
+    pub fn store_home<R: Wait>(
+        &mut self,
+        rt: &R,
+        shared: &Shared<D>,
+        version: u64,
+        mask: u128,
+        from: &[Block],
+    ) -> Result<(), StepFault>
+        requires ready { IsReady D.state self.old }
+        requires at { IsHome shared.now self.old }
+        requires there { HasVersion self.old.index.entries version }
+        requires due { ForSome (entry_at self.old.index.entries version)
+            (λ e. (i : ℕ) → has_bit mask i ≡ true → is_due (listed_in self.old.index.entries) e.listed (e.listed.first + i) ≡ true) }
+        requires count { ForSome (entry_at self.old.index.entries version) (λ e. length from.now ≡ length e.listed.keep) }
+        ensures ready { IsReady D.state self.new }
+        ensures at { IsHome shared.now self.new }
+        ensures fault { TellsStep D.state result self.old self.new }
+        ensures stored { OnTried result (HasStored D.state version mask from.now self.old self.new result) }
+        ensures keeps { OnKept result (KeepsOn D.tells D.state self.old self.new (AreOf D.tells self.old.index.entries version from.now)) }
+        ensures broke { OnFailed result (BreaksOff D.tells D.state self.old self.new (AreOf D.tells self.old.index.entries version from.now)) }
+        ensures any_moment { OnTried result (IsTrue D.tells → StopsSince D.tells D.state self.old self.new (AreOf D.tells self.old.index.entries version from.now)) }
+    {
+        if let Some(part) = self.down {
+            return Err(StepFault::Down(part));
+        }
+        let Some(record) = self.index.find(version) else {
+            unreachable!()
+        };
+        let homed = self.index.homed(version);
+        let lock = &shared.spindles[self.id as usize];
+        self.home_up = true;
+        match put_at(
+            rt,
+            lock,
+            &mut self.spindle,
+            &mut self.home,
+            record.lbn,
+            mask,
+            from,
+        ) {
+            Ok(()) => {
+                self.index.set_homed(version, homed | mask);
+                Ok(())
+            }
+            Err(Failed) => {
+                let home = Part::Home { volume: self.id };
+                self.down = Some(home);
+                Err(StepFault::DiskFault(home))
+            }
+        }
+    }
+
+    /// Gives up the blocks of this version's record that may go, and no others, and answers whether the record is gone. A
+    /// segment in which no record is left is retired and given to its pool in the same call. `DiskFault` comes only where
+    /// the count of faults of the record's segment rose in this call, and brings the manager down; `Down` exactly where it
+    /// is down.
+    pub fn drop_rec<R: Wait>(
+        &mut self,
+        rt: &R,
+        shared: &Shared<D>,
+        version: u64,
+    ) -> Result<bool, StepFault>
+        requires ready { IsReady D.state self.old }
+        requires at { IsHome shared.now self.old }
+        requires there { HasVersion self.old.index.entries version }
+        requires goes { ForSome (entry_at self.old.index.entries version) (λ e. has_going (listed_in self.old.index.entries) e.listed ≡ true) }
+        ensures ready { IsReady D.state self.new }
+        ensures at { IsHome shared.now self.new }
+        ensures fault { TellsStep D.state result self.old self.new }
+        ensures gone { IfOk result (λ gone. gone ≡ is_none (entry_at self.new.index.entries version)) }
+        ensures dropped { OnTried result (ForSome (entry_at self.old.index.entries version) (λ e. HasDropped version e self.old self.new result)) }
+        ensures keeps { OnKept result (KeepsOn D.tells D.state self.old self.new Always) }
+        ensures broke { OnFailed result (BreaksOff D.tells D.state self.old self.new Always) }
+        ensures any_moment { OnTried result (IsTrue D.tells → StopsSince D.tells D.state self.old self.new Always) }
+    {
+        if let Some(part) = self.down {
+            return Err(StepFault::Down(part));
+        }
+        let Some(record) = self.index.find(version) else {
+            unreachable!()
+        };
+        let given = may_go(&self.index, version);
+        let keep = record.keep & !given;
+        let place = record.lane as usize;
+        self.ups[place] = true;
+        let lane = &mut self.lanes[place];
+        let spot = Spot {
+            segment: record.segment,
+            pos: record.pos,
+        };
+        let segment = Part::Segment {
+            volume: lane.logger(),
+            index: record.segment,
+        };
+        let head = RecHead {
+            form: 2,
+            keep: record.keep,
+            owner: self.id,
+            version,
+            lbn: record.lbn,
+            count: record.count,
+        };
+        match lane.trim(rt, shared, &spot, &head, keep) {
+            Ok(()) => {
+                self.index.trim(version, given);
+                Ok(keep == 0)
+            }
+            Err(Failed) => {
+                self.down = Some(segment);
+                Err(StepFault::DiskFault(segment))
+            }
+        }
+    }
+}
