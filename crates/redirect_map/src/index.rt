@@ -97,7 +97,8 @@ impl Index {
 
     /// The record of this version, and none where there is none.
     pub fn find(&self, version: u64) -> Option<Rec>
-        ensures { IsAnswer (entry_at self.now.entries version) result }
+        ensures value { IsAnswer (entry_at self.now.entries version) result }
+        ensures index { IsIndex self.now.entries }
     {
         let entry = with_version(&self.entries, version)?;
         Some(entry.record)
