@@ -154,6 +154,7 @@ impl<D: Disk> Manager<D> {
         };
         let given = may_go(&self.index, version);
         let keep = record.keep & !given;
+        let owner = self.id;
         let place = record.lane as usize;
         self.ups[place] = true;
         let lane = &mut self.lanes[place];
@@ -168,7 +169,7 @@ impl<D: Disk> Manager<D> {
         let head = RecHead {
             form: 2,
             keep: record.keep,
-            owner: self.id,
+            owner,
             version,
             lbn: record.lbn,
             count: record.count,
