@@ -136,8 +136,8 @@ module _ {D : Type 0} (state : D → State) (m : Manager D) (ready : IsReady sta
   in_volume = all_member (IsInVolume (state_of state m.home).size) m.index.entries f.entry ready.ranges (among at)
 
   -- its head
-  pub head_ready : m.id < 2 ^ 32 → IsRecordHead (record { form = 2; owner = m.id; version = version; first = r.lbn; count = r.count; mask = r.keep })
-  head_ready small = record {
+  pub head_ready : (owner : ℕ) → owner < 2 ^ 32 → IsRecordHead (record { form = 2; owner = owner; version = version; first = r.lbn; count = r.count; mask = r.keep })
+  head_ready owner small = record {
     owner = small;
     version = (let v = in_volume.least in let s = at.version_is in omega arith, let lt = all_member (λ (d : Indexed). d.listed.version < m.next) m.index.entries f.entry ready.below (among at) in let s = at.version_is in let n = ready.next.1 in omega arith);
     count = (let c = some_count _ f.entry.listed.first (length f.entry.listed.keep) its.keeps in let s = f.record_.count in omega arith, let c = its.count in let s = f.record_.count in omega arith);
@@ -190,7 +190,10 @@ module _ {D : Type 0} (state : D → State) (m : Manager D) (ready : IsReady sta
 
       -- ---- done
 
-      module _ {T E : Type 0} (x : T) (moved : Trimmed {T = T} {E = E} state old new (record { segment = r.segment; pos = r.pos }) (record { form = 2; owner = m.id; version = version; first = r.lbn; count = r.count; mask = r.keep }) (bit_and r.keep (bit_not w128 given)) (Ok x)) where
+      module _ {T E : Type 0} (x : T) (owner : ℕ) (owner_is : owner ≡ m.id) (moved_ : Trimmed {T = T} {E = E} state old new (record { segment = r.segment; pos = r.pos }) (record { form = 2; owner = owner; version = version; first = r.lbn; count = r.count; mask = r.keep }) (bit_and r.keep (bit_not w128 given)) (Ok x)) where
+        moved : Trimmed {T = T} {E = E} state old new (record { segment = r.segment; pos = r.pos }) (record { form = 2; owner = m.id; version = version; first = r.lbn; count = r.count; mask = r.keep }) (bit_and r.keep (bit_not w128 given)) (Ok x)
+        moved = subst (λ (v : ℕ). Trimmed {T = T} {E = E} state old new (record { segment = r.segment; pos = r.pos }) (record { form = 2; owner = v; version = version; first = r.lbn; count = r.count; mask = r.keep }) (bit_and r.keep (bit_not w128 given)) (Ok x)) owner_is moved_
+
         pub ready_then : (index' : Contents) (ups : List Bool) → index'.entries ≡ given_of version m.index.entries → ups ≡ slice_set m.ups.items r.lane true → IsReady state (record m { lanes = with_item m.lanes r.lane new; index = index'; ups = record { items = ups } })
         ready_then index' ups entries flags = by moved
           where
@@ -237,6 +240,17 @@ module _ {D : Type 0} (state : D → State) (m : Manager D) (ready : IsReady sta
             }
             by (not_freed i o n there named held pool err stayed) = absurd (false≢true err)
 
+        -- of the manager nothing else changed
+        pub dropped_then : {G : Type 0} (gone : G) (index' : Contents) (ups : List Bool) → index'.entries ≡ given_of version m.index.entries → ups ≡ slice_set m.ups.items r.lane true
+            → (d : Indexed) → entry_at m.index.entries version ≡ Some d → HasDropped version d m (record m { lanes = with_item m.lanes r.lane new; index = index'; ups = record { items = ups } }) (Ok gone)
+        dropped_then {G} gone index' ups entries flags d is =
+            subst (λ (c : Indexed). HasDropped {T = G} version c m (record m { lanes = with_item m.lanes r.lane new; index = index'; ups = record { items = ups } }) (Ok gone)) (same_Some f.entry d (sym f.is ∙ is)) (record {
+              rest = ap (λ (u : List Bool). record m { lanes = with_item m.lanes r.lane new; index = index'; ups = record { items = u } }) (flags ∙ ap (λ (k : ℕ). slice_set m.ups.items k true) f.record_.lane);
+              lanes = lane_then index'.entries entries;
+              ok = entries;
+              err = tt;
+            })
+
         pub keeps_then : (tells : Bool) (index' : Contents) (ups : List Bool) → index'.entries ≡ given_of version m.index.entries → ups ≡ slice_set m.ups.items r.lane true → KeepsOn tells state m (record m { lanes = with_item m.lanes r.lane new; index = index'; ups = record { items = ups } }) Always
         keeps_then tells index' ups entries flags b notes any kp = by moved
           where
@@ -252,8 +266,8 @@ module _ {D : Type 0} (state : D → State) (m : Manager D) (ready : IsReady sta
                 (leaves tells state m b notes kp up r.lane old new lane is_lane same untaken version f.entry index at its.count lane_is r f.record_ given fits bits i o there (index_is o named) _ free held gave) (ready_then index' ups entries flags) (passed_still tells state m b notes kp r.lane old new lane same more)
             by (not_freed i o n there named held pool err stayed) = absurd (false≢true err)
 
-        pub stops_then : (tells : Bool) (sound : (d : D) → IsDisk (state d)) → IsTrue tells → (index' : Contents) (ups : List Bool) → StopsSince tells state m (record m { lanes = with_item m.lanes r.lane new; index = index'; ups = record { items = ups } }) Always
-        stops_then tells sound told index' ups was read b notes any kw = by moved
+        pub stops_then : (tells : Bool) (sound : (d : D) → IsDisk (state d)) → IsTrue tells → (index' : Contents) (ups : List Bool) → ups ≡ slice_set m.ups.items r.lane true → StopsSince tells state m (record m { lanes = with_item m.lanes r.lane new; index = index'; ups = record { items = ups } }) Always
+        stops_then tells sound told index' ups flags was read b notes any kw = by moved
           where
             was_up : was.down ≡ None
             was_up = sym read.down ∙ up
@@ -267,7 +281,10 @@ module _ {D : Type 0} (state : D → State) (m : Manager D) (ready : IsReady sta
 
       -- ---- a call of the disk failed
 
-      module _ {T E : Type 0} (x : E) (moved : Trimmed {T = T} {E = E} state old new (record { segment = r.segment; pos = r.pos }) (record { form = 2; owner = m.id; version = version; first = r.lbn; count = r.count; mask = r.keep }) (bit_and r.keep (bit_not w128 given)) (Err x)) (volume : ℕ) (volume_is : volume ≡ logger_of old) (ups : List Bool) (flags : ups ≡ slice_set m.ups.items r.lane true) where
+      module _ {T E : Type 0} (x : E) (owner : ℕ) (owner_is : owner ≡ m.id) (moved_ : Trimmed {T = T} {E = E} state old new (record { segment = r.segment; pos = r.pos }) (record { form = 2; owner = owner; version = version; first = r.lbn; count = r.count; mask = r.keep }) (bit_and r.keep (bit_not w128 given)) (Err x)) (volume : ℕ) (volume_is : volume ≡ logger_of old) (ups : List Bool) (flags : ups ≡ slice_set m.ups.items r.lane true) where
+        moved_err : Trimmed {T = T} {E = E} state old new (record { segment = r.segment; pos = r.pos }) (record { form = 2; owner = m.id; version = version; first = r.lbn; count = r.count; mask = r.keep }) (bit_and r.keep (bit_not w128 given)) (Err x)
+        moved_err = subst (λ (v : ℕ). Trimmed {T = T} {E = E} state old new (record { segment = r.segment; pos = r.pos }) (record { form = 2; owner = v; version = version; first = r.lbn; count = r.count; mask = r.keep }) (bit_and r.keep (bit_not w128 given)) (Err x)) owner_is moved_
+
         abbrev pub broken_one : Manager D
         broken_one = record m { lanes = with_item m.lanes r.lane new; ups = record { items = ups }; down = Some (part.Segment volume r.segment) }
 
@@ -284,7 +301,7 @@ module _ {D : Type 0} (state : D → State) (m : Manager D) (ready : IsReady sta
           after = new;
           there = ap (slice_get m.lanes.items) lane_is ∙ lane;
           set = ap (λ (q : ℕ). slice_set m.lanes.items q new) f.record_.lane;
-          change = record { same = same; used = used; kept = λ _. by moved; gave = λ none. absurd (let one = one_still in omega (arith, one, none)) };
+          change = record { same = same; used = used; kept = λ _. by moved_err; gave = λ none. absurd (let one = one_still in omega (arith, one, none)) };
         }
           where
             by : Trimmed {T = T} {E = E} state old new (record { segment = r.segment; pos = r.pos }) (record { form = 2; owner = m.id; version = version; first = r.lbn; count = r.count; mask = r.keep }) (bit_and r.keep (bit_not w128 given)) (Err x)
@@ -293,9 +310,20 @@ module _ {D : Type 0} (state : D → State) (m : Manager D) (ready : IsReady sta
             by (to_pool i o free there named held pool ok gave) = absurd (false≢true ok)
             by (not_freed i o n there named held pool err stayed) = (pool, ap (map (λ (h : HeldSegment D). h.index)) held ∙ map_set (λ (h : HeldSegment D). h.index) (held_in old) i o n there stayed.index)
 
+        -- of the manager nothing else changed
+        pub dropped_broke : (G : Type 0) (fault : StepFault) (d : Indexed) → entry_at m.index.entries version ≡ Some d
+            → HasDropped {T = G} version d m (record m { lanes = with_item m.lanes r.lane new; ups = record { items = ups }; down = Some (part.Segment volume r.segment) }) (Err fault)
+        dropped_broke G fault d is =
+            subst (λ (c : Indexed). HasDropped {T = G} version c m (record m { lanes = with_item m.lanes r.lane new; ups = record { items = ups }; down = Some (part.Segment volume r.segment) }) (Err fault)) (same_Some f.entry d (sym f.is ∙ is)) (record {
+              rest = ap (λ (u : List Bool). record m { lanes = with_item m.lanes r.lane new; ups = record { items = u }; down = Some (part.Segment volume r.segment) }) (flags ∙ ap (λ (k : ℕ). slice_set m.ups.items k true) f.record_.lane);
+              lanes = lane_broke;
+              ok = tt;
+              err = refl;
+            })
+
         -- its segment's count rose
         pub cause_broke : PartRose state m (record m { lanes = with_item m.lanes r.lane new; ups = record { items = ups }; down = Some (part.Segment volume r.segment) }) (part.Segment volume r.segment)
-        cause_broke = by moved
+        cause_broke = by moved_err
           where
             by : Trimmed {T = T} {E = E} state old new (record { segment = r.segment; pos = r.pos }) (record { form = 2; owner = m.id; version = version; first = r.lbn; count = r.count; mask = r.keep }) (bit_and r.keep (bit_not w128 given)) (Err x)
                 → PartRose state m (record m { lanes = with_item m.lanes r.lane new; ups = record { items = ups }; down = Some (part.Segment volume r.segment) }) (part.Segment volume r.segment)
@@ -331,7 +359,7 @@ module _ {D : Type 0} (state : D → State) (m : Manager D) (ready : IsReady sta
 
         pub stands_broke : (tells : Bool) (sound : (d : D) → IsDisk (state d)) → BreaksOff tells state m (record m { lanes = with_item m.lanes r.lane new; ups = record { items = ups }; down = Some (part.Segment volume r.segment) }) Always
         stands_broke tells sound b notes nt any note kp = record {
-          keeps = by moved;
+          keeps = by moved_err;
           look = last_more b.volume.began.look notes nt ∙ note.look_is;
         }
           where
@@ -355,7 +383,7 @@ module _ {D : Type 0} (state : D → State) (m : Manager D) (ready : IsReady sta
 
         pub stops_broke : (tells : Bool) (sound : (d : D) → IsDisk (state d)) → IsTrue tells
             → StopsSince tells state m (record m { lanes = with_item m.lanes r.lane new; ups = record { items = ups }; down = Some (part.Segment volume r.segment) }) Always
-        stops_broke tells sound told was read b notes any kw = by moved
+        stops_broke tells sound told was read b notes any kw = by moved_err
           where
             was_up : was.down ≡ None
             was_up = sym read.down ∙ up

@@ -287,9 +287,6 @@ module _ {D : Type 0} (tells : Bool) (state : D → State) (sound : (d : D) → 
       (putting_stops (ImageSince state was.home part) (HeldSince state (all_held 0 was.lanes.items kp.logs) None) b.volume.began.owner b.volume.began.array (writes (entries_of notes)) was.next (is_homed_in was.index.entries)
       (all_held 0 old.lanes.items kp.logs) (puts_from 0 e.listed.first mask blocks) [] (logs tells state sound told was b notes kp old read ready up)
       (subst (λ (rs : List Extent). IsData rs (puts_from 0 e.listed.first mask blocks)) (sym same_extents) (data_of tells state was b notes kp up version mask blocks e at_was count due_was data_ told))
-      (λ x image. let from = partly_image (state_of state was.home).values e.listed.first mask blocks x (image_of x image) in (
-        from.0,
-        subst (λ (rs : List Extent). HoldsArray b.volume.began.array (writes (entries_of notes)) was.next from.0 rs (is_homed_in was.index.entries)) (sym same_extents)
-            ((whole_up tells state was b notes kp up version mask blocks e at_was count due_was data_ told).holds from.0 (told, from.1)),
-        from.2,
-      )))
+      (λ x image. let from = partly_image (state_of state was.home).values e.listed.first mask blocks x (image_of x image) in
+      (from.0, subst (λ (rs : List Extent). HoldsArray b.volume.began.array (writes (entries_of notes)) was.next from.0 rs (is_homed_in was.index.entries)) (sym same_extents)
+      ((whole_up tells state was b notes kp up version mask blocks e at_was count due_was data_ told).holds from.0 (told, from.1)), from.2)))

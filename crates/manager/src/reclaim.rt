@@ -123,6 +123,13 @@ impl<D: Disk> Manager<D> {
         }
     }
 
+    // The volume whose manager this is.
+    fn volume(&self) -> u32
+        ensures { result ≡ self.now.id }
+    {
+        self.id
+    }
+
     /// Gives up the blocks of this version's record that may go, and no others, and answers whether the record is gone. A
     /// segment in which no record is left is retired and given to its pool in the same call. `DiskFault` comes only where
     /// the count of faults of the record's segment rose in this call, and brings the manager down; `Down` exactly where it
@@ -154,7 +161,7 @@ impl<D: Disk> Manager<D> {
         };
         let given = may_go(&self.index, version);
         let keep = record.keep & !given;
-        let owner = self.id;
+        let owner = self.volume();
         let place = record.lane as usize;
         self.ups[place] = true;
         let lane = &mut self.lanes[place];
