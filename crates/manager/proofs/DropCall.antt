@@ -1,5 +1,5 @@
 -- A lane gave up blocks of one record: what the manager is then, clause by clause.
-use Rattle.std.proofs.Common.{◌≡◌, ◌≢◌, ◌⊎◌, inl, inr, ⊎_elim, ◌<◌, ◌≤◌, ◌+◌, ◌-◌, ◌^◌, ℕ, zero, suc, Bool, true, false, cond, not, ◌&&◌, List, [], ◌∷◌, ◌++◌, map, length, Option, None, Some, Result, Ok, Err, refl, sym, ap, subst, ◌∙◌, arith, eqb, bit_and, get_or}
+use Rattle.std.proofs.Common.{◌≡◌, ◌≢◌, inl, ◌<◌, ◌≤◌, ◌^◌, ℕ, zero, suc, Bool, true, false, cond, not, ◌&&◌, List, [], ◌∷◌, ◌++◌, map, length, Option, None, Some, Ok, Err, refl, sym, ap, subst, ◌∙◌, arith, eqb, bit_and, get_or}
 use Rattle.std.specs.Prelude.{IsTrue, Contains, slice_get, slice_set, remove, filter, is_none, IfSome}
 use Rattle.std.specs.Int.{bit_not, w128}
 use Rattle.std.specs.List.{AllByRecursion, list_any, range_with_len}
@@ -10,33 +10,28 @@ use Rattle.std.proofs.lemmas.Option.{none-some, same_Some, slice_get_read, slice
 use Rattle.turn_lock.specs.Passes.{pass_mine, pass_number}
 use Rattle.seg_pool.specs.Holders.{Gave}
 use Rattle.seg_pool.specs.Operations.{operation_of}
-use Rattle.wol_disk.specs.Disk.{State, IsDisk, LeavesOnly}
-use Rattle.wol_disk.proofs.Moments.{widened}
+use Rattle.wol_disk.specs.Disk.{State, IsDisk}
 use Rattle.wol_model.specs.Blocks.{AreApart}
 use Rattle.wol_model.specs.Heads.{IsRecordHead}
-use Rattle.wol_model.specs.History.{Broke, writes}
-use Rattle.wol_model.specs.Index.{Indexed, listed_in, goes, keeping, keeps_a_block, has_going}
-use Rattle.wol_model.specs.Log.{has_bit}
-use Rattle.wol_promise.specs.Ruled.{Noted, HasPassed, entries_of, last_look}
-use Rattle.wol_promise.proofs.Lists.{all_front, all_member, all_mapped, member_of}
+use Rattle.wol_model.specs.Index.{Indexed, listed_in, goes, keeps_a_block}
+use Rattle.wol_promise.specs.Ruled.{Noted, HasPassed}
+use Rattle.wol_promise.proofs.Lists.{all_front, all_member, all_mapped}
 use Rattle.wol_promise.proofs.OneMore.{last_more}
 use Rattle.spin_model.specs.Spun.{state_of}
 use Rattle.log_segment.specs.Records.{IsProperPart}
-use Rattle.log_segment.specs.Segment.{IsWhole, disk_of, blocks_of, valid_of}
+use Rattle.log_segment.specs.Segment.{IsWhole}
 use Rattle.log_segment.specs.declared.free.FreeSegment.{FreeSegment}
-use Rattle.redirect_map.specs.Index.{Contents, IsIndex, IsAnswer, IsEntry, IsRecordOf, entry_at, changed, given_up, has_version}
+use Rattle.redirect_map.specs.Index.{Contents, IsIndex, IsEntry, entry_at, changed, given_up, has_version}
 use Rattle.redirect_map.specs.Masks.{IsMask}
 use Rattle.redirect_map.specs.declared.record.Rec.{Rec}
-use Rattle.logger.specs.Lanes.{IsLane, IsAt, IsSameLane, HasUsed, IsTrimmable, Trimmed, in_place, to_pool, not_freed, held_in, taken_in, pool_of, logger_of, lane_owner}
+use Rattle.logger.specs.Lanes.{IsLane, IsSameLane, HasUsed, IsTrimmable, Trimmed, in_place, to_pool, not_freed, held_in, taken_in, pool_of, logger_of}
 use Rattle.logger.specs.declared.lane.HeldSegment.{HeldSegment}
 use Rattle.logger.specs.declared.lane.Lane.{Lane}
 use Rattle.logger.proofs.Indexes.{lacks_removed}
 use Rattle.manager.specs.Causes.{PartRose}
 use Rattle.manager.specs.Offers.{ChangesLane}
-use Rattle.manager.specs.Reading.{IsReadThrough}
 use Rattle.manager.specs.Reclaim.{given_of, with_kept, IsTrimmedLane, HasDropped, KeepsOn, BreaksOff, StopsSince, Always}
-use Rattle.manager.specs.Seen.{parts_of, all_held, look_of_manager}
-use Rattle.manager.specs.Stands.{Keeps, Stands, IsReady, IsReadyLane, IsPlacedIn, IsInVolume, IsNote, entries_at, nones_in, nones_at}
+use Rattle.manager.specs.Stands.{Keeps, IsReady, IsReadyLane, IsPlacedIn, IsInVolume, entries_at, nones_in, nones_at}
 use Rattle.manager.specs.Stops.{Stops}
 use Rattle.manager.specs.declared.base.ManagerBase.{ManagerBase}
 use Rattle.manager.specs.declared.manager.Manager.{Manager}
@@ -52,8 +47,6 @@ use Rattle.manager.proofs.Frames.{none_passed}
 use Rattle.manager.proofs.GivenUp.{given_is, given_list, keeps_is, none_of_version, one_of_version, proper}
 use Rattle.manager.proofs.Lanes.{all_at, get_set, map_set}
 use Rattle.manager.proofs.Putting.{Pieces}
-use Rattle.manager.proofs.ReadContent.{upholds_up}
-use Rattle.manager.proofs.ReadKeeps.{held_read, upholds_read}
 use Rattle.manager.proofs.ReadyLanes.{get_of, locks_set, nones_at_set, nones_more}
 
 -- ---- indexes of segments

@@ -1,15 +1,15 @@
 -- A record of a held segment that gives up blocks, among all segments: as the disk tells it, or as it may be where nothing is told.
-use Rattle.std.proofs.Common.{◌≡◌, ◌⊎◌, inl, inr, ⊎_elim, ◌<◌, ◌≤◌, ◌+◌, ◌^◌, ℕ, zero, suc, Bool, true, false, List, [], ◌∷◌, ◌++◌, map, length, take, Option, None, Some, refl, sym, ap, subst, ◌∙◌, arith, append_assoc, replicate}
-use Rattle.std.specs.Prelude.{IsTrue, Contains, slice_get, slice_set, remove}
-use Rattle.std.specs.List.{AllByRecursion, flat_map}
+use Rattle.std.proofs.Common.{◌≡◌, ◌<◌, ◌≤◌, ◌+◌, ◌^◌, ℕ, zero, suc, Bool, true, false, List, [], ◌∷◌, ◌++◌, length, take, None, Some, refl, sym, ap, subst, ◌∙◌, arith, append_assoc, replicate}
+use Rattle.std.specs.Prelude.{IsTrue, slice_get, slice_set, remove}
+use Rattle.std.specs.List.{flat_map}
 use Rattle.std.proofs.lemmas.Option.{same_Some, none-some}
 use Rattle.std.proofs.lemmas.List.{append-nil, length-replicate}
 use Rattle.wol_disk.specs.Disk.{State}
 use Rattle.wol_model.specs.Blocks.{Write}
 use Rattle.wol_model.specs.Heads.{RecordHead}
 use Rattle.wol_model.specs.History.{writes}
-use Rattle.wol_model.specs.Index.{Indexed, listed_in, keeping}
-use Rattle.wol_model.specs.Log.{Record, IsNamed, marks_of, has_bit, position_of, end_of, written}
+use Rattle.wol_model.specs.Index.{Indexed}
+use Rattle.wol_model.specs.Log.{Record, IsNamed, marks_of, position_of, end_of, written}
 use Rattle.wol_promise.specs.Manager.{Held, IsBacked, IsEntryOf}
 use Rattle.wol_promise.specs.Ruled.{Noted, entries_of}
 use Rattle.wol_promise.specs.Stands.{Upholds}
@@ -20,7 +20,7 @@ use Rattle.log_segment.specs.Records.{IsSameHead}
 use Rattle.redirect_map.specs.Index.{IsRecordOf}
 use Rattle.redirect_map.specs.declared.record.Rec.{Rec}
 use Rattle.redirect_map.proofs.Seen.{length-marks_of}
-use Rattle.logger.specs.Lanes.{IsHeld, AreWhole, IsHeadAt, held_in, taken_in, lane_owner, logger_of, segments_in, pool_of}
+use Rattle.logger.specs.Lanes.{IsHeld, AreWhole, IsHeadAt, held_in, lane_owner, logger_of, segments_in, pool_of}
 use Rattle.logger.specs.declared.lane.HeldSegment.{HeldSegment}
 use Rattle.logger.specs.declared.lane.Lane.{Lane}
 use Rattle.manager.specs.Seen.{Logs, AllHold, AllLanesHold, parts_of, seen, held_with, all_held, down_of}

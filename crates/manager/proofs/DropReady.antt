@@ -1,5 +1,5 @@
 -- A record gave up what goes: what holds of the manager between its calls then, whether its segment stays in the lane or went to the pool.
-use Rattle.std.proofs.Common.{◌≡◌, ◌≢◌, ◌⊎◌, inl, inr, ⊎_elim, ◌<◌, ◌≤◌, ◌+◌, ◌-◌, ◌^◌, ℕ, zero, suc, Bool, true, false, cond, not, ◌&&◌, List, [], ◌∷◌, ◌++◌, map, length, Option, None, Some, refl, sym, ap, subst, ◌∙◌, arith, eqb, bit_and}
+use Rattle.std.proofs.Common.{◌≡◌, ◌≢◌, ◌⊎◌, inl, inr, ⊎_elim, ◌<◌, ◌≤◌, ◌+◌, ◌-◌, ◌^◌, ℕ, zero, suc, Bool, true, false, cond, not, ◌&&◌, List, [], ◌∷◌, ◌++◌, map, length, None, Some, refl, sym, ap, subst, ◌∙◌, arith, eqb, bit_and}
 use Rattle.std.specs.Prelude.{Contains, slice_get, slice_set, remove, filter}
 use Rattle.std.specs.Int.{bit_not, w128}
 use Rattle.std.specs.List.{AllByRecursion, count_by}
@@ -11,9 +11,9 @@ use Rattle.std.proofs.lemmas.Option.{none-some, same_Some}
 use Rattle.turn_lock.specs.LockIds.{LockId}
 use Rattle.seg_pool.specs.declared.base.PoolBase.{PoolBase}
 use Rattle.wol_disk.specs.Disk.{State}
-use Rattle.wol_model.specs.Index.{Indexed, listed_in, goes, keeping, keeps_a_block}
+use Rattle.wol_model.specs.Index.{Indexed, listed_in, goes, keeps_a_block}
 use Rattle.wol_model.proofs.Counts.{length_remarked}
-use Rattle.wol_promise.proofs.Lists.{all_map, member_front, member_behind, member_of}
+use Rattle.wol_promise.proofs.Lists.{all_map, member_front, member_behind}
 use Rattle.spin_model.specs.Spun.{state_of}
 use Rattle.log_segment.specs.Segment.{IsWhole, blocks_of, valid_of}
 use Rattle.log_segment.specs.declared.free.FreeSegment.{FreeSegment}

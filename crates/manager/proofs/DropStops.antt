@@ -1,17 +1,14 @@
 -- Blocks that go are given up: whichever images the segment had since, the same is recovered, also where the call failed or was stopped.
-use Rattle.std.proofs.Common.{◌≡◌, ◌⊎◌, inl, inr, ⊎_elim, ◌<◌, ◌≤◌, ◌+◌, ◌^◌, ℕ, Bool, true, false, List, [], ◌∷◌, ◌++◌, map, length, Option, None, Some, refl, sym, ap, subst, ◌∙◌, arith, bit_and}
+use Rattle.std.proofs.Common.{◌≡◌, ◌⊎◌, inl, inr, ⊎_elim, ◌<◌, ◌≤◌, ◌^◌, ℕ, Bool, true, false, List, [], ◌∷◌, ◌++◌, length, Option, None, Some, refl, sym, ap, subst, ◌∙◌, arith, bit_and}
 use Rattle.std.specs.Prelude.{⊤, IsTrue, Contains, slice_get, slice_set, remove}
 use Rattle.std.specs.Int.{bit_not, w128}
-use Rattle.std.specs.List.{AllByRecursion, AllZip}
+use Rattle.std.specs.List.{AllZip}
 use Rattle.std.specs.Option.{option_map}
-use Rattle.std.specs.Vec.{with_item}
 use Rattle.std.proofs.Math.ListN.{length-set}
 use Rattle.std.proofs.lemmas.Option.{slice_get-map}
-use Rattle.turn_lock.specs.Passes.{pass_mine}
 use Rattle.wol_disk.specs.Disk.{State, Block, Values, IsDisk, IsImageOf, LeavesOnly, Rose}
 use Rattle.wol_disk.proofs.Calls.{now_leaves}
 use Rattle.wol_disk.proofs.Moments.{then_leaves, widened}
-use Rattle.wol_model.specs.Blocks.{Write}
 use Rattle.wol_model.specs.Extents.{covers_of, may_go}
 use Rattle.wol_model.specs.History.{Broke, writes, flight_of, IsCut}
 use Rattle.wol_model.specs.Holding.{Holds as HoldsArray}
@@ -21,34 +18,32 @@ use Rattle.spin_model.specs.Spun.{state_of}
 use Rattle.spin_model.specs.declared.spun.Spun.{Spun}
 use Rattle.log_segment.specs.Kept.{IsKeptOrTrimmed}
 use Rattle.log_segment.specs.Records.{count_valid}
-use Rattle.log_segment.specs.Segment.{IsBroken, IsSame, Holds, part_of, disk_of, owner_of, segment_volume}
+use Rattle.log_segment.specs.Segment.{IsBroken, IsSame, Holds, part_of, disk_of, owner_of}
 use Rattle.redirect_map.specs.Index.{IsRecordOf}
 use Rattle.redirect_map.specs.Masks.{IsMask}
 use Rattle.redirect_map.specs.declared.record.Rec.{Rec}
-use Rattle.logger.specs.Lanes.{IsLane, IsSameLane, IsKeptTrimmedOrIdle, IsBareAfter, IsHeadAt, IsHeld, held_in, taken_in, logger_of, lane_owner, segments_in, pool_of}
+use Rattle.logger.specs.Lanes.{IsLane, IsKeptTrimmedOrIdle, IsBareAfter, IsHeadAt, IsHeld, held_in, taken_in, logger_of, lane_owner, segments_in, pool_of}
 use Rattle.logger.specs.declared.lane.HeldSegment.{HeldSegment}
 use Rattle.logger.specs.declared.lane.Lane.{Lane}
 use Rattle.wol_promise.specs.Manager.{Held, ManagerSeen, Recovers, SegmentPart, SaysOwnerOrFree, extents_held, is_homed_in}
-use Rattle.wol_promise.specs.Ruled.{Noted, HasPassed, entries_of, last_look}
+use Rattle.wol_promise.specs.Ruled.{Noted, entries_of}
 use Rattle.wol_promise.specs.Stands.{Upholds, StandsFor, StopsSafely, IsWhole}
 use Rattle.wol_promise.proofs.Choices.{AreLogs}
 use Rattle.wol_promise.proofs.Covers.{goes_is_may_go}
 use Rattle.wol_promise.proofs.Lists.{all_parts, all_joined, member_of, member_behind}
 use Rattle.wol_promise.proofs.LogWrites.{says_owner}
-use Rattle.wol_promise.proofs.OneMore.{last_more}
 use Rattle.wol_promise.proofs.Retires.{AreEmpty}
 use Rattle.wol_promise.proofs.Stops.{still_stops}
 use Rattle.wol_promise.proofs.Trims.{trimmed}
 use Rattle.manager.specs.Reading.{IsReadThrough}
-use Rattle.manager.specs.Seen.{Logs, AllLanesHold, parts_of, seen, all_held, all_taken, down_of}
-use Rattle.manager.specs.Stands.{Keeps, IsReady, IsReadyLane}
-use Rattle.manager.specs.Stops.{ImageSince, HeldSince, was_held, was_free, Stops}
+use Rattle.manager.specs.Seen.{Logs, AllLanesHold, parts_of, seen, all_held, all_taken}
+use Rattle.manager.specs.Stands.{Keeps, IsReady}
+use Rattle.manager.specs.Stops.{ImageSince, HeldSince, was_held, was_free}
 use Rattle.manager.specs.declared.base.ManagerBase.{ManagerBase}
 use Rattle.manager.specs.declared.manager.Manager.{Manager}
-use Rattle.manager.specs.declared.part.Part.{Part}
 use Rattle.manager.specs.declared.part.Part.TheVariants as part
 use Rattle.manager.proofs.DropKeeps.{none_valid, named_trimmed}
-use Rattle.manager.proofs.DropPiece.{Piece, piece, with_records, was_held as its_held, was_lane as its_lane, head, set_mid, GoneLanes, gone_lanes}
+use Rattle.manager.proofs.DropPiece.{Piece, piece, was_held as its_held, was_lane as its_lane, set_mid, GoneLanes, gone_lanes}
 use Rattle.manager.proofs.Entries.{At, among}
 use Rattle.manager.proofs.GivenUp.{kept_marks, keep_within}
 use Rattle.manager.proofs.Lanes.{all_at, held_as, get_set, InLanes, in_lanes}
@@ -57,7 +52,7 @@ use Rattle.manager.proofs.Putting.{Pieces, untaken_set}
 use Rattle.manager.proofs.ReadContent.{unbroken, upholds_up}
 use Rattle.manager.proofs.ReadKeeps.{held_read, upholds_read}
 use Rattle.manager.proofs.ReadStops.{IsMoved, moved, logs as logs_read}
-use Rattle.manager.proofs.Vanishes.{holds_trimmed, holds_without, three_stops, failed_segment, segment_breaks}
+use Rattle.manager.proofs.Vanishes.{holds_trimmed, holds_without, three_stops, segment_breaks}
 use Rattle.manager.proofs.WentHome.{risen}
 
 -- ---- the segment's images

@@ -1,12 +1,12 @@
 -- What may go of a record is given up.
-use Rattle.std.proofs.Common.{◌≡◌, ◌<◌, ◌≤◌, ◌+◌, ◌^◌, ℕ, Bool, true, List, length, Some, Ok, Err, refl, sym, ap, subst, ◌∙◌, arith}
+use Rattle.std.proofs.Common.{◌≡◌, ◌<◌, ◌^◌, Bool, true, length, refl, sym, ap, ◌∙◌, arith}
 use Rattle.std.specs.Prelude.{◌↔◌}
 use Rattle.std.proofs.lemmas.Option.{slice_get_within}
 use Rattle.redirect_map.specs.Index.{entry_at}
 use Rattle.wol_model.specs.Index.{Indexed, listed_in, has_going}
 use Rattle.logger.specs.Lanes.{IsAt}
 use Rattle.manager.proofs.Copies.{refill_set}
-use Rattle.manager.proofs.DropCall.{there_is, lane_of, old_lane, spot_ready, head_ready, proper_keep, given_entries, gone_is, ready_then, dropped_then, keeps_then, stops_then, ready_broke, dropped_broke, cause_broke, stands_broke, stops_broke}
+use Rattle.manager.proofs.DropCall.{there_is, lane_of, old_lane, spot_ready, head_ready, proper_keep, given_entries, gone_is, ready_then, dropped_then, keeps_then, stops_then, dropped_broke, cause_broke, stands_broke, stops_broke}
 use Rattle.manager.proofs.Entries.{found_of, some_of}
 use Rattle.manager.proofs.Lanes.{all_at}
 use Rattle.manager.proofs.ReadThrough.{never_some}
