@@ -4,6 +4,7 @@ ghost use Rattle.wol_model.specs.History.{Kept};
 ghost use Rattle.wol_promise.specs.Ruled.{Noted};
 ghost use Rattle.logger.specs.Lanes.{logger_of};
 ghost use Rattle.manager.specs.Accesses.{HasUsedOnce};
+ghost use Rattle.manager.specs.Reading.{IsReadThrough};
 ghost use Rattle.manager.specs.Seen.{look_of_manager};
 ghost use Rattle.manager.specs.Stands.{Keeps, IsReady, IsHome, Leaves, opened};
 ghost use Rattle.manager.specs.Stops.{Stops};
@@ -114,6 +115,7 @@ impl<D: Disk> Manager<D> {
         ensures at { IsHome shared.now self.new }
         ensures stands { (pass : ℕ) → Leaves D.tells D.state self.old self.new Kept [] pass }
         ensures unchanged { self.new ≡ record self.old { home_up = true; spindle = self.new.spindle } }
+        ensures read { IsReadThrough D.state self.old self.new }
         ensures waking { HasUsedOnce self.old.spindle self.new.spindle }
         ensures any_moment { IsTrue D.tells → (b : ManagerBase) (notes : List Noted) → Keeps D.tells D.state self.old b notes → Stops D.state self.old self.new None b notes [] }
     {
