@@ -112,6 +112,13 @@ impl<D: Disk> Manager<D> {
         }
     }
 
+    // The volume whose manager this is.
+    fn volume(&self) -> u32
+        ensures { result ≡ self.now.id }
+    {
+        self.id
+    }
+
     /// Gives up the blocks of this version's record that may go, and no others, and answers whether the record is gone. A
     /// segment in which no record is left is retired and given to its pool in the same call. `DiskFault` comes only where
     /// the count of faults of the record's segment rose in this call, and brings the manager down; `Down` exactly where it
@@ -143,6 +150,7 @@ impl<D: Disk> Manager<D> {
         };
         let given = may_go(&self.index, version);
         let keep = record.keep & !given;
+        let owner = self.volume();
         let place = record.lane as usize;
         self.ups[place] = true;
         let lane = &mut self.lanes[place];
@@ -157,7 +165,7 @@ impl<D: Disk> Manager<D> {
         let head = RecHead {
             form: 2,
             keep: record.keep,
-            owner: self.id,
+            owner,
             version,
             lbn: record.lbn,
             count: record.count,
