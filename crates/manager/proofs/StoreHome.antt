@@ -94,6 +94,29 @@ module _ {D : Type 0} (state : D → State) (m : Manager D) (version mask : ℕ)
     };
   }
 
+-- nor does home with other images change what else is so
+pub ready_unput : {D : Type 0} (state : D → State) (m : Manager D) (part : Spun D) (spindle : PassOf Spindle SpindleBase) (home_up : Bool) (down : Option Part)
+    → volume_of part ≡ volume_of m.home → (state_of state part).size ≡ (state_of state m.home).size → IsSamePass m.spindle spindle → IsFree spindle → has_token (pass_mine spindle) ≡ false → IsReady state m → m.down ≡ None
+    → IsReady state (record m { home = part; spindle = spindle; home_up = home_up; down = down })
+ready_unput state m part spindle home_up down volume size pass free settled ready up = record {
+  ready = let s = ready.ready in record {
+    home_volume = volume ∙ s.home_volume;
+    home_small = subst (λ (n : ℕ). (1 ≤ n) × (n ≤ 2 ^ 32)) (sym size) s.home_small;
+    spindle_volume = ap (λ (l : LockId SpindleBase). l.base.volume) pass.0 ∙ s.spindle_volume;
+    spindle_free = free;
+    settled = settled;
+    each = s.each;
+    flags = s.flags;
+    rooms_ = s.rooms_;
+    few = s.few;
+    most_ = s.most_;
+  };
+  next = ready.next;
+  below = ready.below;
+  ranges = subst (λ (n : ℕ). AllByRecursion (IsInVolume n) m.index.entries) (sym size) ready.ranges;
+  up = λ _. ready.up up;
+}
+
 -- ---- what is put home
 
 last_is : (first mask : ℕ) (blocks : List Block) → last_written (puts_from 0 first mask blocks) ≡ put_block first mask blocks
