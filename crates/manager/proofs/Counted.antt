@@ -53,7 +53,7 @@ count_mid test front e back =
 -- an entry that lies there counts
 pub one_there : (test : Indexed → Bool) (es : List Indexed) (e : Indexed) → Contains es e → test e ≡ true → 1 ≤ count_by test es
 one_there test [] e has is = absurd (let lt = has.1 in omega arith)
-one_there test (x ∷ es) e (zero, lt, same) is = let here : cond (test x) 1 0 ≡ 1 = ap (λ (d : Indexed). cond (test d) 1 0) same ∙ ap (λ (t : Bool). cond t 1 0) is in
+one_there test (x ∷ es) e (zero, lt, same) is = let here : cond {A = ℕ} (test x) 1 0 ≡ 1 = ap (λ (d : Indexed). cond (test d) 1 0) same ∙ ap (λ (t : Bool). cond t 1 0) is in
     let c = count-cons test x es in omega (arith, here, c)
 one_there test (x ∷ es) e (suc k, lt, same) is =
     let rest = one_there test es e (k, omega arith, same) is in

@@ -1,5 +1,5 @@
 -- Blocks of a mask that are written home, run by run, and synced: what the part is and may be after each of its calls.
-use Rattle.std.proofs.Common.{◌≡◌, ◌⊎◌, inl, inr, ⊎_elim, ◌<◌, ◌≤◌, ◌+◌, ◌-◌, ℕ, zero, suc, Bool, true, false, cond, ◌&&◌, List, [], ◌∷◌, length, take, drop, Option, None, Some, Result, Ok, Err, OnOk, OnErr, refl, sym, ap, subst, ◌∙◌, arith, ltb, leb}
+use Rattle.std.proofs.Common.{◌≡◌, ◌⊎◌, inl, inr, ⊎_elim, ◌<◌, ◌≤◌, ◌+◌, ◌-◌, ℕ, zero, suc, Bool, true, false, cond, ◌&&◌, List, [], ◌∷◌, length, take, drop, Option, None, Some, Result, Ok, Err, OnOk, OnErr, is_ok, refl, sym, ap, subst, ◌∙◌, arith, ltb, leb}
 use Rattle.std.specs.Prelude.{option_map, IsErr, slice_get, unwrap_or}
 use Rattle.std.specs.Option.{option_or}
 use Rattle.std.proofs.lemmas.Bool.{cases_lt, lt-ltb, le-ltb, le-leb, lt-leb}
@@ -193,6 +193,18 @@ on_err_at : {T E P : Type 0} (r : Result T E) → IsErr r → P → OnErr r P
 on_err_at (Ok x) is p = tt
 on_err_at (Err e) is p = p
 
+ok_like : {T E U F : Type 0} (P : Type 0) (r : Result T E) (s : Result U F) → is_ok r ≡ is_ok s → OnOk r P → OnOk s P
+ok_like P (Ok x) (Ok y) like p = p
+ok_like P (Ok x) (Err f) like p = tt
+ok_like P (Err e) (Ok y) like p = absurd (let wrong : false ≡ true = like in cc)
+ok_like P (Err e) (Err f) like p = tt
+
+err_like : {T E U F : Type 0} (P : Type 0) (r : Result T E) (s : Result U F) → is_ok r ≡ is_ok s → OnErr r P → OnErr s P
+err_like P (Ok x) (Ok y) like p = tt
+err_like P (Ok x) (Err f) like p = absurd (let wrong : true ≡ false = like in cc)
+err_like P (Err e) (Ok y) like p = tt
+err_like P (Err e) (Err f) like p = p
+
 on_ok_so : {T E P Q : Type 0} (r : Result T E) → (P → Q) → OnOk r P → OnOk r Q
 on_ok_so (Ok x) f p = f p
 on_ok_so (Err e) f p = tt
@@ -200,6 +212,22 @@ on_ok_so (Err e) f p = tt
 reads_then : (at : ℕ) (xs : List Block) (o : Option (List (Values Block))) → option_map reads (option_map (added at xs) o) ≡ option_map (put at xs) (option_map reads o)
 reads_then at xs None = refl
 reads_then at xs (Some vs) = ap Some (reads_added at xs vs)
+
+-- the same of the same blocks
+pub put_same : {D T E : Type 0} {res : Result T E} (state : D → State) (old new : Spun D) (over over' : ℕ → Option Block) → over ≡ over' → IsPut state old new over res → IsPut state old new over' res
+put_same {D} {T} {E} {res} state old new over over' same p = subst (λ (f : ℕ → Option Block). IsPut state old new f res) same p
+
+-- and of an answer of another type
+pub put_like : {D T E U F : Type 0} (state : D → State) (old new : Spun D) (over : ℕ → Option Block) (r : Result T E) (s : Result U F) → is_ok r ≡ is_ok s → IsPut state old new over r → IsPut state old new over s
+put_like state old new over r s like p = record {
+  volume = p.volume;
+  size = p.size;
+  ok = ok_like _ r s like p.ok;
+  images = p.images;
+  any_moment = p.any_moment;
+  cause = err_like _ r s like p.cause;
+  calm = ok_like _ r s like p.calm;
+}
 
 -- a part of which the blocks before block `end` were written so far
 pub record Putting {D : Type 0} (state : D → State) (old mid : Spun D) (over : ℕ → Option Block) (end : ℕ) : Type 0 where

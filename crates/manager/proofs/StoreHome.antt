@@ -45,7 +45,7 @@ use Rattle.manager.specs.Stops.{ImageSince, HeldSince, Stops}
 use Rattle.manager.specs.declared.base.ManagerBase.{ManagerBase}
 use Rattle.manager.specs.declared.manager.Manager.{Manager}
 use Rattle.manager.specs.declared.part.Part.{Part}
-use Rattle.manager.specs.declared.part.Part.TheVariants as part
+use Rattle.manager.specs.declared.part.Part.TheVariants.{Home}
 use Rattle.manager.proofs.Counted.{all_changed, count_changed, counted_as}
 use Rattle.manager.proofs.Entries.{At, among}
 use Rattle.manager.proofs.Frames.{none_passed}
@@ -148,7 +148,7 @@ put_at first mask blocks b x is = at (in_mask first mask b) refl is
   where
     at : (t : Bool) → in_mask first mask b ≡ t → (if t then block_of first blocks b else None) ≡ Some x → IsPutAt first mask blocks b x
     at true masked there = record { masked = masked; there = there }
-    at false masked no = absurd (let e : None ≡ Some x = no in cc)
+    at false masked there = absurd (let e : None ≡ Some x = there in cc)
 
 module _ (first mask : ℕ) where
   -- a block of the mask by its bit
@@ -251,10 +251,10 @@ module _ {D : Type 0} (tells : Bool) (state : D → State) (m : Manager D) (b : 
     -- a disk call failed
     pub put_fails : (n : Noted) → IsNote (last_look b.volume.began.look notes) (Broke []) [] (look_of_manager (record m { home_up = true })) n
         → ((c : List Block) → IsImageOf (state_of state part).values c → IsPartlyPut (state_of state m.home).values (put_block e.listed.first mask blocks) c) → Rose (state_of state m.home).faults (state_of state part).faults
-        → IsReady state (record m { home = part; spindle = spindle; home_up = true; down = Some (part.Home m.id) })
-        → Stands tells state (record m { home = part; spindle = spindle; home_up = true; down = Some (part.Home m.id) }) b (notes ++ n ∷ [])
+        → IsReady state (record m { home = part; spindle = spindle; home_up = true; down = Some (Home m.id) })
+        → Stands tells state (record m { home = part; spindle = spindle; home_up = true; down = Some (Home m.id) }) b (notes ++ n ∷ [])
     put_fails n note partly rose ready =
-        let failed : Part = part.Home m.id in record {
+        let failed : Part = Home m.id in record {
           keeps = record {
             logs = kp.logs;
             held = lanes_map (λ h rs. IsTrue tells → m.down ≡ None → Holds state h.segment rs) (λ h rs. IsTrue tells → Some failed ≡ None → Holds state h.segment rs)
