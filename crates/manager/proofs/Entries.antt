@@ -1,12 +1,11 @@
 -- The entry of a version in an index whose versions rise, and the index where it is another.
-use Rattle.std.proofs.Common.{◌≡◌, ◌≢◌, ◌⊎◌, inl, inr, ◌<◌, ◌+◌, ◌-◌, ℕ, suc, Bool, true, false, cond, not, ◌&&◌, ◌||◌, List, [], ◌∷◌, ◌++◌, map, length, Option, None, Some, refl, sym, ap, subst, ◌∙◌, arith, eqb, leb, get_or, bit_or}
-use Rattle.std.specs.Prelude.{filter, Contains, IfSome}
-use Rattle.std.specs.Option.{ForSome}
+use Rattle.std.proofs.Common.{◌≡◌, ◌<◌, ◌+◌, ◌-◌, ℕ, suc, Bool, true, false, cond, ◌||◌, List, [], ◌∷◌, ◌++◌, map, length, Option, None, Some, refl, sym, ap, subst, ◌∙◌, arith, leb, get_or, bit_or}
+use Rattle.std.specs.Prelude.{Contains, IfSome}
 use Rattle.std.specs.List.{AllByRecursion, range_with_len}
 use Rattle.std.proofs.lemmas.Option.{none-some, same_Some}
 use Rattle.std.proofs.lemmas.Bool.{eqb-true, ne_eqb, le-leb}
-use Rattle.wol_model.specs.Extents.{remarked, marked}
-use Rattle.wol_model.specs.Index.{Listed, Indexed, listed_in, AreRising, IsListed, is_homed, keeps_a_block, homing}
+use Rattle.wol_model.specs.Extents.{remarked}
+use Rattle.wol_model.specs.Index.{Indexed, listed_in, AreRising, is_homed}
 use Rattle.wol_model.specs.Log.{has_bit, marks_of}
 use Rattle.wol_promise.proofs.Lists.{member_mid, all_member}
 use Rattle.redirect_map.proofs.Bits.{has_bit-or}

@@ -1,11 +1,10 @@
 -- The blocks of a record that are live are those of its version, and what each choice of images has there.
-use Rattle.std.proofs.Common.{◌≡◌, ◌≢◌, ◌⊎◌, inl, inr, ⊎_elim, ◌<◌, ◌≤◌, ◌+◌, ◌-◌, ℕ, zero, suc, Bool, true, false, cond, not, ◌&&◌, List, [], ◌∷◌, ◌++◌, map, length, Option, None, Some, refl, sym, ap, subst, ◌∙◌, arith, leb, ltb}
-use Rattle.std.specs.Prelude.{Contains, slice_get, is_some}
+use Rattle.std.proofs.Common.{◌≡◌, ◌≢◌, ⊎_elim, ◌<◌, ◌+◌, ◌-◌, ℕ, zero, suc, Bool, true, false, cond, not, ◌&&◌, List, [], ◌∷◌, map, Option, None, Some, refl, sym, ap, subst, ◌∙◌, arith, leb, ltb}
+use Rattle.std.specs.Prelude.{Contains, slice_get}
 use Rattle.std.specs.Option.{option_or}
 use Rattle.std.specs.List.{AllByRecursion, cons_option}
-use Rattle.std.proofs.lemmas.Bool.{cases_lt, le-leb, lt-leb, false≢true, and_parts}
+use Rattle.std.proofs.lemmas.Bool.{cases_lt, le-leb, lt-leb, false≢true}
 use Rattle.std.proofs.lemmas.Option.{same_Some, none-some}
-use Rattle.std.proofs.lemmas.List.{append-nil}
 use Rattle.std.proofs.lemmas.List.Elements.{Contains-append_left, Contains-append_right}
 use Rattle.wol_disk.specs.Disk.{Block}
 use Rattle.wol_model.specs.Blocks.{Write, AreApart, block_of, last_written}
@@ -17,7 +16,6 @@ use Rattle.wol_model.proofs.Live.{live_is_newest}
 use Rattle.wol_promise.specs.Manager.{Held, IsBacked, IsIndexOf, extents_held, versions}
 use Rattle.wol_promise.proofs.Covers.{any_member, any_found, same_cover, held_is_listed}
 use Rattle.wol_promise.proofs.Lists.{member_map, member_of, member_front}
-use Rattle.redirect_map.specs.Masks.{in_mask}
 use Rattle.manager.specs.Reclaim.{put_block}
 use Rattle.manager.proofs.RunContent.{Around, around_of}
 

@@ -1,5 +1,5 @@
 -- Blocks of a mask that are written home, run by run, and synced: what the part is and may be after each of its calls.
-use Rattle.std.proofs.Common.{◌≡◌, ◌⊎◌, inl, inr, ⊎_elim, ◌<◌, ◌≤◌, ◌+◌, ◌-◌, ℕ, zero, suc, Bool, true, false, cond, ◌&&◌, List, [], ◌∷◌, length, take, drop, Option, None, Some, Result, Ok, Err, OnOk, OnErr, is_ok, refl, sym, ap, subst, ◌∙◌, arith, ltb, leb}
+use Rattle.std.proofs.Common.{◌≡◌, ◌⊎◌, inl, inr, ⊎_elim, ◌<◌, ◌≤◌, ◌+◌, ◌-◌, ℕ, zero, suc, Bool, true, false, cond, List, [], ◌∷◌, length, take, drop, Option, None, Some, Result, Ok, Err, OnOk, OnErr, is_ok, refl, sym, ap, subst, ◌∙◌, arith, ltb, leb}
 use Rattle.std.specs.Prelude.{option_map, IsErr, slice_get, unwrap_or}
 use Rattle.std.specs.Option.{option_or}
 use Rattle.std.proofs.lemmas.Bool.{cases_lt, lt-ltb, le-ltb, le-leb, lt-leb}
@@ -8,12 +8,11 @@ use Rattle.wol_disk.specs.Disk.{State, Block, Values, Passes, IsDisk, LeavesOnly
 use Rattle.wol_disk.proofs.Calls.{after_write, after_sync, write_goes_on, sync_goes_on}
 use Rattle.wol_disk.proofs.Images.{reads_added}
 use Rattle.wol_disk.proofs.Moments.{started}
-use Rattle.wol_model.specs.Blocks.{Write, block_of, overlaid, after}
+use Rattle.wol_model.specs.Blocks.{block_of, overlaid, after}
 use Rattle.wol_model.specs.Log.{has_bit}
 use Rattle.wol_model.proofs.Arrays.{after_put}
 use Rattle.wol_model.proofs.Mixed.{IsMixed, mixed_of, blend_of}
 use Rattle.wol_model.proofs.Overlay.{overlay_twice, overlay_get, overlay_length_from, none_over}
-use Rattle.redirect_map.specs.Masks.{in_mask}
 use Rattle.spin_model.specs.Spun.{state_of, volume_of}
 use Rattle.spin_model.specs.declared.spun.Spun.{Spun}
 use Rattle.manager.specs.Reclaim.{put_block, IsPartlyPut, IsPut}

@@ -1,5 +1,5 @@
 -- Due blocks of one record that are put home: what the manager keeps up, what it stands for where that failed, and what a stop leaves.
-use Rattle.std.proofs.Common.{◌≡◌, ◌⊎◌, ⊎_elim, ◌<◌, ◌≤◌, ◌+◌, ◌-◌, ◌^◌, ℕ, zero, suc, Bool, true, false, ◌&&◌, List, [], ◌∷◌, ◌++◌, map, length, Option, None, Some, Result, Ok, Err, OnOk, OnErr, refl, sym, ap, subst, ◌∙◌, arith, leb, bit_or, ◌||◌}
+use Rattle.std.proofs.Common.{◌≡◌, ◌<◌, ◌≤◌, ◌+◌, ◌-◌, ◌^◌, ℕ, zero, suc, Bool, true, false, List, [], ◌∷◌, ◌++◌, length, Option, None, Some, refl, sym, ap, subst, ◌∙◌, arith, leb}
 use Rattle.std.specs.Prelude.{⊤, IsTrue, Contains, slice_get, is_some, option_map, if◌then◌else◌}
 use Rattle.std.specs.List.{AllByRecursion}
 use Rattle.std.proofs.lemmas.Bool.{leb-true, le-leb, and_parts}
@@ -13,19 +13,19 @@ use Rattle.wol_disk.proofs.Calls.{settled_from}
 use Rattle.wol_disk.proofs.Images.{image_reads}
 use Rattle.wol_disk.proofs.Moments.{then_leaves, widened}
 use Rattle.wol_model.specs.Blocks.{Write, AreApart, block_of, last_written, overlaid, after}
-use Rattle.wol_model.specs.Extents.{Extent, newest_block, IsValid}
+use Rattle.wol_model.specs.Extents.{Extent, IsValid}
 use Rattle.wol_model.specs.History.{Broke, writes, flight_of}
 use Rattle.wol_model.specs.Holding.{IsData}
 use Rattle.wol_model.specs.Holding.{Holds as HoldsArray}
-use Rattle.wol_model.specs.Index.{Indexed, listed_in, is_due, is_live, is_homed, cover_of, homing}
+use Rattle.wol_model.specs.Index.{Indexed, listed_in, is_due, is_live, cover_of}
 use Rattle.wol_model.specs.Log.{Record, has_bit, extent_of}
 use Rattle.wol_model.proofs.Counts.{both, marked_within}
-use Rattle.wol_promise.specs.Manager.{Held, ManagerSeen, IsBacked, IsIndexOf, extents_held, is_homed_in, versions, WasWritten}
-use Rattle.wol_promise.specs.Ruled.{Noted, HasPassed, entries_of, last_look}
+use Rattle.wol_promise.specs.Manager.{Held, IsBacked, extents_held, is_homed_in, WasWritten}
+use Rattle.wol_promise.specs.Ruled.{Noted, entries_of, last_look}
 use Rattle.wol_promise.specs.Stands.{Upholds, IsDataOf, IsWhole, StopsSafely}
 use Rattle.wol_promise.proofs.Kept.{other_flags}
 use Rattle.wol_promise.proofs.Known.{versions_joined}
-use Rattle.wol_promise.proofs.Lists.{all_member, all_mid, member_of}
+use Rattle.wol_promise.proofs.Lists.{all_member, member_of}
 use Rattle.wol_promise.proofs.OneMore.{last_more}
 use Rattle.wol_promise.proofs.Puts.{put_home, home_put, put_breaks}
 use Rattle.wol_promise.proofs.Stops.{putting_stops}
@@ -40,8 +40,8 @@ use Rattle.redirect_map.specs.Masks.{in_mask}
 use Rattle.manager.specs.Reading.{IsReadThrough}
 use Rattle.manager.specs.Reclaim.{put_block, IsPartlyPut, with_put}
 use Rattle.manager.specs.Seen.{Logs, AllLanesHold, parts_of, seen, all_held, down_of, look_of_manager}
-use Rattle.manager.specs.Stands.{Keeps, Stands, IsReady, Ready, IsUp, IsInVolume, IsPlacedIn, IsNote, entries_at, nones_at}
-use Rattle.manager.specs.Stops.{ImageSince, HeldSince, Stops}
+use Rattle.manager.specs.Stands.{Keeps, Stands, IsReady, IsInVolume, IsPlacedIn, IsNote, entries_at, nones_at}
+use Rattle.manager.specs.Stops.{ImageSince, HeldSince}
 use Rattle.manager.specs.declared.base.ManagerBase.{ManagerBase}
 use Rattle.manager.specs.declared.manager.Manager.{Manager}
 use Rattle.manager.specs.declared.part.Part.{Part}

@@ -1,9 +1,9 @@
 -- Each run of the mask is written, and all are synced.
-use Rattle.std.proofs.Common.{◌≡◌, ◌+◌, ◌-◌, ◌/◌, ◌^◌, ◌<◌, ◌≤◌, ℕ, Bool, true, false, List, length, take, drop, Option, refl, sym, ap, subst, ◌∙◌, arith, rules, eqb, bit_and}
+use Rattle.std.proofs.Common.{◌≡◌, ◌+◌, ◌-◌, ◌/◌, ◌^◌, ℕ, true, false, length, take, drop, refl, sym, ap, subst, ◌∙◌, arith, rules, eqb, bit_and}
 use Rattle.std.specs.Prelude.{option_map}
 use Rattle.std.proofs.lemmas.Nat.Bits.{shr_and_one}
 use Rattle.std.proofs.lemmas.Bool.{eq-eqb, ne_eqb}
-use Rattle.wol_disk.specs.Disk.{Block, Values, AddsSomeOf, added}
+use Rattle.wol_disk.specs.Disk.{AddsSomeOf, added}
 use Rattle.spin_model.specs.Spun.{state_of}
 use Rattle.wol_model.specs.Log.{has_bit}
 use Rattle.manager.specs.Reclaim.{put_block}

@@ -1,17 +1,15 @@
 -- Due blocks are put home.
-use Rattle.std.proofs.Common.{◌≡◌, ◌≤◌, ◌+◌, ◌||◌, ⊎_elim, ℕ, Bool, true, length, Option, Some, None, Ok, Err, refl, sym, ap, subst, ◌∙◌, arith, rules, bit_or}
-use Rattle.std.specs.Prelude.{IsTrue}
+use Rattle.std.proofs.Common.{◌≡◌, ◌+◌, ⊎_elim, ℕ, true, Some, refl, sym, ap, ◌∙◌, arith}
 use Rattle.std.proofs.lemmas.Option.{same_Some}
-use Rattle.wol_disk.specs.Disk.{Block}
 use Rattle.spin_model.specs.Spun.{state_of}
-use Rattle.wol_model.specs.Index.{Indexed, listed_in, is_live, is_due, is_homed}
+use Rattle.wol_model.specs.Index.{Indexed, listed_in, is_live, is_homed}
 use Rattle.wol_model.specs.Log.{has_bit}
 use Rattle.wol_model.proofs.Counts.{both, either}
 use Rattle.wol_promise.proofs.Lists.{all_member}
-use Rattle.redirect_map.specs.Index.{entry_at, changed}
+use Rattle.redirect_map.specs.Index.{entry_at}
 use Rattle.redirect_map.specs.Masks.{IsMask}
 use Rattle.redirect_map.proofs.Bits.{has_bit-or}
-use Rattle.manager.specs.Reclaim.{IsPut, put_block, with_put}
+use Rattle.manager.specs.Reclaim.{put_block}
 use Rattle.manager.specs.Stands.{IsInVolume}
 use Rattle.manager.specs.declared.part.Part.TheVariants.{Home}
 use Rattle.manager.proofs.Entries.{some_of, found_of, entry_of_version, among, entry_in, with_both_in}
