@@ -16,6 +16,7 @@ use Rattle.wol_model.proofs.Live.{live_is_newest}
 use Rattle.wol_promise.specs.Manager.{Held, IsBacked, IsIndexOf, extents_held, versions}
 use Rattle.wol_promise.proofs.Covers.{any_member, any_found, same_cover, held_is_listed}
 use Rattle.wol_promise.proofs.Lists.{member_map, member_of, member_front}
+use Rattle.wol_promise.proofs.OneMore.{or_none}
 use Rattle.manager.specs.Reclaim.{put_block}
 use Rattle.manager.proofs.RunContent.{Around, around_of}
 
@@ -24,10 +25,6 @@ use Rattle.manager.proofs.RunContent.{Around, around_of}
 abbrev pub puts_from : (i first mask : ℕ) → List Block → List Write
 puts_from i first mask [] = []
 puts_from i first mask (x ∷ xs) = cond (has_bit mask i) (record { first = first; blocks = x ∷ []; version = None } ∷ puts_from (i + 1) (first + 1) mask xs) (puts_from (i + 1) (first + 1) mask xs)
-
-or_none : (o : Option Block) → option_or o None ≡ o
-or_none None = refl
-or_none (Some x) = refl
 
 no_block : (t : Bool) → cond {A = Option Block} t None None ≡ None
 no_block true = refl

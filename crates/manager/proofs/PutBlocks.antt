@@ -3,6 +3,7 @@ use Rattle.std.proofs.Common.{◌≡◌, ◌⊎◌, inl, inr, ⊎_elim, ◌<◌,
 use Rattle.std.specs.Prelude.{option_map, IsErr, slice_get, unwrap_or}
 use Rattle.std.specs.Option.{option_or}
 use Rattle.std.proofs.lemmas.Bool.{cases_lt, lt-ltb, le-ltb, le-leb, lt-leb}
+use Rattle.std.proofs.lemmas.Option.{slice_get_past}
 use mathlib.Core.Path.{fun_ext}
 use Rattle.wol_disk.specs.Disk.{State, Block, Values, Passes, IsDisk, LeavesOnly, IsImageOf, IsBlend, AddsSomeOf, Rose, added, put, settled, only, reads}
 use Rattle.wol_disk.proofs.Calls.{after_write, after_sync, write_goes_on, sync_goes_on}
@@ -13,6 +14,7 @@ use Rattle.wol_model.specs.Log.{has_bit}
 use Rattle.wol_model.proofs.Arrays.{after_put}
 use Rattle.wol_model.proofs.Mixed.{IsMixed, mixed_of, blend_of}
 use Rattle.wol_model.proofs.Overlay.{overlay_twice, overlay_get, overlay_length_from, none_over}
+use Rattle.wol_promise.proofs.OneMore.{or_none}
 use Rattle.spin_model.specs.Spun.{state_of, volume_of}
 use Rattle.spin_model.specs.declared.spun.Spun.{Spun}
 use Rattle.manager.specs.Reclaim.{put_block, IsPartlyPut, IsPut}
@@ -35,16 +37,6 @@ get_dropped : {X : Type 0} (d : ℕ) (xs : List X) (i : ℕ) → slice_get (drop
 get_dropped zero xs i = let e : 0 + i ≡ i = omega arith in rw e refl
 get_dropped (suc d) [] i = refl
 get_dropped (suc d) (x ∷ xs) i = let e : suc d + i ≡ suc (d + i) = omega arith in rw e (get_dropped d xs i)
-
-get_none : {X : Type 0} (xs : List X) (i : ℕ) → length xs ≤ i → slice_get xs i ≡ None
-get_none [] i le = refl
-get_none (x ∷ xs) zero le = absurd (omega arith)
-get_none (x ∷ xs) (suc i) le = get_none xs i (omega arith)
-
-get_some : {X : Type 0} (xs : List X) (i : ℕ) → i < length xs → (x : X) × (slice_get xs i ≡ Some x)
-get_some [] i lt = absurd (omega arith)
-get_some (x ∷ xs) zero lt = (x, refl)
-get_some (x ∷ xs) (suc i) lt = get_some xs i (omega arith)
 
 -- ---- what stands over an array
 
@@ -70,7 +62,7 @@ module _ (first mask : ℕ) (blocks : List Block) where
   behind b le = at (has_bit mask (b - first)) refl
     where
       at : (t : Bool) → has_bit mask (b - first) ≡ t → over b ≡ None
-      at true bit = in_range true b bit (omega arith) ∙ get_none blocks (b - first) (omega arith)
+      at true bit = in_range true b bit (omega arith) ∙ slice_get_past blocks (b - first) (omega arith)
       at false bit = in_range false b bit (omega arith)
 
   pub upto_first : upto (put_block first mask blocks) (first + 0) ≡ (λ b. None)
@@ -106,10 +98,6 @@ module _ (first mask : ℕ) (blocks : List Block) where
 
     run_behind : (b : ℕ) → first + (at + n) ≤ b → block_of (first + at) run b ≡ None
     run_behind b le = run_there b (omega arith) ∙ get_past n (drop at blocks) (b - (first + at)) (omega arith)
-
-    or_none : (o : Option Block) → option_or o None ≡ o
-    or_none None = refl
-    or_none (Some x) = refl
 
     upto_more : (b : ℕ) → option_or (block_of (first + at) run b) (upto over (first + at) b) ≡ upto over (first + (at + n)) b
     upto_more b = ⊎_elim

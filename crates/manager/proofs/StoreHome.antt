@@ -170,19 +170,10 @@ module _ {D : Type 0} (tells : Bool) (state : D → State) (m : Manager D) (b : 
     (version mask : ℕ) (blocks : List Block) (e : Indexed) (at : At m.index.entries version e) (count : length blocks ≡ length e.listed.keep)
     (due : (i : ℕ) → has_bit mask i ≡ true → is_due (listed_in m.index.entries) e.listed (e.listed.first + i) ≡ true)
     (data_ : IsTrue tells → IsDataOf b.volume.began (writes (entries_of notes)) version e.listed.first blocks) where
-  abbrev first : ℕ
-  first = e.listed.first
-
-  abbrev put : ℕ → Bool
-  put blk = in_mask e.listed.first mask blk
-
   abbrev ws : List Write
   ws = writes (entries_of notes)
 
-  abbrev pub puts : List Write
-  puts = puts_from 0 e.listed.first mask blocks
-
-  abbrev pub held : List (Held (Spun D))
+  abbrev held : List (Held (Spun D))
   held = all_held 0 m.lanes.items kp.logs
 
   pub due_in : (blk : ℕ) → in_mask e.listed.first mask blk ≡ true → is_due (listed_in m.index.entries) e.listed blk ≡ true
@@ -279,9 +270,6 @@ module _ {D : Type 0} (tells : Bool) (state : D → State) (sound : (d : D) → 
     (due : (i : ℕ) → has_bit mask i ≡ true → is_due (listed_in old.index.entries) e.listed (e.listed.first + i) ≡ true)
     (data_ : IsTrue tells → IsDataOf b.volume.began (writes (entries_of notes)) version e.listed.first blocks) (part : Spun D)
     (leaves : LeavesOnly (state_of state old.home) (state_of state part) (IsPartlyPut (state_of state old.home).values (put_block e.listed.first mask blocks))) where
-  abbrev es : List Indexed
-  es = was.index.entries
-
   same_index : old.index.entries ≡ was.index.entries
   same_index = ap (λ (c : Contents). c.entries) read.index
 
