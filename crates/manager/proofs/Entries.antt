@@ -107,12 +107,21 @@ module _ (e : Indexed) (homed mask : ℕ) (marks : length e.listed.homed ≡ len
 
   -- the entry with these bits set beside its marks of home
   pub with_both : with_homed (bit_or homed mask) e ≡ with_put mask e
-  with_both = λ i. record e { listed = record e.listed { homed = (remarked-marks_of e.listed.first (length e.listed.keep) homed (bit_or homed mask) (λ b m. m || in_mask e.listed.first mask b)
-      (λ j. has_bit-or homed mask j ∙ ap (λ (t : Bool). has_bit homed j || t) (sym (in_mask-bit e.listed.first mask j)))
-      ∙ ap (λ (l : List Bool). remarked e.listed.first l (λ b m. m || in_mask e.listed.first mask b)) (sym were)) i } }
+  with_both = λ i. record e {
+    listed = record e.listed {
+      homed = (remarked-marks_of e.listed.first (length e.listed.keep) homed (bit_or homed mask) (λ b m. m || in_mask e.listed.first mask b)
+          (λ j. has_bit-or homed mask j ∙ ap (λ (t : Bool). has_bit homed j || t) (sym (in_mask-bit e.listed.first mask j)))
+          ∙ ap (λ (l : List Bool). remarked e.listed.first l (λ b m. m || in_mask e.listed.first mask b)) (sym were)) i;
+    };
+  }
 
 -- so is the index
-pub with_both_in : (es : List Indexed) (version : ℕ) (e : Indexed) (homed mask : ℕ) → IsIndex es → entry_at es version ≡ Some e → IsMask e.listed.first (is_homed e.listed) homed → changed version (with_homed (bit_or homed mask)) es ≡ changed version (with_put mask) es
+with_both_in : (es : List Indexed) (version : ℕ) (e : Indexed) (homed mask : ℕ) → IsIndex es → entry_at es version ≡ Some e → IsMask e.listed.first (is_homed e.listed) homed → changed version (with_homed (bit_or homed mask)) es ≡ changed version (with_put mask) es
 with_both_in es version e homed mask index is bits =
     let at = entry_of_version es version e index.rising is in
     at.then_is (with_homed (bit_or homed mask)) ∙ (λ i. at.front ++ with_both e homed mask (entry_in es e index (among at)).homed.marks bits i ∷ at.back) ∙ sym (at.then_is (with_put mask))
+
+-- noted so, beside those that were homed
+pub noted_home : (es noted : List Indexed) (version : ℕ) (e : Indexed) (homed mask : ℕ) → IsIndex es → entry_at es version ≡ Some e → IfSome (entry_at es version) (λ d. IsMask d.listed.first (is_homed d.listed) homed)
+    → noted ≡ changed version (with_homed (bit_or homed mask)) es → noted ≡ changed version (with_put mask) es
+noted_home es noted version e homed mask index is bits set = set ∙ with_both_in es version e homed mask index is (some_of (λ (d : Indexed). IsMask d.listed.first (is_homed d.listed) homed) (entry_at es version) e bits is)

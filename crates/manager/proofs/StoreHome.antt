@@ -94,29 +94,6 @@ module _ {D : Type 0} (state : D → State) (m : Manager D) (version mask : ℕ)
     };
   }
 
--- nor does home with other images change what else is so
-pub ready_unput : {D : Type 0} (state : D → State) (m : Manager D) (part : Spun D) (spindle : PassOf Spindle SpindleBase) (home_up : Bool) (down : Option Part)
-    → volume_of part ≡ volume_of m.home → (state_of state part).size ≡ (state_of state m.home).size → IsSamePass m.spindle spindle → IsFree spindle → has_token (pass_mine spindle) ≡ false → IsReady state m → m.down ≡ None
-    → IsReady state (record m { home = part; spindle = spindle; home_up = home_up; down = down })
-ready_unput state m part spindle home_up down volume size pass free settled ready up = record {
-  ready = let s = ready.ready in record {
-    home_volume = volume ∙ s.home_volume;
-    home_small = subst (λ (n : ℕ). (1 ≤ n) × (n ≤ 2 ^ 32)) (sym size) s.home_small;
-    spindle_volume = ap (λ (l : LockId SpindleBase). l.base.volume) pass.0 ∙ s.spindle_volume;
-    spindle_free = free;
-    settled = settled;
-    each = s.each;
-    flags = s.flags;
-    rooms_ = s.rooms_;
-    few = s.few;
-    most_ = s.most_;
-  };
-  next = ready.next;
-  below = ready.below;
-  ranges = subst (λ (n : ℕ). AllByRecursion (IsInVolume n) m.index.entries) (sym size) ready.ranges;
-  up = λ _. ready.up up;
-}
-
 -- ---- what is put home
 
 last_is : (first mask : ℕ) (blocks : List Block) → last_written (puts_from 0 first mask blocks) ≡ put_block first mask blocks
@@ -298,6 +275,9 @@ module _ {D : Type 0} (tells : Bool) (state : D → State) (sound : (d : D) → 
       (putting_stops (ImageSince state was.home part) (HeldSince state (all_held 0 was.lanes.items kp.logs) None) b.volume.began.owner b.volume.began.array (writes (entries_of notes)) was.next (is_homed_in was.index.entries)
       (all_held 0 old.lanes.items kp.logs) (puts_from 0 e.listed.first mask blocks) [] (logs tells state sound told was b notes kp old read ready up)
       (subst (λ (rs : List Extent). IsData rs (puts_from 0 e.listed.first mask blocks)) (sym same_extents) (data_of tells state was b notes kp up version mask blocks e at_was count due_was data_ told))
-      (λ x image. let from = partly_image (state_of state was.home).values e.listed.first mask blocks x (image_of x image) in
-      (from.0, subst (λ (rs : List Extent). HoldsArray b.volume.began.array (writes (entries_of notes)) was.next from.0 rs (is_homed_in was.index.entries)) (sym same_extents)
-      ((whole_up tells state was b notes kp up version mask blocks e at_was count due_was data_ told).holds from.0 (told, from.1)), from.2)))
+      (λ x image. let from = partly_image (state_of state was.home).values e.listed.first mask blocks x (image_of x image) in (
+        from.0,
+        subst (λ (rs : List Extent). HoldsArray b.volume.began.array (writes (entries_of notes)) was.next from.0 rs (is_homed_in was.index.entries)) (sym same_extents)
+            ((whole_up tells state was b notes kp up version mask blocks e at_was count due_was data_ told).holds from.0 (told, from.1)),
+        from.2,
+      )))

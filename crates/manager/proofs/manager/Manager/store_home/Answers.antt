@@ -2,20 +2,20 @@
 use Rattle.std.proofs.Common.{◌≡◌, ◌+◌, ⊎_elim, ℕ, true, Some, refl, sym, ap, ◌∙◌, arith}
 use Rattle.std.proofs.lemmas.Option.{same_Some}
 use Rattle.spin_model.specs.Spun.{state_of}
-use Rattle.wol_model.specs.Index.{Indexed, listed_in, is_live, is_homed}
+use Rattle.wol_model.specs.Index.{Indexed, listed_in, is_live}
 use Rattle.wol_model.specs.Log.{has_bit}
 use Rattle.wol_model.proofs.Counts.{both, either}
 use Rattle.wol_promise.proofs.Lists.{all_member}
 use Rattle.redirect_map.specs.Index.{entry_at}
-use Rattle.redirect_map.specs.Masks.{IsMask}
 use Rattle.redirect_map.proofs.Bits.{has_bit-or}
 use Rattle.manager.specs.Reclaim.{put_block}
 use Rattle.manager.specs.Stands.{IsInVolume}
 use Rattle.manager.specs.declared.part.Part.TheVariants.{Home}
-use Rattle.manager.proofs.Entries.{some_of, found_of, entry_of_version, among, entry_in, with_both_in}
+use Rattle.manager.proofs.Entries.{some_of, found_of, entry_of_version, among, entry_in, noted_home}
+use Rattle.manager.proofs.Frames.{ready_homed}
 use Rattle.manager.proofs.PutBlocks.{put_same, put_like}
 use Rattle.manager.proofs.ReadThrough.{never_some}
-use Rattle.manager.proofs.StoreHome.{ready_put, ready_unput, put_keeps, put_fails, put_stops}
+use Rattle.manager.proofs.StoreHome.{ready_put, put_keeps, put_fails, put_stops}
 use Rattle.manager.proofs.manager.Manager.store_home.Goals as goal
 
 pub put_at-requires-clause-few : goal.put_at-requires-clause-few
@@ -28,7 +28,7 @@ pub put_at-requires-clause-fits : goal.put_at-requires-clause-fits
 put_at-requires-clause-fits g c =
     let m = c.args.self.now in let f = found_of m.index.entries c.args.version c.in-Some-find.record c.in-Some-find.ensures.value in
     let lies = (all_member (IsInVolume (state_of g.D.Disk.state m.home).size) m.index.entries f.entry c.requires.ready.ranges
-        (among (entry_of_version m.index.entries c.args.version f.entry c.in-Some-find.ensures.index.rising f.is))).lies in
+    (among (entry_of_version m.index.entries c.args.version f.entry c.in-Some-find.ensures.index.rising f.is))).lies in
     omega (arith, lies, f.record_.first, c.requires.count f.entry f.is)
 
 pub set_homed-requires-clause-live : goal.set_homed-requires-clause-live
@@ -43,8 +43,7 @@ pub returns-in-Ok-clause-ready : goal.returns-in-Ok-clause-ready
 returns-in-Ok-clause-ready g c =
     let m = c.args.self.now in let p = c.in-Ok.ensures in let f = found_of m.index.entries c.args.version c.in-Some-find.record c.in-Some-find.ensures.value in
     ready_put g.D.Disk.state m c.args.version c.args.mask c.put_at.new.part c.put_at.new.spindle true c.set_homed.new.self m.down p.put.volume p.put.size p.same p.free p.settled
-    (c.set_homed.ensures.entries ∙ with_both_in m.index.entries c.args.version f.entry c.homed-homed.result c.args.mask c.in-Some-find.ensures.index f.is
-    (some_of (λ (d : Indexed). IsMask d.listed.first (is_homed d.listed) c.homed-homed.result) (entry_at m.index.entries c.args.version) f.entry c.homed-homed.ensures.value f.is))
+    (noted_home m.index.entries c.set_homed.new.self.entries c.args.version f.entry c.homed-homed.result c.args.mask c.in-Some-find.ensures.index f.is c.homed-homed.ensures.value c.set_homed.ensures.entries)
     c.requires.ready (never_some m.down c.in_default.not-Some)
 
 pub returns-in-Ok-clause-stored : goal.returns-in-Ok-clause-stored
@@ -56,8 +55,7 @@ returns-in-Ok-clause-stored g c =
       home = λ e is. put_like g.D.Disk.state m.home c.put_at.new.part (put_block e.listed.first c.args.mask c.args.from.now) _ _ refl
           (put_same g.D.Disk.state m.home c.put_at.new.part (put_block c.in-Some-find.record.lbn c.args.mask c.args.from.now) (put_block e.listed.first c.args.mask c.args.from.now)
           (ap (λ (n : ℕ). put_block n c.args.mask c.args.from.now) (f.record_.first ∙ ap (λ (d : Indexed). d.listed.first) (same_Some f.entry e (sym f.is ∙ is)))) p.put);
-      ok = c.set_homed.ensures.entries ∙ with_both_in m.index.entries c.args.version f.entry c.homed-homed.result c.args.mask c.in-Some-find.ensures.index f.is
-          (some_of (λ (d : Indexed). IsMask d.listed.first (is_homed d.listed) c.homed-homed.result) (entry_at m.index.entries c.args.version) f.entry c.homed-homed.ensures.value f.is);
+      ok = noted_home m.index.entries c.set_homed.new.self.entries c.args.version f.entry c.homed-homed.result c.args.mask c.in-Some-find.ensures.index f.is c.homed-homed.ensures.value c.set_homed.ensures.entries;
       err = tt;
     }
 
@@ -66,11 +64,10 @@ returns-in-Ok-clause-keeps g c b notes known keeps =
     let m = c.args.self.now in let p = c.in-Ok.ensures in let f = found_of m.index.entries c.args.version c.in-Some-find.record c.in-Some-find.ensures.value in
     let at = entry_of_version m.index.entries c.args.version f.entry c.in-Some-find.ensures.index.rising f.is in
     let put = put_same g.D.Disk.state m.home c.put_at.new.part (put_block c.in-Some-find.record.lbn c.args.mask c.args.from.now) (put_block f.entry.listed.first c.args.mask c.args.from.now)
-        (ap (λ (n : ℕ). put_block n c.args.mask c.args.from.now) f.record_.first) p.put in
+    (ap (λ (n : ℕ). put_block n c.args.mask c.args.from.now) f.record_.first) p.put in
     put_keeps g.D.Disk.tells g.D.Disk.state m b notes keeps (never_some m.down c.in_default.not-Some) c.args.version c.args.mask c.args.from.now f.entry at (c.requires.count f.entry f.is) (c.requires.due f.entry f.is)
     (λ told. known told f.entry f.is) c.put_at.new.part c.put_at.new.spindle c.set_homed.new.self put.volume put.size p.same
-    (c.set_homed.ensures.entries ∙ with_both_in m.index.entries c.args.version f.entry c.homed-homed.result c.args.mask c.in-Some-find.ensures.index f.is
-    (some_of (λ (d : Indexed). IsMask d.listed.first (is_homed d.listed) c.homed-homed.result) (entry_at m.index.entries c.args.version) f.entry c.homed-homed.ensures.value f.is))
+    (noted_home m.index.entries c.set_homed.new.self.entries c.args.version f.entry c.homed-homed.result c.args.mask c.in-Some-find.ensures.index f.is c.homed-homed.ensures.value c.set_homed.ensures.entries)
     put.ok (returns-in-Ok-clause-ready g c)
 
 pub returns-in-Ok-clause-any_moment : goal.returns-in-Ok-clause-any_moment
@@ -78,7 +75,7 @@ returns-in-Ok-clause-any_moment g c told was read b notes known keeps =
     let m = c.args.self.now in let p = c.in-Ok.ensures in let f = found_of m.index.entries c.args.version c.in-Some-find.record c.in-Some-find.ensures.value in
     let at = entry_of_version m.index.entries c.args.version f.entry c.in-Some-find.ensures.index.rising f.is in
     let put = put_same g.D.Disk.state m.home c.put_at.new.part (put_block c.in-Some-find.record.lbn c.args.mask c.args.from.now) (put_block f.entry.listed.first c.args.mask c.args.from.now)
-        (ap (λ (n : ℕ). put_block n c.args.mask c.args.from.now) f.record_.first) p.put in
+    (ap (λ (n : ℕ). put_block n c.args.mask c.args.from.now) f.record_.first) p.put in
     put_stops g.D.Disk.tells g.D.Disk.state g.met.D.Disk.sound told was m read c.requires.ready (sym read.down ∙ never_some m.down c.in_default.not-Some) b notes keeps c.args.version c.args.mask c.args.from.now f.entry at
     (c.requires.count f.entry f.is) (c.requires.due f.entry f.is) (λ t. known t f.entry f.is) c.put_at.new.part put.any_moment
 
@@ -87,16 +84,16 @@ returns-in-Err-clause-broke g c b notes n known note keeps =
     let m = c.args.self.now in let p = c.in-Err.ensures in let f = found_of m.index.entries c.args.version c.in-Some-find.record c.in-Some-find.ensures.value in
     let at = entry_of_version m.index.entries c.args.version f.entry c.in-Some-find.ensures.index.rising f.is in
     let put = put_same g.D.Disk.state m.home c.put_at.new.part (put_block c.in-Some-find.record.lbn c.args.mask c.args.from.now) (put_block f.entry.listed.first c.args.mask c.args.from.now)
-        (ap (λ (n : ℕ). put_block n c.args.mask c.args.from.now) f.record_.first) p.put in
+    (ap (λ (n : ℕ). put_block n c.args.mask c.args.from.now) f.record_.first) p.put in
     put_fails g.D.Disk.tells g.D.Disk.state m b notes keeps (never_some m.down c.in_default.not-Some) c.args.version c.args.mask c.args.from.now f.entry at (c.requires.count f.entry f.is) (c.requires.due f.entry f.is)
     (λ told. known told f.entry f.is) c.put_at.new.part c.put_at.new.spindle m.index put.volume put.size p.same n note put.images put.cause
-    (ready_unput g.D.Disk.state m c.put_at.new.part c.put_at.new.spindle true (Some (Home m.id)) put.volume put.size p.same p.free p.settled c.requires.ready (never_some m.down c.in_default.not-Some))
+    (ready_homed g.D.Disk.state m c.put_at.new.part c.put_at.new.spindle (Some (Home m.id)) put.volume put.size p.same p.free p.settled (never_some m.down c.in_default.not-Some) c.requires.ready)
 
 pub returns-in-Err-clause-any_moment : goal.returns-in-Err-clause-any_moment
 returns-in-Err-clause-any_moment g c told was read b notes known keeps =
     let m = c.args.self.now in let p = c.in-Err.ensures in let f = found_of m.index.entries c.args.version c.in-Some-find.record c.in-Some-find.ensures.value in
     let at = entry_of_version m.index.entries c.args.version f.entry c.in-Some-find.ensures.index.rising f.is in
     let put = put_same g.D.Disk.state m.home c.put_at.new.part (put_block c.in-Some-find.record.lbn c.args.mask c.args.from.now) (put_block f.entry.listed.first c.args.mask c.args.from.now)
-        (ap (λ (n : ℕ). put_block n c.args.mask c.args.from.now) f.record_.first) p.put in
+    (ap (λ (n : ℕ). put_block n c.args.mask c.args.from.now) f.record_.first) p.put in
     put_stops g.D.Disk.tells g.D.Disk.state g.met.D.Disk.sound told was m read c.requires.ready (sym read.down ∙ never_some m.down c.in_default.not-Some) b notes keeps c.args.version c.args.mask c.args.from.now f.entry at
     (c.requires.count f.entry f.is) (c.requires.due f.entry f.is) (λ t. known t f.entry f.is) c.put_at.new.part put.any_moment
