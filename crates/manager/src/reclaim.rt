@@ -1,5 +1,5 @@
 // Steps of reclaim: a record is read, its due blocks are put home, and what may go of it is given up.
-ghost use Rattle.std.specs.Prelude.{◌≡◌, ◌+◌, ◌<◌, ℕ, true, None, Ok, length, OnOk, IfOk, IsTrue, is_none};
+ghost use Rattle.std.specs.Prelude.{◌≡◌, ◌+◌, ◌<◌, ℕ, List, true, None, Ok, length, OnOk, IfOk, IsTrue, is_none};
 ghost use Rattle.std.specs.Option.{ForSome};
 ghost use Rattle.wol_model.specs.Log.{has_bit};
 ghost use Rattle.wol_model.specs.Index.{listed_in, is_due, has_going};
@@ -48,22 +48,11 @@ impl<D: Disk> Manager<D> {
         let Some(record) = self.index.find(version) else {
             unreachable!()
         };
-        let place = record.lane as usize;
-        self.ups[place] = true;
-        let lane = &mut self.lanes[place];
-        let spot = Spot {
-            segment: record.segment,
-            pos: record.pos,
-        };
-        let segment = Part::Segment {
-            volume: lane.logger(),
-            index: record.segment,
-        };
-        match lane.read(rt, shared, &spot, 0, out) {
+        match self.read_record(rt, shared, &record, out) {
             Ok(()) => Ok(()),
-            Err(Failed) => {
-                self.down = Some(segment);
-                Err(StepFault::DiskFault(segment))
+            Err(part) => {
+                self.down = Some(part);
+                Err(StepFault::DiskFault(part))
             }
         }
     }
