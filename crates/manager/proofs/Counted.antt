@@ -1,18 +1,18 @@
 -- The records of each segment are as many as the index has entries in it: what a call keeps of that, and of the entries' ranges.
-use Rattle.std.proofs.Common.{◌≡◌, ◌≢◌, ◌⊎◌, inl, inr, ⊎_elim, ◌<◌, ◌≤◌, ◌+◌, ◌-◌, ℕ, zero, suc, Bool, true, false, cond, not, ◌&&◌, List, [], ◌∷◌, ◌++◌, map, length, Option, None, Some, refl, sym, ap, subst, ◌∙◌, arith, eqb}
-use Rattle.std.specs.Prelude.{Contains, slice_get, slice_set, filter}
+use Rattle.std.proofs.Common.{◌≡◌, ◌≢◌, ◌⊎◌, inl, inr, ◌≤◌, ◌+◌, ℕ, zero, suc, Bool, true, false, cond, ◌&&◌, List, [], ◌∷◌, ◌++◌, Some, refl, sym, ap, subst, ◌∙◌, arith, eqb}
+use Rattle.std.specs.Prelude.{Contains, slice_get, slice_set}
 use Rattle.std.specs.List.{AllByRecursion, count_by}
-use Rattle.std.proofs.lemmas.Bool.{eq-eqb, ne_eqb, eqb-true, cases_eq}
+use Rattle.std.proofs.lemmas.Bool.{eq-eqb, ne_eqb}
 use Rattle.std.proofs.lemmas.List.Sums.{sum_by-append, sum_by-cons}
-use Rattle.std.proofs.lemmas.Option.{same_Some, none-some}
+use Rattle.std.proofs.lemmas.Option.{same_Some}
 use Rattle.wol_model.specs.Index.{Indexed}
 use Rattle.log_segment.specs.Segment.{valid_of}
 use Rattle.logger.specs.Lanes.{held_in}
 use Rattle.logger.specs.declared.lane.HeldSegment.{HeldSegment}
 use Rattle.logger.specs.declared.lane.Lane.{Lane}
 use Rattle.redirect_map.specs.Index.{changed, has_version}
-use Rattle.manager.specs.Stands.{entries_at, AreCounted, IsPlacedIn}
-use Rattle.manager.proofs.Lanes.{all_at, all_set, get_set, get_other}
+use Rattle.manager.specs.Stands.{entries_at, AreCounted}
+use Rattle.manager.proofs.Lanes.{get_set, get_other}
 use Rattle.manager.proofs.ReadyLanes.{same_or_not}
 
 -- ---- counts, entry by entry

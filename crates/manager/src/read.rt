@@ -24,7 +24,7 @@ use std::sync::Wait;
 use wol_disk::{Block, Disk, Failed};
 
 // The same answer, where the refusal names the part.
-fn at_part(part: Part, answer: Result<(), Failed>) -> Result<(), Part>
+pub(crate) fn at_part(part: Part, answer: Result<(), Failed>) -> Result<(), Part>
     ensures like { is_ok result ≡ is_ok answer }
     ensures part { IfErr result (λ p. p ≡ part) }
 {
