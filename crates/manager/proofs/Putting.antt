@@ -22,7 +22,7 @@ use Rattle.wol_promise.specs.Stands.{Upholds, LiesIn}
 use Rattle.wol_promise.proofs.Lists.{all_map}
 use Rattle.logger.specs.Lanes.{logger_of, lane_owner, taken_in}
 use Rattle.logger.specs.declared.lane.Lane.{Lane}
-use Rattle.manager.specs.Seen.{Logs, AllLanesHold, parts_of, seen, all_held, all_taken, down_of}
+use Rattle.manager.specs.Seen.{Logs, AllLanesHold, parts_of, all_held, all_taken, down_of}
 use Rattle.manager.specs.Stands.{Keeps, IsReadyLane}
 use Rattle.manager.specs.declared.base.ManagerBase.{ManagerBase}
 use Rattle.manager.specs.declared.manager.Manager.{Manager}
