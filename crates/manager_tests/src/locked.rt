@@ -95,7 +95,11 @@ fn free_segment<R: Abort>(rt: &R, alloc: Global, volume: u32) -> FreeSegment<Mem
     let opened = open_segment(alloc, &token, Spun::new(volume, disk));
     spindle.done(token);
     match opened {
-        Ok(Adopted::Free(free)) if free.blocks() == SEGMENT => free,
-        _ => panic!(rt; "no free segment"),
+        Ok(Adopted::Free(free)) => {
+            assert_eq!(rt; free.blocks(), SEGMENT);
+            free
+        }
+        Ok(Adopted::Held(_held)) => panic!(rt; "a segment with an owner"),
+        Err((_fault, _part)) => panic!(rt; "no segment"),
     }
 }
