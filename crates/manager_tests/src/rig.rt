@@ -150,18 +150,14 @@ impl Rig {
         let ManagerParts {
             home: _,
             spindle,
-            mut lanes,
+            lanes,
         } = manager.release();
-        let Some(lane) = lanes.pop() else {
-            unreachable!()
-        };
-        lanes.destroy_empty();
         let LaneParts {
             logger: _,
             held: _,
             pool: pool_pass,
             spindle: logger_pass,
-        } = lane.release();
+        } = sole(lanes).release();
         let Shared { pools, spindles } = shared;
         let (own_pool_lock, pool_lock) = both(pools);
         let (home_lock, logger_lock) = both(spindles);
@@ -172,6 +168,18 @@ impl Rig {
             free: unlocked(rt, alloc, pool_lock, pool_pass).len(),
         }
     }
+}
+
+// The one value of a row.
+fn sole<T>(mut row: Vec<T>) -> T
+    requires { (value : T) × (row.items ≡ value ∷ []) }
+    ensures { row.items ≡ result ∷ [] }
+{
+    let Some(value) = row.pop() else {
+        unreachable!()
+    };
+    row.destroy_empty();
+    value
 }
 
 // The two values of a row.
