@@ -41,7 +41,7 @@ count_changed test version f same (x ∷ es) = at (has_version version x) (count
 -- ---- counts
 
 pub count_joined : (test : Indexed → Bool) (xs ys : List Indexed) → count_by test (xs ++ ys) ≡ count_by test xs + count_by test ys
-count_joined test xs ys = sum_by-append (λ (d : Indexed). cond (test d) 1 0) xs ys
+count_joined test xs ys = sum_by-append (λ (d : Indexed). cond {A = ℕ} (test d) 1 0) xs ys
 
 -- one entry more or less
 pub count_mid : (test : Indexed → Bool) (front : List Indexed) (e : Indexed) (back : List Indexed) → count_by test (front ++ e ∷ back) ≡ count_by test (front ++ back) + cond (test e) 1 0
@@ -53,7 +53,7 @@ count_mid test front e back =
 -- an entry that lies there counts
 pub one_there : (test : Indexed → Bool) (es : List Indexed) (e : Indexed) → Contains es e → test e ≡ true → 1 ≤ count_by test es
 one_there test [] e has is = absurd (let lt = has.1 in omega arith)
-one_there test (x ∷ es) e (zero, lt, same) is = let here : cond (test x) 1 0 ≡ 1 = ap (λ (d : Indexed). cond (test d) 1 0) same ∙ ap (λ (t : Bool). cond t 1 0) is in
+one_there test (x ∷ es) e (zero, lt, same) is = let here : cond {A = ℕ} (test x) 1 0 ≡ 1 = ap (λ (d : Indexed). cond {A = ℕ} (test d) 1 0) same ∙ ap (λ (t : Bool). cond {A = ℕ} t 1 0) is in
     let c = count-cons test x es in omega (arith, here, c)
 one_there test (x ∷ es) e (suc k, lt, same) is =
     let rest = one_there test es e (k, omega arith, same) is in

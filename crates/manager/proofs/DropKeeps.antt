@@ -75,7 +75,7 @@ pub some_valid : (owner : ℕ) (rs : List Record) → AllByRecursion (IsNamed ow
 some_valid owner [] named some = absurd (omega arith)
 some_valid owner (q ∷ rs) named some = ⊎_elim
     (λ none. let c = count-cons (λ (x : Record). not (eqb x.head.mask 0)) q rs in
-    let z : cond (not (eqb q.head.mask 0)) 1 0 ≡ 0 = ap (λ (t : Bool). cond (not t) 1 0) (eq-eqb q.head.mask 0 none) in
+    let z : cond {A = ℕ} (not (eqb q.head.mask 0)) 1 0 ≡ 0 = ap (λ (t : Bool). cond {A = ℕ} (not t) 1 0) (eq-eqb q.head.mask 0 none) in
     let rest = some_valid owner rs named.1 (omega (arith, c, z)) in (rest.0, member_behind q rs rest.0 rest.1, rest.2))
     (λ one. (q, (0, omega arith, refl), valid_of_mask owner q named.0 one))
     (cases_eq q.head.mask 0)
@@ -86,10 +86,10 @@ none_valid owner [] named none = tt
 none_valid owner (q ∷ rs) named none = ⊎_elim
     (λ zero_. let c = count-cons (λ (x : Record). not (eqb x.head.mask 0)) q rs in
     (empty_of_mask owner q named.0 zero_, none_valid owner rs named.1 (omega (arith, c))))
-    (λ one. absurd (let c = count-cons (λ (x : Record). not (eqb x.head.mask 0)) q rs in let z : cond (not (eqb q.head.mask 0)) 1 0 ≡ 1 = ap (λ (t : Bool). cond (not t) 1 0) (ne_eqb q.head.mask 0 one) in omega (arith, c, z)))
+    (λ one. absurd (let c = count-cons (λ (x : Record). not (eqb x.head.mask 0)) q rs in let z : cond {A = ℕ} (not (eqb q.head.mask 0)) 1 0 ≡ 1 = ap (λ (t : Bool). cond {A = ℕ} (not t) 1 0) (ne_eqb q.head.mask 0 one) in omega (arith, c, z)))
     (cases_eq q.head.mask 0)
 
-named_trimmed : (owner keep : ℕ) (fs : List Record) (q : Record) (gs : List Record) → keep < 2 ^ q.head.count → AllByRecursion (IsNamed owner) (fs ++ q ∷ gs) → AllByRecursion (IsNamed owner) (fs ++ trimmed q keep ∷ gs)
+pub named_trimmed : (owner keep : ℕ) (fs : List Record) (q : Record) (gs : List Record) → keep < 2 ^ q.head.count → AllByRecursion (IsNamed owner) (fs ++ q ∷ gs) → AllByRecursion (IsNamed owner) (fs ++ trimmed q keep ∷ gs)
 named_trimmed owner keep fs q gs within all = all_swap (IsNamed owner) (IsNamed owner) (λ x is. is) fs q (trimmed q keep) gs
     (λ is. let h = is.in_range in record { in_range = record { owner = h.owner; version = h.version; count = h.count; range = h.range; kept = within; form = inl refl }; owned = is.owned; counted = is.counted }) all
 
@@ -116,7 +116,7 @@ none_here test [] none = tt
 none_here test (x ∷ es) none = (at (test x) refl, none_here test es (let c = count-cons test x es in omega (arith, c, none)))
   where
     at : (t : Bool) → test x ≡ t → test x ≡ false
-    at true is = absurd (let c = count-cons test x es in let one : cond (test x) 1 0 ≡ 1 = ap (λ (t : Bool). cond t 1 0) is in omega (arith, c, none, one))
+    at true is = absurd (let c = count-cons test x es in let one : cond {A = ℕ} (test x) 1 0 ≡ 1 = ap (λ (t : Bool). cond {A = ℕ} t 1 0) is in omega (arith, c, none, one))
     at false is = is
 
 all_both : {X : Type 0} (P Q R : X → Type 0) → ((x : X) → P x → Q x → R x) → (xs : List X) → AllByRecursion P xs → AllByRecursion Q xs → AllByRecursion R xs
@@ -163,8 +163,8 @@ module _ {D : Type 0} (tells : Bool) (state : D → State) (m : Manager D) (b : 
     pub split : InLanes R k 0 m.lanes.items kp.logs k i old o
     split = in_lanes R k 0 m.lanes.items kp.logs k i old o (omega arith) lane there kp.held
 
-    pub p : Piece tells state m b notes kp up k old lane i o there version e at lane_is index_is r rec split.front split.records split.back split.is split.here
-    p = piece tells state m b notes kp up k old lane i o there version e at lane_is index_is r rec split.front split.records split.back split.is split.here
+    pub p : Piece tells state m b notes kp.logs kp.ready (upholds_up tells state m b notes kp up) up k old lane i o there version e at lane_is index_is r rec split.front split.records split.back split.is split.here
+    p = piece tells state m b notes kp.logs kp.ready (upholds_up tells state m b notes kp up) up k old lane i o there version e at lane_is index_is r rec split.front split.records split.back split.is split.here
 
     abbrev after_ : List Record
     after_ = p.fs ++ trimmed p.it keep ∷ p.gs
@@ -176,10 +176,10 @@ module _ {D : Type 0} (tells : Bool) (state : D → State) (m : Manager D) (b : 
     now_held = all_at (IsHeld state (logger_of new) (lane_owner new) (segments_in new) (pool_of new)) (held_in new) i n (ap (λ (hs : List (HeldSegment D)). slice_get hs i) held ∙ get_set (held_in old) i o n there) is_lane.each
 
     wl : IsReadyLane state m.id m.most old
-    wl = was_lane tells state m b notes kp up k old lane i o there version e at lane_is index_is r rec split.front split.records split.back split.is split.here
+    wl = was_lane tells state m b notes kp.logs kp.ready (upholds_up tells state m b notes kp up) up k old lane i o there version e at lane_is index_is r rec split.front split.records split.back split.is split.here
 
     wh : IsHeld state (logger_of old) (lane_owner old) (segments_in old) (pool_of old) o
-    wh = was_held tells state m b notes kp up k old lane i o there version e at lane_is index_is r rec split.front split.records split.back split.is split.here
+    wh = was_held tells state m b notes kp.logs kp.ready (upholds_up tells state m b notes kp up) up k old lane i o there version e at lane_is index_is r rec split.front split.records split.back split.is split.here
 
     size : (disk_of state n.segment).size ≡ (disk_of state o.segment).size
     size = now_held.shape.size ∙ cut.same.blocks ∙ sym wh.shape.size
@@ -202,13 +202,13 @@ module _ {D : Type 0} (tells : Bool) (state : D → State) (m : Manager D) (b : 
     upheld : U (given_of version m.index.entries)
     upheld = ⊎_elim
         (λ keeps. subst U ((λ j. at.front ++ sym kept_is j ∷ at.back) ∙ sym (given_list m.index.entries version e index at true keeps))
-        (trims (parts_of tells state) b.volume.began (record (seen m kp.logs) { held = split.front ++ with_records tells state m b notes kp up k old lane i o there version e at lane_is index_is r rec split.front split.records split.back split.is split.here (p.fs ++ p.it ∷ p.gs) ∷ split.back })
+        (trims (parts_of tells state) b.volume.began (record (seen m kp.logs) { held = split.front ++ with_records tells state m b notes kp.logs kp.ready (upholds_up tells state m b notes kp up) up k old lane i o there version e at lane_is index_is r rec split.front split.records split.back split.is split.here (p.fs ++ p.it ∷ p.gs) ∷ split.back })
         notes (writes (entries_of notes)) p.upheld (ap down_of up) split.front (part_of o.segment) (part_of n.segment) k o.index split.back p.fs p.it p.gs keep at.front e at.back refl at.is size cut.same.volume logs p.its kept_now
-        (valid_where m.index.entries (with_records tells state m b notes kp up k old lane i o there version e at lane_is index_is r rec split.front split.records split.back split.is split.here (p.fs ++ p.it ∷ p.gs)) (length p.fs) p.it e p.its keep (marks p.it.head.count p.count_is) keeps)))
+        (valid_where m.index.entries (with_records tells state m b notes kp.logs kp.ready (upholds_up tells state m b notes kp up) up k old lane i o there version e at lane_is index_is r rec split.front split.records split.back split.is split.here (p.fs ++ p.it ∷ p.gs)) (length p.fs) p.it e p.its keep (marks p.it.head.count p.count_is) keeps)))
         (λ none. subst U (sym (given_list m.index.entries version e index at false none))
-        (drops (parts_of tells state) b.volume.began (record (seen m kp.logs) { held = split.front ++ with_records tells state m b notes kp up k old lane i o there version e at lane_is index_is r rec split.front split.records split.back split.is split.here (p.fs ++ p.it ∷ p.gs) ∷ split.back })
+        (drops (parts_of tells state) b.volume.began (record (seen m kp.logs) { held = split.front ++ with_records tells state m b notes kp.logs kp.ready (upholds_up tells state m b notes kp up) up k old lane i o there version e at lane_is index_is r rec split.front split.records split.back split.is split.here (p.fs ++ p.it ∷ p.gs) ∷ split.back })
         notes (writes (entries_of notes)) p.upheld (ap down_of up) split.front (part_of o.segment) (part_of n.segment) k o.index split.back p.fs p.it p.gs keep at.front e at.back refl at.is size cut.same.volume logs p.its kept_now
-        (gone_where m.index.entries (with_records tells state m b notes kp up k old lane i o there version e at lane_is index_is r rec split.front split.records split.back split.is split.here (p.fs ++ p.it ∷ p.gs)) (length p.fs) p.it e p.its keep (marks p.it.head.count p.count_is) none)))
+        (gone_where m.index.entries (with_records tells state m b notes kp.logs kp.ready (upholds_up tells state m b notes kp up) up k old lane i o there version e at lane_is index_is r rec split.front split.records split.back split.is split.here (p.fs ++ p.it ∷ p.gs)) (length p.fs) p.it e p.its keep (marks p.it.head.count p.count_is) none)))
         (decide (keeps_a_block (keeping (listed_in m.index.entries) e.listed)) refl)
 
     held_is : all_held 0 (slice_set m.lanes.items k new) (split.lists (p.fs ++ trimmed p.it (bit_and r.keep (bit_not w128 given)) ∷ p.gs)) ≡ split.front ++ now_ ∷ split.back
@@ -238,8 +238,8 @@ module _ {D : Type 0} (tells : Bool) (state : D → State) (m : Manager D) (b : 
     pub less : GoneLanes R k 0 m.lanes.items kp.logs k i old o
     less = gone_lanes R k 0 m.lanes.items kp.logs k i old o (omega arith) lane there kp.held
 
-    pub p' : Piece tells state m b notes kp up k old lane i o there version e at lane_is index_is r rec less.front less.records less.back less.is less.here
-    p' = piece tells state m b notes kp up k old lane i o there version e at lane_is index_is r rec less.front less.records less.back less.is less.here
+    pub p' : Piece tells state m b notes kp.logs kp.ready (upholds_up tells state m b notes kp up) up k old lane i o there version e at lane_is index_is r rec less.front less.records less.back less.is less.here
+    p' = piece tells state m b notes kp.logs kp.ready (upholds_up tells state m b notes kp up) up k old lane i o there version e at lane_is index_is r rec less.front less.records less.back less.is less.here
 
     counts : valid_of o.segment ≡ entries_at k o.index m.index.entries
     counts = all_at (λ (h : HeldSegment D). valid_of h.segment ≡ entries_at k h.index m.index.entries) (held_in old) i o there ((kp.ready.up up).counted k old lane)
@@ -252,7 +252,7 @@ module _ {D : Type 0} (tells : Bool) (state : D → State) (m : Manager D) (b : 
 
     nothing_kept : bit_and r.keep (bit_not w128 given) ≡ 0
     nothing_kept = ⊎_elim (λ is. is)
-        (λ not. absurd (let z : cond (eqb keep 0) 1 0 ≡ 0 = ap (λ (t : Bool). cond t 1 0) (ne_eqb keep 0 not) in let f = gave.fewer in let one = counts_one in omega arith))
+        (λ not. absurd (let z : cond {A = ℕ} (eqb keep 0) 1 0 ≡ 0 = ap (λ (t : Bool). cond {A = ℕ} t 1 0) (ne_eqb keep 0 not) in let f = gave.fewer in let one = counts_one in omega arith))
         (cases_eq keep 0)
 
     keeps_none : keeps_a_block (keeping (listed_in m.index.entries) e.listed) ≡ false
@@ -263,15 +263,15 @@ module _ {D : Type 0} (tells : Bool) (state : D → State) (m : Manager D) (b : 
     none_else =
         let mid = count_mid (λ (d : Indexed). eqb d.listed.lane k && eqb d.index o.index) at.front e at.back in
         let whole_list : entries_at k o.index m.index.entries ≡ entries_at k o.index (at.front ++ e ∷ at.back) = ap (entries_at k o.index) at.is in
-        let one : cond (eqb e.listed.lane k && eqb e.index o.index) 1 0 ≡ 1 = ap (λ (t : Bool). cond t 1 0) its_test in
-        let last : cond (eqb keep 0) 1 0 ≡ 1 = ap (λ (t : Bool). cond t 1 0) (eq-eqb keep 0 nothing_kept) in
+        let one : cond {A = ℕ} (eqb e.listed.lane k && eqb e.index o.index) 1 0 ≡ 1 = ap (λ (t : Bool). cond {A = ℕ} t 1 0) its_test in
+        let last : cond {A = ℕ} (eqb keep 0) 1 0 ≡ 1 = ap (λ (t : Bool). cond {A = ℕ} t 1 0) (eq-eqb keep 0 nothing_kept) in
         let f = gave.fewer in let c = counts in omega arith
 
     each_else : AllByRecursion (λ (d : Indexed). (eqb d.listed.lane k && eqb d.index o.index) ≡ false) (at.front ++ at.back)
     each_else = none_here (λ (d : Indexed). eqb d.listed.lane k && eqb d.index o.index) (at.front ++ at.back) none_else
 
     abbrev s' : Held (Spun D)
-    s' = with_records tells state m b notes kp up k old lane i o there version e at lane_is index_is r rec less.front less.records less.back less.is less.here (p'.fs ++ p'.it ∷ p'.gs)
+    s' = with_records tells state m b notes kp.logs kp.ready (upholds_up tells state m b notes kp up) up k old lane i o there version e at lane_is index_is r rec less.front less.records less.back less.is less.here (p'.fs ++ p'.it ∷ p'.gs)
 
     elsewhere : AllByRecursion (IsPlaced (parts_of tells state) (less.front ++ less.back)) (at.front ++ at.back)
     elsewhere =

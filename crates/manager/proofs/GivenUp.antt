@@ -51,7 +51,7 @@ module _ (es : List Indexed) (e : Indexed) (r : Rec) (is : IsRecordOf e r) (few 
   small = wide r.count (omega (arith, is.count)) r.keep is.within
     where
       wide : (n : ℕ) → n ≤ 128 → (k : ℕ) → k < 2 ^ n → k < 2 ^ 128
-      wide n le k lt = let more = pow-le-pow_right {n = 2} (omega arith) le le in omega arith
+      wide n le k lt = let more = pow-le-pow_right {n = 2} (omega arith) le in omega arith
 
   pub keep_bits : (i : ℕ) → has_bit keep i ≡ (has_bit r.keep i && not (goes (listed_in es) e.listed (e.listed.first + i)))
   keep_bits i = has_bit-without r.keep given i small fits ∙ ap (λ (t : Bool). has_bit r.keep i && not t) (bits i)
@@ -81,7 +81,7 @@ module _ (es : List Indexed) (e : Indexed) (r : Rec) (is : IsRecordOf e r) (few 
       goes_one = sym (bits one.0) ∙ one.1
 
       kept_one : has_bit r.keep one.0 ≡ true
-      kept_one = sym (keep_is e r is one.0) ∙ goes_covers (listed_in es) e.listed (e.listed.first + one.0) goes_one
+      kept_one = keep_is e r is one.0 ∙ goes_covers (listed_in es) e.listed (e.listed.first + one.0) goes_one
 
       not_one : has_bit keep one.0 ≡ false
       not_one = keep_bits one.0 ∙ (λ i. kept_one i && not (goes_one i))

@@ -1,5 +1,5 @@
 // Steps of reclaim: a record is read, its due blocks are put home, and what may go of it is given up.
-ghost use Rattle.std.specs.Prelude.{◌≡◌, ◌+◌, ◌<◌, ℕ, true, None, Ok, length, OnOk, IfOk, IsTrue, is_none};
+ghost use Rattle.std.specs.Prelude.{◌≡◌, ◌+◌, ◌<◌, ℕ, List, true, None, Ok, length, OnOk, IfOk, IsTrue, is_none};
 ghost use Rattle.std.specs.Option.{ForSome};
 ghost use Rattle.wol_model.specs.Log.{has_bit};
 ghost use Rattle.wol_model.specs.Index.{listed_in, is_due, has_going};
@@ -48,22 +48,11 @@ impl<D: Disk> Manager<D> {
         let Some(record) = self.index.find(version) else {
             unreachable!()
         };
-        let place = record.lane as usize;
-        self.ups[place] = true;
-        let lane = &mut self.lanes[place];
-        let spot = Spot {
-            segment: record.segment,
-            pos: record.pos,
-        };
-        let segment = Part::Segment {
-            volume: lane.logger(),
-            index: record.segment,
-        };
-        match lane.read(rt, shared, &spot, 0, out) {
+        match self.read_record(rt, shared, &record, out) {
             Ok(()) => Ok(()),
-            Err(Failed) => {
-                self.down = Some(segment);
-                Err(StepFault::DiskFault(segment))
+            Err(part) => {
+                self.down = Some(part);
+                Err(StepFault::DiskFault(part))
             }
         }
     }
@@ -123,6 +112,13 @@ impl<D: Disk> Manager<D> {
         }
     }
 
+    // The volume whose manager this is.
+    fn volume(&self) -> u32
+        ensures { result ≡ self.now.id }
+    {
+        self.id
+    }
+
     /// Gives up the blocks of this version's record that may go, and no others, and answers whether the record is gone. A
     /// segment in which no record is left is retired and given to its pool in the same call. `DiskFault` comes only where
     /// the count of faults of the record's segment rose in this call, and brings the manager down; `Down` exactly where it
@@ -154,6 +150,7 @@ impl<D: Disk> Manager<D> {
         };
         let given = may_go(&self.index, version);
         let keep = record.keep & !given;
+        let owner = self.volume();
         let place = record.lane as usize;
         self.ups[place] = true;
         let lane = &mut self.lanes[place];
@@ -168,7 +165,7 @@ impl<D: Disk> Manager<D> {
         let head = RecHead {
             form: 2,
             keep: record.keep,
-            owner: self.id,
+            owner,
             version,
             lbn: record.lbn,
             count: record.count,

@@ -5,12 +5,12 @@ use Rattle.std.specs.List.{AllByRecursion}
 use Rattle.std.proofs.lemmas.Option.{same_Some, none-some}
 use Rattle.std.specs.declared.alloc.Global.{Global}
 use Rattle.std.specs.declared.vec.Vec.{Vec}
-use Rattle.wol_disk.specs.Disk.{Block, Values, IsImage, IsImageOf, only}
+use Rattle.wol_disk.specs.Disk.{Block, IsImageOf, only}
 use Rattle.wol_disk.specs.Memory.{mem_state}
 use Rattle.wol_disk.specs.Zeros.{zeros}
 use Rattle.wol_disk.specs.declared.memory.MemDisk.{MemDisk}
 use Rattle.wol_disk.proofs.Images.{only_image}
-use Rattle.turn_lock.specs.Passes.{lock_id, pass_lock, pass_number, pass_mine}
+use Rattle.turn_lock.specs.Passes.{lock_id, pass_lock, pass_number}
 use Rattle.turn_lock.specs.declared.lock.TurnLock.{TurnLock}
 use Rattle.turn_lock.specs.declared.pass.PassOf.{PassOf}
 use Rattle.spin_model.specs.Spun.{state_of, volume_of}
@@ -26,10 +26,10 @@ use Rattle.offload_policy.specs.declared.Room.TheVariants.{Unknown}
 use Rattle.wol_model.specs.Extents.{newest_block, with_extents}
 use Rattle.wol_model.specs.Index.{Indexed}
 use Rattle.wol_model.specs.Log.{Record}
-use Rattle.wol_promise.specs.Manager.{Base, Held, ManagerSeen, AreInUse}
+use Rattle.wol_promise.specs.Manager.{Base, ManagerSeen, AreInUse}
 use Rattle.wol_promise.specs.Stands.{Upholds}
 use Rattle.wol_promise.proofs.Opens.{opens}
-use Rattle.logger.specs.Lanes.{AreWhole, IsAt, logger_of, held_in, taken_in, pool_of, spindle_of}
+use Rattle.logger.specs.Lanes.{AreWhole, IsAt, logger_of, held_in, pool_of, spindle_of}
 use Rattle.logger.specs.declared.lane.HeldSegment.{HeldSegment}
 use Rattle.logger.specs.declared.lane.Lane.{Lane}
 use Rattle.logger.specs.declared.shared.Shared.{Shared}
@@ -38,9 +38,8 @@ use Rattle.manager.specs.Stands.{Keeps, IsReady, IsReadyLane, IsHome, IsInVolume
 use Rattle.manager.specs.declared.base.LaneBase.{LaneBase}
 use Rattle.manager.specs.declared.base.ManagerBase.{ManagerBase}
 use Rattle.manager.specs.declared.manager.Manager.{Manager}
-use Rattle.manager_tests.specs.Locked.{HasOnePass, HasSpindle, HasPool}
+use Rattle.manager_tests.specs.Locked.{HasSpindle, HasPool}
 use Rattle.manager_tests.specs.Rigs.{IsNewLane, IsOfVolume, IsRig}
-use Rattle.manager_tests.specs.declared.rig.Rig.{Rig}
 
 no_extents : with_extents (zeros 8) [] ≡ zeros 8
 unfolding with_extents newest_block
@@ -183,8 +182,8 @@ module _ (home : Spun MemDisk) (home_lock logger_lock : TurnLock Spindle Spindle
       );
     }
 
-    pub opened_rig : (own : PassOf (Pool (FreeSegment MemDisk)) PoolBase) → HasPool 0 16 own_lock own → IsRig (record { shared = shared; manager = made; own_pool = own })
-    opened_rig own of_own = record {
+    pub opened_rig : (own : PassOf (Pool (FreeSegment MemDisk)) PoolBase) → HasPool 0 16 own_lock own → (m : Manager MemDisk) → m ≡ made → IsRig (record { shared = shared; manager = m; own_pool = own })
+    opened_rig own of_own m is = subst (λ (m : Manager MemDisk). IsRig (record { shared = shared; manager = m; own_pool = own })) (sym is) (record {
       base = opened_base;
       notes = [];
       began = opened_of;
@@ -194,4 +193,4 @@ module _ (home : Spun MemDisk) (home_lock logger_lock : TurnLock Spindle Spindle
       spindles = record { first = home_lock; second = logger_lock; both = spindles; one_pass = (of_home.alone.one, of_logger.alone.one) };
       own = of_own.alone.own;
       free = of_own.alone.free;
-    }
+    })

@@ -1,5 +1,5 @@
 -- A manager with all that it shares.
-use Rattle.std.specs.Prelude.{◌≡◌, ℕ, true, List, [], ◌∷◌, None}
+use Rattle.std.specs.Prelude.{◌≡◌, true, List, [], ◌∷◌, None}
 use Rattle.wol_disk.specs.Memory.{mem_state}
 use Rattle.wol_disk.specs.declared.memory.MemDisk.{MemDisk}
 use Rattle.turn_lock.specs.Passes.{lock_passes, IsPassOf, IsFree}
