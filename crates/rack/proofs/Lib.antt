@@ -1,0 +1,4 @@
+pub mod Swaps
+pub mod SettledParts
+pub mod NamedApart
+pub mod Stored

@@ -1,0 +1,4 @@
+pub mod Contents
+pub mod Settled
+pub mod Formatted
+pub mod Left
