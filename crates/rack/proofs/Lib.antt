@@ -2,3 +2,4 @@ pub mod Swaps
 pub mod SettledParts
 pub mod NamedApart
 pub mod Stored
+pub mod Freeing
