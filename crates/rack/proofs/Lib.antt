@@ -3,3 +3,5 @@ pub mod SettledParts
 pub mod NamedApart
 pub mod Stored
 pub mod Freeing
+pub mod Bays
+pub mod Refused

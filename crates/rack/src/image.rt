@@ -1,14 +1,15 @@
 // The image of one volume is made anew and formatted.
-ghost use Rattle.std.specs.Prelude.{◌≡◌, ◌≢◌, ◌≤◌, ◌⊎◌, ◌∷◌, ◌++◌, length, replicate, List, IfOk, OnOk, IfErr, OnErr, IsErrOf, IsErr, IsSome, vec_len};
+ghost use Rattle.std.specs.Prelude.{ℕ, ◌≡◌, ◌≤◌, ◌∷◌, ◌++◌, replicate, List, IfOk, OnOk, IfErr, IsErrOf, IsSome};
 ghost use Rattle.wol_disk.specs.Disk.{Block, Rose, IsImageOf};
 ghost use Rattle.wol_disk.specs.Zeros.{zeros};
 ghost use Rattle.wol_model.specs.Heads.{IsShape};
 ghost use Rattle.wol_bay.specs.Bay.{IsHome, outs};
 ghost use Rattle.wol_bay.specs.Parts.{sizes_of, blocks_of};
 ghost use Rattle.log_layout.specs.Values.{shape_of};
-ghost use Rattle.rack.specs.Settled.{AreSettled, HasFault};
-ghost use Rattle.rack.specs.Formatted.{part_sizes, blank_parts, formatted_parts, free_segment, IsUnlabelledOrFormatted, place_of};
-ghost use Rattle.rack.specs.Left.{IsTold, LeavesImage, HasFailed};
+ghost use Rattle.rack.specs.Settled.{AreSettled};
+ghost use Rattle.rack.specs.Formatted.{part_sizes, blank_parts, formatted_parts, free_segment, IsUnlabelledOrFormatted};
+ghost use Rattle.rack.specs.Left.{IsTold, LeavesImage, HasFailed, fault_of_bay};
+ghost use Rattle.rack.specs.declared.fault.PartName.{PartName};
 
 use crate::content::Content;
 use crate::fault::{PartName, RackFault};
@@ -100,6 +101,7 @@ pub(crate) fn format_image<B: Bay>(
 ) -> Result<(), RackFault>
     requires shape { IsShape (shape_of label.now) }
     requires home { IsHome volume.now.name (B.state bay.old) }
+    ensures home { outs (B.state bay.new) ≡ outs (B.state bay.old) }
     ensures left { IsTold (LeavesImage result volume.now.name label.now.id (shape_of label.now) volume.now.view) (B.state bay.old).told (B.state bay.new).told }
     ensures volume { (n : ℕ) (part : PartName) → IsErrOf result (RackFault.Failed n part) → n ≡ label.now.id }
     ensures cause { (n : ℕ) (part : PartName) → IsErrOf result (RackFault.Failed n part) → Rose (B.state bay.old).faults (B.state bay.new).faults }
@@ -110,8 +112,7 @@ pub(crate) fn format_image<B: Bay>(
     let sizes = part_sizes(alloc, label)?;
     let mut parts = match bay.create(name, &sizes) {
         Ok(parts) => parts,
-        Err(BayFault::NoMemory) => return Err(RackFault::NoMemory),
-        Err(_) => return Err(failed(label, PartName::Bay)),
+        Err(fault) => return Err(fault_of_bay(label, fault)),
     };
     let mut spindle = Spindle::new(alloc, label.id, timeout);
     let token = spindle.need();
@@ -120,16 +121,22 @@ pub(crate) fn format_image<B: Bay>(
     bay.detach(name, parts);
     match formatted {
         Ok(()) => Ok(()),
-        Err(part) => Err(failed(label, part)),
+        Err(part) => Err(RackFault::Failed {
+            volume: label.id,
+            part,
+        }),
     }
 }
 
-// A part of the image with this label failed.
-fn failed(label: &Label, part: PartName) -> RackFault
-    ensures { result ≡ RackFault.Failed label.now.id part }
+// What a format answers where the bay doesn't make the image with this label.
+fn fault_of_bay(label: &Label, fault: BayFault) -> RackFault
+    ensures { result ≡ fault_of_bay label.now.id fault }
 {
-    RackFault::Failed {
-        volume: label.id,
-        part,
+    match fault {
+        BayFault::NoMemory => RackFault::NoMemory,
+        _ => RackFault::Failed {
+            volume: label.id,
+            part: PartName::Bay,
+        },
     }
 }
