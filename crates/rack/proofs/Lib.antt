@@ -5,3 +5,4 @@ pub mod Stored
 pub mod Freeing
 pub mod Bays
 pub mod Refused
+pub mod InOrder

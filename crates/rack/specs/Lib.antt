@@ -2,3 +2,5 @@ pub mod Contents
 pub mod Settled
 pub mod Formatted
 pub mod Left
+pub mod Volumes
+pub mod Formats
