@@ -6,3 +6,5 @@ pub mod Freeing
 pub mod Bays
 pub mod Refused
 pub mod InOrder
+pub mod WholeImages
+pub mod SoundImages

@@ -4,9 +4,11 @@ use Rattle.wol_bay.specs.Bay.{IsHome}
 use Rattle.wol_config.specs.declared.config.VolumeConf.{VolumeConf}
 use Rattle.rack.specs.Left.{CameBack, LeavesImage, settled_image}
 use Rattle.rack.specs.Formatted.{formatted}
-use Rattle.rack.specs.Volumes.{shape_in}
-use Rattle.rack.specs.Formats.{FormatsFirst, LeavesImages, LosesNone}
+use Rattle.wol_model.specs.Images.{Images, AreSound, recovered_from}
+use Rattle.rack.specs.Volumes.{shape_in, shapes_of}
+use Rattle.rack.specs.Formats.{FormatsFirst, LeavesImages, LosesNone, LeavesSound, LeavesZeros}
 use Rattle.rack.proofs.InOrder.{home_kept, told_then, told_weaker, formats_more, ends_with, loses_none}
+use Rattle.rack.proofs.SoundImages.{one_choice, are_sound, are_zeros}
 use Rattle.rack.proofs.formatting.format.Goals as goal
 
 pub format_image-requires-clause-home : goal.format_image-requires-clause-home
@@ -62,7 +64,17 @@ returns-clause-any_exit g c =
     (λ x y first. loses_none config c.requires.config (Ok tt) x y (subst (λ n. FormatsFirst config n x y) e first)) c.loop-id.invariant.left
 
 pub returns-clause-sound : goal.returns-clause-sound
-returns-clause-sound g c = ?
+returns-clause-sound g c =
+    let config = c.args.config.now in
+    let e : c.loop-id.id ≡ length config.volumes.items = omega arith in
+    told_weaker (FormatsFirst config c.loop-id.id) (LeavesSound config) (g.B.Bay.state c.args.bay.now).told (g.B.Bay.state c.loop-id.bay).told
+    (λ x y first. λ images left.
+        subst (λ (l : Images). AreSound (shapes_of config) l) (sym (one_choice config x y images (subst (λ n. FormatsFirst config n x y) e first) left)) (are_sound config c.requires.config)) c.loop-id.invariant.left
 
 pub returns-clause-zeros : goal.returns-clause-zeros
-returns-clause-zeros g c = ?
+returns-clause-zeros g c =
+    let config = c.args.config.now in
+    let e : c.loop-id.id ≡ length config.volumes.items = omega arith in
+    told_weaker (FormatsFirst config c.loop-id.id) (LeavesZeros config) (g.B.Bay.state c.args.bay.now).told (g.B.Bay.state c.loop-id.bay).told
+    (λ x y first. λ images left v s at.
+        ap (λ (l : Images). recovered_from (shapes_of config) l v) (one_choice config x y images (subst (λ n. FormatsFirst config n x y) e first) left) ∙ are_zeros config c.requires.config v s at) c.loop-id.invariant.left
