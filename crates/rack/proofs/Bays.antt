@@ -1,20 +1,18 @@
 -- An image that went out of its bay blank and comes back.
-use Rattle.std.proofs.Common.{◌≡◌, ◌≢◌, ℕ, zero, suc, ◌+◌, List, [], ◌∷◌, ◌++◌, length, map, replicate, Option, None, Some, option_map, is_some, Result, Ok, Err, refl, sym, ap, ◌∙◌, subst, arith}
+use Rattle.std.proofs.Common.{◌≡◌, ℕ, zero, suc, ◌+◌, List, [], ◌∷◌, map, replicate, Option, None, Some, option_map, is_some, refl, sym, ap, ◌∙◌, subst, arith}
 use Rattle.std.specs.Prelude.{IsSome, Contains}
-use Rattle.wol_disk.specs.Disk.{Block, State, Values, only, IsImage, IsImageOf}
+use Rattle.wol_disk.specs.Disk.{Block, State, Values, only, IsImageOf}
 use Rattle.wol_disk.specs.Zeros.{zeros}
 use Rattle.wol_model.specs.Heads.{Shape}
-use Rattle.wol_bay.specs.Bay.{Name, Image, Told, at_name, sent_out, came_back}
-use Rattle.wol_bay.specs.Parts.{AreBlank, blocks_of, sizes_of, faulty_places, faulty_from}
+use Rattle.wol_bay.specs.Bay.{Name, Told, sent_out, came_back}
+use Rattle.wol_bay.specs.Parts.{AreBlank, blocks_of, sizes_of, faulty_places}
 use Rattle.rack.specs.Settled.{AreSettled, joined_blocks}
 use Rattle.rack.specs.Formatted.{part_sizes, blank_parts, formatted_parts, formatted, place_of, IsUnlabelledOrFormatted}
-use Rattle.rack.specs.Left.{AreNamedApart, IsTold, CameBack, HasFailed, IsUnfinished, Unfinished, LeavesFailed, LeavesImage, settled_image}
+use Rattle.rack.specs.Left.{AreNamedApart, IsTold, CameBack, HasFailed, Unfinished, LeavesFailed, settled_image}
 use Rattle.rack.specs.declared.fault.PartName.{PartName}
 use Rattle.rack.specs.declared.fault.PartName.TheVariants as part
-use Rattle.rack.specs.declared.fault.RackFault.{RackFault}
-use Rattle.rack.specs.declared.fault.RackFault.TheVariants.{Failed, NoMemory}
 use Rattle.rack.proofs.NamedApart.{put_here, put_others, put_apart}
-use Rattle.rack.proofs.SettledParts.{settled_joined, settled_quiet, blank_settled, blank_told, fault_found}
+use Rattle.rack.proofs.SettledParts.{settled_joined, settled_quiet, blank_settled, fault_found}
 
 -- ---- Parts that go out
 

@@ -3,10 +3,10 @@ use Rattle.std.proofs.Common.{◌≡◌, ◌⊎◌, inl, inr, ⊎_elim, ℕ, zer
 use Rattle.std.specs.Prelude.{slice_get, is_err}
 use Rattle.std.proofs.lemmas.List.{get_or_default, get_or-replicate, length-map, length-replicate}
 use Rattle.std.proofs.Math.ListN.{get_or-map}
-use Rattle.wol_disk.specs.Disk.{Block, State, put}
+use Rattle.wol_disk.specs.Disk.{Block, State}
 use Rattle.wol_disk.specs.Zeros.{zeros, zero_block}
 use Rattle.wol_disk.proofs.Images.{put_nothing}
-use Rattle.wol_model.specs.Heads.{Shape, label_block, view_block, free_block}
+use Rattle.wol_model.specs.Heads.{Shape, view_block, free_block}
 use Rattle.wol_bay.specs.Parts.{sizes_of}
 use Rattle.logger_view.specs.Stored.{with_label, with_view, with_free_head}
 use Rattle.rack.specs.Settled.{joined_blocks, changed_at}

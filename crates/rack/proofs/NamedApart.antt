@@ -1,9 +1,9 @@
 -- Images by name, of which no two have one name.
-use Rattle.std.proofs.Common.{◌≡◌, ◌≢◌, ⊎_elim, Bool, true, false, cond, List, [], ◌∷◌, ◌++◌, Option, None, Some, refl, sym, ap, ◌∙◌, subst}
+use Rattle.std.proofs.Common.{◌≡◌, ◌≢◌, Bool, true, false, cond, List, [], ◌∷◌, ◌++◌, None, Some, refl, sym, ap, ◌∙◌, subst}
 use Rattle.std.specs.Str.{bytes_eq}
 use Rattle.std.proofs.lemmas.Slice.Eq.{bytes_eq-Decides}
 use Rattle.wol_bay.specs.Bay.{Name, at_name, without}
-use Rattle.wol_bay.proofs.NameLists.{is_same, without_none, is_out, out_again}
+use Rattle.wol_bay.proofs.NameLists.{without_none, is_out, out_again}
 
 not_same : (x name : Name) → x ≢ name → bytes_eq x name ≡ false
 not_same x name other = go (bytes_eq x name) refl

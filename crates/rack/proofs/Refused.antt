@@ -1,5 +1,5 @@
 -- An image that a bay didn't make, and one that came back with a fault.
-use Rattle.std.proofs.Common.{◌≡◌, ◌≢◌, ◌⊎◌, inl, inr, ⊎_elim, ℕ, ◌+◌, ◌-◌, ◌^◌, ◌<◌, ◌≤◌, List, [], ◌∷◌, length, Option, Some, Result, Ok, Err, refl, sym, ap, ◌∙◌, subst, arith}
+use Rattle.std.proofs.Common.{◌≡◌, ◌≢◌, ◌⊎◌, inl, inr, ⊎_elim, ℕ, ◌+◌, ◌-◌, ◌^◌, ◌<◌, ◌≤◌, List, [], length, Option, Some, Err, refl, ap, subst, arith}
 use Rattle.std.specs.Prelude.{IsSome, IsErrOf, Contains}
 use Rattle.wol_disk.specs.Disk.{State, Rose}
 use Rattle.wol_model.specs.Heads.{Shape}
@@ -11,8 +11,7 @@ use Rattle.rack.specs.Formatted.{place_of}
 use Rattle.rack.specs.Left.{HasFailed, LeavesImage, fault_of_bay}
 use Rattle.rack.specs.declared.fault.PartName.{PartName}
 use Rattle.rack.specs.declared.fault.PartName.TheVariants as part
-use Rattle.rack.specs.declared.fault.RackFault.{RackFault}
-use Rattle.rack.specs.declared.fault.RackFault.TheVariants.{Failed, NoMemory}
+use Rattle.rack.specs.declared.fault.RackFault.TheVariants.{Failed}
 use Rattle.rack.proofs.SettledParts.{blank_told, fault_found}
 
 -- ---- A bay that didn't make it

@@ -1,9 +1,8 @@
 -- Parts that hold known blocks, and what one of them that changes does to all.
-use Rattle.std.proofs.Common.{◌≡◌, ◌⊎◌, inl, inr, ⊎_elim, ℕ, zero, suc, ◌+◌, ◌<◌, nat_lt, Bool, true, false, cond, List, [], ◌∷◌, ◌++◌, length, map, replicate, get_or, set, Option, None, Some, is_some, IfSome, refl, sym, ap, ◌∙◌, subst, arith}
+use Rattle.std.proofs.Common.{◌≡◌, ◌⊎◌, inl, inr, ⊎_elim, ℕ, zero, suc, ◌+◌, ◌<◌, nat_lt, Bool, true, false, cond, List, [], ◌∷◌, ◌++◌, length, map, get_or, set, Option, None, Some, is_some, IfSome, refl, sym, ap, ◌∙◌, subst, arith}
 use Rattle.std.proofs.lemmas.Bool.Decides.{nat_tests}
 use Rattle.std.proofs.lemmas.List.{get_or-set_same, length-replicate}
 use Rattle.std.specs.Prelude.{IsSome, Contains}
-use Rattle.std.specs.List.{flat_map}
 use Rattle.wol_disk.specs.Disk.{Block, Values, State, only, fresh, IsImage, IsImageOf}
 use Rattle.wol_disk.specs.Zeros.{zeros, zero_block}
 use Rattle.wol_disk.proofs.Images.{only_image}

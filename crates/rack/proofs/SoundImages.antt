@@ -1,11 +1,11 @@
 -- The images that a crash may leave of formatted volumes are sound, and recover to zeros.
-use Rattle.std.proofs.Common.{◌≡◌, ◌≢◌, ℕ, zero, suc, ◌+◌, ◌*◌, ◌^◌, ◌<◌, ◌≤◌, List, [], ◌∷◌, ◌++◌, length, map, get_or, Option, None, Some, option_map, refl, sym, ap, ◌∙◌, subst, arith}
+use Rattle.std.proofs.Common.{◌≡◌, ◌≢◌, ℕ, zero, suc, ◌+◌, ◌^◌, ◌<◌, ◌≤◌, List, [], ◌∷◌, ◌++◌, length, map, get_or, Option, None, Some, option_map, refl, sym, ap, ◌∙◌, subst, arith}
 use Rattle.std.specs.Prelude.{slice_get, unwrap_or}
 use Rattle.std.specs.List.{AllByRecursion}
 use Rattle.std.proofs.lemmas.List.{length-map}
 use Rattle.std.proofs.lemmas.List.Elements.{recursion_from_All}
 use Rattle.std.proofs.lemmas.Option.{slice_get-map, slice_get_within, slice_get-get_or, none-some, same_Some}
-use Rattle.wol_disk.specs.Disk.{Block, only, IsImage}
+use Rattle.wol_disk.specs.Disk.{Block}
 use Rattle.wol_disk.specs.Zeros.{zeros}
 use Rattle.wol_disk.proofs.Images.{only_image}
 use Rattle.wol_model.specs.Heads.{Shape, IsShape, label_block, view_block}
@@ -48,15 +48,15 @@ each_is config k (v ∷ vs) (image ∷ images) count is =
     let first : image ≡ Some (whole_of config k v) = is 0 v (omega arith) ∙ ap (λ (n : ℕ). Some (whole_of config n v)) here in
     let rest : images ≡ images_from config (k + 1) vs =
     each_is config (k + 1) vs images (omega (arith, count)) (λ j d lt.
-        let next : k + suc j ≡ k + 1 + j = omega arith in
-        is (suc j) d (omega (arith, lt)) ∙ ap (λ (n : ℕ). Some (whole_of config n (get_or vs j d))) next) in
+    let next : k + suc j ≡ k + 1 + j = omega arith in
+    is (suc j) d (omega (arith, lt)) ∙ ap (λ (n : ℕ). Some (whole_of config n (get_or vs j d))) next) in
     λ i. first i ∷ rest i
 
 pub one_choice : (config : Config) (old new : Told) (images : Images) → FormatsFirst config (length config.volumes.items) old new → AreLeft config new images → images ≡ images_from config 0 config.volumes.items
 one_choice config old new images first left =
     each_is config 0 config.volumes.items images left.count (λ j d lt.
-        let here : j ≡ 0 + j = omega arith in
-        one_left (whole_of config j (get_or config.volumes.items j d)) _ (image_of images j) (first.each j d lt) (left.each j d lt) ∙ ap (λ (n : ℕ). Some (whole_of config n (get_or config.volumes.items j d))) here)
+    let here : j ≡ 0 + j = omega arith in
+    one_left (whole_of config j (get_or config.volumes.items j d)) _ (image_of images j) (first.each j d lt) (left.each j d lt) ∙ ap (λ (n : ℕ). Some (whole_of config n (get_or config.volumes.items j d))) here)
 
 image_at : (config : Config) (k v : ℕ) (vs : List VolumeConf) (w : VolumeConf) → slice_get vs v ≡ Some w → slice_get (images_from config k vs) v ≡ Some (Some (whole_of config (k + v) w))
 image_at config k v [] w e = absurd (none-some w e)
@@ -152,9 +152,13 @@ module _ (config : Config) (valid : IsValid config) where
     views = views;
     each = λ v s e.
         let w = volume_of v s e in
-        let lt : v < length vs = slice_get_within vs v w.volume w.at in
-        (whole_of config v w.volume, w.volume.view, whole_at v w.volume w.at, slice_get-map (λ (x : VolumeConf). x.view) vs v ∙ ap (option_map (λ (x : VolumeConf). x.view)) w.at,
-            subst (λ (t : Shape). IsSoundImage (shapes_of config) views v t w.volume.view (whole_of config v w.volume)) w.shape (whole_sound v w.volume (omega (arith, lt, valid.count.1)) w.valid_volume));
+        let lt : v < length vs = slice_get_within vs v w.volume w.at in (
+          whole_of config v w.volume,
+          w.volume.view,
+          whole_at v w.volume w.at,
+          slice_get-map (λ (x : VolumeConf). x.view) vs v ∙ ap (option_map (λ (x : VolumeConf). x.view)) w.at,
+          subst (λ (t : Shape). IsSoundImage (shapes_of config) views v t w.volume.view (whole_of config v w.volume)) w.shape (whole_sound v w.volume (omega (arith, lt, valid.count.1)) w.valid_volume),
+        );
     distinct = λ v lt. let P : List Extent → Type 0 = λ l. AreDistinct (covers_of l) in subst P (sym (no_records v)) tt;
   }
 

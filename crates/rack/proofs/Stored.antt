@@ -2,7 +2,7 @@
 use Rattle.std.proofs.Common.{◌≡◌, ◌⊎◌, inl, inr, ⊎_elim, ℕ, ◌<◌, ◌≤◌, ◌-◌, ◌^◌, List, ◌∷◌, [], length, get_or, set, Option, None, Some, option_map, IfSome, Result, Ok, Err, OnOk, OnErr, refl, sym, ap, ◌∙◌, subst, arith}
 use Rattle.std.proofs.lemmas.List.{get_or_default}
 use Rattle.std.specs.Prelude.{IsSome, IsErr}
-use Rattle.wol_disk.specs.Disk.{Block, Values, State, only, reads, put, IsImageOf, Rose}
+use Rattle.wol_disk.specs.Disk.{Block, Values, State, only, reads, IsImageOf, Rose}
 use Rattle.wol_disk.proofs.Images.{reads_only, length-put}
 use Rattle.wol_model.specs.Heads.{label_block, view_block, free_block}
 use Rattle.wol_bay.specs.Parts.{blocks_of, sizes_of}

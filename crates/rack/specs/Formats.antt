@@ -1,5 +1,5 @@
 -- What a format leaves of the images of all volumes.
-use Rattle.std.specs.Prelude.{◌≡◌, ◌≢◌, ◌⊎◌, ◌<◌, ℕ, List, length, Some, Result, Ok, Err, slice_index_or, slice_get}
+use Rattle.std.specs.Prelude.{◌≡◌, ◌≢◌, ◌⊎◌, ◌<◌, ℕ, length, Some, Result, Ok, Err, slice_index_or, slice_get}
 use Rattle.wol_disk.specs.Zeros.{zeros}
 use Rattle.wol_model.specs.Heads.{Shape}
 use Rattle.wol_model.specs.Images.{Images, AreSound, recovered_from}

@@ -1,5 +1,5 @@
 -- What a format leaves of a bay.
-use Rattle.std.specs.Prelude.{◌≡◌, ◌≢◌, ◌⊎◌, ◌<◌, ◌++◌, ℕ, List, [], ◌∷◌, length, Contains, Option, None, Some, Result, Ok, Err}
+use Rattle.std.specs.Prelude.{◌≡◌, ◌≢◌, ◌<◌, ◌++◌, ℕ, List, [], length, Contains, Option, None, Some, Result, Ok, Err}
 use Rattle.wol_disk.specs.Disk.{Block, State, only, IsImage}
 use Rattle.wol_bay.specs.Bay.{Name, Image, Told, at_name, without, each_place}
 use Rattle.wol_bay.specs.declared.fault.BayFault.{BayFault}

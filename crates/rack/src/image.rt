@@ -32,19 +32,14 @@ fn part_sizes(alloc: Global, label: &Label) -> Result<Vec<u64>, NoMemory>
     requires { IsShape (shape_of label.now) }
     ensures { IfOk result (λ sizes. sizes.items ≡ part_sizes (shape_of label.now)) }
 {
-    let mut sizes =
-        vec![in alloc; u64::from(label.segment_blocks); 2 + label.segments as usize]?;
+    let mut sizes = vec![in alloc; u64::from(label.segment_blocks); 2 + label.segments as usize]?;
     sizes[LABEL] = 2;
     sizes[HOME] = label.home;
     Ok(sizes)
 }
 
 // Makes each segment a free one.
-fn free_segments<D: Disk>(
-    token: &Awake,
-    label: &Label,
-    parts: &mut Vec<D>,
-) -> Result<(), PartName>
+fn free_segments<D: Disk>(token: &Awake, label: &Label, parts: &mut Vec<D>) -> Result<(), PartName>
     requires shape { IsShape (shape_of label.now) }
     requires sizes { sizes_of D.state parts.old.items ≡ part_sizes (shape_of label.now) }
     ensures sizes { sizes_of D.state parts.new.items ≡ sizes_of D.state parts.old.items }

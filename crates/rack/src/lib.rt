@@ -6,6 +6,8 @@ mod fault;
 mod formatting;
 mod image;
 mod part;
+#[cfg(test)]
+mod tests;
 
 pub use fault::{PartName, RackFault};
 pub use formatting::format;

@@ -1,4 +1,4 @@
-use Rattle.std.proofs.Common.{◌≡◌, ◌<◌, ◌+◌, [], length, get_or, sym, ap, ◌∙◌, subst, Ok, Err, arith}
+use Rattle.std.proofs.Common.{◌≡◌, ◌+◌, [], length, get_or, sym, ap, ◌∙◌, subst, Ok, Err, arith}
 use Rattle.std.proofs.lemmas.Result.{err_from_is_err_and}
 use Rattle.wol_bay.specs.Bay.{IsHome}
 use Rattle.wol_config.specs.declared.config.VolumeConf.{VolumeConf}
@@ -29,9 +29,9 @@ loop-id-preserved g c =
     record {
       home = c.format_image.ensures.home ∙ c.loop-id.invariant.home;
       left = told_then (FormatsFirst config i) (CameBack v.name (settled_image (formatted i (shape_in config v) v.view)) []) (FormatsFirst config (i + 1))
-      (g.B.Bay.state c.args.bay.now).told (g.B.Bay.state c.loop-id.bay).told (g.B.Bay.state c.format_image.new.bay).told
-      (λ x y first. first.apart) (λ x y z first back. formats_more config c.requires.config i v x y z (omega arith) is first back)
-      c.loop-id.invariant.left c.in_ok-format_image.ensures.left;
+          (g.B.Bay.state c.args.bay.now).told (g.B.Bay.state c.loop-id.bay).told (g.B.Bay.state c.format_image.new.bay).told
+          (λ x y first. first.apart) (λ x y z first back. formats_more config c.requires.config i v x y z (omega arith) is first back)
+          c.loop-id.invariant.left c.in_ok-format_image.ensures.left;
       calm = c.in_ok-format_image.ensures.calm (λ n p e. cc e) ∙ c.loop-id.invariant.calm;
     }
 
@@ -69,7 +69,7 @@ returns-clause-sound g c =
     let e : c.loop-id.id ≡ length config.volumes.items = omega arith in
     told_weaker (FormatsFirst config c.loop-id.id) (LeavesSound config) (g.B.Bay.state c.args.bay.now).told (g.B.Bay.state c.loop-id.bay).told
     (λ x y first. λ images left.
-        subst (λ (l : Images). AreSound (shapes_of config) l) (sym (one_choice config x y images (subst (λ n. FormatsFirst config n x y) e first) left)) (are_sound config c.requires.config)) c.loop-id.invariant.left
+    subst (λ (l : Images). AreSound (shapes_of config) l) (sym (one_choice config x y images (subst (λ n. FormatsFirst config n x y) e first) left)) (are_sound config c.requires.config)) c.loop-id.invariant.left
 
 pub returns-clause-zeros : goal.returns-clause-zeros
 returns-clause-zeros g c =
@@ -77,4 +77,4 @@ returns-clause-zeros g c =
     let e : c.loop-id.id ≡ length config.volumes.items = omega arith in
     told_weaker (FormatsFirst config c.loop-id.id) (LeavesZeros config) (g.B.Bay.state c.args.bay.now).told (g.B.Bay.state c.loop-id.bay).told
     (λ x y first. λ images left v s at.
-        ap (λ (l : Images). recovered_from (shapes_of config) l v) (one_choice config x y images (subst (λ n. FormatsFirst config n x y) e first) left) ∙ are_zeros config c.requires.config v s at) c.loop-id.invariant.left
+    ap (λ (l : Images). recovered_from (shapes_of config) l v) (one_choice config x y images (subst (λ n. FormatsFirst config n x y) e first) left) ∙ are_zeros config c.requires.config v s at) c.loop-id.invariant.left

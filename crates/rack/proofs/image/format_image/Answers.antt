@@ -18,7 +18,7 @@ returns-in-Err g c =
     record {
       home = ap (option_map (λ (t : Told). t.out)) c.in-Err.ensures.err;
       left = rw is (nothing_told (LeavesImage (Err (fault_of_bay id e)) c.args.volume.now.name id (shape_of c.args.label.now) c.args.volume.now.view)
-      (g.B.Bay.state c.args.bay.now).told (g.B.Bay.state c.create.new.self).told c.in-Err.ensures.err (λ t. leaves_all e c.args.volume.now.name id (shape_of c.args.label.now) c.args.volume.now.view t));
+          (g.B.Bay.state c.args.bay.now).told (g.B.Bay.state c.create.new.self).told c.in-Err.ensures.err (λ t. leaves_all e c.args.volume.now.name id (shape_of c.args.label.now) c.args.volume.now.view t));
       volume = λ n p f. names_volume e id n p (sym is ∙ same_error f);
       cause = λ n p f. bay_rose e id n (g.B.Bay.state c.args.bay.now).faults (g.B.Bay.state c.create.new.self).faults p c.in-Err.ensures.faults (λ q. c.in-Err.ensures.cause (ap Err q)) (sym is ∙ same_error f);
       calm = λ none. bay_calm e id (g.B.Bay.state c.args.bay.now).faults (g.B.Bay.state c.create.new.self).faults (λ h. c.in-Err.ensures.calm (λ q. h (same_error q))) (λ n p q. none n p (ap Err (is ∙ q)));

@@ -1,5 +1,4 @@
-use Rattle.std.proofs.Common.{◌≡◌, inl, inr, ⊎_elim, List, ◌∷◌, replicate, ◌∙◌}
-use Rattle.wol_disk.specs.Disk.{Block}
+use Rattle.std.proofs.Common.{inl, inr, ⊎_elim, ◌∷◌, replicate, ◌∙◌}
 use Rattle.wol_disk.specs.Zeros.{zeros, zero_block}
 use Rattle.wol_model.specs.Heads.{view_block}
 use Rattle.log_layout.specs.Values.{shape_of}

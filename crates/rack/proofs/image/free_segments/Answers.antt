@@ -1,8 +1,8 @@
-use Rattle.std.proofs.Common.{◌≡◌, inl, ◌<◌, ◌+◌, List, ◌∷◌, length, sym, ap, ◌∙◌, subst, arith}
+use Rattle.std.proofs.Common.{◌≡◌, inl, ◌+◌, List, ◌∷◌, ap, ◌∙◌, subst, arith}
 use Rattle.wol_disk.specs.Disk.{Block}
 use Rattle.log_layout.specs.Values.{shape_of}
 use Rattle.rack.specs.Settled.{AreSettled}
-use Rattle.rack.specs.Formatted.{part_sizes, free_segment}
+use Rattle.rack.specs.Formatted.{part_sizes}
 use Rattle.rack.proofs.SettledParts.{settled_images}
 use Rattle.rack.proofs.Freeing.{freed, free_step, all_freed, in_front, size_at, parts_count, segment_size, on_success}
 use Rattle.rack.proofs.image.free_segments.Goals as goal
@@ -23,15 +23,15 @@ returns-then-is_err-clause-images g c = λ front home d s i.
 
 pub loop-index-preserved : goal.loop-index-preserved
 loop-index-preserved g c = record {
-    sizes = c.store.ensures.sizes ∙ c.loop-index.invariant.sizes;
-    settled = λ front home s.
-        let n = c.args.label.now.segments in
-        let blocks = c.args.label.now.segment_blocks in
-        let so_far = freed c.loop-index.index n blocks in
-        let next = on_success c.store.result c.is_err.result c.is_err.ensures.value c.if-is_err.false (c.store.ensures.ok (front ∷ home ∷ so_far) (c.loop-index.invariant.settled front home s)) in
-        subst (λ (l : List (List Block)). AreSettled g.D.Disk.state l c.store.new.parts.items) (free_step front home c.loop-index.index n blocks (omega arith) (omega arith)) next;
-    told = λ told. c.store.ensures.told (c.loop-index.invariant.told told);
-  }
+  sizes = c.store.ensures.sizes ∙ c.loop-index.invariant.sizes;
+  settled = λ front home s.
+      let n = c.args.label.now.segments in
+      let blocks = c.args.label.now.segment_blocks in
+      let so_far = freed c.loop-index.index n blocks in
+      let next = on_success c.store.result c.is_err.result c.is_err.ensures.value c.if-is_err.false (c.store.ensures.ok (front ∷ home ∷ so_far) (c.loop-index.invariant.settled front home s)) in
+      subst (λ (l : List (List Block)). AreSettled g.D.Disk.state l c.store.new.parts.items) (free_step front home c.loop-index.index n blocks (omega arith) (omega arith)) next;
+  told = λ told. c.store.ensures.told (c.loop-index.invariant.told told);
+}
 
 pub returns-clause-ok : goal.returns-clause-ok
 returns-clause-ok g c = λ front home s.
