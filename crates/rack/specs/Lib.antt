@@ -1,0 +1,6 @@
+pub mod Contents
+pub mod Settled
+pub mod Formatted
+pub mod Left
+pub mod Volumes
+pub mod Formats

@@ -1,0 +1,13 @@
+//! All volumes of a bay: their images are formatted.
+#![tactic(auto)]
+
+mod content;
+mod fault;
+mod formatting;
+mod image;
+mod part;
+#[cfg(test)]
+mod tests;
+
+pub use fault::{PartName, RackFault};
+pub use formatting::format;
