@@ -1,2 +1,5 @@
-mod FourWords
-mod Telling
+mod Endings
+mod GenEndings
+mod Pending
+mod Taken
+mod WordLists

@@ -2,7 +2,10 @@
 #![tactic(auto)]
 
 mod command;
+mod listing;
+mod settings;
 mod status;
+mod telling;
 #[cfg(test)]
 mod tests;
 mod top;

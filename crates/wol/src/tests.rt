@@ -11,6 +11,34 @@ use wol_io::{MemSink, MemSource, NoGate};
 const WRITE_AND_READ: &[u8] =
     b"128166372003061629,usr,0,Write,0,512,100\n128166372003061630,usr,0,Read,0,512,100\n";
 
+const THREE_VOLUMES: &str = r#"segment_blocks = 16
+timeout_ms = 60000
+awake_mw = 8000
+standby_mw = 1000
+wake_mj = 50000
+[[volume]]
+name = "usr0"
+host = "usr"
+disk = 0
+home_blocks = 1000
+segments = 4
+view = ["web0"]
+[[volume]]
+name = "web0"
+host = "web"
+disk = 0
+home_blocks = 1000
+segments = 4
+view = []
+[[volume]]
+name = "src0"
+host = "src"
+disk = 0
+home_blocks = 1000
+segments = 4
+view = ["web0", "usr0"]
+"#;
+
 fn words_of(alloc: Global, text: &str) -> Result<Vec<String>, AllocError> {
     let mut words = Vec::new(alloc);
     for word in text.split_whitespace() {
@@ -19,12 +47,14 @@ fn words_of(alloc: Global, text: &str) -> Result<Vec<String>, AllocError> {
     Ok(words)
 }
 
-// A run that is to end with this status and this text, with the call of the source, of the sink and of the image's disk
-// that is to fail.
+// A run that is to end with this status and this text, with the call of the configuration's source, of the trace's, of the
+// sink and of the image's disk that is to fail.
 #[derive(Clone, Copy)]
 struct Row<'a> {
     words: &'a str,
+    config: &'a [u8],
     trace: &'a [u8],
+    settings: Option<u64>,
     source: Option<u64>,
     sink: Option<u64>,
     disk: Option<u64>,
@@ -39,7 +69,8 @@ fn try_row<R: Abort + Threads + Wait + Sync>(
 ) -> Result<(), Fail> {
     let words = words_of(alloc, row.words)?;
     let cuts = Vec::from_slice(alloc, &[1, 0, 7])?;
-    let mut config = MemSource::new(Vec::new(alloc), Vec::new(alloc), None);
+    let settings = Vec::from_slice(alloc, row.config)?;
+    let mut config = MemSource::new(settings, Vec::from_slice(alloc, &[3])?, row.settings);
     let mut trace = MemSource::new(Vec::from_slice(alloc, row.trace)?, cuts, row.source);
     let mut out = MemSink::new(alloc, row.sink);
     let mut bay = MemBay::new(alloc);
@@ -64,7 +95,9 @@ fn try_row<R: Abort + Threads + Wait + Sync>(
 fn plain<'a>(words: &'a str, trace: &'a [u8], status: u8, text: &'a [u8]) -> Row<'a> {
     Row {
         words,
+        config: b"",
         trace,
+        settings: None,
         source: None,
         sink: None,
         disk: None,
@@ -154,6 +187,45 @@ fn tells_a_source_a_sink_and_a_disk_that_fail(rt: HostRuntime) -> Result<(), Fai
         Row {
             disk: Some(2),
             ..plain(USR, WRITE_AND_READ, 4, b"fault 4 solo disk home\n")
+        },
+    ];
+    for row in &rows {
+        try_row(&rt, rt.alloc(), row)?;
+    }
+    Ok(())
+}
+
+fn configured<'a>(words: &'a str, config: &'a [u8], status: u8, text: &'a [u8]) -> Row<'a> {
+    Row {
+        config,
+        ..plain(words, b"", status, text)
+    }
+}
+
+#[test]
+fn prints_generated_lines(rt: HostRuntime) -> Result<(), Fail> {
+    let three = THREE_VOLUMES.as_bytes();
+    let line = b"128166372000147231,web,0,Write,227328,6144,1000\n";
+    let rows = [
+        configured("gen 0 1", three, 0, line),
+        configured("gen 0 0", three, 0, b""),
+        configured("gen 9223372036854775808 1", three, 1, b"fault 1 words\n"),
+        configured("gen 0 2147483648", three, 1, b"fault 1 words\n"),
+        configured("gen 0", three, 1, b"fault 1 words\n"),
+        configured(
+            "gen 0 1",
+            b"",
+            2,
+            b"fault 2 config missing segment_blocks\n",
+        ),
+        configured("gen 0 1", b"=", 2, b"fault 2 config not toml\n"),
+        Row {
+            settings: Some(1),
+            ..configured("gen 0 1", three, 8, b"fault 8 config\n")
+        },
+        Row {
+            sink: Some(0),
+            ..configured("gen 0 1", three, 7, b"")
         },
     ];
     for row in &rows {

@@ -1,6 +1,6 @@
 use Rattle.std.proofs.Common.{◌≡◌, inl, ◌∙◌}
 use Rattle.wol.specs.Statuses.{bad_line_text}
-use Rattle.wol.proofs.top.tell_line.Goals as goal
+use Rattle.wol.proofs.telling.tell_line.Goals as goal
 
 pub returns-clause-content : goal.returns-clause-content
 returns-clause-content g c =
