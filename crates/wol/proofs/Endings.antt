@@ -1,6 +1,5 @@
 -- What is told at the end of a run.
-use Rattle.std.proofs.Common.{◌≡◌, ◌⊎◌, inl, inr, ℕ, ◌<◌, ◌^◌, List, [], ◌∷◌, ◌++◌, take, Option, None, Some, Result, Ok, Err, refl, sym, ap, ◌∙◌, append-nil, true, arith}
-use Rattle.std.specs.Prelude.{decimal, codes}
+use Rattle.std.proofs.Common.{◌≡◌, inl, inr, ℕ, List, [], ◌∷◌, Option, Ok, Err, refl, sym, ◌∙◌, append-nil, arith}
 use Rattle.std.proofs.lemmas.Fmt.{decimal_injective}
 use Rattle.msr_trace.specs.declared.format.BadLine.{BadLine}
 use Rattle.wol_disk.specs.Disk.{Block, Rose, Values}
@@ -11,9 +10,8 @@ use Rattle.solo.specs.declared.fault.Fault.TheVariants as fault
 use Rattle.solo.specs.Images.{RunsInBay}
 use Rattle.solo.specs.Requests.{asked_of}
 use Rattle.solo.specs.Runs.{EndsBy}
-use Rattle.wol.specs.Statuses.{IsStatus, fault_text, status_of}
 use Rattle.wol.specs.Tops.{HasBadLine, HasCause, HasMoreLines, RunsSolo, TellsFault, TellsStatus}
-use Rattle.wol.specs.Words.{IsSolo, NoSolo}
+use Rattle.wol.specs.Words.{IsSolo}
 
 -- what a fault comes of
 pub has_cause : (e : Fault) (bay bay' source source' : ℕ) → (e ≡ fault.Disk → Rose bay bay') → (e ≡ fault.Bay → Rose bay bay') → (e ≡ fault.Source → Rose source source') → HasCause e bay bay' source source'

@@ -1,5 +1,5 @@
 -- Lines that a sink took, and lines that wait.
-use Rattle.std.proofs.Common.{◌≡◌, ℕ, zero, suc, ◌+◌, ◌-◌, ◌≤◌, List, [], ◌∷◌, ◌++◌, Option, inl, inr, refl, sym, ap, ◌∙◌, append_assoc, append-nil, arith}
+use Rattle.std.proofs.Common.{◌≡◌, ℕ, zero, suc, ◌+◌, ◌-◌, ◌≤◌, List, [], ◌∷◌, ◌++◌, Option, inl, inr, refl, sym, ◌∙◌, append_assoc, append-nil, arith}
 use Rattle.std.specs.Io.KnownBytes.{Appends}
 use Rattle.wol_io.specs.Streams.{AppendsFront}
 use Rattle.wol_io.proofs.Appending.{appends_both, appends_kept, appends_none, front_last, front_longer, keeps_same}
@@ -66,8 +66,7 @@ longer targets seed n zero =
 longer targets seed n (suc d) =
     let next : n + suc d ≡ (n + d) + 1 = omega arith in
     let before = longer targets seed n d in
-    let l = line targets seed (n + d) in
-    (
+    let l = line targets seed (n + d) in (
       before.0 ++ (line_text l ++ 10 ∷ []),
       rw (next, lines_more targets seed (n + d), text_more (lines targets seed (n + d)) l, before.1) (append_assoc (text_of (lines targets seed n)) before.0 (line_text l ++ 10 ∷ [])),
     )

@@ -1,5 +1,5 @@
 -- What the bytes that were taken of a source say of its configuration.
-use Rattle.std.proofs.Common.{◌≡◌, ℕ, ◌<◌, ◌≤◌, List, [], ◌++◌, length, Option, None, Some, inl, inr, refl, sym, ◌∙◌, append-nil, length-append, arith}
+use Rattle.std.proofs.Common.{◌≡◌, ℕ, ◌<◌, ◌≤◌, List, length, Option, None, Some, inl, inr, ◌∙◌, append-nil, length-append, arith}
 use Rattle.std.specs.Io.KnownBytes.{Consumes, IsAtEnd}
 use Rattle.toml.specs.Data.{Members}
 use Rattle.wol_config.specs.declared.config.Config.{Config}

@@ -1,5 +1,5 @@
 -- Three or four words are their list.
-use Rattle.std.proofs.Common.{◌≡◌, ℕ, ◌≤◌, ◌<◌, Bool, true, false, List, [], ◌∷◌, length, map, get_or, refl, arith}
+use Rattle.std.proofs.Common.{◌≡◌, ◌≤◌, ◌<◌, Bool, true, false, List, [], ◌∷◌, length, map, get_or, refl, arith}
 use Rattle.std.specs.Prelude.{not}
 
 pub four_words : {X Y : Type 0} (f : X → Y) (words : List X) (a b d e : X) → 4 ≤ length words → length words < 5 → a ≡ get_or words 0 a → b ≡ get_or words 1 b → d ≡ get_or words 2 d → e ≡ get_or words 3 e → map f words ≡ f a ∷ f b ∷ f d ∷ f e ∷ []

@@ -1,4 +1,4 @@
-use Rattle.std.proofs.Common.{◌≡◌, Err, ap, map}
+use Rattle.std.proofs.Common.{Err, ap, map}
 use Rattle.std.specs.Prelude.{string_bytes}
 use Rattle.solo.specs.Volume.{target_of}
 use Rattle.wol.proofs.Endings.{comes_of_bad_line, comes_of_lines, has_cause, same_target, told_done, told_fault}
