@@ -1,0 +1,4 @@
+pub mod Digesting
+pub mod Dumping
+pub mod HeldCount
+pub mod Noting
