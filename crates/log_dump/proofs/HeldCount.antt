@@ -48,7 +48,7 @@ laws = decided is_same_place decides
 
 -- ---- The places of records, and of held segments
 
-exact : (p q : ℕ × ℕ) → is_same_place p q ≡ true → p ≡ q
+pub exact : (p q : ℕ × ℕ) → is_same_place p q ≡ true → p ≡ q
 exact p q = (decides p q).0
 
 -- an element has a place in its list

@@ -51,8 +51,9 @@ pub(crate) fn digest_of<D: Disk, R: Wait>(
     let mut at = 0;
     'reading: while at < blocks {
         let count = (blocks - at).min(u64::from(most)) as usize;
-        manager.read(rt, shared, at, &mut piece[..count])?;
-        feed(&mut hasher, &piece[..count]);
+        let part = &mut piece[..count];
+        manager.read(rt, shared, at, part)?;
+        feed(&mut hasher, part);
         at += count as u64;
     }
     Ok(hasher.finalize())

@@ -1,6 +1,7 @@
 // How many segments the records of an index lie in.
 ghost use Rattle.std.specs.Prelude.{◌≡◌, ◌≤◌, IfOk, IfErr, OnOk, map};
-ghost use Rattle.log_dump.specs.Segments.{HasDifferent, noted, place_of};
+ghost use Rattle.std.specs.List.{list_any};
+ghost use Rattle.log_dump.specs.Segments.{HasDifferent, is_same_place, noted, place_of};
 
 use crate::fault::DumpFault;
 use redirect_map::Index;
@@ -24,14 +25,19 @@ fn note(places: &mut Vec<(u32, u32)>, place: (u32, u32)) -> Result<(), DumpFault
     ensures ok { OnOk result (places.new.items ≡ noted places.old.items place) }
     ensures err { IfErr result (λ e. e ≡ DumpFault.NoMemory) }
 {
-    let known = places
-        .iter()
-        .any(|other| place.0 == other.0 && place.1 == other.1);
-    if known {
+    if is_among(place, places) {
         return Ok(());
     }
     if places.push(place).is_err() {
         return Err(DumpFault::NoMemory);
     }
     Ok(())
+}
+
+fn is_among(place: (u32, u32), places: &[(u32, u32)]) -> bool
+    ensures { result ≡ list_any (is_same_place place) places.now }
+{
+    places
+        .iter()
+        .any(|other| place.0 == other.0 && place.1 == other.1)
 }
