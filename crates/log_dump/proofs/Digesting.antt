@@ -6,7 +6,7 @@ use Rattle.std.proofs.Math.Seq.{take-add, take-length}
 use Rattle.sha2.specs.Hashers.{Holds256}
 use Rattle.sha2.specs.declared.Sha256.{Sha256}
 use Rattle.wol_disk.specs.Disk.{Block, State, IsDisk}
-use Rattle.wol_model.specs.Blocks.{Write, after}
+use Rattle.wol_model.specs.Blocks.{after}
 use Rattle.wol_model.specs.History.{Entry, Kept, Read, written_by, worker, writes, AreLegalNext, IsLegalNext}
 use Rattle.wol_model.proofs.Overlay.{after_length, after_more, after_none}
 use Rattle.wol_promise.specs.Ruled.{Noted, entries_of, last_look}

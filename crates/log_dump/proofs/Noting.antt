@@ -1,17 +1,17 @@
 -- Places that were noted: each of a list once.
-use Rattle.std.proofs.Common.{◌≡◌, ◌+◌, ◌<◌, ◌||◌, ℕ, zero, suc, Bool, true, false, List, [], ◌∷◌, ◌++◌, length, map, take, get_or, Some, inl, inr, refl, sym, ap, subst, ◌∙◌, arith}
+use Rattle.std.proofs.Common.{◌≡◌, ◌+◌, ◌<◌, ◌||◌, ℕ, zero, suc, Bool, true, false, List, [], ◌∷◌, ◌++◌, length, map, take, Some, inl, inr, refl, sym, ap, subst, ◌∙◌, arith}
 use Rattle.std.specs.Prelude.{IfSome, slice_get}
-use Rattle.std.specs.List.{AllByRecursion, IsDistinct, list_any}
+use Rattle.std.specs.List.{IsDistinct, list_any}
 use Rattle.std.specs.Set.{is_member}
 use Rattle.std.proofs.lemmas.Bool.{cases_Bool}
-use Rattle.std.proofs.lemmas.List.{map-append}
+use Rattle.std.proofs.lemmas.List.{map-append, take_more}
 use Rattle.std.proofs.lemmas.List.Folds.{list_any-append}
-use Rattle.std.proofs.lemmas.Option.{get_or_from_slice_get}
+use Rattle.std.proofs.lemmas.Option.{get_or_from_slice_get, slice_get_within}
 use Rattle.wol_model.specs.Index.{Indexed}
 use Rattle.wol_promise.proofs.Lists.{all_push}
 use Rattle.redirect_map.specs.Index.{IsRecordOf}
 use Rattle.redirect_map.specs.declared.record.Rec.{Rec}
-use Rattle.log_dump.specs.Segments.{HasDifferent, is_same_place, noted, place_of}
+use Rattle.log_dump.specs.Segments.{is_same_place, noted, place_of}
 use Rattle.log_dump.proofs.HeldCount.{exact, laws}
 
 -- an element stands at each place of a list
@@ -22,7 +22,7 @@ there_is (x ∷ xs) (suc k) within = there_is xs k (omega (arith, within))
 
 -- the first elements, and one more
 pub first_more : {X : Type 0} (xs : List X) (k : ℕ) (x : X) → slice_get xs k ≡ Some x → take (k + 1) xs ≡ take k xs ++ x ∷ []
-first_more xs k x is = ?
+first_more {X} xs k x is = take_more xs k x (slice_get_within xs k x is) ∙ ap (λ (y : X). take k xs ++ y ∷ []) (get_or_from_slice_get xs k x x is)
 
 -- the noted ones are the places of the list, each once
 pub record AreNoted (places different : List (ℕ × ℕ)) : Type 0 where
@@ -44,13 +44,17 @@ distinct_push (q ∷ ps) p apart none =
     let both = either (is_same_place p q) (list_any (is_same_place p) ps) none in
     (all_push (λ (r : ℕ × ℕ). is_same_place q r ≡ false) ps p apart.0 (laws.symm q p ∙ both.0), distinct_push ps p apart.1 both.1)
 
+or_none : (b : Bool) → (b || false) ≡ b
+or_none true = refl
+or_none false = refl
+
 -- one more is among them where it is the same as one that is
 member_too : (ps : List (ℕ × ℕ)) (p q : ℕ × ℕ) → list_any (is_same_place p) ps ≡ true → is_member is_same_place ps q ≡ (is_member is_same_place ps q || (is_same_place q p || false))
 member_too ps p q known = elim (cases_Bool (is_same_place q p)) [
   | inl same ↦
-    let e : q ≡ p = exact q p same in
-    let there : is_member is_same_place ps q ≡ true = rw e known in rw (there) refl
-  | inr other ↦ rw other (sym (or-false (is_member is_same_place ps q)))
+      let e : q ≡ p = exact q p same in
+      let there : is_member is_same_place ps q ≡ true = rw e known in rw (there) refl
+  | inr other ↦ rw other (sym (or_none (is_member is_same_place ps q)))
 ]
 
 pub noted_more : (places different : List (ℕ × ℕ)) (p : ℕ × ℕ) → AreNoted places different → AreNoted (places ++ p ∷ []) (noted different p)

@@ -1,5 +1,5 @@
 -- What a refusal comes of, and what it leaves in the volume's history.
-use Rattle.std.specs.Prelude.{List, [], Result, Ok, Err}
+use Rattle.std.specs.Prelude.{[], Result, Ok, Err}
 use Rattle.wol_model.specs.History.{Operation, Kept, Broke}
 use Rattle.manager.specs.declared.part.ReadRefusal.{ReadRefusal}
 use Rattle.manager.specs.declared.part.ReadRefusal.TheVariants as read

@@ -1,5 +1,5 @@
 -- The lines of `check` and `dump`.
-use Rattle.std.specs.Prelude.{◌≡◌, ◌^◌, ◌<◌, ℕ, List, [], ◌∷◌, ◌++◌, codes, decimal}
+use Rattle.std.specs.Prelude.{◌≡◌, ℕ, List, [], ◌∷◌, ◌++◌, codes, decimal}
 use Rattle.std.specs.List.{flat_map}
 use Rattle.std.specs.Int.{w128, to_be_bytes}
 use Rattle.hex.specs.Hex.{encode_lower}
@@ -47,7 +47,8 @@ record_line r logger live home =
     line_of (codes "record" ∷ decimal r.version ∷ decimal r.lbn ∷ decimal r.count ∷ codes "on" ∷ logger ∷ codes "segment" ∷ decimal r.segment
     ∷ codes "block" ∷ decimal r.pos ∷ codes "live" ∷ live ∷ codes "home" ∷ home ∷ [])
 
--- this is the line of a record among these, where these are the names of the loggers by the places of the view
+-- This is the line of a record among these, in which the bits of the masks are its live and its homed blocks, where these are the names of
+-- the loggers by the places of the view.
 pub record IsRecordLine (names : List (List ℕ)) (es : List Indexed) (e : Indexed) (text : List ℕ) : Type 0 where
   pub shown : Rec
   pub live : ℕ
@@ -55,7 +56,6 @@ pub record IsRecordLine (names : List (List ℕ)) (es : List Indexed) (e : Index
   pub shown_is : IsRecordOf e shown
   pub live_is : IsMask e.listed.first (is_live (listed_in es) e.listed) live
   pub home_is : IsMask e.listed.first (is_homed e.listed) home
-  pub fits : (live < 2 ^ 128) × (home < 2 ^ 128)
   pub line_ : text ≡ record_line shown (name_at names e.listed.lane) (mask_text live) (mask_text home)
 
 -- these are the lines of these records among all of them, in order

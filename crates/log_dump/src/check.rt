@@ -8,7 +8,6 @@ ghost use Rattle.wol_promise.specs.Ruled.{Noted};
 ghost use Rattle.manager.specs.Causes.{PartRose};
 ghost use Rattle.manager.specs.Reading.{HasOnlyRead};
 ghost use Rattle.manager.specs.Stands.{Keeps, IsReady, IsHome, IsSameManager, Leaves};
-ghost use Rattle.manager.specs.Stops.{Stops};
 ghost use Rattle.manager.specs.declared.base.ManagerBase.{ManagerBase};
 ghost use Rattle.manager.specs.declared.part.Part.{Part};
 ghost use Rattle.log_dump.specs.Faults.{was_told};
@@ -58,7 +57,6 @@ pub fn check_line<D: Disk, R: Wait>(
     ensures cause { (p : Part) → result ≡ Err (DumpFault.DiskFault p) → (manager.new.down ≡ Some p) × PartRose D.state manager.old manager.new p }
     ensures up { OnOk result (manager.new.down ≡ None) }
     ensures read { HasOnlyRead D.state manager.old manager.new }
-    ensures any_moment { IsTrue D.tells → (b : ManagerBase) (notes : List Noted) → Keeps D.tells D.state manager.old b notes → Stops D.state manager.old manager.new None b notes [] }
 {
     if let Some(part) = manager.down() {
         return Err(DumpFault::Down(part));

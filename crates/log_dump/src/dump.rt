@@ -8,7 +8,7 @@ ghost use Rattle.logger.specs.Lanes.{logger_of};
 ghost use Rattle.redirect_map.specs.Index.{IsIndex};
 ghost use Rattle.manager.specs.Stands.{IsReady, Leaves};
 ghost use Rattle.manager.specs.declared.part.Part.{Part};
-ghost use Rattle.log_dump.specs.Texts.{mask_text, record_line};
+ghost use Rattle.log_dump.specs.Texts.{count_text, mask_text, record_line};
 ghost use Rattle.log_dump.specs.Volumes.{HasLine, IsDump, IsVolumeOf};
 
 use crate::fault::DumpFault;
@@ -69,11 +69,20 @@ fn put_lines<D: Disk>(
 {
     let name = config.volumes[volume as usize].name.as_bytes();
     let records = manager.index().len();
-    append_line(&[Text(name), Text(b"records"), Number(records)], out)?;
+    append_count(name, records, out)?;
     for place in 0..records {
         put_record(manager, config, place, out)?;
     }
     Ok(())
+}
+
+// Appends the line of a volume with so many records.
+#[tactic(auto, unfolding(crate::specs::Texts::count_text))]
+fn append_count<'a>(name: &'a [u8], records: u64, out: &mut Vec<u8>) -> Result<(), NoMemory>
+    ensures ok { OnOk result (out.new.items ≡ out.old.items ++ count_text name.now records) }
+    ensures err { OnErr result (out.new.items ≡ out.old.items) }
+{
+    append_line(&[Text(name), Text(b"records"), Number(records)], out)
 }
 
 // Appends the line of the record at this place of the index.

@@ -1,5 +1,5 @@
-use Rattle.std.proofs.Common.{subst, ◌∙◌, sym, arith}
-use Rattle.log_dump.proofs.Noting.{AreNoted, none_noted, noted_next}
+use Rattle.std.proofs.Common.{arith}
+use Rattle.log_dump.proofs.Noting.{none_noted, noted_next}
 use Rattle.log_dump.proofs.segments.segments_in.Goals as goal
 
 pub loop-at-init : goal.loop-at-init
