@@ -8,3 +8,4 @@ pub mod Refused
 pub mod InOrder
 pub mod WholeImages
 pub mod SoundImages
+pub mod OnlyRead

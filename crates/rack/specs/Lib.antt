@@ -4,3 +4,5 @@ pub mod Formatted
 pub mod Left
 pub mod Volumes
 pub mod Formats
+pub mod Accepted
+pub mod Reads

@@ -4,8 +4,10 @@
 mod content;
 mod fault;
 mod formatting;
+mod heads;
 mod image;
 mod part;
+mod reading;
 #[cfg(test)]
 mod tests;
 
