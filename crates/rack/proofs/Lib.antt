@@ -9,3 +9,4 @@ pub mod InOrder
 pub mod WholeImages
 pub mod SoundImages
 pub mod OnlyRead
+pub mod HeadSteps

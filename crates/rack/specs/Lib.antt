@@ -6,3 +6,5 @@ pub mod Volumes
 pub mod Formats
 pub mod Accepted
 pub mod Reads
+pub mod Heads
+pub mod ImageParts

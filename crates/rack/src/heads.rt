@@ -4,7 +4,7 @@ ghost use Rattle.wol_disk.specs.Disk.{Block, Values, Rose, reads};
 ghost use Rattle.wol_model.specs.Heads.{SegmentHead};
 ghost use Rattle.spin_model.specs.Spun.{volume_of, state_of, token_volume};
 ghost use Rattle.log_layout.specs.Values.{segment_head};
-ghost use Rattle.rack.specs.Accepted.{HasHead, IsHeadless};
+ghost use Rattle.rack.specs.Accepted.{HasHead, IsHeadless, IsConfigured};
 ghost use Rattle.rack.specs.Reads.{IsOnlyRead};
 ghost use Rattle.rack.specs.declared.heads.HeadFault.TheVariants as fault;
 
@@ -50,6 +50,7 @@ pub(crate) fn read_head<D: Disk>(
     requires volume { token_volume token.now ≡ volume_of part.old }
     requires size { 1 ≤ (state_of D.state part.old).size }
     ensures content { (vs : List (Values Block)) → (state_of D.state part.old).values ≡ Some vs → IfOk result (λ head. HasHead volumes (reads vs) (segment_head head)) }
+    ensures configured { IfOk result (λ head. IsConfigured volumes (segment_head head)) }
     ensures damaged { (vs : List (Values Block)) → (state_of D.state part.old).values ≡ Some vs → IsErrOf result HeadFault.Damaged → IsHeadless volumes (reads vs) }
     ensures read { IsOnlyRead (state_of D.state part.old) (state_of D.state part.new) }
     ensures volume { volume_of part.new ≡ volume_of part.old }

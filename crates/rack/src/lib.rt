@@ -7,6 +7,7 @@ mod formatting;
 mod heads;
 mod image;
 mod part;
+mod parts;
 mod reading;
 #[cfg(test)]
 mod tests;
