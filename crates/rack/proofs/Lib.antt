@@ -10,3 +10,4 @@ pub mod WholeImages
 pub mod SoundImages
 pub mod OnlyRead
 pub mod HeadSteps
+pub mod ImageReads
