@@ -8,3 +8,6 @@ pub mod Refused
 pub mod InOrder
 pub mod WholeImages
 pub mod SoundImages
+pub mod OnlyRead
+pub mod HeadSteps
+pub mod ImageReads

@@ -4,3 +4,7 @@ pub mod Formatted
 pub mod Left
 pub mod Volumes
 pub mod Formats
+pub mod Accepted
+pub mod Reads
+pub mod Heads
+pub mod ImageParts

@@ -4,8 +4,11 @@
 mod content;
 mod fault;
 mod formatting;
+mod heads;
 mod image;
 mod part;
+mod parts;
+mod reading;
 #[cfg(test)]
 mod tests;
 
