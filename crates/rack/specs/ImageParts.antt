@@ -10,6 +10,7 @@ use Rattle.rack.specs.declared.parts.ImageParts.{ImageParts}
 use Rattle.rack.specs.declared.reading.ImageFault.{ImageFault}
 use Rattle.rack.specs.declared.reading.ImageFault.TheVariants as fault
 use Rattle.rack.specs.Accepted.{HasOwnLabel, HasOtherLabel}
+use Rattle.rack.specs.Disks.{AreOfVolume}
 use Rattle.rack.specs.Reads.{IsOnlyRead, AreOnlyRead}
 use Rattle.rack.specs.Heads.{SayHeads, IsDamagedSegment, RoseAt}
 
@@ -19,9 +20,7 @@ pub record ArePartsOf {D : Type 0} (state : D → State) (volume : ℕ) (s : Sha
   pub home : (state_of state p.home).size ≡ s.home
   pub count : length p.segments.items ≡ s.segments
   pub segments : All (λ (q : Spun D). (state_of state q).size ≡ s.segment_blocks) p.segments.items
-  pub label_volume : volume_of p.label ≡ volume
-  pub home_volume : volume_of p.home ≡ volume
-  pub segment_volumes : All (λ (q : Spun D). volume_of q ≡ volume) p.segments.items
+  pub volume_ : AreOfVolume volume p
 
 -- they were read and not written
 pub record IsReadImage {D : Type 0} (state : D → State) (old new : ImageParts D) : Type 0 where

@@ -8,3 +8,4 @@ pub mod Accepted
 pub mod Reads
 pub mod Heads
 pub mod ImageParts
+pub mod Disks
