@@ -1,5 +1,5 @@
 // All images of a configuration are formatted.
-ghost use Rattle.std.specs.Prelude.{◌≡◌, ◌≤◌, ℕ, OnOk, IsErrOf};
+ghost use Rattle.std.specs.Prelude.{◌≡◌, ◌≤◌, ◌<◌, ℕ, length, OnOk, IsErrOf};
 ghost use Rattle.wol_disk.specs.Disk.{Rose};
 ghost use Rattle.wol_bay.specs.Bay.{outs};
 ghost use Rattle.wol_config.specs.Configs.{IsValid};
@@ -29,6 +29,7 @@ pub fn format<B: Bay>(alloc: Global, bay: &mut B, config: &Config) -> Result<(),
     ensures any_exit { IsTold (LosesNone config.now) (B.state bay.old).told (B.state bay.new).told }
     ensures sound { OnOk result (IsTold (LeavesSound config.now) (B.state bay.old).told (B.state bay.new).told) }
     ensures zeros { OnOk result (IsTold (LeavesZeros config.now) (B.state bay.old).told (B.state bay.new).told) }
+    ensures volume { (n : ℕ) (part : PartName) → IsErrOf result (RackFault.Failed n part) → n < length config.now.volumes.items }
     ensures cause { (n : ℕ) (part : PartName) → IsErrOf result (RackFault.Failed n part) → Rose (B.state bay.old).faults (B.state bay.new).faults }
     ensures calm { ((n : ℕ) (part : PartName) → IsErrOf result (RackFault.Failed n part) → ⊥) → (B.state bay.new).faults ≡ (B.state bay.old).faults }
     ensures counts { (B.state bay.old).faults ≤ (B.state bay.new).faults }
