@@ -1,71 +1,29 @@
 -- What is told at the end of a run of `format`.
-use Rattle.std.proofs.Common.{◌≡◌, ◌≢◌, ◌⊎◌, inl, inr, ℕ, ◌<◌, List, [], ◌∷◌, length, Option, None, Some, option_map, IfSome, Ok, Err, refl, sym, ap, subst, ◌∙◌, arith}
-use Rattle.std.specs.Prelude.{All, codes}
+use Rattle.std.proofs.Common.{◌≡◌, ◌⊎◌, inl, inr, ℕ, ◌<◌, List, length, Option, Result, Ok, Err, refl, ◌∙◌, arith}
+use Rattle.std.specs.Prelude.{codes}
 use Rattle.wol_disk.specs.Disk.{Rose}
-use Rattle.wol_bay.specs.Bay.{BayState, IsHome, Told, at_name, outs}
+use Rattle.wol_bay.specs.Bay.{BayState}
 use Rattle.wol_config.specs.declared.config.Config.{Config}
-use Rattle.wol_config.specs.declared.config.VolumeConf.{VolumeConf}
-use Rattle.wol_config.specs.declared.config.ConfigFault.TheVariants as refused
-use Rattle.rack.specs.Volumes.{NoneOut as NoneOfThemOut}
 use Rattle.rack.specs.declared.fault.PartName.{PartName}
 use Rattle.rack.specs.declared.fault.PartName.TheVariants as part
 use Rattle.rack.specs.declared.fault.RackFault.{RackFault}
 use Rattle.rack.specs.declared.fault.RackFault.TheVariants.{Failed, NoMemory}
 use Rattle.report.specs.declared.fault.Fault.{Fault}
 use Rattle.report.specs.declared.fault.Fault.TheVariants as fault
-use Rattle.report.specs.Faults.{NamesAmong, fault_text, status_of}
+use Rattle.report.specs.Faults.{fault_text, status_of}
 use Rattle.report.specs.Names.{printed_names}
-use Rattle.report.specs.Troubles.{trouble_status}
-use Rattle.solo.specs.Images.{NoneOut}
 use Rattle.wol.specs.Formatting.{Formats, IsWhole, IsPartFault, IsOutOfMemory, IsUntouched, RunsFormat, fault_of, format_lines, trouble_of}
 use Rattle.wol.specs.Settings.{HasConfig, HasNoConfig, IsUnread, line_of_fault}
 use Rattle.wol.specs.Tops.{EndsWith}
 use Rattle.wol.proofs.Unread.{ends_unread, line_of_memory, line_unread, memory_line, wanted_or_sink}
 
--- ---- Names
-
--- no name is out, so none of the configuration's
-pub none_of_them_out : (config : Config) (b : BayState) → NoneOut b → NoneOfThemOut config b
-none_of_them_out config b none n d few = home b.told none
-  where
-    home : (told : Option Told) → IfSome told (λ t. t.out ≡ []) → IfSome told (λ t. at_name (get_or config.volumes.items n d).name t.out ≡ None)
-    home None none = tt
-    home (Some t) none = ap (at_name (get_or config.volumes.items n d).name) none
-
--- the names that are out stay the same
-pub still_none_out : (b b' : BayState) → outs b' ≡ outs b → NoneOut b → NoneOut b'
-still_none_out b b' same none = go b.told b'.told same none
-  where
-    go : (o o' : Option Told) → option_map (λ t. t.out) o' ≡ option_map (λ t. t.out) o → IfSome o (λ t. t.out ≡ []) → IfSome o' (λ t. t.out ≡ [])
-    go o None e h = tt
-    go None (Some t) e h = absurd (cc e)
-    go (Some s) (Some t) e h = let same : t.out ≡ s.out = cc in same ∙ h
-
--- ---- The fault of a format
-
-named : (vs : List VolumeConf) (n : ℕ) → n < length vs → n < length (printed_names vs)
-named [] n few = absurd (omega (arith, few))
-named (v ∷ vs) n few = omega (arith, few)
-
--- the volume that its line names is there
-pub names_known : (vs : List VolumeConf) (e : RackFault) → ((n : ℕ) (p : PartName) → e ≡ Failed n p → n < length vs) → NamesAmong (length (printed_names vs)) (fault_of e)
-names_known vs NoMemory known = tt
-names_known vs (Failed n part.Bay) known = (named vs n (known n part.Bay refl), tt)
-names_known vs (Failed n part.Label) known = (named vs n (known n part.Label refl), tt)
-names_known vs (Failed n part.Home) known = (named vs n (known n part.Home refl), tt)
-names_known vs (Failed n (part.Segment index)) known = let few = named vs n (known n (part.Segment index) refl) in (few, few)
-
-pub has_line : (e : RackFault) → fault_of e ≢ fault.Config refused.NoMemory
-has_line NoMemory is = cc is
-has_line (Failed n p) is = cc is
+-- ---- Endings
 
 status_four : (volume : ℕ) (p : PartName) → status_of (fault.Volume volume (trouble_of volume p)) ≡ 4
 status_four volume part.Bay = refl
 status_four volume part.Label = refl
 status_four volume part.Home = refl
 status_four volume (part.Segment index) = refl
-
--- ---- Endings
 
 module _ (left : Option (List ℕ)) (faults faults' : ℕ) (old new : BayState) (status : ℕ) (printed now : Option (List ℕ)) where
   -- the configuration wasn't had
@@ -108,7 +66,7 @@ module _ (left : Option (List ℕ)) (faults faults' : ℕ) (old new : BayState) 
         → EndsWith (fault_text (printed_names config.volumes.items) (fault_of e)) (status_of (fault_of e)) status printed now ⊎ EndsWith (codes "fault 9 memory\n") 9 status printed now
         → RunsFormat left faults faults' old new status printed now
     told_stopped e formats known (inr ends) = told_memory (Err e) formats ends
-    told_stopped NoMemory formats known (inl ends) = told_memory (Err NoMemory) formats (rw memory_line (printed_names config.volumes.items) at ends)
+    told_stopped NoMemory formats known (inl ends) = told_memory (Err NoMemory) formats (rw (memory_line (printed_names config.volumes.items)) at ends)
     told_stopped (Failed n p) formats known (inl ends) = record {
       text = fault_text (printed_names config.volumes.items) (fault.Volume n (trouble_of n p));
       wanted = status_of (fault.Volume n (trouble_of n p));
