@@ -118,25 +118,3 @@ module _ (left : Option (List ℕ)) (faults faults' : ℕ) (old new : BayState) 
     | inr (inr (inr (inr (inl (is, rose))))) ↦ absurd (omega (arith, is, two))
     | inr (inr (inr (inr (inr is)))) ↦ absurd (omega (arith, is, two))
   ]
-
-  -- what status 4 comes of
-  pub format_comes_of_bay : RunsFormat left faults faults' old new status printed now → status ≡ 4 → Rose old.faults new.faults
-  format_comes_of_bay run four = elim (ends_format run) [
-    | inl is ↦ absurd (omega (arith, is, four))
-    | inr (inl (is, none)) ↦ absurd (omega (arith, is, four))
-    | inr (inr (inl (is, rose))) ↦ rose
-    | inr (inr (inr (inl is))) ↦ absurd (omega (arith, is, four))
-    | inr (inr (inr (inr (inl (is, rose))))) ↦ absurd (omega (arith, is, four))
-    | inr (inr (inr (inr (inr is)))) ↦ absurd (omega (arith, is, four))
-  ]
-
-  -- what status 8 comes of
-  pub format_comes_of_source : RunsFormat left faults faults' old new status printed now → status ≡ 8 → Rose faults faults'
-  format_comes_of_source run eight = elim (ends_format run) [
-    | inl is ↦ absurd (omega (arith, is, eight))
-    | inr (inl (is, none)) ↦ absurd (omega (arith, is, eight))
-    | inr (inr (inl (is, rose))) ↦ absurd (omega (arith, is, eight))
-    | inr (inr (inr (inl is))) ↦ absurd (omega (arith, is, eight))
-    | inr (inr (inr (inr (inl (is, rose))))) ↦ rose
-    | inr (inr (inr (inr (inr is)))) ↦ absurd (omega (arith, is, eight))
-  ]
