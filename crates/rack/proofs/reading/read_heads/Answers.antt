@@ -8,12 +8,12 @@ use Rattle.rack.proofs.reading.read_heads.Goals as goal
 
 pub loop-index-init : goal.loop-index-init
 loop-index-init g c = record {
-    heads = say_none g.D.Disk.state c.args.volumes c.args.segments.now c.args.heads.now.items c.requires.empty;
-    room = c.requires.room;
-    read = all_same g.D.Disk.state g.met.D.Disk.sound c.args.segments.now;
-    calm = λ k d lt. refl;
-    rest = λ k d le. refl;
-  }
+  heads = say_none g.D.Disk.state c.args.volumes c.args.segments.now c.args.heads.now.items c.requires.empty;
+  room = c.requires.room;
+  read = all_same g.D.Disk.state g.met.D.Disk.sound c.args.segments.now;
+  calm = λ k d lt. refl;
+  rest = λ k d le. refl;
+}
 
 pub loop-index-preserved : goal.loop-index-preserved
 loop-index-preserved g c =
