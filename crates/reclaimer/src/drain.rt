@@ -9,8 +9,9 @@ ghost use Rattle.manager.specs.Stands.{IsReady, IsHome};
 ghost use Rattle.reclaimer.specs.Drains.{HasMoved, HasDrained, Lowers};
 ghost use Rattle.reclaimer.specs.Steps.{StopsWithin};
 
+use crate::next::{due_next, going};
 use crate::{Drain, Fetch};
-use garbage_list::{due, next_due, next_to_go};
+use garbage_list::due;
 use logger::Shared;
 use manager::{Manager, StepFault};
 use std::sync::Wait;
@@ -82,19 +83,17 @@ pub fn drain_step<R: Wait, D: Disk>(
         return Err(StepFault::Down(part));
     }
     m.wake_home(rt, shared);
-    if let Some(version) = next_to_go(m.index(), &ALL) {
-        let gone = m.drop_rec(rt, shared, version)?;
+    if let Some(record) = going(m.index(), &ALL) {
+        let gone = m.drop_rec(rt, shared, record.version)?;
         return Ok(Drain::Moved {
             blocks: 0,
             records: u32::from(gone),
         });
     }
-    match next_due(m.index(), &ALL) {
-        None => Ok(Drain::Bare),
-        Some(version) => {
-            let moved = move_home(rt, m, shared, version, into);
-            into.clear();
-            moved
-        }
-    }
+    let Some(record) = due_next(m.index(), &ALL) else {
+        return Ok(Drain::Bare);
+    };
+    let moved = move_home(rt, m, shared, record.version, into);
+    into.clear();
+    moved
 }
