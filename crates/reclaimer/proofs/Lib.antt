@@ -1,3 +1,4 @@
-pub mod Given
+pub mod GiveUp
 pub mod Moments
 pub mod Nexts
+pub mod ReadRecord

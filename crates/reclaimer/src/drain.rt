@@ -10,8 +10,8 @@ ghost use Rattle.reclaimer.specs.Drains.{HasMoved, HasDrained, Lowers};
 ghost use Rattle.reclaimer.specs.Steps.{StopsWithin};
 
 use crate::next::{due_next, going};
+use crate::room::read_record;
 use crate::{Drain, Fetch};
-use garbage_list::due;
 use logger::Shared;
 use manager::{Manager, StepFault};
 use std::sync::Wait;
@@ -39,11 +39,11 @@ fn move_home<R: Wait, D: Disk>(
     ensures broke { OnFailed result (BreaksOff D.tells D.state m.old m.new Always) }
     ensures any_moment { OnTried result (IsTrue D.tells → StopsSince D.tells D.state m.old m.new Always) }
 {
-    let count = into.fill(rt, m, shared, version)?;
-    let due = due(m.index(), version);
-    m.store_home(rt, shared, version, due, &into.blocks[..count as usize])?;
+    let filled = read_record(rt, m, shared, version, &mut into.blocks)?;
+    let blocks = &into.blocks[..filled.count as usize];
+    m.store_home(rt, shared, version, filled.due, blocks)?;
     Ok(Drain::Moved {
-        blocks: due.count_ones(),
+        blocks: filled.due.count_ones(),
         records: 0,
     })
 }

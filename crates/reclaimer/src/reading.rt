@@ -9,6 +9,7 @@ ghost use Rattle.reclaimer.specs.Fetches.{HasData, due_entry};
 ghost use Rattle.reclaimer.specs.Steps.{HasFetchedNext, StopsWithin};
 
 use crate::next::due_next;
+use crate::room::read_record;
 use crate::{Fetch, Fetched};
 use logger::Shared;
 use manager::{Manager, StepFault};
@@ -50,9 +51,14 @@ pub fn fetch<R: Wait, D: Disk>(
     let Some(record) = due_next(m.index(), m.ups()) else {
         return Ok(Fetched::Nothing);
     };
-    let count = into.fill(rt, m, shared, record.version)?;
-    Ok(Fetched::Some {
-        version: record.version,
-        count,
-    })
+    match read_record(rt, m, shared, record.version, &mut into.blocks) {
+        Ok(filled) => {
+            into.filled = Some(filled);
+            Ok(Fetched::Some {
+                version: filled.version,
+                count: filled.count,
+            })
+        }
+        Err(fault) => Err(fault),
+    }
 }

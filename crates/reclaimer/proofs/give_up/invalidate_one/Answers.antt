@@ -2,7 +2,7 @@
 use Rattle.std.proofs.Common.{◌≡◌, Bool, true, false, rules, length, refl, sym, ap, arith, ◌∙◌}
 use Rattle.manager.specs.Reclaim.{Always}
 use Rattle.manager.proofs.ReadThrough.{never_some}
-use Rattle.reclaimer.proofs.Given.{going_of, goes_of, there_of, given_whole, given_part, given_fails, reclaims}
+use Rattle.reclaimer.proofs.GiveUp.{going_of, goes_of, there_of, given_whole, given_part, given_fails, reclaims}
 use Rattle.reclaimer.proofs.Moments.{within, at_rest, tried_within}
 use Rattle.reclaimer.proofs.Nexts.{within_reach}
 use Rattle.reclaimer.proofs.give_up.invalidate_one.Goals as goal
