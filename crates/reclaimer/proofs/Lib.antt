@@ -1,3 +1,4 @@
+pub mod Fetching
 pub mod GiveUp
 pub mod Moments
 pub mod Nexts
