@@ -49,7 +49,7 @@ err_as P (Err e) (Err f) like err = err
 pub dropped_as : {D T U : Type 0} (version : ℕ) (e : Indexed) (old new : Manager D) (r : Result T StepFault) (s : Result U StepFault) → is_ok s ≡ is_ok r → HasDropped version e old new r → HasDropped version e old new s
 dropped_as version e old new r s like d = record { rest = d.rest; lanes = d.lanes; ok = ok_as _ r s like d.ok; err = err_as _ r s like d.err }
 
-done_then : {T E : Type 0} (P : Type 0) (res : Result T E) → is_ok res ≡ true → OnOk res P → P
+pub done_then : {T E : Type 0} (P : Type 0) (res : Result T E) → is_ok res ≡ true → OnOk res P → P
 done_then P (Ok x) done ok = ok
 done_then P (Err e) done ok = absurd (let no : false ≡ true = done in cc)
 
