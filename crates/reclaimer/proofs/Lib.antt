@@ -3,6 +3,8 @@ pub mod Fetching
 pub mod PutHome
 pub mod Putting
 pub mod GiveUp
+pub mod Later
 pub mod Moments
+pub mod MoveHome
 pub mod Nexts
 pub mod ReadRecord

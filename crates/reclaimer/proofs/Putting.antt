@@ -63,7 +63,7 @@ in_range es first count b (Some e) is =
     let l = eqb-true (length e.listed.keep) count two.0 in
     omega (arith, within.1, f, l)
 
-never : (t : Bool) → (t ≡ true → ⊥) → t ≡ false
+pub never : (t : Bool) → (t ≡ true → ⊥) → t ≡ false
 never true not_true = absurd (not_true refl)
 never false not_true = refl
 

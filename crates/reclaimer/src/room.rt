@@ -1,5 +1,5 @@
 // Room for a record that is read, so that its due blocks can go home in a later step.
-ghost use Rattle.std.specs.Prelude.{◌≡◌, ◌≤◌, List, None, IfOk, IsTrue, IsSomeAnd, OnOk, length};
+ghost use Rattle.std.specs.Prelude.{◌≡◌, ◌≤◌, ◌<◌, ◌^◌, List, None, IfOk, IsTrue, IsSomeAnd, OnOk, length};
 ghost use Rattle.std.specs.Option.{ForSome};
 ghost use Rattle.wol_model.specs.Index.{listed_in};
 ghost use Rattle.wol_promise.specs.Ruled.{Noted};
@@ -87,7 +87,7 @@ pub(crate) fn read_record<R: Wait, D: Disk>(
     ensures fault { TellsStep D.state result m.old m.new }
     ensures fetched { OnTried result (ForSome (entry_at m.old.index.entries version) (λ e. HasFetched e.listed.lane m.old m.new)) }
     ensures read { OnOk result (IsReadThrough D.state m.old m.new) }
-    ensures few { IfOk result (λ f. f.count ≤ 128) }
+    ensures few { IfOk result (λ f. (f.count ≤ 128) × (f.due < 2 ^ 128)) }
     ensures filled { IfOk result (λ f. IsSomeAnd (entry_at m.old.index.entries version)
         (λ e. IsSomeAnd (record_of (Some f) blocks.new) (IsFetchOf (listed_in m.old.index.entries) e) × (f.count ≡ length e.listed.keep))) }
     ensures content { IfOk result (λ f. (b : ManagerBase) (notes : List Noted) → Keeps D.tells D.state m.old b notes → HasData D.tells (record_of (Some f) blocks.new) b notes) }

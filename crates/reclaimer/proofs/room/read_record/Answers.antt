@@ -22,7 +22,7 @@ fetch_rec-requires-clause-count g c e is =
     length_take c.in-Some.record.count c.args.blocks.now (omega (arith, o.few, c.requires.room)) ∙ o.record_.count ∙ ap (λ x. length x.listed.keep) (same_Some o.entry e (sym o.is ∙ is))
 
 pub returns-clause-few : goal.returns-clause-few
-returns-clause-few g c = (of_version c.args.m.now.index.entries c.args.version c.in-Some.record c.index.result.now (ap (λ (i : Contents). i.entries) c.index.ensures) c.in-Some.ensures.index c.in-Some.ensures.value).few
+returns-clause-few g c = ((of_version c.args.m.now.index.entries c.args.version c.in-Some.record c.index.result.now (ap (λ (i : Contents). i.entries) c.index.ensures) c.in-Some.ensures.index c.in-Some.ensures.value).few, c.due-due.type_inv)
 
 pub returns-clause-filled : goal.returns-clause-filled
 returns-clause-filled g c =
