@@ -1,4 +1,6 @@
 pub mod Counting
+pub mod Draining
+pub mod DrainStep
 pub mod Fetching
 pub mod PutHome
 pub mod Putting

@@ -73,6 +73,9 @@ fn drain_awake<R: Wait, D: Disk>(
     ensures broke { OnFailed result (BreaksOff D.tells D.state m.old m.new Always) }
     ensures any_moment { OnTried result (IsTrue D.tells → StopsSince D.tells D.state m.old m.new Always) }
 {
+    if m.index().len() == 0 {
+        return Ok(Drain::Bare);
+    }
     if let Some(record) = going(m.index(), &ALL) {
         return match m.drop_rec(rt, shared, record.version) {
             Ok(gone) => Ok(Drain::Moved {
@@ -83,7 +86,8 @@ fn drain_awake<R: Wait, D: Disk>(
         };
     }
     let Some(record) = due_next(m.index(), &ALL) else {
-        return Ok(Drain::Bare);
+        // Each kept block of the record of least version may go or is due.
+        unreachable!()
     };
     move_home(rt, m, shared, record.version, room)
 }
