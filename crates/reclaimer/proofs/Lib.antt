@@ -10,3 +10,4 @@ pub mod Moments
 pub mod MoveHome
 pub mod Nexts
 pub mod ReadRecord
+pub mod Woken
