@@ -5,6 +5,7 @@ pub mod Fetching
 pub mod PutHome
 pub mod Putting
 pub mod GiveUp
+pub mod Idle
 pub mod Later
 pub mod Moments
 pub mod MoveHome

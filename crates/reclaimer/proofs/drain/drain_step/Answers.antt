@@ -1,5 +1,5 @@
 -- Home is woken, and then the step is made.
-use Rattle.std.proofs.Common.{◌≡◌, sym, ◌∙◌}
+use Rattle.std.proofs.Common.{sym, ◌∙◌}
 use Rattle.manager.specs.Reclaim.{Always}
 use Rattle.manager.proofs.ReadThrough.{never_some}
 use Rattle.reclaimer.proofs.Moments.{at_rest}
