@@ -2,6 +2,7 @@ pub mod Counting
 pub mod Draining
 pub mod DrainStep
 pub mod Fetching
+pub mod Pools
 pub mod PutHome
 pub mod Putting
 pub mod GiveUp
