@@ -1,11 +1,11 @@
 -- A step of a drain with home awake, by its answers.
-use Rattle.std.proofs.Common.{◌≡◌, ◌≢◌, ◌<◌, ◌≤◌, ◌+◌, ◌-◌, ℕ, Bool, true, false, cond, ◌&&◌, not, List, [], length, Option, None, Some, Result, Ok, Err, OnOk, is_ok, refl, sym, ap, subst, ◌∙◌, arith, eqb}
+use Rattle.std.proofs.Common.{◌≡◌, ◌<◌, ◌≤◌, ◌+◌, ◌-◌, ℕ, Bool, true, false, ◌&&◌, not, List, length, Option, None, Some, Result, Ok, Err, OnOk, is_ok, refl, sym, ap, subst, ◌∙◌, arith, eqb}
 use mir.Val.{bool_byte}
 use Rattle.std.specs.Prelude.{find, filter, Contains, IsSomeAnd, IsErr, is_some, is_none, slice_get, slice_set, slice_index_or, if◌then◌else◌}
 use Rattle.std.specs.List.{AllByRecursion, list_any}
-use Rattle.std.proofs.lemmas.Bool.{and_parts, le-leb, false≢true}
+use Rattle.std.proofs.lemmas.Bool.{and_parts, le-leb}
 use Rattle.std.proofs.lemmas.Option.{same_Some, none-some, slice_get_within}
-use Rattle.wol_disk.specs.Disk.{State, Block}
+use Rattle.wol_disk.specs.Disk.{State}
 use Rattle.wol_model.specs.Extents.{has_newer}
 use Rattle.wol_model.specs.Index.{Listed, Indexed, listed_in, listed_covers, cover_of, is_homed, is_live, is_due, has_due, has_going, keeps_a_block, homing, keeping, block_numbers, left}
 use Rattle.wol_model.specs.Log.{has_bit}
@@ -17,7 +17,7 @@ use Rattle.redirect_map.specs.Index.{Contents, entry_at, changed, HasVersion, Is
 use Rattle.redirect_map.specs.Masks.{IsMask, in_mask}
 use Rattle.redirect_map.specs.declared.record.Rec.{Rec}
 use Rattle.garbage_list.specs.Least.{HasLane}
-use Rattle.manager.specs.Reclaim.{OnTried, TellsStep, HasFetched, HasStored, HasDropped, with_kept, with_put, given_of}
+use Rattle.manager.specs.Reclaim.{OnTried, TellsStep, HasFetched, HasDropped, with_kept, with_put, given_of}
 use Rattle.manager.specs.Seen.{look_of_manager}
 use Rattle.manager.specs.Stands.{IsReady}
 use Rattle.manager.specs.declared.manager.Manager.{Manager}
@@ -25,12 +25,12 @@ use Rattle.manager.specs.declared.part.StepFault.{StepFault}
 use Rattle.manager.specs.declared.part.StepFault.TheVariants.{DiskFault, Down}
 use Rattle.manager.proofs.Entries.{entry_of_version, among, entry_in}
 use Rattle.manager.proofs.StoreHome.{bit_of}
-use Rattle.reclaimer.specs.Drains.{Drains, HasMoved, Lowers, TellsMoved, put, not_read, gave_up, put_home, first_going, first_due}
+use Rattle.reclaimer.specs.Drains.{Drains, HasMoved, Lowers, TellsMoved, put, not_read, gave_up, put_home, first_going}
 use Rattle.reclaimer.specs.declared.answers.Drain.{Drain}
 use Rattle.reclaimer.specs.declared.answers.Drain.TheVariants.{Bare, Moved}
 use Rattle.reclaimer.proofs.Draining.{drained_same, given_lowers, put_lowers, others_given, others_homed, all_keep, lane_here, all_awake, find_same}
 use Rattle.reclaimer.proofs.Fetching.{and_of}
-use Rattle.reclaimer.proofs.GiveUp.{some_and, dropped_as, done_then, filter_listed}
+use Rattle.reclaimer.proofs.GiveUp.{dropped_as, done_then, filter_listed}
 use Rattle.reclaimer.proofs.Nexts.{First, Spot, first_of_all, answered, within_reach}
 
 -- ---- the first record, whatever sleeps

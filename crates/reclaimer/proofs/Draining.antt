@@ -1,22 +1,19 @@
 -- A step of a drain: what it lowers, and the look that it leads to.
-use Rattle.std.proofs.Common.{◌≡◌, ◌≢◌, ⊎_elim, ◌<◌, ◌≤◌, ◌+◌, ◌-◌, ℕ, zero, suc, Bool, true, false, cond, not, ◌&&◌, ◌||◌, List, [], ◌∷◌, ◌++◌, map, length, Option, None, Some, Result, Ok, Err, is_ok, refl, sym, ap, subst, ◌∙◌, arith, eqb}
-use Rattle.std.specs.Prelude.{find, filter, Contains, slice_get, slice_set, slice_index_or}
+use Rattle.std.proofs.Common.{◌≡◌, ◌≢◌, ⊎_elim, ◌<◌, ◌≤◌, ℕ, zero, suc, Bool, true, false, cond, not, ◌&&◌, ◌||◌, List, [], ◌∷◌, ◌++◌, map, length, None, Some, refl, sym, ap, subst, ◌∙◌, arith, eqb}
+use Rattle.std.specs.Prelude.{find, filter, slice_get, slice_set, slice_index_or}
 use Rattle.std.specs.List.{AllByRecursion, list_any, range_with_len}
-use Rattle.std.proofs.lemmas.Bool.{and_parts, eq-eqb, ne_eqb, cases_eq, false≢true, le-leb}
+use Rattle.std.proofs.lemmas.Bool.{eq-eqb, ne_eqb, cases_eq}
 use Rattle.std.proofs.lemmas.Option.{same_Some, none-some}
 use Rattle.std.proofs.Math.ListN.{length-set}
-use Rattle.wol_model.specs.Extents.{Cover, has_newer}
+use Rattle.wol_model.specs.Extents.{Cover}
 use Rattle.wol_model.specs.Index.{Listed, Indexed, listed_in, listed_covers, cover_of, is_homed, is_due, goes, has_due, has_going, keeps_a_block, homing, keeping, block_numbers, left}
-use Rattle.wol_model.specs.Log.{has_bit}
-use Rattle.wol_model.proofs.Counts.{marked_within}
 use Rattle.wol_model.proofs.DrainGives.{giving_up_lowers}
 use Rattle.wol_model.proofs.DrainPuts.{putting_lowers}
 use Rattle.wol_model.proofs.Live.{least_goes}
-use Rattle.wol_promise.specs.Policy.{Look, drained}
+use Rattle.wol_promise.specs.Policy.{drained}
 use Rattle.wol_promise.proofs.Covers.{any_found, any_member}
-use Rattle.wol_promise.proofs.Lists.{all_map, all_mapped, all_member, member_of}
+use Rattle.wol_promise.proofs.Lists.{all_map, all_mapped, member_of}
 use Rattle.redirect_map.specs.Index.{IsEntry, IsIndex}
-use Rattle.reclaimer.proofs.Nexts.{found_passes}
 
 -- ---- lists
 

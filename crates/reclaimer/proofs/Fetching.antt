@@ -1,8 +1,8 @@
 -- The record that is fetched.
-use Rattle.std.proofs.Common.{◌≡◌, ℕ, Bool, true, false, cond, ◌&&◌, List, ◌++◌, length, take, drop, Option, None, Some, Result, Ok, Err, refl, sym, ap, subst, ◌∙◌}
+use Rattle.std.proofs.Common.{◌≡◌, ℕ, Bool, true, false, cond, ◌&&◌, List, ◌++◌, length, take, drop, Option, None, Some, Ok, Err, refl, sym, ap, subst, ◌∙◌}
 use Rattle.std.specs.Prelude.{find, IsSomeAnd, is_some, slice_index_or}
 use Rattle.std.proofs.lemmas.Bool.{and_parts}
-use Rattle.std.proofs.lemmas.Option.{same_Some, none-some}
+use Rattle.std.proofs.lemmas.Option.{none-some}
 use Rattle.wol_disk.specs.Disk.{State, Block}
 use Rattle.wol_model.specs.Index.{Indexed, listed_in, has_due}
 use Rattle.redirect_map.specs.Index.{Contents, entry_at, HasVersion, IsAnswer, IsIndex}
@@ -19,7 +19,7 @@ use Rattle.reclaimer.specs.Steps.{HasFetchedNext}
 use Rattle.reclaimer.specs.declared.answers.Fetched.TheVariants as fetched
 use Rattle.reclaimer.specs.declared.room.Filled.{Filled}
 use Rattle.reclaimer.proofs.GiveUp.{some_and, set_same}
-use Rattle.reclaimer.proofs.Nexts.{First, first_of_all, answered}
+use Rattle.reclaimer.proofs.Nexts.{first_of_all, answered}
 use Rattle.reclaimer.proofs.ReadRecord.{front_of}
 
 pub and_of : {X : Type 0} (P : X → Type 0) (o : Option X) (x : X) → IsSomeAnd o P → o ≡ Some x → P x
@@ -47,7 +47,7 @@ pub record DueNext {D : Type 0} (m : Manager D) (r : Rec) : Type 0 where
 pub due_of : {D : Type 0} (m : Manager D) (r : Rec) (index : Contents) (ups : List Bool) → m.home_up ≡ true → index ≡ m.index → ups ≡ m.ups.items → IsIndex index.entries → IsAnswer (find (can_go_home ups index.entries) index.entries) (Some r) → DueNext m r
 due_of m r index ups up same same_ups sound is =
     let a = answered (find (can_go_home m.ups.items m.index.entries) m.index.entries) r
-        (subst (λ (us : List Bool). IsAnswer (find (can_go_home us m.index.entries) m.index.entries) (Some r)) same_ups (subst (λ (i : Contents). IsAnswer (find (can_go_home ups i.entries) i.entries) (Some r)) same is)) in
+    (subst (λ (us : List Bool). IsAnswer (find (can_go_home us m.index.entries) m.index.entries) (Some r)) same_ups (subst (λ (i : Contents). IsAnswer (find (can_go_home ups i.entries) i.entries) (Some r)) same is)) in
     let f = first_of_all (λ d. slice_index_or m.ups.items d.lane false && has_due (listed_in m.index.entries) d) m.index.entries a.entry (subst (λ (i : Contents). IsIndex i.entries) same sound).rising a.is in
     record {
       entry = a.entry;

@@ -110,9 +110,9 @@ module _ {D : Type 0} (state : D → State) (old new : Manager D) (r : Rec) (g :
         let spot = g.first.spot in
         let awake = (and_parts (slice_index_or old.ups.items g.entry.listed.lane false) (has_going (listed_in old.index.entries) g.entry.listed) g.first.passes).0 in
         let listed = ap listed_in (done_then _ res done d.ok)
-            ∙ ap (λ (v : ℕ). listed_in (given_of v old.index.entries)) g.version
-            ∙ filter_listed (changed g.entry.listed.version (with_kept old.index.entries) old.index.entries)
-            ∙ ap (filter keeps_a_block) (spot.then_is (with_kept old.index.entries)) in
+        ∙ ap (λ (v : ℕ). listed_in (given_of v old.index.entries)) g.version
+        ∙ filter_listed (changed g.entry.listed.version (with_kept old.index.entries) old.index.entries)
+        ∙ ap (filter keeps_a_block) (spot.then_is (with_kept old.index.entries)) in
         gives_up spot.place g.entry.listed (least_of _ old.index.entries g.entry g.first) spot.there
         (ap look_of_manager d.rest ∙ (λ i. record { home_up = old.home_up; ups = set_same old.ups.items g.entry.listed.lane awake i; next = old.next; listed = listed i }))
 

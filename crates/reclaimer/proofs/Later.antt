@@ -1,5 +1,5 @@
 -- Data stays that of its version.
-use Rattle.std.proofs.Common.{◌≡◌, List, ◌++◌, Option, None, Some, sym, subst, ap, ◌∙◌}
+use Rattle.std.proofs.Common.{List, None, Some, sym, subst, ap, ◌∙◌}
 use Rattle.std.proofs.lemmas.List.{map-append}
 use Rattle.wol_model.specs.Blocks.{Write}
 use Rattle.wol_model.specs.History.{writes}

@@ -1,20 +1,17 @@
 -- The due blocks of one record are read and put home in one call.
-use Rattle.std.proofs.Common.{◌≡◌, ◌<◌, ◌≤◌, ◌+◌, ◌^◌, ℕ, Bool, true, false, ◌&&◌, not, List, length, take, Option, None, Some, Result, Ok, Err, OnOk, is_ok, refl, sym, ap, subst, ◌∙◌, arith}
-use Rattle.std.specs.Prelude.{IsSomeAnd, IsTrue, IsErr, is_some, count_by}
+use Rattle.std.proofs.Common.{◌≡◌, ◌<◌, ◌≤◌, ◌+◌, ◌^◌, ℕ, Bool, true, false, not, List, length, take, Option, None, Some, Result, Ok, Err, is_ok, refl, sym, ap, subst, ◌∙◌, arith}
+use Rattle.std.specs.Prelude.{IsSomeAnd, IsTrue, count_by}
 use Rattle.std.specs.Int.RustNames.{count_ones}
 use Rattle.std.proofs.lemmas.Bool.{and_parts, eqb-true}
 use Rattle.std.proofs.lemmas.Option.{same_Some, none-some}
 use Rattle.wol_disk.specs.Disk.{State, Block, IsDisk}
 use Rattle.wol_model.specs.Extents.{has_newer}
-use Rattle.wol_model.specs.History.{writes}
 use Rattle.wol_model.specs.Index.{Listed, Indexed, listed_in, listed_covers, is_due, is_live, is_homed, cover_of, block_numbers}
-use Rattle.wol_model.specs.Log.{has_bit}
 use Rattle.wol_model.proofs.Counts.{marked_within}
-use Rattle.wol_promise.specs.Ruled.{Noted, entries_of}
-use Rattle.wol_promise.specs.Stands.{IsDataOf}
-use Rattle.redirect_map.specs.Index.{entry_at, HasVersion, has_version}
+use Rattle.wol_promise.specs.Ruled.{Noted}
+use Rattle.redirect_map.specs.Index.{entry_at, has_version}
 use Rattle.manager.specs.Reading.{IsReadThrough}
-use Rattle.manager.specs.Reclaim.{OnTried, OnKept, OnFailed, TellsStep, KeepsOn, BreaksOff, StopsSince, Always, AreOf, HasFetched, HasStored}
+use Rattle.manager.specs.Reclaim.{OnTried, OnFailed, TellsStep, KeepsOn, BreaksOff, StopsSince, Always, AreOf, HasFetched, HasStored}
 use Rattle.manager.specs.Stands.{Keeps, IsReady}
 use Rattle.manager.specs.declared.base.ManagerBase.{ManagerBase}
 use Rattle.manager.specs.declared.manager.Manager.{Manager}
@@ -22,9 +19,9 @@ use Rattle.manager.specs.declared.part.StepFault.{StepFault}
 use Rattle.manager.specs.declared.part.StepFault.TheVariants.{DiskFault, Down}
 use Rattle.manager.proofs.ReadKeeps.{keeps_read}
 use Rattle.manager.proofs.ReadThrough.{through_then, rose_through}
-use Rattle.reclaimer.specs.Drains.{HasMoved, put, not_read}
+use Rattle.reclaimer.specs.Drains.{HasMoved, put}
 use Rattle.reclaimer.specs.Fetches.{IsFetchOf, HasData}
-use Rattle.reclaimer.specs.Records.{FetchedRecord, record_of}
+use Rattle.reclaimer.specs.Records.{record_of}
 use Rattle.reclaimer.specs.declared.answers.Drain.{Drain}
 use Rattle.reclaimer.specs.declared.answers.Drain.TheVariants.{Moved}
 use Rattle.reclaimer.specs.declared.room.Filled.{Filled}
@@ -33,7 +30,6 @@ use Rattle.reclaimer.proofs.Fetching.{and_of}
 use Rattle.reclaimer.proofs.GiveUp.{some_and}
 use Rattle.reclaimer.proofs.Nexts.{found_passes}
 use Rattle.reclaimer.proofs.Putting.{never, stored_as}
-use Rattle.reclaimer.proofs.ReadRecord.{length_take}
 
 -- no block outside the record's range is due
 behind_due : (es : List Listed) (e : Listed) (b : ℕ) → e.first + length e.keep ≤ b → is_due es e b ≡ false

@@ -1,5 +1,5 @@
 -- The first entry that passes a test, in an index whose versions rise.
-use Rattle.std.proofs.Common.{◌≡◌, ⊎_elim, ◌<◌, ◌≤◌, ◌+◌, ℕ, zero, suc, Bool, true, false, cond, List, [], ◌∷◌, ◌++◌, map, length, Option, None, Some, refl, sym, ap, subst, ◌∙◌, arith}
+use Rattle.std.proofs.Common.{◌≡◌, ◌<◌, ◌≤◌, ◌+◌, ℕ, suc, Bool, true, false, cond, List, [], ◌∷◌, map, length, Option, None, Some, refl, sym, ap, subst, ◌∙◌, arith}
 use Rattle.std.specs.Prelude.{find, position, not, nat_lt, Contains, slice_get, slice_set}
 use Rattle.std.specs.List.{AllByRecursion, prefix_len}
 use Rattle.std.specs.Option.{option_map}
@@ -99,7 +99,7 @@ first_of_all P (x ∷ es) e rising is = at (P x.listed) refl is (first_of_all P 
     at false here found more =
         let rest = more found in
         let lt : x.listed.version < e.listed.version = all_member (λ (v : ℕ). x.listed.version < v) (map (λ (d : Indexed). d.listed.version) es) e.listed.version rising.0
-            (member_map (λ (d : Indexed). d.listed.version) es e (found_there (λ (d : Indexed). P d.listed) es e found)) in
+        (member_map (λ (d : Indexed). d.listed.version) es e (found_there (λ (d : Indexed). P d.listed) es e found)) in
         let other : has_version e.listed.version x ≡ false = ne_eqb x.listed.version e.listed.version (λ same. omega arith) in record {
           spot = behind_spot x es e.listed.version e other rest.spot;
           before = (λ i. cond (not (here i)) (1 + prefix_len (λ (d : Listed). not (P d)) (listed_in es)) 0) ∙ one_more (prefix_len (λ (d : Listed). not (P d)) (listed_in es)) ∙ ap suc rest.before;

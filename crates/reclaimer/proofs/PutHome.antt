@@ -1,5 +1,5 @@
 -- A call that puts fetched blocks home, by its answers.
-use Rattle.std.proofs.Common.{◌≡◌, ◌≢◌, ◌<◌, ◌≤◌, ◌+◌, ◌^◌, ℕ, Bool, true, false, ◌&&◌, List, length, take, Option, None, Some, Result, Ok, Err, is_ok, OnOk, refl, sym, ap, subst, ◌∙◌, arith, eqb}
+use Rattle.std.proofs.Common.{◌≡◌, ◌≢◌, ◌<◌, ◌≤◌, ◌+◌, ◌^◌, ℕ, Bool, true, false, ◌&&◌, List, length, take, Option, None, Some, Result, Ok, Err, is_ok, refl, sym, ap, subst, ◌∙◌, eqb}
 use Rattle.std.specs.Prelude.{IsTrue, is_some}
 use Rattle.std.specs.Int.RustNames.{count_ones}
 use Rattle.std.specs.Option.{option_map_or}
@@ -14,7 +14,7 @@ use Rattle.wol_promise.specs.Ruled.{Noted, entries_of}
 use Rattle.wol_promise.specs.Stands.{IsDataOf}
 use Rattle.redirect_map.specs.Index.{Contents, entry_at, HasVersion, IsIndex}
 use Rattle.redirect_map.specs.Masks.{IsMask, in_mask}
-use Rattle.manager.specs.Reclaim.{OnTried, OnFailed, TellsStep, KeepsOn, BreaksOff, StopsSince, AreOf, HasStored}
+use Rattle.manager.specs.Reclaim.{OnTried, OnFailed, TellsStep, BreaksOff, StopsSince, AreOf, HasStored}
 use Rattle.manager.specs.Seen.{look_of_manager}
 use Rattle.manager.specs.declared.base.ManagerBase.{ManagerBase}
 use Rattle.manager.specs.declared.manager.Manager.{Manager}
@@ -28,7 +28,7 @@ use Rattle.reclaimer.specs.declared.room.Filled.{Filled}
 use Rattle.reclaimer.proofs.Counting.{count_nothing}
 use Rattle.reclaimer.proofs.GiveUp.{some_and}
 use Rattle.reclaimer.proofs.Moments.{at_rest}
-use Rattle.reclaimer.proofs.Putting.{seen, none_asleep, mask_is, counted_home, none_goes, empty_where, some_counted, stored_as, put_reclaims}
+use Rattle.reclaimer.proofs.Putting.{seen, mask_is, counted_home, none_goes, empty_where, stored_as, put_reclaims}
 
 -- while home is asleep nothing goes
 pub asleep_none : {D : Type 0} (m : Manager D) (from : Option FetchedRecord) → m.home_up ≡ false → 0 ≡ home_count m from
@@ -77,14 +77,20 @@ module _ {D : Type 0} (state : D → State) (m : Manager D) (f : Filled) (blocks
       pub was_put : {T : Type 0} (r : Result T StepFault) → is_ok r ≡ true → HasStored state f.version put (take f.count lent) m new r → HasPutHome state (Ok (count_ones put)) m new from
       was_put r done h = let done_ : Result ℕ StepFault = Ok (count_ones put) in (
         λ zero_. absurd (some (zero_from_ones put zero_)),
-        λ _. some_and _ from (seen m f blocks few long) from_is (put, mask_is m f blocks few long up put fits masked,
-        subst (λ (bs : List Block). HasStored state f.version put (take f.count bs) m new done_) same_lent (stored_as state f.version put (take f.count lent) m new r done_ (sym done) h)),
+        λ _. some_and _ from (seen m f blocks few long) from_is (
+          put,
+          mask_is m f blocks few long up put fits masked,
+          subst (λ (bs : List Block). HasStored state f.version put (take f.count bs) m new done_) same_lent (stored_as state f.version put (take f.count lent) m new r done_ (sym done) h),
+        ),
       )
 
       -- home failed
       pub was_refused : (T : Type 0) (fault : StepFault) → TellsStep {T = T} state (Err fault) m new → OnTried {T = T} (Err fault) (HasStored {T = T} state f.version put (take f.count lent) m new (Err fault)) → HasPutHome state (Err fault) m new from
-      was_refused T (DiskFault p) told h = let was : Result T StepFault = Err (DiskFault p) in let failed : Result ℕ StepFault = Err (DiskFault p) in some_and _ from (seen m f blocks few long) from_is (put, mask_is m f blocks few long up put fits masked,
-          subst (λ (bs : List Block). HasStored state f.version put (take f.count bs) m new failed) same_lent (stored_as state f.version put (take f.count lent) m new was failed refl h))
+      was_refused T (DiskFault p) told h = let was : Result T StepFault = Err (DiskFault p) in let failed : Result ℕ StepFault = Err (DiskFault p) in some_and _ from (seen m f blocks few long) from_is (
+        put,
+        mask_is m f blocks few long up put fits masked,
+        subst (λ (bs : List Block). HasStored state f.version put (take f.count bs) m new failed) same_lent (stored_as state f.version put (take f.count lent) m new was failed refl h),
+      )
       was_refused T (Down p) told h = told.1
 
       -- the look goes on by a step of reclaim

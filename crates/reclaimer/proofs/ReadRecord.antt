@@ -1,5 +1,5 @@
 -- The record of a version, as it is read.
-use Rattle.std.proofs.Common.{◌≡◌, ◌≤◌, ◌+◌, ℕ, zero, suc, Bool, List, [], ◌∷◌, ◌++◌, length, take, drop, Option, Some, refl, sym, ap, subst, ◌∙◌, arith}
+use Rattle.std.proofs.Common.{◌≡◌, ◌≤◌, ℕ, zero, suc, Bool, List, [], ◌∷◌, ◌++◌, length, take, Some, refl, sym, ap, subst, ◌∙◌, arith}
 use Rattle.std.specs.Prelude.{IfSome, IsSomeAnd, IsTrue}
 use Rattle.wol_disk.specs.Disk.{Block}
 use Rattle.wol_model.specs.History.{writes}
@@ -13,7 +13,6 @@ use Rattle.manager.specs.Reclaim.{AreOf}
 use Rattle.manager.specs.declared.base.ManagerBase.{ManagerBase}
 use Rattle.manager.proofs.Entries.{found_of, some_of, entry_of_version, among, entry_in}
 use Rattle.reclaimer.specs.Fetches.{IsFetchOf}
-use Rattle.reclaimer.specs.Records.{FetchedRecord}
 use Rattle.reclaimer.proofs.GiveUp.{some_and}
 
 -- the first elements of two lists joined

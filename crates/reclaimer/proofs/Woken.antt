@@ -1,10 +1,10 @@
 -- A step of a drain: home is woken, and then the step is made.
-use Rattle.std.proofs.Common.{◌≡◌, ◌+◌, ℕ, zero, suc, Bool, true, false, ◌||◌, List, [], ◌∷◌, map, length, Option, None, Some, Result, Ok, Err, refl, sym, ap, subst, ◌∙◌, arith, eqb}
+use Rattle.std.proofs.Common.{◌≡◌, ◌+◌, ℕ, suc, Bool, true, false, ◌||◌, List, [], ◌∷◌, map, length, None, Result, Ok, Err, refl, sym, ap, subst, ◌∙◌, arith, eqb}
 use Rattle.std.specs.Prelude.{IsTrue, IsErr, slice_index_or}
 use Rattle.std.specs.List.{list_any, range_with_len}
 use Rattle.std.proofs.lemmas.Option.{none-some}
 use Rattle.wol_disk.specs.Disk.{State, IsDisk}
-use Rattle.wol_model.specs.Index.{Listed, Indexed, listed_in}
+use Rattle.wol_model.specs.Index.{Listed, listed_in}
 use Rattle.wol_promise.specs.Policy.{drained}
 use Rattle.manager.specs.Reading.{IsReadThrough}
 use Rattle.manager.specs.Reclaim.{OnTried, OnKept, OnFailed, TellsStep, KeepsOn, BreaksOff, StopsSince, Always}
@@ -13,10 +13,10 @@ use Rattle.manager.specs.Stands.{IsReady}
 use Rattle.manager.specs.declared.manager.Manager.{Manager}
 use Rattle.manager.specs.declared.part.StepFault.{StepFault}
 use Rattle.manager.specs.declared.part.StepFault.TheVariants.{DiskFault, Down}
-use Rattle.reclaimer.specs.Drains.{HasWoken, HasDrained, Drains, HasMoved, TellsMoved, nothing_left, gave_up, put_home, put, not_read}
+use Rattle.reclaimer.specs.Drains.{HasWoken, HasDrained, Drains, TellsMoved, nothing_left, gave_up, put_home, put, not_read}
 use Rattle.reclaimer.specs.Steps.{StopsWithin}
 use Rattle.reclaimer.specs.declared.answers.Drain.{Drain}
-use Rattle.reclaimer.specs.declared.answers.Drain.TheVariants.{Bare, Moved}
+use Rattle.reclaimer.specs.declared.answers.Drain.TheVariants.{Bare}
 use Rattle.reclaimer.proofs.MoveHome.{keeps_both, breaks_both, stops_both, fault_both}
 use Rattle.reclaimer.proofs.Moments.{within}
 

@@ -1,11 +1,12 @@
 // A drain: step by step all records of a volume are put home and given up, whatever sleeps.
-ghost use Rattle.std.specs.Prelude.{◌≡◌, ◌↔◌, [], true, None, Ok, IsTrue, IsSomeAnd, length};
+ghost use Rattle.std.specs.Prelude.{◌≡◌, ◌↔◌, ◌≤◌, ℕ, List, [], true, None, Ok, IsTrue, IsSomeAnd, length};
 ghost use Rattle.wol_model.specs.Index.{listed_in, has_due};
 ghost use Rattle.wol_promise.specs.Policy.{drained};
 ghost use Rattle.redirect_map.specs.Index.{entry_at};
 ghost use Rattle.manager.specs.Reclaim.{OnTried, OnKept, OnFailed, TellsStep, KeepsOn, BreaksOff, StopsSince, Always};
 ghost use Rattle.manager.specs.Seen.{look_of_manager};
-ghost use Rattle.manager.specs.Stands.{IsReady, IsHome};
+ghost use Rattle.manager.specs.Stands.{IsReady, IsHome, nones_at};
+ghost use Rattle.manager.specs.declared.base.LaneBase.{LaneBase};
 ghost use Rattle.reclaimer.specs.Drains.{HasMoved, Drains, HasDrained, Lowers};
 ghost use Rattle.reclaimer.specs.Steps.{StopsWithin};
 
@@ -118,6 +119,9 @@ pub fn drain_step<R: Wait, D: Disk>(
     ensures look { drained (look_of_manager m.new) ≡ drained (look_of_manager m.old) }
     ensures bare_look { result ≡ Ok Drain.Bare → look_of_manager m.new ≡ drained (look_of_manager m.old) }
     ensures waking { OnTried result (m.new.home_up ≡ true) }
+
+    // No pool is found empty less often than before: so a write after a drain can tell which it found so.
+    ensures passed { (lanes : List LaneBase) (k : ℕ) → nones_at m.old.lanes.items lanes k ≤ nones_at m.new.lanes.items lanes k }
     ensures keeps { OnKept result (KeepsOn D.tells D.state m.old m.new Always) }
     ensures broke { OnFailed result (BreaksOff D.tells D.state m.old m.new Always) }
     ensures any_moment { IsTrue D.tells → StopsWithin D.tells D.state m.old m.new Always }

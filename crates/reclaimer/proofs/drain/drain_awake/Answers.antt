@@ -1,10 +1,9 @@
 -- A step of a drain with home awake.
-use Rattle.std.proofs.Common.{◌≡◌, ◌<◌, ◌∷◌,  ◌&&◌, [], true, Bool, List, None, Some, Ok, Err, length, refl, sym, ap, subst, ◌∙◌, arith}
+use Rattle.std.proofs.Common.{◌≡◌, ◌∷◌, [], true, Bool, List, None, Some, Ok, length, refl, sym, ap, subst, ◌∙◌}
 use Rattle.std.specs.Prelude.{if◌then◌else◌}
 use Rattle.std.specs.List.{AllByRecursion}
 use Rattle.wol_model.specs.Index.{listed_in, has_due, has_going}
 use Rattle.redirect_map.specs.Index.{entry_at, IsIndex}
-use Rattle.manager.specs.Reclaim.{Always}
 use Rattle.manager.proofs.ReadStops.{stops_read}
 use Rattle.reclaimer.proofs.Draining.{none_left}
 use Rattle.reclaimer.proofs.DrainStep.{awake_answer, byte_is, first_awake, first_there, first_passes, given_drains, given_less, given_look, drop_refused, moved_drains}

@@ -1,5 +1,5 @@
 -- What is still due goes home, or nothing does.
-use Rattle.std.proofs.Common.{◌≡◌, ◌<◌, ◌≤◌, Bool, true, false, Option, None, Some, Ok, Err, refl, sym, ap, rules, arith, ◌∙◌}
+use Rattle.std.proofs.Common.{◌≡◌, ◌<◌, ◌≤◌, true, Ok, Err, refl, sym, ap, rules, ◌∙◌}
 use Rattle.std.specs.Int.RustNames.{count_ones}
 use Rattle.std.proofs.lemmas.Nat.{zero_from_ones}
 use Rattle.manager.proofs.ReadThrough.{never_some}

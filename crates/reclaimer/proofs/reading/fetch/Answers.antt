@@ -1,5 +1,5 @@
 -- The next record with due blocks is read, or there is none.
-use Rattle.std.proofs.Common.{◌≡◌, Bool, true, rules, length, Some, refl, sym, ap, arith, ◌∙◌}
+use Rattle.std.proofs.Common.{◌≡◌, true, rules, length, Some, sym, ap, arith, ◌∙◌}
 use Rattle.manager.specs.Reclaim.{Always}
 use Rattle.manager.proofs.ReadThrough.{never_some}
 use Rattle.reclaimer.specs.Records.{record_of}

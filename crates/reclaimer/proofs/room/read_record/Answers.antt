@@ -1,7 +1,6 @@
 -- The record of a version is read into the first blocks of the room.
-use Rattle.std.proofs.Common.{length, take, drop, ap, sym, arith, ◌∙◌}
+use Rattle.std.proofs.Common.{length, drop, ap, sym, arith, ◌∙◌}
 use Rattle.redirect_map.specs.Index.{Contents}
-use Rattle.manager.proofs.Entries.{found_of}
 use Rattle.reclaimer.proofs.ReadRecord.{of_version, fetch_of, data_of, length_take}
 use Rattle.std.proofs.lemmas.Option.{same_Some}
 use Rattle.reclaimer.proofs.room.read_record.Goals as goal
