@@ -6,6 +6,7 @@ mod answers;
 mod drain;
 mod give_up;
 mod laws;
+mod next;
 mod put;
 mod reading;
 mod room;
