@@ -1,5 +1,5 @@
 -- What a run of the program leaves, by its exit status.
-use Rattle.std.specs.Prelude.{◌≡◌, ℕ, ◌⊎◌, ⊤, List, Option, codes, ◌^◌, ◌∷◌, length, Err}
+use Rattle.std.specs.Prelude.{◌≡◌, ℕ, ◌⊎◌, ⊤, List, Option, ◌^◌, ◌∷◌, length, Err}
 use Rattle.std.specs.Io.KnownBytes.{Appends}
 use Rattle.wol_disk.specs.Disk.{Block, Rose, Values}
 use Rattle.wol_io.specs.Streams.{AppendsFront}
