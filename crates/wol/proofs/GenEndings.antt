@@ -19,29 +19,26 @@ use Rattle.wol.specs.declared.command.Command.{Command}
 use Rattle.wol.specs.declared.command.Command.TheVariants.{Gen, Solo}
 use Rattle.wol.specs.declared.command.Generated.{Generated}
 use Rattle.wol.specs.Commands.{IsCommand}
-use Rattle.wol.specs.Generating.{IsCutShort, IsFaultLine, IsListing, RunsGen, first_lines, line_of_fault}
-use Rattle.wol.specs.Settings.{HasConfig, HasNoConfig, IsUnread}
+use Rattle.wol.specs.Generating.{IsCutShort, IsListing, RunsGen, first_lines}
+use Rattle.wol.specs.Settings.{HasConfig, HasNoConfig, IsFaultLine, IsUnread, line_of_fault}
+use Rattle.wol.proofs.Unread.{ends_unread, line_of_memory, line_unread, wanted_or_sink}
 use Rattle.wol.specs.Tops.{EndsWith}
 use Rattle.wol.specs.Words.{IsGen, IsSolo}
-
-pub memory_line : line_of_fault fault.Memory ≡ codes "fault 9 memory\n"
-unfolding fault_text cause_text
-memory_line = ap (λ (status : List ℕ). line_of (codes "fault" ∷ status ∷ codes "memory" ∷ [])) (decimal_digit 9 (lit< tt))
 
 module _ (asked : Generated) (left : Option (List ℕ)) (faults faults' : ℕ) where
   -- the configuration wasn't had
   pub told_unread : (status : ℕ) (printed new : Option (List ℕ)) (e : Fault) → IsUnread e left faults faults'
-      → EndsWith (line_of_fault e) (status_of e) status printed new ⊎ EndsWith (line_of_fault fault.Memory) 9 status printed new → RunsGen asked left faults faults' status printed new
+      → EndsWith (line_of_fault e) (status_of e) status printed new ⊎ EndsWith (codes "fault 9 memory\n") 9 status printed new → RunsGen asked left faults faults' status printed new
   told_unread status printed new e cause (inl ends) = record {
     text = line_of_fault e;
     wanted = status_of e;
-    allowed = inr (inr (record { fault = e; cause = cause; line_ = refl; told = refl }));
+    allowed = inr (inr (line_unread e left faults faults' cause));
     ends = ends;
   }
   told_unread status printed new e cause (inr ends) = record {
-    text = line_of_fault fault.Memory;
+    text = codes "fault 9 memory\n";
     wanted = 9;
-    allowed = inr (inr (record { fault = fault.Memory; cause = tt; line_ = refl; told = refl }));
+    allowed = inr (inr (line_of_memory left faults faults'));
     ends = ends;
   }
 
@@ -80,42 +77,11 @@ module _ (asked : Generated) (left : Option (List ℕ)) (faults faults' : ℕ) w
 
 -- ---- What the statuses come of
 
--- the status of a run: that of its text, or that of a failed sink
-wanted_or_sink : (text : List ℕ) (wanted status : ℕ) (printed new : Option (List ℕ)) → EndsWith text wanted status printed new → (status ≡ wanted) ⊎ (status ≡ 7)
-wanted_or_sink text wanted status printed new (inl (is, more)) = inl is
-wanted_or_sink text wanted status printed new (inr (is, more)) = inr is
-
--- the statuses of a configuration that wasn't had
-unread_status : (e : Fault) (left : Option (List ℕ)) (faults faults' : ℕ) → IsUnread e left faults faults' → ((status_of e ≡ 2) × HasNoConfig left) ⊎ ((status_of e ≡ 8) × Rose faults faults') ⊎ (status_of e ≡ 9)
-unread_status (fault.Config refused.NoMemory) left faults faults' cause = absurd (cause.0 refl)
-unread_status (fault.Config refused.NotToml) left faults faults' cause = inl (refl, record { why = refused.NotToml; fault = cause.0; refused = cause.1 })
-unread_status (fault.Config (refused.Missing key)) left faults faults' cause = inl (refl, record { why = refused.Missing key; fault = cause.0; refused = cause.1 })
-unread_status (fault.Config (refused.WrongKind key)) left faults faults' cause = inl (refl, record { why = refused.WrongKind key; fault = cause.0; refused = cause.1 })
-unread_status (fault.Config (refused.OutOfRange key)) left faults faults' cause = inl (refl, record { why = refused.OutOfRange key; fault = cause.0; refused = cause.1 })
-unread_status (fault.Config (refused.Twice volume name)) left faults faults' cause = inl (refl, record { why = refused.Twice volume name; fault = cause.0; refused = cause.1 })
-unread_status (fault.Config (refused.BadView volume name)) left faults faults' cause = inl (refl, record { why = refused.BadView volume name; fault = cause.0; refused = cause.1 })
-unread_status (fault.Config refused.TooLong) left faults faults' cause = inl (refl, record { why = refused.TooLong; fault = cause.0; refused = cause.1 })
-unread_status fault.ConfigSource left faults faults' cause = inr (inl (refl, cause))
-unread_status fault.Memory left faults faults' cause = inr (inr refl)
-unread_status fault.Words left faults faults' cause = absurd cause
-unread_status (fault.Line line why) left faults faults' cause = absurd cause
-unread_status (fault.Volume volume trouble) left faults faults' cause = absurd cause
-unread_status fault.TraceSource left faults faults' cause = absurd cause
-unread_status fault.Lines left faults faults' cause = absurd cause
-unread_status (fault.Versions volume) left faults faults' cause = absurd cause
-
 -- how a run of `gen` may end: by its status, with what the status comes of
 abbrev pub EndsGen : (left : Option (List ℕ)) (faults faults' status : ℕ) → Type 0
 EndsGen left faults faults' status = (status ≡ 0) ⊎ ((status ≡ 2) × HasNoConfig left) ⊎ (status ≡ 7) ⊎ ((status ≡ 8) × Rose faults faults') ⊎ (status ≡ 9)
 
 module _ (asked : Generated) (left : Option (List ℕ)) (faults faults' status : ℕ) (printed new : Option (List ℕ)) where
-  by_fault : (wanted : ℕ) → status ≡ wanted → (e : Fault) → wanted ≡ status_of e → IsUnread e left faults faults' → EndsGen left faults faults' status
-  by_fault wanted is e told cause = elim (unread_status e left faults faults' cause) [
-    | inl (two, none) ↦ inr (inl (is ∙ told ∙ two, none))
-    | inr (inl (eight, rose)) ↦ inr (inr (inr (inl (is ∙ told ∙ eight, rose))))
-    | inr (inr nine) ↦ inr (inr (inr (inr (is ∙ told ∙ nine))))
-  ]
-
   pub ends_gen : RunsGen asked left faults faults' status printed new → EndsGen left faults faults' status
   ends_gen run = elim (wanted_or_sink run.text run.wanted status printed new run.ends) [
     | inl is ↦ by run.allowed is
@@ -125,7 +91,11 @@ module _ (asked : Generated) (left : Option (List ℕ)) (faults faults' status :
       by : IsListing asked left run.text run.wanted ⊎ IsCutShort asked left run.text run.wanted ⊎ IsFaultLine left faults faults' run.text run.wanted → status ≡ run.wanted → EndsGen left faults faults' status
       by (inl listed) is = inl (is ∙ listed.done)
       by (inr (inl cut)) is = inr (inr (inr (inr (is ∙ cut.memory))))
-      by (inr (inr line)) is = by_fault run.wanted is line.fault line.told line.cause
+      by (inr (inr line)) is = elim (ends_unread left faults faults' run.text run.wanted line) [
+        | inl (two, none) ↦ inr (inl (is ∙ two, none))
+        | inr (inl (eight, rose)) ↦ inr (inr (inr (inl (is ∙ eight, rose))))
+        | inr (inr nine) ↦ inr (inr (inr (inr (is ∙ nine))))
+      ]
 
   -- what status 2 comes of
   pub comes_of_config : RunsGen asked left faults faults' status printed new → status ≡ 2 → HasNoConfig left

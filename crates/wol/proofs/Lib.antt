@@ -1,5 +1,7 @@
 mod Endings
+mod FormatEndings
 mod GenEndings
 mod Pending
 mod Taken
+mod Unread
 mod WordLists

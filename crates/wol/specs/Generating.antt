@@ -3,15 +3,13 @@ use Rattle.std.specs.Prelude.{◌≡◌, ℕ, ◌≤◌, ◌⊎◌, List, [], �
 use Rattle.std.specs.Io.KnownBytes.{Appends, Keeps}
 use Rattle.wol_disk.specs.Disk.{Rose}
 use Rattle.wol_io.specs.Streams.{AppendsFront}
+use Rattle.wol_model.specs.Trace.{Target}
 use Rattle.wol_config.specs.declared.config.Config.{Config}
 use Rattle.trace_gen.specs.Generated.{lines, targets_of, text_of}
-use Rattle.report.specs.declared.fault.Fault.{Fault}
-use Rattle.report.specs.Faults.{fault_text, status_of}
-use Rattle.report.specs.Names.{printed_names}
 use Rattle.wol.specs.declared.command.Generated.{Generated}
 use Rattle.wol.specs.declared.listing.Stop.{Stop}
 use Rattle.wol.specs.declared.listing.Stop.TheVariants.{Sink, Memory}
-use Rattle.wol.specs.Settings.{HasConfig, IsUnread}
+use Rattle.wol.specs.Settings.{HasConfig, IsFaultLine}
 use Rattle.wol.specs.Tops.{EndsWith}
 
 -- the first lines of a seed on the volumes of a configuration, as they are written
@@ -29,10 +27,6 @@ Prints (Err Memory) config seed count faults faults' printed new =
 abbrev pub HandsOn : (printed new : Option (List ℕ)) → (text left : List ℕ) → Type 0
 HandsOn printed new text left = ((left ≡ text) × Keeps printed new) ⊎ ((left ≡ []) × Appends printed new text)
 
--- the line of a fault that names no volume
-abbrev pub line_of_fault : Fault → List ℕ
-line_of_fault e = fault_text (printed_names []) e
-
 -- Status 0: the configuration was had, and the text is all lines that were asked for.
 pub record IsListing (asked : Generated) (left : Option (List ℕ)) (text : List ℕ) (status : ℕ) : Type 0 where
   pub config : Config
@@ -48,13 +42,6 @@ pub record IsCutShort (asked : Generated) (left : Option (List ℕ)) (text : Lis
   pub first : some ≤ asked.lines
   pub lines_ : text ≡ first_lines config asked.seed some ++ codes "fault 9 memory\n"
   pub memory : status ≡ 9
-
--- Status 2, 8 or 9: the configuration wasn't had, and the text is the line that says why.
-pub record IsFaultLine (left : Option (List ℕ)) (faults faults' : ℕ) (text : List ℕ) (status : ℕ) : Type 0 where
-  pub fault : Fault
-  pub cause : IsUnread fault left faults faults'
-  pub line_ : text ≡ line_of_fault fault
-  pub told : status ≡ status_of fault
 
 -- a run of `gen`: one of these texts was printed whole, or a front of it to a sink that failed
 pub record RunsGen (asked : Generated) (left : Option (List ℕ)) (faults faults' : ℕ) (status : ℕ) (printed new : Option (List ℕ)) : Type 0 where

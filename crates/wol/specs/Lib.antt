@@ -4,3 +4,4 @@ pub mod Statuses
 pub mod Tops
 pub mod Settings
 pub mod Generating
+pub mod Formatting

@@ -1,5 +1,5 @@
 -- The configuration that a source of bytes has.
-use Rattle.std.specs.Prelude.{◌≡◌, ◌≢◌, ℕ, ◌<◌, ◌≤◌, ◌⊎◌, ⊤, List, ◌++◌, length, Option, None, Some}
+use Rattle.std.specs.Prelude.{◌≡◌, ◌≢◌, ℕ, ◌<◌, ◌≤◌, ◌⊎◌, ⊤, List, [], ◌++◌, length, Option, None, Some}
 use Rattle.toml.specs.Data.{Members}
 use Rattle.wol_disk.specs.Disk.{Rose}
 use Rattle.wol_config.specs.declared.config.Config.{Config}
@@ -8,6 +8,8 @@ use Rattle.wol_config.specs.declared.config.ConfigFault.TheVariants.{NoMemory}
 use Rattle.wol_config.specs.Configs.{IsDocument, IsConfigOf, IsRefusal, byte_limit}
 use Rattle.report.specs.declared.fault.Fault.{Fault}
 use Rattle.report.specs.declared.fault.Fault.TheVariants as fault
+use Rattle.report.specs.Faults.{fault_text, status_of}
+use Rattle.report.specs.Names.{printed_names}
 
 -- bytes that were taken of a source that tells are all that was left; or they are its first ones, and too many
 abbrev pub IsTaken : (left : Option (List ℕ)) → (bytes : List ℕ) → Type 0
@@ -36,3 +38,14 @@ IsUnread (fault.Config why) left faults faults' = (why ≢ NoMemory) × IsRefuse
 IsUnread fault.ConfigSource left faults faults' = Rose faults faults'
 IsUnread fault.Memory left faults faults' = ⊤
 IsUnread _ left faults faults' = ⊥
+
+-- the line of a fault that names no volume
+abbrev pub line_of_fault : Fault → List ℕ
+line_of_fault e = fault_text (printed_names []) e
+
+-- Status 2, 8 or 9: the configuration wasn't had, and the text is the line that says why.
+pub record IsFaultLine (left : Option (List ℕ)) (faults faults' : ℕ) (text : List ℕ) (status : ℕ) : Type 0 where
+  pub fault : Fault
+  pub cause : IsUnread fault left faults faults'
+  pub line_ : text ≡ line_of_fault fault
+  pub told : status ≡ status_of fault

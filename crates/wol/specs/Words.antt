@@ -37,7 +37,16 @@ pub record IsGen (words : List (List ℕ)) (asked : Generated) : Type 0 where
 abbrev pub NoGen : List (List ℕ) → Type 0
 NoGen words = (asked : Generated) → ¬ IsGen words asked
 
+-- the words are `format`
+abbrev pub IsFormat : List (List ℕ) → Type 0
+IsFormat words = words ≡ codes "format" ∷ []
+
+-- the words are others
+abbrev pub NoFormat : List (List ℕ) → Type 0
+NoFormat words = ¬ IsFormat words
+
 -- the words are none of the program's commands
 pub record NoCommand (words : List (List ℕ)) : Type 0 where
   pub solo : NoSolo words
   pub gen : NoGen words
+  pub format : NoFormat words

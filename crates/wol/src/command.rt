@@ -2,7 +2,7 @@
 ghost use Rattle.std.specs.Prelude.{◌≡◌, ◌↔◌, ◌<◌, ◌≤◌, ◌^◌, ℕ, Some, IfSome, IfNone, IsTrue, All, length, map, decimal, slice_index_or, string_bytes};
 ghost use Rattle.std.specs.List.{list_all};
 ghost use Rattle.solo.specs.Volume.{IsVolume, target_of};
-ghost use Rattle.wol.specs.Words.{IsHost, IsHostByte, IsSolo, NoSolo, IsGen, NoGen, NoCommand};
+ghost use Rattle.wol.specs.Words.{IsHost, IsHostByte, IsSolo, NoSolo, IsGen, NoGen, IsFormat, NoCommand};
 ghost use Rattle.wol.specs.Commands.{IsCommand};
 
 use itoa::Buffer;
@@ -36,6 +36,8 @@ pub enum Command<'a> {
     Solo(Volume<'a>),
     /// A generated trace is printed.
     Gen(Generated),
+    /// The images of the configuration are formatted.
+    Format,
 }
 
 /// The command that the words are. `None` exactly where they are none.
@@ -46,7 +48,20 @@ pub fn command_of(words: &[String]) -> Option<Command<'_>>
     if let Some(volume) = solo_words(words) {
         return Some(Command::Solo(volume));
     }
+    if is_format(words) {
+        return Some(Command::Format);
+    }
     Some(Command::Gen(gen_words(words)?))
+}
+
+/// Whether the words are `format`.
+pub fn is_format(words: &[String]) -> bool
+    ensures { IsTrue result ↔ IsFormat (map string_bytes words.now) }
+{
+    let [command] = words else {
+        return false;
+    };
+    command.as_str() == "format"
 }
 
 /// The trace that the words `gen SEED LINES` ask for. `None` exactly where they are other words: SEED is below 2^63 and

@@ -62,7 +62,7 @@ pub fn generate<C: Source, K: Sink>(
 {
     let config = match config_of(alloc, source) {
         Ok(config) => config,
-        Err(fault) => return tell_fault(alloc, out, &fault),
+        Err(fault) => return tell_fault(alloc, out, &[], &fault),
     };
     match print_lines(alloc, &config, asked, out) {
         Ok(()) => 0,

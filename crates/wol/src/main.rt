@@ -2,6 +2,7 @@
 #![tactic(auto)]
 
 mod command;
+mod formatting;
 mod listing;
 mod settings;
 mod status;

@@ -1,8 +1,8 @@
 // The last text of a run, and its status.
 ghost use Rattle.std.specs.Prelude.{◌≡◌, ◌≢◌, ◌≤◌, ◌<◌, ◌⊎◌, [], length, codes};
 ghost use Rattle.wol_disk.specs.Disk.{Rose};
-ghost use Rattle.report.specs.Faults.{NamesAmong, status_of as status_of_report};
-ghost use Rattle.wol.specs.Generating.{line_of_fault};
+ghost use Rattle.report.specs.Faults.{NamesAmong, fault_text, status_of as status_of_report};
+ghost use Rattle.report.specs.Names.{printed_names};
 ghost use Rattle.wol.specs.Tops.{EndsWith, TellsFault, TellsStatus};
 
 use crate::status::{bad_line_text, fault_text, status_of};
@@ -10,7 +10,7 @@ use msr_trace::BadLine;
 use report::Fault as ReportFault;
 use solo::Fault;
 use std::alloc::Global;
-use wol_config::ConfigFault;
+use wol_config::{ConfigFault, VolumeConf};
 use wol_disk::NoMemory;
 use wol_io::Sink;
 
@@ -60,19 +60,24 @@ fn tell_line<K: Sink>(alloc: Global, out: &mut K, line: u64, why: BadLine) -> u8
     end_with(out, text.as_bytes(), 3)
 }
 
-/// Writes the line of a fault that names no volume, and answers its status. Where there is no memory to make the line, it is
+/// Writes the line of a fault among these volumes, and answers its status. Where there is no memory to make the line, it is
 /// that of want of memory.
-pub fn tell_fault<K: Sink>(alloc: Global, out: &mut K, fault: &ReportFault) -> u8
-    requires unnamed { NamesAmong 1 fault.now }
+pub fn tell_fault<K: Sink>(
+    alloc: Global,
+    out: &mut K,
+    volumes: &[VolumeConf],
+    fault: &ReportFault,
+) -> u8
+    requires names { NamesAmong (length (printed_names volumes.now)) fault.now }
     requires told { fault.now ≢ ReportFault.Config ConfigFault.NoMemory }
-    ensures content { EndsWith (line_of_fault fault.now) (status_of_report fault.now) result (K.taken out.old) (K.taken out.new)
-        ⊎ EndsWith (line_of_fault ReportFault.Memory) 9 result (K.taken out.old) (K.taken out.new) }
+    ensures content { EndsWith (fault_text (printed_names volumes.now) fault.now) (status_of_report fault.now) result (K.taken out.old) (K.taken out.new)
+        ⊎ EndsWith (codes "fault 9 memory\n") 9 result (K.taken out.old) (K.taken out.new) }
     ensures cause { result ≡ 7 → Rose (K.faults out.old) (K.faults out.new) }
     ensures later { K.faults out.old ≤ K.faults out.new }
     ensures calm { K.faults out.old < K.faults out.new → result ≡ 7 }
 {
     let mut text = Vec::new(alloc);
-    match report::fault_text(&[], fault, &mut text) {
+    match report::fault_text(volumes, fault, &mut text) {
         Ok(()) => end_with(out, &text, fault.status()),
         Err(NoMemory) => end_with(out, NO_MEMORY, 9),
     }

@@ -4,14 +4,16 @@ ghost use Rattle.std.specs.Io.KnownBytes.{IsAtEnd};
 ghost use Rattle.wol_disk.specs.Disk.{Rose};
 ghost use Rattle.wol_model.specs.Trace.{Target};
 ghost use Rattle.solo.specs.Images.{NoneOut};
-ghost use Rattle.wol.specs.Words.{IsSolo, IsGen, NoSolo, NoGen, NoCommand};
+ghost use Rattle.wol.specs.Words.{IsSolo, IsGen, IsFormat, NoSolo, NoGen, NoFormat, NoCommand};
 ghost use Rattle.wol.specs.Statuses.{IsStatus};
 ghost use Rattle.wol.specs.Tops.{EndsWith, HasBadLine, HasMoreLines, RunsSolo};
 ghost use Rattle.wol.specs.Settings.{HasNoConfig};
 ghost use Rattle.wol.specs.Generating.{RunsGen};
+ghost use Rattle.wol.specs.Formatting.{RunsFormat};
 ghost use Rattle.wol.specs.declared.command.Generated.{Generated};
 
 use crate::command::{Command, command_of};
+use crate::formatting::format;
 use crate::listing::generate;
 use crate::telling::{end_with, tell};
 use std::alloc::Global;
@@ -24,10 +26,11 @@ use wol_io::{Gate, Sink, Source};
 ///
 /// The words are those after the program's name. `solo HOST DISK BLOCKS` makes the image `solo` in the bay and runs on it
 /// the lines of the trace that belong to that host and disk. `gen SEED LINES` prints the first LINES lines of the trace that
-/// SEED generates on the volumes of the configuration. Any other words are none of the program's commands.
+/// SEED generates on the volumes of the configuration. `format` makes the image of each volume of the configuration anew,
+/// and prints a line for each. Any other words are none of the program's commands.
 ///
 /// 0: done; a trace that was run was read to its end. 1: the words aren't a command. 2: the configuration's bytes are none.
-/// 3: a line is no line of a trace; all lines before it were run. 4: the bay or its disk failed. 7: the sink failed, and
+/// 3: a line is no line of a trace; all lines before it were run. 4: the bay or a part of an image failed. 7: the sink failed, and
 /// nothing more is written to it. 8: the source of the configuration or of the trace failed; the whole lines before were run.
 /// 9: there was no memory. 10: there are more than 2^32 lines.
 pub fn run<R: Threads + Wait + Sync, C: Source, S: Source, K: Sink, B: Bay, G: Gate + Sync>(
@@ -53,13 +56,19 @@ where
     // What the sink took, by the status: the first lines of the seed for the configuration that its source has, where that tells.
     ensures generated { (asked : Generated) → IsGen (map string_bytes words.now) asked → RunsGen asked (C.left config.old)
         (C.faults config.old) (C.faults config.new) result (K.taken out.old) (K.taken out.new) }
+    // What is left of the images, and what the sink took, by the status. Where the bay tells, at 0 whatever images a crash
+    // leaves are sound, and each volume of the configuration recovers to zeros; at each exit an image is as it was, has no
+    // label or is whole.
+    ensures formatted { IsFormat (map string_bytes words.now) → RunsFormat (C.left config.old) (C.faults config.old) (C.faults config.new)
+        (B.state bay.old) (B.state bay.new) result (K.taken out.old) (K.taken out.new) }
     ensures refused { NoCommand (map string_bytes words.now) → EndsWith (codes "fault 1 words\n") 1 result (K.taken out.old) (K.taken out.new) }
-    // Only `solo` uses the bay and the trace, and only `gen` the configuration.
-    ensures unchanged { NoSolo (map string_bytes words.now) → (B.state bay.new ≡ B.state bay.old) × (S.left trace.new ≡ S.left trace.old) × (S.faults trace.new ≡ S.faults trace.old) }
-    ensures unread { NoGen (map string_bytes words.now) → (C.left config.new ≡ C.left config.old) × (C.faults config.new ≡ C.faults config.old) }
+    // Only `solo` and `format` use the bay, only `solo` the trace, and only `gen` and `format` the configuration.
+    ensures unchanged { NoSolo (map string_bytes words.now) → NoFormat (map string_bytes words.now) → B.state bay.new ≡ B.state bay.old }
+    ensures untaken { NoSolo (map string_bytes words.now) → (S.left trace.new ≡ S.left trace.old) × (S.faults trace.new ≡ S.faults trace.old) }
+    ensures unread { NoGen (map string_bytes words.now) → NoFormat (map string_bytes words.now) → (C.left config.new ≡ C.left config.old) × (C.faults config.new ≡ C.faults config.old) }
     ensures words { result ≡ 1 → NoCommand (map string_bytes words.now) }
     ensures config { result ≡ 2 → HasNoConfig (C.left config.old) }
-    ensures end { NoGen (map string_bytes words.now) → result ≡ 0 → IsAtEnd (S.left trace.new) }
+    ensures end { (target : Target) → IsSolo (map string_bytes words.now) target → result ≡ 0 → IsAtEnd (S.left trace.new) }
     ensures bad_line { result ≡ 3 → HasBadLine (S.left trace.old) }
     ensures spent { result ≡ 10 → HasMoreLines (S.left trace.old) }
     ensures bay { result ≡ 4 → Rose (B.state bay.old).faults (B.state bay.new).faults }
@@ -73,6 +82,7 @@ where
     };
     match command {
         Command::Gen(asked) => generate(alloc, asked, config, out),
+        Command::Format => format(alloc, config, out, bay),
         Command::Solo(volume) => match solo::run(alloc, &volume, trace, out, bay, gate) {
             Ok(()) => 0,
             Err(fault) => tell(alloc, out, fault),

@@ -2,6 +2,7 @@ use Rattle.std.proofs.Common.{Err, ap, map}
 use Rattle.std.specs.Prelude.{string_bytes}
 use Rattle.solo.specs.Volume.{target_of}
 use Rattle.wol.proofs.Endings.{comes_of_bad_line, comes_of_lines, has_cause, same_target, told_done, told_fault}
+use Rattle.wol.proofs.FormatEndings.{format_comes_of_config}
 use Rattle.wol.proofs.GenEndings.{comes_of_config, gen_of, same_asked, solo_of}
 use Rattle.wol.proofs.top.run.Goals as goal
 
@@ -13,6 +14,9 @@ returns-in-Gen-clause-generated g c asked is =
 
 pub returns-in-Gen-clause-config : goal.returns-in-Gen-clause-config
 returns-in-Gen-clause-config g c two = comes_of_config c.in-Gen.asked _ _ _ _ _ _ c.generate.ensures.content two
+
+pub returns-in-Format-clause-config : goal.returns-in-Format-clause-config
+returns-in-Format-clause-config g c two = format_comes_of_config _ _ _ _ _ _ _ _ c.format.ensures.content two
 
 pub returns-in-Ok-clause-content : goal.returns-in-Ok-clause-content
 returns-in-Ok-clause-content g c target is =
@@ -26,6 +30,9 @@ returns-in-Ok-clause-refused g c none = absurd (none.solo (target_of c.in-Solo.v
 pub returns-in-Ok-clause-unchanged : goal.returns-in-Ok-clause-unchanged
 returns-in-Ok-clause-unchanged g c none = absurd (none (target_of c.in-Solo.volume) (solo_of (map string_bytes c.args.words.now) c.in-Some.command c.in-Solo.volume c.in-Some.ensures.some c.in-Solo.is))
 
+pub returns-in-Ok-clause-untaken : goal.returns-in-Ok-clause-untaken
+returns-in-Ok-clause-untaken g c none = absurd (none (target_of c.in-Solo.volume) (solo_of (map string_bytes c.args.words.now) c.in-Some.command c.in-Solo.volume c.in-Some.ensures.some c.in-Solo.is))
+
 pub returns-in-Err-clause-content : goal.returns-in-Err-clause-content
 returns-in-Err-clause-content g c target is =
     let words = map string_bytes c.args.words.now in
@@ -38,6 +45,9 @@ returns-in-Err-clause-refused g c none = absurd (none.solo (target_of c.in-Solo.
 
 pub returns-in-Err-clause-unchanged : goal.returns-in-Err-clause-unchanged
 returns-in-Err-clause-unchanged g c none = absurd (none (target_of c.in-Solo.volume) (solo_of (map string_bytes c.args.words.now) c.in-Some.command c.in-Solo.volume c.in-Some.ensures.some c.in-Solo.is))
+
+pub returns-in-Err-clause-untaken : goal.returns-in-Err-clause-untaken
+returns-in-Err-clause-untaken g c none = absurd (none (target_of c.in-Solo.volume) (solo_of (map string_bytes c.args.words.now) c.in-Some.command c.in-Solo.volume c.in-Some.ensures.some c.in-Solo.is))
 
 pub returns-in-Err-clause-bad_line : goal.returns-in-Err-clause-bad_line
 returns-in-Err-clause-bad_line g c three = comes_of_bad_line (Unit {0}) c.in-Err.fault c.tell.result (target_of c.in-Solo.volume) _ _ _ _ _ _ c.tell.ensures.status three c.in-Err.ensures.content

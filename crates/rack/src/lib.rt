@@ -1,0 +1,16 @@
+//! All volumes of a bay: their images are formatted.
+#![tactic(auto)]
+
+mod content;
+mod fault;
+mod formatting;
+mod heads;
+mod image;
+mod part;
+mod parts;
+mod reading;
+#[cfg(test)]
+mod tests;
+
+pub use fault::{PartName, RackFault};
+pub use formatting::format;
