@@ -1,17 +1,14 @@
 -- What is told at the end of a run of `gen`.
-use Rattle.std.proofs.Common.{◌≡◌, ◌⊎◌, inl, inr, ℕ, ◌≤◌, List, [], ◌∷◌, ◌++◌, Option, refl, sym, ap, subst, ◌∙◌, arith, lit<}
+use Rattle.std.proofs.Common.{◌≡◌, ◌⊎◌, inl, inr, ℕ, ◌≤◌, List, ◌++◌, Option, refl, sym, subst, ◌∙◌, arith}
 use Rattle.std.specs.Prelude.{codes}
 use Rattle.std.specs.Io.KnownBytes.{Appends}
-use Rattle.std.proofs.lemmas.Fmt.{decimal_digit, decimal_injective}
+use Rattle.std.proofs.lemmas.Fmt.{decimal_injective}
 use Rattle.wol_io.specs.Streams.{AppendsFront}
 use Rattle.wol_io.proofs.Appending.{appends_both, front_last}
 use Rattle.wol_disk.specs.Disk.{Rose}
 use Rattle.wol_config.specs.declared.config.Config.{Config}
-use Rattle.wol_config.specs.declared.config.ConfigFault.TheVariants as refused
 use Rattle.report.specs.declared.fault.Fault.{Fault}
-use Rattle.report.specs.declared.fault.Fault.TheVariants as fault
-use Rattle.report.specs.Faults.{cause_text, fault_text, status_of}
-use Rattle.report.specs.Words.{line_of}
+use Rattle.report.specs.Faults.{status_of}
 use Rattle.wol_model.specs.Trace.{Target}
 use Rattle.solo.specs.Volume.{target_of}
 use Rattle.solo.specs.declared.volume.Volume.{Volume}
