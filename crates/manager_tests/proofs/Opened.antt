@@ -38,6 +38,8 @@ use Rattle.manager.specs.Stands.{Keeps, IsReady, IsReadyLane, IsHome, IsInVolume
 use Rattle.manager.specs.declared.base.LaneBase.{LaneBase}
 use Rattle.manager.specs.declared.base.ManagerBase.{ManagerBase}
 use Rattle.manager.specs.declared.manager.Manager.{Manager}
+use Rattle.reclaimer.specs.Fetches.{HasData}
+use Rattle.reclaimer.specs.Records.{FetchedRecord}
 use Rattle.manager_tests.specs.Locked.{HasSpindle, HasPool}
 use Rattle.manager_tests.specs.Rigs.{IsNewLane, IsOfVolume, IsRig}
 
@@ -182,12 +184,13 @@ module _ (home : Spun MemDisk) (home_lock logger_lock : TurnLock Spindle Spindle
       );
     }
 
-    pub opened_rig : (own : PassOf (Pool (FreeSegment MemDisk)) PoolBase) → HasPool 0 16 own_lock own → (m : Manager MemDisk) → m ≡ made → IsRig (record { shared = shared; manager = m; own_pool = own })
-    opened_rig own of_own m is = subst (λ (m : Manager MemDisk). IsRig (record { shared = shared; manager = m; own_pool = own })) (sym is) (record {
+    pub opened_rig : (own : PassOf (Pool (FreeSegment MemDisk)) PoolBase) → HasPool 0 16 own_lock own → (m : Manager MemDisk) → m ≡ made → (fetched : Option FetchedRecord) → fetched ≡ None → IsRig (record { shared = shared; manager = m; fetched = fetched; own_pool = own })
+    opened_rig own of_own m is fetched empty = subst (λ (m : Manager MemDisk). IsRig (record { shared = shared; manager = m; fetched = fetched; own_pool = own })) (sym is) (record {
       base = opened_base;
       notes = [];
       began = opened_of;
       keeps = opened_keeps;
+      fetched = subst (λ (f : Option FetchedRecord). HasData true f opened_base []) (sym empty) tt;
       at = opened_home;
       pools = record { first = own_lock; second = pool_lock; both = pools; one_pass = (of_own.alone.one, of_pool.alone.one) };
       spindles = record { first = home_lock; second = logger_lock; both = spindles; one_pass = (of_home.alone.one, of_logger.alone.one) };

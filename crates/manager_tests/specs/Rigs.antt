@@ -15,6 +15,7 @@ use Rattle.logger.specs.Lanes.{IsLane, logger_of, lane_owner, held_in, taken_in,
 use Rattle.logger.specs.declared.lane.Lane.{Lane}
 use Rattle.manager.specs.Stands.{Keeps, IsHome}
 use Rattle.manager.specs.declared.base.ManagerBase.{ManagerBase}
+use Rattle.reclaimer.specs.Fetches.{HasData}
 use Rattle.manager_tests.specs.declared.rig.Rig.{Rig}
 
 -- a lane of volume 0 on volume 1 that holds nothing yet, with these passes
@@ -41,12 +42,13 @@ pub record IsOfVolume (b : ManagerBase) : Type 0 where
   pub most : b.volume.began.most ≡ 4
   pub view : b.volume.began.view ≡ 1 ∷ []
 
--- The manager keeps up what it began with and what was done since, and all locks are there.
+-- The manager keeps up what it began with and what was done since, what was fetched are data of it, and all locks are there.
 pub record IsRig (r : Rig) : Type 0 where
   pub base : ManagerBase
   pub notes : List Noted
   pub began : IsOfVolume base
   pub keeps : Keeps true mem_state r.manager base notes
+  pub fetched : HasData true r.fetched base notes
   pub at : IsHome r.shared r.manager
   pub pools : AreTwoLocks r.shared.pools.items
   pub spindles : AreTwoLocks r.shared.spindles.items

@@ -1,9 +1,11 @@
-//! Tests of the manager of a volume, over disks in memory.
+//! Tests of the manager of a volume and of its reclaim, over disks in memory.
 #![tactic(auto)]
 
 #[cfg(test)]
 mod locked;
 #[cfg(test)]
-mod rig;
+mod offload;
 #[cfg(test)]
-mod tests;
+mod reclaim;
+#[cfg(test)]
+mod rig;

@@ -9,7 +9,8 @@ ghost use Rattle.manager_tests.specs.Rigs.{IsNewLane, IsRig};
 use crate::locked::{pool_of, spindle_of, unlocked};
 use log_segment::FreeSegment;
 use logger::{Lane, LaneParts, Shared};
-use manager::{Manager, ManagerParts, Place, ReadRefusal, Sources, WriteRefusal};
+use manager::{Manager, ManagerParts, Place, ReadRefusal, Sources, StepFault, WriteRefusal};
+use reclaimer::{Drain, Fetch, Fetched, Gone, drain_step, fetch, invalidate_one, put_home};
 use redirect_map::Index;
 use seg_pool::Pool;
 use spin_model::{Spindle, Spun, begin_turn, start_turn};
@@ -24,6 +25,7 @@ use wol_model::Turned;
 pub struct Rig {
     pub shared: Shared<MemDisk>,
     pub manager: Manager<MemDisk>,
+    pub fetched: Fetch,
     // nobody logs on volume 0
     own_pool: Pass<Pool<FreeSegment<MemDisk>>>,
 }
@@ -98,6 +100,7 @@ impl Rig {
                 spindles: two(rt, alloc, home_lock, logger_lock),
             },
             manager: Manager::new(0, home, home_pass, lanes, Index::new(alloc), 1, 4),
+            fetched: Fetch::new(alloc).expect(rt, "room for a record"),
             own_pool,
         }
     }
@@ -138,6 +141,36 @@ impl Rig {
         self.manager.read(rt, &self.shared, lbn, out)
     }
 
+    /// Reads the next record with due blocks.
+    pub fn fetch<R: Wait>(&mut self, rt: &R) -> Result<Fetched, StepFault>
+        requires { IsRig self.old }
+        ensures { IsRig self.new }
+    {
+        fetch(rt, &mut self.manager, &self.shared, &mut self.fetched)
+    }
+
+    /// Puts home what was fetched.
+    pub fn put_home<R: Wait>(&mut self, rt: &R) -> Result<u32, StepFault>
+        requires { IsRig self.old }
+        ensures { IsRig self.new }
+    {
+        put_home(rt, &mut self.manager, &self.shared, &self.fetched)
+    }
+
+    pub fn invalidate_one<R: Wait>(&mut self, rt: &R) -> Result<Gone, StepFault>
+        requires { IsRig self.old }
+        ensures { IsRig self.new }
+    {
+        invalidate_one(rt, &mut self.manager, &self.shared)
+    }
+
+    pub fn drain_step<R: Wait>(&mut self, rt: &R) -> Result<Drain, StepFault>
+        requires { IsRig self.old }
+        ensures { IsRig self.new }
+    {
+        drain_step(rt, &mut self.manager, &self.shared, &mut self.fetched)
+    }
+
     /// Takes it apart.
     pub fn apart<R: Abort>(self, rt: &R, alloc: Global) -> Remains
         requires { IsRig self }
@@ -145,6 +178,7 @@ impl Rig {
         let Rig {
             shared,
             manager,
+            fetched: _,
             own_pool,
         } = self;
         let ManagerParts {

@@ -11,3 +11,6 @@ pub mod SoundImages
 pub mod OnlyRead
 pub mod HeadSteps
 pub mod ImageReads
+pub mod WholeReads
+pub mod SentOut
+pub mod ReadOut

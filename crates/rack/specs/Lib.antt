@@ -9,3 +9,4 @@ pub mod Reads
 pub mod Heads
 pub mod ImageParts
 pub mod Disks
+pub mod Sent

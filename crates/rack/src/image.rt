@@ -27,8 +27,8 @@ const LABEL: usize = 0;
 // The place of the home. The segments stand behind it.
 const HOME: usize = 1;
 
-// The sizes of the parts of an image, in blocks.
-fn part_sizes(alloc: Global, label: &Label) -> Result<Vec<u64>, NoMemory>
+/// The sizes of the parts of an image, in blocks.
+pub(crate) fn part_sizes(alloc: Global, label: &Label) -> Result<Vec<u64>, NoMemory>
     requires { IsShape (shape_of label.now) }
     ensures { IfOk result (λ sizes. sizes.items ≡ part_sizes (shape_of label.now)) }
 {

@@ -1,6 +1,7 @@
 //! All volumes of a bay: their images are formatted.
 #![tactic(auto)]
 
+mod attach;
 mod content;
 mod fault;
 mod formatting;

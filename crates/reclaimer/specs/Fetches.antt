@@ -1,5 +1,5 @@
 -- Which record is fetched, whose data a fetch has, and which of its blocks go home.
-use Rattle.std.specs.Prelude.{⊤, ◌≡◌, ◌+◌, ◌==◌, ◌&&◌, ◌++◌, ℕ, Bool, false, List, find, length, Option, None, Some, IsTrue, count_by, if◌then◌else◌}
+use Rattle.std.specs.Prelude.{⊤, ◌≡◌, ◌==◌, ◌&&◌, ◌++◌, ℕ, Bool, false, List, find, length, Option, None, Some, IsTrue, count_by, if◌then◌else◌}
 use Rattle.std.specs.List.{range_with_len}
 use Rattle.std.specs.Option.{option_map_or}
 use Rattle.wol_model.specs.History.{writes}

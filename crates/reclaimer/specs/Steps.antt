@@ -1,5 +1,5 @@
 -- What the steps of reclaim do to a manager, by their answers.
-use Rattle.std.specs.Prelude.{⊤, ◌≡◌, ◌<◌, ℕ, zero, suc, Bool, List, [], length, Option, None, Some, IsSome, IsNone, IsSomeAnd, Result, Ok, Err}
+use Rattle.std.specs.Prelude.{⊤, ◌≡◌, ◌<◌, ℕ, Bool, List, [], length, Option, None, Some, IsSome, IsNone, IsSomeAnd, Result, Ok, Err}
 use Rattle.wol_disk.specs.Disk.{State}
 use Rattle.wol_model.specs.Index.{listed_in}
 use Rattle.wol_promise.specs.Policy.{IsReclaim}

@@ -6,7 +6,7 @@ ghost use Rattle.reclaimer.specs.Fetches.{going_entry};
 ghost use Rattle.reclaimer.specs.Steps.{HasGivenUp, LooksGone, StopsWithin};
 
 use crate::Gone;
-use garbage_list::next_to_go;
+use crate::next::going;
 use logger::Shared;
 use manager::{Manager, StepFault};
 use std::sync::Wait;
@@ -36,15 +36,12 @@ pub fn invalidate_one<R: Wait, D: Disk>(
     if let Some(part) = m.down() {
         return Err(StepFault::Down(part));
     }
-    match next_to_go(m.index(), m.ups()) {
-        None => Ok(Gone::Nothing),
-        Some(version) => {
-            let gone = m.drop_rec(rt, shared, version)?;
-            if gone {
-                Ok(Gone::Version(version))
-            } else {
-                Ok(Gone::Trimmed(version))
-            }
-        }
+    let Some(record) = going(m.index(), m.ups()) else {
+        return Ok(Gone::Nothing);
+    };
+    match m.drop_rec(rt, shared, record.version) {
+        Ok(true) => Ok(Gone::Version(record.version)),
+        Ok(false) => Ok(Gone::Trimmed(record.version)),
+        Err(fault) => Err(fault),
     }
 }

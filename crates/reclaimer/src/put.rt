@@ -5,7 +5,7 @@ ghost use Rattle.std.specs.List.{range_with_len};
 ghost use Rattle.wol_model.specs.Log.{has_bit};
 ghost use Rattle.wol_model.specs.Index.{listed_in, is_due};
 ghost use Rattle.redirect_map.specs.Masks.{IsMask};
-ghost use Rattle.redirect_map.specs.Index.{entry_at, HasVersion};
+ghost use Rattle.redirect_map.specs.Index.{entry_at, HasVersion, IsIndex};
 ghost use Rattle.manager.specs.Reclaim.{OnKept, OnFailed, TellsStep, KeepsOn, BreaksOff};
 ghost use Rattle.manager.specs.Stands.{IsReady, IsHome};
 ghost use Rattle.reclaimer.specs.Fetches.{HasData, is_still_due, goes_home, home_count};
@@ -24,6 +24,7 @@ use wol_disk::Disk;
 fn still_due(index: &Index, filled: &Filled) -> u128
     ensures due { IsMask filled.now.lbn (is_still_due index.now.entries filled.now.version filled.now.lbn filled.now.count filled.now.due) result }
     ensures there { 0 < result → HasVersion index.now.entries filled.now.version }
+    ensures index { 0 < result → IsIndex index.now.entries }
     ensures range { 0 < result → ForSome (entry_at index.now.entries filled.now.version) (λ e. (filled.now.lbn ≡ e.listed.first) × (filled.now.count ≡ length e.listed.keep)) }
 {
     match index.find(filled.version) {
@@ -72,12 +73,9 @@ pub fn put_home<R: Wait, D: Disk>(
     if put == 0 {
         return Ok(0);
     }
-    m.store_home(
-        rt,
-        shared,
-        filled.version,
-        put,
-        &from.blocks[..filled.count as usize],
-    )?;
-    Ok(put.count_ones())
+    let blocks = &from.blocks[..filled.count as usize];
+    match m.store_home(rt, shared, filled.version, put, blocks) {
+        Ok(()) => Ok(put.count_ones()),
+        Err(fault) => Err(fault),
+    }
 }

@@ -8,8 +8,9 @@ ghost use Rattle.manager.specs.declared.base.ManagerBase.{ManagerBase};
 ghost use Rattle.reclaimer.specs.Fetches.{HasData, due_entry};
 ghost use Rattle.reclaimer.specs.Steps.{HasFetchedNext, StopsWithin};
 
+use crate::next::due_next;
+use crate::room::read_record;
 use crate::{Fetch, Fetched};
-use garbage_list::next_due;
 use logger::Shared;
 use manager::{Manager, StepFault};
 use std::sync::Wait;
@@ -47,11 +48,17 @@ pub fn fetch<R: Wait, D: Disk>(
     if !m.home_up() {
         return Ok(Fetched::Nothing);
     }
-    match next_due(m.index(), m.ups()) {
-        None => Ok(Fetched::Nothing),
-        Some(version) => {
-            let count = into.fill(rt, m, shared, version)?;
-            Ok(Fetched::Some { version, count })
+    let Some(record) = due_next(m.index(), m.ups()) else {
+        return Ok(Fetched::Nothing);
+    };
+    match read_record(rt, m, shared, record.version, &mut into.blocks) {
+        Ok(filled) => {
+            into.filled = Some(filled);
+            Ok(Fetched::Some {
+                version: filled.version,
+                count: filled.count,
+            })
         }
+        Err(fault) => Err(fault),
     }
 }

@@ -1,5 +1,5 @@
 // Room for a record that is read, so that its due blocks can go home in a later step.
-ghost use Rattle.std.specs.Prelude.{◌≡◌, List, None, IfOk, IsTrue, IsSomeAnd, OnOk, OnErr, length};
+ghost use Rattle.std.specs.Prelude.{◌≡◌, ◌≤◌, ◌<◌, ◌^◌, List, None, IfOk, IsTrue, IsSomeAnd, OnOk, length};
 ghost use Rattle.std.specs.Option.{ForSome};
 ghost use Rattle.wol_model.specs.Index.{listed_in};
 ghost use Rattle.wol_promise.specs.Ruled.{Noted};
@@ -9,6 +9,7 @@ ghost use Rattle.manager.specs.Reclaim.{OnTried, OnKept, OnFailed, TellsStep, Ke
 ghost use Rattle.manager.specs.Stands.{Keeps, IsReady, IsHome};
 ghost use Rattle.manager.specs.declared.base.ManagerBase.{ManagerBase};
 ghost use Rattle.reclaimer.specs.Fetches.{IsFetchOf, HasData};
+ghost use Rattle.reclaimer.specs.Records.{record_of};
 
 use garbage_list::due;
 use logger::Shared;
@@ -67,48 +68,42 @@ impl Fetch {
     {
         self.filled = None;
     }
+}
 
-    // Reads the record of this version. After a refusal the fetch is empty.
-    pub(crate) fn fill<R: Wait, D: Disk>(
-        &mut self,
-        rt: &R,
-        m: &mut Manager<D>,
-        shared: &Shared<D>,
-        version: u64,
-    ) -> Result<u32, StepFault>
-        requires ready { IsReady D.state m.old }
-        requires at { IsHome shared.now m.old }
-        requires there { HasVersion m.old.index.entries version }
-        ensures ready { IsReady D.state m.new }
-        ensures at { IsHome shared.now m.new }
-        ensures fault { TellsStep D.state result m.old m.new }
-        ensures fetched { OnTried result (ForSome (entry_at m.old.index.entries version) (λ e. HasFetched e.listed.lane m.old m.new)) }
-        ensures read { OnOk result (IsReadThrough D.state m.old m.new) }
-        ensures filled { IfOk result (λ count. IsSomeAnd (entry_at m.old.index.entries version)
-            (λ e. IsSomeAnd self.new (IsFetchOf (listed_in m.old.index.entries) e) × (count ≡ length e.listed.keep))) }
-        ensures content { (b : ManagerBase) (notes : List Noted) → Keeps D.tells D.state m.old b notes → HasData D.tells self.new b notes }
-        ensures empty { OnErr result (self.new ≡ None) }
-        ensures keeps { OnKept result (KeepsOn D.tells D.state m.old m.new Always) }
-        ensures broke { OnFailed result (BreaksOff D.tells D.state m.old m.new Always) }
-        ensures any_moment { OnTried result (IsTrue D.tells → StopsSince D.tells D.state m.old m.new Always) }
-    {
-        self.filled = None;
-        let Some(record) = m.index().find(version) else {
-            unreachable!()
-        };
-        let due = due(m.index(), version);
-        m.fetch_rec(
-            rt,
-            shared,
-            version,
-            &mut self.blocks[..record.count as usize],
-        )?;
-        self.filled = Some(Filled {
-            version,
-            lbn: record.lbn,
-            count: record.count,
-            due,
-        });
-        Ok(record.count)
-    }
+// Reads the record of this version into the first of these blocks.
+pub(crate) fn read_record<R: Wait, D: Disk>(
+    rt: &R,
+    m: &mut Manager<D>,
+    shared: &Shared<D>,
+    version: u64,
+    blocks: &mut [Block],
+) -> Result<Filled, StepFault>
+    requires ready { IsReady D.state m.old }
+    requires at { IsHome shared.now m.old }
+    requires there { HasVersion m.old.index.entries version }
+    requires room { length blocks.old ≡ 128 }
+    ensures ready { IsReady D.state m.new }
+    ensures at { IsHome shared.now m.new }
+    ensures fault { TellsStep D.state result m.old m.new }
+    ensures fetched { OnTried result (ForSome (entry_at m.old.index.entries version) (λ e. HasFetched e.listed.lane m.old m.new)) }
+    ensures read { OnOk result (IsReadThrough D.state m.old m.new) }
+    ensures few { IfOk result (λ f. (f.count ≤ 128) × (f.due < 2 ^ 128)) }
+    ensures filled { IfOk result (λ f. IsSomeAnd (entry_at m.old.index.entries version)
+        (λ e. IsSomeAnd (record_of (Some f) blocks.new) (IsFetchOf (listed_in m.old.index.entries) e) × (f.count ≡ length e.listed.keep))) }
+    ensures content { IfOk result (λ f. (b : ManagerBase) (notes : List Noted) → Keeps D.tells D.state m.old b notes → HasData D.tells (record_of (Some f) blocks.new) b notes) }
+    ensures keeps { OnKept result (KeepsOn D.tells D.state m.old m.new Always) }
+    ensures broke { OnFailed result (BreaksOff D.tells D.state m.old m.new Always) }
+    ensures any_moment { OnTried result (IsTrue D.tells → StopsSince D.tells D.state m.old m.new Always) }
+{
+    let Some(record) = m.index().find(version) else {
+        unreachable!()
+    };
+    let due = due(m.index(), version);
+    m.fetch_rec(rt, shared, version, &mut blocks[..record.count as usize])?;
+    Ok(Filled {
+        version,
+        lbn: record.lbn,
+        count: record.count,
+        due,
+    })
 }

@@ -1,12 +1,11 @@
 // The images of the configuration, formatted.
-ghost use Rattle.std.specs.Prelude.{◌≡◌, ◌⊎◌, ◌≤◌, ◌<◌, length, IfOk};
+ghost use Rattle.std.specs.Prelude.{◌≡◌, ◌≤◌, ◌<◌, IfOk};
 ghost use Rattle.wol_disk.specs.Disk.{Rose};
 ghost use Rattle.wol_model.specs.Heads.{IsShape};
 ghost use Rattle.wol_model.specs.Images.{image_size};
 ghost use Rattle.wol_config.specs.Configs.{IsValid};
 ghost use Rattle.rack.specs.Volumes.{shape_in};
 ghost use Rattle.solo.specs.Images.{NoneOut};
-ghost use Rattle.wol.specs.Settings.{HasNoConfig};
 ghost use Rattle.wol.specs.Formatting.{RunsFormat, fault_of, format_lines, trouble_of};
 
 use crate::settings::config_of;

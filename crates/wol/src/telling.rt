@@ -1,5 +1,5 @@
 // The last text of a run, and its status.
-ghost use Rattle.std.specs.Prelude.{◌≡◌, ◌≢◌, ◌≤◌, ◌<◌, ◌⊎◌, [], length, codes};
+ghost use Rattle.std.specs.Prelude.{◌≡◌, ◌≢◌, ◌≤◌, ◌<◌, ◌⊎◌, length, codes};
 ghost use Rattle.wol_disk.specs.Disk.{Rose};
 ghost use Rattle.report.specs.Faults.{NamesAmong, fault_text, status_of as status_of_report};
 ghost use Rattle.report.specs.Names.{printed_names};

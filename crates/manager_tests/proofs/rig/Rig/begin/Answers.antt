@@ -5,4 +5,4 @@ use Rattle.manager_tests.proofs.Steps.{rig_after}
 use Rattle.manager_tests.proofs.rig.Rig.begin.Goals as goal
 
 pub returns : goal.returns
-returns c = rig_after c.args.self.now c.begin.new.self Kept [] worker c.requires (c.begin.ensures.stands worker) (subst (IsHome c.args.self.now.shared) (sym c.begin.ensures.unchanged) c.requires.at)
+returns c = rig_after c.args.self.now c.requires c.begin.new.self (subst (IsHome c.args.self.now.shared) (sym c.begin.ensures.unchanged) c.requires.at) Kept [] worker (c.begin.ensures.stands worker)

@@ -5,4 +5,4 @@ use Rattle.manager_tests.proofs.Steps.{rig_after}
 use Rattle.manager_tests.proofs.rig.Rig.read.Goals as goal
 
 pub returns : goal.returns
-returns g c = rig_after c.args.self.now c.read.new.self (was_read c.args.lbn c.read.new.out c.read.result) [] worker c.requires.rig c.read.ensures.stands c.read.ensures.at
+returns g c = rig_after c.args.self.now c.requires.rig c.read.new.self c.read.ensures.at (was_read c.args.lbn c.read.new.out c.read.result) [] worker c.read.ensures.stands
