@@ -10,3 +10,6 @@ mod segments;
 pub use check::check_line;
 pub use dump::dump_lines;
 pub use fault::DumpFault;
+
+#[cfg(test)]
+mod tests;

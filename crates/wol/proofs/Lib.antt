@@ -1,3 +1,4 @@
+mod Complete
 mod Endings
 mod FormatEndings
 mod GenEndings

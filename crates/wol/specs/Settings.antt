@@ -21,6 +21,13 @@ abbrev pub HasConfig : (left : Option (List ℕ)) → Config → Type 0
 HasConfig None config = ⊤
 HasConfig (Some bytes) config = (document : Members) × IsDocument bytes document × IsConfigOf document config
 
+-- a source that tells, and has a configuration
+pub record IsConfigured (left : Option (List ℕ)) : Type 0 where
+  pub bytes : List ℕ
+  pub told : left ≡ Some bytes
+  pub config : Config
+  pub has : HasConfig (Some bytes) config
+
 -- what is left of a source, where it tells, is no configuration, and this is the first fault of it
 abbrev pub IsRefusedFor : (left : Option (List ℕ)) → ConfigFault → Type 0
 IsRefusedFor None why = ⊤

@@ -6,8 +6,8 @@ ghost use Rattle.wol_model.specs.Trace.{Target};
 ghost use Rattle.solo.specs.Images.{NoneOut};
 ghost use Rattle.wol.specs.Words.{IsSolo, IsGen, IsFormat, NoSolo, NoGen, NoFormat, NoCommand};
 ghost use Rattle.wol.specs.Statuses.{IsStatus};
-ghost use Rattle.wol.specs.Tops.{EndsWith, HasBadLine, HasMoreLines, RunsSolo};
-ghost use Rattle.wol.specs.Settings.{HasNoConfig};
+ghost use Rattle.wol.specs.Tops.{EndsWith, HasBadLine, HasMoreLines, IsDoneOrMemory, IsRunnable, RunsSolo};
+ghost use Rattle.wol.specs.Settings.{HasNoConfig, IsConfigured};
 ghost use Rattle.wol.specs.Generating.{RunsGen};
 ghost use Rattle.wol.specs.Formatting.{RunsFormat};
 ghost use Rattle.wol.specs.declared.command.Generated.{Generated};
@@ -73,6 +73,13 @@ where
     ensures spent { result ≡ 10 → HasMoreLines (S.left trace.old) }
     ensures bay { result ≡ 4 → Rose (B.state bay.old).faults (B.state bay.new).faults }
     ensures source { result ≡ 8 → Rose (C.faults config.old) (C.faults config.new) ⊎ Rose (S.faults trace.old) (S.faults trace.new) }
+    // Where no count rises and what is read is in order, a command is done unless memory is wanted.
+    ensures complete_solo { (target : Target) → IsSolo (map string_bytes words.now) target → IsRunnable (S.left trace.old) → ¬ Rose (B.state bay.old).faults (B.state bay.new).faults
+        → ¬ Rose (S.faults trace.old) (S.faults trace.new) → ¬ Rose (K.faults out.old) (K.faults out.new) → IsDoneOrMemory result }
+    ensures complete_gen { (asked : Generated) → IsGen (map string_bytes words.now) asked → IsConfigured (C.left config.old)
+        → ¬ Rose (C.faults config.old) (C.faults config.new) → ¬ Rose (K.faults out.old) (K.faults out.new) → IsDoneOrMemory result }
+    ensures complete_format { IsFormat (map string_bytes words.now) → IsConfigured (C.left config.old) → ¬ Rose (B.state bay.old).faults (B.state bay.new).faults
+        → ¬ Rose (C.faults config.old) (C.faults config.new) → ¬ Rose (K.faults out.old) (K.faults out.new) → IsDoneOrMemory result }
     // Exactly where the sink failed. A count at its last value stands still, so one direction has the strict order.
     ensures cause { result ≡ 7 → Rose (K.faults out.old) (K.faults out.new) }
     ensures calm { K.faults out.old < K.faults out.new → result ≡ 7 }

@@ -1,9 +1,10 @@
 use Rattle.std.proofs.Common.{Err, ap, map}
 use Rattle.std.specs.Prelude.{string_bytes}
 use Rattle.solo.specs.Volume.{target_of}
+use Rattle.wol.proofs.Complete.{complete_format, complete_gen}
 use Rattle.wol.proofs.Endings.{comes_of_bad_line, comes_of_lines, has_cause, same_target, told_done, told_fault}
 use Rattle.wol.proofs.FormatEndings.{format_comes_of_config}
-use Rattle.wol.proofs.GenEndings.{comes_of_config, gen_of, same_asked, solo_of}
+use Rattle.wol.proofs.GenEndings.{apart, comes_of_config, gen_of, same_asked, solo_of}
 use Rattle.wol.proofs.top.run.Goals as goal
 
 pub returns-in-Gen-clause-generated : goal.returns-in-Gen-clause-generated
@@ -54,3 +55,21 @@ returns-in-Err-clause-bad_line g c three = comes_of_bad_line (Unit {0}) c.in-Err
 
 pub returns-in-Err-clause-spent : goal.returns-in-Err-clause-spent
 returns-in-Err-clause-spent g c ten = comes_of_lines (Unit {0}) c.in-Err.fault c.tell.result (target_of c.in-Solo.volume) _ _ _ _ _ _ c.tell.ensures.status ten c.in-Err.ensures.content
+
+pub returns-in-Gen-clause-complete_solo : goal.returns-in-Gen-clause-complete_solo
+returns-in-Gen-clause-complete_solo g c target is runnable bay source sink =
+    let words = map string_bytes c.args.words.now in absurd (apart words target c.in-Gen.asked is (gen_of words c.in-Some.command c.in-Gen.asked c.in-Some.ensures.some c.in-Gen.is))
+
+pub returns-in-Gen-clause-complete_gen : goal.returns-in-Gen-clause-complete_gen
+returns-in-Gen-clause-complete_gen g c asked is configured calm sink = complete_gen c.in-Gen.asked _ _ _ c.generate.result _ _ configured calm (λ seven. sink (c.generate.ensures.cause seven)) c.generate.ensures.content
+
+pub returns-in-Format-clause-complete_format : goal.returns-in-Format-clause-complete_format
+returns-in-Format-clause-complete_format g c is configured bay calm sink = complete_format _ _ _ _ _ c.format.result _ _ configured calm bay (λ seven. sink (c.format.ensures.cause seven)) c.format.ensures.content
+
+pub returns-in-Ok-clause-complete_gen : goal.returns-in-Ok-clause-complete_gen
+returns-in-Ok-clause-complete_gen g c asked is configured calm sink =
+    let words = map string_bytes c.args.words.now in absurd (apart words (target_of c.in-Solo.volume) asked (solo_of words c.in-Some.command c.in-Solo.volume c.in-Some.ensures.some c.in-Solo.is) is)
+
+pub returns-in-Err-clause-complete_gen : goal.returns-in-Err-clause-complete_gen
+returns-in-Err-clause-complete_gen g c asked is configured calm sink =
+    let words = map string_bytes c.args.words.now in absurd (apart words (target_of c.in-Solo.volume) asked (solo_of words c.in-Some.command c.in-Solo.volume c.in-Some.ensures.some c.in-Solo.is) is)
