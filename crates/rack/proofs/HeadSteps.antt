@@ -1,5 +1,5 @@
 -- One segment more whose head was read.
-use Rattle.std.proofs.Common.{◌≡◌, ◌⊎◌, inl, ⊎_elim, ℕ, zero, suc, ◌+◌, ◌<◌, ◌≤◌, List, [], ◌∷◌, ◌++◌, length, get_or, set, Some, Result, Err, refl, sym, ap, ◌∙◌, subst, arith, length-append}
+use Rattle.std.proofs.Common.{◌≡◌, inl, ⊎_elim, ℕ, zero, suc, ◌+◌, ◌<◌, ◌≤◌, List, [], ◌∷◌, ◌++◌, length, get_or, set, Some, Result, Err, refl, sym, ap, ◌∙◌, subst, arith, length-append}
 use Rattle.std.specs.Prelude.{slice_get, IsErrOf}
 use Rattle.std.proofs.lemmas.Bool.{cases_lt, cases_eq}
 use Rattle.std.proofs.lemmas.List.{get_or_default, get_or-set_same, get_or-set_other, length-set}
@@ -86,18 +86,18 @@ module _ {D : Type 0} (state : D → State) (xs ys : List (Spun D)) (i : ℕ) (p
     each = λ j d vs h below told at. ⊎_elim
         (λ (less : j < i). so_far.each j d vs h less told (sym (get_front heads head j (omega (arith, less, so_far.count))) ∙ at))
         (λ (more : i ≤ j).
-            let e : j ≡ i = omega (arith, below, more) in
-            let last : slice_get (heads ++ head ∷ []) j ≡ Some head = ap (λ (n : ℕ). slice_get (heads ++ head ∷ []) n) (e ∙ sym so_far.count) ∙ get_last heads head in
-            let is : head ≡ h = same_Some head h (sym last ∙ at) in
-            let values : (state_of state (get_or ys i r)).values ≡ Some vs = ap (λ (q : Spun D). (state_of state q).values) (was j d e) ∙ told in
-            subst (λ (g : SegHead). HasHead volumes (reads vs) (segment_head g)) is (one vs values))
+        let e : j ≡ i = omega (arith, below, more) in
+        let last : slice_get (heads ++ head ∷ []) j ≡ Some head = ap (λ (n : ℕ). slice_get (heads ++ head ∷ []) n) (e ∙ sym so_far.count) ∙ get_last heads head in
+        let is : head ≡ h = same_Some head h (sym last ∙ at) in
+        let values : (state_of state (get_or ys i r)).values ≡ Some vs = ap (λ (q : Spun D). (state_of state q).values) (was j d e) ∙ told in
+        subst (λ (g : SegHead). HasHead volumes (reads vs) (segment_head g)) is (one vs values))
         (cases_lt j i);
     configured = λ j h at. ⊎_elim
         (λ (less : j < length heads). so_far.configured j h (sym (get_front heads head j less) ∙ at))
         (λ (more : length heads ≤ j).
-            let below : j < length (heads ++ head ∷ []) = slice_get_within (heads ++ head ∷ []) j h at in
-            let e : j ≡ length heads = omega (arith, more, below, length-append heads (head ∷ [])) in
-            let is : head ≡ h = same_Some head h (sym (get_last heads head) ∙ sym (ap (λ (n : ℕ). slice_get (heads ++ head ∷ []) n) e) ∙ at) in
-            subst (λ (g : SegHead). IsConfigured volumes (segment_head g)) is known)
+        let below : j < length (heads ++ head ∷ []) = slice_get_within (heads ++ head ∷ []) j h at in
+        let e : j ≡ length heads = omega (arith, more, below, length-append heads (head ∷ [])) in
+        let is : head ≡ h = same_Some head h (sym (get_last heads head) ∙ sym (ap (λ (n : ℕ). slice_get (heads ++ head ∷ []) n) e) ∙ at) in
+        subst (λ (g : SegHead). IsConfigured volumes (segment_head g)) is known)
         (cases_lt j (length heads));
   }

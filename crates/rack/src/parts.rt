@@ -18,11 +18,7 @@ impl<D: Disk> ImageParts<D> {
     ghost use Rattle.rack.specs.Disks.{disks_of, AreOfVolume};
 
     /// The parts that a bay handed out, as those of this volume. The list is emptied, and keeps its room.
-    pub(crate) fn take_apart(
-        volume: u32,
-        parts: &mut Vec<D>,
-        room: Vec<Spun<D>>,
-    ) -> ImageParts<D>
+    pub(crate) fn take_apart(volume: u32, parts: &mut Vec<D>, room: Vec<Spun<D>>) -> ImageParts<D>
         requires two { 2 ≤ vec_len parts.old }
         requires empty { room.items ≡ [] }
         requires room { vec_len parts.old ≤ vec_capacity room + 2 }

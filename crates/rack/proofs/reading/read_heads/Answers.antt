@@ -1,6 +1,4 @@
-use Rattle.std.proofs.Common.{◌≡◌, ◌+◌, length, get_or, Err, refl, sym, ap, ◌∙◌, subst, arith}
-use Rattle.wol_disk.specs.Disk.{Values, Block}
-use Rattle.spin_model.specs.declared.spun.Spun.{Spun}
+use Rattle.std.proofs.Common.{◌≡◌, ◌+◌, length, Err, refl, sym, ap, ◌∙◌, subst, arith}
 use Rattle.spin_model.specs.Spun.{state_of}
 use Rattle.rack.specs.Heads.{SayHeads}
 use Rattle.rack.proofs.HeadSteps.{not_both, all_same, say_none, at_hand, read_more, calm_more, rest_more, say_more}
@@ -8,12 +6,12 @@ use Rattle.rack.proofs.reading.read_heads.Goals as goal
 
 pub loop-index-init : goal.loop-index-init
 loop-index-init g c = record {
-    heads = say_none g.D.Disk.state c.args.volumes c.args.segments.now c.args.heads.now.items c.requires.empty;
-    room = c.requires.room;
-    read = all_same g.D.Disk.state g.met.D.Disk.sound c.args.segments.now;
-    calm = λ k d lt. refl;
-    rest = λ k d le. refl;
-  }
+  heads = say_none g.D.Disk.state c.args.volumes c.args.segments.now c.args.heads.now.items c.requires.empty;
+  room = c.requires.room;
+  read = all_same g.D.Disk.state g.met.D.Disk.sound c.args.segments.now;
+  calm = λ k d lt. refl;
+  rest = λ k d le. refl;
+}
 
 pub loop-index-preserved : goal.loop-index-preserved
 loop-index-preserved g c =

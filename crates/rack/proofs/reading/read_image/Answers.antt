@@ -41,11 +41,11 @@ returns-in_err-read_heads-clause-read g c =
     let read : AreOnlyRead g.D.Disk.state xs c.read_heads.new.segments = subst (λ segments. AreOnlyRead g.D.Disk.state segments c.read_heads.new.segments) c.deref_mut.ensures.value c.read_heads.ensures.read in
     let whole = came_back_whole c.args.parts.now.segments.len xs c.read_heads.new.segments (omega arith) read.count in
     record {
-    label = record { size = c.load.ensures.size; values = c.load.ensures.values; any_moment = c.load.ensures.any_moment };
-    label_volume = c.load.ensures.volume;
-    home = refl;
-    segments = subst (λ segments. AreOnlyRead g.D.Disk.state c.args.parts.now.segments.items segments) (sym whole) read;
-  }
+      label = record { size = c.load.ensures.size; values = c.load.ensures.values; any_moment = c.load.ensures.any_moment };
+      label_volume = c.load.ensures.volume;
+      home = refl;
+      segments = subst (λ segments. AreOnlyRead g.D.Disk.state c.args.parts.now.segments.items segments) (sym whole) read;
+    }
 
 pub returns-clause-read : goal.returns-clause-read
 returns-clause-read g c =
@@ -53,11 +53,11 @@ returns-clause-read g c =
     let read : AreOnlyRead g.D.Disk.state xs c.read_heads.new.segments = subst (λ segments. AreOnlyRead g.D.Disk.state segments c.read_heads.new.segments) c.deref_mut.ensures.value c.read_heads.ensures.read in
     let whole = came_back_whole c.args.parts.now.segments.len xs c.read_heads.new.segments (omega arith) read.count in
     record {
-    label = record { size = c.load.ensures.size; values = c.load.ensures.values; any_moment = c.load.ensures.any_moment };
-    label_volume = c.load.ensures.volume;
-    home = refl;
-    segments = subst (λ segments. AreOnlyRead g.D.Disk.state c.args.parts.now.segments.items segments) (sym whole) read;
-  }
+      label = record { size = c.load.ensures.size; values = c.load.ensures.values; any_moment = c.load.ensures.any_moment };
+      label_volume = c.load.ensures.volume;
+      home = refl;
+      segments = subst (λ segments. AreOnlyRead g.D.Disk.state c.args.parts.now.segments.items segments) (sym whole) read;
+    }
 
 pub returns-clause-ok : goal.returns-clause-ok
 returns-clause-ok g c =
@@ -66,6 +66,6 @@ returns-clause-ok g c =
     record {
       label = λ vs told. own_label (reads vs) c.in-Ok.found.0 c.args.want.now c.in-Ok.found.1 same (c.in-Ok.ensures.label vs told) (c.in-Ok.ensures.view vs told) c.in-Ok.ensures.others;
       heads_ = subst (λ n. SayHeads state c.args.volumes c.args.parts.now.segments.items n c.read_heads.new.heads.items) c.requires.parts.count
-      (subst (λ segments. SayHeads state c.args.volumes segments (length segments) c.read_heads.new.heads.items) c.deref_mut.ensures.value c.in_ok-read_heads.ensures.ok);
+          (subst (λ segments. SayHeads state c.args.volumes segments (length segments) c.read_heads.new.heads.items) c.deref_mut.ensures.value c.in_ok-read_heads.ensures.ok);
       others = c.in-Ok.ensures.others;
     }
