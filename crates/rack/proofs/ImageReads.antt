@@ -1,12 +1,11 @@
 -- What is read of an image's label, and then of its segments.
-use Rattle.std.proofs.Common.{◌≡◌, inr, ℕ, Bool, true, false, not, ◌&&◌, eqb, List, ◌++◌, length, take, drop, Some, Result, Err, refl, ap, ◌∙◌, subst, arith, append-nil}
+use Rattle.std.proofs.Common.{◌≡◌, inr, ℕ, Bool, true, false, not, ◌&&◌, eqb, List, ◌++◌, length, take, drop, Result, Err, refl, ap, ◌∙◌, subst, arith, append-nil}
 use Rattle.std.specs.Prelude.{IsErrOf, Contains}
 use Rattle.std.proofs.lemmas.Bool.{eqb-true}
 use Rattle.std.proofs.lemmas.List.{take_all}
 use Rattle.std.proofs.Math.ListN.{drop_of_length-le}
-use Rattle.wol_disk.specs.Disk.{Block, Values, State, reads}
+use Rattle.wol_disk.specs.Disk.{Block, State}
 use Rattle.wol_model.specs.Heads.{Shape}
-use Rattle.spin_model.specs.Spun.{state_of}
 use Rattle.logger_view.specs.Stored.{HasLabel, HasView}
 use Rattle.log_layout.specs.Values.{shape_of}
 use Rattle.log_layout.specs.declared.label.Label.{Label}

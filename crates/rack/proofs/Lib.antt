@@ -14,3 +14,4 @@ pub mod ImageReads
 pub mod WholeReads
 pub mod SentOut
 pub mod ReadOut
+pub mod GivenBack

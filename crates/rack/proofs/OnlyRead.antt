@@ -1,8 +1,8 @@
 -- Parts that were read, and what the first block of a segment says.
-use Rattle.std.proofs.Common.{◌≡◌, ◌⊎◌, inl, inr, ⊎_elim, ℕ, ◌<◌, ◌≤◌, List, [], ◌∷◌, length, take, get_or, Option, None, Some, option_map, Result, Ok, Err, OnOk, OnErr, IfSome, refl, sym, ap, ◌∙◌, subst, arith}
+use Rattle.std.proofs.Common.{◌≡◌, ◌⊎◌, inl, inr, ⊎_elim, ℕ, ◌<◌, ◌≤◌, List, [], ◌∷◌, length, take, get_or, Option, Some, option_map, Result, Ok, Err, OnOk, OnErr, IfSome, sym, ap, ◌∙◌, subst, arith}
 use Rattle.std.specs.Prelude.{slice_get}
 use Rattle.std.proofs.lemmas.Option.{same_Some}
-use Rattle.wol_disk.specs.Disk.{Block, Values, State, Passes, IsDisk, settled, reads, IsImageOf, LeavesOnly}
+use Rattle.wol_disk.specs.Disk.{Block, Values, State, Passes, IsDisk, settled, reads}
 use Rattle.wol_disk.proofs.Moments.{started}
 use Rattle.wol_disk.proofs.Calls.{sync_goes_on, read_goes_on}
 use Rattle.wol_model.specs.Heads.{SegmentHead, Owned, SpellsSegment}

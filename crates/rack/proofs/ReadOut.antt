@@ -1,5 +1,5 @@
 -- The parts of an image keep their volume and sizes while they are read.
-use Rattle.std.proofs.Common.{◌≡◌, ℕ, zero, suc, ◌+◌, ◌<◌, List, [], ◌∷◌, length, map, replicate, get_or, Option, refl, sym, ap, ◌∙◌, subst, arith}
+use Rattle.std.proofs.Common.{◌≡◌, ℕ, zero, suc, ◌<◌, List, [], ◌∷◌, length, map, replicate, get_or, Option, refl, ap, ◌∙◌, arith}
 use Rattle.std.specs.Prelude.{All}
 use Rattle.std.proofs.lemmas.List.{length-map}
 use Rattle.wol_disk.specs.Disk.{State, IsDisk, Block, Values}
@@ -10,7 +10,6 @@ use Rattle.spin_model.specs.declared.spun.Spun.{Spun}
 use Rattle.rack.specs.declared.parts.ImageParts.{ImageParts}
 use Rattle.rack.specs.Formatted.{part_sizes}
 use Rattle.rack.specs.Disks.{disks_of, AreOfVolume}
-use Rattle.rack.specs.Reads.{AreOnlyRead}
 use Rattle.rack.specs.ImageParts.{ArePartsOf, IsReadImage}
 use Rattle.rack.specs.declared.attach.OutParts.{OutParts}
 use Rattle.rack.specs.Sent.{IsSentOut}

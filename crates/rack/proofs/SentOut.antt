@@ -1,14 +1,14 @@
 -- An image that went out cut into parts, and comes back read.
-use Rattle.std.proofs.Common.{◌≡◌, ◌≢◌, ◌⊎◌, inl, inr, ⊎_elim, ℕ, zero, suc, ◌+◌, ◌*◌, ◌<◌, ◌≤◌, nat_eq, Bool, true, false, cond, List, [], ◌∷◌, ◌++◌, length, map, take, drop, Option, None, Some, option_map, is_some, Result, Ok, Err, IfSome, refl, sym, ap, ◌∙◌, subst, arith}
-use Rattle.std.specs.Prelude.{sum, option_and_then}
-use Rattle.std.proofs.lemmas.List.{take-append-drop, length-drop, length-take}
+use Rattle.std.proofs.Common.{◌≡◌, ℕ, zero, suc, ◌*◌, ◌≤◌, nat_eq, Bool, true, false, cond, List, [], ◌∷◌, length, take, drop, Option, None, Some, option_map, Ok, refl, sym, ap, ◌∙◌, subst, arith}
+use Rattle.std.specs.Prelude.{sum}
+use Rattle.std.proofs.lemmas.List.{take-append-drop, length-drop}
 use Rattle.std.proofs.lemmas.List.Sums.{sum_by-cons}
 use Rattle.std.proofs.lemmas.Bool.Decides.{nat_tests}
-use Rattle.std.proofs.lemmas.Option.{none-some, same_Some}
+use Rattle.std.proofs.lemmas.Option.{none-some}
 use Rattle.wol_disk.specs.Disk.{Block, Values, State, IsDisk}
-use Rattle.wol_bay.specs.Bay.{Name, Image, Told, at_name, bytes_of}
+use Rattle.wol_bay.specs.Bay.{Image, bytes_of}
 use Rattle.wol_bay.specs.Parts.{AreCut, joined, blocks_of, sizes_of}
-use Rattle.wol_bay.specs.Refusals.{refusal_of, refusal, IsAnswered, blocks_at}
+use Rattle.wol_bay.specs.Refusals.{refusal_of, IsAnswered}
 use Rattle.wol_bay.specs.declared.fault.BayFault.{BayFault}
 use Rattle.wol_bay.specs.declared.fault.BayFault.TheVariants.{Absent, WrongLength}
 

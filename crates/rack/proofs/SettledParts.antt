@@ -43,12 +43,12 @@ only_more : (xs ys : List Block) → only xs ++ only ys ≡ only (xs ++ ys)
 only_more [] ys = refl
 only_more (x ∷ xs) ys = ap (λ l. fresh x ∷ l) (only_more xs ys)
 
-both_told : (a b : Option (List (Values Block))) → IsSome (joined a b) → IsSome a × IsSome b
+pub both_told : (a b : Option (List (Values Block))) → IsSome (joined a b) → IsSome a × IsSome b
 both_told None b told = absurd (cc told)
 both_told (Some vs) None told = absurd (cc told)
 both_told (Some vs) (Some ws) told = (refl, refl)
 
-told_both : (a b : Option (List (Values Block))) → IsSome a → IsSome b → IsSome (joined a b)
+pub told_both : (a b : Option (List (Values Block))) → IsSome a → IsSome b → IsSome (joined a b)
 told_both None b one two = absurd (cc one)
 told_both (Some vs) None one two = absurd (cc two)
 told_both (Some vs) (Some ws) one two = refl

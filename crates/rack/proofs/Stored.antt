@@ -26,7 +26,7 @@ changed_values change bs (Some vs) new is e =
     let P : Option (List (Values Block)) → Type 0 = λ o. IfSome o (λ vs. vs ≡ only (change bs)) in
     subst P (sym e) (ap (λ (l : List (Values Block)). only (change (reads l))) is ∙ ap (λ l. only (change l)) (reads_only bs))
 
-rose_above : (old new : ℕ) → Rose old new → 0 < new
+pub rose_above : (old new : ℕ) → Rose old new → 0 < new
 rose_above old new rose = ⊎_elim (λ (lt : old < new). omega (arith, lt)) (λ (le : 2 ^ 64 - 1 ≤ new). omega (arith, le)) rose
 
 module _ {D : Type 0} (state : D → State) (content : Content) (xs ys : List D) (p : ℕ) (old y : D) (lt : p < length xs) (back : ys ≡ set xs p y) (is : old ≡ get_or xs p old)

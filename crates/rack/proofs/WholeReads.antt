@@ -1,6 +1,6 @@
 -- What the parts of an image say, said of the whole image.
-use Rattle.std.proofs.Common.{◌≡◌, ◌⊎◌, inl, inr, ⊎_elim, ℕ, zero, suc, ◌+◌, ◌-◌, ◌*◌, ◌<◌, ◌≤◌, List, [], ◌∷◌, ◌++◌, length, map, take, drop, get_or, Option, None, Some, option_map, refl, sym, ap, ◌∙◌, subst, arith, append_assoc}
-use Rattle.std.specs.Prelude.{slice_get, Contains, All}
+use Rattle.std.proofs.Common.{◌≡◌, ◌⊎◌, inl, inr, ⊎_elim, ℕ, zero, suc, ◌+◌, ◌-◌, ◌*◌, ◌<◌, ◌≤◌, List, [], ◌∷◌, ◌++◌, length, map, take, drop, get_or, Option, None, Some, option_map, refl, sym, ap, ◌∙◌, subst, arith}
+use Rattle.std.specs.Prelude.{slice_get, All}
 use Rattle.std.proofs.lemmas.List.{length-map, map-append}
 use Rattle.std.proofs.lemmas.Option.{slice_get-map, slice_get_within, slice_get-get_or, none-some, same_Some}
 use Rattle.std.proofs.Math.Nat.{suc-mul, add-mul}
@@ -18,9 +18,9 @@ use Rattle.logger_view.proofs.Callers.{label_in_front, view_in_front}
 use Rattle.rack.specs.declared.parts.ImageParts.{ImageParts}
 use Rattle.rack.specs.declared.reading.ImageFault.{ImageFault}
 use Rattle.rack.specs.declared.reading.ImageFault.TheVariants as fault
-use Rattle.rack.specs.Accepted.{HasHead, HasOwnLabel, HasOtherLabel, IsAccepted, IsFirstHeadless, IsImageFault}
+use Rattle.rack.specs.Accepted.{HasHead, HasOwnLabel, HasOtherLabel, IsAccepted, IsImageFault}
 use Rattle.rack.specs.Disks.{disks_of}
-use Rattle.rack.specs.Heads.{SayHeads, IsDamagedSegment}
+use Rattle.rack.specs.Heads.{SayHeads}
 use Rattle.rack.specs.ImageParts.{ArePartsOf, MayOpen, MayNotOpen}
 
 -- ---- Blocks in front of others
@@ -56,8 +56,11 @@ module _ (bs rest : List Block) (two : length bs ≡ 2) where
       ⊎_elim
       (λ (first : (block ≡ 0) × HasNoLabel bs). inl (first.0, λ id s l. first.1 id s (label_back id s l)))
       (λ (second : (block ≡ 1) × ((id : ℕ) × (shape : Shape) × HasLabel bs id shape) × (HasNoView bs ⊎ NamesItself own bs)).
-          inr (second.0, (second.1.0, second.1.1, label_in_front bs rest second.1.0 second.1.1 second.1.2),
-              ⊎_elim (λ (none : HasNoView bs). inl (λ ids v. none ids (view_back ids v))) (λ (named : NamesItself own bs). inr (named.0, view_in_front bs rest named.0 named.1, named.2)) second.2))
+      inr (
+        second.0,
+        (second.1.0, second.1.1, label_in_front bs rest second.1.0 second.1.1 second.1.2),
+        ⊎_elim (λ (none : HasNoView bs). inl (λ ids v. none ids (view_back ids v))) (λ (named : NamesItself own bs). inr (named.0, view_in_front bs rest named.0 named.1, named.2)) second.2,
+      ))
       f
 
 -- ---- Parts of a whole
@@ -99,7 +102,7 @@ module _ {D : Type 0} (state : D → State) (sound : (d : D) → IsDisk (state d
         values = both.front;
         told = both.first;
         there = ap (λ (n : ℕ). take blocks (drop n (reads row))) none ∙ ap (λ (l : List (Values Block)). take blocks (reads l)) both.is ∙ ap (take blocks) (reads_both both.front both.back)
-        ∙ ap (λ (n : ℕ). take n (reads both.front ++ reads both.back)) (sym long) ∙ take-append_seam (reads both.front) (reads both.back);
+            ∙ ap (λ (n : ℕ). take n (reads both.front ++ reads both.back)) (sym long) ∙ take-append_seam (reads both.front) (reads both.back);
       }
   in_row blocks (q ∷ qs) row (suc i) d sizes e lt =
       let both = both_of (state (disk_of q)).values (blocks_of state (map (λ (p : Spun D). disk_of p) qs)) row e in
@@ -111,8 +114,8 @@ module _ {D : Type 0} (state : D → State) (sound : (d : D) → IsDisk (state d
         values = more.values;
         told = more.told;
         there = ap (λ (n : ℕ). take blocks (drop n (reads row))) at ∙ ap (λ (l : List (Values Block)). take blocks (drop (length (reads both.front) + i * blocks) (reads l))) both.is
-        ∙ ap (λ (l : List Block). take blocks (drop (length (reads both.front) + i * blocks) l)) (reads_both both.front both.back)
-        ∙ ap (take blocks) (drop-append-add (reads both.front) (reads both.back) (i * blocks)) ∙ more.there;
+            ∙ ap (λ (l : List Block). take blocks (drop (length (reads both.front) + i * blocks) l)) (reads_both both.front both.back)
+            ∙ ap (take blocks) (drop-append-add (reads both.front) (reads both.back) (i * blocks)) ∙ more.there;
       }
 
   module _ (volume : ℕ) (s : Shape) (p : ImageParts D) (are : ArePartsOf state volume s p) (vs : List (Values Block)) (all : blocks_of state (disks_of p) ≡ Some vs) where
@@ -190,20 +193,24 @@ module _ {D : Type 0} (state : D → State) (sound : (d : D) → IsDisk (state d
         ⊎_elim
         (λ first. inl (subst (λ (bs : List Block). IsFirstFault own bs block) (sym whole_is) (fault_in_front (reads cut.front) (reads cut.back) two own block (first cut.front cut.first))))
         (λ behind.
-            let label = behind.label cut.front cut.first in
-            let d = behind.segment in
-            let index_in : d.index < s.segments = omega (arith, d.within, are.count) in
-            let at = segment_part d.index p.label index_in in
-            inr (d.index, d.place, record {
-              ids = label.0;
-              named = subst (λ (bs : List Block). HasOwnLabel own s bs label.0) (sym whole_is) (own_in_front (reads cut.front) (reads cut.back) two own s label.0 label.1);
-              within = index_in;
-              before = λ i lt.
-                  let here : i < length d.heads = omega (arith, lt, d.before.count) in
-                  let g = get_or d.heads i (nothing d.heads here) in
-                  (segment_head g, head_of_whole volumes i d.heads d.index g lt (omega (arith, index_in)) d.before (slice_get-get_or d.heads i (nothing d.heads here) here));
-              headless = λ h has. d.headless p.label at.values at.told h (subst (λ (bs : List Block). HasHead volumes bs h) at.is has);
-            }))
+        let label = behind.label cut.front cut.first in
+        let d = behind.segment in
+        let index_in : d.index < s.segments = omega (arith, d.within, are.count) in
+        let at = segment_part d.index p.label index_in in
+        inr (
+          d.index,
+          d.place,
+          record {
+            ids = label.0;
+            named = subst (λ (bs : List Block). HasOwnLabel own s bs label.0) (sym whole_is) (own_in_front (reads cut.front) (reads cut.back) two own s label.0 label.1);
+            within = index_in;
+            before = λ i lt.
+                let here : i < length d.heads = omega (arith, lt, d.before.count) in
+                let g = get_or d.heads i (nothing d.heads here) in
+                (segment_head g, head_of_whole volumes i d.heads d.index g lt (omega (arith, index_in)) d.before (slice_get-get_or d.heads i (nothing d.heads here) here));
+            headless = λ h has. d.headless p.label at.values at.told h (subst (λ (bs : List Block). HasHead volumes bs h) at.is has);
+          },
+        ))
         may
       where
         nothing : {i : ℕ} (heads : List SegHead) → i < length heads → SegHead

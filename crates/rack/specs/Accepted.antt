@@ -1,5 +1,5 @@
 -- What one image says at opening, and what it is refused for.
-use Rattle.std.specs.Prelude.{⊤, ◌≡◌, ◌⊎◌, ◌<◌, ◌+◌, ◌*◌, ℕ, List, map, length, slice_get, Some, Contains}
+use Rattle.std.specs.Prelude.{⊤, ◌≡◌, ◌⊎◌, ◌<◌, ◌+◌, ◌*◌, ℕ, List, length, slice_get, Some, Contains}
 use Rattle.wol_disk.specs.Disk.{Block}
 use Rattle.wol_model.specs.Heads.{Shape, SegmentHead, Free, Owned, SpellsSegment}
 use Rattle.wol_model.specs.Images.{segment_of}

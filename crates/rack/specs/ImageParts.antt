@@ -1,5 +1,5 @@
 -- The parts of an image that is read, and what they say. `state` is that of a part's disk.
-use Rattle.std.specs.Prelude.{⊤, ◌≡◌, ◌⊎◌, ℕ, List, length, map, All, Contains, Some}
+use Rattle.std.specs.Prelude.{◌≡◌, ◌⊎◌, ℕ, List, length, All, Contains, Some}
 use Rattle.wol_disk.specs.Disk.{Block, Values, State, Rose, reads}
 use Rattle.wol_model.specs.Heads.{Shape}
 use Rattle.spin_model.specs.Spun.{state_of, volume_of}

@@ -10,3 +10,4 @@ pub mod Heads
 pub mod ImageParts
 pub mod Disks
 pub mod Sent
+pub mod Refusals

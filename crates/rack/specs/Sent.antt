@@ -35,3 +35,4 @@ pub record IsGivenBack {D : Type 0} (state : D → State) (volumes own : ℕ) (s
   pub back : new.told ≡ option_map (came_back name (blocks_of state (disks_of after)) (faulty_places state (disks_of after))) old.told
   pub cause : faulty_places state (disks_of after) ≢ [] → Rose old.faults new.faults
   pub calm : faulty_places state (disks_of after) ≡ [] → new.faults ≡ old.faults
+  pub counts : old.faults ≤ new.faults

@@ -7,6 +7,7 @@ mod fault;
 mod formatting;
 mod heads;
 mod image;
+mod opening;
 mod part;
 mod parts;
 mod reading;

@@ -1,4 +1,4 @@
-use Rattle.std.proofs.Common.{◌≡◌, ◌≢◌, [], List, Option, option_map, sym, ap, ◌∙◌, subst, arith}
+use Rattle.std.proofs.Common.{◌≡◌, ◌≢◌, [], option_map, sym, ap, ◌∙◌, subst, arith}
 use Rattle.wol_bay.specs.Bay.{IsOut, came_back}
 use Rattle.wol_bay.specs.Parts.{sizes_of, blocks_of, faulty_places}
 use Rattle.wol_disk.specs.Disk.{Rose}
@@ -55,4 +55,5 @@ returns-in-Err-clause-refused g c =
       back = subst (λ parts. new.told ≡ option_map (came_back c.args.name.now (blocks_of state parts) (faulty_places state parts)) old.told) c.put_together.ensures c.detach.ensures.back;
       cause = subst (λ parts. faulty_places state parts ≢ [] → Rose old.faults new.faults) c.put_together.ensures c.detach.ensures.cause;
       calm = subst (λ parts. faulty_places state parts ≡ [] → new.faults ≡ old.faults) c.put_together.ensures c.detach.ensures.calm;
+      counts = c.detach.ensures.counts;
     }

@@ -1,4 +1,4 @@
-use Rattle.std.proofs.Common.{◌≡◌, ℕ, ◌+◌, List, length, sym, ◌∙◌, subst, arith}
+use Rattle.std.proofs.Common.{◌≡◌, ℕ, List, sym, ◌∙◌, subst, arith}
 use Rattle.wol_bay.specs.Parts.{AreCut}
 use Rattle.wol_bay.specs.Refusals.{blocks_at}
 use Rattle.log_layout.specs.Values.{shape_of}

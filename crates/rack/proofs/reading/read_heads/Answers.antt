@@ -1,6 +1,4 @@
-use Rattle.std.proofs.Common.{◌≡◌, ◌+◌, length, get_or, Err, refl, sym, ap, ◌∙◌, subst, arith}
-use Rattle.wol_disk.specs.Disk.{Values, Block}
-use Rattle.spin_model.specs.declared.spun.Spun.{Spun}
+use Rattle.std.proofs.Common.{◌≡◌, ◌+◌, length, Err, refl, sym, ap, ◌∙◌, subst, arith}
 use Rattle.spin_model.specs.Spun.{state_of}
 use Rattle.rack.specs.Heads.{SayHeads}
 use Rattle.rack.proofs.HeadSteps.{not_both, all_same, say_none, at_hand, read_more, calm_more, rest_more, say_more}

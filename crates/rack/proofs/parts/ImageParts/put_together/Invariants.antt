@@ -1,4 +1,4 @@
-use Rattle.std.proofs.Common.{◌≡◌, ◌≤◌, ◌+◌, ◌++◌, ◌∷◌, map, reverse, vec_len, vec_capacity}
+use Rattle.std.proofs.Common.{◌≡◌, ◌≤◌, ◌+◌, ◌++◌, map, reverse, vec_len, vec_capacity}
 use Rattle.spin_model.specs.Spun.{disk_of}
 use Rattle.spin_model.specs.declared.spun.Spun.{Spun}
 use Rattle.rack.specs.Disks.{disks_of}
