@@ -1,7 +1,8 @@
-//! Tests of the lines of `check` and `dump`, over a disk in memory.
+//! A manager of a volume without loggers, over a disk in memory, and tests of the lines of `check` and `dump` on it.
 #![tactic(auto)]
 
 #[cfg(test)]
 mod lines;
-#[cfg(test)]
 mod rig;
+
+pub use rig::Rig;

@@ -1,11 +1,11 @@
-//! Tests of the manager of a volume and of its reclaim, over disks in memory.
+//! A manager of a volume with all that it shares, over disks in memory, and tests of it and of its reclaim.
 #![tactic(auto)]
 
-#[cfg(test)]
 mod locked;
 #[cfg(test)]
 mod offload;
 #[cfg(test)]
 mod reclaim;
-#[cfg(test)]
 mod rig;
+
+pub use rig::{Remains, Rig};
