@@ -1,0 +1,6 @@
+pub mod Lists
+pub mod FoundMore
+pub mod Filled
+pub mod FirstTwo
+pub mod Outside
+pub mod Readings
