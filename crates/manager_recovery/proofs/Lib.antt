@@ -4,3 +4,4 @@ pub mod Filled
 pub mod FirstTwo
 pub mod Outside
 pub mod Readings
+pub mod SegmentFaults

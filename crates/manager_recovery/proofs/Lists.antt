@@ -91,3 +91,31 @@ module _ {X Y : Type 0} where
 pub zip_self : {X : Type 0} (R : X → X → Type 0) → ((x : X) → R x x) → (xs : List X) → AllZip R xs xs
 zip_self R r [] = tt
 zip_self R r (x ∷ xs) = (r x, zip_self R r xs)
+
+module _ {X : Type 0} where
+  pub all_from_places : (P : X → Type 0) (xs : List X) → ((k : ℕ) (x : X) → slice_get xs k ≡ Some x → P x) → AllByRecursion P xs
+  all_from_places P [] f = tt
+  all_from_places P (x ∷ xs) f = (f zero x refl, all_from_places P xs (λ k y is. f (suc k) y is))
+
+  -- an element of a front is one of the list, at the same place
+  pub get_take : (xs : List X) (k j : ℕ) (x : X) → slice_get (take k xs) j ≡ Some x → (j < k) × (slice_get xs j ≡ Some x)
+  get_take xs zero j x is = absurd (none-some x is)
+  get_take [] (suc k) j x is = absurd (none-some x is)
+  get_take (y ∷ ys) (suc k) zero x is = (omega arith, is)
+  get_take (y ∷ ys) (suc k) (suc j) x is = let w = get_take ys k j x is in (omega (arith, w.0), w.1)
+
+  pub take_get : (xs : List X) (k j : ℕ) (x : X) → j < k → slice_get xs j ≡ Some x → slice_get (take k xs) j ≡ Some x
+  take_get xs zero j x lt is = absurd (omega arith)
+  take_get [] (suc k) j x lt is = absurd (none-some x is)
+  take_get (y ∷ ys) (suc k) zero x lt is = is
+  take_get (y ∷ ys) (suc k) (suc j) x lt is = take_get ys k j x (omega arith) is
+
+  pub there_is : (xs : List X) (k : ℕ) → k < length xs → (x : X) × (slice_get xs k ≡ Some x)
+  there_is [] k lt = absurd (omega arith)
+  there_is (y ∷ ys) zero lt = (y, refl)
+  there_is (y ∷ ys) (suc k) lt = there_is ys k (omega arith)
+
+  pub within : (xs : List X) (k : ℕ) (x : X) → slice_get xs k ≡ Some x → k < length xs
+  within [] k x is = absurd (none-some x is)
+  within (y ∷ ys) zero x is = omega arith
+  within (y ∷ ys) (suc k) x is = let w = within ys k x is in omega (arith, w)
