@@ -104,7 +104,7 @@ at_most_one v (r ∷ rs) rising = ⊎_elim here (other (at_most_one v rs rising.
 
 -- ---- Heads of records
 
-head_versions : (v : ℕ) (rs : List FoundRecord) → with_version v (map head_of rs) ≡ map head_of (filter (λ (r : FoundRecord). eqb (version r) v) rs)
+pub head_versions : (v : ℕ) (rs : List FoundRecord) → with_version v (map head_of rs) ≡ map head_of (filter (λ (r : FoundRecord). eqb (version r) v) rs)
 head_versions v [] = refl
 head_versions v (r ∷ rs) = (λ i. cond (eqb (version r) v) (head_of r ∷ head_versions v rs i) (head_versions v rs i)) ∙ at (eqb (version r) v)
   where

@@ -5,3 +5,4 @@ pub mod FirstTwo
 pub mod Outside
 pub mod Readings
 pub mod SegmentFaults
+pub mod Indexing

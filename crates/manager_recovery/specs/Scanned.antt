@@ -136,11 +136,6 @@ abbrev pub next_of : (next : ℕ) → List Scan → ℕ
 next_of next [] = next
 next_of next (s ∷ scans) = next_of (next_found next s.records.items) scans
 
--- the records are those that were found, by rising version
-pub record AreSorted (found sorted : List FoundRecord) : Type 0 where
-  pub same : IsPermutation found sorted
-  pub rising : AreRising (map (λ (r : FoundRecord). r.entry.version) sorted)
-
 -- the entries of an index that was filled with these records
 abbrev pub entries_from : List FoundRecord → List Indexed
 entries_from rs = map (λ (r : FoundRecord). entry_of r.entry 0) rs
@@ -233,3 +228,9 @@ AreSortedByVersion (r ∷ rs) = AllByRecursion (λ (q : FoundRecord). r.entry.ve
 -- records of one version stand in the same order
 abbrev pub IsStableByVersion : List FoundRecord → List FoundRecord → Type 0
 IsStableByVersion old new = (v : ℕ) → filter (λ (r : FoundRecord). r.entry.version == v) new ≡ filter (λ (r : FoundRecord). r.entry.version == v) old
+
+-- the records are those that were found, by rising version
+pub record AreSorted (found sorted : List FoundRecord) : Type 0 where
+  pub same : IsPermutation found sorted
+  pub stable : IsStableByVersion found sorted
+  pub rising : AreRising (map (λ (r : FoundRecord). r.entry.version) sorted)
