@@ -6,3 +6,4 @@ pub mod Outside
 pub mod Readings
 pub mod SegmentFaults
 pub mod Indexing
+pub mod ScanLoop
