@@ -7,3 +7,4 @@ pub mod Readings
 pub mod SegmentFaults
 pub mod Indexing
 pub mod ScanLoop
+pub mod ScanAll

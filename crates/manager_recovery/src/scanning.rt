@@ -181,9 +181,9 @@ pub fn scan_all<R: Wait, D: Disk>(
     for k in 0..opening.owned.len() {
         match scan_at(alloc, rt, shared, opening, k) {
             Ok(scan) => {
-                if scans.push(scan).is_err() {
+                let Ok(()) = scans.push(scan) else {
                     return Err(OpenRefusal::NoMemory);
-                }
+                };
             }
             Err(refusal) => return Err(refusal),
         }
