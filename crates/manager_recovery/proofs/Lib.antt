@@ -1,1 +1,4 @@
+pub mod Fronts
+pub mod Places
 pub mod Retired
+pub mod Thinning
