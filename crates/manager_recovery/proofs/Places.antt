@@ -4,10 +4,11 @@ use Rattle.std.specs.Prelude.{slice_get, filter, find, position, is_some, slice_
 use Rattle.std.specs.List.{position_or_len}
 use Rattle.std.proofs.lemmas.Bool.{eqb-true, ltb-true}
 use Rattle.std.proofs.lemmas.List.Folds.{find_at}
-use Rattle.std.proofs.lemmas.Option.{same_Some, none-some}
+use Rattle.std.proofs.lemmas.Option.{same_Some, none-some, slice_get_within}
 use Rattle.wol_disk.specs.Disk.{State}
 use Rattle.logger.specs.Lanes.{logger_of}
 use Rattle.logger.specs.declared.lane.Lane.{Lane}
+use Rattle.logger.proofs.Held.{there_get}
 use Rattle.logger.specs.declared.shared.Shared.{Shared}
 use Rattle.manager_recovery.specs.Opening.{CanOpen}
 use Rattle.manager_recovery.specs.Refused.{IsNamesAnswer, first_missing, first_outside, is_named}
@@ -74,15 +75,19 @@ lane_with [] k x is = absurd (none-some x is)
 lane_with (l ∷ ls) zero x is = (l, refl, same_Some (logger_of l) x is)
 lane_with (l ∷ ls) (suc k) x is = lane_with ls k x is
 
-module _ {D : Type 0} (state : D → State) (shared : Shared D) (o : Opening D) (can : CanOpen state shared o) (named : IsNamesAnswer o None) where
+module _ {D : Type 0} (state : D → State) (shared : Shared D) (o : Opening D) where
   -- the lanes are those of the view
-  pub loggers_are : map logger_of o.lanes.items ≡ o.view
-  loggers_are = can.loggers ∙ all_present o.present.items o.view named.1
+  pub loggers_are : CanOpen state shared o → first_missing o.view o.present.items ≡ None → map logger_of o.lanes.items ≡ o.view
+  loggers_are can present = can.loggers ∙ all_present o.present.items o.view present
 
   -- each owned segment's logger has a place in the view
-  pub place_is : (k : ℕ) (p : OwnedPart D) → slice_get o.owned.items k ≡ Some p → (place : ℕ) × (position (λ (id : ℕ). eqb id p.logger) o.view ≡ Some place)
-  place_is k p is = some_of (position (λ (id : ℕ). eqb id p.logger) o.view) (none_found (λ (q : OwnedPart D). not (is_named o.view q.logger)) o.owned.items k p named.2 is)
+  pub place_is : IsNamesAnswer o None → (k : ℕ) (p : OwnedPart D) → slice_get o.owned.items k ≡ Some p → (place : ℕ) × (position (λ (id : ℕ). eqb id p.logger) o.view ≡ Some place)
+  place_is named k p is = some_of (position (λ (id : ℕ). eqb id p.logger) o.view) (none_found (λ (q : OwnedPart D). not (is_named o.view q.logger)) o.owned.items k p named.2 is)
 
   -- at that place there is its lane
-  pub lane_is : (logger place : ℕ) → position (λ (id : ℕ). eqb id logger) o.view ≡ Some place → (l : Lane D) × (slice_get o.lanes.items place ≡ Some l) × (logger_of l ≡ logger)
-  lane_is logger place is = lane_with o.lanes.items place logger (ap (λ (v : List ℕ). slice_get v place) loggers_are ∙ logger_at o.view logger place is)
+  pub lane_is : CanOpen state shared o → first_missing o.view o.present.items ≡ None → (logger place : ℕ) → position (λ (id : ℕ). eqb id logger) o.view ≡ Some place → (l : Lane D) × (slice_get o.lanes.items place ≡ Some l) × (logger_of l ≡ logger)
+  lane_is can present logger place is = lane_with o.lanes.items place logger (ap (λ (v : List ℕ). slice_get v place) (loggers_are can present) ∙ logger_at o.view logger place is)
+
+-- what was read at a place is what stands there
+pub read_at : {X : Type 0} (xs : List X) (k : ℕ) (x y : X) → slice_get xs k ≡ Some y → x ≡ slice_index_or xs k x → x ≡ y
+read_at xs k x y there read = same_Some x y (sym (there_get xs k x (slice_get_within xs k y there) read) ∙ there)

@@ -1,6 +1,6 @@
 -- A volume that is opened while segments that hold nothing go to their pools.
-use Rattle.std.proofs.Common.{◌≡◌, ◌≢◌, ◌⊎◌, inl, inr, ⊎_elim, ◌+◌, ◌<◌, ◌≤◌, ℕ, zero, suc, Bool, true, false, cond, List, [], ◌∷◌, ◌++◌, length, take, drop, map, remove, Option, None, Some, refl, sym, ap, subst, ◌∙◌, arith}
-use Rattle.std.specs.Prelude.{slice_get, slice_set, filter, IfSome, slice_index_or, vec_len, vec_capacity}
+use Rattle.std.proofs.Common.{◌≡◌, ◌≢◌, ◌⊎◌, inl, inr, ⊎_elim, ◌+◌, ◌-◌, ◌<◌, ◌≤◌, ℕ, zero, suc, Bool, true, false, cond, eqb, List, [], ◌∷◌, ◌++◌, length, take, drop, map, remove, Option, None, Some, refl, sym, ap, subst, ◌∙◌, arith}
+use Rattle.std.specs.Prelude.{slice_get, slice_set, filter, position, IfSome, slice_index_or, vec_len, vec_capacity}
 use Rattle.std.specs.List.{AllByRecursion, AllZip}
 use Rattle.std.proofs.lemmas.List.{append_assoc, append-nil, length-take-le}
 use Rattle.std.proofs.Math.Seq.{take-length}
@@ -25,9 +25,11 @@ use Rattle.logger.specs.declared.shared.Shared.{Shared}
 use Rattle.manager.proofs.Lanes.{all_at, all_set, map_set}
 use Rattle.manager_recovery.specs.Opening.{CanOpen, IsOpeningLane, IsOwned, IsHeldIn, IsBefore, AreInOrder, SaysOwner, place_of}
 use Rattle.manager_recovery.specs.Left.{IsUsedLane, Fate, Kept, Freed, kept_of, IsFateOf, AreFates}
-use Rattle.manager_recovery.specs.Scanned.{IsScanned, has_some, thinned}
+use Rattle.manager_recovery.specs.Refused.{IsNamesAnswer, first_missing}
+use Rattle.manager_recovery.specs.Scanned.{IsScanned, IsThinning, has_some, thinned}
 use Rattle.manager_recovery.specs.declared.opening.Opening.{Opening}
 use Rattle.manager_recovery.specs.declared.opening.OwnedPart.{OwnedPart}
+use Rattle.manager_recovery.proofs.Places.{place_is, lane_is}
 use Rattle.manager_recovery.proofs.Fronts.{front_at, back_at, around, none_behind, get_middle, set_middle, remove_middle, all_join, all_front, all_back, zip_join, zip_long, zip_at, zip_other}
 
 -- ---- A lane whose passes were used
@@ -242,6 +244,10 @@ module _ {D : Type 0} (state : D → State) (shared : Shared D) (sound : (p : Sp
         scans_long = scans_front;
       }
 
+  -- the loop's counter was lowered
+  pub lowered : (n : Opening D) (is : List Scan) (k : ℕ) → 0 < k → IsRetiredTo state shared o n was is k → IsRetiredTo state shared o n was is (suc (k - 1))
+  lowered n is k more inv = let e : k ≡ suc (k - 1) = omega (arith, more) in subst (IsRetiredTo state shared o n was is) e inv
+
   thinned_next : (k : ℕ) (p : OwnedPart D) (s : Scan) (t : Bool) → slice_get o.owned.items k ≡ Some p → slice_get was k ≡ Some s → has_some s ≡ t
       → thinned (drop k o.owned.items) (drop k was) ≡ cond t (p ∷ thinned (drop (suc k) o.owned.items) (drop (suc k) was)) (thinned (drop (suc k) o.owned.items) (drop (suc k) was))
   thinned_next k p s t at scan is =
@@ -303,3 +309,57 @@ module _ {D : Type 0} (state : D → State) (shared : Shared D) (sound : (p : Sp
     pub each_then : AreFates state o.want.id o.owned.items fates_then
     each_then = subst (λ (l : List (OwnedPart D)). AreFates state o.want.id l fates_then) (sym (around o.owned.items k at.part at.was_part))
         (zip_join (IsFateOf state o.want.id) (take k o.owned.items) (at.part ∷ drop (suc k) o.owned.items) (map Kept (take k o.owned.items)) (Kept p ∷ inv.fates) (fates_all (take k o.owned.items)) (fate, inv.each))
+
+  -- ---- The lane of the segment
+
+  module _ (n : Opening D) (is : List Scan) (k : ℕ) (inv : IsRetiredTo state shared o n was is (suc k)) (at : IsNext n is k) where
+    pub part_place : IsNamesAnswer o None → (place : ℕ) × (position (λ (id : ℕ). eqb id at.part.logger) n.view ≡ Some place)
+    part_place named = let w = place_is state shared o named k at.part at.was_part in (w.0, ap (λ (q : Opening D). position (λ (id : ℕ). eqb id at.part.logger) q.view) inv.same ∙ w.1)
+
+    pub part_lane : IsNamesAnswer o None → (place : ℕ) → position (λ (id : ℕ). eqb id at.part.logger) n.view ≡ Some place → (l : Lane D) × (slice_get n.lanes.items place ≡ Some l) × (logger_of l ≡ at.part.logger)
+    part_lane named place found = lane_is state shared n inv.can (subst (λ (q : Opening D). first_missing q.view q.present.items ≡ None) (sym inv.same) named.1) at.part.logger place found
+
+    module _ (place : ℕ) (l : Lane D) (lane : slice_get n.lanes.items place ≡ Some l) where
+      pub is_ready : IsOpeningLane state shared n.want.id n.most l
+      is_ready = all_at (IsOpeningLane state shared n.want.id n.most) n.lanes.items place l lane inv.can.lanes
+
+      pub is_held : logger_of l ≡ at.part.logger → (p : OwnedPart D) → slice_get n.owned.items k ≡ Some p → IsHeldIn state p l
+      is_held on p there =
+          let same : at.part ≡ p = same_Some at.part p (sym at.part_at ∙ there) in
+          all_at (λ (q : Lane D). logger_of q ≡ p.logger → IsHeldIn state p q) n.lanes.items place l lane (all_at (IsOwned state n.lanes.items) n.owned.items k p there inv.can.owned).held (on ∙ ap (λ (q : OwnedPart D). q.logger) same)
+
+      module _ (m : Lane D) (same : IsSameLane l m) (rest : m ≡ record l { pool = m.pool; spindle = m.spindle }) (pool_free : IsFree (pool_of m)) (spindle_free : IsFree m.spindle) (settled : has_token (pass_mine m.spindle) ≡ false)
+          (t : Opening D) (t_same : t ≡ record n { lanes = t.lanes; owned = t.owned }) (t_lanes : t.lanes.items ≡ slice_set n.lanes.items place m) where
+        used : IsUsedLane state shared n.want.id n.most l m
+        used = used_lane state shared n.want.id n.most l m is_ready same rest pool_free spindle_free settled
+
+        used_first : IsUsedLane state shared o.want.id o.most l m
+        used_first = subst (λ (q : Opening D). IsUsedLane state shared q.want.id q.most l m) inv.same used
+
+        then_same : t ≡ record o { lanes = t.lanes; owned = t.owned }
+        then_same = t_same ∙ ap (λ (q : Opening D). record q { lanes = t.lanes; owned = t.owned }) inv.same
+
+        then_lanes : AllZip (IsUsedLane state shared o.want.id o.most) o.lanes.items t.lanes.items
+        then_lanes = subst (AllZip (IsUsedLane state shared o.want.id o.most) o.lanes.items) (sym t_lanes)
+            (zip_other (IsUsedLane state shared o.want.id o.most) o.lanes.items n.lanes.items place l m lane (λ x u. used_twice state shared o.want.id o.most x l m u used_first) inv.lanes)
+
+        pub freed : has_some at.scan ≡ false → logger_of l ≡ at.part.logger
+            → ((i : ℕ) → i ≢ at.part.index → holds (pass_lock (pool_of l)).base (pass_number (pool_of l)) (pass_mine (pool_of l)) i ≡ true → holds (pass_lock (pool_of m)).base (pass_number (pool_of m)) (pass_mine (pool_of m)) i ≡ true)
+            → t.owned.items ≡ remove n.owned.items k → (js : List Scan) → js ≡ remove is k → (f : FreeSegment D) → IsFateOf state o.want.id at.part (Freed f) → IsRetiredTo state shared o t was js k
+        freed none on kept owned js scans f fate =
+            let T = thinned (drop (suc k) o.owned.items) (drop (suc k) was) in
+            let left : t.owned.items ≡ take k o.owned.items ++ T = owned ∙ ap (λ (q : List (OwnedPart D)). remove q k) at.here ∙ remove_middle (take k o.owned.items) T k at.part at.long in
+            goes n is k inv at none t js then_same (can_again state shared n inv.can place l m lane used at.part on kept t t_same t_lanes (take k o.owned.items) T at.here left) then_lanes owned scans f fate
+
+        pub failed : (p : OwnedPart D) → IsFateOf state o.want.id at.part (Kept p) → t.owned.items ≡ slice_set n.owned.items k p → IsThinning state shared o t
+        failed p fate owned = record {
+          same = then_same;
+          lanes = then_lanes;
+          fates = fates_then n is k inv at p fate;
+          owned = owned_then n is k inv at p fate t.owned.items owned;
+          each = each_then n is k inv at p fate;
+        }
+
+  -- all of them were looked at
+  pub whole : (n : Opening D) (is : List Scan) → IsRetiredTo state shared o n was is 0 → IsThinning state shared o n
+  whole n is inv = record { same = inv.same; lanes = inv.lanes; fates = inv.fates; owned = inv.owned ∙ sym inv.kept; each = inv.each }
