@@ -55,6 +55,11 @@ module _ {X : Type 0} where
   all_back P [] ys a = a
   all_back P (x ∷ xs) ys a = all_back P xs ys a.1
 
+  pub all_take : (P : X → Type 0) (k : ℕ) (xs : List X) → AllByRecursion P xs → AllByRecursion P (take k xs)
+  all_take P zero xs all = tt
+  all_take P (suc k) [] all = tt
+  all_take P (suc k) (x ∷ xs) all = (all.0, all_take P k xs all.1)
+
 module _ {X Y : Type 0} (R : X → Y → Type 0) where
   pub zip_join : (xs vs : List X) (ys ws : List Y) → AllZip R xs ys → AllZip R vs ws → AllZip R (xs ++ vs) (ys ++ ws)
   zip_join [] vs [] ws a b = b

@@ -29,7 +29,7 @@ use Rattle.manager_recovery.specs.Refused.{IsNamesAnswer, first_missing}
 use Rattle.manager_recovery.specs.Scanned.{IsScanned, IsThinning, has_some, thinned}
 use Rattle.manager_recovery.specs.declared.opening.Opening.{Opening}
 use Rattle.manager_recovery.specs.declared.opening.OwnedPart.{OwnedPart}
-use Rattle.manager_recovery.proofs.Places.{place_is, lane_is}
+use Rattle.manager_recovery.proofs.Places.{place_is, lane_is, read_at}
 use Rattle.manager_recovery.proofs.Fronts.{front_at, back_at, around, none_behind, get_middle, set_middle, remove_middle, all_join, all_front, all_back, zip_join, zip_long, zip_at, zip_other}
 
 -- ---- A lane whose passes were used
@@ -318,6 +318,9 @@ module _ {D : Type 0} (state : D → State) (shared : Shared D) (sound : (p : Sp
 
     pub part_lane : IsNamesAnswer o None → (place : ℕ) → position (λ (id : ℕ). eqb id at.part.logger) n.view ≡ Some place → (l : Lane D) × (slice_get n.lanes.items place ≡ Some l) × (logger_of l ≡ at.part.logger)
     part_lane named place found = lane_is state shared n inv.can (subst (λ (q : Opening D). first_missing q.view q.present.items ≡ None) (sym inv.same) named.1) at.part.logger place found
+
+    pub lane_read : IsNamesAnswer o None → (place : ℕ) → position (λ (id : ℕ). eqb id at.part.logger) n.view ≡ Some place → (l : Lane D) → l ≡ slice_index_or n.lanes.items place l → (slice_get n.lanes.items place ≡ Some l) × (logger_of l ≡ at.part.logger)
+    lane_read named place found l read = let w = part_lane named place found in let same = read_at n.lanes.items place l w.0 w.1 read in (w.1 ∙ ap Some (sym same), ap logger_of same ∙ w.2)
 
     module _ (place : ℕ) (l : Lane D) (lane : slice_get n.lanes.items place ≡ Some l) where
       pub is_ready : IsOpeningLane state shared n.want.id n.most l
