@@ -115,6 +115,10 @@ module _ {D : Type 0} where
   others [] r back order = other_behind (place_of r) back order.0
   others (x ∷ front) r back order = ((before_other (place_of x) (place_of r) (before_each (place_of x) front r back order.0).1).0, others front r back order.1)
 
+  pub others_front : (front : List (OwnedPart D)) (r : OwnedPart D) (back : List (OwnedPart D)) → AreInOrder (map place_of (front ++ r ∷ back)) → AllByRecursion (λ (x : OwnedPart D). AreOther (place_of r) (place_of x)) front
+  others_front [] r back order = tt
+  others_front (x ∷ front) r back order = ((before_other (place_of x) (place_of r) (before_each (place_of x) front r back order.0).1).1, others_front front r back order.1)
+
   all_less : (P : OwnedPart D → Type 0) (front : List (OwnedPart D)) (r : OwnedPart D) (back : List (OwnedPart D)) → AllByRecursion P (front ++ r ∷ back) → AllByRecursion P (front ++ back)
   all_less P [] r back all = all.1
   all_less P (x ∷ front) r back all = (all.0, all_less P front r back all.1)
