@@ -26,8 +26,8 @@ use Rattle.manager_recovery.specs.Scanned.{IsScanned, IsAdopted, AreAdopted, hel
 use Rattle.manager_recovery.specs.declared.opening.Opening.{Opening}
 use Rattle.manager_recovery.specs.declared.opening.OwnedPart.{OwnedPart}
 use Rattle.manager_recovery.proofs.Fronts.{front_at, back_at, around, zip_long, zip_at}
-use Rattle.manager_recovery.proofs.Places.{lane_is, place_is, loggers_are}
-use Rattle.manager_recovery.proofs.Thinning.{AreOther, others_front, zip_same}
+use Rattle.manager_recovery.proofs.Places.{lane_is, place_is, loggers_are, read_at}
+use Rattle.manager_recovery.proofs.Thinning.{AreOther, others_front, zip_same, at_same}
 
 -- ---- Lists
 
@@ -48,9 +48,15 @@ take_past [] (suc k) le = refl
 take_past (x ∷ xs) zero le = absurd (omega arith)
 take_past (x ∷ xs) (suc k) le = ap (λ l. x ∷ l) (take_past xs k (omega arith))
 
+drop_past : {X : Type 0} (xs : List X) (k : ℕ) → length xs ≤ k → drop k xs ≡ []
+drop_past [] zero le = refl
+drop_past [] (suc k) le = refl
+drop_past (x ∷ xs) zero le = absurd (omega arith)
+drop_past (x ∷ xs) (suc k) le = drop_past xs k (omega arith)
+
 pub reverse_twice : {X : Type 0} (xs : List X) → reverse (reverse xs) ≡ xs
 reverse_twice [] = refl
-reverse_twice (x ∷ xs) = reverse-append (reverse xs) (x ∷ []) ∙ ap (λ l. x ∷ l) (reverse_twice xs)
+reverse_twice (x ∷ xs) = ap reverse (reverse-append (x ∷ []) xs) ∙ (reverse-append (reverse xs) (x ∷ []) ∙ ap (λ l. x ∷ l) (reverse_twice xs))
 
 -- ---- The segments of a logger
 
@@ -182,9 +188,8 @@ module _ {D : Type 0} (state : D → State) (shared : Shared D) (o : Opening D) 
     held_place = let w = place_is state shared o named k x next.part_is in (w.0, ap (λ (q : Opening D). position (λ (id : ℕ). eqb id x.logger) q.view) inv.same ∙ w.1)
 
     -- its lane, and what that was when the volume came
-    pub record IsLaneOf (place : ℕ) : Type 0 where
+    pub record IsLaneOf (place : ℕ) (lane : Lane D) : Type 0 where
       pub before : Lane D
-      pub lane : Lane D
       pub was_lane : slice_get o.lanes.items place ≡ Some before
       pub lane_is : slice_get n.lanes.items place ≡ Some lane
       pub on : logger_of lane ≡ x.logger
@@ -192,60 +197,71 @@ module _ {D : Type 0} (state : D → State) (shared : Shared D) (o : Opening D) 
       pub ready : IsOpeningLane state shared o.want.id o.most before
       pub held : IsHeldIn state x before
 
-    pub lane_of : (place : ℕ) → position (λ (id : ℕ). eqb id x.logger) n.view ≡ Some place → IsLaneOf place
-    lane_of place found =
-        let w = lane_is state shared o can named.1 x.logger place (ap (λ (q : Opening D). position (λ (id : ℕ). eqb id x.logger) q.view) (sym inv.same) ∙ found) in
+    found_lane : (place : ℕ) → position (λ (id : ℕ). eqb id x.logger) n.view ≡ Some place → (l : Lane D) × (slice_get o.lanes.items place ≡ Some l) × (logger_of l ≡ x.logger)
+    found_lane place found = lane_is state shared o can named.1 x.logger place (ap (λ (q : Opening D). position (λ (id : ℕ). eqb id x.logger) q.view) (sym inv.same) ∙ found)
+
+    pub place_within : (place : ℕ) → position (λ (id : ℕ). eqb id x.logger) n.view ≡ Some place → place < length n.lanes.items
+    place_within place found =
+        let w = found_lane place found in
+        let lt = slice_get_within o.lanes.items place w.0 w.1 in
+        let long = zip_long (HoldsItsOwn state shared o.want.id o.most (take k o.owned.items) inv.segments) o.lanes.items n.lanes.items inv.each in
+        omega (arith, lt, long)
+
+    pub lane_of : (place : ℕ) → position (λ (id : ℕ). eqb id x.logger) n.view ≡ Some place → (l : Lane D) → l ≡ slice_index_or n.lanes.items place l → IsLaneOf place l
+    lane_of place found l read =
+        let w = found_lane place found in
         let z = zip_at (HoldsItsOwn state shared o.want.id o.most (take k o.owned.items) inv.segments) o.lanes.items n.lanes.items place inv.each (slice_get_within o.lanes.items place w.0 w.1) in
         let first : z.0 ≡ w.0 = same_Some z.0 w.0 (sym z.2 ∙ w.1) in
+        let is : l ≡ z.1 = read_at n.lanes.items place l z.1 z.3 read in
+        let has : HoldsItsOwn state shared o.want.id o.most (take k o.owned.items) inv.segments z.0 l = subst (HoldsItsOwn state shared o.want.id o.most (take k o.owned.items) inv.segments z.0) (sym is) z.4 in
         let on : logger_of z.0 ≡ x.logger = ap logger_of first ∙ w.2 in record {
           before = z.0;
-          lane = z.1;
           was_lane = z.2;
-          lane_is = z.3;
-          on = z.4.same.logger ∙ on;
-          holds_own = z.4;
+          lane_is = z.3 ∙ ap Some (sym is);
+          on = has.same.logger ∙ on;
+          holds_own = has;
           ready = all_at (IsOpeningLane state shared o.want.id o.most) o.lanes.items place z.0 z.2 can.lanes;
-          held = all_at (λ (l : Lane D). logger_of l ≡ x.logger → IsHeldIn state x l) o.lanes.items place z.0 z.2 next.owned.held on;
+          held = all_at (λ (q : Lane D). logger_of q ≡ x.logger → IsHeldIn state x q) o.lanes.items place z.0 z.2 next.owned.held on;
         }
 
-    module _ (place : ℕ) (at : IsLaneOf place) where
-      pub below : x.index < segments_in at.lane
+    module _ (place : ℕ) (l : Lane D) (at : IsLaneOf place l) where
+      pub below : x.index < segments_in l
       below = subst (λ (m : ℕ). x.index < m) (sym at.holds_own.same.segments) at.held.below
 
-      pub blocks_are : (state (disk_of x.part)).size ≡ pool_blocks at.lane
+      pub blocks_are : (state (disk_of x.part)).size ≡ pool_blocks l
       blocks_are = at.held.blocks ∙ ap (λ (i : LockId PoolBase). i.base.blocks) (sym at.holds_own.same.pool.0)
 
-      pub holding_is : holds (pass_lock (pool_of at.lane)).base (pass_number (pool_of at.lane)) (pass_mine (pool_of at.lane)) x.index ≡ true
+      pub holding_is : holds (pass_lock (pool_of l)).base (pass_number (pool_of l)) (pass_mine (pool_of l)) x.index ≡ true
       holding_is = let s = at.holds_own.same in (λ i. holds (s.pool.0 i).base (s.pool.1 i) (at.holds_own.pool i) x.index) ∙ at.held.holding
 
-      pub volume_is : volume_of x.part ≡ logger_of at.lane
+      pub volume_is : volume_of x.part ≡ logger_of l
       volume_is = at.held.volume ∙ sym at.holds_own.same.logger
 
-      pub owner_is : lane_owner at.lane ≡ o.want.id
+      pub owner_is : lane_owner l ≡ o.want.id
       owner_is = at.holds_own.same.owner ∙ at.ready.owner
 
-      pub apart_is : AllByRecursion (λ (i : ℕ). x.index ≢ i) (indexes_in at.lane)
+      pub apart_is : AllByRecursion (λ (i : ℕ). x.index ≢ i) (indexes_in l)
       apart_is =
           let os = o.owned.items in
           let order : AreInOrder (map place_of (take k os ++ x ∷ drop (suc k) os)) = subst (λ (l : List (OwnedPart D)). AreInOrder (map place_of l)) (around os k x next.part_is) can.in_order in
           let each = index_other state x (take k os) (take k scans) inv.segments inv.adopted (others_front (take k os) x (drop (suc k) os) order) in
-          let held : held_in at.lane ≡ held_on x.logger (take k os) inv.segments = at.holds_own.held ∙ ap (λ (v : ℕ). held_on v (take k os) inv.segments) at.on in
-          let untaken : taken_in at.lane ≡ None = at.holds_own.taken ∙ at.ready.untaken in
-          let same : indexes_in at.lane ≡ map (λ (h : HeldSegment D). h.index) (held_on x.logger (take k os) inv.segments) =
+          let held : held_in l ≡ held_on x.logger (take k os) inv.segments = at.holds_own.held ∙ ap (λ (v : ℕ). held_on v (take k os) inv.segments) at.on in
+          let untaken : taken_in l ≡ None = at.holds_own.taken ∙ at.ready.untaken in
+          let same : indexes_in l ≡ map (λ (h : HeldSegment D). h.index) (held_on x.logger (take k os) inv.segments) =
               (λ i. map (λ (h : HeldSegment D). h.index) (held i) ++ map (λ (t : ℕ × FreeSegment D). t.0) (option_to_list (untaken i))) ∙ append-nil (map (λ (h : HeldSegment D). h.index) (held_on x.logger (take k os) inv.segments)) in
           subst (AllByRecursion (λ (i : ℕ). x.index ≢ i)) (sym same) each
 
-      pub held_next : AreApart o.view → (h : HeldSegment D) → IsAdopted state x next.scan h → (m : Lane D) → IsLane state m → IsSameLane at.lane m → held_in m ≡ held_in at.lane ++ h ∷ [] → taken_in m ≡ taken_in at.lane → pass_mine (pool_of m) ≡ pass_mine (pool_of at.lane)
-          → (shared_at : IsAt shared m) → (t : Opening D) → t ≡ record n { lanes = t.lanes; owned = t.owned } → t.lanes.items ≡ slice_set n.lanes.items place m → t.owned.items ≡ rest → IsHeldTo state shared o t scans (suc k)
-      held_next apart h adopted m is same held taken pool shared_at t t_same lanes owned =
+      pub held_next : AreApart o.view → (h : HeldSegment D) → IsAdopted state x next.scan h → (m : Lane D) → IsLane state m → IsSameLane l m → held_in m ≡ held_in l ++ h ∷ [] → taken_in m ≡ taken_in l → pass_mine (pool_of m) ≡ pass_mine (pool_of l)
+          → (t : Opening D) → t ≡ record n { lanes = t.lanes; owned = t.owned } → t.lanes.items ≡ slice_set n.lanes.items place m → t.owned.items ≡ rest → IsHeldTo state shared o t scans (suc k)
+      held_next apart h adopted m is same held taken pool t t_same lanes owned =
           let os = o.owned.items in let R = HoldsItsOwn state shared o.want.id o.most in
           let front : take (suc k) os ≡ take k os ++ x ∷ [] = front_at os k x next.part_is in
           let scans_front : take (suc k) scans ≡ take k scans ++ next.scan ∷ [] = front_at scans k next.scan next.scan_is in
           let loggers : AreApart (map logger_of n.lanes.items) = subst AreApart (sym (loggers_same state shared o.want.id o.most (take k os) inv.segments o.lanes.items n.lanes.items inv.each ∙ loggers_are state shared o can named.1)) apart in
-          let here : (y : Lane D) → R (take k os) inv.segments y at.lane → R (take k os ++ x ∷ []) (inv.segments ++ h ∷ []) y m = λ y has.
+          let here : (y : Lane D) → R (take k os) inv.segments y l → R (take k os ++ x ∷ []) (inv.segments ++ h ∷ []) y m = λ y has.
               let logger : logger_of m ≡ x.logger = same.logger ∙ at.on in record {
                 lane = is;
-                at = shared_at;
+                at = at_same shared l m same has.at;
                 same = record {
                   logger = same.logger ∙ has.same.logger;
                   owner = same.owner ∙ has.same.owner;
@@ -258,7 +274,7 @@ module _ {D : Type 0} (state : D → State) (shared : Shared D) (o : Opening D) 
                 taken = taken ∙ has.taken;
                 pool = pool ∙ has.pool;
               } in
-          let each = lanes_more state shared o.want.id o.most (take k os) (take k scans) inv.segments inv.adopted x h o.lanes.items n.lanes.items place at.lane m loggers at.lane_is at.on inv.each here in record {
+          let each = lanes_more state shared o.want.id o.most (take k os) (take k scans) inv.segments inv.adopted x h o.lanes.items n.lanes.items place l m loggers at.lane_is at.on inv.each here in record {
             same = t_same ∙ ap (λ (q : Opening D). record q { lanes = t.lanes; owned = t.owned }) inv.same;
             left = ap reverse owned ∙ next.behind;
             segments = inv.segments ++ h ∷ [];
@@ -266,13 +282,28 @@ module _ {D : Type 0} (state : D → State) (shared : Shared D) (o : Opening D) 
             each = subst (λ (l : List (OwnedPart D)). AllZip (R l (inv.segments ++ h ∷ [])) o.lanes.items t.lanes.items) (sym front) (subst (AllZip (R (take k os ++ x ∷ []) (inv.segments ++ h ∷ [])) o.lanes.items) (sym lanes) each);
           }
 
-  pub all_held_then : (n : Opening D) (k : ℕ) → IsHeldTo state shared o n scans k → n.owned.items ≡ [] → AreHeld state shared o.want.id o.most o.owned.items scans o.lanes.items n.lanes.items
-  all_held_then n k inv none =
+  pub none_left : (n : Opening D) (k : ℕ) → IsHeldTo state shared o n scans k → length scans ≤ k → n.owned.items ≡ []
+  none_left n k inv past =
+      let long = zip_long (IsScanned state o.want.id o.want.home) o.owned.items scans scanned in
+      sym (reverse_twice n.owned.items) ∙ ap reverse (inv.left ∙ drop_past o.owned.items k (omega (arith, long, past)))
+
+  nil_of : {X : Type 0} (xs : List X) → length xs ≡ 0 → xs ≡ []
+  nil_of [] none = refl
+  nil_of (x ∷ xs) none = absurd (omega (arith, none))
+
+  pub some_left : (n : Opening D) (k : ℕ) → IsHeldTo state shared o n scans k → k < length scans → length n.owned.items ≡ 0 → ⊥
+  some_left n k inv more nothing =
+      let none = nil_of n.owned.items nothing in
+      let long = zip_long (IsScanned state o.want.id o.want.home) o.owned.items scans scanned in
+      let past : length o.owned.items ≤ k = drop_nothing o.owned.items k (sym inv.left ∙ ap reverse none) in
+      omega (arith, long, past, more)
+
+  pub all_held_then : (n : Opening D) (k : ℕ) → IsHeldTo state shared o n scans k → length scans ≤ k → AreHeld state shared o.want.id o.most o.owned.items scans o.lanes.items n.lanes.items
+  all_held_then n k inv past =
       let os = o.owned.items in
-      let past : length os ≤ k = drop_nothing os k (sym inv.left ∙ ap reverse none) in
       let long = zip_long (IsScanned state o.want.id o.want.home) os scans scanned in
-      let parts : take k os ≡ os = take_past os k past in
-      let all : take k scans ≡ scans = take_past scans k (omega (arith, long, past)) in record {
+      let parts : take k os ≡ os = take_past os k (omega (arith, long, past)) in
+      let all : take k scans ≡ scans = take_past scans k past in record {
         segments = inv.segments;
         adopted = subst (λ (l : List (OwnedPart D)). AreAdopted state l scans inv.segments) parts (subst (λ (l : List Scan). AreAdopted state (take k os) l inv.segments) all inv.adopted);
         each = subst (λ (l : List (OwnedPart D)). AllZip (HoldsItsOwn state shared o.want.id o.most l inv.segments) o.lanes.items n.lanes.items) parts inv.each;

@@ -34,6 +34,15 @@ use Rattle.manager_recovery.proofs.Fronts.{front_at, back_at, around, none_behin
 
 -- ---- A lane whose passes were used
 
+-- its locks are those that they were
+pub at_same : {D : Type 0} (shared : Shared D) (old new : Lane D) → IsSameLane old new → IsAt shared old → IsAt shared new
+at_same shared old new same a = record {
+  pool_in = subst (λ (n : ℕ). n < vec_len shared.pools) (sym same.logger) a.pool_in;
+  spindle_in = subst (λ (n : ℕ). n < vec_len shared.spindles) (sym same.logger) a.spindle_in;
+  pool = λ d. same.pool.0 ∙ a.pool d ∙ ap (λ (n : ℕ). lock_id (slice_index_or shared.pools.items n d)) (sym same.logger);
+  spindle = λ d. same.spindle.0 ∙ a.spindle d ∙ ap (λ (n : ℕ). lock_id (slice_index_or shared.spindles.items n d)) (sym same.logger);
+}
+
 module _ {D : Type 0} (state : D → State) (shared : Shared D) (id most : ℕ) (old new : Lane D) (was : IsOpeningLane state shared id most old) (same : IsSameLane old new)
     (rest : new ≡ record old { pool = new.pool; spindle = new.spindle }) where
   used_is : IsFree (pool_of new) → IsFree new.spindle → has_token (pass_mine new.spindle) ≡ false → IsLane state new
@@ -55,12 +64,7 @@ module _ {D : Type 0} (state : D → State) (shared : Shared D) (id most : ℕ) 
       }
 
   used_at : IsAt shared new
-  used_at = let a = was.at in record {
-    pool_in = subst (λ (n : ℕ). n < vec_len shared.pools) (sym same.logger) a.pool_in;
-    spindle_in = subst (λ (n : ℕ). n < vec_len shared.spindles) (sym same.logger) a.spindle_in;
-    pool = λ d. same.pool.0 ∙ a.pool d ∙ ap (λ (n : ℕ). lock_id (slice_index_or shared.pools.items n d)) (sym same.logger);
-    spindle = λ d. same.spindle.0 ∙ a.spindle d ∙ ap (λ (n : ℕ). lock_id (slice_index_or shared.spindles.items n d)) (sym same.logger);
-  }
+  used_at = at_same shared old new same was.at
 
   pub used_lane : IsFree (pool_of new) → IsFree new.spindle → has_token (pass_mine new.spindle) ≡ false → IsUsedLane state shared id most old new
   used_lane pool_free spindle_free settled = record {
