@@ -1,5 +1,13 @@
+pub mod Filled
+pub mod FirstTwo
+pub mod FoundMore
 pub mod Fronts
 pub mod Held
+pub mod Indexing
+pub mod Lists
+pub mod Outside
 pub mod Places
+pub mod Readings
 pub mod Retired
+pub mod SegmentFaults
 pub mod Thinning

@@ -1,5 +1,5 @@
 -- Segments that were read back, and the records that were found in them.
-use Rattle.std.specs.Prelude.{⊤, true, ◌^◌, IsPermutation, ◌≡◌, ◌≢◌, ◌<◌, ◌≤◌, ◌+◌, ◌==◌, if◌then◌else◌, ℕ, Bool, not, List, [], ◌∷◌, ◌++◌, map, filter, position, unwrap_or, Option, Some, None, option_map, Result, IfOk, OnOk, IsErrOf, IsTrue, max}
+use Rattle.std.specs.Prelude.{⊤, take, slice_get, true, ◌^◌, IsPermutation, ◌≡◌, ◌≢◌, ◌<◌, ◌≤◌, ◌+◌, ◌==◌, if◌then◌else◌, ℕ, Bool, not, List, [], ◌∷◌, ◌++◌, map, filter, position, unwrap_or, Option, Some, None, option_map, Result, IfOk, OnOk, IsErrOf, IsTrue, max}
 use Rattle.std.specs.List.{AllByRecursion, AllZip, list_any}
 use Rattle.wol_disk.specs.Disk.{State, Block, Values, IsImageOf, LeavesOnly, Rose, only, reads, settled}
 use Rattle.spin_model.specs.Spun.{state_of}
@@ -52,6 +52,13 @@ pub record IsScanned {D : Type 0} (state : D → State) (id home : ℕ) (o : Own
   pub owner : s.owner ≡ Some id
   pub scanned : (vs : List (Values Block)) → (state_of state o.part).values ≡ Some vs → (vs ≡ only (reads vs)) × IsScanOf (reads vs) s
   pub within : AllByRecursion (λ (f : Found). f.head.lbn + f.head.count ≤ home) s.records.items
+
+-- what shows at this position that the segment isn't one of the volume: the head has another owner or none, or the record
+-- is the first that passes the volume's end
+pub data IsPastEnd (s : Scan) (id home pos : ℕ) : Type 0 where
+  foreign : s.owner ≢ Some id → pos ≡ 0 → IsPastEnd s id home pos
+  passes : (k : ℕ) (f : Found) → s.owner ≡ Some id → slice_get s.records.items k ≡ Some f → pos ≡ f.pos → home < f.head.lbn + f.head.count
+      → AllByRecursion (λ (g : Found). g.head.lbn + g.head.count ≤ home) (take k s.records.items) → IsPastEnd s id home pos
 
 -- why one segment is refused
 abbrev pub SegmentRefuses : {D : Type 0} → (tells : Bool) → (D → State) → (id home : ℕ) → (o n : OwnedPart D) → OpenRefusal → Type 0
@@ -128,11 +135,6 @@ next_found next (f ∷ fs) = next_found (max next (f.head.version + 1)) fs
 abbrev pub next_of : (next : ℕ) → List Scan → ℕ
 next_of next [] = next
 next_of next (s ∷ scans) = next_of (next_found next s.records.items) scans
-
--- the records are those that were found, by rising version
-pub record AreSorted (found sorted : List FoundRecord) : Type 0 where
-  pub same : IsPermutation found sorted
-  pub rising : AreRising (map (λ (r : FoundRecord). r.entry.version) sorted)
 
 -- the entries of an index that was filled with these records
 abbrev pub entries_from : List FoundRecord → List Indexed
@@ -226,3 +228,9 @@ AreSortedByVersion (r ∷ rs) = AllByRecursion (λ (q : FoundRecord). r.entry.ve
 -- records of one version stand in the same order
 abbrev pub IsStableByVersion : List FoundRecord → List FoundRecord → Type 0
 IsStableByVersion old new = (v : ℕ) → filter (λ (r : FoundRecord). r.entry.version == v) new ≡ filter (λ (r : FoundRecord). r.entry.version == v) old
+
+-- the records are those that were found, by rising version
+pub record AreSorted (found sorted : List FoundRecord) : Type 0 where
+  pub same : IsPermutation found sorted
+  pub stable : IsStableByVersion found sorted
+  pub rising : AreRising (map (λ (r : FoundRecord). r.entry.version) sorted)

@@ -4,13 +4,13 @@ ghost use Rattle.std.specs.List.{AllByRecursion};
 ghost use Rattle.wol_disk.specs.Disk.{LeavesOnly, IsImageOf};
 ghost use Rattle.spin_model.specs.Spun.{state_of, volume_of};
 ghost use Rattle.logger.specs.Lanes.{IsLane, IsAt, IsSameLane, logger_of};
-ghost use Rattle.log_scan.specs.Scan.{IsInside};
+ghost use Rattle.log_scan.specs.Scan.{IsScan};
 ghost use Rattle.log_scan.specs.declared.Found.{Found};
 ghost use Rattle.manager_recovery.specs.Owned.{IsIntact, owned_of};
 ghost use Rattle.manager_recovery.specs.Opening.{CanOpen, SaysOwner};
 ghost use Rattle.manager_recovery.specs.Left.{IsSameOwned};
 ghost use Rattle.manager_recovery.specs.Refused.{IsNamesAnswer, Refuses};
-ghost use Rattle.manager_recovery.specs.Scanned.{IsReadOf, IsScanned, IsSettledPart, SegmentRefuses, IsReadBack, AreReadBack};
+ghost use Rattle.manager_recovery.specs.Scanned.{IsReadOf, IsScanned, IsSettledPart, SegmentRefuses, IsPastEnd, IsReadBack, AreReadBack};
 
 use crate::names::place_of;
 use crate::{OpenRefusal, Opening, OwnedPart};
@@ -62,17 +62,36 @@ fn first_past(found: &[Found], home: u64) -> Option<u32>
     None
 }
 
-// Why a segment was not read back.
+// The place in a segment at which the scan shows that it isn't one of the volume `id`, whose records end in front of block `home`
+// of it: its head, where it has another owner or none, or the head of the first record that passes the volume's end.
+fn past_end(scan: &Scan, id: u32, home: u64) -> Option<u32>
+    requires { (blocks : ℕ) × IsScan blocks scan.now }
+    ensures { MatchOption result ((scan.now.owner ≡ Some id) × AllByRecursion (λ (f : Found). f.head.lbn + f.head.count ≤ home) scan.now.records.items)
+        (IsPastEnd scan.now id home) }
+{
+    match scan.owner {
+        Some(owner) => {
+            if owner == id {
+                first_past(&scan.records, home)
+            } else {
+                Some(0)
+            }
+        }
+        None => Some(0),
+    }
+}
+
+// Why a segment was not read back. The sum is exact where the block lies in the image.
 fn refusal_of(logger: u32, index: u32, first_block: u64, fault: ScanFault) -> OpenRefusal
-    requires { (block : ℕ) → fault ≡ ScanFault.Damaged block → first_block + block < 2 ^ 64 }
-    ensures damaged { (block : ℕ) → fault ≡ ScanFault.Damaged block → result ≡ OpenRefusal.Damaged logger (first_block + block) }
+    ensures damaged { (block : ℕ) → fault ≡ ScanFault.Damaged block
+        → (place : ℕ) × (result ≡ OpenRefusal.Damaged logger place) × (first_block + block < 2 ^ 64 → place ≡ first_block + block) }
     ensures failed { fault ≡ ScanFault.Failed → result ≡ OpenRefusal.DiskFault (Part.Segment logger index) }
     ensures no_memory { fault ≡ ScanFault.NoMemory → result ≡ OpenRefusal.NoMemory }
 {
     match fault {
         ScanFault::Damaged { block } => OpenRefusal::Damaged {
             volume: logger,
-            block: first_block + u64::from(block),
+            block: first_block.saturating_add(u64::from(block)),
         },
         ScanFault::Failed => OpenRefusal::DiskFault(Part::Segment {
             volume: logger,
@@ -114,13 +133,7 @@ fn scan_owned<R: Wait, D: Disk>(
             return Err(refusal_of(owned.logger, owned.index, owned.first_block, fault));
         }
     };
-    // a part that tells its content says this owner
-    let past = if scan.owner == Some(id) {
-        first_past(&scan.records, home)
-    } else {
-        Some(0)
-    };
-    match past {
+    match past_end(&scan, id, home) {
         None => Ok(scan),
         Some(pos) => Err(OpenRefusal::Damaged {
             volume: owned.logger,
