@@ -1,18 +1,18 @@
 -- The records of each segment are as many as the index has entries in it: what a call keeps of that, and of the entries' ranges.
-use Rattle.std.proofs.Common.{◌≡◌, ◌≢◌, ◌⊎◌, inl, inr, ⊎_elim, ◌<◌, ◌≤◌, ◌+◌, ◌-◌, ℕ, zero, suc, Bool, true, false, cond, not, ◌&&◌, List, [], ◌∷◌, ◌++◌, map, length, Option, None, Some, refl, sym, ap, subst, ◌∙◌, arith, eqb}
-use Rattle.std.specs.Prelude.{Contains, slice_get, slice_set, filter}
+use Rattle.std.proofs.Common.{◌≡◌, ◌≢◌, ◌⊎◌, inl, inr, ◌≤◌, ◌+◌, ℕ, zero, suc, Bool, true, false, cond, ◌&&◌, List, [], ◌∷◌, ◌++◌, Some, refl, sym, ap, subst, ◌∙◌, arith, eqb}
+use Rattle.std.specs.Prelude.{Contains, slice_get, slice_set}
 use Rattle.std.specs.List.{AllByRecursion, count_by}
-use Rattle.std.proofs.lemmas.Bool.{eq-eqb, ne_eqb, eqb-true, cases_eq}
+use Rattle.std.proofs.lemmas.Bool.{eq-eqb, ne_eqb}
 use Rattle.std.proofs.lemmas.List.Sums.{sum_by-append, sum_by-cons}
-use Rattle.std.proofs.lemmas.Option.{same_Some, none-some}
+use Rattle.std.proofs.lemmas.Option.{same_Some}
 use Rattle.wol_model.specs.Index.{Indexed}
 use Rattle.log_segment.specs.Segment.{valid_of}
 use Rattle.logger.specs.Lanes.{held_in}
 use Rattle.logger.specs.declared.lane.HeldSegment.{HeldSegment}
 use Rattle.logger.specs.declared.lane.Lane.{Lane}
 use Rattle.redirect_map.specs.Index.{changed, has_version}
-use Rattle.manager.specs.Stands.{entries_at, AreCounted, IsPlacedIn}
-use Rattle.manager.proofs.Lanes.{all_at, all_set, get_set, get_other}
+use Rattle.manager.specs.Stands.{entries_at, AreCounted}
+use Rattle.manager.proofs.Lanes.{get_set, get_other}
 use Rattle.manager.proofs.ReadyLanes.{same_or_not}
 
 -- ---- counts, entry by entry
@@ -53,7 +53,7 @@ count_mid test front e back =
 -- an entry that lies there counts
 pub one_there : (test : Indexed → Bool) (es : List Indexed) (e : Indexed) → Contains es e → test e ≡ true → 1 ≤ count_by test es
 one_there test [] e has is = absurd (let lt = has.1 in omega arith)
-one_there test (x ∷ es) e (zero, lt, same) is = let here : cond (test x) 1 0 ≡ 1 = ap (λ (d : Indexed). cond (test d) 1 0) same ∙ ap (λ (t : Bool). cond t 1 0) is in
+one_there test (x ∷ es) e (zero, lt, same) is = let here : cond {A = ℕ} (test x) 1 0 ≡ 1 = ap (λ (d : Indexed). cond (test d) 1 0) same ∙ ap (λ (t : Bool). cond t 1 0) is in
     let c = count-cons test x es in omega (arith, here, c)
 one_there test (x ∷ es) e (suc k, lt, same) is =
     let rest = one_there test es e (k, omega arith, same) is in

@@ -1,19 +1,15 @@
 -- A record gave up what goes: what the manager keeps up, whether its segment stays in the lane or went to the pool.
-use Rattle.std.proofs.Common.{◌≡◌, ◌≢◌, ◌⊎◌, inl, inr, ⊎_elim, ◌<◌, ◌≤◌, ◌+◌, ◌-◌, ◌^◌, ℕ, zero, suc, Bool, true, false, cond, not, ◌&&◌, List, [], ◌∷◌, ◌++◌, map, length, Option, None, Some, Ok, refl, sym, ap, subst, ◌∙◌, arith, eqb, leb, bit_and}
+use Rattle.std.proofs.Common.{◌≡◌, ◌≢◌, ◌⊎◌, inl, inr, ⊎_elim, ◌<◌, ◌≤◌, ◌+◌, ◌-◌, ◌^◌, ℕ, Bool, true, false, cond, not, ◌&&◌, List, [], ◌∷◌, ◌++◌, length, None, Some, Ok, refl, sym, ap, subst, ◌∙◌, arith, eqb, leb, bit_and}
 use Rattle.std.specs.Prelude.{IsTrue, Contains, slice_get, slice_set, remove}
 use Rattle.std.specs.Int.{bit_not, w128}
-use Rattle.std.specs.List.{AllByRecursion, count_by, list_any}
-use Rattle.std.proofs.lemmas.Bool.{false≢true, eq-eqb, ne_eqb, cases_eq, cases_lt}
+use Rattle.std.specs.List.{AllByRecursion}
+use Rattle.std.proofs.lemmas.Bool.{false≢true, eq-eqb, ne_eqb, cases_eq}
 use Rattle.std.proofs.Math.ListN.{length-set}
 use Rattle.std.proofs.Math.Nat.{pow-le-pow_right}
-use Rattle.turn_lock.specs.LockIds.{LockId}
-use Rattle.seg_pool.specs.declared.base.PoolBase.{PoolBase}
 use Rattle.wol_disk.specs.Disk.{State, Block}
-use Rattle.wol_model.specs.Blocks.{Write}
-use Rattle.wol_model.specs.Extents.{Cover, IsValid, CoversNothing, marked}
-use Rattle.wol_model.specs.Heads.{IsRecordHead}
+use Rattle.wol_model.specs.Extents.{IsValid, CoversNothing, marked}
 use Rattle.wol_model.specs.History.{writes, flight_of}
-use Rattle.wol_model.specs.Index.{Listed, Indexed, listed_in, cover_of, goes, keeping, keeps_a_block, block_numbers}
+use Rattle.wol_model.specs.Index.{Indexed, listed_in, cover_of, goes, keeping, keeps_a_block, block_numbers}
 use Rattle.wol_model.specs.Log.{Record, IsLog, IsNamed, extent_of, marks_of, has_bit}
 use Rattle.wol_model.proofs.Counts.{marked_within}
 use Rattle.wol_promise.specs.Manager.{Held, ManagerSeen, IsEntryOf, AreInUse}
@@ -22,16 +18,16 @@ use Rattle.wol_promise.specs.Stands.{Upholds, IsPlaced}
 use Rattle.wol_promise.proofs.Covers.{any_found}
 use Rattle.wol_promise.proofs.GiveUps.{trims, drops}
 use Rattle.wol_promise.proofs.Kept.{other_flags}
-use Rattle.wol_promise.proofs.Lists.{all_swap, all_front, all_back, all_joined, all_map, all_member, member_of, member_behind, member_front, member_insert}
+use Rattle.wol_promise.proofs.Lists.{all_swap, all_front, all_back, all_joined, member_behind, member_front}
 use Rattle.wol_promise.proofs.Retires.{AreEmpty}
 use Rattle.wol_promise.proofs.Trims.{trimmed}
 use Rattle.spin_model.specs.declared.spun.Spun.{Spun}
 use Rattle.log_segment.specs.Records.{count_valid}
-use Rattle.log_segment.specs.Segment.{IsWhole, Holds, part_of, disk_of, owner_of, valid_of}
+use Rattle.log_segment.specs.Segment.{Holds, part_of, disk_of, owner_of}
 use Rattle.redirect_map.specs.Index.{IsIndex, IsRecordOf}
 use Rattle.redirect_map.specs.Masks.{in_mask, IsMask}
 use Rattle.redirect_map.specs.declared.record.Rec.{Rec}
-use Rattle.redirect_map.proofs.Bits.{some_bit, has_bit-above, has_bit-zero}
+use Rattle.redirect_map.proofs.Bits.{some_bit, has_bit-zero}
 use Rattle.redirect_map.proofs.Meeting.{any_in_range}
 use Rattle.redirect_map.proofs.Seen.{marked-marks_of, in_mask-bit}
 use Rattle.logger.specs.Lanes.{IsLane, IsHeld, IsSameLane, CutDown, GaveUp, held_in, taken_in, lane_owner, logger_of, segments_in, pool_of}
@@ -39,15 +35,16 @@ use Rattle.logger.specs.declared.lane.HeldSegment.{HeldSegment}
 use Rattle.logger.specs.declared.lane.Lane.{Lane}
 use Rattle.log_segment.specs.declared.free.FreeSegment.{FreeSegment}
 use Rattle.manager.specs.Reclaim.{given_of, with_kept}
-use Rattle.manager.specs.Seen.{Logs, AllLanesHold, parts_of, seen, all_held, all_taken, down_of}
+use Rattle.manager.specs.Seen.{parts_of, seen, all_held, all_taken, down_of}
 use Rattle.manager.specs.Stands.{Keeps, IsReadyLane, entries_at}
 use Rattle.manager.specs.declared.base.ManagerBase.{ManagerBase}
 use Rattle.manager.specs.declared.manager.Manager.{Manager}
-use Rattle.manager.proofs.Counted.{count-cons, count_mid, one_there, lies_there}
-use Rattle.manager.proofs.DropPiece.{Piece, piece, was_lane, was_held, whole, with_records, head, set_mid, GoneLanes, gone_lanes}
-use Rattle.manager.proofs.Entries.{At, among}
+use Rattle.manager.proofs.Counted.{count-cons, lies_there}
+use Rattle.manager.proofs.DropPiece.{Piece, piece, was_lane, was_held, with_records, set_mid, GoneLanes, gone_lanes}
+use Rattle.manager.proofs.DropReady.{all_both, none_here, none_left, nothing_kept as nothing_is_kept}
+use Rattle.manager.proofs.Entries.{At}
 use Rattle.manager.proofs.GivenUp.{kept_marks, keep_within, keeps_is, given_list}
-use Rattle.manager.proofs.Lanes.{all_at, all_set, get_set, held_as, InLanes, in_lanes}
+use Rattle.manager.proofs.Lanes.{all_at, get_set, held_as, InLanes, in_lanes}
 use Rattle.manager.proofs.Putting.{Pieces, image_is_log, untaken_set}
 use Rattle.manager.proofs.ReadContent.{unbroken, upholds_up}
 use Rattle.manager.proofs.Vanishes.{vanishes}
@@ -75,7 +72,7 @@ pub some_valid : (owner : ℕ) (rs : List Record) → AllByRecursion (IsNamed ow
 some_valid owner [] named some = absurd (omega arith)
 some_valid owner (q ∷ rs) named some = ⊎_elim
     (λ none. let c = count-cons (λ (x : Record). not (eqb x.head.mask 0)) q rs in
-    let z : cond (not (eqb q.head.mask 0)) 1 0 ≡ 0 = ap (λ (t : Bool). cond (not t) 1 0) (eq-eqb q.head.mask 0 none) in
+    let z : cond {A = ℕ} (not (eqb q.head.mask 0)) 1 0 ≡ 0 = ap (λ (t : Bool). cond {A = ℕ} (not t) 1 0) (eq-eqb q.head.mask 0 none) in
     let rest = some_valid owner rs named.1 (omega (arith, c, z)) in (rest.0, member_behind q rs rest.0 rest.1, rest.2))
     (λ one. (q, (0, omega arith, refl), valid_of_mask owner q named.0 one))
     (cases_eq q.head.mask 0)
@@ -86,10 +83,10 @@ none_valid owner [] named none = tt
 none_valid owner (q ∷ rs) named none = ⊎_elim
     (λ zero_. let c = count-cons (λ (x : Record). not (eqb x.head.mask 0)) q rs in
     (empty_of_mask owner q named.0 zero_, none_valid owner rs named.1 (omega (arith, c))))
-    (λ one. absurd (let c = count-cons (λ (x : Record). not (eqb x.head.mask 0)) q rs in let z : cond (not (eqb q.head.mask 0)) 1 0 ≡ 1 = ap (λ (t : Bool). cond (not t) 1 0) (ne_eqb q.head.mask 0 one) in omega (arith, c, z)))
+    (λ one. absurd (let c = count-cons (λ (x : Record). not (eqb x.head.mask 0)) q rs in let z : cond {A = ℕ} (not (eqb q.head.mask 0)) 1 0 ≡ 1 = ap (λ (t : Bool). cond {A = ℕ} (not t) 1 0) (ne_eqb q.head.mask 0 one) in omega (arith, c, z)))
     (cases_eq q.head.mask 0)
 
-named_trimmed : (owner keep : ℕ) (fs : List Record) (q : Record) (gs : List Record) → keep < 2 ^ q.head.count → AllByRecursion (IsNamed owner) (fs ++ q ∷ gs) → AllByRecursion (IsNamed owner) (fs ++ trimmed q keep ∷ gs)
+pub named_trimmed : (owner keep : ℕ) (fs : List Record) (q : Record) (gs : List Record) → keep < 2 ^ q.head.count → AllByRecursion (IsNamed owner) (fs ++ q ∷ gs) → AllByRecursion (IsNamed owner) (fs ++ trimmed q keep ∷ gs)
 named_trimmed owner keep fs q gs within all = all_swap (IsNamed owner) (IsNamed owner) (λ x is. is) fs q (trimmed q keep) gs
     (λ is. let h = is.in_range in record { in_range = record { owner = h.owner; version = h.version; count = h.count; range = h.range; kept = within; form = inl refl }; owned = is.owned; counted = is.counted }) all
 
@@ -110,18 +107,6 @@ module _ {P : Type 0} (es : List Indexed) (s : Held P) (j : ℕ) (q : Record) (e
       false≢true (sym none ∙ any_in_range (cover_of (keeping (listed_in es) e.listed)).covers e.listed.first (length (keeping (listed_in es) e.listed).keep) valid.0 range.0 range.1 covers)
 
 -- ---- lists
-
-none_here : (test : Indexed → Bool) (es : List Indexed) → count_by test es ≡ 0 → AllByRecursion (λ (d : Indexed). test d ≡ false) es
-none_here test [] none = tt
-none_here test (x ∷ es) none = (at (test x) refl, none_here test es (let c = count-cons test x es in omega (arith, c, none)))
-  where
-    at : (t : Bool) → test x ≡ t → test x ≡ false
-    at true is = absurd (let c = count-cons test x es in let one : cond (test x) 1 0 ≡ 1 = ap (λ (t : Bool). cond t 1 0) is in omega (arith, c, none, one))
-    at false is = is
-
-all_both : {X : Type 0} (P Q R : X → Type 0) → ((x : X) → P x → Q x → R x) → (xs : List X) → AllByRecursion P xs → AllByRecursion Q xs → AllByRecursion R xs
-all_both P Q R f [] ps qs = tt
-all_both P Q R f (x ∷ xs) ps qs = (f x ps.0 qs.0, all_both P Q R f xs ps.1 qs.1)
 
 member_less : {X : Type 0} (front : List X) (s : X) (back : List X) (x : X) → Contains (front ++ s ∷ back) x → Contains (front ++ back) x ⊎ (s ≡ x)
 member_less [] s back x has = ⊎_elim (λ same. inr same) (λ there. inl there) (member_front s back x has)
@@ -163,8 +148,8 @@ module _ {D : Type 0} (tells : Bool) (state : D → State) (m : Manager D) (b : 
     pub split : InLanes R k 0 m.lanes.items kp.logs k i old o
     split = in_lanes R k 0 m.lanes.items kp.logs k i old o (omega arith) lane there kp.held
 
-    pub p : Piece tells state m b notes kp up k old lane i o there version e at lane_is index_is r rec split.front split.records split.back split.is split.here
-    p = piece tells state m b notes kp up k old lane i o there version e at lane_is index_is r rec split.front split.records split.back split.is split.here
+    pub p : Piece tells state m b notes kp.logs kp.ready (upholds_up tells state m b notes kp up) up k old lane i o there version e at lane_is index_is r rec split.front split.records split.back split.is split.here
+    p = piece tells state m b notes kp.logs kp.ready (upholds_up tells state m b notes kp up) up k old lane i o there version e at lane_is index_is r rec split.front split.records split.back split.is split.here
 
     abbrev after_ : List Record
     after_ = p.fs ++ trimmed p.it keep ∷ p.gs
@@ -176,10 +161,10 @@ module _ {D : Type 0} (tells : Bool) (state : D → State) (m : Manager D) (b : 
     now_held = all_at (IsHeld state (logger_of new) (lane_owner new) (segments_in new) (pool_of new)) (held_in new) i n (ap (λ (hs : List (HeldSegment D)). slice_get hs i) held ∙ get_set (held_in old) i o n there) is_lane.each
 
     wl : IsReadyLane state m.id m.most old
-    wl = was_lane tells state m b notes kp up k old lane i o there version e at lane_is index_is r rec split.front split.records split.back split.is split.here
+    wl = was_lane tells state m b notes kp.logs kp.ready (upholds_up tells state m b notes kp up) up k old lane i o there version e at lane_is index_is r rec split.front split.records split.back split.is split.here
 
     wh : IsHeld state (logger_of old) (lane_owner old) (segments_in old) (pool_of old) o
-    wh = was_held tells state m b notes kp up k old lane i o there version e at lane_is index_is r rec split.front split.records split.back split.is split.here
+    wh = was_held tells state m b notes kp.logs kp.ready (upholds_up tells state m b notes kp up) up k old lane i o there version e at lane_is index_is r rec split.front split.records split.back split.is split.here
 
     size : (disk_of state n.segment).size ≡ (disk_of state o.segment).size
     size = now_held.shape.size ∙ cut.same.blocks ∙ sym wh.shape.size
@@ -202,13 +187,13 @@ module _ {D : Type 0} (tells : Bool) (state : D → State) (m : Manager D) (b : 
     upheld : U (given_of version m.index.entries)
     upheld = ⊎_elim
         (λ keeps. subst U ((λ j. at.front ++ sym kept_is j ∷ at.back) ∙ sym (given_list m.index.entries version e index at true keeps))
-        (trims (parts_of tells state) b.volume.began (record (seen m kp.logs) { held = split.front ++ with_records tells state m b notes kp up k old lane i o there version e at lane_is index_is r rec split.front split.records split.back split.is split.here (p.fs ++ p.it ∷ p.gs) ∷ split.back })
+        (trims (parts_of tells state) b.volume.began (record (seen m kp.logs) { held = split.front ++ with_records tells state m b notes kp.logs kp.ready (upholds_up tells state m b notes kp up) up k old lane i o there version e at lane_is index_is r rec split.front split.records split.back split.is split.here (p.fs ++ p.it ∷ p.gs) ∷ split.back })
         notes (writes (entries_of notes)) p.upheld (ap down_of up) split.front (part_of o.segment) (part_of n.segment) k o.index split.back p.fs p.it p.gs keep at.front e at.back refl at.is size cut.same.volume logs p.its kept_now
-        (valid_where m.index.entries (with_records tells state m b notes kp up k old lane i o there version e at lane_is index_is r rec split.front split.records split.back split.is split.here (p.fs ++ p.it ∷ p.gs)) (length p.fs) p.it e p.its keep (marks p.it.head.count p.count_is) keeps)))
+        (valid_where m.index.entries (with_records tells state m b notes kp.logs kp.ready (upholds_up tells state m b notes kp up) up k old lane i o there version e at lane_is index_is r rec split.front split.records split.back split.is split.here (p.fs ++ p.it ∷ p.gs)) (length p.fs) p.it e p.its keep (marks p.it.head.count p.count_is) keeps)))
         (λ none. subst U (sym (given_list m.index.entries version e index at false none))
-        (drops (parts_of tells state) b.volume.began (record (seen m kp.logs) { held = split.front ++ with_records tells state m b notes kp up k old lane i o there version e at lane_is index_is r rec split.front split.records split.back split.is split.here (p.fs ++ p.it ∷ p.gs) ∷ split.back })
+        (drops (parts_of tells state) b.volume.began (record (seen m kp.logs) { held = split.front ++ with_records tells state m b notes kp.logs kp.ready (upholds_up tells state m b notes kp up) up k old lane i o there version e at lane_is index_is r rec split.front split.records split.back split.is split.here (p.fs ++ p.it ∷ p.gs) ∷ split.back })
         notes (writes (entries_of notes)) p.upheld (ap down_of up) split.front (part_of o.segment) (part_of n.segment) k o.index split.back p.fs p.it p.gs keep at.front e at.back refl at.is size cut.same.volume logs p.its kept_now
-        (gone_where m.index.entries (with_records tells state m b notes kp up k old lane i o there version e at lane_is index_is r rec split.front split.records split.back split.is split.here (p.fs ++ p.it ∷ p.gs)) (length p.fs) p.it e p.its keep (marks p.it.head.count p.count_is) none)))
+        (gone_where m.index.entries (with_records tells state m b notes kp.logs kp.ready (upholds_up tells state m b notes kp up) up k old lane i o there version e at lane_is index_is r rec split.front split.records split.back split.is split.here (p.fs ++ p.it ∷ p.gs)) (length p.fs) p.it e p.its keep (marks p.it.head.count p.count_is) none)))
         (decide (keeps_a_block (keeping (listed_in m.index.entries) e.listed)) refl)
 
     held_is : all_held 0 (slice_set m.lanes.items k new) (split.lists (p.fs ++ trimmed p.it (bit_and r.keep (bit_not w128 given)) ∷ p.gs)) ≡ split.front ++ now_ ∷ split.back
@@ -238,40 +223,22 @@ module _ {D : Type 0} (tells : Bool) (state : D → State) (m : Manager D) (b : 
     pub less : GoneLanes R k 0 m.lanes.items kp.logs k i old o
     less = gone_lanes R k 0 m.lanes.items kp.logs k i old o (omega arith) lane there kp.held
 
-    pub p' : Piece tells state m b notes kp up k old lane i o there version e at lane_is index_is r rec less.front less.records less.back less.is less.here
-    p' = piece tells state m b notes kp up k old lane i o there version e at lane_is index_is r rec less.front less.records less.back less.is less.here
-
-    counts : valid_of o.segment ≡ entries_at k o.index m.index.entries
-    counts = all_at (λ (h : HeldSegment D). valid_of h.segment ≡ entries_at k h.index m.index.entries) (held_in old) i o there ((kp.ready.up up).counted k old lane)
-
-    its_test : (eqb e.listed.lane k && eqb e.index o.index) ≡ true
-    its_test = lies_there k o.index e lane_is index_is
-
-    counts_one : 1 ≤ valid_of o.segment
-    counts_one = let one = one_there (λ (d : Indexed). eqb d.listed.lane k && eqb d.index o.index) m.index.entries e (among at) its_test in let c = counts in omega arith
+    pub p' : Piece tells state m b notes kp.logs kp.ready (upholds_up tells state m b notes kp up) up k old lane i o there version e at lane_is index_is r rec less.front less.records less.back less.is less.here
+    p' = piece tells state m b notes kp.logs kp.ready (upholds_up tells state m b notes kp up) up k old lane i o there version e at lane_is index_is r rec less.front less.records less.back less.is less.here
 
     nothing_kept : bit_and r.keep (bit_not w128 given) ≡ 0
-    nothing_kept = ⊎_elim (λ is. is)
-        (λ not. absurd (let z : cond (eqb keep 0) 1 0 ≡ 0 = ap (λ (t : Bool). cond t 1 0) (ne_eqb keep 0 not) in let f = gave.fewer in let one = counts_one in omega arith))
-        (cases_eq keep 0)
+    nothing_kept = nothing_is_kept state m kp.ready up k old lane version e index at few lane_is r rec given fits bits i o there index_is new is_lane same untaken held gave.fewer
 
     keeps_none : keeps_a_block (keeping (listed_in m.index.entries) e.listed) ≡ false
     keeps_none = sym (keeps_is m.index.entries e r rec few given fits bits) ∙ ap not (eq-eqb keep 0 nothing_kept)
 
     -- no other entry lies there
-    none_else : entries_at k o.index (at.front ++ at.back) ≡ 0
-    none_else =
-        let mid = count_mid (λ (d : Indexed). eqb d.listed.lane k && eqb d.index o.index) at.front e at.back in
-        let whole_list : entries_at k o.index m.index.entries ≡ entries_at k o.index (at.front ++ e ∷ at.back) = ap (entries_at k o.index) at.is in
-        let one : cond (eqb e.listed.lane k && eqb e.index o.index) 1 0 ≡ 1 = ap (λ (t : Bool). cond t 1 0) its_test in
-        let last : cond (eqb keep 0) 1 0 ≡ 1 = ap (λ (t : Bool). cond t 1 0) (eq-eqb keep 0 nothing_kept) in
-        let f = gave.fewer in let c = counts in omega arith
-
     each_else : AllByRecursion (λ (d : Indexed). (eqb d.listed.lane k && eqb d.index o.index) ≡ false) (at.front ++ at.back)
-    each_else = none_here (λ (d : Indexed). eqb d.listed.lane k && eqb d.index o.index) (at.front ++ at.back) none_else
+    each_else = none_here (λ (d : Indexed). eqb d.listed.lane k && eqb d.index o.index) (at.front ++ at.back)
+        (ap (entries_at k o.index) (sym (given_list m.index.entries version e index at false keeps_none)) ∙ none_left state m kp.ready up k old lane version e index at few lane_is r rec given fits bits i o there index_is new is_lane same untaken held gave.fewer)
 
     abbrev s' : Held (Spun D)
-    s' = with_records tells state m b notes kp up k old lane i o there version e at lane_is index_is r rec less.front less.records less.back less.is less.here (p'.fs ++ p'.it ∷ p'.gs)
+    s' = with_records tells state m b notes kp.logs kp.ready (upholds_up tells state m b notes kp up) up k old lane i o there version e at lane_is index_is r rec less.front less.records less.back less.is less.here (p'.fs ++ p'.it ∷ p'.gs)
 
     elsewhere : AllByRecursion (IsPlaced (parts_of tells state) (less.front ++ less.back)) (at.front ++ at.back)
     elsewhere =

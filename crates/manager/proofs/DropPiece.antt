@@ -1,15 +1,15 @@
 -- A record of a held segment that gives up blocks, among all segments: as the disk tells it, or as it may be where nothing is told.
-use Rattle.std.proofs.Common.{◌≡◌, ◌⊎◌, inl, inr, ⊎_elim, ◌<◌, ◌≤◌, ◌+◌, ◌^◌, ℕ, zero, suc, Bool, true, false, List, [], ◌∷◌, ◌++◌, map, length, take, Option, None, Some, refl, sym, ap, subst, ◌∙◌, arith, append_assoc, replicate}
-use Rattle.std.specs.Prelude.{IsTrue, Contains, slice_get, slice_set, remove}
-use Rattle.std.specs.List.{AllByRecursion, flat_map}
+use Rattle.std.proofs.Common.{◌≡◌, ◌<◌, ◌≤◌, ◌+◌, ◌^◌, ℕ, zero, suc, Bool, true, false, List, [], ◌∷◌, ◌++◌, length, take, None, Some, refl, sym, ap, subst, ◌∙◌, arith, append_assoc, replicate}
+use Rattle.std.specs.Prelude.{IsTrue, slice_get, slice_set, remove}
+use Rattle.std.specs.List.{flat_map}
 use Rattle.std.proofs.lemmas.Option.{same_Some, none-some}
 use Rattle.std.proofs.lemmas.List.{append-nil, length-replicate}
 use Rattle.wol_disk.specs.Disk.{State}
 use Rattle.wol_model.specs.Blocks.{Write}
 use Rattle.wol_model.specs.Heads.{RecordHead}
-use Rattle.wol_model.specs.History.{writes, flight_of}
-use Rattle.wol_model.specs.Index.{Indexed, listed_in, keeping}
-use Rattle.wol_model.specs.Log.{Record, IsNamed, marks_of, has_bit, position_of, end_of, written}
+use Rattle.wol_model.specs.History.{writes}
+use Rattle.wol_model.specs.Index.{Indexed}
+use Rattle.wol_model.specs.Log.{Record, IsNamed, marks_of, position_of, end_of, written}
 use Rattle.wol_promise.specs.Manager.{Held, IsBacked, IsEntryOf}
 use Rattle.wol_promise.specs.Ruled.{Noted, entries_of}
 use Rattle.wol_promise.specs.Stands.{Upholds}
@@ -20,18 +20,18 @@ use Rattle.log_segment.specs.Records.{IsSameHead}
 use Rattle.redirect_map.specs.Index.{IsRecordOf}
 use Rattle.redirect_map.specs.declared.record.Rec.{Rec}
 use Rattle.redirect_map.proofs.Seen.{length-marks_of}
-use Rattle.logger.specs.Lanes.{IsHeld, AreWhole, IsHeadAt, held_in, taken_in, lane_owner, logger_of, segments_in, pool_of}
+use Rattle.logger.specs.Lanes.{IsHeld, AreWhole, IsHeadAt, held_in, lane_owner, logger_of, segments_in, pool_of}
 use Rattle.logger.specs.declared.lane.HeldSegment.{HeldSegment}
 use Rattle.logger.specs.declared.lane.Lane.{Lane}
 use Rattle.manager.specs.Seen.{Logs, AllHold, AllLanesHold, parts_of, seen, held_with, all_held, down_of}
-use Rattle.manager.specs.Stands.{Keeps, IsReadyLane, IsPlacedIn}
+use Rattle.manager.specs.Stands.{IsReady, IsReadyLane, IsPlacedIn}
 use Rattle.manager.specs.declared.base.ManagerBase.{ManagerBase}
 use Rattle.manager.specs.declared.manager.Manager.{Manager}
 use Rattle.manager.proofs.ClaimedWrites.{other_records}
 use Rattle.manager.proofs.Entries.{At, among}
 use Rattle.manager.proofs.GivenUp.{same_mask}
 use Rattle.manager.proofs.Lanes.{all_at, held_as, hold_map, lanes_map}
-use Rattle.manager.proofs.ReadContent.{same_place, upholds_up}
+use Rattle.manager.proofs.ReadContent.{same_place}
 
 -- ---- one segment less
 
@@ -151,10 +151,11 @@ made_up_ends (suc (suc n)) le =
 
 -- ---- the record
 
-module _ {D : Type 0} (tells : Bool) (state : D → State) (m : Manager D) (b : ManagerBase) (notes : List Noted) (kp : Keeps tells state m b notes) (up : m.down ≡ None)
+module _ {D : Type 0} (tells : Bool) (state : D → State) (m : Manager D) (b : ManagerBase) (notes : List Noted) (logs : Logs) (ready : IsReady state m)
+    (u : Upholds (parts_of tells state) b.volume.began (seen m logs) notes (writes (entries_of notes)) None) (up : m.down ≡ None)
     (k : ℕ) (old : Lane D) (lane : slice_get m.lanes.items k ≡ Some old) (i : ℕ) (o : HeldSegment D) (there : slice_get (held_in old) i ≡ Some o) (version : ℕ) (e : Indexed) (at : At m.index.entries version e)
     (lane_is : e.listed.lane ≡ k) (index_is : e.index ≡ o.index) (r : Rec) (rec : IsRecordOf e r)
-    (hf : List (Held (Spun D))) (records : List Record) (hb : List (Held (Spun D))) (held : all_held 0 m.lanes.items kp.logs ≡ hf ++ held_as k o records ∷ hb) (here : IsTrue tells → m.down ≡ None → Holds state o.segment records) where
+    (hf : List (Held (Spun D))) (records : List Record) (hb : List (Held (Spun D))) (held : all_held 0 m.lanes.items logs ≡ hf ++ held_as k o records ∷ hb) (here : IsTrue tells → m.down ≡ None → Holds state o.segment records) where
   -- its head as the manager names it
   abbrev pub head : RecordHead
   head = record { form = 2; owner = m.id; version = version; first = r.lbn; count = r.count; mask = r.keep }
@@ -163,13 +164,13 @@ module _ {D : Type 0} (tells : Bool) (state : D → State) (m : Manager D) (b : 
   ws = writes (entries_of notes)
 
   pub was_lane : IsReadyLane state m.id m.most old
-  was_lane = all_at (IsReadyLane state m.id m.most) m.lanes.items k old lane kp.ready.ready.each
+  was_lane = all_at (IsReadyLane state m.id m.most) m.lanes.items k old lane ready.ready.each
 
   pub was_held : IsHeld state (logger_of old) (lane_owner old) (segments_in old) (pool_of old) o
   was_held = all_at (IsHeld state (logger_of old) (lane_owner old) (segments_in old) (pool_of old)) (held_in old) i o there was_lane.lane.each
 
   pub whole : IsWhole o.segment
-  whole = all_at (λ (h : HeldSegment D). IsWhole h.segment) (held_in old) i o there (all_at (λ (l : Lane D). AreWhole (held_in l)) m.lanes.items k old lane (kp.ready.up up).whole)
+  whole = all_at (λ (h : HeldSegment D). IsWhole h.segment) (held_in old) i o there (all_at (λ (l : Lane D). AreWhole (held_in l)) m.lanes.items k old lane (ready.up up).whole)
 
   -- the segment with these records
   abbrev pub with_records : List Record → Held (Spun D)
@@ -181,8 +182,9 @@ module _ {D : Type 0} (tells : Bool) (state : D → State) (m : Manager D) (b : 
     pub it : Record
     pub gs : List Record
     pub its : IsEntryOf (with_records (fs ++ it ∷ gs)) (length fs) it e
+    pub records_are : IsTrue tells → records ≡ fs ++ it ∷ gs
     pub count_is : it.head.count ≡ r.count
-    pub upheld : Upholds (parts_of tells state) b.volume.began (record (seen m kp.logs) { held = hf ++ with_records (fs ++ it ∷ gs) ∷ hb }) notes (writes (entries_of notes)) None
+    pub upheld : Upholds (parts_of tells state) b.volume.began (record (seen m logs) { held = hf ++ with_records (fs ++ it ∷ gs) ∷ hb }) notes (writes (entries_of notes)) None
     pub holds : IsTrue tells → Holds state o.segment (fs ++ it ∷ gs)
     pub head_at : IsTrue tells → IsHeadAt (fs ++ it ∷ gs) (length fs) it r.pos head
 
@@ -190,14 +192,14 @@ module _ {D : Type 0} (tells : Bool) (state : D → State) (m : Manager D) (b : 
   unbroken_is rs = λ j. record { part = part_of o.segment; lane = k; index = o.index; broken = whole j; records = rs }
 
   abbrev U : List Record → Type 0
-  U rs = Upholds (parts_of tells state) b.volume.began (record (seen m kp.logs) { held = hf ++ with_records rs ∷ hb }) notes (writes (entries_of notes)) None
+  U rs = Upholds (parts_of tells state) b.volume.began (record (seen m logs) { held = hf ++ with_records rs ∷ hb }) notes (writes (entries_of notes)) None
 
   upheld_now : U records
-  upheld_now = subst (λ (l : List (Held (Spun D))). Upholds (parts_of tells state) b.volume.began (record (seen m kp.logs) { held = l }) notes (writes (entries_of notes)) None)
-      (held ∙ (λ j. hf ++ unbroken_is records j ∷ hb)) (upholds_up tells state m b notes kp up)
+  upheld_now = subst (λ (l : List (Held (Spun D))). Upholds (parts_of tells state) b.volume.began (record (seen m logs) { held = l }) notes (writes (entries_of notes)) None)
+      (held ∙ (λ j. hf ++ unbroken_is records j ∷ hb)) u
 
   placed : IsPlacedIn m.lanes.items e
-  placed = all_member (IsPlacedIn m.lanes.items) m.index.entries e (kp.ready.up up).placed (among at)
+  placed = all_member (IsPlacedIn m.lanes.items) m.index.entries e (ready.up up).placed (among at)
 
   -- as the disk tells it
   told_piece : IsTrue tells → Piece
@@ -206,6 +208,7 @@ module _ {D : Type 0} (tells : Bool) (state : D → State) (m : Manager D) (b : 
     it = backed.record_;
     gs = split.back;
     its = subst (λ (rs : List Record). IsEntryOf (with_records rs) (length split.front) backed.record_ e) split.is (subst (λ (j : ℕ). IsEntryOf (with_records records) j backed.record_ e) (sym split.size) its_now);
+    records_are = λ t. split.is;
     count_is = count_same;
     upheld = subst U split.is upheld_now;
     holds = λ t. subst (Holds state o.segment) split.is (here t up);
@@ -260,8 +263,9 @@ module _ {D : Type 0} (tells : Bool) (state : D → State) (m : Manager D) (b : 
       index = index_is;
       pos = made_up_ends e.pos placed.behind ∙ ap (λ (l : List Record). 1 + length (flat_map written l)) (sym (take_front (made_up e.pos) (its_record ∷ [])));
     };
+    records_are = λ told. absurd (untold told);
     count_is = refl;
-    upheld = other_records (parts_of tells state) b.volume.began (record (seen m kp.logs) { held = hf ++ with_records records ∷ hb }) notes (writes (entries_of notes)) hf hb (with_records records) upheld_now (ap down_of up) refl untold (made_up e.pos ++ its_record ∷ []);
+    upheld = other_records (parts_of tells state) b.volume.began (record (seen m logs) { held = hf ++ with_records records ∷ hb }) notes (writes (entries_of notes)) hf hb (with_records records) upheld_now (ap down_of up) refl untold (made_up e.pos ++ its_record ∷ []);
     holds = λ told. absurd (untold told);
     head_at = λ told. absurd (untold told);
   }

@@ -1,12 +1,11 @@
 -- The entry of a version in an index whose versions rise, and the index where it is another.
-use Rattle.std.proofs.Common.{◌≡◌, ◌≢◌, ◌⊎◌, inl, inr, ◌<◌, ◌+◌, ◌-◌, ℕ, suc, Bool, true, false, cond, not, ◌&&◌, ◌||◌, List, [], ◌∷◌, ◌++◌, map, length, Option, None, Some, refl, sym, ap, subst, ◌∙◌, arith, eqb, leb, get_or, bit_or}
-use Rattle.std.specs.Prelude.{filter, Contains, IfSome}
-use Rattle.std.specs.Option.{ForSome}
+use Rattle.std.proofs.Common.{◌≡◌, ◌<◌, ◌+◌, ◌-◌, ℕ, suc, Bool, true, false, cond, ◌||◌, List, [], ◌∷◌, ◌++◌, map, length, Option, None, Some, refl, sym, ap, subst, ◌∙◌, arith, leb, get_or, bit_or}
+use Rattle.std.specs.Prelude.{Contains, IfSome}
 use Rattle.std.specs.List.{AllByRecursion, range_with_len}
 use Rattle.std.proofs.lemmas.Option.{none-some, same_Some}
 use Rattle.std.proofs.lemmas.Bool.{eqb-true, ne_eqb, le-leb}
-use Rattle.wol_model.specs.Extents.{remarked, marked}
-use Rattle.wol_model.specs.Index.{Listed, Indexed, listed_in, AreRising, IsListed, is_homed, keeps_a_block, homing}
+use Rattle.wol_model.specs.Extents.{remarked}
+use Rattle.wol_model.specs.Index.{Indexed, listed_in, AreRising, is_homed}
 use Rattle.wol_model.specs.Log.{has_bit, marks_of}
 use Rattle.wol_promise.proofs.Lists.{member_mid, all_member}
 use Rattle.redirect_map.proofs.Bits.{has_bit-or}
@@ -108,12 +107,21 @@ module _ (e : Indexed) (homed mask : ℕ) (marks : length e.listed.homed ≡ len
 
   -- the entry with these bits set beside its marks of home
   pub with_both : with_homed (bit_or homed mask) e ≡ with_put mask e
-  with_both = λ i. record e { listed = record e.listed { homed = (remarked-marks_of e.listed.first (length e.listed.keep) homed (bit_or homed mask) (λ b m. m || in_mask e.listed.first mask b)
-      (λ j. has_bit-or homed mask j ∙ ap (λ (t : Bool). has_bit homed j || t) (sym (in_mask-bit e.listed.first mask j)))
-      ∙ ap (λ (l : List Bool). remarked e.listed.first l (λ b m. m || in_mask e.listed.first mask b)) (sym were)) i } }
+  with_both = λ i. record e {
+    listed = record e.listed {
+      homed = (remarked-marks_of e.listed.first (length e.listed.keep) homed (bit_or homed mask) (λ b m. m || in_mask e.listed.first mask b)
+          (λ j. has_bit-or homed mask j ∙ ap (λ (t : Bool). has_bit homed j || t) (sym (in_mask-bit e.listed.first mask j)))
+          ∙ ap (λ (l : List Bool). remarked e.listed.first l (λ b m. m || in_mask e.listed.first mask b)) (sym were)) i;
+    };
+  }
 
 -- so is the index
-pub with_both_in : (es : List Indexed) (version : ℕ) (e : Indexed) (homed mask : ℕ) → IsIndex es → entry_at es version ≡ Some e → IsMask e.listed.first (is_homed e.listed) homed → changed version (with_homed (bit_or homed mask)) es ≡ changed version (with_put mask) es
+with_both_in : (es : List Indexed) (version : ℕ) (e : Indexed) (homed mask : ℕ) → IsIndex es → entry_at es version ≡ Some e → IsMask e.listed.first (is_homed e.listed) homed → changed version (with_homed (bit_or homed mask)) es ≡ changed version (with_put mask) es
 with_both_in es version e homed mask index is bits =
     let at = entry_of_version es version e index.rising is in
     at.then_is (with_homed (bit_or homed mask)) ∙ (λ i. at.front ++ with_both e homed mask (entry_in es e index (among at)).homed.marks bits i ∷ at.back) ∙ sym (at.then_is (with_put mask))
+
+-- noted so, beside those that were homed
+pub noted_home : (es noted : List Indexed) (version : ℕ) (e : Indexed) (homed mask : ℕ) → IsIndex es → entry_at es version ≡ Some e → IfSome (entry_at es version) (λ d. IsMask d.listed.first (is_homed d.listed) homed)
+    → noted ≡ changed version (with_homed (bit_or homed mask)) es → noted ≡ changed version (with_put mask) es
+noted_home es noted version e homed mask index is bits set = set ∙ with_both_in es version e homed mask index is (some_of (λ (d : Indexed). IsMask d.listed.first (is_homed d.listed) homed) (entry_at es version) e bits is)

@@ -1,5 +1,5 @@
 -- What a manager keeps up when its flags, its rooms, home's pass or the room of its index change, and with an entry more.
-use Rattle.std.proofs.Common.{◌≡◌, ◌<◌, ◌+◌, ℕ, Bool, false, List, [], ◌∷◌, ◌++◌, length, cond, sym, ap, subst, ◌∙◌, arith}
+use Rattle.std.proofs.Common.{◌≡◌, ◌<◌, ◌≤◌, ◌+◌, ◌^◌, ℕ, Bool, true, false, List, [], ◌∷◌, ◌++◌, length, Option, None, cond, sym, ap, subst, ◌∙◌, arith}
 use Rattle.std.specs.Prelude.{◌==◌}
 use Rattle.std.specs.List.{list_any, AllByRecursion}
 use Rattle.std.proofs.lemmas.List.Sums.{sum_by-append}
@@ -8,9 +8,10 @@ use Rattle.turn_lock.specs.LockIds.{LockId}
 use Rattle.turn_lock.specs.Passes.{pass_mine, IsFree, IsSamePass}
 use Rattle.turn_lock.specs.declared.pass.PassOf.{PassOf}
 use Rattle.spin_model.specs.Operations.{has_token}
-use Rattle.spin_model.specs.Spun.{state_of}
+use Rattle.spin_model.specs.Spun.{state_of, volume_of}
 use Rattle.spin_model.specs.declared.spindle.Spindle.{Spindle}
 use Rattle.spin_model.specs.declared.spindle.SpindleBase.{SpindleBase}
+use Rattle.spin_model.specs.declared.spun.Spun.{Spun}
 use Rattle.wol_model.specs.History.{Kept, writes, flight_of}
 use Rattle.wol_model.specs.Index.{Indexed}
 use Rattle.wol_promise.specs.Ruled.{Noted, HasPassed, last_look, times_passed, entries_of}
@@ -23,6 +24,7 @@ use Rattle.manager.specs.Seen.{parts_of, seen, look_of_manager}
 use Rattle.manager.specs.Stands.{Keeps, Stands, IsReady, IsUp, IsInVolume, IsNote, nones_at}
 use Rattle.manager.specs.declared.base.ManagerBase.{ManagerBase}
 use Rattle.manager.specs.declared.manager.Manager.{Manager}
+use Rattle.manager.specs.declared.part.Part.{Part}
 
 -- ---- pools that were found empty
 
@@ -58,6 +60,28 @@ ready_reframed state m home_up ups rooms spindle index long wide pass free settl
   below = subst (AllByRecursion (λ (e : Indexed). e.listed.version < m.next)) (sym entries) r.below;
   ranges = subst (AllByRecursion (IsInVolume (state_of state m.home).size)) (sym entries) r.ranges;
   up = λ is. subst (IsUp m.lanes.items) (sym entries) (r.up is);
+}
+
+-- and with its home after a call, whether or not the call failed
+pub ready_homed : {D : Type 0} (state : D → State) (m : Manager D) (part : Spun D) (spindle : PassOf Spindle SpindleBase) (down : Option Part) → volume_of part ≡ volume_of m.home → (state_of state part).size ≡ (state_of state m.home).size
+    → IsSamePass m.spindle spindle → IsFree spindle → has_token (pass_mine spindle) ≡ false → m.down ≡ None → IsReady state m → IsReady state (record m { home = part; spindle = spindle; home_up = true; down = down })
+ready_homed state m part spindle down volume size pass free settled up r = record {
+  ready = let s = r.ready in record {
+    home_volume = volume ∙ s.home_volume;
+    home_small = subst (λ (n : ℕ). (1 ≤ n) × (n ≤ 2 ^ 32)) (sym size) s.home_small;
+    spindle_volume = ap (λ (l : LockId SpindleBase). l.base.volume) pass.0 ∙ s.spindle_volume;
+    spindle_free = free;
+    settled = settled;
+    each = s.each;
+    flags = s.flags;
+    rooms_ = s.rooms_;
+    few = s.few;
+    most_ = s.most_;
+  };
+  next = r.next;
+  below = r.below;
+  ranges = subst (λ (n : ℕ). AllByRecursion (IsInVolume n) m.index.entries) (sym size) r.ranges;
+  up = λ _. r.up up;
 }
 
 module _ {D : Type 0} (tells : Bool) (state : D → State) (m : Manager D) (b : ManagerBase) (notes : List Noted) where

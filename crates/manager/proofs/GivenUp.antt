@@ -1,28 +1,27 @@
 -- The masks of a record that gives up what goes, and the index after it.
-use Rattle.std.proofs.Common.{◌≡◌, ◌≢◌, ◌⊎◌, inl, inr, ⊎_elim, ◌<◌, ◌≤◌, ◌+◌, ◌-◌, ◌^◌, ℕ, Bool, true, false, cond, not, ◌&&◌, ◌||◌, List, [], ◌∷◌, ◌++◌, map, length, Option, None, Some, refl, sym, ap, subst, ◌∙◌, arith, eqb, leb, get_or, bit_and}
-use Rattle.std.specs.Prelude.{Contains, filter}
+use Rattle.std.proofs.Common.{◌≡◌, ◌≢◌, ⊎_elim, ◌<◌, ◌≤◌, ◌+◌, ◌^◌, ℕ, Bool, true, false, cond, not, ◌&&◌, List, [], ◌∷◌, ◌++◌, length, None, Some, refl, sym, ap, subst, ◌∙◌, arith, eqb, get_or, bit_and}
+use Rattle.std.specs.Prelude.{filter}
 use Rattle.std.specs.Int.{bit_at, bit_not, w128}
 use Rattle.std.specs.List.{AllByRecursion}
 use Rattle.std.proofs.lemmas.Nat.{and_le_l}
 use Rattle.std.proofs.Math.Nat.{pow-le-pow_right}
 use Rattle.std.proofs.lemmas.Nat.Bits.{bit_at-lt, same_from_bits}
-use Rattle.std.proofs.lemmas.Bool.{false≢true, eq-eqb, ne_eqb, cases_eq, eqb-true, and_parts}
+use Rattle.std.proofs.lemmas.Bool.{false≢true, eq-eqb, cases_eq, and_parts}
 use Rattle.std.proofs.lemmas.Bool.Decides.{nat_tests}
-use Rattle.wol_model.specs.Extents.{IsValid, remarked, marked, has_newer, has_older}
-use Rattle.wol_model.specs.Index.{Listed, Indexed, listed_in, listed_covers, cover_of, is_homed, goes, has_going, keeping, keeps_a_block}
-use Rattle.wol_model.specs.Log.{Record, has_bit, marks_of, extent_of}
-use Rattle.wol_model.proofs.Counts.{length_remarked}
-use Rattle.wol_promise.proofs.Lists.{all_map, all_joined, all_front, all_back}
+use Rattle.wol_model.specs.Extents.{remarked, marked}
+use Rattle.wol_model.specs.Index.{Indexed, listed_in, cover_of, goes, keeping, keeps_a_block}
+use Rattle.wol_model.specs.Log.{has_bit, marks_of}
+use Rattle.wol_promise.proofs.Lists.{all_map, all_front, all_back}
 use Rattle.log_segment.specs.Records.{IsProperPart}
-use Rattle.redirect_map.specs.Index.{entry_at, changed, given_up, IsEntry, IsIndex, IsRecordOf}
+use Rattle.redirect_map.specs.Index.{entry_at, given_up, IsEntry, IsIndex, IsRecordOf}
 use Rattle.redirect_map.specs.Masks.{in_mask, IsMask}
 use Rattle.redirect_map.specs.declared.record.Rec.{Rec}
-use Rattle.redirect_map.proofs.Bits.{has_bit-without, has_bit-zero, some_bit}
+use Rattle.redirect_map.proofs.Bits.{has_bit-without, some_bit}
 use Rattle.redirect_map.proofs.Changing.{remarked-marks_of}
 use Rattle.redirect_map.proofs.Seen.{marks_at, marked-marks_of, in_mask-bit}
 use Rattle.garbage_list.proofs.Going.{some_block, goes_covers, keep_is}
 use Rattle.manager.specs.Reclaim.{with_kept, given_of}
-use Rattle.manager.proofs.Entries.{At, entry_of_version}
+use Rattle.manager.proofs.Entries.{At}
 
 -- ---- masks
 
@@ -51,7 +50,7 @@ module _ (es : List Indexed) (e : Indexed) (r : Rec) (is : IsRecordOf e r) (few 
   small = wide r.count (omega (arith, is.count)) r.keep is.within
     where
       wide : (n : ℕ) → n ≤ 128 → (k : ℕ) → k < 2 ^ n → k < 2 ^ 128
-      wide n le k lt = let more = pow-le-pow_right {n = 2} (omega arith) le le in omega arith
+      wide n le k lt = let more = pow-le-pow_right {n = 2} (omega arith) le in omega arith
 
   pub keep_bits : (i : ℕ) → has_bit keep i ≡ (has_bit r.keep i && not (goes (listed_in es) e.listed (e.listed.first + i)))
   keep_bits i = has_bit-without r.keep given i small fits ∙ ap (λ (t : Bool). has_bit r.keep i && not t) (bits i)
@@ -81,7 +80,7 @@ module _ (es : List Indexed) (e : Indexed) (r : Rec) (is : IsRecordOf e r) (few 
       goes_one = sym (bits one.0) ∙ one.1
 
       kept_one : has_bit r.keep one.0 ≡ true
-      kept_one = sym (keep_is e r is one.0) ∙ goes_covers (listed_in es) e.listed (e.listed.first + one.0) goes_one
+      kept_one = keep_is e r is one.0 ∙ goes_covers (listed_in es) e.listed (e.listed.first + one.0) goes_one
 
       not_one : has_bit keep one.0 ≡ false
       not_one = keep_bits one.0 ∙ (λ i. kept_one i && not (goes_one i))

@@ -1,11 +1,10 @@
 -- The blocks of a record that are live are those of its version, and what each choice of images has there.
-use Rattle.std.proofs.Common.{◌≡◌, ◌≢◌, ◌⊎◌, inl, inr, ⊎_elim, ◌<◌, ◌≤◌, ◌+◌, ◌-◌, ℕ, zero, suc, Bool, true, false, cond, not, ◌&&◌, List, [], ◌∷◌, ◌++◌, map, length, Option, None, Some, refl, sym, ap, subst, ◌∙◌, arith, leb, ltb}
-use Rattle.std.specs.Prelude.{Contains, slice_get, is_some}
+use Rattle.std.proofs.Common.{◌≡◌, ◌≢◌, ⊎_elim, ◌<◌, ◌+◌, ◌-◌, ℕ, zero, suc, Bool, true, false, cond, not, ◌&&◌, List, [], ◌∷◌, map, Option, None, Some, refl, sym, ap, subst, ◌∙◌, arith, leb, ltb}
+use Rattle.std.specs.Prelude.{Contains, slice_get}
 use Rattle.std.specs.Option.{option_or}
 use Rattle.std.specs.List.{AllByRecursion, cons_option}
-use Rattle.std.proofs.lemmas.Bool.{cases_lt, le-leb, lt-leb, false≢true, and_parts}
+use Rattle.std.proofs.lemmas.Bool.{cases_lt, le-leb, lt-leb, false≢true}
 use Rattle.std.proofs.lemmas.Option.{same_Some, none-some}
-use Rattle.std.proofs.lemmas.List.{append-nil}
 use Rattle.std.proofs.lemmas.List.Elements.{Contains-append_left, Contains-append_right}
 use Rattle.wol_disk.specs.Disk.{Block}
 use Rattle.wol_model.specs.Blocks.{Write, AreApart, block_of, last_written}
@@ -17,7 +16,7 @@ use Rattle.wol_model.proofs.Live.{live_is_newest}
 use Rattle.wol_promise.specs.Manager.{Held, IsBacked, IsIndexOf, extents_held, versions}
 use Rattle.wol_promise.proofs.Covers.{any_member, any_found, same_cover, held_is_listed}
 use Rattle.wol_promise.proofs.Lists.{member_map, member_of, member_front}
-use Rattle.redirect_map.specs.Masks.{in_mask}
+use Rattle.wol_promise.proofs.OneMore.{or_none}
 use Rattle.manager.specs.Reclaim.{put_block}
 use Rattle.manager.proofs.RunContent.{Around, around_of}
 
@@ -27,24 +26,15 @@ abbrev pub puts_from : (i first mask : ℕ) → List Block → List Write
 puts_from i first mask [] = []
 puts_from i first mask (x ∷ xs) = cond (has_bit mask i) (record { first = first; blocks = x ∷ []; version = None } ∷ puts_from (i + 1) (first + 1) mask xs) (puts_from (i + 1) (first + 1) mask xs)
 
-or_none : (o : Option Block) → option_or o None ≡ o
-or_none None = refl
-or_none (Some x) = refl
-
-no_block : (t : Bool) → cond t (None {T = Block}) None ≡ None
+no_block : (t : Bool) → cond {A = Option Block} t None None ≡ None
 no_block true = refl
 no_block false = refl
 
-last_from : (i first mask : ℕ) (xs : List Block) (b : ℕ) → last_written (puts_from i first mask xs) b ≡ cond (leb first b && has_bit mask (i + (b - first))) (slice_get xs (b - first)) None
-last_from i first mask [] b = sym (no_block (leb first b && has_bit mask (i + (b - first))))
-last_from i first mask (x ∷ xs) b = ⊎_elim before (λ le. ⊎_elim (λ lt. behind lt) (λ ge. here (omega arith)) (cases_lt first b)) (cases_lt b first)
+last_more : (i first mask : ℕ) (x : Block) (xs : List Block) (b : ℕ)
+    → last_written (puts_from (i + 1) (first + 1) mask xs) b ≡ cond (leb (first + 1) b && has_bit mask (i + 1 + (b - (first + 1)))) (slice_get xs (b - (first + 1))) None
+    → last_written (puts_from i first mask (x ∷ xs)) b ≡ cond (leb first b && has_bit mask (i + (b - first))) (slice_get (x ∷ xs) (b - first)) None
+last_more i first mask x xs b rest = ⊎_elim before (λ le. ⊎_elim (λ lt. behind lt) (λ ge. here (omega arith)) (cases_lt first b)) (cases_lt b first)
   where
-    rest : List Write
-    rest = puts_from (i + 1) (first + 1) mask xs
-
-    single : Write
-    single = record { first = first; blocks = x ∷ []; version = None }
-
     all : (o : Option Block) → last_written (puts_from (i + 1) (first + 1) mask xs) b ≡ o → block_of first (x ∷ []) b ≡ None → last_written (puts_from i first mask (x ∷ xs)) b ≡ o
     all o is none = by (has_bit mask i)
       where
@@ -53,7 +43,7 @@ last_from i first mask (x ∷ xs) b = ⊎_elim before (λ le. ⊎_elim (λ lt. b
         by false = is
 
     later : (t : Bool) → leb (first + 1) b ≡ t → last_written (puts_from (i + 1) (first + 1) mask xs) b ≡ cond (t && has_bit mask (i + 1 + (b - (first + 1)))) (slice_get xs (b - (first + 1))) None
-    later t is = last_from (i + 1) (first + 1) mask xs b ∙ ap (λ (u : Bool). cond (u && has_bit mask (i + 1 + (b - (first + 1)))) (slice_get xs (b - (first + 1))) None) is
+    later t is = rest ∙ ap (λ (u : Bool). cond (u && has_bit mask (i + 1 + (b - (first + 1)))) (slice_get xs (b - (first + 1))) None) is
 
     before : b < first → last_written (puts_from i first mask (x ∷ xs)) b ≡ cond (leb first b && has_bit mask (i + (b - first))) (slice_get (x ∷ xs) (b - first)) None
     before lt =
@@ -83,13 +73,14 @@ last_from i first mask (x ∷ xs) b = ⊎_elim before (λ le. ⊎_elim (λ lt. b
         all (cond (true && has_bit mask (i + 1 + (b - (first + 1)))) (slice_get xs (b - (first + 1))) None) (later true there') ((λ j. cond (there j) (slice_get (x ∷ []) (further j)) None))
         ∙ sym (λ j. cond (there j && has_bit mask (bit j)) (slice_get (x ∷ xs) (further j)) None)
 
+last_from : (i first mask : ℕ) (xs : List Block) (b : ℕ) → last_written (puts_from i first mask xs) b ≡ cond (leb first b && has_bit mask (i + (b - first))) (slice_get xs (b - first)) None
+last_from i first mask [] b = sym (no_block (leb first b && has_bit mask (i + (b - first))))
+last_from i first mask (x ∷ xs) b = last_more i first mask x xs b (last_from (i + 1) (first + 1) mask xs b)
+
 -- what the last of them has for a block is what is put there
 pub last_put : (first mask : ℕ) (blocks : List Block) (b : ℕ) → last_written (puts_from 0 first mask blocks) b ≡ put_block first mask blocks b
 last_put first mask blocks b = last_from 0 first mask blocks b ∙ at (leb first b) refl
   where
-    none : (t : Bool) → cond (false && t) (slice_get blocks (b - first)) None ≡ None
-    none t = refl
-
     at : (t : Bool) → leb first b ≡ t → cond (leb first b && has_bit mask (0 + (b - first))) (slice_get blocks (b - first)) None ≡ put_block first mask blocks b
     at true is = let e : 0 + (b - first) ≡ b - first = omega arith in rw (is, e) refl
     at false is = rw is refl
@@ -101,7 +92,7 @@ all_version P [] w n all has is = absurd (let lt = has.1 in omega arith)
 all_version P (x ∷ ws) w n all (zero, lt, same) is = by x.version (ap (λ (u : Write). u.version) same ∙ is) all
   where
     by : (o : Option ℕ) → o ≡ Some n → AllByRecursion P (cons_option o (versions ws)) → P n
-    by None no each = absurd (none-some n no)
+    by None none each = absurd (none-some n none)
     by (Some u) some each = subst P (same_Some u n some) each.0
 all_version P (x ∷ ws) w n all (suc k, lt, same) is = all_version P ws w n (rest x.version all) (k, omega arith, same) is
   where
@@ -124,7 +115,7 @@ same_write (x ∷ ws) v w n apart has has' is is' = ⊎_elim
     both_ways {y} z here version has_z version' = by x.version (ap (λ (u : Write). u.version) here ∙ version) apart
       where
         by : (o : Option ℕ) → o ≡ Some n → AreApart (cons_option o (versions ws)) → ⊥
-        by None no a = absurd (none-some n no)
+        by None none a = absurd (none-some n none)
         by (Some u) some a = all_version (λ k. u ≢ k) ws z n a.0 has_z version' (same_Some u n some)
 
 -- ---- a live block

@@ -23,7 +23,7 @@ use Rattle.manager.specs.Stands.{Keeps}
 use Rattle.manager.specs.Stops.{ImageSince, HeldSince, was_held, was_free}
 use Rattle.manager.specs.declared.base.ManagerBase.{ManagerBase}
 use Rattle.manager.specs.declared.manager.Manager.{Manager}
-use Rattle.manager.proofs.Putting.{none, upheld}
+use Rattle.manager.proofs.ReadContent.{unbroken, upholds_up}
 
 -- ---- Two lists of held segments that differ in their records alone
 
@@ -103,7 +103,7 @@ module _ {D : Type 0} (tells : Bool) (state : D → State) (sound : (d : D) → 
   Since = HeldSince state held claimed
 
   pub whole_now : IsWhole (parts_of tells state) b.volume.began (writes (entries_of notes)) m.next m.home held m.index.entries
-  whole_now = ((upheld tells state m b notes kp up).calm refl).whole told
+  whole_now = ((upholds_up tells state m b notes kp up).calm refl).whole told
 
   -- an image since the beginning of the call of a segment that is as it was
   pub still_log : (v : Held (Spun D)) → Contains held v → (bs : List Block) → Since v bs → IsLog bs b.volume.began.owner v.records
@@ -126,7 +126,7 @@ module _ {D : Type 0} (tells : Bool) (state : D → State) (sound : (d : D) → 
       → (before after : Logs) → AllLanesHold (λ h rs. ⊤) m.lanes.items before → AllLanesHold (λ h rs. ⊤) lanes after
       → StopsSafely of_home (HeldSince state (all_held 0 m.lanes.items before) claimed) b.volume.began (entries_of notes) (all_held 0 lanes after) flight
   stops_so of_home lanes logs flight R shape recovers before after was is home segments home_is choice =
-      subst (λ (o : Option (List Write)). IsCut b.volume.began.array (writes (entries_of notes)) (unwrap_or o flight) (recovered b.volume.began.owner home segments)) (sym (none tells state m b notes kp up))
+      subst (λ (o : Option (List Write)). IsCut b.volume.began.array (writes (entries_of notes)) (unwrap_or o flight) (recovered b.volume.began.owner home segments)) (sym (unbroken tells state m b notes kp up))
       (recovers home segments home_is (rezip (HeldSince state (all_held 0 m.lanes.items before) claimed) Since so (all_held 0 lanes after) (all_held 0 lanes logs) segments (same_held (λ h rs. ⊤) R 0 lanes after logs is shape) choice))
     where
       olds : AllZip IsSameHeld (all_held 0 m.lanes.items before) held

@@ -5,7 +5,7 @@ use Rattle.std.specs.List.{AllByRecursion}
 use Rattle.std.specs.Option.{option_to_list}
 use Rattle.std.specs.declared.alloc.Global.{Global}
 use Rattle.std.specs.declared.vec.Vec.{Vec}
-use Rattle.std.proofs.lemmas.Option.{slice_get-map, same_Some}
+use Rattle.std.proofs.lemmas.Option.{same_Some}
 use Rattle.std.proofs.lemmas.List.Elements.{Contains-push}
 use Rattle.std.proofs.lemmas.List.Sums.{sum_by-cons, sum_by_push}
 use Rattle.std.proofs.lemmas.List.FromFn.{length-map-range_with_len}
@@ -23,7 +23,7 @@ use Rattle.turn_lock.specs.LockIds.{LockId}
 use Rattle.turn_lock.specs.Passes.{pass_mine, pass_number}
 use Rattle.seg_pool.specs.declared.base.PoolBase.{PoolBase}
 use Rattle.log_segment.specs.Records.{new_record}
-use Rattle.log_segment.specs.Segment.{IsSegment, IsSame, IsWhole, Holds, blocks_of, valid_of, disk_of, free_disk, free_part, room_of, place_of}
+use Rattle.log_segment.specs.Segment.{IsWhole, Holds, blocks_of, valid_of, free_part}
 use Rattle.log_segment.specs.declared.free.FreeSegment.{FreeSegment}
 use Rattle.redirect_map.specs.Index.{Contents, entry_of, unhomed, cover_at}
 use Rattle.redirect_map.specs.declared.record.Rec.{Rec}
@@ -41,8 +41,8 @@ use Rattle.manager.specs.Answers.{log_write}
 use Rattle.manager.specs.Causes.{PartRoseOrClaimed}
 use Rattle.manager.specs.Offers.{IsTurnedAway, HasTakenWrite}
 use Rattle.manager.specs.Puts.{PutIn, to_held, to_new}
-use Rattle.manager.specs.Seen.{Logs, AllLanesHold, parts_of, seen, all_held, all_taken, down_of, look_of_manager}
-use Rattle.manager.specs.Stands.{Keeps, Stands, IsReady, IsReadyLane, IsUp, IsPlacedIn, IsInVolume, AreCounted, entries_at, Ready, IsNote, Locks, nones_in, nones_at}
+use Rattle.manager.specs.Seen.{AllLanesHold, parts_of, seen, all_held, all_taken, down_of, look_of_manager}
+use Rattle.manager.specs.Stands.{Keeps, Stands, IsReady, IsReadyLane, IsUp, IsPlacedIn, IsInVolume, AreCounted, entries_at, Ready, Locks, nones_in, nones_at}
 use Rattle.manager.specs.Stops.{Stops}
 use Rattle.manager.specs.declared.base.ManagerBase.{ManagerBase}
 use Rattle.manager.specs.declared.manager.Manager.{Manager}

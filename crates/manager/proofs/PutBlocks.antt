@@ -1,19 +1,20 @@
 -- Blocks of a mask that are written home, run by run, and synced: what the part is and may be after each of its calls.
-use Rattle.std.proofs.Common.{◌≡◌, ◌⊎◌, inl, inr, ⊎_elim, ◌<◌, ◌≤◌, ◌+◌, ◌-◌, ℕ, zero, suc, Bool, true, false, cond, ◌&&◌, List, [], ◌∷◌, length, take, drop, Option, None, Some, Result, Ok, Err, OnOk, OnErr, refl, sym, ap, subst, ◌∙◌, arith, ltb, leb}
+use Rattle.std.proofs.Common.{◌≡◌, ◌⊎◌, inl, inr, ⊎_elim, ◌<◌, ◌≤◌, ◌+◌, ◌-◌, ℕ, zero, suc, Bool, true, false, cond, List, [], ◌∷◌, length, take, drop, Option, None, Some, Result, Ok, Err, OnOk, OnErr, is_ok, refl, sym, ap, subst, ◌∙◌, arith, ltb, leb}
 use Rattle.std.specs.Prelude.{option_map, IsErr, slice_get, unwrap_or}
 use Rattle.std.specs.Option.{option_or}
 use Rattle.std.proofs.lemmas.Bool.{cases_lt, lt-ltb, le-ltb, le-leb, lt-leb}
+use Rattle.std.proofs.lemmas.Option.{slice_get_past}
 use mathlib.Core.Path.{fun_ext}
 use Rattle.wol_disk.specs.Disk.{State, Block, Values, Passes, IsDisk, LeavesOnly, IsImageOf, IsBlend, AddsSomeOf, Rose, added, put, settled, only, reads}
 use Rattle.wol_disk.proofs.Calls.{after_write, after_sync, write_goes_on, sync_goes_on}
 use Rattle.wol_disk.proofs.Images.{reads_added}
 use Rattle.wol_disk.proofs.Moments.{started}
-use Rattle.wol_model.specs.Blocks.{Write, block_of, overlaid, after}
+use Rattle.wol_model.specs.Blocks.{block_of, overlaid, after}
 use Rattle.wol_model.specs.Log.{has_bit}
 use Rattle.wol_model.proofs.Arrays.{after_put}
 use Rattle.wol_model.proofs.Mixed.{IsMixed, mixed_of, blend_of}
 use Rattle.wol_model.proofs.Overlay.{overlay_twice, overlay_get, overlay_length_from, none_over}
-use Rattle.redirect_map.specs.Masks.{in_mask}
+use Rattle.wol_promise.proofs.OneMore.{or_none}
 use Rattle.spin_model.specs.Spun.{state_of, volume_of}
 use Rattle.spin_model.specs.declared.spun.Spun.{Spun}
 use Rattle.manager.specs.Reclaim.{put_block, IsPartlyPut, IsPut}
@@ -36,16 +37,6 @@ get_dropped : {X : Type 0} (d : ℕ) (xs : List X) (i : ℕ) → slice_get (drop
 get_dropped zero xs i = let e : 0 + i ≡ i = omega arith in rw e refl
 get_dropped (suc d) [] i = refl
 get_dropped (suc d) (x ∷ xs) i = let e : suc d + i ≡ suc (d + i) = omega arith in rw e (get_dropped d xs i)
-
-get_none : {X : Type 0} (xs : List X) (i : ℕ) → length xs ≤ i → slice_get xs i ≡ None
-get_none [] i le = refl
-get_none (x ∷ xs) zero le = absurd (omega arith)
-get_none (x ∷ xs) (suc i) le = get_none xs i (omega arith)
-
-get_some : {X : Type 0} (xs : List X) (i : ℕ) → i < length xs → (x : X) × (slice_get xs i ≡ Some x)
-get_some [] i lt = absurd (omega arith)
-get_some (x ∷ xs) zero lt = (x, refl)
-get_some (x ∷ xs) (suc i) lt = get_some xs i (omega arith)
 
 -- ---- what stands over an array
 
@@ -71,7 +62,7 @@ module _ (first mask : ℕ) (blocks : List Block) where
   behind b le = at (has_bit mask (b - first)) refl
     where
       at : (t : Bool) → has_bit mask (b - first) ≡ t → over b ≡ None
-      at true bit = in_range true b bit (omega arith) ∙ get_none blocks (b - first) (omega arith)
+      at true bit = in_range true b bit (omega arith) ∙ slice_get_past blocks (b - first) (omega arith)
       at false bit = in_range false b bit (omega arith)
 
   pub upto_first : upto (put_block first mask blocks) (first + 0) ≡ (λ b. None)
@@ -107,10 +98,6 @@ module _ (first mask : ℕ) (blocks : List Block) where
 
     run_behind : (b : ℕ) → first + (at + n) ≤ b → block_of (first + at) run b ≡ None
     run_behind b le = run_there b (omega arith) ∙ get_past n (drop at blocks) (b - (first + at)) (omega arith)
-
-    or_none : (o : Option Block) → option_or o None ≡ o
-    or_none None = refl
-    or_none (Some x) = refl
 
     upto_more : (b : ℕ) → option_or (block_of (first + at) run b) (upto over (first + at) b) ≡ upto over (first + (at + n)) b
     upto_more b = ⊎_elim
@@ -193,6 +180,18 @@ on_err_at : {T E P : Type 0} (r : Result T E) → IsErr r → P → OnErr r P
 on_err_at (Ok x) is p = tt
 on_err_at (Err e) is p = p
 
+ok_like : {T E U F : Type 0} (P : Type 0) (r : Result T E) (s : Result U F) → is_ok r ≡ is_ok s → OnOk r P → OnOk s P
+ok_like P (Ok x) (Ok y) like p = p
+ok_like P (Ok x) (Err f) like p = tt
+ok_like P (Err e) (Ok y) like p = absurd (let wrong : false ≡ true = like in cc)
+ok_like P (Err e) (Err f) like p = tt
+
+err_like : {T E U F : Type 0} (P : Type 0) (r : Result T E) (s : Result U F) → is_ok r ≡ is_ok s → OnErr r P → OnErr s P
+err_like P (Ok x) (Ok y) like p = tt
+err_like P (Ok x) (Err f) like p = absurd (let wrong : true ≡ false = like in cc)
+err_like P (Err e) (Ok y) like p = tt
+err_like P (Err e) (Err f) like p = p
+
 on_ok_so : {T E P Q : Type 0} (r : Result T E) → (P → Q) → OnOk r P → OnOk r Q
 on_ok_so (Ok x) f p = f p
 on_ok_so (Err e) f p = tt
@@ -200,6 +199,22 @@ on_ok_so (Err e) f p = tt
 reads_then : (at : ℕ) (xs : List Block) (o : Option (List (Values Block))) → option_map reads (option_map (added at xs) o) ≡ option_map (put at xs) (option_map reads o)
 reads_then at xs None = refl
 reads_then at xs (Some vs) = ap Some (reads_added at xs vs)
+
+-- the same of the same blocks
+pub put_same : {D T E : Type 0} {res : Result T E} (state : D → State) (old new : Spun D) (over over' : ℕ → Option Block) → over ≡ over' → IsPut state old new over res → IsPut state old new over' res
+put_same {D} {T} {E} {res} state old new over over' same p = subst (λ (f : ℕ → Option Block). IsPut state old new f res) same p
+
+-- and of an answer of another type
+pub put_like : {D T E U F : Type 0} (state : D → State) (old new : Spun D) (over : ℕ → Option Block) (r : Result T E) (s : Result U F) → is_ok r ≡ is_ok s → IsPut state old new over r → IsPut state old new over s
+put_like state old new over r s like p = record {
+  volume = p.volume;
+  size = p.size;
+  ok = ok_like _ r s like p.ok;
+  images = p.images;
+  any_moment = p.any_moment;
+  cause = err_like _ r s like p.cause;
+  calm = ok_like _ r s like p.calm;
+}
 
 -- a part of which the blocks before block `end` were written so far
 pub record Putting {D : Type 0} (state : D → State) (old mid : Spun D) (over : ℕ → Option Block) (end : ℕ) : Type 0 where

@@ -38,7 +38,9 @@ use Rattle.manager.specs.declared.part.Part.TheVariants as part
 use Rattle.manager.proofs.Lanes.{all_at, get_set, held_as, InLanes, in_lanes}
 use Rattle.manager.proofs.NewRecord.{rec_at, entered, indexed_so, new_valid}
 use Rattle.manager.proofs.ClaimedWrites.{other_records}
-use Rattle.manager.proofs.Putting.{parts, base, ws, is_up, none, upheld, old_lane, owner, logger, keeps, lies, image_is_log, some_fault, Pieces, untaken_set}
+use Rattle.manager.proofs.Putting.{parts, base, ws, is_up, old_lane, owner, logger, keeps, lies, image_is_log, Pieces, untaken_set}
+use Rattle.manager.proofs.ReadContent.{unbroken, upholds_up}
+use Rattle.manager.proofs.WentHome.{risen}
 
 -- ---- Records that end at a place
 
@@ -93,13 +95,13 @@ module _ {D : Type 0} (tells : Bool) (state : D → State) (m : Manager D) (b : 
         records = split.records;
         ends = (split.here told up).place;
         holds = λ t. split.here t up;
-        upheld_with = subst (λ (l : List (Held (Spun D))). Upholds (parts tells state m b notes kp) (base tells state m b notes kp) (record (seen m kp.logs) { held = l }) notes (ws tells state m b notes kp) None) split.is (upheld tells state m b notes kp up);
+        upheld_with = subst (λ (l : List (Held (Spun D))). Upholds (parts tells state m b notes kp) (base tells state m b notes kp) (record (seen m kp.logs) { held = l }) notes (ws tells state m b notes kp) None) split.is (upholds_up tells state m b notes kp up);
       }
       by false untold = record {
         records = made_up (place_of o.segment);
         ends = made_up_ends (place_of o.segment) was_held.shape.place.0;
         holds = λ told. absurd (let no : false ≡ true = sym untold ∙ told in cc);
-        upheld_with = other_records (parts tells state m b notes kp) (base tells state m b notes kp) (seen m kp.logs) notes (ws tells state m b notes kp) split.front split.back (held_as k o split.records) (upheld tells state m b notes kp up)
+        upheld_with = other_records (parts tells state m b notes kp) (base tells state m b notes kp) (seen m kp.logs) notes (ws tells state m b notes kp) split.front split.back (held_as k o split.records) (upholds_up tells state m b notes kp up)
             (is_up tells state m b notes kp up) split.is (λ told. let no : false ≡ true = sym untold ∙ told in cc) (made_up (place_of o.segment));
       }
 
@@ -126,7 +128,7 @@ module _ {D : Type 0} (tells : Bool) (state : D → State) (m : Manager D) (b : 
 
       stood : StandsFor (parts_of tells state) b.volume.began grown_one (notes ++ nt ∷ [])
       stood = log_more (parts_of tells state) b.volume.began (record (seen m kp.logs) { held = split.front ++ s ∷ split.back }) m.home_up (slice_set m.ups.items k true) (length-set m.ups.items k true) notes nt split.front s split.back (part_of n.segment) r
-          ending.upheld_with (none tells state m b notes kp up) refl size volume (keeps tells state m b notes kp k old lane lbn from fits) refl (lies tells state m b notes kp k old lane lbn from fits) client
+          ending.upheld_with (unbroken tells state m b notes kp up) refl size volume (keeps tells state m b notes kp k old lane lbn from fits) refl (lies tells state m b notes kp k old lane lbn from fits) client
           (λ bs is. subst (λ (v : ℕ). IsLog bs v (ending.records ++ r ∷ [])) owned (image_is_log state n.segment (ending.records ++ r ∷ []) bs (ok ending.records (ending.holds is.0)) is.1))
           (new_valid (lane_owner old) m.next lbn from some) next_room (is_up tells state m b notes kp up) wrote
           (let e = ending.ends in let w = was_held.shape.size in let z = size in omega arith)
@@ -170,10 +172,10 @@ module _ {D : Type 0} (tells : Bool) (state : D → State) (m : Manager D) (b : 
 
       fell : StandsFor (parts_of tells state) b.volume.began failed_one (notes ++ nt ∷ [])
       fell = log_breaks (parts_of tells state) b.volume.began (seen m kp.logs) m.home_up m.ups.items refl notes nt split.front was split.back (part_of n.segment) r
-          (upheld tells state m b notes kp up) (none tells state m b notes kp up) split.is size volume (keeps tells state m b notes kp k old lane lbn from fits) refl (lies tells state m b notes kp k old lane lbn from fits) client
+          (upholds_up tells state m b notes kp up) (unbroken tells state m b notes kp up) split.is size volume (keeps tells state m b notes kp k old lane lbn from fits) refl (lies tells state m b notes kp k old lane lbn from fits) client
           (λ bs is. ⊎_elim (λ log. inl (subst (λ (v : ℕ). IsLog bs v split.records) owner_was log)) (λ log. inr (subst (λ (v : ℕ). IsLog bs v (split.records ++ r ∷ [])) owner_was log))
           (with_or_without bs (owner_of o.segment) split.records r (now_leaves (any_moment split.records (split.here is.0 up)) (sound n.segment.part.inner) bs is.1)))
-          (logger_of old) (logger tells state m b notes kp k old lane) broke unruled (some_fault (disk_of state o.segment).faults (disk_of state n.segment).faults cause)
+          (logger_of old) (logger tells state m b notes kp k old lane) broke unruled (risen (disk_of state o.segment).faults (disk_of state n.segment).faults cause)
 
       abbrev then_seen : ManagerSeen (Spun D)
       then_seen = record { home = m.home; held = all_held 0 (slice_set m.lanes.items k new) (split.lists split.records); taken = all_taken 0 (slice_set m.lanes.items k new); indexed = m.index.entries; next = m.next; home_up = m.home_up; ups = m.ups.items; down = Some (SegmentPart (logger_of old) o.index) }

@@ -43,7 +43,9 @@ use Rattle.manager.specs.declared.part.Part.TheVariants as part
 use Rattle.manager.proofs.Lanes.{AtEnd, at_end}
 use Rattle.manager.proofs.NewRecord.{rec_at, entered, indexed_so, new_valid}
 use Rattle.manager.proofs.ClaimedWrites.{claimed_more, claimed_breaks}
-use Rattle.manager.proofs.Putting.{is_up, none, upheld, old_lane, owner, logger, keeps, lies, image_is_log, some_fault, Pieces, untaken_set}
+use Rattle.manager.proofs.Putting.{is_up, old_lane, owner, logger, keeps, lies, image_is_log, Pieces, untaken_set}
+use Rattle.manager.proofs.ReadContent.{unbroken, upholds_up}
+use Rattle.manager.proofs.WentHome.{risen}
 
 -- ---- A new index is apart from all others of its lane, and no other lane has its place
 
@@ -163,7 +165,7 @@ module _ {D : Type 0} (tells : Bool) (state : D → State) (m : Manager D) (b : 
 
       stood : StandsFor (parts_of tells state) b.volume.began with_one (notes ++ nt ∷ [])
       stood = claimed_more (parts_of tells state) b.volume.began (seen m kp.logs) m.home_up (slice_set m.ups.items k true) (length-set m.ups.items k true) notes nt ends.front ends.back k n.index r
-          (upheld tells state m b notes kp up) (none tells state m b notes kp up) ends.is (is_up tells state m b notes kp up) new_one
+          (upholds_up tells state m b notes kp up) (unbroken tells state m b notes kp up) ends.is (is_up tells state m b notes kp up) new_one
           (keeps tells state m b notes kp k old lane lbn from fits) refl (lies tells state m b notes kp k old lane lbn from fits) client
           claim.part_ (part_of n.segment) (by false claim.part_ (sym claim.size) (sym claim.lies_on) (λ bs is. says_owner b.volume.began.owner bs [] (claim.logs bs is))) claim.size claim.lies_on claim.logs
           (λ bs is. subst (λ (v : ℕ). IsLog bs v (r ∷ [])) owned (image_is_log state n.segment (r ∷ []) bs (ok is.0) is.1))
@@ -207,10 +209,10 @@ module _ {D : Type 0} (tells : Bool) (state : D → State) (m : Manager D) (b : 
 
       fell : StandsFor (parts_of tells state) b.volume.began failed_one (notes ++ nt ∷ [])
       fell = claimed_breaks (parts_of tells state) b.volume.began (seen m kp.logs) m.home_up m.ups.items refl notes nt ends.front ends.back k n.index r
-          (upheld tells state m b notes kp up) (none tells state m b notes kp up) ends.is (is_up tells state m b notes kp up) new_one
+          (upholds_up tells state m b notes kp up) (unbroken tells state m b notes kp up) ends.is (is_up tells state m b notes kp up) new_one
           (keeps tells state m b notes kp k old lane lbn from fits) refl (lies tells state m b notes kp k old lane lbn from fits) client
           (part_of n.segment) (by true (part_of n.segment) refl refl (λ bs is. ⊎_elim (says_free b.volume.began.owner bs) (⊎_elim (says_owner b.volume.began.owner bs []) (says_owner b.volume.began.owner bs (r ∷ []))) (images bs is))) images
-          broke unruled (logger_of old) (logger tells state m b notes kp k old lane) (some_fault (free_disk state f).faults (disk_of state n.segment).faults cause)
+          broke unruled (logger_of old) (logger tells state m b notes kp k old lane) (risen (free_disk state f).faults (disk_of state n.segment).faults cause)
 
       abbrev then_failed : ManagerSeen (Spun D)
       then_failed = record { home = m.home; held = all_held 0 (slice_set m.lanes.items k new) (ends.lists []); taken = all_taken 0 (slice_set m.lanes.items k new); indexed = m.index.entries; next = m.next; home_up = m.home_up; ups = m.ups.items; down = Some (SegmentPart (logger_of old) n.index) }

@@ -1,10 +1,10 @@
 -- What is known of a manager that is up when a write is put into one of its lanes.
-use Rattle.std.proofs.Common.{◌≡◌, ⊎_elim, ◌<◌, ◌≤◌, ◌+◌, ℕ, sym, subst, ◌∙◌, arith, List, [], length, Bool, Option, None, Some, ap}
+use Rattle.std.proofs.Common.{◌≡◌, ◌≤◌, ◌+◌, ℕ, sym, subst, ◌∙◌, List, [], length, Bool, Option, None, Some, ap}
 use Rattle.std.specs.Prelude.{slice_get, slice_set, IsTrue}
 use Rattle.std.specs.List.{AllByRecursion}
 use Rattle.std.specs.Option.{option_map}
 use Rattle.std.proofs.lemmas.Option.{slice_get-map}
-use Rattle.wol_disk.specs.Disk.{State, Block, IsImageOf, Rose}
+use Rattle.wol_disk.specs.Disk.{State, Block, IsImageOf}
 use Rattle.wol_disk.proofs.Calls.{settled_only}
 use Rattle.wol_model.specs.Blocks.{Write}
 use Rattle.wol_model.specs.Extents.{KeepsAll, write_of}
@@ -19,11 +19,10 @@ use Rattle.log_segment.specs.declared.segment.Segment.{Segment}
 use Rattle.wol_promise.specs.Manager.{Parts, Base, AreInUse}
 use Rattle.wol_promise.specs.Ruled.{Noted, entries_of}
 use Rattle.wol_promise.specs.Stands.{Upholds, LiesIn}
-use Rattle.wol_promise.proofs.Kept.{not_broken}
 use Rattle.wol_promise.proofs.Lists.{all_map}
 use Rattle.logger.specs.Lanes.{logger_of, lane_owner, taken_in}
 use Rattle.logger.specs.declared.lane.Lane.{Lane}
-use Rattle.manager.specs.Seen.{Logs, AllLanesHold, parts_of, seen, all_held, all_taken, down_of}
+use Rattle.manager.specs.Seen.{Logs, AllLanesHold, parts_of, all_held, all_taken, down_of}
 use Rattle.manager.specs.Stands.{Keeps, IsReadyLane}
 use Rattle.manager.specs.declared.base.ManagerBase.{ManagerBase}
 use Rattle.manager.specs.declared.manager.Manager.{Manager}
@@ -34,9 +33,6 @@ use Rattle.manager.proofs.NewRecord.{new_keeps}
 -- each image of a segment that holds records is a log of them
 pub image_is_log : {D : Type 0} (state : D → State) (seg : Segment D) (rs : List Record) (c : List Block) → Holds state seg rs → IsImageOf (disk_of state seg).values c → IsLog c (owner_of seg) rs
 image_is_log state seg rs c holds is = subst (λ (bs : List Block). IsLog bs (owner_of seg) rs) (sym (settled_only (disk_of state seg).values holds.disk.bs c holds.disk.settled is)) holds.disk.log
-
-pub some_fault : (old new : ℕ) → Rose old new → 0 < new
-some_fault old new rose = ⊎_elim (λ more. omega arith) (λ full. omega arith) rose
 
 module _ {D : Type 0} (tells : Bool) (state : D → State) (m : Manager D) (b : ManagerBase) (notes : List Noted) (kp : Keeps tells state m b notes) where
   abbrev pub parts : Parts (Spun D)
@@ -54,12 +50,6 @@ module _ {D : Type 0} (tells : Bool) (state : D → State) (m : Manager D) (b : 
   module _ (up : m.down ≡ None) where
     pub is_up : down_of m.down ≡ None
     is_up = ap down_of up
-
-    pub none : flight_of (entries_of notes) ≡ None
-    none = not_broken parts base (seen m kp.logs) notes ws (flight_of (entries_of notes)) kp.upholds is_up
-
-    pub upheld : Upholds parts base (seen m kp.logs) notes ws None
-    upheld = subst (Upholds parts base (seen m kp.logs) notes ws) none kp.upholds
 
   module _ (k : ℕ) (old : Lane D) (lane : slice_get m.lanes.items k ≡ Some old) where
     pub old_lane : IsReadyLane state m.id m.most old

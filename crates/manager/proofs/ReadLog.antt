@@ -1,13 +1,12 @@
 -- A lane's read, as its manager sees it.
-use Rattle.std.proofs.Common.{◌≡◌, inl, inr, ◌<◌, ◌≤◌, ◌+◌, ◌-◌, ℕ, Bool, List, [], ◌∷◌, ◌++◌, length, take, drop, None, Some, Result, Ok, Err, OnOk, OnErr, get_or, refl, sym, ap, subst, ◌∙◌, arith}
+use Rattle.std.proofs.Common.{◌≡◌, inl, inr, ◌<◌, ◌≤◌, ◌+◌, ◌-◌, ℕ, Bool, List, length, None, Some, Result, Ok, Err, OnOk, OnErr, get_or, refl, sym, ap, subst, ◌∙◌, arith}
 use Rattle.std.specs.Prelude.{Contains, slice_get, slice_set}
-use Rattle.std.specs.List.{AllByRecursion, AllZip, refill}
+use Rattle.std.specs.List.{AllByRecursion, AllZip}
 use Rattle.std.specs.Vec.{with_item}
-use Rattle.std.proofs.Math.ListN.{length-set}
 use Rattle.std.proofs.lemmas.Option.{same_Some, slice_get_read, slice_get_within}
-use Rattle.std.proofs.lemmas.List.{append-nil}
 use Rattle.wol_disk.specs.Disk.{State, Block, Rose, IsDisk}
 use Rattle.wol_model.specs.Extents.{newest}
+use Rattle.wol_model.specs.Index.{Indexed}
 use Rattle.wol_promise.proofs.Lists.{all_map, all_member}
 use Rattle.turn_lock.specs.Passes.{pass_mine}
 use Rattle.log_segment.specs.Segment.{IsWhole, blocks_of, valid_of}
@@ -26,27 +25,6 @@ use Rattle.manager.proofs.ReadyLanes.{get_of, ready_set, placed_set, stays_set}
 use Rattle.manager.proofs.ReadThrough.{zip_set, segment_self}
 use Rattle.manager.proofs.RunContent.{newest_is}
 use Rattle.manager.proofs.RunSources.{Answers, entry_for, in_record}
-
--- ---- flags
-
-take_all : {X : Type 0} (xs : List X) → take (length xs) xs ≡ xs
-take_all [] = refl
-take_all (x ∷ xs) = λ i. x ∷ take_all xs i
-
-drop_all : {X : Type 0} (xs : List X) → drop (length xs) xs ≡ []
-drop_all [] = refl
-drop_all (x ∷ xs) = drop_all xs
-
--- flags of which one was set
-pub flags_set : (ups lent : List Bool) (k : ℕ) (t : Bool) → lent ≡ ups → refill (length ups) ups (slice_set lent k t) ≡ slice_set ups k t
-flags_set ups lent k t same =
-    let long : length (slice_set lent k t) ≡ length ups = length-set lent k t ∙ ap length same in
-    ap (λ (n : ℕ). take (length ups) (slice_set lent k t ++ drop n ups)) long
-    ∙ ap (λ (l : List Bool). take (length ups) (slice_set lent k t ++ l)) (drop_all ups)
-    ∙ ap (take (length ups)) (append-nil (slice_set lent k t))
-    ∙ ap (λ (n : ℕ). take n (slice_set lent k t)) (sym long)
-    ∙ take_all (slice_set lent k t)
-    ∙ ap (λ (l : List Bool). slice_set l k t) same
 
 -- ---- the lane
 

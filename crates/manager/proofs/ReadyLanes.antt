@@ -101,7 +101,7 @@ member_set (v ∷ xs) zero x y z at (suc k, lt, is) = inl (suc k, omega arith, i
 member_set (v ∷ xs) (suc i) x y z at (zero, lt, is) = inl (0, omega arith, is)
 member_set (v ∷ xs) (suc i) x y z at (suc k, lt, is) = ⊎_elim (λ has. inl (suc has.0, (let l = has.1 in omega arith), has.2)) (λ same. inr same) (member_set xs i x y z at (k, omega arith, is))
 
-same_or_not : (j k : ℕ) → (j ≡ k) ⊎ (j ≡ k → ⊥)
+pub same_or_not : (j k : ℕ) → (j ≡ k) ⊎ (j ≡ k → ⊥)
 same_or_not zero zero = inl refl
 same_or_not zero (suc k) = inr (λ e. omega arith)
 same_or_not (suc j) zero = inr (λ e. omega arith)

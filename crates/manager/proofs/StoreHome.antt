@@ -1,5 +1,5 @@
 -- Due blocks of one record that are put home: what the manager keeps up, what it stands for where that failed, and what a stop leaves.
-use Rattle.std.proofs.Common.{◌≡◌, ◌⊎◌, ⊎_elim, ◌<◌, ◌≤◌, ◌+◌, ◌-◌, ◌^◌, ℕ, zero, suc, Bool, true, false, ◌&&◌, List, [], ◌∷◌, ◌++◌, map, length, Option, None, Some, Result, Ok, Err, OnOk, OnErr, refl, sym, ap, subst, ◌∙◌, arith, leb, bit_or, ◌||◌}
+use Rattle.std.proofs.Common.{◌≡◌, ◌<◌, ◌≤◌, ◌+◌, ◌-◌, ◌^◌, ℕ, zero, suc, Bool, true, false, List, [], ◌∷◌, ◌++◌, length, Option, None, Some, refl, sym, ap, subst, ◌∙◌, arith, leb}
 use Rattle.std.specs.Prelude.{⊤, IsTrue, Contains, slice_get, is_some, option_map, if◌then◌else◌}
 use Rattle.std.specs.List.{AllByRecursion}
 use Rattle.std.proofs.lemmas.Bool.{leb-true, le-leb, and_parts}
@@ -13,19 +13,19 @@ use Rattle.wol_disk.proofs.Calls.{settled_from}
 use Rattle.wol_disk.proofs.Images.{image_reads}
 use Rattle.wol_disk.proofs.Moments.{then_leaves, widened}
 use Rattle.wol_model.specs.Blocks.{Write, AreApart, block_of, last_written, overlaid, after}
-use Rattle.wol_model.specs.Extents.{Extent, newest_block, IsValid}
+use Rattle.wol_model.specs.Extents.{Extent, IsValid}
 use Rattle.wol_model.specs.History.{Broke, writes, flight_of}
 use Rattle.wol_model.specs.Holding.{IsData}
 use Rattle.wol_model.specs.Holding.{Holds as HoldsArray}
-use Rattle.wol_model.specs.Index.{Indexed, listed_in, is_due, is_live, is_homed, cover_of, homing}
+use Rattle.wol_model.specs.Index.{Indexed, listed_in, is_due, is_live, cover_of}
 use Rattle.wol_model.specs.Log.{Record, has_bit, extent_of}
 use Rattle.wol_model.proofs.Counts.{both, marked_within}
-use Rattle.wol_promise.specs.Manager.{Held, ManagerSeen, IsBacked, IsIndexOf, extents_held, is_homed_in, versions, WasWritten}
-use Rattle.wol_promise.specs.Ruled.{Noted, HasPassed, entries_of, last_look}
+use Rattle.wol_promise.specs.Manager.{Held, IsBacked, extents_held, is_homed_in, WasWritten}
+use Rattle.wol_promise.specs.Ruled.{Noted, entries_of, last_look}
 use Rattle.wol_promise.specs.Stands.{Upholds, IsDataOf, IsWhole, StopsSafely}
 use Rattle.wol_promise.proofs.Kept.{other_flags}
 use Rattle.wol_promise.proofs.Known.{versions_joined}
-use Rattle.wol_promise.proofs.Lists.{all_member, all_mid, member_of}
+use Rattle.wol_promise.proofs.Lists.{all_member, member_of}
 use Rattle.wol_promise.proofs.OneMore.{last_more}
 use Rattle.wol_promise.proofs.Puts.{put_home, home_put, put_breaks}
 use Rattle.wol_promise.proofs.Stops.{putting_stops}
@@ -40,12 +40,12 @@ use Rattle.redirect_map.specs.Masks.{in_mask}
 use Rattle.manager.specs.Reading.{IsReadThrough}
 use Rattle.manager.specs.Reclaim.{put_block, IsPartlyPut, with_put}
 use Rattle.manager.specs.Seen.{Logs, AllLanesHold, parts_of, seen, all_held, down_of, look_of_manager}
-use Rattle.manager.specs.Stands.{Keeps, Stands, IsReady, Ready, IsUp, IsInVolume, IsPlacedIn, IsNote, entries_at, nones_at}
-use Rattle.manager.specs.Stops.{ImageSince, HeldSince, Stops}
+use Rattle.manager.specs.Stands.{Keeps, Stands, IsReady, IsInVolume, IsPlacedIn, IsNote, entries_at, nones_at}
+use Rattle.manager.specs.Stops.{ImageSince, HeldSince}
 use Rattle.manager.specs.declared.base.ManagerBase.{ManagerBase}
 use Rattle.manager.specs.declared.manager.Manager.{Manager}
 use Rattle.manager.specs.declared.part.Part.{Part}
-use Rattle.manager.specs.declared.part.Part.TheVariants as part
+use Rattle.manager.specs.declared.part.Part.TheVariants.{Home}
 use Rattle.manager.proofs.Counted.{all_changed, count_changed, counted_as}
 use Rattle.manager.proofs.Entries.{At, among}
 use Rattle.manager.proofs.Frames.{none_passed}
@@ -125,7 +125,7 @@ put_at first mask blocks b x is = at (in_mask first mask b) refl is
   where
     at : (t : Bool) → in_mask first mask b ≡ t → (if t then block_of first blocks b else None) ≡ Some x → IsPutAt first mask blocks b x
     at true masked there = record { masked = masked; there = there }
-    at false masked no = absurd (let e : None ≡ Some x = no in cc)
+    at false masked there = absurd (let e : None ≡ Some x = there in cc)
 
 module _ (first mask : ℕ) where
   -- a block of the mask by its bit
@@ -147,19 +147,10 @@ module _ {D : Type 0} (tells : Bool) (state : D → State) (m : Manager D) (b : 
     (version mask : ℕ) (blocks : List Block) (e : Indexed) (at : At m.index.entries version e) (count : length blocks ≡ length e.listed.keep)
     (due : (i : ℕ) → has_bit mask i ≡ true → is_due (listed_in m.index.entries) e.listed (e.listed.first + i) ≡ true)
     (data_ : IsTrue tells → IsDataOf b.volume.began (writes (entries_of notes)) version e.listed.first blocks) where
-  abbrev first : ℕ
-  first = e.listed.first
-
-  abbrev put : ℕ → Bool
-  put blk = in_mask e.listed.first mask blk
-
   abbrev ws : List Write
   ws = writes (entries_of notes)
 
-  abbrev pub puts : List Write
-  puts = puts_from 0 e.listed.first mask blocks
-
-  abbrev pub held : List (Held (Spun D))
+  abbrev held : List (Held (Spun D))
   held = all_held 0 m.lanes.items kp.logs
 
   pub due_in : (blk : ℕ) → in_mask e.listed.first mask blk ≡ true → is_due (listed_in m.index.entries) e.listed blk ≡ true
@@ -228,10 +219,10 @@ module _ {D : Type 0} (tells : Bool) (state : D → State) (m : Manager D) (b : 
     -- a disk call failed
     pub put_fails : (n : Noted) → IsNote (last_look b.volume.began.look notes) (Broke []) [] (look_of_manager (record m { home_up = true })) n
         → ((c : List Block) → IsImageOf (state_of state part).values c → IsPartlyPut (state_of state m.home).values (put_block e.listed.first mask blocks) c) → Rose (state_of state m.home).faults (state_of state part).faults
-        → IsReady state (record m { home = part; spindle = spindle; home_up = true; down = Some (part.Home m.id) })
-        → Stands tells state (record m { home = part; spindle = spindle; home_up = true; down = Some (part.Home m.id) }) b (notes ++ n ∷ [])
+        → IsReady state (record m { home = part; spindle = spindle; home_up = true; down = Some (Home m.id) })
+        → Stands tells state (record m { home = part; spindle = spindle; home_up = true; down = Some (Home m.id) }) b (notes ++ n ∷ [])
     put_fails n note partly rose ready =
-        let failed : Part = part.Home m.id in record {
+        let failed : Part = Home m.id in record {
           keeps = record {
             logs = kp.logs;
             held = lanes_map (λ h rs. IsTrue tells → m.down ≡ None → Holds state h.segment rs) (λ h rs. IsTrue tells → Some failed ≡ None → Holds state h.segment rs)
@@ -256,9 +247,6 @@ module _ {D : Type 0} (tells : Bool) (state : D → State) (sound : (d : D) → 
     (due : (i : ℕ) → has_bit mask i ≡ true → is_due (listed_in old.index.entries) e.listed (e.listed.first + i) ≡ true)
     (data_ : IsTrue tells → IsDataOf b.volume.began (writes (entries_of notes)) version e.listed.first blocks) (part : Spun D)
     (leaves : LeavesOnly (state_of state old.home) (state_of state part) (IsPartlyPut (state_of state old.home).values (put_block e.listed.first mask blocks))) where
-  abbrev es : List Indexed
-  es = was.index.entries
-
   same_index : old.index.entries ≡ was.index.entries
   same_index = ap (λ (c : Contents). c.entries) read.index
 
@@ -287,6 +275,9 @@ module _ {D : Type 0} (tells : Bool) (state : D → State) (sound : (d : D) → 
       (putting_stops (ImageSince state was.home part) (HeldSince state (all_held 0 was.lanes.items kp.logs) None) b.volume.began.owner b.volume.began.array (writes (entries_of notes)) was.next (is_homed_in was.index.entries)
       (all_held 0 old.lanes.items kp.logs) (puts_from 0 e.listed.first mask blocks) [] (logs tells state sound told was b notes kp old read ready up)
       (subst (λ (rs : List Extent). IsData rs (puts_from 0 e.listed.first mask blocks)) (sym same_extents) (data_of tells state was b notes kp up version mask blocks e at_was count due_was data_ told))
-      (λ x image. let from = partly_image (state_of state was.home).values e.listed.first mask blocks x (image_of x image) in
-      (from.0, subst (λ (rs : List Extent). HoldsArray b.volume.began.array (writes (entries_of notes)) was.next from.0 rs (is_homed_in was.index.entries)) (sym same_extents)
-      ((whole_up tells state was b notes kp up version mask blocks e at_was count due_was data_ told).holds from.0 (told, from.1)), from.2)))
+      (λ x image. let from = partly_image (state_of state was.home).values e.listed.first mask blocks x (image_of x image) in (
+        from.0,
+        subst (λ (rs : List Extent). HoldsArray b.volume.began.array (writes (entries_of notes)) was.next from.0 rs (is_homed_in was.index.entries)) (sym same_extents)
+            ((whole_up tells state was b notes kp up version mask blocks e at_was count due_was data_ told).holds from.0 (told, from.1)),
+        from.2,
+      )))

@@ -1,22 +1,21 @@
 -- The last record of a segment gives up its last blocks and the segment is given back: what is held then, whatever a stop leaves, and where a call failed.
-use Rattle.std.proofs.Common.{◌≡◌, ◌⊎◌, inl, inr, ⊎_elim, ◌<◌, ◌+◌, ℕ, Bool, true, false, not, ◌&&◌, ◌||◌, List, [], ◌∷◌, ◌++◌, map, length, None, Some, refl, sym, ap, subst, ◌∙◌, append_assoc}
-use Rattle.std.specs.Prelude.{Contains, slice_get}
+use Rattle.std.proofs.Common.{◌≡◌, ◌⊎◌, inl, ⊎_elim, ◌<◌, ℕ, Bool, true, false, not, ◌&&◌, ◌||◌, List, [], ◌∷◌, ◌++◌, map, length, None, Some, refl, sym, ap, subst, ◌∙◌, append_assoc}
+use Rattle.std.specs.Prelude.{slice_get}
 use Rattle.std.specs.List.{AllByRecursion, AllZip, list_any}
 use Rattle.std.proofs.lemmas.Grind.{flat_map-append}
 use Rattle.std.proofs.lemmas.List.{map-append}
-use Rattle.std.proofs.lemmas.List.Folds.{list_any-append}
 use Rattle.wol_disk.specs.Disk.{Block}
 use Rattle.wol_model.specs.Blocks.{Write}
 use Rattle.wol_model.specs.Extents.{Extent, IsValid, GivesUp, covers_of, may_go, marked}
 use Rattle.wol_model.specs.History.{Broke, writes, flight_of, IsCut}
 use Rattle.wol_model.specs.Holding.{Holds}
-use Rattle.wol_model.specs.Index.{Indexed, listed_in, is_homed, cover_of, goes, keeping}
+use Rattle.wol_model.specs.Index.{Indexed, listed_in, is_homed, goes, keeping}
 use Rattle.wol_model.specs.Log.{Record, IsLog, IsIdle, extent_of, marks_of}
 use Rattle.wol_model.proofs.Marks.{remarked_is}
 use Rattle.wol_model.proofs.Steps.{giving_up_step, fewer_homed, empty_step}
 use Rattle.wol_promise.specs.Ruled.{Noted, entries_of}
 use Rattle.wol_promise.specs.Manager.{Parts, SegmentPart, Held, ManagerSeen, Base, IsEntryOf, IsIndexOf, extents_held, is_homed_in, Recovers, SaysOwnerOrFree, WasWritten}
-use Rattle.wol_promise.specs.Stands.{AreKnown, IsHeldBy, HasPlaces, IsPlaced, IsWhole, IsCalm, Upholds, StandsFor}
+use Rattle.wol_promise.specs.Stands.{AreKnown, IsHeldBy, HasPlaces, IsPlaced, IsWhole, Upholds, StandsFor}
 use Rattle.wol_promise.proofs.Broke.{broke_more}
 use Rattle.wol_promise.proofs.Choices.{AreLogs}
 use Rattle.wol_promise.proofs.Covers.{goes_is_may_go}

@@ -106,3 +106,7 @@ pub record IsReadThrough {D : Type 0} (state : D → State) (old new : Manager D
   pub next : new.next ≡ old.next
   pub rooms : new.rooms ≡ old.rooms
   pub down : new.down ≡ old.down
+
+-- so it is, but for the part at fault that it tells after
+abbrev pub HasOnlyRead : {D : Type 0} → (D → State) → (old new : Manager D) → Type 0
+HasOnlyRead state old new = IsReadThrough state old (record new { down = old.down })

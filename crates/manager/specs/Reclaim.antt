@@ -145,6 +145,6 @@ pub record IsTrimmedLane {D : Type 0} (index : ℕ) (given : Type 0) (old new : 
 -- exactly where no record is left in it.
 pub record HasDropped {D T : Type 0} (version : ℕ) (e : Indexed) (old new : Manager D) (res : Result T StepFault) : Type 0 where
   pub rest : new ≡ record old { lanes = new.lanes; index = new.index; ups = record { items = slice_set old.ups.items e.listed.lane true }; down = new.down }
-  pub lanes : ChangesLane (IsTrimmedLane e.index (OnOk res (entries_at e.listed.lane e.index new.index.entries ≡ 0))) e.listed.lane old.lanes.items new.lanes.items
+  pub lanes : ChangesLane (IsTrimmedLane e.index (entries_at e.listed.lane e.index new.index.entries ≡ 0)) e.listed.lane old.lanes.items new.lanes.items
   pub ok : OnOk res (new.index.entries ≡ given_of version old.index.entries)
   pub err : OnErr res (new.index ≡ old.index)

@@ -12,6 +12,7 @@ mod part;
 mod put;
 mod read;
 mod reclaim;
+mod record;
 mod write;
 
 pub use base::{LaneBase, ManagerBase, Volume};

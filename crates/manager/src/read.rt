@@ -9,7 +9,7 @@ ghost use Rattle.wol_promise.specs.Policy.{woken};
 ghost use Rattle.wol_promise.specs.Ruled.{Noted, entries_of};
 ghost use Rattle.manager.specs.Answers.{was_read};
 ghost use Rattle.manager.specs.Causes.{PartRose};
-ghost use Rattle.manager.specs.Reading.{IsSource, IsReadThrough, NeedsSources, NeedsFirstOf};
+ghost use Rattle.manager.specs.Reading.{IsSource, IsReadThrough, HasOnlyRead, NeedsSources, NeedsFirstOf};
 ghost use Rattle.manager.specs.Seen.{look_of_manager};
 ghost use Rattle.manager.specs.Stands.{Keeps, IsReady, IsHome, IsSameManager, Leaves};
 ghost use Rattle.manager.specs.Stops.{Stops};
@@ -24,7 +24,7 @@ use std::sync::Wait;
 use wol_disk::{Block, Disk, Failed};
 
 // The same answer, where the refusal names the part.
-fn at_part(part: Part, answer: Result<(), Failed>) -> Result<(), Part>
+pub(crate) fn at_part(part: Part, answer: Result<(), Failed>) -> Result<(), Part>
     ensures like { is_ok result ≡ is_ok answer }
     ensures part { IfErr result (λ p. p ≡ part) }
 {
@@ -64,6 +64,7 @@ impl<D: Disk> Manager<D> {
 
         ensures down { (p : Part) → (result ≡ Err (ReadRefusal.Down p)) ↔ (self.old.down ≡ Some p) }
         ensures unchanged { IsSome self.old.down → (self.new ≡ self.old) × (out.new ≡ out.old) }
+        ensures read { HasOnlyRead D.state self.old self.new }
         ensures cause { (p : Part) → result ≡ Err (ReadRefusal.DiskFault p) → (self.new.down ≡ Some p) × PartRose D.state self.old self.new p }
         ensures up { OnOk result (self.new.down ≡ None) }
         ensures any_moment { IsTrue D.tells → (b : ManagerBase) (notes : List Noted) → Keeps D.tells D.state self.old b notes → Stops D.state self.old self.new None b notes [] }

@@ -1,14 +1,15 @@
 -- What opening leaves of the parts that it was given.
-use Rattle.std.specs.Prelude.{⊤, ◌≡◌, ◌⊎◌, ◌≤◌, ℕ, List, [], ◌∷◌, map, Option, Some, None, option_map}
+use Rattle.std.specs.Prelude.{⊤, ◌≡◌, ◌⊎◌, ◌≤◌, ℕ, Bool, List, [], ◌∷◌, map, Option, Some, None, option_map, IsTrue}
 use Rattle.std.specs.List.{AllByRecursion, AllZip, filter_map}
 use Rattle.wol_disk.specs.Disk.{State, Block, Values, IsImageOf, LeavesOnly, reads}
 use Rattle.wol_model.specs.Images.{IsSoundSegment}
 use Rattle.wol_model.specs.Heads.{Shape}
-use Rattle.wol_model.specs.Log.{Record, IsLog, IsIdle}
+use Rattle.wol_model.specs.Log.{Record, IsLog}
 use Rattle.wol_model.specs.Recovered.{recovered}
 use Rattle.turn_lock.specs.Passes.{IsSamePass}
 use Rattle.spin_model.specs.Spun.{state_of, volume_of}
 use Rattle.spin_model.specs.declared.spun.Spun.{Spun}
+use Rattle.log_segment.specs.Kept.{IsKeptOrIdle}
 use Rattle.log_segment.specs.Segment.{IsFree, free_disk, free_volume}
 use Rattle.log_segment.specs.declared.free.FreeSegment.{FreeSegment}
 use Rattle.logger.specs.Lanes.{IsSameLane}
@@ -24,13 +25,14 @@ pub record IsAsBefore {D : Type 0} (state : D → State) (old new : Spun D) : Ty
   pub size : (state_of state new).size ≡ (state_of state old).size
   pub any_moment : LeavesOnly (state_of state old) (state_of state new) (IsImageOf (state_of state old).values)
 
--- a log of the volume none of whose records keeps a block
-abbrev pub HasNothing : (id : ℕ) → List Block → Type 0
-HasNothing id bs = (rs : List Record) × IsLog bs id rs × AllByRecursion (λ r. r.head.mask ≡ 0) rs
+-- a log of the volume with these records, none of which keeps a block
+pub record HasNothing (id : ℕ) (rs : List Record) (bs : List Block) : Type 0 where
+  pub log : IsLog bs id rs
+  pub nothing : AllByRecursion (λ r. r.head.mask ≡ 0) rs
 
--- an image that was one before; or a free segment, where one before was a log that has nothing
+-- an image that was one before; or, where one before was a log that has nothing, a log of the same records or a free segment
 abbrev pub IsLeftOf : (id : ℕ) → Option (List (Values Block)) → List Block → Type 0
-IsLeftOf id values c = IsImageOf values c ⊎ (IsIdle c × ((bs : List Block) × IsImageOf values bs × HasNothing id bs))
+IsLeftOf id values c = IsImageOf values c ⊎ ((bs : List Block) × (rs : List Record) × IsImageOf values bs × HasNothing id rs bs × IsKeptOrIdle id rs c)
 
 -- What became of an owned segment: it was handed on, or it was freed and given to its pool.
 pub data Fate (D : Type 0) : Type 0 where
@@ -58,10 +60,10 @@ abbrev pub IsSameOrFree : {D : Type 0} → (D → State) → OwnedPart D → Fat
 IsSameOrFree state o (Kept n) = IsSameOwned state o n
 IsSameOrFree state o (Freed f) = IsFree state f × (free_volume f ≡ volume_of o.part)
 
--- the segment before, and what became of it
+-- the segment before, and what became of it; of its images where its disk tells its content
 pub record IsFateOf {D : Type 0} (state : D → State) (id : ℕ) (o : OwnedPart D) (f : Fate D) : Type 0 where
   pub same : IsSameOrFree state o f
-  pub any_moment : LeavesOnly (state_of state o.part) (disk_then state f) (IsLeftOf id (state_of state o.part).values)
+  pub any_moment : (vs : List (Values Block)) → (state_of state o.part).values ≡ Some vs → LeavesOnly (state_of state o.part) (disk_then state f) (IsLeftOf id (state_of state o.part).values)
 
 abbrev pub AreFates : {D : Type 0} → (D → State) → (id : ℕ) → List (OwnedPart D) → List (Fate D) → Type 0
 AreFates state id os fates = AllZip (IsFateOf state id) os fates
@@ -92,11 +94,11 @@ StaysSound state o f = (shapes : List Shape) (views : List (List ℕ)) (logger :
     → (c : List Block) → IsSince (state_of state o.part) (disk_then state f) c → IsSoundSegment shapes views logger c
 
 -- what opening leaves of home and of the owned segments, whatever it answers
-pub record LeavesParts {D : Type 0} (state : D → State) (id : ℕ) (old_home new_home : Spun D) (os : List (OwnedPart D)) (fates : List (Fate D)) : Type 0 where
+pub record LeavesParts {D : Type 0} (tells : Bool) (state : D → State) (id : ℕ) (old_home new_home : Spun D) (os : List (OwnedPart D)) (fates : List (Fate D)) : Type 0 where
   pub home : IsAsBefore state old_home new_home
   pub each : AreFates state id os fates
-  pub any_moment : RecoversAsBefore state id old_home new_home os fates
-  pub sound : AllZip (StaysSound state) os fates
+  pub any_moment : IsTrue tells → RecoversAsBefore state id old_home new_home os fates
+  pub sound : IsTrue tells → AllZip (StaysSound state) os fates
 
 -- a lane, with its passes used
 pub record IsUsedLane {D : Type 0} (state : D → State) (shared : Shared D) (id most : ℕ) (old new : Lane D) : Type 0 where
@@ -104,10 +106,10 @@ pub record IsUsedLane {D : Type 0} (state : D → State) (shared : Shared D) (id
   pub same : IsSameLane old new
 
 -- what is handed back: all that was given, but segments that went to their pools
-pub record IsHandedBack {D : Type 0} (state : D → State) (shared : Shared D) (o n : Opening D) : Type 0 where
+pub record IsHandedBack {D : Type 0} (tells : Bool) (state : D → State) (shared : Shared D) (o n : Opening D) : Type 0 where
   pub same : n ≡ record o { home = n.home; spindle = n.spindle; lanes = n.lanes; owned = n.owned }
   pub spindle : IsSamePass o.spindle n.spindle
   pub lanes : AllZip (IsUsedLane state shared o.want.id o.most) o.lanes.items n.lanes.items
   pub fates : List (Fate D)
   pub owned : n.owned.items ≡ kept_of fates
-  pub parts : LeavesParts state o.want.id o.home n.home o.owned.items fates
+  pub parts : LeavesParts tells state o.want.id o.home n.home o.owned.items fates

@@ -41,4 +41,4 @@ pub record Opens {D : Type 0} (tells : Bool) (state : D → State) (shared : Sha
   pub named : IsNamesAnswer o None
   pub recoverable : IsTrue tells → IsRecoverable state o
   pub fates : List (Fate D)
-  pub parts : LeavesParts state o.want.id o.home m.home o.owned.items fates
+  pub parts : LeavesParts tells state o.want.id o.home m.home o.owned.items fates

@@ -7,6 +7,7 @@ use Rattle.spin_model.specs.Spun.{state_of}
 use Rattle.log_scan.specs.declared.Scan.{Scan}
 use Rattle.logger.specs.declared.shared.Shared.{Shared}
 use Rattle.manager_recovery.specs.Owned.{AreFirstTwins}
+use Rattle.manager_recovery.specs.Left.{IsSameOwned}
 use Rattle.manager_recovery.specs.Opening.{CanOpen}
 use Rattle.manager_recovery.specs.Refused.{IsNamesAnswer, IsRecoverable, head_at}
 use Rattle.manager_recovery.specs.Scanned.{IsScanned, IsSettledPart, AreSorted, all_found, entries_from, has_some, head_of, next_of, thinned}
@@ -42,6 +43,7 @@ pub record IsRecovered {D : Type 0} (tells : Bool) (state : D → State) (shared
   -- the segments as they were read, with their scans
   pub read : List (OwnedPart D)
   pub scans : List Scan
+  pub same : AllZip (IsSameOwned state) o.owned.items read
   pub settled_ : AllZip (IsSettledPart state) o.owned.items read
   pub scanned : AllZip (IsScanned state o.want.id o.want.home) read scans
   pub next : r.next ≡ next_of 1 scans

@@ -22,23 +22,22 @@ pub fn hold_all<D: Disk>(shared: &Shared<D>, opening: &mut Opening<D>, scans: &[
 {
     let _ = shared;
     opening.owned.reverse();
-    let mut k = 0;
-    while let Some(
-        OwnedPart {
+    for scan in scans {
+        let Some(OwnedPart {
             logger,
             index,
             first_block: _,
             part,
-        },
-    ) = opening.owned.pop()
-    {
+        }) = opening.owned.pop()
+        else {
+            unreachable!()
+        };
         let Some(place) = place_of(opening.view.ids(), logger) else {
             unreachable!()
         };
-        match adopt(part, &scans[k]) {
+        match adopt(part, scan) {
             Adopted::Held(segment) => opening.lanes[place].hold(index, segment),
             Adopted::Free(_free) => unreachable!(),
         }
-        k += 1;
     }
 }

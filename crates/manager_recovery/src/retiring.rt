@@ -117,6 +117,7 @@ fn retire_at<R: Wait, D: Disk>(
     requires empty { held_in lane.old ≡ [] }
     requires within { k < length owned.old.items }
     requires held { (o : OwnedPart D) → slice_get owned.old.items k ≡ Some o → IsHeldIn D.state o lane.old }
+    requires size { (o : OwnedPart D) → slice_get owned.old.items k ≡ Some o → (4 ≤ (state_of D.state o.part).size) × ((state_of D.state o.part).size ≤ 65536) }
     requires scanned { (o : OwnedPart D) → slice_get owned.old.items k ≡ Some o → (home : ℕ) × IsScanned D.state id home o scan.now }
     requires bare { has_some scan.now ≡ false }
     ensures same { IsSameLane lane.old lane.new }

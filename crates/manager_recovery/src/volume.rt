@@ -75,7 +75,7 @@ fn recover<R: Wait, D: Disk>(
 ) -> Result<Recovered, OpenRefusal>
     requires ready { CanOpen D.state shared.now opening.old }
     ensures ok { IfOk result (IsRecovered D.tells D.state shared.now opening.old opening.new) }
-    ensures parts { IsHandedBack D.state shared.now opening.old opening.new }
+    ensures parts { IsHandedBack D.tells D.state shared.now opening.old opening.new }
     ensures err { IfErr result (Refuses D.tells D.state opening.old opening.new) }
 {
     if let Some(refusal) = names_refusal(opening) {
@@ -103,8 +103,8 @@ fn recover<R: Wait, D: Disk>(
 
 // The manager of a volume that was read back.
 fn manager_of<D: Disk>(shared: &Shared<D>, opening: Opening<D>, recovered: Recovered) -> Manager<D>
-    requires ready { (o : Opening D) × IsRecovered D.tells D.state shared.now o opening recovered × IsHandedBack D.state shared.now o opening }
-    ensures { (o : Opening D) → IsRecovered D.tells D.state shared.now o opening recovered → IsHandedBack D.state shared.now o opening → Opens D.tells D.state shared.now o result }
+    requires ready { (o : Opening D) × IsRecovered D.tells D.state shared.now o opening recovered × IsHandedBack D.tells D.state shared.now o opening }
+    ensures { (o : Opening D) → IsRecovered D.tells D.state shared.now o opening recovered → IsHandedBack D.tells D.state shared.now o opening → Opens D.tells D.state shared.now o result }
 {
     let mut opening = opening;
     let Recovered { scans, index, next } = recovered;
@@ -137,7 +137,7 @@ pub fn open_volume<R: Wait, D: Disk>(
     requires ready { CanOpen D.state shared.now opening }
     ensures ok { IfOk result (Opens D.tells D.state shared.now opening) }
     ensures err { IfErr result (λ r. Refuses D.tells D.state opening r.1 r.0) }
-    ensures handed_back { IfErr result (λ r. IsHandedBack D.state shared.now opening r.1) }
+    ensures handed_back { IfErr result (λ r. IsHandedBack D.tells D.state shared.now opening r.1) }
 {
     let mut opening = opening;
     match recover(alloc, rt, shared, &mut opening) {

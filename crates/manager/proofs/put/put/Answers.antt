@@ -1,9 +1,9 @@
 -- Each run of the mask is written, and all are synced.
-use Rattle.std.proofs.Common.{◌≡◌, ◌+◌, ◌-◌, ◌/◌, ◌^◌, ◌<◌, ◌≤◌, ℕ, Bool, true, false, List, length, take, drop, Option, refl, sym, ap, subst, ◌∙◌, arith, rules, eqb, bit_and}
+use Rattle.std.proofs.Common.{◌≡◌, ◌+◌, ◌-◌, ◌/◌, ◌^◌, ℕ, true, false, length, take, drop, refl, sym, ap, subst, ◌∙◌, arith, rules, eqb, bit_and}
 use Rattle.std.specs.Prelude.{option_map}
 use Rattle.std.proofs.lemmas.Nat.Bits.{shr_and_one}
 use Rattle.std.proofs.lemmas.Bool.{eq-eqb, ne_eqb}
-use Rattle.wol_disk.specs.Disk.{Block, Values, AddsSomeOf, added}
+use Rattle.wol_disk.specs.Disk.{AddsSomeOf, added}
 use Rattle.spin_model.specs.Spun.{state_of}
 use Rattle.wol_model.specs.Log.{has_bit}
 use Rattle.manager.specs.Reclaim.{put_block}
@@ -25,7 +25,7 @@ returns-in_err-write g c =
     let at = c.loop-at.at in let n = c.run_from-count.result in let e : at + n - at ≡ n = omega arith in
     let mid = c.loop-at.part in let new = c.write.new.self in
     put_failed g.D.Disk.state g.met.D.Disk.sound c.args.part.now c.args.lbn c.args.mask c.args.from.now mid at n c.run_from-count.ensures.within
-    (λ i le lt. c.run_from-count.ensures.same i le lt ∙ in_mask_at c.args.mask at c.if-mask-at-eq1.true) c.loop-at.invariant.1 new c.from_residual.result (search rules) refl
+    (λ i le lt. c.run_from-count.ensures.same i le lt ∙ in_mask_at c.args.mask at c.if-mask-at-eq1.true) c.loop-at.invariant.1 new c.from_residual.result (search rules) (refl {a = true})
     (subst (λ (k : ℕ). AddsSomeOf (c.args.lbn + at) (take k (drop at c.args.from.now)) (state_of g.D.Disk.state mid).values (state_of g.D.Disk.state new).values) e c.in_err-write.ensures.err)
     c.in_err-write.ensures.passes c.in_err-write.ensures.volume
 

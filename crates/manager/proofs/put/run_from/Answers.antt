@@ -1,5 +1,5 @@
 -- A run of blocks that are all in a mask, or all outside it.
-use Rattle.std.proofs.Common.{◌≡◌, ◌⊎◌, ⊎_elim, ◌<◌, ◌≤◌, ◌/◌, ◌^◌, ℕ, sym, refl, ap, ◌∙◌, arith, eqb, bit_and}
+use Rattle.std.proofs.Common.{◌≡◌, ⊎_elim, ◌/◌, ◌^◌, ℕ, sym, ap, ◌∙◌, arith, eqb, bit_and}
 use Rattle.std.proofs.lemmas.Nat.Bits.{shr_and_one}
 use Rattle.std.proofs.lemmas.Bool.{cases_lt}
 use Rattle.wol_model.specs.Log.{has_bit}

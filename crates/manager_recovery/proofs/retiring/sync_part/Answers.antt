@@ -1,6 +1,12 @@
+use Rattle.wol_disk.proofs.Moments.{started}
+use Rattle.wol_disk.proofs.Calls.{sync_goes_on}
 use Rattle.spin_model.specs.Spun.{disk_of}
-use Rattle.manager_recovery.proofs.Readings.{synced}
 use Rattle.manager_recovery.proofs.retiring.sync_part.Goals as goal
 
 pub returns-clause-part : goal.returns-clause-part
-returns-clause-part g c = synced g.D.Disk.state c.args.part.now c.sync-synced.new.self c.sync-synced.result (g.met.D.Disk.sound (disk_of c.args.part.now)) c.sync-synced.ensures.ok c.sync-synced.ensures.err c.sync-synced.ensures.passes c.sync-synced.ensures.volume
+returns-clause-part g c =
+    let sound = g.met.D.Disk.sound in let s = c.sync-synced in record {
+      volume = s.ensures.volume;
+      size = s.ensures.passes.same_size;
+      any_moment = sync_goes_on s.result (started (sound (disk_of c.args.part.now)) (λ e is. is)) (sound (disk_of c.args.part.now)) s.ensures.ok s.ensures.err s.ensures.passes;
+    }

@@ -8,7 +8,7 @@ use Rattle.manager.specs.Causes.{PartRose}
 use Rattle.manager.specs.Stands.{nones_at}
 use Rattle.manager.proofs.Frames.{stands_kept, none_passed}
 use Rattle.manager.proofs.ReadKeeps.{stands_read, stands_broken}
-use Rattle.manager.proofs.ReadThrough.{never_some, rose_down}
+use Rattle.manager.proofs.ReadThrough.{never_some, rose_down, through_self, through_but_down}
 use Rattle.manager.proofs.ReadStops.{stops_read, stops_down}
 use Rattle.manager.proofs.manager.Manager.read.Goals as goal
 
@@ -18,6 +18,15 @@ returns-in-Some-clause-stands g c b notes n client note k =
 
 pub returns-in-Some-clause-any_moment : goal.returns-in-Some-clause-any_moment
 returns-in-Some-clause-any_moment g c told b notes k = stops_down g.D.Disk.tells g.D.Disk.state g.met.D.Disk.sound told c.args.self.now b notes k c.in-Some.part c.in-Some.is
+
+pub returns-in-Some-clause-read : goal.returns-in-Some-clause-read
+returns-in-Some-clause-read g c = through_self g.D.Disk.state g.met.D.Disk.sound c.args.self.now
+
+pub returns-in-Ok-clause-read : goal.returns-in-Ok-clause-read
+returns-in-Ok-clause-read g c = through_but_down g.D.Disk.state g.met.D.Disk.sound c.args.self.now c.read_runs.new.self c.read_runs.ensures.read
+
+pub returns-in-Err-clause-read : goal.returns-in-Err-clause-read
+returns-in-Err-clause-read g c = through_but_down g.D.Disk.state g.met.D.Disk.sound c.args.self.now c.read_runs.new.self c.read_runs.ensures.read
 
 pub returns-in-Ok-clause-stands : goal.returns-in-Ok-clause-stands
 returns-in-Ok-clause-stands g c b notes n client note k =

@@ -1,14 +1,11 @@
 -- Home is read where no record covers the blocks.
-use Rattle.std.proofs.Common.{◌≡◌, ◌≤◌, ◌^◌, ℕ, List, length, take, drop, Option, refl, sym, ap, subst, ◌∙◌}
+use Rattle.std.proofs.Common.{◌≡◌, List, length, take, drop, Option, refl, sym, subst, ◌∙◌}
 use Rattle.std.specs.Prelude.{IfSome, OnOk}
-use Rattle.std.specs.List.{AllByRecursion}
-use Rattle.turn_lock.specs.LockIds.{LockId}
-use Rattle.spin_model.specs.declared.spindle.SpindleBase.{SpindleBase}
-use Rattle.manager.specs.Stands.{IsInVolume}
 use Rattle.wol_disk.specs.Disk.{Block, Values, reads}
 use Rattle.wol_model.specs.Index.{listed_in}
 use Rattle.logger.specs.Lanes.{spindle_of}
 use Rattle.manager.specs.Seen.{look_of_manager}
+use Rattle.manager.proofs.Frames.{ready_homed}
 use Rattle.manager.proofs.ReadContent.{home_content}
 use Rattle.manager.proofs.ReadThrough.{lanes_self, counted_of, same_lane_spindle, on_ok_like}
 use Rattle.manager.proofs.RunSources.{bare_run_of, needs_one, needs_none}
@@ -46,21 +43,5 @@ returns-clause-content g c told b notes keeps =
     (let P : Option (List (Values Block)) → Type 0 = λ o. OnOk c.fetch_at-answer.result (IfSome o (λ vs. out ≡ take (length c.args.out.now) (drop c.args.lbn (reads vs)))) in subst P t.1 c.fetch_at-answer.ensures.content)
 
 pub returns-clause-ready : goal.returns-clause-ready
-returns-clause-ready g c = let e = c.fetch_at-answer.ensures in let r = c.requires.ready in let s = r.ready in record {
-  ready = record {
-    home_volume = e.volume ∙ s.home_volume;
-    home_small = subst (λ (n : ℕ). (1 ≤ n) × (n ≤ 2 ^ 32)) (sym e.size) s.home_small;
-    spindle_volume = ap (λ (l : LockId SpindleBase). l.base.volume) e.same.0 ∙ s.spindle_volume;
-    spindle_free = e.free;
-    settled = e.settled;
-    each = s.each;
-    flags = s.flags;
-    rooms_ = s.rooms_;
-    few = s.few;
-    most_ = s.most_;
-  };
-  next = r.next;
-  below = r.below;
-  ranges = subst (λ (n : ℕ). AllByRecursion (IsInVolume n) c.args.self.now.index.entries) (sym e.size) r.ranges;
-  up = r.up;
-}
+returns-clause-ready g c = let e = c.fetch_at-answer.ensures in let m = c.args.self.now in
+    ready_homed g.D.Disk.state m c.fetch_at-answer.new.part c.fetch_at-answer.new.spindle m.down e.volume e.size e.same e.free e.settled c.requires.up c.requires.ready

@@ -8,9 +8,10 @@ use Rattle.wol_model.specs.Index.{listed_in}
 use Rattle.logger.specs.Lanes.{IsAt, held_in}
 use Rattle.manager.specs.Seen.{look_of_manager}
 use Rattle.manager.specs.Stands.{IsReady, IsReadyLane}
+use Rattle.manager.proofs.Copies.{refill_set}
 use Rattle.manager.proofs.Lanes.{all_at, get_set}
 use Rattle.manager.proofs.ReadContent.{log_content}
-use Rattle.manager.proofs.ReadLog.{spotted, spotted_in, flags_set, lane_read, whole_after, counted_after, stays_after, ready_after, segment_after}
+use Rattle.manager.proofs.ReadLog.{spotted, spotted_in, lane_read, whole_after, counted_after, stays_after, ready_after, segment_after}
 use Rattle.manager.proofs.ReadThrough.{home_self, lanes_set, on_ok_like, err_like}
 use Rattle.manager.proofs.RunSources.{lane_run_of, needs_set, needs_none}
 use Rattle.manager.proofs.Woken.{woken_log, log_reads_home, log_reads_lane}
@@ -57,7 +58,7 @@ returns-clause-ready g c =
     let m = c.args.self.now in let state = g.D.Disk.state in let k = c.args.record.now.lane in let l = c.index_mut-lane.result.now in let e = c.read-answer.ensures in let l' = c.read-answer.new.self in
     let s = spotted_in state m c.requires.ready c.requires.up c.args.record.now c.args.lbn (length c.args.out.now) c.requires.some c.requires.source l c.index_mut-lane.ensures.value in
     let was = all_at (IsReadyLane state m.id m.most) m.lanes.items k l s.lane_is c.requires.ready.ready.each in
-    subst (λ (ups : List Bool). IsReady state (record m { lanes = with_item m.lanes k l'; ups = record { items = ups } })) (sym (flags_set m.ups.items c.deref_mut.result.now k true c.deref_mut.ensures.value))
+    subst (λ (ups : List Bool). IsReady state (record m { lanes = with_item m.lanes k l'; ups = record { items = ups } })) (sym (refill_set m.ups.items c.deref_mut.result.now k true c.deref_mut.ensures.value))
     (ready_after state m c.requires.ready c.requires.up k l l' (slice_set m.ups.items k true) s.lane_is e.same e.lane e.taken
     (whole_after state g.met.D.Disk.sound l l' _ _ _ _ c.read-answer.result was.lane e.lane s.whole e.same e.moved) (stays_after state g.met.D.Disk.sound l l' _ _ _ _ c.read-answer.result was.lane e.lane s.whole e.same e.moved)
     (counted_after state g.met.D.Disk.sound l l' _ _ _ _ c.read-answer.result was.lane e.lane s.whole e.same e.moved k m.index.entries ((c.requires.ready.up c.requires.up).counted k l s.lane_is)) (length-set m.ups.items k true))
@@ -83,7 +84,7 @@ returns-clause-look g c =
     let m = c.args.self.now in let k = c.args.record.now.lane in
     let s = spotted_in g.D.Disk.state m c.requires.ready c.requires.up c.args.record.now c.args.lbn (length c.args.out.now) c.requires.some c.requires.source c.index_mut-lane.result.now c.index_mut-lane.ensures.value in
     let lt = slice_get_within m.lanes.items k c.index_mut-lane.result.now s.lane_is in
-    (λ i. record { home_up = m.home_up; ups = flags_set m.ups.items c.deref_mut.result.now k true c.deref_mut.ensures.value i; next = m.next; listed = listed_in m.index.entries })
+    (λ i. record { home_up = m.home_up; ups = refill_set m.ups.items c.deref_mut.result.now k true c.deref_mut.ensures.value i; next = m.next; listed = listed_in m.index.entries })
     ∙ sym (woken_log (look_of_manager m) c.args.lbn (length c.args.out.now) k c.requires.some (omega (arith, lt, c.requires.ready.ready.flags)) (lane_run_of m.index.entries c.args.lbn (length c.args.out.now) c.args.record.now c.requires.source))
 
 pub returns-clause-needs : goal.returns-clause-needs

@@ -1,14 +1,19 @@
 -- Due blocks are put home.
-use Rattle.std.proofs.Common.{◌≡◌, ◌≤◌, ◌+◌, ◌||◌, ℕ, Bool, true, length, Option, Some, None, Ok, Err, sym, ap, subst, ◌∙◌, arith, bit_or}
-use Rattle.std.specs.Prelude.{IsTrue}
+use Rattle.std.proofs.Common.{◌≡◌, ◌+◌, ⊎_elim, ℕ, true, Some, refl, sym, ap, ◌∙◌, arith}
 use Rattle.std.proofs.lemmas.Option.{same_Some}
-use Rattle.wol_model.specs.Index.{Indexed, listed_in, is_live, is_due, is_homed}
+use Rattle.spin_model.specs.Spun.{state_of}
+use Rattle.wol_model.specs.Index.{Indexed, listed_in, is_live}
 use Rattle.wol_model.specs.Log.{has_bit}
 use Rattle.wol_model.proofs.Counts.{both, either}
-use Rattle.redirect_map.specs.Index.{entry_at, changed}
+use Rattle.wol_promise.proofs.Lists.{all_member}
+use Rattle.redirect_map.specs.Index.{entry_at}
 use Rattle.redirect_map.proofs.Bits.{has_bit-or}
-use Rattle.manager.specs.Reclaim.{IsPut, put_block, with_put}
-use Rattle.manager.proofs.Entries.{some_of, found_of, entry_of_version, among, entry_in, with_both_in}
+use Rattle.manager.specs.Reclaim.{put_block}
+use Rattle.manager.specs.Stands.{IsInVolume}
+use Rattle.manager.specs.declared.part.Part.TheVariants.{Home}
+use Rattle.manager.proofs.Entries.{some_of, found_of, entry_of_version, among, entry_in, noted_home}
+use Rattle.manager.proofs.Frames.{ready_homed}
+use Rattle.manager.proofs.PutBlocks.{put_same, put_like}
 use Rattle.manager.proofs.ReadThrough.{never_some}
 use Rattle.manager.proofs.StoreHome.{ready_put, put_keeps, put_fails, put_stops}
 use Rattle.manager.proofs.manager.Manager.store_home.Goals as goal
@@ -20,16 +25,75 @@ put_at-requires-clause-few g c =
     omega (arith, e.count, c.requires.count f.entry f.is)
 
 pub put_at-requires-clause-fits : goal.put_at-requires-clause-fits
-put_at-requires-clause-fits g c = ?
+put_at-requires-clause-fits g c =
+    let m = c.args.self.now in let f = found_of m.index.entries c.args.version c.in-Some-find.record c.in-Some-find.ensures.value in
+    let lies = (all_member (IsInVolume (state_of g.D.Disk.state m.home).size) m.index.entries f.entry c.requires.ready.ranges
+    (among (entry_of_version m.index.entries c.args.version f.entry c.in-Some-find.ensures.index.rising f.is))).lies in
+    omega (arith, lies, f.record_.first, c.requires.count f.entry f.is)
 
 pub set_homed-requires-clause-live : goal.set_homed-requires-clause-live
-set_homed-requires-clause-live g c = ?
+set_homed-requires-clause-live g c e is i set =
+    let m = c.args.self.now in let homed = c.homed-homed.result in
+    ⊎_elim
+    (λ was. some_of (λ (d : Indexed). (j : ℕ) → has_bit homed j ≡ true → is_live (listed_in m.index.entries) d.listed (d.listed.first + j) ≡ true) (entry_at m.index.entries c.args.version) e c.homed-homed.ensures.live is i was)
+    (λ now. (both (is_live (listed_in m.index.entries) e.listed (e.listed.first + i)) _ (c.requires.due e is i now)).0)
+    (either (has_bit homed i) (has_bit c.args.mask i) (sym (has_bit-or homed c.args.mask i) ∙ set))
 
 pub returns-in-Ok-clause-ready : goal.returns-in-Ok-clause-ready
-returns-in-Ok-clause-ready g c = ?
+returns-in-Ok-clause-ready g c =
+    let m = c.args.self.now in let p = c.in-Ok.ensures in let f = found_of m.index.entries c.args.version c.in-Some-find.record c.in-Some-find.ensures.value in
+    ready_put g.D.Disk.state m c.args.version c.args.mask c.put_at.new.part c.put_at.new.spindle true c.set_homed.new.self m.down p.put.volume p.put.size p.same p.free p.settled
+    (noted_home m.index.entries c.set_homed.new.self.entries c.args.version f.entry c.homed-homed.result c.args.mask c.in-Some-find.ensures.index f.is c.homed-homed.ensures.value c.set_homed.ensures.entries)
+    c.requires.ready (never_some m.down c.in_default.not-Some)
 
 pub returns-in-Ok-clause-stored : goal.returns-in-Ok-clause-stored
-returns-in-Ok-clause-stored g c = ?
+returns-in-Ok-clause-stored g c =
+    let m = c.args.self.now in let p = c.in-Ok.ensures in let f = found_of m.index.entries c.args.version c.in-Some-find.record c.in-Some-find.ensures.value in
+    record {
+      rest = refl;
+      used = p.used;
+      home = λ e is. put_like g.D.Disk.state m.home c.put_at.new.part (put_block e.listed.first c.args.mask c.args.from.now) _ _ refl
+          (put_same g.D.Disk.state m.home c.put_at.new.part (put_block c.in-Some-find.record.lbn c.args.mask c.args.from.now) (put_block e.listed.first c.args.mask c.args.from.now)
+          (ap (λ (n : ℕ). put_block n c.args.mask c.args.from.now) (f.record_.first ∙ ap (λ (d : Indexed). d.listed.first) (same_Some f.entry e (sym f.is ∙ is)))) p.put);
+      ok = noted_home m.index.entries c.set_homed.new.self.entries c.args.version f.entry c.homed-homed.result c.args.mask c.in-Some-find.ensures.index f.is c.homed-homed.ensures.value c.set_homed.ensures.entries;
+      err = tt;
+    }
 
 pub returns-in-Ok-clause-keeps : goal.returns-in-Ok-clause-keeps
-returns-in-Ok-clause-keeps g c = ?
+returns-in-Ok-clause-keeps g c b notes known keeps =
+    let m = c.args.self.now in let p = c.in-Ok.ensures in let f = found_of m.index.entries c.args.version c.in-Some-find.record c.in-Some-find.ensures.value in
+    let at = entry_of_version m.index.entries c.args.version f.entry c.in-Some-find.ensures.index.rising f.is in
+    let put = put_same g.D.Disk.state m.home c.put_at.new.part (put_block c.in-Some-find.record.lbn c.args.mask c.args.from.now) (put_block f.entry.listed.first c.args.mask c.args.from.now)
+    (ap (λ (n : ℕ). put_block n c.args.mask c.args.from.now) f.record_.first) p.put in
+    put_keeps g.D.Disk.tells g.D.Disk.state m b notes keeps (never_some m.down c.in_default.not-Some) c.args.version c.args.mask c.args.from.now f.entry at (c.requires.count f.entry f.is) (c.requires.due f.entry f.is)
+    (λ told. known told f.entry f.is) c.put_at.new.part c.put_at.new.spindle c.set_homed.new.self put.volume put.size p.same
+    (noted_home m.index.entries c.set_homed.new.self.entries c.args.version f.entry c.homed-homed.result c.args.mask c.in-Some-find.ensures.index f.is c.homed-homed.ensures.value c.set_homed.ensures.entries)
+    put.ok (returns-in-Ok-clause-ready g c)
+
+pub returns-in-Ok-clause-any_moment : goal.returns-in-Ok-clause-any_moment
+returns-in-Ok-clause-any_moment g c told was read b notes known keeps =
+    let m = c.args.self.now in let p = c.in-Ok.ensures in let f = found_of m.index.entries c.args.version c.in-Some-find.record c.in-Some-find.ensures.value in
+    let at = entry_of_version m.index.entries c.args.version f.entry c.in-Some-find.ensures.index.rising f.is in
+    let put = put_same g.D.Disk.state m.home c.put_at.new.part (put_block c.in-Some-find.record.lbn c.args.mask c.args.from.now) (put_block f.entry.listed.first c.args.mask c.args.from.now)
+    (ap (λ (n : ℕ). put_block n c.args.mask c.args.from.now) f.record_.first) p.put in
+    put_stops g.D.Disk.tells g.D.Disk.state g.met.D.Disk.sound told was m read c.requires.ready (sym read.down ∙ never_some m.down c.in_default.not-Some) b notes keeps c.args.version c.args.mask c.args.from.now f.entry at
+    (c.requires.count f.entry f.is) (c.requires.due f.entry f.is) (λ t. known t f.entry f.is) c.put_at.new.part put.any_moment
+
+pub returns-in-Err-clause-broke : goal.returns-in-Err-clause-broke
+returns-in-Err-clause-broke g c b notes n known note keeps =
+    let m = c.args.self.now in let p = c.in-Err.ensures in let f = found_of m.index.entries c.args.version c.in-Some-find.record c.in-Some-find.ensures.value in
+    let at = entry_of_version m.index.entries c.args.version f.entry c.in-Some-find.ensures.index.rising f.is in
+    let put = put_same g.D.Disk.state m.home c.put_at.new.part (put_block c.in-Some-find.record.lbn c.args.mask c.args.from.now) (put_block f.entry.listed.first c.args.mask c.args.from.now)
+    (ap (λ (n : ℕ). put_block n c.args.mask c.args.from.now) f.record_.first) p.put in
+    put_fails g.D.Disk.tells g.D.Disk.state m b notes keeps (never_some m.down c.in_default.not-Some) c.args.version c.args.mask c.args.from.now f.entry at (c.requires.count f.entry f.is) (c.requires.due f.entry f.is)
+    (λ told. known told f.entry f.is) c.put_at.new.part c.put_at.new.spindle m.index put.volume put.size p.same n note put.images put.cause
+    (ready_homed g.D.Disk.state m c.put_at.new.part c.put_at.new.spindle (Some (Home m.id)) put.volume put.size p.same p.free p.settled (never_some m.down c.in_default.not-Some) c.requires.ready)
+
+pub returns-in-Err-clause-any_moment : goal.returns-in-Err-clause-any_moment
+returns-in-Err-clause-any_moment g c told was read b notes known keeps =
+    let m = c.args.self.now in let p = c.in-Err.ensures in let f = found_of m.index.entries c.args.version c.in-Some-find.record c.in-Some-find.ensures.value in
+    let at = entry_of_version m.index.entries c.args.version f.entry c.in-Some-find.ensures.index.rising f.is in
+    let put = put_same g.D.Disk.state m.home c.put_at.new.part (put_block c.in-Some-find.record.lbn c.args.mask c.args.from.now) (put_block f.entry.listed.first c.args.mask c.args.from.now)
+    (ap (λ (n : ℕ). put_block n c.args.mask c.args.from.now) f.record_.first) p.put in
+    put_stops g.D.Disk.tells g.D.Disk.state g.met.D.Disk.sound told was m read c.requires.ready (sym read.down ∙ never_some m.down c.in_default.not-Some) b notes keeps c.args.version c.args.mask c.args.from.now f.entry at
+    (c.requires.count f.entry f.is) (c.requires.due f.entry f.is) (λ t. known t f.entry f.is) c.put_at.new.part put.any_moment

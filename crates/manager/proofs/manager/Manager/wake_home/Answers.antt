@@ -1,5 +1,7 @@
 use Rattle.std.proofs.Common.{true, [], refl, ◌∙◌, rules}
 use Rattle.manager.proofs.Frames.{reframed, stands_kept, none_passed}
+use Rattle.manager.proofs.ReadThrough.{home_self, lanes_self}
+use Rattle.manager.proofs.Refused.{stops_at_rest}
 use Rattle.manager.specs.Stands.{nones_at}
 use Rattle.manager.proofs.manager.Manager.wake_home.Goals as goal
 
@@ -8,3 +10,19 @@ returns-clause-stands g c pass b notes n is note k =
     let m = c.args.self.now in let first = c.take_token-token.ensures.same in let then_ = c.give_token.ensures.same in
     stands_kept g.D.Disk.tells g.D.Disk.state _ b notes n [] note (none_passed (nones_at m.lanes.items b.lanes) notes n note.passed_is k.passed)
     (reframed g.D.Disk.tells g.D.Disk.state m b notes true m.ups.items m.rooms.items c.give_token.new.pass m.index refl (then_.0 ∙ first.0, then_.1 ∙ first.1) refl (search rules) k)
+
+pub returns-clause-any_moment : goal.returns-clause-any_moment
+returns-clause-any_moment g c told b notes k = stops_at_rest g.D.Disk.tells g.D.Disk.state g.met.D.Disk.sound told c.args.self.now b notes k
+
+pub returns-clause-read : goal.returns-clause-read
+returns-clause-read g c =
+    let m = c.args.self.now in let first = c.take_token-token.ensures.same in let then_ = c.give_token.ensures.same in record {
+      same = record { id = refl; most = refl };
+      home = home_self g.D.Disk.state g.met.D.Disk.sound m.home;
+      spindle = (then_.0 ∙ first.0, then_.1 ∙ first.1);
+      lanes = lanes_self g.D.Disk.state g.met.D.Disk.sound m.lanes.items;
+      index = refl;
+      next = refl;
+      rooms = refl;
+      down = refl;
+    }

@@ -1,0 +1,110 @@
+-- A record is read where the index has it.
+use Rattle.std.proofs.Common.{◌≡◌, Bool, true, List, length, refl, sym, ap, subst, ◌∙◌, arith}
+use Rattle.std.specs.Prelude.{slice_get, slice_set}
+use Rattle.std.specs.Vec.{with_item}
+use Rattle.std.proofs.Math.ListN.{length-set}
+use Rattle.std.proofs.lemmas.Option.{slice_get_within, same_Some}
+use Rattle.logger.specs.Lanes.{IsAt, held_in}
+use Rattle.wol_promise.specs.Stands.{IsDataOf}
+use Rattle.manager.specs.Stands.{IsReady, IsReadyLane}
+use Rattle.manager.proofs.Copies.{refill_set}
+use Rattle.manager.proofs.Entries.{found_of}
+use Rattle.manager.proofs.FetchRec.{spot_of, spot_in, data_blocks}
+use Rattle.manager.proofs.Lanes.{all_at, get_set}
+use Rattle.manager.proofs.ReadLog.{lane_read, whole_after, counted_after, stays_after, ready_after}
+use Rattle.manager.proofs.ReadThrough.{home_self, lanes_set, on_ok_like, err_like}
+use Rattle.manager.proofs.manager.Manager.read_record.Goals as goal
+
+pub bounds-deref_mut-place : goal.bounds-deref_mut-place
+bounds-deref_mut-place g c =
+    let m = c.args.self.now in let r = c.args.record.now in
+    let s = spot_of g.D.Disk.state m c.requires.ready c.requires.up r.version r c.requires.index (found_of m.index.entries r.version r c.requires.there) in
+    let lt = slice_get_within m.lanes.items r.lane s.0 s.1.lane_is in
+    let e = ap length c.deref_mut.ensures.value in
+    omega (arith, lt, e, c.requires.ready.ready.flags)
+
+pub index_mut-lane-requires : goal.index_mut-lane-requires
+index_mut-lane-requires g c =
+    let m = c.args.self.now in let r = c.args.record.now in
+    let s = spot_of g.D.Disk.state m c.requires.ready c.requires.up r.version r c.requires.index (found_of m.index.entries r.version r c.requires.there) in
+    let lt = slice_get_within m.lanes.items r.lane s.0 s.1.lane_is in
+    omega (arith, lt, m.lanes.ok.0)
+
+pub read-answer-requires-clause-lane : goal.read-answer-requires-clause-lane
+read-answer-requires-clause-lane g c =
+    let m = c.args.self.now in let r = c.args.record.now in let l = c.index_mut-lane.result.now in
+    let s = spot_in g.D.Disk.state m c.requires.ready c.requires.up r.version r c.requires.index (found_of m.index.entries r.version r c.requires.there) l c.index_mut-lane.ensures.value in
+    (all_at (IsReadyLane g.D.Disk.state m.id m.most) m.lanes.items r.lane l s.lane_is c.requires.ready.ready.each).lane
+
+pub read-answer-requires-clause-at : goal.read-answer-requires-clause-at
+read-answer-requires-clause-at g c =
+    let m = c.args.self.now in let r = c.args.record.now in let l = c.index_mut-lane.result.now in
+    let s = spot_in g.D.Disk.state m c.requires.ready c.requires.up r.version r c.requires.index (found_of m.index.entries r.version r c.requires.there) l c.index_mut-lane.ensures.value in
+    all_at (IsAt c.args.shared.now) m.lanes.items r.lane l s.lane_is c.requires.at.lanes_
+
+pub read-answer-requires-clause-spot : goal.read-answer-requires-clause-spot
+read-answer-requires-clause-spot g c =
+    let m = c.args.self.now in let r = c.args.record.now in let l = c.index_mut-lane.result.now in
+    let s = spot_in g.D.Disk.state m c.requires.ready c.requires.up r.version r c.requires.index (found_of m.index.entries r.version r c.requires.there) l c.index_mut-lane.ensures.value in
+    record { place = s.place; segment = s.segment; there = s.there; named = s.index; whole = s.segment_whole; fits = let f = s.fits in let n = c.requires.count in omega arith }
+
+pub returns-clause-ready : goal.returns-clause-ready
+returns-clause-ready g c =
+    let m = c.args.self.now in let state = g.D.Disk.state in let r = c.args.record.now in let k = r.lane in let l = c.index_mut-lane.result.now in let e = c.read-answer.ensures in let l' = c.read-answer.new.self in
+    let s = spot_in state m c.requires.ready c.requires.up r.version r c.requires.index (found_of m.index.entries r.version r c.requires.there) l c.index_mut-lane.ensures.value in
+    let was = all_at (IsReadyLane state m.id m.most) m.lanes.items k l s.lane_is c.requires.ready.ready.each in
+    subst (λ (ups : List Bool). IsReady state (record m { lanes = with_item m.lanes k l'; ups = record { items = ups } })) (sym (refill_set m.ups.items c.deref_mut.result.now k true c.deref_mut.ensures.value))
+    (ready_after state m c.requires.ready c.requires.up k l l' (slice_set m.ups.items k true) s.lane_is e.same e.lane e.taken
+    (whole_after state g.met.D.Disk.sound l l' _ _ _ _ c.read-answer.result was.lane e.lane s.whole e.same e.moved) (stays_after state g.met.D.Disk.sound l l' _ _ _ _ c.read-answer.result was.lane e.lane s.whole e.same e.moved)
+    (counted_after state g.met.D.Disk.sound l l' _ _ _ _ c.read-answer.result was.lane e.lane s.whole e.same e.moved k m.index.entries ((c.requires.ready.up c.requires.up).counted k l s.lane_is)) (length-set m.ups.items k true))
+
+pub returns-clause-read : goal.returns-clause-read
+returns-clause-read g c =
+    let m = c.args.self.now in let state = g.D.Disk.state in let r = c.args.record.now in let k = r.lane in let l = c.index_mut-lane.result.now in let e = c.read-answer.ensures in let l' = c.read-answer.new.self in
+    let s = spot_in state m c.requires.ready c.requires.up r.version r c.requires.index (found_of m.index.entries r.version r c.requires.there) l c.index_mut-lane.ensures.value in
+    let was = all_at (IsReadyLane state m.id m.most) m.lanes.items k l s.lane_is c.requires.ready.ready.each in
+    record {
+      same = record { id = refl; most = refl };
+      home = home_self state g.met.D.Disk.sound m.home;
+      spindle = (refl, refl);
+      lanes = lanes_set state g.met.D.Disk.sound m.lanes.items k l l' s.lane_is (lane_read state g.met.D.Disk.sound l l' _ _ _ _ c.read-answer.result was.lane e.lane s.whole e.same e.moved e.taken e.pool);
+      index = refl;
+      next = refl;
+      rooms = refl;
+      down = refl;
+    }
+
+pub returns-clause-fetched : goal.returns-clause-fetched
+returns-clause-fetched g c =
+    let m = c.args.self.now in let r = c.args.record.now in let k = r.lane in let l = c.index_mut-lane.result.now in let e = c.read-answer.ensures in let l' = c.read-answer.new.self in
+    let s = spot_in g.D.Disk.state m c.requires.ready c.requires.up r.version r c.requires.index (found_of m.index.entries r.version r c.requires.there) l c.index_mut-lane.ensures.value in
+    record {
+      rest = λ i. record m { lanes = with_item m.lanes k l'; ups = record { items = refill_set m.ups.items c.deref_mut.result.now k true c.deref_mut.ensures.value i } };
+      lanes = record { before = l; after = l'; there = s.lane_is; set = refl; change = record { same = e.same; used = e.used; pool = e.pool } };
+    }
+
+pub returns-clause-content : goal.returns-clause-content
+returns-clause-content g c b notes keeps =
+    let m = c.args.self.now in let state = g.D.Disk.state in let r = c.args.record.now in let l = c.index_mut-lane.result.now in let l' = c.read-answer.new.self in let moved = c.read-answer.ensures.moved in
+    let f = found_of m.index.entries r.version r c.requires.there in
+    let s = spot_in state m c.requires.ready c.requires.up r.version r c.requires.index f l c.index_mut-lane.ensures.value in
+    data_blocks state m c.requires.ready c.requires.up r.version r c.requires.index f g.D.Disk.tells b notes keeps c.args.out.now c.read-answer.new.out c.requires.count l l' c.read-answer.result c.at_part.result c.at_part.ensures.like s moved
+
+pub returns-clause-cause : goal.returns-clause-cause
+returns-clause-cause g c =
+    let m = c.args.self.now in let state = g.D.Disk.state in let r = c.args.record.now in let k = r.lane in let l = c.index_mut-lane.result.now in let l' = c.read-answer.new.self in let moved = c.read-answer.ensures.moved in
+    let s = spot_in state m c.requires.ready c.requires.up r.version r c.requires.index (found_of m.index.entries r.version r c.requires.there) l c.index_mut-lane.ensures.value in
+    err_like _ c.read-answer.result c.at_part.result c.at_part.ensures.like c.at_part.ensures.part moved.cause (λ rose. record {
+      lane = k;
+      place = moved.place;
+      old_lane = l;
+      new_lane = l';
+      old_segment = moved.old_segment;
+      new_segment = moved.new_segment;
+      was_lane = s.lane_is;
+      is_lane = get_set m.lanes.items k l l' s.lane_is;
+      was_there = moved.there;
+      is_there = ap (λ hs. slice_get hs moved.place) moved.held ∙ get_set (held_in l) moved.place moved.old_segment moved.new_segment moved.there;
+      named = (c.logger.ensures, sym moved.named);
+      rose = rose;
+    })
