@@ -38,7 +38,7 @@ lane_below view logger named = at (position (λ id. eqb id logger) view) refl na
 
 -- ---- Ranges
 
-heads_inside : {D : Type 0} (state : D → State) (id home : ℕ) (o : OwnedPart D) (s : Scan) → IsScanned state id home o s → AllByRecursion (IsInside (state_of state o.part).size id) s.records.items
+pub heads_inside : {D : Type 0} (state : D → State) (id home : ℕ) (o : OwnedPart D) (s : Scan) → IsScanned state id home o s → AllByRecursion (IsInside (state_of state o.part).size id) s.records.items
 heads_inside state id home o s scanned =
     let P : Option ℕ → Type 0 = λ v. MatchOption v (s.records.items ≡ []) (λ owner. AllByRecursion (IsInside (state_of state o.part).size owner) s.records.items) in
     subst P scanned.owner scanned.shape.heads

@@ -13,3 +13,7 @@ pub mod Readings
 pub mod Retired
 pub mod SegmentFaults
 pub mod Thinning
+pub mod Leaves
+pub mod HeadsFound
+pub mod Recovering
+pub mod BackRead
