@@ -1,3 +1,4 @@
+pub mod ByLogger
 pub mod Filled
 pub mod FirstTwo
 pub mod FoundMore

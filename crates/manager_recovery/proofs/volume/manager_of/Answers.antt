@@ -1,0 +1,5 @@
+use Rattle.manager_recovery.proofs.ByLogger.{total_less, one_only, rising_counts, apart_once}
+use Rattle.manager_recovery.proofs.volume.manager_of.Goals as goal
+
+pub hold_all-requires-clause-scanned : goal.hold_all-requires-clause-scanned
+hold_all-requires-clause-scanned g c = ?
