@@ -10,5 +10,7 @@ pub mod Outside
 pub mod Places
 pub mod Readings
 pub mod Retired
+pub mod SameNewest
 pub mod SegmentFaults
 pub mod Thinning
+pub mod ToldParts
