@@ -12,5 +12,6 @@ pub mod Readings
 pub mod Retired
 pub mod SameNewest
 pub mod SegmentFaults
+pub mod Segs
 pub mod Thinning
 pub mod ToldParts
