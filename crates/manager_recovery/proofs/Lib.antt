@@ -6,6 +6,7 @@ pub mod Fronts
 pub mod Held
 pub mod Indexing
 pub mod Lists
+pub mod OpenedIndex
 pub mod Outside
 pub mod Places
 pub mod Readings
