@@ -40,7 +40,7 @@ module _ {X : Type 0} where
       by more false e zero is at = absurd (omega (arith, at))
       by more false e (suc k) is at = more k x is (omega (arith, at))
 
-  get_below : (xs : List X) (k : ℕ) → k < length xs → (x : X) × (slice_get xs k ≡ Some x)
+  pub get_below : (xs : List X) (k : ℕ) → k < length xs → (x : X) × (slice_get xs k ≡ Some x)
   get_below [] k lt = absurd (omega arith)
   get_below (x ∷ xs) zero lt = (x, refl)
   get_below (x ∷ xs) (suc k) lt = get_below xs k (omega arith)

@@ -108,6 +108,8 @@ fn manager_of<D: Disk>(shared: &Shared<D>, opening: Opening<D>, recovered: Recov
     ensures { (o : Opening D) → IsRecovered D.tells D.state shared.now o opening recovered → IsHandedBack D.tells D.state shared.now o opening → Opens D.tells D.state shared.now o result }
 {
     let mut opening = opening;
+    // a view names at most sixteen loggers, none of them twice
+    let _few = opening.view.len();
     let Recovered { scans, index, next } = recovered;
     hold_all(shared, &mut opening, &scans);
     let Opening {
