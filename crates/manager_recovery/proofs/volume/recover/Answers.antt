@@ -22,11 +22,11 @@ use Rattle.manager_recovery.proofs.volume.recover.Goals as goal
 pub returns-in-Some-clause-parts : goal.returns-in-Some-clause-parts
 returns-in-Some-clause-parts g c =
     let o = c.args.opening.now in
-    handed_early g.D.Disk.tells g.D.Disk.state g.met.D.Disk.sound g.met.D.Disk.told c.args.shared.now o o (at_start g.D.Disk.tells g.D.Disk.state g.met.D.Disk.sound c.args.shared.now o c.requires.ready).parts
+    handed_early g.D.Disk.tells g.D.Disk.state g.met.D.Disk.sound g.met.D.Disk.told c.args.shared.now o o c.requires.ready (at_start g.D.Disk.tells g.D.Disk.state g.met.D.Disk.sound c.args.shared.now o c.requires.ready).parts
 
 pub returns-in-Err-clause-parts : goal.returns-in-Err-clause-parts
 returns-in-Err-clause-parts g c =
-    handed_early g.D.Disk.tells g.D.Disk.state g.met.D.Disk.sound g.met.D.Disk.told c.args.shared.now c.args.opening.now c.scan_all.new.opening c.scan_all.ensures.parts
+    handed_early g.D.Disk.tells g.D.Disk.state g.met.D.Disk.sound g.met.D.Disk.told c.args.shared.now c.args.opening.now c.scan_all.new.opening c.requires.ready c.scan_all.ensures.parts
 
 pub next_version-next-requires : goal.next_version-next-requires
 next_version-next-requires g c =
@@ -43,7 +43,7 @@ index_of-requires-clause-fits g c =
 
 pub returns-in-Err-index_of-clause-parts : goal.returns-in-Err-index_of-clause-parts
 returns-in-Err-index_of-clause-parts g c =
-    handed_early g.D.Disk.tells g.D.Disk.state g.met.D.Disk.sound g.met.D.Disk.told c.args.shared.now c.args.opening.now c.scan_all.new.opening c.scan_all.ensures.parts
+    handed_early g.D.Disk.tells g.D.Disk.state g.met.D.Disk.sound g.met.D.Disk.told c.args.shared.now c.args.opening.now c.scan_all.new.opening c.requires.ready c.scan_all.ensures.parts
 
 pub returns-in-Err-index_of-clause-err : goal.returns-in-Err-index_of-clause-err
 returns-in-Err-index_of-clause-err g c =
@@ -52,7 +52,7 @@ returns-in-Err-index_of-clause-err g c =
 
 pub returns-in_default-synced-clause-parts : goal.returns-in_default-synced-clause-parts
 returns-in_default-synced-clause-parts g c =
-    handed_read g.D.Disk.tells g.D.Disk.state g.met.D.Disk.sound g.met.D.Disk.told c.args.shared.now c.args.opening.now c.scan_all.new.opening c.sync_part-synced.new.part c.sync_part-synced.new.spindle c.scan_all.ensures.parts c.sync_part-synced.ensures.part c.sync_part-synced.ensures.same
+    handed_read g.D.Disk.tells g.D.Disk.state g.met.D.Disk.sound g.met.D.Disk.told c.args.shared.now c.args.opening.now c.scan_all.new.opening c.sync_part-synced.new.part c.sync_part-synced.new.spindle c.scan_all.ensures.parts c.sync_part-synced.ensures.part c.sync_part-synced.ensures.same c.sync_part-synced.ensures.free c.sync_part-synced.ensures.settled
 
 pub returns-in_default-synced-clause-err : goal.returns-in_default-synced-clause-err
 returns-in_default-synced-clause-err g c =
@@ -80,12 +80,12 @@ returns-in-Ok-retire_bare-clause-ok g c =
 pub returns-in-Ok-retire_bare-clause-parts : goal.returns-in-Ok-retire_bare-clause-parts
 returns-in-Ok-retire_bare-clause-parts g c =
     handed_thinned g.D.Disk.tells g.D.Disk.state g.met.D.Disk.sound g.met.D.Disk.told c.args.shared.now c.args.opening.now c.scan_all.new.opening c.retire_bare.new.opening c.sync_part-synced.new.part c.sync_part-synced.new.spindle
-        c.scan_all.ensures.parts c.in-Ok.ensures.ok.settled_ c.sync_part-synced.ensures.part c.sync_part-synced.ensures.same c.retire_bare.ensures.parts
+        c.scan_all.ensures.parts c.in-Ok.ensures.ok.settled_ c.sync_part-synced.ensures.part c.sync_part-synced.ensures.same c.sync_part-synced.ensures.free c.sync_part-synced.ensures.settled c.retire_bare.ensures.parts
 
 pub returns-in-Err-retire_bare-clause-parts : goal.returns-in-Err-retire_bare-clause-parts
 returns-in-Err-retire_bare-clause-parts g c =
     handed_thinned g.D.Disk.tells g.D.Disk.state g.met.D.Disk.sound g.met.D.Disk.told c.args.shared.now c.args.opening.now c.scan_all.new.opening c.retire_bare.new.opening c.sync_part-synced.new.part c.sync_part-synced.new.spindle
-        c.scan_all.ensures.parts c.in-Ok.ensures.ok.settled_ c.sync_part-synced.ensures.part c.sync_part-synced.ensures.same c.retire_bare.ensures.parts
+        c.scan_all.ensures.parts c.in-Ok.ensures.ok.settled_ c.sync_part-synced.ensures.part c.sync_part-synced.ensures.same c.sync_part-synced.ensures.free c.sync_part-synced.ensures.settled c.retire_bare.ensures.parts
 
 pub returns-in-Err-retire_bare-clause-err : goal.returns-in-Err-retire_bare-clause-err
 returns-in-Err-retire_bare-clause-err g c =
