@@ -55,11 +55,14 @@ module _ {D : Type 0} (tells : Bool) (state : D → State) (told : IsTrue tells 
   index_refuses named m (LoggerMissing id) why = absurd why
   index_refuses named m (OutsideView logger segment) why = absurd why
   index_refuses named m (Damaged volume block) why = absurd why
-  index_refuses named m (Twins first_volume first second_volume second) why = (named, λ t. record {
-    intact = all.intact t;
-    version = why.0;
-    twins = subst (λ (hs : List Head). AreFirstTwins hs (head_at why.0 first_volume first) (head_at why.0 second_volume second)) (heads_are t) why.1;
-  })
+  index_refuses named m (Twins first_volume first second_volume second) why = (
+    named,
+    λ t. record {
+      intact = all.intact t;
+      version = why.0;
+      twins = subst (λ (hs : List Head). AreFirstTwins hs (head_at why.0 first_volume first) (head_at why.0 second_volume second)) (heads_are t) why.1;
+    },
+  )
   index_refuses named m (DiskFault part) why = absurd why
   index_refuses named m NoMemory why = named
 

@@ -61,16 +61,22 @@ module _ {D : Type 0} (state : D → State) (o : OwnedPart D) (lane : ℕ) where
     where
       first : (q : Record) × (slice_get (r ∷ rs) 0 ≡ Some q) × (f.pos ≡ pos + length (flat_map written (take 0 (r ∷ rs)))) × (record_head f.head ≡ q.head)
       first = found.each zero f refl
+
       its : record_head f.head ≡ r.head
       its = first.3 ∙ ap (λ (q : Record). q.head) (sym (same_Some r first.0 first.1))
+
       mask : f.head.keep ≡ r.head.mask
       mask = ap (λ (h : RecordHead). h.mask) its
+
       rest : List Head
       rest = heads_from (owned_of state o) (pos + 1 + length r.blocks) rs
+
       here : f.pos ≡ pos
       here = let e : f.pos ≡ pos + length (flat_map written (take 0 (r ∷ rs))) = first.2 in omega arith
+
       head : head_of (record_in lane o f) ≡ record { version = r.head.version; volume = o.logger; block = o.first_block + pos }
       head = λ i. record { version = (its i).version; volume = o.logger; block = o.first_block + here i }
+
       behind : FoundFrom rs fs (pos + 1 + length r.blocks)
       behind = record {
         each = λ k g is.
@@ -79,6 +85,7 @@ module _ {D : Type 0} (state : D → State) (o : OwnedPart D) (lane : ℕ) where
             (w.0, w.1, omega (arith, w.2, long), w.3);
         all = let e : suc (length fs) ≡ suc (length rs) = found.all in omega arith;
       }
+
       at : map head_of (map (record_in lane o) (filter keeps_some fs)) ≡ rest → (b : Bool)
           → map head_of (map (record_in lane o) (cond (not b) (f ∷ filter keeps_some fs) (filter keeps_some fs))) ≡ cond b rest (head_of (record_in lane o f) ∷ rest)
       at same true = same

@@ -66,13 +66,17 @@ module _ {D : Type 0} (state : D → State) (id : ℕ) where
     where
       same : IsImageOf (state_of state o.part).values c → Earlier (o ∷ os) (c ∷ cs)
       same image = (c ∷ rest.0, (image, rest.1), λ b. same_front (extents_in id c) (extents_of id cs) (extents_of id rest.0) b (rest.2 b))
+
       gone : ((bs : List Block) × (rs : List Record) × IsImageOf (state_of state o.part).values bs × HasNothing id rs bs × (IsLog c id rs ⊎ IsIdle c)) → Earlier (o ∷ os) (c ∷ cs)
       gone w =
           let bare : AllByRecursion CoversNothing (map extent_of w.1) = all_bare w.1 w.3.nothing in
           let before : AllByRecursion CoversNothing (extents_in id w.0) = subst (AllByRecursion CoversNothing) (sym (kept id w.0 w.1 w.3.log)) bare in
-          let now : AllByRecursion CoversNothing (extents_in id c) = ⊎_elim (λ l. subst (AllByRecursion CoversNothing) (sym (kept id c w.1 l)) bare) (λ free. subst (AllByRecursion CoversNothing) (sym (idle_none id c free)) tt) w.4 in
-          (w.0 ∷ rest.0, (w.2, rest.1), λ b.
-            nothing_front (extents_in id c) (extents_of id cs) b now ∙ rest.2 b ∙ sym (nothing_front (extents_in id w.0) (extents_of id rest.0) b before))
+          let now : AllByRecursion CoversNothing (extents_in id c) = ⊎_elim (λ l. subst (AllByRecursion CoversNothing) (sym (kept id c w.1 l)) bare) (λ free. subst (AllByRecursion CoversNothing) (sym (idle_none id c free)) tt) w.4 in (
+            w.0 ∷ rest.0,
+            (w.2, rest.1),
+            λ b.
+                nothing_front (extents_in id c) (extents_of id cs) b now ∙ rest.2 b ∙ sym (nothing_front (extents_in id w.0) (extents_of id rest.0) b before),
+          )
 
   images_back : (told : (o : OwnedPart D) → TellsContent (state_of state o.part)) (os : List (OwnedPart D)) (fates : List (Fate D)) (cs : List (List Block)) → AreFates state id os fates → AreSince state os fates cs → Earlier os cs
   images_back told [] [] [] each since = ([], tt, λ b. refl)
@@ -96,15 +100,15 @@ module _ {D : Type 0} (state : D → State) (id : ℕ) where
   sound_now shapes views logger rs bs c was is (log owner s ids qs shape view names its within) =
       let same = one_log bs owner id qs rs its was in
       log id s ids rs (subst (λ (v : ℕ). slice_get shapes v ≡ Some s) same.0 shape) (subst (λ (v : ℕ). slice_get views v ≡ Some ids) same.0 view) names is
-          (subst (AllByRecursion (λ (r : Record). r.head.first + r.head.count ≤ s.home)) same.1 within)
+      (subst (AllByRecursion (λ (r : Record). r.head.first + r.head.count ≤ s.home)) same.1 within)
 
   stays_sound : (told : (o : OwnedPart D) → TellsContent (state_of state o.part)) (o : OwnedPart D) (f : Fate D) → IsFateOf state id o f → StaysSound state o f
   stays_sound told o f fate shapes views logger were c since =
       let t = told o in
       ⊎_elim (λ image. were c image)
-          (λ (w : (bs : List Block) × (rs : List Record) × IsImageOf (state_of state o.part).values bs × HasNothing id rs bs × (IsLog c id rs ⊎ IsIdle c)).
-            ⊎_elim (λ l. sound_now shapes views logger w.1 w.0 c w.3.log l (were w.0 w.2)) (λ free. idle free) w.4)
-          ((fate.any_moment t.0 t.1).each c since)
+      (λ (w : (bs : List Block) × (rs : List Record) × IsImageOf (state_of state o.part).values bs × HasNothing id rs bs × (IsLog c id rs ⊎ IsIdle c)).
+      ⊎_elim (λ l. sound_now shapes views logger w.1 w.0 c w.3.log l (were w.0 w.2)) (λ free. idle free) w.4)
+      ((fate.any_moment t.0 t.1).each c since)
 
   all_sound : (told : (o : OwnedPart D) → TellsContent (state_of state o.part)) (os : List (OwnedPart D)) (fates : List (Fate D)) → AreFates state id os fates → AllZip (StaysSound state) os fates
   all_sound told [] [] each = tt

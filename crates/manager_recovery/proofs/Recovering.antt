@@ -69,7 +69,7 @@ module _ {D : Type 0} (tells : Bool) (state : D → State) (sound : (d : D) → 
   handed_early o n can parts =
       let spindle_is : o.spindle ≡ n.spindle = sym (ap (λ (x : Opening D). x.spindle) parts.same) in
       handed_read o n n.home n.spindle parts (as_before n.home) (refl, refl)
-          (subst (λ (s : PassOf Spindle SpindleBase). IsFree s) spindle_is can.spindle_free) (subst (λ (s : PassOf Spindle SpindleBase). has_token (pass_mine s) ≡ false) spindle_is can.settled)
+      (subst (λ (s : PassOf Spindle SpindleBase). IsFree s) spindle_is can.spindle_free) (subst (λ (s : PassOf Spindle SpindleBase). has_token (pass_mine s) ≡ false) spindle_is can.settled)
 
   -- ---- Segments that have nothing were freed
 
@@ -84,9 +84,11 @@ module _ {D : Type 0} (tells : Bool) (state : D → State) (sound : (d : D) → 
     where
       image_back : (c : List Block) → IsImageOf (state_of state n.part).values c → IsImageOf (state_of state o.part).values c
       image_back c is = now_leaves seen.any_moment (sound (disk_of n.part)) c is
+
       left_back : (c : List Block) → IsLeftOf id (state_of state n.part).values c → IsLeftOf id (state_of state o.part).values c
       left_back c left = ⊎_elim (λ image. inl (image_back c image))
           (λ (w : (bs : List Block) × (rs : List Record) × IsImageOf (state_of state n.part).values bs × HasNothing id rs bs × IsKeptOrIdle id rs c). inr (w.0, w.1, image_back w.0 w.2, w.3, w.4)) left
+
       same : (f : Fate D) → IsSameOrFree state n f → IsSameOrFree state o f
       same (Kept m) is = (is.0 ∙ (λ i. record (seen.same.0 i) { part = m.part }), is.1 ∙ seen.same.1, is.2 ∙ seen.same.2)
       same (Freed g) is = (is.0, is.1 ∙ seen.same.1)

@@ -43,6 +43,7 @@ outside_after {D} state view (o ∷ os) (n ∷ ns) zip none =
   where
     logger : n.logger ≡ o.logger
     logger = ap (λ (x : OwnedPart D). x.logger) zip.0.same.0
+
     at : (first_outside view os ≡ None → first_outside view ns ≡ None) → (b : Bool) → cond (not b) (Some o) (first_outside view os) ≡ None → cond (not b) (Some n) (first_outside view ns) ≡ None
     at rest true e = rest e
     at rest false e = absurd (none-some o (sym e))
@@ -106,7 +107,7 @@ module _ {D : Type 0} (tells : Bool) (state : D → State) (sound : (d : D) → 
     pub one_more : (s : Scan) → res ≡ Ok s → IsUpTo tells state shared o m (k + 1) (scans ++ s ∷ [])
     one_more s is =
         let ok : CanOpen state shared m × IsScanned state n.want.id n.want.home at.after s × IsSettledPart state at.before at.after × (IsTrue tells → IsIntact n.want.id n.want.home (owned_of state at.before)) =
-            subst (λ (r : Result Scan OpenRefusal). IfOk r (λ x. CanOpen state shared m × IsScanned state n.want.id n.want.home at.after x × IsSettledPart state at.before at.after × (IsTrue tells → IsIntact n.want.id n.want.home (owned_of state at.before)))) is at.ok in
+        subst (λ (r : Result Scan OpenRefusal). IfOk r (λ x. CanOpen state shared m × IsScanned state n.want.id n.want.home at.after x × IsSettledPart state at.before at.after × (IsTrue tells → IsIntact n.want.id n.want.home (owned_of state at.before)))) is at.ok in
         let scanned : IsScanned state o.want.id o.want.home at.after s = subst (λ (w : Label). IsScanned state w.id w.home at.after s) want ok.1 in
         let front : take (k + 1) m.owned.items ≡ take k n.owned.items ++ at.after ∷ [] = ap (take (k + 1)) at.set ∙ take_set n.owned.items k at.after at.before at.there in
         record {
@@ -129,29 +130,35 @@ module _ {D : Type 0} (tells : Bool) (state : D → State) (sound : (d : D) → 
     refuses_at named LabelDiffers why = absurd why
     refuses_at named (LoggerMissing id) why = absurd why
     refuses_at named (OutsideView logger segment) why = absurd why
-    refuses_at named (Damaged volume block) why = (named, λ t.
-        let w = why t in
-        record {
-          before = take k (all_owned state o.owned.items);
-          segment = owned_of state at.before;
-          after = drop (k + 1) (all_owned state o.owned.items);
-          split = sym (take-append-drop k (all_owned state o.owned.items)) ∙ (λ i. take k (all_owned state o.owned.items) ++ drop_here (all_owned state o.owned.items) k (owned_of state at.before) owned_here i);
-          intact = sofar.intact t;
-          where_ = w.0;
-          fault = w.1;
-        })
+    refuses_at named (Damaged volume block) why = (
+      named,
+      λ t.
+          let w = why t in
+          record {
+            before = take k (all_owned state o.owned.items);
+            segment = owned_of state at.before;
+            after = drop (k + 1) (all_owned state o.owned.items);
+            split = sym (take-append-drop k (all_owned state o.owned.items)) ∙ (λ i. take k (all_owned state o.owned.items) ++ drop_here (all_owned state o.owned.items) k (owned_of state at.before) owned_here i);
+            intact = sofar.intact t;
+            where_ = w.0;
+            fault = w.1;
+          },
+    )
     refuses_at named (Twins first_volume first second_volume second) why = absurd why
     refuses_at named (DiskFault (part.Home volume)) why = absurd why
-    refuses_at named (DiskFault (part.Segment volume index)) why = (named, record {
-      k = k;
-      before = at.before;
-      after = at.after;
-      was_there = here;
-      is_there = there_now;
-      named = (why.0, why.1, why.0 ∙ sym (ap (λ (x : OwnedPart D). x.logger) at.seen.same.0), why.1 ∙ sym (ap (λ (x : OwnedPart D). x.index) at.seen.same.0));
-      rose = why.2;
-      intact = sofar.intact;
-    })
+    refuses_at named (DiskFault (part.Segment volume index)) why = (
+      named,
+      record {
+        k = k;
+        before = at.before;
+        after = at.after;
+        was_there = here;
+        is_there = there_now;
+        named = (why.0, why.1, why.0 ∙ sym (ap (λ (x : OwnedPart D). x.logger) at.seen.same.0), why.1 ∙ sym (ap (λ (x : OwnedPart D). x.index) at.seen.same.0));
+        rose = why.2;
+        intact = sofar.intact;
+      },
+    )
     refuses_at named NoMemory why = named
 
     pub refused_here : (named : IsNamesAnswer o None) (r : OpenRefusal) → res ≡ Err r → Refuses tells state o m r

@@ -22,12 +22,12 @@ returns-in-Err-clause-parts g c =
 pub returns-in-Err-clause-err : goal.returns-in-Err-clause-err
 returns-in-Err-clause-err g c =
     refused_here g.D.Disk.tells g.D.Disk.state g.met.D.Disk.sound c.args.shared.now c.args.opening.now c.loop-k.opening c.scan_at.new.opening c.loop-k.k c.loop-k.scans.items c.scan_at.result c.loop-k.invariant c.scan_at.ensures
-        c.requires.named c.in-Err.refusal c.in-Err.is
+    c.requires.named c.in-Err.refusal c.in-Err.is
 
 pub loop-k-preserved : goal.loop-k-preserved
 loop-k-preserved g c =
     subst (IsUpTo g.D.Disk.tells g.D.Disk.state c.args.shared.now c.args.opening.now c.scan_at.new.opening (c.loop-k.k + 1)) (sym c.in-Ok-push.ensures.items)
-        (one_more g.D.Disk.tells g.D.Disk.state g.met.D.Disk.sound c.args.shared.now c.args.opening.now c.loop-k.opening c.scan_at.new.opening c.loop-k.k c.loop-k.scans.items c.scan_at.result c.loop-k.invariant c.scan_at.ensures c.in-Ok.scan c.in-Ok.is)
+    (one_more g.D.Disk.tells g.D.Disk.state g.met.D.Disk.sound c.args.shared.now c.args.opening.now c.loop-k.opening c.scan_at.new.opening c.loop-k.k c.loop-k.scans.items c.scan_at.result c.loop-k.invariant c.scan_at.ensures c.in-Ok.scan c.in-Ok.is)
 
 pub returns-clause-ok : goal.returns-clause-ok
 returns-clause-ok g c = at_end g.D.Disk.tells g.D.Disk.state g.met.D.Disk.sound c.args.shared.now c.args.opening.now c.loop-k.opening c.loop-k.k c.loop-k.scans.items (omega (arith, c.args.opening.now.owned.ok.0, c.len-k-end.ensures)) c.loop-k.invariant

@@ -31,7 +31,7 @@ returns-in-Err-clause-parts g c =
 pub next_version-next-requires : goal.next_version-next-requires
 next_version-next-requires g c =
     subst (AllByRecursion (λ (s : Scan). AllByRecursion (λ (f : Found). f.head.version < 2 ^ 63) s.records.items)) (sym c.deref.ensures.value)
-        (versions_below g.D.Disk.tells g.D.Disk.state g.met.D.Disk.told c.args.shared.now c.args.opening.now c.scan_all.new.opening c.in-Ok.scans.items c.scan_all.ensures.parts c.in-Ok.ensures.ok)
+    (versions_below g.D.Disk.tells g.D.Disk.state g.met.D.Disk.told c.args.shared.now c.args.opening.now c.scan_all.new.opening c.in-Ok.scans.items c.scan_all.ensures.parts c.in-Ok.ensures.ok)
 
 pub index_of-requires-clause-named : goal.index_of-requires-clause-named
 index_of-requires-clause-named g c = names_after g.D.Disk.state c.args.shared.now c.args.opening.now c.scan_all.new.opening c.scan_all.ensures.parts c.in_default.ensures
@@ -48,7 +48,7 @@ returns-in-Err-index_of-clause-parts g c =
 pub returns-in-Err-index_of-clause-err : goal.returns-in-Err-index_of-clause-err
 returns-in-Err-index_of-clause-err g c =
     index_refuses g.D.Disk.tells g.D.Disk.state g.met.D.Disk.told c.args.shared.now c.args.opening.now c.scan_all.new.opening c.in-Ok.scans.items c.scan_all.ensures.parts c.in-Ok.ensures.ok c.in_default.ensures c.scan_all.new.opening c.in-Err-index_of.refusal
-        (subst (λ (l : List Scan). IsIndexRefusal (all_found c.scan_all.new.opening.view c.scan_all.new.opening.owned.items l) c.in-Err-index_of.refusal) c.deref-2.ensures.value c.in-Err-index_of.ensures.err)
+    (subst (λ (l : List Scan). IsIndexRefusal (all_found c.scan_all.new.opening.view c.scan_all.new.opening.owned.items l) c.in-Err-index_of.refusal) c.deref-2.ensures.value c.in-Err-index_of.ensures.err)
 
 pub returns-in_default-synced-clause-parts : goal.returns-in_default-synced-clause-parts
 returns-in_default-synced-clause-parts g c =
@@ -57,11 +57,13 @@ returns-in_default-synced-clause-parts g c =
 pub returns-in_default-synced-clause-err : goal.returns-in_default-synced-clause-err
 returns-in_default-synced-clause-err g c =
     let n = c.scan_all.new.opening in
-    let home : n.home ≡ c.args.opening.now.home = ap (λ (x : Opening _). x.home) c.scan_all.ensures.parts.same in
-    (c.in_default.ensures, ap (λ (x : Opening _). x.want.id) c.scan_all.ensures.parts.same,
-     subst (λ (h : Spun _). Rose (state_of g.D.Disk.state h).faults (state_of g.D.Disk.state c.sync_part-synced.new.part).faults) home (c.in_default-synced.ensures.cause refl),
-     recoverable g.D.Disk.tells g.D.Disk.state g.met.D.Disk.told c.args.shared.now c.args.opening.now c.scan_all.new.opening c.in-Ok.scans.items c.scan_all.ensures.parts c.in-Ok.ensures.ok c.in-Ok-index_of.index.entries
-        (subst (λ (l : List Scan). IsIndexOf (all_found n.view n.owned.items l) c.in-Ok-index_of.index.entries) c.deref-2.ensures.value c.in-Ok-index_of.ensures.ok))
+    let home : n.home ≡ c.args.opening.now.home = ap (λ (x : Opening _). x.home) c.scan_all.ensures.parts.same in (
+      c.in_default.ensures,
+      ap (λ (x : Opening _). x.want.id) c.scan_all.ensures.parts.same,
+      subst (λ (h : Spun _). Rose (state_of g.D.Disk.state h).faults (state_of g.D.Disk.state c.sync_part-synced.new.part).faults) home (c.in_default-synced.ensures.cause refl),
+      recoverable g.D.Disk.tells g.D.Disk.state g.met.D.Disk.told c.args.shared.now c.args.opening.now c.scan_all.new.opening c.in-Ok.scans.items c.scan_all.ensures.parts c.in-Ok.ensures.ok c.in-Ok-index_of.index.entries
+          (subst (λ (l : List Scan). IsIndexOf (all_found n.view n.owned.items l) c.in-Ok-index_of.index.entries) c.deref-2.ensures.value c.in-Ok-index_of.ensures.ok),
+    )
 
 pub retire_bare-requires-clause-named : goal.retire_bare-requires-clause-named
 retire_bare-requires-clause-named g c = names_after g.D.Disk.state c.args.shared.now c.args.opening.now c.scan_all.new.opening c.scan_all.ensures.parts c.in_default.ensures
@@ -73,23 +75,25 @@ pub returns-in-Ok-retire_bare-clause-ok : goal.returns-in-Ok-retire_bare-clause-
 returns-in-Ok-retire_bare-clause-ok g c =
     let n = c.scan_all.new.opening in
     is_recovered g.D.Disk.tells g.D.Disk.state g.met.D.Disk.told c.args.shared.now c.args.opening.now c.scan_all.new.opening c.in-Ok.scans.items c.scan_all.ensures.parts c.in-Ok.ensures.ok c.retire_bare.new.opening _ c.sync_part-synced.new.part c.sync_part-synced.new.spindle c.in_default.ensures
-        (subst (λ (l : List Scan). IsIndexOf (all_found n.view n.owned.items l) c.in-Ok-index_of.index.entries) c.deref-2.ensures.value c.in-Ok-index_of.ensures.ok)
-        (c.next_version-next.ensures.value ∙ ap (next_of 1) c.deref.ensures.value) c.in-Ok-synced.ensures.values c.retire_bare.ensures.parts
-        c.in-Ok-retire_bare.ensures.ok.0 c.in-Ok-retire_bare.ensures.ok.1 c.in-Ok-retire_bare.ensures.ok.2
+    (subst (λ (l : List Scan). IsIndexOf (all_found n.view n.owned.items l) c.in-Ok-index_of.index.entries) c.deref-2.ensures.value c.in-Ok-index_of.ensures.ok)
+    (c.next_version-next.ensures.value ∙ ap (next_of 1) c.deref.ensures.value) c.in-Ok-synced.ensures.values c.retire_bare.ensures.parts
+    c.in-Ok-retire_bare.ensures.ok.0 c.in-Ok-retire_bare.ensures.ok.1 c.in-Ok-retire_bare.ensures.ok.2
 
 pub returns-in-Ok-retire_bare-clause-parts : goal.returns-in-Ok-retire_bare-clause-parts
 returns-in-Ok-retire_bare-clause-parts g c =
     handed_thinned g.D.Disk.tells g.D.Disk.state g.met.D.Disk.sound g.met.D.Disk.told c.args.shared.now c.args.opening.now c.scan_all.new.opening c.retire_bare.new.opening c.sync_part-synced.new.part c.sync_part-synced.new.spindle
-        c.scan_all.ensures.parts c.in-Ok.ensures.ok.settled_ c.sync_part-synced.ensures.part c.sync_part-synced.ensures.same c.sync_part-synced.ensures.free c.sync_part-synced.ensures.settled c.retire_bare.ensures.parts
+    c.scan_all.ensures.parts c.in-Ok.ensures.ok.settled_ c.sync_part-synced.ensures.part c.sync_part-synced.ensures.same c.sync_part-synced.ensures.free c.sync_part-synced.ensures.settled c.retire_bare.ensures.parts
 
 pub returns-in-Err-retire_bare-clause-parts : goal.returns-in-Err-retire_bare-clause-parts
 returns-in-Err-retire_bare-clause-parts g c =
     handed_thinned g.D.Disk.tells g.D.Disk.state g.met.D.Disk.sound g.met.D.Disk.told c.args.shared.now c.args.opening.now c.scan_all.new.opening c.retire_bare.new.opening c.sync_part-synced.new.part c.sync_part-synced.new.spindle
-        c.scan_all.ensures.parts c.in-Ok.ensures.ok.settled_ c.sync_part-synced.ensures.part c.sync_part-synced.ensures.same c.sync_part-synced.ensures.free c.sync_part-synced.ensures.settled c.retire_bare.ensures.parts
+    c.scan_all.ensures.parts c.in-Ok.ensures.ok.settled_ c.sync_part-synced.ensures.part c.sync_part-synced.ensures.same c.sync_part-synced.ensures.free c.sync_part-synced.ensures.settled c.retire_bare.ensures.parts
 
 pub returns-in-Err-retire_bare-clause-err : goal.returns-in-Err-retire_bare-clause-err
 returns-in-Err-retire_bare-clause-err g c =
     let w = c.in-Err-retire_bare.ensures.err in
-    subst (Refuses g.D.Disk.tells g.D.Disk.state c.args.opening.now c.retire_bare.new.opening) (sym w.2)
-        (c.in_default.ensures, rose_back g.D.Disk.tells g.D.Disk.state g.met.D.Disk.sound g.met.D.Disk.told c.args.shared.now c.args.opening.now c.scan_all.new.opening c.sync_part-synced.new.part c.sync_part-synced.new.spindle c.retire_bare.new.opening.owned.items w.0 w.1
-            c.scan_all.ensures.parts.owned c.in-Ok.ensures.ok.settled_ c.in-Ok.ensures.ok.intact w.3)
+    subst (Refuses g.D.Disk.tells g.D.Disk.state c.args.opening.now c.retire_bare.new.opening) (sym w.2) (
+      c.in_default.ensures,
+      rose_back g.D.Disk.tells g.D.Disk.state g.met.D.Disk.sound g.met.D.Disk.told c.args.shared.now c.args.opening.now c.scan_all.new.opening c.sync_part-synced.new.part c.sync_part-synced.new.spindle c.retire_bare.new.opening.owned.items w.0 w.1
+          c.scan_all.ensures.parts.owned c.in-Ok.ensures.ok.settled_ c.in-Ok.ensures.ok.intact w.3,
+    )
