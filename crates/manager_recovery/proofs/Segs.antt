@@ -233,11 +233,8 @@ module _ {D : Type 0} (recs : Seg D → List Record) where
   after_all j p (g ∷ gs) v same here before = at (eqb g.part.logger v) refl (after_all j p gs v same.1 here before.1)
     where
       at : (t : Bool) → eqb g.part.logger v ≡ t → ApartFrom (j, p.1) (map place_in (map (shown_at j) (on logger_of_seg v gs))) → ApartFrom (j, p.1) (map place_in (map (shown_at j) (cond t (g ∷ on logger_of_seg v gs) (on logger_of_seg v gs))))
-      at true e rest = (
-        (λ one. let i : p.1 ≡ g.held.index = ap (λ (q : ℕ × ℕ). q.1) one in let s = same.0 in let l = eqb-true g.part.logger v e in
-            ⊎_elim (λ less. omega (arith, less, l, here)) (λ less. let lt = less.1 in omega (arith, lt, i, s)) before.0),
-        rest,
-      )
+      at true e rest = ((λ one. let i : p.1 ≡ g.held.index = ap (λ (q : ℕ × ℕ). q.1) one in let s = same.0 in let l = eqb-true g.part.logger v e in
+          ⊎_elim (λ less. omega (arith, less, l, here)) (λ less. let lt = less.1 in omega (arith, lt, i, s)) before.0), rest)
       at false e rest = rest
 
   apart_on : (j v : ℕ) (gs : List (Seg D)) → AllByRecursion (λ (g : Seg D). g.held.index ≡ g.part.index) gs → AreInOrder (map (λ (g : Seg D). place_of g.part) gs) → AreApartPlaces (map place_in (map (shown_at j) (on logger_of_seg v gs)))

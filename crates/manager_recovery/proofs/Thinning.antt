@@ -153,7 +153,7 @@ module _ {D : Type 0} (state : D → State) (shared : Shared D) (o : Opening D) 
   can_again n same lanes front back was is =
       let order : AreInOrder (map place_of (front ++ r ∷ back)) = subst (λ (l : List (OwnedPart D)). AreInOrder (map place_of l)) was can.in_order in
       let each : AllByRecursion (IsOwned state (slice_set o.lanes.items k new)) (front ++ back) = all_both (IsOwned state o.lanes.items) (λ (x : OwnedPart D). AreOther (place_of x) (place_of r)) (IsOwned state (slice_set o.lanes.items k new)) owned_set (front ++ back)
-      (all_less (IsOwned state o.lanes.items) front r back (subst (AllByRecursion (IsOwned state o.lanes.items)) was can.owned)) (others front r back order) in
+          (all_less (IsOwned state o.lanes.items) front r back (subst (AllByRecursion (IsOwned state o.lanes.items)) was can.owned)) (others front r back order) in
       let again : CanOpen state shared (record o { lanes = n.lanes; owned = n.owned }) = record {
         want = can.want;
         home_volume = can.home_volume;

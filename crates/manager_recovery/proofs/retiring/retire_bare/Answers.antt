@@ -153,12 +153,10 @@ retire_at-requires-clause-scanned g c =
     let inv = lowered state s sound o was o.want.home scanned n is k c.loop-k-test.true c.loop-k.invariant in
     let at = next state s sound o was o.want.home scanned n is (k - 1) inv in
     let scan_same : c.index-in-loop-k-2.result.now ≡ at.scan = read_at is (k - 1) c.index-in-loop-k-2.result.now at.scan at.scan_at c.index-in-loop-k-2.ensures in
-    λ p there. (
-      o.want.home,
-      subst (λ (q : Opening g.row.D.Denot). IsScanned state q.want.id o.want.home p c.index-in-loop-k-2.result.now) (sym inv.same)
-          (subst (λ (q : OwnedPart g.row.D.Denot). IsScanned state o.want.id o.want.home q c.index-in-loop-k-2.result.now) (same_Some at.part p (sym at.part_at ∙ there))
-          (subst (λ (q : Scan). IsScanned state o.want.id o.want.home at.part q) (sym scan_same) at.scanned_)),
-    )
+    λ p there. (o.want.home,
+        subst (λ (q : Opening g.row.D.Denot). IsScanned state q.want.id o.want.home p c.index-in-loop-k-2.result.now) (sym inv.same)
+        (subst (λ (q : OwnedPart g.row.D.Denot). IsScanned state o.want.id o.want.home q c.index-in-loop-k-2.result.now) (same_Some at.part p (sym at.part_at ∙ there))
+        (subst (λ (q : Scan). IsScanned state o.want.id o.want.home at.part q) (sym scan_same) at.scanned_)))
 
 pub retire_at-requires-clause-bare : goal.retire_at-requires-clause-bare
 retire_at-requires-clause-bare g c =
@@ -213,18 +211,15 @@ returns-in-Err-clause-err g c =
     let at = next state s sound o was o.want.home scanned n is (k - 1) inv in
     let a = c.in-Err.ensures in
     let w = a.err at.part at.part_at in
-    let after = w.0 in let same = w.2.same.0 in (
-      at.part.logger,
-      at.part.index,
-      w.3,
-      record {
-        k = k - 1;
-        before = at.part;
-        after = after;
-        was_there = at.was_part;
-        is_there = subst (λ (l : List (OwnedPart g.row.D.Denot)). Contains l after) (sym w.1) (member_of (slice_set n.owned.items (k - 1) after) after (k - 1) (get_set n.owned.items (k - 1) at.part after at.part_at));
-        named = (refl, refl, sym (ap (λ (q : OwnedPart g.row.D.Denot). q.logger) same), sym (ap (λ (q : OwnedPart g.row.D.Denot). q.index) same));
-        rose = w.4;
-        intact = λ told. all_take (IsIntact o.want.id o.want.home) (k - 1) (all_owned state o.owned.items) (c.requires.intact told);
-      },
-    )
+    let after = w.0 in let same = w.2.same.0 in
+    (at.part.logger, at.part.index, w.3, record {
+      k = k - 1;
+      before = at.part;
+      after = after;
+      was_there = at.was_part;
+      is_there = subst (λ (l : List (OwnedPart g.row.D.Denot)). Contains l after) (sym w.1) (member_of (slice_set n.owned.items (k - 1) after) after (k - 1) (get_set n.owned.items (k - 1) at.part after at.part_at));
+      named = (refl, refl, sym (ap (λ (q : OwnedPart g.row.D.Denot). q.logger) same), sym (ap (λ (q : OwnedPart g.row.D.Denot). q.index) same));
+      rose = w.4;
+      intact = λ told. all_take (IsIntact o.want.id o.want.home) (k - 1) (all_owned state o.owned.items) (c.requires.intact told);
+    })
+
