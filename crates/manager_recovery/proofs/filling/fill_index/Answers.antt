@@ -1,4 +1,4 @@
-use Rattle.std.proofs.Common.{refl, ◌∙◌}
+use Rattle.std.proofs.Common.{◌∙◌}
 use Rattle.std.proofs.lemmas.Option.{slice_get-get_or}
 use Rattle.manager_recovery.proofs.Filled.{filled_more, newest_yet}
 use Rattle.manager_recovery.proofs.filling.fill_index.Goals as goal

@@ -1,4 +1,4 @@
-use Rattle.std.proofs.Common.{◌≡◌, ◌≤◌, map, take}
+use Rattle.std.proofs.Common.{map, take}
 use Rattle.wol_model.specs.Index.{AreRising}
 use Rattle.manager_recovery.specs.declared.listing.FoundRecord.{FoundRecord}
 use Rattle.manager_recovery.proofs.listing.first_twins.Given as goal

@@ -1,5 +1,4 @@
-use Rattle.std.proofs.Common.{◌≡◌, ◌++◌, ◌∷◌, [], ◌+◌, ◌≤◌, length, List, Ok, Err, refl, sym, ap, subst, ◌∙◌, arith}
-use Rattle.log_scan.specs.declared.Scan.{Scan}
+use Rattle.std.proofs.Common.{◌+◌, sym, subst, arith}
 use Rattle.manager_recovery.proofs.ScanAll.{IsUpTo, at_start, parts_more, one_more, refused_here, at_end, names_after}
 use Rattle.manager_recovery.proofs.scanning.scan_all.Goals as goal
 

@@ -1,13 +1,12 @@
-use Rattle.std.proofs.Common.{◌≡◌, ◌<◌, ℕ, Bool, true, false, eqb, List, Option, None, Some, length, refl, sym, ap, subst, ◌∙◌, arith}
-use Rattle.std.specs.Prelude.{slice_get, position, is_some}
+use Rattle.std.proofs.Common.{◌≡◌, true, false, eqb, refl, sym, ap, ◌∙◌, arith}
+use Rattle.std.specs.Prelude.{position, is_some}
 use Rattle.std.proofs.lemmas.Option.{slice_get_read, same_Some}
-use Rattle.logger.specs.Lanes.{IsLane, IsAt, logger_of}
+use Rattle.logger.specs.Lanes.{logger_of}
 use Rattle.logger.specs.declared.lane.Lane.{Lane}
-use Rattle.manager_recovery.specs.Opening.{CanOpen, IsOpeningLane, IsOwned, IsHeldIn}
+use Rattle.manager_recovery.specs.Opening.{IsOpeningLane, IsOwned, IsHeldIn}
 use Rattle.manager_recovery.specs.Owned.{IsIntact, owned_of}
 use Rattle.manager_recovery.specs.Refused.{is_named}
 use Rattle.manager_recovery.specs.Scanned.{IsScanned, IsSettledPart}
-use Rattle.manager_recovery.specs.declared.opening.Opening.{Opening}
 use Rattle.std.specs.Prelude.{IsTrue}
 use Rattle.std.specs.Vec.{with_item}
 use Rattle.manager_recovery.proofs.Indexing.{all_named}

@@ -1,4 +1,4 @@
-use Rattle.std.proofs.Common.{◌≡◌, sym, subst, arith, ◌<◌, ◌+◌, ◌≤◌, ℕ, List, refl}
+use Rattle.std.proofs.Common.{sym, subst, arith, ◌+◌, ℕ, List, refl}
 use Rattle.wol_disk.specs.Disk.{Block, reads}
 use Rattle.spin_model.specs.Spun.{disk_of}
 use Rattle.manager_recovery.specs.Owned.{IsIntact, IsFault, owned_of}

@@ -2,7 +2,6 @@ use Rattle.std.proofs.Common.{◌≡◌, ℕ, ◌<◌, ◌+◌, ◌^◌, true, L
 use Rattle.std.specs.List.{AllByRecursion, AllZip}
 use Rattle.spin_model.specs.Spun.{state_of}
 use Rattle.log_scan.specs.declared.Found.{Found}
-use Rattle.log_scan.specs.declared.Scan.{Scan}
 use Rattle.manager_recovery.specs.Refused.{is_named, head_at}
 use Rattle.manager_recovery.specs.Scanned.{IsScanned, IsEntryInRange, IsStableByVersion, lane_of, all_found, head_of}
 use Rattle.manager_recovery.specs.declared.listing.FoundRecord.{FoundRecord}

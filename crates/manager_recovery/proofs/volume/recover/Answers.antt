@@ -4,8 +4,8 @@ use Rattle.manager_recovery.specs.Recovery.{IsIndexOf, IsIndexRefusal}
 use Rattle.manager_recovery.specs.Refused.{Refuses}
 use Rattle.manager_recovery.specs.Scanned.{all_found, next_of}
 use Rattle.manager_recovery.proofs.BackRead.{versions_below, recoverable, index_refuses, intact_again, is_recovered}
-use Rattle.std.proofs.Common.{◌≡◌, ◌+◌, ◌-◌, ◌<◌, ◌≤◌, ◌^◌, ℕ, List, None, length, map, refl, sym, ap, subst, ◌∙◌, arith}
-use Rattle.std.specs.List.{AllByRecursion, AllZip}
+use Rattle.std.proofs.Common.{◌≡◌, ◌+◌, ◌-◌, ◌<◌, ◌≤◌, ◌^◌, List, refl, sym, ap, subst, ◌∙◌, arith}
+use Rattle.std.specs.List.{AllByRecursion}
 use Rattle.spin_model.specs.Spun.{state_of}
 use Rattle.log_scan.specs.declared.Found.{Found}
 use Rattle.log_scan.specs.declared.Scan.{Scan}
@@ -14,8 +14,7 @@ use Rattle.manager_recovery.specs.declared.opening.OwnedPart.{OwnedPart}
 use Rattle.manager_recovery.specs.declared.opening.Opening.{Opening}
 use Rattle.manager_recovery.proofs.Lists.{all_map}
 use Rattle.manager_recovery.proofs.ScanAll.{names_after}
-use Rattle.manager_recovery.proofs.HeadsFound.{all_same, all_heads}
-use Rattle.manager_recovery.proofs.Recovering.{handed_early, handed_read, handed_thinned, rose_back, all_filtered}
+use Rattle.manager_recovery.proofs.Recovering.{handed_early, handed_read, handed_thinned, rose_back}
 use Rattle.manager_recovery.proofs.ScanAll.{at_start}
 use Rattle.manager_recovery.proofs.volume.recover.Goals as goal
 
