@@ -7,6 +7,7 @@ pub mod Held
 pub mod Indexing
 pub mod Lists
 pub mod OpenedIndex
+pub mod OpenedKeeps
 pub mod Outside
 pub mod Places
 pub mod Readings
