@@ -3,11 +3,13 @@ pub mod Filled
 pub mod FirstTwo
 pub mod FoundMore
 pub mod Fronts
+pub mod Gathered
 pub mod Held
 pub mod Indexing
 pub mod Lists
 pub mod OpenedIndex
 pub mod OpenedKeeps
+pub mod OpenedStands
 pub mod Outside
 pub mod Places
 pub mod Readings
