@@ -94,7 +94,7 @@ zip_seconds R P Q so [] (b ∷ ys) all zip = absurd zip
 zip_seconds R P Q so (a ∷ xs) [] all zip = absurd zip
 zip_seconds R P Q so (a ∷ xs) (b ∷ ys) all zip = (so a b all.0 zip.0, zip_seconds R P Q so xs ys all.1 zip.1)
 
-entry_versions : (rs : List FoundRecord) → map (λ (e : Indexed). e.listed.version) (entries_from rs) ≡ map (λ (r : FoundRecord). r.entry.version) rs
+pub entry_versions : (rs : List FoundRecord) → map (λ (e : Indexed). e.listed.version) (entries_from rs) ≡ map (λ (r : FoundRecord). r.entry.version) rs
 entry_versions [] = refl
 entry_versions (r ∷ rs) = ap (λ l. r.entry.version ∷ l) (entry_versions rs)
 
@@ -170,7 +170,7 @@ module _ {D : Type 0} (tells : Bool) (state : D → State) (shared : Shared D) (
       held = has.held ∙ held_segs state (logger_of new) n.owned.items r.scans.items held.segments held.adopted;
     }
 
-    below_entry : (g : Seg D) (f : Found) → IsAmong gs g → IsAmong g.scan.records.items f → f.head.version < r.next
+    pub below_entry : (g : Seg D) (f : Found) → IsAmong gs g → IsAmong g.scan.records.items f → f.head.version < r.next
     below_entry g f has there =
         let in_scans : IsAmong rec.scans g.scan = (among_filter has_some rec.scans g.scan (subst (λ (l : List Scan). IsAmong l g.scan) rec.left_scans (scan_among n.owned.items r.scans.items held.segments g has))).0 in
         let all = all_among (λ (s : Scan). AllByRecursion (λ (x : Found). x.head.version < next_of 1 rec.scans) s.records.items) rec.scans g.scan (all_above 1 rec.scans) in_scans in
@@ -179,7 +179,7 @@ module _ {D : Type 0} (tells : Bool) (state : D → State) (shared : Shared D) (
     pub gathered_all : AllByRecursion (IsSeg state n.lanes.items n.want.id n.want.home n.view) gs
     gathered_all = all_segs state n.lanes.items n.want.id n.want.home n.view n.owned.items r.scans.items held.segments scanned_still held.adopted rec.open_.owned rec.some all_in
 
-    below_all : AllByRecursion (λ (e : Indexed). e.listed.version < r.next) (flat_map (entries_at state n.view) gs)
+    pub below_all : AllByRecursion (λ (e : Indexed). e.listed.version < r.next) (flat_map (entries_at state n.view) gs)
     below_all = all_from (λ (e : Indexed). e.listed.version < r.next) (flat_map (entries_at state n.view) gs) (λ e has.
         let w = flat_among (entries_at state n.view) gs e has in
         let q = map_among (λ (x : FoundRecord). entry_of x.entry 0) (found_in n.view w.0.part w.0.scan) e w.2 in

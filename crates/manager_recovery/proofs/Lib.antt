@@ -1,3 +1,4 @@
+pub mod Beginning
 pub mod ByLogger
 pub mod Filled
 pub mod FirstTwo
