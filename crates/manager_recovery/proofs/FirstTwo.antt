@@ -31,8 +31,10 @@ ties_version v w = ⊎_elim below (λ rest. ⊎_elim same above rest) (three v w
   where
     below : v < w → (not (is_lt (nat_cmp v w)) && not (is_lt (nat_cmp w v))) ≡ eqb w v
     below lt = (λ i. not (is_lt (sym (nat_cmp_is v w Less lt) i)) && not (is_lt (nat_cmp w v))) ∙ sym (ne_eqb w v (λ e. absurd (omega arith)))
+
     same : v ≡ w → (not (is_lt (nat_cmp v w)) && not (is_lt (nat_cmp w v))) ≡ eqb w v
     same e = (λ i. not (is_lt (sym (nat_cmp_is v w Equal e) i)) && not (is_lt (sym (nat_cmp_is w v Equal (sym e)) i))) ∙ sym (eq-eqb w v (sym e))
+
     above : w < v → (not (is_lt (nat_cmp v w)) && not (is_lt (nat_cmp w v))) ≡ eqb w v
     above gt = (λ i. not (is_lt (sym (nat_cmp_is v w Greater gt) i)) && not (is_lt (sym (nat_cmp_is w v Less gt) i))) ∙ sym (ne_eqb w v (λ e. absurd (omega arith)))
 
@@ -61,11 +63,12 @@ within (y ∷ ys) (suc k) x is = let w = within ys k x is in omega (arith, w)
 
 pub sorted_by_version : (rs : List FoundRecord) → IsNonDecreasingBy version rs → AreSortedByVersion rs
 sorted_by_version [] up = tt
-sorted_by_version (r ∷ rs) up =
-    (all_from_places (λ (q : FoundRecord). version r ≤ version q) rs (λ k q is.
-        let w = within rs k q is in
-        subst (λ (x : FoundRecord). version r ≤ version x) (get_or_from_slice_get rs k q r is) (up zero (suc k) r (omega arith) (omega (arith, w)))),
-     sorted_by_version rs (λ i j d le lt. up (suc i) (suc j) d (omega arith) (omega arith)))
+sorted_by_version (r ∷ rs) up = (
+  all_from_places (λ (q : FoundRecord). version r ≤ version q) rs (λ k q is.
+      let w = within rs k q is in
+      subst (λ (x : FoundRecord). version r ≤ version x) (get_or_from_slice_get rs k q r is) (up zero (suc k) r (omega arith) (omega (arith, w)))),
+  sorted_by_version rs (λ i j d le lt. up (suc i) (suc j) d (omega arith) (omega arith)),
+)
 
 -- ---- Fronts that rise
 
@@ -97,6 +100,7 @@ at_most_one v (r ∷ rs) rising = ⊎_elim here (other (at_most_one v rs rising.
         let bare = none_above v rs (subst (λ (w : ℕ). AllByRecursion (λ (q : FoundRecord). w < version q) rs) h.1 (all_of_map (λ w. version r < w) version rs rising.0)) in
         let e : length (filter (λ (r : FoundRecord). eqb (version r) v) (r ∷ rs)) ≡ 1 = (λ i. length (cond (h.0 i) (r ∷ bare i) (bare i))) in
         omega (arith, e)
+
     other : length (filter (λ (r : FoundRecord). eqb (version r) v) rs) ≤ 1 → (eqb (version r) v ≡ false) × (version r ≡ v → ⊥) → length (filter (λ (r : FoundRecord). eqb (version r) v) (r ∷ rs)) ≤ 1
     other few h =
         let e : length (filter (λ (r : FoundRecord). eqb (version r) v) (r ∷ rs)) ≡ length (filter (λ (r : FoundRecord). eqb (version r) v) rs) = (λ i. length (cond (h.0 i) (r ∷ filter (λ (r : FoundRecord). eqb (version r) v) rs) (filter (λ (r : FoundRecord). eqb (version r) v) rs))) in
@@ -167,8 +171,8 @@ module _ (rs : List FoundRecord) (j : ℕ) (p q : FoundRecord) (sorted : AreSort
       let w : version p ≤ version q = le in
       let lt : version p < version q = ⊎_elim (λ l. l) (λ rest. ⊎_elim (λ e. absurd (differ e)) (λ g. absurd (omega (arith, w, g))) rest) (three (version p) (version q)) in
       let before : AllByRecursion (λ (r : FoundRecord). version r < version q) (take (j + 1) rs) =
-          subst (AllByRecursion (λ (r : FoundRecord). version r < version q)) (sym (take_snoc rs j p is))
-          (all_joined (λ r. version r < version q) (take j rs) p (all_more (λ r. version r < version p) (λ r. version r < version q) (λ r l. omega (arith, l, lt)) (take j rs) front) lt) in
+      subst (AllByRecursion (λ (r : FoundRecord). version r < version q)) (sym (take_snoc rs j p is))
+      (all_joined (λ r. version r < version q) (take j rs) p (all_more (λ r. version r < version p) (λ r. version r < version q) (λ r l. omega (arith, l, lt)) (take j rs) front) lt) in
       subst (λ (l : List FoundRecord). AreRising (map version l)) (sym (take_snoc rs (j + 1) q next)) (rising_push (take (j + 1) rs) q rising before)
 
   module _ (same : version p ≡ version q) where
@@ -187,13 +191,13 @@ module _ (rs : List FoundRecord) (j : ℕ) (p q : FoundRecord) (sorted : AreSort
     least v lt =
         let w : version p ≤ version q = le in
         let later : AllByRecursion (λ (r : FoundRecord). v < version r) (drop (j + 1) rs) =
-            subst (AllByRecursion (λ (r : FoundRecord). v < version r)) (sym (drop_here rs (j + 1) q next))
-            (omega (arith, w, lt), all_more (λ r. version q ≤ version r) (λ r. v < version r) (λ r l. omega (arith, l, w, lt)) (drop (j + 1 + 1) rs) tail_sorted.1.0) in
+        subst (AllByRecursion (λ (r : FoundRecord). v < version r)) (sym (drop_here rs (j + 1) q next))
+        (omega (arith, w, lt), all_more (λ r. version q ≤ version r) (λ r. v < version r) (λ r l. omega (arith, l, w, lt)) (drop (j + 1 + 1) rs) tail_sorted.1.0) in
         let split : filter (λ (r : FoundRecord). eqb (version r) v) rs ≡ filter (λ (r : FoundRecord). eqb (version r) v) (take (j + 1) rs) =
-            (λ i. filter (λ (r : FoundRecord). eqb (version r) v) (sym (take-append-drop (j + 1) rs) i))
-            ∙ filter-append (λ (r : FoundRecord). eqb (version r) v) (take (j + 1) rs) (drop (j + 1) rs)
-            ∙ (λ i. filter (λ (r : FoundRecord). eqb (version r) v) (take (j + 1) rs) ++ none_above v (drop (j + 1) rs) later i)
-            ∙ append-nil (filter (λ (r : FoundRecord). eqb (version r) v) (take (j + 1) rs)) in
+        (λ i. filter (λ (r : FoundRecord). eqb (version r) v) (sym (take-append-drop (j + 1) rs) i))
+        ∙ filter-append (λ (r : FoundRecord). eqb (version r) v) (take (j + 1) rs) (drop (j + 1) rs)
+        ∙ (λ i. filter (λ (r : FoundRecord). eqb (version r) v) (take (j + 1) rs) ++ none_above v (drop (j + 1) rs) later i)
+        ∙ append-nil (filter (λ (r : FoundRecord). eqb (version r) v) (take (j + 1) rs)) in
         subst (λ (l : List FoundRecord). length l ≤ 1) (sym split) (at_most_one v (take (j + 1) rs) rising)
 
     pub are_first_twins : AreFirstTwins (map head_of rs) (head_of p) (head_of q)

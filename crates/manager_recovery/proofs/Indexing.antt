@@ -38,7 +38,7 @@ lane_below view logger named = at (position (λ id. eqb id logger) view) refl na
 
 -- ---- Ranges
 
-heads_inside : {D : Type 0} (state : D → State) (id home : ℕ) (o : OwnedPart D) (s : Scan) → IsScanned state id home o s → AllByRecursion (IsInside (state_of state o.part).size id) s.records.items
+pub heads_inside : {D : Type 0} (state : D → State) (id home : ℕ) (o : OwnedPart D) (s : Scan) → IsScanned state id home o s → AllByRecursion (IsInside (state_of state o.part).size id) s.records.items
 heads_inside state id home o s scanned =
     let P : Option ℕ → Type 0 = λ v. MatchOption v (s.records.items ≡ []) (λ owner. AllByRecursion (IsInside (state_of state o.part).size owner) s.records.items) in
     subst P scanned.owner scanned.shape.heads
@@ -47,7 +47,7 @@ pub places_fit : {D : Type 0} (state : D → State) (id home : ℕ) (o : OwnedPa
     → AllByRecursion (λ (f : Found). o.first_block + f.pos < 2 ^ 64) s.records.items
 places_fit state id home o s last scanned =
     all_map (IsInside (state_of state o.part).size id) (λ (f : Found). o.first_block + f.pos < 2 ^ 64) (λ f inside. let w : f.pos + 1 + f.head.count ≤ (state_of state o.part).size = inside.fits in omega (arith, w, last))
-        s.records.items (heads_inside state id home o s scanned)
+    s.records.items (heads_inside state id home o s scanned)
 
 above_zero : (n : ℕ) → eqb n 0 ≡ false → 0 < n
 above_zero zero e = absurd (let bad : true ≡ false = e in cc)
@@ -57,7 +57,7 @@ kept_in_range : {D : Type 0} (size id lane : ℕ) (o : OwnedPart D) (fs : List F
 kept_in_range size id lane o [] all = tt
 kept_in_range {D} size id lane o (f ∷ fs) all =
     at (kept_in_range size id lane o fs all.1) (eqb f.head.keep 0)
-       (λ e. let h = all.0.in_range in (h.count.0, h.count.1, h.range, above_zero f.head.keep e, h.kept, h.version.0, h.version.1))
+    (λ e. let h = all.0.in_range in (h.count.0, h.count.1, h.range, above_zero f.head.keep e, h.kept, h.version.0, h.version.1))
   where
     at : AllByRecursion IsEntryInRange (map (record_in lane o) (filter keeps_some fs)) → (b : Bool) → (b ≡ false → IsEntryInRange (record_in lane o f))
         → AllByRecursion IsEntryInRange (map (record_in lane o) (cond (not b) (f ∷ filter keeps_some fs) (filter keeps_some fs)))
@@ -73,8 +73,8 @@ found_in_range state id home view [] ss zip = tt
 found_in_range state id home view (o ∷ os) [] zip = absurd zip
 found_in_range state id home view (o ∷ os) (s ∷ ss) zip =
     all_append IsEntryInRange (found_in view o s) (all_found view os ss)
-        (kept_in_range (state_of state o.part).size id (lane_of view o.logger) o s.records.items (heads_inside state id home o s zip.0))
-        (found_in_range state id home view os ss zip.1)
+    (kept_in_range (state_of state o.part).size id (lane_of view o.logger) o s.records.items (heads_inside state id home o s zip.0))
+    (found_in_range state id home view os ss zip.1)
 
 -- ---- In another order
 

@@ -1,3 +1,4 @@
+pub mod BackRead
 pub mod Beginning
 pub mod ByLogger
 pub mod Filled
@@ -5,8 +6,10 @@ pub mod FirstTwo
 pub mod FoundMore
 pub mod Fronts
 pub mod Gathered
+pub mod HeadsFound
 pub mod Held
 pub mod Indexing
+pub mod Leaves
 pub mod Lists
 pub mod OpenedIndex
 pub mod OpenedKeeps
@@ -14,8 +17,11 @@ pub mod OpenedStands
 pub mod Outside
 pub mod Places
 pub mod Readings
+pub mod Recovering
 pub mod Retired
 pub mod SameNewest
+pub mod ScanAll
+pub mod ScanLoop
 pub mod SegmentFaults
 pub mod Segs
 pub mod Thinning

@@ -1,5 +1,5 @@
 -- Fronts of lists and facts of all their elements.
-use Rattle.std.proofs.Common.{◌≡◌, ◌+◌, ◌<◌, ◌≤◌, ℕ, zero, suc, List, [], ◌∷◌, ◌++◌, length, take, drop, map, Some, refl, sym, ap, subst, ◌∙◌, arith}
+use Rattle.std.proofs.Common.{◌≡◌, ◌+◌, ◌<◌, ◌≤◌, ℕ, zero, suc, List, [], ◌∷◌, ◌++◌, length, take, drop, map, Option, None, Some, refl, sym, ap, subst, ◌∙◌, arith}
 use Rattle.std.specs.Prelude.{slice_get, slice_set}
 use Rattle.std.specs.List.{AllByRecursion, AllZip}
 use Rattle.std.proofs.lemmas.Option.{same_Some, none-some}
@@ -119,3 +119,77 @@ module _ {X : Type 0} where
   within [] k x is = absurd (none-some x is)
   within (y ∷ ys) zero x is = omega arith
   within (y ∷ ys) (suc k) x is = let w = within ys k x is in omega (arith, w)
+
+module _ {X : Type 0} where
+  pub take_all : (xs : List X) (n : ℕ) → length xs ≤ n → take n xs ≡ xs
+  take_all [] zero le = refl
+  take_all [] (suc n) le = refl
+  take_all (x ∷ xs) zero le = absurd (omega arith)
+  take_all (x ∷ xs) (suc n) le = λ i. x ∷ take_all xs n (omega arith) i
+
+  first_of : List X → Option X
+  first_of [] = None
+  first_of (x ∷ xs) = Some x
+
+  rest_of : List X → List X
+  rest_of [] = []
+  rest_of (x ∷ xs) = xs
+
+  get_drop : (xs : List X) (k : ℕ) → slice_get xs k ≡ first_of (drop k xs)
+  unfolding first_of
+  get_drop [] zero = refl
+  get_drop [] (suc k) = refl
+  get_drop (x ∷ xs) zero = refl
+  get_drop (x ∷ xs) (suc k) = get_drop xs k
+
+  rest_drop : (xs : List X) (k : ℕ) → drop (k + 1) xs ≡ rest_of (drop k xs)
+  unfolding rest_of
+  rest_drop [] zero = refl
+  rest_drop [] (suc k) =
+      let e : suc k + 1 ≡ suc (k + 1) = omega arith in
+      (λ i. drop {A = X} (e i) [])
+  rest_drop (x ∷ xs) zero = refl
+  rest_drop (x ∷ xs) (suc k) =
+      let e : suc k + 1 ≡ suc (k + 1) = omega arith in
+      (λ i. drop (e i) (x ∷ xs)) ∙ rest_drop xs k
+
+  -- what stands at k stands there in each list that is the same from k on
+  pub drop_get : (xs ys : List X) (k : ℕ) (x : X) → slice_get xs k ≡ Some x → drop k xs ≡ drop k ys → slice_get ys k ≡ Some x
+  drop_get xs ys k x is same = get_drop ys k ∙ ap first_of (sym same) ∙ sym (get_drop xs k) ∙ is
+
+  pub drop_set : (xs : List X) (k : ℕ) (x : X) → drop (k + 1) (slice_set xs k x) ≡ drop (k + 1) xs
+  drop_set [] zero x = refl
+  drop_set [] (suc k) x = refl
+  drop_set (y ∷ ys) zero x = refl
+  drop_set (y ∷ ys) (suc k) x =
+      let e : suc k + 1 ≡ suc (k + 1) = omega arith in
+      (λ i. drop (e i) (y ∷ slice_set ys k x)) ∙ drop_set ys k x ∙ (λ i. drop (sym e i) (y ∷ ys))
+
+  pub drop_more : (xs ys : List X) (k : ℕ) → drop k xs ≡ drop k ys → drop (k + 1) xs ≡ drop (k + 1) ys
+  drop_more xs ys k same = rest_drop xs k ∙ ap rest_of same ∙ sym (rest_drop ys k)
+
+  pub take_set : (xs : List X) (k : ℕ) (x y : X) → slice_get xs k ≡ Some y → take (k + 1) (slice_set xs k x) ≡ take k xs ++ x ∷ []
+  take_set [] k x y is = absurd (none-some y is)
+  take_set (z ∷ zs) zero x y is = refl
+  take_set (z ∷ zs) (suc k) x y is =
+      let e : suc k + 1 ≡ suc (k + 1) = omega arith in
+      (λ i. take (e i) (z ∷ slice_set zs k x)) ∙ ap (λ (l : List X). z ∷ l) (take_set zs k x y is)
+
+  pub set_get : (xs : List X) (k : ℕ) (x y : X) → slice_get xs k ≡ Some y → slice_get (slice_set xs k x) k ≡ Some x
+  set_get [] k x y is = absurd (none-some y is)
+  set_get (z ∷ zs) zero x y is = refl
+  set_get (z ∷ zs) (suc k) x y is = set_get zs k x y is
+
+  pub map_set : {Y : Type 0} (f : X → Y) (xs : List X) (k : ℕ) (x y : X) → slice_get xs k ≡ Some y → f x ≡ f y → map f (slice_set xs k x) ≡ map f xs
+  map_set f [] k x y is same = refl
+  map_set f (z ∷ zs) zero x y is same = λ i. (same ∙ ap f (sym (same_Some z y is))) i ∷ map f zs
+  map_set f (z ∷ zs) (suc k) x y is same = λ i. f z ∷ map_set f zs k x y is same i
+
+module _ {X Y : Type 0} where
+  -- the second one of a pair changes
+  pub zip_change : (R : X → Y → Type 0) (xs : List X) (ys : List Y) (k : ℕ) (y z : Y) → slice_get ys k ≡ Some y → ((x : X) → R x y → R x z) → AllZip R xs ys → AllZip R xs (slice_set ys k z)
+  zip_change R [] [] k y z is f zip = tt
+  zip_change R [] (b ∷ ys) k y z is f zip = absurd zip
+  zip_change R (a ∷ xs) [] k y z is f zip = absurd zip
+  zip_change R (a ∷ xs) (b ∷ ys) zero y z is f zip = (f a (subst (R a) (same_Some b y is) zip.0), zip.1)
+  zip_change R (a ∷ xs) (b ∷ ys) (suc k) y z is f zip = (zip.0, zip_change R xs ys k y z is f zip.1)

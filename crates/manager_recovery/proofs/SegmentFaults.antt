@@ -43,12 +43,12 @@ pub err_refuses : {D : Type 0} (tells : Bool) (state : D → State) (id home : �
 err_refuses tells state id home o n (fault.Damaged block) r damaged failed none told sound last read =
     let w = damaged block refl in
     subst (SegmentRefuses tells state id home o n) (sym w.1) (λ t.
-      let v = told t in
-      let found = read.damaged v.0 block v.1 refl in
-      let blocks = told_is (state_of state o.part) v.0 v.1 in
-      let inside = fault_inside (reads v.0) block found.1 in
-      let long : length (reads v.0) ≡ (state_of state o.part).size = length-map (λ (x : Values Block). x.now) v.0 ∙ sound.each_block v.0 v.1 in
-      (refl, segment.no_head block (subst IsDamaged (sym blocks) found.0) (subst (λ (bs : List Block). IsFirstFault bs block) (sym blocks) found.1) (w.2 (omega (arith, inside, long, last)))))
+    let v = told t in
+    let found = read.damaged v.0 block v.1 refl in
+    let blocks = told_is (state_of state o.part) v.0 v.1 in
+    let inside = fault_inside (reads v.0) block found.1 in
+    let long : length (reads v.0) ≡ (state_of state o.part).size = length-map (λ (x : Values Block). x.now) v.0 ∙ sound.each_block v.0 v.1 in
+    (refl, segment.no_head block (subst IsDamaged (sym blocks) found.0) (subst (λ (bs : List Block). IsFirstFault bs block) (sym blocks) found.1) (w.2 (omega (arith, inside, long, last)))))
 err_refuses tells state id home o n fault.Failed r damaged failed none told sound last read = subst (SegmentRefuses tells state id home o n) (sym (failed refl)) (refl, refl, read.cause refl)
 err_refuses tells state id home o n fault.NoMemory r damaged failed none told sound last read = subst (SegmentRefuses tells state id home o n) (sym (none refl)) tt
 
@@ -126,8 +126,8 @@ fault_from state id home o vs s pos lt is says scan (scanned.passes k f owner at
     let w = scan_log (reads vs) id s owner scan in
     let its = w.2.each k f at in
     segment.past_end w.0 k (subst (λ (bs : List Block). IsLog bs id w.0) (sym blocks) w.1)
-        (record { record_ = its.whose; there = its.there; passes = subst (λ (h : _). home < h.first + h.count) its.head past; before = front_within home k w.0 s.records.items w.2 before })
-        (λ i. o.first_block + (pos_is ∙ its.pos) i)
+    (record { record_ = its.whose; there = its.there; passes = subst (λ (h : _). home < h.first + h.count) its.head past; before = front_within home k w.0 s.records.items w.2 before })
+    (λ i. o.first_block + (pos_is ∙ its.pos) i)
 
 -- the place lies in the segment
 pub pos_inside : (blocks id home pos : ℕ) (s : Scan) → IsScan blocks s → IsPastEnd s id home pos → pos ≤ blocks
@@ -142,7 +142,7 @@ pos_inside blocks id home pos s shape (scanned.passes k f owner at pos_is past b
 -- the answer of a search through the records of the volume's own segment
 pub past_answer : (s : Scan) (id home owner : ℕ) (fs : List Found) (res : Option ℕ) → s.owner ≡ Some owner → owner ≡ id → fs ≡ s.records.items
     → MatchOption res (AllByRecursion (λ (f : Found). f.head.lbn + f.head.count ≤ home) fs)
-        (λ pos. (k : ℕ) × (f : Found) × (slice_get fs k ≡ Some f) × (pos ≡ f.pos) × (home < f.head.lbn + f.head.count) × AllByRecursion (λ (g : Found). g.head.lbn + g.head.count ≤ home) (take k fs))
+    (λ pos. (k : ℕ) × (f : Found) × (slice_get fs k ≡ Some f) × (pos ≡ f.pos) × (home < f.head.lbn + f.head.count) × AllByRecursion (λ (g : Found). g.head.lbn + g.head.count ≤ home) (take k fs))
     → MatchOption res ((s.owner ≡ Some id) × AllByRecursion (λ (f : Found). f.head.lbn + f.head.count ≤ home) s.records.items) (IsPastEnd s id home)
 past_answer s id home owner fs None has is same all = (has ∙ ap Some is, subst (AllByRecursion (λ (f : Found). f.head.lbn + f.head.count ≤ home)) same all)
 past_answer s id home owner fs (Some pos) has is same w =

@@ -1,16 +1,18 @@
 -- What opening leaves of the parts that it was given.
-use Rattle.std.specs.Prelude.{⊤, ◌≡◌, ◌⊎◌, ◌≤◌, ℕ, Bool, List, [], ◌∷◌, map, Option, Some, None, option_map, IsTrue}
+use Rattle.std.specs.Prelude.{⊤, false, ◌≡◌, ◌⊎◌, ◌≤◌, ℕ, Bool, List, [], ◌∷◌, map, Option, Some, None, option_map, IsTrue}
 use Rattle.std.specs.List.{AllByRecursion, AllZip, filter_map}
 use Rattle.wol_disk.specs.Disk.{State, Block, Values, IsImageOf, LeavesOnly, reads}
 use Rattle.wol_model.specs.Images.{IsSoundSegment}
 use Rattle.wol_model.specs.Heads.{Shape}
 use Rattle.wol_model.specs.Log.{Record, IsLog}
 use Rattle.wol_model.specs.Recovered.{recovered}
-use Rattle.turn_lock.specs.Passes.{IsSamePass}
+use Rattle.turn_lock.specs.Passes.{pass_mine, IsFree, IsSamePass}
+use Rattle.spin_model.specs.Operations.{has_token}
 use Rattle.spin_model.specs.Spun.{state_of, volume_of}
 use Rattle.spin_model.specs.declared.spun.Spun.{Spun}
 use Rattle.log_segment.specs.Kept.{IsKeptOrIdle}
-use Rattle.log_segment.specs.Segment.{IsFree, free_disk, free_volume}
+use Rattle.log_segment.specs.Segment as segment
+use Rattle.log_segment.specs.Segment.{free_disk, free_volume}
 use Rattle.log_segment.specs.declared.free.FreeSegment.{FreeSegment}
 use Rattle.logger.specs.Lanes.{IsSameLane}
 use Rattle.logger.specs.declared.lane.Lane.{Lane}
@@ -37,7 +39,7 @@ IsLeftOf id values c = IsImageOf values c ⊎ ((bs : List Block) × (rs : List R
 -- What became of an owned segment: it was handed on, or it was freed and given to its pool.
 pub data Fate (D : Type 0) : Type 0 where
   Kept : (part : OwnedPart D) → Fate D
-  Freed : (segment : FreeSegment D) → Fate D
+  Freed : (free : FreeSegment D) → Fate D
 
 -- the segments that were handed on
 abbrev pub kept_of : {D : Type 0} → List (Fate D) → List (OwnedPart D)
@@ -45,7 +47,7 @@ kept_of {D} fates = filter_map kept fates
   where
     kept : {D : Type 0} → Fate D → Option (OwnedPart D)
     kept (Kept part) = Some part
-    kept (Freed segment) = None
+    kept (Freed free) = None
 
 -- the disk of a segment then
 abbrev pub disk_then : {D : Type 0} → (D → State) → Fate D → State
@@ -58,7 +60,7 @@ IsSameOwned state o n = (n ≡ record o { part = n.part }) × (volume_of n.part 
 
 abbrev pub IsSameOrFree : {D : Type 0} → (D → State) → OwnedPart D → Fate D → Type 0
 IsSameOrFree state o (Kept n) = IsSameOwned state o n
-IsSameOrFree state o (Freed f) = IsFree state f × (free_volume f ≡ volume_of o.part)
+IsSameOrFree state o (Freed f) = segment.IsFree state f × (free_volume f ≡ volume_of o.part)
 
 -- the segment before, and what became of it; of its images where its disk tells its content
 pub record IsFateOf {D : Type 0} (state : D → State) (id : ℕ) (o : OwnedPart D) (f : Fate D) : Type 0 where
@@ -109,6 +111,8 @@ pub record IsUsedLane {D : Type 0} (state : D → State) (shared : Shared D) (id
 pub record IsHandedBack {D : Type 0} (tells : Bool) (state : D → State) (shared : Shared D) (o n : Opening D) : Type 0 where
   pub same : n ≡ record o { home = n.home; spindle = n.spindle; lanes = n.lanes; owned = n.owned }
   pub spindle : IsSamePass o.spindle n.spindle
+  pub spindle_free : IsFree n.spindle
+  pub settled : has_token (pass_mine n.spindle) ≡ false
   pub lanes : AllZip (IsUsedLane state shared o.want.id o.most) o.lanes.items n.lanes.items
   pub fates : List (Fate D)
   pub owned : n.owned.items ≡ kept_of fates

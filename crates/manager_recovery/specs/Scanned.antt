@@ -1,5 +1,5 @@
 -- Segments that were read back, and the records that were found in them.
-use Rattle.std.specs.Prelude.{⊤, take, slice_get, true, ◌^◌, IsPermutation, ◌≡◌, ◌≢◌, ◌<◌, ◌≤◌, ◌+◌, ◌==◌, if◌then◌else◌, ℕ, Bool, not, List, [], ◌∷◌, ◌++◌, map, filter, position, unwrap_or, Option, Some, None, option_map, Result, IfOk, OnOk, IsErrOf, IsTrue, max}
+use Rattle.std.specs.Prelude.{⊤, take, slice_get, true, ◌^◌, IsPermutation, ◌≡◌, ◌≢◌, ◌<◌, ◌≤◌, ◌+◌, ◌==◌, if◌then◌else◌, ℕ, Bool, not, List, [], ◌∷◌, ◌++◌, map, filter, position, unwrap_or, Option, Some, None, option_map, Result, IfOk, IfErr, OnOk, slice_set, IsErrOf, IsTrue, max}
 use Rattle.std.specs.List.{AllByRecursion, AllZip, list_any}
 use Rattle.wol_disk.specs.Disk.{State, Block, Values, IsImageOf, LeavesOnly, Rose, only, reads, settled}
 use Rattle.spin_model.specs.Spun.{state_of}
@@ -95,6 +95,18 @@ pub record AreReadBack {D : Type 0} (tells : Bool) (state : D → State) (shared
   pub scans_ : AllZip (IsScanned state o.want.id o.want.home) n.owned.items scans
   pub settled_ : AllZip (IsSettledPart state) o.owned.items n.owned.items
   pub intact : IsTrue tells → AreIntact o.want.id o.want.home (all_owned state o.owned.items)
+
+-- what the scan of the segment at place k leaves and answers
+pub record IsScannedAt {D : Type 0} (tells : Bool) (state : D → State) (shared : Shared D) (o n : Opening D) (k : ℕ) (res : Result Scan OpenRefusal) : Type 0 where
+  pub same : n ≡ record o { lanes = n.lanes; owned = n.owned }
+  pub lanes : AllZip (IsUsedLane state shared o.want.id o.most) o.lanes.items n.lanes.items
+  pub before : OwnedPart D
+  pub after : OwnedPart D
+  pub there : slice_get o.owned.items k ≡ Some before
+  pub set : n.owned.items ≡ slice_set o.owned.items k after
+  pub seen : IsSeenAgain state before after
+  pub ok : IfOk res (λ s. CanOpen state shared n × IsScanned state o.want.id o.want.home after s × IsSettledPart state before after × (IsTrue tells → IsIntact o.want.id o.want.home (owned_of state before)))
+  pub err : IfErr res (SegmentRefuses tells state o.want.id o.want.home before after)
 
 -- ---- Records
 

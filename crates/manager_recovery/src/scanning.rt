@@ -10,7 +10,7 @@ ghost use Rattle.manager_recovery.specs.Owned.{IsIntact, owned_of};
 ghost use Rattle.manager_recovery.specs.Opening.{CanOpen, SaysOwner};
 ghost use Rattle.manager_recovery.specs.Left.{IsSameOwned};
 ghost use Rattle.manager_recovery.specs.Refused.{IsNamesAnswer, Refuses};
-ghost use Rattle.manager_recovery.specs.Scanned.{IsReadOf, IsScanned, IsSettledPart, SegmentRefuses, IsPastEnd, IsReadBack, AreReadBack};
+ghost use Rattle.manager_recovery.specs.Scanned.{IsReadOf, IsScanned, IsSettledPart, SegmentRefuses, IsPastEnd, IsReadBack, AreReadBack, IsScannedAt};
 
 use crate::names::place_of;
 use crate::{OpenRefusal, Opening, OwnedPart};
@@ -142,6 +142,28 @@ fn scan_owned<R: Wait, D: Disk>(
     }
 }
 
+// Reads the owned segment at place `k` back.
+fn scan_at<R: Wait, D: Disk>(
+    alloc: Global,
+    rt: &R,
+    shared: &Shared<D>,
+    opening: &mut Opening<D>,
+    k: usize,
+) -> Result<Scan, OpenRefusal>
+    requires ready { CanOpen D.state shared.now opening.old }
+    requires named { IsNamesAnswer opening.old None }
+    requires inside { k < length opening.old.owned.items }
+    ensures { IsScannedAt D.tells D.state shared.now opening.old opening.new k result }
+{
+    let id = opening.want.id;
+    let home = opening.want.home;
+    let part = &mut opening.owned[k];
+    let Some(place) = place_of(opening.view.ids(), part.logger) else {
+        unreachable!()
+    };
+    scan_owned(alloc, rt, shared, id, home, &mut opening.lanes[place], part)
+}
+
 /// Reads all owned segments back, in order.
 pub fn scan_all<R: Wait, D: Disk>(
     alloc: Global,
@@ -157,24 +179,11 @@ pub fn scan_all<R: Wait, D: Disk>(
 {
     let mut scans = Vec::new(alloc);
     for k in 0..opening.owned.len() {
-        let part = &mut opening.owned[k];
-        let Some(place) = place_of(opening.view.ids(), part.logger) else {
-            unreachable!()
-        };
-        let lane = &mut opening.lanes[place];
-        match scan_owned(
-            alloc,
-            rt,
-            shared,
-            opening.want.id,
-            opening.want.home,
-            lane,
-            part,
-        ) {
+        match scan_at(alloc, rt, shared, opening, k) {
             Ok(scan) => {
-                if scans.push(scan).is_err() {
+                let Ok(()) = scans.push(scan) else {
                     return Err(OpenRefusal::NoMemory);
-                }
+                };
             }
             Err(refusal) => return Err(refusal),
         }

@@ -92,9 +92,10 @@ fn recover<R: Wait, D: Disk>(
     };
     let id = opening.want.id;
     let lock = &shared.spindles[id as usize];
-    if sync_part(rt, lock, &mut opening.spindle, &mut opening.home).is_err() {
+    let synced = sync_part(rt, lock, &mut opening.spindle, &mut opening.home);
+    let Ok(()) = synced else {
         return Err(OpenRefusal::DiskFault(Part::Home { volume: id }));
-    }
+    };
     match retire_bare(rt, shared, opening, &mut scans) {
         Ok(()) => Ok(Recovered { scans, index, next }),
         Err(refusal) => Err(refusal),

@@ -24,9 +24,9 @@ loop-k-preserved g c =
     let same : c.deref.result.now ≡ c.index-scans-k.result.records.items = c.deref.ensures.value ∙ ap (λ (x : Scan). x.records.items) (sym c.index-scans-k.is) in
     let found : c.place_of.result ≡ position (λ id. eqb id c.index-owned-k.result.logger) c.args.view.now = c.place_of.ensures ∙ (λ i. position (λ id. eqb id c.index-owned-k.result.logger) (c.ids.ensures.value i)) in
     let lane : c.match-place_of.lane ≡ lane_of c.args.view.now c.index-owned-k.result.logger =
-        elim c.match-place_of.branch [
-          in-Some w ↦ lane_some c.args.view.now c.index-owned-k.result.logger c.match-place_of.lane w.in-Some.place c.place_of.result found w.in-Some.is w.lane-is
-        | in-None w ↦ lane_none c.args.view.now c.index-owned-k.result.logger c.match-place_of.lane c.place_of.result found w.in-None.is w.lane-is
-        ] in
+    elim c.match-place_of.branch [
+      | in-Some w ↦ lane_some c.args.view.now c.index-owned-k.result.logger c.match-place_of.lane w.in-Some.place c.place_of.result found w.in-Some.is w.lane-is
+      | in-None w ↦ lane_none c.args.view.now c.index-owned-k.result.logger c.match-place_of.lane c.place_of.result found w.in-None.is w.lane-is
+    ] in
     found_step c.args.view.now c.args.owned.now c.args.scans.now c.loop-k.k c.index-owned-k.result c.index-scans-k.result c.match-place_of.lane c.deref.result.now c.loop-k.listed.items c.list_segment.new.listed.items o s
-        lane same c.loop-k.invariant c.in_ok-list_segment.ensures
+    lane same c.loop-k.invariant c.in_ok-list_segment.ensures

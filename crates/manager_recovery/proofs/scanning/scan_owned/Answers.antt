@@ -11,8 +11,8 @@ returns-in-Err-clause-err g c =
     let o = c.args.owned.now in
     let n : OwnedPart _ = record o { part = c.scan_part.new.part } in
     err_refuses g.D.Disk.tells g.D.Disk.state c.args.id c.args.home o n c.in-Err.fault c.refusal_of.result
-        c.refusal_of.ensures.damaged c.refusal_of.ensures.failed c.refusal_of.ensures.no_memory
-        (λ t. g.met.D.Disk.told t (disk_of o.part)) (g.met.D.Disk.sound (disk_of o.part)) c.requires.last c.in-Err.ensures.read
+    c.refusal_of.ensures.damaged c.refusal_of.ensures.failed c.refusal_of.ensures.no_memory
+    (λ t. g.met.D.Disk.told t (disk_of o.part)) (g.met.D.Disk.sound (disk_of o.part)) c.requires.last c.in-Err.ensures.read
 
 pub overflow_add-result : goal.overflow_add-result
 overflow_add-result g c =
@@ -30,7 +30,7 @@ returns-in-None-clause-intact g c tells =
     let o = c.args.owned.now in
     let v = g.met.D.Disk.told tells (disk_of o.part) in
     subst (λ (bs : List Block). IsIntact c.args.id c.args.home (record { logger = o.logger; index = o.index; first = o.first_block; blocks = bs })) (sym (told_is (g.D.Disk.state (disk_of o.part)) v.0 v.1))
-        (intact_from (reads v.0) o.logger o.index o.first_block c.args.id c.args.home c.in-Ok.scan (c.in-Ok.ensures.read.scanned v.0 v.1) c.in-None.ensures)
+    (intact_from (reads v.0) o.logger o.index o.first_block c.args.id c.args.home c.in-Ok.scan (c.in-Ok.ensures.read.scanned v.0 v.1) c.in-None.ensures)
 
 pub returns-in-Some-clause-err : goal.returns-in-Some-clause-err
 returns-in-Some-clause-err g c tells =
