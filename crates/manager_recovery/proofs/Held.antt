@@ -131,7 +131,7 @@ module _ {D : Type 0} (state : D → State) (shared : Shared D) (id most : ℕ) 
     lanes_more (x ∷ olds) (n ∷ news) (suc place) l m apart is on zip so =
         (other_lane x n (λ e. apart_at (logger_of n) news place l is apart.0 (e ∙ sym on)) zip.0, lanes_more olds news place l m apart.1 is on zip.1 so)
 
-  loggers_same : (os : List (OwnedPart D)) (hs : List (HeldSegment D)) (olds news : List (Lane D)) → AllZip (HoldsItsOwn state shared id most os hs) olds news → map logger_of news ≡ map logger_of olds
+  pub loggers_same : (os : List (OwnedPart D)) (hs : List (HeldSegment D)) (olds news : List (Lane D)) → AllZip (HoldsItsOwn state shared id most os hs) olds news → map logger_of news ≡ map logger_of olds
   loggers_same os hs [] [] zip = refl
   loggers_same os hs [] (n ∷ news) zip = absurd zip
   loggers_same os hs (x ∷ olds) [] zip = absurd zip

@@ -70,7 +70,7 @@ all_present present (v ∷ view) none = at (all_present present view) (slice_ind
     at more true none = ap (λ (l : List ℕ). v ∷ l) (more none)
     at more false none = absurd (none-some v (sym none))
 
-lane_with : {D : Type 0} (ls : List (Lane D)) (k x : ℕ) → slice_get (map logger_of ls) k ≡ Some x → (l : Lane D) × (slice_get ls k ≡ Some l) × (logger_of l ≡ x)
+pub lane_with : {D : Type 0} (ls : List (Lane D)) (k x : ℕ) → slice_get (map logger_of ls) k ≡ Some x → (l : Lane D) × (slice_get ls k ≡ Some l) × (logger_of l ≡ x)
 lane_with [] k x is = absurd (none-some x is)
 lane_with (l ∷ ls) zero x is = (l, refl, same_Some (logger_of l) x is)
 lane_with (l ∷ ls) (suc k) x is = lane_with ls k x is
