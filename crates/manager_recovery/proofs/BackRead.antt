@@ -1,8 +1,8 @@
 -- What an opening is whose segments were read back.
-use Rattle.std.proofs.Common.{◌≡◌, ◌+◌, ◌<◌, ◌≤◌, ◌^◌, ℕ, Bool, true, List, [], ◌∷◌, length, map, Option, None, Some, refl, sym, ap, subst, ◌∙◌, arith}
+use Rattle.std.proofs.Common.{◌≡◌, ◌<◌, ◌^◌, ℕ, Bool, true, List, map, None, sym, ap, subst, ◌∙◌}
 use Rattle.std.specs.Prelude.{IsTrue, option_map}
-use Rattle.std.specs.List.{AllByRecursion, AllZip, filter}
-use Rattle.wol_disk.specs.Disk.{State, IsDisk, TellsContent, settled}
+use Rattle.std.specs.List.{AllByRecursion, filter}
+use Rattle.wol_disk.specs.Disk.{State, TellsContent, settled}
 use Rattle.wol_model.specs.Index.{Indexed}
 use Rattle.spin_model.specs.Spun.{state_of, disk_of}
 use Rattle.spin_model.specs.declared.spun.Spun.{Spun}
@@ -21,8 +21,6 @@ use Rattle.manager_recovery.specs.Recovery.{IsIndexOf, IsIndexRefusal, IsRecover
 use Rattle.manager_recovery.specs.Refused.{IsNamesAnswer, IsRecoverable, Refuses, head_at}
 use Rattle.manager_recovery.specs.Scanned.{IsReadBack, AreReadBack, IsScanned, IsSeenAgain, IsThinning, all_found, head_of, has_some, thinned, next_of}
 use Rattle.manager_recovery.specs.declared.opening.Opening.{Opening}
-use Rattle.manager_recovery.specs.declared.opening.OwnedPart.{OwnedPart}
-use Rattle.manager_recovery.specs.declared.listing.FoundRecord.{FoundRecord}
 use Rattle.manager_recovery.specs.declared.refusal.OpenRefusal.{OpenRefusal}
 use Rattle.manager_recovery.specs.declared.refusal.OpenRefusal.TheVariants.{LabelDiffers, LoggerMissing, OutsideView, Damaged, Twins, DiskFault, NoMemory}
 use Rattle.manager_recovery.specs.declared.volume.Recovered.{Recovered}

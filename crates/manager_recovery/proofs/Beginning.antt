@@ -1,16 +1,16 @@
 -- What a volume begins with when it is opened, whether or not its disks tell their content.
-use Rattle.std.proofs.Common.{◌≡◌, ◌⊎◌, inl, inr, ⊎_elim, ◌+◌, ◌<◌, ◌≤◌, ℕ, zero, suc, Bool, true, false, not, eqb, List, [], ◌∷◌, ◌++◌, length, map, Option, None, Some, option_map, refl, sym, ap, subst, ◌∙◌, arith}
-use Rattle.std.specs.Prelude.{slice_get, filter, replicate, IsTrue, unwrap_or}
+use Rattle.std.proofs.Common.{◌≡◌, ◌+◌, ◌<◌, ◌≤◌, ℕ, zero, suc, Bool, true, false, not, eqb, List, [], ◌∷◌, length, map, Option, Some, option_map, refl, sym, ap, subst, ◌∙◌, arith}
+use Rattle.std.specs.Prelude.{filter, replicate, IsTrue, unwrap_or}
 use Rattle.std.specs.List.{AllByRecursion, AllZip, flat_map}
 use Rattle.std.specs.declared.alloc.Global.{Global}
 use Rattle.std.specs.declared.vec.Vec.{Vec}
 use Rattle.wol_disk.specs.Disk.{State, Block, Values, IsDisk, TellsContent, IsAmong, IsImageOf, IsImage, only, reads, settled}
 use Rattle.wol_disk.proofs.Images.{only_image}
 use Rattle.wol_model.specs.Blocks.{Write, AreApart}
-use Rattle.wol_model.specs.Extents.{Extent, IsValid, with_extents, newest_block, write_of}
+use Rattle.wol_model.specs.Extents.{Extent, IsValid, with_extents, newest_block}
 use Rattle.wol_model.specs.Heads.{RecordHead, IsViewList}
 use Rattle.wol_model.specs.Index.{Indexed}
-use Rattle.wol_model.specs.Log.{Record, IsNamed, extent_of}
+use Rattle.wol_model.specs.Log.{Record, extent_of}
 use Rattle.wol_model.specs.Recovered.{recovered, extents_of}
 use Rattle.wol_model.proofs.Overlay.{overlay_length_from}
 use Rattle.redirect_map.proofs.Seen.{length-marks_of}
@@ -25,20 +25,20 @@ use Rattle.logger.specs.Lanes.{IsSameLane}
 use Rattle.logger.specs.declared.lane.HeldSegment.{HeldSegment}
 use Rattle.logger.specs.declared.lane.Lane.{Lane}
 use Rattle.logger.specs.declared.shared.Shared.{Shared}
-use Rattle.manager.specs.Stands.{IsInVolume, opened}
-use Rattle.manager_recovery.specs.Owned.{Owned, read_of, all_owned, records_in, valid_in, writes_in, recovered_of}
+use Rattle.manager.specs.Stands.{opened}
+use Rattle.manager_recovery.specs.Owned.{Owned, read_of, all_owned, records_in, writes_in, recovered_of}
 use Rattle.manager_recovery.specs.Left.{IsUsedLane, IsHandedBack}
-use Rattle.manager_recovery.specs.Opened.{Begins, Opens}
+use Rattle.manager_recovery.specs.Opened.{Opens}
 use Rattle.manager_recovery.specs.Recovery.{IsRecovered}
-use Rattle.manager_recovery.specs.Scanned.{AreAdopted, AreHeld, HoldsItsOwn, keeps_some}
+use Rattle.manager_recovery.specs.Scanned.{AreHeld, HoldsItsOwn}
 use Rattle.manager_recovery.specs.declared.opening.Opening.{Opening}
 use Rattle.manager_recovery.specs.declared.opening.OwnedPart.{OwnedPart}
 use Rattle.manager_recovery.specs.declared.volume.Recovered.{Recovered}
 use Rattle.manager_recovery.proofs.ByLogger.{all_among, all_from, among_get, among_at, among_filter, filter_among, among_map, map_among, flat_among, apart_once, rising_counts}
-use Rattle.manager_recovery.proofs.Gathered.{gs, gathered, scanned_still, names_still, entry_versions, below_all, below_entry}
-use Rattle.manager_recovery.proofs.OpenedIndex.{IsHere, entry_for, entry_here, in_volume, kept_among, valid_keeps, one_of_version, versions_once, named_at}
+use Rattle.manager_recovery.proofs.Gathered.{gs, gathered, scanned_still, entry_versions, below_all, below_entry}
+use Rattle.manager_recovery.proofs.OpenedIndex.{entry_for, entry_here, in_volume, kept_among, valid_keeps, one_of_version, versions_once, named_at}
 use Rattle.manager_recovery.proofs.OpenedKeeps.{IsGathered, is_home}
-use Rattle.manager_recovery.proofs.OpenedStands.{IsBeginning, IsToldBeginning, IsKnown, kept_of_all, recs_of, write_of_record, opened_base, opened_stands}
+use Rattle.manager_recovery.proofs.OpenedStands.{IsBeginning, IsKnown, kept_of_all, recs_of, write_of_record, opened_base, opened_stands}
 use Rattle.manager_recovery.proofs.SameNewest.{same_array}
 use Rattle.manager_recovery.proofs.Segs.{Seg, IsSeg, segs_of, records_segs, entries_at, entries_segs}
 use Rattle.manager_recovery.proofs.ToldParts.{IsTold, AreHeads, all_told, records_at, all_records, keeps, kept_thinned, versions_found, records_before, extents_are, next_is}
@@ -183,18 +183,18 @@ module _ {D : Type 0} (tells : Bool) (state : D → State) (shared : Shared D) (
     is_array : (image : List Block) → IsImageOf (state_of state n.home).values image → with_extents image (map extent_of kept) ≡ first_array
     is_array image is =
         let to : (x : Extent) → IsAmong (map extent_of first_records) x → IsValid x.cover → IsAmong (map extent_of kept) x = λ x has ok.
-            let w = map_among extent_of first_records x has in
-            let some = valid_keeps w.0 (subst (λ (y : Extent). IsValid y.cover) w.2 ok) in
-            let here : IsAmong kept w.0 = subst (λ (l : List Record). IsAmong l w.0) kept_is (filter_among keeps first_records w.0 w.1 some) in
-            subst (IsAmong (map extent_of kept)) (sym w.2) (among_map extent_of kept w.0 here) in
+        let w = map_among extent_of first_records x has in
+        let some = valid_keeps w.0 (subst (λ (y : Extent). IsValid y.cover) w.2 ok) in
+        let here : IsAmong kept w.0 = subst (λ (l : List Record). IsAmong l w.0) kept_is (filter_among keeps first_records w.0 w.1 some) in
+        subst (IsAmong (map extent_of kept)) (sym w.2) (among_map extent_of kept w.0 here) in
         let from : (y : Extent) → IsAmong (map extent_of kept) y → IsValid y.cover → IsAmong (map extent_of first_records) y = λ y has ok.
-            let w = map_among extent_of kept y has in
-            let f = among_filter keeps first_records w.0 (subst (λ (l : List Record). IsAmong l w.0) (sym kept_is) w.1) in
-            subst (IsAmong (map extent_of first_records)) (sym w.2) (among_map extent_of first_records w.0 f.0) in
+        let w = map_among extent_of kept y has in
+        let f = among_filter keeps first_records w.0 (subst (λ (l : List Record). IsAmong l w.0) (sym kept_is) w.1) in
+        subst (IsAmong (map extent_of first_records)) (sym w.2) (among_map extent_of first_records w.0 f.0) in
         let once : (x y : Extent) → IsAmong (map extent_of kept) x → IsAmong (map extent_of kept) y → IsValid x.cover → IsValid y.cover → x.cover.version ≡ y.cover.version → x ≡ y = λ x y a d ok ok' version.
-            let v = map_among extent_of kept x a in let w = map_among extent_of kept y d in
-            let same : v.0.head.version ≡ w.0.head.version = sym (ap (λ (e : Extent). e.cover.version) v.2) ∙ (version ∙ ap (λ (e : Extent). e.cover.version) w.2) in
-            v.2 ∙ (ap extent_of (one_of_version state n.lanes.items n.want.id n.want.home n.view all_gs c.all c.order c.view_ok.distinct r.index.entries c.same c.rising told_gs versions_are v.0 w.0 v.1 w.1 same) ∙ sym w.2) in
+        let v = map_among extent_of kept x a in let w = map_among extent_of kept y d in
+        let same : v.0.head.version ≡ w.0.head.version = sym (ap (λ (e : Extent). e.cover.version) v.2) ∙ (version ∙ ap (λ (e : Extent). e.cover.version) w.2) in
+        v.2 ∙ (ap extent_of (one_of_version state n.lanes.items n.want.id n.want.home n.view all_gs c.all c.order c.view_ok.distinct r.index.entries c.same c.rising told_gs versions_are v.0 w.0 v.1 w.1 same) ∙ sym w.2) in
         sym (same_array (map extent_of first_records) (map extent_of kept) to from once image)
         ∙ ((λ i. with_extents (image_is image is i) (sym (extents_are state o.want.id o.owned.items) i)) ∙ sym (recovered_is o.want.id (read_of (state_of state o.home)) (map (λ (s : Owned). s.blocks) (all_owned state o.owned.items))))
 
@@ -216,7 +216,7 @@ module _ {D : Type 0} (tells : Bool) (state : D → State) (shared : Shared D) (
         let k = among_get (records_at state n.want.id g.0.part) q g.2 in
         let named = named_at state n.lanes.items n.want.id n.want.home n.view all_gs c.all c.order c.view_ok.distinct r.index.entries c.same c.rising told_gs g.0 k.0 q g.1 k.1 in let counted = named.counted in
         let within = all_among (λ (x : Record). x.head.first + x.head.count ≤ n.want.home) (records_at state n.want.id g.0.part) q
-            (head_facts (λ (h : RecordHead). h.first + h.count ≤ n.want.home) (records_at state n.want.id g.0.part) g.0.scan.records.items (told_at g.0 g.1).heads (is_seg g.0 g.1).scanned.within) g.2 in
+        (head_facts (λ (h : RecordHead). h.first + h.count ≤ n.want.home) (records_at state n.want.id g.0.part) g.0.scan.records.items (told_at g.0 g.1).heads (is_seg g.0 g.1).scanned.within) g.2 in
         omega (arith, counted, within)
 
     is_known : (e : Indexed) → IsAmong r.index.entries e → IsKnown state n r all_gs first_writes e

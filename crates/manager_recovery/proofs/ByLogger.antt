@@ -1,5 +1,5 @@
 -- Items by their loggers, and how often what they have counts.
-use Rattle.std.proofs.Common.{◌≡◌, ◌≢◌, ◌⊎◌, inl, inr, ⊎_elim, ◌+◌, ◌<◌, ◌≤◌, ℕ, zero, suc, Bool, true, false, cond, eqb, ◌&&◌, not, List, [], ◌∷◌, ◌++◌, length, map, None, Some, refl, sym, ap, subst, ◌∙◌, arith}
+use Rattle.std.proofs.Common.{◌≡◌, ◌≢◌, ◌⊎◌, inl, inr, ⊎_elim, ◌+◌, ◌<◌, ◌≤◌, ℕ, zero, suc, Bool, true, false, cond, eqb, List, [], ◌∷◌, ◌++◌, map, Some, refl, sym, ap, subst, ◌∙◌, arith}
 use Rattle.std.specs.Prelude.{slice_get, filter, Contains, sum_by}
 use Rattle.std.specs.List.{AllByRecursion, count_by, flat_map}
 use Rattle.std.proofs.lemmas.Bool.{eqb-true, ne_eqb, eq-eqb}
@@ -107,9 +107,9 @@ module _ {X : Type 0} where
   pub one_only : (test : X → Bool) (xs : List X) (x y : X) → count_by test xs ≤ 1 → IsAmong xs x → IsAmong xs y → test x ≡ true → test y ≡ true → x ≡ y
   one_only test [] x y few a b p q = absurd a
   one_only test (z ∷ xs) x y few a b p q = let c = count-cons test z xs in
-      let first : (w : X) → IsAmong xs w → test w ≡ true → (v : X) → v ≡ z → test v ≡ true → ⊥ = λ w has passes v same passes' .
-          let rest = some_counts test xs w has passes in
-          let here : cond {A = ℕ} (test z) 1 0 ≡ 1 = ap (λ (t : Bool). cond {A = ℕ} t 1 0) (ap test (sym same) ∙ passes') in omega (arith, c, here, rest, few) in
+      let first : (w : X) → IsAmong xs w → test w ≡ true → (v : X) → v ≡ z → test v ≡ true → ⊥ = λ w has passes v same passes'.
+      let rest = some_counts test xs w has passes in
+      let here : cond {A = ℕ} (test z) 1 0 ≡ 1 = ap (λ (t : Bool). cond {A = ℕ} t 1 0) (ap test (sym same) ∙ passes') in omega (arith, c, here, rest, few) in
       ⊎_elim
       (λ same. ⊎_elim (λ same'. same ∙ sym same') (λ more. absurd (first y more q x same p)) b)
       (λ more. ⊎_elim (λ same'. absurd (first x more p y same' q)) (λ more'. one_only test xs x y (omega (arith, c, few)) more more' p q) b) a
@@ -125,12 +125,13 @@ count-flat {X} f test (x ∷ xs) = let c = count-append test (f x) (flat_map f x
 -- numbers of which none comes twice
 pub apart_once : (vs : List ℕ) → ((v : ℕ) → count_by (λ (w : ℕ). eqb w v) vs ≤ 1) → AreApart vs
 apart_once [] once = tt
-apart_once (v ∷ vs) once =
-    (all_from (λ (w : ℕ). v ≢ w) vs (λ w has same.
-        let c = count-cons (λ (u : ℕ). eqb u v) v vs in let few = once v in
-        let here : cond {A = ℕ} (eqb v v) 1 0 ≡ 1 = ap (λ (t : Bool). cond {A = ℕ} t 1 0) (eq-eqb v v refl) in
-        let rest = some_counts (λ (u : ℕ). eqb u v) vs w has (eq-eqb w v (sym same)) in omega (arith, c, few, here, rest)),
-    apart_once vs (λ u. let c = count-cons (λ (w : ℕ). eqb w u) v vs in let few = once u in omega (arith, c, few)))
+apart_once (v ∷ vs) once = (
+  all_from (λ (w : ℕ). v ≢ w) vs (λ w has same.
+      let c = count-cons (λ (u : ℕ). eqb u v) v vs in let few = once v in
+      let here : cond {A = ℕ} (eqb v v) 1 0 ≡ 1 = ap (λ (t : Bool). cond {A = ℕ} t 1 0) (eq-eqb v v refl) in
+      let rest = some_counts (λ (u : ℕ). eqb u v) vs w has (eq-eqb w v (sym same)) in omega (arith, c, few, here, rest)),
+  apart_once vs (λ u. let c = count-cons (λ (w : ℕ). eqb w u) v vs in let few = once u in omega (arith, c, few)),
+)
 
 rising_once : (vs : List ℕ) → AreRising vs → (v : ℕ) → count_by (λ (w : ℕ). eqb w v) vs ≤ 1
 rising_once [] rising v = omega arith

@@ -1,54 +1,38 @@
 -- What recovery leaves and what the lanes hold, gathered for the manager.
-use Rattle.std.proofs.Common.{◌≡◌, ◌≢◌, ◌⊎◌, inl, inr, ⊎_elim, ◌+◌, ◌<◌, ◌≤◌, ◌^◌, ℕ, zero, suc, Bool, true, false, not, cond, eqb, List, [], ◌∷◌, ◌++◌, length, map, MatchOption, Option, None, Some, option_map, refl, sym, ap, subst, ◌∙◌, arith}
-use Rattle.std.specs.Prelude.{slice_get, filter, replicate, IsTrue, IsPermutation, max, unwrap_or}
-use Rattle.std.specs.List.{AllByRecursion, AllZip, flat_map, filter_map}
+use Rattle.std.proofs.Common.{◌≡◌, inl, inr, ⊎_elim, ◌+◌, ◌<◌, ◌≤◌, ◌^◌, ℕ, Bool, true, false, not, cond, List, [], ◌∷◌, map, MatchOption, Option, None, Some, refl, sym, ap, subst, ◌∙◌, arith}
+use Rattle.std.specs.Prelude.{filter, IsPermutation, max}
+use Rattle.std.specs.List.{AllByRecursion, AllZip, flat_map}
 use Rattle.std.proofs.lemmas.List.Sorted.{IsPermutation-map, IsPermutation-sym, Contains-permutation}
-use Rattle.std.proofs.lemmas.Option.{same_Some, none-some}
-use Rattle.std.specs.declared.alloc.Global.{Global}
-use Rattle.std.specs.declared.vec.Vec.{Vec}
-use Rattle.wol_disk.specs.Disk.{State, Block, Values, IsDisk, TellsContent, IsAmong, IsImageOf, IsImage, only, reads, settled}
-use Rattle.wol_disk.proofs.Images.{only_image}
-use Rattle.wol_model.specs.Blocks.{Write, AreApart}
-use Rattle.wol_model.specs.Extents.{Extent, IsValid, with_extents, write_of}
-use Rattle.wol_model.specs.Heads.{RecordHead, IsViewList}
+use Rattle.wol_disk.specs.Disk.{State, IsAmong}
+use Rattle.wol_model.specs.Heads.{IsViewList}
 use Rattle.wol_model.specs.Index.{Indexed, AreRising}
-use Rattle.wol_model.specs.Log.{Record, IsNamed, extent_of}
-use Rattle.wol_model.specs.Recovered.{recovered, extents_of}
 use Rattle.redirect_map.specs.Index.{entry_of}
-use Rattle.redirect_map.proofs.Seen.{length-marks_of}
-use Rattle.log_layout.specs.Values.{record_head}
 use Rattle.log_scan.specs.Scan.{IsInside}
 use Rattle.log_scan.specs.declared.Found.{Found}
 use Rattle.log_scan.specs.declared.Scan.{Scan}
-use Rattle.wol_promise.specs.Manager.{versions}
-use Rattle.wol_promise.specs.Stands.{LiesIn, next_version}
 use Rattle.spin_model.specs.Spun.{state_of}
-use Rattle.spin_model.specs.declared.spun.Spun.{Spun}
-use Rattle.logger.specs.Lanes.{logger_of, held_in, pool_blocks}
+use Rattle.logger.specs.Lanes.{logger_of}
 use Rattle.turn_lock.specs.LockIds.{LockId}
 use Rattle.seg_pool.specs.declared.base.PoolBase.{PoolBase}
 use Rattle.logger.specs.declared.lane.HeldSegment.{HeldSegment}
 use Rattle.logger.specs.declared.lane.Lane.{Lane}
 use Rattle.logger.specs.declared.shared.Shared.{Shared}
-use Rattle.manager.proofs.Lanes.{all_at}
-use Rattle.manager_recovery.specs.Owned.{Owned, read_of, all_owned, records_of, records_in, valid_in, writes_in, recovered_of}
-use Rattle.manager_recovery.specs.Opening.{CanOpen, IsOpeningLane, AreInOrder, place_of}
+use Rattle.manager_recovery.specs.Opening.{IsOpeningLane, AreInOrder}
 use Rattle.manager_recovery.specs.Refused.{IsNamesAnswer, first_missing, first_outside, is_named}
 use Rattle.manager_recovery.specs.Left.{IsSameOwned}
 use Rattle.manager_recovery.specs.Recovery.{IsRecovered}
-use Rattle.manager_recovery.specs.Scanned.{IsScanned, IsAdopted, AreAdopted, HoldsItsOwn, AreHeld, held_on, has_some, keeps_some, thinned, found_in, all_found, entries_from, next_found, next_of, lane_of, record_in}
+use Rattle.manager_recovery.specs.Scanned.{IsScanned, HoldsItsOwn, AreHeld, has_some, keeps_some, thinned, found_in, all_found, entries_from, next_found, next_of, lane_of, record_in}
 use Rattle.manager_recovery.specs.declared.listing.FoundRecord.{FoundRecord}
 use Rattle.manager_recovery.specs.declared.opening.Opening.{Opening}
 use Rattle.manager_recovery.specs.declared.opening.OwnedPart.{OwnedPart}
 use Rattle.manager_recovery.specs.declared.volume.Recovered.{Recovered}
-use Rattle.manager_recovery.proofs.ByLogger.{on, all_among, all_from, among_get, among_at, among_filter, filter_among, among_map, map_among, flat_among, apart_once, among_contains, contains_among}
+use Rattle.manager_recovery.proofs.ByLogger.{all_among, all_from, among_filter, map_among, flat_among, among_contains, contains_among}
 use Rattle.manager_recovery.proofs.Indexing.{all_named}
 use Rattle.manager_recovery.proofs.Held.{loggers_same}
-use Rattle.manager_recovery.proofs.OpenedIndex.{valid_keeps}
 use Rattle.manager_recovery.proofs.OpenedKeeps.{IsLaneNow, IsGathered}
 use Rattle.manager_recovery.proofs.Places.{loggers_are}
-use Rattle.manager_recovery.proofs.Segs.{Seg, IsSeg, logger_of_seg, segs_of, all_segs, held_segs, places_segs, records_segs, entries_at, entries_segs}
-use Rattle.manager_recovery.proofs.ToldParts.{IsTold, all_told, records_at, all_records, keeps, found_thinned, all_above, next_least}
+use Rattle.manager_recovery.proofs.Segs.{Seg, IsSeg, segs_of, all_segs, held_segs, places_segs, entries_at, entries_segs}
+use Rattle.manager_recovery.proofs.ToldParts.{found_thinned, all_above, next_least}
 
 -- ---- What stays of lists that are thinned
 

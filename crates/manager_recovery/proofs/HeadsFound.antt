@@ -1,24 +1,22 @@
 -- The heads of the records that were found are those in the segments as they read.
-use Rattle.std.proofs.Common.{◌≡◌, ◌+◌, ◌<◌, ◌≤◌, ◌^◌, ℕ, zero, suc, Bool, true, false, not, cond, eqb, List, [], ◌∷◌, ◌++◌, length, length-append, take, map, Option, None, Some, refl, sym, ap, subst, ◌∙◌, arith, unwrap_or}
-use Rattle.std.specs.Prelude.{slice_get, option_map, IsTrue}
-use Rattle.std.specs.List.{AllByRecursion, AllZip, flat_map, filter}
+use Rattle.std.proofs.Common.{◌≡◌, ◌+◌, ℕ, zero, suc, Bool, true, false, not, cond, eqb, List, [], ◌∷◌, ◌++◌, length, length-append, take, map, Option, None, Some, refl, sym, ap, ◌∙◌, arith, unwrap_or}
+use Rattle.std.specs.Prelude.{slice_get, option_map}
+use Rattle.std.specs.List.{AllZip, flat_map, filter}
 use Rattle.std.proofs.lemmas.List.{map-append}
-use Rattle.std.proofs.lemmas.Option.{same_Some, none-some}
-use Rattle.wol_disk.specs.Disk.{Block, State, Values, TellsContent, reads, settled, only}
+use Rattle.std.proofs.lemmas.Option.{same_Some}
+use Rattle.wol_disk.specs.Disk.{Block, State, Values, TellsContent, reads, settled}
 use Rattle.wol_disk.proofs.Images.{reads_only}
-use Rattle.wol_model.specs.Log.{Record, IsLog, written, position_of}
+use Rattle.wol_model.specs.Log.{Record, written}
 use Rattle.wol_model.specs.Heads.{RecordHead}
 use Rattle.wol_model.specs.Recovered.{read_log}
 use Rattle.wol_model.proofs.ReadLogs.{log_read}
 use Rattle.log_layout.specs.Values.{record_head}
-use Rattle.log_scan.specs.Scan.{AreFound}
 use Rattle.log_scan.specs.declared.Found.{Found}
 use Rattle.log_scan.specs.declared.Scan.{Scan}
 use Rattle.spin_model.specs.Spun.{state_of}
-use Rattle.manager_recovery.specs.Owned.{Owned, Head, read_of, owned_of, all_owned, records_of, heads_from, heads_of, heads_in}
+use Rattle.manager_recovery.specs.Owned.{Head, read_of, owned_of, all_owned, records_of, heads_from, heads_of, heads_in}
 use Rattle.manager_recovery.specs.Scanned.{IsScanned, IsSeenAgain, IsSettledPart, all_found, found_in, record_in, keeps_some, lane_of, head_of}
 use Rattle.manager_recovery.specs.declared.opening.OwnedPart.{OwnedPart}
-use Rattle.manager_recovery.specs.declared.listing.FoundRecord.{FoundRecord}
 use Rattle.manager_recovery.proofs.SegmentFaults.{scan_log, told_is}
 
 -- ---- What reads the same

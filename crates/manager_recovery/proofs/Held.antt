@@ -1,5 +1,5 @@
 -- The owned segments come into the hands of their lanes, one after the other.
-use Rattle.std.proofs.Common.{◌≡◌, ◌≢◌, ◌+◌, ◌<◌, ◌≤◌, ℕ, zero, suc, Bool, true, false, cond, eqb, List, [], ◌∷◌, ◌++◌, length, take, drop, map, reverse, None, Some, refl, sym, ap, subst, ◌∙◌, arith}
+use Rattle.std.proofs.Common.{◌≡◌, ◌≢◌, ◌<◌, ◌≤◌, ℕ, zero, suc, Bool, true, false, cond, eqb, List, [], ◌∷◌, ◌++◌, length, take, drop, map, reverse, None, Some, refl, sym, ap, subst, ◌∙◌, arith}
 use Rattle.std.specs.Prelude.{slice_get, slice_set, slice_index_or, position}
 use Rattle.std.specs.List.{AllByRecursion, AllZip}
 use Rattle.std.proofs.lemmas.Bool.{ne_eqb, eq-eqb, eqb-true}
@@ -15,7 +15,7 @@ use Rattle.seg_pool.specs.declared.base.PoolBase.{PoolBase}
 use Rattle.spin_model.specs.Spun.{disk_of, volume_of}
 use Rattle.log_scan.specs.declared.Scan.{Scan}
 use Rattle.log_segment.specs.declared.free.FreeSegment.{FreeSegment}
-use Rattle.logger.specs.Lanes.{IsLane, IsAt, IsSameLane, logger_of, held_in, taken_in, pool_of, pool_blocks, segments_in, indexes_in, lane_owner}
+use Rattle.logger.specs.Lanes.{IsLane, IsSameLane, logger_of, held_in, taken_in, pool_of, pool_blocks, segments_in, indexes_in, lane_owner}
 use Rattle.logger.specs.declared.lane.HeldSegment.{HeldSegment}
 use Rattle.logger.specs.declared.lane.Lane.{Lane}
 use Rattle.logger.specs.declared.shared.Shared.{Shared}
@@ -25,7 +25,7 @@ use Rattle.manager_recovery.specs.Refused.{IsNamesAnswer}
 use Rattle.manager_recovery.specs.Scanned.{IsScanned, IsAdopted, AreAdopted, held_on, HoldsItsOwn, AreHeld}
 use Rattle.manager_recovery.specs.declared.opening.Opening.{Opening}
 use Rattle.manager_recovery.specs.declared.opening.OwnedPart.{OwnedPart}
-use Rattle.manager_recovery.proofs.Fronts.{front_at, back_at, around, zip_long, zip_at}
+use Rattle.manager_recovery.proofs.Fronts.{front_at, around, zip_long, zip_at}
 use Rattle.manager_recovery.proofs.Places.{lane_is, place_is, loggers_are, read_at}
 use Rattle.manager_recovery.proofs.Thinning.{AreOther, others_front, zip_same, at_same}
 
@@ -248,7 +248,7 @@ module _ {D : Type 0} (state : D → State) (shared : Shared D) (o : Opening D) 
           let held : held_in l ≡ held_on x.logger (take k os) inv.segments = at.holds_own.held ∙ ap (λ (v : ℕ). held_on v (take k os) inv.segments) at.on in
           let untaken : taken_in l ≡ None = at.holds_own.taken ∙ at.ready.untaken in
           let same : indexes_in l ≡ map (λ (h : HeldSegment D). h.index) (held_on x.logger (take k os) inv.segments) =
-              (λ i. map (λ (h : HeldSegment D). h.index) (held i) ++ map (λ (t : ℕ × FreeSegment D). t.0) (option_to_list (untaken i))) ∙ append-nil (map (λ (h : HeldSegment D). h.index) (held_on x.logger (take k os) inv.segments)) in
+          (λ i. map (λ (h : HeldSegment D). h.index) (held i) ++ map (λ (t : ℕ × FreeSegment D). t.0) (option_to_list (untaken i))) ∙ append-nil (map (λ (h : HeldSegment D). h.index) (held_on x.logger (take k os) inv.segments)) in
           subst (AllByRecursion (λ (i : ℕ). x.index ≢ i)) (sym same) each
 
       pub held_next : AreApart o.view → (h : HeldSegment D) → IsAdopted state x next.scan h → (m : Lane D) → IsLane state m → IsSameLane l m → held_in m ≡ held_in l ++ h ∷ [] → taken_in m ≡ taken_in l → pass_mine (pool_of m) ≡ pass_mine (pool_of l)
@@ -259,21 +259,21 @@ module _ {D : Type 0} (state : D → State) (shared : Shared D) (o : Opening D) 
           let scans_front : take (suc k) scans ≡ take k scans ++ next.scan ∷ [] = front_at scans k next.scan next.scan_is in
           let loggers : AreApart (map logger_of n.lanes.items) = subst AreApart (sym (loggers_same state shared o.want.id o.most (take k os) inv.segments o.lanes.items n.lanes.items inv.each ∙ loggers_are state shared o can named.1)) apart in
           let here : (y : Lane D) → R (take k os) inv.segments y l → R (take k os ++ x ∷ []) (inv.segments ++ h ∷ []) y m = λ y has.
-              let logger : logger_of m ≡ x.logger = same.logger ∙ at.on in record {
-                lane = is;
-                at = at_same shared l m same has.at;
-                same = record {
-                  logger = same.logger ∙ has.same.logger;
-                  owner = same.owner ∙ has.same.owner;
-                  segments = same.segments ∙ has.same.segments;
-                  pool = (same.pool.0 ∙ has.same.pool.0, same.pool.1 ∙ has.same.pool.1);
-                  spindle = (same.spindle.0 ∙ has.same.spindle.0, same.spindle.1 ∙ has.same.spindle.1);
-                };
-                held = held ∙ (ap (λ (l : List (HeldSegment D)). l ++ h ∷ []) (has.held ∙ ap (λ (v : ℕ). held_on v (take k os) inv.segments) (sym same.logger))
-                    ∙ (ap (λ (b : Bool). held_on (logger_of m) (take k os) inv.segments ++ cond b (h ∷ []) []) (sym (eq-eqb x.logger (logger_of m) (sym logger))) ∙ sym (held_more state (logger_of m) (take k os) (take k scans) inv.segments x h inv.adopted)));
-                taken = taken ∙ has.taken;
-                pool = pool ∙ has.pool;
-              } in
+          let logger : logger_of m ≡ x.logger = same.logger ∙ at.on in record {
+            lane = is;
+            at = at_same shared l m same has.at;
+            same = record {
+              logger = same.logger ∙ has.same.logger;
+              owner = same.owner ∙ has.same.owner;
+              segments = same.segments ∙ has.same.segments;
+              pool = (same.pool.0 ∙ has.same.pool.0, same.pool.1 ∙ has.same.pool.1);
+              spindle = (same.spindle.0 ∙ has.same.spindle.0, same.spindle.1 ∙ has.same.spindle.1);
+            };
+            held = held ∙ (ap (λ (l : List (HeldSegment D)). l ++ h ∷ []) (has.held ∙ ap (λ (v : ℕ). held_on v (take k os) inv.segments) (sym same.logger))
+                ∙ (ap (λ (b : Bool). held_on (logger_of m) (take k os) inv.segments ++ cond b (h ∷ []) []) (sym (eq-eqb x.logger (logger_of m) (sym logger))) ∙ sym (held_more state (logger_of m) (take k os) (take k scans) inv.segments x h inv.adopted)));
+            taken = taken ∙ has.taken;
+            pool = pool ∙ has.pool;
+          } in
           let each = lanes_more state shared o.want.id o.most (take k os) (take k scans) inv.segments inv.adopted x h o.lanes.items n.lanes.items place l m loggers at.lane_is at.on inv.each here in record {
             same = t_same ∙ ap (λ (q : Opening D). record q { lanes = t.lanes; owned = t.owned }) inv.same;
             left = ap reverse owned ∙ next.behind;

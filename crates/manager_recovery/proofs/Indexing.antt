@@ -1,14 +1,14 @@
 -- What the records that were found are, before they go into the index.
-use Rattle.std.proofs.Common.{◌≡◌, ⊎_elim, ◌+◌, ◌<◌, ◌≤◌, ◌^◌, ℕ, zero, suc, Bool, true, false, not, cond, eqb, List, [], ◌∷◌, ◌++◌, length, take, drop, map, get_or, Option, None, Some, MatchOption, refl, sym, ap, subst, ◌∙◌, arith}
-use Rattle.std.specs.Prelude.{slice_get, is_some, position, unwrap_or, IsPermutation}
+use Rattle.std.proofs.Common.{◌≡◌, ⊎_elim, ◌+◌, ◌<◌, ◌≤◌, ◌^◌, ℕ, zero, suc, Bool, true, false, not, cond, eqb, List, [], ◌∷◌, ◌++◌, length, take, drop, map, Option, None, Some, MatchOption, refl, sym, subst, ◌∙◌, arith}
+use Rattle.std.specs.Prelude.{is_some, position, unwrap_or, IsPermutation}
 use Rattle.std.specs.List.{AllByRecursion, AllZip, All, filter}
 use Rattle.std.proofs.lemmas.Bool.Decides.{eqb_tells}
 use Rattle.std.proofs.lemmas.List.Quantifiers.{position-Some}
 use Rattle.std.proofs.lemmas.List.Sorted.{All-permutation}
-use Rattle.std.proofs.lemmas.Option.{same_Some, none-some}
+use Rattle.std.proofs.lemmas.Option.{none-some}
 use Rattle.wol_disk.specs.Disk.{State}
 use Rattle.spin_model.specs.Spun.{state_of}
-use Rattle.log_scan.specs.Scan.{IsScan, IsInside}
+use Rattle.log_scan.specs.Scan.{IsInside}
 use Rattle.log_scan.specs.declared.Found.{Found}
 use Rattle.log_scan.specs.declared.Scan.{Scan}
 use Rattle.manager_recovery.specs.Owned.{Head, with_version, AreFirstTwins, HaveNoTwins}

@@ -1,11 +1,11 @@
 -- What the images of all parts recover to while a volume is opened, and that sound images stay sound.
-use Rattle.std.proofs.Common.{◌≡◌, inl, inr, ⊎_elim, ◌⊎◌, ◌+◌, ◌≤◌, ◌-◌, ℕ, zero, suc, Bool, true, false, ◌&&◌, cond, leb, get_or, List, [], ◌∷◌, ◌++◌, map, Option, None, Some, refl, sym, ap, subst, ◌∙◌}
-use Rattle.std.specs.Prelude.{Contains, slice_get, IsTrue}
-use Rattle.std.specs.List.{AllByRecursion, AllZip, flat_map, range_with_len}
+use Rattle.std.proofs.Common.{◌≡◌, ⊎_elim, ◌⊎◌, ◌+◌, ◌≤◌, ◌-◌, ℕ, zero, suc, Bool, true, false, ◌&&◌, cond, leb, get_or, List, [], ◌∷◌, ◌++◌, map, Option, Some, refl, sym, subst, ◌∙◌}
+use Rattle.std.specs.Prelude.{slice_get, IsTrue}
+use Rattle.std.specs.List.{AllByRecursion, AllZip, range_with_len}
 use Rattle.std.specs.Option.{option_and_then}
 use Rattle.wol_disk.specs.Disk.{Block, State, IsImageOf, TellsContent}
 use Rattle.wol_model.specs.Blocks.{block_of, overlaid}
-use Rattle.wol_model.specs.Extents.{Cover, Extent, CoversNothing, newest, newer_of, newest_block, with_extents, marked}
+use Rattle.wol_model.specs.Extents.{Extent, CoversNothing, newest, newer_of, newest_block, with_extents, marked}
 use Rattle.wol_model.specs.Images.{IsSoundSegment, idle, log}
 use Rattle.wol_model.specs.Heads.{Shape}
 use Rattle.wol_model.specs.Log.{Record, IsLog, IsIdle, extent_of, has_bit, marks_of}
@@ -15,7 +15,7 @@ use Rattle.wol_model.proofs.Spellings.{one_log, not_both}
 use Rattle.redirect_map.proofs.Bits.{has_bit-zero}
 use Rattle.spin_model.specs.Spun.{state_of}
 use Rattle.spin_model.specs.declared.spun.Spun.{Spun}
-use Rattle.manager_recovery.specs.Left.{IsAsBefore, HasNothing, IsLeftOf, Fate, AreFates, IsFateOf, AreSince, IsSince, RecoversAsBefore, StaysSound, LeavesParts, disk_then}
+use Rattle.manager_recovery.specs.Left.{IsAsBefore, HasNothing, IsLeftOf, Fate, AreFates, IsFateOf, AreSince, RecoversAsBefore, StaysSound, LeavesParts}
 use Rattle.manager_recovery.specs.declared.opening.OwnedPart.{OwnedPart}
 
 -- ---- Records that keep nothing

@@ -1,29 +1,28 @@
 -- The index of a volume that was read back, and the segments that its lanes hold.
-use Rattle.std.proofs.Common.{◌≡◌, ◌≢◌, ◌⊎◌, inl, inr, ⊎_elim, ◌+◌, ◌-◌, ◌<◌, ◌≤◌, ◌^◌, ℕ, zero, suc, Bool, true, false, cond, eqb, not, ◌&&◌, List, [], ◌∷◌, ◌++◌, length, map, get_or, MatchOption, Option, None, Some, refl, sym, ap, subst, ◌∙◌, arith, leb}
-use Rattle.std.specs.Prelude.{slice_get, filter, sum_by, Contains, IsPermutation}
-use Rattle.std.specs.List.{AllByRecursion, flat_map, count_by, list_any}
+use Rattle.std.proofs.Common.{◌≡◌, ◌≢◌, inl, inr, ⊎_elim, ◌+◌, ◌-◌, ◌≤◌, ℕ, zero, suc, Bool, true, false, cond, eqb, not, ◌&&◌, List, [], ◌∷◌, map, get_or, MatchOption, Option, Some, refl, sym, ap, subst, ◌∙◌, arith, leb}
+use Rattle.std.specs.Prelude.{slice_get, filter, sum_by, IsPermutation}
+use Rattle.std.specs.List.{AllByRecursion, flat_map, count_by}
 use Rattle.std.proofs.lemmas.Bool.{eqb-true, eq-eqb, ne_eqb}
 use Rattle.std.proofs.lemmas.List.Sums.{sum_by-cons}
 use Rattle.std.proofs.lemmas.List.Sorted.{sum_by-IsPermutation, Contains-permutation, IsPermutation-sym}
-use Rattle.std.proofs.lemmas.Option.{same_Some, none-some, slice_get_within}
+use Rattle.std.proofs.lemmas.Option.{same_Some, slice_get_within}
 use Rattle.wol_disk.specs.Disk.{State, IsAmong}
-use Rattle.wol_model.specs.Blocks.{Write, AreApart}
-use Rattle.wol_model.specs.Extents.{Extent, Cover, IsValid, AreDistinct, CoversNothing, covers_of, marked, write_of}
+use Rattle.wol_model.specs.Blocks.{AreApart}
+use Rattle.wol_model.specs.Extents.{Extent, Cover, IsValid, AreDistinct, covers_of, marked}
 use Rattle.wol_model.specs.Heads.{RecordHead}
-use Rattle.wol_model.specs.Index.{Listed, Indexed, AreRising, IsListed, listed_in, is_homed, is_live}
-use Rattle.wol_model.specs.Log.{Record, IsLog, IsNamed, extent_of, marks_of, has_bit, position_of}
+use Rattle.wol_model.specs.Index.{Indexed, AreRising, IsListed, listed_in}
+use Rattle.wol_model.specs.Log.{Record, IsNamed, extent_of, marks_of, has_bit, position_of}
 use Rattle.redirect_map.specs.Index.{entry_of}
 use Rattle.redirect_map.proofs.Bits.{has_bit-zero}
 use Rattle.redirect_map.proofs.Seen.{length-marks_of}
 use Rattle.log_layout.specs.Values.{record_head}
-use Rattle.log_segment.specs.Records.{count_valid}
-use Rattle.log_segment.specs.Segment.{blocks_of, valid_of, part_of}
+use Rattle.log_segment.specs.Segment.{blocks_of, valid_of}
 use Rattle.log_scan.specs.Adopted.{count_kept}
-use Rattle.log_scan.specs.Scan.{IsInside, IsFoundAt}
+use Rattle.log_scan.specs.Scan.{IsInside}
 use Rattle.log_scan.specs.declared.Found.{Found}
 use Rattle.spin_model.specs.Spun.{state_of}
 use Rattle.spin_model.specs.declared.spun.Spun.{Spun}
-use Rattle.logger.specs.Lanes.{logger_of, held_in}
+use Rattle.logger.specs.Lanes.{held_in}
 use Rattle.logger.specs.declared.lane.HeldSegment.{HeldSegment}
 use Rattle.logger.specs.declared.lane.Lane.{Lane}
 use Rattle.wol_promise.specs.Manager.{Held, IsEntryOf, IsFound, IsBacked, IsIndexOf, extents_held}
@@ -32,13 +31,12 @@ use Rattle.manager.specs.Stands as stands
 use Rattle.manager.proofs.DropKeeps.{some_valid}
 use Rattle.manager.proofs.Lanes.{all_at}
 use Rattle.manager_recovery.specs.Opening.{IsBefore, AreInOrder, place_of}
-use Rattle.manager_recovery.specs.Scanned.{IsScanned, has_some, keeps_some, found_in, record_in, lane_of}
+use Rattle.manager_recovery.specs.Scanned.{keeps_some, found_in, record_in, lane_of}
 use Rattle.manager_recovery.specs.declared.listing.FoundRecord.{FoundRecord}
-use Rattle.manager_recovery.specs.declared.opening.OwnedPart.{OwnedPart}
-use Rattle.manager_recovery.proofs.ByLogger.{on, total, total_less, all_among, all_from, among_get, among_at, contains_among, among_contains, among_filter, filter_among, among_map, map_among, among_flat, flat_among, count-cons, count-append, count-map, count-flat, some_counts, one_only, rising_counts}
+use Rattle.manager_recovery.proofs.ByLogger.{on, total_less, all_among, all_from, among_get, among_at, contains_among, among_contains, among_filter, filter_among, among_map, map_among, among_flat, flat_among, count-cons, count-map, count-flat, some_counts, one_only, rising_counts}
 use Rattle.manager_recovery.proofs.Segs.{Seg, IsSeg, logger_of_seg, entries_at, lane_named, one_place, shown, shown_at, is_shown, each_shown, records_of_all, extents_of_all, count_shown}
 use Rattle.manager_recovery.proofs.Places.{get_below}
-use Rattle.manager_recovery.proofs.ToldParts.{IsTold, AreHeads, records_at, keeps}
+use Rattle.manager_recovery.proofs.ToldParts.{IsTold, records_at, keeps}
 
 -- ---- Records that keep nothing
 
@@ -84,12 +82,15 @@ covers_apart r rs once = each rs (λ q has. has)
 
     each : (qs : List Record) → ((q : Record) → IsAmong qs q → IsAmong rs q) → AllByRecursion (λ (d : Cover). IsValid (extent_of r).cover → IsValid d → r.head.version ≢ d.version) (covers_of (map extent_of qs))
     each [] to = tt
-    each (q ∷ qs) to = ((λ valid valid' same.
-        let t = λ (x : Record). keeps x && eqb x.head.version r.head.version in
-        let c = count-cons t r rs in let few = once r.head.version in
-        let here : cond {A = ℕ} (keeps r && eqb r.head.version r.head.version) 1 0 ≡ 1 = ap (λ (b : Bool). cond {A = ℕ} b 1 0) (passes r.head.version r (valid_keeps r valid) refl) in
-        let rest = some_counts t rs q (to q (inl refl)) (passes r.head.version q (valid_keeps q valid') (sym same)) in
-        omega (arith, c, few, here, rest)), each qs (λ x has. to x (inr has)))
+    each (q ∷ qs) to = (
+      (λ valid valid' same.
+          let t = λ (x : Record). keeps x && eqb x.head.version r.head.version in
+          let c = count-cons t r rs in let few = once r.head.version in
+          let here : cond {A = ℕ} (keeps r && eqb r.head.version r.head.version) 1 0 ≡ 1 = ap (λ (b : Bool). cond {A = ℕ} b 1 0) (passes r.head.version r (valid_keeps r valid) refl) in
+          let rest = some_counts t rs q (to q (inl refl)) (passes r.head.version q (valid_keeps q valid') (sym same)) in
+          omega (arith, c, few, here, rest)),
+      each qs (λ x has. to x (inr has)),
+    )
 
 pub distinct_records : (rs : List Record) → ((v : ℕ) → count_by (λ (q : Record). keeps q && eqb q.head.version v) rs ≤ 1) → AreDistinct (covers_of (map extent_of rs))
 distinct_records [] once = tt
@@ -152,8 +153,8 @@ module _ {D : Type 0} (state : D → State) (lanes : List (Lane D)) (id home : �
   here_listed g f among has kept =
       let E = flat_map (entries_at state view) gs in
       let there = among_flat (entries_at state view) gs g (entry_for g f) among
-          (among_map (λ (q : FoundRecord). entry_of q.entry 0) (found_in view g.part g.scan) (record_in (lane_of view g.part.logger) g.part f)
-          (among_map (record_in (lane_of view g.part.logger) g.part) (filter keeps_some g.scan.records.items) f (filter_among keeps_some g.scan.records.items f has kept))) in
+      (among_map (λ (q : FoundRecord). entry_of q.entry 0) (found_in view g.part g.scan) (record_in (lane_of view g.part.logger) g.part f)
+      (among_map (record_in (lane_of view g.part.logger) g.part) (filter keeps_some g.scan.records.items) f (filter_among keeps_some g.scan.records.items f has kept))) in
       among_contains entries (entry_for g f) (Contains-permutation E entries (entry_for g f) same (contains_among E (entry_for g f) there))
 
   pub inside_at : (g : Seg D) (k : ℕ) (f : Found) → IsSeg state lanes id home view g → slice_get g.scan.records.items k ≡ Some f → IsInside (state_of state g.part.part).size id f
@@ -189,7 +190,7 @@ module _ {D : Type 0} (state : D → State) (lanes : List (Lane D)) (id home : �
       let size : (state_of state g.part.part).size ≡ blocks_of g.held.segment = sym (ap (λ (p : Spun D). (state_of state p).size) h.is_seg.adopted.part) ∙ h.is_seg.adopted.shape.size in
       let fits = inside.fits in
       let there : IsAmong (held_in w.0) g.held = subst (λ (hs : List (HeldSegment D)). IsAmong hs g.held) (sym w.2)
-          (among_map (λ (x : Seg D). x.held) (on logger_of_seg g.part.logger gs) g (filter_among (λ (x : Seg D). eqb (logger_of_seg x) g.part.logger) gs g h.among (eq-eqb g.part.logger g.part.logger refl))) in
+      (among_map (λ (x : Seg D). x.held) (on logger_of_seg g.part.logger gs) g (filter_among (λ (x : Seg D). eqb (logger_of_seg x) g.part.logger) gs g h.among (eq-eqb g.part.logger g.part.logger refl))) in
       let it : IsPlacedIn ls (entry_for g f) = record {
         lane = w.0;
         segment = g.held;
@@ -266,12 +267,12 @@ module _ {D : Type 0} (state : D → State) (lanes : List (Lane D)) (id home : �
   sum_here k i g [] is_g is ordered has lane index = absurd has
   sum_here k i g (x ∷ xs) is_g is ordered has lane index = let s = sum_by-cons (here_count k i) x xs in ⊎_elim
       (λ here.
-          let Q : Seg D → Type 0 = λ y. AllByRecursion (IsBefore (place_of y.part)) (map (λ (z : Seg D). place_of z.part) xs) in
-          let rest = none_behind k i g xs is_g is.1 lane index (subst Q (sym here) ordered.0) in
-          let c = ap (here_count k i) here in omega (arith, s, rest, c))
+      let Q : Seg D → Type 0 = λ y. AllByRecursion (IsBefore (place_of y.part)) (map (λ (z : Seg D). place_of z.part) xs) in
+      let rest = none_behind k i g xs is_g is.1 lane index (subst Q (sym here) ordered.0) in
+      let c = ap (here_count k i) here in omega (arith, s, rest, c))
       (λ more.
-          let none = far_counts k i g x is_g is.0 lane index (apart_places (place_of x.part) (place_of g.part) (before_at (place_of x.part) xs g more ordered.0)).1 in
-          let rest = sum_here k i g xs is_g is.1 ordered.1 more lane index in omega (arith, s, none, rest)) has
+      let none = far_counts k i g x is_g is.0 lane index (apart_places (place_of x.part) (place_of g.part) (before_at (place_of x.part) xs g more ordered.0)).1 in
+      let rest = sum_here k i g xs is_g is.1 ordered.1 more lane index in omega (arith, s, none, rest)) has
 
   pub counted_at : (k : ℕ) (g : Seg D) → IsAmong gs g → slice_get view k ≡ Some g.part.logger → valid_of g.held.segment ≡ stands.entries_at k g.held.index entries
   counted_at k g has is =
@@ -369,10 +370,10 @@ module _ {D : Type 0} (state : D → State) (lanes : List (Lane D)) (id home : �
       pub distinct_shown : AreDistinct (covers_of (extents_held (shown recs 0 view gs)))
       distinct_shown = subst (λ (xs : List Extent). AreDistinct (covers_of xs)) (sym (extents_of_all recs (shown recs 0 view gs)))
           (distinct_records (records_of_all recs (shown recs 0 view gs)) (λ v.
-              let t = λ (q : Record). keeps q && eqb q.head.version v in
-              let a = count_shown recs t 0 view gs in
-              let b = total_less logger_of_seg (λ (g : Seg D). count_by t (recs g)) view gs apart in
-              let c = count-flat recs t gs in let few = once v in omega (arith, a, b, c, few)))
+          let t = λ (q : Record). keeps q && eqb q.head.version v in
+          let a = count_shown recs t 0 view gs in
+          let b = total_less logger_of_seg (λ (g : Seg D). count_by t (recs g)) view gs apart in
+          let c = count-flat recs t gs in let few = once v in omega (arith, a, b, c, few)))
 
       -- two of one version are the same
       pub one_of_version : (x y : Record) → IsAmong kept_records x → IsAmong kept_records y → x.head.version ≡ y.head.version → x ≡ y

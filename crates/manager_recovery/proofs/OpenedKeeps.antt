@@ -1,49 +1,30 @@
 -- A manager that is made of a volume that was read back stands for its beginning and no entries.
-use Rattle.std.proofs.Common.{◌≡◌, ◌⊎◌, inl, inr, ⊎_elim, ◌+◌, ◌<◌, ◌≤◌, ◌^◌, ℕ, zero, suc, Bool, true, false, eqb, List, [], ◌∷◌, ◌++◌, length, map, Option, None, Some, refl, sym, ap, subst, ◌∙◌, arith}
-use Rattle.std.specs.Prelude.{slice_get, filter, replicate, Contains, IsTrue, IsPermutation, is_some}
+use Rattle.std.proofs.Common.{◌≡◌, ◌+◌, ◌<◌, ◌≤◌, ◌^◌, ℕ, zero, suc, true, eqb, List, [], ◌∷◌, length, map, None, Some, refl, sym, ap, subst, ◌∙◌, arith}
+use Rattle.std.specs.Prelude.{slice_get, replicate, IsPermutation}
 use Rattle.std.specs.List.{AllByRecursion, flat_map}
 use Rattle.std.proofs.lemmas.Bool.{eqb-true}
-use Rattle.std.proofs.lemmas.List.{append-nil}
 use Rattle.std.proofs.lemmas.Option.{same_Some, none-some}
 use Rattle.std.specs.declared.alloc.Global.{Global}
 use Rattle.std.specs.declared.vec.Vec.{Vec}
-use Rattle.wol_disk.specs.Disk.{State, Block, Values, IsAmong, IsImageOf, IsImage, only, reads}
-use Rattle.wol_disk.proofs.Images.{only_image}
-use Rattle.wol_model.specs.Blocks.{Write, AreApart}
-use Rattle.wol_model.specs.Extents.{Extent, IsValid, covers_of, with_extents, write_of}
-use Rattle.wol_model.specs.Heads.{IsViewList, owned_block}
-use Rattle.wol_model.specs.Index.{Listed, Indexed, AreRising, listed_in}
-use Rattle.wol_model.specs.Log.{Record, IsLog, extent_of, written, has_bit, marks_of}
-use Rattle.wol_promise.specs.Manager.{Base, Held, Parts, ManagerSeen, AreInUse, AllRecords, WasWritten, IsWriteOf, SaysOwnerOrFree, IsIndexOf, IsSorted, extents_held, versions}
-use Rattle.wol_promise.specs.Stands.{IsOpening, IsOpened, LiesIn, HasVersions, AreKnown, HasPlaces, IsHeldBy, IsPlaced, Upholds}
-use Rattle.wol_promise.proofs.Opens.{opens}
-use Rattle.turn_lock.specs.Passes.{pass_lock, pass_number, pass_mine}
-use Rattle.spin_model.specs.Spun.{state_of, volume_of}
-use Rattle.spin_model.specs.declared.spun.Spun.{Spun}
-use Rattle.redirect_map.specs.Index.{Contents}
-use Rattle.redirect_map.proofs.Seen.{length-marks_of}
-use Rattle.log_segment.specs.Segment.{Holds, IsWhole, blocks_of, valid_of, part_of}
-use Rattle.logger.specs.Lanes.{IsLane, IsAt, logger_of, lane_owner, held_in, taken_in, pool_of, spindle_of, pool_blocks}
+use Rattle.wol_disk.specs.Disk.{State, IsAmong}
+use Rattle.wol_model.specs.Heads.{IsViewList}
+use Rattle.wol_model.specs.Index.{Indexed, AreRising}
+use Rattle.log_segment.specs.Segment.{IsWhole, valid_of}
+use Rattle.logger.specs.Lanes.{IsLane, IsAt, logger_of, lane_owner, held_in, taken_in, pool_blocks}
 use Rattle.logger.specs.declared.lane.HeldSegment.{HeldSegment}
 use Rattle.logger.specs.declared.lane.Lane.{Lane}
 use Rattle.logger.specs.declared.shared.Shared.{Shared}
-use Rattle.manager.specs.Seen.{Logs, AllLanesHold, all_held, all_taken, parts_of, seen, look_of_manager}
-use Rattle.manager.specs.Stands.{Keeps, Stands, IsReady, IsReadyLane, IsHome, IsInVolume, IsPlacedIn, IsNamed, AreNamed, entries_at, nones_in, opened}
-use Rattle.manager.specs.declared.base.LaneBase.{LaneBase}
-use Rattle.manager.specs.declared.base.ManagerBase.{ManagerBase}
+use Rattle.manager.specs.Stands.{IsReady, IsReadyLane, IsHome, IsInVolume, IsPlacedIn, entries_at, opened}
 use Rattle.manager.specs.declared.manager.Manager.{Manager}
-use Rattle.manager.proofs.Lanes.{all_at, none_taken}
-use Rattle.manager_recovery.specs.Opening.{CanOpen, IsOpeningLane, AreInOrder, IsHeldIn, place_of}
-use Rattle.manager_recovery.specs.Scanned.{lane_of}
+use Rattle.manager.proofs.Lanes.{all_at}
+use Rattle.manager_recovery.specs.Opening.{CanOpen, AreInOrder, place_of}
 use Rattle.manager_recovery.specs.declared.opening.Opening.{Opening}
 use Rattle.manager_recovery.specs.declared.volume.Recovered.{Recovered}
-use Rattle.manager_recovery.proofs.ByLogger.{on, all_among, all_from, among_get, contains_among, among_contains, among_filter, among_map, map_among, flat_among, among_left}
-use Rattle.manager_recovery.proofs.OpenedIndex.{entry_for, entry_here, inside_at, in_volume, is_listed, placed_in, counted_at, index_is, distinct_shown, kept_records, kept_among, valid_keeps, keeps_valid, one_of_version, named_at}
+use Rattle.manager_recovery.proofs.ByLogger.{on, all_among, all_from, among_get, among_filter, map_among}
+use Rattle.manager_recovery.proofs.OpenedIndex.{in_volume, placed_in, counted_at}
 use Rattle.manager_recovery.proofs.Places.{lane_with}
-use Rattle.manager_recovery.proofs.SameNewest.{same_array}
 use Rattle.manager_recovery.proofs.Segs as segs
 use Rattle.manager_recovery.proofs.Segs.{Seg, IsSeg, logger_of_seg, lane_named, shown, shown_at, logs_of, shown_is, lanes_hold, each_shown, is_shown, places_apart, records_of_all, extents_of_all}
-use Rattle.manager_recovery.proofs.ToldParts.{IsTold, records_at, keeps}
 
 -- ---- What was gathered
 
@@ -103,9 +84,9 @@ module _ {D : Type 0} (state : D → State) (shared : Shared D) (n : Opening D) 
   at_lane P k l is so =
       let now = all_at (IsLaneNow state shared n.want.id n.most gs) lanes.items k l is c.each in
       subst (AllByRecursion P) (sym now.held) (all_from P (map (λ (g : Seg D). g.held) (on logger_of_seg (logger_of l) gs)) (λ h has.
-          let w = map_among (λ (g : Seg D). g.held) (on logger_of_seg (logger_of l) gs) h has in
-          let f = among_filter (λ (g : Seg D). eqb (logger_of_seg g) (logger_of l)) gs w.0 w.1 in
-          subst P (sym w.2) (so w.0 f.0 (logger_there k l is ∙ ap Some (sym (eqb-true w.0.part.logger (logger_of l) f.1))))))
+      let w = map_among (λ (g : Seg D). g.held) (on logger_of_seg (logger_of l) gs) h has in
+      let f = among_filter (λ (g : Seg D). eqb (logger_of_seg g) (logger_of l)) gs w.0 w.1 in
+      subst P (sym w.2) (so w.0 f.0 (logger_there k l is ∙ ap Some (sym (eqb-true w.0.part.logger (logger_of l) f.1))))))
 
   all_lanes : (Q : Lane D → Type 0) → ((k : ℕ) (l : Lane D) → slice_get lanes.items k ≡ Some l → Q l) → AllByRecursion Q lanes.items
   all_lanes Q so = all_from Q lanes.items (λ l has. let w = among_get lanes.items l has in so w.0 l w.1)

@@ -1,21 +1,21 @@
 -- What such a manager stands for: what the volume began with, and no entries.
-use Rattle.std.proofs.Common.{◌≡◌, ◌⊎◌, inl, inr, ⊎_elim, ◌+◌, ◌<◌, ◌≤◌, ◌^◌, ℕ, zero, suc, Bool, true, false, eqb, not, ◌||◌, List, [], ◌∷◌, ◌++◌, length, map, Option, None, Some, refl, sym, ap, subst, ◌∙◌, arith}
+use Rattle.std.proofs.Common.{◌≡◌, inl, inr, ◌+◌, ◌<◌, ◌≤◌, ℕ, zero, suc, Bool, true, false, eqb, not, ◌||◌, List, [], ◌∷◌, ◌++◌, length, map, Option, None, Some, refl, sym, ap, subst, ◌∙◌, arith}
 use Rattle.std.specs.Prelude.{slice_get, filter, replicate, Contains, IsTrue}
 use Rattle.std.specs.List.{AllByRecursion, flat_map, list_any}
 use Rattle.std.proofs.lemmas.List.{append-nil}
-use Rattle.std.proofs.lemmas.Option.{same_Some, none-some, slice_get_within}
+use Rattle.std.proofs.lemmas.Option.{same_Some, slice_get_within}
 use Rattle.std.specs.declared.alloc.Global.{Global}
 use Rattle.std.specs.declared.vec.Vec.{Vec}
-use Rattle.wol_disk.specs.Disk.{State, Block, Values, IsAmong, IsImageOf, IsImage, only, reads}
+use Rattle.wol_disk.specs.Disk.{State, Block, Values, IsAmong, IsImageOf, IsImage, reads}
 use Rattle.wol_disk.proofs.Images.{only_image}
 use Rattle.wol_model.specs.Blocks.{Write, AreApart}
-use Rattle.wol_model.specs.Extents.{Extent, IsValid, covers_of, with_extents, write_of}
+use Rattle.wol_model.specs.Extents.{Extent, IsValid, with_extents, write_of}
 use Rattle.wol_model.specs.Heads.{RecordHead, owned_block}
 use Rattle.wol_model.specs.Index.{Listed, Indexed, AreRising, IsListed, listed_in}
 use Rattle.wol_model.specs.Log.{Record, IsLog, extent_of, has_bit}
 use Rattle.redirect_map.proofs.Bits.{has_bit-zero}
 use Rattle.redirect_map.proofs.Seen.{length-marks_of}
-use Rattle.wol_promise.specs.Manager.{Base, Held, Parts, ManagerSeen, AreInUse, AllRecords, WasWritten, IsWriteOf, SaysOwnerOrFree, IsSorted, extents_held, versions}
+use Rattle.wol_promise.specs.Manager.{Base, Held, ManagerSeen, AreInUse, WasWritten, SaysOwnerOrFree, extents_held, versions}
 use Rattle.wol_promise.specs.Stands.{IsOpening, IsOpened, LiesIn, HasVersions, AreKnown, HasPlaces, IsHeldBy, IsPlaced, Upholds}
 use Rattle.wol_promise.proofs.Opens.{opens}
 use Rattle.turn_lock.specs.Passes.{pass_lock, pass_number, pass_mine}
@@ -26,19 +26,17 @@ use Rattle.logger.specs.Lanes.{logger_of, held_in, taken_in, pool_of, spindle_of
 use Rattle.logger.specs.declared.lane.HeldSegment.{HeldSegment}
 use Rattle.logger.specs.declared.lane.Lane.{Lane}
 use Rattle.logger.specs.declared.shared.Shared.{Shared}
-use Rattle.manager.specs.Seen.{Logs, AllLanesHold, all_held, all_taken, parts_of, seen, look_of_manager}
-use Rattle.manager.specs.Stands.{Keeps, Stands, IsNamed, AreNamed, nones_in, opened}
+use Rattle.manager.specs.Seen.{Logs, all_held, all_taken, parts_of, seen, look_of_manager}
+use Rattle.manager.specs.Stands.{Stands, AreNamed, nones_in}
 use Rattle.manager.specs.declared.base.LaneBase.{LaneBase}
 use Rattle.manager.specs.declared.base.ManagerBase.{ManagerBase}
-use Rattle.manager.specs.declared.manager.Manager.{Manager}
 use Rattle.manager.proofs.Lanes.{all_at, none_taken}
-use Rattle.manager.proofs.DropKeeps.{some_valid}
-use Rattle.manager_recovery.specs.Opening.{IsOpeningLane, IsHeldIn, place_of}
+use Rattle.manager_recovery.specs.Opening.{IsOpeningLane, IsHeldIn}
 use Rattle.manager_recovery.specs.Scanned.{lane_of, keeps_some}
 use Rattle.manager_recovery.specs.declared.opening.Opening.{Opening}
 use Rattle.manager_recovery.specs.declared.volume.Recovered.{Recovered}
-use Rattle.manager_recovery.proofs.ByLogger.{on, all_among, all_from, among_get, among_at, contains_among, among_contains, among_filter, filter_among, among_map, map_among, among_flat, flat_among}
-use Rattle.manager_recovery.proofs.OpenedIndex.{IsHere, entry_for, entry_here, inside_at, is_listed, index_is, distinct_shown, kept_records, kept_among, valid_keeps, keeps_valid, one_of_version, named_at}
+use Rattle.manager_recovery.proofs.ByLogger.{on, all_among, all_from, among_get, among_at, contains_among, among_filter, filter_among, among_map, map_among, among_flat, flat_among}
+use Rattle.manager_recovery.proofs.OpenedIndex.{entry_for, entry_here, inside_at, is_listed, index_is, distinct_shown, valid_keeps, keeps_valid, one_of_version, named_at}
 use Rattle.manager_recovery.proofs.OpenedKeeps.{IsLaneNow, IsGathered, made, is_ready}
 use Rattle.manager_recovery.proofs.Places.{lane_with}
 use Rattle.manager_recovery.proofs.SameNewest.{same_array}
@@ -214,13 +212,13 @@ module _ {D : Type 0} (tells : Bool) (state : D → State) (shared : Shared D) (
   is_known t = record {
     written = each (λ (s : Held (Spun D)). AllByRecursion (λ (q : Record). IsValid (extent_of q).cover → WasWritten (ws ++ ([] ++ [])) q) s.records) (λ k g is has.
         all_from (λ (q : Record). IsValid (extent_of q).cover → WasWritten (ws ++ ([] ++ [])) q) (recs g) (λ q there valid.
-            let w = write_of_record q in
-            let in_kept = filter_among keeps (flat_map recs gs) q (among_flat recs gs g q has there) (valid_keeps q valid) in
-            let in_ws : IsAmong ws w = subst (λ (l : List Write). IsAmong l w) (sym (b.told t).records) (among_map write_of_record kept q in_kept) in
-            (w, subst (λ (l : List Write). Contains l w) (sym (append-nil ws)) (contains_among ws w in_ws), record { version = refl; first = refl; blocks = refl })));
+        let w = write_of_record q in
+        let in_kept = filter_among keeps (flat_map recs gs) q (among_flat recs gs g q has there) (valid_keeps q valid) in
+        let in_ws : IsAmong ws w = subst (λ (l : List Write). IsAmong l w) (sym (b.told t).records) (among_map write_of_record kept q in_kept) in
+        (w, subst (λ (l : List Write). Contains l w) (sym (append-nil ws)) (contains_among ws w in_ws), record { version = refl; first = refl; blocks = refl })));
     below = each (λ (s : Held (Spun D)). AllByRecursion (λ (q : Record). (IsValid (extent_of q).cover → ⊥) → q.head.version < r.next) s.records) (λ k g is has.
         all_from (λ (q : Record). (IsValid (extent_of q).cover → ⊥) → q.head.version < r.next) (recs g) (λ q there no_.
-            all_among (λ (x : Record). x.head.version < r.next) (recs g) q (all_among (λ (x : Seg D). AllByRecursion (λ (y : Record). y.head.version < r.next) (recs x)) gs g (b.told t).below has) there));
+        all_among (λ (x : Record). x.head.version < r.next) (recs g) q (all_among (λ (x : Seg D). AllByRecursion (λ (y : Record). y.head.version < r.next) (recs x)) gs g (b.told t).below has) there));
   }
 
   -- ---- Parts and places

@@ -1,5 +1,5 @@
 -- The search for a segment that a view doesn't name.
-use Rattle.std.proofs.Common.{◌≡◌, ◌+◌, ℕ, Bool, true, false, not, cond, List, [], ◌∷◌, drop, Option, Some, sym, ◌∙◌}
+use Rattle.std.proofs.Common.{◌≡◌, ◌+◌, ℕ, true, false, not, cond, List, drop, Some, sym, ◌∙◌}
 use Rattle.std.specs.Prelude.{slice_get}
 use Rattle.manager_recovery.specs.Refused.{first_outside, is_named}
 use Rattle.manager_recovery.specs.declared.opening.OwnedPart.{OwnedPart}

@@ -3,7 +3,6 @@ use Rattle.std.proofs.Common.{◌≡◌, ◌+◌, ◌<◌, ℕ, zero, suc, Bool,
 use Rattle.std.specs.Prelude.{slice_get, filter, find, position, is_some, slice_index_or, nat_lt}
 use Rattle.std.specs.List.{position_or_len}
 use Rattle.std.proofs.lemmas.Bool.{eqb-true, ltb-true}
-use Rattle.std.proofs.lemmas.List.Folds.{find_at}
 use Rattle.std.proofs.lemmas.Option.{same_Some, none-some, slice_get_within}
 use Rattle.wol_disk.specs.Disk.{State}
 use Rattle.logger.specs.Lanes.{logger_of}
@@ -11,7 +10,7 @@ use Rattle.logger.specs.declared.lane.Lane.{Lane}
 use Rattle.logger.proofs.Held.{there_get}
 use Rattle.logger.specs.declared.shared.Shared.{Shared}
 use Rattle.manager_recovery.specs.Opening.{CanOpen}
-use Rattle.manager_recovery.specs.Refused.{IsNamesAnswer, first_missing, first_outside, is_named}
+use Rattle.manager_recovery.specs.Refused.{IsNamesAnswer, first_missing, is_named}
 use Rattle.manager_recovery.specs.declared.opening.Opening.{Opening}
 use Rattle.manager_recovery.specs.declared.opening.OwnedPart.{OwnedPart}
 

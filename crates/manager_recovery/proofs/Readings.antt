@@ -1,7 +1,7 @@
 -- Parts of which nothing was written.
-use Rattle.std.proofs.Common.{◌≡◌, List, sym, arith}
+use Rattle.std.proofs.Common.{◌≡◌}
 use Rattle.std.specs.Prelude.{Result, OnOk, OnErr, option_map}
-use Rattle.wol_disk.specs.Disk.{Block, State, Passes, IsDisk, IsImageOf, LeavesOnly, settled}
+use Rattle.wol_disk.specs.Disk.{State, Passes, IsDisk, settled}
 use Rattle.wol_disk.proofs.Calls.{after_sync}
 use Rattle.wol_disk.proofs.Moments.{started, goes_on}
 use Rattle.spin_model.specs.Spun.{state_of, volume_of}

@@ -1,8 +1,8 @@
 -- From an opening to what was read back of it, and to what is handed on.
-use Rattle.std.proofs.Common.{◌≡◌, inl, inr, ⊎_elim, ◌⊎◌, ◌+◌, ◌-◌, ◌<◌, ◌≤◌, ◌^◌, ℕ, zero, suc, Bool, true, false, cond, List, [], ◌∷◌, ◌++◌, length, take, map, Option, None, Some, refl, sym, ap, subst, ◌∙◌, arith}
-use Rattle.std.specs.Prelude.{slice_get, option_map, IsTrue}
+use Rattle.std.proofs.Common.{◌≡◌, inl, inr, ⊎_elim, ◌<◌, ℕ, Bool, true, false, cond, List, [], ◌∷◌, length, map, Option, Some, refl, sym, ap, subst, ◌∙◌, arith}
+use Rattle.std.specs.Prelude.{option_map, IsTrue}
 use Rattle.std.specs.List.{AllByRecursion, AllZip, filter}
-use Rattle.wol_disk.specs.Disk.{Block, State, Values, IsDisk, IsImageOf, LeavesOnly, Rose, TellsContent, settled}
+use Rattle.wol_disk.specs.Disk.{Block, State, Values, IsDisk, IsImageOf, Rose, TellsContent, settled}
 use Rattle.wol_disk.proofs.Moments.{started, then_leaves, widened}
 use Rattle.wol_disk.proofs.Calls.{now_leaves}
 use Rattle.wol_model.specs.Log.{Record}
@@ -16,18 +16,16 @@ use Rattle.spin_model.specs.declared.spindle.Spindle.{Spindle}
 use Rattle.spin_model.specs.declared.spindle.SpindleBase.{SpindleBase}
 use Rattle.turn_lock.specs.declared.pass.PassOf.{PassOf}
 use Rattle.log_layout.specs.declared.label.Label.{Label}
-use Rattle.log_scan.specs.declared.Found.{Found}
 use Rattle.log_scan.specs.declared.Scan.{Scan}
-use Rattle.logger.specs.declared.lane.Lane.{Lane}
 use Rattle.logger.specs.declared.shared.Shared.{Shared}
-use Rattle.manager_recovery.specs.Left.{IsAsBefore, HasNothing, IsLeftOf, Fate, Kept, Freed, kept_of, AreFates, IsFateOf, IsSameOwned, IsSameOrFree, IsUsedLane, IsHandedBack, disk_then}
+use Rattle.manager_recovery.specs.Left.{IsAsBefore, HasNothing, IsLeftOf, Fate, Kept, Freed, kept_of, AreFates, IsFateOf, IsSameOrFree, IsUsedLane, IsHandedBack}
 use Rattle.manager_recovery.specs.Owned.{AreIntact, IsIntact, all_owned}
-use Rattle.manager_recovery.specs.Refused.{IsNamesAnswer, SegmentRose}
+use Rattle.manager_recovery.specs.Refused.{SegmentRose}
 use Rattle.manager_recovery.specs.Scanned.{IsSeenAgain, IsReadBack, IsSettledPart, IsThinning, has_some}
 use Rattle.manager_recovery.specs.declared.opening.Opening.{Opening}
 use Rattle.manager_recovery.specs.declared.opening.OwnedPart.{OwnedPart}
 use Rattle.manager_recovery.proofs.Leaves.{leaves_parts}
-use Rattle.manager_recovery.proofs.Lists.{all_take, all_map, zip_get, zip_length, within, there_is}
+use Rattle.manager_recovery.proofs.Lists.{all_take, zip_get, zip_length, within, there_is}
 use Rattle.manager_recovery.proofs.ScanAll.{zip_then}
 use Rattle.manager_recovery.proofs.ScanLoop.{used_then}
 

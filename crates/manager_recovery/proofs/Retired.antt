@@ -1,6 +1,6 @@
 -- A segment none of whose records keeps a block, and what becomes of it.
-use Rattle.std.proofs.Common.{◌≡◌, ◌⊎◌, inl, inr, ℕ, zero, suc, Bool, true, false, not, cond, ◌+◌, ◌||◌, eqb, List, [], ◌∷◌, Option, None, Some, MatchOption, refl, sym, ap, subst, ◌∙◌, arith}
-use Rattle.std.specs.List.{AllByRecursion, count_by, list_any}
+use Rattle.std.proofs.Common.{◌≡◌, inr, ℕ, zero, suc, Bool, true, false, not, cond, ◌||◌, eqb, List, [], ◌∷◌, Option, Some, MatchOption, refl, sym, ap, subst, ◌∙◌, arith}
+use Rattle.std.specs.List.{AllByRecursion, list_any}
 use Rattle.std.proofs.lemmas.Bool.{ne_eqb}
 use Rattle.std.proofs.lemmas.List.Sums.{sum_by-cons}
 use Rattle.wol_disk.specs.Disk.{State, Block, Values, LeavesOnly, IsImageOf, reads}
@@ -14,11 +14,11 @@ use Rattle.log_segment.specs.Records.{count_valid}
 use Rattle.log_segment.specs.Segment.{Holds, disk_of, part_of, owner_of}
 use Rattle.log_segment.specs.declared.segment.Segment.{Segment}
 use Rattle.log_scan.specs.Adopted.{count_kept}
-use Rattle.log_scan.specs.Scan.{IsScanOf, AreFound}
+use Rattle.log_scan.specs.Scan.{AreFound}
 use Rattle.log_scan.specs.declared.Found.{Found}
 use Rattle.log_scan.specs.declared.Scan.{Scan}
 use Rattle.log_scan.proofs.Placed.{kept_are_valid}
-use Rattle.manager_recovery.specs.Left.{HasNothing, IsLeftOf}
+use Rattle.manager_recovery.specs.Left.{IsLeftOf}
 use Rattle.manager_recovery.specs.Scanned.{IsScanned, has_some, keeps_some}
 use Rattle.manager_recovery.specs.declared.opening.OwnedPart.{OwnedPart}
 

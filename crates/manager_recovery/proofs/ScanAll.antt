@@ -1,21 +1,20 @@
 -- The segments up to a place were read back, and what one more does.
-use Rattle.std.proofs.Common.{◌≡◌, ◌+◌, ◌<◌, ◌≤◌, ℕ, zero, suc, Bool, true, false, not, cond, List, [], ◌∷◌, ◌++◌, length, take, drop, map, Option, None, Some, refl, sym, ap, subst, ◌∙◌, arith}
-use Rattle.std.specs.Prelude.{Result, Ok, Err, IfOk, IfErr, option_map, slice_get, slice_set, IsTrue, Contains}
+use Rattle.std.proofs.Common.{◌≡◌, ◌+◌, ◌≤◌, ℕ, Bool, true, false, not, cond, List, [], ◌∷◌, ◌++◌, length, take, drop, None, Some, refl, sym, ap, subst, ◌∙◌, arith}
+use Rattle.std.specs.Prelude.{Result, Ok, Err, IfOk, IfErr, option_map, slice_get, IsTrue, Contains}
 use Rattle.logger.proofs.Held.{length-map}
 use Rattle.std.specs.List.{AllByRecursion, AllZip}
-use Rattle.std.proofs.lemmas.Option.{same_Some, none-some, get_or_from_slice_get, slice_get-map}
+use Rattle.std.proofs.lemmas.Option.{none-some, get_or_from_slice_get, slice_get-map}
 use Rattle.std.proofs.lemmas.List.{take-append-drop}
-use Rattle.wol_disk.specs.Disk.{State, IsDisk, Rose}
-use Rattle.spin_model.specs.Spun.{state_of}
+use Rattle.wol_disk.specs.Disk.{State, IsDisk}
 use Rattle.log_scan.specs.declared.Scan.{Scan}
 use Rattle.logger.specs.declared.lane.Lane.{Lane}
 use Rattle.logger.specs.declared.shared.Shared.{Shared}
 use Rattle.log_layout.specs.declared.label.Label.{Label}
 use Rattle.manager.specs.declared.part.Part.TheVariants as part
 use Rattle.manager_recovery.specs.Opening.{CanOpen, IsOpeningLane}
-use Rattle.manager_recovery.specs.Owned.{Owned, all_owned, owned_of, AreIntact, IsIntact, IsFirstDamage}
-use Rattle.manager_recovery.specs.Left.{IsUsedLane, IsSameOwned}
-use Rattle.manager_recovery.specs.Refused.{IsNamesAnswer, Refuses, SegmentRose, first_outside, is_named}
+use Rattle.manager_recovery.specs.Owned.{all_owned, owned_of, AreIntact, IsIntact}
+use Rattle.manager_recovery.specs.Left.{IsUsedLane}
+use Rattle.manager_recovery.specs.Refused.{IsNamesAnswer, Refuses, first_outside, is_named}
 use Rattle.manager_recovery.specs.Scanned.{IsSeenAgain, IsReadBack, IsSettledPart, IsScanned, IsScannedAt, AreReadBack, SegmentRefuses}
 use Rattle.manager_recovery.specs.declared.opening.Opening.{Opening}
 use Rattle.manager_recovery.specs.declared.opening.OwnedPart.{OwnedPart}

@@ -1,30 +1,29 @@
 -- All owned segments are read back, one after another.
-use Rattle.std.proofs.Common.{◌≡◌, ⊎_elim, ◌+◌, ◌-◌, ◌<◌, ◌≤◌, ◌^◌, ℕ, zero, suc, Bool, true, false, not, cond, eqb, List, [], ◌∷◌, ◌++◌, length, take, drop, map, get_or, Option, None, Some, refl, sym, ap, subst, ◌∙◌, arith}
-use Rattle.std.specs.Prelude.{Result, Ok, Err, IfOk, OnOk, slice_get, slice_set, slice_index_or, position, option_map, vec_len, IsTrue, Contains}
+use Rattle.std.proofs.Common.{◌≡◌, ◌+◌, ◌-◌, ◌<◌, ◌≤◌, ◌^◌, ℕ, zero, suc, Bool, true, false, not, cond, eqb, List, [], ◌∷◌, length, map, Option, None, Some, refl, sym, ap, subst, ◌∙◌, arith}
+use Rattle.std.specs.Prelude.{Result, Ok, Err, IfOk, OnOk, slice_get, slice_set, slice_index_or, position, option_map, vec_len}
 use Rattle.std.specs.List.{AllByRecursion, AllZip, filter}
 use Rattle.std.specs.declared.alloc.Global.{Global}
 use Rattle.std.specs.declared.vec.Vec.{Vec}
 use Rattle.std.proofs.lemmas.Bool.{eqb-true}
 use Rattle.std.proofs.lemmas.List.Quantifiers.{position-Some}
 use Rattle.std.proofs.lemmas.Option.{same_Some, none-some, get_or_from_slice_get}
-use Rattle.wol_disk.specs.Disk.{Block, State, Values, IsDisk, IsImageOf, LeavesOnly, reads, settled}
+use Rattle.wol_disk.specs.Disk.{Block, State, Values, IsDisk, reads, settled}
 use Rattle.wol_disk.proofs.Images.{reads_only}
 use Rattle.wol_disk.proofs.Moments.{started, then_leaves}
 use Rattle.wol_disk.proofs.Calls.{now_leaves}
 use Rattle.wol_model.specs.Heads.{owned_block}
-use Rattle.turn_lock.specs.Passes.{pass_lock, lock_id}
-use Rattle.spin_model.specs.Spun.{state_of, volume_of, disk_of}
-use Rattle.log_scan.specs.declared.Scan.{Scan}
-use Rattle.logger.specs.Lanes.{IsLane, IsAt, IsSameLane, logger_of, held_in, taken_in, pool_of, pool_blocks}
+use Rattle.turn_lock.specs.Passes.{lock_id}
+use Rattle.spin_model.specs.Spun.{state_of, disk_of}
+use Rattle.logger.specs.Lanes.{IsLane, IsAt, IsSameLane, logger_of, held_in, taken_in, pool_blocks}
 use Rattle.logger.specs.declared.lane.Lane.{Lane}
 use Rattle.logger.specs.declared.shared.Shared.{Shared}
 use Rattle.manager_recovery.specs.Opening.{CanOpen, IsOpeningLane, IsOwned, IsHeldIn, SaysOwner, AreInOrder, place_of}
 use Rattle.manager_recovery.specs.Left.{IsSameOwned, IsUsedLane}
 use Rattle.manager_recovery.specs.Refused.{first_missing}
-use Rattle.manager_recovery.specs.Scanned.{IsSeenAgain, IsReadBack, IsSettledPart}
+use Rattle.manager_recovery.specs.Scanned.{IsSeenAgain, IsSettledPart}
 use Rattle.manager_recovery.specs.declared.opening.Opening.{Opening}
 use Rattle.manager_recovery.specs.declared.opening.OwnedPart.{OwnedPart}
-use Rattle.manager_recovery.proofs.Lists.{all_map, all_get, all_set, zip_change, zip_self, map_set, there_is}
+use Rattle.manager_recovery.proofs.Lists.{all_map, all_get, all_set, zip_change, map_set}
 
 -- ---- Lanes
 

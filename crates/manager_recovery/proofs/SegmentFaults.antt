@@ -1,16 +1,15 @@
 -- What a scan of one segment says of the volume that owns it.
-use Rattle.std.proofs.Common.{◌≡◌, ◌⊎◌, inl, inr, ⊎_elim, ◌+◌, ◌<◌, ◌≤◌, ◌^◌, ℕ, Bool, List, [], ◌∷◌, length, take, map, Option, None, Some, MatchOption, Err, Ok, refl, sym, ap, subst, ◌∙◌, arith}
+use Rattle.std.proofs.Common.{◌≡◌, ⊎_elim, ◌+◌, ◌<◌, ◌≤◌, ◌^◌, ℕ, Bool, List, [], ◌∷◌, length, take, Option, None, Some, MatchOption, Err, Ok, refl, sym, ap, subst, ◌∙◌, arith}
 use Rattle.std.specs.Prelude.{slice_get, option_map, unwrap_or, IsTrue}
 use Rattle.std.specs.List.{AllByRecursion}
 use Rattle.std.proofs.lemmas.Option.{same_Some, none-some}
 use Rattle.wol_disk.specs.Disk.{Block, State, Values, IsDisk, TellsContent, only, reads, settled}
 use Rattle.wol_disk.proofs.Images.{reads_only}
-use Rattle.wol_model.specs.Heads.{SpellsSegment, Free, Owned, SegmentHead, owned_block, free_block}
-use Rattle.wol_model.specs.Log.{Record, IsIdle, IsLog, end_of, position_of}
+use Rattle.wol_model.specs.Heads.{Free, Owned, owned_block, free_block}
+use Rattle.wol_model.specs.Log.{Record, IsIdle, IsLog, end_of}
 use Rattle.wol_model.proofs.Spellings.{one_segment_head}
 use Rattle.spin_model.specs.Spun.{state_of}
 use Rattle.logger.proofs.Held.{length-map}
-use Rattle.log_layout.specs.Values.{record_head}
 use Rattle.log_scan.specs.Scan.{IsScan, IsScanOf, IsInside, AreFound, IsDamaged, IsFirstFault}
 use Rattle.log_scan.specs.declared.Found.{Found}
 use Rattle.log_scan.specs.declared.Scan.{Scan}

@@ -1,6 +1,6 @@
 -- The segments that a volume has once it was read back: each with its part, its scan and what its lane holds.
-use Rattle.std.proofs.Common.{◌≡◌, ◌≢◌, ◌⊎◌, inl, inr, ⊎_elim, ◌+◌, ◌<◌, ◌≤◌, ℕ, zero, suc, Bool, true, false, cond, eqb, List, [], ◌∷◌, ◌++◌, length, map, Option, None, Some, refl, sym, ap, subst, ◌∙◌, arith}
-use Rattle.std.specs.Prelude.{slice_get, filter, position, unwrap_or, is_some, sum_by}
+use Rattle.std.proofs.Common.{◌≡◌, ◌≢◌, ⊎_elim, ◌+◌, ◌≤◌, ℕ, zero, suc, Bool, true, false, cond, eqb, List, [], ◌∷◌, ◌++◌, map, Option, None, Some, refl, sym, ap, subst, ◌∙◌, arith}
+use Rattle.std.specs.Prelude.{slice_get, position, unwrap_or, is_some, sum_by}
 use Rattle.std.specs.List.{AllByRecursion, AllZip, flat_map, count_by}
 use Rattle.std.proofs.lemmas.Bool.{eqb-true, eq-eqb}
 use Rattle.std.proofs.lemmas.List.{map-append, append_assoc}
@@ -25,7 +25,7 @@ use Rattle.manager_recovery.specs.Refused.{is_named}
 use Rattle.manager_recovery.specs.Scanned.{IsScanned, IsAdopted, AreAdopted, held_on, has_some, found_in, all_found, entries_from, lane_of}
 use Rattle.manager_recovery.specs.declared.listing.FoundRecord.{FoundRecord}
 use Rattle.manager_recovery.specs.declared.opening.OwnedPart.{OwnedPart}
-use Rattle.manager_recovery.proofs.ByLogger.{on, total, all_among, count-append, count-flat, among_left, among_right, among_map, filter_among}
+use Rattle.manager_recovery.proofs.ByLogger.{on, total, count-append, among_left, among_right, among_map, filter_among}
 use Rattle.manager_recovery.proofs.Fronts.{all_join}
 use Rattle.manager_recovery.proofs.Places.{logger_at}
 use Rattle.manager_recovery.proofs.ToldParts.{records_at, all_records}
@@ -233,8 +233,11 @@ module _ {D : Type 0} (recs : Seg D → List Record) where
   after_all j p (g ∷ gs) v same here before = at (eqb g.part.logger v) refl (after_all j p gs v same.1 here before.1)
     where
       at : (t : Bool) → eqb g.part.logger v ≡ t → ApartFrom (j, p.1) (map place_in (map (shown_at j) (on logger_of_seg v gs))) → ApartFrom (j, p.1) (map place_in (map (shown_at j) (cond t (g ∷ on logger_of_seg v gs) (on logger_of_seg v gs))))
-      at true e rest = ((λ one. let i : p.1 ≡ g.held.index = ap (λ (q : ℕ × ℕ). q.1) one in let s = same.0 in let l = eqb-true g.part.logger v e in
-          ⊎_elim (λ less. omega (arith, less, l, here)) (λ less. let lt = less.1 in omega (arith, lt, i, s)) before.0), rest)
+      at true e rest = (
+        (λ one. let i : p.1 ≡ g.held.index = ap (λ (q : ℕ × ℕ). q.1) one in let s = same.0 in let l = eqb-true g.part.logger v e in
+            ⊎_elim (λ less. omega (arith, less, l, here)) (λ less. let lt = less.1 in omega (arith, lt, i, s)) before.0),
+        rest,
+      )
       at false e rest = rest
 
   apart_on : (j v : ℕ) (gs : List (Seg D)) → AllByRecursion (λ (g : Seg D). g.held.index ≡ g.part.index) gs → AreInOrder (map (λ (g : Seg D). place_of g.part) gs) → AreApartPlaces (map place_in (map (shown_at j) (on logger_of_seg v gs)))

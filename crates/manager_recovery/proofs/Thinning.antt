@@ -1,11 +1,11 @@
 -- A volume that is opened while segments that hold nothing go to their pools.
-use Rattle.std.proofs.Common.{◌≡◌, ◌≢◌, ◌⊎◌, inl, inr, ⊎_elim, ◌+◌, ◌-◌, ◌<◌, ◌≤◌, ℕ, zero, suc, Bool, true, false, cond, eqb, List, [], ◌∷◌, ◌++◌, length, take, drop, map, remove, Option, None, Some, refl, sym, ap, subst, ◌∙◌, arith}
+use Rattle.std.proofs.Common.{◌≡◌, ◌≢◌, inl, ⊎_elim, ◌+◌, ◌-◌, ◌<◌, ◌≤◌, ℕ, suc, Bool, true, false, cond, eqb, List, [], ◌∷◌, ◌++◌, length, take, drop, map, remove, Option, None, Some, refl, sym, ap, subst, ◌∙◌, arith}
 use Rattle.std.specs.Prelude.{slice_get, slice_set, filter, position, IfSome, slice_index_or, vec_len, vec_capacity}
 use Rattle.std.specs.List.{AllByRecursion, AllZip}
 use Rattle.std.proofs.lemmas.List.{append_assoc, append-nil, length-take-le}
 use Rattle.std.proofs.Math.Seq.{take-length}
-use Rattle.std.proofs.lemmas.Option.{same_Some, none-some}
-use Rattle.wol_disk.specs.Disk.{State, Block, Values, IsDisk, LeavesOnly}
+use Rattle.std.proofs.lemmas.Option.{same_Some}
+use Rattle.wol_disk.specs.Disk.{State, IsDisk}
 use Rattle.wol_disk.proofs.Moments.{started}
 use Rattle.wol_model.specs.Blocks.{AreApart}
 use Rattle.turn_lock.specs.LockIds.{LockId}
@@ -18,8 +18,7 @@ use Rattle.seg_pool.specs.Operations.{holds}
 use Rattle.seg_pool.specs.declared.base.PoolBase.{PoolBase}
 use Rattle.log_segment.specs.declared.free.FreeSegment.{FreeSegment}
 use Rattle.log_scan.specs.declared.Scan.{Scan}
-use Rattle.logger.specs.Lanes.{IsLane, IsAt, IsHeld, IsTaken, IsSameLane, logger_of, held_in, taken_in, pool_of, pool_blocks, segments_in, indexes_in}
-use Rattle.logger.specs.declared.lane.HeldSegment.{HeldSegment}
+use Rattle.logger.specs.Lanes.{IsLane, IsAt, IsHeld, IsTaken, IsSameLane, logger_of, held_in, taken_in, pool_of, segments_in, indexes_in}
 use Rattle.logger.specs.declared.lane.Lane.{Lane}
 use Rattle.logger.specs.declared.shared.Shared.{Shared}
 use Rattle.manager.proofs.Lanes.{all_at, all_set, map_set}
@@ -30,7 +29,7 @@ use Rattle.manager_recovery.specs.Scanned.{IsScanned, IsThinning, has_some, thin
 use Rattle.manager_recovery.specs.declared.opening.Opening.{Opening}
 use Rattle.manager_recovery.specs.declared.opening.OwnedPart.{OwnedPart}
 use Rattle.manager_recovery.proofs.Places.{place_is, lane_is, read_at}
-use Rattle.manager_recovery.proofs.Fronts.{front_at, back_at, around, none_behind, get_middle, set_middle, remove_middle, all_join, all_front, all_back, zip_join, zip_long, zip_at, zip_other}
+use Rattle.manager_recovery.proofs.Fronts.{front_at, back_at, around, none_behind, get_middle, set_middle, remove_middle, zip_join, zip_long, zip_at, zip_other}
 
 -- ---- A lane whose passes were used
 
@@ -153,7 +152,7 @@ module _ {D : Type 0} (state : D → State) (shared : Shared D) (o : Opening D) 
   can_again n same lanes front back was is =
       let order : AreInOrder (map place_of (front ++ r ∷ back)) = subst (λ (l : List (OwnedPart D)). AreInOrder (map place_of l)) was can.in_order in
       let each : AllByRecursion (IsOwned state (slice_set o.lanes.items k new)) (front ++ back) = all_both (IsOwned state o.lanes.items) (λ (x : OwnedPart D). AreOther (place_of x) (place_of r)) (IsOwned state (slice_set o.lanes.items k new)) owned_set (front ++ back)
-          (all_less (IsOwned state o.lanes.items) front r back (subst (AllByRecursion (IsOwned state o.lanes.items)) was can.owned)) (others front r back order) in
+      (all_less (IsOwned state o.lanes.items) front r back (subst (AllByRecursion (IsOwned state o.lanes.items)) was can.owned)) (others front r back order) in
       let again : CanOpen state shared (record o { lanes = n.lanes; owned = n.owned }) = record {
         want = can.want;
         home_volume = can.home_volume;

@@ -1,15 +1,14 @@
 -- Segments whose disks tell their content: their records, and what a scan has of them.
-use Rattle.std.proofs.Common.{◌≡◌, ◌⊎◌, inl, inr, ◌+◌, ◌<◌, ◌≤◌, ℕ, zero, suc, Bool, true, false, not, cond, eqb, ◌||◌, List, [], ◌∷◌, ◌++◌, length, map, Option, None, Some, option_map, refl, sym, ap, subst, ◌∙◌, arith}
-use Rattle.std.specs.Prelude.{slice_get, filter, unwrap_or, max, ⊤, IsTrue}
+use Rattle.std.proofs.Common.{◌≡◌, ◌+◌, ◌<◌, ◌≤◌, ℕ, suc, Bool, true, false, not, cond, eqb, ◌||◌, List, [], ◌∷◌, ◌++◌, length, map, Option, None, Some, option_map, refl, sym, ap, subst, ◌∙◌, arith}
+use Rattle.std.specs.Prelude.{slice_get, filter, unwrap_or, max}
 use Rattle.std.specs.List.{AllByRecursion, AllZip, list_any, flat_map}
-use Rattle.std.proofs.lemmas.List.{append_assoc, append-nil, map-append}
-use Rattle.std.proofs.lemmas.Option.{same_Some, none-some}
-use Rattle.wol_disk.specs.Disk.{State, Block, Values, TellsContent, only, reads, settled, IsAmong}
+use Rattle.std.proofs.lemmas.List.{map-append}
+use Rattle.std.proofs.lemmas.Option.{same_Some}
+use Rattle.wol_disk.specs.Disk.{State, Block, Values, TellsContent, only, reads, settled}
 use Rattle.wol_disk.proofs.Images.{reads_only}
 use Rattle.wol_model.specs.Heads.{RecordHead}
-use Rattle.wol_model.specs.Extents.{Extent, write_of}
-use Rattle.wol_model.specs.Log.{Record, IsLog, end_of, extent_of}
-use Rattle.wol_model.specs.Recovered.{read_log, extents_in, extents_of, recovered}
+use Rattle.wol_model.specs.Log.{Record, IsLog, extent_of}
+use Rattle.wol_model.specs.Recovered.{read_log, extents_in, extents_of}
 use Rattle.wol_model.proofs.ReadLogs.{log_read}
 use Rattle.log_layout.specs.Values.{record_head}
 use Rattle.spin_model.specs.Spun.{state_of}

@@ -1,7 +1,7 @@
 -- What opening leaves of the parts that it was given.
-use Rattle.std.specs.Prelude.{⊤, false, ◌≡◌, ◌⊎◌, ◌≤◌, ℕ, Bool, List, [], ◌∷◌, map, Option, Some, None, option_map, IsTrue}
+use Rattle.std.specs.Prelude.{⊤, false, ◌≡◌, ◌⊎◌, ℕ, Bool, List, [], ◌∷◌, Option, Some, None, IsTrue}
 use Rattle.std.specs.List.{AllByRecursion, AllZip, filter_map}
-use Rattle.wol_disk.specs.Disk.{State, Block, Values, IsImageOf, LeavesOnly, reads}
+use Rattle.wol_disk.specs.Disk.{State, Block, Values, IsImageOf, LeavesOnly}
 use Rattle.wol_model.specs.Images.{IsSoundSegment}
 use Rattle.wol_model.specs.Heads.{Shape}
 use Rattle.wol_model.specs.Log.{Record, IsLog}

@@ -1,18 +1,15 @@
 -- The manager of a volume that was opened.
-use Rattle.std.specs.Prelude.{◌≡◌, ℕ, Bool, List, [], map, None, IsTrue}
+use Rattle.std.specs.Prelude.{◌≡◌, Bool, List, [], None, IsTrue}
 use Rattle.std.specs.List.{AllZip}
 use Rattle.wol_disk.specs.Disk.{State}
 use Rattle.turn_lock.specs.Passes.{IsSamePass}
 use Rattle.spin_model.specs.Spun.{state_of}
-use Rattle.log_segment.specs.Segment.{part_of}
-use Rattle.logger.specs.Lanes.{IsSameLane, held_in}
-use Rattle.wol_promise.specs.Manager.{Base, Held}
+use Rattle.logger.specs.Lanes.{IsSameLane}
+use Rattle.wol_promise.specs.Manager.{Base}
 use Rattle.wol_promise.specs.Stands.{next_version}
-use Rattle.manager.specs.Seen.{all_held}
 use Rattle.manager.specs.Stands.{Stands, IsHome}
 use Rattle.manager.specs.declared.base.ManagerBase.{ManagerBase}
 use Rattle.manager.specs.declared.manager.Manager.{Manager}
-use Rattle.logger.specs.declared.lane.Lane.{Lane}
 use Rattle.logger.specs.declared.shared.Shared.{Shared}
 use Rattle.manager_recovery.specs.Owned.{read_of, all_owned, records_in, writes_in, recovered_of}
 use Rattle.manager_recovery.specs.Refused.{IsNamesAnswer, IsRecoverable}

@@ -1,5 +1,5 @@
 -- What a volume may be opened of.
-use Rattle.std.specs.Prelude.{⊤, ◌≡◌, ◌⊎◌, ◌<◌, ◌≤◌, ◌^◌, ◌+◌, ◌-◌, ℕ, true, false, List, [], ◌∷◌, map, filter, Contains, slice_index_or, None, Some, length}
+use Rattle.std.specs.Prelude.{⊤, ◌≡◌, ◌⊎◌, ◌<◌, ◌≤◌, ◌^◌, ◌+◌, ◌-◌, ℕ, true, false, List, [], ◌∷◌, map, filter, slice_index_or, None, Some}
 use Rattle.std.specs.List.{AllByRecursion}
 use Rattle.wol_disk.specs.Disk.{State, Block, Values, reads}
 use Rattle.wol_model.specs.Heads.{IsShape, owned_block}

@@ -1,5 +1,5 @@
 -- The segments that a volume owns, as they read: what is wrong with them, and what the volume recovers to.
-use Rattle.std.specs.Prelude.{◌≡◌, ◌<◌, ◌≤◌, ◌+◌, ◌==◌, if◌then◌else◌, ℕ, Bool, not, List, [], ◌∷◌, ◌++◌, map, filter, take, length, slice_get, unwrap_or, Option, Some, option_map}
+use Rattle.std.specs.Prelude.{◌≡◌, ◌<◌, ◌≤◌, ◌+◌, ◌==◌, if◌then◌else◌, ℕ, not, List, [], ◌∷◌, ◌++◌, map, filter, take, length, slice_get, unwrap_or, Some, option_map}
 use Rattle.std.specs.List.{AllByRecursion, flat_map}
 use Rattle.wol_disk.specs.Disk.{Block, State, reads}
 use Rattle.wol_model.specs.Log.{Record, IsLog, position_of, extent_of}

@@ -1,8 +1,7 @@
 -- Why a volume is refused: the first cause that applies.
-use Rattle.std.specs.Prelude.{⊤, ◌≡◌, ◌≢◌, ◌==◌, ℕ, Bool, false, not, List, find, take, is_some, position, slice_get, slice_index_or, Contains, Option, Some, None, IsTrue}
+use Rattle.std.specs.Prelude.{◌≡◌, ◌≢◌, ◌==◌, ℕ, Bool, false, not, List, find, take, is_some, position, slice_get, slice_index_or, Contains, Option, Some, None, IsTrue}
 use Rattle.wol_disk.specs.Disk.{State, Rose}
 use Rattle.spin_model.specs.Spun.{state_of}
-use Rattle.manager.specs.declared.part.Part.{Part}
 use Rattle.manager.specs.declared.part.Part.TheVariants.{Home, Segment}
 use Rattle.manager_recovery.specs.Owned.{Head, all_owned, heads_in, AreIntact, IsFirstDamage, HaveNoTwins, AreFirstTwins}
 use Rattle.manager_recovery.specs.declared.opening.Opening.{Opening}

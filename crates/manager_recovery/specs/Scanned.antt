@@ -1,5 +1,5 @@
 -- Segments that were read back, and the records that were found in them.
-use Rattle.std.specs.Prelude.{⊤, take, slice_get, true, ◌^◌, IsPermutation, ◌≡◌, ◌≢◌, ◌<◌, ◌≤◌, ◌+◌, ◌==◌, if◌then◌else◌, ℕ, Bool, not, List, [], ◌∷◌, ◌++◌, map, filter, position, unwrap_or, Option, Some, None, option_map, Result, IfOk, IfErr, OnOk, slice_set, IsErrOf, IsTrue, max}
+use Rattle.std.specs.Prelude.{⊤, take, slice_get, ◌^◌, IsPermutation, ◌≡◌, ◌≢◌, ◌<◌, ◌≤◌, ◌+◌, ◌==◌, if◌then◌else◌, ℕ, Bool, not, List, [], ◌∷◌, ◌++◌, map, filter, position, unwrap_or, Some, option_map, Result, IfOk, IfErr, OnOk, slice_set, IsErrOf, IsTrue, max}
 use Rattle.std.specs.List.{AllByRecursion, AllZip, list_any}
 use Rattle.wol_disk.specs.Disk.{State, Block, Values, IsImageOf, LeavesOnly, Rose, only, reads, settled}
 use Rattle.spin_model.specs.Spun.{state_of}
@@ -9,10 +9,8 @@ use Rattle.log_scan.specs.declared.Found.{Found}
 use Rattle.log_scan.specs.declared.Scan.{Scan}
 use Rattle.log_scan.specs.declared.ScanFault.{ScanFault}
 use Rattle.log_scan.specs.declared.ScanFault.TheVariants as fault
-use Rattle.redirect_map.specs.declared.record.Rec.{Rec}
 use Rattle.redirect_map.specs.Index.{entry_of}
 use Rattle.wol_model.specs.Index.{Indexed, AreRising}
-use Rattle.manager.specs.declared.part.Part.{Part}
 use Rattle.manager.specs.declared.part.Part.TheVariants as part
 use Rattle.logger.specs.Lanes.{IsLane, IsAt, IsSameLane, logger_of, held_in, taken_in, pool_of}
 use Rattle.logger.specs.declared.lane.HeldSegment.{HeldSegment}

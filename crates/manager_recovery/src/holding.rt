@@ -23,12 +23,14 @@ pub fn hold_all<D: Disk>(shared: &Shared<D>, opening: &mut Opening<D>, scans: &[
     let _ = shared;
     opening.owned.reverse();
     for scan in scans {
-        let Some(OwnedPart {
-            logger,
-            index,
-            first_block: _,
-            part,
-        }) = opening.owned.pop()
+        let Some(
+            OwnedPart {
+                logger,
+                index,
+                first_block: _,
+                part,
+            },
+        ) = opening.owned.pop()
         else {
             unreachable!()
         };

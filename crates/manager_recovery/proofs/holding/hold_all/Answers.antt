@@ -1,4 +1,4 @@
-use Rattle.std.proofs.Common.{◌≡◌, ◌+◌, ℕ, suc, Some, List, length, reverse, refl, sym, ap, subst, ◌∙◌, arith, eqb}
+use Rattle.std.proofs.Common.{◌≡◌, ◌+◌, ℕ, suc, Some, reverse, refl, sym, ap, subst, ◌∙◌, arith, eqb}
 use Rattle.std.specs.Prelude.{position}
 use Rattle.std.proofs.lemmas.Option.{none-some, same_Some}
 use Rattle.wol_model.specs.Blocks.{AreApart}

@@ -1,4 +1,4 @@
-use Rattle.std.proofs.Common.{◌≡◌, ℕ, List, insert, slice_get, slice_set, Some, refl, sym, ap, subst, ◌∙◌}
+use Rattle.std.proofs.Common.{◌≡◌, List, insert, slice_set, Some, refl, sym, ap, subst, ◌∙◌}
 use Rattle.std.proofs.lemmas.Option.{same_Some, none-some}
 use Rattle.wol_disk.specs.Disk.{Block, Values, LeavesOnly, Rose}
 use Rattle.spin_model.specs.Spun.{state_of, volume_of}
@@ -80,15 +80,17 @@ returns-in-Ok-back-clause-err g c =
     let M : Spun g.row.D.Denot → Type 0 = λ p. (vs : List (Values Block)) → (state_of state r.part).values ≡ Some vs → LeavesOnly (state_of state r.part) (state_of state p) (IsLeftOf id (state_of state r.part).values) in
     let moments : M (part_of c.in-Err.segment) = left_of state id scan.0 r c.args.scan.now scan.1 c.requires.bare seg a.part owner a.holds (disk_of state c.in-Err.segment) un.any_moment in
     let fate : IsFateOf state id r (Kept n) = record {
-      same = (refl,
+      same = (
+        refl,
         ap (λ (p : Spun g.row.D.Denot). volume_of p) into ∙ (un.same.volume ∙ ap (λ (p : Spun g.row.D.Denot). volume_of p) a.part),
-        ap (λ (p : Spun g.row.D.Denot). (state_of state p).size) into ∙ (un.size ∙ ap (λ (p : Spun g.row.D.Denot). (state_of state p).size) a.part));
+        ap (λ (p : Spun g.row.D.Denot). (state_of state p).size) into ∙ (un.size ∙ ap (λ (p : Spun g.row.D.Denot). (state_of state p).size) a.part),
+      );
       any_moment = subst M (sym into) moments;
     } in
     let was : Rose (state_of state r.part).faults (disk_of state c.in-Err.segment).faults = subst (λ (p : Spun g.row.D.Denot). Rose (state_of state p).faults (disk_of state c.in-Err.segment).faults) a.part un.rose in
     let rose : Rose (state_of state r.part).faults (state_of state n.part).faults = subst (λ (p : Spun g.row.D.Denot). Rose (state_of state r.part).faults (state_of state p).faults) (sym into) was in
     let back : c.insert-back.new.self.items ≡ slice_set items c.args.k n = c.in-Ok-back.ensures.items ∙ (ap (λ (xs : List (OwnedPart g.row.D.Denot)). insert xs c.args.k n) c.remove-logger.ensures.items ∙ insert-remove items c.args.k r n there) in
     λ o is.
-        let P : OwnedPart g.row.D.Denot → Type 0 = λ q. (x : OwnedPart g.row.D.Denot) × (c.insert-back.new.self.items ≡ slice_set items c.args.k x) × IsFateOf state id q (Kept x)
-            × (refusal.DiskFault (part.Segment r.logger r.index) ≡ refusal.DiskFault (part.Segment q.logger q.index)) × Rose (state_of state q.part).faults (state_of state x.part).faults in
-        subst P (same_Some r o (sym there ∙ is)) (n, back, fate, refl, rose)
+    let P : OwnedPart g.row.D.Denot → Type 0 = λ q. (x : OwnedPart g.row.D.Denot) × (c.insert-back.new.self.items ≡ slice_set items c.args.k x) × IsFateOf state id q (Kept x)
+    × (refusal.DiskFault (part.Segment r.logger r.index) ≡ refusal.DiskFault (part.Segment q.logger q.index)) × Rose (state_of state q.part).faults (state_of state x.part).faults in
+    subst P (same_Some r o (sym there ∙ is)) (n, back, fate, refl, rose)

@@ -1,21 +1,21 @@
-use Rattle.std.proofs.Common.{◌≡◌, ◌-◌, ◌<◌, ℕ, List, false, true, None, Some, length, slice_get, slice_set, remove, arith, refl, sym, ap, subst, ◌∙◌, eqb}
+use Rattle.std.proofs.Common.{◌≡◌, ◌-◌, ℕ, List, false, true, Some, slice_set, arith, refl, sym, ap, subst, ◌∙◌, eqb}
 use Rattle.std.specs.Prelude.{Contains, position}
-use Rattle.std.specs.List.{AllByRecursion, AllZip, list_any}
+use Rattle.std.specs.List.{list_any}
 use Rattle.std.proofs.lemmas.Option.{same_Some, none-some, slice_get_within}
 use Rattle.wol_promise.proofs.Lists.{member_of}
 use Rattle.spin_model.specs.Spun.{disk_of}
 use Rattle.spin_model.specs.declared.spun.Spun.{Spun}
 use Rattle.log_scan.specs.declared.Scan.{Scan}
 use Rattle.manager.proofs.Lanes.{all_at, get_set}
-use Rattle.manager_recovery.specs.Owned.{Owned, all_owned, IsIntact}
+use Rattle.manager_recovery.specs.Owned.{all_owned, IsIntact}
 use Rattle.manager_recovery.specs.Left.{IsFateOf, Kept, Freed}
 use Rattle.manager_recovery.specs.Opening.{IsOwned}
-use Rattle.manager_recovery.specs.Scanned.{IsScanned, has_some, keeps_some, thinned}
+use Rattle.manager_recovery.specs.Scanned.{IsScanned, has_some, keeps_some}
 use Rattle.manager_recovery.specs.declared.opening.Opening.{Opening}
 use Rattle.manager_recovery.specs.declared.opening.OwnedPart.{OwnedPart}
 use Rattle.manager_recovery.proofs.Fronts.{all_take}
 use Rattle.manager_recovery.proofs.Places.{read_at}
-use Rattle.manager_recovery.proofs.Thinning.{IsRetiredTo, begun, next, lowered, stays, part_place, part_lane, lane_read, is_ready, is_held, freed, failed, whole}
+use Rattle.manager_recovery.proofs.Thinning.{begun, next, lowered, stays, part_place, part_lane, lane_read, is_ready, is_held, freed, failed}
 use Rattle.manager_recovery.proofs.retiring.retire_bare.Goals as goal
 
 pub loop-k-init : goal.loop-k-init
@@ -153,10 +153,12 @@ retire_at-requires-clause-scanned g c =
     let inv = lowered state s sound o was o.want.home scanned n is k c.loop-k-test.true c.loop-k.invariant in
     let at = next state s sound o was o.want.home scanned n is (k - 1) inv in
     let scan_same : c.index-in-loop-k-2.result.now ≡ at.scan = read_at is (k - 1) c.index-in-loop-k-2.result.now at.scan at.scan_at c.index-in-loop-k-2.ensures in
-    λ p there. (o.want.home,
-        subst (λ (q : Opening g.row.D.Denot). IsScanned state q.want.id o.want.home p c.index-in-loop-k-2.result.now) (sym inv.same)
-        (subst (λ (q : OwnedPart g.row.D.Denot). IsScanned state o.want.id o.want.home q c.index-in-loop-k-2.result.now) (same_Some at.part p (sym at.part_at ∙ there))
-        (subst (λ (q : Scan). IsScanned state o.want.id o.want.home at.part q) (sym scan_same) at.scanned_)))
+    λ p there. (
+      o.want.home,
+      subst (λ (q : Opening g.row.D.Denot). IsScanned state q.want.id o.want.home p c.index-in-loop-k-2.result.now) (sym inv.same)
+          (subst (λ (q : OwnedPart g.row.D.Denot). IsScanned state o.want.id o.want.home q c.index-in-loop-k-2.result.now) (same_Some at.part p (sym at.part_at ∙ there))
+          (subst (λ (q : Scan). IsScanned state o.want.id o.want.home at.part q) (sym scan_same) at.scanned_)),
+    )
 
 pub retire_at-requires-clause-bare : goal.retire_at-requires-clause-bare
 retire_at-requires-clause-bare g c =
@@ -211,15 +213,18 @@ returns-in-Err-clause-err g c =
     let at = next state s sound o was o.want.home scanned n is (k - 1) inv in
     let a = c.in-Err.ensures in
     let w = a.err at.part at.part_at in
-    let after = w.0 in let same = w.2.same.0 in
-    (at.part.logger, at.part.index, w.3, record {
-      k = k - 1;
-      before = at.part;
-      after = after;
-      was_there = at.was_part;
-      is_there = subst (λ (l : List (OwnedPart g.row.D.Denot)). Contains l after) (sym w.1) (member_of (slice_set n.owned.items (k - 1) after) after (k - 1) (get_set n.owned.items (k - 1) at.part after at.part_at));
-      named = (refl, refl, sym (ap (λ (q : OwnedPart g.row.D.Denot). q.logger) same), sym (ap (λ (q : OwnedPart g.row.D.Denot). q.index) same));
-      rose = w.4;
-      intact = λ told. all_take (IsIntact o.want.id o.want.home) (k - 1) (all_owned state o.owned.items) (c.requires.intact told);
-    })
-
+    let after = w.0 in let same = w.2.same.0 in (
+      at.part.logger,
+      at.part.index,
+      w.3,
+      record {
+        k = k - 1;
+        before = at.part;
+        after = after;
+        was_there = at.was_part;
+        is_there = subst (λ (l : List (OwnedPart g.row.D.Denot)). Contains l after) (sym w.1) (member_of (slice_set n.owned.items (k - 1) after) after (k - 1) (get_set n.owned.items (k - 1) at.part after at.part_at));
+        named = (refl, refl, sym (ap (λ (q : OwnedPart g.row.D.Denot). q.logger) same), sym (ap (λ (q : OwnedPart g.row.D.Denot). q.index) same));
+        rose = w.4;
+        intact = λ told. all_take (IsIntact o.want.id o.want.home) (k - 1) (all_owned state o.owned.items) (c.requires.intact told);
+      },
+    )

@@ -54,5 +54,5 @@ returns g c o rec back =
     let want = ap (λ q. q.want) same in let view = ap (λ q. q.view) same in let present = ap (λ q. q.present) same in let label = ap (λ q. q.label) same in let most = ap (λ q. q.most) same in
     let stands = opens_as tells state shared o n want view present label most r rec c.len-few.ensures.valid lanes held (λ p. g.met.D.Disk.sound (disk_of p)) (λ t p. g.met.D.Disk.told t (disk_of p)) back tells refl in
     let value : c.new.result ≡ opened n.want.id n.home n.spindle lanes r.index r.next n.most =
-        c.new.ensures.value ∙ ap (λ (q : Opening g.row.D.Denot). opened q.want.id q.home q.spindle lanes r.index r.next q.most) c.hold_all.ensures.same in
+    c.new.ensures.value ∙ ap (λ (q : Opening g.row.D.Denot). opened q.want.id q.home q.spindle lanes r.index r.next q.most) c.hold_all.ensures.same in
     subst (Opens tells state shared o) (sym value) stands
