@@ -1,0 +1,285 @@
+-- What a volume begins with when it is opened, whether or not its disks tell their content.
+use Rattle.std.proofs.Common.{◌≡◌, ◌+◌, ◌<◌, ◌≤◌, ℕ, zero, suc, Bool, true, false, not, eqb, List, [], ◌∷◌, length, map, Option, Some, option_map, refl, sym, ap, subst, ◌∙◌, arith}
+use Rattle.std.specs.Prelude.{filter, replicate, IsTrue, unwrap_or}
+use Rattle.std.specs.List.{AllByRecursion, AllZip, flat_map}
+use Rattle.std.specs.declared.alloc.Global.{Global}
+use Rattle.std.specs.declared.vec.Vec.{Vec}
+use Rattle.wol_disk.specs.Disk.{State, Block, Values, IsDisk, TellsContent, IsAmong, IsImageOf, IsImage, only, reads, settled}
+use Rattle.wol_disk.proofs.Images.{only_image}
+use Rattle.wol_model.specs.Blocks.{Write, AreApart}
+use Rattle.wol_model.specs.Extents.{Extent, IsValid, with_extents, newest_block}
+use Rattle.wol_model.specs.Heads.{RecordHead, IsViewList}
+use Rattle.wol_model.specs.Index.{Indexed}
+use Rattle.wol_model.specs.Log.{Record, extent_of}
+use Rattle.wol_model.specs.Recovered.{recovered, extents_of}
+use Rattle.wol_model.proofs.Overlay.{overlay_length_from}
+use Rattle.redirect_map.proofs.Seen.{length-marks_of}
+use Rattle.log_layout.specs.Values.{record_head}
+use Rattle.log_scan.specs.declared.Found.{Found}
+use Rattle.log_scan.specs.declared.Scan.{Scan}
+use Rattle.wol_promise.specs.Manager.{versions}
+use Rattle.wol_promise.specs.Stands.{LiesIn, next_version}
+use Rattle.spin_model.specs.Spun.{state_of}
+use Rattle.spin_model.specs.declared.spun.Spun.{Spun}
+use Rattle.logger.specs.Lanes.{IsSameLane}
+use Rattle.logger.specs.declared.lane.HeldSegment.{HeldSegment}
+use Rattle.logger.specs.declared.lane.Lane.{Lane}
+use Rattle.logger.specs.declared.shared.Shared.{Shared}
+use Rattle.manager.specs.Stands.{opened}
+use Rattle.manager_recovery.specs.Owned.{Owned, read_of, all_owned, records_in, writes_in, recovered_of}
+use Rattle.manager_recovery.specs.Left.{IsUsedLane, IsHandedBack}
+use Rattle.manager_recovery.specs.Opened.{Opens}
+use Rattle.manager_recovery.specs.Recovery.{IsRecovered}
+use Rattle.manager_recovery.specs.Scanned.{AreHeld, HoldsItsOwn}
+use Rattle.manager_recovery.specs.declared.opening.Opening.{Opening}
+use Rattle.manager_recovery.specs.declared.opening.OwnedPart.{OwnedPart}
+use Rattle.manager_recovery.specs.declared.volume.Recovered.{Recovered}
+use Rattle.manager_recovery.proofs.ByLogger.{all_among, all_from, among_get, among_at, among_filter, filter_among, among_map, map_among, flat_among, apart_once, rising_counts}
+use Rattle.manager_recovery.proofs.Gathered.{gs, gathered, scanned_still, entry_versions, below_all, below_entry}
+use Rattle.manager_recovery.proofs.OpenedIndex.{entry_for, entry_here, in_volume, kept_among, valid_keeps, one_of_version, versions_once, named_at}
+use Rattle.manager_recovery.proofs.OpenedKeeps.{IsGathered, is_home}
+use Rattle.manager_recovery.proofs.OpenedStands.{IsBeginning, IsKnown, kept_of_all, recs_of, write_of_record, opened_base, opened_stands}
+use Rattle.manager_recovery.proofs.SameNewest.{same_array}
+use Rattle.manager_recovery.proofs.Segs.{Seg, IsSeg, segs_of, records_segs, entries_at, entries_segs}
+use Rattle.manager_recovery.proofs.ToldParts.{IsTold, AreHeads, all_told, records_at, all_records, keeps, kept_thinned, versions_found, records_before, extents_are, next_is}
+
+-- ---- Lists
+
+long-replicate : {X : Type 0} (n : ℕ) (x : X) → length (replicate n x) ≡ n
+long-replicate zero x = refl
+long-replicate (suc n) x = ap suc (long-replicate n x)
+
+long-reads : (vs : List (Values Block)) → length (reads vs) ≡ length vs
+long-reads [] = refl
+long-reads (v ∷ vs) = ap suc (long-reads vs)
+
+all_mapped : {X Y : Type 0} (P : Y → Type 0) (f : X → Y) (xs : List X) → AllByRecursion (λ (x : X). P (f x)) xs → AllByRecursion P (map f xs)
+all_mapped P f [] all = tt
+all_mapped P f (x ∷ xs) all = (all.0, all_mapped P f xs all.1)
+
+head_facts : (P : RecordHead → Type 0) (rs : List Record) (fs : List Found) → AreHeads rs fs → AllByRecursion (λ (f : Found). P (record_head f.head)) fs → AllByRecursion (λ (q : Record). P q.head) rs
+head_facts P [] [] zip all = tt
+head_facts P [] (f ∷ fs) zip all = absurd zip
+head_facts P (q ∷ rs) [] zip all = absurd zip
+head_facts P (q ∷ rs) (f ∷ fs) zip all = (subst P zip.0 all.0, head_facts P rs fs zip.1 all.1)
+
+told_segs : {D : Type 0} (state : D → State) (id : ℕ) (os : List (OwnedPart D)) (ss : List Scan) (hs : List (HeldSegment D)) → AllZip (IsTold state id) os ss → AllByRecursion (λ (g : Seg D). IsTold state id g.part g.scan) (segs_of os ss hs)
+told_segs state id [] ss hs zip = tt
+told_segs state id (o ∷ os) [] hs zip = tt
+told_segs state id (o ∷ os) (s ∷ ss) [] zip = tt
+told_segs state id (o ∷ os) (s ∷ ss) (h ∷ hs) zip = (zip.0, told_segs state id os ss hs zip.1)
+
+lanes_through : {D : Type 0} (R S : Lane D → Lane D → Type 0) (T : Lane D → Lane D → Type 0) → ((x y z : Lane D) → R x y → S y z → T x z) → (xs ys zs : List (Lane D)) → AllZip R xs ys → AllZip S ys zs → AllZip T xs zs
+lanes_through R S T so [] [] [] a b = tt
+lanes_through R S T so [] [] (z ∷ zs) a b = absurd b
+lanes_through R S T so [] (y ∷ ys) zs a b = absurd a
+lanes_through R S T so (x ∷ xs) [] zs a b = absurd a
+lanes_through R S T so (x ∷ xs) (y ∷ ys) [] a b = absurd b
+lanes_through R S T so (x ∷ xs) (y ∷ ys) (z ∷ zs) a b = (so x y z a.0 b.0, lanes_through R S T so xs ys zs a.1 b.1)
+
+write_versions : (rs : List Record) → versions (map write_of_record rs) ≡ map (λ (q : Record). q.head.version) rs
+write_versions [] = refl
+write_versions (q ∷ rs) = ap (λ l. q.head.version ∷ l) (write_versions rs)
+
+long_array : (home : List Block) (rs : List Extent) → length (with_extents home rs) ≡ length home
+unfolding with_extents
+long_array home rs = overlay_length_from 0 home (newest_block rs)
+
+recovered_is : (id : ℕ) (home : List Block) (segments : List (List Block)) → recovered id home segments ≡ with_extents home (extents_of id segments)
+unfolding recovered
+recovered_is id home segments = refl
+
+-- a write that an entry could be of
+abbrev entry_write : Indexed → Write
+entry_write e = record { first = e.listed.first; blocks = replicate (length e.listed.keep) []; version = Some e.listed.version }
+
+entry_write_versions : (es : List Indexed) → versions (map entry_write es) ≡ map (λ (e : Indexed). e.listed.version) es
+entry_write_versions [] = refl
+entry_write_versions (e ∷ es) = ap (λ l. e.listed.version ∷ l) (entry_write_versions es)
+
+module _ {D : Type 0} (tells : Bool) (state : D → State) (shared : Shared D) (o n : Opening D) (want : n.want ≡ o.want) (view : n.view ≡ o.view) (present : n.present ≡ o.present) (label : n.label ≡ o.label) (most : n.most ≡ o.most) (r : Recovered)
+    (rec : IsRecovered tells state shared o n r) (valid : IsViewList n.view) (lanes : Vec (Lane D) Global) (held : AreHeld state shared n.want.id n.most n.owned.items r.scans.items n.lanes.items lanes.items) where
+  abbrev all_gs : List (Seg D)
+  all_gs = gs tells state shared o n want view present label most r rec valid lanes.items held
+
+  c : IsGathered state shared n r lanes.items all_gs
+  c = gathered tells state shared o n want view present label most r rec valid lanes.items held
+
+  -- ---- Disks that don't tell
+
+  plain_beginning : tells ≡ false → IsBeginning state n r all_gs tells (map entry_write r.index.entries) (replicate n.want.home [])
+  plain_beginning untold = record {
+    apart = subst AreApart (sym (entry_write_versions r.index.entries)) (apart_once (map (λ (e : Indexed). e.listed.version) r.index.entries) (rising_counts (map (λ (e : Indexed). e.listed.version) r.index.entries) c.rising));
+    below = subst (AllByRecursion (λ v. v < r.next)) (sym (entry_write_versions r.index.entries)) (all_mapped (λ v. v < r.next) (λ (e : Indexed). e.listed.version) r.index.entries c.below);
+    lie = all_mapped (LiesIn n.want.home) entry_write r.index.entries (all_from (λ (e : Indexed). LiesIn n.want.home (entry_write e)) r.index.entries (λ e has.
+        let v = in_volume state n.lanes.items n.want.id n.want.home n.view all_gs c.all c.order c.view_ok.distinct r.index.entries c.same c.rising e has in let lies = v.lies in let long = long-replicate {X = Block} (length e.listed.keep) [] in omega (arith, lies, long)));
+    known = λ e has. record { write = entry_write e; among = among_map entry_write r.index.entries e has; version = refl; first = refl; count = long-replicate (length e.listed.keep) [] };
+    sized = long-replicate n.want.home [];
+    told = λ t. absurd (let bad : false ≡ true = sym untold ∙ t in cc);
+  }
+
+  -- ---- Disks that tell
+
+  module _ (sound : (p : Spun D) → IsDisk (state_of state p)) (tells_all : (p : Spun D) → TellsContent (state_of state p)) (home_size : (state_of state o.home).size ≡ n.want.home) where
+    told_read : AllZip (IsTold state o.want.id) rec.read rec.scans
+    told_read = all_told state o.want.id o.want.home rec.read rec.scans (λ p. tells_all p.part) rec.scanned
+
+    told_still : AllZip (IsTold state n.want.id) n.owned.items r.scans.items
+    told_still = all_told state n.want.id n.want.home n.owned.items r.scans.items (λ p. tells_all p.part) (scanned_still tells state shared o n want view present label most r rec)
+
+    told_gs : AllByRecursion (λ (g : Seg D). IsTold state n.want.id g.part g.scan) all_gs
+    told_gs = told_segs state n.want.id n.owned.items r.scans.items held.segments told_still
+
+    abbrev kept : List Record
+    kept = kept_of_all state n r all_gs
+
+    abbrev first_records : List Record
+    first_records = records_in o.want.id (all_owned state o.owned.items)
+
+    kept_is : filter keeps first_records ≡ kept
+    kept_is =
+        ap (filter keeps) (records_before state o.want.id o.owned.items rec.read rec.settled_)
+        ∙ (sym (kept_thinned state o.want.id rec.read rec.scans told_read)
+        ∙ ((λ i. filter keeps (all_records state (sym want i).id (sym rec.left i)))
+        ∙ ap (filter keeps) (records_segs state n.want.id n.owned.items r.scans.items held.segments held.adopted)))
+
+    versions_are : map (λ (q : Record). q.head.version) kept ≡ map (λ (e : Indexed). e.listed.version) (flat_map (entries_at state n.view) all_gs)
+    versions_are =
+        ap (λ (l : List Record). map (λ (q : Record). q.head.version) (filter keeps l)) (sym (records_segs state n.want.id n.owned.items r.scans.items held.segments held.adopted))
+        ∙ (versions_found state n.want.id n.view n.owned.items r.scans.items told_still
+        ∙ (sym (entry_versions _)
+        ∙ ap (map (λ (e : Indexed). e.listed.version)) (entries_segs state n.view n.owned.items r.scans.items held.segments held.adopted)))
+
+    abbrev first_writes : List Write
+    first_writes = writes_in o.want.id (all_owned state o.owned.items)
+
+    writes_are : first_writes ≡ map write_of_record kept
+    writes_are = ap (map write_of_record) kept_is
+
+    first_versions : versions first_writes ≡ map (λ (q : Record). q.head.version) kept
+    first_versions = ap versions writes_are ∙ write_versions kept
+
+    abbrev first_array : List Block
+    first_array = recovered_of o.want.id (read_of (state_of state o.home)) (all_owned state o.owned.items)
+
+    home_vs : (vs : List (Values Block)) × ((state_of state o.home).values ≡ Some vs)
+    home_vs = tells_all o.home
+
+    home_reads : read_of (state_of state o.home) ≡ reads home_vs.0
+    home_reads = ap (λ (v : Option (List (Values Block))). unwrap_or (option_map reads v) []) home_vs.1
+
+    is_sized : length first_array ≡ n.want.home
+    is_sized =
+        ap length (recovered_is o.want.id (read_of (state_of state o.home)) _)
+        ∙ (long_array (read_of (state_of state o.home)) _
+        ∙ (ap length home_reads ∙ (long-reads home_vs.0 ∙ ((sound o.home).each_block home_vs.0 home_vs.1 ∙ home_size))))
+
+    image_is : (image : List Block) → IsImageOf (state_of state n.home).values image → image ≡ read_of (state_of state o.home)
+    image_is image is =
+        let values : (state_of state n.home).values ≡ Some (only (reads home_vs.0)) = rec.home ∙ ap (option_map settled) home_vs.1 in
+        let here : IsImage (only (reads home_vs.0)) image = subst (λ (v : Option (List (Values Block))). IsImageOf v image) values is in
+        only_image (reads home_vs.0) image here ∙ sym home_reads
+
+    is_array : (image : List Block) → IsImageOf (state_of state n.home).values image → with_extents image (map extent_of kept) ≡ first_array
+    is_array image is =
+        let to : (x : Extent) → IsAmong (map extent_of first_records) x → IsValid x.cover → IsAmong (map extent_of kept) x = λ x has ok.
+        let w = map_among extent_of first_records x has in
+        let some = valid_keeps w.0 (subst (λ (y : Extent). IsValid y.cover) w.2 ok) in
+        let here : IsAmong kept w.0 = subst (λ (l : List Record). IsAmong l w.0) kept_is (filter_among keeps first_records w.0 w.1 some) in
+        subst (IsAmong (map extent_of kept)) (sym w.2) (among_map extent_of kept w.0 here) in
+        let from : (y : Extent) → IsAmong (map extent_of kept) y → IsValid y.cover → IsAmong (map extent_of first_records) y = λ y has ok.
+        let w = map_among extent_of kept y has in
+        let f = among_filter keeps first_records w.0 (subst (λ (l : List Record). IsAmong l w.0) (sym kept_is) w.1) in
+        subst (IsAmong (map extent_of first_records)) (sym w.2) (among_map extent_of first_records w.0 f.0) in
+        let once : (x y : Extent) → IsAmong (map extent_of kept) x → IsAmong (map extent_of kept) y → IsValid x.cover → IsValid y.cover → x.cover.version ≡ y.cover.version → x ≡ y = λ x y a d ok ok' version.
+        let v = map_among extent_of kept x a in let w = map_among extent_of kept y d in
+        let same : v.0.head.version ≡ w.0.head.version = sym (ap (λ (e : Extent). e.cover.version) v.2) ∙ (version ∙ ap (λ (e : Extent). e.cover.version) w.2) in
+        v.2 ∙ (ap extent_of (one_of_version state n.lanes.items n.want.id n.want.home n.view all_gs c.all c.order c.view_ok.distinct r.index.entries c.same c.rising told_gs versions_are v.0 w.0 v.1 w.1 same) ∙ sym w.2) in
+        sym (same_array (map extent_of first_records) (map extent_of kept) to from once image)
+        ∙ ((λ i. with_extents (image_is image is i) (sym (extents_are state o.want.id o.owned.items) i)) ∙ sym (recovered_is o.want.id (read_of (state_of state o.home)) (map (λ (s : Owned). s.blocks) (all_owned state o.owned.items))))
+
+    is_seg : (g : Seg D) → IsAmong all_gs g → IsSeg state n.lanes.items n.want.id n.want.home n.view g
+    is_seg g has = all_among (IsSeg state n.lanes.items n.want.id n.want.home n.view) all_gs g c.all has
+
+    told_at : (g : Seg D) → IsAmong all_gs g → IsTold state n.want.id g.part g.scan
+    told_at g has = all_among (λ (x : Seg D). IsTold state n.want.id x.part x.scan) all_gs g told_gs has
+
+    records_below : AllByRecursion (λ (g : Seg D). AllByRecursion (λ (q : Record). q.head.version < r.next) (recs_of state n r all_gs g)) all_gs
+    records_below = all_from (λ (g : Seg D). AllByRecursion (λ (q : Record). q.head.version < r.next) (recs_of state n r all_gs g)) all_gs (λ g has.
+        head_facts (λ (h : RecordHead). h.version < r.next) (records_at state n.want.id g.part) g.scan.records.items (told_at g has).heads
+        (all_from (λ (f : Found). f.head.version < r.next) g.scan.records.items (λ f there. below_entry tells state shared o n want view present label most r rec valid lanes.items held g f has there)))
+
+    record_lies : (q : Record) → IsAmong kept q → LiesIn n.want.home (write_of_record q)
+    record_lies q has =
+        let f = among_filter keeps (flat_map (recs_of state n r all_gs) all_gs) q has in
+        let g = flat_among (recs_of state n r all_gs) all_gs q f.0 in
+        let k = among_get (records_at state n.want.id g.0.part) q g.2 in
+        let named = named_at state n.lanes.items n.want.id n.want.home n.view all_gs c.all c.order c.view_ok.distinct r.index.entries c.same c.rising told_gs g.0 k.0 q g.1 k.1 in let counted = named.counted in
+        let within = all_among (λ (x : Record). x.head.first + x.head.count ≤ n.want.home) (records_at state n.want.id g.0.part) q
+        (head_facts (λ (h : RecordHead). h.first + h.count ≤ n.want.home) (records_at state n.want.id g.0.part) g.0.scan.records.items (told_at g.0 g.1).heads (is_seg g.0 g.1).scanned.within) g.2 in
+        omega (arith, counted, within)
+
+    is_known : (e : Indexed) → IsAmong r.index.entries e → IsKnown state n r all_gs first_writes e
+    is_known e has =
+        let h = entry_here state n.lanes.items n.want.id n.want.home n.view all_gs c.all c.order c.view_ok.distinct r.index.entries c.same c.rising e has in let g = h.seg in let f = h.found in
+        let at = (told_at g h.among).found.each h.k f h.there in
+        let q = at.whose in
+        let named = named_at state n.lanes.items n.want.id n.want.home n.view all_gs c.all c.order c.view_ok.distinct r.index.entries c.same c.rising told_gs g h.k q h.among at.there in
+        let some : keeps q ≡ true = sym (ap (λ (x : RecordHead). not (eqb x.mask 0)) at.head) ∙ h.kept in
+        let in_kept = kept_among state n.lanes.items n.want.id n.want.home n.view all_gs c.all c.order c.view_ok.distinct r.index.entries c.same c.rising told_gs g q h.among (among_at (records_at state n.want.id g.part) h.k q at.there) some in
+        let count : length q.blocks ≡ f.head.count = named.counted ∙ sym (ap (λ (x : RecordHead). x.count) at.head) in
+        let it : IsKnown state n r all_gs first_writes (entry_for state n.lanes.items n.want.id n.want.home n.view all_gs c.all c.order c.view_ok.distinct r.index.entries c.same c.rising g f) = record {
+          write = write_of_record q;
+          among = subst (λ (l : List Write). IsAmong l (write_of_record q)) (sym writes_are) (among_map write_of_record kept q in_kept);
+          version = ap (λ (x : RecordHead). Some x.version) (sym at.head);
+          first = ap (λ (x : RecordHead). x.first) (sym at.head);
+          count = count ∙ sym (length-marks_of f.head.count f.head.keep);
+        } in
+        subst (IsKnown state n r all_gs first_writes) (sym h.is) it
+
+    told_beginning : IsBeginning state n r all_gs tells first_writes first_array
+    told_beginning = record {
+      apart = subst AreApart (sym first_versions) (apart_once (map (λ (q : Record). q.head.version) kept) (versions_once state n.lanes.items n.want.id n.want.home n.view all_gs c.all c.order c.view_ok.distinct r.index.entries c.same c.rising told_gs versions_are));
+      below = subst (AllByRecursion (λ v. v < r.next)) (sym (first_versions ∙ versions_are)) (all_mapped (λ v. v < r.next) (λ (e : Indexed). e.listed.version) (flat_map (entries_at state n.view) all_gs) (below_all tells state shared o n want view present label most r rec valid lanes.items held));
+      lie = subst (AllByRecursion (LiesIn n.want.home)) (sym writes_are) (all_mapped (LiesIn n.want.home) write_of_record kept (all_from (λ (q : Record). LiesIn n.want.home (write_of_record q)) kept record_lies));
+      known = is_known;
+      sized = is_sized;
+      told = λ t. record { told = told_gs; versions_ = versions_are; records = writes_are; below = records_below; array_ = is_array };
+    }
+
+    next_told : r.next ≡ next_version (records_in o.want.id (all_owned state o.owned.items))
+    next_told = rec.next ∙ (next_is state o.want.id rec.read rec.scans told_read ∙ ap next_version (sym (records_before state o.want.id o.owned.items rec.read rec.settled_)))
+
+  -- ---- The manager
+
+  module _ (sound : (p : Spun D) → IsDisk (state_of state p)) (told : IsTrue tells → (p : Spun D) → TellsContent (state_of state p)) (back : IsHandedBack tells state shared o n) where
+    same_lanes : AllZip IsSameLane o.lanes.items lanes.items
+    same_lanes = lanes_through (IsUsedLane state shared o.want.id o.most) (HoldsItsOwn state shared n.want.id n.most n.owned.items held.segments) IsSameLane (λ x y z u h. let s = u.same in let t = h.same in record {
+      logger = t.logger ∙ s.logger;
+      owner = t.owner ∙ s.owner;
+      segments = t.segments ∙ s.segments;
+      pool = (t.pool.0 ∙ s.pool.0, t.pool.1 ∙ s.pool.1);
+      spindle = (t.spindle.0 ∙ s.spindle.0, t.spindle.1 ∙ s.spindle.1);
+    }) o.lanes.items n.lanes.items lanes.items back.lanes held.each
+
+    finish : (ws : List Write) (array : List Block) → IsBeginning state n r all_gs tells ws array → (IsTrue tells → array ≡ recovered_of o.want.id (read_of (state_of state o.home)) (all_owned state o.owned.items)) → (IsTrue tells → ws ≡ writes_in o.want.id (all_owned state o.owned.items))
+        → (IsTrue tells → r.next ≡ next_version (records_in o.want.id (all_owned state o.owned.items))) → Opens tells state shared o (opened n.want.id n.home n.spindle lanes r.index r.next n.most)
+    finish ws array b is_array is_writes is_next = record {
+      base = opened_base tells state shared n r lanes all_gs c ws array b;
+      begins = record { owner = ap (λ (w : _). w.id) want; home_blocks = ap (λ (w : _). w.home) want; most = most; view = view; array = is_array; records = is_writes; next = is_next };
+      stands = opened_stands tells state shared n r lanes all_gs c ws array b;
+      at = is_home state shared n r lanes all_gs c;
+      spindle = back.spindle;
+      lanes = same_lanes;
+      named = rec.named;
+      recoverable = rec.recoverable;
+      fates = back.fates;
+      parts = back.parts;
+    }
+
+    home_size : (state_of state o.home).size ≡ n.want.home
+    home_size = sym back.parts.home.size ∙ rec.open_.home_size
+
+    pub opens_as : (t : Bool) → tells ≡ t → Opens tells state shared o (opened n.want.id n.home n.spindle lanes r.index r.next n.most)
+    opens_as true is = finish (first_writes sound (told is) home_size) (first_array sound (told is) home_size) (told_beginning sound (told is) home_size) (λ t. refl) (λ t. refl) (λ t. next_told sound (told is) home_size)
+    opens_as false is = finish (map entry_write r.index.entries) (replicate n.want.home []) (plain_beginning is) (λ t. absurd (let bad : false ≡ true = sym is ∙ t in cc)) (λ t. absurd (let bad : false ≡ true = sym is ∙ t in cc)) (λ t. absurd (let bad : false ≡ true = sym is ∙ t in cc))

@@ -1,0 +1,58 @@
+use Rattle.std.proofs.Common.{◌≡◌, List, ap, sym, subst, refl, ◌∙◌}
+use Rattle.std.specs.List.{AllZip}
+use Rattle.spin_model.specs.Spun.{disk_of}
+use Rattle.log_scan.specs.declared.Scan.{Scan}
+use Rattle.manager.specs.Stands.{IsReady, opened}
+use Rattle.manager_recovery.specs.Opened.{Opens}
+use Rattle.manager_recovery.specs.declared.opening.Opening.{Opening}
+use Rattle.manager_recovery.specs.Scanned.{IsScanned, AreHeld}
+use Rattle.manager_recovery.proofs.Beginning.{opens_as}
+use Rattle.manager_recovery.proofs.Gathered.{gs, gathered, names_still, scanned_still}
+use Rattle.manager_recovery.proofs.OpenedKeeps.{is_ready}
+use Rattle.manager_recovery.proofs.volume.manager_of.Goals as goal
+
+pub hold_all-requires-clause-named : goal.hold_all-requires-clause-named
+hold_all-requires-clause-named g c =
+    let n = c.args.opening in let o = c.requires.ready.0 in let rec = c.requires.ready.1 in let same = c.requires.ready.2.same in
+    names_still g.D.Disk.tells g.D.Disk.state c.args.shared.now o n (ap (λ q. q.want) same) (ap (λ q. q.view) same) (ap (λ q. q.present) same) (ap (λ q. q.label) same) (ap (λ q. q.most) same) c.args.recovered rec
+
+pub hold_all-requires-clause-scanned : goal.hold_all-requires-clause-scanned
+hold_all-requires-clause-scanned g c =
+    let n = c.args.opening in let o = c.requires.ready.0 in let rec = c.requires.ready.1 in let same = c.requires.ready.2.same in
+    subst (AllZip (IsScanned g.D.Disk.state n.want.id n.want.home) n.owned.items) (sym c.deref.ensures.value)
+    (scanned_still g.D.Disk.tells g.D.Disk.state c.args.shared.now o n (ap (λ q. q.want) same) (ap (λ q. q.view) same) (ap (λ q. q.present) same) (ap (λ q. q.label) same) (ap (λ q. q.most) same) c.args.recovered rec)
+
+pub new-requires-clause-ready : goal.new-requires-clause-ready
+new-requires-clause-ready g c =
+    let tells = g.D.Disk.tells in let state = g.D.Disk.state in let shared = c.args.shared.now in let n = c.args.opening in let r = c.args.recovered in
+    let o = c.requires.ready.0 in let rec = c.requires.ready.1 in let back = c.requires.ready.2 in
+    let same = back.same in let lanes = c.hold_all.new.opening.lanes in
+    let held : AreHeld state shared n.want.id n.most n.owned.items r.scans.items n.lanes.items lanes.items = subst (λ (l : List Scan). AreHeld state shared n.want.id n.most n.owned.items l n.lanes.items lanes.items) c.deref.ensures.value c.hold_all.ensures.held in
+    let want = ap (λ q. q.want) same in let view = ap (λ q. q.view) same in let present = ap (λ q. q.present) same in let label = ap (λ q. q.label) same in let most = ap (λ q. q.most) same in
+    let all = gs tells state shared o n want view present label most r rec c.len-few.ensures.valid lanes.items held in
+    let gathered_ = gathered tells state shared o n want view present label most r rec c.len-few.ensures.valid lanes.items held in
+    let ready = is_ready state shared n r lanes all gathered_ in
+    subst (λ (q : Opening g.row.D.Denot). IsReady state (opened q.want.id q.home q.spindle lanes r.index r.next q.most)) (sym c.hold_all.ensures.same) ready
+
+pub new-requires-clause-few : goal.new-requires-clause-few
+new-requires-clause-few g c =
+    let tells = g.D.Disk.tells in let state = g.D.Disk.state in let shared = c.args.shared.now in let n = c.args.opening in let r = c.args.recovered in
+    let o = c.requires.ready.0 in let rec = c.requires.ready.1 in let back = c.requires.ready.2 in
+    let same = back.same in let lanes = c.hold_all.new.opening.lanes in
+    let held : AreHeld state shared n.want.id n.most n.owned.items r.scans.items n.lanes.items lanes.items = subst (λ (l : List Scan). AreHeld state shared n.want.id n.most n.owned.items l n.lanes.items lanes.items) c.deref.ensures.value c.hold_all.ensures.held in
+    let want = ap (λ q. q.want) same in let view = ap (λ q. q.view) same in let present = ap (λ q. q.present) same in let label = ap (λ q. q.label) same in let most = ap (λ q. q.most) same in
+    let all = gs tells state shared o n want view present label most r rec c.len-few.ensures.valid lanes.items held in
+    let gathered_ = gathered tells state shared o n want view present label most r rec c.len-few.ensures.valid lanes.items held in
+    let ready = is_ready state shared n r lanes all gathered_ in
+    ready.ready.few
+
+pub returns : goal.returns
+returns g c o rec back =
+    let tells = g.D.Disk.tells in let state = g.D.Disk.state in let shared = c.args.shared.now in let n = c.args.opening in let r = c.args.recovered in
+    let same = back.same in let lanes = c.hold_all.new.opening.lanes in
+    let held : AreHeld state shared n.want.id n.most n.owned.items r.scans.items n.lanes.items lanes.items = subst (λ (l : List Scan). AreHeld state shared n.want.id n.most n.owned.items l n.lanes.items lanes.items) c.deref.ensures.value c.hold_all.ensures.held in
+    let want = ap (λ q. q.want) same in let view = ap (λ q. q.view) same in let present = ap (λ q. q.present) same in let label = ap (λ q. q.label) same in let most = ap (λ q. q.most) same in
+    let stands = opens_as tells state shared o n want view present label most r rec c.len-few.ensures.valid lanes held (λ p. g.met.D.Disk.sound (disk_of p)) (λ t p. g.met.D.Disk.told t (disk_of p)) back tells refl in
+    let value : c.new.result ≡ opened n.want.id n.home n.spindle lanes r.index r.next n.most =
+    c.new.ensures.value ∙ ap (λ (q : Opening g.row.D.Denot). opened q.want.id q.home q.spindle lanes r.index r.next q.most) c.hold_all.ensures.same in
+    subst (Opens tells state shared o) (sym value) stands

@@ -1,0 +1,41 @@
+-- The manager of a volume that was opened.
+use Rattle.std.specs.Prelude.{◌≡◌, Bool, List, [], None, IsTrue}
+use Rattle.std.specs.List.{AllZip}
+use Rattle.wol_disk.specs.Disk.{State}
+use Rattle.turn_lock.specs.Passes.{IsSamePass}
+use Rattle.spin_model.specs.Spun.{state_of}
+use Rattle.logger.specs.Lanes.{IsSameLane}
+use Rattle.wol_promise.specs.Manager.{Base}
+use Rattle.wol_promise.specs.Stands.{next_version}
+use Rattle.manager.specs.Stands.{Stands, IsHome}
+use Rattle.manager.specs.declared.base.ManagerBase.{ManagerBase}
+use Rattle.manager.specs.declared.manager.Manager.{Manager}
+use Rattle.logger.specs.declared.shared.Shared.{Shared}
+use Rattle.manager_recovery.specs.Owned.{read_of, all_owned, records_in, writes_in, recovered_of}
+use Rattle.manager_recovery.specs.Refused.{IsNamesAnswer, IsRecoverable}
+use Rattle.manager_recovery.specs.Left.{Fate, LeavesParts}
+use Rattle.manager_recovery.specs.declared.opening.Opening.{Opening}
+
+-- What a volume begins with: the array that home and its segments recover to as they read, the records in these that keep blocks,
+-- and the version above all of theirs.
+pub record Begins {D : Type 0} (tells : Bool) (state : D → State) (o : Opening D) (b : Base) : Type 0 where
+  pub owner : b.owner ≡ o.want.id
+  pub home_blocks : b.home_blocks ≡ o.want.home
+  pub most : b.most ≡ o.most
+  pub view : b.view ≡ o.view
+  pub array : IsTrue tells → b.array ≡ recovered_of o.want.id (read_of (state_of state o.home)) (all_owned state o.owned.items)
+  pub records : IsTrue tells → b.records ≡ writes_in o.want.id (all_owned state o.owned.items)
+  pub next : IsTrue tells → b.next ≡ next_version (records_in o.want.id (all_owned state o.owned.items))
+
+-- The manager stands for that beginning and no entries, over the locks and passes of the opening.
+pub record Opens {D : Type 0} (tells : Bool) (state : D → State) (shared : Shared D) (o : Opening D) (m : Manager D) : Type 0 where
+  pub base : ManagerBase
+  pub begins : Begins tells state o base.volume.began
+  pub stands : Stands tells state m base []
+  pub at : IsHome shared m
+  pub spindle : IsSamePass o.spindle m.spindle
+  pub lanes : AllZip IsSameLane o.lanes.items m.lanes.items
+  pub named : IsNamesAnswer o None
+  pub recoverable : IsTrue tells → IsRecoverable state o
+  pub fates : List (Fate D)
+  pub parts : LeavesParts tells state o.want.id o.home m.home o.owned.items fates
