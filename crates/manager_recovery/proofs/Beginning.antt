@@ -28,7 +28,8 @@ use Rattle.logger.specs.declared.shared.Shared.{Shared}
 use Rattle.manager.specs.Stands.{opened}
 use Rattle.manager_recovery.specs.Owned.{Owned, read_of, all_owned, records_in, writes_in, recovered_of}
 use Rattle.manager_recovery.specs.Left.{IsUsedLane, IsHandedBack}
-use Rattle.manager_recovery.specs.Opened.{Opens}
+use Rattle.manager_recovery.specs.Opened.{Opens, IsInLane}
+use Rattle.manager_recovery.proofs.InLanes.{all_in_lanes}
 use Rattle.manager_recovery.specs.Recovery.{IsRecovered}
 use Rattle.manager_recovery.specs.Scanned.{AreHeld, HoldsItsOwn}
 use Rattle.manager_recovery.specs.declared.opening.Opening.{Opening}
@@ -274,6 +275,7 @@ module _ {D : Type 0} (tells : Bool) (state : D → State) (shared : Shared D) (
       named = rec.named;
       recoverable = rec.recoverable;
       fates = back.fates;
+      held = subst (AllByRecursion (IsInLane lanes.items)) back.owned (all_in_lanes state shared n r lanes.items all_gs c n.owned.items r.scans.items held.segments held.adopted refl);
       parts = back.parts;
     }
 

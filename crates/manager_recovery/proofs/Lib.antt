@@ -8,6 +8,7 @@ pub mod Fronts
 pub mod Gathered
 pub mod HeadsFound
 pub mod Held
+pub mod InLanes
 pub mod Indexing
 pub mod Leaves
 pub mod Lists

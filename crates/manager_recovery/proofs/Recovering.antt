@@ -18,14 +18,17 @@ use Rattle.turn_lock.specs.declared.pass.PassOf.{PassOf}
 use Rattle.log_layout.specs.declared.label.Label.{Label}
 use Rattle.log_scan.specs.declared.Scan.{Scan}
 use Rattle.logger.specs.declared.shared.Shared.{Shared}
-use Rattle.manager_recovery.specs.Left.{IsAsBefore, HasNothing, IsLeftOf, Fate, Kept, Freed, kept_of, AreFates, IsFateOf, IsSameOrFree, IsUsedLane, IsHandedBack}
+use Rattle.manager_recovery.specs.Left.{IsSameOwned, IsAsBefore, HasNothing, IsLeftOf, Fate, Kept, Freed, kept_of, AreFates, IsFateOf, IsSameOrFree, IsUsedLane, IsHandedBack}
 use Rattle.manager_recovery.specs.Owned.{AreIntact, IsIntact, all_owned}
-use Rattle.manager_recovery.specs.Refused.{SegmentRose}
+use Rattle.manager.specs.declared.part.Part.TheVariants as part
+use Rattle.manager_recovery.specs.declared.refusal.OpenRefusal.{OpenRefusal}
+use Rattle.manager_recovery.specs.declared.refusal.OpenRefusal.TheVariants.{LabelDiffers, LoggerMissing, OutsideView, Damaged, Twins, DiskFault, NoMemory}
+use Rattle.manager_recovery.specs.Refused.{HandsBackAll, SegmentRose}
 use Rattle.manager_recovery.specs.Scanned.{IsSeenAgain, IsReadBack, IsSettledPart, IsThinning, has_some}
 use Rattle.manager_recovery.specs.declared.opening.Opening.{Opening}
 use Rattle.manager_recovery.specs.declared.opening.OwnedPart.{OwnedPart}
 use Rattle.manager_recovery.proofs.Leaves.{leaves_parts}
-use Rattle.manager_recovery.proofs.Lists.{all_take, zip_get, zip_length, within, there_is}
+use Rattle.manager_recovery.proofs.Lists.{zip_map, all_take, zip_get, zip_length, within, there_is}
 use Rattle.manager_recovery.proofs.ScanAll.{zip_then}
 use Rattle.manager_recovery.proofs.ScanLoop.{used_then}
 
@@ -149,3 +152,19 @@ all_filtered (s ∷ ss) = at (all_filtered ss) (has_some s) refl
     at : AllByRecursion (λ s. has_some s ≡ true) (filter has_some ss) → (b : Bool) → has_some s ≡ b → AllByRecursion (λ s. has_some s ≡ true) (cond b (s ∷ filter has_some ss) (filter has_some ss))
     at rest true is = (is, rest)
     at rest false is = rest
+
+-- ---- All segments are handed back
+
+pub hands_back : {D : Type 0} (state : D → State) (o n : Opening D) (r : OpenRefusal) → AllZip (IsSameOwned state) o.owned.items n.owned.items → HandsBackAll state o n r
+hands_back state o n LabelDiffers same = same
+hands_back state o n (LoggerMissing id) same = same
+hands_back state o n (OutsideView logger segment) same = same
+hands_back state o n (Damaged volume block) same = same
+hands_back state o n (Twins first_volume first second_volume second) same = same
+hands_back state o n (DiskFault (part.Home volume)) same = same
+hands_back state o n (DiskFault (part.Segment volume index)) same = tt
+hands_back state o n NoMemory same = same
+
+pub read_hands_back : {D : Type 0} (state : D → State) (shared : Shared D) (o n m : Opening D) (r : OpenRefusal) → IsReadBack state shared o n → m.owned.items ≡ n.owned.items → HandsBackAll state o m r
+read_hands_back state shared o n m r parts is =
+    hands_back state o m r (subst (AllZip (IsSameOwned state) o.owned.items) (sym is) (zip_map (IsSeenAgain state) (IsSameOwned state) (λ x y seen. seen.same) o.owned.items n.owned.items parts.owned))

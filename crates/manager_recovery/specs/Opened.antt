@@ -1,10 +1,13 @@
 -- The manager of a volume that was opened.
-use Rattle.std.specs.Prelude.{◌≡◌, Bool, List, [], None, IsTrue}
-use Rattle.std.specs.List.{AllZip}
+use Rattle.std.specs.Prelude.{◌≡◌, Bool, List, [], None, Contains, IsTrue}
+use Rattle.std.specs.List.{AllByRecursion, AllZip}
 use Rattle.wol_disk.specs.Disk.{State}
 use Rattle.turn_lock.specs.Passes.{IsSamePass}
 use Rattle.spin_model.specs.Spun.{state_of}
-use Rattle.logger.specs.Lanes.{IsSameLane}
+use Rattle.log_segment.specs.Segment.{part_of}
+use Rattle.logger.specs.Lanes.{IsSameLane, logger_of, held_in}
+use Rattle.logger.specs.declared.lane.HeldSegment.{HeldSegment}
+use Rattle.logger.specs.declared.lane.Lane.{Lane}
 use Rattle.wol_promise.specs.Manager.{Base}
 use Rattle.wol_promise.specs.Stands.{next_version}
 use Rattle.manager.specs.Stands.{Stands, IsHome}
@@ -13,8 +16,9 @@ use Rattle.manager.specs.declared.manager.Manager.{Manager}
 use Rattle.logger.specs.declared.shared.Shared.{Shared}
 use Rattle.manager_recovery.specs.Owned.{read_of, all_owned, records_in, writes_in, recovered_of}
 use Rattle.manager_recovery.specs.Refused.{IsNamesAnswer, IsRecoverable}
-use Rattle.manager_recovery.specs.Left.{Fate, LeavesParts}
+use Rattle.manager_recovery.specs.Left.{Fate, LeavesParts, kept_of}
 use Rattle.manager_recovery.specs.declared.opening.Opening.{Opening}
+use Rattle.manager_recovery.specs.declared.opening.OwnedPart.{OwnedPart}
 
 -- What a volume begins with: the array that home and its segments recover to as they read, the records in these that keep blocks,
 -- and the version above all of theirs.
@@ -27,6 +31,16 @@ pub record Begins {D : Type 0} (tells : Bool) (state : D → State) (o : Opening
   pub records : IsTrue tells → b.records ≡ writes_in o.want.id (all_owned state o.owned.items)
   pub next : IsTrue tells → b.next ≡ next_version (records_in o.want.id (all_owned state o.owned.items))
 
+-- an owned segment that the lane of its logger holds
+pub record IsInLane {D : Type 0} (lanes : List (Lane D)) (o : OwnedPart D) : Type 0 where
+  pub lane : Lane D
+  pub segment : HeldSegment D
+  pub among : Contains lanes lane
+  pub logger : logger_of lane ≡ o.logger
+  pub is_held : Contains (held_in lane) segment
+  pub index : segment.index ≡ o.index
+  pub part : part_of segment.segment ≡ o.part
+
 -- The manager stands for that beginning and no entries, over the locks and passes of the opening.
 pub record Opens {D : Type 0} (tells : Bool) (state : D → State) (shared : Shared D) (o : Opening D) (m : Manager D) : Type 0 where
   pub base : ManagerBase
@@ -37,5 +51,7 @@ pub record Opens {D : Type 0} (tells : Bool) (state : D → State) (shared : Sha
   pub lanes : AllZip IsSameLane o.lanes.items m.lanes.items
   pub named : IsNamesAnswer o None
   pub recoverable : IsTrue tells → IsRecoverable state o
+  -- its lanes hold the segments that were handed on
   pub fates : List (Fate D)
+  pub held : AllByRecursion (IsInLane m.lanes.items) (kept_of fates)
   pub parts : LeavesParts tells state o.want.id o.home m.home o.owned.items fates

@@ -1,8 +1,10 @@
 -- Why a volume is refused: the first cause that applies.
-use Rattle.std.specs.Prelude.{◌≡◌, ◌≢◌, ◌==◌, ℕ, Bool, false, not, List, find, take, is_some, position, slice_get, slice_index_or, Contains, Option, Some, None, IsTrue}
+use Rattle.std.specs.Prelude.{⊤, ◌≡◌, ◌≢◌, ◌==◌, ℕ, Bool, false, not, List, find, take, is_some, position, slice_get, slice_index_or, Contains, Option, Some, None, IsTrue}
+use Rattle.std.specs.List.{AllZip}
 use Rattle.wol_disk.specs.Disk.{State, Rose}
 use Rattle.spin_model.specs.Spun.{state_of}
 use Rattle.manager.specs.declared.part.Part.TheVariants.{Home, Segment}
+use Rattle.manager_recovery.specs.Left.{IsSameOwned}
 use Rattle.manager_recovery.specs.Owned.{Head, all_owned, heads_in, AreIntact, IsFirstDamage, HaveNoTwins, AreFirstTwins}
 use Rattle.manager_recovery.specs.declared.opening.Opening.{Opening}
 use Rattle.manager_recovery.specs.declared.opening.OwnedPart.{OwnedPart}
@@ -74,3 +76,16 @@ Refuses tells state o n (DiskFault (Home volume)) =
     IsNamesAnswer o None × (volume ≡ o.want.id) × Rose (state_of state o.home).faults (state_of state n.home).faults × (IsTrue tells → IsRecoverable state o)
 Refuses tells state o n (DiskFault (Segment volume index)) = IsNamesAnswer o None × SegmentRose tells state o n.owned.items volume index
 Refuses tells state o n NoMemory = IsNamesAnswer o None
+
+-- ---- What a refusal leaves
+
+-- after each refusal all owned segments are handed back, but where a call of a segment failed, which may come after others were freed
+abbrev pub HandsBackAll : {D : Type 0} → (D → State) → (o n : Opening D) → OpenRefusal → Type 0
+HandsBackAll state o n LabelDiffers = AllZip (IsSameOwned state) o.owned.items n.owned.items
+HandsBackAll state o n (LoggerMissing id) = AllZip (IsSameOwned state) o.owned.items n.owned.items
+HandsBackAll state o n (OutsideView logger segment) = AllZip (IsSameOwned state) o.owned.items n.owned.items
+HandsBackAll state o n (Damaged volume block) = AllZip (IsSameOwned state) o.owned.items n.owned.items
+HandsBackAll state o n (Twins first_volume first second_volume second) = AllZip (IsSameOwned state) o.owned.items n.owned.items
+HandsBackAll state o n (DiskFault (Home volume)) = AllZip (IsSameOwned state) o.owned.items n.owned.items
+HandsBackAll state o n (DiskFault (Segment volume index)) = ⊤
+HandsBackAll state o n NoMemory = AllZip (IsSameOwned state) o.owned.items n.owned.items

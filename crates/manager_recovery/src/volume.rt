@@ -7,7 +7,7 @@ ghost use Rattle.manager_recovery.specs.Opening.{CanOpen};
 ghost use Rattle.manager_recovery.specs.Left.{IsHandedBack};
 ghost use Rattle.manager_recovery.specs.Opened.{Opens};
 ghost use Rattle.manager_recovery.specs.Recovery.{IsIndexOf, IsRecovered, IsIndexRefusal};
-ghost use Rattle.manager_recovery.specs.Refused.{IsNamesAnswer, Refuses};
+ghost use Rattle.manager_recovery.specs.Refused.{IsNamesAnswer, Refuses, HandsBackAll};
 ghost use Rattle.manager_recovery.specs.Scanned.{IsScanned, all_found, has_some};
 ghost use Rattle.manager_recovery.specs.declared.opening.Opening.{Opening};
 
@@ -77,6 +77,7 @@ fn recover<R: Wait, D: Disk>(
     ensures ok { IfOk result (IsRecovered D.tells D.state shared.now opening.old opening.new) }
     ensures parts { IsHandedBack D.tells D.state shared.now opening.old opening.new }
     ensures err { IfErr result (Refuses D.tells D.state opening.old opening.new) }
+    ensures whole { IfErr result (HandsBackAll D.state opening.old opening.new) }
 {
     if let Some(refusal) = names_refusal(opening) {
         return Err(refusal);
@@ -141,6 +142,7 @@ pub fn open_volume<R: Wait, D: Disk>(
     ensures ok { IfOk result (Opens D.tells D.state shared.now opening) }
     ensures err { IfErr result (λ r. Refuses D.tells D.state opening r.1 r.0) }
     ensures handed_back { IfErr result (λ r. IsHandedBack D.tells D.state shared.now opening r.1) }
+    ensures whole { IfErr result (λ r. HandsBackAll D.state opening r.1 r.0) }
 {
     let mut opening = opening;
     match recover(alloc, rt, shared, &mut opening) {

@@ -1,8 +1,8 @@
 use Rattle.wol_disk.specs.Disk.{Rose}
 use Rattle.spin_model.specs.declared.spun.Spun.{Spun}
 use Rattle.manager_recovery.specs.Recovery.{IsIndexOf, IsIndexRefusal}
-use Rattle.manager_recovery.specs.Refused.{Refuses}
-use Rattle.manager_recovery.specs.Scanned.{all_found, next_of}
+use Rattle.manager_recovery.specs.Refused.{Refuses, HandsBackAll}
+use Rattle.manager_recovery.specs.Scanned.{IsSeenAgain, all_found, next_of}
 use Rattle.manager_recovery.proofs.BackRead.{versions_below, recoverable, index_refuses, intact_again, is_recovered}
 use Rattle.std.proofs.Common.{◌≡◌, ◌+◌, ◌-◌, ◌<◌, ◌≤◌, ◌^◌, List, refl, sym, ap, subst, ◌∙◌, arith}
 use Rattle.std.specs.List.{AllByRecursion}
@@ -12,9 +12,10 @@ use Rattle.log_scan.specs.declared.Scan.{Scan}
 use Rattle.manager_recovery.specs.Opening.{IsOwned}
 use Rattle.manager_recovery.specs.declared.opening.OwnedPart.{OwnedPart}
 use Rattle.manager_recovery.specs.declared.opening.Opening.{Opening}
-use Rattle.manager_recovery.proofs.Lists.{all_map}
+use Rattle.manager_recovery.proofs.Lists.{all_map, zip_map}
 use Rattle.manager_recovery.proofs.ScanAll.{names_after}
-use Rattle.manager_recovery.proofs.Recovering.{handed_early, handed_read, handed_thinned, rose_back}
+use Rattle.manager_recovery.specs.Left.{IsSameOwned}
+use Rattle.manager_recovery.proofs.Recovering.{read_hands_back, handed_early, handed_read, handed_thinned, rose_back}
 use Rattle.manager_recovery.proofs.ScanAll.{at_start}
 use Rattle.manager_recovery.proofs.volume.recover.Goals as goal
 
@@ -96,3 +97,23 @@ returns-in-Err-retire_bare-clause-err g c =
       rose_back g.D.Disk.tells g.D.Disk.state g.met.D.Disk.sound g.met.D.Disk.told c.args.shared.now c.args.opening.now c.scan_all.new.opening c.sync_part-synced.new.part c.sync_part-synced.new.spindle c.retire_bare.new.opening.owned.items w.0 w.1
           c.scan_all.ensures.parts.owned c.in-Ok.ensures.ok.settled_ c.in-Ok.ensures.ok.intact w.3,
     )
+
+pub returns-in-Some-clause-whole : goal.returns-in-Some-clause-whole
+returns-in-Some-clause-whole g c =
+    let o = c.args.opening.now in
+    read_hands_back g.D.Disk.state c.args.shared.now o o o c.in-Some.refusal (at_start g.D.Disk.tells g.D.Disk.state g.met.D.Disk.sound c.args.shared.now o c.requires.ready).parts refl
+
+pub returns-in-Err-clause-whole : goal.returns-in-Err-clause-whole
+returns-in-Err-clause-whole g c = read_hands_back g.D.Disk.state c.args.shared.now c.args.opening.now c.scan_all.new.opening c.scan_all.new.opening c.in-Err.refusal c.scan_all.ensures.parts refl
+
+pub returns-in-Err-index_of-clause-whole : goal.returns-in-Err-index_of-clause-whole
+returns-in-Err-index_of-clause-whole g c = read_hands_back g.D.Disk.state c.args.shared.now c.args.opening.now c.scan_all.new.opening c.scan_all.new.opening c.in-Err-index_of.refusal c.scan_all.ensures.parts refl
+
+pub returns-in_default-synced-clause-whole : goal.returns-in_default-synced-clause-whole
+returns-in_default-synced-clause-whole g c =
+    zip_map (IsSeenAgain g.D.Disk.state) (IsSameOwned g.D.Disk.state) (λ x y seen. seen.same) c.args.opening.now.owned.items c.scan_all.new.opening.owned.items c.scan_all.ensures.parts.owned
+
+pub returns-in-Err-retire_bare-clause-whole : goal.returns-in-Err-retire_bare-clause-whole
+returns-in-Err-retire_bare-clause-whole g c =
+    let w = c.in-Err-retire_bare.ensures.err in
+    subst (HandsBackAll g.D.Disk.state c.args.opening.now c.retire_bare.new.opening) (sym w.2) tt
