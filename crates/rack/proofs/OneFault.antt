@@ -1,16 +1,14 @@
 -- An image is accepted or has one fault.
-use Rattle.std.proofs.Common.{◌≡◌, ◌⊎◌, ⊎_elim, ℕ, ◌<◌, ◌≤◌, List, length, get_or, refl, sym, ap, ◌∙◌, subst, arith}
+use Rattle.std.proofs.Common.{◌≡◌, ◌⊎◌, ⊎_elim, ℕ, ◌<◌, ◌≤◌, List, length, get_or, refl, sym, ap, ◌∙◌, arith}
 use Rattle.std.proofs.lemmas.Bool.{cases_lt}
 use Rattle.std.proofs.lemmas.Option.{slice_get-get_or}
 use Rattle.wol_disk.specs.Disk.{Block}
-use Rattle.wol_model.specs.Heads.{Shape, SegmentHead, Free}
-use Rattle.wol_model.specs.Images.{segment_of}
+use Rattle.wol_model.specs.Heads.{Shape, Free}
 use Rattle.logger_view.specs.Stored.{IsFirstFault}
 use Rattle.logger_view.proofs.Callers.{same_label, no_fault, one_fault}
-use Rattle.rack.specs.declared.reading.ImageFault.{ImageFault}
 use Rattle.rack.specs.declared.reading.ImageFault.TheVariants as fault
-use Rattle.rack.specs.Accepted.{HasOwnLabel, HasOtherLabel, IsAccepted, IsFirstHeadless, IsImageFault, head_place}
-use Rattle.rack.specs.OpeningLaws.{IsOfContent, AcceptedOrFaulty, OneImageFault}
+use Rattle.rack.specs.Accepted.{HasOwnLabel, HasOtherLabel, IsFirstHeadless, head_place}
+use Rattle.rack.specs.OpeningLaws.{AcceptedOrFaulty, OneImageFault}
 
 module _ (volumes own : ℕ) (s : Shape) (image : List Block) where
   not_other : (ids : List ℕ) → HasOwnLabel own s image ids → HasOtherLabel own s image → ⊥

@@ -5,5 +5,4 @@ ghost use Rattle.rack.specs.OpeningLaws.{AcceptedOrFaulty, OneImageFault};
 pub fn opening_laws()
     ensures accepted { AcceptedOrFaulty }
     ensures one { OneImageFault }
-{
-}
+{}

@@ -138,6 +138,9 @@ fn a_formatted_image_is_opened(rt: HostRuntime) -> Result<(), Fail> {
         return Err(Fail::from("not opened"));
     };
     assert_eq!(rt; image.view.ids(), [1].as_slice());
-    assert_eq!(rt; image.heads.as_slice(), [SegHead::Free, SegHead::Free].as_slice());
+    assert_eq!(rt;
+        image.heads.as_slice(),
+        [SegHead::Free, SegHead::Free].as_slice()
+    );
     Ok(())
 }
