@@ -65,7 +65,7 @@ returns-clause-ok g c =
     let same = same_label c.in-Ok.found.0 c.args.want.now c.if-ne.ensures in
     record {
       label = λ vs told. own_label (reads vs) c.in-Ok.found.0 c.args.want.now c.in-Ok.found.1 same (c.in-Ok.ensures.label vs told) (c.in-Ok.ensures.view vs told) c.in-Ok.ensures.others;
-      heads_ = subst (λ n. SayHeads state c.args.volumes c.args.parts.now.segments.items n c.read_heads.new.heads.items) c.requires.parts.count
+      of_segments = subst (λ n. SayHeads state c.args.volumes c.args.parts.now.segments.items n c.read_heads.new.heads.items) c.requires.parts.count
           (subst (λ segments. SayHeads state c.args.volumes segments (length segments) c.read_heads.new.heads.items) c.deref_mut.ensures.value c.in_ok-read_heads.ensures.ok);
       others = c.in-Ok.ensures.others;
     }
