@@ -12,7 +12,7 @@ use Rattle.rack.specs.declared.reading.ImageFault.TheVariants as fault
 use Rattle.rack.specs.Accepted.{HasOwnLabel, HasOtherLabel}
 use Rattle.rack.specs.Disks.{AreOfVolume}
 use Rattle.rack.specs.Reads.{IsOnlyRead, AreOnlyRead}
-use Rattle.rack.specs.Heads.{SayHeads, IsDamagedSegment, RoseAt}
+use Rattle.rack.specs.Heads.{SayHeads, IsDamagedSegment, RoseAt, AreCalm}
 
 -- the parts of an image of this volume with these sizes
 pub record ArePartsOf {D : Type 0} (state : D → State) (volume : ℕ) (s : Shape) (p : ImageParts D) : Type 0 where
@@ -28,6 +28,11 @@ pub record IsReadImage {D : Type 0} (state : D → State) (old new : ImageParts 
   pub label_volume : volume_of new.label ≡ volume_of old.label
   pub home : new.home ≡ old.home
   pub segments : AreOnlyRead state old.segments.items new.segments.items
+
+-- no count of theirs rose
+pub record IsCalmImage {D : Type 0} (state : D → State) (old new : ImageParts D) : Type 0 where
+  pub label : (state_of state new.label).faults ≡ (state_of state old.label).faults
+  pub segments : AreCalm state old.segments.items new.segments.items
 
 -- what holds of the blocks of label and view, where they are told
 abbrev pub SaysLabel : {D : Type 0} → (D → State) → ImageParts D → (List Block → Type 0) → Type 0
