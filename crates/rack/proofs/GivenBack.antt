@@ -1,5 +1,5 @@
 -- An image that was read: what it says, and what is left of it in its bay.
-use Rattle.std.proofs.Common.{◌≡◌, ⊎_elim, ℕ, zero, suc, ◌+◌, ◌<◌, List, [], ◌∷◌, ◌++◌, length, map, get_or, Option, None, Some, option_map, is_some, IfSome, Ok, refl, sym, ap, ◌∙◌, subst, arith}
+use Rattle.std.proofs.Common.{◌≡◌, ◌≢◌, ⊎_elim, ℕ, zero, suc, ◌+◌, ◌<◌, List, [], ◌∷◌, ◌++◌, length, map, get_or, Option, None, Some, option_map, is_some, IfSome, Ok, refl, sym, ap, ◌∙◌, subst, arith}
 use Rattle.std.specs.Prelude.{IsSome, Contains}
 use Rattle.wol_disk.specs.Disk.{Block, Values, State, IsDisk, IsImage, IsImageOf, settled, reads}
 use Rattle.wol_disk.proofs.Images.{settled_image}
@@ -22,12 +22,13 @@ use Rattle.rack.specs.Formatted.{part_sizes}
 use Rattle.rack.specs.ImageParts.{IsReadImage, MayNotOpen}
 use Rattle.rack.specs.Left.{AreNamedApart, IsTold}
 use Rattle.rack.specs.Reads.{IsOnlyRead}
-use Rattle.rack.specs.Refusals.{SaysSo, IsFaultAt, GaveBack, Refuses}
+use Rattle.rack.specs.Refusals.{SaysSo, IsFaultAt, IsCallFault, GaveBack, Refuses}
 use Rattle.rack.specs.Sent.{IsSentOut, IsOpenable, IsGivenBack}
 use Rattle.rack.proofs.Bays.{came}
 use Rattle.rack.proofs.ReadOut.{sent_parts}
 use Rattle.rack.proofs.SentOut.{IsCutWhole, answered_ok, cut_whole}
 use Rattle.rack.proofs.SettledParts.{cut_image, both_told, told_both, fault_found}
+use Rattle.rack.proofs.Refused.{not_empty}
 use Rattle.rack.proofs.Stored.{rose_above}
 use Rattle.rack.proofs.WholeReads.{accepted, refused}
 
@@ -136,6 +137,13 @@ module _ {D : Type 0} (state : D → State) where
       length_disks : (segments : List (Spun D)) → length (disks segments) ≡ length segments
       length_disks [] = refl
       length_disks (q ∷ qs) = ap suc (length_disks qs)
+
+  -- so the list of faulty parts isn't empty
+  pub call_faults : (volumes own : ℕ) (s : Shape) (old new : ImageParts D) (f : ImageFault) → IsCallFault f → IsReadImage state old new → MayNotOpen state volumes own s old new f → faulty_places state (disks_of new) ≢ []
+  call_faults volumes own s old new (fault.Damaged block) call read may = absurd call
+  call_faults volumes own s old new fault.LabelDiffers call read may = absurd call
+  call_faults volumes own s old new fault.LabelFault call read may = not_empty (faulty_places state (disks_of new)) 0 (fault_at volumes own s old new fault.LabelFault read may)
+  call_faults volumes own s old new (fault.SegmentFault index) call read may = not_empty (faulty_places state (disks_of new)) (2 + index) (fault_at volumes own s old new (fault.SegmentFault index) read may)
 
   -- ---- In the bay
 

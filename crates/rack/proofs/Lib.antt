@@ -15,3 +15,4 @@ pub mod WholeReads
 pub mod SentOut
 pub mod ReadOut
 pub mod GivenBack
+pub mod OneFault

@@ -43,7 +43,7 @@ module _ {D : Type 0} (state : D → State) where
       let rest : sizes_of state (disks p.segments.items) ≡ replicate s.segments s.segment_blocks = cc in
       let count = parts_count state s (disks_of p) e in
       let long = length-map p.segments.items (λ (q : Spun D). disk_of q) in
-      record { label = label; home = home; count = omega (arith, count, long); segments = each_sized s.segments s.segment_blocks p.segments.items rest; volume_ = of }
+      record { label = label; home = home; count = omega (arith, count, long); segments = each_sized s.segments s.segment_blocks p.segments.items rest; of_volume = of }
 
   pub sizes_of_parts : (volume : ℕ) (s : Shape) (p : ImageParts D) → ArePartsOf state volume s p → sizes_of state (disks_of p) ≡ part_sizes s
   sizes_of_parts volume s p are = λ i. are.label i ∷ are.home i ∷ sized_each s.segments s.segment_blocks p.segments.items are.count are.segments i
@@ -55,13 +55,13 @@ module _ {D : Type 0} (state : D → State) where
     home = ap (λ (q : Spun D). (state_of state q).size) read.home ∙ are.home;
     count = read.segments.count ∙ are.count;
     segments = λ k d lt. let below : k < length old.segments.items = omega (arith, lt, read.segments.count) in (read.segments.each k d below).size ∙ are.segments k d below;
-    volume_ = record {
-      label = read.label_volume ∙ are.volume_.label;
-      home = ap (λ (q : Spun D). volume_of q) read.home ∙ are.volume_.home;
-      segments = λ k d lt. let below : k < length old.segments.items = omega (arith, lt, read.segments.count) in read.segments.volume k d below ∙ are.volume_.segments k d below;
+    of_volume = record {
+      label = read.label_volume ∙ are.of_volume.label;
+      home = ap (λ (q : Spun D). volume_of q) read.home ∙ are.of_volume.home;
+      segments = λ k d lt. let below : k < length old.segments.items = omega (arith, lt, read.segments.count) in read.segments.volume k d below ∙ are.of_volume.segments k d below;
     };
   }
 
   -- the parts that went out
   pub sent_parts : ((d : D) → IsDisk (state d)) → (volume : ℕ) (s : Shape) (blocks : Option (List (Values Block))) (o : OutParts D) → IsSentOut state volume s blocks o → ArePartsOf state volume s o.image
-  sent_parts sound volume s blocks o sent = parts_of volume s o.image (cut_sizes state sound blocks (part_sizes s) (disks_of o.image) sent.cut) sent.volume_
+  sent_parts sound volume s blocks o sent = parts_of volume s o.image (cut_sizes state sound blocks (part_sizes s) (disks_of o.image) sent.cut) sent.of_volume

@@ -45,7 +45,7 @@ bay_calm (bay.WrongLength bytes) id old new calm none = absurd (none id part.Bay
 pub rose_since : (old mid new : ℕ) → old ≤ mid → Rose mid new → Rose old new
 rose_since old mid new le rose = ⊎_elim (λ (lt : mid < new). inl (omega (arith, le, lt))) (λ (top : 2 ^ 64 - 1 ≤ new). inr top) rose
 
-not_empty : (xs : List ℕ) (x : ℕ) → Contains xs x → xs ≢ []
+pub not_empty : (xs : List ℕ) (x : ℕ) → Contains xs x → xs ≢ []
 not_empty xs x there e = let n : length xs ≡ 0 = ap length e in omega (arith, n, there.1)
 
 module _ {D : Type 0} (state : D → State) where

@@ -177,7 +177,7 @@ module _ {D : Type 0} (state : D → State) (sound : (d : D) → IsDisk (state d
     pub accepted : (volumes own : ℕ) (ids : List ℕ) (heads : List SegHead) → MayOpen state volumes own s p ids heads → IsAccepted volumes own s (reads vs) ids (map segment_head heads)
     accepted volumes own ids heads may = record {
       named = subst (λ (bs : List Block). HasOwnLabel own s bs ids) (sym whole_is) (own_in_front (reads cut.front) (reads cut.back) two own s ids (may.label cut.front cut.first));
-      count = length-map heads segment_head ∙ may.heads_.count;
+      count = length-map heads segment_head ∙ may.of_segments.count;
       each = λ i h at. each_head i h (slice_get heads i) refl (sym (slice_get-map segment_head heads i) ∙ at);
     }
       where
@@ -186,7 +186,7 @@ module _ {D : Type 0} (state : D → State) (sound : (d : D) → IsDisk (state d
         each_head i h (Some g) at is =
             let lt : i < length heads = slice_get_within heads i g at in
             subst (λ (k : SegmentHead). HasHead volumes (segment_of s (reads vs) i) k) (same_Some (segment_head g) h is)
-            (head_of_whole volumes i heads s.segments g (omega (arith, lt, may.heads_.count)) (omega arith) may.heads_ at)
+            (head_of_whole volumes i heads s.segments g (omega (arith, lt, may.of_segments.count)) (omega arith) may.of_segments at)
 
     pub refused : (volumes own : ℕ) (new : ImageParts D) (f : ImageFault) → MayNotOpen state volumes own s p new f → IsImageFault volumes own s (reads vs) f
     refused volumes own new (fault.Damaged block) may =

@@ -12,7 +12,7 @@ use Rattle.rack.specs.declared.reading.ImageFault.TheVariants as fault
 use Rattle.rack.specs.Accepted.{HasOwnLabel, HasOtherLabel}
 use Rattle.rack.specs.Disks.{AreOfVolume}
 use Rattle.rack.specs.Reads.{IsOnlyRead, AreOnlyRead}
-use Rattle.rack.specs.Heads.{SayHeads, IsDamagedSegment, RoseAt}
+use Rattle.rack.specs.Heads.{SayHeads, IsDamagedSegment, RoseAt, AreCalm}
 
 -- the parts of an image of this volume with these sizes
 pub record ArePartsOf {D : Type 0} (state : D → State) (volume : ℕ) (s : Shape) (p : ImageParts D) : Type 0 where
@@ -20,7 +20,7 @@ pub record ArePartsOf {D : Type 0} (state : D → State) (volume : ℕ) (s : Sha
   pub home : (state_of state p.home).size ≡ s.home
   pub count : length p.segments.items ≡ s.segments
   pub segments : All (λ (q : Spun D). (state_of state q).size ≡ s.segment_blocks) p.segments.items
-  pub volume_ : AreOfVolume volume p
+  pub of_volume : AreOfVolume volume p
 
 -- they were read and not written
 pub record IsReadImage {D : Type 0} (state : D → State) (old new : ImageParts D) : Type 0 where
@@ -29,6 +29,11 @@ pub record IsReadImage {D : Type 0} (state : D → State) (old new : ImageParts 
   pub home : new.home ≡ old.home
   pub segments : AreOnlyRead state old.segments.items new.segments.items
 
+-- no count of theirs rose
+pub record IsCalmImage {D : Type 0} (state : D → State) (old new : ImageParts D) : Type 0 where
+  pub label : (state_of state new.label).faults ≡ (state_of state old.label).faults
+  pub segments : AreCalm state old.segments.items new.segments.items
+
 -- what holds of the blocks of label and view, where they are told
 abbrev pub SaysLabel : {D : Type 0} → (D → State) → ImageParts D → (List Block → Type 0) → Type 0
 SaysLabel state p holds = (vs : List (Values Block)) → (state_of state p.label).values ≡ Some vs → holds (reads vs)
@@ -36,7 +41,7 @@ SaysLabel state p holds = (vs : List (Values Block)) → (state_of state p.label
 -- the image may be opened: it has the label of the volume and this view, and its segments have these heads
 pub record MayOpen {D : Type 0} (state : D → State) (volumes own : ℕ) (s : Shape) (p : ImageParts D) (ids : List ℕ) (heads : List SegHead) : Type 0 where
   pub label : SaysLabel state p (λ bs. HasOwnLabel own s bs ids)
-  pub heads_ : SayHeads state volumes p.segments.items s.segments heads
+  pub of_segments : SayHeads state volumes p.segments.items s.segments heads
   -- also where it doesn't tell its content
   pub others : Contains ids own → ⊥
 

@@ -11,3 +11,4 @@ pub mod ImageParts
 pub mod Disks
 pub mod Sent
 pub mod Refusals
+pub mod OpeningLaws

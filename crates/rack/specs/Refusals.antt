@@ -37,6 +37,13 @@ IsFaultAt fault.LabelDiffers places = ⊤
 IsFaultAt fault.LabelFault places = Contains places 0
 IsFaultAt (fault.SegmentFault index) places = Contains places (2 + index)
 
+-- a call of a part failed
+abbrev pub IsCallFault : ImageFault → Type 0
+IsCallFault (fault.Damaged block) = ⊥
+IsCallFault fault.LabelDiffers = ⊥
+IsCallFault fault.LabelFault = ⊤
+IsCallFault (fault.SegmentFault index) = ⊤
+
 -- The image was read, refused for what it says, and is in the bay again: whatever a crash leaves of it, it might have left
 -- before.
 pub record GaveBack (volumes own : ℕ) (s : Shape) (name : Name) (f : ImageFault) (old new : Told) : Type 0 where

@@ -10,20 +10,21 @@ use Rattle.rack.specs.declared.attach.OutImage.{OutImage}
 use Rattle.rack.specs.declared.reading.ImageFault.{ImageFault}
 use Rattle.rack.specs.Formatted.{part_sizes}
 use Rattle.rack.specs.Disks.{disks_of, AreOfVolume}
-use Rattle.rack.specs.ImageParts.{IsReadImage, MayOpen, MayNotOpen}
+use Rattle.rack.specs.ImageParts.{IsReadImage, IsCalmImage, MayOpen, MayNotOpen}
 
 -- the parts of a volume's image, cut from these blocks, and an empty list with room for them
 pub record IsSentOut {D : Type 0} (state : D → State) (volume : ℕ) (s : Shape) (blocks : Option (List (Values Block))) (o : OutParts D) : Type 0 where
   pub cut : AreCut state blocks (part_sizes s) (disks_of o.image)
-  pub volume_ : AreOfVolume volume o.image
+  pub of_volume : AreOfVolume volume o.image
   pub empty : o.room.items ≡ []
   pub room : 2 + s.segments ≤ vec_capacity o.room
 
 -- the parts that went out were read and not written, and may be opened
 pub record IsOpenable {D : Type 0} (state : D → State) (volumes own : ℕ) (s : Shape) (before : ImageParts D) (o : OutImage D) : Type 0 where
   pub read : IsReadImage state before o.parts.image
+  pub calm : IsCalmImage state before o.parts.image
   pub may : MayOpen state volumes own s before o.view o.heads.items
-  pub volume_ : AreOfVolume own o.parts.image
+  pub of_volume : AreOfVolume own o.parts.image
   pub empty : o.parts.room.items ≡ []
   pub room : 2 + s.segments ≤ vec_capacity o.parts.room
 

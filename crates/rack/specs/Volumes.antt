@@ -1,6 +1,6 @@
 -- The volumes of a configuration and their images in a bay.
-use Rattle.std.specs.Prelude.{◌≡◌, ◌≢◌, ◌<◌, ℕ, List, [], length, map, Option, None, Some, All, slice_index_or, ⊤}
-use Rattle.wol_disk.specs.Disk.{Block, IsImage}
+use Rattle.std.specs.Prelude.{◌≡◌, ◌≢◌, ◌<◌, ℕ, List, [], length, map, Option, None, Some, All, slice_index_or, ◌==◌, if◌then◌else◌, ⊤}
+use Rattle.wol_disk.specs.Disk.{Block, IsImage, reads}
 use Rattle.wol_model.specs.Heads.{Shape}
 use Rattle.wol_model.specs.Images.{Images, image_of}
 use Rattle.wol_bay.specs.Bay.{Image, Told, BayState, at_name, IsHome}
@@ -32,3 +32,12 @@ pub record AreLeft (config : Config) (t : Told) (images : Images) : Type 0 where
   pub count : length images ≡ length config.volumes.items
   pub each : (k : ℕ) (d : VolumeConf) → k < length config.volumes.items
       → MayLeave (at_name (slice_index_or config.volumes.items k d).name t.images) (image_of images k)
+
+-- the image of a name as it reads, if it has whole blocks
+abbrev pub image_read : Option Image → Option (List Block)
+image_read None = None
+image_read (Some i) = if length i.rest == 0 then Some (reads i.blocks) else None
+
+-- those of all volumes, as they read
+abbrev pub images_read : Config → Told → Images
+images_read config t = map (λ (v : VolumeConf). image_read (at_name v.name t.images)) config.volumes.items

@@ -19,12 +19,14 @@ use wol_bay::{Bay, BayFault};
 use wol_disk::Disk;
 
 /// An image that is out of its bay, with the list in which the bay handed it out as room for its way back.
+#[derive(Drop)]
 pub(crate) struct OutParts<D: Disk> {
     pub image: ImageParts<D>,
     pub room: Vec<D>,
 }
 
 /// An image that may be opened: its parts, its view, and the heads of its segments.
+#[derive(Drop)]
 pub(crate) struct OutImage<D: Disk> {
     pub parts: OutParts<D>,
     pub view: View,

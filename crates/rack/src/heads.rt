@@ -1,6 +1,6 @@
 // The heads of an image's segments are read.
-ghost use Rattle.std.specs.Prelude.{◌≡◌, ◌≤◌, ◌+◌, ◌<◌, ◌∷◌, [], ℕ, Some, List, length, map, IfOk, OnOk, IfSome, IfNone, IsErrOf, All, slice_index_or, vec_len, vec_capacity};
-ghost use Rattle.wol_disk.specs.Disk.{Block, Values, Rose, reads};
+ghost use Rattle.std.specs.Prelude.{◌≡◌, ◌≤◌, ◌∷◌, [], Some, List, option_map, IfOk, OnOk, IfSome, IfNone, IsErrOf};
+ghost use Rattle.wol_disk.specs.Disk.{Block, Values, Rose, reads, settled};
 ghost use Rattle.wol_model.specs.Heads.{SegmentHead};
 ghost use Rattle.spin_model.specs.Spun.{volume_of, state_of, token_volume};
 ghost use Rattle.log_layout.specs.Values.{segment_head};
@@ -52,6 +52,7 @@ pub(crate) fn read_head<D: Disk>(
     ensures content { (vs : List (Values Block)) → (state_of D.state part.old).values ≡ Some vs → IfOk result (λ head. HasHead volumes (reads vs) (segment_head head)) }
     ensures configured { IfOk result (λ head. IsConfigured volumes (segment_head head)) }
     ensures damaged { (vs : List (Values Block)) → (state_of D.state part.old).values ≡ Some vs → IsErrOf result HeadFault.Damaged → IsHeadless volumes (reads vs) }
+    ensures settled { OnOk result ((state_of D.state part.new).values ≡ option_map settled (state_of D.state part.old).values) }
     ensures read { IsOnlyRead (state_of D.state part.old) (state_of D.state part.new) }
     ensures volume { volume_of part.new ≡ volume_of part.old }
     ensures cause { IsErrOf result HeadFault.Failed → Rose (state_of D.state part.old).faults (state_of D.state part.new).faults }

@@ -1,4 +1,4 @@
-//! All volumes of a bay: their images are formatted.
+//! All volumes of a bay: their images are formatted, and opened one by one.
 #![tactic(auto)]
 
 mod attach;
@@ -7,6 +7,7 @@ mod fault;
 mod formatting;
 mod heads;
 mod image;
+mod laws;
 mod opening;
 mod part;
 mod parts;
@@ -16,3 +17,4 @@ mod tests;
 
 pub use fault::{PartName, RackFault};
 pub use formatting::format;
+pub use laws::opening_laws;

@@ -9,7 +9,8 @@ ghost use Rattle.spin_model.specs.Operations.{has_token};
 ghost use Rattle.log_layout.specs.Values.{shape_of};
 ghost use Rattle.rack.specs.Formatted.{part_sizes};
 ghost use Rattle.rack.specs.Left.{IsTold};
-ghost use Rattle.rack.specs.Refusals.{IsCutOpenable, SaysSo, Refuses, refusal_of_bay};
+ghost use Rattle.rack.specs.Refusals.{IsCutOpenable, SaysSo, Refuses, IsCallFault, refusal_of_bay};
+ghost use Rattle.rack.specs.declared.reading.ImageFault.{ImageFault};
 
 use crate::attach::{OutImage, read_out, send_out};
 use crate::reading::ImageFault;
@@ -59,6 +60,7 @@ pub(crate) fn open_image<R: Wait, B: Bay>(
     ensures home { OnErr result (outs (B.state bay.new) ≡ outs (B.state bay.old)) }
     ensures refused { IfErr result (λ r. IsTold (Refuses volumes want.now.id (shape_of want.now) name.now r) (B.state bay.old).told (B.state bay.new).told) }
     ensures cause { IsErrOf result ImageRefusal.BayFailed → Rose (B.state bay.old).faults (B.state bay.new).faults }
+    ensures part_cause { (f : ImageFault) → IsErrOf result (ImageRefusal.Fault f) → IsCallFault f → Rose (B.state bay.old).faults (B.state bay.new).faults }
     ensures counts { (B.state bay.old).faults ≤ (B.state bay.new).faults }
     ensures same { IsSamePass pass.old pass.new }
     ensures free { IsFree pass.new }

@@ -5,6 +5,7 @@ use spin_model::Spun;
 use wol_disk::Disk;
 
 /// The parts of an image, each of which is reached by a token of its volume alone.
+#[derive(Drop)]
 pub(crate) struct ImageParts<D: Disk> {
     /// Label and view.
     pub label: Spun<D>,

@@ -4,7 +4,7 @@ ghost use Rattle.wol_model.specs.Heads.{IsShape};
 ghost use Rattle.spin_model.specs.Spun.{volume_of, state_of, token_volume};
 ghost use Rattle.log_layout.specs.Values.{shape_of};
 ghost use Rattle.rack.specs.Accepted.{head_place};
-ghost use Rattle.rack.specs.ImageParts.{ArePartsOf, IsReadImage, MayOpen, MayNotOpen};
+ghost use Rattle.rack.specs.ImageParts.{ArePartsOf, IsReadImage, IsCalmImage, MayOpen, MayNotOpen};
 ghost use Rattle.rack.specs.Reads.{AreOnlyRead};
 ghost use Rattle.rack.specs.Heads.{SayHeads, IsDamagedSegment, RoseAt, AreCalm};
 
@@ -86,6 +86,7 @@ pub(crate) fn read_image<D: Disk>(
     requires room { want.now.segments ≤ vec_capacity heads.old }
     ensures ok { IfOk result (λ view. MayOpen D.state volumes want.now.id (shape_of want.now) parts.old view heads.new.items) }
     ensures refused { IfErr result (MayNotOpen D.state volumes want.now.id (shape_of want.now) parts.old parts.new) }
+    ensures calm { OnOk result (IsCalmImage D.state parts.old parts.new) }
     ensures read { IsReadImage D.state parts.old parts.new }
 {
     let (label, view) = match load(token, &mut parts.label, want.id) {

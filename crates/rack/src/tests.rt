@@ -1,9 +1,18 @@
 // Two small volumes that are formatted in a bay in memory, with ample memory.
-ghost use Rattle.std.specs.Prelude.{◌≡◌, ◌≤◌, ◌^◌, length};
+ghost use Rattle.std.specs.Prelude.{◌≡◌, ◌≤◌, length, MatchOption, OnErr};
+ghost use Rattle.wol_model.specs.Heads.{IsShape};
+ghost use Rattle.log_layout.specs.Values.{shape_of};
 ghost use Rattle.wol_bay.specs.Bay.{IsHome, outs};
 
+use crate::attach::OutImage;
+use crate::opening::{ImageRefusal, open_image};
 use crate::{PartName, RackFault, format};
+use log_layout::{Label, SegHead};
+use spin_model::Spindle;
+use std::alloc::Global;
+use std::sync::Wait;
 use std::test::Fail;
+use turn_lock::TurnLock;
 use wol_bay::{Bay, MemBay};
 use wol_config::read_config;
 use wol_disk::{Block, Disk};
@@ -17,6 +26,13 @@ volume = [
   { name = "b", host = "b", disk = 0, home_blocks = 1, segments = 0, view = [] },
 ]
 "#;
+
+const LABEL: Label = Label {
+    id: 0,
+    home: 1,
+    segments: 2,
+    segment_blocks: 4,
+};
 
 // These bytes, and zeros behind them.
 fn block(front: &[u8]) -> Block
@@ -79,5 +95,52 @@ fn a_failed_part_is_named(rt: HostRuntime) -> Result<(), Fail> {
         part: PartName::Label,
     };
     assert_eq!(rt; format(rt.alloc(), &mut bay, &config), Err(unlabelled));
+    Ok(())
+}
+
+// Opens an image in turns of a lock of its own. It is None where there was no memory for the lock.
+fn open_alone<R: Wait, B: Bay>(
+    rt: &R,
+    alloc: Global,
+    bay: &mut B,
+    name: &str,
+    want: &Label,
+) -> Option<Result<OutImage<B::Part>, ImageRefusal>>
+    requires shape { IsShape (shape_of want.now) }
+    requires home { IsHome name.now (B.state bay.old) }
+    ensures { MatchOption result (outs (B.state bay.new) ≡ outs (B.state bay.old)) (λ r. OnErr r (outs (B.state bay.new) ≡ outs (B.state bay.old))) }
+{
+    match TurnLock::new(alloc, Spindle::new(alloc, want.id, 600), 1, 0) {
+        Ok((lock, mut passes)) => {
+            let opened = open_image(alloc, rt, bay, name, want, 2, &lock, &mut passes[0]);
+            let _spindle = lock.close(passes);
+            Some(opened)
+        }
+        Err(_) => None,
+    }
+}
+
+#[test]
+fn an_absent_image_is_refused(rt: HostRuntime) -> Result<(), Fail> {
+    let mut bay = MemBay::new(rt.alloc());
+    let opened = open_alone(&rt, rt.alloc(), &mut bay, "a", &LABEL).ok_or("no memory")?;
+    assert_eq!(rt; opened.err(), Some(ImageRefusal::Absent));
+    Ok(())
+}
+
+#[test]
+fn a_formatted_image_is_opened(rt: HostRuntime) -> Result<(), Fail> {
+    let config = read_config(rt.alloc(), TWO.as_bytes())?;
+    let mut bay = MemBay::new(rt.alloc());
+    assert_eq!(rt; format(rt.alloc(), &mut bay, &config), Ok(()));
+    let opened = open_alone(&rt, rt.alloc(), &mut bay, "a", &LABEL).ok_or("no memory")?;
+    let Ok(image) = opened else {
+        return Err(Fail::from("not opened"));
+    };
+    assert_eq!(rt; image.view.ids(), [1].as_slice());
+    assert_eq!(rt;
+        image.heads.as_slice(),
+        [SegHead::Free, SegHead::Free].as_slice()
+    );
     Ok(())
 }

@@ -25,7 +25,7 @@ returns-in-Ok-attach-clause-out g c =
     let count = parts_count state s parts (cut_sizes state g.met.B.Part.Disk.sound blocks c.deref.result.now parts c.in-Ok-attach.ensures.parts ∙ are) in
     record {
       cut = subst (λ (disks : List g.row.B-Part.Denot). AreCut state blocks (part_sizes s) disks) (sym c.take_apart-image.ensures.parts) (subst (λ (sizes : List ℕ). AreCut state blocks sizes parts) are c.in-Ok-attach.ensures.parts);
-      volume_ = c.take_apart-image.ensures.volume;
+      of_volume = c.take_apart-image.ensures.volume;
       empty = c.take_apart-image.ensures.empty;
       room = omega (arith, count, c.take_apart-image.ensures.capacity);
     }

@@ -1,8 +1,10 @@
-use Rattle.std.proofs.Common.{arith}
+use Rattle.std.proofs.Common.{◌≡◌, subst, arith}
 use Rattle.wol_bay.proofs.OneImage.{goes_out, comes_home}
 use Rattle.log_layout.specs.Values.{shape_of}
 use Rattle.rack.specs.Formatted.{part_sizes}
-use Rattle.rack.proofs.GivenBack.{says_so, gave_back}
+use Rattle.rack.proofs.GivenBack.{says_so, gave_back, call_faults}
+use Rattle.rack.proofs.Refused.{rose_since}
+use Rattle.rack.specs.Refusals.{IsCallFault}
 use Rattle.rack.proofs.opening.open_image.Goals as goal
 
 pub read_out-read-requires-clause-name : goal.read_out-read-requires-clause-name
@@ -25,3 +27,10 @@ returns-in-Err-read-clause-refused g c =
 
 pub returns-in-Err-read-clause-counts : goal.returns-in-Err-read-clause-counts
 returns-in-Err-read-clause-counts g c = let given = c.in-Err-read.ensures.refused in omega (arith, given.counts, c.send_out.ensures.counts)
+
+pub returns-in-Err-read-clause-part_cause : goal.returns-in-Err-read-clause-part_cause
+returns-in-Err-read-clause-part_cause g c = λ f is call.
+    let given = c.in-Err-read.ensures.refused in
+    let same : f ≡ c.in-Err-read.fault = cc in
+    rose_since (g.B.Bay.state c.args.bay.now).faults (g.B.Bay.state c.send_out.new.bay).faults (g.B.Bay.state c.read_out-read.new.bay).faults c.send_out.ensures.counts
+    (given.cause (call_faults g.B.Part.Disk.state c.args.volumes c.args.want.now.id (shape_of c.args.want.now) c.in-Ok-send_out.out.image given.after c.in-Err-read.fault (subst (λ e. IsCallFault e) same call) given.read given.refused))

@@ -8,7 +8,7 @@ use Rattle.std.specs.Vec.{with_items}
 use Rattle.rack.specs.declared.parts.ImageParts.{ImageParts}
 use Rattle.rack.specs.Accepted.{HasOwnLabel}
 use Rattle.rack.specs.ImageParts.{SaysLabel}
-use Rattle.rack.specs.Heads.{SayHeads, IsDamagedSegment, RoseAt}
+use Rattle.rack.specs.Heads.{SayHeads, IsDamagedSegment, RoseAt, AreCalm}
 use Rattle.rack.proofs.ImageReads.{came_back_whole, same_label, own_label, segment_refuses}
 use Rattle.rack.proofs.reading.read_image.Goals as goal
 
@@ -65,7 +65,18 @@ returns-clause-ok g c =
     let same = same_label c.in-Ok.found.0 c.args.want.now c.if-ne.ensures in
     record {
       label = λ vs told. own_label (reads vs) c.in-Ok.found.0 c.args.want.now c.in-Ok.found.1 same (c.in-Ok.ensures.label vs told) (c.in-Ok.ensures.view vs told) c.in-Ok.ensures.others;
-      heads_ = subst (λ n. SayHeads state c.args.volumes c.args.parts.now.segments.items n c.read_heads.new.heads.items) c.requires.parts.count
+      of_segments = subst (λ n. SayHeads state c.args.volumes c.args.parts.now.segments.items n c.read_heads.new.heads.items) c.requires.parts.count
           (subst (λ segments. SayHeads state c.args.volumes segments (length segments) c.read_heads.new.heads.items) c.deref_mut.ensures.value c.in_ok-read_heads.ensures.ok);
       others = c.in-Ok.ensures.others;
+    }
+
+pub returns-clause-calm : goal.returns-clause-calm
+returns-clause-calm g c =
+    let state = g.D.Disk.state in
+    let xs = c.args.parts.now.segments.items in
+    let read : AreOnlyRead state xs c.read_heads.new.segments = subst (λ segments. AreOnlyRead state segments c.read_heads.new.segments) c.deref_mut.ensures.value c.read_heads.ensures.read in
+    let whole = came_back_whole c.args.parts.now.segments.len xs c.read_heads.new.segments (omega arith) read.count in
+    record {
+      label = c.in-Ok.ensures.calm;
+      segments = subst (λ segments. AreCalm state xs segments) (sym whole) (subst (λ segments. AreCalm state segments c.read_heads.new.segments) c.deref_mut.ensures.value (c.in_ok-read_heads.ensures.calm (λ index e. cc e)));
     }
