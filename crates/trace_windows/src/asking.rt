@@ -1,0 +1,103 @@
+// What a line asks for: the volume that it belongs to, and its requests.
+ghost use Rattle.std.specs.Prelude.{◌≡◌, ◌+◌, ◌<◌, ◌≤◌, ◌^◌, ◌++◌, ℕ, length, map, IfSome, OnOk, OnErr};
+ghost use Rattle.std.specs.Io.{StartsWith};
+ghost use Rattle.wol_config.specs.Configs.{IsValid};
+ghost use Rattle.trace_gen.specs.Generated.{target_of, targets_of};
+ghost use Rattle.wol_model.specs.Trace.{requests_on, volume_of};
+ghost use Rattle.msr_trace.specs.Lines.{Fits, trace_line};
+ghost use Rattle.trace_windows.specs.Requests.{most_of, numbered};
+
+use crate::request::Request;
+use msr_trace::Line;
+use wol_config::{Config, VolumeConf};
+use wol_disk::NoMemory;
+
+/// The volume that has the line's host and disk.
+pub(crate) fn volume_of(volumes: &[VolumeConf], line: &Line) -> Option<usize>
+    ensures value { result ≡ volume_of (map target_of volumes.now) (trace_line line.now) }
+    ensures within { IfSome result (λ v. v < length volumes.now) }
+{
+    volumes.iter().position(|volume| owns(volume, line))
+}
+
+// Whether the line is on the volume's disk.
+fn owns(volume: &VolumeConf, line: &Line) -> bool {
+    volume.host.as_bytes() == line.host.as_bytes() && volume.disk == line.disk
+}
+
+/// How many requests a line of this volume has, if it has one: at most 131,073.
+pub(crate) fn count_requests(config: &Config, line: &Line, volume: Option<usize>) -> u64
+    requires valid { IsValid config.now }
+    requires within { IfSome volume (λ v. v < length config.now.volumes.items) }
+    requires fits { Fits (trace_line line.now) }
+    ensures value { (number : ℕ) → result ≡ length (requests_on (most_of config.now) (targets_of config.now) number (trace_line line.now) volume) }
+    ensures few { result ≤ 131073 }
+{
+    let Some(volume) = volume else {
+        return 0;
+    };
+    let home = config.volumes[volume].home;
+    line.pieces(home, config.most()).count() as u64
+}
+
+/// Appends the requests of the line with this number; the first of them is request `next` of the trace. `NoMemory` appends
+/// nothing.
+pub(crate) fn push_requests(
+    config: &Config,
+    line: &Line,
+    number: u64,
+    volume: Option<usize>,
+    next: u64,
+    out: &mut Vec<Request>,
+) -> Result<(), NoMemory>
+    requires valid { IsValid config.now }
+    requires within { IfSome volume (λ v. v < length config.now.volumes.items) }
+    requires fits { Fits (trace_line line.now) }
+    requires next { next ≤ 2 ^ 62 }
+    ensures ok { OnOk result (out.new.items ≡ out.old.items ++ numbered next (requests_on (most_of config.now) (targets_of config.now) number (trace_line line.now) volume)) }
+    ensures err { OnErr result (out.new.items ≡ out.old.items) }
+{
+    let Some(volume) = volume else {
+        return Ok(());
+    };
+    let start = out.len();
+    match push_pieces(config, line, number, volume, next, out) {
+        Ok(()) => Ok(()),
+        Err(NoMemory) => {
+            out.truncate(start);
+            Err(NoMemory)
+        }
+    }
+}
+
+// The same of a line that belongs to a volume, but some first requests may be left behind.
+fn push_pieces(
+    config: &Config,
+    line: &Line,
+    number: u64,
+    volume: usize,
+    next: u64,
+    out: &mut Vec<Request>,
+) -> Result<(), NoMemory>
+    requires valid { IsValid config.now }
+    requires within { volume < length config.now.volumes.items }
+    requires fits { Fits (trace_line line.now) }
+    requires next { next ≤ 2 ^ 62 }
+    ensures ok { OnOk result (out.new.items ≡ out.old.items ++ numbered next (requests_on (most_of config.now) (targets_of config.now) number (trace_line line.now) (Some volume))) }
+    ensures starts { StartsWith out.new.items out.old.items }
+{
+    let home = config.volumes[volume].home;
+    let mut place = next;
+    for piece in line.pieces(home, config.most()) {
+        out.push(Request {
+            number: place,
+            line: number,
+            volume: volume as u32,
+            kind: line.kind,
+            lbn: piece.lbn,
+            count: piece.count,
+        })?;
+        place += 1;
+    }
+    Ok(())
+}

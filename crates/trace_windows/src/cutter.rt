@@ -1,0 +1,176 @@
+// Lines of a trace are taken one by one, and are cut into windows.
+ghost use Rattle.std.specs.Prelude.{◌≡◌, ◌-◌, ◌<◌, ◌≤◌, ◌^◌, ℕ, [], option_map, IfOk, IfSome, OnErr};
+ghost use Rattle.wol_config.specs.Configs.{IsValid};
+ghost use Rattle.trace_gen.specs.Generated.{targets_of};
+ghost use Rattle.msr_trace.specs.Lines.{Fits, trace_line};
+ghost use Rattle.trace_windows.specs.Requests.{most_of};
+ghost use Rattle.trace_windows.specs.Batches.{no_lines};
+ghost use Rattle.trace_windows.specs.Cutting.{HasCut, Takes};
+
+use crate::asking::{count_requests, volume_of};
+use crate::batch::{Batch, Entry};
+use msr_trace::Line;
+use std::alloc::Global;
+use std::marker::Model;
+use std::mem;
+use wol_config::Config;
+use wol_disk::NoMemory;
+
+/// Cuts a trace into windows. It keeps the requests of the open window, and of the window that the last line made whole.
+#[derive(Drop)]
+pub struct Cutter {
+    lines: u64,
+    blank: u64,
+    skipped: u64,
+    requests: u64,
+    started: u64,
+    ended: u64,
+    current: Batch,
+    whole: Batch,
+}
+
+impl Model for Cutter {
+    ghost use Rattle.std.specs.Prelude.{◌≤◌, ◌*◌, ◌+◌, ◌^◌};
+    ghost use Rattle.trace_windows.specs.Cutting.{Cutting};
+
+    ghost Value = { Cutting };
+
+    ghost view = { λ c. record { lines = c.lines; blank = c.blank; skipped = c.skipped; requests = c.requests; started = c.started; ended = c.ended; current = c.current; whole = c.whole } };
+
+    ghost invariant = { λ c. (c.lines ≤ 2 ^ 32) × (c.blank + c.skipped ≤ c.lines) × (c.requests ≤ 131073 * c.lines) × (c.started ≤ c.ended) × (c.current.moment ≤ c.ended) };
+}
+
+impl Cutter {
+    /// Nothing was taken yet.
+    pub fn new(alloc: Global) -> Cutter
+        ensures cut { (most : ℕ) (targets : _) → HasCut most targets [] [] result }
+        ensures whole { result.whole ≡ no_lines }
+    {
+        Cutter {
+            lines: 0,
+            blank: 0,
+            skipped: 0,
+            requests: 0,
+            started: 0,
+            ended: 0,
+            current: Batch::new(alloc),
+            whole: Batch::new(alloc),
+        }
+    }
+
+    /// Takes the next line, a blank one as None, and tells whether the window before it is whole now. `whole` has that
+    /// window until the next call.
+    ///
+    /// `NoMemory` takes nothing, and the line may be offered again.
+    pub fn take(&mut self, config: &Config, line: Option<&Line>) -> Result<bool, NoMemory>
+        requires valid { IsValid config.now }
+        requires few { self.old.lines < 2 ^ 32 }
+        requires fits { IfSome line (λ l. Fits (trace_line l.now)) }
+        ensures ok { IfOk result (λ closes. (ls : _) (given : _) → HasCut (most_of config.now) (targets_of config.now) ls given self.old → Takes (most_of config.now) (targets_of config.now) ls given (option_map (λ l. trace_line l.now) line) closes self.new) }
+        ensures err { OnErr result (self.new ≡ record self.old { whole = no_lines }) }
+    {
+        self.whole.clear();
+        let Some(line) = line else {
+            self.lines += 1;
+            self.blank += 1;
+            return Ok(false);
+        };
+        self.take_line(config, line)
+    }
+
+    // Takes a line that isn't blank, while no window is whole.
+    fn take_line(&mut self, config: &Config, line: &Line) -> Result<bool, NoMemory>
+        requires valid { IsValid config.now }
+        requires few { self.old.lines < 2 ^ 32 }
+        requires fits { Fits (trace_line line.now) }
+        requires none { self.old.whole ≡ no_lines }
+        ensures ok { IfOk result (λ closes. (ls : _) (given : _) → HasCut (most_of config.now) (targets_of config.now) ls given self.old → Takes (most_of config.now) (targets_of config.now) ls given (Some (trace_line line.now)) closes self.new) }
+        ensures err { OnErr result (self.new ≡ self.old) }
+    {
+        let volume = volume_of(config.volumes.as_slice(), line);
+        let count = count_requests(config, line, volume);
+        let entry = Entry {
+            number: self.lines + 1,
+            time: line.time.max(self.ended),
+            volume,
+            next: self.requests,
+        };
+        let closes = !self.current.admits(entry.time, count);
+        if closes {
+            self.whole.push(config, line, entry)?;
+            mem::swap(&mut self.current, &mut self.whole);
+        } else {
+            self.current.push(config, line, entry)?;
+        }
+        self.note(entry, count);
+        Ok(closes)
+    }
+
+    // Counts a line that was put into a window.
+    fn note(&mut self, entry: Entry, count: u64) {
+        if self.lines == self.blank {
+            self.started = entry.time;
+        }
+        if entry.volume.is_none() {
+            self.skipped += 1;
+        }
+        self.lines += 1;
+        self.requests += count;
+        self.ended = entry.time;
+    }
+
+    /// The open window. At the end of a trace it is the last one, if it has a line.
+    pub fn current(&self) -> &Batch
+        ensures { result.now ≡ self.now.current }
+    {
+        &self.current
+    }
+
+    /// The window that the last line made whole. It has no line where that line made none whole.
+    pub fn whole(&self) -> &Batch
+        ensures { result.now ≡ self.now.whole }
+    {
+        &self.whole
+    }
+
+    /// How many lines were taken, with blank ones.
+    pub fn lines(&self) -> u64
+        ensures { result ≡ self.now.lines }
+    {
+        self.lines
+    }
+
+    pub fn blank(&self) -> u64
+        ensures { result ≡ self.now.blank }
+    {
+        self.blank
+    }
+
+    /// How many lines belong to no volume.
+    pub fn skipped(&self) -> u64
+        ensures { result ≡ self.now.skipped }
+    {
+        self.skipped
+    }
+
+    /// The time of the first line that isn't blank, in units of 100 ns.
+    pub fn started(&self) -> u64
+        ensures { result ≡ self.now.started }
+    {
+        self.started
+    }
+
+    /// The time of the last line that isn't blank, in units of 100 ns.
+    pub fn ended(&self) -> u64
+        ensures { result ≡ self.now.ended }
+    {
+        self.ended
+    }
+
+    /// The time from the first line to the last, in units of 100 ns.
+    pub fn span(&self) -> u64
+        ensures { result ≡ self.now.ended - self.now.started }
+    {
+        self.ended - self.started
+    }
+}
