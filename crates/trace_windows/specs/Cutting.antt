@@ -2,18 +2,13 @@
 use Rattle.std.specs.Prelude.{◌≡◌, ℕ, Bool, true, false, List, [], ◌∷◌, ◌++◌, Option, None, Some, is_none, length, count_by}
 use Rattle.wol_model.specs.Trace as trace
 use Rattle.wol_model.specs.Trace.{Target, TraceLine, Window, timed}
+use Rattle.trace_windows.specs.declared.tally.Tally.{Tally}
 use Rattle.trace_windows.specs.Requests.{is_skipped, requests_in_all}
 use Rattle.trace_windows.specs.Batches.{Batched, IsBatchOf, no_lines}
 
--- what contracts see of a cutter: its counts of lines and of requests, the times of the first and of the last line that isn't
--- blank, the open window, and the window that the last call made whole
+-- what contracts see of a cutter: what was counted, the open window, and the window that the last call made whole
 pub record Cutting : Type 0 where
-  pub lines : ℕ
-  pub blank : ℕ
-  pub skipped : ℕ
-  pub requests : ℕ
-  pub started : ℕ
-  pub ended : ℕ
+  pub tally : Tally
   pub current : Batched
   pub whole : Batched
 
@@ -30,12 +25,12 @@ AreWindows most targets ws given (Some w) current = (ws ≡ given ++ w ∷ []) �
 pub record HasCut (most : ℕ) (targets : List Target) (ls : List (Option TraceLine)) (given : List Window) (c : Cutting) : Type 0 where
   pub last : Option Window
   pub windows : AreWindows most targets (trace.windows most targets ls) given last c.current
-  pub lines : c.lines ≡ length ls
-  pub blank : c.blank ≡ count_by is_none ls
-  pub skipped : c.skipped ≡ count_by (is_skipped targets) ls
-  pub requests : c.requests ≡ length (trace.requests most targets ls)
-  pub started : c.started ≡ trace.started (timed ls)
-  pub ended : c.ended ≡ trace.ended (timed ls)
+  pub lines : c.tally.lines ≡ length ls
+  pub blank : c.tally.blank ≡ count_by is_none ls
+  pub skipped : c.tally.skipped ≡ count_by (is_skipped targets) ls
+  pub requests : c.tally.requests ≡ length (trace.requests most targets ls)
+  pub started : c.tally.started ≡ trace.started (timed ls)
+  pub ended : c.tally.ended ≡ trace.ended (timed ls)
 
 -- a line was taken, and the window that was open before it is whole, or isn't
 abbrev pub Takes : (most : ℕ) → List Target → (ls : List (Option TraceLine)) → (given : List Window) → Option TraceLine → (closes : Bool) → Cutting → Type 0

@@ -1,5 +1,5 @@
 // Lines of a trace are taken one by one, and are cut into windows.
-ghost use Rattle.std.specs.Prelude.{◌≡◌, ◌-◌, ◌<◌, ◌≤◌, ◌^◌, ℕ, [], option_map, IfOk, IfSome, OnErr};
+ghost use Rattle.std.specs.Prelude.{◌≡◌, ◌<◌, ◌≤◌, ◌^◌, ℕ, [], option_map, IfOk, IfSome, OnErr};
 ghost use Rattle.wol_config.specs.Configs.{IsValid};
 ghost use Rattle.trace_gen.specs.Generated.{targets_of};
 ghost use Rattle.msr_trace.specs.Lines.{Fits, trace_line};
@@ -9,6 +9,7 @@ ghost use Rattle.trace_windows.specs.Cutting.{HasCut, Takes};
 
 use crate::asking::{count_requests, volume_of};
 use crate::batch::{Batch, Entry};
+use crate::tally::Tally;
 use msr_trace::Line;
 use std::alloc::Global;
 use std::marker::Model;
@@ -19,12 +20,7 @@ use wol_disk::NoMemory;
 /// Cuts a trace into windows. It keeps the requests of the open window, and of the window that the last line made whole.
 #[derive(Drop)]
 pub struct Cutter {
-    lines: u64,
-    blank: u64,
-    skipped: u64,
-    requests: u64,
-    started: u64,
-    ended: u64,
+    tally: Tally,
     current: Batch,
     whole: Batch,
 }
@@ -35,9 +31,9 @@ impl Model for Cutter {
 
     ghost Value = { Cutting };
 
-    ghost view = { λ c. record { lines = c.lines; blank = c.blank; skipped = c.skipped; requests = c.requests; started = c.started; ended = c.ended; current = c.current; whole = c.whole } };
+    ghost view = { λ c. record { tally = c.tally; current = c.current; whole = c.whole } };
 
-    ghost invariant = { λ c. (c.lines ≤ 2 ^ 32) × (c.blank + c.skipped ≤ c.lines) × (c.requests ≤ 131073 * c.lines) × (c.started ≤ c.ended) × (c.current.moment ≤ c.ended) };
+    ghost invariant = { λ c. (c.tally.lines ≤ 2 ^ 32) × (c.tally.blank + c.tally.skipped ≤ c.tally.lines) × (c.tally.requests ≤ 131073 * c.tally.lines) × (c.tally.started ≤ c.tally.ended) × (c.current.moment ≤ c.tally.ended) };
 }
 
 impl Cutter {
@@ -47,12 +43,7 @@ impl Cutter {
         ensures whole { result.whole ≡ no_lines }
     {
         Cutter {
-            lines: 0,
-            blank: 0,
-            skipped: 0,
-            requests: 0,
-            started: 0,
-            ended: 0,
+            tally: Tally::NONE,
             current: Batch::new(alloc),
             whole: Batch::new(alloc),
         }
@@ -64,24 +55,25 @@ impl Cutter {
     /// `NoMemory` takes nothing, and the line may be offered again.
     pub fn take(&mut self, config: &Config, line: Option<&Line>) -> Result<bool, NoMemory>
         requires valid { IsValid config.now }
-        requires few { self.old.lines < 2 ^ 32 }
+        requires few { self.old.tally.lines < 2 ^ 32 }
         requires fits { IfSome line (λ l. Fits (trace_line l.now)) }
         ensures ok { IfOk result (λ closes. (ls : _) (given : _) → HasCut (most_of config.now) (targets_of config.now) ls given self.old → Takes (most_of config.now) (targets_of config.now) ls given (option_map (λ l. trace_line l.now) line) closes self.new) }
         ensures err { OnErr result (self.new ≡ record self.old { whole = no_lines }) }
     {
         self.whole.clear();
-        let Some(line) = line else {
-            self.lines += 1;
-            self.blank += 1;
-            return Ok(false);
-        };
-        self.take_line(config, line)
+        match line {
+            Some(line) => self.take_line(config, line),
+            None => {
+                self.tally.add_blank();
+                Ok(false)
+            }
+        }
     }
 
     // Takes a line that isn't blank, while no window is whole.
     fn take_line(&mut self, config: &Config, line: &Line) -> Result<bool, NoMemory>
         requires valid { IsValid config.now }
-        requires few { self.old.lines < 2 ^ 32 }
+        requires few { self.old.tally.lines < 2 ^ 32 }
         requires fits { Fits (trace_line line.now) }
         requires none { self.old.whole ≡ no_lines }
         ensures ok { IfOk result (λ closes. (ls : _) (given : _) → HasCut (most_of config.now) (targets_of config.now) ls given self.old → Takes (most_of config.now) (targets_of config.now) ls given (Some (trace_line line.now)) closes self.new) }
@@ -90,10 +82,10 @@ impl Cutter {
         let volume = volume_of(config.volumes.as_slice(), line);
         let count = count_requests(config, line, volume);
         let entry = Entry {
-            number: self.lines + 1,
-            time: line.time.max(self.ended),
+            number: self.tally.lines + 1,
+            time: line.time.max(self.tally.ended),
             volume,
-            next: self.requests,
+            next: self.tally.requests,
         };
         let closes = !self.current.admits(entry.time, count);
         if closes {
@@ -102,21 +94,8 @@ impl Cutter {
         } else {
             self.current.push(config, line, entry)?;
         }
-        self.note(entry, count);
+        self.tally.add_line(entry.time, volume.is_none(), count);
         Ok(closes)
-    }
-
-    // Counts a line that was put into a window.
-    fn note(&mut self, entry: Entry, count: u64) {
-        if self.lines == self.blank {
-            self.started = entry.time;
-        }
-        if entry.volume.is_none() {
-            self.skipped += 1;
-        }
-        self.lines += 1;
-        self.requests += count;
-        self.ended = entry.time;
     }
 
     /// The open window. At the end of a trace it is the last one, if it has a line.
@@ -133,44 +112,11 @@ impl Cutter {
         &self.whole
     }
 
-    /// How many lines were taken, with blank ones.
-    pub fn lines(&self) -> u64
-        ensures { result ≡ self.now.lines }
+    /// What was counted of the lines that were taken.
+    pub fn tally(&self) -> Tally
+        ensures value { result ≡ self.now.tally }
+        ensures order { result.started ≤ result.ended }
     {
-        self.lines
-    }
-
-    pub fn blank(&self) -> u64
-        ensures { result ≡ self.now.blank }
-    {
-        self.blank
-    }
-
-    /// How many lines belong to no volume.
-    pub fn skipped(&self) -> u64
-        ensures { result ≡ self.now.skipped }
-    {
-        self.skipped
-    }
-
-    /// The time of the first line that isn't blank, in units of 100 ns.
-    pub fn started(&self) -> u64
-        ensures { result ≡ self.now.started }
-    {
-        self.started
-    }
-
-    /// The time of the last line that isn't blank, in units of 100 ns.
-    pub fn ended(&self) -> u64
-        ensures { result ≡ self.now.ended }
-    {
-        self.ended
-    }
-
-    /// The time from the first line to the last, in units of 100 ns.
-    pub fn span(&self) -> u64
-        ensures { result ≡ self.now.ended - self.now.started }
-    {
-        self.ended - self.started
+        self.tally
     }
 }

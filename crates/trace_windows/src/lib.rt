@@ -6,8 +6,10 @@ mod batch;
 mod cutter;
 mod laws;
 mod request;
+mod tally;
 
 pub use batch::Batch;
 pub use cutter::Cutter;
 pub use laws::window_laws;
 pub use request::Request;
+pub use tally::Tally;
