@@ -1,2 +1,5 @@
 pub mod Few
 pub mod Numbering
+pub mod Joining
+pub mod Counting
+pub mod Lying
