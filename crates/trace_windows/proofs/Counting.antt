@@ -6,7 +6,7 @@ use Rattle.std.proofs.lemmas.List.Sums.{sum_by_push}
 use Rattle.wol_model.specs.Trace as trace
 use Rattle.wol_model.specs.Trace.{Numbered, Target, Timed, TraceLine, Window, numbered_from, requests, requests_of, timed, timed_from, windows}
 use Rattle.wol_model.proofs.TraceLaws.{windows_have_all}
-use Rattle.trace_windows.specs.Requests.{requests_in, requests_in_all}
+use Rattle.trace_windows.specs.Requests.{requests_in_all}
 use Rattle.trace_windows.specs.Laws.{WindowsHaveRequests}
 use Rattle.trace_windows.proofs.Joining.{next_timed, timed_blank, timed_more}
 

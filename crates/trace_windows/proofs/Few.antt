@@ -1,9 +1,8 @@
 -- How many requests a line has.
-use Rattle.std.proofs.Common.{◌≡◌, ℕ, zero, suc, ◌+◌, ◌-◌, ◌/◌, ◌%◌, ◌≤◌, Bool, true, false, List, [], ◌∷◌, length, map, Some, ◌∙◌, arith}
+use Rattle.std.proofs.Common.{◌≡◌, ℕ, zero, suc, ◌+◌, ◌-◌, ◌/◌, ◌%◌, ◌≤◌, Bool, true, false, List, [], ◌∷◌, length, Some, arith}
 use Rattle.std.specs.Prelude.{if◌then◌else◌, ◌==◌, min}
 use Rattle.std.proofs.lemmas.List.{length-map}
 use Rattle.wol_model.specs.declared.trace.Piece.{Piece}
-use Rattle.wol_model.specs.Trace as trace
 use Rattle.wol_model.specs.Trace.{Target, TraceLine, blocks_touched, cut_run, home_of, pieces, requests_on}
 use Rattle.msr_trace.specs.Lines.{Fits}
 

@@ -1,6 +1,5 @@
 -- Windows of a line more.
-use Rattle.std.proofs.Common.{◌≡◌, ℕ, suc, ◌+◌, max, Bool, true, false, cond, List, [], ◌∷◌, ◌++◌, length, Option, Some, None, refl, sym, ap, ◌∙◌, append_assoc, append-nil, arith}
-use Rattle.std.specs.List.{flat_map}
+use Rattle.std.proofs.Common.{◌≡◌, ℕ, suc, ◌+◌, max, Bool, true, false, cond, List, [], ◌∷◌, ◌++◌, length, Option, Some, None, refl, sym, ap, ◌∙◌, append_assoc, arith}
 use Rattle.wol_model.specs.Trace as trace
 use Rattle.wol_model.specs.Trace.{Numbered, Target, Timed, TraceLine, Window, joined, joins, numbered_from, opened, pieces_of, requests_of, timed, timed_from, windows, windows_by, windows_from}
 
@@ -116,6 +115,7 @@ module _ (most : ℕ) (targets : List Target) (ls : List (Option TraceLine)) whe
           by : (t : Bool) → (windows_from cost (joined w k (cost k)) ks ≡ [] → ⊥) → cond t (windows_from cost (joined w k (cost k)) ks) (w ∷ windows_from cost (opened k (cost k)) ks) ≡ [] → ⊥
           by true in_it h = in_it h
           by false in_it h = cc
+
       at : (ts : List Timed) → windows_by (pieces_of most targets) ts ≡ [] → ts ≡ []
       at [] e = refl
       at (t ∷ ts) e = absurd (some_from (pieces_of most targets) (opened t (pieces_of most targets t)) ts e)

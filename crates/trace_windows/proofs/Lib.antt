@@ -3,3 +3,4 @@ pub mod Numbering
 pub mod Joining
 pub mod Counting
 pub mod Lying
+pub mod Taking

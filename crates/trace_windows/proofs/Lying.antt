@@ -1,15 +1,14 @@
 -- Each request lies in its volume.
-use Rattle.std.proofs.Common.{◌≡◌, ℕ, zero, suc, ◌+◌, ◌≤◌, ◌<◌, Bool, true, false, cond, List, [], ◌∷◌, ◌++◌, length, map, Option, Some, None, refl, sym, ap, ◌∙◌, arith, ltb}
-use Rattle.std.specs.List.{AllByRecursion, flat_map, position, position_or_len}
+use Rattle.std.proofs.Common.{◌≡◌, ℕ, zero, suc, ◌+◌, ◌≤◌, ◌<◌, List, [], ◌∷◌, ◌++◌, length, map, Option, Some, None, refl, arith}
+use Rattle.std.specs.List.{AllByRecursion, flat_map}
 use Rattle.std.specs.Prelude.{◌&&◌, ◌==◌}
 use Rattle.std.specs.Str.{bytes_eq}
-use Rattle.std.proofs.lemmas.Bool.{ltb-true}
+use Rattle.std.proofs.lemmas.List.Quantifiers.{position-Some}
 use Rattle.wol_model.specs.Trace as trace
 use Rattle.wol_model.specs.Trace.{Target, Timed, TraceLine, Window, home_of, pieces, requests_of, requests_on, volume_of}
 use Rattle.wol_model.specs.TraceLaws.{LiesIn}
 use Rattle.wol_model.specs.declared.trace.Piece.{Piece}
 use Rattle.wol_model.proofs.TraceLaws.{pieces_lie}
-use Rattle.trace_windows.specs.declared.request.Request.{Request}
 use Rattle.trace_windows.specs.Requests.{IsInside, numbered, requests_in}
 use Rattle.trace_windows.specs.Laws.{RequestsLie}
 
@@ -44,18 +43,11 @@ module _ (most : ℕ) (targets : List Target) where
   of_volume number l None lt m all = tt
   of_volume number l (Some v) lt m all = of_pieces number v l (pieces (home_of targets v) most l) (lt v refl) (pieces_lie (home_of targets v) most l (some_home targets v (lt v refl) all) m)
 
-  found : {X : Type 0} (p : X → Bool) (xs : List X) (v : ℕ) → position p xs ≡ Some v → v < length xs
-  found p xs v is = at (ltb (position_or_len p xs) (length xs)) refl is
-    where
-      at : (t : Bool) → ltb (position_or_len p xs) (length xs) ≡ t → cond t (Some (position_or_len p xs)) None ≡ Some v → v < length xs
-      at true lt e = let same : position_or_len p xs ≡ v = cc in let less : position_or_len p xs < length xs = ltb-true (position_or_len p xs) (length xs) lt in omega arith
-      at false lt e = absurd (cc e)
-
   of_lines : (ls : List Timed) → 1 ≤ most → AllByRecursion (λ (t : Target). 1 ≤ t.home) targets → AllByRecursion Inside (flat_map (λ (l : Timed). requests_of most targets l.number l.line) ls)
   of_lines [] m all = tt
   of_lines (l ∷ ls) m all =
       both (requests_of most targets l.number l.line) (flat_map (λ (k : Timed). requests_of most targets k.number k.line) ls)
-      (of_volume l.number l.line (volume_of targets l.line) (λ v is. found (λ (t : Target). bytes_eq t.host l.line.host && t.disk == l.line.disk) targets v is) m all) (of_lines ls m all)
+      (of_volume l.number l.line (volume_of targets l.line) (λ v is. (position-Some (λ (t : Target). bytes_eq t.host l.line.host && t.disk == l.line.disk) targets v (record { host = []; disk = 0; home = 0 }) is).0) m all) (of_lines ls m all)
 
 pub requests_lie : RequestsLie
 requests_lie most next targets w m all = with_numbers most targets next (requests_in most targets w) (of_lines most targets w.lines m all)

@@ -1,5 +1,5 @@
 -- Requests with numbers.
-use Rattle.std.proofs.Common.{◌≡◌, ◌≤◌, ◌<◌, ℕ, suc, ◌+◌, List, [], ◌∷◌, ◌++◌, length, map, Some, refl, sym, ap, ◌∙◌, append_assoc, arith, length-append}
+use Rattle.std.proofs.Common.{◌≡◌, ◌≤◌, ℕ, suc, ◌+◌, List, [], ◌∷◌, ◌++◌, length, map, refl, sym, ap, ◌∙◌, append_assoc, arith, length-append}
 use Rattle.std.proofs.lemmas.List.{map-append}
 use Rattle.wol_model.specs.Trace as trace
 use Rattle.wol_model.specs.Trace.{Target, TraceLine, home_of, pieces, requests_on}
@@ -7,7 +7,7 @@ use Rattle.wol_model.specs.declared.trace.Kind.{Kind}
 use Rattle.wol_model.specs.declared.trace.Piece.{Piece}
 use Rattle.msr_trace.specs.Lines.{Fits}
 use Rattle.trace_windows.specs.declared.request.Request.{Request}
-use Rattle.trace_windows.specs.Requests.{asked, numbered}
+use Rattle.trace_windows.specs.Requests.{numbered}
 use Rattle.trace_windows.specs.Laws.{NumbersLeave}
 use Rattle.trace_windows.proofs.Few.{few_pieces}
 

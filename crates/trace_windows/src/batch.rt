@@ -1,17 +1,18 @@
 // The requests of a window.
-ghost use Rattle.std.specs.Prelude.{◌≡◌, ◌+◌, ◌<◌, ◌≤◌, ◌^◌, ℕ, true, length, IfSome, OnOk, OnErr};
+ghost use Rattle.std.specs.Prelude.{◌≡◌, ◌+◌, ◌<◌, ◌≤◌, ◌^◌, true, not, length, IfOk, IfSome, OnOk, OnErr};
 ghost use Rattle.wol_config.specs.Configs.{IsValid};
 ghost use Rattle.trace_gen.specs.Generated.{targets_of};
-ghost use Rattle.wol_model.specs.Trace.{Timed, Window, joins, requests_on};
+ghost use Rattle.wol_model.specs.Trace.{requests_on};
 ghost use Rattle.msr_trace.specs.Lines.{Fits, trace_line};
 ghost use Rattle.trace_windows.specs.Requests.{most_of, numbered};
-ghost use Rattle.trace_windows.specs.Batches.{no_lines, with_line};
+ghost use Rattle.trace_windows.specs.Batches.{Admits, IsPut, no_lines, with_line};
 
 use crate::asking::push_requests;
 use crate::request::Request;
 use msr_trace::Line;
 use std::alloc::Global;
 use std::marker::Model;
+use std::mem;
 use wol_config::Config;
 use wol_disk::NoMemory;
 
@@ -98,8 +99,8 @@ impl Batch {
     pub(crate) fn admits(&self, time: u64, count: u64) -> bool
         requires later { self.now.moment ≤ time }
         requires few { count ≤ 131073 }
-        ensures first { self.now.lines ≡ 0 → result ≡ true }
-        ensures joins { 0 < self.now.lines → (w : Window) (l : Timed) → w.moment ≡ self.now.moment → length w.lines ≡ self.now.lines → w.pieces ≡ length self.now.requests → l.time ≡ time → joins w l count ≡ result }
+        ensures admits { Admits self.now time count result }
+        ensures few { result ≡ true → self.now.lines < 4096 }
     {
         self.lines == 0
             || (time - self.moment < SPAN
@@ -136,4 +137,34 @@ impl Batch {
         self.lines += 1;
         Ok(())
     }
+}
+
+/// Puts a line into the open window where that admits it. Else the open window is whole, and the line opens the next one.
+/// Answers whether that is so. `NoMemory` leaves both windows as they were.
+pub(crate) fn put_line(
+    current: &mut Batch,
+    whole: &mut Batch,
+    config: &Config,
+    line: &Line,
+    entry: Entry,
+    count: u64,
+) -> Result<bool, NoMemory>
+    requires valid { IsValid config.now }
+    requires within { IfSome entry.volume (λ v. v < length config.now.volumes.items) }
+    requires fits { Fits (trace_line line.now) }
+    requires next { entry.next ≤ 2 ^ 62 }
+    requires later { current.old.moment ≤ entry.time }
+    requires few { count ≤ 131073 }
+    requires none { whole.old ≡ no_lines }
+    ensures admits { IfOk result (λ closes. Admits current.old entry.time count (not closes)) }
+    ensures ok { IfOk result (λ closes. IsPut entry.time (numbered entry.next (requests_on (most_of config.now) (targets_of config.now) entry.number (trace_line line.now) entry.volume)) current.old current.new whole.new closes) }
+    ensures err { OnErr result ((current.new ≡ current.old) × (whole.new ≡ whole.old)) }
+{
+    if current.admits(entry.time, count) {
+        current.push(config, line, entry)?;
+        return Ok(false);
+    }
+    whole.push(config, line, entry)?;
+    mem::swap(current, whole);
+    Ok(true)
 }

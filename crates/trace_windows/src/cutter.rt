@@ -1,5 +1,5 @@
 // Lines of a trace are taken one by one, and are cut into windows.
-ghost use Rattle.std.specs.Prelude.{◌≡◌, ◌<◌, ◌≤◌, ◌^◌, ℕ, [], option_map, IfOk, IfSome, OnErr};
+ghost use Rattle.std.specs.Prelude.{◌≡◌, ◌<◌, ◌≤◌, ◌^◌, ℕ, [], Some, option_map, IfOk, IfSome, OnErr};
 ghost use Rattle.wol_config.specs.Configs.{IsValid};
 ghost use Rattle.trace_gen.specs.Generated.{targets_of};
 ghost use Rattle.msr_trace.specs.Lines.{Fits, trace_line};
@@ -8,12 +8,11 @@ ghost use Rattle.trace_windows.specs.Batches.{no_lines};
 ghost use Rattle.trace_windows.specs.Cutting.{HasCut, Takes};
 
 use crate::asking::{count_requests, volume_of};
-use crate::batch::{Batch, Entry};
+use crate::batch::{Batch, Entry, put_line};
 use crate::tally::Tally;
 use msr_trace::Line;
 use std::alloc::Global;
 use std::marker::Model;
-use std::mem;
 use wol_config::Config;
 use wol_disk::NoMemory;
 
@@ -57,7 +56,7 @@ impl Cutter {
         requires valid { IsValid config.now }
         requires few { self.old.tally.lines < 2 ^ 32 }
         requires fits { IfSome line (λ l. Fits (trace_line l.now)) }
-        ensures ok { IfOk result (λ closes. (ls : _) (given : _) → HasCut (most_of config.now) (targets_of config.now) ls given self.old → Takes (most_of config.now) (targets_of config.now) ls given (option_map (λ l. trace_line l.now) line) closes self.new) }
+        ensures ok { IfOk result (λ closes. (ls : _) (given : _) → HasCut (most_of config.now) (targets_of config.now) ls given self.old → Takes (most_of config.now) (targets_of config.now) ls given (option_map (λ l. trace_line l.now) line.entry) closes self.new) }
         ensures err { OnErr result (self.new ≡ record self.old { whole = no_lines }) }
     {
         self.whole.clear();
@@ -83,17 +82,18 @@ impl Cutter {
         let count = count_requests(config, line, volume);
         let entry = Entry {
             number: self.tally.lines + 1,
-            time: line.time.max(self.tally.ended),
+            time: self.tally.ended.max(line.time),
             volume,
             next: self.tally.requests,
         };
-        let closes = !self.current.admits(entry.time, count);
-        if closes {
-            self.whole.push(config, line, entry)?;
-            mem::swap(&mut self.current, &mut self.whole);
-        } else {
-            self.current.push(config, line, entry)?;
-        }
+        let closes = put_line(
+            &mut self.current,
+            &mut self.whole,
+            config,
+            line,
+            entry,
+            count,
+        )?;
         self.tally.add_line(entry.time, volume.is_none(), count);
         Ok(closes)
     }

@@ -1,5 +1,4 @@
-use Rattle.std.proofs.Common.{◌≤◌, sym, ◌∙◌, arith, length}
-use Rattle.wol_model.specs.Trace.{pieces}
+use Rattle.std.proofs.Common.{sym, ◌∙◌}
 use Rattle.msr_trace.specs.Lines.{trace_line}
 use Rattle.trace_gen.specs.Generated.{targets_of}
 use Rattle.trace_windows.specs.Requests.{most_of}

@@ -1,4 +1,4 @@
-use Rattle.std.proofs.Common.{◌≡◌, ◌≤◌, [], ◌∷◌, length, ◌∙◌, arith, length-append}
+use Rattle.std.proofs.Common.{[], ◌∷◌, ◌∙◌, arith, length-append}
 use Rattle.msr_trace.specs.Lines.{trace_line}
 use Rattle.trace_windows.specs.Requests.{most_of}
 use Rattle.trace_windows.proofs.Numbering.{few_so_far, piece_more, split_more}
