@@ -4,3 +4,4 @@ pub mod Joining
 pub mod Counting
 pub mod Lying
 pub mod Taking
+pub mod Rising
