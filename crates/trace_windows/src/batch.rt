@@ -34,11 +34,14 @@ pub struct Batch {
 }
 
 impl Model for Batch {
+    ghost use Rattle.std.specs.Prelude.{◌≡◌, ◌≤◌, length};
     ghost use Rattle.trace_windows.specs.Batches.{Batched};
 
     ghost Value = { Batched };
 
     ghost view = { λ b. record { moment = b.moment; lines = b.lines; requests = b.requests.items } };
+
+    ghost invariant = { λ b. (length b.requests.items ≤ 131073) × (b.lines ≡ 0 → length b.requests.items ≡ 0) };
 }
 
 /// A line, and where it stands in the trace.
@@ -80,8 +83,10 @@ impl Batch {
         self.lines
     }
 
+    /// The requests: at most 65,536, or those of one line, which are at most 131,073.
     pub fn requests(&self) -> &[Request]
-        ensures { result.now ≡ self.now.requests }
+        ensures content { result.now ≡ self.now.requests }
+        ensures few { length result.now ≤ 131073 }
     {
         self.requests.as_slice()
     }
@@ -101,6 +106,7 @@ impl Batch {
         requires few { count ≤ 131073 }
         ensures admits { Admits self.now time count result }
         ensures few { result ≡ true → self.now.lines < 4096 }
+        ensures room { result ≡ true → length self.now.requests + count ≤ 131073 }
     {
         self.lines == 0
             || (time - self.moment < SPAN
@@ -120,6 +126,7 @@ impl Batch {
         requires fits { Fits (trace_line line.now) }
         requires next { entry.next ≤ 2 ^ 62 }
         requires few { self.old.lines < 4096 }
+        requires room { length self.old.requests + length (requests_on (most_of config.now) (targets_of config.now) entry.number (trace_line line.now) entry.volume) ≤ 131073 }
         ensures ok { OnOk result (self.new ≡ with_line entry.time (numbered entry.next (requests_on (most_of config.now) (targets_of config.now) entry.number (trace_line line.now) entry.volume)) self.old) }
         ensures err { OnErr result (self.new ≡ self.old) }
     {
@@ -155,6 +162,7 @@ pub(crate) fn put_line(
     requires next { entry.next ≤ 2 ^ 62 }
     requires later { current.old.moment ≤ entry.time }
     requires few { count ≤ 131073 }
+    requires count { length (requests_on (most_of config.now) (targets_of config.now) entry.number (trace_line line.now) entry.volume) ≡ count }
     requires none { whole.old ≡ no_lines }
     ensures admits { IfOk result (λ closes. Admits current.old entry.time count (not closes)) }
     ensures ok { IfOk result (λ closes. IsPut entry.time (numbered entry.next (requests_on (most_of config.now) (targets_of config.now) entry.number (trace_line line.now) entry.volume)) current.old current.new whole.new closes) }
