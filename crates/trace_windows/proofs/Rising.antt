@@ -1,5 +1,5 @@
 -- The moments of windows never fall.
-use Rattle.std.proofs.Common.{◌≡◌, ℕ, ◌≤◌, max, Bool, true, false, cond, List, [], ◌∷◌, Option, refl, arith}
+use Rattle.std.proofs.Common.{ℕ, ◌≤◌, max, Bool, true, false, cond, List, [], ◌∷◌, arith}
 use Rattle.wol_model.specs.Trace as trace
 use Rattle.wol_model.specs.Trace.{Numbered, Target, Timed, Window, joined, joins, numbered_from, opened, pieces_of, timed, timed_from, windows, windows_from}
 use Rattle.trace_windows.specs.Laws.{AreInOrder, MomentsRise}
