@@ -1,5 +1,5 @@
 // Lines of a trace are taken one by one, and are cut into windows.
-ghost use Rattle.std.specs.Prelude.{◌≡◌, ◌<◌, ◌≤◌, ◌^◌, ℕ, [], Some, option_map, IfOk, IfSome, OnErr};
+ghost use Rattle.std.specs.Prelude.{◌≡◌, ◌+◌, ◌<◌, ◌≤◌, ◌^◌, ℕ, [], Some, option_map, IfOk, IfSome, OnOk, OnErr};
 ghost use Rattle.wol_config.specs.Configs.{IsValid};
 ghost use Rattle.trace_gen.specs.Generated.{targets_of};
 ghost use Rattle.msr_trace.specs.Lines.{Fits, trace_line};
@@ -40,6 +40,7 @@ impl Cutter {
     pub fn new(alloc: Global) -> Cutter
         ensures cut { (most : ℕ) (targets : _) → HasCut most targets [] [] result }
         ensures whole { result.whole ≡ no_lines }
+        ensures lines { result.tally.lines ≡ 0 }
     {
         Cutter {
             tally: Tally::NONE,
@@ -57,6 +58,7 @@ impl Cutter {
         requires few { self.old.tally.lines < 2 ^ 32 }
         requires fits { IfSome line (λ l. Fits (trace_line l.now)) }
         ensures ok { IfOk result (λ closes. (ls : _) (given : _) → HasCut (most_of config.now) (targets_of config.now) ls given self.old → Takes (most_of config.now) (targets_of config.now) ls given (option_map (λ l. trace_line l.now) line.entry) closes self.new) }
+        ensures lines { OnOk result (self.new.tally.lines ≡ self.old.tally.lines + 1) }
         ensures err { OnErr result (self.new ≡ record self.old { whole = no_lines }) }
     {
         self.whole.clear();
@@ -76,6 +78,7 @@ impl Cutter {
         requires fits { Fits (trace_line line.now) }
         requires none { self.old.whole ≡ no_lines }
         ensures ok { IfOk result (λ closes. (ls : _) (given : _) → HasCut (most_of config.now) (targets_of config.now) ls given self.old → Takes (most_of config.now) (targets_of config.now) ls given (Some (trace_line line.now)) closes self.new) }
+        ensures lines { OnOk result (self.new.tally.lines ≡ self.old.tally.lines + 1) }
         ensures err { OnErr result (self.new ≡ self.old) }
     {
         let volume = volume_of(config.volumes.as_slice(), line);
