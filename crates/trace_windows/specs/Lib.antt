@@ -1,0 +1,4 @@
+pub mod Requests
+pub mod Batches
+pub mod Cutting
+pub mod Laws

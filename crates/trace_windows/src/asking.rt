@@ -1,0 +1,131 @@
+// What a line asks for: the volume that it belongs to, and its requests.
+ghost use Rattle.std.specs.Prelude.{◌≡◌, ◌<◌, ◌≤◌, ◌^◌, ◌++◌, ◌&&◌, ◌==◌, ℕ, length, map, position, take, IfSome, OnOk, OnErr};
+ghost use Rattle.std.specs.Str.{bytes_eq};
+ghost use Rattle.wol_config.specs.Configs.{IsValid};
+ghost use Rattle.trace_gen.specs.Generated.{target_of, targets_of};
+ghost use Rattle.wol_model.specs.Trace.{home_of, pieces, requests_on, volume_of};
+ghost use Rattle.msr_trace.specs.Lines.{Fits, trace_line};
+ghost use Rattle.trace_windows.specs.Requests.{most_of, numbered};
+
+use crate::request::Request;
+use msr_trace::Line;
+use wol_config::{Config, VolumeConf};
+use wol_disk::NoMemory;
+
+/// The volume that has the line's host and disk.
+pub(crate) fn volume_of(volumes: &[VolumeConf], line: &Line) -> Option<usize>
+    ensures value { result ≡ volume_of (map target_of volumes.now) (trace_line line.now) }
+    ensures within { IfSome result (λ v. v < length volumes.now) }
+{
+    place_of(volumes, line)
+}
+
+// The place of the volume among the others.
+fn place_of(volumes: &[VolumeConf], line: &Line) -> Option<usize>
+    ensures value { result ≡ position (λ v. bytes_eq v.host line.now.host && v.disk == line.now.disk) volumes.now }
+    ensures within { IfSome result (λ v. v < length volumes.now) }
+{
+    volumes.iter().position(|volume| owns(volume, line))
+}
+
+// Whether the line is on the volume's disk.
+fn owns(volume: &VolumeConf, line: &Line) -> bool
+    ensures { result ≡ (bytes_eq volume.now.host line.now.host && volume.now.disk == line.now.disk) }
+{
+    volume.host.as_bytes() == line.host.as_bytes() && volume.disk == line.disk
+}
+
+// How many blocks the home of a volume has.
+fn home_of(config: &Config, volume: usize) -> u64
+    requires valid { IsValid config.now }
+    requires within { volume < length config.now.volumes.items }
+    ensures value { result ≡ home_of (targets_of config.now) volume }
+    ensures some { 1 ≤ result }
+{
+    config.volumes[volume].home
+}
+
+/// How many requests a line of this volume has, if it has one: at most 131,073.
+pub(crate) fn count_requests(config: &Config, line: &Line, volume: Option<usize>) -> u64
+    requires valid { IsValid config.now }
+    requires within { IfSome volume (λ v. v < length config.now.volumes.items) }
+    requires fits { Fits (trace_line line.now) }
+    ensures value { (number : ℕ) → length (requests_on (most_of config.now) (targets_of config.now) number (trace_line line.now) volume) ≡ result }
+    ensures few { result ≤ 131073 }
+{
+    let Some(volume) = volume else {
+        return 0;
+    };
+    count_pieces(line, home_of(config, volume), config.most())
+}
+
+fn count_pieces(line: &Line, home: u64, most: u32) -> u64
+    requires home { 0 < home }
+    requires most { 0 < most }
+    requires fits { Fits (trace_line line.now) }
+    ensures { result ≡ length (pieces home most (trace_line line.now)) }
+{
+    line.pieces(home, most).count() as u64
+}
+
+/// Appends the requests of the line with this number; the first of them is request `next` of the trace. `NoMemory` appends
+/// nothing.
+pub(crate) fn push_requests(
+    config: &Config,
+    line: &Line,
+    number: u64,
+    volume: Option<usize>,
+    next: u64,
+    out: &mut Vec<Request>,
+) -> Result<(), NoMemory>
+    requires valid { IsValid config.now }
+    requires within { IfSome volume (λ v. v < length config.now.volumes.items) }
+    requires fits { Fits (trace_line line.now) }
+    requires next { next ≤ 2 ^ 62 }
+    ensures ok { OnOk result (out.new.items ≡ out.old.items ++ numbered next (requests_on (most_of config.now) (targets_of config.now) number (trace_line line.now) volume)) }
+    ensures err { OnErr result (out.new.items ≡ out.old.items) }
+{
+    let Some(volume) = volume else {
+        return Ok(());
+    };
+    let start = out.len();
+    match push_pieces(config, line, number, volume, next, out) {
+        Ok(()) => Ok(()),
+        Err(NoMemory) => {
+            out.truncate(start);
+            Err(NoMemory)
+        }
+    }
+}
+
+// The same of a line that belongs to a volume, but some first requests may be left behind.
+fn push_pieces(
+    config: &Config,
+    line: &Line,
+    number: u64,
+    volume: usize,
+    next: u64,
+    out: &mut Vec<Request>,
+) -> Result<(), NoMemory>
+    requires valid { IsValid config.now }
+    requires within { volume < length config.now.volumes.items }
+    requires fits { Fits (trace_line line.now) }
+    requires next { next ≤ 2 ^ 62 }
+    ensures ok { OnOk result (out.new.items ≡ out.old.items ++ numbered next (requests_on (most_of config.now) (targets_of config.now) number (trace_line line.now) (Some volume))) }
+    ensures starts { take (length out.old.items) out.new.items ≡ out.old.items }
+{
+    let home = home_of(config, volume);
+    let mut place = next;
+    for piece in line.pieces(home, config.most()) {
+        out.push(Request {
+            number: place,
+            line: number,
+            volume: volume as u32,
+            kind: line.kind,
+            lbn: piece.lbn,
+            count: piece.count,
+        })?;
+        place += 1;
+    }
+    Ok(())
+}
