@@ -3,6 +3,8 @@
 
 #[cfg(test)]
 mod lines;
+#[cfg(test)]
+mod making;
 mod rig;
 
 pub use rig::Rig;
