@@ -1,7 +1,7 @@
 use Rattle.std.proofs.Common.{sym, ap, subst, ◌∙◌}
 use Rattle.manager_tests.specs.Locked.{HasOnePass}
 use Rattle.manager_tests.proofs.Steps.{sole_lane, home_lock, logger_lock, pool_lock}
-use Rattle.manager_tests.proofs.making.Rig.apart.Goals as goal
+use Rattle.manager_tests.proofs.rig.Rig.apart.Goals as goal
 
 pub sole-requires : goal.sole-requires
 sole-requires g c = let lane = sole_lane c.args.self c.requires in (lane.0, ap (λ (v : _). v.items) c.release-spindle.ensures.lanes ∙ lane.1)
