@@ -50,6 +50,11 @@ has_failed (Err (fault.Down p)) = false
 
 -- ---- Outcomes
 
+-- the outcome of a read that gave these blocks
+abbrev pub read_outcome : List Block → Result Sources ReadRefusal → Outcome
+read_outcome blocks (Ok sources) = outcome.Read (trace.mark blocks) sources
+read_outcome blocks (Err refusal) = outcome.NoRead refusal
+
 -- the outcome of a write with this answer
 abbrev pub written_outcome : (drained : Bool) → Result Place WriteRefusal → Outcome
 written_outcome drained (Ok place) = outcome.Wrote place drained

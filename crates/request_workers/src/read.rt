@@ -5,7 +5,7 @@ ghost use Rattle.wol_model.specs.History.{worker};
 ghost use Rattle.manager.specs.Answers.{was_read};
 ghost use Rattle.manager.specs.Seen.{look_of_manager};
 ghost use Rattle.manager.specs.Stands.{Stands, IsShared};
-ghost use Rattle.request_workers.specs.Entries.{note_of};
+ghost use Rattle.request_workers.specs.Entries.{note_of, read_outcome};
 ghost use Rattle.request_workers.specs.Requests.{IsWithin};
 ghost use Rattle.request_workers.specs.Served.{HasAnswered};
 ghost use Rattle.request_workers.specs.Turns.{notes_seen, HasLeft, IsBroken};
@@ -21,6 +21,19 @@ use std::sync::Wait;
 use turn_lock::{Pass, Turn, TurnLock};
 use wol_disk::{Block, Disk};
 use wol_model::Kind;
+
+// The outcome of a read that gave these blocks.
+fn outcome_of(answer: Result<Sources, ReadRefusal>, out: &[Block]) -> Outcome
+    ensures { result ≡ read_outcome out.now answer }
+{
+    match answer {
+        Ok(sources) => Outcome::Read {
+            mark: mark(out),
+            sources,
+        },
+        Err(refusal) => Outcome::NoRead(refusal),
+    }
+}
 
 // Ends a turn in which blocks were read with this answer.
 fn leave_read<D: Disk, N: Memo>(
@@ -63,11 +76,5 @@ pub(crate) fn read_turn<D: Disk, R: Wait>(
     let out = &mut payload.blocks[..request.count as usize];
     let answer = turn.value.read(rt, shared, request.lbn, out);
     leave_read::<D, Brand>(lock, turn, pass, request.lbn, out, &answer);
-    match answer {
-        Ok(sources) => Outcome::Read {
-            mark: mark(out),
-            sources,
-        },
-        Err(refusal) => Outcome::NoRead(refusal),
-    }
+    outcome_of(answer, out)
 }
