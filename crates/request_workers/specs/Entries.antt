@@ -60,6 +60,15 @@ abbrev pub written_outcome : (drained : Bool) → Result Place WriteRefusal → 
 written_outcome drained (Ok place) = outcome.Wrote place drained
 written_outcome drained (Err refusal) = outcome.NoWrite refusal
 
+-- it was refused as full
+abbrev pub is_full : Result Place WriteRefusal → Bool
+is_full (Ok place) = false
+is_full (Err refused.Full) = true
+is_full (Err (refused.DiskFault p)) = false
+is_full (Err (refused.Down p)) = false
+is_full (Err refused.VersionsSpent) = false
+is_full (Err refused.NoMemory) = false
+
 -- a write is refused as its drain was
 abbrev pub refused_as : StepFault → WriteRefusal
 refused_as (fault.DiskFault p) = refused.DiskFault p

@@ -40,6 +40,7 @@ fn drain<R: Wait, D: Disk>(
     ensures at { IsHome shared.now m.new }
     ensures drained { OnOk result ((m.new.down ≡ None) × (look_of_manager m.new ≡ drained (look_of_manager m.old))) }
     ensures refused { IfErr result IsDiskFault }
+    ensures down { IfErr result (λ f. IsSome m.new.down) }
     ensures keeps { OnKept result (KeepsOn D.tells D.state m.old m.new Always) }
     ensures broke { OnFailed result (BreaksOff D.tells D.state m.old m.new Always) }
 {

@@ -7,7 +7,7 @@ ghost use Rattle.std.specs.List.{range_with_len};
 ghost use Rattle.manager.specs.Answers.{written};
 ghost use Rattle.manager.specs.Seen.{look_of_manager};
 ghost use Rattle.manager.specs.Stands.{Stands, IsShared, passed_in};
-ghost use Rattle.request_workers.specs.Entries.{note_of, written_outcome};
+ghost use Rattle.request_workers.specs.Entries.{note_of, written_outcome, is_full};
 ghost use Rattle.request_workers.specs.Requests.{IsWithin};
 ghost use Rattle.request_workers.specs.Served.{HasAnswered};
 ghost use Rattle.request_workers.specs.Turns.{notes_seen, HasLeft, IsBroken};
@@ -36,6 +36,13 @@ pub(crate) fn outcome_of(answer: Result<Place, WriteRefusal>, drained: bool) -> 
         Ok(place) => Outcome::Wrote { place, drained },
         Err(refusal) => Outcome::NoWrite(refusal),
     }
+}
+
+// Whether no log had room.
+fn is_full(answer: &Result<Place, WriteRefusal>) -> bool
+    ensures { result ≡ is_full answer.now }
+{
+    matches!(answer, Err(WriteRefusal::Full))
 }
 
 // Ends a turn in which blocks were written with this answer, where `N` has the next version that stood before.
@@ -81,15 +88,13 @@ fn write_within<D: Disk, R: Wait, B: Memo>(
     ensures { HasWritten D.tells lbn from.now result pass.old pass.new }
 {
     let answer = turn.value.write(rt, shared, lbn, from);
-    match answer {
-        Err(WriteRefusal::Full) => {
-            drain_and_write::<D, R, Brand>(rt, lock, turn, pass, shared, lbn, from, fetch, tally)
-        }
-        _ => {
-            leave_written::<D, B, Brand>(lock, turn, pass, lbn, from, &answer);
-            outcome_of(answer, false)
-        }
+    if is_full(&answer) {
+        return drain_and_write::<D, R, Brand>(
+            rt, lock, turn, pass, shared, lbn, from, fetch, tally,
+        );
     }
+    leave_written::<D, B, Brand>(lock, turn, pass, lbn, from, &answer);
+    outcome_of(answer, false)
 }
 
 /// Writes the payload of a request in one turn. Where no log has room, all records are drained first.
