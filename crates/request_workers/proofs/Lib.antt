@@ -6,3 +6,4 @@ pub mod Payloads
 pub mod Merging
 pub mod WriteNotes
 pub mod DrainNotes
+pub mod WroteTurn

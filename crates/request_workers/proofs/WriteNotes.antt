@@ -24,7 +24,10 @@ use Rattle.manager.specs.declared.part.Place.{Place}
 use Rattle.manager.specs.declared.part.Place.TheVariants as place
 use Rattle.manager.specs.declared.part.WriteRefusal.{WriteRefusal}
 use Rattle.manager.specs.declared.part.WriteRefusal.TheVariants.{Full, DiskFault, Down, VersionsSpent, NoMemory}
-use Rattle.request_workers.specs.Entries.{note_of, written_outcome, is_full, IsWrittenAs, TellsFault}
+use Rattle.manager.specs.Stands.{Keeps, Stands, Leaves}
+use Rattle.manager.specs.declared.base.ManagerBase.{ManagerBase}
+use Rattle.wol_model.specs.History.{worker}
+use Rattle.request_workers.specs.Entries.{note_of, full_note, written_outcome, is_full, IsWrittenAs, TellsFault}
 use Rattle.request_workers.specs.Turns.{ManagerPass, began, notes_seen, HasLeft, IsBroken, Stays}
 use Rattle.request_workers.specs.Written.{HasWritten}
 
@@ -105,16 +108,60 @@ write_fault state old new drained seen (Err (Down p)) told down broken = broken 
 write_fault state old new drained seen (Err VersionsSpent) told down broken = tt
 write_fault state old new drained seen (Err NoMemory) told down broken = tt
 
-pub has_written : {D : Type 0} (tells : Bool) (state : D → State) (old new : Manager D) (first : ℕ) (blocks : List Block) (a : Result Place WriteRefusal) (p q : ManagerPass D)
-    → is_full a ≡ false → map logger_of old.lanes.items ≡ (began p).view → last_look (began p).look (notes_seen p) ≡ look_of_manager old
-    → IsPlaceOf (map logger_of old.lanes.items) a (ruled_place old new first blocks) → HasLook (ruled_place old new first blocks) (home_write first blocks) a (look_of_manager old) (look_of_manager new)
-    → ((d : Part) → (a ≡ Err (Down d)) ↔ (old.down ≡ Some d)) → ((a ≡ Err VersionsSpent) ↔ ((old.down ≡ None) × (old.next ≡ 2 ^ 63))) → writing.TellsFault state a old new
-    → HasLeft tells (write_note old new first blocks (pass_number p) a) p q → (IsSome new.down → IsBroken (notes_seen q)) → HasWritten tells first blocks (written_outcome false a) p q
-has_written tells state old new first blocks a p q not_full view is at look down spent told left broken = record {
-  note = write_note old new first blocks (pass_number p) a;
-  left = left;
-  ruled = refl;
-  entry = write_entry old new first blocks (pass_number p) (began p).view a not_full (subst (λ (v : List ℕ). IsPlaceOf v a (ruled_place old new first blocks)) view at) look (λ e. (spent.0 e).1);
-  stays = write_stays old new first blocks (pass_number p) a look (last_look (began p).look (notes_seen p)) is;
-  fault = write_fault state old new false (notes_seen q) a told down broken;
-}
+module _ {D : Type 0} (tells : Bool) (state : D → State) (old new : Manager D) (first : ℕ) (blocks : List Block) (a : Result Place WriteRefusal) (next : ℕ) (is_next : next ≡ old.next) where
+  abbrev at_next : (pass : ℕ) → Noted
+  at_next pass = note_of pass (written next first blocks a) (look_of_manager new) (passed_in new.rooms.items) false
+
+  to_next : (Q : Noted → Type 0) (pass : ℕ) → Q (write_note old new first blocks pass a) → Q (at_next pass)
+  to_next Q pass q = subst (λ (k : ℕ). Q (note_of pass (written k first blocks a) (look_of_manager new) (passed_in new.rooms.items) false)) (sym is_next) q
+
+  pub write_stands : (b : ManagerBase) (notes : List Noted) (pass : ℕ) (view : List ℕ) → pass ≡ worker → last_look b.volume.began.look notes ≡ look_of_manager old
+      → IsPlaceOf view a (ruled_place old new first blocks) → HasLook (ruled_place old new first blocks) (home_write first blocks) a (look_of_manager old) (look_of_manager new)
+      → Leaves tells state old new (written old.next first blocks a) (passed_in new.rooms.items) worker → Keeps tells state old b notes
+      → Stands tells state new b (notes ++ note_of pass (written next first blocks a) (look_of_manager new) (passed_in new.rooms.items) false ∷ [])
+  write_stands b notes pass view client is at look stands keeps =
+      to_next (λ n. Stands tells state new b (notes ++ n ∷ [])) pass
+      (stands b notes (write_note old new first blocks pass a) client (is_write_note old new first blocks pass view a at look (last_look b.volume.began.look notes) is) keeps)
+
+  pub has_written : (p q : ManagerPass D)
+      → is_full a ≡ false → map logger_of old.lanes.items ≡ (began p).view → last_look (began p).look (notes_seen p) ≡ look_of_manager old
+      → IsPlaceOf (map logger_of old.lanes.items) a (ruled_place old new first blocks) → HasLook (ruled_place old new first blocks) (home_write first blocks) a (look_of_manager old) (look_of_manager new)
+      → ((d : Part) → (a ≡ Err (Down d)) ↔ (old.down ≡ Some d)) → ((a ≡ Err VersionsSpent) ↔ ((old.down ≡ None) × (old.next ≡ 2 ^ 63))) → writing.TellsFault state a old new
+      → HasLeft tells (note_of (pass_number p) (written next first blocks a) (look_of_manager new) (passed_in new.rooms.items) false) p q → (IsSome new.down → IsBroken (notes_seen q))
+      → HasWritten tells first blocks (written_outcome false a) p q
+  has_written p q not_full view is at look down spent told left broken = record {
+    note = write_note old new first blocks (pass_number p) a;
+    left = subst (λ (k : ℕ). HasLeft tells (note_of (pass_number p) (written k first blocks a) (look_of_manager new) (passed_in new.rooms.items) false) p q) is_next left;
+    ruled = refl;
+    entry = write_entry old new first blocks (pass_number p) (began p).view a not_full (subst (λ (v : List ℕ). IsPlaceOf v a (ruled_place old new first blocks)) view at) look (λ e. (spent.0 e).1);
+    stays = write_stays old new first blocks (pass_number p) a look (last_look (began p).look (notes_seen p)) is;
+    fault = write_fault state old new false (notes_seen q) a told down broken;
+  }
+
+-- ---- A write that is refused as full
+
+differ : (p : Part) → (let f : Result Place WriteRefusal = Err Full in let r : Result Place WriteRefusal = Err (Down p) in f ≡ r) → ⊥
+differ p is = absurd (let no : true ≡ false = ap is_full is in cc)
+
+no_part : (o : Option Part) → ((p : Part) → o ≡ Some p → ⊥) → o ≡ None
+no_part None not = refl
+no_part (Some p) not = absurd (not p refl)
+
+module _ {D : Type 0} (old new : Manager D) (first : ℕ) (blocks : List Block) (a : Result Place WriteRefusal) (full : is_full a ≡ true) (k : Look) (is_l : k ≡ look_of_manager old) where
+  pub full_place : (view : List ℕ) → IsPlaceOf view a (ruled_place old new first blocks) → place_of (passed_in new.rooms.items) k (home_write first blocks) ≡ Nowhere
+  full_place view at = ap (λ (j : Look). place_of (passed_in new.rooms.items) j (home_write first blocks)) is_l
+      ∙ subst (λ (r : Result Place WriteRefusal). IsPlaceOf view r (ruled_place old new first blocks)) (full_is a full) at
+
+  pub full_look : HasLook (ruled_place old new first blocks) (home_write first blocks) a (look_of_manager old) (look_of_manager new) → look_of_manager new ≡ k
+  full_look look = subst (λ (r : Result Place WriteRefusal). HasLook (ruled_place old new first blocks) (home_write first blocks) r (look_of_manager old) (look_of_manager new)) (full_is a full) look ∙ sym is_l
+
+  pub full_up : (state : D → State) → ((p : Part) → (a ≡ Err (Down p)) ↔ (old.down ≡ Some p)) → writing.TellsFault state a old new → new.down ≡ None
+  full_up state down told = subst (λ (r : Result Place WriteRefusal). writing.TellsFault state r old new) (full_is a full) told
+      ∙ no_part old.down (λ p is. absurd (differ p (sym (full_is a full) ∙ (down p).1 is)))
+
+  pub full_keeps : (tells : Bool) (state : D → State) (b : ManagerBase) (notes : List Noted) (pass : ℕ) → pass ≡ worker
+      → Leaves tells state old new (written old.next first blocks a) (passed_in new.rooms.items) worker → Keeps tells state old b notes
+      → Keeps tells state new b (notes ++ full_note pass (look_of_manager new) (passed_in new.rooms.items) ∷ [])
+  full_keeps tells state b notes pass client stands keeps =
+      (stands b notes (full_note pass (look_of_manager new) (passed_in new.rooms.items)) client
+      (record { operation_is = sym (ap (written old.next first blocks) (full_is a full)); look_is = refl; passed_is = refl; drain = refl; follows = λ is. absurd (let no : false ≡ true = is in cc) }) keeps).keeps
