@@ -7,3 +7,6 @@ pub mod Merging
 pub mod WriteNotes
 pub mod DrainNotes
 pub mod WroteTurn
+pub mod Gaining
+pub mod Serving
+pub mod Working

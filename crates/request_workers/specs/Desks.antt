@@ -1,11 +1,11 @@
 -- Desks that are ready for a window, and what serving makes of all of them.
-use Rattle.std.specs.Prelude.{◌≡◌, ◌<◌, ◌≤◌, ◌+◌, ℕ, Bool, List, [], All, length, vec_capacity, slice_index_or}
+use Rattle.std.specs.Prelude.{◌≡◌, ◌<◌, ◌≤◌, ◌+◌, ℕ, Bool, List, [], length, vec_capacity, slice_index_or}
 use Rattle.turn_lock.specs.Passes.{pass_lock}
 use Rattle.wol_model.specs.History.{worker}
 use Rattle.logger.specs.declared.shared.Shared.{Shared}
 use Rattle.manager.specs.Stands.{IsShared}
 use Rattle.request_workers.specs.Helped.{ManagerLock, IsPassAt}
-use Rattle.request_workers.specs.Requests.{IsWithin, own_requests}
+use Rattle.request_workers.specs.Requests.{AreWithin, own_requests}
 use Rattle.request_workers.specs.Served.{HasServed}
 use Rattle.request_workers.specs.declared.desk.Desk.{Desk}
 use Rattle.request_workers.specs.declared.request.Request.{Request}
@@ -14,7 +14,7 @@ use Rattle.request_workers.specs.declared.request.Request.{Request}
 pub record IsReadyDesk {D : Type 0} (l : ManagerLock D) (shared : Shared D) (rs : List Request) (d : Desk D) : Type 0 where
   pub pass : IsPassAt l worker d.worker
   pub shared_ : IsShared shared (pass_lock d.worker).base
-  pub within : All (IsWithin (pass_lock d.worker).base) (own_requests d.id rs)
+  pub within : AreWithin (pass_lock d.worker).base d.id rs
   pub empty : d.outcomes.items ≡ []
   pub room : length (own_requests d.id rs) ≤ vec_capacity d.outcomes
 

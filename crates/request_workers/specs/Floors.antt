@@ -1,5 +1,5 @@
 -- A floor between windows, and what a window makes of it.
-use Rattle.std.specs.Prelude.{◌≡◌, ◌≤◌, ◌<◌, ℕ, Bool, List, [], All, map, length, vec_capacity, slice_index_or, None}
+use Rattle.std.specs.Prelude.{◌≡◌, ◌≤◌, ◌<◌, ℕ, Bool, List, [], map, length, vec_capacity, slice_index_or, None}
 use Rattle.std.specs.Option.{option_or}
 use Rattle.turn_lock.specs.Passes.{lock_id}
 use Rattle.wol_model.specs.History.{worker, helper, keeper}
@@ -7,7 +7,7 @@ use Rattle.logger.specs.declared.shared.Shared.{Shared}
 use Rattle.manager.specs.Stands.{IsShared}
 use Rattle.request_workers.specs.Desks.{AreAt, AreNumbered, AreEmpty}
 use Rattle.request_workers.specs.Helped.{ManagerLock, ArePassesAt, IsCause}
-use Rattle.request_workers.specs.Requests.{IsWithin, own_requests}
+use Rattle.request_workers.specs.Requests.{AreWithin, own_requests}
 use Rattle.request_workers.specs.Worked.{AreWorked, HelpedIn, first_fault}
 use Rattle.request_workers.specs.declared.desk.Desk.{Desk}
 use Rattle.request_workers.specs.declared.floor.Floor.{Floor}
@@ -39,7 +39,7 @@ IsOn {D} shared ls = (k : ℕ) (l : ManagerLock D) → k < length ls → IsShare
 
 -- each request of a volume lies in it
 abbrev pub AreInside : {D : Type 0} → List (ManagerLock D) → List Request → Type 0
-AreInside {D} ls rs = (k : ℕ) (l : ManagerLock D) → k < length ls → All (IsWithin (lock_id (slice_index_or ls k l)).base) (own_requests k rs)
+AreInside {D} ls rs = (k : ℕ) (l : ManagerLock D) → k < length ls → AreWithin (lock_id (slice_index_or ls k l)).base k rs
 
 -- more room for outcomes and no refused step, and no other change
 pub record HasRoom {D : Type 0} (rs : List Request) (d e : Desk D) : Type 0 where

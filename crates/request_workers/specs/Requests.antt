@@ -1,5 +1,5 @@
 -- Requests and outcomes, and what the model calls them.
-use Rattle.std.specs.Prelude.{⊤, ◌≡◌, ◌<◌, ◌≤◌, ◌+◌, ◌==◌, ◌∷◌, ℕ, Bool, true, false, List, [], cond, filter, All}
+use Rattle.std.specs.Prelude.{⊤, ◌≡◌, ◌<◌, ◌≤◌, ◌+◌, ◌==◌, ◌∷◌, ℕ, Bool, true, false, List, [], cond, filter, All, length, slice_index_or}
 use Rattle.wol_model.specs.Trace as trace
 use Rattle.wol_promise.specs.Outcomes as outcomes
 use Rattle.wol_promise.specs.Outcomes.{WasRead, WasWritten, Unanswered, Answered, is_answered}
@@ -25,6 +25,10 @@ pub record IsWithin (b : ManagerBase) (r : Request) : Type 0 where
 -- the requests of a volume, in order
 abbrev pub own_requests : ℕ → List Request → List Request
 own_requests v rs = filter (λ (r : Request). r.volume == v) rs
+
+-- each of them that names this volume lies in it
+abbrev pub AreWithin : ManagerBase → (volume : ℕ) → List Request → Type 0
+AreWithin b volume rs = (k : ℕ) (r : Request) → k < length rs → (slice_index_or rs k r).volume ≡ volume → IsWithin b (slice_index_or rs k r)
 
 -- each request names one of so many volumes
 abbrev pub AreOfVolumes : ℕ → List Request → Type 0
