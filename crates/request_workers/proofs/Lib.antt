@@ -10,3 +10,4 @@ pub mod WroteTurn
 pub mod Gaining
 pub mod Serving
 pub mod Working
+pub mod StepNotes

@@ -1,5 +1,5 @@
 -- The entry that a request leaves, by its outcome.
-use Rattle.std.specs.Prelude.{⊤, ◌≡◌, ◌⊎◌, ◌+◌, ◌^◌, ◌∷◌, ◌++◌, ℕ, Bool, true, false, List, [], Some, is_some, slice_get, if◌then◌else◌, count_by, length, Result, Ok, Err, is_ok}
+use Rattle.std.specs.Prelude.{⊤, ◌≡◌, ◌⊎◌, ◌+◌, ◌^◌, ◌∷◌, ◌++◌, ℕ, Bool, true, false, List, [], Option, None, Some, is_some, slice_get, if◌then◌else◌, count_by, length, Result, Ok, Err, is_ok}
 use Rattle.std.specs.List.{range_with_len}
 use Rattle.wol_disk.specs.Disk.{Block}
 use Rattle.wol_model.specs.ArrayLaws.{unversioned}
@@ -47,6 +47,11 @@ abbrev pub has_failed : {T : Type 0} → Result T StepFault → Bool
 has_failed (Ok x) = false
 has_failed (Err (fault.DiskFault p)) = true
 has_failed (Err (fault.Down p)) = false
+
+-- the refusal of a step that was refused
+abbrev pub refusal_in : {T : Type 0} → Result T StepFault → Option StepFault
+refusal_in (Ok x) = None
+refusal_in (Err f) = Some f
 
 -- ---- Outcomes
 

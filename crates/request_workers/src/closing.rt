@@ -12,7 +12,7 @@ use crate::desk::Desk;
 use crate::noted::leave_step;
 use crate::reclaim::reclaim_all;
 use crate::request::Reclaim;
-use crate::step::has_failed;
+use crate::step::{has_failed, refusal_in};
 use logger::Shared;
 use manager::Manager;
 use std::sync::Wait;
@@ -33,7 +33,7 @@ fn close_one<D: Disk, R: Wait>(
     let mut turn = lock.enter(rt, &mut desk.worker);
     let answer = reclaim_all(rt, &mut turn.value, shared, &mut desk.fetch, &mut desk.tally);
     leave_step(lock, turn, &mut desk.worker, has_failed(&answer));
-    desk.fault = answer.err();
+    desk.fault = refusal_in(answer);
 }
 
 // One reclaim turn of each volume in order.

@@ -1,6 +1,6 @@
-// Whether a step of reclaim failed at a disk.
+// Why a step of reclaim was not done.
 ghost use Rattle.std.specs.Prelude.{◌≡◌};
-ghost use Rattle.request_workers.specs.Entries.{has_failed};
+ghost use Rattle.request_workers.specs.Entries.{has_failed, refusal_in};
 
 use manager::StepFault;
 
@@ -9,4 +9,14 @@ pub(crate) fn has_failed<T>(answer: &Result<T, StepFault>) -> bool
     ensures { result ≡ has_failed answer.now }
 {
     matches!(answer, Err(StepFault::DiskFault(_)))
+}
+
+/// The refusal of a step that was refused.
+pub(crate) fn refusal_in(answer: Result<(), StepFault>) -> Option<StepFault>
+    ensures { result ≡ refusal_in answer }
+{
+    match answer {
+        Ok(()) => None,
+        Err(fault) => Some(fault),
+    }
 }
