@@ -11,3 +11,5 @@ pub mod Gaining
 pub mod Serving
 pub mod Working
 pub mod StepNotes
+pub mod ClosedTurn
+pub mod Roomy

@@ -14,6 +14,10 @@ use Rattle.manager.specs.declared.manager.Manager.{Manager}
 use Rattle.manager.specs.declared.part.StepFault.{StepFault}
 use Rattle.manager.specs.declared.part.StepFault.TheVariants as fault
 use Rattle.manager.proofs.Frames.{stands_kept, none_passed}
+use Rattle.reclaimer.specs.Steps.{LooksPut, LooksGone}
+use Rattle.reclaimer.specs.declared.answers.Gone.{Gone}
+use Rattle.reclaimer.specs.declared.answers.Gone.TheVariants as gone
+use Rattle.request_workers.specs.Closed.{GoesOn}
 use Rattle.request_workers.specs.Entries.{note_of, step_operation, has_failed}
 
 module _ {D : Type 0} (tells : Bool) (state : D → State) (old new : Manager D) (b : ManagerBase) (notes : List Noted) (pass : ℕ) where
@@ -39,14 +43,20 @@ step_helps false = tt
 -- ---- One after another
 
 pub reclaims_then : (l k m : Look) → AreReclaims l k → IsReclaim k m → AreReclaims l m
-reclaims_then l k m (policy.none l) step = policy.more l m m step (policy.none m)
-reclaims_then l k m (policy.more l j k first rest) step = policy.more l j m first (reclaims_then j k m rest step)
+reclaims_then l k m (policy.none x) step = policy.more x m m step (policy.none m)
+reclaims_then l k m (policy.more x j y first rest) step = policy.more x j m first (reclaims_then j y m rest step)
 
-pub reclaims_both : (l k m : Look) → AreReclaims l k → AreReclaims k m → AreReclaims l m
-reclaims_both l k m (policy.none l) then = then
-reclaims_both l k m (policy.more l j k first rest) then = policy.more l j m first (reclaims_both j k m rest then)
+module _ {D : Type 0} where
+  pub put_goes : (old mid new : Manager D) (k : ℕ) → look_of_manager mid ≡ look_of_manager old → LooksPut (Ok k) mid new → GoesOn (look_of_manager old) (look_of_manager new)
+  put_goes old mid new zero same put l r = subst (AreReclaims l) (sym (put.0 refl ∙ same)) r
+  put_goes old mid new (suc k) same put l r = reclaims_then l (look_of_manager mid) (look_of_manager new) (subst (AreReclaims l) (sym same) r) (put.1 (omega arith))
 
-module _ {A B : Type 0} where
+  pub gone_goes : (old new : Manager D) (g : Gone) → LooksGone (Ok g) old new → GoesOn (look_of_manager old) (look_of_manager new)
+  gone_goes old new (gone.Version v) step l r = reclaims_then l (look_of_manager old) (look_of_manager new) r step
+  gone_goes old new (gone.Trimmed v) step l r = reclaims_then l (look_of_manager old) (look_of_manager new) r step
+  gone_goes old new gone.Nothing same l r = subst (AreReclaims l) (sym same) r
+
+module _ (A B : Type 0) where
   pub on_kept : (e : StepFault) (P Q : Type 0) → (P → Q) → OnKept {T = A} (Err e) P → OnKept {T = B} (Err e) Q
   on_kept (fault.DiskFault p) P Q f h = tt
   on_kept (fault.Down p) P Q f h = f h

@@ -2,13 +2,17 @@
 use Rattle.std.specs.Prelude.{◌≡◌, ◌<◌, ℕ, Bool, List, Option, None, Some, length, slice_index_or}
 use Rattle.turn_lock.specs.Histories.{Entry}
 use Rattle.wol_model.specs.History.{IsHelp}
-use Rattle.wol_promise.specs.Policy.{IsIdleLook}
+use Rattle.wol_promise.specs.Policy.{Look, AreReclaims, IsIdleLook}
 use Rattle.wol_promise.specs.Ruled.{Noted}
 use Rattle.manager.specs.declared.part.StepFault.{StepFault}
 use Rattle.request_workers.specs.Turns.{ManagerPass, notes_seen, IsBroken, HasTurned}
 use Rattle.request_workers.specs.declared.desk.Desk.{Desk}
 use Rattle.request_workers.specs.declared.request.Reclaim.{Reclaim}
 use Rattle.request_workers.specs.declared.request.Reclaim.TheVariants as reclaim
+
+-- steps of reclaim led from one look to the other, wherever steps led to the first
+abbrev pub GoesOn : (l m : Look) → Type 0
+GoesOn l m = (k : Look) → AreReclaims k l → AreReclaims k m
 
 -- One turn, whose entry changes no content. It leaves an idle look, unless a step was refused; that comes only where a disk call failed.
 pub record HasClosed {D : Type 0} (tells : Bool) (fault : Option StepFault) (p q : ManagerPass D) : Type 0 where

@@ -1,10 +1,11 @@
 // Reclaim within one turn: all that is due goes home, and then what may go is given up.
 ghost use Rattle.std.specs.Prelude.{◌≡◌, ℕ, false, None, Ok, OnOk, IfErr, IsSome};
-ghost use Rattle.wol_promise.specs.Policy.{IsIdleLook, AreReclaims};
+ghost use Rattle.wol_promise.specs.Policy.{IsIdleLook};
 ghost use Rattle.manager.specs.Reclaim.{OnKept, OnFailed, KeepsOn, BreaksOff, Always};
 ghost use Rattle.manager.specs.Seen.{look_of_manager};
 ghost use Rattle.manager.specs.Stands.{IsReady, IsHome};
 ghost use Rattle.reclaimer.specs.Fetches.{due_entry, going_entry};
+ghost use Rattle.request_workers.specs.Closed.{GoesOn};
 
 use crate::tally::Tally;
 use logger::Shared;
@@ -27,17 +28,17 @@ fn put_due<R: Wait, D: Disk>(
     ensures at { IsHome shared.now m.new }
     ensures down { IfErr result (λ f. IsSome m.new.down) }
     ensures nothing { OnOk result (due_entry m.new ≡ None) }
-    ensures look { OnKept result (AreReclaims (look_of_manager m.old) (look_of_manager m.new)) }
+    ensures look { OnKept result (GoesOn (look_of_manager m.old) (look_of_manager m.new)) }
     ensures keeps { OnKept result (KeepsOn D.tells D.state m.old m.new Always) }
     ensures broke { OnFailed result (BreaksOff D.tells D.state m.old m.new Always) }
 {
     for _ in rt.forever() {
         match fetch(rt, m, shared, room)? {
             Fetched::Nothing => return Ok(()),
-            Fetched::Some { .. } => {
-                let blocks = put_home(rt, m, shared, room)?;
-                tally.count(blocks, 0);
-            }
+            Fetched::Some { .. } => match put_home(rt, m, shared, room) {
+                Ok(blocks) => tally.count(blocks, 0),
+                Err(fault) => return Err(fault),
+            },
         }
     }
     unreachable!()
@@ -57,7 +58,7 @@ fn give_up<R: Wait, D: Disk>(
     ensures down { IfErr result (λ f. IsSome m.new.down) }
     ensures nothing { OnOk result (going_entry m.new ≡ None) }
     ensures none { result ≡ Ok false → m.new ≡ m.old }
-    ensures look { OnKept result (AreReclaims (look_of_manager m.old) (look_of_manager m.new)) }
+    ensures look { OnKept result (GoesOn (look_of_manager m.old) (look_of_manager m.new)) }
     ensures keeps { OnKept result (KeepsOn D.tells D.state m.old m.new Always) }
     ensures broke { OnFailed result (BreaksOff D.tells D.state m.old m.new Always) }
 {
@@ -87,7 +88,7 @@ pub(crate) fn reclaim_all<R: Wait, D: Disk>(
     ensures at { IsHome shared.now m.new }
     ensures down { IfErr result (λ f. IsSome m.new.down) }
     ensures idle { OnOk result (IsIdleLook (look_of_manager m.new)) }
-    ensures look { OnKept result (AreReclaims (look_of_manager m.old) (look_of_manager m.new)) }
+    ensures look { OnKept result (GoesOn (look_of_manager m.old) (look_of_manager m.new)) }
     ensures keeps { OnKept result (KeepsOn D.tells D.state m.old m.new Always) }
     ensures broke { OnFailed result (BreaksOff D.tells D.state m.old m.new Always) }
 {

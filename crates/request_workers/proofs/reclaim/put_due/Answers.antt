@@ -1,0 +1,17 @@
+use Rattle.request_workers.proofs.StepNotes.{put_goes, on_failed}
+use Rattle.request_workers.proofs.reclaim.put_due.Goals as goal
+
+pub loop-init : goal.loop-init
+loop-init g c = record { ready = c.requires.ready; at = c.requires.at; keeps = λ b notes w k. k; look = λ l r. r }
+
+pub loop-preserved : goal.loop-preserved
+loop-preserved g c = let f = c.in_ok-fetch.ensures in let e = c.in-Ok.ensures in let i = c.loop.invariant in record {
+  ready = e.ready;
+  at = e.at;
+  keeps = λ b notes w k. e.keeps b notes (f.content b notes (i.keeps b notes tt k)) (f.keeps b notes tt (i.keeps b notes tt k));
+  look = λ l r. put_goes _ _ _ _ f.look e.look l (i.look l r);
+}
+
+pub returns-in-Err-clause-broke : goal.returns-in-Err-clause-broke
+returns-in-Err-clause-broke g c = let f = c.in_ok-fetch.ensures in let i = c.loop.invariant in
+    on_failed _ _ c.in-Err.fault _ _ (λ then b notes n w note k. then b notes n (f.content b notes (i.keeps b notes tt k)) note (f.keeps b notes tt (i.keeps b notes tt k))) c.in-Err.ensures.broke
