@@ -13,3 +13,5 @@ pub mod Working
 pub mod StepNotes
 pub mod ClosedTurn
 pub mod Roomy
+pub mod Moving
+pub mod Stationed
