@@ -18,7 +18,7 @@ returns-in_err-make_room-clause-floor g c =
     let l1 : length d1 ≡ v.len = c.make_room.auto.desks ∙ c.as_mut_slice.ensures.len in
     let e1 = with_items_is v d1 l1 in
     floor_same c.args.floor.now _ c.requires.floor refl refl refl refl (ap length e1 ∙ (c.make_room.auto.desks ∙ ap length c.as_mut_slice.ensures.value))
-        (rw e1 (rw c.as_mut_slice.ensures.value at c.make_room.ensures.same))
+    (rw e1 (rw c.as_mut_slice.ensures.value at c.make_room.ensures.same))
 
 pub run_window-requires-clause-ready : goal.run_window-requires-clause-ready
 run_window-requires-clause-ready g c κs within =
@@ -46,10 +46,10 @@ returns-clause-floor g c =
     let h = c.args.floor.now.helpers in let h1 = c.run_window.new.helpers in
     let f1 = with_items_is h h1 (c.run_window.auto.helpers ∙ c.as_mut_slice-3.ensures.len) in
     floor_after _ c.args.requests.now c.run_window.new.out.items c.args.reclaim c.args.floor.now _ c.requires.floor refl refl refl
-        (ap length e2 ∙ (c.run_window.auto.desks ∙ (ap length (c.as_mut_slice-2.ensures.value ∙ e1) ∙ s1)))
-        (ap length f1 ∙ (c.run_window.auto.helpers ∙ ap length c.as_mut_slice-3.ensures.value))
-        (subst (λ (xs : List (Desk g.row.D.Denot)). AreWorked g.D.Disk.tells c.args.requests.now c.run_window.new.out.items c.args.reclaim v.items xs) (sym e2) (all_roomy _ _ _ _ v.items d1 d2 s1 (rw c.as_mut_slice.ensures.value at c.in_ok-make_room.ensures.room) (rw (c.as_mut_slice-2.ensures.value ∙ e1) at c.run_window.ensures.worked)))
-        (subst (λ (ps : List (ManagerPass g.row.D.Denot)). HelpedIn g.D.Disk.tells c.args.reclaim h.items ps) (sym f1) (rw c.as_mut_slice-3.ensures.value at c.run_window.ensures.helped))
+    (ap length e2 ∙ (c.run_window.auto.desks ∙ (ap length (c.as_mut_slice-2.ensures.value ∙ e1) ∙ s1)))
+    (ap length f1 ∙ (c.run_window.auto.helpers ∙ ap length c.as_mut_slice-3.ensures.value))
+    (subst (λ (xs : List (Desk g.row.D.Denot)). AreWorked g.D.Disk.tells c.args.requests.now c.run_window.new.out.items c.args.reclaim v.items xs) (sym e2) (all_roomy _ _ _ _ v.items d1 d2 s1 (rw c.as_mut_slice.ensures.value at c.in_ok-make_room.ensures.room) (rw (c.as_mut_slice-2.ensures.value ∙ e1) at c.run_window.ensures.worked)))
+    (subst (λ (ps : List (ManagerPass g.row.D.Denot)). HelpedIn g.D.Disk.tells c.args.reclaim h.items ps) (sym f1) (rw c.as_mut_slice-3.ensures.value at c.run_window.ensures.helped))
 
 pub returns-clause-run : goal.returns-clause-run
 returns-clause-run g c =
