@@ -92,8 +92,8 @@ module _ {D : Type 0} (old new : Manager D) (first : ℕ) (blocks : List Block) 
   drain_stands tells state b notes n1 view a is_l client is_next kept is_passed at look stands keeps =
       let n2 : Noted = record { entry = record { pass = pass; operation = written old.next first blocks a }; look = look_of_manager new; passed = passed_in new.rooms.items; after_drain = false; ruled = false } in
       merged notes n1 n2 (drain_note a) kept (ap (λ (k : ℕ). (let e : Entry = record { pass = pass; operation = written k first blocks a } in e)) is_next) tells state new b refl is_passed
-          (λ _. subst (λ (k : Look). IsStep (drain_note a) pass (written next first blocks a) k (look_of_manager new)) is_l (drain_step view a at look))
-          (stands b (notes ++ n1 ∷ []) n2 client (record { operation_is = refl; look_is = refl; passed_is = refl; drain = refl; follows = λ is. absurd (let no : false ≡ true = is in cc) }) keeps)
+      (λ _. subst (λ (k : Look). IsStep (drain_note a) pass (written next first blocks a) k (look_of_manager new)) is_l (drain_step view a at look))
+      (stands b (notes ++ n1 ∷ []) n2 client (record { operation_is = refl; look_is = refl; passed_is = refl; drain = refl; follows = λ is. absurd (let no : false ≡ true = is in cc) }) keeps)
 
 pub has_drained : {D : Type 0} (tells : Bool) (state : D → State) (old new : Manager D) (first : ℕ) (blocks : List Block) (next : ℕ) (passed view : List ℕ) (a : Result Place WriteRefusal) (p q : ManagerPass D)
     → look_of_manager old ≡ drained (last_look (began p).look (notes_seen p)) → place_of passed (last_look (began p).look (notes_seen p)) (home_write first blocks) ≡ Nowhere
@@ -111,13 +111,12 @@ has_drained tells state old new first blocks next passed view a p q bare full at
 
 -- ---- A drain that failed
 
-
 pub broke_stands : {D : Type 0} (tells : Bool) (state : D → State) (old new : Manager D) (b : ManagerBase) (notes : List Noted) (n1 : Noted) (pass : ℕ) (f : StepFault) → IsDiskFault f → n1.entry.operation ≡ Kept
     → OnFailed {T = Unit {0}} (Err f) (BreaksOff tells state old new Always) → Keeps tells state old b (notes ++ n1 ∷ []) → Stands tells state new b (notes ++ note_of pass (Broke []) (look_of_manager new) n1.passed false ∷ [])
 broke_stands tells state old new b notes n1 pass (fault.DiskFault p) failed kept breaks keeps =
     let n2 : Noted = record { entry = record { pass = pass; operation = Broke [] }; look = look_of_manager new; passed = []; after_drain = false; ruled = false } in
     merged notes n1 n2 (note_of pass (Broke []) (look_of_manager new) n1.passed false) kept refl tells state new b refl refl (λ _. refl)
-        (breaks b (notes ++ n1 ∷ []) n2 tt (record { operation_is = refl; look_is = refl; passed_is = refl; drain = refl; follows = λ is. absurd (let no : false ≡ true = is in cc) }) keeps)
+    (breaks b (notes ++ n1 ∷ []) n2 tt (record { operation_is = refl; look_is = refl; passed_is = refl; drain = refl; follows = λ is. absurd (let no : false ≡ true = is in cc) }) keeps)
 broke_stands tells state old new b notes n1 pass (fault.Down p) failed kept breaks keeps = absurd failed
 
 pub has_broken : {D : Type 0} (tells : Bool) (new : Manager D) (first : ℕ) (blocks : List Block) (passed : List ℕ) (f : StepFault) (p q : ManagerPass D) → IsDiskFault f

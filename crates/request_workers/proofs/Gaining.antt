@@ -113,9 +113,11 @@ module _ {D : Type 0} (tells : Bool) (p q : ManagerPass D) (before : List Entry)
   pub stays_turn : pass_number p ≡ worker → (n.entry.operation ≡ Kept → Stays (last_look (began p).look (notes_of before)) n) → IsHonest tells p → LooksStay p turn_more
   stays_turn client stays honest =
       subst (KeptStay (last_look (began p).look (notes_seen p))) (sym (notes_at t.begins.0 n.entry.pass n refl))
-      (kept_join (last_look (began p).look (notes_seen p)) (notes_of t.begins.0) (n ∷ []) (kept_others (last_look (began p).look (notes_seen p)) t.begins.0 (none_others client honest))
-      ((λ mine kept. subst (λ (l : Look). Stays l n) (ap (λ (es : List Entry). last_look (began p).look (notes_of es)) (sym t.begins.1)
-      ∙ ap (last_look (began p).look) (notes_joined (pass_seen p) t.begins.0) ∙ last_joined (began p).look (notes_seen p) (notes_of t.begins.0)) (stays kept)), tt))
+      (kept_join (last_look (began p).look (notes_seen p)) (notes_of t.begins.0) (n ∷ []) (kept_others (last_look (began p).look (notes_seen p)) t.begins.0 (none_others client honest)) (
+        (λ mine kept. subst (λ (l : Look). Stays l n) (ap (λ (es : List Entry). last_look (began p).look (notes_of es)) (sym t.begins.1)
+            ∙ ap (last_look (began p).look) (notes_joined (pass_seen p) t.begins.0) ∙ last_joined (began p).look (notes_seen p) (notes_of t.begins.0)) (stays kept)),
+        tt,
+      ))
 
 -- ---- Any number of turns
 

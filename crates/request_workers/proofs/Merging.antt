@@ -56,6 +56,7 @@ module _ (notes : List Noted) (n1 n2 n : Noted) (kept : n1.entry.operation ≡ K
     where
       refl_ : n2.entry.operation ≡ n2.entry.operation
       refl_ = λ i. n2.entry.operation
+
       refl_n : n.entry.operation ≡ n.entry.operation
       refl_n = λ i. n.entry.operation
 

@@ -56,7 +56,6 @@ module _ {D : Type 0} (old new : Manager D) (first : ℕ) (out : List Block) (an
 
 -- the entry of a read request with this answer
 module _ {D : Type 0} (old new : Manager D) (r : Request) (reads : r.kind ≡ kind.Read) (view : List ℕ) (out : List Block) (pass : ℕ) (n : ℕ) (long : length out ≡ n) (counted : n ≡ r.count) where
-
   pub read_entry : (a : Result Sources ReadRefusal) → OnOk a (look_of_manager new ≡ woken (look_of_manager old) r.lbn n)
       → IfOk a (λ s. s.logged ≡ count_by (is_covered (listed_in old.index.entries)) (range_with_len r.lbn n)) → IfOk a (λ s. s.home + s.logged ≡ n)
       → IsEntryOf view r (read_outcome out a) (note_of pass (was_read r.lbn out a) (look_of_manager new) [] false)

@@ -30,22 +30,22 @@ use Rattle.std.specs.List.{AllByRecursion}
 operations : List Noted → List Operation
 operations ns = map (λ (n : Noted). n.entry.operation) ns
 
-skips_kept : (as : List Answered) (op : Operation) (ops : List Operation) → op ≡ Kept → AreOutcomes as ops → AreOutcomes as (op ∷ ops)
-skips_kept as op ops is h = subst (λ (o : Operation). AreOutcomes as (o ∷ ops)) (sym is) h
+skips_kept : (xs : List Answered) (op : Operation) (ops : List Operation) → op ≡ Kept → AreOutcomes xs ops → AreOutcomes xs (op ∷ ops)
+skips_kept xs op ops is h = subst (λ (o : Operation). AreOutcomes xs (o ∷ ops)) (sym is) h
 
-skips_broke : (as : List Answered) (op : Operation) (ops : List Operation) (ws : List Write) → op ≡ Broke ws → AreOutcomes as ops → AreOutcomes as (op ∷ ops)
-skips_broke as op ops ws is h = subst (λ (o : Operation). AreOutcomes as (o ∷ ops)) (sym is) h
+skips_broke : (xs : List Answered) (op : Operation) (ops : List Operation) (ws : List Write) → op ≡ Broke ws → AreOutcomes xs ops → AreOutcomes xs (op ∷ ops)
+skips_broke xs op ops ws is h = subst (λ (o : Operation). AreOutcomes xs (o ∷ ops)) (sym is) h
 
-skips_read : (as : List Answered) (r : ReadRefusal) (n : Noted) (ops : List Operation) → IsRefusedRead r n → AreOutcomes as ops → AreOutcomes as (n.entry.operation ∷ ops)
-skips_read as (refused_read.DiskFault p) n ops is h = skips_broke as n.entry.operation ops [] is h
-skips_read as (refused_read.Down p) n ops is h = skips_kept as n.entry.operation ops is h
+skips_read : (xs : List Answered) (r : ReadRefusal) (n : Noted) (ops : List Operation) → IsRefusedRead r n → AreOutcomes xs ops → AreOutcomes xs (n.entry.operation ∷ ops)
+skips_read xs (refused_read.DiskFault p) n ops is h = skips_broke xs n.entry.operation ops [] is h
+skips_read xs (refused_read.Down p) n ops is h = skips_kept xs n.entry.operation ops is h
 
-skips_write : (as : List Answered) (w : Write) (r : WriteRefusal) (n : Noted) (ops : List Operation) → IsRefusedWrite w r n → AreOutcomes as ops → AreOutcomes as (n.entry.operation ∷ ops)
-skips_write as w refused.Full n ops is h = absurd is
-skips_write as w (refused.DiskFault p) n ops is h = skips_broke as n.entry.operation ops is.0 is.1 h
-skips_write as w (refused.Down p) n ops is h = skips_kept as n.entry.operation ops is h
-skips_write as w refused.VersionsSpent n ops is h = skips_kept as n.entry.operation ops is.0 h
-skips_write as w refused.NoMemory n ops is h = skips_kept as n.entry.operation ops is h
+skips_write : (xs : List Answered) (w : Write) (r : WriteRefusal) (n : Noted) (ops : List Operation) → IsRefusedWrite w r n → AreOutcomes xs ops → AreOutcomes xs (n.entry.operation ∷ ops)
+skips_write xs w refused.Full n ops is h = absurd is
+skips_write xs w (refused.DiskFault p) n ops is h = skips_broke xs n.entry.operation ops is.0 is.1 h
+skips_write xs w (refused.Down p) n ops is h = skips_kept xs n.entry.operation ops is h
+skips_write xs w refused.VersionsSpent n ops is h = skips_kept xs n.entry.operation ops is.0 h
+skips_write xs w refused.NoMemory n ops is h = skips_kept xs n.entry.operation ops is h
 
 one_more : (view : List ℕ) (r : Request) (o : Outcome) (rs : List Request) (os : List Outcome) (ns first rest : List Noted) → ns ≡ first ++ rest → AreEntriesOf view r o first → AreOutcomes (answered_in (answers_to rs os)) (operations rest)
     → AreOutcomes (answered_in (answers_to (r ∷ rs) (o ∷ os))) (operations ns)

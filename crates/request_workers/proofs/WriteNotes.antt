@@ -59,8 +59,14 @@ module _ {D : Type 0} (old new : Manager D) (first : ℕ) (blocks : List Block) 
 
   write_step : (view : List ℕ) (a : Result Place WriteRefusal) → IsPlaceOf view a P → HasLook P w a l (look_of_manager new) → IsStep (write_note a) pass (written old.next first blocks a) l (look_of_manager new)
   write_step view (Ok place.Home) at look = inl (refl, ((λ no. absurd (let e : AtHome ≡ Nowhere = sym at ∙ no in cc)), sym (ap (λ (q : placing.Place). version_at q l) at), look))
-  write_step view (Ok (place.Log logger)) at look = inl (refl, ((λ no. absurd (let e : InLog at.0 ≡ Nowhere = sym at.2 ∙ no in cc)), sym (ap (λ (q : placing.Place). version_at q l) at.2),
-      look ∙ ap (λ (q : placing.Place). placed q l w) at.2 ∙ sym (ap (λ (q : placing.Place). placed q l (log_write old.next first blocks)) at.2)))
+  write_step view (Ok (place.Log logger)) at look = inl (
+    refl,
+    (
+      (λ no. absurd (let e : InLog at.0 ≡ Nowhere = sym at.2 ∙ no in cc)),
+      sym (ap (λ (q : placing.Place). version_at q l) at.2),
+      look ∙ ap (λ (q : placing.Place). placed q l w) at.2 ∙ sym (ap (λ (q : placing.Place). placed q l (log_write old.next first blocks)) at.2),
+    ),
+  )
   write_step view (Err Full) at look = (refl, ruled.same look)
   write_step view (Err (DiskFault p)) at look = refl
   write_step view (Err (Down p)) at look = (refl, ruled.same look)

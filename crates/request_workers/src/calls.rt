@@ -10,8 +10,8 @@ use crate::desk::Desk;
 use crate::floor::Floor;
 use crate::helper::HelperRoom;
 use crate::request::{Reclaim, Request, Window};
-use crate::tally::Tally;
 use crate::slices::run_window;
+use crate::tally::Tally;
 use logger::Shared;
 use manager::StepFault;
 use std::alloc::Global;
@@ -59,7 +59,7 @@ fn reclaimed<D: Disk>(desks: &[Desk<D>], help: &HelperRoom) -> Tally {
 }
 
 // The first volume of which the reclaim turn was refused, with the refusal.
-fn refused<D: Disk>(desks: &[Desk<D>]) -> Option<(u32, StepFault)>
+fn refused_turn<D: Disk>(desks: &[Desk<D>]) -> Option<(u32, StepFault)>
     requires { length desks.now ≤ 2 ^ 32 }
     ensures { result ≡ first_fault 0 (map (λ (d : Desk _). d.fault) desks.now) }
 {
@@ -117,10 +117,8 @@ pub fn window<D: Disk + Send, G: Gate + Sync, R: Threads + Wait + Sync>(
         &mut outcomes,
     );
     let tally = reclaimed(floor.desks.as_slice(), &floor.help);
-    let fault = match floor.help.fault {
-        Some(fault) => Some(fault),
-        None => refused(floor.desks.as_slice()),
-    };
+    let refused = refused_turn(floor.desks.as_slice());
+    let fault = floor.help.fault.or(refused);
     Ok(Window {
         outcomes,
         blocks: tally.blocks,

@@ -31,7 +31,13 @@ fn close_one<D: Disk, R: Wait>(
     ensures { HasClosedDesk D.tells Reclaim.Between desk.old desk.new }
 {
     let mut turn = lock.enter(rt, &mut desk.worker);
-    let answer = reclaim_all(rt, &mut turn.value, shared, &mut desk.fetch, &mut desk.tally);
+    let answer = reclaim_all(
+        rt,
+        &mut turn.value,
+        shared,
+        &mut desk.fetch,
+        &mut desk.tally,
+    );
     leave_step(lock, turn, &mut desk.worker, has_failed(&answer));
     desk.fault = refusal_in(answer);
 }

@@ -28,7 +28,6 @@ mod write;
 pub use begin::begin_window;
 pub use desk::Desk;
 pub use floor::Floor;
-
 pub use request::{Outcome, Reclaim, Request, Window};
 pub use setting::{set_up, take_down};
 pub use station::Station;

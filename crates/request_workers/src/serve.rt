@@ -37,7 +37,14 @@ fn serve_one<D: Disk, R: Wait>(
     ensures fault { desk.new.fault ≡ desk.old.fault }
 {
     match request.kind {
-        Kind::Read => read_turn(rt, lock, &mut desk.worker, shared, request, &mut desk.payload),
+        Kind::Read => read_turn(
+            rt,
+            lock,
+            &mut desk.worker,
+            shared,
+            request,
+            &mut desk.payload,
+        ),
         Kind::Write => write_turn(
             rt,
             lock,

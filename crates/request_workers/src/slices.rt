@@ -51,7 +51,9 @@ fn serve_mode<'a, D: Disk + Send, G: Gate + Sync, R: Threads + Wait + Sync>(
         Reclaim::Between => serve_all(rt, locks, shared, size, requests, gate, desks),
         Reclaim::Beside => {
             let rounds = requests.len().saturating_add(1);
-            serve_beside(rt, locks, shared, desks, helpers, room, size, rounds, requests, gate)
+            serve_beside(
+                rt, locks, shared, desks, helpers, room, size, rounds, requests, gate,
+            )
         }
     }
 }
@@ -87,7 +89,9 @@ pub(crate) fn run_window<'a, D: Disk + Send, G: Gate + Sync, R: Threads + Wait +
     ensures helped { HelpedIn D.tells reclaim helpers.old helpers.new }
     ensures cause { IsCause helpers.new room.new.fault }
 {
-    serve_mode(rt, locks, shared, desks, helpers, room, size, requests, reclaim, gate);
+    serve_mode(
+        rt, locks, shared, desks, helpers, room, size, requests, reclaim, gate,
+    );
     close_all(rt, locks, shared, desks, reclaim);
     collect(desks, requests, out);
 }

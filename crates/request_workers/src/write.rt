@@ -119,5 +119,15 @@ pub(crate) fn write_turn<D: Disk, R: Wait>(
     let turn = lock.enter(rt, pass);
     let from = &mut payload.blocks[..request.count as usize];
     fill(request.line, request.lbn, from);
-    write_within::<D, R, Brand>(rt, lock, turn, pass, shared, request.lbn, from, fetch, tally)
+    write_within::<D, R, Brand>(
+        rt,
+        lock,
+        turn,
+        pass,
+        shared,
+        request.lbn,
+        from,
+        fetch,
+        tally,
+    )
 }

@@ -14,5 +14,5 @@ pub returns : goal.returns
 returns g c = let e = c.enter-turn.ensures in let r = c.reclaim_all-answer.ensures in let l = c.leave_step.ensures in record {
   id = refl;
   outcomes = refl;
-  closed = has_closed _ g.D.Disk.state c.enter-turn.result.value c.reclaim_all-answer.new.m c.reclaim_all-answer.result c.args.desk.now.worker c.enter-turn.new.pass _ _ _ c.refusal_in.ensures r.idle r.down e.same e.seen e.mine e.own l.left l.broken;
+  closed = has_closed _ g.D.Disk.state c.enter-turn.result.value c.reclaim_all-answer.new.m c.reclaim_all-answer.result c.args.desk.now.worker c.enter-turn.new.pass _ _ _ c.refusal_in-desk.ensures r.idle r.down e.same e.seen e.mine e.own l.left l.broken;
 }

@@ -17,7 +17,7 @@ returns g c =
     let e = c.enter-turn.ensures in let r = c.read-answer.ensures in let l = c.leave_read.ensures in
     let counted : length c.read-answer.new.out ≡ c.args.request.now.count = search rules in
     rw c.outcome_of.ensures (has_read _ c.enter-turn.result.value c.read-answer.new.self c.args.request.now c.read-answer.new.out c.read-answer.result c.args.pass.now c.enter-turn.new.pass _
-        c.requires.kind _ c.read-answer.auto.out (sym c.read-answer.auto.out ∙ counted) e.value.look r.look r.logged r.all r.down (λ h. (r.unchanged h).0) (λ d h. (r.cause d h).0) e.same e.seen e.mine e.own l.left l.broken)
+    c.requires.kind _ c.read-answer.auto.out (sym c.read-answer.auto.out ∙ counted) e.value.look r.look r.logged r.all r.down (λ h. (r.unchanged h).0) (λ d h. (r.cause d h).0) e.same e.seen e.mine e.own l.left l.broken)
 
 pub invariant_of-payload : goal.invariant_of-payload
 invariant_of-payload g c = kept_length c.payload.inside.blocks _ 128 c.payload.invariant

@@ -1,3 +1,4 @@
+use Rattle.std.proofs.Common.{ℕ}
 use Rattle.request_workers.proofs.StepNotes.{put_goes, on_failed}
 use Rattle.request_workers.proofs.reclaim.put_due.Goals as goal
 
@@ -9,9 +10,9 @@ loop-preserved g c = let f = c.in_ok-fetch.ensures in let e = c.in-Ok.ensures in
   ready = e.ready;
   at = e.at;
   keeps = λ b notes w k. e.keeps b notes (f.content b notes (i.keeps b notes tt k)) (f.keeps b notes tt (i.keeps b notes tt k));
-  look = λ l r. put_goes _ _ _ _ f.look e.look l (i.look l r);
+  look = λ l r. put_goes c.loop.m c.fetch.new.m c.put_home.new.m c.in-Ok.blocks f.look e.look l (i.look l r);
 }
 
 pub returns-in-Err-clause-broke : goal.returns-in-Err-clause-broke
 returns-in-Err-clause-broke g c = let f = c.in_ok-fetch.ensures in let i = c.loop.invariant in
-    on_failed _ _ c.in-Err.fault _ _ (λ then b notes n w note k. then b notes n (f.content b notes (i.keeps b notes tt k)) note (f.keeps b notes tt (i.keeps b notes tt k))) c.in-Err.ensures.broke
+    on_failed ℕ (Unit {0}) c.in-Err.fault _ _ (λ then b notes n w note k. then b notes n (f.content b notes (i.keeps b notes tt k)) note (f.keeps b notes tt (i.keeps b notes tt k))) c.in-Err.ensures.broke

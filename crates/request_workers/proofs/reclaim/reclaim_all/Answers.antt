@@ -10,4 +10,4 @@ loop-init g c = record { ready = c.requires.ready; at = c.requires.at; keeps = �
 pub returns-then-not-branch-clause-idle : goal.returns-then-not-branch-clause-idle
 returns-then-not-branch-clause-idle g c =
     let none = c.in_ok-give_up.ensures.none (ap Ok c.if-not-branch.true) in
-    idle _ (subst (λ (m : Manager g.row.D.Denot). due_entry m ≡ None) (sym none) c.in_ok-put_due.ensures.nothing) c.in_ok-give_up.ensures.nothing
+    idle {D = g.row.D.Denot} c.give_up.new.m (subst (λ (m : Manager g.row.D.Denot). due_entry m ≡ None) (sym none) c.in_ok-put_due.ensures.nothing) c.in_ok-give_up.ensures.nothing
