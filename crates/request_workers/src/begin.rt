@@ -1,7 +1,8 @@
 // The beginning of a window: the spindles are told the moment, and the managers which disks are awake.
-ghost use Rattle.std.specs.Prelude.{◌≡◌, ◌≤◌, ◌<◌, [], ℕ, Bool, List, All, length, vec_len, vec_capacity, slice_index_or, OnOk, OnErr};
+ghost use Rattle.std.specs.Prelude.{◌≡◌, ◌≤◌, ◌<◌, [], ℕ, Bool, false, List, All, length, map, take, vec_len, vec_capacity, slice_index_or, OnOk, OnErr};
 ghost use Rattle.turn_lock.specs.Passes.{pass_lock, IsPassOf, IsFree};
 ghost use Rattle.wol_model.specs.History.{keeper};
+ghost use Rattle.logger.specs.Lanes.{logger_of};
 ghost use Rattle.manager.specs.Stands.{IsShared};
 ghost use Rattle.request_workers.specs.Begun.{AreKeepers, HaveBegun, HasBegunVolume, HaveBegunVolumes};
 ghost use Rattle.request_workers.specs.Floors.{IsFloor, IsOn};
@@ -45,6 +46,20 @@ fn begin_spindles<R: Wait>(
     Ok(())
 }
 
+// Which loggers of a manager's view are awake, in front.
+fn flags<D: Disk>(manager: &Manager<D>, awake: &[bool]) -> [bool; LANES]
+    requires few { length manager.now.lanes.items ≤ 16 }
+    requires count { length manager.now.ups.items ≡ length manager.now.lanes.items }
+    requires view { All (λ v. v < length awake.now) (map logger_of manager.now.lanes.items) }
+    ensures { take (length manager.now.lanes.items) result ≡ map (λ v. slice_index_or awake.now v false) (map logger_of manager.now.lanes.items) }
+{
+    let mut flags = [false; LANES];
+    for lane in 0..manager.ups().len() {
+        flags[lane] = awake[manager.logger(lane as u32) as usize];
+    }
+    flags
+}
+
 // One turn of a volume's keeper, in which its manager is told which disks are awake.
 fn begin_volume<R: Wait, D: Disk>(
     rt: &R,
@@ -60,11 +75,8 @@ fn begin_volume<R: Wait, D: Disk>(
     ensures { HasBegunVolume D.tells awake.now pass.old pass.new }
 {
     let mut turn = lock.enter(rt, pass);
+    let ups = flags(&turn.value, awake);
     let lanes = turn.value.ups().len();
-    let mut ups = [false; LANES];
-    for lane in 0..lanes {
-        ups[lane] = awake[turn.value.logger(lane as u32) as usize];
-    }
     turn.value.begin(awake[volume], &ups[..lanes]);
     leave_step(lock, turn, pass, false);
 }
