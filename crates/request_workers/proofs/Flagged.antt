@@ -6,7 +6,7 @@ use Rattle.std.proofs.lemmas.List.Elements.{All-get_or}
 use Rattle.std.proofs.lemmas.Option.{get_or_from_slice_get, none-some, same_Some, slice_get_within}
 
 -- an element stands at each place of a list
-there_is : {X : Type 0} (xs : List X) (k : ℕ) → k < length xs → (x : X) × (slice_get xs k ≡ Some x)
+pub there_is : {X : Type 0} (xs : List X) (k : ℕ) → k < length xs → (x : X) × (slice_get xs k ≡ Some x)
 there_is [] k within = absurd (omega (arith, within))
 there_is (x ∷ xs) zero within = (x, refl)
 there_is (x ∷ xs) (suc k) within = there_is xs k (omega (arith, within))
@@ -22,7 +22,7 @@ module _ {X : Type 0} (f : X → ℕ) (xs : List X) (k r : ℕ) (within : k < le
   holds_too P all =
       let e = there_is xs k within in
       let is : r ≡ f e.0 = rw e.1 at has in
-      let long : length (map f xs) ≡ length xs = length-map xs in
+      let long : length (map f xs) ≡ length xs = length-map xs f in
       subst P (mapped_at f xs k e.0 r e.1 ∙ sym is) (All-get_or P (map f xs) k r (omega arith) all)
 
   pub front_more : (flags awake : List Bool) → k < length flags → take k flags ≡ map (λ v. slice_index_or awake v false) (map f (take k xs))

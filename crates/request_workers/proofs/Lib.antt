@@ -2,6 +2,8 @@ pub mod Noting
 pub mod Taking
 pub mod Turning
 pub mod Waking
+pub mod OneMore
+pub mod Opened
 pub mod ReadNotes
 pub mod Payloads
 pub mod Merging

@@ -1,9 +1,11 @@
 // The beginning of a window: the spindles are told the moment, and the managers which disks are awake.
 ghost use Rattle.std.specs.Prelude.{◌≡◌, ◌≤◌, ◌<◌, [], ℕ, Bool, false, List, All, length, map, take, vec_len, vec_capacity, slice_index_or, OnOk, OnErr};
+ghost use Rattle.std.specs.List.{AllByRecursion};
 ghost use Rattle.turn_lock.specs.Passes.{pass_lock, IsPassOf, IsFree};
 ghost use Rattle.wol_model.specs.History.{keeper};
 ghost use Rattle.logger.specs.Lanes.{logger_of};
 ghost use Rattle.manager.specs.Stands.{IsShared};
+ghost use Rattle.manager.specs.declared.base.LaneBase.{LaneBase};
 ghost use Rattle.request_workers.specs.Begun.{AreKeepers, HaveBegun, HasBegunVolume, HaveBegunVolumes};
 ghost use Rattle.request_workers.specs.Floors.{IsFloor, IsOn};
 ghost use Rattle.request_workers.specs.Helped.{IsPassAt, ArePassesAt, AreSharing};
@@ -71,7 +73,7 @@ fn begin_volume<R: Wait, D: Disk>(
     requires pass { IsPassAt lock.now keeper pass.old }
     requires owner { (pass_lock pass.old).base.volume.began.owner ≡ volume }
     requires volume { volume < length awake.now }
-    requires view { All (λ v. v < length awake.now) (pass_lock pass.old).base.volume.began.view }
+    requires view { AllByRecursion (λ (b : LaneBase). b.logger < length awake.now) (pass_lock pass.old).base.lanes }
     ensures { HasBegunVolume D.tells awake.now pass.old pass.new }
 {
     let mut turn = lock.enter(rt, pass);
@@ -92,7 +94,7 @@ fn begin_volumes<R: Wait, D: Disk>(
     requires passes { ArePassesAt locks.now keeper keepers.old }
     requires owners { (k : ℕ) (d : _) → k < length keepers.old → (pass_lock (slice_index_or keepers.old k d)).base.volume.began.owner ≡ k }
     requires volumes { length keepers.old ≤ length awake.now }
-    requires views { (k : ℕ) (d : _) → k < length keepers.old → All (λ v. v < length awake.now) (pass_lock (slice_index_or keepers.old k d)).base.volume.began.view }
+    requires views { (k : ℕ) (d : _) → k < length keepers.old → AllByRecursion (λ (b : LaneBase). b.logger < length awake.now) (pass_lock (slice_index_or keepers.old k d)).base.lanes }
     ensures { HaveBegunVolumes D.tells awake.now keepers.old keepers.new }
 {
     for k in 0..keepers.len() {
