@@ -13,3 +13,4 @@ pub mod Working
 pub mod StepNotes
 pub mod ClosedTurn
 pub mod Roomy
+pub mod HelpTurn
