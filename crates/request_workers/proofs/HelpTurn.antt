@@ -27,7 +27,7 @@ use Rattle.reclaimer.specs.declared.answers.Gone.{Gone}
 use Rattle.reclaimer.specs.declared.answers.Gone.TheVariants as gone
 use Rattle.reclaimer.proofs.Later.{data_is_kept}
 use Rattle.request_workers.specs.Entries.{note_of, step_operation, has_failed}
-use Rattle.request_workers.specs.Helped.{HasHelped, AreHelped, IsCause}
+use Rattle.request_workers.specs.Helped.{ManagerLock, IsPassAt, ArePassesAt, HasHelped, AreHelped, IsCause}
 use Rattle.request_workers.specs.Turns.{ManagerPass, began, notes_seen, IsBroken, HasLeft}
 use Rattle.request_workers.proofs.Gaining.{gains_none, gains_turn, gains_both, seen_more, broken_more}
 use Rattle.request_workers.proofs.Noting.{notes_at}
@@ -156,3 +156,15 @@ module _ {D : Type 0} (tells : Bool) (is ps : List (ManagerPass D)) (k : ℕ) (p
 
   pub step_rest : (j : ℕ) (d : ManagerPass D) → k + 1 ≤ j → get_or (set ps k q) j d ≡ get_or is j d
   step_rest j d h = get_or-set_other ps k j q d (λ same. absurd (omega (arith, same, h))) ∙ rest j d (omega (arith, h))
+
+some_in : {A : Type 0} (xs : List A) (k : ℕ) → k < length xs → A
+some_in [] k h = absurd (omega (arith, h))
+some_in (x ∷ xs) k h = x
+
+module _ {D : Type 0} (ls : List (ManagerLock D)) (number : ℕ) (ps : List (ManagerPass D)) (at : ArePassesAt ls number ps) where
+  pub passes_free : length ps ≡ length ls → (k : ℕ) (d : ManagerPass D) → k < length ps → IsFree (get_or ps k d)
+  passes_free count k d h = (at k (some_in ls k (subst (λ (n : ℕ). k < n) count h)) d h).free
+
+  pub passes_helped : (tells : Bool) (qs : List (ManagerPass D)) → length qs ≡ length ps → AreHelped tells ps qs → ArePassesAt ls number qs
+  passes_helped tells qs same h k l d i = let j = subst (λ (n : ℕ). k < n) same i in let g = (h k d j).gains in let a = at k l d j in
+      record { own = g.same.0 ∙ a.own; free = g.free; number_is = g.same.1 ∙ a.number_is }

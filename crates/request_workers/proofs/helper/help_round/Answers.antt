@@ -1,4 +1,4 @@
-use Rattle.std.proofs.Common.{◌≤◌, ◌<◌, length, arith, sym, subst, get_or}
+use Rattle.std.proofs.Common.{rules, ◌≡◌, ◌≤◌, ◌<◌, length, slice_set, arith, sym, subst, get_or}
 use Rattle.wol_model.specs.History.{helper}
 use Rattle.request_workers.specs.Helped.{ManagerLock, IsPassAt}
 use Rattle.request_workers.proofs.HelpTurn.{cause_set, step_helped, step_rest}
@@ -17,3 +17,13 @@ help_one-some-requires-clause-shared g c =
     let within : c.loop-k.k < length c.args.helpers.now = (let t = c.loop-k-test.true in let a = c.loop-k.auto.helpers in omega arith) in
     let same : c.loop-k.k ≤ c.loop-k.k = omega arith in
     rw (c.loop-k.invariant.rest c.loop-k.k c.index-helpers-k.result same) (c.requires.shared c.loop-k.k c.index-helpers-k.result within)
+
+pub loop-k-preserved : goal.loop-k-preserved
+loop-k-preserved g c =
+    let within : c.loop-k.k < length c.loop-k.helpers = (let t = c.loop-k-test.true in let a = c.loop-k.auto.helpers in omega arith) in
+    let e = c.help_one-some.ensures in let i = c.loop-k.invariant in let at = c.index-helpers-k.is in
+    let same : length (slice_set c.loop-k.helpers c.loop-k.k c.help_one-some.new.pass) ≡ length c.loop-k.helpers = search rules in record {
+      helped = step_helped _ c.args.helpers.now c.loop-k.helpers c.loop-k.k c.index-helpers-k.result c.help_one-some.new.pass within at e.helped i.rest i.helped;
+      rest = step_rest _ c.args.helpers.now c.loop-k.helpers c.loop-k.k c.index-helpers-k.result c.help_one-some.new.pass within at e.helped i.rest;
+      cause = cause_set _ c.loop-k.helpers c.loop-k.k c.index-helpers-k.result c.help_one-some.new.pass c.loop-k.help.fault c.help_one-some.new.help.fault within at e.helped i.cause e.fault same;
+    }
