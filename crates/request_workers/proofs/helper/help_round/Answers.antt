@@ -1,6 +1,7 @@
 use Rattle.std.proofs.Common.{rules, ◌≡◌, ◌≤◌, ◌<◌, length, slice_set, arith, sym, subst, get_or}
 use Rattle.wol_model.specs.History.{helper}
-use Rattle.request_workers.specs.Helped.{ManagerLock, IsPassAt}
+use Rattle.request_workers.specs.Helped.{ManagerLock, IsPassAt, HasHelped}
+use Rattle.request_workers.specs.Turns.{ManagerPass}
 use Rattle.request_workers.proofs.HelpTurn.{cause_set, step_helped, step_rest}
 use Rattle.request_workers.proofs.helper.help_round.Goals as goal
 
@@ -22,8 +23,9 @@ pub loop-k-preserved : goal.loop-k-preserved
 loop-k-preserved g c =
     let within : c.loop-k.k < length c.loop-k.helpers = (let t = c.loop-k-test.true in let a = c.loop-k.auto.helpers in omega arith) in
     let e = c.help_one-some.ensures in let i = c.loop-k.invariant in let at = c.index-helpers-k.is in
+    let helped = subst (λ (x : ManagerPass g.row.D.Denot). HasHelped g.D.Disk.tells x c.help_one-some.new.pass) (sym at) e.helped in
     let same : length (slice_set c.loop-k.helpers c.loop-k.k c.help_one-some.new.pass) ≡ length c.loop-k.helpers = search rules in record {
-      helped = step_helped _ c.args.helpers.now c.loop-k.helpers c.loop-k.k c.index-helpers-k.result c.help_one-some.new.pass within at e.helped i.rest i.helped;
-      rest = step_rest _ c.args.helpers.now c.loop-k.helpers c.loop-k.k c.index-helpers-k.result c.help_one-some.new.pass within at e.helped i.rest;
-      cause = cause_set _ c.loop-k.helpers c.loop-k.k c.index-helpers-k.result c.help_one-some.new.pass c.loop-k.help.fault c.help_one-some.new.help.fault within at e.helped i.cause e.fault same;
+      helped = step_helped _ c.args.helpers.now c.loop-k.helpers c.loop-k.k c.index-helpers-k.result c.help_one-some.new.pass within at helped i.rest i.helped;
+      rest = step_rest _ c.args.helpers.now c.loop-k.helpers c.loop-k.k c.index-helpers-k.result c.help_one-some.new.pass within at helped i.rest;
+      cause = cause_set _ c.loop-k.helpers c.loop-k.k c.index-helpers-k.result c.help_one-some.new.pass c.loop-k.help.fault c.help_one-some.new.help.fault within at helped i.cause e.fault same;
     }
