@@ -10,7 +10,7 @@ put_home-answer-requires-clause-at g c = home_at _ _ _ _ _ _ _ c.enter-turn.ensu
 pub leave_step-requires-clause-value : goal.leave_step-requires-clause-value
 leave_step-requires-clause-value g c = let r = c.put_home-answer.ensures in let e = c.enter-turn.ensures in
     help_stands _ _ c.enter-turn.result.value c.put_home-answer.new.m _ _ _ c.put_home-answer.result _ c.has_failed.ensures (HasData g.D.Disk.tells c.args.room.now) (data_in _ c.args.room.now _ _ e.same e.seen c.requires.data) r.keeps r.broke
-        (put_keep c.enter-turn.result.value c.put_home-answer.new.m _ c.put_home-answer.result (e.same.1 ∙ c.requires.pass.number_is) r.look) e.value
+    (put_keep c.enter-turn.result.value c.put_home-answer.new.m _ c.put_home-answer.result (e.same.1 ∙ c.requires.pass.number_is) r.look) e.value
 
 pub returns-in-Ok-clause-helped : goal.returns-in-Ok-clause-helped
 returns-in-Ok-clause-helped g c = let e = c.enter-turn.ensures in has_helped _ _ _ _ _ _ e.same e.seen e.mine e.own c.leave_step.ensures.left
