@@ -24,6 +24,13 @@ demo: build
 	@echo
 	@echo "A line that is no line of a trace ends the run, and the lines before it were run:"
 	@cd demo && { ../build/wol solo usr 0 100 <../samples/bad.csv; echo "exit status $$?"; }
+	@echo
+	@echo "wol format, on the three volumes of samples/wol.toml, and the images that it made:"
+	@cp samples/wol.toml demo/wol.toml
+	@cd demo && ../build/wol format && ls -ls usr0.vol web0.vol src0.vol
+	@echo
+	@echo "The first five lines of the generated trace of seed 7:"
+	@cd demo && ../build/wol gen 7 5
 
 test:
 	rt ci

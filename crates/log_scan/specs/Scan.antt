@@ -25,8 +25,9 @@ abbrev pub IsScanOf : List Block → Scan → Type 0
 IsScanOf bs s =
     MatchOption s.owner (IsIdle bs × (s.records.items ≡ []) × (s.end ≡ 1)) (λ owner. (rs : List Record) × IsLog bs owner rs × AreFound rs s.records.items × (s.end ≡ end_of rs))
 
--- a head of this owner, whose blocks end within the segment
+-- a head of this owner behind the segment's own, whose blocks end within the segment
 pub record IsInside (blocks owner : ℕ) (f : Found) : Type 0 where
+  pub behind : 1 ≤ f.pos
   pub in_range : IsRecordHead (record_head f.head)
   pub owned : f.head.owner ≡ owner
   pub fits : f.pos + 1 + f.head.count ≤ blocks

@@ -19,14 +19,15 @@ pub struct Spot {
 }
 
 /// The segments that one volume, the owner, holds on one logger, in the order in which it came to hold them.
-/// It owns a pass of the lock of the logger's pool and one of its spindle's lock.
+/// It owns a pass of the lock of the logger's pool and one of its spindle's lock; whoever opens a volume uses them too, before
+/// the lane holds a segment.
 pub struct Lane<D: Disk> {
     pub(crate) logger: u32,
     pub(crate) owner: u32,
     pub(crate) held: Vec<HeldSegment<D>>,
     pub(crate) taken: Option<(u32, FreeSegment<D>)>,
-    pub(crate) pool: PassOf<Pool<FreeSegment<D>>, PoolBase>,
-    pub(crate) spindle: PassOf<Spindle, SpindleBase>,
+    pub pool: PassOf<Pool<FreeSegment<D>>, PoolBase>,
+    pub spindle: PassOf<Spindle, SpindleBase>,
     // the room into which `release` puts the parts
     pub(crate) parts: Vec<(u32, Spun<D>)>,
 }

@@ -1,5 +1,5 @@
 -- A lane gave up blocks of one record: what the manager is then, clause by clause.
-use Rattle.std.proofs.Common.{◌≡◌, ◌≢◌, inl, ◌<◌, ◌≤◌, ◌^◌, ℕ, zero, suc, Bool, true, false, cond, not, ◌&&◌, List, [], ◌∷◌, ◌++◌, map, length, Option, None, Some, Ok, Err, refl, sym, ap, subst, ◌∙◌, arith, eqb, bit_and, get_or}
+use Rattle.std.proofs.Common.{◌≡◌, ◌+◌, ◌≢◌, ◌<◌, ◌≤◌, ◌^◌, ℕ, zero, suc, Bool, true, false, cond, not, ◌&&◌, List, [], ◌∷◌, ◌++◌, map, length, Option, None, Some, Ok, Err, refl, sym, ap, subst, ◌∙◌, arith, eqb, bit_and, get_or}
 use Rattle.std.specs.Prelude.{IsTrue, Contains, slice_get, slice_set, remove, filter, is_none, IfSome}
 use Rattle.std.specs.Int.{bit_not, w128}
 use Rattle.std.specs.List.{AllByRecursion, list_any, range_with_len}
@@ -12,7 +12,7 @@ use Rattle.seg_pool.specs.Holders.{Gave}
 use Rattle.seg_pool.specs.Operations.{operation_of}
 use Rattle.wol_disk.specs.Disk.{State, IsDisk}
 use Rattle.wol_model.specs.Blocks.{AreApart}
-use Rattle.wol_model.specs.Heads.{IsRecordHead}
+use Rattle.wol_model.specs.Heads.{RecordHead}
 use Rattle.wol_model.specs.Index.{Indexed, listed_in, goes, keeps_a_block}
 use Rattle.wol_promise.specs.Ruled.{Noted, HasPassed}
 use Rattle.wol_promise.proofs.Lists.{all_front, all_member, all_mapped}
@@ -24,6 +24,8 @@ use Rattle.log_segment.specs.declared.free.FreeSegment.{FreeSegment}
 use Rattle.redirect_map.specs.Index.{Contents, IsIndex, IsEntry, entry_at, changed, given_up, has_version}
 use Rattle.redirect_map.specs.Masks.{IsMask}
 use Rattle.redirect_map.specs.declared.record.Rec.{Rec}
+use Rattle.log_layout.specs.Values.{record_head}
+use Rattle.log_layout.specs.declared.record.RecHead.{RecHead}
 use Rattle.logger.specs.Lanes.{IsLane, IsSameLane, HasUsed, IsTrimmable, Trimmed, in_place, to_pool, not_freed, held_in, taken_in, pool_of, logger_of}
 use Rattle.logger.specs.declared.lane.HeldSegment.{HeldSegment}
 use Rattle.logger.specs.declared.lane.Lane.{Lane}
@@ -129,18 +131,29 @@ module _ {D : Type 0} (state : D → State) (m : Manager D) (ready : IsReady sta
   in_volume = all_member (IsInVolume (state_of state m.home).size) m.index.entries f.entry ready.ranges (among at)
 
   -- its head
-  pub head_ready : (owner : ℕ) → owner < 2 ^ 32 → IsRecordHead (record { form = 2; owner = owner; version = version; first = r.lbn; count = r.count; mask = r.keep })
-  head_ready owner small = record {
-    owner = small;
-    version = (let v = in_volume.least in let s = at.version_is in omega arith, let lt = all_member (λ (d : Indexed). d.listed.version < m.next) m.index.entries f.entry ready.below (among at) in let s = at.version_is in let n = ready.next.1 in omega arith);
-    count = (let c = some_count _ f.entry.listed.first (length f.entry.listed.keep) its.keeps in let s = f.record_.count in omega arith, let c = its.count in let s = f.record_.count in omega arith);
-    range = let w = its.within in let s = f.record_.count in let a = f.record_.first in omega arith;
-    kept = f.record_.within;
-    form = inl refl;
-  }
+  pub version_ready : (1 ≤ r.version) × (r.version < 2 ^ 63)
+  version_ready = (
+    let v = in_volume.least in let s = f.record_.version in omega arith,
+    let lt = all_member (λ (d : Indexed). d.listed.version < m.next) m.index.entries f.entry ready.below (among at) in let s = f.record_.version in let n = ready.next.1 in omega arith,
+  )
 
-  pub proper_keep : 0 < given → IsProperPart (bit_and r.keep (bit_not w128 given)) r.keep
-  proper_keep some = proper m.index.entries f.entry r f.record_ its.count given fits bits some
+  pub count_ready : (1 ≤ r.count) × (r.count ≤ 128)
+  count_ready = (
+    let c = some_count _ f.entry.listed.first (length f.entry.listed.keep) its.keeps in let s = f.record_.count in omega arith,
+    let c = its.count in let s = f.record_.count in omega arith,
+  )
+
+  pub range_ready : r.lbn + r.count ≤ 2 ^ 32
+  range_ready = let w = its.within in let s = f.record_.count in let a = f.record_.first in omega arith
+
+  pub its_head : (h : RecHead) → h ≡ record { form = 2; keep = r.keep; owner = m.id; version = r.version; lbn = r.lbn; count = r.count } → record_head h ≡ record { form = 2; owner = m.id; version = version; first = r.lbn; count = r.count; mask = r.keep }
+  its_head h is = ap record_head is ∙ (λ j. record { form = 2; owner = m.id; version = (f.record_.version ∙ at.version_is) j; first = r.lbn; count = r.count; mask = r.keep })
+
+  pub its_owner : (h : RecHead) → h ≡ record { form = 2; keep = r.keep; owner = m.id; version = r.version; lbn = r.lbn; count = r.count } → h.owner ≡ m.id
+  its_owner h is = ap (λ (g : RecHead). g.owner) is
+
+  pub proper_keep : (h : RecHead) → h ≡ record { form = 2; keep = r.keep; owner = m.id; version = r.version; lbn = r.lbn; count = r.count } → 0 < given → IsProperPart (bit_and r.keep (bit_not w128 given)) h.keep
+  proper_keep h is some = subst (λ (g : RecHead). IsProperPart (bit_and r.keep (bit_not w128 given)) g.keep) (sym is) (proper m.index.entries f.entry r f.record_ its.count given fits bits some)
 
   -- what the index has after it
   pub given_entries : filter (λ (d : Indexed). keeps_a_block d.listed) (changed version (given_up given) m.index.entries) ≡ given_of version m.index.entries
@@ -183,9 +196,9 @@ module _ {D : Type 0} (state : D → State) (m : Manager D) (ready : IsReady sta
 
       -- ---- done
 
-      module _ {T E : Type 0} (x : T) (owner : ℕ) (owner_is : owner ≡ m.id) (moved_ : Trimmed {T = T} {E = E} state old new (record { segment = r.segment; pos = r.pos }) (record { form = 2; owner = owner; version = version; first = r.lbn; count = r.count; mask = r.keep }) (bit_and r.keep (bit_not w128 given)) (Ok x)) where
+      module _ {T E : Type 0} (x : T) (head : RecordHead) (head_is : head ≡ record { form = 2; owner = m.id; version = version; first = r.lbn; count = r.count; mask = r.keep }) (moved_ : Trimmed {T = T} {E = E} state old new (record { segment = r.segment; pos = r.pos }) head (bit_and r.keep (bit_not w128 given)) (Ok x)) where
         moved : Trimmed {T = T} {E = E} state old new (record { segment = r.segment; pos = r.pos }) (record { form = 2; owner = m.id; version = version; first = r.lbn; count = r.count; mask = r.keep }) (bit_and r.keep (bit_not w128 given)) (Ok x)
-        moved = subst (λ (v : ℕ). Trimmed {T = T} {E = E} state old new (record { segment = r.segment; pos = r.pos }) (record { form = 2; owner = v; version = version; first = r.lbn; count = r.count; mask = r.keep }) (bit_and r.keep (bit_not w128 given)) (Ok x)) owner_is moved_
+        moved = subst (λ (h : RecordHead). Trimmed {T = T} {E = E} state old new (record { segment = r.segment; pos = r.pos }) h (bit_and r.keep (bit_not w128 given)) (Ok x)) head_is moved_
 
         pub ready_then : (index' : Contents) (ups : List Bool) → index'.entries ≡ given_of version m.index.entries → ups ≡ slice_set m.ups.items r.lane true → IsReady state (record m { lanes = with_item m.lanes r.lane new; index = index'; ups = record { items = ups } })
         ready_then index' ups entries flags = by moved
@@ -274,9 +287,9 @@ module _ {D : Type 0} (state : D → State) (m : Manager D) (ready : IsReady sta
 
       -- ---- a call of the disk failed
 
-      module _ {T E : Type 0} (x : E) (owner : ℕ) (owner_is : owner ≡ m.id) (moved_ : Trimmed {T = T} {E = E} state old new (record { segment = r.segment; pos = r.pos }) (record { form = 2; owner = owner; version = version; first = r.lbn; count = r.count; mask = r.keep }) (bit_and r.keep (bit_not w128 given)) (Err x)) (volume : ℕ) (volume_is : volume ≡ logger_of old) (ups : List Bool) (flags : ups ≡ slice_set m.ups.items r.lane true) where
+      module _ {T E : Type 0} (x : E) (head : RecordHead) (head_is : head ≡ record { form = 2; owner = m.id; version = version; first = r.lbn; count = r.count; mask = r.keep }) (moved_ : Trimmed {T = T} {E = E} state old new (record { segment = r.segment; pos = r.pos }) head (bit_and r.keep (bit_not w128 given)) (Err x)) (volume : ℕ) (volume_is : volume ≡ logger_of old) (ups : List Bool) (flags : ups ≡ slice_set m.ups.items r.lane true) where
         moved_err : Trimmed {T = T} {E = E} state old new (record { segment = r.segment; pos = r.pos }) (record { form = 2; owner = m.id; version = version; first = r.lbn; count = r.count; mask = r.keep }) (bit_and r.keep (bit_not w128 given)) (Err x)
-        moved_err = subst (λ (v : ℕ). Trimmed {T = T} {E = E} state old new (record { segment = r.segment; pos = r.pos }) (record { form = 2; owner = v; version = version; first = r.lbn; count = r.count; mask = r.keep }) (bit_and r.keep (bit_not w128 given)) (Err x)) owner_is moved_
+        moved_err = subst (λ (h : RecordHead). Trimmed {T = T} {E = E} state old new (record { segment = r.segment; pos = r.pos }) h (bit_and r.keep (bit_not w128 given)) (Err x)) head_is moved_
 
         abbrev pub broken_one : Manager D
         broken_one = record m { lanes = with_item m.lanes r.lane new; ups = record { items = ups }; down = Some (part.Segment volume r.segment) }

@@ -1,5 +1,5 @@
 -- What the steps of reclaim do to a manager, by their answers.
-use Rattle.std.specs.Prelude.{⊤, ◌≡◌, ◌≢◌, ◌⊎◌, ◌<◌, ◌+◌, ◌-◌, ◌∷◌, [], ◌++◌, ℕ, Bool, true, not, ◌&&◌, ◌==◌, List, map, filter, length, slice_set, Option, None, Some, Result, Ok, Err, IsTrue, OnOk, OnErr, option_map, if◌then◌else◌}
+use Rattle.std.specs.Prelude.{⊤, ◌≡◌, ◌∷◌, [], ◌++◌, ℕ, Bool, true, not, ◌==◌, List, map, filter, slice_set, Option, None, Some, Result, Ok, Err, IsTrue, OnOk, OnErr, option_map, if◌then◌else◌}
 use Rattle.std.specs.Option.{ForSome}
 use Rattle.wol_disk.specs.Disk.{State, Block, Values, IsImageOf, IsBlend, LeavesOnly, Rose, only, reads}
 use Rattle.turn_lock.specs.Passes.{pass_number, pass_mine}
@@ -9,12 +9,12 @@ use Rattle.seg_pool.specs.Holders.{Gave}
 use Rattle.seg_pool.specs.Operations.{operation_of}
 use Rattle.wol_model.specs.Blocks.{block_of, overlaid}
 use Rattle.wol_model.specs.History.{Broke, writes}
-use Rattle.wol_model.specs.Index.{Listed, Indexed, listed_in, homing, keeping, keeps_a_block}
+use Rattle.wol_model.specs.Index.{Indexed, listed_in, homing, keeping, keeps_a_block}
 use Rattle.wol_promise.specs.Ruled.{Noted, entries_of, last_look}
 use Rattle.wol_promise.specs.Stands.{IsDataOf}
 use Rattle.redirect_map.specs.Index.{entry_at, changed}
 use Rattle.redirect_map.specs.Masks.{in_mask}
-use Rattle.logger.specs.Lanes.{IsSameLane, HasUsed, held_in, taken_in, pool_of}
+use Rattle.logger.specs.Lanes.{IsSameLane, HasUsed, held_in, pool_of}
 use Rattle.logger.specs.declared.lane.Lane.{Lane}
 use Rattle.manager.specs.Accesses.{HasUsedOnce}
 use Rattle.manager.specs.Causes.{PartRose}

@@ -1,8 +1,10 @@
 // Steps of reclaim: a record is read, its due blocks are put home, and what may go of it is given up.
-ghost use Rattle.std.specs.Prelude.{◌≡◌, ◌+◌, ◌<◌, ℕ, List, true, None, Ok, length, OnOk, IfOk, IsTrue, is_none};
+ghost use Rattle.std.specs.Prelude.{◌≡◌, ◌+◌, ◌<◌, ◌≤◌, ◌^◌, ℕ, List, true, None, Ok, length, OnOk, IfOk, IsTrue, is_none};
 ghost use Rattle.std.specs.Option.{ForSome};
+ghost use Rattle.wol_model.specs.Heads.{IsRecordHead};
 ghost use Rattle.wol_model.specs.Log.{has_bit};
 ghost use Rattle.wol_model.specs.Index.{listed_in, is_due, has_going};
+ghost use Rattle.log_layout.specs.Values.{record_head};
 ghost use Rattle.redirect_map.specs.Index.{entry_at, HasVersion};
 ghost use Rattle.manager.specs.Reading.{IsReadThrough};
 ghost use Rattle.manager.specs.Reclaim.{OnTried, OnKept, OnFailed, TellsStep, KeepsOn, BreaksOff, StopsSince, Always, AreOf, HasFetched, HasStored, HasDropped};
@@ -15,8 +17,28 @@ use crate::{Manager, Part, StepFault};
 use garbage_list::may_go;
 use log_layout::RecHead;
 use logger::{Shared, Spot};
+use redirect_map::Rec;
 use std::sync::Wait;
 use wol_disk::{Block, Disk, Failed};
+
+// The head of a record of this volume, as the index has it.
+fn head_of(owner: u32, listed: &Rec) -> RecHead
+    requires version { (1 ≤ listed.now.version) × (listed.now.version < 2 ^ 63) }
+    requires count { (1 ≤ listed.now.count) × (listed.now.count ≤ 128) }
+    requires range { listed.now.lbn + listed.now.count ≤ 2 ^ 32 }
+    requires kept { listed.now.keep < 2 ^ listed.now.count }
+    ensures value { result ≡ record { form = 2; keep = listed.now.keep; owner = owner; version = listed.now.version; lbn = listed.now.lbn; count = listed.now.count } }
+    ensures head { IsRecordHead (record_head result) }
+{
+    RecHead {
+        form: 2,
+        keep: listed.keep,
+        owner,
+        version: listed.version,
+        lbn: listed.lbn,
+        count: listed.count,
+    }
+}
 
 impl<D: Disk> Manager<D> {
     /// Reads the record of this version, all its blocks, kept or not. `DiskFault` comes only where the count of faults of
@@ -112,13 +134,6 @@ impl<D: Disk> Manager<D> {
         }
     }
 
-    // The volume whose manager this is.
-    fn volume(&self) -> u32
-        ensures { result ≡ self.now.id }
-    {
-        self.id
-    }
-
     /// Gives up the blocks of this version's record that may go, and no others, and answers whether the record is gone. A
     /// segment in which no record is left is retired and given to its pool in the same call. `DiskFault` comes only where
     /// the count of faults of the record's segment rose in this call, and brings the manager down; `Down` exactly where it
@@ -150,7 +165,7 @@ impl<D: Disk> Manager<D> {
         };
         let given = may_go(&self.index, version);
         let keep = record.keep & !given;
-        let owner = self.volume();
+        let head = head_of(self.id, &record);
         let place = record.lane as usize;
         self.ups[place] = true;
         let lane = &mut self.lanes[place];
@@ -161,14 +176,6 @@ impl<D: Disk> Manager<D> {
         let segment = Part::Segment {
             volume: lane.logger(),
             index: record.segment,
-        };
-        let head = RecHead {
-            form: 2,
-            keep: record.keep,
-            owner,
-            version,
-            lbn: record.lbn,
-            count: record.count,
         };
         match lane.trim(rt, shared, &spot, &head, keep) {
             Ok(()) => {

@@ -1,58 +1,56 @@
--- Passes of locks that were just made.
-use Rattle.std.specs.Prelude.{◌≡◌, ℕ, false, [], None, length, vec_len, slice_index_or}
+-- A manager with all that it shares.
+use Rattle.std.specs.Prelude.{◌≡◌, true, List, [], ◌∷◌, None}
 use Rattle.wol_disk.specs.Memory.{mem_state}
 use Rattle.wol_disk.specs.declared.memory.MemDisk.{MemDisk}
-use Rattle.turn_lock.specs.Passes.{lock_passes, pass_lock, pass_mine, IsPassOf, IsFree}
+use Rattle.turn_lock.specs.Passes.{lock_passes, IsPassOf, IsFree}
 use Rattle.turn_lock.specs.declared.lock.TurnLock.{TurnLock}
 use Rattle.turn_lock.specs.declared.pass.PassOf.{PassOf}
-use Rattle.spin_model.specs.Operations.{has_token}
 use Rattle.spin_model.specs.declared.spindle.Spindle.{Spindle}
 use Rattle.spin_model.specs.declared.spindle.SpindleBase.{SpindleBase}
 use Rattle.seg_pool.specs.declared.base.PoolBase.{PoolBase}
 use Rattle.seg_pool.specs.declared.pool.Pool.{Pool}
-use Rattle.spin_model.specs.Spun.{state_of}
 use Rattle.log_segment.specs.declared.free.FreeSegment.{FreeSegment}
-use Rattle.logger.specs.Lanes.{IsLane, logger_of, lane_owner, held_in, taken_in, pool_of, spindle_of, pool_blocks}
+use Rattle.wol_promise.specs.Ruled.{Noted}
+use Rattle.logger.specs.Lanes.{IsLane, logger_of, lane_owner, held_in, taken_in, pool_of, spindle_of}
 use Rattle.logger.specs.declared.lane.Lane.{Lane}
-use Rattle.logger.specs.declared.shared.Shared.{Shared}
-use Rattle.manager.specs.Stands.{IsReady, IsHome}
-use Rattle.manager.specs.declared.manager.Manager.{Manager}
+use Rattle.manager.specs.Stands.{Keeps, IsHome}
+use Rattle.manager.specs.declared.base.ManagerBase.{ManagerBase}
+use Rattle.reclaimer.specs.Fetches.{HasData}
+use Rattle.manager_tests.specs.declared.rig.Rig.{Rig}
 
--- a pass of this lock of a volume's spindle, in no turn and without a token
-pub record IsSpindlePass (volume : ℕ) (lock : TurnLock Spindle SpindleBase) (pass : PassOf Spindle SpindleBase) : Type 0 where
-  pub own : IsPassOf lock pass
-  pub volume_is : (pass_lock pass).base.volume ≡ volume
-  pub free : IsFree pass
-  pub settled : has_token (pass_mine pass) ≡ false
-
--- a pass of this lock of a volume's pool of one segment, in no turn
-pub record IsPoolPass {T : Type 0} (volume blocks : ℕ) (lock : TurnLock (Pool T) PoolBase) (pass : PassOf (Pool T) PoolBase) : Type 0 where
-  pub own : IsPassOf lock pass
-  pub volume_is : (pass_lock pass).base.volume ≡ volume
-  pub blocks_are : (pass_lock pass).base.blocks ≡ blocks
-  pub few : length (pass_lock pass).base.holders ≡ 1
-  pub free : IsFree pass
-
--- a lane of volume 0 on this logger that holds nothing yet, with passes of these locks
-pub record IsLaneOf (logger : ℕ) (pools : TurnLock (Pool (FreeSegment MemDisk)) PoolBase) (spindles : TurnLock Spindle SpindleBase) (l : Lane MemDisk) : Type 0 where
+-- a lane of volume 0 on volume 1 that holds nothing yet, with these passes
+pub record IsNewLane (pool : PassOf (Pool (FreeSegment MemDisk)) PoolBase) (spindle : PassOf Spindle SpindleBase) (l : Lane MemDisk) : Type 0 where
   pub lane : IsLane mem_state l
-  pub logger_is : logger_of l ≡ logger
+  pub logger_is : logger_of l ≡ 1
   pub owner : lane_owner l ≡ 0
   pub held : held_in l ≡ []
   pub taken : taken_in l ≡ None
-  pub blocks : pool_blocks l ≡ 16
-  pub pool : IsPassOf pools (pool_of l)
-  pub spindle : IsPassOf spindles (spindle_of l)
+  pub pool_is : pool_of l ≡ pool
+  pub spindle_is : spindle_of l ≡ spindle
 
--- a manager with its locks, and a further pass of home's spindle
-pub record IsRig (shared : Shared MemDisk) (m : Manager MemDisk) (keeper : PassOf Spindle SpindleBase) : Type 0 where
-  pub ready : IsReady mem_state m
-  pub at : IsHome shared m
-  pub lanes : length m.lanes.items ≡ 2
-  pub number : m.id ≡ 0
-  pub most : m.most ≡ 4
-  pub home_blocks : (state_of mem_state m.home).size ≡ 8
-  pub spindles : vec_len shared.spindles ≡ 3
-  pub own : (d : TurnLock Spindle SpindleBase) → IsPassOf (slice_index_or shared.spindles.items 0 d) keeper
-  pub passes : (d : TurnLock Spindle SpindleBase) → lock_passes (slice_index_or shared.spindles.items 0 d) ≡ 2
-  pub free : IsFree keeper
+-- two locks of one pass each
+pub record AreTwoLocks {T B : Type 0} (locks : List (TurnLock T B)) : Type 0 where
+  pub first : TurnLock T B
+  pub second : TurnLock T B
+  pub both : locks ≡ first ∷ second ∷ []
+  pub one_pass : (lock_passes first ≡ 1) × (lock_passes second ≡ 1)
+
+-- a manager of volume 0 with a home of 8 blocks, which logs on volume 1
+pub record IsOfVolume (b : ManagerBase) : Type 0 where
+  pub owner : b.volume.began.owner ≡ 0
+  pub home_blocks : b.volume.began.home_blocks ≡ 8
+  pub most : b.volume.began.most ≡ 4
+  pub view : b.volume.began.view ≡ 1 ∷ []
+
+-- The manager keeps up what it began with and what was done since, what was fetched are data of it, and all locks are there.
+pub record IsRig (r : Rig) : Type 0 where
+  pub base : ManagerBase
+  pub notes : List Noted
+  pub began : IsOfVolume base
+  pub keeps : Keeps true mem_state r.manager base notes
+  pub fetched : HasData true r.fetched base notes
+  pub at : IsHome r.shared r.manager
+  pub pools : AreTwoLocks r.shared.pools.items
+  pub spindles : AreTwoLocks r.shared.spindles.items
+  pub own : IsPassOf pools.first r.own_pool
+  pub free : IsFree r.own_pool

@@ -1,5 +1,11 @@
-//! A test of the manager of a volume, over disks in memory.
+//! Tests of the manager of a volume and of its reclaim, over disks in memory.
 #![tactic(auto)]
 
 #[cfg(test)]
-mod tests;
+mod locked;
+#[cfg(test)]
+mod offload;
+#[cfg(test)]
+mod reclaim;
+#[cfg(test)]
+mod rig;

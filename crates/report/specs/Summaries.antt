@@ -1,4 +1,4 @@
--- What is printed of a run that was done: its reads, what it counted, and what its disks used.
+-- What is printed of a run that was done: its reads, what it formatted, what it counted, and what its disks used.
 use Rattle.std.specs.Prelude.{ℕ, ◌++◌, ◌/◌, List, [], ◌∷◌, codes, decimal, sum_by, Option, None, Some}
 use Rattle.std.specs.List.{flat_map, zip}
 use Rattle.energy.specs.declared.Amounts.{Amounts}
@@ -11,6 +11,10 @@ read_text None line first count mark =
     line_of (codes "read" ∷ decimal line ∷ decimal first ∷ decimal count ∷ decimal mark ∷ [])
 read_text (Some name) line first count mark =
     line_of (codes "read" ∷ decimal line ∷ name ∷ decimal first ∷ decimal count ∷ decimal mark ∷ [])
+
+-- the line of a formatted volume: the number of blocks of its image
+unfoldable pub format_text : (name : List ℕ) → (blocks : ℕ) → List ℕ
+format_text name blocks = line_of (codes "format" ∷ name ∷ codes "blocks" ∷ decimal blocks ∷ [])
 
 -- the last line of `solo`
 unfoldable pub solo_text : Totals → List ℕ

@@ -1,8 +1,9 @@
-//! The texts of the program: the lines of reads, what is counted of a run and what its disks used, what is wrong with a
-//! volume, and the lines of faults.
+//! The texts of the program: the lines of reads and of formatted volumes, what is counted of a run and what its disks
+//! used, what is wrong with a volume, and the lines of faults.
 #![tactic(auto)]
 
 mod fault;
+mod formatted;
 mod names;
 mod reads;
 mod totals;
@@ -10,6 +11,7 @@ mod trouble;
 mod words;
 
 pub use fault::{Fault, fault_text};
+pub use formatted::format_line;
 pub use reads::read_line_text;
 pub use totals::{Totals, solo_line, summary};
 pub use trouble::{Trouble, trouble_text};

@@ -142,11 +142,13 @@ fn tells_reads_and_requests(rt: HostRuntime) -> Result<(), Fail> {
     let mut out = Vec::new(rt.alloc());
     read_line_text(None, 2, 0, 1, 1, &mut out)?;
     read_line_text(Some(&config.volumes[1].name), 3, 16, 2, 4, &mut out)?;
+    format_line(&config.volumes[0].name, 1066, &mut out)?;
     solo_line(&totals, &mut out)?;
     assert_eq!(rt;
         out.as_slice(),
         b"read 2 0 1 1
 read 3 web0 16 2 4
+format usr0 blocks 1066
 solo lines 2 blank 0 skipped 0 reads 1 writes 1
 "
             .as_slice()

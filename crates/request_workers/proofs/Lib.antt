@@ -14,3 +14,5 @@ pub mod StepNotes
 pub mod ClosedTurn
 pub mod Roomy
 pub mod HelpTurn
+pub mod Moving
+pub mod Stationed

@@ -25,7 +25,7 @@ fn make_tools(alloc: Global, count: usize) -> Result<Vec<Tools>, NoMemory>
     ensures { IfOk result (λ tools. vec_len tools ≡ count) }
 {
     let mut tools = Vec::with_capacity(alloc, count)?;
-    for _ in 0..count {
+    for _made in 0..count {
         tools.push_reserved(Tools {
             payload: Payload::new(alloc)?,
             fetch: Fetch::new(alloc)?,
@@ -66,6 +66,7 @@ fn move_all<D: Disk>(alloc: Global, floor: &mut Floor<D>, mut tools: Vec<Tools>)
 }
 
 /// The stations' locks and passes in the lists of a floor. Gives the stations back where there is no memory.
+#[tactic(auto, using(crate::proofs::Stationed::floor_of))]
 pub fn set_up<D: Disk>(
     alloc: Global,
     stations: Vec<Station<D>>,

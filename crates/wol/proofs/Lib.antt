@@ -1,2 +1,8 @@
-mod FourWords
-mod Telling
+mod Complete
+mod Endings
+mod FormatEndings
+mod GenEndings
+mod Pending
+mod Taken
+mod Unread
+mod WordLists

@@ -1,3 +1,7 @@
 pub mod Words
+pub mod Commands
 pub mod Statuses
 pub mod Tops
+pub mod Settings
+pub mod Generating
+pub mod Formatting

@@ -1,5 +1,5 @@
 -- What a run of the program leaves, by its exit status.
-use Rattle.std.specs.Prelude.{◌≡◌, ℕ, ◌⊎◌, ⊤, List, Option, codes, ◌^◌, ◌∷◌, length, Err}
+use Rattle.std.specs.Prelude.{◌≡◌, ℕ, ◌⊎◌, ⊤, List, Option, ◌^◌, ◌∷◌, length, Err}
 use Rattle.std.specs.Io.KnownBytes.{Appends}
 use Rattle.wol_disk.specs.Disk.{Block, Rose, Values}
 use Rattle.wol_io.specs.Streams.{AppendsFront}
@@ -64,3 +64,12 @@ HasBadLine trace = (lines : List (Option TraceLine)) × (why : BadLine) × (more
 
 abbrev pub HasMoreLines : (trace : Option (List ℕ)) → Type 0
 HasMoreLines trace = (lines : List (Option TraceLine)) × (next : LineRead) × (more : List LineRead) × HasLines trace lines (next ∷ more) × (length lines ≡ 2 ^ 32)
+
+-- a trace that can be run to its end: it has no bad line, and no more lines than are run
+pub record IsRunnable (trace : Option (List ℕ)) : Type 0 where
+  pub good : ¬ HasBadLine trace
+  pub few : ¬ HasMoreLines trace
+
+-- done, or want of memory
+abbrev pub IsDoneOrMemory : (status : ℕ) → Type 0
+IsDoneOrMemory status = (status ≡ 0) ⊎ (status ≡ 9)

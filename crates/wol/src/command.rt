@@ -2,7 +2,8 @@
 ghost use Rattle.std.specs.Prelude.{◌≡◌, ◌↔◌, ◌<◌, ◌≤◌, ◌^◌, ℕ, Some, IfSome, IfNone, IsTrue, All, length, map, decimal, slice_index_or, string_bytes};
 ghost use Rattle.std.specs.List.{list_all};
 ghost use Rattle.solo.specs.Volume.{IsVolume, target_of};
-ghost use Rattle.wol.specs.Words.{IsHost, IsHostByte, IsSolo, NoSolo};
+ghost use Rattle.wol.specs.Words.{IsHost, IsHostByte, IsSolo, NoSolo, IsGen, NoGen, IsFormat, NoCommand};
+ghost use Rattle.wol.specs.Commands.{IsCommand};
 
 use itoa::Buffer;
 use solo::Volume;
@@ -12,6 +13,79 @@ const MOST_BLOCKS: u64 = 1 << 32;
 
 // The most bytes of a host's name.
 const MOST_HOST_BYTES: usize = 64;
+
+// The greatest seed of a generated trace.
+const MOST_SEED: u64 = (1 << 63) - 1;
+
+// The most lines of a generated trace.
+const MOST_LINES: u64 = (1 << 31) - 1;
+
+/// A part of a generated trace: the first lines of a seed.
+#[derive(Clone, Copy)]
+pub struct Generated {
+    /// At most 2^63 - 1.
+    pub seed: u64,
+    /// How many lines: at most 2^31 - 1.
+    pub lines: u32,
+}
+
+/// What the program is asked to do.
+#[derive(Clone, Copy)]
+pub enum Command<'a> {
+    /// A trace is run on one volume.
+    Solo(Volume<'a>),
+    /// A generated trace is printed.
+    Gen(Generated),
+    /// The images of the configuration are formatted.
+    Format,
+}
+
+/// The command that the words are. `None` exactly where they are none.
+pub fn command_of(words: &[String]) -> Option<Command<'_>>
+    ensures some { IfSome result (IsCommand (map string_bytes words.now)) }
+    ensures none { IfNone result (NoCommand (map string_bytes words.now)) }
+{
+    if let Some(volume) = solo_words(words) {
+        return Some(Command::Solo(volume));
+    }
+    if is_format(words) {
+        return Some(Command::Format);
+    }
+    Some(Command::Gen(gen_words(words)?))
+}
+
+/// Whether the words are `format`.
+pub fn is_format(words: &[String]) -> bool
+    ensures { IsTrue result ↔ IsFormat (map string_bytes words.now) }
+{
+    let [command] = words else {
+        return false;
+    };
+    command.as_str() == "format"
+}
+
+/// The trace that the words `gen SEED LINES` ask for. `None` exactly where they are other words: SEED is below 2^63 and
+/// LINES below 2^31, both in decimal digits without a sign or leading zeros.
+pub fn gen_words(words: &[String]) -> Option<Generated>
+    ensures some { IfSome result (IsGen (map string_bytes words.now)) }
+    ensures none { IfNone result (NoGen (map string_bytes words.now)) }
+{
+    let [command, seed, lines] = words else {
+        return None;
+    };
+    if command.as_str() != "gen" {
+        return None;
+    }
+    let seed = number(seed.as_str())?;
+    let lines = number(lines.as_str())?;
+    if seed > MOST_SEED || lines > MOST_LINES {
+        return None;
+    }
+    Some(Generated {
+        seed,
+        lines: lines as u32,
+    })
+}
 
 /// The volume that the words `solo HOST DISK BLOCKS` ask for. `None` exactly where they are other words: HOST is 1 to 64
 /// bytes from 33 to 126 with no comma, no quotation mark and no dash in front, DISK is below 2^32 and BLOCKS from 1 to

@@ -2,7 +2,11 @@
 #![tactic(auto)]
 
 mod command;
+mod formatting;
+mod listing;
+mod settings;
 mod status;
+mod telling;
 #[cfg(test)]
 mod tests;
 mod top;

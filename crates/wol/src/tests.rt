@@ -1,15 +1,55 @@
 // Runs of the top call over streams and a bay in memory. The expected outputs were worked out by hand from the formats.
+ghost use Rattle.solo.specs.Images.{NoneOut};
+
 use crate::top::run;
 use std::alloc::{AllocError, Global};
 use std::process::Abort;
 use std::sync::Wait;
 use std::test::Fail;
 use std::thread::Threads;
-use wol_bay::MemBay;
+use wol_bay::{Bay, MemBay};
 use wol_io::{MemSink, MemSource, NoGate};
 
 const WRITE_AND_READ: &[u8] =
     b"128166372003061629,usr,0,Write,0,512,100\n128166372003061630,usr,0,Read,0,512,100\n";
+
+const THREE_VOLUMES: &str = r#"segment_blocks = 16
+timeout_ms = 60000
+awake_mw = 8000
+standby_mw = 1000
+wake_mj = 50000
+[[volume]]
+name = "usr0"
+host = "usr"
+disk = 0
+home_blocks = 1000
+segments = 4
+view = ["web0"]
+[[volume]]
+name = "web0"
+host = "web"
+disk = 0
+home_blocks = 1000
+segments = 4
+view = []
+[[volume]]
+name = "src0"
+host = "src"
+disk = 0
+home_blocks = 1000
+segments = 4
+view = ["web0", "usr0"]
+"#;
+
+const TWO_VOLUMES: &[u8] = b"segment_blocks = 4
+awake_mw = 1
+standby_mw = 1
+wake_mj = 1
+volume = [
+  { name = \"a\", host = \"a\", disk = 0, home_blocks = 1, segments = 2, view = [\"b\"] },
+  { name = \"b\", host = \"b\", disk = 0, home_blocks = 1, segments = 0, view = [] },
+]
+";
 
 fn words_of(alloc: Global, text: &str) -> Result<Vec<String>, AllocError> {
     let mut words = Vec::new(alloc);
@@ -19,15 +59,25 @@ fn words_of(alloc: Global, text: &str) -> Result<Vec<String>, AllocError> {
     Ok(words)
 }
 
-// A run that is to end with this status and this text, with the call of the source, of the sink and of the image's disk
-// that is to fail.
+// A call of a part of an image that is to fail.
+#[derive(Clone, Copy)]
+struct Planned<'a> {
+    image: &'a str,
+    part: u32,
+    call: u64,
+}
+
+// A run that is to end with this status and this text, with the call of the configuration's source, of the trace's, of the
+// sink and of a part of an image that is to fail.
 #[derive(Clone, Copy)]
 struct Row<'a> {
     words: &'a str,
+    config: &'a [u8],
     trace: &'a [u8],
+    settings: Option<u64>,
     source: Option<u64>,
     sink: Option<u64>,
-    disk: Option<u64>,
+    part: Option<Planned<'a>>,
     status: u8,
     text: &'a [u8],
 }
@@ -37,15 +87,31 @@ fn try_row<R: Abort + Threads + Wait + Sync>(
     alloc: Global,
     row: &Row<'_>,
 ) -> Result<(), Fail> {
+    let mut bay = MemBay::new(alloc);
+    if let Some(planned) = row.part {
+        assert!(rt; bay.plan(planned.image, planned.part, planned.call).is_ok());
+    }
+    try_in(rt, alloc, row, &mut bay)
+}
+
+// Tries a row in a bay that has images.
+fn try_in<R: Abort + Threads + Wait + Sync, B: Bay>(
+    rt: &R,
+    alloc: Global,
+    row: &Row<'_>,
+    bay: &mut B,
+) -> Result<(), Fail>
+where
+    B::Part: Send,
+    requires { NoneOut (B.state bay.old) }
+    ensures { NoneOut (B.state bay.new) }
+{
     let words = words_of(alloc, row.words)?;
     let cuts = Vec::from_slice(alloc, &[1, 0, 7])?;
-    let mut config = MemSource::new(Vec::new(alloc), Vec::new(alloc), None);
+    let settings = Vec::from_slice(alloc, row.config)?;
+    let mut config = MemSource::new(settings, Vec::from_slice(alloc, &[3])?, row.settings);
     let mut trace = MemSource::new(Vec::from_slice(alloc, row.trace)?, cuts, row.source);
     let mut out = MemSink::new(alloc, row.sink);
-    let mut bay = MemBay::new(alloc);
-    if let Some(call) = row.disk {
-        assert!(rt; bay.plan("solo", 0, call).is_ok());
-    }
     let status = run(
         rt,
         alloc,
@@ -53,7 +119,7 @@ fn try_row<R: Abort + Threads + Wait + Sync>(
         &mut config,
         &mut trace,
         &mut out,
-        &mut bay,
+        bay,
         &NoGate,
     );
     assert_eq!(rt; status, row.status, "{}", row.words);
@@ -64,13 +130,19 @@ fn try_row<R: Abort + Threads + Wait + Sync>(
 fn plain<'a>(words: &'a str, trace: &'a [u8], status: u8, text: &'a [u8]) -> Row<'a> {
     Row {
         words,
+        config: b"",
         trace,
+        settings: None,
         source: None,
         sink: None,
-        disk: None,
+        part: None,
         status,
         text,
     }
+}
+
+fn fails_at(image: &str, part: u32, call: u64) -> Option<Planned<'_>> {
+    Some(Planned { image, part, call })
 }
 
 const USR: &str = "solo usr 0 100";
@@ -147,17 +219,101 @@ fn tells_a_source_a_sink_and_a_disk_that_fail(rt: HostRuntime) -> Result<(), Fai
             ..plain(USR, WRITE_AND_READ, 7, b"")
         },
         Row {
-            disk: Some(0),
+            part: fails_at("solo", 0, 0),
             ..plain(USR, WRITE_AND_READ, 4, b"fault 4 solo disk home\n")
         },
         // The disk's read fails, after its write and its sync.
         Row {
-            disk: Some(2),
+            part: fails_at("solo", 0, 2),
             ..plain(USR, WRITE_AND_READ, 4, b"fault 4 solo disk home\n")
         },
     ];
     for row in &rows {
         try_row(&rt, rt.alloc(), row)?;
     }
+    Ok(())
+}
+
+fn configured<'a>(words: &'a str, config: &'a [u8], status: u8, text: &'a [u8]) -> Row<'a> {
+    Row {
+        config,
+        ..plain(words, b"", status, text)
+    }
+}
+
+#[test]
+fn prints_generated_lines(rt: HostRuntime) -> Result<(), Fail> {
+    let three = THREE_VOLUMES.as_bytes();
+    let line = b"128166372000147231,web,0,Write,227328,6144,1000\n";
+    let rows = [
+        configured("gen 0 1", three, 0, line),
+        configured("gen 0 0", three, 0, b""),
+        configured("gen 9223372036854775808 1", three, 1, b"fault 1 words\n"),
+        configured("gen 0 2147483648", three, 1, b"fault 1 words\n"),
+        configured("gen 0", three, 1, b"fault 1 words\n"),
+        configured(
+            "gen 0 1",
+            b"",
+            2,
+            b"fault 2 config missing segment_blocks\n",
+        ),
+        configured("gen 0 1", b"=", 2, b"fault 2 config not toml\n"),
+        Row {
+            settings: Some(1),
+            ..configured("gen 0 1", three, 8, b"fault 8 config\n")
+        },
+        Row {
+            sink: Some(0),
+            ..configured("gen 0 1", three, 7, b"")
+        },
+    ];
+    for row in &rows {
+        try_row(&rt, rt.alloc(), row)?;
+    }
+    Ok(())
+}
+
+#[test]
+fn formats_volumes(rt: HostRuntime) -> Result<(), Fail> {
+    let rows = [
+        configured("format a", TWO_VOLUMES, 1, b"fault 1 words\n"),
+        configured(
+            "format",
+            b"segment_blocks = 3",
+            2,
+            b"fault 2 config out of range segment_blocks\n",
+        ),
+        Row {
+            part: fails_at("a", 3, 0),
+            ..configured("format", TWO_VOLUMES, 4, b"fault 4 a disk segment 1 of a\n")
+        },
+        Row {
+            part: fails_at("b", 1, 0),
+            ..configured("format", TWO_VOLUMES, 4, b"fault 4 b disk home\n")
+        },
+        Row {
+            sink: Some(0),
+            ..configured("format", TWO_VOLUMES, 7, b"")
+        },
+        Row {
+            settings: Some(0),
+            ..configured("format", TWO_VOLUMES, 8, b"fault 8 config\n")
+        },
+    ];
+    for row in &rows {
+        try_row(&rt, rt.alloc(), row)?;
+    }
+    Ok(())
+}
+
+#[test]
+fn makes_images_anew(rt: HostRuntime) -> Result<(), Fail> {
+    let lines = b"format a blocks 11\nformat b blocks 3\n";
+    let row = configured("format", TWO_VOLUMES, 0, lines);
+    let mut bay = MemBay::new(rt.alloc());
+    bay.put("a", &[7; 600])?;
+    try_in(&rt, rt.alloc(), &row, &mut bay)?;
+    try_in(&rt, rt.alloc(), &row, &mut bay)?;
+    bay.attach("a", &[2, 1, 4, 4])?;
     Ok(())
 }

@@ -45,7 +45,7 @@ loop-at-preserved g c =
       inside = (omega arith, shape.2);
       few = omega (arith, i.few, c.in-Ok-push.ensures.len, shape.0.count.0);
       heads = subst (λ (l : List Found). AllByRecursion (IsInside c.args.blocks c.args.owner) l) (sym items)
-          (all_push (IsInside c.args.blocks c.args.owner) c.loop-at.records.items new i.heads (record { in_range = shape.0; owned = shape.1; fits = shape.2 }));
+          (all_push (IsInside c.args.blocks c.args.owner) c.loop-at.records.items new i.heads (record { behind = i.inside.0; in_range = shape.0; owned = shape.1; fits = shape.2 }));
       volume = c.next_head.ensures.volume ∙ i.volume;
       size = c.next_head.ensures.size ∙ i.size;
       calm = c.in-Ok.ensures.calm ∙ i.calm;

@@ -1,7 +1,7 @@
 use Rattle.std.proofs.Common.{◌≡◌, ℕ, ◌≤◌, ◌<◌, ◌^◌, [], ◌∷◌, Some, map, refl, sym, arith}
-use Rattle.std.specs.Prelude.{codes, decimal, string_bytes}
+use Rattle.std.specs.Prelude.{codes, string_bytes}
 use Rattle.std.proofs.lemmas.Slice.Eq.{bytes_eq-Decides}
-use Rattle.wol.proofs.FourWords.{four_words, true_if_not_false}
+use Rattle.wol.proofs.WordLists.{four_words, true_if_not_false}
 use Rattle.wol.specs.Words.{IsHost}
 use Rattle.wol.proofs.command.solo_words.Goals as goal
 

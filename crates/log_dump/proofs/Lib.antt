@@ -1,0 +1,5 @@
+pub mod Digesting
+pub mod Dumping
+pub mod HeldCount
+pub mod Naming
+pub mod Noting

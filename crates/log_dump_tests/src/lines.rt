@@ -1,0 +1,38 @@
+// A volume of one block of zeros. The digest is that of 512 zero bytes.
+use crate::rig::Rig;
+use std::test::Fail;
+use wol_config::read_config;
+
+const ONE_VOLUME: &str = r#"segment_blocks = 16
+awake_mw = 8000
+standby_mw = 1000
+wake_mj = 50000
+[[volume]]
+name = "c"
+host = "c"
+disk = 0
+home_blocks = 1
+segments = 1
+view = []
+"#;
+
+#[test]
+fn tells_a_volume_of_zeros(rt: HostRuntime) -> Result<(), Fail> {
+    let alloc = rt.alloc();
+    let config = read_config(alloc, ONE_VOLUME.as_bytes())?;
+    let mut out = Vec::new(alloc);
+    let mut rig = Rig::new(&rt, alloc, &config);
+    let dumped = rig.dump(&config, &mut out);
+    let checked = rig.check(&rt, alloc, &config, &mut out);
+    rig.close(&rt, alloc, &config);
+    assert_eq!(rt; dumped, Ok(()));
+    assert_eq!(rt; checked, Ok(()));
+    assert_eq!(rt;
+        out.as_slice(),
+        b"c records 0
+c ok sha256 076a27c79e5ace2a3d47f9dd2e83e4ff6ea8872b3c2218f66c92b89b55f36560 records 0 segments 0
+"
+            .as_slice()
+    );
+    Ok(())
+}

@@ -1,0 +1,29 @@
+-- Locks that have one pass each.
+use Rattle.std.specs.Prelude.{◌≡◌, ℕ, false, length}
+use Rattle.turn_lock.specs.Passes.{lock_passes, pass_lock, pass_mine, IsPassOf, IsFree}
+use Rattle.turn_lock.specs.declared.lock.TurnLock.{TurnLock}
+use Rattle.turn_lock.specs.declared.pass.PassOf.{PassOf}
+use Rattle.spin_model.specs.Operations.{has_token}
+use Rattle.spin_model.specs.declared.spindle.Spindle.{Spindle}
+use Rattle.spin_model.specs.declared.spindle.SpindleBase.{SpindleBase}
+use Rattle.seg_pool.specs.declared.base.PoolBase.{PoolBase}
+use Rattle.seg_pool.specs.declared.pool.Pool.{Pool}
+
+-- the lock has this pass alone, which is in no turn
+pub record HasOnePass {T B : Type 0} (lock : TurnLock T B) (pass : PassOf T B) : Type 0 where
+  pub one : lock_passes lock ≡ 1
+  pub own : IsPassOf lock pass
+  pub free : IsFree pass
+
+-- the lock of a volume's spindle, whose one pass has no token
+pub record HasSpindle (volume : ℕ) (lock : TurnLock Spindle SpindleBase) (pass : PassOf Spindle SpindleBase) : Type 0 where
+  pub alone : HasOnePass lock pass
+  pub volume_is : (pass_lock pass).base.volume ≡ volume
+  pub settled : has_token (pass_mine pass) ≡ false
+
+-- the lock of a volume's pool of one segment
+pub record HasPool {T : Type 0} (volume blocks : ℕ) (lock : TurnLock (Pool T) PoolBase) (pass : PassOf (Pool T) PoolBase) : Type 0 where
+  pub alone : HasOnePass lock pass
+  pub volume_is : (pass_lock pass).base.volume ≡ volume
+  pub blocks_are : (pass_lock pass).base.blocks ≡ blocks
+  pub few : length (pass_lock pass).base.holders ≡ 1

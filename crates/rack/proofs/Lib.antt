@@ -1,0 +1,17 @@
+pub mod Swaps
+pub mod SettledParts
+pub mod NamedApart
+pub mod Stored
+pub mod Freeing
+pub mod Bays
+pub mod Refused
+pub mod InOrder
+pub mod WholeImages
+pub mod SoundImages
+pub mod OnlyRead
+pub mod HeadSteps
+pub mod ImageReads
+pub mod WholeReads
+pub mod SentOut
+pub mod ReadOut
+pub mod GivenBack

@@ -1,0 +1,15 @@
+pub mod Counting
+pub mod Draining
+pub mod DrainStep
+pub mod Fetching
+pub mod Pools
+pub mod PutHome
+pub mod Putting
+pub mod GiveUp
+pub mod Idle
+pub mod Later
+pub mod Moments
+pub mod MoveHome
+pub mod Nexts
+pub mod ReadRecord
+pub mod Woken

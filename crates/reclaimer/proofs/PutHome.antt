@@ -1,0 +1,122 @@
+-- A call that puts fetched blocks home, by its answers.
+use Rattle.std.proofs.Common.{◌≡◌, ◌≢◌, ◌<◌, ◌≤◌, ◌+◌, ◌^◌, ℕ, Bool, true, false, ◌&&◌, List, length, take, Option, None, Some, Result, Ok, Err, is_ok, refl, sym, ap, subst, ◌∙◌, eqb}
+use Rattle.std.specs.Prelude.{IsTrue, is_some}
+use Rattle.std.specs.Int.RustNames.{count_ones}
+use Rattle.std.specs.Option.{option_map_or}
+use Rattle.std.proofs.lemmas.Bool.{and_parts, eqb-true, false≢true}
+use Rattle.std.proofs.lemmas.Nat.{zero_from_ones}
+use Rattle.wol_disk.specs.Disk.{State, Block, IsDisk}
+use Rattle.wol_model.specs.History.{writes}
+use Rattle.wol_model.specs.Index.{Indexed, listed_in, is_due}
+use Rattle.wol_model.specs.Log.{has_bit}
+use Rattle.wol_promise.specs.Policy.{IsReclaim}
+use Rattle.wol_promise.specs.Ruled.{Noted, entries_of}
+use Rattle.wol_promise.specs.Stands.{IsDataOf}
+use Rattle.redirect_map.specs.Index.{Contents, entry_at, HasVersion, IsIndex}
+use Rattle.redirect_map.specs.Masks.{IsMask, in_mask}
+use Rattle.manager.specs.Reclaim.{OnTried, OnFailed, TellsStep, BreaksOff, StopsSince, AreOf, HasStored}
+use Rattle.manager.specs.Seen.{look_of_manager}
+use Rattle.manager.specs.declared.base.ManagerBase.{ManagerBase}
+use Rattle.manager.specs.declared.manager.Manager.{Manager}
+use Rattle.manager.specs.declared.part.StepFault.{StepFault}
+use Rattle.manager.specs.declared.part.StepFault.TheVariants.{DiskFault, Down}
+use Rattle.manager.proofs.ReadThrough.{through_self}
+use Rattle.reclaimer.specs.Fetches.{HasData, is_still_due, goes_home, home_count}
+use Rattle.reclaimer.specs.Records.{FetchedRecord, record_of}
+use Rattle.reclaimer.specs.Steps.{HasPutHome, StopsWithin}
+use Rattle.reclaimer.specs.declared.room.Filled.{Filled}
+use Rattle.reclaimer.proofs.Counting.{count_nothing}
+use Rattle.reclaimer.proofs.GiveUp.{some_and}
+use Rattle.reclaimer.proofs.Moments.{at_rest}
+use Rattle.reclaimer.proofs.Putting.{seen, mask_is, counted_home, none_goes, empty_where, stored_as, put_reclaims}
+
+-- while home is asleep nothing goes
+pub asleep_none : {D : Type 0} (m : Manager D) (from : Option FetchedRecord) → m.home_up ≡ false → 0 ≡ home_count m from
+asleep_none m None asleep = refl
+asleep_none m (Some f) asleep = sym (count_nothing (goes_home m (Some f)) f.first (length f.blocks) (λ i lt j. asleep j && is_still_due m.index.entries f.version f.first (length f.blocks) f.due (f.first + i)))
+
+-- the premise of a promise may be a stronger one
+pub fails_so : {D : Type 0} (T : Type 0) (tells : Bool) (state : D → State) (old new : Manager D) (P Q : ManagerBase → List Noted → Type 0) → ((b : ManagerBase) (notes : List Noted) → Q b notes → P b notes) → (fault : StepFault)
+    → OnFailed {T = T} (Err fault) (BreaksOff tells state old new P) → OnFailed {T = ℕ} (Err fault) (BreaksOff tells state old new Q)
+fails_so T tells state old new P Q so (DiskFault p) broke = λ b notes n has note keeps. broke b notes n (so b notes has) note keeps
+fails_so T tells state old new P Q so (Down p) broke = tt
+
+module _ {D : Type 0} (state : D → State) (m : Manager D) (f : Filled) (blocks : List Block) (few : f.count ≤ 128) (long : length blocks ≡ 128) (from : Option FetchedRecord) (from_is : from ≡ record_of (Some f) blocks) (up : m.home_up ≡ true)
+    (index : Contents) (same : index ≡ m.index) (put : ℕ) (fits : put < 2 ^ 128) (is : IsMask f.lbn (is_still_due index.entries f.version f.lbn f.count f.due) put) where
+  masked : IsMask f.lbn (is_still_due m.index.entries f.version f.lbn f.count f.due) put
+  masked = subst (λ (i : Contents). IsMask f.lbn (is_still_due i.entries f.version f.lbn f.count f.due) put) same is
+
+  pub counted_put : count_ones put ≡ home_count m from
+  counted_put = counted_home m f blocks few long up put fits masked ∙ ap (home_count m) (sym from_is)
+
+  pub none_put : put ≡ 0 → (b : ℕ) → goes_home m from b ≡ false
+  none_put empty b = ap (λ (o : Option FetchedRecord). goes_home m o b) from_is ∙ none_goes m f blocks few long up put fits masked empty b
+
+  pub none_counted : put ≡ 0 → 0 ≡ home_count m from
+  none_counted empty = subst (λ (o : Option FetchedRecord). 0 ≡ home_count m o) (sym from_is)
+      (sym (count_nothing (goes_home m (Some (seen m f blocks few long))) f.lbn (length (take f.count blocks)) (λ i lt. none_goes m f blocks few long up put fits masked empty (f.lbn + i))))
+
+  pub empty_put : ((b : ℕ) → goes_home m from b ≡ false) → put ≡ 0
+  empty_put none = empty_where m f blocks few long up put fits masked (λ b. ap (λ (o : Option FetchedRecord). goes_home m o b) (sym from_is) ∙ none b)
+
+  module _ (some : put ≢ 0) (range : (e : Indexed) → entry_at index.entries f.version ≡ Some e → (f.lbn ≡ e.listed.first) × (f.count ≡ length e.listed.keep)) where
+    -- the data that was fetched is that of the record
+    pub data_are : (tells : Bool) (lent : List Block) → lent ≡ blocks → (b : ManagerBase) (notes : List Noted) → HasData tells from b notes → AreOf tells m.index.entries f.version (take f.count lent) b notes
+    data_are tells lent same_lent b notes has told e there =
+        let d : IsDataOf b.volume.began (writes (entries_of notes)) f.version f.lbn (take f.count blocks) = subst (λ (o : Option FetchedRecord). HasData tells o b notes) from_is has told in
+        record {
+          write = d.write;
+          known = d.known;
+          named = d.named;
+          range = d.range ∙ (range e (subst (λ (i : Contents). entry_at i.entries f.version ≡ Some e) (sym same) there)).0;
+          data_ = d.data_ ∙ ap (take f.count) (sym same_lent);
+        }
+
+    module _ (new : Manager D) (lent : List Block) (same_lent : lent ≡ blocks) where
+      -- it was done
+      pub was_put : {T : Type 0} (r : Result T StepFault) → is_ok r ≡ true → HasStored state f.version put (take f.count lent) m new r → HasPutHome state (Ok (count_ones put)) m new from
+      was_put r done h = let done_ : Result ℕ StepFault = Ok (count_ones put) in (
+        λ zero_. absurd (some (zero_from_ones put zero_)),
+        λ _. some_and _ from (seen m f blocks few long) from_is (
+          put,
+          mask_is m f blocks few long up put fits masked,
+          subst (λ (bs : List Block). HasStored state f.version put (take f.count bs) m new done_) same_lent (stored_as state f.version put (take f.count lent) m new r done_ (sym done) h),
+        ),
+      )
+
+      -- home failed
+      pub was_refused : (T : Type 0) (fault : StepFault) → TellsStep {T = T} state (Err fault) m new → OnTried {T = T} (Err fault) (HasStored {T = T} state f.version put (take f.count lent) m new (Err fault)) → HasPutHome state (Err fault) m new from
+      was_refused T (DiskFault p) told h = let was : Result T StepFault = Err (DiskFault p) in let failed : Result ℕ StepFault = Err (DiskFault p) in some_and _ from (seen m f blocks few long) from_is (
+        put,
+        mask_is m f blocks few long up put fits masked,
+        subst (λ (bs : List Block). HasStored state f.version put (take f.count bs) m new failed) same_lent (stored_as state f.version put (take f.count lent) m new was failed refl h),
+      )
+      was_refused T (Down p) told h = told.1
+
+      -- the look goes on by a step of reclaim
+      pub was_reclaimed : {T : Type 0} (r : Result T StepFault) → is_ok r ≡ true → HasStored state f.version put (take f.count lent) m new r → IsIndex index.entries → HasVersion index.entries f.version → IsReclaim (look_of_manager m) (look_of_manager new)
+      was_reclaimed r done h sound there = at (entry_at m.index.entries f.version) refl (subst (λ (i : Contents). HasVersion i.entries f.version) same there)
+          (λ e is_its. put_reclaims state f.version put (take f.count lent) m new r done h up (subst (λ (i : Contents). IsIndex i.entries) same sound) e is_its (due_bits e is_its))
+        where
+          at : (o : Option Indexed) → entry_at m.index.entries f.version ≡ o → is_some o ≡ true → ((e : Indexed) → entry_at m.index.entries f.version ≡ Some e → IsReclaim (look_of_manager m) (look_of_manager new)) → IsReclaim (look_of_manager m) (look_of_manager new)
+          at None is_none some_ so = absurd (false≢true some_)
+          at (Some e) is_some_ some_ so = so e is_some_
+
+          due_bits : (e : Indexed) → entry_at m.index.entries f.version ≡ Some e → (i : ℕ) → has_bit put i ≡ true → is_due (listed_in m.index.entries) e.listed (e.listed.first + i) ≡ true
+          due_bits e is_its i bit =
+              let test = λ (x : Indexed). eqb x.listed.first f.lbn && (eqb (length x.listed.keep) f.count && is_due (listed_in m.index.entries) x.listed (f.lbn + i)) in
+              let all = and_parts (in_mask f.lbn f.due (f.lbn + i)) (option_map_or test (entry_at m.index.entries f.version) false) (sym (masked i) ∙ bit) in
+              let passes : test e ≡ true = ap (λ (o : Option Indexed). option_map_or test o false) (sym is_its) ∙ all.1 in
+              let one = and_parts (eqb e.listed.first f.lbn) (eqb (length e.listed.keep) f.count && is_due (listed_in m.index.entries) e.listed (f.lbn + i)) passes in
+              let two = and_parts (eqb (length e.listed.keep) f.count) (is_due (listed_in m.index.entries) e.listed (f.lbn + i)) one.1 in
+              subst (λ (b : ℕ). is_due (listed_in m.index.entries) e.listed (b + i) ≡ true) (sym (eqb-true e.listed.first f.lbn one.0)) two.1
+
+-- ---- moments
+
+module _ {D : Type 0} (tells : Bool) (state : D → State) (sound : (d : D) → IsDisk (state d)) (P Q : ManagerBase → List Noted → Type 0) (so : (b : ManagerBase) (notes : List Noted) → Q b notes → P b notes) where
+  pub within_so : (old new : Manager D) → StopsSince tells state old new P → StopsWithin tells state old new Q
+  within_so old new since b notes has keeps = since old (through_self state sound old) b notes (so b notes has) keeps
+
+  pub tried_so : (T : Type 0) → IsTrue tells → (old new : Manager D) (fault : StepFault) → TellsStep {T = T} state (Err fault) old new → OnTried {T = T} (Err fault) (IsTrue tells → StopsSince tells state old new P) → StopsWithin tells state old new Q
+  tried_so T told old new (DiskFault p) tells_ since = within_so old new (since told)
+  tried_so T told old new (Down p) tells_ since = subst (λ (k : Manager D). StopsWithin tells state old k Q) (sym tells_.1) (at_rest tells state sound Q told old)

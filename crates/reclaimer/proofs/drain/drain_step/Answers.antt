@@ -1,0 +1,46 @@
+-- Home is woken, and then the step is made.
+use Rattle.std.proofs.Common.{◌≤◌, sym, subst, ◌∙◌}
+use Rattle.manager.specs.Reclaim.{Always}
+use Rattle.manager.proofs.ReadThrough.{never_some}
+use Rattle.reclaimer.proofs.Moments.{at_rest}
+use Rattle.reclaimer.proofs.Woken.{step_fault, step_drained, step_bare, step_keeps, step_broke, step_stops}
+use Rattle.manager.specs.Stands.{nones_at}
+use Rattle.reclaimer.proofs.Pools.{no_fewer}
+use Rattle.reclaimer.proofs.drain.drain_step.Goals as goal
+
+pub returns-in-Some-clause-any_moment : goal.returns-in-Some-clause-any_moment
+returns-in-Some-clause-any_moment g c told = at_rest g.D.Disk.tells g.D.Disk.state g.met.D.Disk.sound Always told c.args.m.now
+
+pub returns-clause-fault : goal.returns-clause-fault
+returns-clause-fault g c =
+    let w = c.wake_home in let d = c.drain_awake in let up = sym c.down.ensures ∙ never_some c.down.result c.in_default.not-Some in
+    step_fault g.D.Disk.tells g.D.Disk.state g.met.D.Disk.sound c.args.m.now w.new.self d.new.m c.requires.ready up w.ensures.read w.ensures.ready d.result d.ensures.fault
+
+pub returns-clause-drained : goal.returns-clause-drained
+returns-clause-drained g c =
+    let w = c.wake_home in let d = c.drain_awake in let up = sym c.down.ensures ∙ never_some c.down.result c.in_default.not-Some in
+    step_drained g.D.Disk.tells g.D.Disk.state g.met.D.Disk.sound c.args.m.now w.new.self d.new.m c.requires.ready up w.ensures.read w.ensures.ready (record { rest = w.ensures.unchanged; used = w.ensures.waking }) d.result d.ensures.drains
+
+pub returns-clause-bare_look : goal.returns-clause-bare_look
+returns-clause-bare_look g c =
+    let w = c.wake_home in let d = c.drain_awake in let up = sym c.down.ensures ∙ never_some c.down.result c.in_default.not-Some in
+    step_bare g.D.Disk.tells g.D.Disk.state g.met.D.Disk.sound c.args.m.now w.new.self d.new.m c.requires.ready up w.ensures.read w.ensures.ready (record { rest = w.ensures.unchanged; used = w.ensures.waking }) d.result d.ensures.drains
+
+pub returns-clause-keeps : goal.returns-clause-keeps
+returns-clause-keeps g c =
+    let w = c.wake_home in let d = c.drain_awake in let up = sym c.down.ensures ∙ never_some c.down.result c.in_default.not-Some in
+    step_keeps g.D.Disk.tells g.D.Disk.state g.met.D.Disk.sound c.args.m.now w.new.self d.new.m c.requires.ready up w.ensures.read w.ensures.ready d.result d.ensures.keeps
+
+pub returns-clause-broke : goal.returns-clause-broke
+returns-clause-broke g c =
+    let w = c.wake_home in let d = c.drain_awake in let up = sym c.down.ensures ∙ never_some c.down.result c.in_default.not-Some in
+    step_broke g.D.Disk.tells g.D.Disk.state g.met.D.Disk.sound c.args.m.now w.new.self d.new.m c.requires.ready up w.ensures.read w.ensures.ready d.result d.ensures.broke
+
+pub returns-clause-any_moment : goal.returns-clause-any_moment
+returns-clause-any_moment g c =
+    let w = c.wake_home in let d = c.drain_awake in let up = sym c.down.ensures ∙ never_some c.down.result c.in_default.not-Some in
+    step_stops g.D.Disk.tells g.D.Disk.state g.met.D.Disk.sound c.args.m.now w.new.self d.new.m c.requires.ready up w.ensures.read w.ensures.ready d.result d.ensures.fault d.ensures.any_moment
+
+pub returns-clause-passed : goal.returns-clause-passed
+returns-clause-passed g c lanes k =
+    subst (λ m. nones_at m.lanes.items lanes k ≤ nones_at c.drain_awake.new.m.lanes.items lanes k) (c.wake_home.ensures.unchanged) (no_fewer lanes g.D.Disk.state c.wake_home.new.self c.drain_awake.new.m c.drain_awake.result c.drain_awake.ensures.drains k)

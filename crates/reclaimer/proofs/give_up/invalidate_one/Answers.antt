@@ -1,0 +1,60 @@
+-- A step in which blocks are given up, or none may go.
+use Rattle.std.proofs.Common.{◌≡◌, Bool, true, false, rules, length, refl, sym, ap, arith, ◌∙◌}
+use Rattle.manager.specs.Reclaim.{Always}
+use Rattle.manager.proofs.ReadThrough.{never_some}
+use Rattle.reclaimer.proofs.GiveUp.{going_of, goes_of, there_of, given_whole, given_part, given_fails, reclaims}
+use Rattle.reclaimer.proofs.Moments.{within, at_rest, tried_within}
+use Rattle.reclaimer.proofs.Nexts.{within_reach}
+use Rattle.reclaimer.proofs.give_up.invalidate_one.Goals as goal
+
+pub returns-in-Some-clause-any_moment : goal.returns-in-Some-clause-any_moment
+returns-in-Some-clause-any_moment g c told = at_rest g.D.Disk.tells g.D.Disk.state g.met.D.Disk.sound Always told c.args.m.now
+
+pub going-requires : goal.going-requires
+going-requires g c =
+    within_reach g.D.Disk.state c.args.m.now c.requires.ready (sym c.down.ensures ∙ never_some c.down.result c.in_default.not-Some) c.index.result.now c.index.ensures c.ups.result.now
+    (let e = c.requires.ready.ready.flags in let f = ap length c.ups.ensures in omega arith)
+
+pub returns-in_default-going-clause-any_moment : goal.returns-in_default-going-clause-any_moment
+returns-in_default-going-clause-any_moment g c told = at_rest g.D.Disk.tells g.D.Disk.state g.met.D.Disk.sound Always told c.args.m.now
+
+pub drop_rec-requires-clause-there : goal.drop_rec-requires-clause-there
+drop_rec-requires-clause-there g c = there_of c.args.m.now c.in-Some-going.record (going_of c.args.m.now c.in-Some-going.record c.index.result.now c.ups.result.now c.index.ensures c.ups.ensures c.in-Some-going.ensures.index c.in-Some-going.ensures.answer)
+
+pub drop_rec-requires-clause-goes : goal.drop_rec-requires-clause-goes
+drop_rec-requires-clause-goes g c = goes_of c.args.m.now c.in-Some-going.record (going_of c.args.m.now c.in-Some-going.record c.index.result.now c.ups.result.now c.index.ensures c.ups.ensures c.in-Some-going.ensures.index c.in-Some-going.ensures.answer)
+
+pub returns-in-Ok-true-clause-gone : goal.returns-in-Ok-true-clause-gone
+returns-in-Ok-true-clause-gone g c =
+    let r = c.in-Some-going.record in let e = c.in-Ok-true.ensures in let is : c.in-Ok-true.field-0 ≡ true = search rules in
+    given_whole g.D.Disk.state c.args.m.now c.drop_rec.new.self r (going_of c.args.m.now r c.index.result.now c.ups.result.now c.index.ensures c.ups.ensures c.in-Some-going.ensures.index c.in-Some-going.ensures.answer) _ refl e.dropped (sym is ∙ e.gone)
+
+pub returns-in-Ok-true-clause-look : goal.returns-in-Ok-true-clause-look
+returns-in-Ok-true-clause-look g c =
+    let r = c.in-Some-going.record in let e = c.in-Ok-true.ensures in
+    reclaims g.D.Disk.state c.args.m.now c.drop_rec.new.self r (going_of c.args.m.now r c.index.result.now c.ups.result.now c.index.ensures c.ups.ensures c.in-Some-going.ensures.index c.in-Some-going.ensures.answer) _ refl e.dropped
+
+pub returns-in-Ok-true-clause-any_moment : goal.returns-in-Ok-true-clause-any_moment
+returns-in-Ok-true-clause-any_moment g c told = within g.D.Disk.tells g.D.Disk.state g.met.D.Disk.sound Always c.args.m.now c.drop_rec.new.self (c.in-Ok-true.ensures.any_moment told)
+
+pub returns-in-Ok-false-clause-gone : goal.returns-in-Ok-false-clause-gone
+returns-in-Ok-false-clause-gone g c =
+    let r = c.in-Some-going.record in let e = c.in-Ok-false.ensures in let is : c.in-Ok-false.field-0 ≡ false = search rules in
+    given_part g.D.Disk.state c.args.m.now c.drop_rec.new.self r (going_of c.args.m.now r c.index.result.now c.ups.result.now c.index.ensures c.ups.ensures c.in-Some-going.ensures.index c.in-Some-going.ensures.answer) _ refl e.dropped (sym is ∙ e.gone)
+
+pub returns-in-Ok-false-clause-look : goal.returns-in-Ok-false-clause-look
+returns-in-Ok-false-clause-look g c =
+    let r = c.in-Some-going.record in let e = c.in-Ok-false.ensures in
+    reclaims g.D.Disk.state c.args.m.now c.drop_rec.new.self r (going_of c.args.m.now r c.index.result.now c.ups.result.now c.index.ensures c.ups.ensures c.in-Some-going.ensures.index c.in-Some-going.ensures.answer) _ refl e.dropped
+
+pub returns-in-Ok-false-clause-any_moment : goal.returns-in-Ok-false-clause-any_moment
+returns-in-Ok-false-clause-any_moment g c told = within g.D.Disk.tells g.D.Disk.state g.met.D.Disk.sound Always c.args.m.now c.drop_rec.new.self (c.in-Ok-false.ensures.any_moment told)
+
+pub returns-in-Err-clause-gone : goal.returns-in-Err-clause-gone
+returns-in-Err-clause-gone g c =
+    let r = c.in-Some-going.record in let e = c.in-Err.ensures in
+    given_fails g.D.Disk.state c.args.m.now c.drop_rec.new.self r (going_of c.args.m.now r c.index.result.now c.ups.result.now c.index.ensures c.ups.ensures c.in-Some-going.ensures.index c.in-Some-going.ensures.answer) c.in-Err.fault e.fault e.dropped
+
+pub returns-in-Err-clause-any_moment : goal.returns-in-Err-clause-any_moment
+returns-in-Err-clause-any_moment g c told =
+    tried_within g.D.Disk.tells g.D.Disk.state g.met.D.Disk.sound Always Bool told c.args.m.now c.drop_rec.new.self c.in-Err.fault c.in-Err.ensures.fault c.in-Err.ensures.any_moment

@@ -1,0 +1,10 @@
+-- The least version is that of the first entry.
+use Rattle.std.proofs.Common.{◌&&◌, false, sym, slice_index_or}
+use Rattle.wol_model.specs.Index.{listed_in, has_going}
+use Rattle.reclaimer.proofs.Nexts.{answer_of_first}
+use Rattle.reclaimer.proofs.next.going.Goals as goal
+
+pub returns-clause-answer : goal.returns-clause-answer
+returns-clause-answer c =
+    let es = c.args.index.now.entries in
+    answer_of_first (λ d. slice_index_or c.args.lanes.now d.lane false && has_going (listed_in es) d) es c.in_ok-version.version c.find.result c.find.ensures.index.rising (sym c.in_ok-version.ensures.value) c.find.ensures.value

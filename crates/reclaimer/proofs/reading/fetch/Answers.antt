@@ -1,0 +1,62 @@
+-- The next record with due blocks is read, or there is none.
+use Rattle.std.proofs.Common.{◌≡◌, true, rules, length, Some, sym, ap, arith, ◌∙◌}
+use Rattle.manager.specs.Reclaim.{Always}
+use Rattle.manager.proofs.ReadThrough.{never_some}
+use Rattle.reclaimer.specs.Records.{record_of}
+use Rattle.reclaimer.specs.declared.room.Filled.{Filled}
+use Rattle.reclaimer.proofs.Fetching.{due_of, due_there, stays_empty, lent_back, fetched_look, next_fetched, not_fetched, look_of_fault}
+use Rattle.reclaimer.proofs.Moments.{within, at_rest, tried_within}
+use Rattle.reclaimer.proofs.Nexts.{within_reach}
+use Rattle.reclaimer.proofs.reading.fetch.Goals as goal
+
+pub returns-in-Some-clause-any_moment : goal.returns-in-Some-clause-any_moment
+returns-in-Some-clause-any_moment g c told = at_rest g.D.Disk.tells g.D.Disk.state g.met.D.Disk.sound Always told c.args.m.now
+
+pub returns-then-not-home_up-clause-any_moment : goal.returns-then-not-home_up-clause-any_moment
+returns-then-not-home_up-clause-any_moment g c told = at_rest g.D.Disk.tells g.D.Disk.state g.met.D.Disk.sound Always told c.args.m.now
+
+pub due_next-requires : goal.due_next-requires
+due_next-requires g c =
+    within_reach g.D.Disk.state c.args.m.now c.requires.ready (sym c.down.ensures ∙ never_some c.down.result c.in_default.not-Some) c.index.result.now c.index.ensures c.ups.result.now
+    (let e = c.requires.ready.ready.flags in let f = ap length c.ups.ensures in omega arith)
+
+pub returns-in_default-due_next-clause-any_moment : goal.returns-in_default-due_next-clause-any_moment
+returns-in_default-due_next-clause-any_moment g c told = at_rest g.D.Disk.tells g.D.Disk.state g.met.D.Disk.sound Always told c.args.m.now
+
+pub read_record-requires-clause-there : goal.read_record-requires-clause-there
+read_record-requires-clause-there g c =
+    let up : c.args.m.now.home_up ≡ true = search rules in
+    due_there c.args.m.now c.in-Some-due_next.record (due_of c.args.m.now c.in-Some-due_next.record c.index.result.now c.ups.result.now up c.index.ensures c.ups.ensures c.in-Some-due_next.ensures.index c.in-Some-due_next.ensures.answer)
+
+pub returns-in-Ok-clause-fetched : goal.returns-in-Ok-clause-fetched
+returns-in-Ok-clause-fetched g c =
+    let up : c.args.m.now.home_up ≡ true = search rules in
+    let d = due_of c.args.m.now c.in-Some-due_next.record c.index.result.now c.ups.result.now up c.index.ensures c.ups.ensures c.in-Some-due_next.ensures.index c.in-Some-due_next.ensures.answer in
+    next_fetched g.D.Disk.state c.args.m.now c.read_record.new.m c.in-Some-due_next.record d c.in-Ok.filled c.read_record.new.blocks _
+    (ap (λ bs. record_of (Some c.in-Ok.filled) bs) (lent_back c.into.inside.blocks.len c.read_record.new.blocks c.into.inside.blocks.items (let n = c.read_record.auto.blocks in let k = c.deref_mut.ensures.len in let l = c.into.inside.blocks.ok in omega arith)))
+    c.in-Ok.ensures.filled c.in-Ok.ensures.fetched
+
+pub returns-in-Ok-clause-look : goal.returns-in-Ok-clause-look
+returns-in-Ok-clause-look g c =
+    let up : c.args.m.now.home_up ≡ true = search rules in
+    let d = due_of c.args.m.now c.in-Some-due_next.record c.index.result.now c.ups.result.now up c.index.ensures c.ups.ensures c.in-Some-due_next.ensures.index c.in-Some-due_next.ensures.answer in
+    fetched_look c.args.m.now c.read_record.new.m d.entry.listed.lane d.awake (c.in-Ok.ensures.fetched d.entry d.is)
+
+pub returns-in-Ok-clause-any_moment : goal.returns-in-Ok-clause-any_moment
+returns-in-Ok-clause-any_moment g c told = within g.D.Disk.tells g.D.Disk.state g.met.D.Disk.sound Always c.args.m.now c.read_record.new.m (c.in-Ok.ensures.any_moment told)
+
+pub returns-in-Err-clause-fetched : goal.returns-in-Err-clause-fetched
+returns-in-Err-clause-fetched g c =
+    let up : c.args.m.now.home_up ≡ true = search rules in
+    let d = due_of c.args.m.now c.in-Some-due_next.record c.index.result.now c.ups.result.now up c.index.ensures c.ups.ensures c.in-Some-due_next.ensures.index c.in-Some-due_next.ensures.answer in
+    not_fetched g.D.Disk.state c.args.m.now c.read_record.new.m c.in-Some-due_next.record d Filled c.in-Err.fault _ (stays_empty c.into.inside.filled c.into.inside.blocks.items _ (c.into.view_is ∙ c.clear.ensures)) c.in-Err.ensures.fault c.in-Err.ensures.fetched
+
+pub returns-in-Err-clause-look : goal.returns-in-Err-clause-look
+returns-in-Err-clause-look g c =
+    let up : c.args.m.now.home_up ≡ true = search rules in
+    let d = due_of c.args.m.now c.in-Some-due_next.record c.index.result.now c.ups.result.now up c.index.ensures c.ups.ensures c.in-Some-due_next.ensures.index c.in-Some-due_next.ensures.answer in
+    look_of_fault g.D.Disk.state c.args.m.now c.read_record.new.m c.in-Some-due_next.record d Filled c.in-Err.fault c.in-Err.ensures.fault c.in-Err.ensures.fetched
+
+pub returns-in-Err-clause-any_moment : goal.returns-in-Err-clause-any_moment
+returns-in-Err-clause-any_moment g c told =
+    tried_within g.D.Disk.tells g.D.Disk.state g.met.D.Disk.sound Always Filled told c.args.m.now c.read_record.new.m c.in-Err.fault c.in-Err.ensures.fault c.in-Err.ensures.any_moment

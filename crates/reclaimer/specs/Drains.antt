@@ -1,0 +1,56 @@
+-- What the steps of a drain do to a manager, by their answers.
+use Rattle.std.specs.Prelude.{⊤, ◌≡◌, ◌<◌, ℕ, true, List, [], find, Option, None, Some, is_none, IsErr, Result, Ok, Err, count_by, if◌then◌else◌}
+use Rattle.wol_disk.specs.Disk.{State, Block}
+use Rattle.wol_model.specs.Index.{Indexed, listed_in, is_due, has_due, has_going, block_numbers, left}
+use Rattle.redirect_map.specs.Index.{entry_at}
+use Rattle.redirect_map.specs.Masks.{IsMask}
+use Rattle.manager.specs.Accesses.{HasUsedOnce}
+use Rattle.manager.specs.Reclaim.{HasFetched, HasStored, HasDropped}
+use Rattle.manager.specs.declared.manager.Manager.{Manager}
+use Rattle.manager.specs.declared.part.StepFault.{StepFault}
+use Rattle.reclaimer.specs.declared.answers.Drain.{Drain}
+use Rattle.reclaimer.specs.declared.answers.Drain.TheVariants.{Bare, Moved}
+
+-- the entry of least version with a block that may go, whatever sleeps
+abbrev pub first_going : List Indexed → Option Indexed
+first_going es = find (λ e. has_going (listed_in es) e.listed) es
+
+-- that of least version with a due block
+abbrev pub first_due : List Indexed → Option Indexed
+first_due es = find (λ e. has_due (listed_in es) e.listed) es
+
+-- home was woken by one access, and nothing else was changed
+pub record HasWoken {D : Type 0} (old new : Manager D) : Type 0 where
+  pub rest : new ≡ record old { home_up = true; spindle = new.spindle }
+  pub used : HasUsedOnce old.spindle new.spindle
+
+-- so many blocks went home and so many records are gone, where the step was done
+abbrev pub TellsMoved : (blocks records : ℕ) → Result Drain StepFault → Type 0
+TellsMoved blocks records (Ok Bare) = ⊥
+TellsMoved blocks records (Ok (Moved b r)) = (b ≡ blocks) × (r ≡ records)
+TellsMoved blocks records (Err fault) = ⊤
+
+-- The record of this entry was read, by one access to its logger, and its due blocks were written home and synced, by one access to home;
+-- or it couldn't be read.
+pub data HasMoved {D : Type 0} (state : D → State) (e : Indexed) (old new : Manager D) (answer : Result Drain StepFault) : Type 0 where
+  put : (read : Manager D) (mask : ℕ) (blocks : List Block) → HasFetched e.listed.lane old read → IsMask e.listed.first (is_due (listed_in old.index.entries) e.listed) mask
+      → HasStored state e.listed.version mask blocks read new answer → TellsMoved (count_by (is_due (listed_in old.index.entries) e.listed) (block_numbers e.listed)) 0 answer → HasMoved state e old new answer
+  not_read : IsErr answer → HasFetched e.listed.lane old new → HasMoved state e old new answer
+
+-- With home awake, the first record of which something may go gave that up; or, where nothing may go, the due blocks of the first record that has one went
+-- home. Nothing was done where no record is left.
+pub data Drains {D : Type 0} (state : D → State) (old new : Manager D) (answer : Result Drain StepFault) : Type 0 where
+  nothing_left : old.index.entries ≡ [] → new ≡ old → answer ≡ Ok Bare → Drains state old new answer
+  gave_up : (e : Indexed) → first_going old.index.entries ≡ Some e → HasDropped e.listed.version e old new answer
+      → TellsMoved 0 (if is_none (entry_at new.index.entries e.listed.version) then 1 else 0) answer → Drains state old new answer
+  put_home : (e : Indexed) → first_going old.index.entries ≡ None → first_due old.index.entries ≡ Some e → HasMoved state e old new answer → Drains state old new answer
+
+-- home was woken before
+abbrev pub HasDrained : {D : Type 0} → (D → State) → (old new : Manager D) → Result Drain StepFault → Type 0
+HasDrained {D} state old new answer = (woken : Manager D) × HasWoken old woken × Drains state woken new answer
+
+-- a step that moved something lowers the kept blocks and the due blocks together
+abbrev pub Lowers : {D : Type 0} → Result Drain StepFault → (old new : Manager D) → Type 0
+Lowers (Ok Bare) old new = ⊤
+Lowers (Ok (Moved blocks records)) old new = left (listed_in new.index.entries) < left (listed_in old.index.entries)
+Lowers (Err fault) old new = ⊤

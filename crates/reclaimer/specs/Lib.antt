@@ -1,0 +1,4 @@
+pub mod Drains
+pub mod Fetches
+pub mod Records
+pub mod Steps

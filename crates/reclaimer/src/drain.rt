@@ -1,0 +1,135 @@
+// A drain: step by step all records of a volume are put home and given up, whatever sleeps.
+ghost use Rattle.std.specs.Prelude.{◌≡◌, ◌↔◌, ◌≤◌, ℕ, List, [], true, None, Ok, IsTrue, IsSomeAnd, length};
+ghost use Rattle.wol_model.specs.Index.{listed_in, has_due};
+ghost use Rattle.wol_promise.specs.Policy.{drained};
+ghost use Rattle.redirect_map.specs.Index.{entry_at};
+ghost use Rattle.manager.specs.Reclaim.{OnTried, OnKept, OnFailed, TellsStep, KeepsOn, BreaksOff, StopsSince, Always};
+ghost use Rattle.manager.specs.Seen.{look_of_manager};
+ghost use Rattle.manager.specs.Stands.{IsReady, IsHome, nones_at};
+ghost use Rattle.manager.specs.declared.base.LaneBase.{LaneBase};
+ghost use Rattle.reclaimer.specs.Drains.{HasMoved, Drains, HasDrained, Lowers};
+ghost use Rattle.reclaimer.specs.Steps.{StopsWithin};
+
+use crate::next::{due_next, going};
+use crate::room::read_record;
+use crate::{Drain, Fetch};
+use logger::Shared;
+use manager::{Manager, StepFault};
+use std::sync::Wait;
+use wol_disk::{Block, Disk};
+
+/// A view has at most so many loggers, all of which a drain counts as awake.
+const ALL: [bool; 16] = [true; 16];
+
+// Reads the record of this version, which has due blocks, and puts them home.
+fn move_home<R: Wait, D: Disk>(
+    rt: &R,
+    m: &mut Manager<D>,
+    shared: &Shared<D>,
+    version: u64,
+    room: &mut [Block],
+) -> Result<Drain, StepFault>
+    requires ready { IsReady D.state m.old }
+    requires at { IsHome shared.now m.old }
+    requires room { length room.old ≡ 128 }
+    requires due { IsSomeAnd (entry_at m.old.index.entries version) (λ e. has_due (listed_in m.old.index.entries) e.listed ≡ true) }
+    ensures ready { IsReady D.state m.new }
+    ensures at { IsHome shared.now m.new }
+    ensures fault { TellsStep D.state result m.old m.new }
+    ensures moved { OnTried result (IsSomeAnd (entry_at m.old.index.entries version) (λ e. HasMoved D.state e m.old m.new result)) }
+    ensures keeps { OnKept result (KeepsOn D.tells D.state m.old m.new Always) }
+    ensures broke { OnFailed result (BreaksOff D.tells D.state m.old m.new Always) }
+    ensures any_moment { OnTried result (IsTrue D.tells → StopsSince D.tells D.state m.old m.new Always) }
+{
+    let filled = read_record(rt, m, shared, version, room)?;
+    let blocks = &room[..filled.count as usize];
+    match m.store_home(rt, shared, version, filled.due, blocks) {
+        Ok(()) => Ok(Drain::Moved {
+            blocks: filled.due.count_ones(),
+            records: 0,
+        }),
+        Err(fault) => Err(fault),
+    }
+}
+
+// The step, with home awake.
+fn drain_awake<R: Wait, D: Disk>(
+    rt: &R,
+    m: &mut Manager<D>,
+    shared: &Shared<D>,
+    room: &mut [Block],
+) -> Result<Drain, StepFault>
+    requires ready { IsReady D.state m.old }
+    requires at { IsHome shared.now m.old }
+    requires up { m.old.down ≡ None }
+    requires awake { m.old.home_up ≡ true }
+    requires room { length room.old ≡ 128 }
+    ensures ready { IsReady D.state m.new }
+    ensures at { IsHome shared.now m.new }
+    ensures fault { TellsStep D.state result m.old m.new }
+    ensures drains { Drains D.state m.old m.new result }
+    ensures lowers { Lowers result m.old m.new }
+    ensures look { drained (look_of_manager m.new) ≡ drained (look_of_manager m.old) }
+    ensures keeps { OnKept result (KeepsOn D.tells D.state m.old m.new Always) }
+    ensures broke { OnFailed result (BreaksOff D.tells D.state m.old m.new Always) }
+    ensures any_moment { OnTried result (IsTrue D.tells → StopsSince D.tells D.state m.old m.new Always) }
+{
+    if m.index().len() == 0 {
+        return Ok(Drain::Bare);
+    }
+    if let Some(record) = going(m.index(), &ALL) {
+        return match m.drop_rec(rt, shared, record.version) {
+            Ok(gone) => Ok(Drain::Moved {
+                blocks: 0,
+                records: u32::from(gone),
+            }),
+            Err(fault) => Err(fault),
+        };
+    }
+    let Some(record) = due_next(m.index(), &ALL) else {
+        // Each kept block of the record of least version may go or is due.
+        unreachable!()
+    };
+    move_home(rt, m, shared, record.version, room)
+}
+
+/// Wakes home, and then gives up what may go of the record of least version of which something may go; or, where nothing may
+/// go, puts home the due blocks of the record of least version that has one. The logger of that record is woken. `Bare` comes
+/// exactly where no record is left. `DiskFault` comes only where a part's count of faults rose in this call, and brings the
+/// manager down; `Down` exactly where it is down, which is tried first. The fetch is empty afterwards.
+pub fn drain_step<R: Wait, D: Disk>(
+    rt: &R,
+    m: &mut Manager<D>,
+    shared: &Shared<D>,
+    into: &mut Fetch,
+) -> Result<Drain, StepFault>
+    requires ready { IsReady D.state m.old }
+    requires at { IsHome shared.now m.old }
+    ensures ready { IsReady D.state m.new }
+    ensures at { IsHome shared.now m.new }
+    ensures fault { TellsStep D.state result m.old m.new }
+    ensures empty { into.new ≡ None }
+    ensures bare { (result ≡ Ok Drain.Bare) ↔ ((m.old.down ≡ None) × (m.old.index.entries ≡ [])) }
+    ensures drained { OnTried result (HasDrained D.state m.old m.new result) }
+
+    // A drain ends: each step lowers the kept blocks and the due blocks together.
+    ensures lowers { Lowers result m.old m.new }
+
+    // It goes on to the look of which all is drained, whose flags a step sets as far as it woke disks.
+    ensures look { drained (look_of_manager m.new) ≡ drained (look_of_manager m.old) }
+    ensures bare_look { result ≡ Ok Drain.Bare → look_of_manager m.new ≡ drained (look_of_manager m.old) }
+    ensures waking { OnTried result (m.new.home_up ≡ true) }
+
+    // No pool is found empty less often than before: so a write after a drain can tell which it found so.
+    ensures passed { (lanes : List LaneBase) (k : ℕ) → nones_at m.old.lanes.items lanes k ≤ nones_at m.new.lanes.items lanes k }
+    ensures keeps { OnKept result (KeepsOn D.tells D.state m.old m.new Always) }
+    ensures broke { OnFailed result (BreaksOff D.tells D.state m.old m.new Always) }
+    ensures any_moment { IsTrue D.tells → StopsWithin D.tells D.state m.old m.new Always }
+{
+    into.clear();
+    if let Some(part) = m.down() {
+        return Err(StepFault::Down(part));
+    }
+    m.wake_home(rt, shared);
+    drain_awake(rt, m, shared, &mut into.blocks)
+}
