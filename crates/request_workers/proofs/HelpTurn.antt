@@ -1,6 +1,6 @@
 -- A helper's turns.
-use Rattle.std.proofs.Common.{◌≡◌, ◌≢◌, ◌⊎◌, ◌<◌, ◌≤◌, ◌+◌, ◌==◌, inl, inr, ⊎_elim, ℕ, zero, suc, Bool, true, false, List, [], ◌∷◌, ◌++◌, length, get_or, set, Option, None, Some, Result, Ok, Err, refl, sym, ap, subst, ◌∙◌, arith}
-use Rattle.std.specs.Prelude.{IsTrue, IsSome, is_some, is_ok, IfErr}
+use Rattle.std.proofs.Common.{◌≡◌, ◌≢◌, ◌⊎◌, ◌<◌, ◌≤◌, ◌+◌, ◌==◌, inl, inr, ⊎_elim, ℕ, zero, suc, Bool, true, false, List, [], ◌∷◌, ◌++◌, length, get_or, set, Option, Some, Result, Ok, Err, refl, sym, ap, subst, ◌∙◌, arith}
+use Rattle.std.specs.Prelude.{IsSome, is_some, is_ok, IfErr}
 use Rattle.std.proofs.lemmas.List.{map-append, get_or-set_same, get_or-set_other}
 use Rattle.std.proofs.lemmas.Bool.Decides.{eqb_tells}
 use Rattle.turn_lock.specs.Histories.{Entry, own, Begins}
@@ -15,7 +15,7 @@ use Rattle.wol_promise.specs.Ruled as ruled
 use Rattle.wol_promise.proofs.Lists.{all_joined}
 use Rattle.manager.specs.Reclaim.{OnKept, OnFailed, KeepsOn, BreaksOff, TellsStep}
 use Rattle.manager.specs.Seen.{look_of_manager}
-use Rattle.manager.specs.Stands.{Keeps, Stands, notes_of}
+use Rattle.manager.specs.Stands.{Stands, notes_of}
 use Rattle.manager.specs.declared.base.ManagerBase.{ManagerBase}
 use Rattle.manager.specs.declared.manager.Manager.{Manager}
 use Rattle.manager.specs.declared.part.StepFault.{StepFault}
@@ -27,8 +27,8 @@ use Rattle.reclaimer.specs.declared.answers.Gone.{Gone}
 use Rattle.reclaimer.specs.declared.answers.Gone.TheVariants as gone
 use Rattle.reclaimer.proofs.Later.{data_is_kept}
 use Rattle.request_workers.specs.Entries.{note_of, step_operation, has_failed}
-use Rattle.request_workers.specs.Helped.{ManagerLock, IsPassAt, ArePassesAt, HasHelped, AreHelped, IsCause}
-use Rattle.request_workers.specs.Turns.{ManagerPass, began, notes_seen, IsBroken, HasLeft}
+use Rattle.request_workers.specs.Helped.{ManagerLock, ArePassesAt, HasHelped, AreHelped, IsCause}
+use Rattle.request_workers.specs.Turns.{ManagerPass, notes_seen, IsBroken, HasLeft}
 use Rattle.request_workers.proofs.Gaining.{gains_none, gains_turn, gains_both, seen_more, broken_more}
 use Rattle.request_workers.proofs.Noting.{notes_at}
 use Rattle.request_workers.proofs.StepNotes.{step_stands, step_helps}

@@ -1,4 +1,4 @@
-use Rattle.std.proofs.Common.{refl, ◌∙◌}
+use Rattle.std.proofs.Common.{◌∙◌}
 use Rattle.manager.specs.Reclaim.{Always}
 use Rattle.request_workers.proofs.HelpTurn.{gone_keep, help_stands, has_helped}
 use Rattle.request_workers.proofs.Taking.{home_at}

@@ -1,4 +1,3 @@
-use Rattle.std.proofs.Common.{refl, ◌∙◌}
 use Rattle.manager.specs.Reclaim.{Always}
 use Rattle.request_workers.proofs.HelpTurn.{same_keep, help_stands, has_helped, data_left}
 use Rattle.request_workers.proofs.Taking.{home_at}

@@ -1,4 +1,4 @@
-use Rattle.std.proofs.Common.{refl, ◌∙◌}
+use Rattle.std.proofs.Common.{◌∙◌}
 use Rattle.reclaimer.specs.Fetches.{HasData}
 use Rattle.request_workers.proofs.HelpTurn.{put_keep, help_stands, has_helped, data_in, down_at}
 use Rattle.request_workers.proofs.Taking.{home_at}
