@@ -1,12 +1,16 @@
 pub mod Noting
 pub mod Taking
 pub mod Turning
+pub mod Waking
+pub mod OneMore
+pub mod Opened
 pub mod ReadNotes
 pub mod Payloads
 pub mod Merging
 pub mod WriteNotes
 pub mod DrainNotes
 pub mod WroteTurn
+pub mod Flagged
 pub mod Gaining
 pub mod Serving
 pub mod Working

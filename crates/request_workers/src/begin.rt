@@ -1,8 +1,11 @@
 // The beginning of a window: the spindles are told the moment, and the managers which disks are awake.
-ghost use Rattle.std.specs.Prelude.{◌≡◌, ◌≤◌, ◌<◌, [], ℕ, Bool, List, All, length, vec_len, vec_capacity, slice_index_or, OnOk, OnErr};
+ghost use Rattle.std.specs.Prelude.{◌≡◌, ◌≤◌, ◌<◌, [], ℕ, Bool, false, List, All, length, map, take, vec_len, vec_capacity, slice_index_or, OnOk, OnErr};
+ghost use Rattle.std.specs.List.{AllByRecursion};
 ghost use Rattle.turn_lock.specs.Passes.{pass_lock, IsPassOf, IsFree};
 ghost use Rattle.wol_model.specs.History.{keeper};
+ghost use Rattle.logger.specs.Lanes.{logger_of};
 ghost use Rattle.manager.specs.Stands.{IsShared};
+ghost use Rattle.manager.specs.declared.base.LaneBase.{LaneBase};
 ghost use Rattle.request_workers.specs.Begun.{AreKeepers, HaveBegun, HasBegunVolume, HaveBegunVolumes};
 ghost use Rattle.request_workers.specs.Floors.{IsFloor, IsOn};
 ghost use Rattle.request_workers.specs.Helped.{IsPassAt, ArePassesAt, AreSharing};
@@ -45,6 +48,20 @@ fn begin_spindles<R: Wait>(
     Ok(())
 }
 
+// Which loggers of a manager's view are awake, in front.
+fn flags<D: Disk>(manager: &Manager<D>, awake: &[bool]) -> [bool; LANES]
+    requires few { length manager.now.lanes.items ≤ 16 }
+    requires count { length manager.now.ups.items ≡ length manager.now.lanes.items }
+    requires view { All (λ v. v < length awake.now) (map logger_of manager.now.lanes.items) }
+    ensures { take (length manager.now.lanes.items) result ≡ map (λ v. slice_index_or awake.now v false) (map logger_of manager.now.lanes.items) }
+{
+    let mut flags = [false; LANES];
+    for lane in 0..manager.ups().len() {
+        flags[lane] = awake[manager.logger(lane as u32) as usize];
+    }
+    flags
+}
+
 // One turn of a volume's keeper, in which its manager is told which disks are awake.
 fn begin_volume<R: Wait, D: Disk>(
     rt: &R,
@@ -56,15 +73,12 @@ fn begin_volume<R: Wait, D: Disk>(
     requires pass { IsPassAt lock.now keeper pass.old }
     requires owner { (pass_lock pass.old).base.volume.began.owner ≡ volume }
     requires volume { volume < length awake.now }
-    requires view { All (λ v. v < length awake.now) (pass_lock pass.old).base.volume.began.view }
+    requires view { AllByRecursion (λ (b : LaneBase). b.logger < length awake.now) (pass_lock pass.old).base.lanes }
     ensures { HasBegunVolume D.tells awake.now pass.old pass.new }
 {
     let mut turn = lock.enter(rt, pass);
+    let ups = flags(&turn.value, awake);
     let lanes = turn.value.ups().len();
-    let mut ups = [false; LANES];
-    for lane in 0..lanes {
-        ups[lane] = awake[turn.value.logger(lane as u32) as usize];
-    }
     turn.value.begin(awake[volume], &ups[..lanes]);
     leave_step(lock, turn, pass, false);
 }
@@ -80,7 +94,7 @@ fn begin_volumes<R: Wait, D: Disk>(
     requires passes { ArePassesAt locks.now keeper keepers.old }
     requires owners { (k : ℕ) (d : _) → k < length keepers.old → (pass_lock (slice_index_or keepers.old k d)).base.volume.began.owner ≡ k }
     requires volumes { length keepers.old ≤ length awake.now }
-    requires views { (k : ℕ) (d : _) → k < length keepers.old → All (λ v. v < length awake.now) (pass_lock (slice_index_or keepers.old k d)).base.volume.began.view }
+    requires views { (k : ℕ) (d : _) → k < length keepers.old → AllByRecursion (λ (b : LaneBase). b.logger < length awake.now) (pass_lock (slice_index_or keepers.old k d)).base.lanes }
     ensures { HaveBegunVolumes D.tells awake.now keepers.old keepers.new }
 {
     for k in 0..keepers.len() {
