@@ -32,8 +32,8 @@ module _ {X : Type 0} (f : X → ℕ) (xs : List X) (k r : ℕ) (within : k < le
       let is : r ≡ f e.0 = rw e.1 at has in
       let next : take (k + 1) xs ≡ take k xs ++ e.0 ∷ [] = take_more xs k e.0 within ∙ ap (λ (y : X). take k xs ++ y ∷ []) (get_or_from_slice_get xs k e.0 e.0 e.1) in
       let right : map (λ (v : ℕ). slice_index_or awake v false) (map f (take (k + 1) xs)) ≡ map (λ (v : ℕ). slice_index_or awake v false) (map f (take k xs)) ++ slice_index_or awake (f e.0) false ∷ [] =
-          ap (λ (ys : List X). map (λ (v : ℕ). slice_index_or awake v false) (map f ys)) next
-          ∙ (ap (map (λ (v : ℕ). slice_index_or awake v false)) (map-append f (take k xs) (e.0 ∷ [])) ∙ map-append (λ (v : ℕ). slice_index_or awake v false) (map f (take k xs)) (f e.0 ∷ [])) in
+      ap (λ (ys : List X). map (λ (v : ℕ). slice_index_or awake v false) (map f ys)) next
+      ∙ (ap (map (λ (v : ℕ). slice_index_or awake v false)) (map-append f (take k xs) (e.0 ∷ [])) ∙ map-append (λ (v : ℕ). slice_index_or awake v false) (map f (take k xs)) (f e.0 ∷ [])) in
       take_more_set flags k (slice_index_or awake r false) room
       ∙ (ap (λ (ys : List Bool). ys ++ slice_index_or awake r false ∷ []) front
       ∙ (ap (λ (v : ℕ). map (λ (u : ℕ). slice_index_or awake u false) (map f (take k xs)) ++ slice_index_or awake v false ∷ []) is ∙ sym right))

@@ -15,7 +15,7 @@ loop-k-preserved g c =
     let rest = c.loop-k.invariant.rest in
     let e = c.in_ok-up.ensures in
     let old : (d : SpindlePass) → slice_index_or c.loop-k.keepers c.loop-k.k c.index-keepers-k.result ≡ slice_index_or c.args.keepers.now c.loop-k.k d =
-        (λ d. rest c.loop-k.k c.index-keepers-k.result (omega arith) ∙ get_or_default c.args.keepers.now c.loop-k.k c.index-keepers-k.result d (let a = c.loop-k.auto.keepers in omega (arith, room, a))) in
+    (λ d. rest c.loop-k.k c.index-keepers-k.result (omega arith) ∙ get_or_default c.args.keepers.now c.loop-k.k c.index-keepers-k.result d (let a = c.loop-k.auto.keepers in omega (arith, room, a))) in
     record {
       begun = λ j b d lt. subst (λ us. HasBegun c.args.t (slice_index_or us j b) (slice_index_or c.args.keepers.now j d) (slice_index_or (slice_set c.loop-k.keepers c.loop-k.k c.begin_turn.new.pass) j d)) (sym c.push_reserved.ensures.items)
           (each_more (HasBegun c.args.t) c.loop-k.awake.items _ c.args.keepers.now c.loop-k.keepers c.begin_turn.new.pass c.loop-k.k (c.loop-k.awake.ok ∙ c.loop-k.invariant.len) room c.loop-k.invariant.begun (λ d. subst (λ p. HasBegun c.args.t c.in_ok-up.up p c.begin_turn.new.pass) (old d) (record { same = e.same; free = e.free; mine = e.mine; answer = e.answer })) j b d lt);

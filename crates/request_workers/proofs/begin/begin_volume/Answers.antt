@@ -19,16 +19,16 @@ leave_step-requires-clause-value g c = let e = c.enter-turn.ensures in
 pub returns : goal.returns
 returns g c = let e = c.enter-turn.ensures in
     let n : length c.ups-lanes.result.now ≡ length c.enter-turn.result.value.lanes.items = ap length c.ups-lanes.ensures ∙ e.value.keeps.ready.ready.flags in record {
-  before = pass_seen c.enter-turn.new.pass;
-  note = note_of (pass_number c.enter-turn.new.pass) Kept (look_of_manager c.begin.new.self) [] false;
-  turned = turned _ c.args.pass.now c.enter-turn.new.pass c.leave_step.new.pass _ e.same e.seen e.mine e.own c.leave_step.ensures.left refl;
-  begun = record {
-    does = refl;
-    keeper = e.same.1 ∙ c.requires.pass.number_is;
-    home = ap (λ (m : Manager g.row.D.Denot). m.home_up) c.begin.ensures.unchanged ∙ ap (λ (o : ℕ). slice_index_or c.args.awake.now o false) (sym c.requires.owner);
-    loggers = ap (λ (m : Manager g.row.D.Denot). m.ups.items) c.begin.ensures.unchanged ∙ (told_flags c.flags-ups.result c.ups-lanes.result.now _ logger_of (λ v. slice_index_or c.args.awake.now v false) n c.flags-ups.ensures ∙ ap (map (λ (v : ℕ). slice_index_or c.args.awake.now v false)) (e.value.keeps.locks.view ∙ ap (λ l. l.base.volume.began.view) e.same.0));
-  };
-}
+      before = pass_seen c.enter-turn.new.pass;
+      note = note_of (pass_number c.enter-turn.new.pass) Kept (look_of_manager c.begin.new.self) [] false;
+      turned = turned _ c.args.pass.now c.enter-turn.new.pass c.leave_step.new.pass _ e.same e.seen e.mine e.own c.leave_step.ensures.left refl;
+      begun = record {
+        does = refl;
+        keeper = e.same.1 ∙ c.requires.pass.number_is;
+        home = ap (λ (m : Manager g.row.D.Denot). m.home_up) c.begin.ensures.unchanged ∙ ap (λ (o : ℕ). slice_index_or c.args.awake.now o false) (sym c.requires.owner);
+        loggers = ap (λ (m : Manager g.row.D.Denot). m.ups.items) c.begin.ensures.unchanged ∙ (told_flags c.flags-ups.result c.ups-lanes.result.now _ logger_of (λ v. slice_index_or c.args.awake.now v false) n c.flags-ups.ensures ∙ ap (map (λ (v : ℕ). slice_index_or c.args.awake.now v false)) (e.value.keeps.locks.view ∙ ap (λ l. l.base.volume.began.view) e.same.0));
+      };
+    }
 
 pub flags-ups-requires-clause-view : goal.flags-ups-requires-clause-view
 flags-ups-requires-clause-view g c = let e = c.enter-turn.ensures in
