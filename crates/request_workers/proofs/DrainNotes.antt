@@ -1,12 +1,12 @@
 -- The entry of a write after a drain, and of one whose drain failed.
-use Rattle.std.proofs.Common.{◌≡◌, ◌^◌, ℕ, Bool, true, false, List, [], ◌∷◌, ◌++◌, map, length, Option, None, Some, Result, Ok, Err, OnOk, IfErr, refl, sym, ap, subst, ◌∙◌, inl, inr}
-use Rattle.std.specs.Prelude.{⊤, IsTrue, IsSome, is_some, is_ok, ◌↔◌}
+use Rattle.std.proofs.Common.{◌≡◌, ◌^◌, ℕ, Bool, true, false, List, [], ◌∷◌, ◌++◌, length, None, Some, Result, Ok, Err, refl, sym, ap, subst, ◌∙◌, inl, inr}
+use Rattle.std.specs.Prelude.{IsSome, is_ok, ◌↔◌}
 use Rattle.std.specs.List.{list_any, range_with_len}
-use Rattle.turn_lock.specs.Passes.{pass_lock, pass_number}
+use Rattle.turn_lock.specs.Passes.{pass_number}
 use Rattle.wol_disk.specs.Disk.{State, Block}
 use Rattle.wol_model.specs.Blocks.{Write}
-use Rattle.wol_model.specs.History.{Entry, Operation, Wrote, Kept, Broke, worker}
-use Rattle.wol_model.specs.Index.{Listed, is_covered}
+use Rattle.wol_model.specs.History.{Entry, Wrote, Kept, Broke, worker}
+use Rattle.wol_model.specs.Index.{is_covered}
 use Rattle.wol_model.specs.Placing.{Home as AtHome, Log as InLog, Full as Nowhere}
 use Rattle.wol_model.specs.Placing as placing
 use Rattle.wol_promise.specs.Policy.{Look, place_of, placed, drained, rooms_but}
@@ -15,7 +15,7 @@ use Rattle.wol_promise.specs.Ruled as ruled
 use Rattle.manager.specs.Answers.{home_write, failed_write, log_write, written, IsPlaceOf}
 use Rattle.manager.specs.Reclaim.{OnFailed, BreaksOff, Always}
 use Rattle.manager.specs.Seen.{look_of_manager}
-use Rattle.manager.specs.Stands.{Keeps, Stands, IsNote, Leaves, passed_in}
+use Rattle.manager.specs.Stands.{Keeps, Stands, Leaves, passed_in}
 use Rattle.manager.specs.Writing as writing
 use Rattle.manager.specs.Writing.{HasLook, ruled_place}
 use Rattle.manager.specs.declared.base.ManagerBase.{ManagerBase}
@@ -27,11 +27,9 @@ use Rattle.manager.specs.declared.part.StepFault.{StepFault}
 use Rattle.manager.specs.declared.part.StepFault.TheVariants as fault
 use Rattle.manager.specs.declared.part.WriteRefusal.{WriteRefusal}
 use Rattle.manager.specs.declared.part.WriteRefusal.TheVariants.{Full, DiskFault, Down, VersionsSpent, NoMemory}
-use Rattle.request_workers.specs.Entries.{note_of, full_note, written_outcome, refused_as, IsWrittenAs, TellsFault}
-use Rattle.request_workers.specs.Entries as entries
+use Rattle.request_workers.specs.Entries.{note_of, written_outcome, refused_as, IsWrittenAs}
 use Rattle.request_workers.specs.Turns.{ManagerPass, began, notes_seen, HasLeft, IsBroken, Stays}
 use Rattle.request_workers.specs.Written.{HasWritten, IsDiskFault}
-use Rattle.request_workers.specs.declared.request.Outcome.{Outcome}
 use Rattle.request_workers.specs.declared.request.Outcome.TheVariants as outcome
 use Rattle.request_workers.proofs.Merging.{merged}
 use Rattle.request_workers.proofs.WriteNotes.{one_flight, write_fault}

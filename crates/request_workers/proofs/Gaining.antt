@@ -1,19 +1,16 @@
 -- Turns of a pass, one after another.
-use Rattle.std.proofs.Common.{rules, inl, inr, ◌≡◌, ◌≢◌, ◌+◌, ◌==◌, ℕ, zero, suc, Bool, true, false, cond, List, [], ◌∷◌, ◌++◌, map, length, filter, Option, None, Some, refl, sym, ap, subst, ◌∙◌, append_assoc, length-append, arith}
-use Rattle.std.specs.Prelude.{⊤, IsTrue, IsSome, is_some, unwrap_or}
-use Rattle.std.specs.List.{AllByRecursion}
+use Rattle.std.proofs.Common.{◌≡◌, ◌+◌, ◌==◌, ℕ, Bool, true, false, cond, List, [], ◌∷◌, ◌++◌, map, length, Option, None, Some, refl, sym, ap, subst, ◌∙◌, append_assoc, length-append, arith}
+use Rattle.std.specs.Prelude.{⊤, IsTrue, is_some, unwrap_or}
 use Rattle.std.specs.Option.{option_map, option_and_then, option_or}
 use Rattle.std.proofs.lemmas.Bool.{eq-eqb}
-use Rattle.std.proofs.lemmas.Bool.Decides.{eqb_tells}
 use Rattle.std.proofs.lemmas.List.{map-append, append-nil}
 use Rattle.std.proofs.lemmas.List.Elements.{filter-append}
-use Rattle.turn_lock.specs.Histories.{Entry, own, Begins}
+use Rattle.turn_lock.specs.Histories.{Entry, own}
 use Rattle.turn_lock.specs.LockIds.{LockId}
-use Rattle.turn_lock.specs.Passes.{pass_lock, pass_number, pass_seen, pass_mine, IsFree}
-use Rattle.wol_model.specs.Blocks.{Write}
-use Rattle.wol_model.specs.History.{Operation, Kept, worker, flight_of}
+use Rattle.turn_lock.specs.Passes.{pass_number, pass_seen, pass_mine, IsFree}
+use Rattle.wol_model.specs.History.{Kept, worker, flight_of}
 use Rattle.wol_model.proofs.Histories.{flight_more}
-use Rattle.wol_promise.specs.Code.{code_of, noted_of, read_noted, read_operation, read_look, read_list, read_number, read_flag, no_note}
+use Rattle.wol_promise.specs.Code.{noted_of, read_noted, read_operation, read_look, read_list, read_number, read_flag, no_note}
 use Rattle.wol_promise.specs.Policy.{Look}
 use Rattle.wol_promise.specs.Ruled.{Noted, entries_of, last_look}
 use Rattle.wol_promise.proofs.Lists.{all_joined, all_map}

@@ -17,5 +17,6 @@ pub mod Working
 pub mod StepNotes
 pub mod ClosedTurn
 pub mod Roomy
+pub mod HelpTurn
 pub mod Moving
 pub mod Stationed

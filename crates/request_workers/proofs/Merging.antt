@@ -1,5 +1,5 @@
 -- Of two entries at the end of a history, the first of which changes no content, one is made.
-use Rattle.std.proofs.Common.{◌≡◌, ◌≢◌, ◌≤◌, ◌+◌, ℕ, Bool, List, [], ◌∷◌, ◌++◌, map, Option, None, cond, sym, ap, subst, ◌∙◌, append_assoc, arith}
+use Rattle.std.proofs.Common.{◌≡◌, ◌≢◌, ℕ, Bool, List, [], ◌∷◌, ◌++◌, map, Option, None, cond, sym, ap, subst, ◌∙◌, append_assoc, arith}
 use Rattle.std.specs.Prelude.{◌==◌, IsTrue}
 use Rattle.std.specs.List.{AllByRecursion, list_any}
 use Rattle.std.specs.Option.{option_or}
@@ -10,12 +10,12 @@ use Rattle.wol_model.specs.History.{Entry, Operation, Wrote, Read, Kept, Broke, 
 use Rattle.wol_model.proofs.Overlay.{after_none}
 use Rattle.wol_promise.specs.Manager.{Parts, ManagerSeen, Base}
 use Rattle.wol_promise.specs.Policy.{Look}
-use Rattle.wol_promise.specs.Ruled.{Noted, HasPassed, IsStep, AreRuled, entries_of, last_look, times_passed}
+use Rattle.wol_promise.specs.Ruled.{Noted, HasPassed, IsStep, AreRuled, entries_of, last_look}
 use Rattle.wol_promise.specs.Stands.{HasHistory, Upholds}
 use Rattle.wol_promise.proofs.OneMore.{entries_more, last_more, ruled_more, or_none, writes_then, flight_then}
 use Rattle.manager.proofs.Frames.{times_more}
 use Rattle.manager.specs.Seen.{parts_of, seen}
-use Rattle.manager.specs.Stands.{Keeps, Stands, nones_at}
+use Rattle.manager.specs.Stands.{Stands, nones_at}
 use Rattle.manager.specs.declared.base.ManagerBase.{ManagerBase}
 use Rattle.manager.specs.declared.manager.Manager.{Manager}
 

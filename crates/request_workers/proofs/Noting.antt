@@ -1,5 +1,5 @@
 -- A turn's entry, coded and read back.
-use Rattle.std.proofs.Common.{◌≡◌, ℕ, Bool, true, List, [], ◌∷◌, ◌++◌, Option, None, Some, refl, sym, ap, subst, ◌∙◌}
+use Rattle.std.proofs.Common.{◌≡◌, ℕ, Bool, List, [], ◌∷◌, ◌++◌, Option, None, Some, refl, sym, ap, subst, ◌∙◌}
 use Rattle.std.specs.Prelude.{IsTrue, IsSome, is_some}
 use Rattle.std.proofs.lemmas.List.{map-append}
 use Rattle.turn_lock.specs.Histories.{Entry}
@@ -16,7 +16,7 @@ use Rattle.manager.specs.Stands.{Stands, StandsCoded, notes_of}
 use Rattle.manager.specs.declared.base.ManagerBase.{ManagerBase}
 use Rattle.manager.specs.declared.manager.Manager.{Manager}
 use Rattle.manager.specs.declared.part.Part.{Part}
-use Rattle.request_workers.specs.Turns.{ManagerPass, coded, began, notes_seen, IsBroken, HasLeft}
+use Rattle.request_workers.specs.Turns.{ManagerPass, began, notes_seen, IsBroken, HasLeft}
 
 -- the entries with one more, as notes
 pub notes_at : (es : List Entry) (k : ℕ) (n : Noted) → n.entry.pass ≡ k → notes_of (es ++ (k, code_of n) ∷ []) ≡ notes_of es ++ n ∷ []

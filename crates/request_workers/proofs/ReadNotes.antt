@@ -1,12 +1,11 @@
 -- A read's entry.
-use Rattle.std.proofs.Common.{◌≡◌, ◌+◌, ℕ, Bool, true, false, List, [], ◌∷◌, ◌++◌, length, Option, None, Some, Result, Ok, Err, OnOk, IfOk, refl, sym, ap, subst, ◌∙◌, inl}
-use Rattle.std.specs.Prelude.{⊤, IsTrue, IsSome, is_some, count_by, ◌↔◌}
+use Rattle.std.proofs.Common.{◌≡◌, ◌+◌, ℕ, Bool, false, List, [], length, Some, Result, Ok, Err, OnOk, IfOk, refl, sym, ap, subst, ◌∙◌, inl}
+use Rattle.std.specs.Prelude.{IsSome, is_some, count_by, ◌↔◌}
 use Rattle.std.specs.List.{range_with_len}
-use Rattle.wol_disk.specs.Disk.{State, Block}
+use Rattle.wol_disk.specs.Disk.{Block}
 use Rattle.wol_model.specs.History.{Kept}
-use Rattle.wol_model.specs.Index.{Listed, listed_in, is_covered}
+use Rattle.wol_model.specs.Index.{listed_in, is_covered}
 use Rattle.wol_promise.specs.Policy.{Look, woken}
-use Rattle.wol_promise.specs.Policy as policy
 use Rattle.wol_promise.specs.Ruled.{Noted, IsStep, IsKeep}
 use Rattle.wol_promise.specs.Ruled as ruled
 use Rattle.manager.specs.Answers.{was_read}
@@ -18,10 +17,10 @@ use Rattle.manager.specs.declared.part.ReadRefusal.{ReadRefusal}
 use Rattle.manager.specs.declared.part.ReadRefusal.TheVariants.{DiskFault, Down}
 use Rattle.manager.specs.declared.part.Sources.{Sources}
 use Rattle.wol_model.specs.declared.trace.Kind.TheVariants as kind
-use Rattle.request_workers.specs.Entries.{note_of, read_outcome, IsEntryOf, IsReadEntry, TellsFault}
+use Rattle.request_workers.specs.Entries.{note_of, read_outcome, IsEntryOf, TellsFault}
 use Rattle.turn_lock.specs.Histories.{own, Begins}
 use Rattle.turn_lock.specs.LockIds.{LockId}
-use Rattle.turn_lock.specs.Passes.{pass_lock, pass_number, pass_seen, pass_mine, IsSamePass}
+use Rattle.turn_lock.specs.Passes.{pass_number, pass_seen, pass_mine, IsSamePass}
 use Rattle.wol_promise.specs.Ruled.{last_look}
 use Rattle.manager.specs.declared.base.ManagerBase.{ManagerBase}
 use Rattle.request_workers.specs.Served.{HasAnswered}

@@ -1,20 +1,18 @@
 -- A floor before and after a window.
-use Rattle.std.proofs.Common.{◌≡◌, ◌<◌, ◌≤◌, ◌+◌, ℕ, Bool, List, [], ◌∷◌, vec_capacity, length, get_or, refl, ap, ◌∙◌, sym, subst, arith, Option, None}
-use Rattle.std.specs.Prelude.{slice_index_or}
+use Rattle.std.proofs.Common.{◌≡◌, ◌<◌, ◌≤◌, ◌+◌, ℕ, Bool, List, [], ◌∷◌, vec_capacity, length, get_or, ap, ◌∙◌, sym, subst, arith, Option}
 use Rattle.turn_lock.specs.LockIds.{LockId}
 use Rattle.turn_lock.specs.Passes.{lock_id, pass_lock, pass_number, IsPassOf, IsFree, IsSamePass}
-use Rattle.wol_model.specs.History.{worker, helper, keeper}
+use Rattle.wol_model.specs.History.{worker, helper}
 use Rattle.logger.specs.declared.shared.Shared.{Shared}
 use Rattle.manager.specs.Stands.{IsShared}
 use Rattle.manager.specs.declared.base.ManagerBase.{ManagerBase}
-use Rattle.manager.specs.declared.manager.Manager.{Manager}
 use Rattle.manager.specs.declared.part.StepFault.{StepFault}
 use Rattle.request_workers.specs.Closed.{IsClosed}
 use Rattle.request_workers.specs.Desks.{IsReadyDesk, AreReady, AreServed, AreAt, ShareDesks, AreNumbered, AreEmpty}
 use Rattle.request_workers.specs.Floors.{IsFloor, IsOn, AreInside, HasRoom, HaveRoom, AreSameButRoom}
-use Rattle.request_workers.specs.Helped.{ManagerLock, IsPassAt, ArePassesAt, AreSharing, HasHelped, AreHelped}
+use Rattle.request_workers.specs.Helped.{ManagerLock, IsPassAt, ArePassesAt, AreSharing}
 use Rattle.request_workers.specs.Requests.{AreWithin, own_requests}
-use Rattle.request_workers.specs.Turns.{ManagerPass, began, Gains}
+use Rattle.request_workers.specs.Turns.{ManagerPass, Gains}
 use Rattle.request_workers.specs.Worked.{HasWorked, AreWorked, HelpedIn}
 use Rattle.request_workers.specs.declared.desk.Desk.{Desk}
 use Rattle.request_workers.specs.declared.floor.Floor.{Floor}

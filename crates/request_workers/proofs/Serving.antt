@@ -1,5 +1,5 @@
 -- Serving one more request.
-use Rattle.std.proofs.Common.{rules, inl, inr, ◌≡◌, ◌≢◌, ◌≤◌, ◌<◌, vec_len, vec_capacity, ◌+◌, take, get_or, drop, take-append-drop, ℕ, Bool, true, false, List, [], ◌∷◌, ◌++◌, length, filter, ◌==◌, refl, ap, ◌∙◌, sym, subst, append_assoc, length-append, arith}
+use Rattle.std.proofs.Common.{inl, inr, ◌≡◌, ◌≢◌, ◌≤◌, ◌<◌, vec_len, vec_capacity, ◌+◌, take, get_or, drop, take-append-drop, ℕ, Bool, true, false, List, [], ◌∷◌, ◌++◌, length, filter, ◌==◌, refl, ap, ◌∙◌, sym, subst, append_assoc, length-append, arith}
 use Rattle.std.specs.List.{AllByRecursion}
 use Rattle.std.proofs.lemmas.List.{take_more, append-nil}
 use Rattle.std.proofs.lemmas.Bool.{eq-eqb}
@@ -17,8 +17,8 @@ use Rattle.manager.specs.declared.part.WriteRefusal.{WriteRefusal}
 use Rattle.manager.specs.declared.part.WriteRefusal.TheVariants as refused
 use Rattle.request_workers.specs.Entries.{IsEntryOf, AreEntriesOf, AreMade, TellsFault, TellsOfRead, TellsOfWrite}
 use Rattle.request_workers.specs.Requests.{IsWithin, AreWithin, was_answered, was_run, both, going_after, StopsAtRefusal, own_requests}
-use Rattle.request_workers.specs.Served.{HasServed, HasServedNext, IsServing}
-use Rattle.request_workers.specs.Turns.{began, notes_seen, IsBroken}
+use Rattle.request_workers.specs.Served.{HasServedNext, IsServing}
+use Rattle.request_workers.specs.Turns.{began, notes_seen}
 use Rattle.turn_lock.specs.Passes.{IsFree}
 use Rattle.request_workers.specs.declared.desk.Desk.{Desk}
 use Rattle.request_workers.specs.declared.request.Request.{Request}

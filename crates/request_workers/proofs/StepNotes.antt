@@ -1,6 +1,5 @@
 -- Steps of reclaim: a turn of them and its entry, and one after another.
-use Rattle.std.proofs.Common.{◌≡◌, ◌<◌, ℕ, zero, suc, Bool, true, false, List, [], ◌∷◌, ◌++◌, Option, None, Some, Result, Ok, Err, refl, sym, ap, subst, ◌∙◌, arith}
-use Rattle.std.specs.Prelude.{⊤, IsTrue, IsSome, is_some, OnOk, IfErr}
+use Rattle.std.proofs.Common.{◌≡◌, ℕ, zero, suc, Bool, true, false, List, [], ◌∷◌, ◌++◌, Result, Ok, Err, refl, sym, subst, ◌∙◌, arith}
 use Rattle.wol_disk.specs.Disk.{State}
 use Rattle.wol_model.specs.History.{Kept, Broke, IsHelp}
 use Rattle.wol_promise.specs.Policy.{Look, IsReclaim, AreReclaims}
@@ -8,7 +7,7 @@ use Rattle.wol_promise.specs.Policy as policy
 use Rattle.wol_promise.specs.Ruled.{Noted, IsKeep, last_look}
 use Rattle.manager.specs.Reclaim.{OnKept, OnFailed, KeepsOn, BreaksOff, Always}
 use Rattle.manager.specs.Seen.{look_of_manager}
-use Rattle.manager.specs.Stands.{Keeps, Stands, IsNote, nones_at}
+use Rattle.manager.specs.Stands.{Keeps, Stands, nones_at}
 use Rattle.manager.specs.declared.base.ManagerBase.{ManagerBase}
 use Rattle.manager.specs.declared.manager.Manager.{Manager}
 use Rattle.manager.specs.declared.part.StepFault.{StepFault}

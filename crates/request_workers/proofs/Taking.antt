@@ -1,7 +1,7 @@
 -- What a manager is known to be when its turn comes.
-use Rattle.std.proofs.Common.{◌≡◌, ◌<◌, ◌≤◌, ◌+◌, ℕ, Bool, List, [], ◌∷◌, sym, subst, ap, ◌∙◌, arith}
+use Rattle.std.proofs.Common.{◌≡◌, ◌≤◌, ℕ, Bool, List, [], ◌∷◌, sym, subst, ap, ◌∙◌, arith}
 use Rattle.std.specs.List.{AllByRecursion}
-use Rattle.std.specs.Prelude.{slice_index_or, vec_len}
+use Rattle.std.specs.Prelude.{slice_index_or}
 use Rattle.turn_lock.specs.LockIds.{LockId}
 use Rattle.turn_lock.specs.Passes.{lock_id}
 use Rattle.wol_disk.specs.Disk.{State}

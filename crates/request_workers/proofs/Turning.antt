@@ -1,8 +1,8 @@
 -- One turn, from entering to leaving.
-use Rattle.std.proofs.Common.{◌≡◌, ℕ, Bool, List, [], ◌∷◌, ◌++◌, refl, sym, ap, subst, ◌∙◌}
+use Rattle.std.proofs.Common.{◌≡◌, ℕ, Bool, List, [], ◌∷◌, ◌++◌, sym, ap, ◌∙◌}
 use Rattle.std.specs.Prelude.{IsTrue}
 use Rattle.turn_lock.specs.Histories.{Entry, own, Begins}
-use Rattle.turn_lock.specs.Passes.{pass_lock, pass_number, pass_seen, pass_mine, IsSamePass}
+use Rattle.turn_lock.specs.Passes.{pass_number, pass_seen, pass_mine, IsSamePass}
 use Rattle.wol_promise.specs.Ruled.{Noted}
 use Rattle.request_workers.specs.Turns.{ManagerPass, coded, HasLeft, HasTurned}
 

@@ -1,7 +1,7 @@
 -- A desk through a whole window.
 use Rattle.std.proofs.Common.{◌≡◌, ◌<◌, ℕ, Bool, List, [], ◌∷◌, ◌++◌, map, length, get_or, refl, ap, ◌∙◌, sym, subst, Option}
 use Rattle.wol_model.specs.Blocks.{Write}
-use Rattle.wol_model.specs.History.{Operation, Wrote, Read, Kept, Broke}
+use Rattle.wol_model.specs.History.{Operation, Kept, Broke}
 use Rattle.wol_promise.specs.Outcomes.{Answered, WasRead, AreOutcomes, answered_in}
 use Rattle.wol_promise.specs.Ruled.{Noted}
 use Rattle.manager.specs.declared.part.ReadRefusal.{ReadRefusal}
@@ -13,7 +13,7 @@ use Rattle.request_workers.specs.Closed.{IsClosed, HasClosedDesk, AreClosed}
 use Rattle.request_workers.specs.Collects.{IsCollected, HoldsOutcomes}
 use Rattle.request_workers.specs.Desks.{AreNumbered, AreServed}
 use Rattle.request_workers.specs.Entries.{AreEntriesOf, AreMade, IsRefusedRead, IsRefusedWrite, TellsFault}
-use Rattle.request_workers.specs.Requests.{asked, told, own_requests, outcomes_of, answers_to, StopsAtRefusal}
+use Rattle.request_workers.specs.Requests.{own_requests, outcomes_of, answers_to, StopsAtRefusal}
 use Rattle.request_workers.specs.Served.{HasServed}
 use Rattle.request_workers.specs.Turns.{ManagerPass, began, notes_seen}
 use Rattle.request_workers.specs.Worked.{HasWorked, AreWorked}

@@ -1,11 +1,11 @@
 -- A write's entry, where a log or home took it or it was refused.
-use Rattle.std.proofs.Common.{◌≡◌, ◌≢◌, ◌+◌, ◌^◌, ℕ, Bool, true, false, List, [], ◌∷◌, ◌++◌, map, length, Option, None, Some, Result, Ok, Err, refl, sym, ap, subst, ◌∙◌, inl, inr}
-use Rattle.std.specs.Prelude.{⊤, IsTrue, IsSome, is_some, slice_get, ◌↔◌}
+use Rattle.std.proofs.Common.{◌≡◌, ◌^◌, ℕ, Bool, true, false, List, [], ◌∷◌, ◌++◌, map, Option, None, Some, Result, Ok, Err, refl, sym, ap, subst, ◌∙◌, inl, inr}
+use Rattle.std.specs.Prelude.{IsSome, is_some, ◌↔◌}
 use Rattle.wol_disk.specs.Disk.{State, Block}
 use Rattle.turn_lock.specs.Passes.{pass_number}
 use Rattle.wol_model.specs.Blocks.{Write}
 use Rattle.wol_model.specs.ArrayLaws.{unversioned}
-use Rattle.wol_model.specs.History.{Operation, Wrote, Kept, Broke}
+use Rattle.wol_model.specs.History.{Wrote, Kept, Broke}
 use Rattle.wol_model.specs.Placing.{Home as AtHome, Log as InLog, Full as Nowhere}
 use Rattle.wol_model.specs.Placing as placing
 use Rattle.wol_promise.specs.Policy.{Look, place_of, placed, version_at}

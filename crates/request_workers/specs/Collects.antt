@@ -1,5 +1,5 @@
 -- The outcomes of all desks, in the order of the requests.
-use Rattle.std.specs.Prelude.{◌≡◌, ◌++◌, ℕ, List, [], length, vec_capacity}
+use Rattle.std.specs.Prelude.{◌≡◌, ◌++◌, ℕ, List, [], length}
 use Rattle.request_workers.specs.Requests.{own_requests, outcomes_of}
 use Rattle.request_workers.specs.declared.desk.Desk.{Desk}
 use Rattle.request_workers.specs.declared.request.Request.{Request}

@@ -2,7 +2,7 @@
 use Rattle.std.specs.Prelude.{◌≡◌, ◌≤◌, ◌<◌, ℕ, Bool, List, [], map, length, vec_capacity, slice_index_or, None}
 use Rattle.std.specs.Option.{option_or}
 use Rattle.turn_lock.specs.Passes.{lock_id}
-use Rattle.wol_model.specs.History.{worker, helper, keeper}
+use Rattle.wol_model.specs.History.{helper, keeper}
 use Rattle.logger.specs.declared.shared.Shared.{Shared}
 use Rattle.manager.specs.Stands.{IsShared}
 use Rattle.request_workers.specs.Desks.{AreAt, AreNumbered, AreEmpty}

@@ -1,9 +1,8 @@
 -- What serving the requests of a volume makes of its desk.
-use Rattle.std.specs.Prelude.{◌≡◌, ◌≤◌, ◌<◌, ◌+◌, ◌∷◌, ◌++◌, ℕ, Bool, true, List, [], length, vec_capacity, slice_index_or}
+use Rattle.std.specs.Prelude.{◌≡◌, ◌∷◌, ◌++◌, Bool, true, List, [], vec_capacity}
 use Rattle.std.specs.List.{AllByRecursion}
 use Rattle.turn_lock.specs.Histories.{Entry}
-use Rattle.turn_lock.specs.Passes.{pass_number}
-use Rattle.wol_model.specs.History.{Kept, worker}
+use Rattle.wol_model.specs.History.{Kept}
 use Rattle.wol_promise.specs.Ruled.{Noted, last_look}
 use Rattle.manager.specs.Stands.{notes_of}
 use Rattle.request_workers.specs.Requests.{was_answered, was_run, both, going_after, StopsAtRefusal, own_requests}

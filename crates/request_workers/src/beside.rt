@@ -1,5 +1,5 @@
 // The workers and the helper, side by side.
-ghost use Rattle.std.specs.Prelude.{◌≡◌, ◌≤◌, ◌<◌, ◌+◌, ℕ, length, slice_index_or};
+ghost use Rattle.std.specs.Prelude.{◌≡◌, ◌^◌, ◌≤◌, ◌<◌, ◌+◌, ℕ, length, slice_index_or};
 ghost use Rattle.wol_model.specs.History.{helper};
 ghost use Rattle.request_workers.specs.Desks.{AreReady, AreServed};
 ghost use Rattle.request_workers.specs.Helped.{ArePassesAt, AreSharing, AreHelped, IsCause};
@@ -33,6 +33,7 @@ pub(crate) fn serve_beside<'a, D: Disk + Send, G: Gate + Sync, R: Threads + Wait
     requires count { length desks.old ≡ length locks.now }
     requires ready { AreReady locks.now shared.now 0 requests.now desks.old }
     requires helpers { length helpers.old ≡ length locks.now }
+    requires few { length helpers.old ≤ 2 ^ 32 }
     requires passes { ArePassesAt locks.now helper helpers.old }
     requires shared { AreSharing shared.now helpers.old }
     requires cause { IsCause helpers.old room.old.fault }
@@ -47,7 +48,7 @@ pub(crate) fn serve_beside<'a, D: Disk + Send, G: Gate + Sync, R: Threads + Wait
             ensures { AreServed D.tells requests.entry.now desks.entry.now desks.exit.now }
         { serve_all(rt, locks, shared, size, requests, gate, desks) },
         &mut ||
-            requires { (length helpers.now ≡ length locks.now) × ArePassesAt locks.now helper helpers.now × AreSharing shared.now helpers.now × IsCause helpers.now room.now.fault }
+            requires { (length helpers.now ≡ length locks.now) × (length helpers.now ≤ 2 ^ 32) × ArePassesAt locks.now helper helpers.now × AreSharing shared.now helpers.now × IsCause helpers.now room.now.fault }
             ensures { AreHelped D.tells helpers.entry.now helpers.exit.now × IsCause helpers.exit.now room.exit.now.fault }
         { help(rt, locks, shared, rounds, helpers, room) },
     );

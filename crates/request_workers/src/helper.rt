@@ -1,5 +1,5 @@
 // A helper beside the workers.
-ghost use Rattle.std.specs.Prelude.{◌≡◌, ◌≤◌, ◌<◌, ℕ, length, slice_index_or, IfErr, OnOk, Option, Some, None, is_ok, false};
+ghost use Rattle.std.specs.Prelude.{◌≡◌, ◌⊎◌, ◌^◌, ◌≤◌, ◌<◌, ℕ, length, slice_index_or, IfErr, OnOk, Option, Some, None, is_ok, false};
 ghost use Rattle.turn_lock.specs.Passes.{pass_lock, IsSamePass};
 ghost use Rattle.wol_model.specs.History.{helper};
 ghost use Rattle.manager.specs.Stands.{IsShared};
@@ -29,7 +29,7 @@ impl HelperRoom {
     // Takes the answer of a step: whether it did something.
     fn took(&mut self, volume: u32, answer: Result<bool, StepFault>) -> bool
         ensures kept { (f : _) → self.old.fault ≡ Some f → self.new.fault ≡ Some f }
-        ensures fault { (f : _) → self.new.fault ≡ Some f → self.old.fault ≡ None → (f.0 ≡ volume) × (is_ok answer ≡ false) }
+        ensures fault { (f : _) → self.new.fault ≡ Some f → (self.old.fault ≡ Some f) ⊎ ((f.0 ≡ volume) × (is_ok answer ≡ false)) }
         ensures fetch { self.new.fetch ≡ self.old.fetch }
     {
         match answer {
@@ -135,7 +135,7 @@ fn help_one<D: Disk, R: Wait>(
     requires shared { IsShared shared.now (pass_lock pass.old).base }
     ensures helped { HasHelped D.tells pass.old pass.new }
     ensures kept { (f : _) → help.old.fault ≡ Some f → help.new.fault ≡ Some f }
-    ensures fault { (f : _) → help.new.fault ≡ Some f → help.old.fault ≡ None → (f.0 ≡ volume) × IsBroken (notes_seen pass.new) }
+    ensures fault { (f : _) → help.new.fault ≡ Some f → (help.old.fault ≡ Some f) ⊎ ((f.0 ≡ volume) × IsBroken (notes_seen pass.new)) }
 {
     let fetched = fetch_turn(rt, lock, pass, shared, &mut help.fetch);
     let fetched = help.took(volume, fetched);
@@ -143,7 +143,7 @@ fn help_one<D: Disk, R: Wait>(
     let put = help.took(volume, put);
     let dropped = drop_turn(rt, lock, pass, shared, &mut help.tally);
     let dropped = help.took(volume, dropped);
-    fetched || put || dropped
+    fetched | put | dropped
 }
 
 // Three steps on each volume in order. Tells whether one of them did something.
@@ -155,6 +155,7 @@ fn help_round<D: Disk, R: Wait>(
     help: &mut HelperRoom,
 ) -> bool
     requires count { length helpers.old ≡ length locks.now }
+    requires few { length helpers.old ≤ 2 ^ 32 }
     requires passes { ArePassesAt locks.now helper helpers.old }
     requires shared { AreSharing shared.now helpers.old }
     requires cause { IsCause helpers.old help.old.fault }
@@ -163,9 +164,8 @@ fn help_round<D: Disk, R: Wait>(
 {
     let mut did = false;
     for k in 0..helpers.len() {
-        if help_one(rt, &locks[k], &mut helpers[k], shared, k as u32, help) {
-            did = true;
-        }
+        let some = help_one(rt, &locks[k], &mut helpers[k], shared, k as u32, help);
+        did |= some;
     }
     did
 }
@@ -180,6 +180,7 @@ pub(crate) fn help<D: Disk, R: Wait>(
     help: &mut HelperRoom,
 )
     requires count { length helpers.old ≡ length locks.now }
+    requires few { length helpers.old ≤ 2 ^ 32 }
     requires passes { ArePassesAt locks.now helper helpers.old }
     requires shared { AreSharing shared.now helpers.old }
     requires cause { IsCause helpers.old help.old.fault }

@@ -1,5 +1,5 @@
 // One window of requests, over lists of locks, desks and helpers.
-ghost use Rattle.std.specs.Prelude.{◌≡◌, ◌≤◌, ◌<◌, [], ℕ, List, None, length, vec_len, vec_capacity, slice_index_or};
+ghost use Rattle.std.specs.Prelude.{◌≡◌, ◌^◌, ◌≤◌, ◌<◌, [], ℕ, List, None, length, vec_len, vec_capacity, slice_index_or};
 ghost use Rattle.wol_model.specs.History.{helper};
 ghost use Rattle.request_workers.specs.Desks.{AreReady, AreServed, AreNumbered};
 ghost use Rattle.request_workers.specs.Helped.{ArePassesAt, AreSharing, IsCause};
@@ -39,6 +39,7 @@ fn serve_mode<'a, D: Disk + Send, G: Gate + Sync, R: Threads + Wait + Sync>(
     requires count { length desks.old ≡ length locks.now }
     requires ready { AreReady locks.now shared.now 0 requests.now desks.old }
     requires helpers { length helpers.old ≡ length locks.now }
+    requires few { length helpers.old ≤ 2 ^ 32 }
     requires passes { ArePassesAt locks.now helper helpers.old }
     requires shared { AreSharing shared.now helpers.old }
     requires cause { IsCause helpers.old room.old.fault }
@@ -78,6 +79,7 @@ pub(crate) fn run_window<'a, D: Disk + Send, G: Gate + Sync, R: Threads + Wait +
     requires ready { AreReady locks.now shared.now 0 requests.now desks.old }
     requires faultless { (k : ℕ) (d : Desk _) → k < length desks.old → (slice_index_or desks.old k d).fault ≡ None }
     requires helpers { length helpers.old ≡ length locks.now }
+    requires few { length helpers.old ≤ 2 ^ 32 }
     requires passes { ArePassesAt locks.now helper helpers.old }
     requires shared { AreSharing shared.now helpers.old }
     requires cause { IsCause helpers.old room.old.fault }

@@ -3,9 +3,6 @@ use Rattle.std.specs.Option.{option_or}
 use Rattle.std.proofs.lemmas.List.{with_items_is}
 use Rattle.std.specs.Vec.{with_items}
 use Rattle.wol_model.specs.History.{helper}
-use Rattle.request_workers.specs.Desks.{AreReady}
-use Rattle.request_workers.specs.Floors.{HaveRoom, AreSameButRoom}
-use Rattle.request_workers.specs.Helped.{ManagerLock}
 use Rattle.request_workers.specs.Turns.{ManagerPass}
 use Rattle.request_workers.specs.Worked.{AreWorked, HelpedIn, first_fault}
 use Rattle.request_workers.specs.declared.desk.Desk.{Desk}

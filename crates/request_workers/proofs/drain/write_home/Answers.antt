@@ -1,4 +1,4 @@
-use Rattle.std.proofs.Common.{refl, ap, sym}
+use Rattle.std.proofs.Common.{refl, ap}
 use Rattle.wol_promise.specs.Ruled.{Noted}
 use Rattle.request_workers.proofs.DrainNotes.{drain_stands, has_drained}
 use Rattle.request_workers.proofs.drain.write_home.Goals as goal

@@ -1,4 +1,4 @@
-use Rattle.std.proofs.Common.{◌≡◌, true, false, refl, sym, ap, ◌∙◌}
+use Rattle.std.proofs.Common.{◌≡◌, true, false, refl}
 use Rattle.request_workers.proofs.StepNotes.{gone_goes}
 use Rattle.request_workers.proofs.reclaim.give_up.Goals as goal
 

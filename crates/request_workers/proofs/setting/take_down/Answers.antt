@@ -1,4 +1,4 @@
-use Rattle.std.proofs.Common.{◌≡◌, List, length, reverse, sym, ap, subst, ◌∙◌, arith}
+use Rattle.std.proofs.Common.{◌≡◌, List, length, reverse, sym, ap, subst, ◌∙◌}
 use Rattle.std.proofs.lemmas.List.{length-reverse, with_items_is}
 use Rattle.manager.proofs.ReadThrough.{never_some}
 use Rattle.request_workers.specs.declared.station.Station.{Station}

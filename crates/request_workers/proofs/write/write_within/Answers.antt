@@ -1,4 +1,4 @@
-use Rattle.std.proofs.Common.{refl, ap, sym, ◌∙◌}
+use Rattle.std.proofs.Common.{refl, sym, ◌∙◌}
 use Rattle.turn_lock.specs.Passes.{pass_lock}
 use Rattle.request_workers.proofs.Taking.{home_at}
 use Rattle.request_workers.proofs.WriteNotes.{write_stands, has_written, full_place, full_look, full_up, full_keeps}
