@@ -6,7 +6,7 @@ use Rattle.std.specs.List.{AllByRecursion}
 use Rattle.turn_lock.specs.Passes.{pass_lock}
 use Rattle.logger.specs.declared.shared.Shared.{Shared}
 use Rattle.manager.specs.declared.base.LaneBase.{LaneBase}
-use Rattle.manager.specs.Stands.{IsShared, IsLaneShared}
+use Rattle.manager.specs.Stands.{IsLaneShared}
 use Rattle.request_workers.specs.Floors.{IsFloor, IsOn}
 use Rattle.request_workers.specs.Turns.{ManagerPass}
 use Rattle.request_workers.specs.declared.floor.Floor.{Floor}

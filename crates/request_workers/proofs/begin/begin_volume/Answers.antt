@@ -1,7 +1,7 @@
-use Rattle.std.proofs.Common.{◌≡◌, ◌<◌, ℕ, Bool, false, List, [], length, map, take, slice_index_or, refl, sym, ap, subst, ◌∙◌, arith}
+use Rattle.std.proofs.Common.{◌≡◌, ◌<◌, ℕ, false, [], length, map, slice_index_or, refl, sym, ap, subst, ◌∙◌}
 use Rattle.std.specs.List.{AllByRecursion}
 use Rattle.manager.specs.declared.base.LaneBase.{LaneBase}
-use Rattle.turn_lock.specs.Passes.{pass_lock, pass_number, pass_seen}
+use Rattle.turn_lock.specs.Passes.{pass_number, pass_seen}
 use Rattle.wol_model.specs.History.{Kept}
 use Rattle.logger.specs.Lanes.{logger_of}
 use Rattle.manager.specs.Seen.{look_of_manager}

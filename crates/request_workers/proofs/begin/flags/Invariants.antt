@@ -1,4 +1,4 @@
-use Rattle.std.proofs.Common.{◌≡◌, Bool, false, length, map, take, slice_index_or}
+use Rattle.std.proofs.Common.{◌≡◌, false, length, map, take, slice_index_or}
 use Rattle.logger.specs.Lanes.{logger_of}
 use Rattle.request_workers.proofs.begin.flags.Given as goal
 
