@@ -1,0 +1,136 @@
+-- A floor before and after a window.
+use Rattle.std.proofs.Common.{◌≡◌, ◌<◌, ◌≤◌, ◌+◌, ℕ, Bool, List, [], ◌∷◌, vec_capacity, length, get_or, ap, ◌∙◌, sym, subst, arith, Option}
+use Rattle.turn_lock.specs.LockIds.{LockId}
+use Rattle.turn_lock.specs.Passes.{lock_id, pass_lock, pass_number, IsPassOf, IsFree, IsSamePass}
+use Rattle.wol_model.specs.History.{worker, helper}
+use Rattle.logger.specs.declared.shared.Shared.{Shared}
+use Rattle.manager.specs.Stands.{IsShared}
+use Rattle.manager.specs.declared.base.ManagerBase.{ManagerBase}
+use Rattle.manager.specs.declared.part.StepFault.{StepFault}
+use Rattle.request_workers.specs.Closed.{IsClosed}
+use Rattle.request_workers.specs.Desks.{IsReadyDesk, AreReady, AreServed, AreAt, ShareDesks, AreNumbered, AreEmpty}
+use Rattle.request_workers.specs.Floors.{IsFloor, IsOn, AreInside, HasRoom, HaveRoom, AreSameButRoom}
+use Rattle.request_workers.specs.Helped.{ManagerLock, IsPassAt, ArePassesAt, AreSharing}
+use Rattle.request_workers.specs.Requests.{AreWithin, own_requests}
+use Rattle.request_workers.specs.Turns.{ManagerPass, Gains}
+use Rattle.request_workers.specs.Worked.{HasWorked, AreWorked, HelpedIn}
+use Rattle.request_workers.specs.declared.desk.Desk.{Desk}
+use Rattle.request_workers.specs.declared.floor.Floor.{Floor}
+use Rattle.request_workers.specs.declared.request.Request.{Request}
+use Rattle.request_workers.specs.declared.request.Outcome.{Outcome}
+use Rattle.request_workers.specs.declared.request.Reclaim.{Reclaim}
+use Rattle.request_workers.specs.declared.request.Reclaim.TheVariants as reclaim
+
+some_in : {A : Type 0} (xs : List A) (k : ℕ) → k < length xs → A
+some_in [] k h = absurd (omega (arith, h))
+some_in (x ∷ xs) k h = x
+
+-- ---- Before
+
+module _ {D : Type 0} (ls : List (ManagerLock D)) (shared : Shared D) (rs : List Request) where
+  -- the managers of passes of these locks use the shared ones
+  pub sharing : IsOn shared ls → (number : ℕ) (ps : List (ManagerPass D)) → length ps ≡ length ls → ArePassesAt ls number ps → AreSharing shared ps
+  sharing on number ps count at k d h = let i = subst (λ (n : ℕ). k < n) count h in let l = some_in ls k i in
+      subst (λ (j : LockId ManagerBase). IsShared shared j.base) (sym (at k l d h).own) (on k l i)
+
+  -- after the requests the passes are those of the locks still
+  module _ (tells : Bool) (ds es : List (Desk D)) (count : length ds ≡ length ls) (same : length es ≡ length ds) (ready : AreReady ls shared 0 rs ds) (served : AreServed tells rs ds es) where
+    pub passes_served : AreAt ls es
+    passes_served k l d h =
+        let i = subst (λ (n : ℕ). k < n) same h in let r = ready k l d i in let g = (served k d i).gains in let from : 0 + k ≡ k = omega arith in record {
+          own = g.same.0 ∙ subst (λ (j : ℕ). IsPassOf (get_or ls j l) (get_or ds k d).worker) from r.pass.own;
+          free = g.free;
+          number_is = g.same.1 ∙ r.pass.number_is;
+        }
+
+    pub shares_served : ShareDesks shared es
+    shares_served k d h =
+        let i = subst (λ (n : ℕ). k < n) same h in let j = subst (λ (n : ℕ). k < n) count i in let l = some_in ls k j in
+        subst (λ (x : LockId ManagerBase). IsShared shared x.base) (sym (served k d i).gains.same.0) (ready k l d i).shared_
+
+  ready_desk : IsOn shared ls → (k : ℕ) (l : ManagerLock D) (d e : Desk D) → k < length ls → d.id ≡ k → IsPassAt (get_or ls k l) worker d.worker → d.outcomes.items ≡ [] → AreWithin (lock_id (get_or ls k l)).base k rs → HasRoom rs d e
+      → IsReadyDesk (get_or ls k l) shared rs e
+  ready_desk on k l d e h id at empty within room = record {
+    pass = subst (IsPassAt (get_or ls k l) worker) (sym room.worker_is) at;
+    shared_ = subst (λ (p : ManagerPass D). IsShared shared (pass_lock p).base) (sym room.worker_is) (subst (λ (j : LockId ManagerBase). IsShared shared j.base) (sym at.own) (on k l h));
+    within = subst (λ (p : ManagerPass D). AreWithin (pass_lock p).base e.id rs) (sym room.worker_is) (subst (λ (j : LockId ManagerBase). AreWithin j.base e.id rs) (sym at.own) (subst (λ (v : ℕ). AreWithin (lock_id (get_or ls k l)).base v rs) (sym (room.id ∙ id)) within));
+    empty = room.outcomes ∙ empty;
+    room = subst (λ (v : ℕ). length (own_requests v rs) ≤ vec_capacity e.outcomes) (sym room.id) room.room;
+  }
+
+  pub all_ready : IsOn shared ls → (ds es : List (Desk D)) → length ds ≡ length ls → length es ≡ length ds → AreNumbered ds → AreAt ls ds → AreEmpty ds → AreInside ls rs → HaveRoom rs ds es → AreReady ls shared 0 rs es
+  all_ready on ds es count same numbered at empty inside room k l d h =
+      let i = subst (λ (n : ℕ). k < n) same h in let j = subst (λ (n : ℕ). k < n) count i in let from : 0 + k ≡ k = omega arith in
+      rw from (ready_desk on k l (get_or ds k d) (get_or es k d) j (numbered k d i) (at k l d i) (empty k d i) (inside k l j) (room k d i))
+
+-- ---- After
+
+module _ {D : Type 0} (tells : Bool) (rs : List Request) (os : List Outcome) (mode : Reclaim) where
+  roomy_worked : (k : ℕ) (d e f : Desk D) → HasRoom rs d e → HasWorked tells rs os mode k e f → HasWorked tells rs os mode k d f
+  roomy_worked k d e f r w = record {
+    id = w.id ∙ r.id;
+    middle = w.middle;
+    more = w.more;
+    notes = w.notes;
+    gains = subst (λ (p : ManagerPass D). Gains tells p w.middle w.more w.notes) r.worker_is w.gains;
+    made = rw (sym r.worker_is) w.made;
+    answered = w.answered;
+    stops = w.stops;
+    stays = rw (sym r.worker_is) w.stays;
+    faults = w.faults;
+    closed = w.closed;
+    empty = w.empty;
+  }
+
+  pub all_roomy : (ds es fs : List (Desk D)) → length es ≡ length ds → HaveRoom rs ds es → AreWorked tells rs os mode es fs → AreWorked tells rs os mode ds fs
+  all_roomy ds es fs same r w k d h = roomy_worked k (get_or ds k d) (get_or es k d) (get_or fs k d) (r k d h) (w k d (subst (λ m. k < m) (sym same) h))
+
+  closed_pass : (m : Reclaim) (f : Option StepFault) (p q : ManagerPass D) → IsClosed tells m f p q → IsFree p → IsSamePass p q × IsFree q
+  closed_pass reclaim.Off f p q c free = ((ap (λ (x : ManagerPass D). pass_lock x) c.0, ap (λ (x : ManagerPass D). pass_number x) c.0), subst (λ (x : ManagerPass D). IsFree x) (sym c.0) free)
+  closed_pass reclaim.Between f p q c free = (c.turned.same, c.turned.free)
+  closed_pass reclaim.Beside f p q c free = (c.turned.same, c.turned.free)
+
+  pass_after : (l : ManagerLock D) (k : ℕ) (d e : Desk D) → HasWorked tells rs os mode k d e → IsPassAt l worker d.worker → IsPassAt l worker e.worker
+  pass_after l k d e w at = let c = closed_pass mode e.fault w.middle e.worker w.closed w.gains.free in
+      record { own = c.0.0 ∙ (w.gains.same.0 ∙ at.own); free = c.1; number_is = c.0.1 ∙ (w.gains.same.1 ∙ at.number_is) }
+
+  helped_passes : (ls : List (ManagerLock D)) (m : Reclaim) (ps qs : List (ManagerPass D)) → length qs ≡ length ps → HelpedIn tells m ps qs → ArePassesAt ls helper ps → ArePassesAt ls helper qs
+  helped_passes ls reclaim.Off ps qs same h at = subst (ArePassesAt ls helper) (sym h) at
+  helped_passes ls reclaim.Between ps qs same h at = subst (ArePassesAt ls helper) (sym h) at
+  helped_passes ls reclaim.Beside ps qs same h at = λ k l d i. let j = subst (λ (n : ℕ). k < n) same i in let g = (h k d j).gains in let a = at k l d j in
+      record { own = g.same.0 ∙ a.own; free = g.free; number_is = g.same.1 ∙ a.number_is }
+
+  -- what is left after a window is a floor
+  pub floor_after : (f g : Floor D) → IsFloor f → g.locks ≡ f.locks → g.keepers ≡ f.keepers → g.room ≡ f.room → length g.desks.items ≡ length f.desks.items → length g.helpers.items ≡ length f.helpers.items
+      → AreWorked tells rs os mode f.desks.items g.desks.items → HelpedIn tells mode f.helpers.items g.helpers.items → IsFloor g
+  floor_after f g is locks keepers room desks helpers worked helped =
+      let same : length g.locks.items ≡ length f.locks.items = ap (λ v. length v.items) locks in record {
+        desks = desks ∙ (is.desks ∙ sym same);
+        helpers = helpers ∙ (is.helpers ∙ sym same);
+        keepers = ap (λ v. length v.items) keepers ∙ (is.keepers ∙ sym same);
+        numbered = λ k d h. let i = subst (λ n. k < n) desks h in (worked k d i).id ∙ is.numbered k d i;
+        owners = rw locks is.owners;
+        workers = λ k l d h. let i = subst (λ n. k < n) desks h in rw locks (pass_after (get_or f.locks.items k l) k (get_or f.desks.items k d) (get_or g.desks.items k d) (worked k d i) (is.workers k l d i));
+        empty = λ k d h. (worked k d (subst (λ n. k < n) desks h)).empty;
+        help = rw locks (helped_passes f.locks.items mode f.helpers.items g.helpers.items helpers helped is.help);
+        keep = rw (locks, keepers) is.keep;
+        left = rw room is.left;
+        room = rw (locks, room) is.room;
+      }
+
+-- a floor with more room is one
+pub floor_same : {D : Type 0} (f g : Floor D) → IsFloor f → g.locks ≡ f.locks → g.helpers ≡ f.helpers → g.keepers ≡ f.keepers → g.room ≡ f.room → length g.desks.items ≡ length f.desks.items → AreSameButRoom f.desks.items g.desks.items → IsFloor g
+floor_same f g is locks helpers keepers room desks same =
+    let count : length g.locks.items ≡ length f.locks.items = ap (λ v. length v.items) locks in record {
+      desks = desks ∙ (is.desks ∙ sym count);
+      helpers = ap (λ v. length v.items) helpers ∙ (is.helpers ∙ sym count);
+      keepers = ap (λ v. length v.items) keepers ∙ (is.keepers ∙ sym count);
+      numbered = λ k d h. let i = subst (λ n. k < n) desks h in (same k d i).id ∙ is.numbered k d i;
+      owners = rw locks is.owners;
+      workers = λ k l d h. let i = subst (λ n. k < n) desks h in rw (locks, (same k d i).worker_is) (is.workers k l d i);
+      empty = λ k d h. let i = subst (λ n. k < n) desks h in (same k d i).outcomes ∙ is.empty k d i;
+      help = rw (locks, helpers) is.help;
+      keep = rw (locks, keepers) is.keep;
+      left = rw room is.left;
+      room = rw (locks, room) is.room;
+    }

@@ -1,0 +1,109 @@
+-- A desk through a whole window.
+use Rattle.std.proofs.Common.{◌≡◌, ◌<◌, ℕ, Bool, List, [], ◌∷◌, ◌++◌, map, length, get_or, refl, ap, ◌∙◌, sym, subst, Option}
+use Rattle.wol_model.specs.Blocks.{Write}
+use Rattle.wol_model.specs.History.{Operation, Kept, Broke}
+use Rattle.wol_promise.specs.Outcomes.{Answered, WasRead, AreOutcomes, answered_in}
+use Rattle.wol_promise.specs.Ruled.{Noted}
+use Rattle.manager.specs.declared.part.ReadRefusal.{ReadRefusal}
+use Rattle.manager.specs.declared.part.ReadRefusal.TheVariants as refused_read
+use Rattle.manager.specs.declared.part.StepFault.{StepFault}
+use Rattle.manager.specs.declared.part.WriteRefusal.{WriteRefusal}
+use Rattle.manager.specs.declared.part.WriteRefusal.TheVariants as refused
+use Rattle.request_workers.specs.Closed.{IsClosed, HasClosedDesk, AreClosed}
+use Rattle.request_workers.specs.Collects.{IsCollected, HoldsOutcomes}
+use Rattle.request_workers.specs.Desks.{AreNumbered, AreServed}
+use Rattle.request_workers.specs.Entries.{AreEntriesOf, AreMade, IsRefusedRead, IsRefusedWrite, TellsFault}
+use Rattle.request_workers.specs.Requests.{own_requests, outcomes_of, answers_to, StopsAtRefusal}
+use Rattle.request_workers.specs.Served.{HasServed}
+use Rattle.request_workers.specs.Turns.{ManagerPass, began, notes_seen}
+use Rattle.request_workers.specs.Worked.{HasWorked, AreWorked}
+use Rattle.request_workers.specs.declared.desk.Desk.{Desk}
+use Rattle.request_workers.specs.declared.request.Reclaim.{Reclaim}
+use Rattle.request_workers.specs.declared.request.Request.{Request}
+use Rattle.request_workers.specs.declared.request.Outcome.{Outcome}
+use Rattle.request_workers.specs.declared.request.Outcome.TheVariants as outcome
+use Rattle.request_workers.proofs.Serving.{made_length}
+use Rattle.std.specs.List.{AllByRecursion}
+
+-- ---- Outcomes and operations
+
+operations : List Noted → List Operation
+operations ns = map (λ (n : Noted). n.entry.operation) ns
+
+skips_kept : (xs : List Answered) (op : Operation) (ops : List Operation) → op ≡ Kept → AreOutcomes xs ops → AreOutcomes xs (op ∷ ops)
+skips_kept xs op ops is h = subst (λ (o : Operation). AreOutcomes xs (o ∷ ops)) (sym is) h
+
+skips_broke : (xs : List Answered) (op : Operation) (ops : List Operation) (ws : List Write) → op ≡ Broke ws → AreOutcomes xs ops → AreOutcomes xs (op ∷ ops)
+skips_broke xs op ops ws is h = subst (λ (o : Operation). AreOutcomes xs (o ∷ ops)) (sym is) h
+
+skips_read : (xs : List Answered) (r : ReadRefusal) (n : Noted) (ops : List Operation) → IsRefusedRead r n → AreOutcomes xs ops → AreOutcomes xs (n.entry.operation ∷ ops)
+skips_read xs (refused_read.DiskFault p) n ops is h = skips_broke xs n.entry.operation ops [] is h
+skips_read xs (refused_read.Down p) n ops is h = skips_kept xs n.entry.operation ops is h
+
+skips_write : (xs : List Answered) (w : Write) (r : WriteRefusal) (n : Noted) (ops : List Operation) → IsRefusedWrite w r n → AreOutcomes xs ops → AreOutcomes xs (n.entry.operation ∷ ops)
+skips_write xs w refused.Full n ops is h = absurd is
+skips_write xs w (refused.DiskFault p) n ops is h = skips_broke xs n.entry.operation ops is.0 is.1 h
+skips_write xs w (refused.Down p) n ops is h = skips_kept xs n.entry.operation ops is h
+skips_write xs w refused.VersionsSpent n ops is h = skips_kept xs n.entry.operation ops is.0 h
+skips_write xs w refused.NoMemory n ops is h = skips_kept xs n.entry.operation ops is h
+
+one_more : (view : List ℕ) (r : Request) (o : Outcome) (rs : List Request) (os : List Outcome) (ns first rest : List Noted) → ns ≡ first ++ rest → AreEntriesOf view r o first → AreOutcomes (answered_in (answers_to rs os)) (operations rest)
+    → AreOutcomes (answered_in (answers_to (r ∷ rs) (o ∷ os))) (operations ns)
+unfolding operations
+one_more view r outcome.NotRun rs os ns first rest split are h = subst (λ (l : List Noted). AreOutcomes (answered_in (answers_to rs os)) (operations l)) (sym (split ∙ ap (λ (l : List Noted). l ++ rest) are)) h
+one_more view r (outcome.Read m s) rs os ns first rest split are h =
+    let e = are.2 in
+    subst (λ (l : List Noted). AreOutcomes (answered_in (answers_to (r ∷ rs) (outcome.Read m s ∷ os))) (operations l)) (sym (split ∙ ap (λ (l : List Noted). l ++ rest) are.1))
+    (subst (λ (o : Operation). AreOutcomes (answered_in (answers_to (r ∷ rs) (outcome.Read m s ∷ os))) (o ∷ operations rest)) (sym e.operation)
+    (record { asked = e.kind_is; begins = refl; count = e.count; marked = ap WasRead e.marked }, h))
+one_more view r (outcome.Wrote p d) rs os ns first rest split are h =
+    let e = are.2.1 in
+    subst (λ (l : List Noted). AreOutcomes (answered_in (answers_to (r ∷ rs) (outcome.Wrote p d ∷ os))) (operations l)) (sym (split ∙ ap (λ (l : List Noted). l ++ rest) are.1))
+    (subst (λ (o : Operation). AreOutcomes (answered_in (answers_to (r ∷ rs) (outcome.Wrote p d ∷ os))) (o ∷ operations rest)) (sym e.operation)
+    (((are.2.0, record { same = e.same; place = e.logged }), tt), h))
+one_more view r (outcome.NoRead x) rs os ns first rest split are h =
+    subst (λ (l : List Noted). AreOutcomes (answered_in (answers_to rs os)) (operations l)) (sym (split ∙ ap (λ (l : List Noted). l ++ rest) are.1)) (skips_read (answered_in (answers_to rs os)) x are.0 (operations rest) are.2.1 h)
+one_more view r (outcome.NoWrite x) rs os ns first rest split are h =
+    subst (λ (l : List Noted). AreOutcomes (answered_in (answers_to rs os)) (operations l)) (sym (split ∙ ap (λ (l : List Noted). l ++ rest) are.1)) (skips_write (answered_in (answers_to rs os)) _ x are.0 (operations rest) are.2.1 h)
+
+pub made_outcomes : (view : List ℕ) (rs : List Request) (os : List Outcome) (ns : List Noted) → AreMade view rs os ns → AreOutcomes (answered_in (answers_to rs os)) (map (λ (n : Noted). n.entry.operation) ns)
+unfolding operations
+made_outcomes view [] [] ns m = subst (λ (l : List Noted). AreOutcomes [] (operations l)) (sym m) refl
+made_outcomes view [] (o ∷ os) ns m = absurd m
+made_outcomes view (r ∷ rs) [] ns m = absurd m
+made_outcomes view (r ∷ rs) (o ∷ os) ns m = one_more view r o rs os ns m.0 m.1 m.2 m.3 (made_outcomes view rs os m.1 m.4)
+
+-- ---- A desk
+
+module _ {D : Type 0} (tells : Bool) (rs : List Request) (mode : Reclaim) (k : ℕ) (d e f : Desk D) (numbered : d.id ≡ k) (s : HasServed tells rs d e) (c : HasClosedDesk tells mode e f) where
+  holds_outcomes : HoldsOutcomes rs k f
+  holds_outcomes = ap length c.outcomes ∙ (made_length (began d.worker).view (own_requests d.id rs) e.outcomes.items s.notes s.made ∙ ap (λ v. length (own_requests v rs)) numbered)
+
+  worked : (os : List Outcome) (g : Desk D) → IsCollected rs os k f g → HasWorked tells rs os mode k d g
+  worked os g t =
+      let are : e.outcomes.items ≡ outcomes_of k rs os = sym (t.outcomes ∙ c.outcomes) in
+      let made : AreMade (began d.worker).view (own_requests k rs) (outcomes_of k rs os) s.notes =
+      subst (λ (xs : List Outcome). AreMade (began d.worker).view (own_requests k rs) xs s.notes) are (subst (λ (v : ℕ). AreMade (began d.worker).view (own_requests v rs) e.outcomes.items s.notes) numbered s.made) in
+      record {
+        id = t.same.id ∙ (c.id ∙ s.id);
+        middle = e.worker;
+        more = s.more;
+        notes = s.notes;
+        gains = s.gains;
+        made = made;
+        answered = made_outcomes (began d.worker).view (own_requests k rs) (outcomes_of k rs os) s.notes made;
+        stops = subst (StopsAtRefusal Rattle.std.proofs.Common.true) are s.stops;
+        stays = s.stays;
+        faults = subst (AllByRecursion (TellsFault (notes_seen e.worker))) are s.faults;
+        closed = subst (λ (x : Option StepFault). IsClosed tells mode x e.worker g.worker) (sym t.same.fault) (subst (λ (p : ManagerPass D). IsClosed tells mode f.fault e.worker p) (sym t.same.worker) c.closed);
+        empty = t.empty;
+      }
+
+module _ {D : Type 0} (tells : Bool) (rs : List Request) (mode : Reclaim) (ds es fs : List (Desk D)) (numbered : AreNumbered ds) (s : AreServed tells rs ds es) (c : AreClosed tells mode es fs) (same : length es ≡ length ds) where
+  pub all_hold : (k : ℕ) (d : Desk D) → k < length ds → HoldsOutcomes rs k (get_or fs k d)
+  all_hold k d h = let h2 = subst (λ n. k < n) (sym same) h in holds_outcomes tells rs mode k (get_or ds k d) (get_or es k d) (get_or fs k d) (numbered k d h) (s k d h) (c k d h2)
+
+  pub all_worked : (os : List Outcome) (gs : List (Desk D)) → length fs ≡ length ds → ((k : ℕ) (d : Desk D) → k < length fs → IsCollected rs os k (get_or fs k d) (get_or gs k d)) → AreWorked tells rs os mode ds gs
+  all_worked os gs same3 t k d h =
+      let h2 = subst (λ n. k < n) (sym same) h in let h3 = subst (λ n. k < n) (sym same3) h in
+      worked tells rs mode k (get_or ds k d) (get_or es k d) (get_or fs k d) (numbered k d h) (s k d h) (c k d h2) os (get_or gs k d) (t k d h3)

@@ -1,0 +1,80 @@
+-- A floor between windows, and what a window makes of it.
+use Rattle.std.specs.Prelude.{◌≡◌, ◌≤◌, ◌<◌, ℕ, Bool, List, [], map, length, vec_capacity, slice_index_or, None}
+use Rattle.std.specs.Option.{option_or}
+use Rattle.turn_lock.specs.Passes.{lock_id}
+use Rattle.wol_model.specs.History.{helper, keeper}
+use Rattle.logger.specs.declared.shared.Shared.{Shared}
+use Rattle.manager.specs.Stands.{IsShared}
+use Rattle.request_workers.specs.Desks.{AreAt, AreNumbered, AreEmpty}
+use Rattle.request_workers.specs.Helped.{ManagerLock, ArePassesAt, IsCause}
+use Rattle.request_workers.specs.Requests.{AreWithin, own_requests}
+use Rattle.request_workers.specs.Worked.{AreWorked, HelpedIn, first_fault}
+use Rattle.request_workers.specs.declared.desk.Desk.{Desk}
+use Rattle.request_workers.specs.declared.floor.Floor.{Floor}
+use Rattle.request_workers.specs.declared.request.Request.{Request}
+use Rattle.request_workers.specs.declared.request.Reclaim.{Reclaim}
+use Rattle.request_workers.specs.declared.request.Window.{Window}
+
+-- lock k is that of the manager of volume k
+abbrev pub AreOwners : {D : Type 0} → List (ManagerLock D) → Type 0
+AreOwners {D} ls = (k : ℕ) (l : ManagerLock D) → k < length ls → (lock_id (slice_index_or ls k l)).base.volume.began.owner ≡ k
+
+-- a desk, a helper and a keeper for each lock, each the pass of its volume's lock with its number, in no turn
+pub record IsFloor {D : Type 0} (f : Floor D) : Type 0 where
+  pub desks : length f.desks.items ≡ length f.locks.items
+  pub helpers : length f.helpers.items ≡ length f.locks.items
+  pub keepers : length f.keepers.items ≡ length f.locks.items
+  pub numbered : AreNumbered f.desks.items
+  pub owners : AreOwners f.locks.items
+  pub workers : AreAt f.locks.items f.desks.items
+  pub empty : AreEmpty f.desks.items
+  pub help : ArePassesAt f.locks.items helper f.helpers.items
+  pub keep : ArePassesAt f.locks.items keeper f.keepers.items
+  pub left : f.room.items ≡ []
+  pub room : length f.locks.items ≤ vec_capacity f.room
+
+-- its managers use these shared locks
+abbrev pub IsOn : {D : Type 0} → Shared D → List (ManagerLock D) → Type 0
+IsOn {D} shared ls = (k : ℕ) (l : ManagerLock D) → k < length ls → IsShared shared (lock_id (slice_index_or ls k l)).base
+
+-- each request of a volume lies in it
+abbrev pub AreInside : {D : Type 0} → List (ManagerLock D) → List Request → Type 0
+AreInside {D} ls rs = (k : ℕ) (l : ManagerLock D) → k < length ls → AreWithin (lock_id (slice_index_or ls k l)).base k rs
+
+-- more room for outcomes and no refused step, and no other change
+pub record HasRoom {D : Type 0} (rs : List Request) (d e : Desk D) : Type 0 where
+  pub id : e.id ≡ d.id
+  pub worker_is : e.worker ≡ d.worker
+  pub outcomes : e.outcomes.items ≡ d.outcomes.items
+  pub fault : e.fault ≡ None
+  pub room : length (own_requests d.id rs) ≤ vec_capacity e.outcomes
+
+-- the same locks, passes and outcomes
+pub record IsSameButRoom {D : Type 0} (d e : Desk D) : Type 0 where
+  pub id : e.id ≡ d.id
+  pub worker_is : e.worker ≡ d.worker
+  pub outcomes : e.outcomes.items ≡ d.outcomes.items
+
+abbrev pub HaveRoom : {D : Type 0} → List Request → List (Desk D) → List (Desk D) → Type 0
+HaveRoom {D} rs ds es = (k : ℕ) (d : Desk D) → k < length ds → HasRoom rs (slice_index_or ds k d) (slice_index_or es k d)
+
+abbrev pub AreSameButRoom : {D : Type 0} → List (Desk D) → List (Desk D) → Type 0
+AreSameButRoom {D} ds es = (k : ℕ) (d : Desk D) → k < length ds → IsSameButRoom (slice_index_or ds k d) (slice_index_or es k d)
+
+-- what a window makes of a floor
+pub record HasRun {D : Type 0} (tells : Bool) (rs : List Request) (mode : Reclaim) (f g : Floor D) (w : Window) : Type 0 where
+  pub len : length w.outcomes.items ≡ length rs
+  pub worked : AreWorked tells rs w.outcomes.items mode f.desks.items g.desks.items
+  pub helped : HelpedIn tells mode f.helpers.items g.helpers.items
+  pub locks : g.locks ≡ f.locks
+  pub keepers : g.keepers ≡ f.keepers
+  -- the first refused step: the helper's, or else that of the first reclaim turn that was refused
+  pub fault : w.fault ≡ option_or g.help.fault (first_fault 0 (map (λ (d : Desk D). d.fault) g.desks.items))
+  pub cause : IsCause g.helpers.items g.help.fault
+
+-- where there was no memory nothing was run
+pub record IsAsItWas {D : Type 0} (f g : Floor D) : Type 0 where
+  pub desks : AreSameButRoom f.desks.items g.desks.items
+  pub helpers : g.helpers ≡ f.helpers
+  pub locks : g.locks ≡ f.locks
+  pub keepers : g.keepers ≡ f.keepers

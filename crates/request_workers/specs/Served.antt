@@ -1,0 +1,56 @@
+-- What serving the requests of a volume makes of its desk.
+use Rattle.std.specs.Prelude.{◌≡◌, ◌∷◌, ◌++◌, Bool, true, List, [], vec_capacity}
+use Rattle.std.specs.List.{AllByRecursion}
+use Rattle.turn_lock.specs.Histories.{Entry}
+use Rattle.wol_model.specs.History.{Kept}
+use Rattle.wol_promise.specs.Ruled.{Noted, last_look}
+use Rattle.manager.specs.Stands.{notes_of}
+use Rattle.request_workers.specs.Requests.{was_answered, was_run, both, going_after, StopsAtRefusal, own_requests}
+use Rattle.request_workers.specs.Turns.{ManagerPass, began, notes_seen, IsHonest, HasTurned, Gains, Stays, LooksStay}
+use Rattle.request_workers.specs.Entries.{IsEntryOf, AreEntriesOf, AreMade, TellsFault}
+use Rattle.request_workers.specs.declared.desk.Desk.{Desk}
+use Rattle.request_workers.specs.declared.request.Request.{Request}
+use Rattle.request_workers.specs.declared.request.Outcome.{Outcome}
+
+-- one request, in one turn
+pub record HasAnswered {D : Type 0} (tells : Bool) (r : Request) (o : Outcome) (p q : ManagerPass D) : Type 0 where
+  pub before : List Entry
+  pub note : Noted
+  pub turned : HasTurned tells p q before note
+  pub entry : IsEntryOf (began p).view r o note
+  pub stays : note.entry.operation ≡ Kept → Stays (last_look (began p).look (notes_of before)) note
+  pub fault : TellsFault (notes_seen q) o
+
+-- one request more: in a turn, or not run
+pub record HasServedNext {D : Type 0} (tells : Bool) (r : Request) (going : Bool) (d e : Desk D) (next : Bool) : Type 0 where
+  pub outcome : Outcome
+  pub outcomes : e.outcomes.items ≡ d.outcomes.items ++ outcome ∷ []
+  pub id : e.id ≡ d.id
+  pub more : List Entry
+  pub notes : List Noted
+  pub gains : Gains tells d.worker e.worker more notes
+  pub are : AreEntriesOf (began d.worker).view r outcome notes
+  pub stays : IsHonest tells d.worker → LooksStay d.worker more
+  pub run : was_run outcome ≡ going
+  pub next_is : next ≡ both going (was_answered outcome)
+  pub room : vec_capacity e.outcomes ≡ vec_capacity d.outcomes
+  pub fault : TellsFault (notes_seen e.worker) outcome
+  pub reclaim : e.fault ≡ d.fault
+
+-- the requests of its volume among these: what the worker's pass gained, and what is told of each
+pub record HasServed {D : Type 0} (tells : Bool) (rs : List Request) (d e : Desk D) : Type 0 where
+  pub id : e.id ≡ d.id
+  pub more : List Entry
+  pub notes : List Noted
+  pub gains : Gains tells d.worker e.worker more notes
+  pub made : AreMade (began d.worker).view (own_requests d.id rs) e.outcomes.items notes
+  pub stops : StopsAtRefusal true e.outcomes.items
+  pub stays : IsHonest tells d.worker → LooksStay d.worker more
+  pub faults : AllByRecursion (TellsFault (notes_seen e.worker)) e.outcomes.items
+  pub reclaim : e.fault ≡ d.fault
+
+-- so it is for the first requests
+pub record IsServing {D : Type 0} (tells : Bool) (rs : List Request) (going : Bool) (d e : Desk D) : Type 0 where
+  pub served : HasServed tells rs d e
+  pub going_is : going ≡ going_after true e.outcomes.items
+  pub room : vec_capacity e.outcomes ≡ vec_capacity d.outcomes

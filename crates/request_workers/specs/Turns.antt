@@ -1,0 +1,91 @@
+-- What turns of a manager's lock add to a pass: entries with their notes.
+use Rattle.std.specs.Prelude.{⊤, ◌≡◌, ◌⊎◌, ◌∷◌, ◌++◌, Bool, true, List, [], map, is_some, IsTrue}
+use Rattle.std.specs.List.{AllByRecursion}
+use Rattle.turn_lock.specs.Histories.{Entry, own, Begins}
+use Rattle.turn_lock.specs.Passes.{pass_lock, pass_number, pass_seen, pass_mine, IsFree, IsSamePass}
+use Rattle.turn_lock.specs.declared.pass.PassOf.{PassOf}
+use Rattle.wol_model.specs.Blocks.{Write}
+use Rattle.wol_model.specs.History.{Kept, worker, flight_of, IsHelp}
+use Rattle.wol_promise.specs.Code.{code_of}
+use Rattle.wol_promise.specs.Manager.{Base}
+use Rattle.wol_promise.specs.Policy.{Look}
+use Rattle.wol_promise.specs.Ruled.{Noted, IsDrained, entries_of, last_look}
+use Rattle.wol_promise.specs.Stands.{HasHistory}
+use Rattle.manager.specs.Stands.{notes_of}
+use Rattle.manager.specs.declared.base.ManagerBase.{ManagerBase}
+use Rattle.manager.specs.declared.manager.Manager.{Manager}
+
+-- a pass of a manager's lock
+abbrev pub ManagerPass : Type 0 → Type 0
+ManagerPass D = PassOf (Manager D) ManagerBase
+
+-- an entry with its notes, as the lock's history has it
+abbrev pub coded : Noted → Entry
+coded n = (n.entry.pass, code_of n)
+
+-- what the manager under its lock began with
+abbrev pub began : {D : Type 0} → ManagerPass D → Base
+began p = (pass_lock p).base.volume.began
+
+-- the entries that it has seen
+abbrev pub notes_seen : {D : Type 0} → ManagerPass D → List Noted
+notes_seen p = notes_of (pass_seen p)
+
+-- a disk call of the volume failed
+abbrev pub IsBroken : List Noted → Type 0
+IsBroken notes = is_some (flight_of (entries_of notes)) ≡ true
+
+-- what the pass has seen is a legal history whose ruled entries follow the rules, and its own entries are those with its number
+pub record IsHonest {D : Type 0} (tells : Bool) (p : ManagerPass D) : Type 0 where
+  pub history : HasHistory (IsTrue tells) (began p) (notes_seen p)
+  pub mine : own (pass_number p) (pass_seen p) ≡ pass_mine p
+
+-- a pass in a turn leaves it with this entry
+pub record HasLeft {D : Type 0} (tells : Bool) (n : Noted) (p q : ManagerPass D) : Type 0 where
+  pub same : IsSamePass p q
+  pub free : IsFree q
+  pub number : n.entry.pass ≡ pass_number p
+  pub seen : pass_seen q ≡ pass_seen p ++ coded n ∷ []
+  pub mine : pass_mine q ≡ pass_mine p ++ coded n ∷ []
+  pub history : HasHistory (IsTrue tells) (began q) (notes_seen q)
+
+-- one turn of a pass, behind these entries: it adds this entry, which is ruled
+pub record HasTurned {D : Type 0} (tells : Bool) (p q : ManagerPass D) (before : List Entry) (n : Noted) : Type 0 where
+  pub same : IsSamePass p q
+  pub free : IsFree q
+  pub begins : Begins (pass_seen p) before
+  pub others : own (pass_number p) before ≡ pass_mine p
+  pub number : n.entry.pass ≡ pass_number p
+  pub seen : pass_seen q ≡ before ++ coded n ∷ []
+  pub mine : pass_mine q ≡ pass_mine p ++ coded n ∷ []
+  pub ruled : IsTrue n.ruled
+  pub history : HasHistory (IsTrue tells) (began q) (notes_seen q)
+
+-- any number of turns: these entries were added, and these were seen
+pub record Gains {D : Type 0} (tells : Bool) (p q : ManagerPass D) (more : List Entry) (notes : List Noted) : Type 0 where
+  pub same : IsSamePass p q
+  pub free : IsFree q
+  pub seen : pass_seen q ≡ pass_seen p ++ more
+  pub mine : pass_mine q ≡ pass_mine p ++ map coded notes
+  pub numbers : AllByRecursion (λ (n : Noted). n.entry.pass ≡ pass_number p) notes
+  pub ruled : AllByRecursion (λ (n : Noted). IsTrue n.ruled) notes
+  pub honest : IsHonest tells p → IsHonest tells q
+
+-- ---- Looks
+
+-- an entry leaves the look as it was, or its turn drained for a write that was then refused
+abbrev pub Stays : Look → Noted → Type 0
+Stays l n = (n.look ≡ l) ⊎ ((w : Write) × IsDrained n.passed l w n.look)
+
+-- each Kept of the worker does so
+abbrev pub KeptStay : Look → List Noted → Type 0
+KeptStay l [] = ⊤
+KeptStay l (n ∷ notes) = (n.entry.pass ≡ worker → n.entry.operation ≡ Kept → Stays l n) × KeptStay n.look notes
+
+-- so do the entries that the pass saw since
+abbrev pub LooksStay : {D : Type 0} → ManagerPass D → List Entry → Type 0
+LooksStay p more = KeptStay (last_look (began p).look (notes_seen p)) (notes_of more)
+
+-- entries that change no content
+abbrev pub AreHelp : List Noted → Type 0
+AreHelp notes = AllByRecursion (λ (n : Noted). IsHelp n.entry.operation) notes

@@ -1,0 +1,55 @@
+// The workers and the helper, side by side.
+ghost use Rattle.std.specs.Prelude.{◌≡◌, ◌^◌, ◌≤◌, ◌<◌, ◌+◌, ℕ, length, slice_index_or};
+ghost use Rattle.wol_model.specs.History.{helper};
+ghost use Rattle.request_workers.specs.Desks.{AreReady, AreServed};
+ghost use Rattle.request_workers.specs.Helped.{ArePassesAt, AreSharing, AreHelped, IsCause};
+
+use crate::desk::Desk;
+use crate::helper::{HelperRoom, help};
+use crate::request::Request;
+use crate::run::serve_all;
+use logger::Shared;
+use manager::Manager;
+use std::sync::Wait;
+use std::thread::{Threads, join_mut};
+use turn_lock::{Pass, TurnLock};
+use wol_disk::Disk;
+use wol_io::Gate;
+
+/// Serves all desks, and makes rounds of reclaim beside them.
+pub(crate) fn serve_beside<'a, D: Disk + Send, G: Gate + Sync, R: Threads + Wait + Sync>(
+    rt: &'a R,
+    locks: &'a [TurnLock<Manager<D>>],
+    shared: &'a Shared<D>,
+    desks: &'a mut [Desk<D>],
+    helpers: &'a mut [Pass<Manager<D>>],
+    room: &'a mut HelperRoom,
+    size: usize,
+    rounds: usize,
+    requests: &'a [Request],
+    gate: &'a G,
+)
+    requires size { 0 < size }
+    requires count { length desks.old ≡ length locks.now }
+    requires ready { AreReady locks.now shared.now 0 requests.now desks.old }
+    requires helpers { length helpers.old ≡ length locks.now }
+    requires few { length helpers.old ≤ 2 ^ 32 }
+    requires passes { ArePassesAt locks.now helper helpers.old }
+    requires shared { AreSharing shared.now helpers.old }
+    requires cause { IsCause helpers.old room.old.fault }
+    ensures served { AreServed D.tells requests.now desks.old desks.new }
+    ensures helped { AreHelped D.tells helpers.old helpers.new }
+    ensures cause { IsCause helpers.new room.new.fault }
+{
+    join_mut(
+        rt,
+        &mut ||
+            requires { (0 < size) × (length desks.now ≡ length locks.now) × AreReady locks.now shared.now 0 requests.now desks.now }
+            ensures { AreServed D.tells requests.entry.now desks.entry.now desks.exit.now }
+        { serve_all(rt, locks, shared, size, requests, gate, desks) },
+        &mut ||
+            requires { (length helpers.now ≡ length locks.now) × (length helpers.now ≤ 2 ^ 32) × ArePassesAt locks.now helper helpers.now × AreSharing shared.now helpers.now × IsCause helpers.now room.now.fault }
+            ensures { AreHelped D.tells helpers.entry.now helpers.exit.now × IsCause helpers.exit.now room.exit.now.fault }
+        { help(rt, locks, shared, rounds, helpers, room) },
+    );
+}

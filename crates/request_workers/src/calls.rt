@@ -1,0 +1,128 @@
+// Windows over a floor.
+ghost use Rattle.std.specs.Prelude.{◌≡◌, ◌≤◌, ◌<◌, ◌^◌, [], ℕ, List, map, length, vec_len, vec_capacity, slice_index_or, OnOk, OnErr, IfOk};
+ghost use Rattle.request_workers.specs.Desks.{AreEmpty};
+ghost use Rattle.request_workers.specs.Floors.{IsFloor, IsOn, AreInside, HaveRoom, AreSameButRoom, HasRun, IsAsItWas};
+ghost use Rattle.request_workers.specs.Requests.{own_requests, AreOfVolumes};
+ghost use Rattle.request_workers.specs.Worked.{first_fault};
+ghost use Rattle.request_workers.specs.declared.desk.Desk.{Desk};
+
+use crate::desk::Desk;
+use crate::floor::Floor;
+use crate::helper::HelperRoom;
+use crate::request::{Reclaim, Request, Window};
+use crate::slices::run_window;
+use crate::tally::Tally;
+use logger::Shared;
+use manager::StepFault;
+use std::alloc::Global;
+use std::sync::Wait;
+use std::thread::Threads;
+use wol_disk::{Disk, NoMemory};
+use wol_io::Gate;
+
+// How many requests a volume has.
+fn count_own(requests: &[Request], volume: u32) -> usize
+    ensures { result ≡ length (own_requests volume requests.now) }
+{
+    let mut count = 0;
+    for request in requests {
+        if request.volume == volume {
+            count += 1;
+        }
+    }
+    count
+}
+
+// Makes room for the outcomes of each desk's requests, and begins to count.
+fn make_room<D: Disk>(desks: &mut [Desk<D>], requests: &[Request]) -> Result<(), NoMemory>
+    requires { AreEmpty desks.old }
+    ensures same { AreSameButRoom desks.old desks.new }
+    ensures room { OnOk result (HaveRoom requests.now desks.old desks.new) }
+{
+    for k in 0..desks.len() {
+        let count = count_own(requests, desks[k].id);
+        let desk = &mut desks[k];
+        desk.tally = Tally::default();
+        desk.fault = None;
+        desk.outcomes.reserve(count)?;
+    }
+    Ok(())
+}
+
+// What was reclaimed by the workers and the helper.
+fn reclaimed<D: Disk>(desks: &[Desk<D>], help: &HelperRoom) -> Tally {
+    let mut tally = help.tally;
+    for desk in desks {
+        tally.add(desk.tally);
+    }
+    tally
+}
+
+// The first volume of which the reclaim turn was refused, with the refusal.
+fn refused_turn<D: Disk>(desks: &[Desk<D>]) -> Option<(u32, StepFault)>
+    requires { length desks.now ≤ 2 ^ 32 }
+    ensures { result ≡ first_fault 0 (map (λ (d : Desk _). d.fault) desks.now) }
+{
+    for k in 0..desks.len() {
+        if let Some(fault) = desks[k].fault {
+            return Some((k as u32, fault));
+        }
+    }
+    None
+}
+
+/// Runs one window of requests: each volume's in order, the volumes cut in order into runs of as many as their number
+/// divided by `workers`, rounded up, and each run by a worker of its own. After the first request of a volume that isn't
+/// answered its later ones are not run. The gate is passed before each request that is run, in no turn.
+///
+/// In mode `Between` each volume in order has one reclaim turn after the requests. In mode `Beside` a helper reclaims beside
+/// the workers too, a step on each volume at a time, until a round of steps did nothing, and at most in as many rounds as
+/// there are requests and one more. `NoMemory` comes before a request is run.
+pub fn window<D: Disk + Send, G: Gate + Sync, R: Threads + Wait + Sync>(
+    rt: &R,
+    alloc: Global,
+    floor: &mut Floor<D>,
+    shared: &Shared<D>,
+    requests: &[Request],
+    workers: u32,
+    reclaim: Reclaim,
+    gate: &G,
+) -> Result<Window, NoMemory>
+    requires floor { IsFloor floor.old }
+    requires shared { IsOn shared.now floor.old.locks.items }
+    requires workers { (1 ≤ workers) × (workers ≤ 64) }
+    requires volumes { AreOfVolumes (vec_len floor.old.locks) requests.now }
+    requires within { AreInside floor.old.locks.items requests.now }
+    requires few { vec_len floor.old.locks ≤ 2 ^ 32 }
+    ensures floor { IsFloor floor.new }
+    ensures run { IfOk result (HasRun D.tells requests.now reclaim floor.old floor.new) }
+    ensures unchanged { OnErr result (IsAsItWas floor.old floor.new) }
+{
+    let mut outcomes = Vec::with_capacity(alloc, requests.len())?;
+    make_room(floor.desks.as_mut_slice(), requests)?;
+    floor.help.tally = Tally::default();
+    floor.help.fault = None;
+    let size = floor.desks.len().div_ceil(workers as usize).max(1);
+    run_window(
+        rt,
+        floor.locks.as_slice(),
+        shared,
+        floor.desks.as_mut_slice(),
+        floor.helpers.as_mut_slice(),
+        &mut floor.help,
+        size,
+        requests,
+        reclaim,
+        gate,
+        &mut outcomes,
+    );
+    let tally = reclaimed(floor.desks.as_slice(), &floor.help);
+    let refused = refused_turn(floor.desks.as_slice());
+    let fault = floor.help.fault.or(refused);
+    Ok(Window {
+        outcomes,
+        blocks: tally.blocks,
+        records: tally.records,
+        fault,
+    })
+}

@@ -1,0 +1,81 @@
+// The reclaim turns after the requests.
+ghost use Rattle.std.specs.Prelude.{◌≡◌, ◌<◌, ℕ, length, slice_index_or, None};
+ghost use Rattle.turn_lock.specs.Passes.{pass_lock};
+ghost use Rattle.wol_model.specs.History.{worker};
+ghost use Rattle.manager.specs.Stands.{IsShared};
+ghost use Rattle.request_workers.specs.Closed.{HasClosedDesk, AreClosed};
+ghost use Rattle.request_workers.specs.Desks.{AreAt, ShareDesks};
+ghost use Rattle.request_workers.specs.Helped.{IsPassAt};
+ghost use Rattle.request_workers.specs.declared.desk.Desk.{Desk};
+
+use crate::desk::Desk;
+use crate::noted::leave_step;
+use crate::reclaim::reclaim_all;
+use crate::request::Reclaim;
+use crate::step::{has_failed, refusal_in};
+use logger::Shared;
+use manager::Manager;
+use std::sync::Wait;
+use turn_lock::TurnLock;
+use wol_disk::Disk;
+
+// One reclaim turn. A refused step ends it.
+fn close_one<D: Disk, R: Wait>(
+    rt: &R,
+    lock: &TurnLock<Manager<D>>,
+    shared: &Shared<D>,
+    desk: &mut Desk<D>,
+)
+    requires pass { IsPassAt lock.now worker desk.old.worker }
+    requires shared { IsShared shared.now (pass_lock desk.old.worker).base }
+    ensures { HasClosedDesk D.tells Reclaim.Between desk.old desk.new }
+{
+    let mut turn = lock.enter(rt, &mut desk.worker);
+    let answer = reclaim_all(
+        rt,
+        &mut turn.value,
+        shared,
+        &mut desk.fetch,
+        &mut desk.tally,
+    );
+    leave_step(lock, turn, &mut desk.worker, has_failed(&answer));
+    desk.fault = refusal_in(answer);
+}
+
+// One reclaim turn of each volume in order.
+fn close_each<D: Disk, R: Wait>(
+    rt: &R,
+    locks: &[TurnLock<Manager<D>>],
+    shared: &Shared<D>,
+    desks: &mut [Desk<D>],
+)
+    requires count { length desks.old ≡ length locks.now }
+    requires passes { AreAt locks.now desks.old }
+    requires shared { ShareDesks shared.now desks.old }
+    ensures { AreClosed D.tells Reclaim.Between desks.old desks.new }
+{
+    for k in 0..desks.len() {
+        close_one(rt, &locks[k], shared, &mut desks[k]);
+    }
+}
+
+/// The reclaim turns of a window, none in mode `Off`.
+pub(crate) fn close_all<D: Disk, R: Wait>(
+    rt: &R,
+    locks: &[TurnLock<Manager<D>>],
+    shared: &Shared<D>,
+    desks: &mut [Desk<D>],
+    reclaim: Reclaim,
+)
+    requires count { length desks.old ≡ length locks.now }
+    requires passes { AreAt locks.now desks.old }
+    requires shared { ShareDesks shared.now desks.old }
+    requires faultless { (k : ℕ) (d : Desk _) → k < length desks.old → (slice_index_or desks.old k d).fault ≡ None }
+    ensures { AreClosed D.tells reclaim desks.old desks.new }
+{
+    match reclaim {
+        Reclaim::Off => {}
+        Reclaim::Between => close_each(rt, locks, shared, desks),
+        Reclaim::Beside => close_each(rt, locks, shared, desks),
+    }
+}

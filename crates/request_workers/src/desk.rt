@@ -1,0 +1,23 @@
+// What the worker of a volume has.
+use crate::payload::Payload;
+use crate::request::Outcome;
+use crate::tally::Tally;
+use manager::{Manager, StepFault};
+use reclaimer::Fetch;
+use turn_lock::Pass;
+use wol_disk::Disk;
+
+/// A volume's worker: its pass, and room of its own for what it reads and writes.
+#[derive(Drop)]
+pub struct Desk<D: Disk> {
+    /// The number of the volume.
+    pub id: u32,
+    pub worker: Pass<Manager<D>>,
+    pub(crate) outcomes: Vec<Outcome>,
+    pub(crate) payload: Payload,
+    pub(crate) fetch: Fetch,
+    // what was reclaimed in this window
+    pub(crate) tally: Tally,
+    // the refusal of this window's reclaim turn
+    pub(crate) fault: Option<StepFault>,
+}

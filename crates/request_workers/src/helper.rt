@@ -1,0 +1,195 @@
+// A helper beside the workers.
+ghost use Rattle.std.specs.Prelude.{◌≡◌, ◌⊎◌, ◌^◌, ◌≤◌, ◌<◌, ℕ, length, slice_index_or, IfErr, OnOk, Option, Some, None, is_ok, false};
+ghost use Rattle.turn_lock.specs.Passes.{pass_lock, IsSamePass};
+ghost use Rattle.wol_model.specs.History.{helper};
+ghost use Rattle.manager.specs.Stands.{IsShared};
+ghost use Rattle.reclaimer.specs.Fetches.{HasData};
+ghost use Rattle.request_workers.specs.Helped.{IsPassAt, ArePassesAt, AreSharing, HasHelped, AreHelped, IsCause};
+ghost use Rattle.request_workers.specs.Turns.{notes_seen, IsBroken};
+
+use crate::noted::leave_step;
+use crate::step::has_failed;
+use crate::tally::Tally;
+use logger::Shared;
+use manager::{Manager, StepFault};
+use reclaimer::{Fetch, Fetched, Gone, fetch, invalidate_one, put_home};
+use std::sync::Wait;
+use turn_lock::{Pass, TurnLock};
+use wol_disk::Disk;
+
+/// What the helper has: room for a record, what it reclaimed, and the first refusal, with its volume.
+#[derive(Drop)]
+pub struct HelperRoom {
+    pub(crate) fetch: Fetch,
+    pub(crate) tally: Tally,
+    pub(crate) fault: Option<(u32, StepFault)>,
+}
+
+impl HelperRoom {
+    // Takes the answer of a step: whether it did something.
+    fn took(&mut self, volume: u32, answer: Result<bool, StepFault>) -> bool
+        ensures kept { (f : _) → self.old.fault ≡ Some f → self.new.fault ≡ Some f }
+        ensures fault { (f : _) → self.new.fault ≡ Some f → (self.old.fault ≡ Some f) ⊎ ((f.0 ≡ volume) × (is_ok answer ≡ false)) }
+        ensures fetch { self.new.fetch ≡ self.old.fetch }
+    {
+        match answer {
+            Ok(did) => did,
+            Err(fault) => {
+                if self.fault.is_none() {
+                    self.fault = Some((volume, fault));
+                }
+                false
+            }
+        }
+    }
+}
+
+// Reads a record with due blocks in one turn. Tells whether there was one.
+fn fetch_turn<D: Disk, R: Wait>(
+    rt: &R,
+    lock: &TurnLock<Manager<D>>,
+    pass: &mut Pass<Manager<D>>,
+    shared: &Shared<D>,
+    room: &mut Fetch,
+) -> Result<bool, StepFault>
+    requires pass { IsPassAt lock.now helper pass.old }
+    requires shared { IsShared shared.now (pass_lock pass.old).base }
+    ensures helped { HasHelped D.tells pass.old pass.new }
+    ensures data { HasData D.tells room.new (pass_lock pass.new).base (notes_seen pass.new) }
+    ensures cause { IfErr result (λ f. IsBroken (notes_seen pass.new)) }
+{
+    let mut turn = lock.enter(rt, pass);
+    let answer = fetch(rt, &mut turn.value, shared, room);
+    leave_step(lock, turn, pass, has_failed(&answer));
+    match answer {
+        Ok(Fetched::Some { .. }) => Ok(true),
+        Ok(Fetched::Nothing) => Ok(false),
+        Err(fault) => Err(fault),
+    }
+}
+
+// Puts home in one turn what was fetched. Tells whether there was anything.
+fn put_turn<D: Disk, R: Wait>(
+    rt: &R,
+    lock: &TurnLock<Manager<D>>,
+    pass: &mut Pass<Manager<D>>,
+    shared: &Shared<D>,
+    room: &Fetch,
+    tally: &mut Tally,
+) -> Result<bool, StepFault>
+    requires pass { IsPassAt lock.now helper pass.old }
+    requires shared { IsShared shared.now (pass_lock pass.old).base }
+    requires data { HasData D.tells room.now (pass_lock pass.old).base (notes_seen pass.old) }
+    ensures helped { HasHelped D.tells pass.old pass.new }
+    ensures cause { IfErr result (λ f. IsBroken (notes_seen pass.new)) }
+{
+    let mut turn = lock.enter(rt, pass);
+    let answer = put_home(rt, &mut turn.value, shared, room);
+    leave_step(lock, turn, pass, has_failed(&answer));
+    match answer {
+        Ok(blocks) => {
+            tally.count(blocks, 0);
+            Ok(blocks > 0)
+        }
+        Err(fault) => Err(fault),
+    }
+}
+
+// Gives up in one turn what may go of a record. Tells whether there was one.
+fn drop_turn<D: Disk, R: Wait>(
+    rt: &R,
+    lock: &TurnLock<Manager<D>>,
+    pass: &mut Pass<Manager<D>>,
+    shared: &Shared<D>,
+    tally: &mut Tally,
+) -> Result<bool, StepFault>
+    requires pass { IsPassAt lock.now helper pass.old }
+    requires shared { IsShared shared.now (pass_lock pass.old).base }
+    ensures helped { HasHelped D.tells pass.old pass.new }
+    ensures cause { IfErr result (λ f. IsBroken (notes_seen pass.new)) }
+{
+    let mut turn = lock.enter(rt, pass);
+    let answer = invalidate_one(rt, &mut turn.value, shared);
+    leave_step(lock, turn, pass, has_failed(&answer));
+    match answer {
+        Ok(Gone::Version(_)) => {
+            tally.count(0, 1);
+            Ok(true)
+        }
+        Ok(Gone::Trimmed(_)) => Ok(true),
+        Ok(Gone::Nothing) => Ok(false),
+        Err(fault) => Err(fault),
+    }
+}
+
+// Three steps on a volume, each in a turn of its own. Tells whether one of them did something.
+fn help_one<D: Disk, R: Wait>(
+    rt: &R,
+    lock: &TurnLock<Manager<D>>,
+    pass: &mut Pass<Manager<D>>,
+    shared: &Shared<D>,
+    volume: u32,
+    help: &mut HelperRoom,
+) -> bool
+    requires pass { IsPassAt lock.now helper pass.old }
+    requires shared { IsShared shared.now (pass_lock pass.old).base }
+    ensures helped { HasHelped D.tells pass.old pass.new }
+    ensures kept { (f : _) → help.old.fault ≡ Some f → help.new.fault ≡ Some f }
+    ensures fault { (f : _) → help.new.fault ≡ Some f → (help.old.fault ≡ Some f) ⊎ ((f.0 ≡ volume) × IsBroken (notes_seen pass.new)) }
+{
+    let fetched = fetch_turn(rt, lock, pass, shared, &mut help.fetch);
+    let fetched = help.took(volume, fetched);
+    let put = put_turn(rt, lock, pass, shared, &help.fetch, &mut help.tally);
+    let put = help.took(volume, put);
+    let dropped = drop_turn(rt, lock, pass, shared, &mut help.tally);
+    let dropped = help.took(volume, dropped);
+    fetched | put | dropped
+}
+
+// Three steps on each volume in order. Tells whether one of them did something.
+fn help_round<D: Disk, R: Wait>(
+    rt: &R,
+    locks: &[TurnLock<Manager<D>>],
+    shared: &Shared<D>,
+    helpers: &mut [Pass<Manager<D>>],
+    help: &mut HelperRoom,
+) -> bool
+    requires count { length helpers.old ≡ length locks.now }
+    requires few { length helpers.old ≤ 2 ^ 32 }
+    requires passes { ArePassesAt locks.now helper helpers.old }
+    requires shared { AreSharing shared.now helpers.old }
+    requires cause { IsCause helpers.old help.old.fault }
+    ensures helped { AreHelped D.tells helpers.old helpers.new }
+    ensures cause { IsCause helpers.new help.new.fault }
+{
+    let mut did = false;
+    for k in 0..helpers.len() {
+        let some = help_one(rt, &locks[k], &mut helpers[k], shared, k as u32, help);
+        did |= some;
+    }
+    did
+}
+
+/// Makes rounds until one did nothing, and at most this many.
+pub(crate) fn help<D: Disk, R: Wait>(
+    rt: &R,
+    locks: &[TurnLock<Manager<D>>],
+    shared: &Shared<D>,
+    rounds: usize,
+    helpers: &mut [Pass<Manager<D>>],
+    help: &mut HelperRoom,
+)
+    requires count { length helpers.old ≡ length locks.now }
+    requires few { length helpers.old ≤ 2 ^ 32 }
+    requires passes { ArePassesAt locks.now helper helpers.old }
+    requires shared { AreSharing shared.now helpers.old }
+    requires cause { IsCause helpers.old help.old.fault }
+    ensures helped { AreHelped D.tells helpers.old helpers.new }
+    ensures cause { IsCause helpers.new help.new.fault }
+{
+    for _ in 0..rounds {
+        if !help_round(rt, locks, shared, helpers, help) {
+            break;
+        }
+    }
+}

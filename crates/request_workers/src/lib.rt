@@ -1,0 +1,33 @@
+//! Windows of requests over volumes, each under its lock: workers serve the volumes side by side, and what is due is
+//! reclaimed after the requests or beside them.
+#![tactic(auto)]
+
+mod begin;
+mod beside;
+pub mod calls;
+mod closing;
+mod desk;
+mod drain;
+mod floor;
+mod gather;
+mod helper;
+mod noted;
+mod payload;
+mod read;
+mod reclaim;
+mod request;
+mod run;
+mod serve;
+mod setting;
+mod slices;
+mod station;
+mod step;
+mod tally;
+mod write;
+
+pub use begin::begin_window;
+pub use desk::Desk;
+pub use floor::Floor;
+pub use request::{Outcome, Reclaim, Request, Window};
+pub use setting::{set_up, take_down};
+pub use station::Station;
