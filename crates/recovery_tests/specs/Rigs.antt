@@ -1,5 +1,5 @@
 -- A volume that is about to be opened, with all that it shares.
-use Rattle.std.specs.Prelude.{◌≡◌, ℕ, true, List, [], ◌∷◌, length, None}
+use Rattle.std.specs.Prelude.{◌≡◌, true, List, [], ◌∷◌, length, None}
 use Rattle.wol_disk.specs.Memory.{mem_state}
 use Rattle.wol_disk.specs.declared.memory.MemDisk.{MemDisk}
 use Rattle.wol_model.specs.Log.{Record}
@@ -13,7 +13,9 @@ use Rattle.seg_pool.specs.Operations.{holds}
 use Rattle.seg_pool.specs.declared.base.PoolBase.{PoolBase}
 use Rattle.seg_pool.specs.declared.pool.Pool.{Pool}
 use Rattle.log_segment.specs.Kept.{Keeps}
+use Rattle.log_segment.specs.Segment.{IsSegment, IsWhole, Holds, segment_volume, blocks_of, owner_of, place_of}
 use Rattle.log_segment.specs.declared.free.FreeSegment.{FreeSegment}
+use Rattle.log_segment.specs.declared.segment.Segment.{Segment}
 use Rattle.logger.specs.Lanes.{IsLane, logger_of, lane_owner, held_in, taken_in, pool_of, spindle_of, segments_in}
 use Rattle.logger.specs.declared.lane.Lane.{Lane}
 use Rattle.logger.specs.declared.shared.Shared.{Shared}
@@ -36,6 +38,16 @@ pub record IsOwnedPart (part : Spun MemDisk) : Type 0 where
   pub size : (state_of mem_state part).size ≡ 16
   pub records : List Record
   pub kept : Keeps (state_of mem_state part) 0 records
+
+-- such a segment without a record
+pub record IsFreshSegment (seg : Segment MemDisk) : Type 0 where
+  pub shape : IsSegment mem_state seg
+  pub whole : IsWhole seg
+  pub volume_is : segment_volume seg ≡ 1
+  pub blocks_are : blocks_of seg ≡ 16
+  pub owner : owner_of seg ≡ 0
+  pub place : place_of seg ≡ 1
+  pub kept : Holds mem_state seg []
 
 -- a lane of volume 0 on volume 1 that holds nothing yet and has room for two segments, with these passes
 pub record IsFirstLane (pool : PassOf (Pool (FreeSegment MemDisk)) PoolBase) (spindle : PassOf Spindle SpindleBase) (l : Lane MemDisk) : Type 0 where

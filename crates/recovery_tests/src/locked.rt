@@ -4,11 +4,11 @@ ghost use Rattle.turn_lock.specs.Passes.{pass_lock, pass_mine, pass_number};
 ghost use Rattle.wol_disk.specs.Memory.{mem_state};
 ghost use Rattle.log_segment.specs.Segment.{IsBlank};
 ghost use Rattle.manager_tests.specs.Locked.{HasOnePass, HasSpindle};
-ghost use Rattle.recovery_tests.specs.Rigs.{HasTwoHeld, HasNone, IsOwnedPart};
+ghost use Rattle.recovery_tests.specs.Rigs.{HasTwoHeld, IsFreshSegment, IsOwnedPart};
 
 use log_layout::{SegHead, write_seg};
 use log_scan::Adopted;
-use log_segment::FreeSegment;
+use log_segment::{FreeSegment, Segment};
 use log_tests::open_segment;
 use seg_pool::Pool;
 use spin_model::{Spindle, Spun};
@@ -118,22 +118,51 @@ fn free_segment<R: Abort>(rt: &R, alloc: Global) -> FreeSegment<MemDisk>
     }
 }
 
+// A segment of volume 0 in the image of volume 1, without a record.
+fn owned_segment<R: Abort>(rt: &R, alloc: Global) -> Segment<MemDisk>
+    ensures { IsFreshSegment result }
+{
+    let free = free_segment(rt, alloc);
+    let mut spindle = Spindle::new(alloc, 1, TIMEOUT);
+    let token = spindle.need();
+    let claimed = free.claim(&token, 0);
+    spindle.done(token);
+    match claimed {
+        Ok(segment) => segment,
+        Err((_failed, _segment)) => panic!(rt; "no claim"),
+    }
+}
+
+// Its part with a record of blocks 1 and 2 of this version.
+fn with_record<R: Abort>(
+    rt: &R,
+    alloc: Global,
+    segment: Segment<MemDisk>,
+    version: u64,
+) -> Spun<MemDisk>
+    requires fresh { IsFreshSegment segment }
+    requires version { (1 ≤ version) × (version < 2 ^ 63) }
+    ensures { IsOwnedPart result }
+{
+    let mut segment = segment;
+    let mut spindle = Spindle::new(alloc, 1, TIMEOUT);
+    let token = spindle.need();
+    let added = segment.append(&token, version, 1, &[[7; 512], [8; 512]]);
+    spindle.done(token);
+    match added {
+        Ok(_position) => segment.into_part(),
+        Err(_failed) => panic!(rt; "no record"),
+    }
+}
+
 /// The part of a segment of volume 0 in the image of volume 1, with a record of blocks 1 and 2 of this version, or without one.
 pub fn owned_part<R: Abort>(rt: &R, alloc: Global, version: Option<u64>) -> Spun<MemDisk>
     requires { IfSome version (λ v. (1 ≤ v) × (v < 2 ^ 63)) }
     ensures { IsOwnedPart result }
 {
-    let free = free_segment(rt, alloc);
-    let mut spindle = Spindle::new(alloc, 1, TIMEOUT);
-    let token = spindle.need();
-    let mut segment = match free.claim(&token, 0) {
-        Ok(segment) => segment,
-        Err((_failed, _segment)) => panic!(rt; "no claim"),
-    };
-    if let Some(version) = version {
-        let at = segment.append(&token, version, 1, &[[7; 512], [8; 512]]);
-        assert_eq!(rt; at, Ok(1));
+    let segment = owned_segment(rt, alloc);
+    match version {
+        Some(version) => with_record(rt, alloc, segment, version),
+        None => segment.into_part(),
     }
-    spindle.done(token);
-    segment.into_part()
 }
