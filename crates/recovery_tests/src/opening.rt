@@ -1,0 +1,40 @@
+// A volume is opened, or refused with the place of what is wrong.
+use crate::rig::{Opened, Rig};
+use manager_recovery::OpenRefusal;
+use std::test::Fail;
+
+#[test]
+fn a_segment_that_holds_nothing_goes_to_its_pool(rt: HostRuntime) -> Result<(), Fail> {
+    let opened = Rig::new(&rt, rt.alloc(), 8, Some(3), None).open(&rt, rt.alloc());
+    let want = Opened {
+        records: 1,
+        held: 1,
+        free: 1,
+    };
+    assert_eq!(rt; opened, Ok(want));
+    Ok(())
+}
+
+#[test]
+fn two_records_of_one_version_are_told_with_both_places(rt: HostRuntime) -> Result<(), Fail> {
+    let opened = Rig::new(&rt, rt.alloc(), 8, Some(5), Some(5)).open(&rt, rt.alloc());
+    let twins = OpenRefusal::Twins {
+        first_volume: 1,
+        first: 11,
+        second_volume: 1,
+        second: 27,
+    };
+    assert_eq!(rt; opened, Err(twins));
+    Ok(())
+}
+
+#[test]
+fn a_record_that_passes_the_end_is_told_with_its_block(rt: HostRuntime) -> Result<(), Fail> {
+    let opened = Rig::new(&rt, rt.alloc(), 2, None, Some(5)).open(&rt, rt.alloc());
+    let damaged = OpenRefusal::Damaged {
+        volume: 1,
+        block: 27,
+    };
+    assert_eq!(rt; opened, Err(damaged));
+    Ok(())
+}
