@@ -1,5 +1,5 @@
 // The windows of a source, as a run over a trace goes through them.
-ghost use Rattle.std.specs.Prelude.{◌≡◌, ◌+◌, ◌<◌, ◌^◌, ℕ, true, length, option_map, IfOk, IfSome, OnOk};
+ghost use Rattle.std.specs.Prelude.{◌≡◌, ◌+◌, ◌<◌, ◌≤◌, ◌^◌, ℕ, true, length, option_map, IfOk, IfSome, OnOk};
 ghost use Rattle.wol_config.specs.Configs.{IsValid};
 ghost use Rattle.trace_gen.specs.Generated.{targets_of};
 ghost use Rattle.msr_trace.specs.Lines.{Fits, trace_line};
@@ -72,7 +72,8 @@ pub fn cut_source(
     requires valid { IsValid config.now }
     requires live { lines.old.live ≡ true }
     requires none { lines.old.given ≡ 0 }
-    ensures { IfOk result (λ r. AreCuts (most_of config.now) (targets_of config.now) r.0.items) }
+    ensures cuts { IfOk result (λ r. AreCuts (most_of config.now) (targets_of config.now) r.0.items) }
+    ensures order { IfOk result (λ r. r.1.started ≤ r.1.ended) }
 {
     let mut cutter = Cutter::new(alloc);
     let mut cuts = Vec::new(alloc);

@@ -1,4 +1,6 @@
 // Traces whose windows are known.
+ghost use Rattle.std.specs.Prelude.{◌≤◌, IfOk};
+
 use crate::cuts::{Cut, cut_source};
 use msr_trace::Lines;
 use std::alloc::Global;
@@ -29,7 +31,9 @@ view = []
 "#;
 
 // The windows of a trace over two volumes.
-fn cut_text(alloc: Global, text: &[u8]) -> Result<(Vec<Cut>, Tally), Fail> {
+fn cut_text(alloc: Global, text: &[u8]) -> Result<(Vec<Cut>, Tally), Fail>
+    ensures { IfOk result (λ r. r.1.started ≤ r.1.ended) }
+{
     let config = read_config(alloc, THREE_VOLUMES.as_bytes())?;
     let cuts = vec![in alloc; 4096; text.len()]?;
     let mut lines = Lines::new(alloc, MemSource::new(text.to_vec(alloc)?, cuts, None));
