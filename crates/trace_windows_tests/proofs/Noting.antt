@@ -1,5 +1,5 @@
 -- A window more is noted.
-use Rattle.std.proofs.Common.{◌≡◌, ℕ, List, [], ◌∷◌, ◌++◌, length, map, refl, sym, ap, ◌∙◌}
+use Rattle.std.proofs.Common.{◌≡◌, ℕ, List, [], ◌∷◌, ◌++◌, length, map, refl, sym}
 use Rattle.std.proofs.lemmas.List.{map-append}
 use Rattle.wol_model.specs.Trace.{Target, Window}
 use Rattle.trace_windows.specs.Batches.{Batched, IsBatchOf}
