@@ -1,5 +1,5 @@
 // A volume of one block of zeros. The digest is that of 512 zero bytes.
-use crate::rig::Rig;
+use crate::making::{close, new_rig};
 use std::test::Fail;
 use wol_config::read_config;
 
@@ -21,10 +21,10 @@ fn tells_a_volume_of_zeros(rt: HostRuntime) -> Result<(), Fail> {
     let alloc = rt.alloc();
     let config = read_config(alloc, ONE_VOLUME.as_bytes())?;
     let mut out = Vec::new(alloc);
-    let mut rig = Rig::new(&rt, alloc, &config);
+    let mut rig = new_rig(&rt, alloc, &config);
     let dumped = rig.dump(&config, &mut out);
     let checked = rig.check(&rt, alloc, &config, &mut out);
-    rig.close(&rt, alloc, &config);
+    close(&rt, alloc, rig, &config);
     assert_eq!(rt; dumped, Ok(()));
     assert_eq!(rt; checked, Ok(()));
     assert_eq!(rt;

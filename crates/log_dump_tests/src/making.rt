@@ -51,47 +51,45 @@ fn spindle_of<R: Abort>(rt: &R, alloc: Global) -> (TurnLock<Spindle>, Pass<Spind
     locked(rt, alloc, Spindle::new(alloc, 0, 600_000_000))
 }
 
-impl Rig {
-    /// The first volume of a configuration, with zeros.
-    pub fn new<R: Abort>(rt: &R, alloc: Global, config: &Config) -> Rig
-        requires { IsValid config.now }
-        ensures { IsRig config.now result }
-    {
-        let (lock, pass) = spindle_of(rt, alloc);
-        let mut spindles = Vec::with_capacity(alloc, 1).expect(rt, "a row");
-        spindles.push_reserved(lock);
-        let disk = MemDisk::new(alloc, config.volumes[0].home).expect(rt, "home");
-        let home = Spun::new(0, disk);
-        let index = Index::new(alloc);
-        Rig {
-            shared: Shared {
-                pools: Vec::new(alloc),
-                spindles,
-            },
-            manager: Manager::new(0, home, pass, Vec::new(alloc), index, 1, config.most()),
-        }
+/// The first volume of a configuration, with zeros.
+pub fn new_rig<R: Abort>(rt: &R, alloc: Global, config: &Config) -> Rig
+    requires { IsValid config.now }
+    ensures { IsRig config.now result }
+{
+    let (lock, pass) = spindle_of(rt, alloc);
+    let mut spindles = Vec::with_capacity(alloc, 1).expect(rt, "a row");
+    spindles.push_reserved(lock);
+    let disk = MemDisk::new(alloc, config.volumes[0].home).expect(rt, "home");
+    let home = Spun::new(0, disk);
+    let index = Index::new(alloc);
+    Rig {
+        shared: Shared {
+            pools: Vec::new(alloc),
+            spindles,
+        },
+        manager: Manager::new(0, home, pass, Vec::new(alloc), index, 1, config.most()),
     }
+}
 
-    /// Takes the rig apart.
-    pub fn close<R: Abort>(self, rt: &R, alloc: Global, _config: &Config)
-        requires { IsRig _config.now self }
-    {
-        let Rig { shared, manager } = self;
-        let Shared {
-            pools,
-            mut spindles,
-        } = shared;
-        let ManagerParts {
-            home: _home,
-            spindle,
-            lanes,
-        } = manager.release();
-        lanes.destroy_empty();
-        let Some(lock) = spindles.pop() else {
-            unreachable!()
-        };
-        spindles.destroy_empty();
-        pools.destroy_empty();
-        let _spindle = unlocked(rt, alloc, lock, spindle);
-    }
+/// Takes the rig apart.
+pub fn close<R: Abort>(rt: &R, alloc: Global, rig: Rig, _config: &Config)
+    requires { IsRig _config.now rig }
+{
+    let Rig { shared, manager } = rig;
+    let Shared {
+        pools,
+        mut spindles,
+    } = shared;
+    let ManagerParts {
+        home: _home,
+        spindle,
+        lanes,
+    } = manager.release();
+    lanes.destroy_empty();
+    let Some(lock) = spindles.pop() else {
+        unreachable!()
+    };
+    spindles.destroy_empty();
+    pools.destroy_empty();
+    let _spindle = unlocked(rt, alloc, lock, spindle);
 }

@@ -75,58 +75,56 @@ fn sleeping<R: Abort + Wait>(rt: &R, alloc: Global) -> (TurnLock<Spindle>, Pass<
     (lock, pass)
 }
 
-impl Rig {
-    /// A new rig, in which home's disk has gone to sleep and both disks count as awake.
-    pub fn new<R: Abort + Wait>(rt: &R, alloc: Global) -> Rig
-        ensures { IsRig result }
-    {
-        let (home_lock, home_pass) = sleeping(rt, alloc);
-        let (logger_lock, logger_pass) = spindle_of(rt, alloc, 1);
-        let (own_pool_lock, own_pool) = pool_of(rt, alloc, 0, false);
-        let (pool_lock, pool_pass) = pool_of(rt, alloc, 1, true);
-        let lanes = lanes(rt, alloc, pool_pass, logger_pass);
-        let home = Spun::new(0, MemDisk::new(alloc, 8).expect(rt, "home"));
-        Rig {
-            shared: Shared {
-                pools: two(rt, alloc, own_pool_lock, pool_lock),
-                spindles: two(rt, alloc, home_lock, logger_lock),
-            },
-            manager: Manager::new(0, home, home_pass, lanes, Index::new(alloc), 1, 4),
-            fetched: Fetch::new(alloc).expect(rt, "room for a record"),
-            own_pool,
-        }
+/// A new rig, in which home's disk has gone to sleep and both disks count as awake.
+pub fn new_rig<R: Abort + Wait>(rt: &R, alloc: Global) -> Rig
+    ensures { IsRig result }
+{
+    let (home_lock, home_pass) = sleeping(rt, alloc);
+    let (logger_lock, logger_pass) = spindle_of(rt, alloc, 1);
+    let (own_pool_lock, own_pool) = pool_of(rt, alloc, 0, false);
+    let (pool_lock, pool_pass) = pool_of(rt, alloc, 1, true);
+    let lanes = lanes(rt, alloc, pool_pass, logger_pass);
+    let home = Spun::new(0, MemDisk::new(alloc, 8).expect(rt, "home"));
+    Rig {
+        shared: Shared {
+            pools: two(rt, alloc, own_pool_lock, pool_lock),
+            spindles: two(rt, alloc, home_lock, logger_lock),
+        },
+        manager: Manager::new(0, home, home_pass, lanes, Index::new(alloc), 1, 4),
+        fetched: Fetch::new(alloc).expect(rt, "room for a record"),
+        own_pool,
     }
+}
 
-    /// Takes it apart.
-    pub fn apart<R: Abort>(self, rt: &R, alloc: Global) -> Remains
-        requires { IsRig self }
-    {
-        let Rig {
-            shared,
-            manager,
-            fetched: _,
-            own_pool,
-        } = self;
-        let ManagerParts {
-            home: _,
-            spindle,
-            lanes,
-        } = manager.release();
-        let LaneParts {
-            logger: _,
-            held: _,
-            pool: pool_pass,
-            spindle: logger_pass,
-        } = sole(lanes).release();
-        let Shared { pools, spindles } = shared;
-        let (own_pool_lock, pool_lock) = both(pools);
-        let (home_lock, logger_lock) = both(spindles);
-        unlocked(rt, alloc, own_pool_lock, own_pool);
-        Remains {
-            home: journal(rt, alloc, home_lock, spindle),
-            logger: journal(rt, alloc, logger_lock, logger_pass),
-            free: unlocked(rt, alloc, pool_lock, pool_pass).len(),
-        }
+/// Takes it apart.
+pub fn apart<R: Abort>(rt: &R, alloc: Global, rig: Rig) -> Remains
+    requires { IsRig rig }
+{
+    let Rig {
+        shared,
+        manager,
+        fetched: _,
+        own_pool,
+    } = rig;
+    let ManagerParts {
+        home: _,
+        spindle,
+        lanes,
+    } = manager.release();
+    let LaneParts {
+        logger: _,
+        held: _,
+        pool: pool_pass,
+        spindle: logger_pass,
+    } = sole(lanes).release();
+    let Shared { pools, spindles } = shared;
+    let (own_pool_lock, pool_lock) = both(pools);
+    let (home_lock, logger_lock) = both(spindles);
+    unlocked(rt, alloc, own_pool_lock, own_pool);
+    Remains {
+        home: journal(rt, alloc, home_lock, spindle),
+        logger: journal(rt, alloc, logger_lock, logger_pass),
+        free: unlocked(rt, alloc, pool_lock, pool_pass).len(),
     }
 }
 

@@ -1,6 +1,7 @@
 // Records that lie over one another go home, and what they keep is given up.
 ghost use Rattle.manager_tests.specs.Rigs.{IsRig};
 
+use crate::making::{apart, new_rig};
 use crate::rig::Rig;
 use garbage_list::may_go;
 use manager::{Place, Sources};
@@ -38,7 +39,7 @@ fn marks_of(index: &Index, version: u64) -> Option<Marks> {
 fn overlapping<R: Abort + Wait>(rt: &R, alloc: Global) -> Rig
     ensures { IsRig result }
 {
-    let mut rig = Rig::new(rt, alloc);
+    let mut rig = new_rig(rt, alloc);
     rig.begin(false, true);
     let first = rig.write(rt, 1, &[[11; 512], [12; 512], [13; 512], [14; 512]]);
     let second = rig.write(rt, 2, &[[22; 512], [23; 512]]);
@@ -56,7 +57,7 @@ fn what_a_newer_record_covers_is_given_up_while_home_sleeps(rt: HostRuntime) -> 
     let first_after = marks_of(rig.manager.index(), 1);
     let second_after = marks_of(rig.manager.index(), 2);
     let covered = rig.manager.index().covered(1, 4);
-    let remains = rig.apart(&rt, rt.alloc());
+    let remains = apart(&rt, rt.alloc(), rig);
     let marks = Marks {
         pos: 1,
         keep: 15,
@@ -107,7 +108,7 @@ fn two_versions_go_home_and_are_gone_in_order(rt: HostRuntime) -> Result<(), Fai
     ];
     let mut out = [[0; 512]; 4];
     let read = rig.read(&rt, 1, &mut out);
-    let remains = rig.apart(&rt, rt.alloc());
+    let remains = apart(&rt, rt.alloc(), rig);
     assert_eq!(rt;
         first,
         (
@@ -148,7 +149,7 @@ fn two_versions_go_home_and_are_gone_in_order(rt: HostRuntime) -> Result<(), Fai
 fn a_block_that_was_overwritten_since_it_was_fetched_is_not_put_home(
     rt: HostRuntime,
 ) -> Result<(), Fail> {
-    let mut rig = Rig::new(&rt, rt.alloc());
+    let mut rig = new_rig(&rt, rt.alloc());
     rig.begin(false, true);
     let first = rig.write(&rt, 5, &[[1; 512]]);
     rig.begin(true, true);
@@ -157,7 +158,7 @@ fn a_block_that_was_overwritten_since_it_was_fetched_is_not_put_home(
     let put = rig.put_home(&rt);
     let mut out = [[0; 512]];
     let read = rig.read(&rt, 5, &mut out);
-    let _remains = rig.apart(&rt, rt.alloc());
+    let _remains = apart(&rt, rt.alloc(), rig);
     assert_eq!(rt;
         [first, second],
         [Ok(Place::Log { logger: 1 }), Ok(Place::Log { logger: 1 })]
@@ -182,7 +183,7 @@ fn a_drain_wakes_home_and_leaves_no_record(rt: HostRuntime) -> Result<(), Fail> 
         assert_eq!(rt; rig.drain_step(&rt), Ok(Drain::Moved { blocks, records }));
     }
     let last = rig.drain_step(&rt);
-    let remains = rig.apart(&rt, rt.alloc());
+    let remains = apart(&rt, rt.alloc(), rig);
     assert_eq!(rt; last, Ok(Drain::Bare));
     assert_eq!(rt; remains.free, 1);
     assert_eq!(rt;

@@ -1,7 +1,8 @@
-//! Tests of windows over the lines of a source, as a run takes them.
+//! The windows of a source, as a run over a trace goes through them, and tests of them.
 #![tactic(auto)]
 
-#[cfg(test)]
 mod cuts;
 #[cfg(test)]
 mod tests;
+
+pub use cuts::{Cut, cut_source};

@@ -6,7 +6,7 @@ use Rattle.wol_disk.specs.declared.memory.MemDisk.{MemDisk}
 use Rattle.logger.specs.declared.shared.Shared.{Shared}
 use Rattle.reclaimer.specs.Records.{FetchedRecord}
 use Rattle.manager_tests.proofs.Opened.{opened_ready, opened_rig}
-use Rattle.manager_tests.proofs.rig.Rig.new.Goals as goal
+use Rattle.manager_tests.proofs.making.new_rig.Goals as goal
 
 pub new-requires-3-clause-ready : goal.new-requires-3-clause-ready
 new-requires-3-clause-ready g c =

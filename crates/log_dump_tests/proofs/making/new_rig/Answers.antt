@@ -13,7 +13,7 @@ use Rattle.manager.specs.declared.manager.Manager.{Manager}
 use Rattle.log_dump.proofs.Naming.{read_at}
 use Rattle.log_dump_tests.specs.Rigs.{IsRig}
 use Rattle.log_dump_tests.proofs.Opened.{first_volume, opened_rig}
-use Rattle.log_dump_tests.proofs.rig.Rig.new.Goals as goal
+use Rattle.log_dump_tests.proofs.making.new_rig.Goals as goal
 
 pub returns : goal.returns
 returns g c =
