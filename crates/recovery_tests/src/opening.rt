@@ -1,11 +1,12 @@
 // A volume is opened, or refused with the place of what is wrong.
-use crate::rig::{Opened, Rig};
+use crate::making::{Opened, new_rig, open_rig};
 use manager_recovery::OpenRefusal;
 use std::test::Fail;
 
 #[test]
 fn a_segment_that_holds_nothing_goes_to_its_pool(rt: HostRuntime) -> Result<(), Fail> {
-    let opened = Rig::new(&rt, rt.alloc(), 8, Some(3), None).open(&rt, rt.alloc());
+    let rig = new_rig(&rt, rt.alloc(), 8, Some(3), None);
+    let opened = open_rig(&rt, rt.alloc(), rig);
     let want = Opened {
         records: 1,
         held: 1,
@@ -17,7 +18,8 @@ fn a_segment_that_holds_nothing_goes_to_its_pool(rt: HostRuntime) -> Result<(), 
 
 #[test]
 fn two_records_of_one_version_are_told_with_both_places(rt: HostRuntime) -> Result<(), Fail> {
-    let opened = Rig::new(&rt, rt.alloc(), 8, Some(5), Some(5)).open(&rt, rt.alloc());
+    let rig = new_rig(&rt, rt.alloc(), 8, Some(5), Some(5));
+    let opened = open_rig(&rt, rt.alloc(), rig);
     let twins = OpenRefusal::Twins {
         first_volume: 1,
         first: 11,
@@ -30,7 +32,8 @@ fn two_records_of_one_version_are_told_with_both_places(rt: HostRuntime) -> Resu
 
 #[test]
 fn a_record_that_passes_the_end_is_told_with_its_block(rt: HostRuntime) -> Result<(), Fail> {
-    let opened = Rig::new(&rt, rt.alloc(), 2, None, Some(5)).open(&rt, rt.alloc());
+    let rig = new_rig(&rt, rt.alloc(), 2, None, Some(5));
+    let opened = open_rig(&rt, rt.alloc(), rig);
     let damaged = OpenRefusal::Damaged {
         volume: 1,
         block: 27,

@@ -1,5 +1,5 @@
 use Rattle.std.proofs.Common.{rules}
-use Rattle.recovery_tests.proofs.rig.lanes.Goals as goal
+use Rattle.recovery_tests.proofs.making.lanes.Goals as goal
 
 pub returns : goal.returns
 returns g c = (

@@ -5,7 +5,7 @@ use Rattle.logger.specs.declared.shared.Shared.{Shared}
 use Rattle.manager_recovery.specs.declared.opening.Opening.{Opening}
 use Rattle.manager_recovery.specs.declared.opening.OwnedPart.{OwnedPart}
 use Rattle.recovery_tests.proofs.Rigged.{can, passes, viewed}
-use Rattle.recovery_tests.proofs.rig.Rig.new.Goals as goal
+use Rattle.recovery_tests.proofs.making.new_rig.Goals as goal
 
 pub returns : goal.returns
 returns g c =
