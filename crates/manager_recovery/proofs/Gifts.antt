@@ -3,6 +3,7 @@ use Rattle.std.proofs.Common.{◌≡◌, ◌≢◌, ℕ, zero, suc, Bool, true, 
 use Rattle.std.specs.Prelude.{slice_get, slice_set, reverse, option_map}
 use Rattle.std.specs.List.{AllByRecursion, AllZip}
 use Rattle.std.proofs.lemmas.Bool.{eq-eqb, ne_eqb}
+use Rattle.std.proofs.lemmas.Grind.{reverse_onto}
 use Rattle.std.proofs.lemmas.List.{append_assoc, append-nil, map-append}
 use Rattle.std.proofs.lemmas.Option.{same_Some, slice_get-map}
 use Rattle.wol_disk.specs.Disk.{State}
@@ -28,7 +29,7 @@ abbrev pub gifts : (pass : ℕ) → List ℕ → List Entry
 gifts pass indexes = map (λ index. (pass, operation_of (Gave index))) (reverse indexes)
 
 gifts_more : (pass index : ℕ) (indexes : List ℕ) → gifts pass (index ∷ indexes) ≡ gifts pass indexes ++ gift pass index ∷ []
-gifts_more pass index indexes = map-append (gift pass) (reverse indexes) (index ∷ [])
+gifts_more pass index indexes = ap (map (gift pass)) (reverse_onto indexes index []) ∙ map-append (gift pass) (reverse indexes) (index ∷ [])
 
 module _ {D : Type 0} where
   -- nothing was freed

@@ -1,4 +1,4 @@
-use Rattle.std.proofs.Common.{◌≡◌, ◌-◌, ℕ, List, false, true, Some, slice_set, arith, refl, sym, ap, subst, ◌∙◌, eqb}
+use Rattle.std.proofs.Common.{◌≡◌, ◌-◌, ℕ, suc, List, false, true, Some, slice_set, arith, refl, sym, ap, subst, ◌∙◌, eqb}
 use Rattle.std.specs.Prelude.{Contains, position}
 use Rattle.std.specs.List.{list_any}
 use Rattle.std.proofs.lemmas.Option.{same_Some, none-some, slice_get_within}
