@@ -27,7 +27,7 @@ use Rattle.logger.specs.declared.lane.Lane.{Lane}
 use Rattle.logger.specs.declared.shared.Shared.{Shared}
 use Rattle.manager.specs.Stands.{opened}
 use Rattle.manager_recovery.specs.Owned.{Owned, read_of, all_owned, records_in, writes_in, recovered_of}
-use Rattle.manager_recovery.specs.Left.{IsUsedLane, IsHandedBack}
+use Rattle.manager_recovery.specs.Left.{HasGiven, IsUsedLane, IsHandedBack}
 use Rattle.manager_recovery.specs.Opened.{Opens, IsInLane}
 use Rattle.manager_recovery.proofs.InLanes.{all_in_lanes}
 use Rattle.manager_recovery.specs.Recovery.{IsRecovered}
@@ -275,6 +275,7 @@ module _ {D : Type 0} (tells : Bool) (state : D → State) (shared : Shared D) (
       named = rec.named;
       recoverable = rec.recoverable;
       fates = back.fates;
+      pools = lanes_through (HasGiven o.owned.items back.fates) (HoldsItsOwn state shared n.want.id n.most n.owned.items held.segments) (HasGiven o.owned.items back.fates) (λ x y z given h. h.pool ∙ given) o.lanes.items n.lanes.items lanes.items back.pools held.each;
       held = subst (AllByRecursion (IsInLane lanes.items)) back.owned (all_in_lanes state shared n r lanes.items all_gs c n.owned.items r.scans.items held.segments held.adopted refl);
       parts = back.parts;
     }

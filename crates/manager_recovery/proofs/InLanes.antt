@@ -1,6 +1,6 @@
 -- The lanes hold the segments that were handed on.
-use Rattle.std.proofs.Common.{◌≡◌, inl, inr, ◌<◌, ℕ, zero, suc, Bool, true, eqb, eq-eqb, List, [], ◌∷◌, length, map, Some, refl, sym, subst}
-use Rattle.std.specs.Prelude.{slice_get, Contains}
+use Rattle.std.proofs.Common.{◌≡◌, inl, inr, ℕ, zero, suc, eqb, eq-eqb, List, [], ◌∷◌, map, Some, refl, sym, subst}
+use Rattle.std.specs.Prelude.{slice_get}
 use Rattle.std.specs.List.{AllByRecursion}
 use Rattle.std.proofs.lemmas.Option.{same_Some, none-some, get_or_from_slice_get}
 use Rattle.wol_disk.specs.Disk.{State, IsAmong}

@@ -6,6 +6,7 @@ pub mod FirstTwo
 pub mod FoundMore
 pub mod Fronts
 pub mod Gathered
+pub mod Gifts
 pub mod HeadsFound
 pub mod Held
 pub mod InLanes

@@ -27,6 +27,7 @@ use Rattle.manager_recovery.specs.Refused.{HandsBackAll, SegmentRose}
 use Rattle.manager_recovery.specs.Scanned.{IsSeenAgain, IsReadBack, IsSettledPart, IsThinning, has_some}
 use Rattle.manager_recovery.specs.declared.opening.Opening.{Opening}
 use Rattle.manager_recovery.specs.declared.opening.OwnedPart.{OwnedPart}
+use Rattle.manager_recovery.proofs.Gifts.{lanes_same, all_given_kept, all_given_seen}
 use Rattle.manager_recovery.proofs.Leaves.{leaves_parts}
 use Rattle.manager_recovery.proofs.Lists.{zip_map, all_take, zip_get, zip_length, within, there_is}
 use Rattle.manager_recovery.proofs.ScanAll.{zip_then}
@@ -62,6 +63,7 @@ module _ {D : Type 0} (tells : Bool) (state : D → State) (sound : (d : D) → 
         lanes = parts.lanes;
         fates = map Kept n.owned.items;
         owned = sym (all_kept n.owned.items);
+        pools = all_given_kept o.owned.items n.owned.items o.lanes.items n.lanes.items parts.pools;
         parts = leaves_parts state o.want.id tells (λ t p. told t (disk_of p.part)) o.home home o.owned.items (map Kept n.owned.items)
             (subst (λ (h : Spun D). IsAsBefore state h home) home_is home_as) (kept_fates o.want.id o.owned.items n.owned.items parts.owned);
       }
@@ -122,6 +124,7 @@ module _ {D : Type 0} (tells : Bool) (state : D → State) (sound : (d : D) → 
             o.lanes.items n.lanes.items m.lanes.items parts.lanes thinned_.lanes;
         fates = thinned_.fates;
         owned = thinned_.owned;
+        pools = all_given_seen state o.owned.items n.owned.items thinned_.fates parts.owned o.lanes.items n.lanes.items m.lanes.items (lanes_same state shared o.want.id o.most o.lanes.items n.lanes.items parts.lanes) parts.pools thinned_.pools;
         parts = leaves_parts state o.want.id tells (λ t p. told t (disk_of p.part)) o.home m.home o.owned.items thinned_.fates home_all
             (all_fates o.want.id o.owned.items n.owned.items thinned_.fates parts.owned settled_ (subst (λ (w : Label). AreFates state w.id n.owned.items thinned_.fates) want thinned_.each));
       }

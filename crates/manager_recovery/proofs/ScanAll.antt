@@ -15,7 +15,7 @@ use Rattle.manager_recovery.specs.Opening.{CanOpen, IsOpeningLane}
 use Rattle.manager_recovery.specs.Owned.{all_owned, owned_of, AreIntact, IsIntact}
 use Rattle.manager_recovery.specs.Left.{IsUsedLane}
 use Rattle.manager_recovery.specs.Refused.{IsNamesAnswer, Refuses, first_outside, is_named}
-use Rattle.manager_recovery.specs.Scanned.{IsSeenAgain, IsReadBack, IsSettledPart, IsScanned, IsScannedAt, AreReadBack, SegmentRefuses}
+use Rattle.manager_recovery.specs.Scanned.{HasGivenNone, IsSeenAgain, IsReadBack, IsSettledPart, IsScanned, IsScannedAt, AreReadBack, SegmentRefuses}
 use Rattle.manager_recovery.specs.declared.opening.Opening.{Opening}
 use Rattle.manager_recovery.specs.declared.opening.OwnedPart.{OwnedPart}
 use Rattle.manager_recovery.specs.declared.refusal.OpenRefusal.{OpenRefusal}
@@ -72,6 +72,7 @@ module _ {D : Type 0} (tells : Bool) (state : D → State) (sound : (d : D) → 
     parts = record {
       same = refl;
       lanes = used_all o.want.id o.most o.lanes.items can.lanes;
+      pools = zip_self HasGivenNone (λ l. refl) o.lanes.items;
       owned = zip_self (IsSeenAgain state) (seen_self state sound) o.owned.items;
     };
     rest = refl;
@@ -96,6 +97,7 @@ module _ {D : Type 0} (tells : Bool) (state : D → State) (sound : (d : D) → 
       lanes = zip_then (IsUsedLane state shared o.want.id o.most) (IsUsedLane state shared n.want.id n.most) (IsUsedLane state shared o.want.id o.most)
           (λ x y z first second. used_then state shared o.want.id o.most x y z first (subst (λ (w : Label). IsUsedLane state shared w.id o.most y z) want (subst (λ (most_ : ℕ). IsUsedLane state shared n.want.id most_ y z) most second)))
           o.lanes.items n.lanes.items m.lanes.items sofar.parts.lanes at.lanes;
+      pools = zip_then HasGivenNone HasGivenNone HasGivenNone (λ x y z first second. second ∙ first) o.lanes.items n.lanes.items m.lanes.items sofar.parts.pools at.pools;
       owned = subst (AllZip (IsSeenAgain state) o.owned.items) (sym at.set)
           (zip_change (IsSeenAgain state) o.owned.items n.owned.items k at.before at.after at.there (λ x is. seen_then state sound x at.before at.after is at.seen) sofar.parts.owned);
     }

@@ -12,18 +12,18 @@ use Rattle.wol_disk.proofs.Images.{reads_only}
 use Rattle.wol_disk.proofs.Moments.{started, then_leaves}
 use Rattle.wol_disk.proofs.Calls.{now_leaves}
 use Rattle.wol_model.specs.Heads.{owned_block}
-use Rattle.turn_lock.specs.Passes.{lock_id}
+use Rattle.turn_lock.specs.Passes.{lock_id, pass_mine}
 use Rattle.spin_model.specs.Spun.{state_of, disk_of}
-use Rattle.logger.specs.Lanes.{IsLane, IsAt, IsSameLane, logger_of, held_in, taken_in, pool_blocks}
+use Rattle.logger.specs.Lanes.{IsLane, IsAt, IsSameLane, logger_of, held_in, taken_in, pool_of, pool_blocks}
 use Rattle.logger.specs.declared.lane.Lane.{Lane}
 use Rattle.logger.specs.declared.shared.Shared.{Shared}
 use Rattle.manager_recovery.specs.Opening.{CanOpen, IsOpeningLane, IsOwned, IsHeldIn, SaysOwner, AreInOrder, place_of}
 use Rattle.manager_recovery.specs.Left.{IsSameOwned, IsUsedLane}
 use Rattle.manager_recovery.specs.Refused.{first_missing}
-use Rattle.manager_recovery.specs.Scanned.{IsSeenAgain, IsSettledPart}
+use Rattle.manager_recovery.specs.Scanned.{HasGivenNone, IsSeenAgain, IsSettledPart}
 use Rattle.manager_recovery.specs.declared.opening.Opening.{Opening}
 use Rattle.manager_recovery.specs.declared.opening.OwnedPart.{OwnedPart}
-use Rattle.manager_recovery.proofs.Lists.{all_map, all_get, all_set, zip_change, map_set}
+use Rattle.manager_recovery.proofs.Lists.{all_map, all_get, all_set, zip_change, zip_self, map_set}
 
 -- ---- Lanes
 
@@ -158,6 +158,11 @@ module _ {D : Type 0} (state : D → State) (shared : Shared D) (o : Opening D) 
       zip_used : (ls : List (Lane D)) → AllByRecursion (IsOpeningLane state shared o.want.id o.most) ls → AllZip (IsUsedLane state shared o.want.id o.most) ls ls
       zip_used [] all = tt
       zip_used (l ∷ ls) all = (used_self state shared o.want.id o.most l all.0, zip_used ls all.1)
+
+-- its pass did nothing at the pool
+pub pools_unused : {D : Type 0} (ls : List (Lane D)) (place : ℕ) (old new : Lane D) → slice_get ls place ≡ Some old → new ≡ record old { spindle = new.spindle } → AllZip HasGivenNone ls (slice_set ls place new)
+pools_unused {D} ls place old new there rest =
+    zip_change HasGivenNone ls ls place old new there (λ x is. ap (λ (l : Lane D). pass_mine (pool_of l)) rest ∙ is) (zip_self HasGivenNone (λ l. refl) ls)
 
 -- ---- The lane of a segment
 

@@ -8,6 +8,7 @@ use Rattle.std.proofs.lemmas.Option.{same_Some}
 use Rattle.wol_disk.specs.Disk.{State, IsDisk}
 use Rattle.wol_disk.proofs.Moments.{started}
 use Rattle.wol_model.specs.Blocks.{AreApart}
+use Rattle.wol_model.specs.Heads.{IsViewList}
 use Rattle.turn_lock.specs.LockIds.{LockId}
 use Rattle.turn_lock.specs.Passes.{lock_id, pass_lock, pass_number, pass_mine, IsFree}
 use Rattle.spin_model.specs.Operations.{has_token}
@@ -23,12 +24,14 @@ use Rattle.logger.specs.declared.lane.Lane.{Lane}
 use Rattle.logger.specs.declared.shared.Shared.{Shared}
 use Rattle.manager.proofs.Lanes.{all_at, all_set, map_set}
 use Rattle.manager_recovery.specs.Opening.{CanOpen, IsOpeningLane, IsOwned, IsHeldIn, IsBefore, AreInOrder, SaysOwner, place_of}
-use Rattle.manager_recovery.specs.Left.{IsUsedLane, Fate, Kept, Freed, kept_of, IsFateOf, AreFates}
+use Rattle.manager_recovery.specs.Left.{HasGiven, IsUsedLane, Fate, Kept, Freed, kept_of, IsFateOf, AreFates}
 use Rattle.manager_recovery.specs.Refused.{IsNamesAnswer, first_missing}
-use Rattle.manager_recovery.specs.Scanned.{IsScanned, IsThinning, has_some, thinned}
+use Rattle.manager_recovery.specs.Scanned.{HasGivenNone, IsScanned, IsThinning, has_some, thinned}
 use Rattle.manager_recovery.specs.declared.opening.Opening.{Opening}
 use Rattle.manager_recovery.specs.declared.opening.OwnedPart.{OwnedPart}
-use Rattle.manager_recovery.proofs.Places.{place_is, lane_is, read_at}
+use Rattle.manager_recovery.proofs.Gifts.{gift, none_given, given_more, lanes_same, all_given_front}
+use Rattle.manager_recovery.proofs.Lists.{zip_self}
+use Rattle.manager_recovery.proofs.Places.{loggers_are, place_is, lane_is, read_at}
 use Rattle.manager_recovery.proofs.Fronts.{front_at, back_at, around, none_behind, get_middle, set_middle, remove_middle, zip_join, zip_long, zip_at, zip_other}
 
 -- ---- A lane whose passes were used
@@ -183,6 +186,7 @@ pub record IsRetiredTo {D : Type 0} (state : D → State) (shared : Shared D) (o
   pub fates : List (Fate D)
   pub kept : kept_of fates ≡ thinned (drop k o.owned.items) (drop k was)
   pub each : AreFates state o.want.id (drop k o.owned.items) fates
+  pub pools : AllZip (HasGiven (drop k o.owned.items) fates) o.lanes.items n.lanes.items
 
 pub zip_same : {X : Type 0} (R : X → X → Type 0) (P : X → Type 0) → ((x : X) → P x → R x x) → (xs : List X) → AllByRecursion P xs → AllZip R xs xs
 zip_same R P so [] all = tt
@@ -209,6 +213,7 @@ module _ {D : Type 0} (state : D → State) (shared : Shared D) (sound : (p : Sp
         fates = [];
         kept = λ i. thinned (sym nothing i) (drop k was);
         each = subst (λ (l : List (OwnedPart D)). AreFates state o.want.id l []) (sym nothing) tt;
+        pools = subst (λ (l : List (OwnedPart D)). AllZip (HasGiven l []) o.lanes.items o.lanes.items) (sym nothing) (zip_self (HasGiven [] []) none_given o.lanes.items);
       }
 
   -- a segment that stays as it is
@@ -276,12 +281,14 @@ module _ {D : Type 0} (state : D → State) (shared : Shared D) (sound : (p : Sp
       fates = Kept at.part ∷ inv.fates;
       kept = ap (λ (l : List (OwnedPart D)). at.part ∷ l) inv.kept ∙ sym more;
       each = subst (λ (l : List (OwnedPart D)). AreFates state o.want.id l (Kept at.part ∷ inv.fates)) (sym (back_at o.owned.items k at.part at.was_part)) (stays_as at.part, inv.each);
+      pools = subst (λ (l : List (OwnedPart D)). AllZip (HasGiven l (Kept at.part ∷ inv.fates)) o.lanes.items n.lanes.items) (sym (back_at o.owned.items k at.part at.was_part)) inv.pools;
     }
 
     -- it is freed
     pub goes : has_some at.scan ≡ false → (m : Opening D) (js : List Scan) → m ≡ record o { lanes = m.lanes; owned = m.owned } → CanOpen state shared m → AllZip (IsUsedLane state shared o.want.id o.most) o.lanes.items m.lanes.items
-        → m.owned.items ≡ remove n.owned.items k → js ≡ remove is k → (f : FreeSegment D) → IsFateOf state o.want.id at.part (Freed f) → IsRetiredTo state shared o m was js k
-    goes none m js same can lanes owned scans f fate = let le = inv.within in let more = thinned_next k at.part at.scan false at.was_part at.was_scan none in
+        → m.owned.items ≡ remove n.owned.items k → js ≡ remove is k → (f : FreeSegment D) → IsFateOf state o.want.id at.part (Freed f)
+        → AllZip (HasGiven (at.part ∷ drop (suc k) o.owned.items) (Freed f ∷ inv.fates)) o.lanes.items m.lanes.items → IsRetiredTo state shared o m was js k
+    goes none m js same can lanes owned scans f fate pools = let le = inv.within in let more = thinned_next k at.part at.scan false at.was_part at.was_scan none in
         let T = thinned (drop (suc k) o.owned.items) (drop (suc k) was) in record {
           same = same;
           can = can;
@@ -292,6 +299,7 @@ module _ {D : Type 0} (state : D → State) (shared : Shared D) (sound : (p : Sp
           fates = Freed f ∷ inv.fates;
           kept = inv.kept ∙ sym more;
           each = subst (λ (l : List (OwnedPart D)). AreFates state o.want.id l (Freed f ∷ inv.fates)) (sym (back_at o.owned.items k at.part at.was_part)) (fate, inv.each);
+          pools = subst (λ (l : List (OwnedPart D)). AllZip (HasGiven l (Freed f ∷ inv.fates)) o.lanes.items m.lanes.items) (sym (back_at o.owned.items k at.part at.was_part)) pools;
         }
 
   kept_all : (os : List (OwnedPart D)) (fates : List (Fate D)) → kept_of (map Kept os ++ fates) ≡ os ++ kept_of fates
@@ -355,21 +363,32 @@ module _ {D : Type 0} (state : D → State) (shared : Shared D) (sound : (p : Sp
 
         pub freed : has_some at.scan ≡ false → logger_of l ≡ at.part.logger
             → ((i : ℕ) → i ≢ at.part.index → holds (pass_lock (pool_of l)).base (pass_number (pool_of l)) (pass_mine (pool_of l)) i ≡ true → holds (pass_lock (pool_of m)).base (pass_number (pool_of m)) (pass_mine (pool_of m)) i ≡ true)
-            → t.owned.items ≡ remove n.owned.items k → (js : List Scan) → js ≡ remove is k → (f : FreeSegment D) → IsFateOf state o.want.id at.part (Freed f) → IsRetiredTo state shared o t was js k
-        freed none on kept owned js scans f fate =
+            → t.owned.items ≡ remove n.owned.items k → (js : List Scan) → js ≡ remove is k → (f : FreeSegment D) → IsFateOf state o.want.id at.part (Freed f)
+            → AreApart (map logger_of n.lanes.items) → pass_mine (pool_of m) ≡ pass_mine (pool_of l) ++ gift (pass_number (pool_of l)) at.part.index ∷ [] → IsRetiredTo state shared o t was js k
+        freed none on kept owned js scans f fate apart gave =
             let T = thinned (drop (suc k) o.owned.items) (drop (suc k) was) in
             let left : t.owned.items ≡ take k o.owned.items ++ T = owned ∙ ap (λ (q : List (OwnedPart D)). remove q k) at.here ∙ remove_middle (take k o.owned.items) T k at.part at.long in
             goes n is k inv at none t js then_same (can_again state shared n inv.can place l m lane used at.part on kept t t_same t_lanes (take k o.owned.items) T at.here left) then_lanes owned scans f fate
+            (subst (AllZip (HasGiven (at.part ∷ drop (suc k) o.owned.items) (Freed f ∷ inv.fates)) o.lanes.items) (sym t_lanes)
+            (given_more at.part (drop (suc k) o.owned.items) f inv.fates o.lanes.items n.lanes.items place l m (lanes_same state shared o.want.id o.most o.lanes.items n.lanes.items inv.lanes) apart lane on gave inv.pools))
 
-        pub failed : (p : OwnedPart D) → IsFateOf state o.want.id at.part (Kept p) → t.owned.items ≡ slice_set n.owned.items k p → IsThinning state shared o t
-        failed p fate owned = record {
+        pub failed : (p : OwnedPart D) → IsFateOf state o.want.id at.part (Kept p) → t.owned.items ≡ slice_set n.owned.items k p → HasGivenNone l m → IsThinning state shared o t
+        failed p fate owned none = record {
           same = then_same;
           lanes = then_lanes;
           fates = fates_then n is k inv at p fate;
           owned = owned_then n is k inv at p fate t.owned.items owned;
           each = each_then n is k inv at p fate;
+          pools = subst (AllZip (HasGiven o.owned.items (fates_then n is k inv at p fate)) o.lanes.items) (sym t_lanes)
+              (zip_other (HasGiven o.owned.items (fates_then n is k inv at p fate)) o.lanes.items n.lanes.items place l m lane (λ x has. none ∙ has)
+              (subst (λ (l : List (OwnedPart D)). AllZip (HasGiven l (fates_then n is k inv at p fate)) o.lanes.items n.lanes.items) (sym (around o.owned.items k at.part at.was_part))
+              (all_given_front (take k o.owned.items) (drop (suc k) o.owned.items) p at.part inv.fates o.lanes.items n.lanes.items inv.pools)));
         }
+
+  -- no two lanes are on one logger
+  pub lanes_apart : IsNamesAnswer o None → (n : Opening D) (is : List Scan) (k : ℕ) → IsRetiredTo state shared o n was is k → IsViewList n.view → AreApart (map logger_of n.lanes.items)
+  lanes_apart named n is k inv valid = subst AreApart (sym (loggers_are state shared n inv.can (subst (λ (q : Opening D). first_missing q.view q.present.items ≡ None) (sym inv.same) named.1))) valid.distinct
 
   -- all of them were looked at
   pub whole : (n : Opening D) (is : List Scan) → IsRetiredTo state shared o n was is 0 → IsThinning state shared o n
-  whole n is inv = record { same = inv.same; lanes = inv.lanes; fates = inv.fates; owned = inv.owned ∙ sym inv.kept; each = inv.each }
+  whole n is inv = record { same = inv.same; lanes = inv.lanes; fates = inv.fates; owned = inv.owned ∙ sym inv.kept; each = inv.each; pools = inv.pools }

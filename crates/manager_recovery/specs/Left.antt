@@ -1,20 +1,22 @@
 -- What opening leaves of the parts that it was given.
-use Rattle.std.specs.Prelude.{⊤, false, ◌≡◌, ◌⊎◌, ℕ, Bool, List, [], ◌∷◌, Option, Some, None, IsTrue}
+use Rattle.std.specs.Prelude.{⊤, false, ◌≡◌, ◌==◌, if◌then◌else◌, ◌⊎◌, ◌++◌, ℕ, Bool, List, [], ◌∷◌, map, reverse, Option, Some, None, IsTrue}
 use Rattle.std.specs.List.{AllByRecursion, AllZip, filter_map}
 use Rattle.wol_disk.specs.Disk.{State, Block, Values, IsImageOf, LeavesOnly}
 use Rattle.wol_model.specs.Images.{IsSoundSegment}
 use Rattle.wol_model.specs.Heads.{Shape}
 use Rattle.wol_model.specs.Log.{Record, IsLog}
 use Rattle.wol_model.specs.Recovered.{recovered}
-use Rattle.turn_lock.specs.Passes.{pass_mine, IsFree, IsSamePass}
+use Rattle.turn_lock.specs.Passes.{pass_number, pass_mine, IsFree, IsSamePass}
 use Rattle.spin_model.specs.Operations.{has_token}
 use Rattle.spin_model.specs.Spun.{state_of, volume_of}
 use Rattle.spin_model.specs.declared.spun.Spun.{Spun}
+use Rattle.seg_pool.specs.Holders.{Gave}
+use Rattle.seg_pool.specs.Operations.{operation_of}
 use Rattle.log_segment.specs.Kept.{IsKeptOrIdle}
 use Rattle.log_segment.specs.Segment as segment
 use Rattle.log_segment.specs.Segment.{free_disk, free_volume}
 use Rattle.log_segment.specs.declared.free.FreeSegment.{FreeSegment}
-use Rattle.logger.specs.Lanes.{IsSameLane}
+use Rattle.logger.specs.Lanes.{IsSameLane, logger_of, pool_of}
 use Rattle.logger.specs.declared.lane.Lane.{Lane}
 use Rattle.logger.specs.declared.shared.Shared.{Shared}
 use Rattle.manager_recovery.specs.Opening.{IsOpeningLane}
@@ -107,6 +109,18 @@ pub record IsUsedLane {D : Type 0} (state : D → State) (shared : Shared D) (id
   pub lane : IsOpeningLane state shared id most new
   pub same : IsSameLane old new
 
+-- the indexes of those segments of a logger that were freed, in order
+abbrev pub freed_on : {D : Type 0} → (logger : ℕ) → List (OwnedPart D) → List (Fate D) → List ℕ
+freed_on logger [] fates = []
+freed_on logger (o ∷ os) [] = []
+freed_on logger (o ∷ os) (Kept part ∷ fates) = freed_on logger os fates
+freed_on logger (o ∷ os) (Freed free ∷ fates) = if o.logger == logger then o.index ∷ freed_on logger os fates else freed_on logger os fates
+
+-- the lane's pass gave these to its pool, the last first, and did nothing else there
+abbrev pub HasGiven : {D : Type 0} → List (OwnedPart D) → List (Fate D) → (old new : Lane D) → Type 0
+HasGiven os fates old new =
+    pass_mine (pool_of new) ≡ pass_mine (pool_of old) ++ map (λ index. (pass_number (pool_of old), operation_of (Gave index))) (reverse (freed_on (logger_of old) os fates))
+
 -- what is handed back: all that was given, but segments that went to their pools
 pub record IsHandedBack {D : Type 0} (tells : Bool) (state : D → State) (shared : Shared D) (o n : Opening D) : Type 0 where
   pub same : n ≡ record o { home = n.home; spindle = n.spindle; lanes = n.lanes; owned = n.owned }
@@ -116,4 +130,5 @@ pub record IsHandedBack {D : Type 0} (tells : Bool) (state : D → State) (share
   pub lanes : AllZip (IsUsedLane state shared o.want.id o.most) o.lanes.items n.lanes.items
   pub fates : List (Fate D)
   pub owned : n.owned.items ≡ kept_of fates
+  pub pools : AllZip (HasGiven o.owned.items fates) o.lanes.items n.lanes.items
   pub parts : LeavesParts tells state o.want.id o.home n.home o.owned.items fates

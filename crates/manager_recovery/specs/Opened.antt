@@ -16,7 +16,7 @@ use Rattle.manager.specs.declared.manager.Manager.{Manager}
 use Rattle.logger.specs.declared.shared.Shared.{Shared}
 use Rattle.manager_recovery.specs.Owned.{read_of, all_owned, records_in, writes_in, recovered_of}
 use Rattle.manager_recovery.specs.Refused.{IsNamesAnswer, IsRecoverable}
-use Rattle.manager_recovery.specs.Left.{Fate, LeavesParts, kept_of}
+use Rattle.manager_recovery.specs.Left.{Fate, HasGiven, LeavesParts, kept_of}
 use Rattle.manager_recovery.specs.declared.opening.Opening.{Opening}
 use Rattle.manager_recovery.specs.declared.opening.OwnedPart.{OwnedPart}
 
@@ -54,4 +54,6 @@ pub record Opens {D : Type 0} (tells : Bool) (state : D → State) (shared : Sha
   -- its lanes hold the segments that were handed on
   pub fates : List (Fate D)
   pub held : AllByRecursion (IsInLane m.lanes.items) (kept_of fates)
+  -- and their passes gave the others to the pools
+  pub pools : AllZip (HasGiven o.owned.items fates) o.lanes.items m.lanes.items
   pub parts : LeavesParts tells state o.want.id o.home m.home o.owned.items fates

@@ -25,7 +25,7 @@ use Rattle.turn_lock.specs.Passes.{pass_mine}
 use Rattle.wol_model.specs.Log.{Record, IsLog}
 use Rattle.manager_recovery.specs.Owned.{Head, all_owned, owned_of, IsFault, AreIntact, IsIntact}
 use Rattle.manager_recovery.specs.Opening.{CanOpen}
-use Rattle.manager_recovery.specs.Left.{IsAsBefore, IsSameOwned, IsUsedLane, Fate, kept_of, AreFates}
+use Rattle.manager_recovery.specs.Left.{IsAsBefore, IsSameOwned, IsUsedLane, Fate, HasGiven, kept_of, AreFates}
 use Rattle.manager_recovery.specs.declared.opening.Opening.{Opening}
 use Rattle.manager_recovery.specs.declared.opening.OwnedPart.{OwnedPart}
 use Rattle.manager_recovery.specs.declared.listing.FoundRecord.{FoundRecord}
@@ -76,10 +76,15 @@ pub record IsSeenAgain {D : Type 0} (state : D → State) (o n : OwnedPart D) : 
   pub same : IsSameOwned state o n
   pub any_moment : LeavesOnly (state_of state o.part) (state_of state n.part) (IsImageOf (state_of state o.part).values)
 
+-- the lane's pass did nothing at its pool
+abbrev pub HasGivenNone : {D : Type 0} → (old new : Lane D) → Type 0
+HasGivenNone old new = pass_mine (pool_of new) ≡ pass_mine (pool_of old)
+
 -- after the segments were read, whatever came of it
 pub record IsReadBack {D : Type 0} (state : D → State) (shared : Shared D) (o n : Opening D) : Type 0 where
   pub same : n ≡ record o { lanes = n.lanes; owned = n.owned }
   pub lanes : AllZip (IsUsedLane state shared o.want.id o.most) o.lanes.items n.lanes.items
+  pub pools : AllZip HasGivenNone o.lanes.items n.lanes.items
   pub owned : AllZip (IsSeenAgain state) o.owned.items n.owned.items
 
 -- a segment that was read back: it has one image, and no call of it failed
@@ -98,6 +103,7 @@ pub record AreReadBack {D : Type 0} (tells : Bool) (state : D → State) (shared
 pub record IsScannedAt {D : Type 0} (tells : Bool) (state : D → State) (shared : Shared D) (o n : Opening D) (k : ℕ) (res : Result Scan OpenRefusal) : Type 0 where
   pub same : n ≡ record o { lanes = n.lanes; owned = n.owned }
   pub lanes : AllZip (IsUsedLane state shared o.want.id o.most) o.lanes.items n.lanes.items
+  pub pools : AllZip HasGivenNone o.lanes.items n.lanes.items
   pub before : OwnedPart D
   pub after : OwnedPart D
   pub there : slice_get o.owned.items k ≡ Some before
@@ -185,6 +191,7 @@ pub record IsThinning {D : Type 0} (state : D → State) (shared : Shared D) (o 
   pub lanes : AllZip (IsUsedLane state shared o.want.id o.most) o.lanes.items n.lanes.items
   pub fates : List (Fate D)
   pub owned : n.owned.items ≡ kept_of fates
+  pub pools : AllZip (HasGiven o.owned.items fates) o.lanes.items n.lanes.items
   pub each : AreFates state o.want.id o.owned.items fates
 
 -- ---- Held segments
@@ -220,7 +227,7 @@ pub record HoldsItsOwn {D : Type 0} (state : D → State) (shared : Shared D) (i
   pub same : IsSameLane old new
   pub held : held_in new ≡ held_on (logger_of new) os hs
   pub taken : taken_in new ≡ taken_in old
-  pub pool : pass_mine (pool_of new) ≡ pass_mine (pool_of old)
+  pub pool : HasGivenNone old new
 
 -- all lanes do
 pub record AreHeld {D : Type 0} (state : D → State) (shared : Shared D) (id most : ℕ) (os : List (OwnedPart D)) (scans : List Scan) (old new : List (Lane D)) : Type 0 where

@@ -1,11 +1,12 @@
 // Home is synced, and owned segments without a record that keeps a block go to their pools.
-ghost use Rattle.std.specs.Prelude.{◌≡◌, ◌≢◌, ◌≤◌, ◌<◌, ◌+◌, [], ℕ, List, false, true, None, Some, Option, option_map, filter, map, not, length, slice_get, slice_set, remove, IfOk, IfErr, OnOk, OnErr, IsErr, IsTrue};
+ghost use Rattle.std.specs.Prelude.{◌≡◌, ◌≢◌, ◌≤◌, ◌<◌, ◌+◌, ◌++◌, ◌∷◌, [], ℕ, List, false, true, None, Some, Option, option_map, filter, map, not, length, slice_get, slice_set, remove, IfOk, IfErr, OnOk, OnErr, IsErr, IsTrue};
 ghost use Rattle.std.specs.List.{AllByRecursion, AllZip, list_any};
 ghost use Rattle.wol_disk.specs.Disk.{LeavesOnly, IsImageOf, Rose, settled};
 ghost use Rattle.turn_lock.specs.Passes.{pass_lock, pass_number, pass_mine, IsPassOf, IsFree, IsSamePass};
 ghost use Rattle.spin_model.specs.Operations.{has_token};
 ghost use Rattle.spin_model.specs.Spun.{state_of, volume_of};
-ghost use Rattle.seg_pool.specs.Operations.{holds};
+ghost use Rattle.seg_pool.specs.Holders.{Gave};
+ghost use Rattle.seg_pool.specs.Operations.{holds, operation_of};
 ghost use Rattle.log_segment.specs.Segment.{IsSegment, IsWhole, segment_volume, blocks_of, valid_of};
 ghost use Rattle.logger.specs.Lanes.{IsLane, IsAt, IsSameLane, logger_of, held_in, pool_of, pool_blocks};
 ghost use Rattle.log_scan.specs.declared.Found.{Found};
@@ -14,7 +15,7 @@ ghost use Rattle.manager_recovery.specs.Owned.{all_owned, AreIntact};
 ghost use Rattle.manager_recovery.specs.Opening.{CanOpen, IsHeldIn};
 ghost use Rattle.manager_recovery.specs.Left.{IsAsBefore, IsFateOf, Kept, Freed};
 ghost use Rattle.manager_recovery.specs.Refused.{IsNamesAnswer, SegmentRose};
-ghost use Rattle.manager_recovery.specs.Scanned.{IsScanned, IsFreedOf, IsUnfreed, IsThinning, has_some, keeps_some, thinned};
+ghost use Rattle.manager_recovery.specs.Scanned.{HasGivenNone, IsScanned, IsFreedOf, IsUnfreed, IsThinning, has_some, keeps_some, thinned};
 ghost use Rattle.manager_recovery.specs.declared.opening.OwnedPart.{OwnedPart};
 
 use crate::names::place_of;
@@ -85,6 +86,8 @@ fn free_segment<R: Wait, D: Disk>(
     ensures settled { has_token (pass_mine lane.new.spindle) ≡ false }
     ensures kept { (i : ℕ) → i ≢ index → holds (pass_lock (pool_of lane.old)).base (pass_number (pool_of lane.old)) (pass_mine (pool_of lane.old)) i ≡ true
         → holds (pass_lock (pool_of lane.new)).base (pass_number (pool_of lane.new)) (pass_mine (pool_of lane.new)) i ≡ true }
+    ensures gave { OnOk result (pass_mine (pool_of lane.new) ≡ pass_mine (pool_of lane.old) ++ (pass_number (pool_of lane.old), operation_of (Gave index)) ∷ []) }
+    ensures gave_none { OnErr result (HasGivenNone lane.old lane.new) }
     ensures ok { OnOk result ((f : FreeSegment D) × IsFreedOf D.state segment f) }
     ensures err { IfErr result (λ r. IsUnfreed D.state segment r.1) }
 {
@@ -128,6 +131,9 @@ fn retire_at<R: Wait, D: Disk>(
     ensures kept { (o : OwnedPart D) (i : ℕ) → slice_get owned.old.items k ≡ Some o → i ≢ o.index
         → holds (pass_lock (pool_of lane.old)).base (pass_number (pool_of lane.old)) (pass_mine (pool_of lane.old)) i ≡ true
         → holds (pass_lock (pool_of lane.new)).base (pass_number (pool_of lane.new)) (pass_mine (pool_of lane.new)) i ≡ true }
+    ensures gave { OnOk result ((o : OwnedPart D) → slice_get owned.old.items k ≡ Some o
+        → pass_mine (pool_of lane.new) ≡ pass_mine (pool_of lane.old) ++ (pass_number (pool_of lane.old), operation_of (Gave o.index)) ∷ []) }
+    ensures gave_none { OnErr result (HasGivenNone lane.old lane.new) }
     ensures ok { OnOk result ((owned.new.items ≡ remove owned.old.items k)
         × ((o : OwnedPart D) → slice_get owned.old.items k ≡ Some o → (f : FreeSegment D) × IsFateOf D.state id o (Freed f))) }
     ensures err { IfErr result (λ refusal. (o : OwnedPart D) → slice_get owned.old.items k ≡ Some o → (n : OwnedPart D) × (owned.new.items ≡ slice_set owned.old.items k n)

@@ -11,7 +11,7 @@ use Rattle.std.specs.Prelude.{IsTrue}
 use Rattle.std.specs.Vec.{with_item}
 use Rattle.manager_recovery.proofs.Indexing.{all_named}
 use Rattle.manager_recovery.proofs.Lists.{all_get, within}
-use Rattle.manager_recovery.proofs.ScanLoop.{open_after, lanes_used, lane_of_logger, join_ok}
+use Rattle.manager_recovery.proofs.ScanLoop.{open_after, lanes_used, lane_of_logger, pools_unused, join_ok}
 use Rattle.manager_recovery.proofs.scanning.scan_at.Goals as goal
 
 pub unreachable-requires : goal.unreachable-requires
@@ -78,6 +78,7 @@ returns g c =
     record {
       same = refl;
       lanes = lanes_used state c.args.shared.now o c.requires.ready (with_item o.lanes c.in-Some.place c.scan_owned.new.lane) (with_item o.owned c.args.k q) c.in-Some.place c.args.k old c.scan_owned.new.lane p q there refl here refl c.scan_owned.ensures.lane c.scan_owned.ensures.same c.scan_owned.ensures.rest c.scan_owned.ensures.part;
+      pools = pools_unused o.lanes.items c.in-Some.place old c.scan_owned.new.lane there c.scan_owned.ensures.rest;
       before = p;
       after = q;
       there = here;
