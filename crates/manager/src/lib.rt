@@ -13,8 +13,10 @@ mod put;
 mod read;
 mod reclaim;
 mod record;
+mod station;
 mod write;
 
 pub use base::{LaneBase, ManagerBase, Volume};
 pub use manager::{Manager, ManagerParts};
 pub use part::{Part, Place, ReadRefusal, Sources, StepFault, WriteRefusal};
+pub use station::Station;

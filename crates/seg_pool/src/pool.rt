@@ -110,6 +110,24 @@ impl<T: Blank> Pool<T> {
         self.put(index, Slot::Free(item));
     }
 
+    /// Ends a pool that has no item.
+    pub fn destroy_empty(self)
+        requires { IsEmptyPool self }
+    {
+        let Pool {
+            volume: _,
+            blocks: _,
+            room: _,
+            mut slots,
+        } = self;
+        while let Some(slot) = slots.pop() {
+            let (Slot::Empty | Slot::Noted(_)) = slot else {
+                unreachable!()
+            };
+        }
+        slots.destroy_empty();
+    }
+
     /// How many items are free.
     pub fn len(&self) -> u32
         ensures { result ≡ item_count self.now }
