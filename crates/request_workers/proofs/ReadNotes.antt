@@ -26,7 +26,7 @@ use Rattle.manager.specs.declared.base.ManagerBase.{ManagerBase}
 use Rattle.request_workers.specs.Served.{HasAnswered}
 use Rattle.request_workers.specs.Turns.{ManagerPass, began, notes_seen, HasLeft, IsBroken, Stays}
 use Rattle.request_workers.proofs.Turning.{turned}
-use Rattle.request_workers.specs.declared.request.Request.{Request}
+use Rattle.trace_windows.specs.declared.request.Request.{Request}
 
 module _ {D : Type 0} (old new : Manager D) (first : ℕ) (out : List Block) (answer : Result Sources ReadRefusal) (l : Look) (pass : ℕ) (is_l : l ≡ look_of_manager old) (n : ℕ) (long : length out ≡ n)
     (look : OnOk answer (look_of_manager new ≡ woken (look_of_manager old) first n))

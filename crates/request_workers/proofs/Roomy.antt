@@ -16,7 +16,7 @@ use Rattle.request_workers.specs.Turns.{ManagerPass, Gains}
 use Rattle.request_workers.specs.Worked.{HasWorked, AreWorked, HelpedIn}
 use Rattle.request_workers.specs.declared.desk.Desk.{Desk}
 use Rattle.request_workers.specs.declared.floor.Floor.{Floor}
-use Rattle.request_workers.specs.declared.request.Request.{Request}
+use Rattle.trace_windows.specs.declared.request.Request.{Request}
 use Rattle.request_workers.specs.declared.request.Outcome.{Outcome}
 use Rattle.request_workers.specs.declared.request.Reclaim.{Reclaim}
 use Rattle.request_workers.specs.declared.request.Reclaim.TheVariants as reclaim

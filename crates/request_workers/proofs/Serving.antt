@@ -21,7 +21,7 @@ use Rattle.request_workers.specs.Served.{HasServedNext, IsServing}
 use Rattle.request_workers.specs.Turns.{began, notes_seen}
 use Rattle.turn_lock.specs.Passes.{IsFree}
 use Rattle.request_workers.specs.declared.desk.Desk.{Desk}
-use Rattle.request_workers.specs.declared.request.Request.{Request}
+use Rattle.trace_windows.specs.declared.request.Request.{Request}
 use Rattle.request_workers.specs.declared.request.Outcome.{Outcome}
 use Rattle.request_workers.specs.declared.request.Outcome.TheVariants as outcome
 use Rattle.request_workers.proofs.Gaining.{gains_none, gains_both, stays_both, seen_more, broken_more}

@@ -19,7 +19,7 @@ use Rattle.request_workers.specs.Turns.{ManagerPass, began, notes_seen}
 use Rattle.request_workers.specs.Worked.{HasWorked, AreWorked}
 use Rattle.request_workers.specs.declared.desk.Desk.{Desk}
 use Rattle.request_workers.specs.declared.request.Reclaim.{Reclaim}
-use Rattle.request_workers.specs.declared.request.Request.{Request}
+use Rattle.trace_windows.specs.declared.request.Request.{Request}
 use Rattle.request_workers.specs.declared.request.Outcome.{Outcome}
 use Rattle.request_workers.specs.declared.request.Outcome.TheVariants as outcome
 use Rattle.request_workers.proofs.Serving.{made_length}

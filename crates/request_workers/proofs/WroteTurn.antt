@@ -13,11 +13,11 @@ use Rattle.wol_promise.specs.Ruled.{Noted, last_look}
 use Rattle.manager.specs.Answers.{home_write}
 use Rattle.manager.specs.declared.base.ManagerBase.{ManagerBase}
 use Rattle.request_workers.specs.Entries.{IsWrittenAs, IsEntryOf}
-use Rattle.request_workers.specs.Requests.{asked}
+use Rattle.trace_windows.specs.Requests.{asked}
 use Rattle.request_workers.specs.Served.{HasAnswered}
 use Rattle.request_workers.specs.Turns.{ManagerPass, began, notes_seen, Stays}
 use Rattle.request_workers.specs.Written.{HasWritten}
-use Rattle.request_workers.specs.declared.request.Request.{Request}
+use Rattle.trace_windows.specs.declared.request.Request.{Request}
 use Rattle.request_workers.specs.declared.request.Outcome.{Outcome}
 use Rattle.request_workers.specs.declared.request.Outcome.TheVariants as outcome
 use Rattle.request_workers.proofs.Turning.{turned}

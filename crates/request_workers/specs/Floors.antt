@@ -11,7 +11,7 @@ use Rattle.request_workers.specs.Requests.{AreWithin, own_requests}
 use Rattle.request_workers.specs.Worked.{AreWorked, HelpedIn, first_fault}
 use Rattle.request_workers.specs.declared.desk.Desk.{Desk}
 use Rattle.request_workers.specs.declared.floor.Floor.{Floor}
-use Rattle.request_workers.specs.declared.request.Request.{Request}
+use Rattle.trace_windows.specs.declared.request.Request.{Request}
 use Rattle.request_workers.specs.declared.request.Reclaim.{Reclaim}
 use Rattle.request_workers.specs.declared.request.Window.{Window}
 

@@ -6,15 +6,12 @@ use Rattle.wol_promise.specs.Outcomes.{WasRead, WasWritten, Unanswered, Answered
 use Rattle.manager.specs.declared.base.ManagerBase.{ManagerBase}
 use Rattle.manager.specs.declared.part.Place.{Place}
 use Rattle.manager.specs.declared.part.Place.TheVariants as place
-use Rattle.request_workers.specs.declared.request.Request.{Request}
+use Rattle.trace_windows.specs.Requests.{asked}
+use Rattle.trace_windows.specs.declared.request.Request.{Request}
 use Rattle.request_workers.specs.declared.request.Outcome.{Outcome}
 use Rattle.request_workers.specs.declared.request.Outcome.TheVariants as outcome
 
 -- ---- Requests
-
--- a request as the model has it
-abbrev pub asked : Request → trace.Request
-asked r = record { line = r.line; volume = r.volume; kind = r.kind; first = r.lbn; count = r.count }
 
 -- it has 1 to `most` blocks, which lie in the volume
 pub record IsWithin (b : ManagerBase) (r : Request) : Type 0 where

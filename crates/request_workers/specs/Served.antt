@@ -9,7 +9,7 @@ use Rattle.request_workers.specs.Requests.{was_answered, was_run, both, going_af
 use Rattle.request_workers.specs.Turns.{ManagerPass, began, notes_seen, IsHonest, HasTurned, Gains, Stays, LooksStay}
 use Rattle.request_workers.specs.Entries.{IsEntryOf, AreEntriesOf, AreMade, TellsFault}
 use Rattle.request_workers.specs.declared.desk.Desk.{Desk}
-use Rattle.request_workers.specs.declared.request.Request.{Request}
+use Rattle.trace_windows.specs.declared.request.Request.{Request}
 use Rattle.request_workers.specs.declared.request.Outcome.{Outcome}
 
 -- one request, in one turn

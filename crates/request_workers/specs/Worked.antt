@@ -11,7 +11,7 @@ use Rattle.request_workers.specs.Helped.{AreHelped}
 use Rattle.request_workers.specs.Requests.{own_requests, outcomes_of, answers_to, StopsAtRefusal}
 use Rattle.request_workers.specs.Turns.{ManagerPass, began, notes_seen, IsHonest, Gains, LooksStay}
 use Rattle.request_workers.specs.declared.desk.Desk.{Desk}
-use Rattle.request_workers.specs.declared.request.Request.{Request}
+use Rattle.trace_windows.specs.declared.request.Request.{Request}
 use Rattle.request_workers.specs.declared.request.Outcome.{Outcome}
 use Rattle.request_workers.specs.declared.request.Reclaim.{Reclaim}
 use Rattle.request_workers.specs.declared.request.Reclaim.TheVariants as reclaim

@@ -6,12 +6,12 @@ ghost use Rattle.request_workers.specs.Helped.{ArePassesAt, AreSharing, AreHelpe
 
 use crate::desk::Desk;
 use crate::helper::{HelperRoom, help};
-use crate::request::Request;
 use crate::run::serve_all;
 use logger::Shared;
 use manager::Manager;
 use std::sync::Wait;
 use std::thread::{Threads, join_mut};
+use trace_windows::Request;
 use turn_lock::{Pass, TurnLock};
 use wol_disk::Disk;
 use wol_io::Gate;

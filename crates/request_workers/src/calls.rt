@@ -9,7 +9,7 @@ ghost use Rattle.request_workers.specs.declared.desk.Desk.{Desk};
 use crate::desk::Desk;
 use crate::floor::Floor;
 use crate::helper::HelperRoom;
-use crate::request::{Reclaim, Request, Window};
+use crate::request::{Reclaim, Window};
 use crate::slices::run_window;
 use crate::tally::Tally;
 use logger::Shared;
@@ -17,6 +17,7 @@ use manager::StepFault;
 use std::alloc::Global;
 use std::sync::Wait;
 use std::thread::Threads;
+use trace_windows::Request;
 use wol_disk::{Disk, NoMemory};
 use wol_io::Gate;
 

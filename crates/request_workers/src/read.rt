@@ -12,12 +12,13 @@ ghost use Rattle.request_workers.specs.Turns.{notes_seen, HasLeft, IsBroken};
 
 use crate::noted::{Memo, leave_noted};
 use crate::payload::Payload;
-use crate::request::{Outcome, Request};
+use crate::request::Outcome;
 use logger::Shared;
 use manager::{Manager, ReadRefusal, Sources};
 use msr_trace::mark;
 use std::marker::Brand;
 use std::sync::Wait;
+use trace_windows::Request;
 use turn_lock::{Pass, Turn, TurnLock};
 use wol_disk::{Block, Disk};
 use wol_model::Kind;

@@ -1,20 +1,5 @@
-// Requests, what becomes of them, and what a window gives.
+// What becomes of requests, and what a window gives.
 use manager::{Place, ReadRefusal, Sources, StepFault, WriteRefusal};
-use wol_model::Kind;
-
-/// What one piece of a trace line asks of a volume.
-#[derive(Clone, Copy, Debug, PartialEq, Eq)]
-pub struct Request {
-    /// Its number in the trace, counted from 0.
-    pub number: u64,
-    /// The number of its line, which its payload is made of.
-    pub line: u64,
-    pub volume: u32,
-    pub kind: Kind,
-    /// The first block.
-    pub lbn: u64,
-    pub count: u32,
-}
 
 /// When a window reclaims, beside the drains that writes need.
 #[derive(Clone, Copy, Debug, PartialEq, Eq)]

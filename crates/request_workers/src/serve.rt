@@ -10,11 +10,12 @@ ghost use Rattle.request_workers.specs.Served.{HasAnswered, HasServed, HasServed
 
 use crate::desk::Desk;
 use crate::read::read_turn;
-use crate::request::{Outcome, Request};
+use crate::request::Outcome;
 use crate::write::write_turn;
 use logger::Shared;
 use manager::Manager;
 use std::sync::Wait;
+use trace_windows::Request;
 use turn_lock::TurnLock;
 use wol_disk::Disk;
 use wol_io::Gate;
