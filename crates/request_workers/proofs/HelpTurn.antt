@@ -26,66 +26,14 @@ use Rattle.reclaimer.specs.Steps.{LooksPut, LooksGone}
 use Rattle.reclaimer.specs.declared.answers.Gone.{Gone}
 use Rattle.reclaimer.specs.declared.answers.Gone.TheVariants as gone
 use Rattle.reclaimer.proofs.Later.{data_is_kept}
-use Rattle.request_workers.specs.Entries.{note_of, step_operation, has_failed}
-use Rattle.request_workers.specs.Helped.{ManagerLock, ArePassesAt, HasHelped, AreHelped, IsCause}
-use Rattle.request_workers.specs.Turns.{ManagerPass, notes_seen, IsBroken, HasLeft}
-use Rattle.request_workers.proofs.Gaining.{gains_none, gains_turn, gains_both, seen_more, broken_more}
-use Rattle.request_workers.proofs.Noting.{notes_at}
-use Rattle.request_workers.proofs.StepNotes.{step_stands, step_helps}
-use Rattle.request_workers.proofs.Turning.{turned}
-
--- ---- The entry
-
-module _ {D : Type 0} (old new : Manager D) (pass : ℕ) where
-  pub same_keep : {T : Type 0} (a : Result T StepFault) → look_of_manager new ≡ look_of_manager old → OnKept a (IsKeep [] pass (look_of_manager old) (look_of_manager new))
-  same_keep (Ok x) same = ruled.same same
-  same_keep (Err (fault.DiskFault p)) same = tt
-  same_keep (Err (fault.Down p)) same = ruled.same same
-
-  pub put_keep : (a : Result ℕ StepFault) → pass ≡ helper → LooksPut a old new → OnKept a (IsKeep [] pass (look_of_manager old) (look_of_manager new))
-  put_keep (Ok zero) is put = ruled.same (put.0 refl)
-  put_keep (Ok (suc k)) is put = ruled.helped is (put.1 (omega arith))
-  put_keep (Err (fault.DiskFault p)) is put = tt
-  put_keep (Err (fault.Down p)) is put = ruled.same put
-
-  pub gone_keep : (a : Result Gone StepFault) → pass ≡ helper → LooksGone a old new → OnKept a (IsKeep [] pass (look_of_manager old) (look_of_manager new))
-  gone_keep (Ok (gone.Version v)) is step = ruled.helped is step
-  gone_keep (Ok (gone.Trimmed v)) is step = ruled.helped is step
-  gone_keep (Ok gone.Nothing) is step = ruled.same step
-  gone_keep (Err (fault.DiskFault p)) is step = tt
-  gone_keep (Err (fault.Down p)) is step = ruled.same step
-
-pub help_stands : {D T : Type 0} (tells : Bool) (state : D → State) (old new : Manager D) (b : ManagerBase) (notes : List Noted) (pass : ℕ) (answer : Result T StepFault) (failed : Bool) → failed ≡ has_failed answer
-    → (Where : ManagerBase → List Noted → Type 0) → Where b notes → OnKept answer (KeepsOn tells state old new Where) → OnFailed answer (BreaksOff tells state old new Where)
-    → OnKept answer (IsKeep [] pass (look_of_manager old) (look_of_manager new)) → Stands tells state old b notes → Stands tells state new b (notes ++ note_of pass (step_operation failed) (look_of_manager new) [] false ∷ [])
-help_stands tells state old new b notes pass answer failed is Where w keeps breaks keep s = subst (λ (f : Bool). Stands tells state new b (notes ++ note_of pass (step_operation f) (look_of_manager new) [] false ∷ [])) (sym is)
-    (step_stands tells state old new b notes pass answer Where w keeps breaks keep s.look s.keeps)
-
-pub has_helped : {D : Type 0} (tells : Bool) (p i q : ManagerPass D) (failed : Bool) (l : Look) → IsSamePass p i → Begins (pass_seen p) (pass_seen i) → pass_mine i ≡ pass_mine p → own (pass_number i) (pass_seen i) ≡ pass_mine i
-    → HasLeft tells (note_of (pass_number i) (step_operation failed) l [] false) i q → HasHelped tells p q
-has_helped tells p i q failed l same begins mine owns left = record {
-  more = _;
-  notes = _;
-  gains = gains_turn tells p q (pass_seen i) (note_of (pass_number i) (step_operation failed) l [] false) (turned tells p i q (note_of (pass_number i) (step_operation failed) l [] false) same begins mine owns left refl);
-  help = (step_helps failed, tt);
-}
-
-pub down_at : {D T : Type 0} (state : D → State) (old new : Manager D) (a : Result T StepFault) (f : StepFault) → a ≡ Err f → TellsStep state a old new → IsSome new.down
-down_at {D} {T} state old new a (fault.DiskFault p) is told = let t = subst (λ (r : Result T StepFault). TellsStep state r old new) is told in ap is_some t.1
-down_at {D} {T} state old new a (fault.Down p) is told = let t = subst (λ (r : Result T StepFault). TellsStep state r old new) is told in ap (λ (m : Manager D). is_some m.down) t.1 ∙ ap is_some t.0
-
--- ---- What was fetched
-
-notes_begin : (xs ys : List Entry) → (b : Begins xs ys) → notes_of ys ≡ notes_of xs ++ notes_of b.0
-notes_begin xs ys b = ap notes_of (sym b.1) ∙ map-append (λ (e : Entry). noted_of e.0 e.1) xs b.0
-
-pub data_in : {D : Type 0} (tells : Bool) (f : Option FetchedRecord) (p i : ManagerPass D) → IsSamePass p i → Begins (pass_seen p) (pass_seen i) → HasData tells f (pass_lock p).base (notes_seen p) → HasData tells f (pass_lock i).base (notes_seen i)
-data_in tells f p i same begins data_ = subst (λ (l : LockId ManagerBase). HasData tells f l.base (notes_seen i)) (sym same.0)
-    (subst (HasData tells f (pass_lock p).base) (sym (notes_begin (pass_seen p) (pass_seen i) begins)) (data_is_kept tells f (pass_lock p).base (notes_seen p) (notes_of begins.0) data_))
-
-pub data_left : {D : Type 0} (tells : Bool) (f : Option FetchedRecord) (i q : ManagerPass D) (n : Noted) → HasLeft tells n i q → HasData tells f (pass_lock i).base (notes_seen i) → HasData tells f (pass_lock q).base (notes_seen q)
-data_left tells f i q n left data_ = subst (λ (l : LockId ManagerBase). HasData tells f l.base (notes_seen q)) (sym left.same.0)
-    (subst (HasData tells f (pass_lock i).base) (sym (ap notes_of left.seen ∙ notes_at (pass_seen i) n.entry.pass n refl)) (data_is_kept tells f (pass_lock i).base (notes_seen i) (n ∷ []) data_))
+use Rattle.request_turns.specs.Entries.{note_of, step_operation, has_failed}
+use Rattle.request_turns.specs.Helped.{ManagerLock, HasHelped}
+use Rattle.request_workers.specs.Helped.{ArePassesAt, AreHelped, IsCause}
+use Rattle.request_turns.specs.Turns.{ManagerPass, notes_seen, IsBroken, HasLeft}
+use Rattle.request_turns.proofs.Gaining.{gains_none, gains_turn, gains_both, seen_more, broken_more}
+use Rattle.request_turns.proofs.Noting.{notes_at}
+use Rattle.request_turns.proofs.StepNotes.{step_stands, step_helps}
+use Rattle.request_turns.proofs.Turning.{turned}
 
 -- ---- One after another
 

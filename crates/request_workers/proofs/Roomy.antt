@@ -10,14 +10,15 @@ use Rattle.manager.specs.declared.part.StepFault.{StepFault}
 use Rattle.request_workers.specs.Closed.{IsClosed}
 use Rattle.request_workers.specs.Desks.{IsReadyDesk, AreReady, AreServed, AreAt, ShareDesks, AreNumbered, AreEmpty}
 use Rattle.request_workers.specs.Floors.{IsFloor, IsOn, AreInside, HasRoom, HaveRoom, AreSameButRoom}
-use Rattle.request_workers.specs.Helped.{ManagerLock, IsPassAt, ArePassesAt, AreSharing}
+use Rattle.request_turns.specs.Helped.{ManagerLock, IsPassAt}
+use Rattle.request_workers.specs.Helped.{ArePassesAt, AreSharing}
 use Rattle.request_workers.specs.Requests.{AreWithin, own_requests}
-use Rattle.request_workers.specs.Turns.{ManagerPass, Gains}
+use Rattle.request_turns.specs.Turns.{ManagerPass, Gains}
 use Rattle.request_workers.specs.Worked.{HasWorked, AreWorked, HelpedIn}
 use Rattle.request_workers.specs.declared.desk.Desk.{Desk}
 use Rattle.request_workers.specs.declared.floor.Floor.{Floor}
 use Rattle.trace_windows.specs.declared.request.Request.{Request}
-use Rattle.request_workers.specs.declared.request.Outcome.{Outcome}
+use Rattle.request_turns.specs.declared.outcome.Outcome.{Outcome}
 use Rattle.request_workers.specs.declared.request.Reclaim.{Reclaim}
 use Rattle.request_workers.specs.declared.request.Reclaim.TheVariants as reclaim
 

@@ -15,16 +15,17 @@ use Rattle.manager.specs.declared.part.ReadRefusal.{ReadRefusal}
 use Rattle.manager.specs.declared.part.ReadRefusal.TheVariants as refused_read
 use Rattle.manager.specs.declared.part.WriteRefusal.{WriteRefusal}
 use Rattle.manager.specs.declared.part.WriteRefusal.TheVariants as refused
-use Rattle.request_workers.specs.Entries.{IsEntryOf, AreEntriesOf, AreMade, TellsFault, TellsOfRead, TellsOfWrite}
-use Rattle.request_workers.specs.Requests.{IsWithin, AreWithin, was_answered, was_run, both, going_after, StopsAtRefusal, own_requests}
+use Rattle.request_turns.specs.Entries.{IsEntryOf, AreEntriesOf, AreMade, TellsFault, TellsOfRead, TellsOfWrite}
+use Rattle.request_turns.specs.Requests.{IsWithin}
+use Rattle.request_workers.specs.Requests.{AreWithin, was_answered, was_run, both, going_after, StopsAtRefusal, own_requests}
 use Rattle.request_workers.specs.Served.{HasServedNext, IsServing}
-use Rattle.request_workers.specs.Turns.{began, notes_seen}
+use Rattle.request_turns.specs.Turns.{began, notes_seen}
 use Rattle.turn_lock.specs.Passes.{IsFree}
 use Rattle.request_workers.specs.declared.desk.Desk.{Desk}
 use Rattle.trace_windows.specs.declared.request.Request.{Request}
-use Rattle.request_workers.specs.declared.request.Outcome.{Outcome}
-use Rattle.request_workers.specs.declared.request.Outcome.TheVariants as outcome
-use Rattle.request_workers.proofs.Gaining.{gains_none, gains_both, stays_both, seen_more, broken_more}
+use Rattle.request_turns.specs.declared.outcome.Outcome.{Outcome}
+use Rattle.request_turns.specs.declared.outcome.Outcome.TheVariants as outcome
+use Rattle.request_turns.proofs.Gaining.{gains_none, gains_both, stays_both, seen_more, broken_more}
 
 made_push : (view : List ℕ) (rs : List Request) (os : List Outcome) (r : Request) (o : Outcome) (ns n : List Noted) → AreMade view rs os ns → AreEntriesOf view r o n → AreMade view (rs ++ r ∷ []) (os ++ o ∷ []) (ns ++ n)
 made_push view [] [] r o ns n m h = (n, [], ap (λ t. t ++ n) m ∙ sym (append-nil n), h, refl)

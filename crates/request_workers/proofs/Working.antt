@@ -12,16 +12,16 @@ use Rattle.manager.specs.declared.part.WriteRefusal.TheVariants as refused
 use Rattle.request_workers.specs.Closed.{IsClosed, HasClosedDesk, AreClosed}
 use Rattle.request_workers.specs.Collects.{IsCollected, HoldsOutcomes}
 use Rattle.request_workers.specs.Desks.{AreNumbered, AreServed}
-use Rattle.request_workers.specs.Entries.{AreEntriesOf, AreMade, IsRefusedRead, IsRefusedWrite, TellsFault}
+use Rattle.request_turns.specs.Entries.{AreEntriesOf, AreMade, IsRefusedRead, IsRefusedWrite, TellsFault}
 use Rattle.request_workers.specs.Requests.{own_requests, outcomes_of, answers_to, StopsAtRefusal}
 use Rattle.request_workers.specs.Served.{HasServed}
-use Rattle.request_workers.specs.Turns.{ManagerPass, began, notes_seen}
+use Rattle.request_turns.specs.Turns.{ManagerPass, began, notes_seen}
 use Rattle.request_workers.specs.Worked.{HasWorked, AreWorked}
 use Rattle.request_workers.specs.declared.desk.Desk.{Desk}
 use Rattle.request_workers.specs.declared.request.Reclaim.{Reclaim}
 use Rattle.trace_windows.specs.declared.request.Request.{Request}
-use Rattle.request_workers.specs.declared.request.Outcome.{Outcome}
-use Rattle.request_workers.specs.declared.request.Outcome.TheVariants as outcome
+use Rattle.request_turns.specs.declared.outcome.Outcome.{Outcome}
+use Rattle.request_turns.specs.declared.outcome.Outcome.TheVariants as outcome
 use Rattle.request_workers.proofs.Serving.{made_length}
 use Rattle.std.specs.List.{AllByRecursion}
 

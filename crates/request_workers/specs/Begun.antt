@@ -11,7 +11,7 @@ use Rattle.wol_model.specs.Journal.{Began}
 use Rattle.logger.specs.declared.shared.Shared.{Shared}
 use Rattle.wol_promise.specs.Report.{IsBegun}
 use Rattle.wol_promise.specs.Ruled.{Noted}
-use Rattle.request_workers.specs.Turns.{ManagerPass, began, HasTurned}
+use Rattle.request_turns.specs.Turns.{ManagerPass, began, HasTurned}
 
 -- a pass of a spindle's lock
 abbrev pub SpindlePass : Type 0
@@ -34,12 +34,6 @@ pub record HasBegun (t : ℕ) (awake : Bool) (p q : SpindlePass) : Type 0 where
 abbrev pub HaveBegun : (t : ℕ) → (awake : List Bool) → List SpindlePass → List SpindlePass → Type 0
 HaveBegun t awake ps qs = (k : ℕ) (b : Bool) (d : SpindlePass) → k < length ps → HasBegun t (slice_index_or awake k b) (slice_index_or ps k d) (slice_index_or qs k d)
 
--- the volume's keeper set the flags of home and of the view's loggers to what the spindles answered
-pub record HasBegunVolume {D : Type 0} (tells : Bool) (awake : List Bool) (p q : ManagerPass D) : Type 0 where
-  pub before : List Entry
-  pub note : Noted
-  pub turned : HasTurned tells p q before note
-  pub begun : IsBegun (slice_index_or awake (began p).owner false) (map (λ (v : ℕ). slice_index_or awake v false) (began p).view) note
-
+-- so did the keeper of each volume
 abbrev pub HaveBegunVolumes : {D : Type 0} → (tells : Bool) → (awake : List Bool) → List (ManagerPass D) → List (ManagerPass D) → Type 0
 HaveBegunVolumes {D} tells awake ps qs = (k : ℕ) (d : ManagerPass D) → k < length ps → HasBegunVolume tells awake (slice_index_or ps k d) (slice_index_or qs k d)

@@ -3,7 +3,7 @@ use Rattle.std.specs.Prelude.{◌≡◌, ◌++◌, ℕ, List, [], length}
 use Rattle.request_workers.specs.Requests.{own_requests, outcomes_of}
 use Rattle.request_workers.specs.declared.desk.Desk.{Desk}
 use Rattle.trace_windows.specs.declared.request.Request.{Request}
-use Rattle.request_workers.specs.declared.request.Outcome.{Outcome}
+use Rattle.request_turns.specs.declared.outcome.Outcome.{Outcome}
 
 -- all but the outcomes
 pub record IsSameDesk {D : Type 0} (d e : Desk D) : Type 0 where

@@ -4,7 +4,7 @@ use Rattle.turn_lock.specs.Passes.{pass_lock}
 use Rattle.wol_model.specs.History.{worker}
 use Rattle.logger.specs.declared.shared.Shared.{Shared}
 use Rattle.manager.specs.Stands.{IsShared}
-use Rattle.request_workers.specs.Helped.{ManagerLock, IsPassAt}
+use Rattle.request_turns.specs.Helped.{ManagerLock, IsPassAt}
 use Rattle.request_workers.specs.Requests.{AreWithin, own_requests}
 use Rattle.request_workers.specs.Served.{HasServed}
 use Rattle.request_workers.specs.declared.desk.Desk.{Desk}

@@ -6,7 +6,8 @@ use Rattle.wol_model.specs.History.{helper, keeper}
 use Rattle.logger.specs.declared.shared.Shared.{Shared}
 use Rattle.manager.specs.Stands.{IsShared}
 use Rattle.request_workers.specs.Desks.{AreAt, AreNumbered, AreEmpty}
-use Rattle.request_workers.specs.Helped.{ManagerLock, ArePassesAt, IsCause}
+use Rattle.request_turns.specs.Helped.{ManagerLock}
+use Rattle.request_workers.specs.Helped.{ArePassesAt, IsCause}
 use Rattle.request_workers.specs.Requests.{AreWithin, own_requests}
 use Rattle.request_workers.specs.Worked.{AreWorked, HelpedIn, first_fault}
 use Rattle.request_workers.specs.declared.desk.Desk.{Desk}

@@ -1,6 +1,4 @@
 pub mod Requests
-pub mod Turns
-pub mod Entries
 pub mod Served
 pub mod Closed
 pub mod Helped
@@ -10,4 +8,3 @@ pub mod Worked
 pub mod Floors
 pub mod Stations
 pub mod Begun
-pub mod Written

@@ -8,16 +8,10 @@ use Rattle.manager.specs.declared.part.Place.{Place}
 use Rattle.manager.specs.declared.part.Place.TheVariants as place
 use Rattle.trace_windows.specs.Requests.{asked}
 use Rattle.trace_windows.specs.declared.request.Request.{Request}
-use Rattle.request_workers.specs.declared.request.Outcome.{Outcome}
-use Rattle.request_workers.specs.declared.request.Outcome.TheVariants as outcome
+use Rattle.request_turns.specs.declared.outcome.Outcome.{Outcome}
+use Rattle.request_turns.specs.declared.outcome.Outcome.TheVariants as outcome
 
 -- ---- Requests
-
--- it has 1 to `most` blocks, which lie in the volume
-pub record IsWithin (b : ManagerBase) (r : Request) : Type 0 where
-  pub some : 1 ≤ r.count
-  pub few : r.count ≤ b.volume.began.most
-  pub fits : r.lbn + r.count ≤ b.volume.began.home_blocks
 
 -- the requests of a volume, in order
 abbrev pub own_requests : ℕ → List Request → List Request
@@ -32,11 +26,6 @@ abbrev pub AreOfVolumes : ℕ → List Request → Type 0
 AreOfVolumes n rs = All (λ (r : Request). r.volume < n) rs
 
 -- ---- Outcomes
-
--- the place is a log
-abbrev pub is_log : Place → Bool
-is_log place.Home = false
-is_log (place.Log logger) = true
 
 -- an outcome as the model has it
 abbrev pub told : Outcome → outcomes.Outcome

@@ -6,20 +6,11 @@ use Rattle.wol_model.specs.History.{Kept}
 use Rattle.wol_promise.specs.Ruled.{Noted, last_look}
 use Rattle.manager.specs.Stands.{notes_of}
 use Rattle.request_workers.specs.Requests.{was_answered, was_run, both, going_after, StopsAtRefusal, own_requests}
-use Rattle.request_workers.specs.Turns.{ManagerPass, began, notes_seen, IsHonest, HasTurned, Gains, Stays, LooksStay}
-use Rattle.request_workers.specs.Entries.{IsEntryOf, AreEntriesOf, AreMade, TellsFault}
+use Rattle.request_turns.specs.Turns.{ManagerPass, began, notes_seen, IsHonest, HasTurned, Gains, Stays, LooksStay}
+use Rattle.request_turns.specs.Entries.{IsEntryOf, AreEntriesOf, AreMade, TellsFault}
 use Rattle.request_workers.specs.declared.desk.Desk.{Desk}
 use Rattle.trace_windows.specs.declared.request.Request.{Request}
-use Rattle.request_workers.specs.declared.request.Outcome.{Outcome}
-
--- one request, in one turn
-pub record HasAnswered {D : Type 0} (tells : Bool) (r : Request) (o : Outcome) (p q : ManagerPass D) : Type 0 where
-  pub before : List Entry
-  pub note : Noted
-  pub turned : HasTurned tells p q before note
-  pub entry : IsEntryOf (began p).view r o note
-  pub stays : note.entry.operation ≡ Kept → Stays (last_look (began p).look (notes_of before)) note
-  pub fault : TellsFault (notes_seen q) o
+use Rattle.request_turns.specs.declared.outcome.Outcome.{Outcome}
 
 -- one request more: in a turn, or not run
 pub record HasServedNext {D : Type 0} (tells : Bool) (r : Request) (going : Bool) (d e : Desk D) (next : Bool) : Type 0 where

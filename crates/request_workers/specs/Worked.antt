@@ -6,13 +6,13 @@ use Rattle.wol_promise.specs.Outcomes.{AreOutcomes, answered_in}
 use Rattle.wol_promise.specs.Ruled.{Noted}
 use Rattle.manager.specs.declared.part.StepFault.{StepFault}
 use Rattle.request_workers.specs.Closed.{IsClosed}
-use Rattle.request_workers.specs.Entries.{AreMade, TellsFault}
+use Rattle.request_turns.specs.Entries.{AreMade, TellsFault}
 use Rattle.request_workers.specs.Helped.{AreHelped}
 use Rattle.request_workers.specs.Requests.{own_requests, outcomes_of, answers_to, StopsAtRefusal}
-use Rattle.request_workers.specs.Turns.{ManagerPass, began, notes_seen, IsHonest, Gains, LooksStay}
+use Rattle.request_turns.specs.Turns.{ManagerPass, began, notes_seen, IsHonest, Gains, LooksStay}
 use Rattle.request_workers.specs.declared.desk.Desk.{Desk}
 use Rattle.trace_windows.specs.declared.request.Request.{Request}
-use Rattle.request_workers.specs.declared.request.Outcome.{Outcome}
+use Rattle.request_turns.specs.declared.outcome.Outcome.{Outcome}
 use Rattle.request_workers.specs.declared.request.Reclaim.{Reclaim}
 use Rattle.request_workers.specs.declared.request.Reclaim.TheVariants as reclaim
 

@@ -5,7 +5,7 @@ ghost use Rattle.request_workers.specs.Requests.{AreOfVolumes};
 ghost use Rattle.request_workers.specs.declared.desk.Desk.{Desk};
 
 use crate::desk::Desk;
-use crate::request::Outcome;
+use request_turns::Outcome;
 use trace_windows::Request;
 use wol_disk::Disk;
 

@@ -4,15 +4,14 @@ ghost use Rattle.turn_lock.specs.Passes.{pass_lock, IsSamePass};
 ghost use Rattle.wol_model.specs.History.{helper};
 ghost use Rattle.manager.specs.Stands.{IsShared};
 ghost use Rattle.reclaimer.specs.Fetches.{HasData};
-ghost use Rattle.request_workers.specs.Helped.{IsPassAt, ArePassesAt, AreSharing, HasHelped, AreHelped, IsCause};
-ghost use Rattle.request_workers.specs.Turns.{notes_seen, IsBroken};
+ghost use Rattle.request_turns.specs.Helped.{IsPassAt, HasHelped};
+ghost use Rattle.request_workers.specs.Helped.{ArePassesAt, AreSharing, AreHelped, IsCause};
+ghost use Rattle.request_turns.specs.Turns.{notes_seen, IsBroken};
 
-use crate::noted::leave_step;
-use crate::step::has_failed;
-use crate::tally::Tally;
 use logger::Shared;
 use manager::{Manager, StepFault};
-use reclaimer::{Fetch, Fetched, Gone, fetch, invalidate_one, put_home};
+use reclaimer::Fetch;
+use request_turns::{Tally, drop_turn, fetch_turn, put_turn};
 use std::sync::Wait;
 use turn_lock::{Pass, TurnLock};
 use wol_disk::Disk;
@@ -41,84 +40,6 @@ impl HelperRoom {
                 false
             }
         }
-    }
-}
-
-// Reads a record with due blocks in one turn. Tells whether there was one.
-fn fetch_turn<D: Disk, R: Wait>(
-    rt: &R,
-    lock: &TurnLock<Manager<D>>,
-    pass: &mut Pass<Manager<D>>,
-    shared: &Shared<D>,
-    room: &mut Fetch,
-) -> Result<bool, StepFault>
-    requires pass { IsPassAt lock.now helper pass.old }
-    requires shared { IsShared shared.now (pass_lock pass.old).base }
-    ensures helped { HasHelped D.tells pass.old pass.new }
-    ensures data { HasData D.tells room.new (pass_lock pass.new).base (notes_seen pass.new) }
-    ensures cause { IfErr result (λ f. IsBroken (notes_seen pass.new)) }
-{
-    let mut turn = lock.enter(rt, pass);
-    let answer = fetch(rt, &mut turn.value, shared, room);
-    leave_step(lock, turn, pass, has_failed(&answer));
-    match answer {
-        Ok(Fetched::Some { .. }) => Ok(true),
-        Ok(Fetched::Nothing) => Ok(false),
-        Err(fault) => Err(fault),
-    }
-}
-
-// Puts home in one turn what was fetched. Tells whether there was anything.
-fn put_turn<D: Disk, R: Wait>(
-    rt: &R,
-    lock: &TurnLock<Manager<D>>,
-    pass: &mut Pass<Manager<D>>,
-    shared: &Shared<D>,
-    room: &Fetch,
-    tally: &mut Tally,
-) -> Result<bool, StepFault>
-    requires pass { IsPassAt lock.now helper pass.old }
-    requires shared { IsShared shared.now (pass_lock pass.old).base }
-    requires data { HasData D.tells room.now (pass_lock pass.old).base (notes_seen pass.old) }
-    ensures helped { HasHelped D.tells pass.old pass.new }
-    ensures cause { IfErr result (λ f. IsBroken (notes_seen pass.new)) }
-{
-    let mut turn = lock.enter(rt, pass);
-    let answer = put_home(rt, &mut turn.value, shared, room);
-    leave_step(lock, turn, pass, has_failed(&answer));
-    match answer {
-        Ok(blocks) => {
-            tally.count(blocks, 0);
-            Ok(blocks > 0)
-        }
-        Err(fault) => Err(fault),
-    }
-}
-
-// Gives up in one turn what may go of a record. Tells whether there was one.
-fn drop_turn<D: Disk, R: Wait>(
-    rt: &R,
-    lock: &TurnLock<Manager<D>>,
-    pass: &mut Pass<Manager<D>>,
-    shared: &Shared<D>,
-    tally: &mut Tally,
-) -> Result<bool, StepFault>
-    requires pass { IsPassAt lock.now helper pass.old }
-    requires shared { IsShared shared.now (pass_lock pass.old).base }
-    ensures helped { HasHelped D.tells pass.old pass.new }
-    ensures cause { IfErr result (λ f. IsBroken (notes_seen pass.new)) }
-{
-    let mut turn = lock.enter(rt, pass);
-    let answer = invalidate_one(rt, &mut turn.value, shared);
-    leave_step(lock, turn, pass, has_failed(&answer));
-    match answer {
-        Ok(Gone::Version(_)) => {
-            tally.count(0, 1);
-            Ok(true)
-        }
-        Ok(Gone::Trimmed(_)) => Ok(true),
-        Ok(Gone::Nothing) => Ok(false),
-        Err(fault) => Err(fault),
     }
 }
 

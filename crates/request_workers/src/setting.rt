@@ -6,10 +6,9 @@ ghost use Rattle.request_workers.specs.Floors.{IsFloor};
 use crate::desk::Desk;
 use crate::floor::Floor;
 use crate::helper::HelperRoom;
-use crate::payload::Payload;
-use crate::tally::Tally;
 use manager::Station;
 use reclaimer::Fetch;
+use request_turns::{Payload, Tally};
 use std::alloc::Global;
 use wol_disk::{Disk, NoMemory};
 

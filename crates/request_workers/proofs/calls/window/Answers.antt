@@ -3,7 +3,7 @@ use Rattle.std.specs.Option.{option_or}
 use Rattle.std.proofs.lemmas.List.{with_items_is}
 use Rattle.std.specs.Vec.{with_items}
 use Rattle.wol_model.specs.History.{helper}
-use Rattle.request_workers.specs.Turns.{ManagerPass}
+use Rattle.request_turns.specs.Turns.{ManagerPass}
 use Rattle.request_workers.specs.Worked.{AreWorked, HelpedIn, first_fault}
 use Rattle.request_workers.specs.declared.desk.Desk.{Desk}
 use Rattle.request_workers.proofs.Roomy.{sharing, all_ready, all_roomy, floor_after, floor_same}

@@ -1,6 +1,6 @@
 use Rattle.std.proofs.Common.{◌≤◌, ◌<◌, length, arith, sym, subst, get_or}
 use Rattle.wol_model.specs.History.{worker}
-use Rattle.request_workers.specs.Helped.{ManagerLock, IsPassAt}
+use Rattle.request_turns.specs.Helped.{ManagerLock, IsPassAt}
 use Rattle.request_workers.proofs.closing.close_each.Goals as goal
 
 pub close_one-requires-clause-pass : goal.close_one-requires-clause-pass

@@ -1,7 +1,7 @@
 use Rattle.std.proofs.Common.{rules, ◌≡◌, ◌≤◌, ◌<◌, length, slice_set, arith, sym, subst, get_or}
 use Rattle.wol_model.specs.History.{helper}
-use Rattle.request_workers.specs.Helped.{ManagerLock, IsPassAt, HasHelped}
-use Rattle.request_workers.specs.Turns.{ManagerPass}
+use Rattle.request_turns.specs.Helped.{ManagerLock, IsPassAt, HasHelped}
+use Rattle.request_turns.specs.Turns.{ManagerPass}
 use Rattle.request_workers.proofs.HelpTurn.{cause_set, step_helped, step_rest}
 use Rattle.request_workers.proofs.helper.help_round.Goals as goal
 

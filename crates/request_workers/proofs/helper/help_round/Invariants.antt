@@ -1,6 +1,7 @@
 use Rattle.std.proofs.Common.{◌≡◌, ◌≤◌, ◌<◌, ℕ, slice_index_or}
-use Rattle.request_workers.specs.Helped.{HasHelped, IsCause}
-use Rattle.request_workers.specs.Turns.{ManagerPass}
+use Rattle.request_turns.specs.Helped.{HasHelped}
+use Rattle.request_workers.specs.Helped.{IsCause}
+use Rattle.request_turns.specs.Turns.{ManagerPass}
 use Rattle.request_workers.proofs.helper.help_round.Given as goal
 
 abbrev pub invariant-loop-k : goal.invariant-loop-k

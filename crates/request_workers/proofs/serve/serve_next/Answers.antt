@@ -1,7 +1,7 @@
 use Rattle.std.proofs.Common.{refl, ap, sym, ◌∙◌, ◌++◌, ◌∷◌, [], Bool}
 use Rattle.request_workers.specs.Requests.{both, was_answered}
-use Rattle.request_workers.specs.declared.request.Outcome.TheVariants as outcome
-use Rattle.request_workers.proofs.Gaining.{gains_none, gains_turn, stays_turn}
+use Rattle.request_turns.specs.declared.outcome.Outcome.TheVariants as outcome
+use Rattle.request_turns.proofs.Gaining.{gains_none, gains_turn, stays_turn}
 use Rattle.request_workers.proofs.Serving.{one_entry, is_run}
 use Rattle.request_workers.proofs.serve.serve_next.Goals as goal
 

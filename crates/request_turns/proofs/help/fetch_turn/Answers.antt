@@ -1,0 +1,23 @@
+use Rattle.manager.specs.Reclaim.{Always}
+use Rattle.request_turns.proofs.HelpNotes.{same_keep, help_stands, has_helped, data_left}
+use Rattle.request_turns.proofs.Taking.{home_at}
+use Rattle.request_turns.proofs.help.fetch_turn.Goals as goal
+
+pub fetch-answer-requires-clause-at : goal.fetch-answer-requires-clause-at
+fetch-answer-requires-clause-at g c = home_at _ _ _ _ _ _ _ c.enter-turn.ensures.same.0 c.enter-turn.ensures.value.keeps c.requires.shared
+
+pub leave_step-requires-clause-value : goal.leave_step-requires-clause-value
+leave_step-requires-clause-value g c = let r = c.fetch-answer.ensures in
+    help_stands _ _ c.enter-turn.result.value c.fetch-answer.new.m _ _ _ c.fetch-answer.result _ c.has_failed.ensures Always tt r.keeps r.broke (same_keep c.enter-turn.result.value c.fetch-answer.new.m _ c.fetch-answer.result r.look) c.enter-turn.ensures.value
+
+pub returns-in-Ok-Some-clause-helped : goal.returns-in-Ok-Some-clause-helped
+returns-in-Ok-Some-clause-helped g c = let e = c.enter-turn.ensures in has_helped _ _ _ _ _ _ e.same e.seen e.mine e.own c.leave_step.ensures.left
+
+pub returns-in-Ok-Nothing-clause-helped : goal.returns-in-Ok-Nothing-clause-helped
+returns-in-Ok-Nothing-clause-helped g c = let e = c.enter-turn.ensures in has_helped _ _ _ _ _ _ e.same e.seen e.mine e.own c.leave_step.ensures.left
+
+pub returns-in-Err-clause-helped : goal.returns-in-Err-clause-helped
+returns-in-Err-clause-helped g c = let e = c.enter-turn.ensures in has_helped _ _ _ _ _ _ e.same e.seen e.mine e.own c.leave_step.ensures.left
+
+pub returns-in-Ok-Some-clause-data : goal.returns-in-Ok-Some-clause-data
+returns-in-Ok-Some-clause-data g c = data_left _ c.fetch-answer.new.into _ _ _ c.leave_step.ensures.left (c.fetch-answer.ensures.content _ _ c.enter-turn.ensures.value.keeps)

@@ -1,0 +1,22 @@
+use Rattle.std.proofs.Common.{◌∙◌}
+use Rattle.reclaimer.specs.Fetches.{HasData}
+use Rattle.request_turns.proofs.HelpNotes.{put_keep, help_stands, has_helped, data_in, down_at}
+use Rattle.request_turns.proofs.Taking.{home_at}
+use Rattle.request_turns.proofs.help.put_turn.Goals as goal
+
+pub put_home-answer-requires-clause-at : goal.put_home-answer-requires-clause-at
+put_home-answer-requires-clause-at g c = home_at _ _ _ _ _ _ _ c.enter-turn.ensures.same.0 c.enter-turn.ensures.value.keeps c.requires.shared
+
+pub leave_step-requires-clause-value : goal.leave_step-requires-clause-value
+leave_step-requires-clause-value g c = let r = c.put_home-answer.ensures in let e = c.enter-turn.ensures in
+    help_stands _ _ c.enter-turn.result.value c.put_home-answer.new.m _ _ _ c.put_home-answer.result _ c.has_failed.ensures (HasData g.D.Disk.tells c.args.room.now) (data_in _ c.args.room.now _ _ e.same e.seen c.requires.data) r.keeps r.broke
+    (put_keep c.enter-turn.result.value c.put_home-answer.new.m _ c.put_home-answer.result (e.same.1 ∙ c.requires.pass.number_is) r.look) e.value
+
+pub returns-in-Ok-clause-helped : goal.returns-in-Ok-clause-helped
+returns-in-Ok-clause-helped g c = let e = c.enter-turn.ensures in has_helped _ _ _ _ _ _ e.same e.seen e.mine e.own c.leave_step.ensures.left
+
+pub returns-in-Err-clause-helped : goal.returns-in-Err-clause-helped
+returns-in-Err-clause-helped g c = let e = c.enter-turn.ensures in has_helped _ _ _ _ _ _ e.same e.seen e.mine e.own c.leave_step.ensures.left
+
+pub returns-in-Err-clause-cause : goal.returns-in-Err-clause-cause
+returns-in-Err-clause-cause g c = c.leave_step.ensures.broken (down_at g.D.Disk.state c.enter-turn.result.value c.put_home-answer.new.m c.put_home-answer.result c.in-Err.fault c.in-Err.is c.put_home-answer.ensures.fault)
