@@ -1,5 +1,5 @@
 -- A reclaim turn, from entering to leaving.
-use Rattle.std.proofs.Common.{◌≡◌, ℕ, Bool, false, List, [], ◌∷◌, ◌++◌, Option, None, Some, Result, Ok, Err, refl, sym, subst, ◌∙◌}
+use Rattle.std.proofs.Common.{◌≡◌, ℕ, Bool, true, false, List, [], ◌∷◌, ◌++◌, Option, None, Some, Result, Ok, Err, refl, sym, subst, ◌∙◌}
 use Rattle.std.specs.Prelude.{IsSome, OnOk, IfErr}
 use Rattle.turn_lock.specs.Histories.{own, Begins}
 use Rattle.turn_lock.specs.Passes.{pass_number, pass_seen, pass_mine, IsSamePass}
@@ -7,6 +7,7 @@ use Rattle.wol_disk.specs.Disk.{State}
 use Rattle.wol_model.specs.History.{worker}
 use Rattle.wol_promise.specs.Policy.{Look, IsIdleLook}
 use Rattle.wol_promise.specs.Policy as policy
+use Rattle.wol_promise.specs.Report.{reclaims}
 use Rattle.wol_promise.specs.Ruled.{Noted, IsKeep, last_look}
 use Rattle.wol_promise.specs.Ruled as ruled
 use Rattle.manager.specs.Reclaim.{OnKept, OnFailed, KeepsOn, BreaksOff, Always}
@@ -17,10 +18,18 @@ use Rattle.manager.specs.declared.manager.Manager.{Manager}
 use Rattle.manager.specs.declared.part.StepFault.{StepFault}
 use Rattle.manager.specs.declared.part.StepFault.TheVariants as fault
 use Rattle.request_turns.specs.Closed.{GoesOn, HasClosed}
+use Rattle.request_turns.specs.Counts.{Counts, CountsMore, CountsEntry, HasTaken}
 use Rattle.request_turns.specs.Entries.{note_of, step_operation, has_failed, refusal_in}
 use Rattle.request_turns.specs.Turns.{ManagerPass, notes_seen, IsBroken, HasLeft}
+use Rattle.request_turns.specs.declared.tally.Tally.{Tally}
+use Rattle.request_turns.proofs.Counting.{entry_taken, entry_quiet, all_taken, more_of}
 use Rattle.request_turns.proofs.StepNotes.{step_stands, step_helps}
 use Rattle.request_turns.proofs.Turning.{turned}
+
+kept_counted : (l m : Look) (pass : ℕ) (failed : Bool) (none done t u : Tally) → failed ≡ false → Counts 0 0 none → HasTaken none done l m → CountsMore done.blocks done.records t u
+    → CountsEntry l (note_of pass (step_operation failed) m [] false) t u
+kept_counted l m pass failed none done t u is zero h add = let all = all_taken none done l m zero h in
+    entry_taken all.blocks all.records l (note_of pass (step_operation failed) m [] false) t u (ap (λ (f : Bool). reclaims false (step_operation f)) is) all.taken (more_of all.blocks all.records done t u all.counts add)
 
 module _ {D T : Type 0} (tells : Bool) (state : D → State) (old new : Manager D) (answer : Result T StepFault) where
   keeps_look : (a : Result T StepFault) (pass : ℕ) → pass ≡ worker → OnKept a (GoesOn (look_of_manager old) (look_of_manager new)) → OnKept a (IsKeep [] pass (look_of_manager old) (look_of_manager new))
@@ -53,3 +62,11 @@ module _ {D T : Type 0} (tells : Bool) (state : D → State) (old new : Manager 
     idle = λ none. idle_after answer idle (sym is ∙ none);
     cause = λ f some. broken (cause_after answer down f (sym is ∙ some));
   }
+
+  pub closed_counted : (a : Result T StepFault) (l : Look) (pass : ℕ) (failed : Bool) (none done t u : Tally) → failed ≡ has_failed a → Counts 0 0 none → OnKept a (HasTaken none done l (look_of_manager new))
+      → (failed ≡ false → CountsMore done.blocks done.records t u) → (failed ≡ true → u ≡ t) → CountsEntry l (note_of pass (step_operation failed) (look_of_manager new) [] false) t u
+  closed_counted (Ok x) l pass failed none done t u is zero h add stays = kept_counted l (look_of_manager new) pass failed none done t u is zero h (add is)
+  closed_counted (Err (fault.DiskFault p)) l pass failed none done t u is zero h add stays =
+      subst (λ (v : Tally). CountsEntry l (note_of pass (step_operation failed) (look_of_manager new) [] false) t v) (sym (stays is))
+      (entry_quiet l (note_of pass (step_operation failed) (look_of_manager new) [] false) t (ap (λ (f : Bool). reclaims false (step_operation f)) is))
+  closed_counted (Err (fault.Down p)) l pass failed none done t u is zero h add stays = kept_counted l (look_of_manager new) pass failed none done t u is zero h (add is)

@@ -64,11 +64,11 @@ kept_others l (e ∷ es) none = by (λ further. kept_others (noted_of e.0 e.1).l
       rest (sym (ap (λ (t : Bool). cond t (e ∷ own worker es) (own worker es)) is) ∙ none),
     )
 
-nothing_more : {X : Type 0} (xs ys : List X) → xs ++ ys ≡ xs → ys ≡ []
+pub nothing_more : {X : Type 0} (xs ys : List X) → xs ++ ys ≡ xs → ys ≡ []
 nothing_more xs [] is = refl
 nothing_more xs (y ∷ ys) is = absurd (let a = length-append xs (y ∷ ys) in let b = ap length is in let c : length (y ∷ ys) ≡ length ys + 1 = omega arith in omega (arith, a, b, c))
 
-notes_joined : (xs ys : List Entry) → notes_of (xs ++ ys) ≡ notes_of xs ++ notes_of ys
+pub notes_joined : (xs ys : List Entry) → notes_of (xs ++ ys) ≡ notes_of xs ++ notes_of ys
 notes_joined xs ys = map-append (λ (e : Entry). noted_of e.0 e.1) xs ys
 
 -- ---- One turn
@@ -77,7 +77,7 @@ module _ {D : Type 0} (tells : Bool) (p q : ManagerPass D) (before : List Entry)
   abbrev pub turn_more : List Entry
   turn_more = t.begins.0 ++ coded n ∷ []
 
-  turn_seen : pass_seen q ≡ pass_seen p ++ turn_more
+  pub turn_seen : pass_seen q ≡ pass_seen p ++ turn_more
   turn_seen = t.seen ∙ ap (λ (es : List Entry). es ++ coded n ∷ []) (sym t.begins.1) ∙ append_assoc (pass_seen p) t.begins.0 (coded n ∷ [])
 
   own_one : (k : ℕ) → n.entry.pass ≡ k → own k (before ++ coded n ∷ []) ≡ own k before ++ coded n ∷ []

@@ -10,6 +10,7 @@ use Rattle.wol_disk.specs.Disk.{State}
 use Rattle.wol_model.specs.History.{helper, IsHelp}
 use Rattle.wol_promise.specs.Code.{noted_of}
 use Rattle.wol_promise.specs.Policy.{Look}
+use Rattle.wol_promise.specs.Report.{reclaims}
 use Rattle.wol_promise.specs.Ruled.{Noted, IsKeep}
 use Rattle.wol_promise.specs.Ruled as ruled
 use Rattle.wol_promise.proofs.Lists.{all_joined}
@@ -20,16 +21,19 @@ use Rattle.manager.specs.declared.base.ManagerBase.{ManagerBase}
 use Rattle.manager.specs.declared.manager.Manager.{Manager}
 use Rattle.manager.specs.declared.part.StepFault.{StepFault}
 use Rattle.manager.specs.declared.part.StepFault.TheVariants as fault
+use Rattle.reclaimer.specs.Counts.{TakesOff}
 use Rattle.reclaimer.specs.Fetches.{HasData}
 use Rattle.reclaimer.specs.Records.{FetchedRecord}
 use Rattle.reclaimer.specs.Steps.{LooksPut, LooksGone}
 use Rattle.reclaimer.specs.declared.answers.Gone.{Gone}
 use Rattle.reclaimer.specs.declared.answers.Gone.TheVariants as gone
 use Rattle.reclaimer.proofs.Later.{data_is_kept}
+use Rattle.request_turns.specs.Counts.{CountsMore, CountsEntry}
 use Rattle.request_turns.specs.Entries.{note_of, step_operation, has_failed}
 use Rattle.request_turns.specs.Helped.{ManagerLock, HasHelped}
-use Rattle.request_workers.specs.Helped.{ArePassesAt, AreHelped, IsCause}
 use Rattle.request_turns.specs.Turns.{ManagerPass, notes_seen, IsBroken, HasLeft}
+use Rattle.request_turns.specs.declared.tally.Tally.{Tally}
+use Rattle.request_turns.proofs.Counting.{entry_taken, entry_quiet, none_more}
 use Rattle.request_turns.proofs.Gaining.{gains_none, gains_turn, gains_both, seen_more, broken_more}
 use Rattle.request_turns.proofs.Noting.{notes_at}
 use Rattle.request_turns.proofs.StepNotes.{step_stands, step_helps}
@@ -87,3 +91,15 @@ data_in tells f p i same begins data_ = subst (λ (l : LockId ManagerBase). HasD
 pub data_left : {D : Type 0} (tells : Bool) (f : Option FetchedRecord) (i q : ManagerPass D) (n : Noted) → HasLeft tells n i q → HasData tells f (pass_lock i).base (notes_seen i) → HasData tells f (pass_lock q).base (notes_seen q)
 data_left tells f i q n left data_ = subst (λ (l : LockId ManagerBase). HasData tells f l.base (notes_seen q)) (sym left.same.0)
     (subst (HasData tells f (pass_lock i).base) (sym (ap notes_of left.seen ∙ notes_at (pass_seen i) n.entry.pass n refl)) (data_is_kept tells f (pass_lock i).base (notes_seen i) (n ∷ []) data_))
+
+-- ---- What is counted
+
+module _ {T : Type 0} (l m : Look) (pass : ℕ) where
+  -- the entry of a step that was done
+  pub done_counted : (x : T) (failed : Bool) (b r : ℕ) (t u : Tally) → failed ≡ has_failed {T = T} (Ok x) → TakesOff b r l m → CountsMore b r t u → CountsEntry l (note_of pass (step_operation failed) m [] false) t u
+  done_counted x failed b r t u is taken more = entry_taken b r l (note_of pass (step_operation failed) m [] false) t u (ap (λ (f : Bool). reclaims false (step_operation f)) is) taken more
+
+  -- that of one that was refused
+  pub refused_counted : (f : StepFault) (failed : Bool) (t : Tally) → failed ≡ has_failed {T = T} (Err f) → TakesOff 0 0 l m → CountsEntry l (note_of pass (step_operation failed) m [] false) t t
+  refused_counted (fault.DiskFault p) failed t is taken = entry_quiet l (note_of pass (step_operation failed) m [] false) t (ap (λ (f : Bool). reclaims false (step_operation f)) is)
+  refused_counted (fault.Down p) failed t is taken = entry_taken 0 0 l (note_of pass (step_operation failed) m [] false) t t (ap (λ (f : Bool). reclaims false (step_operation f)) is) taken (none_more t)

@@ -13,3 +13,4 @@ pub mod Waking
 pub mod Flagged
 pub mod Gaining
 pub mod HelpNotes
+pub mod Counting

@@ -1,11 +1,12 @@
 -- A read's entry.
-use Rattle.std.proofs.Common.{◌≡◌, ◌+◌, ℕ, Bool, false, List, [], length, Some, Result, Ok, Err, OnOk, IfOk, refl, sym, ap, subst, ◌∙◌, inl}
+use Rattle.std.proofs.Common.{◌≡◌, ◌+◌, ℕ, Bool, true, false, List, [], length, Some, Result, Ok, Err, OnOk, IfOk, refl, sym, ap, subst, ◌∙◌, inl}
 use Rattle.std.specs.Prelude.{IsSome, is_some, count_by, ◌↔◌}
 use Rattle.std.specs.List.{range_with_len}
 use Rattle.wol_disk.specs.Disk.{Block}
 use Rattle.wol_model.specs.History.{Kept}
 use Rattle.wol_model.specs.Index.{listed_in, is_covered}
 use Rattle.wol_promise.specs.Policy.{Look, woken}
+use Rattle.wol_promise.specs.Report.{reclaims}
 use Rattle.wol_promise.specs.Ruled.{Noted, IsStep, IsKeep}
 use Rattle.wol_promise.specs.Ruled as ruled
 use Rattle.manager.specs.Answers.{was_read}
@@ -17,6 +18,7 @@ use Rattle.manager.specs.declared.part.ReadRefusal.{ReadRefusal}
 use Rattle.manager.specs.declared.part.ReadRefusal.TheVariants.{DiskFault, Down}
 use Rattle.manager.specs.declared.part.Sources.{Sources}
 use Rattle.wol_model.specs.declared.trace.Kind.TheVariants as kind
+use Rattle.request_turns.specs.Counts.{CountsEntry}
 use Rattle.request_turns.specs.Entries.{note_of, read_outcome, IsEntryOf, TellsFault}
 use Rattle.turn_lock.specs.Histories.{own, Begins}
 use Rattle.turn_lock.specs.LockIds.{LockId}
@@ -25,6 +27,8 @@ use Rattle.wol_promise.specs.Ruled.{last_look}
 use Rattle.manager.specs.declared.base.ManagerBase.{ManagerBase}
 use Rattle.request_turns.specs.Answered.{HasAnswered}
 use Rattle.request_turns.specs.Turns.{ManagerPass, began, notes_seen, HasLeft, IsBroken, Stays}
+use Rattle.request_turns.specs.declared.tally.Tally.{Tally}
+use Rattle.request_turns.proofs.Counting.{entry_same}
 use Rattle.request_turns.proofs.Turning.{turned}
 use Rattle.trace_windows.specs.declared.request.Request.{Request}
 
@@ -52,6 +56,14 @@ module _ {D : Type 0} (old new : Manager D) (first : ℕ) (out : List Block) (an
       by (Ok s) same is_kept = absurd (let no : Rattle.wol_model.specs.History.Read first out ≡ Kept = is_kept in cc)
       by (Err (DiskFault p)) same is_kept = absurd (let no : Rattle.wol_model.specs.History.Broke [] ≡ Kept = is_kept in cc)
       by (Err (Down p)) same is_kept = inl (ap (λ (k : Noted). k.look) is ∙ kept_look p same)
+
+  pub read_counted : (t : Tally) → CountsEntry l note t t
+  read_counted t = entry_same l note t (by answer refl)
+    where
+      by : (a : Result Sources ReadRefusal) → answer ≡ a → reclaims false (was_read first out a) ≡ true → (look_of_manager new).listed ≡ l.listed
+      by (Ok s) same is = absurd (let no : false ≡ true = is in cc)
+      by (Err (DiskFault p)) same is = absurd (let no : false ≡ true = is in cc)
+      by (Err (Down p)) same is = ap (λ (k : Look). k.listed) (kept_look p same)
 
 -- the entry of a read request with this answer
 module _ {D : Type 0} (old new : Manager D) (r : Request) (reads : r.kind ≡ kind.Read) (view : List ℕ) (out : List Block) (pass : ℕ) (n : ℕ) (long : length out ≡ n) (counted : n ≡ r.count) where

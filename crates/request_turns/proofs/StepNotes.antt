@@ -1,7 +1,8 @@
 -- Steps of reclaim: a turn of them and its entry, and one after another.
-use Rattle.std.proofs.Common.{◌≡◌, ℕ, zero, suc, Bool, true, false, List, [], ◌∷◌, ◌++◌, Result, Ok, Err, refl, sym, subst, ◌∙◌, arith}
+use Rattle.std.proofs.Common.{◌≡◌, ◌<◌, ℕ, zero, suc, Bool, true, false, List, [], ◌∷◌, ◌++◌, Result, Ok, Err, refl, sym, subst, ◌∙◌, arith}
 use Rattle.wol_disk.specs.Disk.{State}
 use Rattle.wol_model.specs.History.{Kept, Broke, IsHelp}
+use Rattle.wol_model.specs.Index.{listed_in, left}
 use Rattle.wol_promise.specs.Policy.{Look, IsReclaim, AreReclaims}
 use Rattle.wol_promise.specs.Policy as policy
 use Rattle.wol_promise.specs.Ruled.{Noted, IsKeep, last_look}
@@ -13,11 +14,14 @@ use Rattle.manager.specs.declared.manager.Manager.{Manager}
 use Rattle.manager.specs.declared.part.StepFault.{StepFault}
 use Rattle.manager.specs.declared.part.StepFault.TheVariants as fault
 use Rattle.manager.proofs.Frames.{stands_kept, none_passed}
+use Rattle.reclaimer.specs.Counts.{TakesOff, CountsPut, CountsGone}
 use Rattle.reclaimer.specs.Steps.{LooksPut, LooksGone}
 use Rattle.reclaimer.specs.declared.answers.Gone.{Gone}
 use Rattle.reclaimer.specs.declared.answers.Gone.TheVariants as gone
 use Rattle.request_turns.specs.Closed.{GoesOn}
+use Rattle.request_turns.specs.Counts.{CountsMore, HasTaken}
 use Rattle.request_turns.specs.Entries.{note_of, step_operation, has_failed}
+use Rattle.request_turns.specs.declared.tally.Tally.{Tally}
 
 module _ {D : Type 0} (tells : Bool) (state : D → State) (old new : Manager D) (b : ManagerBase) (notes : List Noted) (pass : ℕ) where
   kept_stands : IsKeep [] pass (look_of_manager old) (look_of_manager new) → last_look b.volume.began.look notes ≡ look_of_manager old → Keeps tells state new b notes
@@ -70,3 +74,25 @@ module _ {D : Type 0} (tells : Bool) (state : D → State) (old mid new : Manage
 
   pub breaks_off : (Where : ManagerBase → List Noted → Type 0) → ((b : ManagerBase) (notes : List Noted) → Keeps tells state mid b notes → Where b notes) → KeepsOn tells state old mid Always → BreaksOff tells state mid new Where → BreaksOff tells state old new Always
   breaks_off Where data_ first then b notes n w note k = then b notes n (data_ b notes (first b notes tt k)) note (first b notes tt k)
+
+-- ---- What is counted
+
+-- how many records are gone with this answer
+abbrev pub gone_count : Gone → ℕ
+gone_count (gone.Version v) = 1
+gone_count (gone.Trimmed v) = 0
+gone_count gone.Nothing = 0
+
+module _ {D : Type 0} where
+  pub put_taken : (old mid new : Manager D) (k : ℕ) → look_of_manager mid ≡ look_of_manager old → CountsPut (Ok k) (look_of_manager mid) (look_of_manager new) → (t u : Tally) → CountsMore k 0 t u → HasTaken t u (look_of_manager old) (look_of_manager new)
+  put_taken old mid new k same put t u more = record { blocks = k; records = 0; taken = subst (λ (l : Look). TakesOff k 0 l (look_of_manager new)) same put; counts = more }
+
+  -- where a block went home less is left
+  pub put_lowers : (old mid new : Manager D) (k : ℕ) → look_of_manager mid ≡ look_of_manager old → (0 < k → left (listed_in new.index.entries) < left (listed_in mid.index.entries)) → 0 < k
+      → left (listed_in new.index.entries) < left (listed_in old.index.entries)
+  put_lowers old mid new k same lowers some = subst (λ (l : Look). left (listed_in new.index.entries) < left l.listed) same (lowers some)
+
+pub gone_taken : (l m : Look) (g : Gone) (r : ℕ) → CountsGone (Ok g) l m → (t u : Tally) → CountsMore 0 r t u → r ≡ gone_count g → HasTaken t u l m
+gone_taken l m (gone.Version v) r taken t u more is = record { blocks = 0; records = 1; taken = taken; counts = subst (λ (k : ℕ). CountsMore 0 k t u) is more }
+gone_taken l m (gone.Trimmed v) r taken t u more is = record { blocks = 0; records = 0; taken = taken; counts = subst (λ (k : ℕ). CountsMore 0 k t u) is more }
+gone_taken l m gone.Nothing r taken t u more is = record { blocks = 0; records = 0; taken = taken; counts = subst (λ (k : ℕ). CountsMore 0 k t u) is more }

@@ -27,9 +27,12 @@ use Rattle.manager.specs.declared.part.WriteRefusal.TheVariants.{Full, DiskFault
 use Rattle.manager.specs.Stands.{Keeps, Stands, Leaves}
 use Rattle.manager.specs.declared.base.ManagerBase.{ManagerBase}
 use Rattle.wol_model.specs.History.{worker}
+use Rattle.request_turns.specs.Counts.{CountsEntry}
 use Rattle.request_turns.specs.Entries.{note_of, full_note, written_outcome, is_full, IsWrittenAs, TellsFault}
 use Rattle.request_turns.specs.Turns.{ManagerPass, began, notes_seen, HasLeft, IsBroken, Stays}
 use Rattle.request_turns.specs.Written.{HasWritten}
+use Rattle.request_turns.specs.declared.tally.Tally.{Tally}
+use Rattle.request_turns.proofs.Counting.{entry_same, entry_quiet}
 
 -- a part that failed had this payload in flight
 pub one_flight : (next first : ℕ) (blocks : List Block) (p : Part) → unversioned (failed_write next first blocks p) ≡ home_write first blocks
@@ -104,6 +107,14 @@ module _ {D : Type 0} (old new : Manager D) (first : ℕ) (blocks : List Block) 
   write_stays (Err VersionsSpent) look k is kept = inl (look ∙ sym is)
   write_stays (Err NoMemory) look k is kept = inl (look ∙ sym is)
 
+  write_counted : (a : Result Place WriteRefusal) → HasLook P w a l (look_of_manager new) → (k : Look) → k ≡ l → (t : Tally) → CountsEntry k (write_note a) t t
+  write_counted (Ok p) look k is t = entry_quiet k (write_note (Ok p)) t refl
+  write_counted (Err Full) look k is t = entry_same k (write_note (Err Full)) t (λ _. ap (λ (j : Look). j.listed) (look ∙ sym is))
+  write_counted (Err (DiskFault p)) look k is t = entry_quiet k (write_note (Err (DiskFault p))) t refl
+  write_counted (Err (Down p)) look k is t = entry_same k (write_note (Err (Down p))) t (λ _. ap (λ (j : Look). j.listed) (look ∙ sym is))
+  write_counted (Err VersionsSpent) look k is t = entry_same k (write_note (Err VersionsSpent)) t (λ _. ap (λ (j : Look). j.listed) (look ∙ sym is))
+  write_counted (Err NoMemory) look k is t = entry_same k (write_note (Err NoMemory)) t (λ _. ap (λ (j : Look). j.listed) (look ∙ sym is))
+
 -- a refusal that tells of a part comes where the manager is down after the call
 pub write_fault : {D : Type 0} (state : D → State) (old new : Manager D) (drained : Bool) (seen : List Noted) (a : Result Place WriteRefusal) → writing.TellsFault state a old new
     → ((p : Part) → (a ≡ Err (Down p)) ↔ (old.down ≡ Some p)) → (IsSome new.down → IsBroken seen) → TellsFault seen (written_outcome drained a)
@@ -129,19 +140,20 @@ module _ {D : Type 0} (tells : Bool) (state : D → State) (old new : Manager D)
       to_next (λ n. Stands tells state new b (notes ++ n ∷ [])) pass
       (stands b notes (write_note old new first blocks pass a) client (is_write_note old new first blocks pass view a at look (last_look b.volume.began.look notes) is) keeps)
 
-  pub has_written : (p q : ManagerPass D)
+  pub has_written : (p q : ManagerPass D) (t : Tally)
       → is_full a ≡ false → map logger_of old.lanes.items ≡ (began p).view → last_look (began p).look (notes_seen p) ≡ look_of_manager old
       → IsPlaceOf (map logger_of old.lanes.items) a (ruled_place old new first blocks) → HasLook (ruled_place old new first blocks) (home_write first blocks) a (look_of_manager old) (look_of_manager new)
       → ((d : Part) → (a ≡ Err (Down d)) ↔ (old.down ≡ Some d)) → ((a ≡ Err VersionsSpent) ↔ ((old.down ≡ None) × (old.next ≡ 2 ^ 63))) → writing.TellsFault state a old new
       → HasLeft tells (note_of (pass_number p) (written next first blocks a) (look_of_manager new) (passed_in new.rooms.items) false) p q → (IsSome new.down → IsBroken (notes_seen q))
-      → HasWritten tells first blocks (written_outcome false a) p q
-  has_written p q not_full view is at look down spent told left broken = record {
+      → HasWritten tells first blocks (written_outcome false a) t t p q
+  has_written p q t not_full view is at look down spent told left broken = record {
     note = write_note old new first blocks (pass_number p) a;
     left = subst (λ (k : ℕ). HasLeft tells (note_of (pass_number p) (written k first blocks a) (look_of_manager new) (passed_in new.rooms.items) false) p q) is_next left;
     ruled = refl;
     entry = write_entry old new first blocks (pass_number p) (began p).view a not_full (subst (λ (v : List ℕ). IsPlaceOf v a (ruled_place old new first blocks)) view at) look (λ e. (spent.0 e).1);
     stays = write_stays old new first blocks (pass_number p) a look (last_look (began p).look (notes_seen p)) is;
     fault = write_fault state old new false (notes_seen q) a told down broken;
+    counted = write_counted old new first blocks (pass_number p) a look (last_look (began p).look (notes_seen p)) is t;
   }
 
 -- ---- A write that is refused as full

@@ -20,6 +20,7 @@ use Rattle.request_turns.specs.Written.{HasWritten}
 use Rattle.trace_windows.specs.declared.request.Request.{Request}
 use Rattle.request_turns.specs.declared.outcome.Outcome.{Outcome}
 use Rattle.request_turns.specs.declared.outcome.Outcome.TheVariants as outcome
+use Rattle.request_turns.specs.declared.tally.Tally.{Tally}
 use Rattle.request_turns.proofs.Turning.{turned}
 
 of_request : (view : List ℕ) (r : Request) (o : Outcome) (n : Noted) → r.kind ≡ kind.Write → IsWrittenAs view (payload (asked r)) o n → IsEntryOf view r o n
@@ -34,8 +35,8 @@ module _ {D : Type 0} (tells : Bool) (r : Request) (blocks : List Block) (o : Ou
   is_payload : home_write r.lbn blocks ≡ payload (asked r)
   is_payload = λ j. record { first = r.lbn; blocks = (filled ∙ ap (λ (m : ℕ). map (payload_block r.line) (range_with_len r.lbn m)) counted) j; version = Rattle.std.specs.Prelude.None }
 
-  pub answered : IsSamePass p i → Begins (pass_seen p) (pass_seen i) → pass_mine i ≡ pass_mine p → own (pass_number i) (pass_seen i) ≡ pass_mine i → HasWritten tells r.lbn blocks o i q → HasAnswered tells r o p q
-  answered same begins mine owns w = record {
+  pub answered : (t u : Tally) → IsSamePass p i → Begins (pass_seen p) (pass_seen i) → pass_mine i ≡ pass_mine p → own (pass_number i) (pass_seen i) ≡ pass_mine i → HasWritten tells r.lbn blocks o t u i q → HasAnswered tells r o p q
+  answered t u same begins mine owns w = record {
     before = pass_seen i;
     note = w.note;
     turned = turned tells p i q w.note same begins mine owns w.left w.ruled;

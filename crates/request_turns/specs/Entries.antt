@@ -47,6 +47,15 @@ has_failed (Ok x) = false
 has_failed (Err (fault.DiskFault p)) = true
 has_failed (Err (fault.Down p)) = false
 
+-- a write failed at a disk
+abbrev pub has_broken : Result Place WriteRefusal → Bool
+has_broken (Ok place) = false
+has_broken (Err refused.Full) = false
+has_broken (Err (refused.DiskFault p)) = true
+has_broken (Err (refused.Down p)) = false
+has_broken (Err refused.VersionsSpent) = false
+has_broken (Err refused.NoMemory) = false
+
 -- the refusal of a step that was refused
 abbrev pub refusal_in : {T : Type 0} → Result T StepFault → Option StepFault
 refusal_in (Ok x) = None

@@ -9,7 +9,8 @@ ghost use Rattle.manager.specs.Answers.{home_write, written};
 ghost use Rattle.manager.specs.Reclaim.{OnKept, OnFailed, KeepsOn, BreaksOff, Always};
 ghost use Rattle.manager.specs.Seen.{look_of_manager};
 ghost use Rattle.manager.specs.Stands.{Keeps, Stands, IsReady, IsHome, IsShared, passed_in};
-ghost use Rattle.request_turns.specs.Entries.{note_of, full_note, refused_as};
+ghost use Rattle.request_turns.specs.Counts.{HasTaken, IsTakenOff};
+ghost use Rattle.request_turns.specs.Entries.{note_of, full_note, refused_as, has_broken};
 ghost use Rattle.request_turns.specs.Turns.{notes_seen, HasLeft, IsBroken};
 ghost use Rattle.request_turns.specs.Written.{HasWritten, IsDiskFault};
 
@@ -41,6 +42,7 @@ fn drain<R: Wait, D: Disk>(
     ensures drained { OnOk result ((m.new.down ≡ None) × (look_of_manager m.new ≡ drained (look_of_manager m.old))) }
     ensures refused { IfErr result IsDiskFault }
     ensures down { IfErr result (λ f. IsSome m.new.down) }
+    ensures taken { OnOk result (HasTaken tally.old tally.new (look_of_manager m.old) (look_of_manager m.new)) }
     ensures keeps { OnKept result (KeepsOn D.tells D.state m.old m.new Always) }
     ensures broke { OnFailed result (BreaksOff D.tells D.state m.old m.new Always) }
 {
@@ -60,6 +62,13 @@ fn refusal_of(fault: StepFault) -> WriteRefusal
         StepFault::DiskFault(part) => WriteRefusal::DiskFault(part),
         StepFault::Down(part) => WriteRefusal::Down(part),
     }
+}
+
+// Whether a disk call of the write failed.
+fn has_broken(answer: &Result<Place, WriteRefusal>) -> bool
+    ensures { result ≡ has_broken answer.now }
+{
+    matches!(answer, Err(WriteRefusal::DiskFault(_)))
 }
 
 // Ends a turn whose drain failed. `B` has the note of the write that was refused before.
@@ -107,6 +116,8 @@ fn write_home<D: Disk, R: Wait, B: Memo>(
     shared: &Shared<D>,
     lbn: u64,
     from: &[Block],
+    done: Tally,
+    tally: &mut Tally,
 ) -> Outcome
     requires own { IsPassOf lock.now pass.old }
     requires turn { IsInTurn pass.old }
@@ -114,6 +125,7 @@ fn write_home<D: Disk, R: Wait, B: Memo>(
     requires next { B.next ≡ turn.value.next }
     requires note { B.note ≡ full_note (pass_number pass.old) B.note.look B.note.passed }
     requires full { place_of B.note.passed (last_look (pass_lock pass.old).base.volume.began.look (notes_seen pass.old)) (home_write lbn from.now) ≡ Nowhere }
+    requires done { IsTakenOff done (last_look (pass_lock pass.old).base.volume.began.look (notes_seen pass.old)) (look_of_manager turn.value) }
     requires bare { look_of_manager turn.value ≡ drained (last_look (pass_lock pass.old).base.volume.began.look (notes_seen pass.old)) }
     requires up { turn.value.down ≡ None }
     requires ready { IsReady D.state turn.value }
@@ -121,10 +133,11 @@ fn write_home<D: Disk, R: Wait, B: Memo>(
     requires count { (1 ≤ length from.now) × (length from.now ≤ (pass_lock pass.old).base.volume.began.most) }
     requires fits { lbn + length from.now ≤ (pass_lock pass.old).base.volume.began.home_blocks }
     requires value { Keeps D.tells D.state turn.value (pass_lock pass.old).base (notes_seen pass.old ++ B.note ∷ []) }
-    ensures { HasWritten D.tells lbn from.now result pass.old pass.new }
+    ensures { HasWritten D.tells lbn from.now result tally.old tally.new pass.old pass.new }
 {
     let answer = turn.value.write(rt, shared, lbn, from);
     leave_drained::<D, B, Brand>(lock, turn, pass, lbn, from, &answer);
+    tally.add_unless(has_broken(&answer), done);
     outcome_of(answer, true)
 }
 
@@ -152,10 +165,11 @@ pub(crate) fn drain_and_write<D: Disk, R: Wait, B: Memo>(
     requires count { (1 ≤ length from.now) × (length from.now ≤ (pass_lock pass.old).base.volume.began.most) }
     requires fits { lbn + length from.now ≤ (pass_lock pass.old).base.volume.began.home_blocks }
     requires value { Keeps D.tells D.state turn.value (pass_lock pass.old).base (notes_seen pass.old ++ B.note ∷ []) }
-    ensures { HasWritten D.tells lbn from.now result pass.old pass.new }
+    ensures { HasWritten D.tells lbn from.now result tally.old tally.new pass.old pass.new }
 {
-    match drain(rt, &mut turn.value, shared, fetch, tally) {
-        Ok(()) => write_home::<D, R, Brand>(rt, lock, turn, pass, shared, lbn, from),
+    let mut done = Tally::new();
+    match drain(rt, &mut turn.value, shared, fetch, &mut done) {
+        Ok(()) => write_home::<D, R, Brand>(rt, lock, turn, pass, shared, lbn, from, done, tally),
         Err(fault) => {
             leave_broken::<D, B, Brand>(lock, turn, pass);
             Outcome::NoWrite(refusal_of(fault))

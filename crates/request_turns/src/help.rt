@@ -4,6 +4,7 @@ ghost use Rattle.turn_lock.specs.Passes.{pass_lock};
 ghost use Rattle.wol_model.specs.History.{helper};
 ghost use Rattle.manager.specs.Stands.{IsShared};
 ghost use Rattle.reclaimer.specs.Fetches.{HasData};
+ghost use Rattle.request_turns.specs.Counts.{HasCounted, ReclaimsNothing};
 ghost use Rattle.request_turns.specs.Helped.{IsPassAt, HasHelped};
 ghost use Rattle.request_turns.specs.Turns.{notes_seen, IsBroken};
 
@@ -28,6 +29,7 @@ pub fn fetch_turn<D: Disk, R: Wait>(
     requires pass { IsPassAt lock.now helper pass.old }
     requires shared { IsShared shared.now (pass_lock pass.old).base }
     ensures helped { HasHelped D.tells pass.old pass.new }
+    ensures counted { ReclaimsNothing D.tells pass.old pass.new }
     ensures data { HasData D.tells room.new (pass_lock pass.new).base (notes_seen pass.new) }
     ensures cause { IfErr result (λ f. IsBroken (notes_seen pass.new)) }
 {
@@ -54,6 +56,7 @@ pub fn put_turn<D: Disk, R: Wait>(
     requires shared { IsShared shared.now (pass_lock pass.old).base }
     requires data { HasData D.tells room.now (pass_lock pass.old).base (notes_seen pass.old) }
     ensures helped { HasHelped D.tells pass.old pass.new }
+    ensures counted { HasCounted D.tells tally.old tally.new pass.old pass.new }
     ensures cause { IfErr result (λ f. IsBroken (notes_seen pass.new)) }
 {
     let mut turn = lock.enter(rt, pass);
@@ -79,6 +82,7 @@ pub fn drop_turn<D: Disk, R: Wait>(
     requires pass { IsPassAt lock.now helper pass.old }
     requires shared { IsShared shared.now (pass_lock pass.old).base }
     ensures helped { HasHelped D.tells pass.old pass.new }
+    ensures counted { HasCounted D.tells tally.old tally.new pass.old pass.new }
     ensures cause { IfErr result (λ f. IsBroken (notes_seen pass.new)) }
 {
     let mut turn = lock.enter(rt, pass);

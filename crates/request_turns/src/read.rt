@@ -8,6 +8,7 @@ ghost use Rattle.manager.specs.Stands.{Stands, IsShared};
 ghost use Rattle.request_turns.specs.Entries.{note_of, read_outcome};
 ghost use Rattle.request_turns.specs.Requests.{IsWithin};
 ghost use Rattle.request_turns.specs.Answered.{HasAnswered};
+ghost use Rattle.request_turns.specs.Counts.{ReclaimsNothing};
 ghost use Rattle.request_turns.specs.Turns.{notes_seen, HasLeft, IsBroken};
 
 use crate::noted::{Memo, leave_noted};
@@ -71,7 +72,8 @@ pub fn read_turn<D: Disk, R: Wait>(
     requires shared { IsShared shared.now (pass_lock pass.old).base }
     requires within { IsWithin (pass_lock pass.old).base request.now }
     requires kind { request.now.kind ≡ Kind.Read }
-    ensures { HasAnswered D.tells request.now result pass.old pass.new }
+    ensures answered { HasAnswered D.tells request.now result pass.old pass.new }
+    ensures counted { ReclaimsNothing D.tells pass.old pass.new }
 {
     let mut turn = lock.enter(rt, pass);
     let out = &mut payload.blocks[..request.count as usize];

@@ -10,6 +10,7 @@ ghost use Rattle.manager.specs.Stands.{Stands, IsShared, passed_in};
 ghost use Rattle.request_turns.specs.Entries.{note_of, written_outcome, is_full};
 ghost use Rattle.request_turns.specs.Requests.{IsWithin};
 ghost use Rattle.request_turns.specs.Answered.{HasAnswered};
+ghost use Rattle.request_turns.specs.Counts.{HasCounted};
 ghost use Rattle.request_turns.specs.Turns.{notes_seen, HasLeft, IsBroken};
 ghost use Rattle.request_turns.specs.Written.{HasWritten};
 
@@ -86,7 +87,7 @@ fn write_within<D: Disk, R: Wait, B: Memo>(
     requires count { (1 ≤ length from.now) × (length from.now ≤ (pass_lock pass.old).base.volume.began.most) }
     requires fits { lbn + length from.now ≤ (pass_lock pass.old).base.volume.began.home_blocks }
     requires value { Stands D.tells D.state turn.value (pass_lock pass.old).base (notes_seen pass.old) }
-    ensures { HasWritten D.tells lbn from.now result pass.old pass.new }
+    ensures { HasWritten D.tells lbn from.now result tally.old tally.new pass.old pass.new }
 {
     let answer = turn.value.write(rt, shared, lbn, from);
     if is_full(&answer) {
@@ -115,7 +116,8 @@ pub fn write_turn<D: Disk, R: Wait>(
     requires shared { IsShared shared.now (pass_lock pass.old).base }
     requires within { IsWithin (pass_lock pass.old).base request.now }
     requires kind { request.now.kind ≡ Kind.Write }
-    ensures { HasAnswered D.tells request.now result pass.old pass.new }
+    ensures answered { HasAnswered D.tells request.now result pass.old pass.new }
+    ensures counted { HasCounted D.tells tally.old tally.new pass.old pass.new }
 {
     let turn = lock.enter(rt, pass);
     let from = &mut payload.blocks[..request.count as usize];

@@ -5,6 +5,7 @@ use Rattle.wol_model.specs.History.{IsHelp}
 use Rattle.wol_promise.specs.Policy.{Look, AreReclaims, IsIdleLook}
 use Rattle.wol_promise.specs.Ruled.{Noted}
 use Rattle.manager.specs.declared.part.StepFault.{StepFault}
+use Rattle.request_turns.specs.Counts.{HasCounted}
 use Rattle.request_turns.specs.Turns.{ManagerPass, notes_seen, IsBroken, HasTurned}
 use Rattle.request_workers.specs.declared.desk.Desk.{Desk}
 use Rattle.request_workers.specs.declared.request.Reclaim.{Reclaim}
@@ -21,6 +22,7 @@ pub record HasClosedDesk {D : Type 0} (tells : Bool) (mode : Reclaim) (d e : Des
   pub id : e.id ≡ d.id
   pub outcomes : e.outcomes.items ≡ d.outcomes.items
   pub closed : IsClosed tells mode e.fault d.worker e.worker
+  pub counted : HasCounted tells d.tally e.tally d.worker e.worker
 
 abbrev pub AreClosed : {D : Type 0} → (tells : Bool) → Reclaim → List (Desk D) → List (Desk D) → Type 0
 AreClosed {D} tells mode ds es = (k : ℕ) (d : Desk D) → k < length ds → HasClosedDesk tells mode (slice_index_or ds k d) (slice_index_or es k d)

@@ -10,6 +10,7 @@ pub record IsSameDesk {D : Type 0} (d e : Desk D) : Type 0 where
   pub id : e.id ≡ d.id
   pub worker : e.worker ≡ d.worker
   pub fault : e.fault ≡ d.fault
+  pub tally : e.tally ≡ d.tally
 
 -- as many outcomes as requests of the volume k
 abbrev pub HoldsOutcomes : {D : Type 0} → List Request → ℕ → Desk D → Type 0

@@ -3,6 +3,7 @@ pub mod Served
 pub mod Closed
 pub mod Helped
 pub mod Desks
+pub mod Counted
 pub mod Collects
 pub mod Worked
 pub mod Floors

@@ -6,6 +6,7 @@ use Rattle.wol_model.specs.History.{Kept}
 use Rattle.wol_promise.specs.Ruled.{Noted, last_look}
 use Rattle.manager.specs.Stands.{notes_of}
 use Rattle.request_workers.specs.Requests.{was_answered, was_run, both, going_after, StopsAtRefusal, own_requests}
+use Rattle.request_turns.specs.Counts.{HasCounted}
 use Rattle.request_turns.specs.Turns.{ManagerPass, began, notes_seen, IsHonest, HasTurned, Gains, Stays, LooksStay}
 use Rattle.request_turns.specs.Entries.{IsEntryOf, AreEntriesOf, AreMade, TellsFault}
 use Rattle.request_workers.specs.declared.desk.Desk.{Desk}
@@ -27,6 +28,7 @@ pub record HasServedNext {D : Type 0} (tells : Bool) (r : Request) (going : Bool
   pub room : vec_capacity e.outcomes ≡ vec_capacity d.outcomes
   pub fault : TellsFault (notes_seen e.worker) outcome
   pub reclaim : e.fault ≡ d.fault
+  pub counted : HasCounted tells d.tally e.tally d.worker e.worker
 
 -- the requests of its volume among these: what the worker's pass gained, and what is told of each
 pub record HasServed {D : Type 0} (tells : Bool) (rs : List Request) (d e : Desk D) : Type 0 where
@@ -39,6 +41,7 @@ pub record HasServed {D : Type 0} (tells : Bool) (rs : List Request) (d e : Desk
   pub stays : IsHonest tells d.worker → LooksStay d.worker more
   pub faults : AllByRecursion (TellsFault (notes_seen e.worker)) e.outcomes.items
   pub reclaim : e.fault ≡ d.fault
+  pub counted : HasCounted tells d.tally e.tally d.worker e.worker
 
 -- so it is for the first requests
 pub record IsServing {D : Type 0} (tells : Bool) (rs : List Request) (going : Bool) (d e : Desk D) : Type 0 where

@@ -4,7 +4,9 @@ ghost use Rattle.turn_lock.specs.Passes.{pass_lock, IsSamePass};
 ghost use Rattle.wol_model.specs.History.{helper};
 ghost use Rattle.manager.specs.Stands.{IsShared};
 ghost use Rattle.reclaimer.specs.Fetches.{HasData};
+ghost use Rattle.request_turns.specs.Counts.{HasCounted};
 ghost use Rattle.request_turns.specs.Helped.{IsPassAt, HasHelped};
+ghost use Rattle.request_workers.specs.Counted.{HaveCounted};
 ghost use Rattle.request_workers.specs.Helped.{ArePassesAt, AreSharing, AreHelped, IsCause};
 ghost use Rattle.request_turns.specs.Turns.{notes_seen, IsBroken};
 
@@ -30,6 +32,7 @@ impl HelperRoom {
         ensures kept { (f : _) → self.old.fault ≡ Some f → self.new.fault ≡ Some f }
         ensures fault { (f : _) → self.new.fault ≡ Some f → (self.old.fault ≡ Some f) ⊎ ((f.0 ≡ volume) × (is_ok answer ≡ false)) }
         ensures fetch { self.new.fetch ≡ self.old.fetch }
+        ensures tally { self.new.tally ≡ self.old.tally }
     {
         match answer {
             Ok(did) => did,
@@ -55,6 +58,7 @@ fn help_one<D: Disk, R: Wait>(
     requires pass { IsPassAt lock.now helper pass.old }
     requires shared { IsShared shared.now (pass_lock pass.old).base }
     ensures helped { HasHelped D.tells pass.old pass.new }
+    ensures counted { HasCounted D.tells help.old.tally help.new.tally pass.old pass.new }
     ensures kept { (f : _) → help.old.fault ≡ Some f → help.new.fault ≡ Some f }
     ensures fault { (f : _) → help.new.fault ≡ Some f → (help.old.fault ≡ Some f) ⊎ ((f.0 ≡ volume) × IsBroken (notes_seen pass.new)) }
 {
@@ -81,6 +85,7 @@ fn help_round<D: Disk, R: Wait>(
     requires shared { AreSharing shared.now helpers.old }
     requires cause { IsCause helpers.old help.old.fault }
     ensures helped { AreHelped D.tells helpers.old helpers.new }
+    ensures counted { HaveCounted D.tells help.old.tally help.new.tally helpers.old helpers.new }
     ensures cause { IsCause helpers.new help.new.fault }
 {
     let mut did = false;
@@ -106,6 +111,7 @@ pub(crate) fn help<D: Disk, R: Wait>(
     requires shared { AreSharing shared.now helpers.old }
     requires cause { IsCause helpers.old help.old.fault }
     ensures helped { AreHelped D.tells helpers.old helpers.new }
+    ensures counted { HaveCounted D.tells help.old.tally help.new.tally helpers.old helpers.new }
     ensures cause { IsCause helpers.new help.new.fault }
 {
     for _ in 0..rounds {

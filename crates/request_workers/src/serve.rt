@@ -5,6 +5,7 @@ ghost use Rattle.wol_model.specs.History.{worker};
 ghost use Rattle.manager.specs.Stands.{IsShared};
 ghost use Rattle.request_turns.specs.Helped.{IsPassAt};
 ghost use Rattle.request_turns.specs.Requests.{IsWithin};
+ghost use Rattle.request_turns.specs.Counts.{HasCounted};
 ghost use Rattle.request_workers.specs.Requests.{was_answered, own_requests};
 ghost use Rattle.request_workers.specs.Desks.{IsReadyDesk};
 ghost use Rattle.request_turns.specs.Answered.{HasAnswered};
@@ -36,6 +37,7 @@ fn serve_one<D: Disk, R: Wait>(
     ensures id { desk.new.id ≡ desk.old.id }
     ensures outcomes { desk.new.outcomes ≡ desk.old.outcomes }
     ensures fault { desk.new.fault ≡ desk.old.fault }
+    ensures counted { HasCounted D.tells desk.old.tally desk.new.tally desk.old.worker desk.new.worker }
 {
     match request.kind {
         Kind::Read => read_turn(

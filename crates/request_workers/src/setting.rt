@@ -56,7 +56,7 @@ fn move_all<D: Disk>(alloc: Global, floor: &mut Floor<D>, mut tools: Vec<Tools>)
             outcomes: Vec::new(alloc),
             payload,
             fetch,
-            tally: Tally::default(),
+            tally: Tally::new(),
             fault: None,
         });
         floor.helpers.push_reserved(helper);
@@ -102,7 +102,7 @@ pub fn set_up<D: Disk>(
         keepers,
         help: HelperRoom {
             fetch,
-            tally: Tally::default(),
+            tally: Tally::new(),
             fault: None,
         },
         room: stations,

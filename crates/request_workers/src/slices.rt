@@ -1,6 +1,8 @@
 // One window of requests, over lists of locks, desks and helpers.
 ghost use Rattle.std.specs.Prelude.{◌≡◌, ◌^◌, ◌≤◌, ◌<◌, [], ℕ, List, None, length, vec_len, vec_capacity, slice_index_or};
 ghost use Rattle.wol_model.specs.History.{helper};
+ghost use Rattle.request_turns.specs.Counts.{Counts};
+ghost use Rattle.request_workers.specs.Counted.{HaveCounted};
 ghost use Rattle.request_workers.specs.Desks.{AreReady, AreServed, AreNumbered};
 ghost use Rattle.request_workers.specs.Helped.{ArePassesAt, AreSharing, IsCause};
 ghost use Rattle.request_workers.specs.Requests.{AreOfVolumes};
@@ -47,6 +49,7 @@ fn serve_mode<'a, D: Disk + Send, G: Gate + Sync, R: Threads + Wait + Sync>(
     requires cause { IsCause helpers.old room.old.fault }
     ensures served { AreServed D.tells requests.now desks.old desks.new }
     ensures helped { HelpedIn D.tells reclaim helpers.old helpers.new }
+    ensures counted { HaveCounted D.tells room.old.tally room.new.tally helpers.old helpers.new }
     ensures cause { IsCause helpers.new room.new.fault }
 {
     match reclaim {
@@ -80,6 +83,7 @@ pub(crate) fn run_window<'a, D: Disk + Send, G: Gate + Sync, R: Threads + Wait +
     requires ids { AreNumbered desks.old }
     requires ready { AreReady locks.now shared.now 0 requests.now desks.old }
     requires faultless { (k : ℕ) (d : Desk _) → k < length desks.old → (slice_index_or desks.old k d).fault ≡ None }
+    requires fresh { (k : ℕ) (d : Desk _) → k < length desks.old → Counts 0 0 (slice_index_or desks.old k d).tally }
     requires helpers { length helpers.old ≡ length locks.now }
     requires few { length helpers.old ≤ 2 ^ 32 }
     requires passes { ArePassesAt locks.now helper helpers.old }
@@ -91,6 +95,7 @@ pub(crate) fn run_window<'a, D: Disk + Send, G: Gate + Sync, R: Threads + Wait +
     ensures len { length out.new.items ≡ length requests.now }
     ensures worked { AreWorked D.tells requests.now out.new.items reclaim desks.old desks.new }
     ensures helped { HelpedIn D.tells reclaim helpers.old helpers.new }
+    ensures counted { HaveCounted D.tells room.old.tally room.new.tally helpers.old helpers.new }
     ensures cause { IsCause helpers.new room.new.fault }
 {
     serve_mode(

@@ -1,6 +1,12 @@
-use Rattle.std.proofs.Common.{◌∙◌}
+use Rattle.std.proofs.Common.{refl, sym, ap, subst, ◌∙◌, ℕ, Result, Ok, Err}
 use Rattle.manager.specs.Reclaim.{Always}
-use Rattle.request_turns.proofs.HelpNotes.{gone_keep, help_stands, has_helped}
+use Rattle.manager.specs.Seen.{look_of_manager}
+use Rattle.manager.specs.declared.part.StepFault.{StepFault}
+use Rattle.reclaimer.specs.Counts.{CountsGone}
+use Rattle.reclaimer.specs.declared.answers.Gone.{Gone}
+use Rattle.request_turns.specs.Entries.{has_failed}
+use Rattle.request_turns.proofs.Counting.{counted_turn, none_more}
+use Rattle.request_turns.proofs.HelpNotes.{gone_keep, help_stands, has_helped, done_counted, refused_counted}
 use Rattle.request_turns.proofs.Taking.{home_at}
 use Rattle.request_turns.proofs.help.drop_turn.Goals as goal
 
@@ -23,3 +29,23 @@ returns-in-Ok-Nothing-clause-helped g c = let e = c.enter-turn.ensures in has_he
 
 pub returns-in-Err-clause-helped : goal.returns-in-Err-clause-helped
 returns-in-Err-clause-helped g c = let e = c.enter-turn.ensures in has_helped _ _ _ _ _ _ e.same e.seen e.mine e.own c.leave_step.ensures.left
+
+pub returns-in-Ok-Version-clause-counted : goal.returns-in-Ok-Version-clause-counted
+returns-in-Ok-Version-clause-counted g c = let e = c.enter-turn.ensures in let l = look_of_manager c.enter-turn.result.value in let m = look_of_manager c.invalidate_one-answer.new.m in
+    counted_turn _ _ c.enter-turn.new.pass _ _ l _ _ e.same e.seen e.mine e.own c.leave_step.ensures.left refl e.value.look
+    (done_counted l m _ c.in-Ok-Version.field-0 _ 0 1 _ _ (c.has_failed.ensures ∙ ap has_failed c.in-Ok-Version.is) (subst (λ (a : Result Gone StepFault). CountsGone a l m) c.in-Ok-Version.is c.invalidate_one-answer.ensures.counted) c.count.ensures)
+
+pub returns-in-Ok-Trimmed-clause-counted : goal.returns-in-Ok-Trimmed-clause-counted
+returns-in-Ok-Trimmed-clause-counted g c = let e = c.enter-turn.ensures in let l = look_of_manager c.enter-turn.result.value in let m = look_of_manager c.invalidate_one-answer.new.m in
+    counted_turn _ _ c.enter-turn.new.pass _ _ l _ _ e.same e.seen e.mine e.own c.leave_step.ensures.left refl e.value.look
+    (done_counted l m _ c.in-Ok-Trimmed.field-0 _ 0 0 _ _ (c.has_failed.ensures ∙ ap has_failed c.in-Ok-Trimmed.is) (subst (λ (a : Result Gone StepFault). CountsGone a l m) c.in-Ok-Trimmed.is c.invalidate_one-answer.ensures.counted) (none_more _))
+
+pub returns-in-Ok-Nothing-clause-counted : goal.returns-in-Ok-Nothing-clause-counted
+returns-in-Ok-Nothing-clause-counted g c = let e = c.enter-turn.ensures in let l = look_of_manager c.enter-turn.result.value in let m = look_of_manager c.invalidate_one-answer.new.m in
+    counted_turn _ _ c.enter-turn.new.pass _ _ l _ _ e.same e.seen e.mine e.own c.leave_step.ensures.left refl e.value.look
+    (done_counted l m _ c.in-Ok-Nothing.field-0 _ 0 0 _ _ (c.has_failed.ensures ∙ ap has_failed c.in-Ok-Nothing.is) (subst (λ (a : Result Gone StepFault). CountsGone a l m) c.in-Ok-Nothing.is c.invalidate_one-answer.ensures.counted) (none_more _))
+
+pub returns-in-Err-clause-counted : goal.returns-in-Err-clause-counted
+returns-in-Err-clause-counted g c = let e = c.enter-turn.ensures in let l = look_of_manager c.enter-turn.result.value in let m = look_of_manager c.invalidate_one-answer.new.m in
+    counted_turn _ _ c.enter-turn.new.pass _ _ l _ _ e.same e.seen e.mine e.own c.leave_step.ensures.left refl e.value.look
+    (refused_counted {T = Gone} l m _ c.in-Err.fault _ _ (c.has_failed.ensures ∙ ap has_failed c.in-Err.is) (subst (λ (a : Result Gone StepFault). CountsGone a l m) c.in-Err.is c.invalidate_one-answer.ensures.counted))

@@ -1,4 +1,8 @@
+use Rattle.std.proofs.Common.{refl, ap}
+use Rattle.wol_promise.specs.Policy.{Look}
 use Rattle.manager.specs.Reclaim.{Always}
+use Rattle.manager.specs.Seen.{look_of_manager}
+use Rattle.request_turns.proofs.Counting.{counted_turn, entry_same}
 use Rattle.request_turns.proofs.HelpNotes.{same_keep, help_stands, has_helped, data_left}
 use Rattle.request_turns.proofs.Taking.{home_at}
 use Rattle.request_turns.proofs.help.fetch_turn.Goals as goal
@@ -21,3 +25,15 @@ returns-in-Err-clause-helped g c = let e = c.enter-turn.ensures in has_helped _ 
 
 pub returns-in-Ok-Some-clause-data : goal.returns-in-Ok-Some-clause-data
 returns-in-Ok-Some-clause-data g c = data_left _ c.fetch-answer.new.into _ _ _ c.leave_step.ensures.left (c.fetch-answer.ensures.content _ _ c.enter-turn.ensures.value.keeps)
+
+pub returns-in-Ok-Some-clause-counted : goal.returns-in-Ok-Some-clause-counted
+returns-in-Ok-Some-clause-counted g c = λ t. let e = c.enter-turn.ensures in
+    counted_turn _ _ c.enter-turn.new.pass _ _ (look_of_manager c.enter-turn.result.value) t t e.same e.seen e.mine e.own c.leave_step.ensures.left refl e.value.look (entry_same _ _ t (λ _. ap (λ (k : Look). k.listed) c.fetch-answer.ensures.look))
+
+pub returns-in-Ok-Nothing-clause-counted : goal.returns-in-Ok-Nothing-clause-counted
+returns-in-Ok-Nothing-clause-counted g c = λ t. let e = c.enter-turn.ensures in
+    counted_turn _ _ c.enter-turn.new.pass _ _ (look_of_manager c.enter-turn.result.value) t t e.same e.seen e.mine e.own c.leave_step.ensures.left refl e.value.look (entry_same _ _ t (λ _. ap (λ (k : Look). k.listed) c.fetch-answer.ensures.look))
+
+pub returns-in-Err-clause-counted : goal.returns-in-Err-clause-counted
+returns-in-Err-clause-counted g c = λ t. let e = c.enter-turn.ensures in
+    counted_turn _ _ c.enter-turn.new.pass _ _ (look_of_manager c.enter-turn.result.value) t t e.same e.seen e.mine e.own c.leave_step.ensures.left refl e.value.look (entry_same _ _ t (λ _. ap (λ (k : Look). k.listed) c.fetch-answer.ensures.look))

@@ -1,24 +1,24 @@
-use Rattle.std.proofs.Common.{◌≡◌, true, false, refl}
-use Rattle.request_turns.proofs.StepNotes.{gone_goes}
+use Rattle.std.proofs.Common.{◌≡◌, ◌<◌, true, false, refl, ap, sym, subst, arith}
+use Rattle.manager.specs.Seen.{look_of_manager}
+use Rattle.reclaimer.specs.declared.answers.Gone.TheVariants as gone
+use Rattle.request_turns.proofs.Counting.{taken_none, taken_both, none_more}
+use Rattle.request_turns.proofs.StepNotes.{gone_goes, gone_taken}
 use Rattle.request_turns.proofs.reclaim.give_up.Goals as goal
 
-pub loop-init : goal.loop-init
-loop-init g c = record { ready = c.requires.ready; at = c.requires.at; keeps = λ b notes w k. k; look = λ l r. r; same = λ _. refl }
-
-pub loop-preserved-in-Version : goal.loop-preserved-in-Version
-loop-preserved-in-Version g c = let e = c.in_ok-invalidate_one.ensures in record {
-  ready = e.ready;
-  at = e.at;
-  keeps = λ b notes w k. e.keeps b notes tt (c.loop.invariant.keeps b notes tt k);
-  look = λ l r. gone_goes _ _ _ e.look l (c.loop.invariant.look l r);
-  same = λ is. absurd (let no : true ≡ false = is in cc);
+pub steps-init : goal.steps-init
+steps-init g c = record {
+  ready = c.requires.ready;
+  at = c.requires.at;
+  keeps = λ b notes w k. k;
+  look = λ l r. r;
+  taken = taken_none c.args.tally.now (look_of_manager c.args.m.now) (look_of_manager c.args.m.now) refl;
+  same = λ _. refl;
+  no_more = omega arith;
+  fewer = λ is. absurd (let no : false ≡ true = is in cc);
 }
 
-pub loop-preserved : goal.loop-preserved
-loop-preserved g c = let e = c.in_ok-invalidate_one.ensures in record {
-  ready = e.ready;
-  at = e.at;
-  keeps = λ b notes w k. e.keeps b notes tt (c.loop.invariant.keeps b notes tt k);
-  look = λ l r. gone_goes _ _ _ e.look l (c.loop.invariant.look l r);
-  same = λ is. absurd (let no : true ≡ false = is in cc);
-}
+pub steps-preserved-in-Version : goal.steps-preserved-in-Version
+steps-preserved-in-Version g c = ?
+
+pub steps-preserved : goal.steps-preserved
+steps-preserved g c = ?

@@ -1,18 +1,26 @@
-use Rattle.std.proofs.Common.{ℕ}
-use Rattle.request_turns.proofs.StepNotes.{put_goes, on_failed}
+use Rattle.std.proofs.Common.{ℕ, refl, ap, arith}
+use Rattle.wol_promise.specs.Policy.{Look}
+use Rattle.manager.specs.Seen.{look_of_manager}
+use Rattle.request_turns.proofs.Counting.{taken_none, taken_both}
+use Rattle.request_turns.proofs.StepNotes.{put_goes, on_failed, on_kept, put_taken}
 use Rattle.request_turns.proofs.reclaim.put_due.Goals as goal
 
-pub loop-init : goal.loop-init
-loop-init g c = record { ready = c.requires.ready; at = c.requires.at; keeps = λ b notes w k. k; look = λ l r. r }
+pub steps-init : goal.steps-init
+steps-init g c = record {
+  ready = c.requires.ready;
+  at = c.requires.at;
+  keeps = λ b notes w k. k;
+  look = λ l r. r;
+  taken = taken_none c.args.tally.now (look_of_manager c.args.m.now) (look_of_manager c.args.m.now) refl;
+  no_more = omega arith;
+}
 
-pub loop-preserved : goal.loop-preserved
-loop-preserved g c = let f = c.in_ok-fetch.ensures in let e = c.in-Ok.ensures in let i = c.loop.invariant in record {
+pub steps-preserved : goal.steps-preserved
+steps-preserved g c = let f = c.in_ok-fetch.ensures in let e = c.in-Ok.ensures in let i = c.steps.invariant in record {
   ready = e.ready;
   at = e.at;
   keeps = λ b notes w k. e.keeps b notes (f.content b notes (i.keeps b notes tt k)) (f.keeps b notes tt (i.keeps b notes tt k));
-  look = λ l r. put_goes c.loop.m c.fetch.new.m c.put_home.new.m c.in-Ok.blocks f.look e.look l (i.look l r);
+  look = λ l r. put_goes c.steps.m c.fetch.new.m c.put_home.new.m c.in-Ok.blocks f.look e.look l (i.look l r);
+  taken = taken_both _ _ _ _ _ _ i.taken (put_taken c.steps.m c.fetch.new.m c.put_home.new.m c.in-Ok.blocks f.look e.counted _ _ c.count.ensures);
+  no_more = ?;
 }
-
-pub returns-in-Err-clause-broke : goal.returns-in-Err-clause-broke
-returns-in-Err-clause-broke g c = let f = c.in_ok-fetch.ensures in let i = c.loop.invariant in
-    on_failed ℕ (Unit {0}) c.in-Err.fault _ _ (λ then b notes n w note k. then b notes n (f.content b notes (i.keeps b notes tt k)) note (f.keeps b notes tt (i.keeps b notes tt k))) c.in-Err.ensures.broke

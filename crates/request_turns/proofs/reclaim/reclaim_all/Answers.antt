@@ -1,11 +1,13 @@
-use Rattle.std.proofs.Common.{◌≡◌, None, Ok, ap, sym, subst}
+use Rattle.std.proofs.Common.{◌≡◌, None, Ok, refl, ap, sym, subst}
+use Rattle.manager.specs.Seen.{look_of_manager}
 use Rattle.manager.specs.declared.manager.Manager.{Manager}
 use Rattle.reclaimer.specs.Fetches.{due_entry}
 use Rattle.reclaimer.proofs.Idle.{idle}
+use Rattle.request_turns.proofs.Counting.{taken_none}
 use Rattle.request_turns.proofs.reclaim.reclaim_all.Goals as goal
 
-pub loop-init : goal.loop-init
-loop-init g c = record { ready = c.requires.ready; at = c.requires.at; keeps = λ b notes w k. k; look = λ l r. r }
+pub steps-init : goal.steps-init
+steps-init g c = record { ready = c.requires.ready; at = c.requires.at; keeps = λ b notes w k. k; look = λ l r. r; taken = taken_none c.args.tally.now (look_of_manager c.args.m.now) (look_of_manager c.args.m.now) refl }
 
 pub returns-then-not-branch-clause-idle : goal.returns-then-not-branch-clause-idle
 returns-then-not-branch-clause-idle g c =
