@@ -4,7 +4,7 @@ use Rattle.std.specs.Prelude.{IsSome, OnOk, IfErr}
 use Rattle.turn_lock.specs.Histories.{own, Begins}
 use Rattle.turn_lock.specs.Passes.{pass_number, pass_seen, pass_mine, IsSamePass}
 use Rattle.wol_disk.specs.Disk.{State}
-use Rattle.wol_model.specs.History.{worker}
+use Rattle.wol_model.specs.History.{Kept, worker}
 use Rattle.wol_promise.specs.Policy.{Look, IsIdleLook}
 use Rattle.wol_promise.specs.Policy as policy
 use Rattle.wol_promise.specs.Report.{reclaims}
@@ -51,15 +51,20 @@ module _ {D T : Type 0} (tells : Bool) (state : D → State) (old new : Manager 
   cause_after (Ok x) down f is = absurd (let no : None ≡ Some f = is in cc)
   cause_after (Err e) down f is = down
 
-  pub has_closed : (p i q : ManagerPass D) (failed : Bool) (refusal : Option StepFault) → refusal ≡ refusal_in answer → OnOk answer (IsIdleLook (look_of_manager new)) → IfErr answer (λ f. IsSome new.down)
+  kept_after : (a : Result T StepFault) (failed : Bool) → failed ≡ has_failed a → refusal_in a ≡ None → step_operation failed ≡ Kept
+  kept_after (Ok x) failed is none = ap step_operation is
+  kept_after (Err f) failed is none = absurd (let no : Some f ≡ None = none in cc)
+
+  pub has_closed : (p i q : ManagerPass D) (failed : Bool) (refusal : Option StepFault) → failed ≡ has_failed answer → refusal ≡ refusal_in answer → OnOk answer (IsIdleLook (look_of_manager new)) → IfErr answer (λ f. IsSome new.down)
       → IsSamePass p i → Begins (pass_seen p) (pass_seen i) → pass_mine i ≡ pass_mine p → own (pass_number i) (pass_seen i) ≡ pass_mine i
       → HasLeft tells (note_of (pass_number i) (step_operation failed) (look_of_manager new) [] false) i q → (IsSome new.down → IsBroken (notes_seen q)) → HasClosed tells refusal p q
-  has_closed p i q failed refusal is idle down same begins mine owns left broken = record {
+  has_closed p i q failed refusal told is idle down same begins mine owns left broken = record {
     before = pass_seen i;
     note = note_of (pass_number i) (step_operation failed) (look_of_manager new) [] false;
     turned = turned tells p i q (note_of (pass_number i) (step_operation failed) (look_of_manager new) [] false) same begins mine owns left refl;
     help = step_helps failed;
     idle = λ none. idle_after answer idle (sym is ∙ none);
+    kept = λ none. kept_after answer failed told (sym is ∙ none);
     cause = λ f some. broken (cause_after answer down f (sym is ∙ some));
   }
 

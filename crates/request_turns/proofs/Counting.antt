@@ -39,7 +39,7 @@ adds_up old new b r blocks records a s h = record {
 pub more_is : (b c r s : ℕ) (t u : Tally) → b ≡ c → r ≡ s → CountsMore b r t u → CountsMore c s t u
 more_is b c r s t u e f h = subst (λ (k : ℕ). CountsMore k s t u) e (subst (λ (k : ℕ). CountsMore b k t u) f h)
 
-counts_is : (b c r s : ℕ) (t : Tally) → b ≡ c → r ≡ s → Counts b r t → Counts c s t
+pub counts_is : (b c r s : ℕ) (t : Tally) → b ≡ c → r ≡ s → Counts b r t → Counts c s t
 counts_is b c r s t e f h = subst (λ (k : ℕ). Counts k s t) e (subst (λ (k : ℕ). Counts b k t) f h)
 
 pub none_more : (t : Tally) → CountsMore 0 0 t t
@@ -170,7 +170,7 @@ counted_turn tells p i q n l t u same begins mine owns left ruled is more =
 -- ---- One after another
 
 module _ {D : Type 0} (tells : Bool) (p q r : ManagerPass D) (more rest : List Entry) (notes others : List Noted) (a : Gains tells p q more notes) (b : Gains tells q r rest others) where
-  between_both : (worth : Bool → Look → Look → ℕ) → added_between worth p r ≡ added_between worth p q + added_between worth q r
+  pub between_both : (worth : Bool → Look → Look → ℕ) → added_between worth p r ≡ added_between worth p q + added_between worth q r
   between_both worth =
       let l : Look = last_look (began p).look (notes_seen p) in
       let first : seen_since p q ≡ more = ap (drop (length (pass_seen p))) a.seen ∙ drop-append_seam (pass_seen p) more in
@@ -187,8 +187,8 @@ module _ {D : Type 0} (tells : Bool) (p q r : ManagerPass D) (more rest : List E
   counted_both t u v f g honest = more_is _ _ _ _ t v (sym (between_both put_home_by)) (sym (between_both dropped_by)) (more_both _ _ _ _ t u v (f honest) (g (a.honest honest)))
 
 -- nothing was added where nothing was done
+pub between_none : {D : Type 0} (worth : Bool → Look → Look → ℕ) (p : ManagerPass D) → added_between worth p p ≡ 0
+between_none worth p = ap (λ (es : List Entry). added_up worth (pass_number p) (last_look (began p).look (notes_seen p)) (notes_of es)) (drop-length (pass_seen p))
+
 pub counted_none : {D : Type 0} (tells : Bool) (p : ManagerPass D) (t : Tally) → HasCounted tells t t p p
-counted_none tells p t honest = more_is 0 _ 0 _ t t (sym (nothing_since put_home_by)) (sym (nothing_since dropped_by)) (none_more t)
-  where
-    nothing_since : (worth : Bool → Look → Look → ℕ) → added_between worth p p ≡ 0
-    nothing_since worth = ap (λ (es : List Entry). added_up worth (pass_number p) (last_look (began p).look (notes_seen p)) (notes_of es)) (drop-length (pass_seen p))
+counted_none tells p t honest = more_is 0 _ 0 _ t t (sym (between_none put_home_by p)) (sym (between_none dropped_by p)) (none_more t)

@@ -1,9 +1,11 @@
 -- Turns of a pass, one after another.
-use Rattle.std.proofs.Common.{◌≡◌, ◌+◌, ◌==◌, ℕ, Bool, true, false, cond, List, [], ◌∷◌, ◌++◌, map, length, Option, None, Some, refl, sym, ap, subst, ◌∙◌, append_assoc, length-append, arith}
+use Rattle.std.proofs.Common.{◌≡◌, ◌+◌, ◌==◌, ℕ, Bool, true, false, cond, List, [], ◌∷◌, ◌++◌, map, length, drop, Option, None, Some, refl, sym, ap, subst, ◌∙◌, append_assoc, length-append, arith}
 use Rattle.std.specs.Prelude.{⊤, IsTrue, is_some, unwrap_or}
 use Rattle.std.specs.Option.{option_map, option_and_then, option_or}
 use Rattle.std.proofs.lemmas.Bool.{eq-eqb}
 use Rattle.std.proofs.lemmas.List.{map-append, append-nil}
+use Rattle.std.proofs.Math.Seq.{drop-append_seam}
+use Rattle.std.specs.List.{AllByRecursion}
 use Rattle.std.proofs.lemmas.List.Elements.{filter-append}
 use Rattle.turn_lock.specs.Histories.{Entry, own}
 use Rattle.turn_lock.specs.LockIds.{LockId}
@@ -16,6 +18,8 @@ use Rattle.wol_promise.specs.Ruled.{Noted, entries_of, last_look}
 use Rattle.wol_promise.proofs.Lists.{all_joined, all_map}
 use Rattle.manager.specs.Stands.{notes_of}
 use Rattle.manager.specs.declared.base.ManagerBase.{ManagerBase}
+use Rattle.wol_promise.proofs.ReadCode.{noted_is_back}
+use Rattle.request_turns.specs.Helped.{made_since, AreKept}
 use Rattle.request_turns.specs.Turns.{ManagerPass, coded, began, notes_seen, IsBroken, IsHonest, HasTurned, Gains, Stays, KeptStay, LooksStay}
 use Rattle.request_turns.proofs.Noting.{notes_at}
 
@@ -152,3 +156,29 @@ some_first (Some x) r is = refl
 pub broken_more : (notes more : List Noted) → IsBroken notes → IsBroken (notes ++ more)
 broken_more notes more is =
     ap (λ (es : _). is_some (flight_of es)) (map-append (λ (n : Noted). n.entry) notes more) ∙ ap is_some (flight_more (entries_of notes) (entries_of more)) ∙ some_first (flight_of (entries_of notes)) (flight_of (entries_of more)) is
+
+-- ---- Entries that are Kept
+
+all_coded : (P : Noted → Type 0) (notes : List Noted) → AllByRecursion P notes → AllByRecursion P (notes_of (map coded notes))
+all_coded P [] all = tt
+all_coded P (n ∷ notes) all = (subst P (sym (noted_is_back n)) all.0, all_coded P notes all.1)
+
+module _ {D : Type 0} where
+  kept_more : (p q : ManagerPass D) (mine : List Entry) → pass_mine q ≡ pass_mine p ++ mine → AllByRecursion (λ (n : Noted). n.entry.operation ≡ Kept) (notes_of mine) → AreKept p q
+  kept_more p q mine is all = subst (λ (es : List Entry). AllByRecursion (λ (n : Noted). n.entry.operation ≡ Kept) (notes_of es)) (sym (ap (drop (length (pass_mine p))) is ∙ drop-append_seam (pass_mine p) mine)) all
+
+  -- a pass whose one entry since is Kept
+  pub kept_one : (p q : ManagerPass D) (n : Noted) → pass_mine q ≡ pass_mine p ++ coded n ∷ [] → n.entry.operation ≡ Kept → AreKept p q
+  kept_one p q n is kept = kept_more p q (coded n ∷ []) is (all_coded (λ (m : Noted). m.entry.operation ≡ Kept) (n ∷ []) (kept, tt))
+
+  pub kept_none : (p : ManagerPass D) → AreKept p p
+  kept_none p = kept_more p p [] (sym (append-nil (pass_mine p))) tt
+
+  pub kept_both : (tells : Bool) (p q r : ManagerPass D) (more rest : List Entry) (notes others : List Noted) → Gains tells p q more notes → Gains tells q r rest others → AreKept p q → AreKept q r → AreKept p r
+  kept_both tells p q r more rest notes others a b first then =
+      let one : made_since p q ≡ map coded notes = ap (drop (length (pass_mine p))) a.mine ∙ drop-append_seam (pass_mine p) (map coded notes) in
+      let two : made_since q r ≡ map coded others = ap (drop (length (pass_mine q))) b.mine ∙ drop-append_seam (pass_mine q) (map coded others) in
+      let P : Noted → Type 0 = λ (n : Noted). n.entry.operation ≡ Kept in
+      kept_more p r (map coded notes ++ map coded others) (b.mine ∙ ap (λ (es : List Entry). es ++ map coded others) a.mine ∙ append_assoc (pass_mine p) (map coded notes) (map coded others))
+      (subst (AllByRecursion P) (sym (notes_joined (map coded notes) (map coded others)))
+      (all_joined P (notes_of (map coded notes)) (notes_of (map coded others)) (subst (λ (es : List Entry). AllByRecursion P (notes_of es)) one first) (subst (λ (es : List Entry). AllByRecursion P (notes_of es)) two then)))

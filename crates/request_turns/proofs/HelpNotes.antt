@@ -30,11 +30,11 @@ use Rattle.reclaimer.specs.declared.answers.Gone.TheVariants as gone
 use Rattle.reclaimer.proofs.Later.{data_is_kept}
 use Rattle.request_turns.specs.Counts.{CountsMore, CountsEntry}
 use Rattle.request_turns.specs.Entries.{note_of, step_operation, has_failed}
-use Rattle.request_turns.specs.Helped.{ManagerLock, HasHelped}
-use Rattle.request_turns.specs.Turns.{ManagerPass, notes_seen, IsBroken, HasLeft}
+use Rattle.request_turns.specs.Helped.{HasHelped, AreKept}
+use Rattle.request_turns.specs.Turns.{ManagerPass, coded, notes_seen, IsBroken, HasLeft}
 use Rattle.request_turns.specs.declared.tally.Tally.{Tally}
 use Rattle.request_turns.proofs.Counting.{entry_taken, entry_quiet, none_more}
-use Rattle.request_turns.proofs.Gaining.{gains_none, gains_turn, gains_both, seen_more, broken_more}
+use Rattle.request_turns.proofs.Gaining.{gains_turn, kept_one}
 use Rattle.request_turns.proofs.Noting.{notes_at}
 use Rattle.request_turns.proofs.StepNotes.{step_stands, step_helps}
 use Rattle.request_turns.proofs.Turning.{turned}
@@ -103,3 +103,10 @@ module _ {T : Type 0} (l m : Look) (pass : ℕ) where
   pub refused_counted : (f : StepFault) (failed : Bool) (t : Tally) → failed ≡ has_failed {T = T} (Err f) → TakesOff 0 0 l m → CountsEntry l (note_of pass (step_operation failed) m [] false) t t
   refused_counted (fault.DiskFault p) failed t is taken = entry_quiet l (note_of pass (step_operation failed) m [] false) t (ap (λ (f : Bool). reclaims false (step_operation f)) is)
   refused_counted (fault.Down p) failed t is taken = entry_taken 0 0 l (note_of pass (step_operation failed) m [] false) t t (ap (λ (f : Bool). reclaims false (step_operation f)) is) taken (none_more t)
+
+-- the entry of a step that was done is Kept
+pub step_kept : {D T : Type 0} (tells : Bool) (p i q : ManagerPass D) (failed : Bool) (l : Look) (a : Result T StepFault) (x : T) → a ≡ Ok x → failed ≡ has_failed a → pass_mine i ≡ pass_mine p
+    → HasLeft tells (note_of (pass_number i) (step_operation failed) l [] false) i q → AreKept p q
+step_kept tells p i q failed l a x done is mine left =
+    let n = note_of (pass_number i) (step_operation failed) l [] false in
+    kept_one p q n (left.mine ∙ ap (λ (es : List Entry). es ++ coded n ∷ []) mine) (ap step_operation (is ∙ ap has_failed done))

@@ -1,7 +1,7 @@
 -- What a reclaim turn makes of the worker's pass.
 use Rattle.std.specs.Prelude.{◌≡◌, Bool, List, Option, None, Some}
 use Rattle.turn_lock.specs.Histories.{Entry}
-use Rattle.wol_model.specs.History.{IsHelp}
+use Rattle.wol_model.specs.History.{Kept, IsHelp}
 use Rattle.wol_promise.specs.Policy.{Look, AreReclaims, IsIdleLook}
 use Rattle.wol_promise.specs.Ruled.{Noted}
 use Rattle.manager.specs.declared.part.StepFault.{StepFault}
@@ -18,4 +18,5 @@ pub record HasClosed {D : Type 0} (tells : Bool) (fault : Option StepFault) (p q
   pub turned : HasTurned tells p q before note
   pub help : IsHelp note.entry.operation
   pub idle : fault ≡ None → IsIdleLook note.look
+  pub kept : fault ≡ None → note.entry.operation ≡ Kept
   pub cause : (f : StepFault) → fault ≡ Some f → IsBroken (notes_seen q)

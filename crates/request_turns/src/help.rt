@@ -1,11 +1,11 @@
 // A helper's turns, one step of reclaim each.
-ghost use Rattle.std.specs.Prelude.{◌≡◌, IfErr};
+ghost use Rattle.std.specs.Prelude.{◌≡◌, OnOk, IfErr};
 ghost use Rattle.turn_lock.specs.Passes.{pass_lock};
 ghost use Rattle.wol_model.specs.History.{helper};
 ghost use Rattle.manager.specs.Stands.{IsShared};
 ghost use Rattle.reclaimer.specs.Fetches.{HasData};
 ghost use Rattle.request_turns.specs.Counts.{HasCounted, ReclaimsNothing};
-ghost use Rattle.request_turns.specs.Helped.{IsPassAt, HasHelped};
+ghost use Rattle.request_turns.specs.Helped.{IsPassAt, HasHelped, AreKept};
 ghost use Rattle.request_turns.specs.Turns.{notes_seen, IsBroken};
 
 use crate::answer::has_failed;
@@ -32,6 +32,7 @@ pub fn fetch_turn<D: Disk, R: Wait>(
     ensures counted { ReclaimsNothing D.tells pass.old pass.new }
     ensures data { HasData D.tells room.new (pass_lock pass.new).base (notes_seen pass.new) }
     ensures cause { IfErr result (λ f. IsBroken (notes_seen pass.new)) }
+    ensures kept { OnOk result (AreKept pass.old pass.new) }
 {
     let mut turn = lock.enter(rt, pass);
     let answer = fetch(rt, &mut turn.value, shared, room);
@@ -58,6 +59,7 @@ pub fn put_turn<D: Disk, R: Wait>(
     ensures helped { HasHelped D.tells pass.old pass.new }
     ensures counted { HasCounted D.tells tally.old tally.new pass.old pass.new }
     ensures cause { IfErr result (λ f. IsBroken (notes_seen pass.new)) }
+    ensures kept { OnOk result (AreKept pass.old pass.new) }
 {
     let mut turn = lock.enter(rt, pass);
     let answer = put_home(rt, &mut turn.value, shared, room);
@@ -84,6 +86,7 @@ pub fn drop_turn<D: Disk, R: Wait>(
     ensures helped { HasHelped D.tells pass.old pass.new }
     ensures counted { HasCounted D.tells tally.old tally.new pass.old pass.new }
     ensures cause { IfErr result (λ f. IsBroken (notes_seen pass.new)) }
+    ensures kept { OnOk result (AreKept pass.old pass.new) }
 {
     let mut turn = lock.enter(rt, pass);
     let answer = invalidate_one(rt, &mut turn.value, shared);

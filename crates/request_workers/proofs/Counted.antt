@@ -1,6 +1,7 @@
 -- What a window counts, from desk to desk.
 use Rattle.std.proofs.Common.{◌≡◌, ◌≢◌, ◌<◌, ◌≤◌, ◌+◌, ◌-◌, ◌^◌, ℕ, zero, suc, Bool, List, [], ◌∷◌, map, length, get_or, set, min, Option, refl, sym, ap, subst, ◌∙◌, arith}
 use Rattle.std.specs.Prelude.{sum_by}
+use Rattle.std.proofs.lemmas.List.Sums.{sum_by-append}
 use Rattle.turn_lock.specs.Passes.{IsFree}
 use Rattle.wol_promise.specs.Policy.{Look}
 use Rattle.wol_promise.specs.Report.{put_home_by}
@@ -29,6 +30,10 @@ module _ {D : Type 0} (tells : Bool) (d e f : ManagerPass D) (more : List Entry)
       (counted_both tells d e e more [] notes [] a (gains_none tells e a.free) t u v first (subst (λ (q : ManagerPass D). HasCounted tells u v e q) c.0 then))
   closed_counted reclaim.Between fault c then = counted_both tells d e f more _ notes _ a (gains_turn tells e f c.before c.note c.turned) t u v first then
   closed_counted reclaim.Beside fault c then = counted_both tells d e f more _ notes _ a (gains_turn tells e f c.before c.note c.turned) t u v first then
+
+-- turns of a helper
+pub helped_counted : {D : Type 0} (tells : Bool) (p q r : ManagerPass D) (t u v : Tally) → HasHelped tells p q → HasHelped tells q r → HasCounted tells t u p q → HasCounted tells u v q r → HasCounted tells t v p r
+helped_counted tells p q r t u v a b first then = counted_both tells p q r a.more b.more a.notes b.notes a.gains b.gains t u v first then
 
 -- counted from nothing on
 pub from_none : {D : Type 0} (tells : Bool) (p q : ManagerPass D) (t u : Tally) → Counts 0 0 t → HasCounted tells t u p q → IsHonest tells p → Counts (blocks_between p q) (records_between p q) u
@@ -108,6 +113,36 @@ alike_one top x b is a = omega (arith, is)
 pub more_alike : (b c r s : ℕ) (t u : Tally) → EndAlike (2 ^ 64 - 1) b c → EndAlike (2 ^ 64 - 1) r s → CountsMore b r t u → CountsMore c s t u
 more_alike b c r s t u f g more x y h = let m = more x y h in record { blocks_ = m.blocks_ ∙ f x; records_ = m.records_ ∙ g y }
 
-module _ {D : Type 0} where
-  workers : List (Desk D) → List (ManagerPass D)
-  workers ds = map (λ (d : Desk D). d.worker) ds
+sum_cons : {X : Type 0} (f : X → ℕ) (x : X) (xs : List X) → sum_by f (x ∷ xs) ≡ f x + sum_by f xs
+sum_cons f x xs = sum_by-append f (x ∷ []) xs
+
+alike_sum : {X : Type 0} (top : ℕ) (f : X → ℕ) (x : X) (xs : List X) (b y : ℕ) → f x ≡ min b top → EndAlike top (sum_by f xs) y → EndAlike top (sum_by f (x ∷ xs)) (b + y)
+alike_sum top f x xs b y is rest = subst (λ (n : ℕ). EndAlike top n (b + y)) (sym (sum_cons f x xs)) (alike_both top (f x) b (sum_by f xs) y (alike_one top (f x) b is) rest)
+
+module _ {D : Type 0} (tells : Bool) where
+  desks_alike : (ds es : List (Desk D)) → length es ≡ length ds
+      → ((k : ℕ) (d : Desk D) → k < length ds → IsHonest tells (get_or ds k d).worker → Counts (blocks_between (get_or ds k d).worker (get_or es k d).worker) (records_between (get_or ds k d).worker (get_or es k d).worker) (get_or es k d).tally)
+      → AreHonest tells (map (λ (d : Desk D). d.worker) ds)
+      → EndAlike (2 ^ 64 - 1) (sum_by (λ (d : Desk D). d.tally.blocks) es) (all_between put_home_by (map (λ (d : Desk D). d.worker) ds) (map (λ (d : Desk D). d.worker) es))
+      × EndAlike (2 ^ 64 - 1) (sum_by (λ (d : Desk D). d.tally.records) es) (all_between dropped_by (map (λ (d : Desk D). d.worker) ds) (map (λ (d : Desk D). d.worker) es))
+  desks_alike [] [] same counts honest = ((λ a. refl), (λ a. refl))
+  desks_alike [] (e ∷ es) same counts honest = absurd (omega (arith, same))
+  desks_alike (d ∷ ds) [] same counts honest = absurd (omega (arith, same))
+  desks_alike (d ∷ ds) (e ∷ es) same counts honest =
+      let one = counts 0 d (omega arith) (honest 0 d.worker (omega arith)) in
+      let rest = desks_alike ds es (omega (arith, same)) (λ k x i. counts (suc k) x (omega (arith, i))) (honest_rest tells d.worker (map (λ (x : Desk D). x.worker) ds) honest) in (
+        alike_sum (2 ^ 64 - 1) (λ (x : Desk D). x.tally.blocks) e es _ _ one.blocks_ rest.0,
+        alike_sum (2 ^ 64 - 1) (λ (x : Desk D). x.tally.records) e es _ _ one.records_ rest.1,
+      )
+
+  pub window_counts : (ds es : List (Desk D)) (ps qs : List (ManagerPass D)) (t u w : Tally) → length es ≡ length ds
+      → ((k : ℕ) (d : Desk D) → k < length ds → IsHonest tells (get_or ds k d).worker → Counts (blocks_between (get_or ds k d).worker (get_or es k d).worker) (records_between (get_or ds k d).worker (get_or es k d).worker) (get_or es k d).tally)
+      → Counts 0 0 t → HaveCounted tells t u ps qs → CountsMore (sum_by (λ (d : Desk D). d.tally.blocks) es) (sum_by (λ (d : Desk D). d.tally.records) es) u w
+      → AreHonest tells (map (λ (d : Desk D). d.worker) ds) → AreHonest tells ps
+      → Counts (all_between put_home_by (map (λ (d : Desk D). d.worker) ds) (map (λ (d : Desk D). d.worker) es) + all_between put_home_by ps qs)
+      (all_between dropped_by (map (λ (d : Desk D). d.worker) ds) (map (λ (d : Desk D). d.worker) es) + all_between dropped_by ps qs) w
+  window_counts ds es ps qs t u w same counts zero helped more honest helps =
+      let alike = desks_alike ds es same counts honest in
+      let first = helped helps 0 0 zero in
+      let all = more_alike _ _ _ _ u w alike.0 alike.1 more (0 + all_between put_home_by ps qs) (0 + all_between dropped_by ps qs) first in
+      counts_is _ _ _ _ w (omega arith) (omega arith) all

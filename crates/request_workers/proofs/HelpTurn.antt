@@ -1,6 +1,6 @@
 -- A helper's turns.
-use Rattle.std.proofs.Common.{◌≡◌, ◌≢◌, ◌⊎◌, ◌<◌, ◌≤◌, ◌+◌, ◌==◌, inl, inr, ⊎_elim, ℕ, zero, suc, Bool, true, false, List, [], ◌∷◌, ◌++◌, length, get_or, set, Option, Some, Result, Ok, Err, refl, sym, ap, subst, ◌∙◌, arith}
-use Rattle.std.specs.Prelude.{IsSome, is_some, is_ok, IfErr}
+use Rattle.std.proofs.Common.{◌≡◌, ◌≢◌, ◌⊎◌, ◌<◌, ◌≤◌, ◌+◌, ◌==◌, inl, inr, ⊎_elim, ℕ, zero, suc, Bool, true, false, List, [], ◌∷◌, ◌++◌, length, get_or, set, Option, None, Some, Result, Ok, Err, refl, sym, ap, subst, ◌∙◌, arith}
+use Rattle.std.specs.Prelude.{IsSome, is_some, is_ok, OnOk, IfErr}
 use Rattle.std.proofs.lemmas.List.{map-append, get_or-set_same, get_or-set_other}
 use Rattle.std.proofs.lemmas.Bool.Decides.{eqb_tells}
 use Rattle.turn_lock.specs.Histories.{Entry, own, Begins}
@@ -27,10 +27,10 @@ use Rattle.reclaimer.specs.declared.answers.Gone.{Gone}
 use Rattle.reclaimer.specs.declared.answers.Gone.TheVariants as gone
 use Rattle.reclaimer.proofs.Later.{data_is_kept}
 use Rattle.request_turns.specs.Entries.{note_of, step_operation, has_failed}
-use Rattle.request_turns.specs.Helped.{ManagerLock, HasHelped}
-use Rattle.request_workers.specs.Helped.{ArePassesAt, AreHelped, IsCause}
+use Rattle.request_turns.specs.Helped.{ManagerLock, HasHelped, AreKept}
+use Rattle.request_workers.specs.Helped.{ArePassesAt, AreHelped, IsCause, AreAllKept}
 use Rattle.request_turns.specs.Turns.{ManagerPass, notes_seen, IsBroken, HasLeft}
-use Rattle.request_turns.proofs.Gaining.{gains_none, gains_turn, gains_both, seen_more, broken_more}
+use Rattle.request_turns.proofs.Gaining.{gains_none, gains_turn, gains_both, seen_more, broken_more, kept_none, kept_both}
 use Rattle.request_turns.proofs.Noting.{notes_at}
 use Rattle.request_turns.proofs.StepNotes.{step_stands, step_helps}
 use Rattle.request_turns.proofs.Turning.{turned}
@@ -116,3 +116,40 @@ module _ {D : Type 0} (ls : List (ManagerLock D)) (number : ℕ) (ps : List (Man
   pub passes_helped : (tells : Bool) (qs : List (ManagerPass D)) → length qs ≡ length ps → AreHelped tells ps qs → ArePassesAt ls number qs
   passes_helped tells qs same h k l d i = let j = subst (λ (n : ℕ). k < n) same i in let g = (h k d j).gains in let a = at k l d j in
       record { own = g.same.0 ∙ a.own; free = g.free; number_is = g.same.1 ∙ a.number_is }
+
+-- ---- Entries that are Kept
+
+pub refused_before : {F : Type 0} (old new : Option F) → ((f : F) → old ≡ Some f → new ≡ Some f) → new ≡ None → old ≡ None
+refused_before None new kept none = refl
+refused_before (Some f) new kept none = absurd (let no : Some f ≡ None = sym (kept f refl) ∙ none in cc)
+
+pub on_ok : {A B : Type 0} (a : Result A StepFault) → OnOk a B → is_ok a ≡ true → B
+on_ok (Ok x) so is = so
+on_ok (Err f) so is = absurd (let no : false ≡ true = is in cc)
+
+module _ {D : Type 0} where
+  pub kept_helped : (tells : Bool) (p q r : ManagerPass D) → HasHelped tells p q → HasHelped tells q r → AreKept p q → AreKept q r → AreKept p r
+  kept_helped tells p q r a b first then = kept_both tells p q r a.more b.more a.notes b.notes a.gains b.gains first then
+
+  pub all_kept_none : (ps : List (ManagerPass D)) (fault : Option (ℕ × StepFault)) → AreAllKept fault ps ps
+  all_kept_none ps fault none k d h = kept_none (get_or ps k d)
+
+  pub all_kept_both : (tells : Bool) (ps qs rs : List (ManagerPass D)) (was is : Option (ℕ × StepFault)) → length qs ≡ length ps → AreHelped tells ps qs → AreHelped tells qs rs → (is ≡ None → was ≡ None)
+      → AreAllKept was ps qs → AreAllKept is qs rs → AreAllKept is ps rs
+  all_kept_both tells ps qs rs was is e f g before first then none k d h = let i = subst (λ (n : ℕ). k < n) (sym e) h in
+      kept_helped tells (get_or ps k d) (get_or qs k d) (get_or rs k d) (f k d h) (g k d i) (first (before none) k d h) (then none k d i)
+
+-- one volume more in a round
+module _ {D : Type 0} (is ps : List (ManagerPass D)) (k : ℕ) (p q : ManagerPass D) (within : k < length ps) (at : p ≡ get_or ps k p) (kept : AreKept p q)
+    (rest : (j : ℕ) (d : ManagerPass D) → k ≤ j → get_or ps j d ≡ get_or is j d) where
+  pub step_all_kept : ((j : ℕ) (d : ManagerPass D) → j < k → AreKept (get_or is j d) (get_or ps j d)) → (j : ℕ) (d : ManagerPass D) → j < k + 1 → AreKept (get_or is j d) (get_or (set ps k q) j d)
+  step_all_kept before j d h = ⊎_elim
+      (λ (t : ((j == k) ≡ true) × (j ≡ k)).
+      let was : p ≡ get_or is j d = at ∙ any_default ps k p d within ∙ (let le : k ≤ k = omega arith in rest k d le) ∙ ap (λ (i : ℕ). get_or is i d) (sym t.1) in
+      let now : get_or (set ps k q) j d ≡ q = ap (λ (i : ℕ). get_or (set ps k q) i d) t.1 ∙ get_or-set_same ps k q d within in
+      subst (λ (x : ManagerPass D). AreKept x (get_or (set ps k q) j d)) was (subst (λ (x : ManagerPass D). AreKept p x) (sym now) kept))
+      (λ (t : ((j == k) ≡ false) × (j ≢ k)). subst (λ (x : ManagerPass D). AreKept (get_or is j d) x) (sym (get_or-set_other ps k j q d t.1)) (before j d (let n = t.1 in below j k h n)))
+      (eqb_tells j k)
+    where
+      below : (j k : ℕ) → j < k + 1 → j ≢ k → j < k
+      below j k h n = omega (arith, h, n)

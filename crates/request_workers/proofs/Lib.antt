@@ -6,3 +6,4 @@ pub mod Roomy
 pub mod HelpTurn
 pub mod Moving
 pub mod Stationed
+pub mod Counted

@@ -11,6 +11,7 @@ use Rattle.wol_model.specs.Journal.{Began}
 use Rattle.logger.specs.declared.shared.Shared.{Shared}
 use Rattle.wol_promise.specs.Report.{IsBegun}
 use Rattle.wol_promise.specs.Ruled.{Noted}
+use Rattle.request_turns.specs.Begun.{HasBegunVolume}
 use Rattle.request_turns.specs.Turns.{ManagerPass, began, HasTurned}
 
 -- a pass of a spindle's lock

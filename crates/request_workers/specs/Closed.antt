@@ -5,6 +5,7 @@ use Rattle.wol_model.specs.History.{IsHelp}
 use Rattle.wol_promise.specs.Policy.{Look, AreReclaims, IsIdleLook}
 use Rattle.wol_promise.specs.Ruled.{Noted}
 use Rattle.manager.specs.declared.part.StepFault.{StepFault}
+use Rattle.request_turns.specs.Closed.{HasClosed}
 use Rattle.request_turns.specs.Counts.{HasCounted}
 use Rattle.request_turns.specs.Turns.{ManagerPass, notes_seen, IsBroken, HasTurned}
 use Rattle.request_workers.specs.declared.desk.Desk.{Desk}

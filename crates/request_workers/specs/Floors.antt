@@ -11,7 +11,7 @@ use Rattle.request_turns.specs.Turns.{ManagerPass}
 use Rattle.request_workers.specs.Counted.{AreHonest, all_between}
 use Rattle.request_workers.specs.Desks.{AreAt, AreNumbered, AreEmpty}
 use Rattle.request_turns.specs.Helped.{ManagerLock}
-use Rattle.request_workers.specs.Helped.{ArePassesAt, IsCause}
+use Rattle.request_workers.specs.Helped.{ArePassesAt, IsCause, AreAllKept}
 use Rattle.request_workers.specs.Requests.{AreWithin, own_requests}
 use Rattle.request_workers.specs.Worked.{AreWorked, HelpedIn, first_fault}
 use Rattle.request_workers.specs.declared.desk.Desk.{Desk}
@@ -81,6 +81,7 @@ pub record HasRun {D : Type 0} (tells : Bool) (rs : List Request) (mode : Reclai
   -- the first refused step: the helper's, or else that of the first reclaim turn that was refused
   pub fault : w.fault ≡ option_or g.help.fault (first_fault 0 (map (λ (d : Desk D). d.fault) g.desks.items))
   pub cause : IsCause g.helpers.items g.help.fault
+  pub kept : AreAllKept g.help.fault f.helpers.items g.helpers.items
   -- what was put home and dropped in this window by the workers and the helper, drains included
   pub counted : AreHonest tells (workers_of f) → AreHonest tells f.helpers.items
       → Counts (all_between put_home_by (workers_of f) (workers_of g) + all_between put_home_by f.helpers.items g.helpers.items)

@@ -1,5 +1,5 @@
 -- What a helper beside the workers makes of its passes.
-use Rattle.std.specs.Prelude.{◌≡◌, ◌<◌, ℕ, Bool, List, Option, Some, length, slice_index_or}
+use Rattle.std.specs.Prelude.{◌≡◌, ◌<◌, ℕ, Bool, List, Option, None, Some, length, slice_index_or}
 use Rattle.turn_lock.specs.Histories.{Entry}
 use Rattle.turn_lock.specs.Passes.{pass_lock, pass_number, IsPassOf, IsFree}
 use Rattle.turn_lock.specs.declared.lock.TurnLock.{TurnLock}
@@ -9,6 +9,7 @@ use Rattle.manager.specs.Stands.{IsShared}
 use Rattle.manager.specs.declared.base.ManagerBase.{ManagerBase}
 use Rattle.manager.specs.declared.manager.Manager.{Manager}
 use Rattle.manager.specs.declared.part.StepFault.{StepFault}
+use Rattle.request_turns.specs.Helped.{AreKept, ManagerLock, IsPassAt, HasHelped}
 use Rattle.request_turns.specs.Turns.{ManagerPass, notes_seen, IsBroken, Gains, AreHelp}
 
 -- the passes of the locks, in order
@@ -26,3 +27,7 @@ AreHelped {D} tells ps qs = (k : ℕ) (d : ManagerPass D) → k < length ps → 
 -- a refused step is that of a volume in which a disk call failed
 abbrev pub IsCause : {D : Type 0} → List (ManagerPass D) → Option (ℕ × StepFault) → Type 0
 IsCause {D} qs fault = (v : ℕ) (f : StepFault) → fault ≡ Some (v, f) → (v < length qs) × ((d : ManagerPass D) → IsBroken (notes_seen (slice_index_or qs v d)))
+
+-- where no step was refused, no disk call failed in the turns that they made
+abbrev pub AreAllKept : {D : Type 0} → Option (ℕ × StepFault) → (ps qs : List (ManagerPass D)) → Type 0
+AreAllKept {D} fault ps qs = fault ≡ None → (k : ℕ) (d : ManagerPass D) → k < length ps → AreKept (slice_index_or ps k d) (slice_index_or qs k d)

@@ -6,6 +6,8 @@ use Rattle.wol_promise.specs.Outcomes.{WasRead, WasWritten, Unanswered, Answered
 use Rattle.manager.specs.declared.base.ManagerBase.{ManagerBase}
 use Rattle.manager.specs.declared.part.Place.{Place}
 use Rattle.manager.specs.declared.part.Place.TheVariants as place
+use Rattle.request_turns.specs.Requests.{IsWithin}
+use Rattle.request_turns.specs.Entries.{is_log}
 use Rattle.trace_windows.specs.Requests.{asked}
 use Rattle.trace_windows.specs.declared.request.Request.{Request}
 use Rattle.request_turns.specs.declared.outcome.Outcome.{Outcome}

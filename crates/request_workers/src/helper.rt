@@ -1,13 +1,13 @@
 // A helper beside the workers.
-ghost use Rattle.std.specs.Prelude.{◌≡◌, ◌⊎◌, ◌^◌, ◌≤◌, ◌<◌, ℕ, length, slice_index_or, IfErr, OnOk, Option, Some, None, is_ok, false};
+ghost use Rattle.std.specs.Prelude.{◌≡◌, ◌⊎◌, ◌^◌, ◌≤◌, ◌<◌, ℕ, length, slice_index_or, IfErr, OnOk, Option, Some, None, is_ok, true, false};
 ghost use Rattle.turn_lock.specs.Passes.{pass_lock, IsSamePass};
 ghost use Rattle.wol_model.specs.History.{helper};
 ghost use Rattle.manager.specs.Stands.{IsShared};
 ghost use Rattle.reclaimer.specs.Fetches.{HasData};
 ghost use Rattle.request_turns.specs.Counts.{HasCounted};
-ghost use Rattle.request_turns.specs.Helped.{IsPassAt, HasHelped};
+ghost use Rattle.request_turns.specs.Helped.{IsPassAt, HasHelped, AreKept};
 ghost use Rattle.request_workers.specs.Counted.{HaveCounted};
-ghost use Rattle.request_workers.specs.Helped.{ArePassesAt, AreSharing, AreHelped, IsCause};
+ghost use Rattle.request_workers.specs.Helped.{ArePassesAt, AreSharing, AreHelped, AreAllKept, IsCause};
 ghost use Rattle.request_turns.specs.Turns.{notes_seen, IsBroken};
 
 use logger::Shared;
@@ -33,6 +33,7 @@ impl HelperRoom {
         ensures fault { (f : _) → self.new.fault ≡ Some f → (self.old.fault ≡ Some f) ⊎ ((f.0 ≡ volume) × (is_ok answer ≡ false)) }
         ensures fetch { self.new.fetch ≡ self.old.fetch }
         ensures tally { self.new.tally ≡ self.old.tally }
+        ensures none { self.new.fault ≡ None → is_ok answer ≡ true }
     {
         match answer {
             Ok(did) => did,
@@ -59,6 +60,7 @@ fn help_one<D: Disk, R: Wait>(
     requires shared { IsShared shared.now (pass_lock pass.old).base }
     ensures helped { HasHelped D.tells pass.old pass.new }
     ensures counted { HasCounted D.tells help.old.tally help.new.tally pass.old pass.new }
+    ensures all_kept { help.new.fault ≡ None → AreKept pass.old pass.new }
     ensures kept { (f : _) → help.old.fault ≡ Some f → help.new.fault ≡ Some f }
     ensures fault { (f : _) → help.new.fault ≡ Some f → (help.old.fault ≡ Some f) ⊎ ((f.0 ≡ volume) × IsBroken (notes_seen pass.new)) }
 {
@@ -86,6 +88,8 @@ fn help_round<D: Disk, R: Wait>(
     requires cause { IsCause helpers.old help.old.fault }
     ensures helped { AreHelped D.tells helpers.old helpers.new }
     ensures counted { HaveCounted D.tells help.old.tally help.new.tally helpers.old helpers.new }
+    ensures all_kept { AreAllKept help.new.fault helpers.old helpers.new }
+    ensures refused { help.new.fault ≡ None → help.old.fault ≡ None }
     ensures cause { IsCause helpers.new help.new.fault }
 {
     let mut did = false;
@@ -112,6 +116,8 @@ pub(crate) fn help<D: Disk, R: Wait>(
     requires cause { IsCause helpers.old help.old.fault }
     ensures helped { AreHelped D.tells helpers.old helpers.new }
     ensures counted { HaveCounted D.tells help.old.tally help.new.tally helpers.old helpers.new }
+    ensures all_kept { AreAllKept help.new.fault helpers.old helpers.new }
+    ensures refused { help.new.fault ≡ None → help.old.fault ≡ None }
     ensures cause { IsCause helpers.new help.new.fault }
 {
     for _ in 0..rounds {

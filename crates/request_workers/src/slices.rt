@@ -4,7 +4,7 @@ ghost use Rattle.wol_model.specs.History.{helper};
 ghost use Rattle.request_turns.specs.Counts.{Counts};
 ghost use Rattle.request_workers.specs.Counted.{HaveCounted};
 ghost use Rattle.request_workers.specs.Desks.{AreReady, AreServed, AreNumbered};
-ghost use Rattle.request_workers.specs.Helped.{ArePassesAt, AreSharing, IsCause};
+ghost use Rattle.request_workers.specs.Helped.{ArePassesAt, AreSharing, AreAllKept, IsCause};
 ghost use Rattle.request_workers.specs.Requests.{AreOfVolumes};
 ghost use Rattle.request_workers.specs.Worked.{AreWorked, HelpedIn};
 ghost use Rattle.request_workers.specs.declared.desk.Desk.{Desk};
@@ -50,6 +50,7 @@ fn serve_mode<'a, D: Disk + Send, G: Gate + Sync, R: Threads + Wait + Sync>(
     ensures served { AreServed D.tells requests.now desks.old desks.new }
     ensures helped { HelpedIn D.tells reclaim helpers.old helpers.new }
     ensures counted { HaveCounted D.tells room.old.tally room.new.tally helpers.old helpers.new }
+    ensures all_kept { AreAllKept room.new.fault helpers.old helpers.new }
     ensures cause { IsCause helpers.new room.new.fault }
 {
     match reclaim {
@@ -96,6 +97,7 @@ pub(crate) fn run_window<'a, D: Disk + Send, G: Gate + Sync, R: Threads + Wait +
     ensures worked { AreWorked D.tells requests.now out.new.items reclaim desks.old desks.new }
     ensures helped { HelpedIn D.tells reclaim helpers.old helpers.new }
     ensures counted { HaveCounted D.tells room.old.tally room.new.tally helpers.old helpers.new }
+    ensures all_kept { AreAllKept room.new.fault helpers.old helpers.new }
     ensures cause { IsCause helpers.new room.new.fault }
 {
     serve_mode(

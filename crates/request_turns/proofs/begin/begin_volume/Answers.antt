@@ -4,6 +4,11 @@ use Rattle.manager.specs.declared.base.LaneBase.{LaneBase}
 use Rattle.turn_lock.specs.Passes.{pass_number, pass_seen}
 use Rattle.wol_model.specs.History.{Kept}
 use Rattle.logger.specs.Lanes.{logger_of}
+use Rattle.turn_lock.specs.LockIds.{LockId}
+use Rattle.wol_promise.specs.Policy.{Look}
+use Rattle.wol_promise.specs.Ruled.{last_look}
+use Rattle.manager.specs.Stands.{notes_of}
+use Rattle.manager.specs.declared.base.ManagerBase.{ManagerBase}
 use Rattle.manager.specs.Seen.{look_of_manager}
 use Rattle.manager.specs.declared.manager.Manager.{Manager}
 use Rattle.request_turns.specs.Entries.{note_of}
@@ -28,6 +33,7 @@ returns g c = let e = c.enter-turn.ensures in
         home = ap (λ (m : Manager g.row.D.Denot). m.home_up) c.begin.ensures.unchanged ∙ ap (λ (o : ℕ). slice_index_or c.args.awake.now o false) (sym c.requires.owner);
         loggers = ap (λ (m : Manager g.row.D.Denot). m.ups.items) c.begin.ensures.unchanged ∙ (told_flags c.flags-ups.result c.ups-lanes.result.now _ logger_of (λ v. slice_index_or c.args.awake.now v false) n c.flags-ups.ensures ∙ ap (map (λ (v : ℕ). slice_index_or c.args.awake.now v false)) (e.value.keeps.locks.view ∙ ap (λ l. l.base.volume.began.view) e.same.0));
       };
+      records = ap (λ (m : Manager g.row.D.Denot). (look_of_manager m).listed) c.begin.ensures.unchanged ∙ sym (ap (λ (l : Look). l.listed) (ap (λ (k : LockId ManagerBase). last_look k.base.volume.began.look (notes_of (pass_seen c.enter-turn.new.pass))) (sym e.same.0) ∙ e.value.look));
     }
 
 pub flags-ups-requires-clause-view : goal.flags-ups-requires-clause-view

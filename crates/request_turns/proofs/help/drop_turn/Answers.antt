@@ -6,7 +6,7 @@ use Rattle.reclaimer.specs.Counts.{CountsGone}
 use Rattle.reclaimer.specs.declared.answers.Gone.{Gone}
 use Rattle.request_turns.specs.Entries.{has_failed}
 use Rattle.request_turns.proofs.Counting.{counted_turn, none_more}
-use Rattle.request_turns.proofs.HelpNotes.{gone_keep, help_stands, has_helped, done_counted, refused_counted}
+use Rattle.request_turns.proofs.HelpNotes.{gone_keep, help_stands, has_helped, step_kept, done_counted, refused_counted}
 use Rattle.request_turns.proofs.Taking.{home_at}
 use Rattle.request_turns.proofs.help.drop_turn.Goals as goal
 
@@ -49,3 +49,12 @@ pub returns-in-Err-clause-counted : goal.returns-in-Err-clause-counted
 returns-in-Err-clause-counted g c = let e = c.enter-turn.ensures in let l = look_of_manager c.enter-turn.result.value in let m = look_of_manager c.invalidate_one-answer.new.m in
     counted_turn _ _ c.enter-turn.new.pass _ _ l _ _ e.same e.seen e.mine e.own c.leave_step.ensures.left refl e.value.look
     (refused_counted {T = Gone} l m _ c.in-Err.fault _ _ (c.has_failed.ensures ∙ ap has_failed c.in-Err.is) (subst (λ (a : Result Gone StepFault). CountsGone a l m) c.in-Err.is c.invalidate_one-answer.ensures.counted))
+
+pub returns-in-Ok-Version-clause-kept : goal.returns-in-Ok-Version-clause-kept
+returns-in-Ok-Version-clause-kept g c = step_kept _ _ c.enter-turn.new.pass _ _ _ c.invalidate_one-answer.result _ c.in-Ok-Version.is c.has_failed.ensures c.enter-turn.ensures.mine c.leave_step.ensures.left
+
+pub returns-in-Ok-Trimmed-clause-kept : goal.returns-in-Ok-Trimmed-clause-kept
+returns-in-Ok-Trimmed-clause-kept g c = step_kept _ _ c.enter-turn.new.pass _ _ _ c.invalidate_one-answer.result _ c.in-Ok-Trimmed.is c.has_failed.ensures c.enter-turn.ensures.mine c.leave_step.ensures.left
+
+pub returns-in-Ok-Nothing-clause-kept : goal.returns-in-Ok-Nothing-clause-kept
+returns-in-Ok-Nothing-clause-kept g c = step_kept _ _ c.enter-turn.new.pass _ _ _ c.invalidate_one-answer.result _ c.in-Ok-Nothing.is c.has_failed.ensures c.enter-turn.ensures.mine c.leave_step.ensures.left

@@ -3,7 +3,7 @@ use Rattle.wol_promise.specs.Policy.{Look}
 use Rattle.manager.specs.Reclaim.{Always}
 use Rattle.manager.specs.Seen.{look_of_manager}
 use Rattle.request_turns.proofs.Counting.{counted_turn, entry_same}
-use Rattle.request_turns.proofs.HelpNotes.{same_keep, help_stands, has_helped, data_left}
+use Rattle.request_turns.proofs.HelpNotes.{same_keep, help_stands, has_helped, step_kept, data_left}
 use Rattle.request_turns.proofs.Taking.{home_at}
 use Rattle.request_turns.proofs.help.fetch_turn.Goals as goal
 
@@ -37,3 +37,9 @@ returns-in-Ok-Nothing-clause-counted g c = λ t. let e = c.enter-turn.ensures in
 pub returns-in-Err-clause-counted : goal.returns-in-Err-clause-counted
 returns-in-Err-clause-counted g c = λ t. let e = c.enter-turn.ensures in
     counted_turn _ _ c.enter-turn.new.pass _ _ (look_of_manager c.enter-turn.result.value) t t e.same e.seen e.mine e.own c.leave_step.ensures.left refl e.value.look (entry_same _ _ t (λ _. ap (λ (k : Look). k.listed) c.fetch-answer.ensures.look))
+
+pub returns-in-Ok-Some-clause-kept : goal.returns-in-Ok-Some-clause-kept
+returns-in-Ok-Some-clause-kept g c = step_kept _ _ c.enter-turn.new.pass _ _ _ c.fetch-answer.result _ c.in-Ok-Some.is c.has_failed.ensures c.enter-turn.ensures.mine c.leave_step.ensures.left
+
+pub returns-in-Ok-Nothing-clause-kept : goal.returns-in-Ok-Nothing-clause-kept
+returns-in-Ok-Nothing-clause-kept g c = step_kept _ _ c.enter-turn.new.pass _ _ _ c.fetch-answer.result _ c.in-Ok-Nothing.is c.has_failed.ensures c.enter-turn.ensures.mine c.leave_step.ensures.left

@@ -5,7 +5,7 @@ use Rattle.manager.specs.declared.part.StepFault.{StepFault}
 use Rattle.reclaimer.specs.Counts.{CountsPut}
 use Rattle.request_turns.specs.Entries.{has_failed}
 use Rattle.request_turns.proofs.Counting.{counted_turn}
-use Rattle.request_turns.proofs.HelpNotes.{put_keep, help_stands, has_helped, data_in, down_at, done_counted, refused_counted}
+use Rattle.request_turns.proofs.HelpNotes.{put_keep, help_stands, has_helped, step_kept, data_in, down_at, done_counted, refused_counted}
 use Rattle.request_turns.proofs.Taking.{home_at}
 use Rattle.request_turns.proofs.help.put_turn.Goals as goal
 
@@ -35,3 +35,6 @@ pub returns-in-Err-clause-counted : goal.returns-in-Err-clause-counted
 returns-in-Err-clause-counted g c = let e = c.enter-turn.ensures in let l = look_of_manager c.enter-turn.result.value in let m = look_of_manager c.put_home-answer.new.m in
     counted_turn _ _ c.enter-turn.new.pass _ _ l _ _ e.same e.seen e.mine e.own c.leave_step.ensures.left refl e.value.look
     (refused_counted {T = ℕ} l m _ c.in-Err.fault _ _ (c.has_failed.ensures ∙ ap has_failed c.in-Err.is) (subst (λ (a : Result ℕ StepFault). CountsPut a l m) c.in-Err.is c.put_home-answer.ensures.counted))
+
+pub returns-in-Ok-clause-kept : goal.returns-in-Ok-clause-kept
+returns-in-Ok-clause-kept g c = step_kept _ _ c.enter-turn.new.pass _ _ _ c.put_home-answer.result _ c.in-Ok.is c.has_failed.ensures c.enter-turn.ensures.mine c.leave_step.ensures.left

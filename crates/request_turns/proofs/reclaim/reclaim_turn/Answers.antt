@@ -14,7 +14,7 @@ leave_step-requires-clause-value g c = let r = c.reclaim_all-answer.ensures in
 
 pub returns-clause-closed : goal.returns-clause-closed
 returns-clause-closed g c = let e = c.enter-turn.ensures in let r = c.reclaim_all-answer.ensures in let l = c.leave_step.ensures in
-    has_closed _ g.D.Disk.state c.enter-turn.result.value c.reclaim_all-answer.new.m c.reclaim_all-answer.result c.args.pass.now c.enter-turn.new.pass _ _ _ c.refusal_in.ensures r.idle r.down e.same e.seen e.mine e.own l.left l.broken
+    has_closed _ g.D.Disk.state c.enter-turn.result.value c.reclaim_all-answer.new.m c.reclaim_all-answer.result c.args.pass.now c.enter-turn.new.pass _ _ _ c.has_failed-failed.ensures c.refusal_in.ensures r.idle r.down e.same e.seen e.mine e.own l.left l.broken
 
 pub returns-clause-counted : goal.returns-clause-counted
 returns-clause-counted g c = let e = c.enter-turn.ensures in let r = c.reclaim_all-answer.ensures in let a = c.add_unless.ensures in
