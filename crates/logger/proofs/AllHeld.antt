@@ -1,5 +1,5 @@
 -- A pass that holds no index but those of its lane's segments, after a turn of the pool in which it took or gave one.
-use Rattle.std.proofs.Common.{◌≡◌, ⊎_elim, ◌<◌, ℕ, zero, suc, Bool, true, false, cond, eqb, List, [], ◌∷◌, ◌++◌, map, length, remove, slice_get, Option, Some, None, option_to_list, refl, sym, ap, subst, ◌∙◌, arith, append-nil}
+use Rattle.std.proofs.Common.{◌≡◌, ⊎_elim, ℕ, zero, suc, Bool, true, false, cond, eqb, List, [], ◌∷◌, ◌++◌, map, remove, slice_get, Option, Some, None, option_to_list, sym, ap, subst, ◌∙◌, arith, append-nil}
 use Rattle.std.specs.Prelude.{Contains}
 use Rattle.std.proofs.lemmas.Bool.{false≢true}
 use Rattle.std.proofs.lemmas.Bool.Decides.{eqb_tells}
@@ -7,7 +7,7 @@ use Rattle.std.proofs.lemmas.List.Elements.{Contains-append_left, Contains-appen
 use Rattle.std.proofs.lemmas.Option.{none-some, same_Some}
 use Rattle.turn_lock.specs.Passes.{pass_lock, pass_number, pass_mine, IsSamePass}
 use Rattle.turn_lock.specs.declared.pass.PassOf.{PassOf}
-use Rattle.seg_pool.specs.Holders.{PoolUse, Took, Gave, holds_after}
+use Rattle.seg_pool.specs.Holders.{PoolUse, Gave, holds_after}
 use Rattle.seg_pool.specs.Operations.{operation_of, holds, taken}
 use Rattle.seg_pool.specs.declared.base.PoolBase.{PoolBase}
 use Rattle.seg_pool.specs.declared.pool.Pool.{Pool}
