@@ -23,7 +23,7 @@ use Rattle.logger.specs.Lanes.{IsLane, IsAt, IsHeld, IsTaken, IsSameLane, logger
 use Rattle.logger.specs.declared.lane.Lane.{Lane}
 use Rattle.logger.specs.declared.shared.Shared.{Shared}
 use Rattle.manager.proofs.Lanes.{all_at, all_set, map_set}
-use Rattle.manager_recovery.specs.Opening.{CanOpen, IsOpeningLane, IsOwned, IsHeldIn, IsBefore, AreInOrder, SaysOwner, place_of}
+use Rattle.manager_recovery.specs.Opening.{CanOpen, HoldsOwned, IsOpeningLane, IsOwned, IsHeldIn, IsBefore, AreInOrder, SaysOwner, place_of}
 use Rattle.manager_recovery.specs.Left.{HasGiven, IsUsedLane, Fate, Kept, Freed, kept_of, IsFateOf, AreFates}
 use Rattle.manager_recovery.specs.Refused.{IsNamesAnswer, first_missing}
 use Rattle.manager_recovery.specs.Scanned.{HasGivenNone, IsScanned, IsThinning, has_some, thinned}
@@ -31,6 +31,7 @@ use Rattle.manager_recovery.specs.declared.opening.Opening.{Opening}
 use Rattle.manager_recovery.specs.declared.opening.OwnedPart.{OwnedPart}
 use Rattle.manager_recovery.proofs.Gifts.{gift, none_given, given_more, lanes_same, all_given_front}
 use Rattle.manager_recovery.proofs.Lists.{zip_self}
+use Rattle.manager_recovery.proofs.OwnedHeld.{all_less as all_held_less}
 use Rattle.manager_recovery.proofs.Places.{loggers_are, place_is, lane_is, read_at}
 use Rattle.manager_recovery.proofs.Fronts.{front_at, back_at, around, none_behind, get_middle, set_middle, remove_middle, zip_join, zip_long, zip_at, zip_other}
 
@@ -151,8 +152,9 @@ module _ {D : Type 0} (state : D → State) (shared : Shared D) (o : Opening D) 
         });
   }
 
-  pub can_again : (n : Opening D) → n ≡ record o { lanes = n.lanes; owned = n.owned } → n.lanes.items ≡ slice_set o.lanes.items k new → (front back : List (OwnedPart D)) → o.owned.items ≡ front ++ r ∷ back → n.owned.items ≡ front ++ back → CanOpen state shared n
-  can_again n same lanes front back was is =
+  pub can_again : (n : Opening D) → n ≡ record o { lanes = n.lanes; owned = n.owned } → n.lanes.items ≡ slice_set o.lanes.items k new → (front back : List (OwnedPart D)) → o.owned.items ≡ front ++ r ∷ back → n.owned.items ≡ front ++ back
+      → AreApart (map logger_of o.lanes.items) → pass_mine (pool_of new) ≡ pass_mine (pool_of old) ++ gift (pass_number (pool_of old)) r.index ∷ [] → CanOpen state shared n
+  can_again n same lanes front back was is apart gave =
       let order : AreInOrder (map place_of (front ++ r ∷ back)) = subst (λ (l : List (OwnedPart D)). AreInOrder (map place_of l)) was can.in_order in
       let each : AllByRecursion (IsOwned state (slice_set o.lanes.items k new)) (front ++ back) = all_both (IsOwned state o.lanes.items) (λ (x : OwnedPart D). AreOther (place_of x) (place_of r)) (IsOwned state (slice_set o.lanes.items k new)) owned_set (front ++ back)
       (all_less (IsOwned state o.lanes.items) front r back (subst (AllByRecursion (IsOwned state o.lanes.items)) was can.owned)) (others front r back order) in
@@ -169,6 +171,9 @@ module _ {D : Type 0} (state : D → State) (shared : Shared D) (o : Opening D) 
         most = can.most;
         in_order = subst (λ (l : List (OwnedPart D)). AreInOrder (map place_of l)) (sym is) (order_without front r back order);
         owned = subst (λ (ls : List (Lane D)). AllByRecursion (IsOwned state ls) n.owned.items) (sym lanes) (subst (AllByRecursion (IsOwned state (slice_set o.lanes.items k new))) (sym is) each);
+        all = subst (λ (ls : List (Lane D)). AllByRecursion (HoldsOwned n.owned.items) ls) (sym lanes)
+            (subst (λ (l : List (OwnedPart D)). AllByRecursion (HoldsOwned l) (slice_set o.lanes.items k new)) (sym is)
+            (all_held_less front r back old new on used.same gave o.lanes.items k lane apart (subst (λ (l : List (OwnedPart D)). AllByRecursion (HoldsOwned l) o.lanes.items) was can.all)));
         heads = subst (AllByRecursion (SaysOwner state o.want.id)) (sym is) (all_less (SaysOwner state o.want.id) front r back (subst (AllByRecursion (SaysOwner state o.want.id)) was can.heads));
       } in
       subst (CanOpen state shared) (sym same) again
@@ -368,7 +373,7 @@ module _ {D : Type 0} (state : D → State) (shared : Shared D) (sound : (p : Sp
         freed none on kept owned js scans f fate apart gave =
             let T = thinned (drop (suc k) o.owned.items) (drop (suc k) was) in
             let left : t.owned.items ≡ take k o.owned.items ++ T = owned ∙ ap (λ (q : List (OwnedPart D)). remove q k) at.here ∙ remove_middle (take k o.owned.items) T k at.part at.long in
-            goes n is k inv at none t js then_same (can_again state shared n inv.can place l m lane used at.part on kept t t_same t_lanes (take k o.owned.items) T at.here left) then_lanes owned scans f fate
+            goes n is k inv at none t js then_same (can_again state shared n inv.can place l m lane used at.part on kept t t_same t_lanes (take k o.owned.items) T at.here left apart gave) then_lanes owned scans f fate
             (subst (AllZip (HasGiven (at.part ∷ drop (suc k) o.owned.items) (Freed f ∷ inv.fates)) o.lanes.items) (sym t_lanes)
             (given_more at.part (drop (suc k) o.owned.items) f inv.fates o.lanes.items n.lanes.items place l m (lanes_same state shared o.want.id o.most o.lanes.items n.lanes.items inv.lanes) apart lane on gave inv.pools))
 
