@@ -106,6 +106,7 @@ module _ {D : Type 0} (state : D → State) (shared : Shared D) (n : Opening D) 
       spindle_volume = can.spindle_volume;
       spindle_free = can.spindle_free;
       settled = can.settled;
+      accesses = can.accesses;
       each = all_lanes (IsReadyLane state n.want.id n.most) (λ k l is. let now = all_at (IsLaneNow state shared n.want.id n.most gs) lanes.items k l is c.each in record { lane = now.lane; owner = now.owner; untaken = now.untaken; long = now.long; all = now.all });
       flags = long-replicate (length lanes.items) true;
       rooms_ = long-replicate (length lanes.items) _;

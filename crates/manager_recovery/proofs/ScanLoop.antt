@@ -136,6 +136,7 @@ module _ {D : Type 0} (state : D → State) (shared : Shared D) (o : Opening D) 
     spindle_volume = can.spindle_volume;
     spindle_free = can.spindle_free;
     settled = can.settled;
+    accesses = can.accesses;
     at = record {
       spindle_in = can.at.spindle_in;
       spindle_is = can.at.spindle_is;

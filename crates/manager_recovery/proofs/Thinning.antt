@@ -19,7 +19,7 @@ use Rattle.seg_pool.specs.Operations.{holds}
 use Rattle.seg_pool.specs.declared.base.PoolBase.{PoolBase}
 use Rattle.log_segment.specs.declared.free.FreeSegment.{FreeSegment}
 use Rattle.log_scan.specs.declared.Scan.{Scan}
-use Rattle.logger.specs.Lanes.{IsLane, IsAt, IsHeld, IsTaken, IsSameLane, logger_of, held_in, taken_in, pool_of, segments_in, indexes_in}
+use Rattle.logger.specs.Lanes.{IsLane, AreAccesses, IsAt, IsHeld, IsTaken, IsSameLane, logger_of, held_in, taken_in, pool_of, segments_in, indexes_in}
 use Rattle.logger.specs.declared.lane.Lane.{Lane}
 use Rattle.logger.specs.declared.shared.Shared.{Shared}
 use Rattle.manager.proofs.Lanes.{all_at, all_set, map_set}
@@ -48,8 +48,8 @@ at_same shared old new same a = record {
 
 module _ {D : Type 0} (state : D → State) (shared : Shared D) (id most : ℕ) (old new : Lane D) (was : IsOpeningLane state shared id most old) (same : IsSameLane old new)
     (rest : new ≡ record old { pool = new.pool; spindle = new.spindle }) where
-  used_is : IsFree (pool_of new) → IsFree new.spindle → has_token (pass_mine new.spindle) ≡ false → IsLane state new
-  used_is pool_free spindle_free settled = let l = was.lane in
+  used_is : IsFree (pool_of new) → IsFree new.spindle → has_token (pass_mine new.spindle) ≡ false → AreAccesses (pass_mine new.spindle) → IsLane state new
+  used_is pool_free spindle_free settled accesses = let l = was.lane in
       let bare : held_in new ≡ [] = ap (λ (q : Lane D). held_in q) rest ∙ was.bare in
       let untaken : taken_in new ≡ None = ap (λ (q : Lane D). taken_in q) rest ∙ was.untaken in
       let holders : length (pass_lock new.pool).base.holders ≡ length (pass_lock old.pool).base.holders = ap (λ (i : LockId PoolBase). length i.base.holders) same.pool.0 in
@@ -59,6 +59,7 @@ module _ {D : Type 0} (state : D → State) (shared : Shared D) (id most : ℕ) 
         pool_volume = ap (λ (i : LockId PoolBase). i.base.volume) same.pool.0 ∙ l.pool_volume ∙ sym same.logger;
         spindle_volume = ap (λ (i : LockId SpindleBase). i.base.volume) same.spindle.0 ∙ l.spindle_volume ∙ sym same.logger;
         settled = settled;
+        accesses = accesses;
         each = subst (AllByRecursion (IsHeld state new.logger new.owner (segments_in new) new.pool)) (sym bare) tt;
         unclaimed = let P : Option (ℕ × FreeSegment D) → Type 0 = λ t. IfSome t (IsTaken state new.logger (segments_in new) new.pool) in subst P (sym untaken) tt;
         apart = subst AreApart (sym (ap (λ (q : Lane D). indexes_in q) rest)) l.apart;
@@ -69,10 +70,10 @@ module _ {D : Type 0} (state : D → State) (shared : Shared D) (id most : ℕ) 
   used_at : IsAt shared new
   used_at = at_same shared old new same was.at
 
-  pub used_lane : IsFree (pool_of new) → IsFree new.spindle → has_token (pass_mine new.spindle) ≡ false → IsUsedLane state shared id most old new
-  used_lane pool_free spindle_free settled = record {
+  pub used_lane : IsFree (pool_of new) → IsFree new.spindle → has_token (pass_mine new.spindle) ≡ false → AreAccesses (pass_mine new.spindle) → IsUsedLane state shared id most old new
+  used_lane pool_free spindle_free settled accesses = record {
     lane = record {
-      lane = used_is pool_free spindle_free settled;
+      lane = used_is pool_free spindle_free settled accesses;
       at = used_at;
       owner = same.owner ∙ was.owner;
       bare = ap (λ (q : Lane D). held_in q) rest ∙ was.bare;
@@ -165,6 +166,7 @@ module _ {D : Type 0} (state : D → State) (shared : Shared D) (o : Opening D) 
         spindle_volume = can.spindle_volume;
         spindle_free = can.spindle_free;
         settled = can.settled;
+        accesses = can.accesses;
         at = record { spindle_in = can.at.spindle_in; spindle_is = can.at.spindle_is; lanes_ = subst (AllByRecursion (IsAt shared)) (sym lanes) (all_set (IsAt shared) o.lanes.items k new can.at.lanes_ used.lane.at) };
         lanes = subst (AllByRecursion (IsOpeningLane state shared o.want.id o.most)) (sym lanes) (all_set (IsOpeningLane state shared o.want.id o.most) o.lanes.items k new can.lanes used.lane);
         loggers = ap (map logger_of) lanes ∙ map_set logger_of o.lanes.items k old new lane used.same.logger ∙ can.loggers;
@@ -351,10 +353,10 @@ module _ {D : Type 0} (state : D → State) (shared : Shared D) (sound : (p : Sp
           let same : at.part ≡ p = same_Some at.part p (sym at.part_at ∙ there) in
           all_at (λ (q : Lane D). logger_of q ≡ p.logger → IsHeldIn state p q) n.lanes.items place l lane (all_at (IsOwned state n.lanes.items) n.owned.items k p there inv.can.owned).held (on ∙ ap (λ (q : OwnedPart D). q.logger) same)
 
-      module _ (m : Lane D) (same : IsSameLane l m) (rest : m ≡ record l { pool = m.pool; spindle = m.spindle }) (pool_free : IsFree (pool_of m)) (spindle_free : IsFree m.spindle) (settled : has_token (pass_mine m.spindle) ≡ false)
+      module _ (m : Lane D) (same : IsSameLane l m) (rest : m ≡ record l { pool = m.pool; spindle = m.spindle }) (pool_free : IsFree (pool_of m)) (spindle_free : IsFree m.spindle) (settled : has_token (pass_mine m.spindle) ≡ false) (accesses : AreAccesses (pass_mine m.spindle))
           (t : Opening D) (t_same : t ≡ record n { lanes = t.lanes; owned = t.owned }) (t_lanes : t.lanes.items ≡ slice_set n.lanes.items place m) where
         used : IsUsedLane state shared n.want.id n.most l m
-        used = used_lane state shared n.want.id n.most l m is_ready same rest pool_free spindle_free settled
+        used = used_lane state shared n.want.id n.most l m is_ready same rest pool_free spindle_free settled accesses
 
         used_first : IsUsedLane state shared o.want.id o.most l m
         used_first = subst (λ (q : Opening D). IsUsedLane state shared q.want.id q.most l m) inv.same used
