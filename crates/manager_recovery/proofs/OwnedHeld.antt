@@ -57,7 +57,7 @@ module _ {D : Type 0} where
       here_less all i holding = ⊎_elim
           (λ e. absurd (false≢true (sym (after ∙ ap (λ (b : Bool). cond b false (has (pool_of old) i)) e.0) ∙ holding)))
           (λ e. subst (λ (v : ℕ). Contains (map place_of (front ++ back)) (v, i)) (sym same.logger)
-              (contains_less front r back (logger_of old, i) (λ is. e.1 (ap (λ (p : ℕ × ℕ). p.1) is)) (all i (sym (after ∙ ap (λ (b : Bool). cond b false (has (pool_of old) i)) e.0) ∙ holding))))
+          (contains_less front r back (logger_of old, i) (λ is. e.1 (ap (λ (p : ℕ × ℕ). p.1) is)) (all i (sym (after ∙ ap (λ (b : Bool). cond b false (has (pool_of old) i)) e.0) ∙ holding))))
           (eqb_tells r.index i)
         where
           after : has (pool_of new) i ≡ holds_after i (has (pool_of old) i) (Gave r.index ∷ [])
@@ -77,21 +77,23 @@ module _ {D : Type 0} where
 
 -- ---- The lanes hold their own
 
+module _ {D : Type 0} where
+  -- an index is among those of the segments, the first of which is there or isn't
+  abbrev AmongIf : HeldSegment D → List (HeldSegment D) → (index : ℕ) → Bool → Type 0
+  AmongIf h rest i t = IsAmong (map (λ (x : HeldSegment D). x.index) (cond t (h ∷ rest) rest)) i
+
+  among_behind : (h : HeldSegment D) (rest : List (HeldSegment D)) (i : ℕ) (t : Bool) → IsAmong (map (λ (x : HeldSegment D). x.index) rest) i → AmongIf h rest i t
+  among_behind h rest i true among = inr among
+  among_behind h rest i false among = among
+
 module _ {D : Type 0} (state : D → State) where
   held_among : (os : List (OwnedPart D)) (ss : List Scan) (hs : List (HeldSegment D)) (v i : ℕ) → AreAdopted state os ss hs → IsAmong (map place_of os) (v, i) → IsAmong (map (λ (h : HeldSegment D). h.index) (held_on v os hs)) i
   held_among [] ss hs v i adopted among = absurd among
   held_among (o ∷ os) [] hs v i adopted among = absurd adopted
   held_among (o ∷ os) (s ∷ ss) [] v i adopted among = absurd adopted
   held_among (o ∷ os) (s ∷ ss) (h ∷ hs) v i adopted among = ⊎_elim
-      (λ e. subst Here (sym (eq-eqb o.logger v (sym (ap (λ (p : ℕ × ℕ). p.0) e)))) (inl (ap (λ (p : ℕ × ℕ). p.1) e ∙ sym adopted.0.index)))
-      (λ more. behind (eqb o.logger v) (held_among os ss hs v i adopted.1 more)) among
-    where
-      abbrev Here : Bool → Type 0
-      Here t = IsAmong (map (λ (x : HeldSegment D). x.index) (cond t (h ∷ held_on v os hs) (held_on v os hs))) i
-
-      behind : (t : Bool) → IsAmong (map (λ (x : HeldSegment D). x.index) (held_on v os hs)) i → Here t
-      behind true rest = inr rest
-      behind false rest = rest
+      (λ e. subst (AmongIf h (held_on v os hs) i) (sym (eq-eqb o.logger v (sym (ap (λ (p : ℕ × ℕ). p.0) e)))) (inl (ap (λ (p : ℕ × ℕ). p.1) e ∙ sym adopted.0.index)))
+      (λ more. among_behind h (held_on v os hs) i (eqb o.logger v) (held_among os ss hs v i adopted.1 more)) among
 
   pub holds_own : (shared : Shared D) (id most : ℕ) (os : List (OwnedPart D)) (ss : List Scan) (hs : List (HeldSegment D)) (old new : Lane D) → AreAdopted state os ss hs → HoldsItsOwn state shared id most os hs old new → HoldsOwned os old → HoldsAll new
   holds_own shared id most os ss hs old new adopted own all i holding =
