@@ -2,7 +2,7 @@
 ghost use Rattle.std.specs.Prelude.{◌≡◌, ◌↔◌, ◌≤◌, ℕ, List, [], true, None, Ok, IsTrue, IsSomeAnd, length};
 ghost use Rattle.wol_model.specs.Index.{listed_in, has_due};
 ghost use Rattle.wol_promise.specs.Policy.{drained};
-ghost use Rattle.redirect_map.specs.Index.{entry_at};
+ghost use Rattle.redirect_map.specs.Index.{IsIndex, entry_at};
 ghost use Rattle.manager.specs.Reclaim.{OnTried, OnKept, OnFailed, TellsStep, KeepsOn, BreaksOff, StopsSince, Always};
 ghost use Rattle.manager.specs.Seen.{look_of_manager};
 ghost use Rattle.manager.specs.Stands.{IsReady, IsHome, nones_at};
@@ -69,8 +69,8 @@ fn drain_awake<R: Wait, D: Disk>(
     ensures at { IsHome shared.now m.new }
     ensures fault { TellsStep D.state result m.old m.new }
     ensures drains { Drains D.state m.old m.new result }
+    ensures index { IsIndex m.old.index.entries }
     ensures lowers { Lowers result m.old m.new }
-    ensures counted { CountsMoved result (look_of_manager m.old) (look_of_manager m.new) }
     ensures look { drained (look_of_manager m.new) ≡ drained (look_of_manager m.old) }
     ensures keeps { OnKept result (KeepsOn D.tells D.state m.old m.new Always) }
     ensures broke { OnFailed result (BreaksOff D.tells D.state m.old m.new Always) }

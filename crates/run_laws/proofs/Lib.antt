@@ -1,0 +1,4 @@
+pub mod Fronts
+pub mod ReadLines
+pub mod Cuts
+pub mod Joins
