@@ -1,15 +1,16 @@
 -- What is counted of a pass's own entries.
-use Rattle.std.proofs.Common.{◌≡◌, ◌≤◌, ◌+◌, ◌-◌, ◌^◌, ◌==◌, ℕ, Bool, true, false, cond, List, [], ◌∷◌, ◌++◌, length, drop, min, refl, sym, ap, subst, ◌∙◌, append_assoc, arith}
+use Rattle.std.proofs.Common.{◌≡◌, ◌+◌, ◌-◌, ◌^◌, ◌==◌, ℕ, Bool, true, false, cond, List, [], ◌∷◌, ◌++◌, length, drop, min, refl, sym, ap, subst, ◌∙◌, append_assoc, arith}
 use Rattle.std.specs.Prelude.{IsTrue}
 use Rattle.std.proofs.lemmas.Bool.{eq-eqb}
+use Rattle.std.proofs.Math.Nat.{zero-add}
 use Rattle.std.proofs.Math.Seq.{drop-append_seam, drop-length}
 use Rattle.std.proofs.lemmas.List.Elements.{filter-append}
 use Rattle.turn_lock.specs.Histories.{Entry, own, Begins}
 use Rattle.turn_lock.specs.LockIds.{LockId}
-use Rattle.turn_lock.specs.Passes.{pass_lock, pass_number, pass_seen, pass_mine, IsSamePass}
+use Rattle.turn_lock.specs.Passes.{pass_number, pass_seen, pass_mine, IsSamePass}
 use Rattle.wol_promise.specs.Code.{noted_of}
 use Rattle.wol_promise.specs.Policy.{Look}
-use Rattle.wol_promise.specs.Report.{reclaims, put_home_by, no_longer_due}
+use Rattle.wol_promise.specs.Report.{reclaims, put_home_by}
 use Rattle.wol_promise.specs.Ruled.{Noted, last_look}
 use Rattle.manager.specs.Stands.{notes_of}
 use Rattle.manager.specs.declared.base.ManagerBase.{ManagerBase}
@@ -111,7 +112,7 @@ entry_same l n t same = by (reclaims n.after_drain n.entry.operation) refl
 
 module _ (worth : Bool → Look → Look → ℕ) (pass : ℕ) where
   pub added_joined : (l : Look) (xs ys : List Noted) → added_up worth pass l (xs ++ ys) ≡ added_up worth pass l xs + added_up worth pass (last_look l xs) ys
-  added_joined l [] ys = refl
+  added_joined l [] ys = omega arith
   added_joined l (x ∷ xs) ys = let rest = added_joined x.look xs ys in omega (arith, rest)
 
   others_nothing : (l : Look) (es : List Entry) → own pass es ≡ [] → added_up worth pass l (notes_of es) ≡ 0
@@ -125,7 +126,7 @@ module _ (worth : Bool → Look → Look → ℕ) (pass : ℕ) where
       by rest true is = absurd (let no : e ∷ own pass es ≡ [] = sym (ap (λ (t : Bool). cond t (e ∷ own pass es) (own pass es)) is) ∙ none in cc)
       by rest false is =
           ap (λ (t : Bool). cond t (worth (reclaims n.after_drain n.entry.operation) l n.look) 0 + added_up worth pass n.look (notes_of es)) (ap (λ (k : ℕ). k == pass) (pass_kept e.0 e.1) ∙ is)
-          ∙ rest (sym (ap (λ (t : Bool). cond t (e ∷ own pass es) (own pass es)) is) ∙ none)
+          ∙ zero-add (added_up worth pass n.look (notes_of es)) ∙ rest (sym (ap (λ (t : Bool). cond t (e ∷ own pass es) (own pass es)) is) ∙ none)
 
   own_entry : (l : Look) (n : Noted) → n.entry.pass ≡ pass → added_up worth pass l (n ∷ []) ≡ worth (reclaims n.after_drain n.entry.operation) l n.look
   own_entry l n is = ap (λ (t : Bool). cond t (worth (reclaims n.after_drain n.entry.operation) l n.look) 0 + 0) (eq-eqb n.entry.pass pass is) ∙ omega arith
@@ -153,6 +154,7 @@ module _ {D : Type 0} (tells : Bool) (p q : ManagerPass D) (before : List Entry)
       ∙ ap (added_up worth (pass_number p) l) (notes_at t.begins.0 n.entry.pass n refl)
       ∙ added_joined worth (pass_number p) l (notes_of t.begins.0) (n ∷ [])
       ∙ ap (λ (k : ℕ). k + added_up worth (pass_number p) (last_look l (notes_of t.begins.0)) (n ∷ [])) (others_nothing worth (pass_number p) l t.begins.0 none_between)
+      ∙ zero-add (added_up worth (pass_number p) (last_look l (notes_of t.begins.0)) (n ∷ []))
       ∙ own_entry worth (pass_number p) (last_look l (notes_of t.begins.0)) n t.number
       ∙ ap (λ (k : Look). worth (reclaims n.after_drain n.entry.operation) k n.look) look_before
 
@@ -177,7 +179,7 @@ module _ {D : Type 0} (tells : Bool) (p q r : ManagerPass D) (more rest : List E
       let then : seen_since q r ≡ rest = ap (drop (length (pass_seen q))) b.seen ∙ drop-append_seam (pass_seen q) rest in
       let all : seen_since p r ≡ more ++ rest = ap (drop (length (pass_seen p))) (b.seen ∙ ap (λ (es : List Entry). es ++ rest) a.seen ∙ append_assoc (pass_seen p) more rest) ∙ drop-append_seam (pass_seen p) (more ++ rest) in
       let look : last_look (began q).look (notes_seen q) ≡ last_look l (notes_of more) = ap (λ (k : LockId ManagerBase). last_look k.base.volume.began.look (notes_seen q)) a.same.0
-          ∙ ap (last_look (began p).look) (ap notes_of a.seen ∙ notes_joined (pass_seen p) more) ∙ last_joined (began p).look (notes_seen p) (notes_of more) in
+      ∙ ap (last_look (began p).look) (ap notes_of a.seen ∙ notes_joined (pass_seen p) more) ∙ last_joined (began p).look (notes_seen p) (notes_of more) in
       ap (λ (es : List Entry). added_up worth (pass_number p) l (notes_of es)) all
       ∙ ap (added_up worth (pass_number p) l) (notes_joined more rest)
       ∙ added_joined worth (pass_number p) l (notes_of more) (notes_of rest)

@@ -42,7 +42,7 @@ module _ (pass : ℕ) where
   out_of None h = refl
   out_of (Some x) h = h
 
-  pass_kept : (code : List ℕ) → (noted_of pass code).entry.pass ≡ pass
+  pub pass_kept : (code : List ℕ) → (noted_of pass code).entry.pass ≡ pass
   unfolding noted_of
   pass_kept code = out_of (read_noted pass code)
       (after (read_operation code) _ (λ operation. after (read_look operation.1) _ (λ look. after (read_list read_number look.1) _ (λ passed. after (read_flag passed.1) _ (λ drain. mapped (read_flag drain.1) _ (λ r. refl))))))

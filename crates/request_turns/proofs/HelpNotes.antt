@@ -1,19 +1,17 @@
 -- The entry of a helper's turn.
-use Rattle.std.proofs.Common.{◌≡◌, ◌≢◌, ◌⊎◌, ◌<◌, ◌≤◌, ◌+◌, ◌==◌, inl, inr, ⊎_elim, ℕ, zero, suc, Bool, true, false, List, [], ◌∷◌, ◌++◌, length, get_or, set, Option, Some, Result, Ok, Err, refl, sym, ap, subst, ◌∙◌, arith}
-use Rattle.std.specs.Prelude.{IsSome, is_some, is_ok, IfErr}
-use Rattle.std.proofs.lemmas.List.{map-append, get_or-set_same, get_or-set_other}
-use Rattle.std.proofs.lemmas.Bool.Decides.{eqb_tells}
+use Rattle.std.proofs.Common.{◌≡◌, ℕ, zero, suc, Bool, false, List, [], ◌∷◌, ◌++◌, Option, Result, Ok, Err, refl, sym, ap, subst, ◌∙◌, arith}
+use Rattle.std.specs.Prelude.{IsSome, is_some}
+use Rattle.std.proofs.lemmas.List.{map-append}
 use Rattle.turn_lock.specs.Histories.{Entry, own, Begins}
 use Rattle.turn_lock.specs.LockIds.{LockId}
-use Rattle.turn_lock.specs.Passes.{pass_lock, pass_number, pass_seen, pass_mine, IsFree, IsSamePass}
+use Rattle.turn_lock.specs.Passes.{pass_lock, pass_number, pass_seen, pass_mine, IsSamePass}
 use Rattle.wol_disk.specs.Disk.{State}
-use Rattle.wol_model.specs.History.{helper, IsHelp}
+use Rattle.wol_model.specs.History.{helper}
 use Rattle.wol_promise.specs.Code.{noted_of}
 use Rattle.wol_promise.specs.Policy.{Look}
 use Rattle.wol_promise.specs.Report.{reclaims}
 use Rattle.wol_promise.specs.Ruled.{Noted, IsKeep}
 use Rattle.wol_promise.specs.Ruled as ruled
-use Rattle.wol_promise.proofs.Lists.{all_joined}
 use Rattle.manager.specs.Reclaim.{OnKept, OnFailed, KeepsOn, BreaksOff, TellsStep}
 use Rattle.manager.specs.Seen.{look_of_manager}
 use Rattle.manager.specs.Stands.{Stands, notes_of}
@@ -31,9 +29,9 @@ use Rattle.reclaimer.proofs.Later.{data_is_kept}
 use Rattle.request_turns.specs.Counts.{CountsMore, CountsEntry}
 use Rattle.request_turns.specs.Entries.{note_of, step_operation, has_failed}
 use Rattle.request_turns.specs.Helped.{HasHelped, AreKept}
-use Rattle.request_turns.specs.Turns.{ManagerPass, coded, notes_seen, IsBroken, HasLeft}
+use Rattle.request_turns.specs.Turns.{ManagerPass, coded, notes_seen, HasLeft}
 use Rattle.request_turns.specs.declared.tally.Tally.{Tally}
-use Rattle.request_turns.proofs.Counting.{entry_taken, entry_quiet, none_more}
+use Rattle.request_turns.proofs.Counting.{entry_taken, entry_quiet, entry_same, none_more}
 use Rattle.request_turns.proofs.Gaining.{gains_turn, kept_one}
 use Rattle.request_turns.proofs.Noting.{notes_at}
 use Rattle.request_turns.proofs.StepNotes.{step_stands, step_helps}
@@ -94,7 +92,7 @@ data_left tells f i q n left data_ = subst (λ (l : LockId ManagerBase). HasData
 
 -- ---- What is counted
 
-module _ {T : Type 0} (l m : Look) (pass : ℕ) where
+module _ (T : Type 0) (l m : Look) (pass : ℕ) where
   -- the entry of a step that was done
   pub done_counted : (x : T) (failed : Bool) (b r : ℕ) (t u : Tally) → failed ≡ has_failed {T = T} (Ok x) → TakesOff b r l m → CountsMore b r t u → CountsEntry l (note_of pass (step_operation failed) m [] false) t u
   done_counted x failed b r t u is taken more = entry_taken b r l (note_of pass (step_operation failed) m [] false) t u (ap (λ (f : Bool). reclaims false (step_operation f)) is) taken more
@@ -110,3 +108,7 @@ pub step_kept : {D T : Type 0} (tells : Bool) (p i q : ManagerPass D) (failed : 
 step_kept tells p i q failed l a x done is mine left =
     let n = note_of (pass_number i) (step_operation failed) l [] false in
     kept_one p q n (left.mine ∙ ap (λ (es : List Entry). es ++ coded n ∷ []) mine) (ap step_operation (is ∙ ap has_failed done))
+
+-- so it is for one that left the records as they were
+pub same_counted : (l m : Look) (pass : ℕ) (failed : Bool) (t : Tally) → m.listed ≡ l.listed → CountsEntry l (note_of pass (step_operation failed) m [] false) t t
+same_counted l m pass failed t same = entry_same l (note_of pass (step_operation failed) m [] false) t (λ _. same)

@@ -14,3 +14,4 @@ pub mod Flagged
 pub mod Gaining
 pub mod HelpNotes
 pub mod Counting
+pub mod CountLaws

@@ -19,7 +19,7 @@ use Rattle.reclaimer.specs.Steps.{LooksPut, LooksGone}
 use Rattle.reclaimer.specs.declared.answers.Gone.{Gone}
 use Rattle.reclaimer.specs.declared.answers.Gone.TheVariants as gone
 use Rattle.request_turns.specs.Closed.{GoesOn}
-use Rattle.request_turns.specs.Counts.{CountsMore, HasTaken}
+use Rattle.request_turns.specs.Counts.{CountsMore, HasTaken, gone_count}
 use Rattle.request_turns.specs.Entries.{note_of, step_operation, has_failed}
 use Rattle.request_turns.specs.declared.tally.Tally.{Tally}
 
@@ -77,12 +77,6 @@ module _ {D : Type 0} (tells : Bool) (state : D → State) (old mid new : Manage
 
 -- ---- What is counted
 
--- how many records are gone with this answer
-abbrev pub gone_count : Gone → ℕ
-gone_count (gone.Version v) = 1
-gone_count (gone.Trimmed v) = 0
-gone_count gone.Nothing = 0
-
 module _ {D : Type 0} where
   pub put_taken : (old mid new : Manager D) (k : ℕ) → look_of_manager mid ≡ look_of_manager old → CountsPut (Ok k) (look_of_manager mid) (look_of_manager new) → (t u : Tally) → CountsMore k 0 t u → HasTaken t u (look_of_manager old) (look_of_manager new)
   put_taken old mid new k same put t u more = record { blocks = k; records = 0; taken = subst (λ (l : Look). TakesOff k 0 l (look_of_manager new)) same put; counts = more }
@@ -92,7 +86,10 @@ module _ {D : Type 0} where
       → left (listed_in new.index.entries) < left (listed_in old.index.entries)
   put_lowers old mid new k same lowers some = subst (λ (l : Look). left (listed_in new.index.entries) < left l.listed) same (lowers some)
 
+pub gone_takes : (l m : Look) (g : Gone) → CountsGone (Ok g) l m → TakesOff 0 (gone_count g) l m
+gone_takes l m (gone.Version v) taken = taken
+gone_takes l m (gone.Trimmed v) taken = taken
+gone_takes l m gone.Nothing taken = taken
+
 pub gone_taken : (l m : Look) (g : Gone) (r : ℕ) → CountsGone (Ok g) l m → (t u : Tally) → CountsMore 0 r t u → r ≡ gone_count g → HasTaken t u l m
-gone_taken l m (gone.Version v) r taken t u more is = record { blocks = 0; records = 1; taken = taken; counts = subst (λ (k : ℕ). CountsMore 0 k t u) is more }
-gone_taken l m (gone.Trimmed v) r taken t u more is = record { blocks = 0; records = 0; taken = taken; counts = subst (λ (k : ℕ). CountsMore 0 k t u) is more }
-gone_taken l m gone.Nothing r taken t u more is = record { blocks = 0; records = 0; taken = taken; counts = subst (λ (k : ℕ). CountsMore 0 k t u) is more }
+gone_taken l m g r taken t u more is = record { blocks = 0; records = gone_count g; taken = gone_takes l m g taken; counts = subst (λ (k : ℕ). CountsMore 0 k t u) is more }

@@ -108,7 +108,8 @@ module _ {D : Type 0} (old new : Manager D) (first : ℕ) (blocks : List Block) 
   write_stays (Err NoMemory) look k is kept = inl (look ∙ sym is)
 
   write_counted : (a : Result Place WriteRefusal) → HasLook P w a l (look_of_manager new) → (k : Look) → k ≡ l → (t : Tally) → CountsEntry k (write_note a) t t
-  write_counted (Ok p) look k is t = entry_quiet k (write_note (Ok p)) t refl
+  write_counted (Ok place.Home) look k is t = entry_quiet k (write_note (Ok place.Home)) t refl
+  write_counted (Ok (place.Log logger)) look k is t = entry_quiet k (write_note (Ok (place.Log logger))) t refl
   write_counted (Err Full) look k is t = entry_same k (write_note (Err Full)) t (λ _. ap (λ (j : Look). j.listed) (look ∙ sym is))
   write_counted (Err (DiskFault p)) look k is t = entry_quiet k (write_note (Err (DiskFault p))) t refl
   write_counted (Err (Down p)) look k is t = entry_same k (write_note (Err (Down p))) t (λ _. ap (λ (j : Look). j.listed) (look ∙ sym is))

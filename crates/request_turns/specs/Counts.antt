@@ -7,6 +7,8 @@ use Rattle.wol_promise.specs.Report.{reclaims, put_home_by}
 use Rattle.wol_promise.specs.Ruled.{Noted, last_look}
 use Rattle.manager.specs.Stands.{notes_of}
 use Rattle.reclaimer.specs.Counts.{TakesOff}
+use Rattle.reclaimer.specs.declared.answers.Gone.{Gone}
+use Rattle.reclaimer.specs.declared.answers.Gone.TheVariants as gone
 use Rattle.request_turns.specs.Turns.{ManagerPass, began, notes_seen, IsHonest}
 use Rattle.request_turns.specs.declared.tally.Tally.{Tally}
 
@@ -17,7 +19,12 @@ abbrev pub dropped_by : Bool → (l m : Look) → ℕ
 dropped_by true l m = length l.listed - length m.listed
 dropped_by false l m = 0
 
--- what those entries after a look that are of this pass come to, each by the look before it and the look that it leaves
+-- the records dropped by the entries that follow a look
+abbrev pub records_dropped : Look → List Noted → ℕ
+records_dropped l [] = 0
+records_dropped l (n ∷ notes) = dropped_by (reclaims n.after_drain n.entry.operation) l n.look + records_dropped n.look notes
+
+-- what the entries after a look that are of this pass come to, each by the look before it and the look that it leaves
 abbrev pub added_up : (Bool → Look → Look → ℕ) → (pass : ℕ) → Look → List Noted → ℕ
 added_up worth pass l [] = 0
 added_up worth pass l (n ∷ notes) = cond (n.entry.pass == pass) (worth (reclaims n.after_drain n.entry.operation) l n.look) 0 + added_up worth pass n.look notes
@@ -50,6 +57,12 @@ pub record Counts (blocks records : ℕ) (t : Tally) : Type 0 where
 -- so many more were counted
 abbrev pub CountsMore : (blocks records : ℕ) → (t u : Tally) → Type 0
 CountsMore blocks records t u = (b r : ℕ) → Counts b r t → Counts (b + blocks) (r + records) u
+
+-- how many records are gone with this answer
+abbrev pub gone_count : Gone → ℕ
+gone_count (gone.Version version) = 1
+gone_count (gone.Trimmed version) = 0
+gone_count gone.Nothing = 0
 
 -- what steps of reclaim took off was counted
 pub record HasTaken (t u : Tally) (l m : Look) : Type 0 where

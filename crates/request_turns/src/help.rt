@@ -4,7 +4,7 @@ ghost use Rattle.turn_lock.specs.Passes.{pass_lock};
 ghost use Rattle.wol_model.specs.History.{helper};
 ghost use Rattle.manager.specs.Stands.{IsShared};
 ghost use Rattle.reclaimer.specs.Fetches.{HasData};
-ghost use Rattle.request_turns.specs.Counts.{HasCounted, ReclaimsNothing};
+ghost use Rattle.request_turns.specs.Counts.{CountsMore, HasCounted, ReclaimsNothing, gone_count};
 ghost use Rattle.request_turns.specs.Helped.{IsPassAt, HasHelped, AreKept};
 ghost use Rattle.request_turns.specs.Turns.{notes_seen, IsBroken};
 
@@ -73,6 +73,20 @@ pub fn put_turn<D: Disk, R: Wait>(
     }
 }
 
+// Counts a record that is gone. Tells whether something was given up.
+fn count_gone(gone: Gone, tally: &mut Tally) -> bool
+    ensures { CountsMore 0 (gone_count gone) tally.old tally.new }
+{
+    match gone {
+        Gone::Version(_) => {
+            tally.count(0, 1);
+            true
+        }
+        Gone::Trimmed(_) => true,
+        Gone::Nothing => false,
+    }
+}
+
 /// Gives up in one turn what may go of a record. Tells whether there was one.
 pub fn drop_turn<D: Disk, R: Wait>(
     rt: &R,
@@ -92,12 +106,7 @@ pub fn drop_turn<D: Disk, R: Wait>(
     let answer = invalidate_one(rt, &mut turn.value, shared);
     leave_step(lock, turn, pass, has_failed(&answer));
     match answer {
-        Ok(Gone::Version(_)) => {
-            tally.count(0, 1);
-            Ok(true)
-        }
-        Ok(Gone::Trimmed(_)) => Ok(true),
-        Ok(Gone::Nothing) => Ok(false),
+        Ok(gone) => Ok(count_gone(gone, tally)),
         Err(fault) => Err(fault),
     }
 }

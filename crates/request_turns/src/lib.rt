@@ -16,6 +16,7 @@ mod write;
 
 pub use begin::begin_volume;
 pub use help::{drop_turn, fetch_turn, put_turn};
+pub use noted::{Memo, leave_noted};
 pub use outcome::Outcome;
 pub use payload::Payload;
 pub use read::read_turn;

@@ -14,7 +14,7 @@ use turn_lock::{Pass, Turn, TurnLock};
 use wol_disk::Disk;
 
 /// What a proof remembers of a turn: an entry with its notes, and a next version.
-pub(crate) trait Memo {
+pub trait Memo {
     ghost note: { Noted };
 
     ghost next: { ℕ };
@@ -27,7 +27,7 @@ impl Memo for Brand {
 }
 
 /// Ends a turn with the entry that `N` names. The manager stands for it.
-pub(crate) fn leave_noted<D: Disk, N: Memo>(
+pub fn leave_noted<D: Disk, N: Memo>(
     lock: &TurnLock<Manager<D>>,
     turn: Turn<Manager<D>>,
     pass: &mut Pass<Manager<D>>,

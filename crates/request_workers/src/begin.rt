@@ -1,13 +1,13 @@
 // The beginning of a window: the spindles are told the moment, and the managers which disks are awake.
 ghost use Rattle.std.specs.Prelude.{◌≡◌, ◌≤◌, ◌<◌, [], ℕ, Bool, false, List, All, length, map, take, vec_len, vec_capacity, slice_index_or, OnOk, OnErr};
 ghost use Rattle.std.specs.List.{AllByRecursion};
-ghost use Rattle.turn_lock.specs.Passes.{pass_lock, IsPassOf, IsFree};
+ghost use Rattle.turn_lock.specs.Passes.{pass_lock, IsPassOf, IsFree, IsSamePass};
 ghost use Rattle.wol_model.specs.History.{keeper};
 ghost use Rattle.logger.specs.Lanes.{logger_of};
 ghost use Rattle.manager.specs.Stands.{IsShared};
 ghost use Rattle.manager.specs.declared.base.LaneBase.{LaneBase};
 ghost use Rattle.request_turns.specs.Begun.{HasBegunVolume};
-ghost use Rattle.request_workers.specs.Begun.{AreKeepers, HaveBegun, HaveBegunVolumes};
+ghost use Rattle.request_workers.specs.Begun.{SpindlePass, AreKeepers, HaveBegun, HaveBegunVolumes};
 ghost use Rattle.request_workers.specs.Floors.{IsFloor, IsOn};
 ghost use Rattle.request_turns.specs.Helped.{IsPassAt};
 ghost use Rattle.request_workers.specs.Helped.{ArePassesAt, AreSharing};
@@ -37,6 +37,7 @@ fn begin_spindles<R: Wait>(
     requires room { length keepers.old ≤ vec_capacity awake.old }
     ensures own { (k : ℕ) (l : _) (d : _) → k < length keepers.new → IsPassOf (slice_index_or spindles.now k l) (slice_index_or keepers.new k d) }
     ensures free { (k : ℕ) (d : _) → k < length keepers.new → IsFree (slice_index_or keepers.new k d) }
+    ensures same { (k : ℕ) (d : _) → k < length keepers.old → IsSamePass (slice_index_or keepers.old k d) (slice_index_or keepers.new k d) }
     ensures begun { OnOk result (HaveBegun t awake.new.items keepers.old keepers.new) }
     ensures len { OnOk result (length awake.new.items ≡ length keepers.old) }
 {
@@ -82,6 +83,7 @@ pub fn begin_window<D: Disk, R: Wait>(
     requires keepers { AreKeepers shared.now keepers.old }
     ensures floor { IsFloor floor.new }
     ensures keepers { AreKeepers shared.now keepers.new }
+    ensures same { (k : ℕ) (d : SpindlePass) → k < length keepers.old → IsSamePass (slice_index_or keepers.old k d) (slice_index_or keepers.new k d) }
     ensures begun { OnOk result ((awake : List Bool) × HaveBegun t awake keepers.old keepers.new × HaveBegunVolumes D.tells awake floor.old.keepers.items floor.new.keepers.items) }
     ensures unchanged { floor.new ≡ record floor.old { keepers = floor.new.keepers } }
     ensures refused { OnErr result (floor.new ≡ floor.old) }

@@ -1,9 +1,10 @@
-use Rattle.std.proofs.Common.{refl, sym, ap, subst, ◌∙◌, ℕ, Result, Ok, Err}
+use Rattle.std.proofs.Common.{[], false, refl, ap, subst, ◌∙◌, ℕ, Result}
 use Rattle.reclaimer.specs.Fetches.{HasData}
 use Rattle.manager.specs.Seen.{look_of_manager}
 use Rattle.manager.specs.declared.part.StepFault.{StepFault}
 use Rattle.reclaimer.specs.Counts.{CountsPut}
-use Rattle.request_turns.specs.Entries.{has_failed}
+use Rattle.turn_lock.specs.Passes.{pass_number}
+use Rattle.request_turns.specs.Entries.{note_of, step_operation, has_failed}
 use Rattle.request_turns.proofs.Counting.{counted_turn}
 use Rattle.request_turns.proofs.HelpNotes.{put_keep, help_stands, has_helped, step_kept, data_in, down_at, done_counted, refused_counted}
 use Rattle.request_turns.proofs.Taking.{home_at}
@@ -27,14 +28,14 @@ pub returns-in-Err-clause-cause : goal.returns-in-Err-clause-cause
 returns-in-Err-clause-cause g c = c.leave_step.ensures.broken (down_at g.D.Disk.state c.enter-turn.result.value c.put_home-answer.new.m c.put_home-answer.result c.in-Err.fault c.in-Err.is c.put_home-answer.ensures.fault)
 
 pub returns-in-Ok-clause-counted : goal.returns-in-Ok-clause-counted
-returns-in-Ok-clause-counted g c = let e = c.enter-turn.ensures in let l = look_of_manager c.enter-turn.result.value in let m = look_of_manager c.put_home-answer.new.m in
-    counted_turn _ _ c.enter-turn.new.pass _ _ l _ _ e.same e.seen e.mine e.own c.leave_step.ensures.left refl e.value.look
-    (done_counted l m _ c.in-Ok.blocks _ c.in-Ok.blocks 0 _ _ (c.has_failed.ensures ∙ ap has_failed c.in-Ok.is) (subst (λ (a : Result ℕ StepFault). CountsPut a l m) c.in-Ok.is c.put_home-answer.ensures.counted) c.count.ensures)
+returns-in-Ok-clause-counted g c = let e = c.enter-turn.ensures in let i = c.enter-turn.new.pass in let l = look_of_manager c.enter-turn.result.value in let m = look_of_manager c.put_home-answer.new.m in
+    counted_turn _ _ i _ (note_of (pass_number i) (step_operation c.has_failed.result) m [] false) l c.args.tally.now c.count.new.self e.same e.seen e.mine e.own c.leave_step.ensures.left refl e.value.look
+    (done_counted ℕ l m (pass_number i) c.in-Ok.blocks c.has_failed.result c.in-Ok.blocks 0 c.args.tally.now c.count.new.self (c.has_failed.ensures ∙ ap has_failed c.in-Ok.is) (subst (λ (a : Result ℕ StepFault). CountsPut a l m) c.in-Ok.is c.put_home-answer.ensures.counted) c.count.ensures)
 
 pub returns-in-Err-clause-counted : goal.returns-in-Err-clause-counted
-returns-in-Err-clause-counted g c = let e = c.enter-turn.ensures in let l = look_of_manager c.enter-turn.result.value in let m = look_of_manager c.put_home-answer.new.m in
-    counted_turn _ _ c.enter-turn.new.pass _ _ l _ _ e.same e.seen e.mine e.own c.leave_step.ensures.left refl e.value.look
-    (refused_counted {T = ℕ} l m _ c.in-Err.fault _ _ (c.has_failed.ensures ∙ ap has_failed c.in-Err.is) (subst (λ (a : Result ℕ StepFault). CountsPut a l m) c.in-Err.is c.put_home-answer.ensures.counted))
+returns-in-Err-clause-counted g c = let e = c.enter-turn.ensures in let i = c.enter-turn.new.pass in let l = look_of_manager c.enter-turn.result.value in let m = look_of_manager c.put_home-answer.new.m in
+    counted_turn _ _ i _ (note_of (pass_number i) (step_operation c.has_failed.result) m [] false) l c.args.tally.now c.args.tally.now e.same e.seen e.mine e.own c.leave_step.ensures.left refl e.value.look
+    (refused_counted ℕ l m (pass_number i) c.in-Err.fault c.has_failed.result c.args.tally.now (c.has_failed.ensures ∙ ap has_failed c.in-Err.is) (subst (λ (a : Result ℕ StepFault). CountsPut a l m) c.in-Err.is c.put_home-answer.ensures.counted))
 
 pub returns-in-Ok-clause-kept : goal.returns-in-Ok-clause-kept
 returns-in-Ok-clause-kept g c = step_kept _ _ c.enter-turn.new.pass _ _ _ c.put_home-answer.result _ c.in-Ok.is c.has_failed.ensures c.enter-turn.ensures.mine c.leave_step.ensures.left

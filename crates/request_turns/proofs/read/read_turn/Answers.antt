@@ -1,4 +1,10 @@
-use Rattle.std.proofs.Common.{refl, rules, ◌≡◌, ◌∙◌, sym, length}
+use Rattle.std.proofs.Common.{[], false, refl, rules, ◌≡◌, ◌∙◌, sym, length}
+use Rattle.turn_lock.specs.Passes.{pass_number}
+use Rattle.wol_promise.specs.Ruled.{last_look}
+use Rattle.manager.specs.Answers.{was_read}
+use Rattle.manager.specs.Seen.{look_of_manager}
+use Rattle.request_turns.specs.Entries.{note_of}
+use Rattle.request_turns.specs.Turns.{began, notes_seen}
 use Rattle.request_turns.proofs.Counting.{counted_turn}
 use Rattle.request_turns.proofs.Payloads.{kept_length}
 use Rattle.request_turns.proofs.Taking.{home_at}
@@ -24,6 +30,7 @@ pub invariant_of-payload : goal.invariant_of-payload
 invariant_of-payload g c = kept_length c.payload.inside.blocks _ 128 c.payload.invariant
 
 pub returns-clause-counted : goal.returns-clause-counted
-returns-clause-counted g c = λ t. let e = c.enter-turn.ensures in let r = c.read-answer.ensures in
-    counted_turn _ _ c.enter-turn.new.pass _ _ _ t t e.same e.seen e.mine e.own c.leave_read.ensures.left refl refl
-    (read_counted c.enter-turn.result.value c.read-answer.new.self c.args.request.now.lbn c.read-answer.new.out c.read-answer.result _ _ e.value.look _ c.read-answer.auto.out r.look r.down (λ h. (r.unchanged h).0) t)
+returns-clause-counted g c t = let e = c.enter-turn.ensures in let r = c.read-answer.ensures in let i = c.enter-turn.new.pass in
+    let old = c.enter-turn.result.value in let new = c.read-answer.new.self in let first = c.args.request.now.lbn in let out = c.read-answer.new.out in let l = last_look (began i).look (notes_seen i) in
+    counted_turn _ _ i _ (note_of (pass_number i) (was_read first out c.read-answer.result) (look_of_manager new) [] false) l t t e.same e.seen e.mine e.own c.leave_read.ensures.left refl refl
+    (read_counted old new first out c.read-answer.result l (pass_number i) e.value.look _ c.read-answer.auto.out r.look r.down (λ h. (r.unchanged h).0) t)

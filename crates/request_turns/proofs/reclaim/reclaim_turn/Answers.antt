@@ -1,4 +1,5 @@
 use Rattle.std.proofs.Common.{refl, ◌∙◌}
+use Rattle.turn_lock.specs.Passes.{pass_number}
 use Rattle.manager.specs.Seen.{look_of_manager}
 use Rattle.request_turns.proofs.ClosedTurn.{closed_stands, has_closed, closed_counted}
 use Rattle.request_turns.proofs.Counting.{counted_turn}
@@ -19,4 +20,4 @@ returns-clause-closed g c = let e = c.enter-turn.ensures in let r = c.reclaim_al
 pub returns-clause-counted : goal.returns-clause-counted
 returns-clause-counted g c = let e = c.enter-turn.ensures in let r = c.reclaim_all-answer.ensures in let a = c.add_unless.ensures in
     counted_turn _ _ c.enter-turn.new.pass _ _ (look_of_manager c.enter-turn.result.value) _ _ e.same e.seen e.mine e.own c.leave_step.ensures.left refl e.value.look
-    (closed_counted g.D.Disk.tells g.D.Disk.state c.enter-turn.result.value c.reclaim_all-answer.new.m c.reclaim_all-answer.result c.reclaim_all-answer.result (look_of_manager c.enter-turn.result.value) _ _ _ _ _ _ c.has_failed-failed.ensures c.new-done.ensures r.taken a.done a.failed)
+    (closed_counted g.D.Disk.tells g.D.Disk.state c.enter-turn.result.value c.reclaim_all-answer.new.m c.reclaim_all-answer.result c.reclaim_all-answer.result (look_of_manager c.enter-turn.result.value) (pass_number c.enter-turn.new.pass) _ _ _ _ _ c.has_failed-failed.ensures c.new-done.ensures r.taken a.done a.failed)
