@@ -1,8 +1,7 @@
 -- What a window counts, from desk to desk.
-use Rattle.std.proofs.Common.{◌≡◌, ◌≢◌, ◌<◌, ◌≤◌, ◌+◌, ◌-◌, ◌^◌, ℕ, zero, suc, Bool, List, [], ◌∷◌, map, length, get_or, set, min, Option, refl, sym, ap, subst, ◌∙◌, arith}
+use Rattle.std.proofs.Common.{◌≡◌, ◌<◌, ◌≤◌, ◌+◌, ◌-◌, ◌^◌, ℕ, zero, suc, Bool, List, [], ◌∷◌, map, length, get_or, set, min, Option, refl, sym, ap, subst, ◌∙◌, arith}
 use Rattle.std.specs.Prelude.{sum_by}
-use Rattle.std.proofs.lemmas.List.Sums.{sum_by-append}
-use Rattle.turn_lock.specs.Passes.{IsFree}
+use Rattle.std.proofs.lemmas.List.Sums.{sum_by-cons}
 use Rattle.wol_promise.specs.Policy.{Look}
 use Rattle.wol_promise.specs.Report.{put_home_by}
 use Rattle.wol_promise.specs.Ruled.{Noted}
@@ -37,7 +36,7 @@ helped_counted tells p q r t u v a b first then = counted_both tells p q r a.mor
 
 -- counted from nothing on
 pub from_none : {D : Type 0} (tells : Bool) (p q : ManagerPass D) (t u : Tally) → Counts 0 0 t → HasCounted tells t u p q → IsHonest tells p → Counts (blocks_between p q) (records_between p q) u
-from_none tells p q t u zero more honest = counts_is (0 + blocks_between p q) (blocks_between p q) (0 + records_between p q) (records_between p q) u (omega arith) (omega arith) (more honest 0 0 zero)
+from_none tells p q t u none more honest = counts_is (0 + blocks_between p q) (blocks_between p q) (0 + records_between p q) (records_between p q) u (omega arith) (omega arith) (more honest 0 0 none)
 
 -- ---- Passes of all volumes
 
@@ -78,7 +77,7 @@ module _ {D : Type 0} (worth : Bool → Look → Look → ℕ) where
 
 module _ {D : Type 0} (tells : Bool) where
   pub have_none : (ps : List (ManagerPass D)) (t : Tally) → HaveCounted tells t t ps ps
-  have_none ps t honest = more_is 0 _ 0 _ t t (sym (none_between put_home_by ps)) (sym (none_between dropped_by ps)) (none_more t)
+  have_none ps t = record { more = λ honest. more_is 0 _ 0 _ t t (sym (none_between put_home_by ps)) (sym (none_between dropped_by ps)) (none_more t) }
 
   honest_helped : (ps qs : List (ManagerPass D)) → length qs ≡ length ps → AreHelped tells ps qs → AreHonest tells ps → AreHonest tells qs
   honest_helped ps qs e g h k d i = let j = subst (λ (n : ℕ). k < n) e i in (g k d j).gains.honest (h k d j)
@@ -86,17 +85,19 @@ module _ {D : Type 0} (tells : Bool) where
   -- rounds, one after another
   pub have_both : (ps qs rs : List (ManagerPass D)) (t u v : Tally) → length qs ≡ length ps → length rs ≡ length ps → AreHelped tells ps qs → AreHelped tells qs rs
       → HaveCounted tells t u ps qs → HaveCounted tells u v qs rs → HaveCounted tells t v ps rs
-  have_both ps qs rs t u v e f g h a b honest =
-      more_is _ _ _ _ t v (sym (between_all put_home_by tells ps qs rs e f g h)) (sym (between_all dropped_by tells ps qs rs e f g h)) (more_both _ _ _ _ t u v (a honest) (b (honest_helped ps qs e g honest)))
+  have_both ps qs rs t u v e f g h a b = record {
+    more = λ honest. more_is _ _ _ _ t v (sym (between_all put_home_by tells ps qs rs e f g h)) (sym (between_all dropped_by tells ps qs rs e f g h)) (more_both _ _ _ _ t u v (a.more honest) (b.more (honest_helped ps qs e g honest)));
+  }
 
   -- one volume more in a round
   pub have_set : (is ps : List (ManagerPass D)) (k : ℕ) (p q : ManagerPass D) (t u v : Tally) → length ps ≡ length is → k < length ps → p ≡ get_or ps k p
       → ((j : ℕ) (d : ManagerPass D) → k ≤ j → get_or ps j d ≡ get_or is j d) → HaveCounted tells t u is ps → HasCounted tells u v p q → HaveCounted tells t v is (set ps k q)
-  have_set is ps k p q t u v e within at rest a b honest =
+  have_set is ps k p q t u v e within at rest a b =
       let was : get_or is k p ≡ p = sym (rest k p (omega arith)) ∙ sym at in
-      let i : k < length is = subst (λ (n : ℕ). k < n) e within in
-      more_is _ _ _ _ t v (sym (set_between put_home_by is ps k p q e within (sym at) was)) (sym (set_between dropped_by is ps k p q e within (sym at) was))
-      (more_both _ _ _ _ t u v (a honest) (b (subst (IsHonest tells) was (honest k p i))))
+      let i : k < length is = subst (λ (n : ℕ). k < n) e within in record {
+        more = λ honest. more_is _ _ _ _ t v (sym (set_between put_home_by is ps k p q e within (sym at) was)) (sym (set_between dropped_by is ps k p q e within (sym at) was))
+            (more_both _ _ _ _ t u v (a.more honest) (b (subst (IsHonest tells) was (honest k p i))));
+      }
 
 -- ---- The window
 
@@ -113,11 +114,8 @@ alike_one top x b is a = omega (arith, is)
 pub more_alike : (b c r s : ℕ) (t u : Tally) → EndAlike (2 ^ 64 - 1) b c → EndAlike (2 ^ 64 - 1) r s → CountsMore b r t u → CountsMore c s t u
 more_alike b c r s t u f g more x y h = let m = more x y h in record { blocks_ = m.blocks_ ∙ f x; records_ = m.records_ ∙ g y }
 
-sum_cons : {X : Type 0} (f : X → ℕ) (x : X) (xs : List X) → sum_by f (x ∷ xs) ≡ f x + sum_by f xs
-sum_cons f x xs = sum_by-append f (x ∷ []) xs
-
 alike_sum : {X : Type 0} (top : ℕ) (f : X → ℕ) (x : X) (xs : List X) (b y : ℕ) → f x ≡ min b top → EndAlike top (sum_by f xs) y → EndAlike top (sum_by f (x ∷ xs)) (b + y)
-alike_sum top f x xs b y is rest = subst (λ (n : ℕ). EndAlike top n (b + y)) (sym (sum_cons f x xs)) (alike_both top (f x) b (sum_by f xs) y (alike_one top (f x) b is) rest)
+alike_sum top f x xs b y is rest = subst (λ (n : ℕ). EndAlike top n (b + y)) (sym (sum_by-cons f x xs)) (alike_both top (f x) b (sum_by f xs) y (alike_one top (f x) b is) rest)
 
 module _ {D : Type 0} (tells : Bool) where
   desks_alike : (ds es : List (Desk D)) → length es ≡ length ds
@@ -141,8 +139,8 @@ module _ {D : Type 0} (tells : Bool) where
       → AreHonest tells (map (λ (d : Desk D). d.worker) ds) → AreHonest tells ps
       → Counts (all_between put_home_by (map (λ (d : Desk D). d.worker) ds) (map (λ (d : Desk D). d.worker) es) + all_between put_home_by ps qs)
       (all_between dropped_by (map (λ (d : Desk D). d.worker) ds) (map (λ (d : Desk D). d.worker) es) + all_between dropped_by ps qs) w
-  window_counts ds es ps qs t u w same counts zero helped more honest helps =
+  window_counts ds es ps qs t u w same counts none helped more honest helps =
       let alike = desks_alike ds es same counts honest in
-      let first = helped helps 0 0 zero in
+      let first = helped.more helps 0 0 none in
       let all = more_alike _ _ _ _ u w alike.0 alike.1 more (0 + all_between put_home_by ps qs) (0 + all_between dropped_by ps qs) first in
       counts_is _ _ _ _ w (omega arith) (omega arith) all

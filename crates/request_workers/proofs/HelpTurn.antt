@@ -1,39 +1,18 @@
 -- A helper's turns.
 use Rattle.std.proofs.Common.{◌≡◌, ◌≢◌, ◌⊎◌, ◌<◌, ◌≤◌, ◌+◌, ◌==◌, inl, inr, ⊎_elim, ℕ, zero, suc, Bool, true, false, List, [], ◌∷◌, ◌++◌, length, get_or, set, Option, None, Some, Result, Ok, Err, refl, sym, ap, subst, ◌∙◌, arith}
-use Rattle.std.specs.Prelude.{IsSome, is_some, is_ok, OnOk, IfErr}
-use Rattle.std.proofs.lemmas.List.{map-append, get_or-set_same, get_or-set_other}
+use Rattle.std.specs.Prelude.{is_ok, OnOk, IfErr}
+use Rattle.std.proofs.lemmas.List.{get_or-set_same, get_or-set_other}
 use Rattle.std.proofs.lemmas.Bool.Decides.{eqb_tells}
-use Rattle.turn_lock.specs.Histories.{Entry, own, Begins}
-use Rattle.turn_lock.specs.LockIds.{LockId}
-use Rattle.turn_lock.specs.Passes.{pass_lock, pass_number, pass_seen, pass_mine, IsFree, IsSamePass}
-use Rattle.wol_disk.specs.Disk.{State}
-use Rattle.wol_model.specs.History.{helper, IsHelp}
-use Rattle.wol_promise.specs.Code.{noted_of}
-use Rattle.wol_promise.specs.Policy.{Look}
-use Rattle.wol_promise.specs.Ruled.{Noted, IsKeep}
-use Rattle.wol_promise.specs.Ruled as ruled
+use Rattle.turn_lock.specs.Passes.{IsFree}
+use Rattle.wol_model.specs.History.{IsHelp}
+use Rattle.wol_promise.specs.Ruled.{Noted}
 use Rattle.wol_promise.proofs.Lists.{all_joined}
-use Rattle.manager.specs.Reclaim.{OnKept, OnFailed, KeepsOn, BreaksOff, TellsStep}
-use Rattle.manager.specs.Seen.{look_of_manager}
-use Rattle.manager.specs.Stands.{Stands, notes_of}
-use Rattle.manager.specs.declared.base.ManagerBase.{ManagerBase}
-use Rattle.manager.specs.declared.manager.Manager.{Manager}
+use Rattle.manager.specs.Stands.{notes_of}
 use Rattle.manager.specs.declared.part.StepFault.{StepFault}
-use Rattle.manager.specs.declared.part.StepFault.TheVariants as fault
-use Rattle.reclaimer.specs.Fetches.{HasData}
-use Rattle.reclaimer.specs.Records.{FetchedRecord}
-use Rattle.reclaimer.specs.Steps.{LooksPut, LooksGone}
-use Rattle.reclaimer.specs.declared.answers.Gone.{Gone}
-use Rattle.reclaimer.specs.declared.answers.Gone.TheVariants as gone
-use Rattle.reclaimer.proofs.Later.{data_is_kept}
-use Rattle.request_turns.specs.Entries.{note_of, step_operation, has_failed}
 use Rattle.request_turns.specs.Helped.{ManagerLock, HasHelped, AreKept}
 use Rattle.request_workers.specs.Helped.{ArePassesAt, AreHelped, IsCause, AreAllKept}
-use Rattle.request_turns.specs.Turns.{ManagerPass, notes_seen, IsBroken, HasLeft}
-use Rattle.request_turns.proofs.Gaining.{gains_none, gains_turn, gains_both, seen_more, broken_more, kept_none, kept_both}
-use Rattle.request_turns.proofs.Noting.{notes_at}
-use Rattle.request_turns.proofs.StepNotes.{step_stands, step_helps}
-use Rattle.request_turns.proofs.Turning.{turned}
+use Rattle.request_turns.specs.Turns.{ManagerPass, notes_seen, IsBroken}
+use Rattle.request_turns.proofs.Gaining.{gains_none, gains_both, seen_more, broken_more, kept_none, kept_both}
 
 -- ---- One after another
 

@@ -1,7 +1,6 @@
 -- What the beginning of a window makes of the keepers' passes.
-use Rattle.std.specs.Prelude.{◌≡◌, ◌<◌, ◌∷◌, ◌++◌, ℕ, Bool, false, List, [], map, length, slice_index_or}
-use Rattle.turn_lock.specs.Histories.{Entry, Begins}
-use Rattle.turn_lock.specs.Passes.{lock_id, pass_lock, pass_number, pass_seen, pass_mine, IsPassOf, IsFree, IsSamePass}
+use Rattle.std.specs.Prelude.{◌≡◌, ◌<◌, ◌∷◌, ◌++◌, ℕ, Bool, List, [], length, slice_index_or}
+use Rattle.turn_lock.specs.Passes.{pass_lock, pass_number, pass_seen, pass_mine, IsPassOf, IsFree, IsSamePass}
 use Rattle.turn_lock.specs.declared.pass.PassOf.{PassOf}
 use Rattle.spin_model.specs.Operations.{operation_of}
 use Rattle.spin_model.specs.Spindles.{state_after}
@@ -9,10 +8,8 @@ use Rattle.spin_model.specs.declared.spindle.Spindle.{Spindle}
 use Rattle.spin_model.specs.declared.spindle.SpindleBase.{SpindleBase}
 use Rattle.wol_model.specs.Journal.{Began}
 use Rattle.logger.specs.declared.shared.Shared.{Shared}
-use Rattle.wol_promise.specs.Report.{IsBegun}
-use Rattle.wol_promise.specs.Ruled.{Noted}
 use Rattle.request_turns.specs.Begun.{HasBegunVolume}
-use Rattle.request_turns.specs.Turns.{ManagerPass, began, HasTurned}
+use Rattle.request_turns.specs.Turns.{ManagerPass}
 
 -- a pass of a spindle's lock
 abbrev pub SpindlePass : Type 0

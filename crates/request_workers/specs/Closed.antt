@@ -1,13 +1,9 @@
 -- What the reclaim turn of a volume makes of its worker's pass.
-use Rattle.std.specs.Prelude.{◌≡◌, ◌<◌, ℕ, Bool, List, Option, None, Some, length, slice_index_or}
-use Rattle.turn_lock.specs.Histories.{Entry}
-use Rattle.wol_model.specs.History.{IsHelp}
-use Rattle.wol_promise.specs.Policy.{Look, AreReclaims, IsIdleLook}
-use Rattle.wol_promise.specs.Ruled.{Noted}
+use Rattle.std.specs.Prelude.{◌≡◌, ◌<◌, ℕ, Bool, List, Option, None, length, slice_index_or}
 use Rattle.manager.specs.declared.part.StepFault.{StepFault}
 use Rattle.request_turns.specs.Closed.{HasClosed}
 use Rattle.request_turns.specs.Counts.{HasCounted}
-use Rattle.request_turns.specs.Turns.{ManagerPass, notes_seen, IsBroken, HasTurned}
+use Rattle.request_turns.specs.Turns.{ManagerPass}
 use Rattle.request_workers.specs.declared.desk.Desk.{Desk}
 use Rattle.request_workers.specs.declared.request.Reclaim.{Reclaim}
 use Rattle.request_workers.specs.declared.request.Reclaim.TheVariants as reclaim

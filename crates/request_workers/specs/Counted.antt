@@ -15,6 +15,6 @@ all_between worth (p ∷ ps) (q ∷ qs) = added_between worth p q + all_between 
 abbrev pub AreHonest : {D : Type 0} → (tells : Bool) → List (ManagerPass D) → Type 0
 AreHonest {D} tells ps = (k : ℕ) (d : ManagerPass D) → k < length ps → IsHonest tells (slice_index_or ps k d)
 
--- what they put home and dropped was counted
-abbrev pub HaveCounted : {D : Type 0} → (tells : Bool) → (t u : Tally) → (ps qs : List (ManagerPass D)) → Type 0
-HaveCounted tells t u ps qs = AreHonest tells ps → CountsMore (all_between put_home_by ps qs) (all_between dropped_by ps qs) t u
+-- what they put home and dropped was counted, where they were honest
+pub record HaveCounted {D : Type 0} (tells : Bool) (t u : Tally) (ps qs : List (ManagerPass D)) : Type 0 where
+  pub more : AreHonest tells ps → CountsMore (all_between put_home_by ps qs) (all_between dropped_by ps qs) t u

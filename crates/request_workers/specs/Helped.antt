@@ -1,16 +1,11 @@
 -- What a helper beside the workers makes of its passes.
 use Rattle.std.specs.Prelude.{◌≡◌, ◌<◌, ℕ, Bool, List, Option, None, Some, length, slice_index_or}
-use Rattle.turn_lock.specs.Histories.{Entry}
-use Rattle.turn_lock.specs.Passes.{pass_lock, pass_number, IsPassOf, IsFree}
-use Rattle.turn_lock.specs.declared.lock.TurnLock.{TurnLock}
-use Rattle.wol_promise.specs.Ruled.{Noted}
+use Rattle.turn_lock.specs.Passes.{pass_lock}
 use Rattle.logger.specs.declared.shared.Shared.{Shared}
 use Rattle.manager.specs.Stands.{IsShared}
-use Rattle.manager.specs.declared.base.ManagerBase.{ManagerBase}
-use Rattle.manager.specs.declared.manager.Manager.{Manager}
 use Rattle.manager.specs.declared.part.StepFault.{StepFault}
 use Rattle.request_turns.specs.Helped.{AreKept, ManagerLock, IsPassAt, HasHelped}
-use Rattle.request_turns.specs.Turns.{ManagerPass, notes_seen, IsBroken, Gains, AreHelp}
+use Rattle.request_turns.specs.Turns.{ManagerPass, notes_seen, IsBroken}
 
 -- the passes of the locks, in order
 abbrev pub ArePassesAt : {D : Type 0} → List (ManagerLock D) → (number : ℕ) → List (ManagerPass D) → Type 0

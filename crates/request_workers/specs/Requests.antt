@@ -1,11 +1,8 @@
 -- Requests and outcomes, and what the model calls them.
-use Rattle.std.specs.Prelude.{⊤, ◌≡◌, ◌<◌, ◌≤◌, ◌+◌, ◌==◌, ◌∷◌, ℕ, Bool, true, false, List, [], cond, filter, All, length, slice_index_or}
-use Rattle.wol_model.specs.Trace as trace
+use Rattle.std.specs.Prelude.{⊤, ◌≡◌, ◌<◌, ◌==◌, ◌∷◌, ℕ, Bool, true, false, List, [], cond, filter, All, length, slice_index_or}
 use Rattle.wol_promise.specs.Outcomes as outcomes
 use Rattle.wol_promise.specs.Outcomes.{WasRead, WasWritten, Unanswered, Answered, is_answered}
 use Rattle.manager.specs.declared.base.ManagerBase.{ManagerBase}
-use Rattle.manager.specs.declared.part.Place.{Place}
-use Rattle.manager.specs.declared.part.Place.TheVariants as place
 use Rattle.request_turns.specs.Requests.{IsWithin}
 use Rattle.request_turns.specs.Entries.{is_log}
 use Rattle.trace_windows.specs.Requests.{asked}

@@ -2,13 +2,11 @@
 use Rattle.std.specs.Prelude.{◌≡◌, ◌∷◌, ◌++◌, Bool, true, List, [], vec_capacity}
 use Rattle.std.specs.List.{AllByRecursion}
 use Rattle.turn_lock.specs.Histories.{Entry}
-use Rattle.wol_model.specs.History.{Kept}
-use Rattle.wol_promise.specs.Ruled.{Noted, last_look}
-use Rattle.manager.specs.Stands.{notes_of}
+use Rattle.wol_promise.specs.Ruled.{Noted}
 use Rattle.request_workers.specs.Requests.{was_answered, was_run, both, going_after, StopsAtRefusal, own_requests}
 use Rattle.request_turns.specs.Counts.{HasCounted}
-use Rattle.request_turns.specs.Turns.{ManagerPass, began, notes_seen, IsHonest, HasTurned, Gains, Stays, LooksStay}
-use Rattle.request_turns.specs.Entries.{IsEntryOf, AreEntriesOf, AreMade, TellsFault}
+use Rattle.request_turns.specs.Turns.{began, notes_seen, IsHonest, Gains, LooksStay}
+use Rattle.request_turns.specs.Entries.{AreEntriesOf, AreMade, TellsFault}
 use Rattle.request_workers.specs.declared.desk.Desk.{Desk}
 use Rattle.trace_windows.specs.declared.request.Request.{Request}
 use Rattle.request_turns.specs.declared.outcome.Outcome.{Outcome}
