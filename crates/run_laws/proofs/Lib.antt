@@ -2,3 +2,4 @@ pub mod Fronts
 pub mod ReadLines
 pub mod Cuts
 pub mod Joins
+pub mod Accounts

@@ -1,5 +1,6 @@
 // The laws of runs.
 ghost use Rattle.run_laws.specs.Laws.{CutsArePlain, FirstsJoin, LinesArePlain, OthersAnswerNothing, OutcomesJoin};
+ghost use Rattle.run_laws.specs.Journals.{AccountCovers, NoAccount};
 
 /// Where the answered requests of each volume are its first ones, and are what its one legal history read and wrote: the lines of
 /// the answered reads, with the marks that were told, are those that plain arrays give; and what a crash may leave of the volume is
@@ -11,4 +12,10 @@ pub fn run_laws()
     ensures others { OthersAnswerNothing }
     ensures outcomes { OutcomesJoin }
     ensures firsts { FirstsJoin }
+{}
+
+/// A spindle's journal covers the time of the account.
+pub fn account_laws()
+    ensures covers { AccountCovers }
+    ensures none { NoAccount }
 {}

@@ -4,4 +4,4 @@
 
 mod laws;
 
-pub use laws::run_laws;
+pub use laws::{account_laws, run_laws};
