@@ -7,7 +7,7 @@ use Rattle.wol_config.specs.Configs.{IsDocument, IsRefusal}
 use Rattle.wol_config.specs.Documents.{document_fault}
 use Rattle.wol_config.specs.declared.config.ConfigFault.{ConfigFault}
 use Rattle.wol_config.specs.declared.config.ConfigFault.TheVariants as refused
-use Rattle.wol.specs.declared.command.Generated.{Generated}
+use Rattle.command_words.specs.declared.command.Generated.{Generated}
 use Rattle.wol.specs.Formatting.{RunsFormat}
 use Rattle.wol.specs.Generating.{RunsGen}
 use Rattle.wol.specs.Settings.{HasNoConfig, IsConfigured, IsRefusedFor}

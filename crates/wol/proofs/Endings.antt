@@ -1,6 +1,5 @@
 -- What is told at the end of a run.
-use Rattle.std.proofs.Common.{◌≡◌, inl, inr, ℕ, List, [], ◌∷◌, Option, Ok, Err, refl, sym, ◌∙◌, append-nil, arith}
-use Rattle.std.proofs.lemmas.Fmt.{decimal_injective}
+use Rattle.std.proofs.Common.{◌≡◌, inl, inr, ℕ, List, [], ◌∷◌, Option, Ok, Err, refl, sym, subst, ◌∙◌, append-nil, arith}
 use Rattle.msr_trace.specs.declared.format.BadLine.{BadLine}
 use Rattle.wol_disk.specs.Disk.{Block, Rose, Values}
 use Rattle.wol_bay.specs.Bay.{Told}
@@ -11,7 +10,6 @@ use Rattle.solo.specs.Images.{RunsInBay}
 use Rattle.solo.specs.Requests.{asked_of}
 use Rattle.solo.specs.Runs.{EndsBy}
 use Rattle.wol.specs.Tops.{HasBadLine, HasCause, HasMoreLines, RunsSolo, TellsFault, TellsStatus}
-use Rattle.wol.specs.Words.{IsSolo}
 
 -- what a fault comes of
 pub has_cause : (e : Fault) (bay bay' source source' : ℕ) → (e ≡ fault.Disk → Rose bay bay') → (e ≡ fault.Bay → Rose bay bay') → (e ≡ fault.Source → Rose source source') → HasCause e bay bay' source source'
@@ -46,16 +44,13 @@ module _ (target : Target) (trace left : Option (List ℕ)) (told told' : Option
 pub told_done : {T : Type 0} (x : T) (target : Target) (trace left : Option (List ℕ)) (told told' : Option Told) (bay bay' source source' : ℕ) (old new : Option (List ℕ)) → RunsInBay target trace left told told' (Ok x) old new → RunsSolo target trace left told told' bay bay' source source' 0 old new
 told_done x target trace left told told' bay bay' source source' old new (array, begins, values, images, ends) = (array, begins, values, inl (refl, images, ends))
 
--- ---- Words
+-- .. of the volume that is named, wherever its name lies
+module _ (own target : Target) (same : own ≡ target) (trace left : Option (List ℕ)) (told told' : Option Told) (bay bay' source source' status : ℕ) (old mid new : Option (List ℕ)) where
+  pub fault_for : (T : Type 0) (e : Fault) → HasCause e bay bay' source source' → TellsFault e status mid new → RunsInBay {T = T} own trace left told told' (Err e) old mid → RunsSolo target trace left told told' bay bay' source source' status old new
+  fault_for T e cause tells runs = subst (λ (t : Target). RunsSolo t trace left told told' bay bay' source source' status old new) same (told_fault own trace left told told' bay bay' source source' status old mid new T e cause tells runs)
 
--- words are the command for one volume
-pub same_target : (words : List (List ℕ)) (target other : Target) → IsSolo words target → IsSolo words other → target ≡ other
-same_target words target other is so =
-    let whole = sym is.spelled ∙ so.spelled in
-    let host : target.host ≡ other.host = cc whole in
-    let disk : target.disk ≡ other.disk = decimal_injective target.disk other.disk (omega (arith, is.disk)) (omega (arith, so.disk)) (cc whole) in
-    let home : target.home ≡ other.home = decimal_injective target.home other.home (omega (arith, is.blocks.1)) (omega (arith, so.blocks.1)) (cc whole) in
-    λ i. record { host = host i; disk = disk i; home = home i }
+  pub done_for : {T : Type 0} (x : T) → RunsInBay own trace left told told' (Ok x) old new → RunsSolo target trace left told told' bay bay' source source' 0 old new
+  done_for x runs = subst (λ (t : Target). RunsSolo t trace left told told' bay bay' source source' 0 old new) same (told_done x own trace left told told' bay bay' source source' old new runs)
 
 -- ---- What the statuses of the trace come of
 

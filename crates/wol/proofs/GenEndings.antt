@@ -2,25 +2,17 @@
 use Rattle.std.proofs.Common.{◌≡◌, ◌⊎◌, inl, inr, ℕ, ◌≤◌, List, ◌++◌, Option, refl, sym, subst, ◌∙◌, arith}
 use Rattle.std.specs.Prelude.{codes}
 use Rattle.std.specs.Io.KnownBytes.{Appends}
-use Rattle.std.proofs.lemmas.Fmt.{decimal_injective}
 use Rattle.wol_io.specs.Streams.{AppendsFront}
 use Rattle.wol_io.proofs.Appending.{appends_both, front_last}
 use Rattle.wol_disk.specs.Disk.{Rose}
 use Rattle.wol_config.specs.declared.config.Config.{Config}
 use Rattle.report.specs.declared.fault.Fault.{Fault}
 use Rattle.report.specs.Faults.{status_of}
-use Rattle.wol_model.specs.Trace.{Target}
-use Rattle.solo.specs.Volume.{target_of}
-use Rattle.solo.specs.declared.volume.Volume.{Volume}
-use Rattle.wol.specs.declared.command.Command.{Command}
-use Rattle.wol.specs.declared.command.Command.TheVariants.{Gen, Solo}
-use Rattle.wol.specs.declared.command.Generated.{Generated}
-use Rattle.wol.specs.Commands.{IsCommand}
+use Rattle.command_words.specs.declared.command.Generated.{Generated}
 use Rattle.wol.specs.Generating.{IsCutShort, IsListing, RunsGen, first_lines}
 use Rattle.wol.specs.Settings.{HasConfig, HasNoConfig, IsFaultLine, IsUnread, line_of_fault}
 use Rattle.wol.proofs.Unread.{ends_unread, line_of_memory, line_unread, wanted_or_sink}
 use Rattle.wol.specs.Tops.{EndsWith}
-use Rattle.wol.specs.Words.{IsGen, IsSolo}
 
 module _ (asked : Generated) (left : Option (List ℕ)) (faults faults' : ℕ) where
   -- the configuration wasn't had
@@ -103,23 +95,3 @@ module _ (asked : Generated) (left : Option (List ℕ)) (faults faults' status :
     | inr (inr (inr (inl (is, rose)))) ↦ absurd (omega (arith, is, two))
     | inr (inr (inr (inr is))) ↦ absurd (omega (arith, is, two))
   ]
-
--- ---- Words
-
--- a command's own words
-pub solo_of : (words : List (List ℕ)) (command : Command) (volume : Volume) → IsCommand words command → command ≡ Solo volume → IsSolo words (target_of volume)
-solo_of words command volume is same = (subst (IsCommand words) same is).0
-
-pub gen_of : (words : List (List ℕ)) (command : Command) (asked : Generated) → IsCommand words command → command ≡ Gen asked → IsGen words asked
-gen_of words command asked is same = subst (IsCommand words) same is
-
--- no words are both commands
-pub apart : (words : List (List ℕ)) (target : Target) (asked : Generated) → IsSolo words target → IsGen words asked → ⊥
-apart words target asked solo gen = let both = sym solo.spelled ∙ gen.spelled in cc
-
-pub same_asked : (words : List (List ℕ)) (asked other : Generated) → IsGen words asked → IsGen words other → asked ≡ other
-same_asked words asked other is so =
-    let whole = sym is.spelled ∙ so.spelled in
-    let seed : asked.seed ≡ other.seed = decimal_injective asked.seed other.seed (omega (arith, is.seed)) (omega (arith, so.seed)) (cc whole) in
-    let lines : asked.lines ≡ other.lines = decimal_injective asked.lines other.lines (omega (arith, is.lines)) (omega (arith, so.lines)) (cc whole) in
-    λ i. record { seed = seed i; lines = lines i }

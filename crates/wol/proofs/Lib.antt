@@ -1,3 +1,4 @@
+mod Asked
 mod Complete
 mod Endings
 mod FormatEndings
@@ -5,4 +6,3 @@ mod GenEndings
 mod Pending
 mod Taken
 mod Unread
-mod WordLists

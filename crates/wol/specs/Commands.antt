@@ -1,12 +1,45 @@
--- The command that words are.
-use Rattle.std.specs.Prelude.{ℕ, List}
+-- What commands use, and which are run.
+use Rattle.std.specs.Prelude.{◌≡◌, Bool, true, false, ⊤, ℕ, ◌≤◌, ◌^◌, List}
 use Rattle.solo.specs.Volume.{IsVolume, target_of}
-use Rattle.wol.specs.Words.{IsSolo, IsGen, IsFormat}
-use Rattle.wol.specs.declared.command.Command.{Command}
-use Rattle.wol.specs.declared.command.Command.TheVariants.{Solo, Gen, Format}
+use Rattle.command_words.specs.Commands.{IsCommand}
+use Rattle.command_words.specs.declared.command.Command.{Command}
+use Rattle.command_words.specs.declared.command.Command.TheVariants.{Solo, Format, Replay, Check, Dump, Gen, Soak}
 
--- the words are this command
-abbrev pub IsCommand : List (List ℕ) → Command → Type 0
-IsCommand words (Solo volume) = IsSolo words (target_of volume) × IsVolume (target_of volume)
-IsCommand words (Gen asked) = IsGen words asked
-IsCommand words Format = IsFormat words
+-- whether a command uses the bay
+abbrev pub uses_bay : Command → Bool
+uses_bay (Solo volume) = true
+uses_bay Format = true
+uses_bay command = false
+
+-- whether it uses the trace that it is given
+abbrev pub uses_trace : Command → Bool
+uses_trace (Solo volume) = true
+uses_trace command = false
+
+-- whether it uses the configuration
+abbrev pub uses_config : Command → Bool
+uses_config Format = true
+uses_config (Gen asked) = true
+uses_config command = false
+
+-- the words ask for no command that passes the test
+abbrev pub NoneOf : (Command → Bool) → List (List ℕ) → Type 0
+NoneOf test words = (command : Command) → IsCommand words command → test command ≡ false
+
+-- a command that isn't built yet
+abbrev pub IsPending : Command → Type 0
+IsPending (Replay options) = ⊤
+IsPending Check = ⊤
+IsPending Dump = ⊤
+IsPending (Soak asked options) = ⊤
+IsPending command = ⊥
+
+-- the words ask for no command that is built
+abbrev pub AskForNone : List (List ℕ) → Type 0
+AskForNone words = (command : Command) → IsCommand words command → IsPending command
+
+-- a command whose numbers are in range
+abbrev pub IsInRange : Command → Type 0
+IsInRange (Solo volume) = IsVolume (target_of volume)
+IsInRange (Gen asked) = asked.lines ≤ 2 ^ 31
+IsInRange command = ⊤

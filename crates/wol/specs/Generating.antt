@@ -5,7 +5,7 @@ use Rattle.wol_disk.specs.Disk.{Rose}
 use Rattle.wol_io.specs.Streams.{AppendsFront}
 use Rattle.wol_config.specs.declared.config.Config.{Config}
 use Rattle.trace_gen.specs.Generated.{lines, targets_of, text_of}
-use Rattle.wol.specs.declared.command.Generated.{Generated}
+use Rattle.command_words.specs.declared.command.Generated.{Generated}
 use Rattle.wol.specs.declared.listing.Stop.{Stop}
 use Rattle.wol.specs.declared.listing.Stop.TheVariants.{Sink, Memory}
 use Rattle.wol.specs.Settings.{HasConfig, IsFaultLine}

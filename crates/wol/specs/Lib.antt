@@ -1,4 +1,3 @@
-pub mod Words
 pub mod Commands
 pub mod Statuses
 pub mod Tops

@@ -7,9 +7,9 @@ ghost use Rattle.wol_config.specs.Configs.{IsValid};
 ghost use Rattle.wol.specs.Generating.{HandsOn, Prints, RunsGen};
 ghost use Rattle.wol.specs.declared.listing.Stop.TheVariants.{Sink as sink_failed, Memory as no_memory};
 
-use crate::command::Generated;
 use crate::settings::config_of;
 use crate::telling::{NO_MEMORY, end_with, tell_fault};
+use command_words::Generated;
 use msr_trace::write_line;
 use std::alloc::Global;
 use trace_gen::Gen;

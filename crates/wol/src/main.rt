@@ -1,7 +1,6 @@
 // Write off-loading for disk volumes: the command line.
 #![tactic(auto)]
 
-mod command;
 mod formatting;
 mod listing;
 mod settings;

@@ -1,21 +1,22 @@
 // The top call: the command that the words are, run to its exit status.
-ghost use Rattle.std.specs.Prelude.{◌≡◌, ◌<◌, ◌⊎◌, map, string_bytes, codes};
+ghost use Rattle.std.specs.Prelude.{◌≡◌, ◌<◌, ◌⊎◌, map, string_bytes, codes, false};
 ghost use Rattle.std.specs.Io.KnownBytes.{IsAtEnd};
 ghost use Rattle.wol_disk.specs.Disk.{Rose};
-ghost use Rattle.wol_model.specs.Trace.{Target};
 ghost use Rattle.solo.specs.Images.{NoneOut};
-ghost use Rattle.wol.specs.Words.{IsSolo, IsGen, IsFormat, NoSolo, NoGen, NoFormat, NoCommand};
+ghost use Rattle.solo.specs.Volume.{target_of};
+ghost use Rattle.command_words.specs.Commands.{IsCommand};
+ghost use Rattle.wol.specs.Commands.{AskForNone, IsInRange, IsPending, NoneOf, uses_bay, uses_config, uses_trace};
 ghost use Rattle.wol.specs.Statuses.{IsStatus};
 ghost use Rattle.wol.specs.Tops.{EndsWith, HasBadLine, HasMoreLines, IsDoneOrMemory, IsRunnable, RunsSolo};
 ghost use Rattle.wol.specs.Settings.{HasNoConfig, IsConfigured};
 ghost use Rattle.wol.specs.Generating.{RunsGen};
 ghost use Rattle.wol.specs.Formatting.{RunsFormat};
-ghost use Rattle.wol.specs.declared.command.Generated.{Generated};
 
-use crate::command::{Command, command_of};
 use crate::formatting::format;
 use crate::listing::generate;
-use crate::telling::{end_with, tell};
+use crate::telling::{NO_MEMORY, end_with, tell};
+use command_words::{Command, Generated, WordsFault, command_of};
+use solo::Volume;
 use std::alloc::Global;
 use std::sync::Wait;
 use std::thread::Threads;
@@ -27,7 +28,8 @@ use wol_io::{Gate, Sink, Source};
 /// The words are those after the program's name. `solo HOST DISK BLOCKS` makes the image `solo` in the bay and runs on it
 /// the lines of the trace that belong to that host and disk. `gen SEED LINES` prints the first LINES lines of the trace that
 /// SEED generates on the volumes of the configuration. `format` makes the image of each volume of the configuration anew,
-/// and prints a line for each. Any other words are none of the program's commands.
+/// and prints a line for each. `replay`, `check`, `dump` and `soak` are read and not yet run: they end as words that aren't a
+/// command. Which words are a command is what `clap` makes of them.
 ///
 /// 0: done; a trace that was run was read to its end. 1: the words aren't a command. 2: the configuration's bytes are none.
 /// 3: a line is no line of a trace; all lines before it were run. 4: the bay or a part of an image failed. 7: the sink failed, and
@@ -51,42 +53,99 @@ where
     ensures status { IsStatus result }
     // What the sink took, by the status, and what is left of the image. Each mark is that of the plain array where the
     // bay tells, and each line is the trace's where the trace tells.
-    ensures content { (target : Target) → IsSolo (map string_bytes words.now) target → RunsSolo target (S.left trace.old) (S.left trace.new)
+    ensures content { (volume : Volume) → IsCommand (map string_bytes words.now) (Command.Solo volume) → RunsSolo (target_of volume) (S.left trace.old) (S.left trace.new)
         (B.state bay.old).told (B.state bay.new).told (B.state bay.old).faults (B.state bay.new).faults (S.faults trace.old) (S.faults trace.new) result (K.taken out.old) (K.taken out.new) }
     // What the sink took, by the status: the first lines of the seed for the configuration that its source has, where that tells.
-    ensures generated { (asked : Generated) → IsGen (map string_bytes words.now) asked → RunsGen asked (C.left config.old)
+    ensures generated { (asked : Generated) → IsCommand (map string_bytes words.now) (Command.Gen asked) → RunsGen asked (C.left config.old)
         (C.faults config.old) (C.faults config.new) result (K.taken out.old) (K.taken out.new) }
     // What is left of the images, and what the sink took, by the status. Where the bay tells, at 0 whatever images a crash
     // leaves are sound, and each volume of the configuration recovers to zeros; at each exit an image is as it was, has no
     // label or is whole.
-    ensures formatted { IsFormat (map string_bytes words.now) → RunsFormat (C.left config.old) (C.faults config.old) (C.faults config.new)
+    ensures formatted { IsCommand (map string_bytes words.now) Command.Format → RunsFormat (C.left config.old) (C.faults config.old) (C.faults config.new)
         (B.state bay.old) (B.state bay.new) result (K.taken out.old) (K.taken out.new) }
-    ensures refused { NoCommand (map string_bytes words.now) → EndsWith (codes "fault 1 words\n") 1 result (K.taken out.old) (K.taken out.new) }
-    // Only `solo` and `format` use the bay, only `solo` the trace, and only `gen` and `format` the configuration.
-    ensures unchanged { NoSolo (map string_bytes words.now) → NoFormat (map string_bytes words.now) → B.state bay.new ≡ B.state bay.old }
-    ensures untaken { NoSolo (map string_bytes words.now) → (S.left trace.new ≡ S.left trace.old) × (S.faults trace.new ≡ S.faults trace.old) }
-    ensures unread { NoGen (map string_bytes words.now) → NoFormat (map string_bytes words.now) → (C.left config.new ≡ C.left config.old) × (C.faults config.new ≡ C.faults config.old) }
-    ensures words { result ≡ 1 → NoCommand (map string_bytes words.now) }
+    // Words that ask for no command that is built.
+    ensures refused { AskForNone (map string_bytes words.now) → EndsWith (codes "fault 1 words\n") 1 result (K.taken out.old) (K.taken out.new)
+        ⊎ EndsWith (codes "fault 9 memory\n") 9 result (K.taken out.old) (K.taken out.new) }
+    ensures words { result ≡ 1 → AskForNone (map string_bytes words.now) }
+    // What no command that the words ask for uses is as it was.
+    ensures unchanged { NoneOf uses_bay (map string_bytes words.now) → B.state bay.new ≡ B.state bay.old }
+    ensures untaken { NoneOf uses_trace (map string_bytes words.now) → (S.left trace.new ≡ S.left trace.old) × (S.faults trace.new ≡ S.faults trace.old) }
+    ensures unread { NoneOf uses_config (map string_bytes words.now) → (C.left config.new ≡ C.left config.old) × (C.faults config.new ≡ C.faults config.old) }
     ensures config { result ≡ 2 → HasNoConfig (C.left config.old) }
-    ensures end { (target : Target) → IsSolo (map string_bytes words.now) target → result ≡ 0 → IsAtEnd (S.left trace.new) }
+    ensures end { (volume : Volume) → IsCommand (map string_bytes words.now) (Command.Solo volume) → result ≡ 0 → IsAtEnd (S.left trace.new) }
     ensures bad_line { result ≡ 3 → HasBadLine (S.left trace.old) }
     ensures spent { result ≡ 10 → HasMoreLines (S.left trace.old) }
     ensures bay { result ≡ 4 → Rose (B.state bay.old).faults (B.state bay.new).faults }
     ensures source { result ≡ 8 → Rose (C.faults config.old) (C.faults config.new) ⊎ Rose (S.faults trace.old) (S.faults trace.new) }
     // Where no count rises and what is read is in order, a command is done unless memory is wanted.
-    ensures complete_solo { (target : Target) → IsSolo (map string_bytes words.now) target → IsRunnable (S.left trace.old) → ¬ Rose (B.state bay.old).faults (B.state bay.new).faults
+    ensures complete_solo { (volume : Volume) → IsCommand (map string_bytes words.now) (Command.Solo volume) → IsRunnable (S.left trace.old) → ¬ Rose (B.state bay.old).faults (B.state bay.new).faults
         → ¬ Rose (S.faults trace.old) (S.faults trace.new) → ¬ Rose (K.faults out.old) (K.faults out.new) → IsDoneOrMemory result }
-    ensures complete_gen { (asked : Generated) → IsGen (map string_bytes words.now) asked → IsConfigured (C.left config.old)
+    ensures complete_gen { (asked : Generated) → IsCommand (map string_bytes words.now) (Command.Gen asked) → IsConfigured (C.left config.old)
         → ¬ Rose (C.faults config.old) (C.faults config.new) → ¬ Rose (K.faults out.old) (K.faults out.new) → IsDoneOrMemory result }
-    ensures complete_format { IsFormat (map string_bytes words.now) → IsConfigured (C.left config.old) → ¬ Rose (B.state bay.old).faults (B.state bay.new).faults
+    ensures complete_format { IsCommand (map string_bytes words.now) Command.Format → IsConfigured (C.left config.old) → ¬ Rose (B.state bay.old).faults (B.state bay.new).faults
         → ¬ Rose (C.faults config.old) (C.faults config.new) → ¬ Rose (K.faults out.old) (K.faults out.new) → IsDoneOrMemory result }
     // Exactly where the sink failed. A count at its last value stands still, so one direction has the strict order.
     ensures cause { result ≡ 7 → Rose (K.faults out.old) (K.faults out.new) }
     ensures calm { K.faults out.old < K.faults out.new → result ≡ 7 }
 {
-    let Some(command) = command_of(words) else {
-        return end_with(out, b"fault 1 words\n", 1);
-    };
+    match command_of(alloc, words) {
+        Ok(command) => obey(alloc, command, config, trace, out, bay, gate),
+        Err(WordsFault::NotACommand) => end_with(out, b"fault 1 words\n", 1),
+        Err(WordsFault::NoMemory) => end_with(out, NO_MEMORY, 9),
+    }
+}
+
+// Runs the command, and answers the exit status.
+fn obey<C: Source, S: Source, K: Sink, B: Bay, G: Gate + Sync>(
+    alloc: Global,
+    command: Command<'_>,
+    config: &mut C,
+    trace: &mut S,
+    out: &mut K,
+    bay: &mut B,
+    gate: &G,
+) -> u8
+where
+    B::Part: Send,
+    requires home { NoneOut (B.state bay.old) }
+    requires range { IsInRange command }
+    // No name is out of the bay at any exit.
+    ensures home { NoneOut (B.state bay.new) }
+    ensures status { IsStatus result }
+    // What the sink took, by the status, and what is left of the image. Each mark is that of the plain array where the
+    // bay tells, and each line is the trace's where the trace tells.
+    ensures content { (volume : Volume) → command.entry ≡ Command.Solo volume → RunsSolo (target_of volume) (S.left trace.old) (S.left trace.new)
+        (B.state bay.old).told (B.state bay.new).told (B.state bay.old).faults (B.state bay.new).faults (S.faults trace.old) (S.faults trace.new) result (K.taken out.old) (K.taken out.new) }
+    // What the sink took, by the status: the first lines of the seed for the configuration that its source has, where that tells.
+    ensures generated { (asked : Generated) → command.entry ≡ Command.Gen asked → RunsGen asked (C.left config.old)
+        (C.faults config.old) (C.faults config.new) result (K.taken out.old) (K.taken out.new) }
+    // What is left of the images, and what the sink took, by the status. Where the bay tells, at 0 whatever images a crash
+    // leaves are sound, and each volume of the configuration recovers to zeros; at each exit an image is as it was, has no
+    // label or is whole.
+    ensures formatted { command.entry ≡ Command.Format → RunsFormat (C.left config.old) (C.faults config.old) (C.faults config.new)
+        (B.state bay.old) (B.state bay.new) result (K.taken out.old) (K.taken out.new) }
+    ensures refused { IsPending command.entry → EndsWith (codes "fault 1 words\n") 1 result (K.taken out.old) (K.taken out.new) }
+    ensures words { result ≡ 1 → IsPending command.entry }
+    ensures unchanged { uses_bay command.entry ≡ false → B.state bay.new ≡ B.state bay.old }
+    ensures untaken { uses_trace command.entry ≡ false → (S.left trace.new ≡ S.left trace.old) × (S.faults trace.new ≡ S.faults trace.old) }
+    ensures unread { uses_config command.entry ≡ false → (C.left config.new ≡ C.left config.old) × (C.faults config.new ≡ C.faults config.old) }
+    ensures config { result ≡ 2 → HasNoConfig (C.left config.old) }
+    ensures end { (volume : Volume) → command.entry ≡ Command.Solo volume → result ≡ 0 → IsAtEnd (S.left trace.new) }
+    ensures bad_line { result ≡ 3 → HasBadLine (S.left trace.old) }
+    ensures spent { result ≡ 10 → HasMoreLines (S.left trace.old) }
+    ensures bay { result ≡ 4 → Rose (B.state bay.old).faults (B.state bay.new).faults }
+    ensures source { result ≡ 8 → Rose (C.faults config.old) (C.faults config.new) ⊎ Rose (S.faults trace.old) (S.faults trace.new) }
+    // Where no count rises and what is read is in order, a command is done unless memory is wanted.
+    ensures complete_solo { (volume : Volume) → command.entry ≡ Command.Solo volume → IsRunnable (S.left trace.old) → ¬ Rose (B.state bay.old).faults (B.state bay.new).faults
+        → ¬ Rose (S.faults trace.old) (S.faults trace.new) → ¬ Rose (K.faults out.old) (K.faults out.new) → IsDoneOrMemory result }
+    ensures complete_gen { (asked : Generated) → command.entry ≡ Command.Gen asked → IsConfigured (C.left config.old)
+        → ¬ Rose (C.faults config.old) (C.faults config.new) → ¬ Rose (K.faults out.old) (K.faults out.new) → IsDoneOrMemory result }
+    ensures complete_format { command.entry ≡ Command.Format → IsConfigured (C.left config.old) → ¬ Rose (B.state bay.old).faults (B.state bay.new).faults
+        → ¬ Rose (C.faults config.old) (C.faults config.new) → ¬ Rose (K.faults out.old) (K.faults out.new) → IsDoneOrMemory result }
+    // Exactly where the sink failed. A count at its last value stands still, so one direction has the strict order.
+    ensures cause { result ≡ 7 → Rose (K.faults out.old) (K.faults out.new) }
+    ensures calm { K.faults out.old < K.faults out.new → result ≡ 7 }
+{
     match command {
         Command::Gen(asked) => generate(alloc, asked, config, out),
         Command::Format => format(alloc, config, out, bay),
@@ -94,5 +153,10 @@ where
             Ok(()) => 0,
             Err(fault) => tell(alloc, out, fault),
         },
+        Command::Replay(_) | Command::Check | Command::Dump | Command::Soak(_, _) => end_with(
+            out,
+            b"fault 1 words\n",
+            1,
+        ),
     }
 }

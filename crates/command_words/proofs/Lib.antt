@@ -1,0 +1,10 @@
+pub mod Globals
+pub mod Asked
+pub mod Words
+pub mod Rows
+pub mod Steps
+pub mod AnyOrder
+pub mod Subcommands
+pub mod Taken
+pub mod TakenOptions
+pub mod Unique

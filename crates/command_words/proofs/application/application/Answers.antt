@@ -1,0 +1,30 @@
+use Rattle.std.proofs.Common.{◌≡◌, ◌∙◌, true, ap, ap₂, codes}
+use Rattle.std.proofs.lemmas.Result.{IfOk-weaker}
+use Rattle.clap.specs.Words.{App, app_of, new_app, with_subcommand}
+use Rattle.clap.specs.Simple.{Shape, app_of_fields, on_top}
+use Rattle.command_words.specs.Application.{bare_app, with_options, with_trace, with_volume}
+use Rattle.command_words.proofs.application.application.Goals as goal
+
+pub returns : goal.returns
+returns c =
+    let named : app_of c.no_binary_name.result ≡ on_top (λ (s : Shape). record s { no_binary_name = true }) (new_app (codes "wol")) =
+    ap app_of_fields c.no_binary_name.ensures ∙ ap (on_top (λ (s : Shape). record s { no_binary_name = true })) c.new.ensures.app in
+    let helped = ap app_of_fields c.disable_help_flag.ensures ∙ ap (on_top (λ (s : Shape). record s { disable_help_flag = true })) named in
+    let alone = ap app_of_fields c.disable_help_subcommand.ensures ∙ ap (on_top (λ (s : Shape). record s { disable_help_subcommand = true })) helped in
+    let unversioned = ap app_of_fields c.disable_version_flag.ensures ∙ ap (on_top (λ (s : Shape). record s { disable_version_flag = true })) alone in
+    let bare : app_of c.subcommand_required.result ≡ bare_app =
+    ap app_of_fields c.subcommand_required.ensures ∙ ap (on_top (λ (s : Shape). record s { subcommand_required = true })) unversioned in
+    let solo : app_of c.in_ok-of_volume.field-0 ≡ with_volume (new_app (codes "solo")) = c.in_ok-of_volume.ensures.app ∙ ap with_volume c.new-2.ensures.app in
+    let replay : app_of c.in_ok-of_options.field-0 ≡ with_options (new_app (codes "replay")) = c.in_ok-of_options.ensures.app ∙ ap with_options c.new-4.ensures.app in
+    let gen : app_of c.in_ok-of_trace.field-0 ≡ with_trace (new_app (codes "gen")) = c.in_ok-of_trace.ensures.app ∙ ap with_trace c.new-7.ensures.app in
+    let soak : app_of c.in_ok-of_options-2.field-0 ≡ with_options (with_trace (new_app (codes "soak"))) =
+    c.in_ok-of_options-2.ensures.app ∙ ap with_options (c.in_ok-of_trace-2.ensures.app ∙ ap with_trace c.new-8.ensures.app) in
+    let one = c.in_ok-subcommand.ensures.shape (c.in_ok-of_volume.ensures.globals ∙ c.new-2.ensures.local) ∙ ap₂ with_subcommand bare (ap (λ (a : App). a.top) solo) in
+    let two = c.in_ok-subcommand-2.ensures.shape c.new-3.ensures.local ∙ ap₂ with_subcommand one (ap (λ (a : App). a.top) c.new-3.ensures.app) in
+    let three = c.in_ok-subcommand-3.ensures.shape (c.in_ok-of_options.ensures.globals ∙ c.new-4.ensures.local) ∙ ap₂ with_subcommand two (ap (λ (a : App). a.top) replay) in
+    let four = c.in_ok-subcommand-4.ensures.shape c.new-5.ensures.local ∙ ap₂ with_subcommand three (ap (λ (a : App). a.top) c.new-5.ensures.app) in
+    let five = c.in_ok-subcommand-5.ensures.shape c.new-6.ensures.local ∙ ap₂ with_subcommand four (ap (λ (a : App). a.top) c.new-6.ensures.app) in
+    let six = c.in_ok-subcommand-6.ensures.shape (c.in_ok-of_trace.ensures.globals ∙ c.new-7.ensures.local) ∙ ap₂ with_subcommand five (ap (λ (a : App). a.top) gen) in
+    IfOk-weaker c.subcommand-7.result _ _
+    (λ made h. h.shape (c.in_ok-of_options-2.ensures.globals ∙ c.in_ok-of_trace-2.ensures.globals ∙ c.new-8.ensures.local) ∙ ap₂ with_subcommand six (ap (λ (a : App). a.top) soak))
+    c.subcommand-7.ensures

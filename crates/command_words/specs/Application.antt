@@ -1,0 +1,54 @@
+-- The program as a command of `clap`: what its parse reads of it.
+use Rattle.std.specs.Prelude.{true, [], Some, codes}
+use Rattle.clap.specs.Words.{App, Rule, Text, new_app, new_rule, with_rule, with_subcommand}
+use Rattle.clap.specs.Simple.{new_shape}
+use Rattle.clap.specs.declared.builder.ArgAction.TheVariants.{SetTrue}
+
+-- an argument that is known by its place, and has to be given
+abbrev pub positional_rule : Text → Rule
+positional_rule name = record (new_rule name) { required = true }
+
+-- an option that has a value
+abbrev pub option_rule : Text → Rule
+option_rule name = record (new_rule name) { long = Some name }
+
+-- an option without one
+abbrev pub flag_rule : Text → Rule
+flag_rule name = record (option_rule name) { action = Some SetTrue }
+
+-- the command with the arguments that name a volume
+abbrev pub with_volume : App → App
+with_volume a = with_rule (with_rule (with_rule a (positional_rule (codes "HOST"))) (positional_rule (codes "DISK"))) (positional_rule (codes "BLOCKS"))
+
+-- the command with the arguments that name a generated trace
+abbrev pub with_trace : App → App
+with_trace a = with_rule (with_rule a (positional_rule (codes "SEED"))) (positional_rule (codes "LINES"))
+
+-- the command with the options of a run over a trace
+abbrev pub with_options : App → App
+with_options a = with_rule (with_rule (with_rule a (option_rule (codes "workers"))) (option_rule (codes "reclaim"))) (flag_rule (codes "each"))
+
+-- the program with no subcommand yet: one has to be given, and there is no help and no version
+abbrev pub bare_app : App
+bare_app = record {
+  top = record (new_shape (codes "wol")) {
+    no_binary_name = true;
+    disable_help_flag = true;
+    disable_help_subcommand = true;
+    disable_version_flag = true;
+    subcommand_required = true;
+  };
+  subs = [];
+}
+
+-- the program
+abbrev pub the_app : App
+the_app =
+    with_subcommand (with_subcommand (with_subcommand (with_subcommand (with_subcommand (with_subcommand (with_subcommand bare_app
+    (with_volume (new_app (codes "solo"))).top)
+    (new_app (codes "format")).top)
+    (with_options (new_app (codes "replay"))).top)
+    (new_app (codes "check")).top)
+    (new_app (codes "dump")).top)
+    (with_trace (new_app (codes "gen"))).top)
+    (with_options (with_trace (new_app (codes "soak")))).top

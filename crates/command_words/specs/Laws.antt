@@ -1,0 +1,43 @@
+-- The laws of words: those of the documented table are commands, and words ask for one command at most.
+use Rattle.std.specs.Prelude.{◌≡◌, List}
+use Rattle.clap.specs.Words.{Text}
+use Rattle.solo.specs.Volume.{target_of}
+use Rattle.solo.specs.declared.volume.Volume.{Volume}
+use Rattle.wol_model.specs.Trace.{Target}
+use Rattle.command_words.specs.Commands.{IsCommand}
+use Rattle.command_words.specs.Table.{IsSolo, IsGen, IsFormat, IsCheck, IsDump, IsReplay, IsSoak}
+use Rattle.command_words.specs.declared.command.Command.{Command}
+use Rattle.command_words.specs.declared.command.Command.TheVariants.{Solo, Format, Replay, Check, Dump, Gen, Soak}
+use Rattle.command_words.specs.declared.command.Generated.{Generated}
+use Rattle.command_words.specs.declared.command.Options.{Options}
+
+-- each spelling of the table asks for its command
+abbrev pub SoloIsCommand : Type 0
+SoloIsCommand = (words : List Text) (target : Target) → IsSolo words target → (volume : Volume) × (target_of volume ≡ target) × IsCommand words (Solo volume)
+
+abbrev pub FormatIsCommand : Type 0
+FormatIsCommand = (words : List Text) → IsFormat words → IsCommand words Format
+
+abbrev pub ReplayIsCommand : Type 0
+ReplayIsCommand = (words : List Text) (options : Options) → IsReplay words options → IsCommand words (Replay options)
+
+abbrev pub CheckIsCommand : Type 0
+CheckIsCommand = (words : List Text) → IsCheck words → IsCommand words Check
+
+abbrev pub DumpIsCommand : Type 0
+DumpIsCommand = (words : List Text) → IsDump words → IsCommand words Dump
+
+abbrev pub GenIsCommand : Type 0
+GenIsCommand = (words : List Text) (asked : Generated) → IsGen words asked → IsCommand words (Gen asked)
+
+abbrev pub SoakIsCommand : Type 0
+SoakIsCommand = (words : List Text) (asked : Generated) (options : Options) → IsSoak words asked options → IsCommand words (Soak asked options)
+
+-- two commands are one, wherever a host's name lies in memory
+abbrev pub AreSame : Command → Command → Type 0
+AreSame (Solo v) (Solo w) = target_of v ≡ target_of w
+AreSame c d = c ≡ d
+
+-- words ask for no two commands
+abbrev pub CommandsAreOne : Type 0
+CommandsAreOne = (words : List Text) (c d : Command) → IsCommand words c → IsCommand words d → AreSame c d

@@ -1,0 +1,130 @@
+-- The words of each command, as they are documented.
+use Rattle.std.specs.Prelude.{◌≡◌, ◌^◌, ◌<◌, ◌≤◌, ℕ, Bool, true, false, List, [], ◌∷◌, ◌++◌, length, All, ⊤, Option, None, Some, codes, decimal, slice_get, unwrap_or}
+use Rattle.std.specs.List.{AllByRecursion, flat_map}
+use Rattle.wol_model.specs.Trace.{Target}
+use Rattle.command_words.specs.declared.command.Generated.{Generated}
+use Rattle.command_words.specs.declared.command.Mode.{Mode}
+use Rattle.command_words.specs.declared.command.Mode.TheVariants.{Off, Between, Beside}
+use Rattle.command_words.specs.declared.command.Options.{Options}
+
+-- a byte that may stand in the name of a host: printed, and neither a comma nor a quotation mark
+pub record IsHostByte (byte : ℕ) : Type 0 where
+  pub printed : (33 ≤ byte) × (byte ≤ 126)
+  pub no_comma : ¬ (byte ≡ 44)
+  pub no_quotation_mark : ¬ (byte ≡ 34)
+
+-- the name of a host
+pub record IsHost (name : List ℕ) : Type 0 where
+  pub not_empty : 0 < length name
+  pub short : length name ≤ 64
+  pub no_dash_in_front : ¬ (slice_get name 0 ≡ Some 45)
+  pub bytes : All IsHostByte name
+
+-- the words are `solo HOST DISK BLOCKS`, for the volume with this host, disk and number of blocks
+pub record IsSolo (words : List (List ℕ)) (target : Target) : Type 0 where
+  pub spelled : words ≡ codes "solo" ∷ target.host ∷ decimal target.disk ∷ decimal target.home ∷ []
+  pub host : IsHost target.host
+  pub disk : target.disk < 2 ^ 32
+  pub blocks : (1 ≤ target.home) × (target.home ≤ 2 ^ 32)
+
+-- the words are `gen SEED LINES`, for the first so many lines of this seed
+pub record IsGen (words : List (List ℕ)) (asked : Generated) : Type 0 where
+  pub spelled : words ≡ codes "gen" ∷ decimal asked.seed ∷ decimal asked.lines ∷ []
+  pub seed : asked.seed < 2 ^ 63
+  pub lines : asked.lines < 2 ^ 31
+
+-- the words are `format`
+abbrev pub IsFormat : List (List ℕ) → Type 0
+IsFormat words = words ≡ codes "format" ∷ []
+
+-- the words are `check`
+abbrev pub IsCheck : List (List ℕ) → Type 0
+IsCheck words = words ≡ codes "check" ∷ []
+
+-- the words are `dump`
+abbrev pub IsDump : List (List ℕ) → Type 0
+IsDump words = words ≡ codes "dump" ∷ []
+
+-- ---- The options of a run over a trace
+
+abbrev pub mode_text : Mode → List ℕ
+mode_text Off = codes "off"
+mode_text Between = codes "between"
+mode_text Beside = codes "beside"
+
+-- where an option's value stands: in the next word, or behind an equals sign
+pub data Place : Type 0 where
+  next_word : Place
+  same_word : Place
+
+-- an option that is given
+pub data Given : Type 0 where
+  workers : Place → ℕ → Given
+  reclaim : Place → Mode → Given
+  each : Given
+
+abbrev pub option_words : Place → List ℕ → List ℕ → List (List ℕ)
+option_words next_word name value = name ∷ value ∷ []
+option_words same_word name value = (name ++ 61 ∷ value) ∷ []
+
+-- `--workers N`, `--reclaim MODE` and `--each`
+abbrev pub words_of : Given → List (List ℕ)
+words_of (workers place n) = option_words place (codes "--workers") (decimal n)
+words_of (reclaim place mode) = option_words place (codes "--reclaim") (mode_text mode)
+words_of each = codes "--each" ∷ []
+
+-- two options of one kind are not different
+abbrev pub AreDifferent : Given → Given → Type 0
+AreDifferent (workers p n) (workers q m) = ⊥
+AreDifferent (reclaim p n) (reclaim q m) = ⊥
+AreDifferent each each = ⊥
+AreDifferent g h = ⊤
+
+-- no option is given twice
+abbrev pub AreAllDifferent : List Given → Type 0
+AreAllDifferent [] = ⊤
+AreAllDifferent (g ∷ rest) = AllByRecursion (AreDifferent g) rest × AreAllDifferent rest
+
+-- how many workers are asked for
+abbrev pub workers_in : List Given → Option ℕ
+workers_in [] = None
+workers_in (workers place n ∷ rest) = Some n
+workers_in (g ∷ rest) = workers_in rest
+
+-- the mode that is asked for
+abbrev pub mode_in : List Given → Option Mode
+mode_in [] = None
+mode_in (reclaim place mode ∷ rest) = Some mode
+mode_in (g ∷ rest) = mode_in rest
+
+-- whether `--each` is given
+abbrev pub each_in : List Given → Bool
+each_in [] = false
+each_in (each ∷ rest) = true
+each_in (g ∷ rest) = each_in rest
+
+-- the given options are these: without them there is one worker, and data moves home between windows
+pub record AreOptions (given : List Given) (options : Options) : Type 0 where
+  pub different : AreAllDifferent given
+  pub workers : unwrap_or (workers_in given) 1 ≡ options.workers
+  pub range : (1 ≤ options.workers) × (options.workers ≤ 64)
+  pub reclaim : unwrap_or (mode_in given) Between ≡ options.reclaim
+  pub each : each_in given ≡ options.each
+
+-- the words are `replay` with options, each at most once and in any order
+pub record IsReplay (words : List (List ℕ)) (options : Options) : Type 0 where
+  pub given : List Given
+  pub spelled : words ≡ codes "replay" ∷ flat_map words_of given
+  pub as_given : AreOptions given options
+
+-- the words are `soak SEED LINES` with options, each at most once, in any order and anywhere behind the command
+pub record IsSoak (words : List (List ℕ)) (asked : Generated) (options : Options) : Type 0 where
+  pub before : List Given
+  pub between : List Given
+  pub behind : List Given
+  pub spelled : words ≡ codes "soak" ∷ (flat_map words_of before
+      ++ decimal asked.seed ∷ (flat_map words_of between
+      ++ decimal asked.lines ∷ flat_map words_of behind))
+  pub seed : asked.seed < 2 ^ 63
+  pub lines : asked.lines < 2 ^ 31
+  pub as_given : AreOptions (before ++ (between ++ behind)) options

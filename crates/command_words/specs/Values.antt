@@ -1,0 +1,57 @@
+-- What the values of a command's arguments say, by what `clap` found.
+use Rattle.std.specs.Prelude.{◌≡◌, ◌↔◌, ◌^◌, ◌<◌, ◌≤◌, ℕ, List, Some, IsTrue, codes, decimal, unwrap_or}
+use Rattle.clap.specs.Words.{Row, Text, first_of}
+use Rattle.wol_model.specs.Trace.{Target}
+use Rattle.command_words.specs.Table.{IsHost, mode_text}
+use Rattle.command_words.specs.declared.command.Generated.{Generated}
+use Rattle.command_words.specs.declared.command.Mode.{Mode}
+use Rattle.command_words.specs.declared.command.Options.{Options}
+
+-- the argument of this name was given with this text
+abbrev pub HasText : List Row → Text → Text → Type 0
+HasText rows name text = first_of name rows ≡ Some text
+
+-- the values of `solo` are this volume
+pub record HasVolume (rows : List Row) (target : Target) : Type 0 where
+  pub host : HasText rows (codes "HOST") target.host
+  pub name : IsHost target.host
+  pub disk : HasText rows (codes "DISK") (decimal target.disk)
+  pub small : target.disk < 2 ^ 32
+  pub blocks : HasText rows (codes "BLOCKS") (decimal target.home)
+  pub some : 1 ≤ target.home
+  pub most : target.home ≤ 2 ^ 32
+
+-- they are none
+abbrev pub NoVolume : List Row → Type 0
+NoVolume rows = (target : Target) → ¬ HasVolume rows target
+
+-- the values SEED and LINES are the first so many lines of this seed
+pub record HasTrace (rows : List Row) (asked : Generated) : Type 0 where
+  pub seed : HasText rows (codes "SEED") (decimal asked.seed)
+  pub seeds : asked.seed < 2 ^ 63
+  pub lines : HasText rows (codes "LINES") (decimal asked.lines)
+  pub most : asked.lines < 2 ^ 31
+
+-- they are none
+abbrev pub NoTrace : List Row → Type 0
+NoTrace rows = (asked : Generated) → ¬ HasTrace rows asked
+
+-- so many workers are asked for: one, where the option isn't given
+pub record HasWorkers (rows : List Row) (workers : ℕ) : Type 0 where
+  pub given : unwrap_or (first_of (codes "workers") rows) (codes "1") ≡ decimal workers
+  pub some : 1 ≤ workers
+  pub most : workers ≤ 64
+
+-- this mode is asked for: `between`, where the option isn't given
+abbrev pub HasMode : List Row → Mode → Type 0
+HasMode rows mode = unwrap_or (first_of (codes "reclaim") rows) (codes "between") ≡ mode_text mode
+
+-- the values of the options are these
+pub record HasOptions (rows : List Row) (options : Options) : Type 0 where
+  pub workers : HasWorkers rows options.workers
+  pub reclaim : HasMode rows options.reclaim
+  pub each : IsTrue options.each ↔ HasText rows (codes "each") (codes "true")
+
+-- they are none
+abbrev pub NoOptions : List Row → Type 0
+NoOptions rows = (options : Options) → ¬ HasOptions rows options

@@ -1,0 +1,75 @@
+// The program's commands and their arguments, as `clap` is told of them.
+ghost use Rattle.std.specs.Prelude.{◌≡◌, false, IfOk};
+ghost use Rattle.clap.specs.Words.{app_of, rule_of};
+ghost use Rattle.clap.specs.declared.builder.Command.TheViews.{out-Command};
+ghost use Rattle.command_words.specs.Application.{option_rule, positional_rule, the_app, with_options, with_trace, with_volume};
+
+use clap::{Arg, ArgAction, Command};
+use std::alloc::{AllocError, Global};
+
+/// The program as a command of `clap`: one of its subcommands has to be given, and there is no help and no version.
+pub(crate) fn application<'a>(alloc: Global) -> Result<Command<'a>, AllocError>
+    ensures { IfOk result (λ made. app_of made ≡ the_app) }
+{
+    Command::new(alloc, "wol")
+        .no_binary_name(true)
+        .disable_help_flag(true)
+        .disable_help_subcommand(true)
+        .disable_version_flag(true)
+        .subcommand_required(true)
+        .subcommand(of_volume(alloc, Command::new(alloc, "solo"))?)?
+        .subcommand(Command::new(alloc, "format"))?
+        .subcommand(of_options(alloc, Command::new(alloc, "replay"))?)?
+        .subcommand(Command::new(alloc, "check"))?
+        .subcommand(Command::new(alloc, "dump"))?
+        .subcommand(of_trace(alloc, Command::new(alloc, "gen"))?)?
+        .subcommand(of_options(alloc, of_trace(alloc, Command::new(alloc, "soak"))?)?)
+}
+
+// The command with the arguments that name a volume.
+fn of_volume<'a>(alloc: Global, command: Command<'a>) -> Result<Command<'a>, AllocError>
+    ensures app { IfOk result (λ made. app_of made ≡ with_volume (app_of command.entry)) }
+    ensures globals { IfOk result (λ made. (out-Command made).has_globals ≡ (out-Command command.entry).has_globals) }
+{
+    command
+        .arg(positional(alloc, "HOST"))?
+        .arg(positional(alloc, "DISK"))?
+        .arg(positional(alloc, "BLOCKS"))
+}
+
+// The command with the arguments that name a generated trace.
+fn of_trace<'a>(alloc: Global, command: Command<'a>) -> Result<Command<'a>, AllocError>
+    ensures app { IfOk result (λ made. app_of made ≡ with_trace (app_of command.entry)) }
+    ensures globals { IfOk result (λ made. (out-Command made).has_globals ≡ (out-Command command.entry).has_globals) }
+{
+    command
+        .arg(positional(alloc, "SEED"))?
+        .arg(positional(alloc, "LINES"))
+}
+
+// The command with the options of a run over a trace.
+fn of_options<'a>(alloc: Global, command: Command<'a>) -> Result<Command<'a>, AllocError>
+    ensures app { IfOk result (λ made. app_of made ≡ with_options (app_of command.entry)) }
+    ensures globals { IfOk result (λ made. (out-Command made).has_globals ≡ (out-Command command.entry).has_globals) }
+{
+    command
+        .arg(option(alloc, "workers"))?
+        .arg(option(alloc, "reclaim"))?
+        .arg(option(alloc, "each").action(ArgAction::SetTrue))
+}
+
+// An argument that is known by its place, and has to be given.
+fn positional<'a>(alloc: Global, name: &'a str) -> Arg<'a>
+    ensures rule { rule_of result ≡ positional_rule name.entry.now }
+    ensures global { result.global ≡ false }
+{
+    Arg::new(alloc, name).required(true)
+}
+
+// An option that has a value.
+fn option<'a>(alloc: Global, name: &'a str) -> Arg<'a>
+    ensures rule { rule_of result ≡ option_rule name.entry.now }
+    ensures global { result.global ≡ false }
+{
+    Arg::new(alloc, name).long(name)
+}

@@ -1,0 +1,14 @@
+// The laws of words.
+ghost use Rattle.command_words.specs.Laws.{CheckIsCommand, CommandsAreOne, DumpIsCommand, FormatIsCommand, GenIsCommand, ReplayIsCommand, SoakIsCommand, SoloIsCommand};
+
+/// Words as the table of the program's words spells them ask for the command that stands there, and words ask for one command at most.
+pub fn words_laws()
+    ensures solo { SoloIsCommand }
+    ensures format { FormatIsCommand }
+    ensures replay { ReplayIsCommand }
+    ensures check { CheckIsCommand }
+    ensures dump { DumpIsCommand }
+    ensures generated { GenIsCommand }
+    ensures soak { SoakIsCommand }
+    ensures one { CommandsAreOne }
+{}

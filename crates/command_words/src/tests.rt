@@ -1,0 +1,71 @@
+// Command lines, and the commands that they ask for.
+use crate::{Command, Mode, WordsFault, command_of};
+use std::alloc::{AllocError, Global};
+use std::test::Fail;
+
+fn words_of(alloc: Global, text: &str) -> Result<Vec<String>, AllocError> {
+    let mut words = Vec::new(alloc);
+    for word in text.split_whitespace() {
+        words.push(word.to_string(alloc)?)?;
+    }
+    Ok(words)
+}
+
+// Whether the line asks for no command.
+fn is_refused(alloc: Global, line: &str) -> Result<bool, AllocError> {
+    let words = words_of(alloc, line)?;
+    Ok(matches!(&command_of(alloc, &words), Err(WordsFault::NotACommand)))
+}
+
+#[test]
+fn each_command_is_read(rt: HostRuntime) -> Result<(), Fail> {
+    let alloc = rt.alloc();
+    let words = words_of(alloc, "solo usr 3 4294967296")?;
+    let Ok(Command::Solo(volume)) = command_of(alloc, &words) else {
+        return Err(Fail::from("no volume"));
+    };
+    assert!(rt;
+        volume.host == b"usr".as_slice() && volume.disk == 3 && volume.blocks == 4294967296
+    );
+    let words = words_of(
+        alloc,
+        "soak --each 5 --reclaim beside 2147483647 --workers=64",
+    )?;
+    let Ok(Command::Soak(asked, options)) = command_of(alloc, &words) else {
+        return Err(Fail::from("no trace"));
+    };
+    assert!(rt; asked.seed == 5 && asked.lines == 2147483647);
+    assert!(rt; options.workers == 64 && options.each && matches!(&options.reclaim, Mode::Beside));
+    let words = words_of(alloc, "replay")?;
+    let Ok(Command::Replay(options)) = command_of(alloc, &words) else {
+        return Err(Fail::from("no options"));
+    };
+    assert!(rt; options.workers == 1 && !options.each && matches!(&options.reclaim, Mode::Between));
+    Ok(())
+}
+
+#[test]
+fn other_words_are_refused(rt: HostRuntime) -> Result<(), Fail> {
+    let alloc = rt.alloc();
+    let lines = [
+        "",
+        "spin",
+        "help",
+        "--help",
+        "format now",
+        "replay --version",
+        "replay --each --each",
+        "replay --workers 65",
+        "replay --workers 0",
+        "replay --workers=08",
+        "replay --reclaim never",
+        "gen 1",
+        "gen +1 2",
+        "solo -x 0 1",
+        "solo usr 0 0",
+    ];
+    for line in lines {
+        assert!(rt; is_refused(alloc, line)?);
+    }
+    Ok(())
+}
