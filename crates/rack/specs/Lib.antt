@@ -12,3 +12,9 @@ pub mod Disks
 pub mod Sent
 pub mod Refusals
 pub mod OpeningLaws
+pub mod Rests
+pub mod Making
+pub mod Racks
+pub mod Owners
+pub mod Opens
+pub mod Closes

@@ -1,5 +1,5 @@
 // The image of one volume is made anew and formatted.
-ghost use Rattle.std.specs.Prelude.{ℕ, ◌≡◌, ◌≤◌, ◌∷◌, ◌++◌, replicate, List, IfOk, OnOk, IfErr, IsErrOf, IsSome};
+ghost use Rattle.std.specs.Prelude.{ℕ, ◌≡◌, ◌≤◌, ◌<◌, length, slice_index_or, ◌∷◌, ◌++◌, replicate, List, IfOk, OnOk, IfErr, IsErrOf, IsSome};
 ghost use Rattle.wol_disk.specs.Disk.{Block, Rose, IsImageOf};
 ghost use Rattle.wol_disk.specs.Zeros.{zeros};
 ghost use Rattle.wol_model.specs.Heads.{IsShape};
@@ -9,6 +9,9 @@ ghost use Rattle.log_layout.specs.Values.{shape_of};
 ghost use Rattle.rack.specs.Settled.{AreSettled};
 ghost use Rattle.rack.specs.Formatted.{part_sizes, blank_parts, formatted_parts, free_segment, IsUnlabelledOrFormatted};
 ghost use Rattle.rack.specs.Left.{IsTold, LeavesImage, HasFailed, fault_of_bay};
+ghost use Rattle.wol_config.specs.Configs.{IsValid};
+ghost use Rattle.wol_config.specs.declared.config.VolumeConf.{VolumeConf};
+ghost use Rattle.rack.specs.Volumes.{shape_in};
 ghost use Rattle.rack.specs.declared.fault.PartName.{PartName};
 
 use crate::content::Content;
@@ -18,7 +21,7 @@ use log_layout::{Label, View};
 use spin_model::{Awake, Spindle};
 use std::alloc::Global;
 use wol_bay::{Bay, BayFault};
-use wol_config::VolumeConf;
+use wol_config::{Config, VolumeConf};
 use wol_disk::{Disk, NoMemory};
 
 // The place of the part of label and view.
@@ -26,6 +29,23 @@ const LABEL: usize = 0;
 
 // The place of the home. The segments stand behind it.
 const HOME: usize = 1;
+
+/// The label that the configuration asks for.
+pub(crate) fn label_of(config: &Config, id: u32) -> Label
+    requires config { IsValid config.now }
+    requires within { id < length config.now.volumes.items }
+    ensures id { result.id ≡ id }
+    ensures shape { (d : VolumeConf) → shape_of result ≡ shape_in config.now (slice_index_or config.now.volumes.items id d) }
+    ensures in_range { IsShape (shape_of result) }
+{
+    let volume = &config.volumes[id as usize];
+    Label {
+        id,
+        home: volume.home,
+        segments: volume.segments,
+        segment_blocks: config.segment_blocks,
+    }
+}
 
 /// The sizes of the parts of an image, in blocks.
 pub(crate) fn part_sizes(alloc: Global, label: &Label) -> Result<Vec<u64>, NoMemory>

@@ -28,8 +28,8 @@ pub(crate) enum ImageFault {
     SegmentFault(u32),
 }
 
-// The place in its image of a segment's first block.
-fn head_place(label: &Label, index: u32) -> u64
+/// The place in its image of a segment's first block.
+pub(crate) fn head_place(label: &Label, index: u32) -> u64
     requires { IsShape (shape_of label.now) }
     ensures { result ≡ head_place (shape_of label.now) index }
 {

@@ -1,0 +1,74 @@
+-- A rack, whatever its volumes were told since it was opened: what it needs to be closed.
+use Rattle.std.specs.Prelude.{◌≡◌, ◌<◌, ◌↔◌, ℕ, List, length, map, None, Some, slice_get, slice_index_or, Contains, All, IsSome}
+use Rattle.std.specs.List.{AllByRecursion}
+use Rattle.wol_disk.specs.Disk.{State}
+use Rattle.wol_model.specs.Heads.{Shape}
+use Rattle.wol_bay.specs.Bay.{BayState, IsHome, IsOut}
+use Rattle.wol_config.specs.declared.config.Config.{Config}
+use Rattle.wol_config.specs.declared.config.VolumeConf.{VolumeConf}
+use Rattle.turn_lock.specs.Passes.{lock_id, lock_passes, pass_mine}
+use Rattle.turn_lock.specs.declared.lock.TurnLock.{TurnLock}
+use Rattle.turn_lock.specs.declared.pass.PassOf.{PassOf}
+use Rattle.spin_model.specs.declared.spindle.Spindle.{Spindle}
+use Rattle.spin_model.specs.declared.spindle.SpindleBase.{SpindleBase}
+use Rattle.wol_model.specs.History.{worker, helper, keeper}
+use Rattle.logger.specs.declared.shared.Shared.{Shared}
+use Rattle.manager.specs.Stands.{IsShared}
+use Rattle.manager.specs.declared.base.LaneBase.{LaneBase}
+use Rattle.manager.specs.declared.base.ManagerBase.{ManagerBase}
+use Rattle.manager.specs.declared.station.Station.{Station}
+use Rattle.rack.specs.Formatted.{part_sizes}
+use Rattle.rack.specs.Volumes.{shape_in, shapes_of}
+use Rattle.rack.specs.Rests.{IsPassAt, AreLocks, IsRest, IsImageOut, image_here}
+use Rattle.rack.specs.declared.rack.ImageRest.{ImageRest}
+use Rattle.rack.specs.declared.rack.Rack.{Rack}
+
+-- what a station's manager began with
+abbrev pub base_of_station : {D : Type 0} → Station D → ManagerBase
+base_of_station s = (lock_id s.lock).base
+
+-- a manager of a volume whose image is out, over the locks of these shared ones and its own passes of them
+pub record IsOpenBase {D : Type 0} (config : Config) (shared : Shared D) (images : List (Rattle.std.specs.Prelude.Option (ImageRest D))) (b : ManagerBase) : Type 0 where
+  pub out : IsImageOut images b.volume.began.owner
+  pub home_blocks : (s : Shape) → slice_get (shapes_of config) b.volume.began.owner ≡ Some s → b.volume.began.home_blocks ≡ s.home
+  pub at : IsShared shared b
+  pub loggers : map (λ (l : LaneBase). l.logger) b.lanes ≡ b.volume.began.view
+  pub loggers_out : AllByRecursion (IsImageOut images) b.volume.began.view
+  pub own_spindle : b.spindle_number ≡ b.volume.began.owner
+  pub own_lanes : AllByRecursion (λ (l : LaneBase). (l.pool_number ≡ b.volume.began.owner) × (l.spindle_number ≡ b.volume.began.owner)) b.lanes
+
+-- the lock of a volume's manager with its three passes, each in no turn
+pub record IsStation {D : Type 0} (s : Station D) : Type 0 where
+  pub id : (base_of_station s).volume.began.owner ≡ s.id
+  pub passes : lock_passes s.lock ≡ 3
+  pub worker_ : IsPassAt s.lock worker s.worker
+  pub helper_ : IsPassAt s.lock helper s.helper
+  pub keeper_ : IsPassAt s.lock keeper s.keeper
+
+-- the numbers rise
+abbrev pub AreRising : List ℕ → Type 0
+AreRising ns = (i j n m : ℕ) → i < j → slice_get ns i ≡ Some n → slice_get ns j ≡ Some m → n < m
+
+-- a keeper's pass of each spindle's lock, in no turn
+abbrev pub AreKeepers : {D : Type 0} → Config → Shared D → List (PassOf Spindle SpindleBase) → Type 0
+AreKeepers config shared keepers =
+    (length keepers ≡ length (shapes_of config))
+    × ((k : ℕ) (l : TurnLock Spindle SpindleBase) (p : PassOf Spindle SpindleBase) → slice_get shared.spindles.items k ≡ Some l → slice_get keepers k ≡ Some p → IsPassAt l (length (shapes_of config)) p)
+
+-- the names of the images that are out are out with the sizes of their parts, and the others aren't
+abbrev pub AreOut : {D : Type 0} → Config → List (Rattle.std.specs.Prelude.Option (ImageRest D)) → BayState → Type 0
+AreOut config images b = (k : ℕ) (v : VolumeConf) → slice_get config.volumes.items k ≡ Some v
+    → (IsImageOut images k → IsOut v.name (part_sizes (shape_in config v)) b) × (image_here images k ≡ None → IsHome v.name b)
+
+-- The rack is whole: each lock, station and pass is there, each pass in no turn, and each part is in one place. A volume has a
+-- station exactly where it has no fault.
+pub record IsRack {D : Type 0} (state : D → State) (config : Config) (b : BayState) (r : Rack D) : Type 0 where
+  pub out : AreOut config r.rest.images.items b
+  pub locks : AreLocks config r.shared
+  pub keepers : AreKeepers config r.shared r.keepers.items
+  pub stations : All (λ s. IsStation s) r.stations.items
+  pub rising : AreRising (map (λ (s : Station D). s.id) r.stations.items)
+  pub bases : All (λ s. IsOpenBase config r.shared r.rest.images.items (base_of_station s)) r.stations.items
+  pub fault_count : length r.faults.items ≡ length (shapes_of config)
+  pub faults : (k : ℕ) → k < length (shapes_of config) → (slice_index_or r.faults.items k None ≡ None) ↔ Contains (map (λ (s : Station D). s.id) r.stations.items) k
+  pub rest : IsRest state config r.shared (map (λ (s : Station D). base_of_station s) r.stations.items) r.rest

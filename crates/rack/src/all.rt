@@ -1,0 +1,108 @@
+// All volumes of a bay are opened.
+ghost use Rattle.std.specs.Prelude.{◌≡◌, ◌≤◌, ◌++◌, option_map, IfOk, OnErr, IfSome, IsTrue};
+ghost use Rattle.wol_bay.specs.Bay.{outs};
+ghost use Rattle.wol_config.specs.Configs.{IsValid};
+ghost use Rattle.rack.specs.Left.{IsTold, AreNamedApart};
+ghost use Rattle.rack.specs.Volumes.{NoneOut};
+ghost use Rattle.rack.specs.Racks.{IsRack};
+ghost use Rattle.rack.specs.Opens.{out_names, BeganWith, AreRefused, LeavesAll, KeepsAllSound};
+
+use crate::closing::close_all;
+use crate::images::{Images, open_images};
+use crate::lists::Lists;
+use crate::locks::{Issued, IssuedPool, end_spindles, issue_spindles};
+use crate::pools::issue_pools;
+use crate::rack::Rack;
+use crate::rest::give_back;
+use spin_model::Spindle;
+use std::alloc::Global;
+use std::sync::Wait;
+use wol_bay::Bay;
+use wol_config::Config;
+use wol_disk::{Disk, NoMemory};
+
+// The images that are out, and the locks of all spindles and pools.
+struct Taken<D: Disk> {
+    images: Images<D>,
+    spindles: Vec<Issued<Spindle>>,
+    pools: Vec<IssuedPool<D>>,
+}
+
+// Takes the images out and makes the locks. Where there is no memory each image is in the bay.
+fn take_out<R: Wait, B: Bay>(
+    alloc: Global,
+    rt: &R,
+    bay: &mut B,
+    config: &Config,
+) -> Result<Taken<B::Part>, NoMemory> {
+    let count = config.volumes.len() as u32;
+    let mut spindles = issue_spindles(alloc, count, config.timeout)?;
+    let Images {
+        said,
+        mut out,
+        faults,
+    } = match open_images(alloc, rt, bay, config, &mut spindles) {
+        Ok(images) => images,
+        Err(NoMemory) => {
+            end_spindles(spindles);
+            return Err(NoMemory);
+        }
+    };
+    match issue_pools(alloc, config, said.as_slice(), out.as_mut_slice()) {
+        Ok(pools) => Ok(Taken {
+            images: Images { said, out, faults },
+            spindles,
+            pools,
+        }),
+        Err(NoMemory) => {
+            give_back(bay, config, out);
+            end_spindles(spindles);
+            Err(NoMemory)
+        }
+    }
+}
+
+/// Opens all volumes of the configuration. First the images are taken out of the bay in order, and each is refused or read;
+/// then the volumes whose images are out are opened in order. A volume that isn't opened has its fault.
+///
+/// After `NoMemory` every image is back in the bay.
+pub fn open_all<R: Wait, B: Bay>(
+    alloc: Global,
+    rt: &R,
+    bay: &mut B,
+    config: &Config,
+) -> Result<Rack<B::Part>, NoMemory>
+    requires config { IsValid config.now }
+    requires home { NoneOut config.now (B.state bay.old) }
+    ensures rack { IfOk result (IsRack B.Part.state config.now (B.state bay.new)) }
+    ensures out { IfOk result (λ r. outs (B.state bay.new) ≡ option_map (λ os. os ++ out_names config.now config.now.volumes.items r.rest.images.items) (outs (B.state bay.old))) }
+    ensures began { IfOk result (λ r. IsTrue B.Part.tells → IfSome (B.state bay.old).told (λ t. AreNamedApart t → BeganWith B.Part.state config.now t r)) }
+    ensures refused { IfOk result (AreRefused B.Part.tells B.Part.state config.now (B.state bay.old) (B.state bay.new)) }
+    ensures home { OnErr result (outs (B.state bay.new) ≡ outs (B.state bay.old)) }
+    // each image left in the bay recovers to what one at entry did, also after a stop within
+    ensures left { OnErr result (IsTrue B.Part.tells → IsTold (LeavesAll config.now) (B.state bay.old).told (B.state bay.new).told) }
+    ensures sound { OnErr result (IsTrue B.Part.tells → IsTold (KeepsAllSound config.now) (B.state bay.old).told (B.state bay.new).told) }
+    ensures counts { (B.state bay.old).faults ≤ (B.state bay.new).faults }
+{
+    let lists = Lists::new(alloc, config.volumes.len())?;
+    let Taken {
+        images,
+        spindles,
+        pools,
+    } = match take_out(alloc, rt, bay, config) {
+        Ok(taken) => taken,
+        Err(NoMemory) => {
+            lists.destroy();
+            return Err(NoMemory);
+        }
+    };
+    let Images { said, out, faults } = images;
+    let mut rack = lists.filled(spindles, pools, out, faults);
+    match rack.open_volumes(alloc, rt, config, said.as_slice()) {
+        Ok(()) => Ok(rack),
+        Err(NoMemory) => {
+            let _spindles = close_all(rack, bay, config);
+            Err(NoMemory)
+        }
+    }
+}

@@ -1,0 +1,146 @@
+// A rack is closed.
+ghost use Rattle.std.specs.Prelude.{◌≡◌, ◌≤◌, ◌++◌, ℕ, List, length, Some, All, IsTrue, slice_get};
+ghost use Rattle.wol_bay.specs.Bay.{Name, Told, outs, at_name, IsHome};
+ghost use Rattle.wol_config.specs.Configs.{IsValid};
+ghost use Rattle.spin_model.specs.Spindles.{SpindleView};
+ghost use Rattle.rack.specs.Left.{IsTold};
+ghost use Rattle.rack.specs.Volumes.{NoneOut, shapes_of};
+ghost use Rattle.rack.specs.Racks.{IsRack};
+ghost use Rattle.rack.specs.Opens.{out_names, BeganWith, KeepsAllSound};
+ghost use Rattle.rack.specs.Closes.{IsClosedSpindle, Closes, LeavesNoneOut};
+
+use crate::pools::empty_pool;
+use crate::rack::{PoolPass, Rack, Rest};
+use crate::rest::give_back;
+use log_segment::FreeSegment;
+use logger::Shared;
+use manager::Station;
+use seg_pool::Pool;
+use spin_model::Spindle;
+use turn_lock::{Pass, TurnLock};
+use wol_bay::Bay;
+use wol_config::Config;
+use wol_disk::Disk;
+
+impl<D: Disk> Rest<D> {
+    // Each station's lock is closed, and what its manager had comes back.
+    fn close_stations(&mut self, stations: Vec<Station<D>>) {
+        let mut stations = stations;
+        while let Some(station) = stations.pop() {
+            let Station {
+                id,
+                lock,
+                worker,
+                helper,
+                keeper,
+            } = station;
+            let Some(mut passes) = self.rooms.managers.pop() else {
+                unreachable!()
+            };
+            passes.push_reserved(worker);
+            passes.push_reserved(helper);
+            passes.push_reserved(keeper);
+            let manager = lock.close(passes);
+            self.put_manager(id, manager.release());
+        }
+        stations.destroy_empty();
+    }
+
+    // The pool of volume `id` is closed, and its segments come back.
+    fn close_pool(
+        &mut self,
+        id: usize,
+        lock: TurnLock<Pool<FreeSegment<D>>>,
+        room: Vec<PoolPass<D>>,
+    ) {
+        let mut room = room;
+        for volume in self.passes.iter_mut() {
+            let Some(pass) = volume.pools[id].take() else {
+                unreachable!()
+            };
+            room.push_reserved(pass);
+        }
+        let pool = lock.close(room);
+        empty_pool(pool, &mut self.images[id]);
+    }
+
+    // All pools are closed.
+    fn close_pools(&mut self, locks: Vec<TurnLock<Pool<FreeSegment<D>>>>) {
+        let mut locks = locks;
+        while let Some(lock) = locks.pop() {
+            let Some(room) = self.rooms.pools.pop() else {
+                unreachable!()
+            };
+            self.close_pool(locks.len(), lock, room);
+        }
+        locks.destroy_empty();
+    }
+
+    // The spindle of volume `id` is closed.
+    fn close_spindle(
+        &mut self,
+        id: usize,
+        lock: TurnLock<Spindle>,
+        keeper: Pass<Spindle>,
+        room: Vec<Pass<Spindle>>,
+    ) -> Spindle {
+        let mut room = room;
+        for volume in self.passes.iter_mut() {
+            let Some(pass) = volume.spindles[id].take() else {
+                unreachable!()
+            };
+            room.push_reserved(pass);
+        }
+        room.push_reserved(keeper);
+        lock.close(room)
+    }
+
+    // All spindles are closed. They stand in the room for them then, the last first.
+    fn close_spindles(&mut self, locks: Vec<TurnLock<Spindle>>, keepers: Vec<Pass<Spindle>>) {
+        let (mut locks, mut keepers) = (locks, keepers);
+        while let Some(lock) = locks.pop() {
+            let (Some(keeper), Some(room)) = (keepers.pop(), self.rooms.spindles.pop()) else {
+                unreachable!()
+            };
+            let spindle = self.close_spindle(locks.len(), lock, keeper, room);
+            self.rooms.closed.push_reserved(spindle);
+        }
+        locks.destroy_empty();
+    }
+}
+
+/// Closes a rack that `open_all` opened over this bay with this configuration. Each part goes back to its image, and each image
+/// that is out to the bay. The spindles come in order. It takes no memory.
+pub fn close_all<B: Bay>(rack: Rack<B::Part>, bay: &mut B, config: &Config) -> Vec<Spindle>
+    requires config { IsValid config.now }
+    requires rack { IsRack B.Part.state config.now (B.state bay.old) rack }
+    ensures none_out { NoneOut config.now (B.state bay.new) }
+    ensures home { LeavesNoneOut config.now rack (outs (B.state bay.old)) (outs (B.state bay.new)) }
+    ensures count { length result.items ≡ length (shapes_of config.now) }
+    ensures spindles { (k : ℕ) (s : SpindleView) → slice_get result.items k ≡ Some s → IsClosedSpindle rack k s }
+    ensures images { IsTrue B.Part.tells → IsTold (λ old new. Closes B.Part.state config.now rack new) (B.state bay.old).told (B.state bay.new).told }
+    // since the rack was opened
+    ensures sound { (entry : Told) → IsTrue B.Part.tells → BeganWith B.Part.state config.now entry rack → IsTold (λ old new. KeepsAllSound config.now entry new) (B.state bay.old).told (B.state bay.new).told }
+    ensures counts { (B.state bay.old).faults ≤ (B.state bay.new).faults }
+{
+    let Rack {
+        shared,
+        keepers,
+        stations,
+        faults: _,
+        mut rest,
+    } = rack;
+    let Shared { pools, spindles } = shared;
+    rest.close_stations(stations);
+    rest.close_pools(pools);
+    rest.close_spindles(spindles, keepers);
+    let Rest {
+        images,
+        passes: _,
+        rooms,
+    } = rest;
+    give_back(bay, config, images);
+    let mut closed = rooms.closed;
+    closed.reverse();
+    closed
+}

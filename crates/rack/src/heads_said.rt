@@ -1,0 +1,51 @@
+// What the images that are out say, while volumes are opened.
+use crate::attach::{OutImage, OutParts};
+use crate::parts::ImageParts;
+use crate::rack::ImageRest;
+use log_layout::{SegHead, View};
+use spin_model::Spun;
+use wol_disk::Disk;
+
+/// The view of an image, and the heads of its segments.
+#[derive(Drop)]
+pub(crate) struct Said {
+    pub view: View,
+    pub heads: Vec<SegHead>,
+}
+
+impl Said {
+    /// How many segments the volume owns in this image.
+    pub(crate) fn owned(&self, owner: u32) -> usize {
+        self.heads
+            .iter()
+            .filter(|head| **head == SegHead::Owned(owner))
+            .count()
+    }
+}
+
+/// All parts of an image that is out are here, in this empty list of segments.
+pub(crate) fn lay_out<D: Disk>(
+    image: OutImage<D>,
+    segments: Vec<Option<Spun<D>>>,
+) -> (Said, ImageRest<D>) {
+    let OutImage { parts, view, heads } = image;
+    let OutParts { image, room } = parts;
+    let ImageParts {
+        label,
+        home,
+        segments: mut row,
+    } = image;
+    let mut segments = segments;
+    row.reverse();
+    while let Some(part) = row.pop() {
+        segments.push_reserved(Some(part));
+    }
+    let rest = ImageRest {
+        label,
+        home: Some(home),
+        segments,
+        row,
+        room,
+    };
+    (Said { view, heads }, rest)
+}

@@ -1,0 +1,168 @@
+// What comes back to the rest of a rack, and the images that go back to their bay.
+ghost use Rattle.std.specs.Prelude.{◌≡◌, ◌<◌, None, Some, length, IsSome, IfSome};
+ghost use Rattle.rack.specs.Rests.{segment_here};
+ghost use Rattle.rack.specs.Making.{IsFilled};
+
+use crate::parts::ImageParts;
+use crate::rack::{ImageRest, Rest};
+use logger::{Lane, LaneParts};
+use manager::ManagerParts;
+use manager_recovery::{Opening, OwnedPart};
+use spin_model::{Spindle, Spun};
+use std::mem;
+use turn_lock::Pass;
+use wol_bay::Bay;
+use wol_config::Config;
+use wol_disk::Disk;
+
+// Fills a place that was empty.
+fn fill<T>(place: &mut Option<T>, value: T)
+    requires { place.old ≡ None }
+    ensures { place.new ≡ Some value }
+{
+    let old = mem::replace(place, Some(value));
+    let None = old else { unreachable!() };
+}
+
+/// A segment comes back to what is here of its image.
+pub(crate) fn put_segment<D: Disk>(image: &mut Option<ImageRest<D>>, index: u32, part: Spun<D>)
+    requires there { IsSome image.old }
+    requires here { IfSome image.old (λ r. (index < length r.segments.items) × (segment_here r index ≡ None)) }
+    ensures there { IsSome image.new }
+    ensures filled { IfSome image.old (λ r. IfSome image.new (λ n. IsFilled r n index part)) }
+{
+    let Some(image) = image else { unreachable!() };
+    image.put(index, part);
+}
+
+impl<D: Disk> Rest<D> {
+    // A lane of volume `id` comes back.
+    fn put_lane(&mut self, id: u32, lane: Lane<D>) {
+        let LaneParts {
+            logger,
+            mut held,
+            pool,
+            spindle,
+        } = lane.release();
+        while let Some((index, part)) = held.pop() {
+            put_segment(&mut self.images[logger as usize], index, part);
+        }
+        held.destroy_empty();
+        let passes = &mut self.passes[id as usize];
+        fill(&mut passes.pools[logger as usize], pool);
+        fill(&mut passes.spindles[logger as usize], spindle);
+    }
+
+    /// Lanes of volume `id` come back.
+    pub(crate) fn put_lanes(&mut self, id: u32, lanes: Vec<Lane<D>>) {
+        let mut lanes = lanes;
+        while let Some(lane) = lanes.pop() {
+            self.put_lane(id, lane);
+        }
+        lanes.destroy_empty();
+    }
+
+    // The home of volume `id` comes back, with the pass of its spindle.
+    fn put_home(&mut self, id: u32, home: Spun<D>, spindle: Pass<Spindle>) {
+        let Some(image) = &mut self.images[id as usize] else {
+            unreachable!()
+        };
+        fill(&mut image.home, home);
+        fill(&mut self.passes[id as usize].spindles[id as usize], spindle);
+    }
+
+    /// What volume `id` was opened with comes back.
+    pub(crate) fn put_manager(&mut self, id: u32, parts: ManagerParts<D>) {
+        let ManagerParts {
+            home,
+            spindle,
+            lanes,
+        } = parts;
+        self.put_home(id, home, spindle);
+        self.put_lanes(id, lanes);
+    }
+
+    /// What volume `id` was to be opened with comes back.
+    pub(crate) fn put_opening(&mut self, id: u32, opening: Opening<D>) {
+        let Opening {
+            want: _,
+            label: _,
+            view: _,
+            present: _,
+            most: _,
+            home,
+            spindle,
+            lanes,
+            mut owned,
+        } = opening;
+        self.put_home(id, home, spindle);
+        self.put_lanes(id, lanes);
+        while let Some(
+            OwnedPart {
+                logger,
+                index,
+                first_block: _,
+                part,
+            },
+        ) = owned.pop()
+        {
+            put_segment(&mut self.images[logger as usize], index, part);
+        }
+        owned.destroy_empty();
+    }
+}
+
+impl<D: Disk> ImageRest<D> {
+    ghost use Rattle.std.specs.Prelude.{◌≡◌, ◌<◌, None, length};
+    ghost use Rattle.rack.specs.Rests.{segment_here};
+    ghost use Rattle.rack.specs.Making.{IsFilled};
+
+    // A segment comes back.
+    fn put(&mut self, index: u32, part: Spun<D>)
+        requires within { index < length self.old.segments.items }
+        requires none { segment_here self.old index ≡ None }
+        ensures { IsFilled self.old self.new index part }
+    {
+        fill(&mut self.segments[index as usize], part);
+    }
+
+    // The parts of an image all of which are here, for its bay.
+    fn into_parts(self) -> Vec<D> {
+        let ImageRest {
+            label,
+            home,
+            mut segments,
+            mut row,
+            room,
+        } = self;
+        segments.reverse();
+        while let Some(segment) = segments.pop() {
+            let Some(part) = segment else { unreachable!() };
+            row.push_reserved(part);
+        }
+        segments.destroy_empty();
+        let Some(home) = home else { unreachable!() };
+        ImageParts {
+            label,
+            home,
+            segments: row,
+        }
+        .put_together(room)
+    }
+}
+
+/// Each image that is out goes back to its bay, the last volume's first.
+pub(crate) fn give_back<B: Bay>(
+    bay: &mut B,
+    config: &Config,
+    images: Vec<Option<ImageRest<B::Part>>>,
+) {
+    let mut images = images;
+    while let Some(image) = images.pop() {
+        if let Some(image) = image {
+            let name = config.volumes[images.len()].name.as_str();
+            bay.detach(name, image.into_parts());
+        }
+    }
+    images.destroy_empty();
+}

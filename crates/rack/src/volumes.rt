@@ -1,0 +1,243 @@
+// The volumes whose images are out are opened.
+use crate::VolumeFault;
+use crate::heads_said::Said;
+use crate::image::label_of;
+use crate::rack::{Rack, Rest};
+use crate::reading::head_place;
+use log_layout::{SegHead, View};
+use logger::Lane;
+use manager::Station;
+use manager_recovery::{OpenRefusal, Opening, OwnedPart, open_volume};
+use spin_model::{Spindle, Spun};
+use std::alloc::Global;
+use std::sync::Wait;
+use turn_lock::{Pass, TurnLock};
+use wol_config::Config;
+use wol_disk::{Disk, NoMemory};
+
+impl<D: Disk> Rest<D> {
+    // Whether each volume's image is out.
+    fn present(&self, alloc: Global) -> Result<Vec<bool>, NoMemory> {
+        let mut present = Vec::with_capacity(alloc, self.images.len())?;
+        for image in self.images.iter() {
+            present.push_reserved(image.is_some());
+        }
+        Ok(present)
+    }
+
+    // A lane of volume `id` on the log of another.
+    fn take_lane(
+        &mut self,
+        alloc: Global,
+        config: &Config,
+        id: u32,
+        logger: u32,
+    ) -> Result<Lane<D>, NoMemory> {
+        let segments = config.volumes[logger as usize].segments;
+        let passes = &mut self.passes[id as usize];
+        let Some(pool) = passes.pools[logger as usize].take() else {
+            unreachable!()
+        };
+        let Some(spindle) = passes.spindles[logger as usize].take() else {
+            unreachable!()
+        };
+        match Lane::new(alloc, logger, id, segments, pool, spindle) {
+            Ok(lane) => Ok(lane),
+            Err((pool, spindle, NoMemory)) => {
+                passes.pools[logger as usize] = Some(pool);
+                passes.spindles[logger as usize] = Some(spindle);
+                Err(NoMemory)
+            }
+        }
+    }
+
+    // A lane for each logger of the view whose image is out, in view order. Where there is no memory all are back.
+    fn take_lanes(
+        &mut self,
+        alloc: Global,
+        config: &Config,
+        id: u32,
+        view: &View,
+    ) -> Result<Vec<Lane<D>>, NoMemory> {
+        let Ok(mut lanes) = Vec::with_capacity(alloc, view.len() as usize) else {
+            return Err(NoMemory);
+        };
+        for logger in view.ids() {
+            let place = *logger as usize;
+            if place < self.images.len() && self.images[place].is_some() {
+                match self.take_lane(alloc, config, id, *logger) {
+                    Ok(lane) => lanes.push_reserved(lane),
+                    Err(NoMemory) => {
+                        self.put_lanes(id, lanes);
+                        return Err(NoMemory);
+                    }
+                }
+            }
+        }
+        Ok(lanes)
+    }
+
+    // The segments of one image that the volume owns go behind `owned`.
+    fn take_owned_of(
+        &mut self,
+        config: &Config,
+        id: u32,
+        logger: u32,
+        said: &Said,
+        owned: &mut Vec<OwnedPart<D>>,
+    ) {
+        let Some(image) = &mut self.images[logger as usize] else {
+            unreachable!()
+        };
+        let label = label_of(config, logger);
+        for (index, head) in said.heads.iter().enumerate() {
+            if *head == SegHead::Owned(id) {
+                let Some(part) = image.segments[index].take() else {
+                    unreachable!()
+                };
+                owned.push_reserved(OwnedPart {
+                    logger,
+                    index: index as u32,
+                    first_block: head_place(&label, index as u32),
+                    part,
+                });
+            }
+        }
+    }
+
+    // All segments that the volume owns, by rising logger and index.
+    fn take_owned(
+        &mut self,
+        alloc: Global,
+        config: &Config,
+        id: u32,
+        said: &[Option<Said>],
+    ) -> Result<Vec<OwnedPart<D>>, NoMemory> {
+        let mut count = 0;
+        for said in said {
+            if let Some(said) = said {
+                count += said.owned(id);
+            }
+        }
+        let mut owned = Vec::with_capacity(alloc, count)?;
+        for (logger, said) in said.iter().enumerate() {
+            if let Some(said) = said {
+                self.take_owned_of(config, id, logger as u32, said, &mut owned);
+            }
+        }
+        Ok(owned)
+    }
+
+    // The home of the volume, and the pass of its spindle.
+    fn take_home(&mut self, id: u32) -> (Spun<D>, Pass<Spindle>) {
+        let Some(image) = &mut self.images[id as usize] else {
+            unreachable!()
+        };
+        let Some(home) = image.home.take() else {
+            unreachable!()
+        };
+        let Some(spindle) = self.passes[id as usize].spindles[id as usize].take() else {
+            unreachable!()
+        };
+        (home, spindle)
+    }
+
+    // What the volume is opened of. Where there is no memory all is here as it was.
+    fn take_opening(
+        &mut self,
+        alloc: Global,
+        config: &Config,
+        id: u32,
+        view: View,
+        said: &[Option<Said>],
+    ) -> Result<Opening<D>, NoMemory> {
+        let present = self.present(alloc)?;
+        let lanes = self.take_lanes(alloc, config, id, &view)?;
+        let owned = match self.take_owned(alloc, config, id, said) {
+            Ok(owned) => owned,
+            Err(NoMemory) => {
+                self.put_lanes(id, lanes);
+                return Err(NoMemory);
+            }
+        };
+        let (home, spindle) = self.take_home(id);
+        let want = label_of(config, id);
+        Ok(Opening {
+            want,
+            label: want,
+            view,
+            present,
+            most: config.most(),
+            home,
+            spindle,
+            lanes,
+            owned,
+        })
+    }
+}
+
+impl<D: Disk> Rack<D> {
+    // Opens one volume: it has a station then, or a fault. Where there is no memory all of it is in the rest.
+    fn open_one<R: Wait>(
+        &mut self,
+        alloc: Global,
+        rt: &R,
+        config: &Config,
+        id: u32,
+        view: View,
+        said: &[Option<Said>],
+    ) -> Result<(), NoMemory> {
+        let opening = self.rest.take_opening(alloc, config, id, view, said)?;
+        let manager = match open_volume(alloc, rt, &self.shared, opening) {
+            Ok(manager) => manager,
+            Err((refusal, opening)) => {
+                self.rest.put_opening(id, opening);
+                if refusal == OpenRefusal::NoMemory {
+                    return Err(NoMemory);
+                }
+                self.faults[id as usize] = Some(VolumeFault::Refused(refusal));
+                return Ok(());
+            }
+        };
+        match TurnLock::new(alloc, manager, 1, 2) {
+            Ok((lock, mut passes)) => {
+                let (Some(keeper), Some(helper), Some(worker)) = (
+                    passes.pop(),
+                    passes.pop(),
+                    passes.pop(),
+                ) else {
+                    unreachable!()
+                };
+                self.rest.rooms.managers.push_reserved(passes);
+                self.stations.push_reserved(Station {
+                    id,
+                    lock,
+                    worker,
+                    helper,
+                    keeper,
+                });
+                Ok(())
+            }
+            Err((manager, _)) => {
+                self.rest.put_manager(id, manager.release());
+                Err(NoMemory)
+            }
+        }
+    }
+
+    /// Opens the volumes whose images are out, in order. After want of memory some are open, and all of the others is in the rest.
+    pub(crate) fn open_volumes<R: Wait>(
+        &mut self,
+        alloc: Global,
+        rt: &R,
+        config: &Config,
+        said: &[Option<Said>],
+    ) -> Result<(), NoMemory> {
+        for (id, own) in said.iter().enumerate() {
+            if let Some(own) = own {
+                self.open_one(alloc, rt, config, id as u32, own.view, said)?;
+            }
+        }
+        Ok(())
+    }
+}
