@@ -20,7 +20,7 @@ use Rattle.spin_model.specs.declared.spindle.Spindle.{Spindle}
 use Rattle.spin_model.specs.declared.spindle.SpindleBase.{SpindleBase}
 use Rattle.manager.specs.Stands.{notes_of}
 use Rattle.manager.specs.declared.station.Station.{Station}
-use Rattle.rack.specs.Volumes.{shapes_of, AreLeft}
+use Rattle.volume_images.specs.Volumes.{shapes_of, AreLeft}
 use Rattle.rack.specs.Rests.{image_here}
 use Rattle.rack.specs.Racks.{base_of_station}
 use Rattle.rack.specs.Opens.{out_names}

@@ -15,21 +15,21 @@ use Rattle.manager_recovery.specs.Refused.{Refuses}
 use Rattle.manager_recovery.specs.declared.opening.Opening.{Opening}
 use Rattle.manager_recovery.specs.declared.refusal.OpenRefusal.{OpenRefusal}
 use Rattle.manager_recovery.specs.declared.refusal.OpenRefusal.TheVariants as open_refusal
-use Rattle.rack.specs.Accepted.{IsImageFault, head_place}
-use Rattle.rack.specs.Formatted.{part_sizes}
-use Rattle.rack.specs.Refusals.{IsCallFault}
+use Rattle.volume_images.specs.Accepted.{IsImageFault, head_place}
+use Rattle.volume_images.specs.Formatted.{part_sizes}
+use Rattle.volume_images.specs.Refusals.{IsCallFault}
 use Rattle.wol_promise.specs.Run.{LeavesEntry, KeepsSound}
-use Rattle.rack.specs.Left.{AreNamedApart}
-use Rattle.rack.specs.Volumes.{shape_in, shapes_of, AreLeft}
+use Rattle.volume_images.specs.Left.{AreNamedApart}
+use Rattle.volume_images.specs.Volumes.{shape_in, shapes_of, AreLeft}
 use Rattle.rack.specs.Rests.{image_here, segment_here, IsImageOut}
 use Rattle.rack.specs.Racks.{base_of_station}
 use Rattle.rack.specs.Owners.{images_taken, IsBegun, IsOpeningOf}
-use Rattle.rack.specs.declared.opening.ImageRefusal.{ImageRefusal}
-use Rattle.rack.specs.declared.opening.ImageRefusal.TheVariants as image_refusal
+use Rattle.volume_images.specs.declared.opening.ImageRefusal.{ImageRefusal}
+use Rattle.volume_images.specs.declared.opening.ImageRefusal.TheVariants as image_refusal
 use Rattle.rack.specs.declared.rack.ImageRest.{ImageRest}
 use Rattle.rack.specs.declared.rack.Rack.{Rack}
-use Rattle.rack.specs.declared.reading.ImageFault.{ImageFault}
-use Rattle.rack.specs.declared.reading.ImageFault.TheVariants as fault
+use Rattle.volume_images.specs.declared.reading.ImageFault.{ImageFault}
+use Rattle.volume_images.specs.declared.reading.ImageFault.TheVariants as fault
 use Rattle.rack.specs.declared.volume_fault.VolumeFault.{VolumeFault}
 use Rattle.rack.specs.declared.volume_fault.VolumeFault.TheVariants.{Absent, WrongLength, Refused, LabelFault, BayFailed}
 

@@ -13,8 +13,8 @@ use Rattle.spin_model.specs.Spun.{state_of}
 use Rattle.manager_recovery.specs.Opening.{AreInOrder}
 use Rattle.manager_recovery.specs.Owned.{Owned, all_owned, read_of, records_in, writes_in, heads_in, AreIntact, HaveNoTwins}
 use Rattle.manager_recovery.specs.declared.opening.Opening.{Opening}
-use Rattle.rack.specs.Accepted.{head_place}
-use Rattle.rack.specs.Volumes.{shapes_of, images_read}
+use Rattle.volume_images.specs.Accepted.{head_place}
+use Rattle.volume_images.specs.Volumes.{shapes_of, images_read}
 use Rattle.rack.specs.Rests.{image_here}
 use Rattle.rack.specs.declared.rack.ImageRest.{ImageRest}
 

@@ -17,8 +17,8 @@ use Rattle.manager.specs.Stands.{IsShared}
 use Rattle.manager.specs.declared.base.LaneBase.{LaneBase}
 use Rattle.manager.specs.declared.base.ManagerBase.{ManagerBase}
 use Rattle.manager.specs.declared.station.Station.{Station}
-use Rattle.rack.specs.Formatted.{part_sizes}
-use Rattle.rack.specs.Volumes.{shape_in, shapes_of}
+use Rattle.volume_images.specs.Formatted.{part_sizes}
+use Rattle.volume_images.specs.Volumes.{shape_in, shapes_of}
 use Rattle.rack.specs.Rests.{IsPassAt, AreLocks, IsRest, IsImageOut, image_here}
 use Rattle.rack.specs.declared.rack.ImageRest.{ImageRest}
 use Rattle.rack.specs.declared.rack.Rack.{Rack}

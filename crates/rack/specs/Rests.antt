@@ -19,7 +19,7 @@ use Rattle.seg_pool.specs.declared.pool.Pool.{Pool}
 use Rattle.log_segment.specs.declared.free.FreeSegment.{FreeSegment}
 use Rattle.logger.specs.declared.shared.Shared.{Shared}
 use Rattle.manager.specs.declared.base.ManagerBase.{ManagerBase}
-use Rattle.rack.specs.Volumes.{shapes_of}
+use Rattle.volume_images.specs.Volumes.{shapes_of}
 use Rattle.rack.specs.declared.rack.ImageRest.{ImageRest}
 use Rattle.rack.specs.declared.rack.Rest.{Rest}
 use Rattle.rack.specs.declared.rack.Rooms.{Rooms}

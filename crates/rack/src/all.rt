@@ -2,8 +2,8 @@
 ghost use Rattle.std.specs.Prelude.{◌≡◌, ◌≤◌, ◌++◌, option_map, IfOk, OnErr, IfSome, IsTrue};
 ghost use Rattle.wol_bay.specs.Bay.{outs};
 ghost use Rattle.wol_config.specs.Configs.{IsValid};
-ghost use Rattle.rack.specs.Left.{IsTold, AreNamedApart};
-ghost use Rattle.rack.specs.Volumes.{NoneOut};
+ghost use Rattle.volume_images.specs.Left.{IsTold, AreNamedApart};
+ghost use Rattle.volume_images.specs.Volumes.{NoneOut};
 ghost use Rattle.rack.specs.Racks.{IsRack};
 ghost use Rattle.rack.specs.Opens.{out_names, BeganWith, AreRefused, LeavesAll, KeepsAllSound};
 

@@ -3,8 +3,8 @@ ghost use Rattle.std.specs.Prelude.{◌≡◌, ◌≤◌, ◌++◌, ℕ, List, l
 ghost use Rattle.wol_bay.specs.Bay.{Name, Told, outs, at_name, IsHome};
 ghost use Rattle.wol_config.specs.Configs.{IsValid};
 ghost use Rattle.spin_model.specs.Spindles.{SpindleView};
-ghost use Rattle.rack.specs.Left.{IsTold};
-ghost use Rattle.rack.specs.Volumes.{NoneOut, shapes_of};
+ghost use Rattle.volume_images.specs.Left.{IsTold};
+ghost use Rattle.volume_images.specs.Volumes.{NoneOut, shapes_of};
 ghost use Rattle.rack.specs.Racks.{IsRack};
 ghost use Rattle.rack.specs.Opens.{out_names, BeganWith, KeepsAllSound};
 ghost use Rattle.rack.specs.Closes.{IsClosedSpindle, Closes, LeavesNoneOut};

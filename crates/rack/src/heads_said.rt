@@ -1,6 +1,6 @@
 // What the images that are out say, while volumes are opened.
-use crate::attach::{OutImage, OutParts};
-use crate::parts::ImageParts;
+use volume_images::{OutImage, OutParts};
+use volume_images::ImageParts;
 use crate::rack::ImageRest;
 use log_layout::{SegHead, View};
 use spin_model::Spun;

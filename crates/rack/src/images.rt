@@ -1,9 +1,9 @@
 // The images of a configuration are taken out of their bay.
 use crate::VolumeFault;
 use crate::heads_said::{Said, lay_out};
-use crate::image::label_of;
+use volume_images::label_of;
 use crate::locks::Issued;
-use crate::opening::open_image;
+use volume_images::open_image;
 use crate::rack::ImageRest;
 use crate::rest::give_back;
 use crate::volume_fault::fault_of_image;

@@ -3,7 +3,7 @@ ghost use Rattle.std.specs.Prelude.{◌≡◌, ◌<◌, None, Some, length, IsSo
 ghost use Rattle.rack.specs.Rests.{segment_here};
 ghost use Rattle.rack.specs.Making.{IsFilled};
 
-use crate::parts::ImageParts;
+use volume_images::ImageParts;
 use crate::rack::{ImageRest, Rest};
 use logger::{Lane, LaneParts};
 use manager::ManagerParts;

@@ -2,8 +2,8 @@
 ghost use Rattle.std.specs.Prelude.{◌≡◌};
 ghost use Rattle.rack.specs.Opens.{fault_in_image, fault_of_image};
 
-use crate::opening::ImageRefusal;
-use crate::reading::ImageFault;
+use volume_images::ImageRefusal;
+use volume_images::ImageFault;
 use manager::Part;
 use manager_recovery::OpenRefusal;
 

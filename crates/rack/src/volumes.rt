@@ -1,9 +1,9 @@
 // The volumes whose images are out are opened.
 use crate::VolumeFault;
 use crate::heads_said::Said;
-use crate::image::label_of;
+use volume_images::label_of;
 use crate::rack::{Rack, Rest};
-use crate::reading::head_place;
+use volume_images::head_place;
 use log_layout::{SegHead, View};
 use logger::Lane;
 use manager::Station;
