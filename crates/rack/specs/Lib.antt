@@ -3,4 +3,5 @@ pub mod Making
 pub mod Racks
 pub mod Owners
 pub mod Opens
+pub mod Closing
 pub mod Closes
