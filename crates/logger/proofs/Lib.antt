@@ -1,3 +1,4 @@
+pub mod AllHeld
 pub mod Held
 pub mod Indexes
 pub mod Rooms

@@ -1,5 +1,5 @@
 -- A lane as its manager sees it: the segments that one volume holds on one logger.
-use Rattle.std.specs.Prelude.{◌≡◌, ◌<◌, ◌≤◌, ◌⊎◌, ◌+◌, ◌-◌, ◌==◌, if◌then◌else◌, ◌∷◌, ◌++◌, ℕ, Bool, true, false, List, [], map, All, length, take, drop, slice_get, slice_set, remove, vec_len, vec_capacity, slice_index_or, Option, None, Some, IfSome, is_some, Result, Ok, Err, OnOk, OnErr, IsOk, IsErr}
+use Rattle.std.specs.Prelude.{◌≡◌, ◌<◌, ◌≤◌, ◌⊎◌, ◌+◌, ◌-◌, ◌==◌, if◌then◌else◌, ◌∷◌, ◌++◌, ℕ, Bool, true, false, List, [], map, All, length, take, drop, slice_get, slice_set, remove, vec_len, vec_capacity, slice_index_or, Contains, Option, None, Some, IfSome, is_some, Result, Ok, Err, OnOk, OnErr, IsOk, IsErr}
 use Rattle.std.specs.List.{AllByRecursion}
 use Rattle.std.specs.Option.{option_to_list}
 use Rattle.wol_disk.specs.Disk.{Block, State, Values, LeavesOnly, Rose}
@@ -99,6 +99,10 @@ pub record IsLane {D : Type 0} (state : D → State) (l : Lane D) : Type 0 where
   -- it has room for all segments of the logger, and room to hand them back
   pub room : length (pass_lock l.pool).base.holders ≤ segments_in l
   pub handing : (l.parts.items ≡ []) × (segments_in l ≤ vec_capacity l.parts)
+
+-- its pass of the pool holds no index but those of its segments; this is no part of `IsLane`, since at an opening the pass holds segments before the lane does
+abbrev pub HoldsAll : {D : Type 0} → Lane D → Type 0
+HoldsAll l = (index : ℕ) → holds (pass_lock l.pool).base (pass_number l.pool) (pass_mine l.pool) index ≡ true → Contains (indexes_in l) index
 
 -- what no call of a lane changes
 pub record IsSameLane {D : Type 0} (old new : Lane D) : Type 0 where

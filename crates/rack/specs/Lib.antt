@@ -5,3 +5,4 @@ pub mod Owners
 pub mod Opens
 pub mod Closing
 pub mod Closes
+pub mod Opening

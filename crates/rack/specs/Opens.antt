@@ -1,5 +1,5 @@
 -- What opening all volumes answers: why a volume is refused, what the others begin with, and what is left of the images.
-use Rattle.std.specs.Prelude.{⊤, ◌≡◌, ◌⊎◌, ◌+◌, ◌*◌, ℕ, List, [], ◌∷◌, ◌++◌, Bool, Option, None, Some, IfSome, slice_get, slice_range, All, IsTrue}
+use Rattle.std.specs.Prelude.{⊤, ◌≡◌, ◌⊎◌, ◌+◌, ◌*◌, ℕ, List, [], ◌∷◌, ◌++◌, Bool, true, Option, None, Some, IfSome, slice_get, slice_range, All, IsTrue}
 use Rattle.wol_disk.specs.Disk.{Block, State, Rose, IsImageOf, reads}
 use Rattle.wol_model.specs.Heads.{Shape}
 use Rattle.wol_bay.specs.Bay.{Name, Image, Told, BayState, at_name}
@@ -18,12 +18,13 @@ use Rattle.manager_recovery.specs.declared.refusal.OpenRefusal.TheVariants as op
 use Rattle.volume_images.specs.Accepted.{IsImageFault, head_place}
 use Rattle.volume_images.specs.Formatted.{part_sizes}
 use Rattle.volume_images.specs.Refusals.{IsCallFault}
-use Rattle.wol_promise.specs.Run.{LeavesEntry, KeepsSound}
+use Rattle.wol_model.specs.Images.{Images}
+use Rattle.wol_promise.specs.Run.{IsThere, KeepsSound}
 use Rattle.volume_images.specs.Left.{AreNamedApart}
 use Rattle.volume_images.specs.Volumes.{shape_in, shapes_of, AreLeft}
 use Rattle.rack.specs.Rests.{image_here, segment_here, IsImageOut}
 use Rattle.rack.specs.Racks.{base_of_station}
-use Rattle.rack.specs.Owners.{images_taken, IsBegun, IsOpeningOf}
+use Rattle.rack.specs.Owners.{images_taken, recovered_but, IsBegun, IsOpeningOf}
 use Rattle.volume_images.specs.declared.opening.ImageRefusal.{ImageRefusal}
 use Rattle.volume_images.specs.declared.opening.ImageRefusal.TheVariants as image_refusal
 use Rattle.rack.specs.declared.rack.ImageRest.{ImageRest}
@@ -116,9 +117,13 @@ abbrev pub AreRefused : {D : Type 0} → (tells : Bool) → (D → State) → Co
 AreRefused tells state config old new r = (k : ℕ) (v : VolumeConf) (f : VolumeFault) → slice_get config.volumes.items k ≡ Some v → slice_get r.faults.items k ≡ Some (Some f)
     → RefusesVolume tells state config r.rest.images.items old new k v f
 
--- whatever images a crash leaves, each volume that is there recovers to what it might have recovered to before
-abbrev pub LeavesAll : Config → Told → Told → Type 0
-LeavesAll config old new = LeavesEntry (shapes_of config) (AreLeft config old) (AreLeft config new)
+-- Whatever images a crash leaves, each volume that is there recovers to what it might have recovered to before, where the images
+-- that were refused give no segments.
+pub record LeavesAll {D : Type 0} (tells : Bool) (state : D → State) (config : Config) (b b' : BayState) (old new : Told) : Type 0 where
+  pub refused : ℕ → Bool
+  pub cause : (k : ℕ) (v : VolumeConf) → slice_get config.volumes.items k ≡ Some v → refused k ≡ true → (f : VolumeFault) × RefusesVolume {D} tells state config [] b b' k v f
+  pub left : (images : Images) → AreLeft config new images → (v : ℕ) → IsThere (shapes_of config) images v
+      → (before : Images) × AreLeft config old before × (recovered_but (shapes_of config) refused images v ≡ recovered_but (shapes_of config) refused before v)
 
 -- where all images that a crash might have left before were sound, all are
 abbrev pub KeepsAllSound : Config → Told → Told → Type 0

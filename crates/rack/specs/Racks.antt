@@ -1,12 +1,12 @@
 -- A rack, whatever its volumes were told since it was opened: what it needs to be closed.
-use Rattle.std.specs.Prelude.{◌≡◌, ◌<◌, ◌↔◌, ℕ, List, length, map, None, Some, slice_get, slice_index_or, Contains, All, IsSome}
+use Rattle.std.specs.Prelude.{◌≡◌, ◌<◌, ◌↔◌, ℕ, List, [], length, map, None, Some, slice_get, slice_index_or, Contains, All, IsSome}
 use Rattle.std.specs.List.{AllByRecursion}
 use Rattle.wol_disk.specs.Disk.{State}
 use Rattle.wol_model.specs.Heads.{Shape}
 use Rattle.wol_bay.specs.Bay.{BayState, IsHome, IsOut}
 use Rattle.wol_config.specs.declared.config.Config.{Config}
 use Rattle.wol_config.specs.declared.config.VolumeConf.{VolumeConf}
-use Rattle.turn_lock.specs.Passes.{lock_id, lock_passes, pass_mine}
+use Rattle.turn_lock.specs.Passes.{lock_id, lock_passes, pass_seen, pass_mine}
 use Rattle.turn_lock.specs.declared.lock.TurnLock.{TurnLock}
 use Rattle.turn_lock.specs.declared.pass.PassOf.{PassOf}
 use Rattle.spin_model.specs.declared.spindle.Spindle.{Spindle}
@@ -60,8 +60,26 @@ abbrev pub AreOut : {D : Type 0} → Config → List (Rattle.std.specs.Prelude.O
 AreOut config images b = (k : ℕ) (v : VolumeConf) → slice_get config.volumes.items k ≡ Some v
     → (IsImageOut images k → IsOut v.name (part_sizes (shape_in config v)) b) × (image_here images k ≡ None → IsHome v.name b)
 
--- The rack is whole: each lock, station and pass is there, each pass in no turn, and each part is in one place. A volume has a
--- station exactly where it has no fault.
+-- a pass that was not used yet
+pub record IsUnused {T B : Type 0} (p : PassOf T B) : Type 0 where
+  pub seen : pass_seen p ≡ []
+  pub mine : pass_mine p ≡ []
+
+-- no pass of these stations was used yet
+abbrev pub AreUnused : {D : Type 0} → List (Station D) → Type 0
+AreUnused {D} stations = All (λ (s : Station D). IsUnused s.worker × IsUnused s.helper × IsUnused s.keeper) stations
+
+-- All that closing needs: each lock, station and pass is there, each pass in no turn, and each part is in one place.
+pub record IsClosable {D : Type 0} (state : D → State) (config : Config) (b : BayState) (r : Rack D) : Type 0 where
+  pub out : AreOut config r.rest.images.items b
+  pub locks : AreLocks config r.shared
+  pub keepers : AreKeepers config r.shared r.keepers.items
+  pub stations : All (λ s. IsStation s) r.stations.items
+  pub rising : AreRising (map (λ (s : Station D). s.id) r.stations.items)
+  pub bases : All (λ s. IsOpenBase config r.shared r.rest.images.items (base_of_station s)) r.stations.items
+  pub rest : IsRest state config r.shared (map (λ (s : Station D). base_of_station s) r.stations.items) r.rest
+
+-- The rack is whole: it may be closed, and a volume has a station exactly where it has no fault.
 pub record IsRack {D : Type 0} (state : D → State) (config : Config) (b : BayState) (r : Rack D) : Type 0 where
   pub out : AreOut config r.rest.images.items b
   pub locks : AreLocks config r.shared

@@ -9,6 +9,7 @@ use Rattle.log_segment.specs.declared.free.FreeSegment.{FreeSegment}
 use Rattle.logger.specs.Lanes.{IsHeld, IsTaken, Claimed, IsSpot, to_taken}
 use Rattle.logger.specs.declared.lane.HeldSegment.{HeldSegment}
 use Rattle.logger.specs.declared.lane.Spot.{Spot}
+use Rattle.logger.proofs.AllHeld.{HoldsIn}
 use Rattle.logger.proofs.Held.{all_push}
 use Rattle.logger.proofs.Places.{if_some, room_left, claimed_indexes}
 use Rattle.logger.proofs.Results.{claimed_spot, spot_is}
@@ -54,6 +55,12 @@ returns-clause-lane g c =
       room = (let room = l.room in omega (arith, room, push.capacity));
       handing = (l.handing.0, omega (arith, l.handing.1, push.capacity));
     }
+
+pub returns-clause-all : goal.returns-clause-all
+returns-clause-all g c all =
+    let self = c.args.self.now in let has = sym c.replace-before.ensures.value ∙ c.in-Some.is in
+    let n : HeldSegment g.row.D.Denot = record { index = c.in-Some.index; segment = c.claim_and_append-segment.result.0 } in
+    subst (HoldsIn self.pool) (claimed_indexes self.held.items c.push_reserved.new.self.items n self.taken c.replace-before.new.dest (c.in-Some.index, c.in-Some.free) c.push_reserved.ensures.items refl has c.replace-before.ensures.after) all
 
 pub returns-clause-used : goal.returns-clause-used
 returns-clause-used g c = two_entries _ _ _ _ _ _ _ c.take_token-token.ensures.mine c.take_token-token.ensures.same.1 c.give_token.ensures.mine

@@ -103,7 +103,7 @@ returns-in-Ok-clause-ready g c =
     let head_is = its_head state m c.requires.ready up c.args.version r f index given fits mask c.head_of-head.result c.head_of-head.ensures.value in
     let flags = refill_set m.ups.items c.deref_mut.result.now r.lane true c.deref_mut.ensures.value in
     let entries = c.trim-in-Ok.ensures.entries ∙ given_entries state m c.requires.ready up c.args.version r f index given fits mask in
-    ready_then state m c.requires.ready up c.args.version r f index given fits mask l lane l' t.lane t.same t.taken t.used c.in-Ok.field-0 _ head_is c.in-Ok.ensures.moved c.trim-in-Ok.new.self _ entries flags
+    ready_then state m c.requires.ready up c.args.version r f index given fits mask l lane l' t.lane t.same t.all t.taken t.used c.in-Ok.field-0 _ head_is c.in-Ok.ensures.moved c.trim-in-Ok.new.self _ entries flags
 
 pub returns-in-Ok-clause-gone : goal.returns-in-Ok-clause-gone
 returns-in-Ok-clause-gone g c =
@@ -123,7 +123,7 @@ returns-in-Ok-clause-dropped g c =
     let head_is = its_head state m c.requires.ready up c.args.version r f index given fits mask c.head_of-head.result c.head_of-head.ensures.value in
     let flags = refill_set m.ups.items c.deref_mut.result.now r.lane true c.deref_mut.ensures.value in
     let entries = c.trim-in-Ok.ensures.entries ∙ given_entries state m c.requires.ready up c.args.version r f index given fits mask in
-    dropped_then state m c.requires.ready up c.args.version r f index given fits mask l lane l' t.lane t.same t.taken t.used c.in-Ok.field-0 _ head_is c.in-Ok.ensures.moved _ c.trim-in-Ok.new.self _ entries flags
+    dropped_then state m c.requires.ready up c.args.version r f index given fits mask l lane l' t.lane t.same t.all t.taken t.used c.in-Ok.field-0 _ head_is c.in-Ok.ensures.moved _ c.trim-in-Ok.new.self _ entries flags
 
 pub returns-in-Ok-clause-keeps : goal.returns-in-Ok-clause-keeps
 returns-in-Ok-clause-keeps g c =
@@ -135,7 +135,7 @@ returns-in-Ok-clause-keeps g c =
     let head_is = its_head state m c.requires.ready up c.args.version r f index given fits mask c.head_of-head.result c.head_of-head.ensures.value in
     let flags = refill_set m.ups.items c.deref_mut.result.now r.lane true c.deref_mut.ensures.value in
     let entries = c.trim-in-Ok.ensures.entries ∙ given_entries state m c.requires.ready up c.args.version r f index given fits mask in
-    keeps_then state m c.requires.ready up c.args.version r f index given fits mask l lane l' t.lane t.same t.taken t.used c.in-Ok.field-0 _ head_is c.in-Ok.ensures.moved g.D.Disk.tells c.trim-in-Ok.new.self _ entries flags
+    keeps_then state m c.requires.ready up c.args.version r f index given fits mask l lane l' t.lane t.same t.all t.taken t.used c.in-Ok.field-0 _ head_is c.in-Ok.ensures.moved g.D.Disk.tells c.trim-in-Ok.new.self _ entries flags
 
 pub returns-in-Ok-clause-any_moment : goal.returns-in-Ok-clause-any_moment
 returns-in-Ok-clause-any_moment g c told =
@@ -147,7 +147,7 @@ returns-in-Ok-clause-any_moment g c told =
     let head_is = its_head state m c.requires.ready up c.args.version r f index given fits mask c.head_of-head.result c.head_of-head.ensures.value in
     let flags = refill_set m.ups.items c.deref_mut.result.now r.lane true c.deref_mut.ensures.value in
     let entries = c.trim-in-Ok.ensures.entries ∙ given_entries state m c.requires.ready up c.args.version r f index given fits mask in
-    stops_then state m c.requires.ready up c.args.version r f index given fits mask l lane l' t.lane t.same t.taken t.used c.in-Ok.field-0 _ head_is c.in-Ok.ensures.moved g.D.Disk.tells g.met.D.Disk.sound told c.trim-in-Ok.new.self _ flags
+    stops_then state m c.requires.ready up c.args.version r f index given fits mask l lane l' t.lane t.same t.all t.taken t.used c.in-Ok.field-0 _ head_is c.in-Ok.ensures.moved g.D.Disk.tells g.met.D.Disk.sound told c.trim-in-Ok.new.self _ flags
 
 pub returns-in-Err-clause-fault : goal.returns-in-Err-clause-fault
 returns-in-Err-clause-fault g c =
@@ -158,7 +158,7 @@ returns-in-Err-clause-fault g c =
     let l' = c.trim.new.self in let t = c.trim.ensures in
     let head_is = its_head state m c.requires.ready up c.args.version r f index given fits mask c.head_of-head.result c.head_of-head.ensures.value in
     let flags = refill_set m.ups.items c.deref_mut.result.now r.lane true c.deref_mut.ensures.value in
-    (up, refl, cause_broke state m c.requires.ready up c.args.version r f index given fits mask l lane l' t.lane t.same t.taken t.used c.in-Err.field-0 _ head_is c.in-Err.ensures.moved c.logger.result c.logger.ensures _ flags)
+    (up, refl, cause_broke state m c.requires.ready up c.args.version r f index given fits mask l lane l' t.lane t.same t.all t.taken t.used c.in-Err.field-0 _ head_is c.in-Err.ensures.moved c.logger.result c.logger.ensures _ flags)
 
 pub returns-in-Err-clause-dropped : goal.returns-in-Err-clause-dropped
 returns-in-Err-clause-dropped g c =
@@ -169,7 +169,7 @@ returns-in-Err-clause-dropped g c =
     let l' = c.trim.new.self in let t = c.trim.ensures in
     let head_is = its_head state m c.requires.ready up c.args.version r f index given fits mask c.head_of-head.result c.head_of-head.ensures.value in
     let flags = refill_set m.ups.items c.deref_mut.result.now r.lane true c.deref_mut.ensures.value in
-    dropped_broke state m c.requires.ready up c.args.version r f index given fits mask l lane l' t.lane t.same t.taken t.used c.in-Err.field-0 _ head_is c.in-Err.ensures.moved c.logger.result c.logger.ensures _ flags Bool _
+    dropped_broke state m c.requires.ready up c.args.version r f index given fits mask l lane l' t.lane t.same t.all t.taken t.used c.in-Err.field-0 _ head_is c.in-Err.ensures.moved c.logger.result c.logger.ensures _ flags Bool _
 
 pub returns-in-Err-clause-broke : goal.returns-in-Err-clause-broke
 returns-in-Err-clause-broke g c =
@@ -180,7 +180,7 @@ returns-in-Err-clause-broke g c =
     let l' = c.trim.new.self in let t = c.trim.ensures in
     let head_is = its_head state m c.requires.ready up c.args.version r f index given fits mask c.head_of-head.result c.head_of-head.ensures.value in
     let flags = refill_set m.ups.items c.deref_mut.result.now r.lane true c.deref_mut.ensures.value in
-    stands_broke state m c.requires.ready up c.args.version r f index given fits mask l lane l' t.lane t.same t.taken t.used c.in-Err.field-0 _ head_is c.in-Err.ensures.moved c.logger.result c.logger.ensures _ flags g.D.Disk.tells g.met.D.Disk.sound
+    stands_broke state m c.requires.ready up c.args.version r f index given fits mask l lane l' t.lane t.same t.all t.taken t.used c.in-Err.field-0 _ head_is c.in-Err.ensures.moved c.logger.result c.logger.ensures _ flags g.D.Disk.tells g.met.D.Disk.sound
 
 pub returns-in-Err-clause-any_moment : goal.returns-in-Err-clause-any_moment
 returns-in-Err-clause-any_moment g c told =
@@ -191,4 +191,4 @@ returns-in-Err-clause-any_moment g c told =
     let l' = c.trim.new.self in let t = c.trim.ensures in
     let head_is = its_head state m c.requires.ready up c.args.version r f index given fits mask c.head_of-head.result c.head_of-head.ensures.value in
     let flags = refill_set m.ups.items c.deref_mut.result.now r.lane true c.deref_mut.ensures.value in
-    stops_broke state m c.requires.ready up c.args.version r f index given fits mask l lane l' t.lane t.same t.taken t.used c.in-Err.field-0 _ head_is c.in-Err.ensures.moved c.logger.result c.logger.ensures _ flags g.D.Disk.tells g.met.D.Disk.sound told
+    stops_broke state m c.requires.ready up c.args.version r f index given fits mask l lane l' t.lane t.same t.all t.taken t.used c.in-Err.field-0 _ head_is c.in-Err.ensures.moved c.logger.result c.logger.ensures _ flags g.D.Disk.tells g.met.D.Disk.sound told
