@@ -3,5 +3,6 @@ pub mod Making
 pub mod Racks
 pub mod Owners
 pub mod Opens
+pub mod Closing
 pub mod Closes
 pub mod Opening

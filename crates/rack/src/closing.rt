@@ -1,5 +1,7 @@
 // A rack is closed.
-ghost use Rattle.std.specs.Prelude.{◌≡◌, ◌≤◌, ◌++◌, ℕ, List, length, Some, All, IsTrue, slice_get};
+ghost use Rattle.std.specs.Prelude.{◌≡◌, ◌<◌, ◌≤◌, ◌++◌, ℕ, List, [], length, vec_capacity, Some, IsSome, All, IsTrue, slice_get, slice_index_or};
+ghost use Rattle.rack.specs.Closing.{spindle_in, AreSpindlesTaken};
+ghost use Rattle.rack.specs.declared.rack.VolumePasses.{VolumePasses};
 ghost use Rattle.wol_bay.specs.Bay.{Name, Told, outs, at_name, IsHome};
 ghost use Rattle.wol_config.specs.Configs.{IsValid};
 ghost use Rattle.spin_model.specs.Spindles.{SpindleView};
@@ -10,7 +12,7 @@ ghost use Rattle.rack.specs.Opens.{out_names, BeganWith, KeepsAllSound};
 ghost use Rattle.rack.specs.Closes.{IsClosedSpindle, Closes, LeavesNoneOut};
 
 use crate::pools::empty_pool;
-use crate::rack::{PoolPass, Rack, Rest};
+use crate::rack::{PoolPass, Rack, Rest, VolumePasses};
 use crate::rest::give_back;
 use log_segment::FreeSegment;
 use logger::Shared;
@@ -23,6 +25,10 @@ use wol_config::Config;
 use wol_disk::Disk;
 
 impl<D: Disk> Rest<D> {
+    ghost use Rattle.std.specs.Prelude.{◌≡◌, ◌≢◌, ◌≤◌, ◌+◌, ℕ, [], length, vec_capacity};
+    ghost use Rattle.rack.specs.Rests.{spindle_pass};
+    ghost use Rattle.rack.specs.Closing.{HasSpindlePasses, StandsClosed, CanCloseSpindles, AreClosed};
+
     // Each station's lock is closed, and what its manager had comes back.
     fn close_stations(&mut self, stations: Vec<Station<D>>) {
         let mut stations = stations;
@@ -83,20 +89,28 @@ impl<D: Disk> Rest<D> {
         lock: TurnLock<Spindle>,
         keeper: Pass<Spindle>,
         room: Vec<Pass<Spindle>>,
-    ) -> Spindle {
-        let mut room = room;
-        for volume in self.passes.iter_mut() {
-            let Some(pass) = volume.spindles[id].take() else {
-                unreachable!()
-            };
-            room.push_reserved(pass);
-        }
+    ) -> Spindle
+        requires passes { HasSpindlePasses self.old id lock keeper }
+        requires empty { room.items ≡ [] }
+        requires room { length self.old.passes.items + 1 ≤ vec_capacity room }
+        ensures spindle { StandsClosed lock keeper result }
+        ensures images { self.new.images ≡ self.old.images }
+        ensures rooms { self.new.rooms ≡ self.old.rooms }
+        ensures count { length self.new.passes.items ≡ length self.old.passes.items }
+        ensures others { (v k : ℕ) → k ≢ id → spindle_pass self.new v k ≡ spindle_pass self.old v k }
+    {
+        let mut room = gather_spindles(&mut self.passes, id, room);
         room.push_reserved(keeper);
         lock.close(room)
     }
 
     // All spindles are closed. They stand in the room for them then, the last first.
-    fn close_spindles(&mut self, locks: Vec<TurnLock<Spindle>>, keepers: Vec<Pass<Spindle>>) {
+    fn close_spindles(&mut self, locks: Vec<TurnLock<Spindle>>, keepers: Vec<Pass<Spindle>>)
+        requires locks { CanCloseSpindles locks.items keepers.items self.old }
+        requires empty { self.old.rooms.closed.items ≡ [] }
+        ensures closed { AreClosed locks.items keepers.items self.new.rooms.closed.items }
+        ensures images { self.new.images ≡ self.old.images }
+    {
         let (mut locks, mut keepers) = (locks, keepers);
         while let Some(lock) = locks.pop() {
             let (Some(keeper), Some(room)) = (keepers.pop(), self.rooms.spindles.pop()) else {
@@ -107,6 +121,41 @@ impl<D: Disk> Rest<D> {
         }
         locks.destroy_empty();
     }
+}
+
+impl<D: Disk> VolumePasses<D> {
+    ghost use Rattle.std.specs.Prelude.{◌≡◌, IsSome};
+    ghost use Rattle.rack.specs.Closing.{spindle_in, IsSpindleTaken};
+
+    // The pass of the spindle of volume `id` goes.
+    fn take_spindle(&mut self, id: usize) -> Pass<Spindle>
+        requires { IsSome (spindle_in self.old id) }
+        ensures { IsSpindleTaken id self.old self.new result }
+    {
+        let Some(pass) = self.spindles[id].take() else {
+            unreachable!()
+        };
+        pass
+    }
+}
+
+// Takes the pass of the spindle of volume `id` from each row, in order.
+fn gather_spindles<D: Disk>(
+    passes: &mut [VolumePasses<D>],
+    id: usize,
+    room: Vec<Pass<Spindle>>,
+) -> Vec<Pass<Spindle>>
+    requires there { (v : ℕ) (d : VolumePasses D) → v < length passes.old → IsSome (spindle_in (slice_index_or passes.old v d) id) }
+    requires empty { room.items ≡ [] }
+    requires room { length passes.old ≤ vec_capacity room }
+    ensures taken { AreSpindlesTaken id passes.old passes.new result.items }
+    ensures capacity { vec_capacity result ≡ vec_capacity room }
+{
+    let mut room = room;
+    for volume in passes.iter_mut() {
+        room.push_reserved(volume.take_spindle(id));
+    }
+    room
 }
 
 /// Closes a rack that `open_all` opened over this bay with this configuration. Each part goes back to its image, and each image

@@ -1,7 +1,17 @@
 // What comes back to the rest of a rack, and the images that go back to their bay.
-ghost use Rattle.std.specs.Prelude.{◌≡◌, ◌<◌, None, Some, length, IsSome, IfSome};
-ghost use Rattle.rack.specs.Rests.{segment_here};
+ghost use Rattle.std.specs.Prelude.{◌≡◌, ◌<◌, ◌≤◌, None, Some, length, IsSome, IfSome, slice_get};
+ghost use Rattle.wol_disk.specs.Disk.{Rose};
+ghost use Rattle.wol_bay.specs.Bay.{outs, IsOut};
+ghost use Rattle.wol_config.specs.Configs.{IsValid};
+ghost use Rattle.wol_config.specs.declared.config.VolumeConf.{VolumeConf};
+ghost use Rattle.volume_images.specs.Formatted.{part_sizes};
+ghost use Rattle.volume_images.specs.Left.{IsTold};
+ghost use Rattle.volume_images.specs.Volumes.{NoneOut, shape_in};
+ghost use Rattle.rack.specs.Rests.{segment_here, IsImageRest, AreImageRests};
+ghost use Rattle.rack.specs.Racks.{AreOut};
 ghost use Rattle.rack.specs.Making.{IsFilled};
+ghost use Rattle.rack.specs.Closing.{IsComplete, AreComplete, IsImageBack, GivesBack, HasFaultHere, LeavesNoneOut};
+ghost use Rattle.rack.specs.declared.rack.ImageRest.{ImageRest};
 
 use volume_images::ImageParts;
 use crate::rack::{ImageRest, Rest};
@@ -156,13 +166,38 @@ pub(crate) fn give_back<B: Bay>(
     bay: &mut B,
     config: &Config,
     images: Vec<Option<ImageRest<B::Part>>>,
-) {
+)
+    requires config { IsValid config.now }
+    requires images { AreImageRests B.Part.state config.now images.items }
+    requires whole { AreComplete images.items }
+    requires out { AreOut config.now images.items (B.state bay.old) }
+    ensures none_out { NoneOut config.now (B.state bay.new) }
+    ensures home { LeavesNoneOut config.now images.items (outs (B.state bay.old)) (outs (B.state bay.new)) }
+    ensures back { IsTold (GivesBack B.Part.state config.now images.items 0) (B.state bay.old).told (B.state bay.new).told }
+    ensures cause { HasFaultHere B.Part.state images.items 0 → Rose (B.state bay.old).faults (B.state bay.new).faults }
+    ensures counts { (B.state bay.old).faults ≤ (B.state bay.new).faults }
+{
     let mut images = images;
     while let Some(image) = images.pop() {
-        if let Some(image) = image {
-            let name = config.volumes[images.len()].name.as_str();
-            bay.detach(name, image.into_parts());
-        }
+        give_image_back(bay, config, images.len(), image);
     }
     images.destroy_empty();
+}
+
+// The image of one volume goes back to its bay, where it is out.
+fn give_image_back<B: Bay>(
+    bay: &mut B,
+    config: &Config,
+    id: usize,
+    image: Option<ImageRest<B::Part>>,
+)
+    requires known { id < length config.now.volumes.items }
+    requires image { (v : VolumeConf) (r : ImageRest B.Part) → slice_get config.now.volumes.items id ≡ Some v → image ≡ Some r
+        → IsImageRest B.Part.state id (shape_in config.now v) r × IsComplete r × IsOut v.name (part_sizes (shape_in config.now v)) (B.state bay.old) }
+    ensures { (v : VolumeConf) → slice_get config.now.volumes.items id ≡ Some v → IsImageBack B.Part.state v.name image (B.state bay.old) (B.state bay.new) }
+{
+    if let Some(image) = image {
+        let name = config.volumes[id].name.as_str();
+        bay.detach(name, image.into_parts());
+    }
 }
