@@ -4,3 +4,4 @@ pub mod Racks
 pub mod Owners
 pub mod Opens
 pub mod Closes
+pub mod Parts
