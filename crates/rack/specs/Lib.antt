@@ -6,3 +6,4 @@ pub mod Opens
 pub mod Closing
 pub mod Closes
 pub mod Opening
+pub mod Parts

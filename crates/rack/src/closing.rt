@@ -11,6 +11,7 @@ ghost use Rattle.rack.specs.Racks.{IsRack};
 ghost use Rattle.rack.specs.Opens.{out_names, BeganWith, KeepsAllSound};
 ghost use Rattle.rack.specs.Closes.{IsClosedSpindle, Closes, LeavesNoneOut};
 
+use crate::lists::end_passes;
 use crate::pools::empty_pool;
 use crate::rack::{PoolPass, Rack, Rest, VolumePasses};
 use crate::rest::give_back;
@@ -185,9 +186,10 @@ pub fn close_all<B: Bay>(rack: Rack<B::Part>, bay: &mut B, config: &Config) -> V
     rest.close_spindles(spindles, keepers);
     let Rest {
         images,
-        passes: _,
+        passes,
         rooms,
     } = rest;
+    end_passes(passes);
     give_back(bay, config, images);
     let mut closed = rooms.closed;
     closed.reverse();
