@@ -1,6 +1,7 @@
 -- Parts that were cut from an image and read.
 use Rattle.std.proofs.Common.{◌≡◌, ⊎_elim, ℕ, zero, suc, ◌+◌, ◌-◌, ◌*◌, ◌<◌, List, [], ◌∷◌, length, map, take, drop, replicate, get_or, Option, Some, option_map, refl, sym, ap, ◌∙◌, subst, arith}
 use Rattle.std.specs.Prelude.{slice_range, unwrap_or}
+use Rattle.std.proofs.Math.Nat.{suc-mul, add-mul}
 use Rattle.std.proofs.lemmas.List.{take-map, drop-map, drop-drop}
 use Rattle.wol_disk.specs.Disk.{Block, Values, State, IsImageOf, reads, settled}
 use Rattle.wol_disk.proofs.Images.{settled_image}

@@ -1,1 +1,4 @@
 pub mod Issuing
+pub mod CutParts
+pub mod Asking
+pub mod SentNames

@@ -11,11 +11,9 @@ use Rattle.turn_lock.specs.declared.lock.TurnLock.{TurnLock}
 use Rattle.turn_lock.specs.declared.pass.PassOf.{PassOf}
 use Rattle.log_layout.specs.Values.{segment_head}
 use Rattle.log_layout.specs.declared.segment.SegHead.{SegHead}
-use Rattle.log_layout.specs.declared.segment.SegHead.TheVariants.{Free, Owned}
+use Rattle.log_layout.specs.declared.segment.SegHead.TheVariants.{Owned}
 use Rattle.log_segment.specs.declared.free.FreeSegment.{FreeSegment}
 use Rattle.seg_pool.specs.Holders.{holder}
-use Rattle.seg_pool.specs.declared.base.Holder.{Holder}
-use Rattle.seg_pool.specs.declared.base.Holder.TheVariants.{InPool, HeldBy}
 use Rattle.seg_pool.specs.declared.base.PoolBase.{PoolBase}
 use Rattle.seg_pool.specs.declared.pool.Pool.{Pool}
 use Rattle.spin_model.specs.Spun.{state_of}
@@ -27,6 +25,7 @@ use Rattle.volume_images.specs.Formatted.{part_sizes}
 use Rattle.volume_images.specs.Left.{IsTold, AreNamedApart}
 use Rattle.volume_images.specs.Volumes.{shape_in, shapes_of, MayLeave}
 use Rattle.rack.specs.Rests.{image_here, segment_here, pool_pass, IsImageOut, IsImageRest}
+use Rattle.rack.specs.Parts.{holder_by}
 use Rattle.rack.specs.Racks.{IsClosable, IsUnused, AreUnused}
 use Rattle.rack.specs.Closing.{IsComplete}
 use Rattle.rack.specs.Opens.{HadBefore, out_names, BeganWith, RefusesVolume}
@@ -169,15 +168,9 @@ pub record HasAllBack (tells : Bool) (b b' : BayState) : Type 0 where
 
 -- ---- The rack while its volumes are opened, of which the first n were tried
 
--- who has a segment with this head at the beginning
-abbrev pub holder_of : SegHead → Holder
-holder_of Free = InPool
-holder_of (Owned owner) = HeldBy owner
-
 -- the pools began with what the heads say
 abbrev pub BeganAsSaid : {D : Type 0} → List (TurnLock (Pool (FreeSegment D)) PoolBase) → List (Option Said) → Type 0
-BeganAsSaid {D} pools said = (k i : ℕ) (l : TurnLock (Pool (FreeSegment D)) PoolBase) (own : Said) (h : SegHead) → slice_get pools k ≡ Some l → said_at said k ≡ Some own
-    → slice_get own.heads.items i ≡ Some h → holder (lock_id l).base.holders i ≡ holder_of h
+BeganAsSaid {D} pools said = (k i : ℕ) (l : TurnLock (Pool (FreeSegment D)) PoolBase) → slice_get pools k ≡ Some l → holder (lock_id l).base.holders i ≡ holder_by (said_at said k) i
 
 -- nothing of the volumes from n on was touched: their passes weren't used, and their segments are here
 pub record AreUntouched {D : Type 0} (state : D → State) (volumes n : ℕ) (said : List (Option Said)) (r : Rest D) : Type 0 where
