@@ -96,17 +96,17 @@ module _ {D : Type 0} (tells : Bool) (state : D → State) (config : Config) whe
       go None s = absurd s
       go (Some t1) s = (t1, refl, s apart)
 
-  image_since : (b b1 b2 : BayState) (k : ℕ) (v : VolumeConf) (f : VolumeFault) → IsTold (SameAt v.name) b.told b1.told → b.faults ≤ b1.faults → RefusesImage {D} config [] b1 b2 k v f → RefusesImage {D} config [] b b2 k v f
+  image_since : (b b1 b2 : BayState) (k : ℕ) (v : VolumeConf) (f : VolumeFault) → IsTold (SameAt v.name) b.told b1.told → b.faults ≤ b1.faults → RefusesImage {D = D} config [] b1 b2 k v f → RefusesImage {D = D} config [] b b2 k v f
   image_since b b1 b2 k v f same le r = record {
     not_out = r.not_out;
     image_fault = r.image_fault;
     is_fault = r.is_fault;
-    said = λ t i told apart at. let then = told_there v.name t b.told b1.told told same apart in r.said then.0 i then.1.0 then.1.1.0 (then.1.1.1 ∙ at);
+    said = λ t i told apart at. let then = told_there v.name t b.told b1.told told same apart in r.said then.0 i then.1 then.2.0 (then.2.1 ∙ at);
     cause = λ call. rose_since b.faults b1.faults b2.faults le (r.cause call);
   }
 
   -- and was one before
-  pub refuses_since : (b b1 b2 : BayState) (k : ℕ) (v : VolumeConf) (f : VolumeFault) → IsTold (SameAt v.name) b.told b1.told → b.faults ≤ b1.faults → RefusesVolume {D} tells state config [] b1 b2 k v f → RefusesVolume {D} tells state config [] b b2 k v f
+  pub refuses_since : (b b1 b2 : BayState) (k : ℕ) (v : VolumeConf) (f : VolumeFault) → IsTold (SameAt v.name) b.told b1.told → b.faults ≤ b1.faults → RefusesVolume {D = D} tells state config [] b1 b2 k v f → RefusesVolume {D = D} tells state config [] b b2 k v f
   refuses_since b b1 b2 k v Absent same le r = (r.0, bay_since v.name (part_sizes (shape_in config v)) _ b.told b1.told same r.1)
   refuses_since b b1 b2 k v (WrongLength bytes) same le r = (r.0, bay_since v.name (part_sizes (shape_in config v)) _ b.told b1.told same r.1)
   refuses_since b b1 b2 k v BayFailed same le r = ((r.0.0, bay_since v.name (part_sizes (shape_in config v)) _ b.told b1.told same r.0.1), rose_since b.faults b1.faults b2.faults le r.1)
@@ -161,8 +161,8 @@ module _ {D : Type 0} (tells : Bool) (state : D → State) (config : Config) whe
           let is : r ≡ q = same_Some r q now.1 in
           let says_n : Some said ≡ Some own = sym said_new ∙ sym (ap (λ (j : ℕ). said_at i2.said.items j) now.0) ∙ says in
           let then = told_there v.name t b.told b1.told told same apart in
-          let new = next.entry telling then.0 then.1.0 then.1.1.0 in
-          let was_there : WasAtEntry state config t n v said r = record { image = new.image; there = sym then.1.1.1 ∙ new.there; says = new.says; cut = new.cut } in
+          let new = next.entry telling then.0 then.1 then.2.0 in
+          let was_there : WasAtEntry state config t n v said r = record { image = new.image; there = sym then.2.1 ∙ new.there; says = new.says; cut = new.cut } in
           let W : ℕ → VolumeConf → Said → ImageRest D → Type 0 = λ j u y x. WasAtEntry state config t j u y x in
           subst (λ (j : ℕ). W j w own q) (sym now.0) (subst (λ (u : VolumeConf). W n u own q) (same_volume k w now.0 found) (subst (λ (y : Said). W n v y q) (same_Some said own says_n) (subst (λ (x : ImageRest D). W n v said x) is was_there))))
           (push_cases i1.out.items (Some r) n asked.out_count k q (sym (ap (λ l. get_or l k None) pushes.out.0) ∙ here));

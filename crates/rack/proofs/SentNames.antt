@@ -50,7 +50,7 @@ names_differ config valid j k v w at at' other = λ same.
     (cases_lt j k)
 
 module _ {D : Type 0} (config : Config) where
-  none_out : (vs : List VolumeConf) → out_names {D} config vs [] ≡ []
+  none_out : (vs : List VolumeConf) → out_names {D = D} config vs [] ≡ []
   none_out [] = refl
   none_out (v ∷ vs) = refl
 
@@ -146,13 +146,13 @@ module _ {D : Type 0} (config : Config) where
     }
 
   -- before the first
-  pub none_sent : (b : BayState) → HasSentOut {D} config [] 0 b b
+  pub none_sent : (b : BayState) → HasSentOut {D = D} config [] 0 b b
   none_sent b = record { outs = same (outs b); stayed = stays b.told; counts = omega arith }
     where
-      same : (o : Option (List (Name × List ℕ))) → o ≡ option_map (λ os. os ++ out_names {D} config config.volumes.items []) o
+      same : (o : Option (List (Name × List ℕ))) → o ≡ option_map (λ os. os ++ out_names {D = D} config config.volumes.items []) o
       same None = refl
       same (Some os) = ap Some (sym (ap (λ (l : List (Name × List ℕ)). os ++ l) (none_out config.volumes.items) ∙ Rattle.std.proofs.Common.append-nil os))
 
-      stays : (o : Option Told) → IsTold (StayedSo {D} config [] 0) o o
+      stays : (o : Option Told) → IsTold (StayedSo {D = D} config [] 0) o o
       stays None = refl
       stays (Some t) = λ apart. record { apart = apart; stayed = λ name not c may. may; further = λ k w le found. refl }

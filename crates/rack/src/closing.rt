@@ -29,7 +29,7 @@ use wol_config::Config;
 use wol_disk::Disk;
 
 impl<D: Disk> Rest<D> {
-    ghost use Rattle.std.specs.Prelude.{◌≡◌, ◌≢◌, ◌≤◌, ◌+◌, ◌×◌, ℕ, [], length, map, vec_capacity, Some};
+    ghost use Rattle.std.specs.Prelude.{◌≡◌, ◌≢◌, ◌≤◌, ◌+◌, ℕ, [], length, map, vec_capacity, Some};
     ghost use Rattle.wol_model.specs.Heads.{Shape};
     ghost use Rattle.wol_config.specs.declared.config.Config.{Config};
     ghost use Rattle.logger.specs.declared.shared.Shared.{Shared};
