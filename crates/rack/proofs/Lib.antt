@@ -1,1 +1,4 @@
 pub mod Issuing
+pub mod Gathering
+pub mod OutNames
+pub mod GivingBack
