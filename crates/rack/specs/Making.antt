@@ -56,6 +56,8 @@ pub record AreNewRooms {D : Type 0} (volumes : ℕ) (r : Rooms D) : Type 0 where
 pub record AreEmptyPasses {D : Type 0} (volumes : ℕ) (p : VolumePasses D) : Type 0 where
   pub pools : (p.pools.items ≡ []) × (volumes ≤ vec_capacity p.pools)
   pub spindles : (p.spindles.items ≡ []) × (volumes ≤ vec_capacity p.spindles)
+  pub held_count : length p.held.items ≡ volumes
+  pub held : All (λ list. list.items ≡ []) p.held.items
 
 pub record AreLists {D : Type 0} (volumes : ℕ) (l : Lists D) : Type 0 where
   pub shared : IsEmptyShared volumes l.shared

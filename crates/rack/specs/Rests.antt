@@ -1,6 +1,10 @@
 -- What the rest of a rack keeps: parts of images, and passes. `state` is that of a part's disk.
-use Rattle.std.specs.Prelude.{⊤, ◌≡◌, ◌≢◌, ◌↔◌, ◌⊎◌, ◌<◌, ◌≤◌, ◌+◌, ℕ, true, false, List, [], length, vec_capacity, Option, None, Some, IfSome, is_some, option_and_then, slice_get, slice_index_or, Contains, IsTrue, IsSome, All}
+use Rattle.std.specs.Prelude.{⊤, ◌≡◌, ◌≢◌, ◌↔◌, ◌⊎◌, ◌<◌, ◌≤◌, ◌+◌, ℕ, true, false, List, [], length, map, vec_capacity, Option, None, Some, IfSome, is_some, option_and_then, slice_get, slice_index_or, Contains, IsTrue, IsSome, All}
+use Rattle.std.specs.List.{flat_map}
+use Rattle.std.specs.declared.alloc.Global.{Global}
+use Rattle.std.specs.declared.vec.Vec.{Vec}
 use Rattle.wol_disk.specs.Disk.{State}
+use Rattle.wol_model.specs.Blocks.{AreApart}
 use Rattle.wol_model.specs.Heads.{Shape}
 use Rattle.wol_config.specs.declared.config.Config.{Config}
 use Rattle.turn_lock.specs.Passes.{lock_id, lock_passes, pass_lock, pass_number, pass_mine, IsPassOf, IsFree}
@@ -13,7 +17,7 @@ use Rattle.spin_model.specs.declared.spindle.Spindle.{Spindle}
 use Rattle.spin_model.specs.declared.spindle.SpindleBase.{SpindleBase}
 use Rattle.seg_pool.specs.Holders.{holder}
 use Rattle.seg_pool.specs.Operations.{holds}
-use Rattle.seg_pool.specs.declared.base.Holder.TheVariants.{Elsewhere}
+use Rattle.seg_pool.specs.declared.base.Holder.TheVariants.{Elsewhere, HeldBy}
 use Rattle.seg_pool.specs.declared.base.PoolBase.{PoolBase}
 use Rattle.seg_pool.specs.declared.pool.Pool.{Pool}
 use Rattle.log_segment.specs.declared.free.FreeSegment.{FreeSegment}
@@ -23,6 +27,7 @@ use Rattle.volume_images.specs.Volumes.{shapes_of}
 use Rattle.rack.specs.declared.rack.ImageRest.{ImageRest}
 use Rattle.rack.specs.declared.rack.Rest.{Rest}
 use Rattle.rack.specs.declared.rack.Rooms.{Rooms}
+use Rattle.rack.specs.declared.rack.VolumePasses.{VolumePasses}
 
 -- ---- What is where
 
@@ -46,6 +51,35 @@ module _ {D : Type 0} where
   -- the same at the spindle of volume k
   abbrev pub spindle_pass : Rest D → (v k : ℕ) → Option (PassOf Spindle SpindleBase)
   spindle_pass r v k = option_and_then (λ p. slice_index_or p.spindles.items k None) (slice_get r.passes.items v)
+
+  -- the list of a row at this place, or an empty one
+  abbrev pub list_of : Option (Vec (ℕ × Spun D) Global) → List (ℕ × Spun D)
+  list_of None = []
+  list_of (Some list) = list.items
+
+  -- the segments of volume k that a lane of volume v had, with their indexes, where the lane came back
+  abbrev pub held_here : Rest D → (v k : ℕ) → List (ℕ × Spun D)
+  held_here r v k = list_of (option_and_then (λ p. slice_get p.held.items k) (slice_get r.passes.items v))
+
+  -- their indexes
+  abbrev pub indexes_here : Rest D → (v k : ℕ) → List ℕ
+  indexes_here r v k = map (λ (h : ℕ × Spun D). h.0) (held_here r v k)
+
+-- What is away from a rest.
+pub record Away : Type 0 where
+  -- the volumes whose homes are away
+  pub homes : List ℕ
+  -- the lanes, each by its volume and its logger
+  pub lanes : List (ℕ × ℕ)
+  -- the segments whose passes are here, each by its volume and its index
+  pub owed : List (ℕ × ℕ)
+
+-- what the managers with these bases have
+abbrev pub away_with : List ManagerBase → Away
+away_with bases = record { homes = map (λ (b : ManagerBase). b.volume.began.owner) bases; lanes = flat_map lanes_of bases; owed = [] }
+  where
+    lanes_of : ManagerBase → List (ℕ × ℕ)
+    lanes_of b = map (λ k. (b.volume.began.owner, k)) b.volume.began.view
 
 -- ---- The parts
 
@@ -98,38 +132,51 @@ pub record AreLocks {D : Type 0} (config : Config) (shared : Shared D) : Type 0 
 
 -- ---- The passes
 
--- a manager of volume v is among these, and its view names k
-abbrev pub LogsOn : List ManagerBase → (v k : ℕ) → Type 0
-LogsOn bases v k = (b : ManagerBase) × Contains bases b × (b.volume.began.owner ≡ v) × Contains b.volume.began.view k
+-- the row of a volume has a place for each of so many
+pub record IsRow {D : Type 0} (volumes : ℕ) (p : VolumePasses D) : Type 0 where
+  pub pools : length p.pools.items ≡ volumes
+  pub spindles : length p.spindles.items ≡ volumes
+  pub held : length p.held.items ≡ volumes
 
--- volume v has a manager among these
-abbrev pub HasManager : List ManagerBase → (v : ℕ) → Type 0
-HasManager bases v = (b : ManagerBase) × Contains bases b × (b.volume.began.owner ≡ v)
-
--- Each volume's pass at each pool is here but where its manager logs there; it has the number of its volume.
-pub record ArePoolPasses {D : Type 0} (shared : Shared D) (bases : List ManagerBase) (r : Rest D) : Type 0 where
-  pub here : (v k : ℕ) → v < length r.passes.items → k < length shared.pools.items → IsSome (pool_pass r v k) ↔ (LogsOn bases v k → ⊥)
+-- Each volume's pass at each pool is here but where its lane is away; it has the number of its volume.
+pub record ArePoolPasses {D : Type 0} (shared : Shared D) (away : Away) (r : Rest D) : Type 0 where
+  pub here : (v k : ℕ) → v < length r.passes.items → k < length shared.pools.items → IsSome (pool_pass r v k) ↔ (Contains away.lanes (v, k) → ⊥)
   pub each : (v k : ℕ) (l : TurnLock (Pool (FreeSegment D)) PoolBase) (p : PassOf (Pool (FreeSegment D)) PoolBase) → slice_get shared.pools.items k ≡ Some l → pool_pass r v k ≡ Some p
       → IsPassAt l v p
 
 -- The same at the spindles; of its own a volume's manager uses its home. No token is out.
-pub record AreSpindlePasses {D : Type 0} (shared : Shared D) (bases : List ManagerBase) (r : Rest D) : Type 0 where
-  pub here : (v k : ℕ) → v < length r.passes.items → k < length shared.spindles.items → IsSome (spindle_pass r v k) ↔ ((LogsOn bases v k ⊎ ((v ≡ k) × HasManager bases v)) → ⊥)
+pub record AreSpindlePasses {D : Type 0} (shared : Shared D) (away : Away) (r : Rest D) : Type 0 where
+  pub here : (v k : ℕ) → v < length r.passes.items → k < length shared.spindles.items → IsSome (spindle_pass r v k) ↔ ((Contains away.lanes (v, k) ⊎ ((v ≡ k) × Contains away.homes v)) → ⊥)
   pub each : (v k : ℕ) (l : TurnLock Spindle SpindleBase) (p : PassOf Spindle SpindleBase) → slice_get shared.spindles.items k ≡ Some l → spindle_pass r v k ≡ Some p
       → IsPassAt l v p
   pub settled : (v k : ℕ) (p : PassOf Spindle SpindleBase) → spindle_pass r v k ≡ Some p → has_token (pass_mine p) ≡ false
 
 -- ---- The segments: each is in one place
 
--- a pass that is here holds segment i of volume k
-abbrev pub IsHeldHere : {D : Type 0} → Rest D → (k i : ℕ) → Type 0
-IsHeldHere {D} r k i = (v : ℕ) × (p : PassOf (Pool (FreeSegment D)) PoolBase) × (pool_pass r v k ≡ Some p) × (holds (pass_lock p).base (pass_number p) (pass_mine p) i ≡ true)
+-- the pass of volume v is here and holds segment i of volume k
+abbrev pub IsHolding : {D : Type 0} → Rest D → (v k i : ℕ) → Type 0
+IsHolding {D} r v k i = (p : PassOf (Pool (FreeSegment D)) PoolBase) × (pool_pass r v k ≡ Some p) × (holds (pass_lock p).base (pass_number p) (pass_mine p) i ≡ true)
 
--- Each segment of an image that is out is a pass's or free from the beginning, and is here exactly where a pass that is here holds it.
-pub record ArePlaced {D : Type 0} (shared : Shared D) (r : Rest D) : Type 0 where
+-- a pass that is here holds segment i of volume k, and no lane had it
+abbrev pub IsHeldHere : {D : Type 0} → Rest D → (k i : ℕ) → Type 0
+IsHeldHere r k i = (v : ℕ) × IsHolding r v k i × (Contains (indexes_here r v k) i → ⊥)
+
+-- the segments that came back with a lane: each once, and its pass is here and holds it
+pub record AreHandedBack {D : Type 0} (state : D → State) (config : Config) (r : Rest D) : Type 0 where
+  pub held : (v k i : ℕ) → Contains (indexes_here r v k) i → IsHolding r v k i
+  pub once : (v k : ℕ) → AreApart (indexes_here r v k)
+  pub parts : (v k : ℕ) (s : Shape) → slice_get (shapes_of config) k ≡ Some s → All (λ (h : ℕ × Spun D). IsPart state k s.segment_blocks h.1) (held_here r v k)
+  pub out : (v k : ℕ) → image_here r.images.items k ≡ None → held_here r v k ≡ []
+
+-- Each segment of an image that is out is a pass's or free from the beginning. It is in its place here exactly where a pass that is
+-- here holds it, but where it is owed or a lane had it.
+pub record ArePlaced {D : Type 0} (shared : Shared D) (away : Away) (r : Rest D) : Type 0 where
   pub known : (k i : ℕ) (l : TurnLock (Pool (FreeSegment D)) PoolBase) (image : ImageRest D) → slice_get shared.pools.items k ≡ Some l → image_here r.images.items k ≡ Some image
       → i < length image.segments.items → holder (lock_id l).base.holders i ≢ Elsewhere
-  pub here : (k i : ℕ) (image : ImageRest D) → image_here r.images.items k ≡ Some image → i < length image.segments.items → IsSome (segment_here image i) ↔ IsHeldHere r k i
+  -- and who holds one is a pass of the lock
+  pub known_passes : (k i n : ℕ) (l : TurnLock (Pool (FreeSegment D)) PoolBase) → slice_get shared.pools.items k ≡ Some l → holder (lock_id l).base.holders i ≡ HeldBy n → n < lock_passes l
+  pub here : (k i : ℕ) (image : ImageRest D) → image_here r.images.items k ≡ Some image → i < length image.segments.items
+      → IsSome (segment_here image i) ↔ (IsHeldHere r k i × (Contains away.owed (k, i) → ⊥))
   -- no segment of another volume is known
   pub others : (k i : ℕ) (l : TurnLock (Pool (FreeSegment D)) PoolBase) → slice_get shared.pools.items k ≡ Some l → image_here r.images.items k ≡ None
       → holder (lock_id l).base.holders i ≡ Elsewhere
@@ -146,12 +193,18 @@ pub record AreRooms {D : Type 0} (volumes stations : ℕ) (rooms : Rooms D) : Ty
   pub managers : All (λ row. (row.items ≡ []) × (3 ≤ vec_capacity row)) rooms.managers.items
   pub closed : (rooms.closed.items ≡ []) × (volumes ≤ vec_capacity rooms.closed)
 
--- What is here where volumes have managers with these bases. Home is here exactly where the volume has no manager.
-pub record IsRest {D : Type 0} (state : D → State) (config : Config) (shared : Shared D) (bases : List ManagerBase) (r : Rest D) : Type 0 where
+-- What is here where this is away. Home is here exactly where it isn't away.
+pub record IsRestBut {D : Type 0} (state : D → State) (config : Config) (shared : Shared D) (away : Away) (r : Rest D) : Type 0 where
   pub images : AreImageRests state config r.images.items
-  pub homes : (k : ℕ) (image : ImageRest D) → image_here r.images.items k ≡ Some image → IsSome image.home ↔ (HasManager bases k → ⊥)
+  pub homes : (k : ℕ) (image : ImageRest D) → image_here r.images.items k ≡ Some image → IsSome image.home ↔ (Contains away.homes k → ⊥)
   pub count : length r.passes.items ≡ length (shapes_of config)
-  pub pools : ArePoolPasses shared bases r
-  pub spindles : AreSpindlePasses shared bases r
-  pub placed : ArePlaced shared r
+  pub rows : All (λ p. IsRow (length (shapes_of config)) p) r.passes.items
+  pub pools : ArePoolPasses shared away r
+  pub spindles : AreSpindlePasses shared away r
+  pub returned : AreHandedBack state config r
+  pub placed : ArePlaced shared away r
+
+-- What is here where volumes have managers with these bases.
+pub record IsRest {D : Type 0} (state : D → State) (config : Config) (shared : Shared D) (bases : List ManagerBase) (r : Rest D) : Type 0 where
+  pub parts : IsRestBut state config shared (away_with bases) r
   pub rooms : AreRooms (length (shapes_of config)) (length bases) r.rooms

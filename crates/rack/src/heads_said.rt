@@ -1,9 +1,11 @@
 // What the images that are out say, while volumes are opened.
-use volume_images::{OutImage, OutParts};
-use volume_images::ImageParts;
+ghost use Rattle.std.specs.Prelude.{◌≡◌, ◌≤◌, [], length, vec_capacity};
+ghost use Rattle.rack.specs.Parts.{IsLaidOut};
+
 use crate::rack::ImageRest;
 use log_layout::{SegHead, View};
 use spin_model::Spun;
+use volume_images::{ImageParts, OutImage, OutParts};
 use wol_disk::Disk;
 
 /// The view of an image, and the heads of its segments.
@@ -27,7 +29,11 @@ impl Said {
 pub(crate) fn lay_out<D: Disk>(
     image: OutImage<D>,
     segments: Vec<Option<Spun<D>>>,
-) -> (Said, ImageRest<D>) {
+) -> (Said, ImageRest<D>)
+    requires empty { segments.items ≡ [] }
+    requires room { length image.parts.image.segments.items ≤ vec_capacity segments }
+    ensures { IsLaidOut image result.0 result.1 }
+{
     let OutImage { parts, view, heads } = image;
     let OutParts { image, room } = parts;
     let ImageParts {

@@ -10,15 +10,14 @@ ghost use Rattle.rack.specs.Opening.{IsNextOpened, IsNextRefused, IsBackAtOnce, 
 
 use crate::VolumeFault;
 use crate::heads_said::{Said, lay_out};
-use volume_images::label_of;
 use crate::locks::Issued;
-use volume_images::open_image;
 use crate::rack::ImageRest;
 use crate::rest::give_back;
 use crate::volume_fault::fault_of_image;
 use spin_model::Spindle;
 use std::alloc::Global;
 use std::sync::Wait;
+use volume_images::{label_of, open_image};
 use wol_bay::Bay;
 use wol_config::Config;
 use wol_disk::{Disk, NoMemory};

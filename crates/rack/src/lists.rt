@@ -1,6 +1,6 @@
 // The lists that a rack keeps are made, and filled.
 ghost use Rattle.std.specs.Prelude.{ℕ, ◌≡◌, ◌≤◌, [], length, IfOk, All, vec_capacity};
-ghost use Rattle.rack.specs.Making.{IsEmptyShared, AreNewRooms, AreEmptyPasses, AreLists};
+ghost use Rattle.rack.specs.Making.{IsEmptyShared, AreNewRooms, AreEmptyPasses};
 
 use crate::VolumeFault;
 use crate::locks::{Issued, IssuedPool};
@@ -29,11 +29,52 @@ fn new_passes<D: Disk>(alloc: Global, volumes: usize) -> Result<Vec<VolumePasses
 {
     let mut passes = Vec::with_capacity(alloc, volumes)?;
     for _volume in 0..volumes {
-        let pools = Vec::with_capacity(alloc, volumes)?;
-        let spindles = Vec::with_capacity(alloc, volumes)?;
-        passes.push_reserved(VolumePasses { pools, spindles });
+        match new_row(alloc, volumes) {
+            Ok(row) => passes.push_reserved(row),
+            Err(NoMemory) => {
+                end_passes(passes);
+                return Err(NoMemory);
+            }
+        }
     }
     Ok(passes)
+}
+
+// Those of one volume.
+fn new_row<D: Disk>(alloc: Global, volumes: usize) -> Result<VolumePasses<D>, NoMemory>
+    ensures { IfOk result (AreEmptyPasses volumes) }
+{
+    let pools = Vec::with_capacity(alloc, volumes)?;
+    let spindles = Vec::with_capacity(alloc, volumes)?;
+    let mut held = Vec::with_capacity(alloc, volumes)?;
+    for _logger in 0..volumes {
+        held.push_reserved(Vec::new(alloc));
+    }
+    Ok(VolumePasses {
+        pools,
+        spindles,
+        held,
+    })
+}
+
+/// Ends the lists of volumes where no segment is in them.
+pub(crate) fn end_passes<D: Disk>(mut passes: Vec<VolumePasses<D>>)
+    requires { All (λ p. All (λ list. list.items ≡ []) p.held.items) passes.items }
+{
+    while let Some(
+        VolumePasses {
+            pools: _,
+            spindles: _,
+            mut held,
+        },
+    ) = passes.pop()
+    {
+        while let Some(list) = held.pop() {
+            list.destroy_empty();
+        }
+        held.destroy_empty();
+    }
+    passes.destroy_empty();
 }
 
 fn new_rooms<D: Disk>(alloc: Global, volumes: usize) -> Result<Rooms<D>, NoMemory>
@@ -73,18 +114,23 @@ fn destroy_shared<D: Disk>(shared: Shared<D>)
 }
 
 impl<D: Disk> Lists<D> {
-    ghost use Rattle.std.specs.Prelude.{ℕ, IfOk};
+    ghost use Rattle.std.specs.Prelude.{◌≡◌, ◌+◌, ℕ, length, IfOk, All};
     ghost use Rattle.rack.specs.Making.{AreLists};
+    ghost use Rattle.rack.specs.Parts.{PutsLocks, CanDeal, Deals, IsSetUp};
 
     /// Lists with room for so many volumes.
     pub(crate) fn new(alloc: Global, volumes: usize) -> Result<Lists<D>, NoMemory>
         ensures { IfOk result (AreLists volumes) }
     {
         let keepers = Vec::with_capacity(alloc, volumes)?;
-        let passes = new_passes(alloc, volumes)?;
         let rooms = new_rooms(alloc, volumes)?;
-        let shared = new_shared(alloc, volumes)?;
+        let passes = new_passes(alloc, volumes)?;
+        let Ok(shared) = new_shared(alloc, volumes) else {
+            end_passes(passes);
+            return Err(NoMemory);
+        };
         let Ok(stations) = Vec::with_capacity(alloc, volumes) else {
+            end_passes(passes);
             destroy_shared(shared);
             return Err(NoMemory);
         };
@@ -104,15 +150,21 @@ impl<D: Disk> Lists<D> {
             shared,
             keepers: _,
             stations,
-            passes: _,
+            passes,
             rooms: _,
         } = self;
+        end_passes(passes);
         destroy_shared(shared);
         stations.destroy_empty();
     }
 
     // The locks and their rows of passes, of which the keepers' are taken.
-    fn put_locks(&mut self, spindles: Vec<Issued<Spindle>>, pools: Vec<IssuedPool<D>>) {
+    fn put_locks(&mut self, spindles: Vec<Issued<Spindle>>, pools: Vec<IssuedPool<D>>)
+        requires lists { AreLists (length spindles.items) self.old }
+        requires spindles { All (λ i. length i.passes.items ≡ length spindles.items + 1) spindles.items }
+        requires pools { length pools.items ≡ length spindles.items }
+        ensures { PutsLocks spindles.items pools.items self.old self.new }
+    {
         let (mut spindles, mut pools) = (spindles, pools);
         spindles.reverse();
         while let Some(Issued { lock, mut passes }) = spindles.pop() {
@@ -133,7 +185,10 @@ impl<D: Disk> Lists<D> {
     }
 
     // The last pass of each row is dealt to the last volume, and so on: the rows are empty then.
-    fn deal(&mut self) {
+    fn deal(&mut self)
+        requires { CanDeal self.old }
+        ensures { Deals self.old self.new }
+    {
         let mut left = self.passes.len();
         while left > 0 {
             left -= 1;
@@ -154,7 +209,15 @@ impl<D: Disk> Lists<D> {
         pools: Vec<IssuedPool<D>>,
         images: Vec<Option<ImageRest<D>>>,
         faults: Vec<Option<VolumeFault>>,
-    ) -> Rack<D> {
+    ) -> Rack<D>
+        requires lists { AreLists (length spindles.items) self }
+        requires spindles { All (λ i. length i.passes.items ≡ length spindles.items + 1) spindles.items }
+        requires pool_count { length pools.items ≡ length spindles.items }
+        requires pools { All (λ i. length i.passes.items ≡ length spindles.items) pools.items }
+        ensures images { result.rest.images ≡ images }
+        ensures faults { result.faults ≡ faults }
+        ensures rest { IsSetUp spindles.items pools.items (length spindles.items) result }
+    {
         let mut lists = self;
         lists.put_locks(spindles, pools);
         lists.deal();

@@ -1,4 +1,13 @@
 // The pool of an image's free segments is made, and emptied.
+ghost use Rattle.std.specs.Prelude.{◌≡◌, ◌<◌, ◌≤◌, ℕ, [], length, None, Some, IfOk, OnOk, OnErr, MatchOption, slice_get, slice_index_or, vec_len};
+ghost use Rattle.wol_model.specs.Heads.{Shape};
+ghost use Rattle.wol_config.specs.Configs.{IsValid};
+ghost use Rattle.turn_lock.specs.Passes.{lock_id};
+ghost use Rattle.log_segment.specs.Segment.{IsBlank};
+ghost use Rattle.seg_pool.specs.Pools.{IsEmptyPool, IsSamePool, StandsFor, item_at, note_at, room_of, volume_of, blocks_of, base_of};
+ghost use Rattle.volume_images.specs.Volumes.{shapes_of};
+ghost use Rattle.rack.specs.Parts.{AreFillable, TakesFree, IsFilledPool, HasPlaces, EmptiesInto, CanIssue, IsIssuedPool, Supplies, Restores, CanEnd, EndsInto};
+
 use crate::heads_said::Said;
 use crate::locks::IssuedPool;
 use crate::rack::ImageRest;
@@ -17,7 +26,19 @@ fn fill_pool<D: Disk>(
     pool: &mut Pool<FreeSegment<D>>,
     heads: &[SegHead],
     segments: &mut [Option<Spun<D>>],
-) {
+)
+    requires room { room_of pool.old ≡ length heads.now }
+    requires few { length heads.now ≤ 1024 }
+    requires blocks { (4 ≤ blocks_of pool.old) × (blocks_of pool.old ≤ 65536) }
+    requires empty { IsEmptyPool pool.old }
+    requires notes { (index : ℕ) → note_at pool.old index ≡ None }
+    requires stands { StandsFor (IsBlank D.state) pool.old (base_of pool.old) [] }
+    requires segments { AreFillable D.state (volume_of pool.old) (blocks_of pool.old) heads.now segments.old }
+    ensures same { IsSamePool pool.old pool.new }
+    ensures stands { StandsFor (IsBlank D.state) pool.new (base_of pool.new) [] }
+    ensures filled { IsFilledPool heads.now segments.old pool.new }
+    ensures segments { TakesFree heads.now segments.old segments.new }
+{
     for (index, head) in heads.iter().enumerate() {
         match *head {
             SegHead::Owned(owner) => pool.hold(index as u32, owner),
@@ -32,7 +53,10 @@ fn fill_pool<D: Disk>(
 }
 
 /// Puts the free segments of a pool back to what is here of the image.
-pub(crate) fn empty_pool<D: Disk>(pool: Pool<FreeSegment<D>>, image: &mut Option<ImageRest<D>>) {
+pub(crate) fn empty_pool<D: Disk>(pool: Pool<FreeSegment<D>>, image: &mut Option<ImageRest<D>>)
+    requires places { MatchOption image.old (IsEmptyPool pool) (HasPlaces pool) }
+    ensures { EmptiesInto pool image.old image.new }
+{
     let mut pool = pool;
     while let Some((index, free)) = pool.take() {
         put_segment(image, index, free.into_part());
@@ -47,7 +71,14 @@ fn issue_pool<D: Disk>(
     id: u32,
     said: &Option<Said>,
     image: &mut Option<ImageRest<D>>,
-) -> Result<IssuedPool<D>, NoMemory> {
+) -> Result<IssuedPool<D>, NoMemory>
+    requires config { IsValid config.now }
+    requires within { id < vec_len config.now.volumes }
+    requires image { (s : Shape) → slice_get (shapes_of config.now) id ≡ Some s → CanIssue D.state (vec_len config.now.volumes) id s said.now image.old }
+    ensures issued { IfOk result (λ i. (s : Shape) → slice_get (shapes_of config.now) id ≡ Some s → IsIssuedPool (vec_len config.now.volumes) id s said.now i) }
+    ensures supplies { OnOk result (Supplies said.now image.old image.new) }
+    ensures restores { OnErr result (Restores D.state id config.now.segment_blocks said.now image.old image.new) }
+{
     let segments = config.volumes[id as usize].segments;
     let mut pool = Pool::new(alloc, segments, id, config.segment_blocks)?;
     if let (Some(said), Some(image)) = (said, &mut *image) {
@@ -68,7 +99,19 @@ pub(crate) fn issue_pools<D: Disk>(
     config: &Config,
     said: &[Option<Said>],
     images: &mut [Option<ImageRest<D>>],
-) -> Result<Vec<IssuedPool<D>>, NoMemory> {
+) -> Result<Vec<IssuedPool<D>>, NoMemory>
+    requires config { IsValid config.now }
+    requires said { length said.now ≡ vec_len config.now.volumes }
+    requires images { length images.old ≡ vec_len config.now.volumes }
+    requires each { (k : ℕ) (s : Shape) → slice_get (shapes_of config.now) k ≡ Some s → CanIssue D.state (vec_len config.now.volumes) k s (slice_index_or said.now k None) (slice_index_or images.old k None) }
+    ensures count { IfOk result (λ made. length made.items ≡ vec_len config.now.volumes) }
+    ensures images { length images.new ≡ length images.old }
+    ensures issued { IfOk result (λ made. (k : ℕ) (s : Shape) (i : _) → slice_get (shapes_of config.now) k ≡ Some s → slice_get made.items k ≡ Some i
+        → IsIssuedPool (vec_len config.now.volumes) k s (slice_index_or said.now k None) i) }
+    ensures supplies { OnOk result ((k : ℕ) → Supplies (slice_index_or said.now k None) (slice_index_or images.old k None) (slice_index_or images.new k None)) }
+    // the parts of free segments may be other blank ones
+    ensures restores { OnErr result ((k : ℕ) → Restores D.state k config.now.segment_blocks (slice_index_or said.now k None) (slice_index_or images.old k None) (slice_index_or images.new k None)) }
+{
     let count = config.volumes.len();
     let Ok(mut made) = Vec::with_capacity(alloc, count) else {
         return Err(NoMemory);
@@ -86,7 +129,13 @@ pub(crate) fn issue_pools<D: Disk>(
 }
 
 /// Ends the locks of pools, of each volume in order, and puts their segments to those that are here.
-pub(crate) fn end_pools<D: Disk>(made: Vec<IssuedPool<D>>, images: &mut [Option<ImageRest<D>>]) {
+pub(crate) fn end_pools<D: Disk>(made: Vec<IssuedPool<D>>, images: &mut [Option<ImageRest<D>>])
+    requires count { length made.items ≤ length images.old }
+    requires each { (k : ℕ) (i : _) → slice_get made.items k ≡ Some i → CanEnd i (slice_index_or images.old k None) }
+    ensures count { length images.new ≡ length images.old }
+    ensures each { (k : ℕ) (i : _) → slice_get made.items k ≡ Some i → EndsInto D.state (lock_id i.lock).base (slice_index_or images.old k None) (slice_index_or images.new k None) }
+    ensures others { (k : ℕ) → length made.items ≤ k → slice_index_or images.new k None ≡ slice_index_or images.old k None }
+{
     let mut made = made;
     while let Some(IssuedPool { lock, passes }) = made.pop() {
         let pool = lock.close(passes);

@@ -52,6 +52,9 @@ pub(crate) struct ImageRest<D: Disk> {
 pub(crate) struct VolumePasses<D: Disk> {
     pub pools: Vec<Option<PoolPass<D>>>,
     pub spindles: Vec<Option<Pass<Spindle>>>,
+    /// The segments of each lane that came back, with their indexes. They go to their places when the pool's lock is closed, since
+    /// only then it is known that no two passes hold one.
+    pub held: Vec<Vec<(u32, Spun<D>)>>,
 }
 
 /// Empty lists with room for the passes of each lock, and for the spindles when all are closed.

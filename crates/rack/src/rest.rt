@@ -1,19 +1,20 @@
 // What comes back to the rest of a rack, and the images that go back to their bay.
-ghost use Rattle.std.specs.Prelude.{◌≡◌, ◌<◌, ◌≤◌, None, Some, length, IsSome, IfSome, slice_get};
+ghost use Rattle.std.specs.Prelude.{◌≡◌, ◌≢◌, ◌<◌, ◌≤◌, None, Some, length, IsSome, IfSome, All, slice_get};
 ghost use Rattle.wol_disk.specs.Disk.{Rose};
 ghost use Rattle.wol_bay.specs.Bay.{outs, IsOut};
 ghost use Rattle.wol_config.specs.Configs.{IsValid};
 ghost use Rattle.wol_config.specs.declared.config.VolumeConf.{VolumeConf};
+ghost use Rattle.logger.specs.Lanes.{IsLane, logger_of, taken_in};
 ghost use Rattle.volume_images.specs.Formatted.{part_sizes};
 ghost use Rattle.volume_images.specs.Left.{IsTold};
 ghost use Rattle.volume_images.specs.Volumes.{NoneOut, shape_in};
 ghost use Rattle.rack.specs.Rests.{segment_here, IsImageRest, AreImageRests};
 ghost use Rattle.rack.specs.Racks.{AreOut};
 ghost use Rattle.rack.specs.Making.{IsFilled};
+ghost use Rattle.rack.specs.Parts.{IsBarePlace, CanPutLanes, PutsLane, PutsLanes, CanPutHeld, PutsHeld, IsHomeAway, ChangesHome, PutsManager, CanPutOwned, PutsOpening};
 ghost use Rattle.rack.specs.Closing.{IsComplete, AreComplete, IsImageBack, GivesBack, HasFaultHere, LeavesNoneOut};
 ghost use Rattle.rack.specs.declared.rack.ImageRest.{ImageRest};
 
-use volume_images::ImageParts;
 use crate::rack::{ImageRest, Rest};
 use logger::{Lane, LaneParts};
 use manager::ManagerParts;
@@ -21,6 +22,7 @@ use manager_recovery::{Opening, OwnedPart};
 use spin_model::{Spindle, Spun};
 use std::mem;
 use turn_lock::Pass;
+use volume_images::ImageParts;
 use wol_bay::Bay;
 use wol_config::Config;
 use wol_disk::Disk;
@@ -47,24 +49,41 @@ pub(crate) fn put_segment<D: Disk>(image: &mut Option<ImageRest<D>>, index: u32,
 
 impl<D: Disk> Rest<D> {
     // A lane of volume `id` comes back.
-    fn put_lane(&mut self, id: u32, lane: Lane<D>) {
+    fn put_lane(&mut self, id: u32, lane: Lane<D>)
+        requires lane { IsLane D.state lane }
+        requires untaken { taken_in lane ≡ None }
+        requires bare { IsBarePlace self.old id (logger_of lane) }
+        ensures { PutsLane self.old self.new id lane }
+    {
         let LaneParts {
             logger,
-            mut held,
+            held,
             pool,
             spindle,
         } = lane.release();
-        while let Some((index, part)) = held.pop() {
-            put_segment(&mut self.images[logger as usize], index, part);
-        }
-        held.destroy_empty();
+        let logger = logger as usize;
         let passes = &mut self.passes[id as usize];
-        fill(&mut passes.pools[logger as usize], pool);
-        fill(&mut passes.spindles[logger as usize], spindle);
+        fill(&mut passes.pools[logger], pool);
+        fill(&mut passes.spindles[logger], spindle);
+        let none = mem::replace(&mut passes.held[logger], held);
+        none.destroy_empty();
+    }
+
+    /// The segments that came back with a lane of volume `id` go to their places in the image of the logger.
+    pub(crate) fn put_held(&mut self, id: usize, logger: usize)
+        requires { CanPutHeld self.old id logger }
+        ensures { PutsHeld self.old self.new id logger }
+    {
+        while let Some((index, part)) = self.passes[id].held[logger].pop() {
+            put_segment(&mut self.images[logger], index, part);
+        }
     }
 
     /// Lanes of volume `id` come back.
-    pub(crate) fn put_lanes(&mut self, id: u32, lanes: Vec<Lane<D>>) {
+    pub(crate) fn put_lanes(&mut self, id: u32, lanes: Vec<Lane<D>>)
+        requires { CanPutLanes D.state self.old id lanes.items }
+        ensures { PutsLanes self.old self.new id lanes.items }
+    {
         let mut lanes = lanes;
         while let Some(lane) = lanes.pop() {
             self.put_lane(id, lane);
@@ -73,7 +92,10 @@ impl<D: Disk> Rest<D> {
     }
 
     // The home of volume `id` comes back, with the pass of its spindle.
-    fn put_home(&mut self, id: u32, home: Spun<D>, spindle: Pass<Spindle>) {
+    fn put_home(&mut self, id: u32, home: Spun<D>, spindle: Pass<Spindle>)
+        requires { IsHomeAway self.old id }
+        ensures { ChangesHome self.old self.new id (Some home) (Some spindle) }
+    {
         let Some(image) = &mut self.images[id as usize] else {
             unreachable!()
         };
@@ -82,7 +104,12 @@ impl<D: Disk> Rest<D> {
     }
 
     /// What volume `id` was opened with comes back.
-    pub(crate) fn put_manager(&mut self, id: u32, parts: ManagerParts<D>) {
+    pub(crate) fn put_manager(&mut self, id: u32, parts: ManagerParts<D>)
+        requires home { IsHomeAway self.old id }
+        requires lanes { CanPutLanes D.state self.old id parts.lanes.items }
+        requires others { All (λ l. id ≢ logger_of l) parts.lanes.items }
+        ensures { PutsManager self.old self.new id parts }
+    {
         let ManagerParts {
             home,
             spindle,
@@ -93,7 +120,13 @@ impl<D: Disk> Rest<D> {
     }
 
     /// What volume `id` was to be opened with comes back.
-    pub(crate) fn put_opening(&mut self, id: u32, opening: Opening<D>) {
+    pub(crate) fn put_opening(&mut self, id: u32, opening: Opening<D>)
+        requires home { IsHomeAway self.old id }
+        requires lanes { CanPutLanes D.state self.old id opening.lanes.items }
+        requires others { All (λ l. id ≢ logger_of l) opening.lanes.items }
+        requires owned { CanPutOwned self.old opening.owned.items }
+        ensures { PutsOpening self.old self.new id opening }
+    {
         let Opening {
             want: _,
             label: _,
@@ -126,6 +159,7 @@ impl<D: Disk> ImageRest<D> {
     ghost use Rattle.std.specs.Prelude.{◌≡◌, ◌<◌, None, length};
     ghost use Rattle.rack.specs.Rests.{segment_here};
     ghost use Rattle.rack.specs.Making.{IsFilled};
+    ghost use Rattle.rack.specs.Parts.{IsAllHere, IsTogether};
 
     // A segment comes back.
     fn put(&mut self, index: u32, part: Spun<D>)
@@ -137,7 +171,10 @@ impl<D: Disk> ImageRest<D> {
     }
 
     // The parts of an image all of which are here, for its bay.
-    fn into_parts(self) -> Vec<D> {
+    fn into_parts(self) -> Vec<D>
+        requires { IsAllHere self }
+        ensures { IsTogether self result.items }
+    {
         let ImageRest {
             label,
             home,

@@ -2,10 +2,9 @@
 ghost use Rattle.std.specs.Prelude.{◌≡◌};
 ghost use Rattle.rack.specs.Opens.{fault_in_image, fault_of_image};
 
-use volume_images::ImageRefusal;
-use volume_images::ImageFault;
 use manager::Part;
 use manager_recovery::OpenRefusal;
+use volume_images::{ImageFault, ImageRefusal};
 
 /// Why a volume has no station.
 #[derive(Clone, Copy, Debug, PartialEq, Eq)]

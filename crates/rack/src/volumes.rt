@@ -1,9 +1,15 @@
 // The volumes whose images are out are opened.
+ghost use Rattle.std.specs.Prelude.{◌≡◌, ◌<◌, ◌≤◌, ◌+◌, ◌∷◌, [], ◌++◌, List, None, Some, length, map, All, IfOk, OnOk, OnErr, IfSome, IsSome, is_some, vec_len, vec_capacity};
+ghost use Rattle.wol_config.specs.Configs.{IsValid};
+ghost use Rattle.logger.specs.Lanes.{logger_of};
+ghost use Rattle.manager_recovery.specs.declared.opening.OwnedPart.{OwnedPart};
+ghost use Rattle.rack.specs.Rests.{image_here, spindle_pass};
+ghost use Rattle.rack.specs.Parts.{IsUsablePlace, IsNewLane, TakesPasses, TakesLanes, IsSameRest, loggers_out, segments_of, owned_count, TakesOwnedOf, CanTakeOwnedOf, AreOwnedHere, TakesOwned, HasPlace, ChangesHome, CanTake, TakesOpening};
+ghost use Rattle.rack.specs.declared.rack.ImageRest.{ImageRest};
+
 use crate::VolumeFault;
 use crate::heads_said::Said;
-use volume_images::label_of;
 use crate::rack::{Rack, Rest};
-use volume_images::head_place;
 use log_layout::{SegHead, View};
 use logger::Lane;
 use manager::Station;
@@ -12,12 +18,15 @@ use spin_model::{Spindle, Spun};
 use std::alloc::Global;
 use std::sync::Wait;
 use turn_lock::{Pass, TurnLock};
+use volume_images::{head_place, label_of};
 use wol_config::Config;
 use wol_disk::{Disk, NoMemory};
 
 impl<D: Disk> Rest<D> {
     // Whether each volume's image is out.
-    fn present(&self, alloc: Global) -> Result<Vec<bool>, NoMemory> {
+    fn present(&self, alloc: Global) -> Result<Vec<bool>, NoMemory>
+        ensures { IfOk result (λ present. present.items ≡ map is_some self.now.images.items) }
+    {
         let mut present = Vec::with_capacity(alloc, self.images.len())?;
         for image in self.images.iter() {
             present.push_reserved(image.is_some());
@@ -32,7 +41,14 @@ impl<D: Disk> Rest<D> {
         config: &Config,
         id: u32,
         logger: u32,
-    ) -> Result<Lane<D>, NoMemory> {
+    ) -> Result<Lane<D>, NoMemory>
+        requires within { logger < vec_len config.now.volumes }
+        requires place { IsUsablePlace self.old id logger (segments_of config.now logger) }
+        ensures lane { IfOk result (IsNewLane D.state self.old id (segments_of config.now logger)) }
+        ensures logger { IfOk result (λ l. logger_of l ≡ logger) }
+        ensures taken { OnOk result (TakesPasses self.old self.new id (logger ∷ [])) }
+        ensures same { OnErr result (IsSameRest self.old self.new) }
+    {
         let segments = config.volumes[logger as usize].segments;
         let passes = &mut self.passes[id as usize];
         let Some(pool) = passes.pools[logger as usize].take() else {
@@ -58,7 +74,12 @@ impl<D: Disk> Rest<D> {
         config: &Config,
         id: u32,
         view: &View,
-    ) -> Result<Vec<Lane<D>>, NoMemory> {
+    ) -> Result<Vec<Lane<D>>, NoMemory>
+        requires config { length self.old.images.items ≡ vec_len config.now.volumes }
+        requires places { All (λ k. IsUsablePlace self.old id k (segments_of config.now k)) (loggers_out self.old view.now) }
+        ensures taken { IfOk result (λ lanes. TakesLanes D.state config.now self.old self.new id (loggers_out self.old view.now) lanes.items) }
+        ensures same { OnErr result (IsSameRest self.old self.new) }
+    {
         let Ok(mut lanes) = Vec::with_capacity(alloc, view.len() as usize) else {
             return Err(NoMemory);
         };
@@ -85,7 +106,14 @@ impl<D: Disk> Rest<D> {
         logger: u32,
         said: &Said,
         owned: &mut Vec<OwnedPart<D>>,
-    ) {
+    )
+        requires config { IsValid config.now }
+        requires within { logger < vec_len config.now.volumes }
+        requires here { CanTakeOwnedOf self.old id logger said.now }
+        requires room { vec_len owned.old + owned_count id said.now ≤ vec_capacity owned.old }
+        ensures room { vec_capacity owned.new ≡ vec_capacity owned.old }
+        ensures taken { (more : List (OwnedPart D)) × (owned.new.items ≡ owned.old.items ++ more) × (length more ≡ owned_count id said.now) × TakesOwnedOf config.now self.old self.new id logger said.now more }
+    {
         let Some(image) = &mut self.images[logger as usize] else {
             unreachable!()
         };
@@ -112,7 +140,13 @@ impl<D: Disk> Rest<D> {
         config: &Config,
         id: u32,
         said: &[Option<Said>],
-    ) -> Result<Vec<OwnedPart<D>>, NoMemory> {
+    ) -> Result<Vec<OwnedPart<D>>, NoMemory>
+        requires config { IsValid config.now }
+        requires few { length said.now ≡ vec_len config.now.volumes }
+        requires here { AreOwnedHere self.old said.now id }
+        ensures taken { IfOk result (λ owned. TakesOwned config.now self.old self.new said.now id owned.items) }
+        ensures same { OnErr result (self.new ≡ self.old) }
+    {
         let mut count = 0;
         for said in said {
             if let Some(said) = said {
@@ -129,7 +163,15 @@ impl<D: Disk> Rest<D> {
     }
 
     // The home of the volume, and the pass of its spindle.
-    fn take_home(&mut self, id: u32) -> (Spun<D>, Pass<Spindle>) {
+    fn take_home(&mut self, id: u32) -> (Spun<D>, Pass<Spindle>)
+        requires place { HasPlace self.old id id }
+        requires home { IfSome (image_here self.old.images.items id) (λ r. IsSome r.home) }
+        requires out { IsSome (image_here self.old.images.items id) }
+        requires spindle { IsSome (spindle_pass self.old id id) }
+        ensures home { (r : ImageRest D) → image_here self.old.images.items id ≡ Some r → r.home ≡ Some result.0 }
+        ensures spindle { spindle_pass self.old id id ≡ Some result.1 }
+        ensures rest { ChangesHome self.old self.new id None None }
+    {
         let Some(image) = &mut self.images[id as usize] else {
             unreachable!()
         };
@@ -150,7 +192,12 @@ impl<D: Disk> Rest<D> {
         id: u32,
         view: View,
         said: &[Option<Said>],
-    ) -> Result<Opening<D>, NoMemory> {
+    ) -> Result<Opening<D>, NoMemory>
+        requires config { IsValid config.now }
+        requires ready { CanTake config.now self.old said.now id view }
+        ensures taken { IfOk result (TakesOpening D.state config.now self.old self.new said.now id view) }
+        ensures same { OnErr result (IsSameRest self.old self.new) }
+    {
         let present = self.present(alloc)?;
         let lanes = self.take_lanes(alloc, config, id, &view)?;
         let owned = match self.take_owned(alloc, config, id, said) {
