@@ -27,7 +27,7 @@ use Rattle.manager.specs.Stands.{notes_of}
 use Rattle.manager.specs.declared.station.Station.{Station}
 use Rattle.volume_images.specs.Left.{IsTold}
 use Rattle.volume_images.specs.Volumes.{shapes_of, AreLeft}
-use Rattle.rack.specs.Rests.{image_here, segment_here, held_here, IsImageOut}
+use Rattle.rack.specs.Rests.{image_here, segment_here, held_here, IsImageOut, IsSegmentHere}
 use Rattle.rack.specs.Racks.{base_of_station}
 use Rattle.rack.specs.Owners.{recovered_but}
 use Rattle.rack.specs.declared.rack.ImageRest.{ImageRest}
@@ -97,10 +97,6 @@ pub record IsClosedVolume {D : Type 0} (tells : Rattle.std.specs.Prelude.Bool) (
 -- ---- The parts of images
 
 module _ {D : Type 0} where
-  -- segment i of volume k is here, in its place or in a lane's list
-  abbrev pub IsSegmentHere : Rest D → (k i : ℕ) → Spun D → Type 0
-  IsSegmentHere r k i p = ((image : ImageRest D) × (image_here r.images.items k ≡ Some image) × (segment_here image i ≡ Some p)) ⊎ ((v : ℕ) × Contains (held_here r v k) (i, p))
-
   -- the part is here: a label, a home or a segment
   abbrev pub IsPartHere : Rest D → Spun D → Type 0
   IsPartHere r p =

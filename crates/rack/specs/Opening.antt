@@ -11,11 +11,9 @@ use Rattle.turn_lock.specs.declared.lock.TurnLock.{TurnLock}
 use Rattle.turn_lock.specs.declared.pass.PassOf.{PassOf}
 use Rattle.log_layout.specs.Values.{segment_head}
 use Rattle.log_layout.specs.declared.segment.SegHead.{SegHead}
-use Rattle.log_layout.specs.declared.segment.SegHead.TheVariants.{Free, Owned}
+use Rattle.log_layout.specs.declared.segment.SegHead.TheVariants.{Owned}
 use Rattle.log_segment.specs.declared.free.FreeSegment.{FreeSegment}
 use Rattle.seg_pool.specs.Holders.{holder}
-use Rattle.seg_pool.specs.declared.base.Holder.{Holder}
-use Rattle.seg_pool.specs.declared.base.Holder.TheVariants.{InPool, HeldBy}
 use Rattle.seg_pool.specs.declared.base.PoolBase.{PoolBase}
 use Rattle.seg_pool.specs.declared.pool.Pool.{Pool}
 use Rattle.spin_model.specs.Spun.{state_of}
@@ -27,7 +25,9 @@ use Rattle.volume_images.specs.Formatted.{part_sizes}
 use Rattle.volume_images.specs.Left.{IsTold, AreNamedApart}
 use Rattle.volume_images.specs.Volumes.{shape_in, shapes_of, MayLeave}
 use Rattle.rack.specs.Rests.{image_here, segment_here, pool_pass, IsImageOut, IsImageRest}
+use Rattle.rack.specs.Parts.{holder_by}
 use Rattle.rack.specs.Racks.{IsClosable, IsUnused, AreUnused}
+use Rattle.rack.specs.Closing.{IsComplete}
 use Rattle.rack.specs.Opens.{HadBefore, out_names, BeganWith, RefusesVolume}
 use Rattle.rack.specs.declared.heads_said.Said.{Said}
 use Rattle.rack.specs.declared.images.Images.{Images}
@@ -37,11 +37,6 @@ use Rattle.rack.specs.declared.rack.Rest.{Rest}
 use Rattle.rack.specs.declared.volume_fault.VolumeFault.{VolumeFault}
 
 -- ---- One image that is out
-
--- all parts of an image are here
-pub record IsAllHere {D : Type 0} (r : ImageRest D) : Type 0 where
-  pub home : IsSome r.home
-  pub segments : (i : ℕ) → i < length r.segments.items → IsSome (segment_here r i)
 
 -- every image that the segment may have begins with this head, which is configured
 abbrev pub AlwaysSays : {D : Type 0} → (D → State) → (volumes : ℕ) → Spun D → SegHead → Type 0
@@ -96,7 +91,7 @@ pub record IsOut {D : Type 0} (state : D → State) (volumes k : ℕ) (s : Shape
   pub said_is : said_at i.said.items k ≡ Some said
   pub no_fault : fault_at i.faults.items k ≡ None
   pub rest : IsImageRest state k s r
-  pub all : IsAllHere r
+  pub all : IsComplete r
   pub says : IsSaidOf volumes k s said
   pub heads : HaveHeads state volumes said r
 
@@ -128,7 +123,7 @@ pub record StayedAs (name : Name) (old new : Told) : Type 0 where
 -- the next image went out, and all of it is here
 pub record IsNextOpened {D : Type 0} (tells : Bool) (state : D → State) (config : Config) (k : ℕ) (v : VolumeConf) (b b' : BayState) (said : Said) (r : ImageRest D) : Type 0 where
   pub rest : IsImageRest state k (shape_in config v) r
-  pub all : IsAllHere r
+  pub all : IsComplete r
   pub says : IsSaidOf (length (shapes_of config)) k (shape_in config v) said
   pub heads : HaveHeads state (length (shapes_of config)) said r
   pub sent : b'.told ≡ option_map (sent_out v.name (part_sizes (shape_in config v))) b.told
@@ -144,7 +139,8 @@ pub record IsNextRefused {D : Type 0} (tells : Bool) (state : D → State) (conf
 
 -- nothing was taken out
 pub record IsBackAtOnce (b b' : BayState) : Type 0 where
-  pub told : b'.told ≡ b.told
+  pub outs : outs b' ≡ outs b
+  pub same : IsTold (λ old new. new ≡ old) b.told b'.told
   pub counts : b.faults ≤ b'.faults
 
 -- of no image may a crash leave more than before
@@ -165,22 +161,16 @@ pub record HasSentOut {D : Type 0} (config : Config) (out : List (Option (ImageR
   pub counts : b.faults ≤ b'.faults
 
 -- all images are in the bay again
-pub record HasAllBack (b b' : BayState) : Type 0 where
+pub record HasAllBack (tells : Bool) (b b' : BayState) : Type 0 where
   pub outs : outs b' ≡ outs b
-  pub left : IsTold LeavesNoMore b.told b'.told
+  pub left : IsTrue tells → IsTold LeavesNoMore b.told b'.told
   pub counts : b.faults ≤ b'.faults
 
 -- ---- The rack while its volumes are opened, of which the first n were tried
 
--- who has a segment with this head at the beginning
-abbrev pub holder_of : SegHead → Holder
-holder_of Free = InPool
-holder_of (Owned owner) = HeldBy owner
-
 -- the pools began with what the heads say
 abbrev pub BeganAsSaid : {D : Type 0} → List (TurnLock (Pool (FreeSegment D)) PoolBase) → List (Option Said) → Type 0
-BeganAsSaid {D} pools said = (k i : ℕ) (l : TurnLock (Pool (FreeSegment D)) PoolBase) (own : Said) (h : SegHead) → slice_get pools k ≡ Some l → said_at said k ≡ Some own
-    → slice_get own.heads.items i ≡ Some h → holder (lock_id l).base.holders i ≡ holder_of h
+BeganAsSaid {D} pools said = (k i : ℕ) (l : TurnLock (Pool (FreeSegment D)) PoolBase) → slice_get pools k ≡ Some l → holder (lock_id l).base.holders i ≡ holder_by (said_at said k) i
 
 -- nothing of the volumes from n on was touched: their passes weren't used, and their segments are here
 pub record AreUntouched {D : Type 0} (state : D → State) (volumes n : ℕ) (said : List (Option Said)) (r : Rest D) : Type 0 where

@@ -20,6 +20,7 @@ use Rattle.manager.specs.declared.station.Station.{Station}
 use Rattle.volume_images.specs.Formatted.{part_sizes}
 use Rattle.volume_images.specs.Volumes.{shape_in, shapes_of}
 use Rattle.rack.specs.Rests.{IsPassAt, AreLocks, IsRest, IsImageOut, image_here}
+use Rattle.rack.specs.Foreign.{AreForeign}
 use Rattle.rack.specs.declared.rack.ImageRest.{ImageRest}
 use Rattle.rack.specs.declared.rack.Rack.{Rack}
 
@@ -81,6 +82,7 @@ pub record IsClosable {D : Type 0} (state : D → State) (config : Config) (b : 
   pub rising : AreRising (map (λ (s : Station D). s.id) r.stations.items)
   pub bases : All (λ s. IsOpenBase config r.shared r.rest.images.items (base_of_station s)) r.stations.items
   pub rest : IsRest state config r.shared (map (λ (s : Station D). base_of_station s) r.stations.items) r.rest
+  pub foreign : AreForeign state (map (λ (s : Station D). base_of_station s) r.stations.items) r.rest
 
 -- The rack is whole: it may be closed, and a volume has a station exactly where it has no fault.
 pub record IsRack {D : Type 0} (state : D → State) (config : Config) (b : BayState) (r : Rack D) : Type 0 where
@@ -93,3 +95,4 @@ pub record IsRack {D : Type 0} (state : D → State) (config : Config) (b : BayS
   pub fault_count : length r.faults.items ≡ length (shapes_of config)
   pub faults : (k : ℕ) → k < length (shapes_of config) → (slice_index_or r.faults.items k None ≡ None) ↔ Contains (map (λ (s : Station D). s.id) r.stations.items) k
   pub rest : IsRest state config r.shared (map (λ (s : Station D). base_of_station s) r.stations.items) r.rest
+  pub foreign : AreForeign state (map (λ (s : Station D). base_of_station s) r.stations.items) r.rest

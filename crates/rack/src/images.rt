@@ -119,7 +119,7 @@ pub(crate) fn open_images<R: Wait, B: Bay>(
     requires spindles { AreSpindlesOf (length config.now.volumes.items) config.now.timeout spindles.old }
     ensures asked { IfOk result (AreAsked B.Part.tells B.Part.state config.now (B.state bay.old) (B.state bay.new) (length config.now.volumes.items)) }
     ensures out { IfOk result (λ i. HasSentOut config.now i.out.items (length config.now.volumes.items) (B.state bay.old) (B.state bay.new)) }
-    ensures err { OnErr result (HasAllBack (B.state bay.old) (B.state bay.new)) }
+    ensures err { OnErr result (HasAllBack B.Part.tells (B.state bay.old) (B.state bay.new)) }
     ensures count { length spindles.new ≡ length spindles.old }
     ensures spindles { AreSpindlesOf (length config.now.volumes.items) config.now.timeout spindles.new }
 {

@@ -1,5 +1,5 @@
 // What comes back to the rest of a rack, and the images that go back to their bay.
-ghost use Rattle.std.specs.Prelude.{◌≡◌, ◌≢◌, ◌<◌, ◌≤◌, None, Some, length, IsSome, IfSome, All, slice_get};
+ghost use Rattle.std.specs.Prelude.{◌≡◌, ◌≢◌, ◌<◌, ◌≤◌, None, Some, length, IsSome, IfSome, slice_get, All};
 ghost use Rattle.wol_disk.specs.Disk.{Rose};
 ghost use Rattle.wol_bay.specs.Bay.{outs, IsOut};
 ghost use Rattle.wol_config.specs.Configs.{IsValid};

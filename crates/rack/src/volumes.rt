@@ -227,7 +227,9 @@ impl<D: Disk> Rack<D> {
     ghost use Rattle.std.specs.Prelude.{◌≡◌, ◌<◌, ◌+◌, ℕ, Some, length, slice_get, OnOk, OnErr, IsTrue};
     ghost use Rattle.wol_bay.specs.Bay.{BayState, Told};
     ghost use Rattle.wol_config.specs.Configs.{IsValid};
-    ghost use Rattle.rack.specs.Opens.{BeganWith};
+    ghost use Rattle.volume_images.specs.Left.{AreNamedApart};
+    ghost use Rattle.rack.specs.Racks.{IsRack, AreUnused};
+    ghost use Rattle.rack.specs.Opens.{BeganWith, AreRefused};
     ghost use Rattle.rack.specs.Opening.{IsOpeningRack, HasBegun, AreRefusedBelow, AreSameOut, IsStopped};
     ghost use Rattle.rack.specs.declared.heads_said.Said.{Said};
 
@@ -248,9 +250,9 @@ impl<D: Disk> Rack<D> {
         requires said { (own : Said) × (slice_get said.now id ≡ Some (Some own)) × (own.view ≡ view) }
         ensures rack { OnOk result (IsOpeningRack D.state config.now bays.1 said.now (id + 1) self.new) }
         ensures same_out { AreSameOut self.old self.new }
-        ensures begun { IsTrue D.tells → (t : Told) → bays.0.told ≡ Some t → HasBegun D.state config.now t said.now id self.old
+        ensures begun { IsTrue D.tells → (t : Told) → HasBegun D.state config.now t said.now id self.old
             → OnOk result (HasBegun D.state config.now t said.now (id + 1) self.new) }
-        ensures refused { IsTrue D.tells → (t : Told) → bays.0.told ≡ Some t → HasBegun D.state config.now t said.now id self.old
+        ensures refused { (IsTrue D.tells → (t : Told) → bays.0.told ≡ Some t → AreNamedApart t → HasBegun D.state config.now t said.now id self.old)
             → AreRefusedBelow D.tells D.state config.now bays.0 bays.1 id self.old
             → OnOk result (AreRefusedBelow D.tells D.state config.now bays.0 bays.1 (id + 1) self.new) }
         ensures stopped { OnErr result (IsStopped D.state config.now bays.1 self.old self.new) }
@@ -309,7 +311,7 @@ impl<D: Disk> Rack<D> {
         ensures rack { OnOk result (IsRack D.state config.now bays.1 self.new) }
         ensures fresh { AreUnused self.new.stations.items }
         ensures same_out { AreSameOut self.old self.new }
-        ensures refused { (IsTrue D.tells → (t : Told) → bays.0.told ≡ Some t → HasBegun D.state config.now t said.now 0 self.old)
+        ensures refused { (IsTrue D.tells → (t : Told) → bays.0.told ≡ Some t → AreNamedApart t → HasBegun D.state config.now t said.now 0 self.old)
             → AreRefusedBelow D.tells D.state config.now bays.0 bays.1 0 self.old → OnOk result (AreRefused D.tells D.state config.now bays.0 bays.1 self.new) }
         ensures began { IsTrue D.tells → (t : Told) → HasBegun D.state config.now t said.now 0 self.old → BeganWith D.state config.now t self.new }
         ensures stopped { OnErr result (IsStopped D.state config.now bays.1 self.old self.new) }
