@@ -5,3 +5,6 @@ pub mod GivingBack
 pub mod CutParts
 pub mod Asking
 pub mod SentNames
+pub mod Members
+pub mod LanesAway
+pub mod StationBack

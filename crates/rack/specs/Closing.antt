@@ -28,9 +28,9 @@ use Rattle.manager.specs.declared.manager.Manager.{Manager}
 use Rattle.manager.specs.declared.station.Station.{Station}
 use Rattle.volume_images.specs.Left.{AreNamedApart}
 use Rattle.volume_images.specs.Volumes.{shapes_of}
-use Rattle.rack.specs.Rests.{image_here, segment_here, pool_pass, spindle_pass, held_here, indexes_here, away_with, IsImageOut, IsPassAt, IsPoolLock, IsRow, IsImageRest, IsPart, IsHeldHere, IsHolding, IsRest}
+use Rattle.rack.specs.Rests.{image_here, segment_here, pool_pass, spindle_pass, held_here, indexes_here, away_with, IsImageOut, IsPassAt, IsPoolLock, IsRow, IsImageRest, IsPart, IsHeldHere, IsHolding, AreLocks, IsRest}
 use Rattle.rack.specs.Racks.{base_of_station, IsOpenBase, IsStation, AreRising}
-use Rattle.rack.specs.Parts.{IsSameBut, IsTogether, IsBlankPart, HasBack, KeepsRows, KeepsImage, segment_in}
+use Rattle.rack.specs.Parts.{IsSameBut, IsTogether, IsBlankPart, HasBack, KeepsPlace, KeepsRows, KeepsImage, segment_in}
 use Rattle.rack.specs.Opens.{out_names}
 use Rattle.rack.specs.declared.rack.ImageRest.{ImageRest}
 use Rattle.rack.specs.declared.rack.Rest.{Rest}
@@ -61,6 +61,15 @@ KeepsButHome None new = new ≡ None
 KeepsButHome (Some r) None = ⊥
 KeepsButHome (Some r) (Some n) = n ≡ record r { home = n.home }
 
+-- one station was closed, and nothing else came back
+pub record ClosesStation {D : Type 0} (tells : Bool) (state : D → State) (s : Station D) (old new : Rest D) : Type 0 where
+  pub closing : Closing D
+  pub closed : IsClosing tells state new s closing
+  pub images : (k : ℕ) → KeepsButHome (image_here old.images.items k) (image_here new.images.items k)
+  pub homes : (k : ℕ) → k ≢ s.id → home_here new k ≡ home_here old k
+  pub places : (w k : ℕ) → w ≢ s.id → KeepsPlace old new w k
+  pub held : (v k : ℕ) → (Contains (away_with (base_of_station s ∷ [])).lanes (v, k) → ⊥) → held_here new v k ≡ held_here old v k
+
 -- each station was closed, and nothing else came back
 pub record ClosesStations {D : Type 0} (tells : Bool) (state : D → State) (stations : List (Station D)) (old new : Rest D) : Type 0 where
   pub closings : List (Closing D)
@@ -74,6 +83,7 @@ pub record CanCloseStations {D : Type 0} (state : D → State) (config : Config)
   pub each : All (λ s. IsStation s) stations
   pub rising : AreRising (map (λ (s : Station D). s.id) stations)
   pub bases : All (λ s. IsOpenBase config shared r.images.items (base_of_station s)) stations
+  pub locks : AreLocks config shared
   pub rest : IsRest state config shared (map (λ (s : Station D). base_of_station s) stations) r
 
 -- ---- Pools

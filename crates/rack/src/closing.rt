@@ -29,12 +29,13 @@ use wol_config::Config;
 use wol_disk::Disk;
 
 impl<D: Disk> Rest<D> {
-    ghost use Rattle.std.specs.Prelude.{◌≡◌, ◌≢◌, ◌≤◌, ◌+◌, ◌×◌, ℕ, [], length, map, vec_capacity, Some};
+    ghost use Rattle.std.specs.Prelude.{◌≡◌, ◌≢◌, ◌<◌, ◌≤◌, ◌+◌, ◌++◌, ◌∷◌, ℕ, List, [], length, vec_capacity};
     ghost use Rattle.wol_model.specs.Heads.{Shape};
     ghost use Rattle.wol_config.specs.declared.config.Config.{Config};
     ghost use Rattle.logger.specs.declared.shared.Shared.{Shared};
+    ghost use Rattle.manager.specs.declared.station.Station.{Station};
     ghost use Rattle.rack.specs.Rests.{spindle_pass, image_here, held_here, IsRest};
-    ghost use Rattle.rack.specs.Closing.{CanCloseStations, ClosesStations, CanClosePool, CanClosePools, CanPutAllHeld, PutsAllHeld, RefillsAll, KeepsLogger, KeepsSpindles, KeepsOtherRows, HasSpindlePasses, StandsClosed, CanCloseSpindles, AreClosed};
+    ghost use Rattle.rack.specs.Closing.{CanCloseStations, ClosesStation, ClosesStations, CanClosePool, CanClosePools, CanPutAllHeld, PutsAllHeld, RefillsAll, KeepsLogger, KeepsSpindles, KeepsOtherRows, HasSpindlePasses, StandsClosed, CanCloseSpindles, AreClosed};
 
     // Each station's lock is closed, and what its manager had comes back.
     fn close_stations(&mut self, stations: Vec<Station<D>>)
@@ -50,7 +51,11 @@ impl<D: Disk> Rest<D> {
     }
 
     // One station's lock is closed.
-    fn close_station(&mut self, station: Station<D>) {
+    fn close_station(&mut self, station: Station<D>)
+        requires { (config : Config) × (shared : Shared D) × (before : List (Station D)) × CanCloseStations D.state config shared (before ++ station ∷ []) self.old }
+        ensures rest { (config : Config) (shared : Shared D) (before : List (Station D)) → CanCloseStations D.state config shared (before ++ station ∷ []) self.old → CanCloseStations D.state config shared before self.new }
+        ensures closed { ClosesStation D.tells D.state station self.old self.new }
+    {
         let Station {
             id,
             lock,
