@@ -1,4 +1,7 @@
 pub mod Issuing
+pub mod Gathering
+pub mod OutNames
+pub mod GivingBack
 pub mod CutParts
 pub mod Asking
 pub mod SentNames
@@ -6,3 +9,6 @@ pub mod NextImage
 pub mod NextRefused
 pub mod Takes
 pub mod Openable
+pub mod Members
+pub mod LanesAway
+pub mod StationBack

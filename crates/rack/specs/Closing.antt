@@ -2,6 +2,7 @@
 use Rattle.std.specs.Prelude.{⊤, ◌≡◌, ◌≢◌, ◌<◌, ◌≤◌, ◌+◌, ◌++◌, ◌⊎◌, ℕ, Bool, List, [], ◌∷◌, length, map, reverse, vec_capacity, Option, None, Some, IsSome, option_map, option_and_then, slice_get, slice_index_or, All, Contains}
 use Rattle.std.specs.List.{AllZip}
 use Rattle.wol_disk.specs.Disk.{Block, Values, State, Rose}
+use Rattle.wol_model.specs.Blocks.{AreApart}
 use Rattle.wol_model.specs.Heads.{Shape}
 use Rattle.wol_bay.specs.Bay.{Name, Told, BayState, at_name, came_back}
 use Rattle.wol_bay.specs.Parts.{blocks_of, faulty_places}
@@ -27,9 +28,9 @@ use Rattle.manager.specs.declared.manager.Manager.{Manager}
 use Rattle.manager.specs.declared.station.Station.{Station}
 use Rattle.volume_images.specs.Left.{AreNamedApart}
 use Rattle.volume_images.specs.Volumes.{shapes_of}
-use Rattle.rack.specs.Rests.{image_here, segment_here, pool_pass, spindle_pass, held_here, indexes_here, away_with, IsImageOut, IsPassAt, IsPoolLock, IsRow, IsImageRest, IsPart, IsHeldHere, IsHolding, IsRest}
+use Rattle.rack.specs.Rests.{image_here, segment_here, pool_pass, spindle_pass, held_here, indexes_here, away_with, IsImageOut, IsPassAt, IsPoolLock, IsRow, IsImageRest, IsPart, IsHeldHere, IsHolding, AreLocks, IsRest}
 use Rattle.rack.specs.Racks.{base_of_station, IsOpenBase, IsStation, AreRising}
-use Rattle.rack.specs.Parts.{IsSameBut, IsTogether, IsBlankPart, HasBack}
+use Rattle.rack.specs.Parts.{IsSameBut, IsTogether, IsBlankPart, HasBack, KeepsPlace, KeepsRows, KeepsImage, segment_in}
 use Rattle.rack.specs.Opens.{out_names}
 use Rattle.rack.specs.declared.rack.ImageRest.{ImageRest}
 use Rattle.rack.specs.declared.rack.Rest.{Rest}
@@ -60,6 +61,15 @@ KeepsButHome None new = new ≡ None
 KeepsButHome (Some r) None = ⊥
 KeepsButHome (Some r) (Some n) = n ≡ record r { home = n.home }
 
+-- one station was closed, and nothing else came back
+pub record ClosesStation {D : Type 0} (tells : Bool) (state : D → State) (s : Station D) (old new : Rest D) : Type 0 where
+  pub closing : Closing D
+  pub closed : IsClosing tells state new s closing
+  pub images : (k : ℕ) → KeepsButHome (image_here old.images.items k) (image_here new.images.items k)
+  pub homes : (k : ℕ) → k ≢ s.id → home_here new k ≡ home_here old k
+  pub places : (w k : ℕ) → w ≢ s.id → KeepsPlace old new w k
+  pub held : (v k : ℕ) → (Contains (away_with (base_of_station s ∷ [])).lanes (v, k) → ⊥) → held_here new v k ≡ held_here old v k
+
 -- each station was closed, and nothing else came back
 pub record ClosesStations {D : Type 0} (tells : Bool) (state : D → State) (stations : List (Station D)) (old new : Rest D) : Type 0 where
   pub closings : List (Closing D)
@@ -73,6 +83,7 @@ pub record CanCloseStations {D : Type 0} (state : D → State) (config : Config)
   pub each : All (λ s. IsStation s) stations
   pub rising : AreRising (map (λ (s : Station D). s.id) stations)
   pub bases : All (λ s. IsOpenBase config shared r.images.items (base_of_station s)) stations
+  pub locks : AreLocks config shared
   pub rest : IsRest state config shared (map (λ (s : Station D). base_of_station s) stations) r
 
 -- ---- Pools
@@ -91,7 +102,7 @@ pub record CanClosePool {D : Type 0} (state : D → State) (volumes k : ℕ) (s 
   pub here : (i : ℕ) (n : ImageRest D) → image_here r.images.items k ≡ Some n → i < length n.segments.items → (IsSome (segment_here n i) → IsHeldHere r k i) × (IsHeldHere r k i → IsSome (segment_here n i))
   pub others : (i : ℕ) → image_here r.images.items k ≡ None → holder (lock_id l).base.holders i ≡ Elsewhere
   pub held : (v i : ℕ) → Contains (indexes_here r v k) i → IsHolding r v k i
-  pub once : (v : ℕ) → Rattle.wol_model.specs.Blocks.AreApart (indexes_here r v k)
+  pub once : (v : ℕ) → AreApart (indexes_here r v k)
   pub parts : (v : ℕ) → All (λ (h : ℕ × Spun D). IsPart state k s.segment_blocks h.1) (held_here r v k)
   pub out : (v : ℕ) → image_here r.images.items k ≡ None → held_here r v k ≡ []
 
@@ -108,6 +119,30 @@ abbrev pub RefillsAll : {D : Type 0} → (D → State) → (old : Rest D) → (k
 RefillsAll state old k None after = after ≡ None
 RefillsAll {D} state old k (Some r) after = (n : ImageRest D) × (after ≡ Some n) × IsRefilledAll state old k r n
 
+-- the segments of volume k that came back with lanes may go to their places, where its image is out, and there are none where it isn't
+pub record CanPutAllHeld {D : Type 0} (r : Rest D) (k : ℕ) : Type 0 where
+  pub volumes : ℕ
+  pub rows : All (λ p. IsRow volumes p) r.passes.items
+  pub within : (k < volumes) × (k < length r.images.items)
+  pub indexes : (v i : ℕ) (n : ImageRest D) → image_here r.images.items k ≡ Some n → Contains (indexes_here r v k) i → (i < length n.segments.items) × (segment_here n i ≡ None)
+  pub once : (v : ℕ) → AreApart (indexes_here r v k)
+  pub apart : (v w i : ℕ) → v ≢ w → Contains (indexes_here r v k) i → Contains (indexes_here r w k) i → ⊥
+  pub out : (v : ℕ) → image_here r.images.items k ≡ None → held_here r v k ≡ []
+
+-- they are there
+pub record PutsAllHeld {D : Type 0} (old new : Rest D) (k : ℕ) : Type 0 where
+  pub rooms : new.rooms ≡ old.rooms
+  pub rows : KeepsRows old new
+  pub count : length new.images.items ≡ length old.images.items
+  pub image : KeepsImage (image_here old.images.items k) (image_here new.images.items k)
+  pub images : (j : ℕ) → j ≢ k → image_here new.images.items j ≡ image_here old.images.items j
+  pub back : (v i : ℕ) (p : Spun D) → Contains (held_here old v k) (i, p) → segment_in new k i ≡ Some p
+  pub others : (i : ℕ) → ((v : ℕ) → Contains (indexes_here old v k) i → ⊥) → segment_in new k i ≡ segment_in old k i
+  pub held : (v : ℕ) → held_here new v k ≡ []
+  pub held_others : (v j : ℕ) → j ≢ k → held_here new v j ≡ held_here old v j
+  pub pools : (v j : ℕ) → pool_pass new v j ≡ pool_pass old v j
+  pub spindles : (v j : ℕ) → spindle_pass new v j ≡ spindle_pass old v j
+
 -- what there is of the log of volume k is as it was
 pub record KeepsLogger {D : Type 0} (old new : Rest D) (k : ℕ) : Type 0 where
   pub image : image_here new.images.items k ≡ image_here old.images.items k
@@ -120,6 +155,12 @@ pub record KeepsSpindles {D : Type 0} (old new : Rest D) : Type 0 where
   pub image_count : length new.images.items ≡ length old.images.items
   pub rows : (n : ℕ) → All (λ p. IsRow n p) old.passes.items → All (λ p. IsRow n p) new.passes.items
   pub spindles : (v k : ℕ) → spindle_pass new v k ≡ spindle_pass old v k
+
+-- the rows of passes are as many, and all but the passes of spindles is as it was
+pub record KeepsOtherRows {D : Type 0} (old new : Rest D) : Type 0 where
+  pub count : length new.passes.items ≡ length old.passes.items
+  pub each : (v : ℕ) (d : VolumePasses D) → v < length old.passes.items
+      → slice_index_or new.passes.items v d ≡ record (slice_index_or old.passes.items v d) { spindles = (slice_index_or new.passes.items v d).spindles }
 
 -- the first pools have all their passes, and there is room to close them
 pub record CanClosePools {D : Type 0} (state : D → State) (config : Config) (locks : List (TurnLock (Pool (FreeSegment D)) PoolBase)) (r : Rest D) : Type 0 where
@@ -158,6 +199,7 @@ module _ {D : Type 0} where
   pub record IsSpindleTaken (k : ℕ) (old new : VolumePasses D) (p : PassOf Spindle SpindleBase) : Type 0 where
     pub there : spindle_in old k ≡ Some p
     pub others : (j : ℕ) → j ≢ k → spindle_in new j ≡ spindle_in old j
+    pub rest : new ≡ record old { spindles = new.spindles }
 
   -- one went from each row, in order
   pub record AreSpindlesTaken (k : ℕ) (old new : List (VolumePasses D)) (ps : List (PassOf Spindle SpindleBase)) : Type 0 where
@@ -194,6 +236,15 @@ pub record AreClosed (locks : List (TurnLock Spindle SpindleBase)) (keepers : Li
       → slice_get (reverse closed) k ≡ Some s → StandsClosed l p s
 
 -- ---- Images that go back
+
+module _ {D : Type 0} where
+  -- all parts of the image are here
+  pub record IsComplete (r : ImageRest D) : Type 0 where
+    pub home : IsSome r.home
+    pub segments : (i : ℕ) → i < length r.segments.items → IsSome (segment_here r i)
+
+  abbrev pub AreComplete : List (Option (ImageRest D)) → Type 0
+  AreComplete images = (k : ℕ) (r : ImageRest D) → image_here images k ≡ Some r → IsComplete r
 
 -- the image of this name came back with its parts, where it was out
 abbrev pub IsImageBack : {D : Type 0} → (D → State) → Name → Option (ImageRest D) → (old new : BayState) → Type 0

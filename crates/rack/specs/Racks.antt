@@ -1,5 +1,5 @@
 -- A rack, whatever its volumes were told since it was opened: what it needs to be closed.
-use Rattle.std.specs.Prelude.{◌≡◌, ◌<◌, ◌↔◌, ℕ, List, [], length, map, None, Some, slice_get, slice_index_or, Contains, All, IsSome}
+use Rattle.std.specs.Prelude.{◌≡◌, ◌≢◌, ◌<◌, ◌↔◌, ℕ, List, [], length, map, None, Some, slice_get, slice_index_or, Contains, All, AllPairs, IsSome}
 use Rattle.std.specs.List.{AllByRecursion}
 use Rattle.wol_disk.specs.Disk.{State}
 use Rattle.wol_model.specs.Heads.{Shape}
@@ -35,6 +35,9 @@ pub record IsOpenBase {D : Type 0} (config : Config) (shared : Shared D) (images
   pub at : IsShared shared b
   pub loggers : map (λ (l : LaneBase). l.logger) b.lanes ≡ b.volume.began.view
   pub loggers_out : AllByRecursion (IsImageOut images) b.volume.began.view
+  -- the view names each logger once, and not the volume itself
+  pub others : Contains b.volume.began.view b.volume.began.owner → ⊥
+  pub apart : AllPairs (λ j k. j ≢ k) b.volume.began.view
   pub own_spindle : b.spindle_number ≡ b.volume.began.owner
   pub own_lanes : AllByRecursion (λ (l : LaneBase). (l.pool_number ≡ b.volume.began.owner) × (l.spindle_number ≡ b.volume.began.owner)) b.lanes
 

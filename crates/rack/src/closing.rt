@@ -29,12 +29,13 @@ use wol_config::Config;
 use wol_disk::Disk;
 
 impl<D: Disk> Rest<D> {
-    ghost use Rattle.std.specs.Prelude.{◌≡◌, ◌≢◌, ◌≤◌, ◌+◌, ℕ, [], length, map, vec_capacity, Some};
+    ghost use Rattle.std.specs.Prelude.{◌≡◌, ◌≢◌, ◌<◌, ◌≤◌, ◌+◌, ◌++◌, ◌∷◌, ℕ, List, [], length, vec_capacity};
     ghost use Rattle.wol_model.specs.Heads.{Shape};
     ghost use Rattle.wol_config.specs.declared.config.Config.{Config};
     ghost use Rattle.logger.specs.declared.shared.Shared.{Shared};
-    ghost use Rattle.rack.specs.Rests.{spindle_pass, image_here, IsRest};
-    ghost use Rattle.rack.specs.Closing.{CanCloseStations, ClosesStations, CanClosePool, CanClosePools, RefillsAll, KeepsLogger, KeepsSpindles, HasSpindlePasses, StandsClosed, CanCloseSpindles, AreClosed};
+    ghost use Rattle.manager.specs.declared.station.Station.{Station};
+    ghost use Rattle.rack.specs.Rests.{spindle_pass, image_here, held_here, IsRest};
+    ghost use Rattle.rack.specs.Closing.{CanCloseStations, ClosesStation, ClosesStations, CanClosePool, CanClosePools, CanPutAllHeld, PutsAllHeld, RefillsAll, KeepsLogger, KeepsSpindles, KeepsOtherRows, HasSpindlePasses, StandsClosed, CanCloseSpindles, AreClosed};
 
     // Each station's lock is closed, and what its manager had comes back.
     fn close_stations(&mut self, stations: Vec<Station<D>>)
@@ -50,7 +51,11 @@ impl<D: Disk> Rest<D> {
     }
 
     // One station's lock is closed.
-    fn close_station(&mut self, station: Station<D>) {
+    fn close_station(&mut self, station: Station<D>)
+        requires { (config : Config) × (shared : Shared D) × (before : List (Station D)) × CanCloseStations D.state config shared (before ++ station ∷ []) self.old }
+        ensures rest { (config : Config) (shared : Shared D) (before : List (Station D)) → CanCloseStations D.state config shared (before ++ station ∷ []) self.old → CanCloseStations D.state config shared before self.new }
+        ensures closed { ClosesStation D.tells D.state station self.old self.new }
+    {
         let Station {
             id,
             lock,
@@ -79,22 +84,35 @@ impl<D: Disk> Rest<D> {
         requires empty { room.items ≡ [] }
         requires room { length self.old.passes.items ≤ vec_capacity room }
         ensures image { RefillsAll D.state self.old id (image_here self.old.images.items id) (image_here self.new.images.items id) }
+        ensures held { (v : ℕ) → held_here self.new v id ≡ [] }
         ensures others { (k : ℕ) → k ≢ id → KeepsLogger self.old self.new k }
         ensures spindles { KeepsSpindles self.old self.new }
         ensures rooms { self.new.rooms ≡ self.old.rooms }
     {
         let room = gather_pools(&mut self.passes, id, room);
         let pool = lock.close(room);
-        for volume in 0..self.passes.len() {
-            self.put_held(volume, id);
-        }
+        self.put_all_held(id);
         empty_pool(pool, &mut self.images[id]);
+    }
+
+    // The segments of volume `id` that came back with lanes go to their places.
+    fn put_all_held(&mut self, id: usize)
+        requires { CanPutAllHeld self.old id }
+        ensures { PutsAllHeld self.old self.new id }
+    {
+        if self.images[id].is_some() {
+            for volume in 0..self.passes.len() {
+                self.put_held(volume, id);
+            }
+        }
     }
 
     // All pools are closed.
     fn close_pools(&mut self, locks: Vec<TurnLock<Pool<FreeSegment<D>>>>)
         requires { (config : Config) × CanClosePools D.state config locks.items self.old }
         ensures images { (k : ℕ) → k < length locks.items → RefillsAll D.state self.old k (image_here self.old.images.items k) (image_here self.new.images.items k) }
+        ensures held { (v k : ℕ) → k < length locks.items → held_here self.new v k ≡ [] }
+        ensures others { (k : ℕ) → length locks.items ≤ k → KeepsLogger self.old self.new k }
         ensures spindles { KeepsSpindles self.old self.new }
         ensures rooms { self.new.rooms ≡ record self.old.rooms { pools = self.new.rooms.pools } }
     {
@@ -122,7 +140,7 @@ impl<D: Disk> Rest<D> {
         ensures spindle { StandsClosed lock keeper result }
         ensures images { self.new.images ≡ self.old.images }
         ensures rooms { self.new.rooms ≡ self.old.rooms }
-        ensures count { length self.new.passes.items ≡ length self.old.passes.items }
+        ensures rows { KeepsOtherRows self.old self.new }
         ensures others { (v k : ℕ) → k ≢ id → spindle_pass self.new v k ≡ spindle_pass self.old v k }
     {
         let mut room = gather_spindles(&mut self.passes, id, room);
@@ -136,6 +154,7 @@ impl<D: Disk> Rest<D> {
         requires empty { self.old.rooms.closed.items ≡ [] }
         ensures closed { AreClosed locks.items keepers.items self.new.rooms.closed.items }
         ensures images { self.new.images ≡ self.old.images }
+        ensures rows { KeepsOtherRows self.old self.new }
     {
         let (mut locks, mut keepers) = (locks, keepers);
         while let Some(lock) = locks.pop() {
