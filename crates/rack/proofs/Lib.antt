@@ -12,3 +12,9 @@ pub mod Openable
 pub mod Members
 pub mod LanesAway
 pub mod StationBack
+pub mod Rows
+pub mod LanePut
+pub mod Together
+pub mod LanesPut
+pub mod Slots
+pub mod Emptying

@@ -14,7 +14,7 @@ use Rattle.spin_model.specs.declared.spindle.Spindle.{Spindle}
 use Rattle.spin_model.specs.declared.spindle.SpindleBase.{SpindleBase}
 use Rattle.spin_model.specs.declared.spun.Spun.{Spun}
 use Rattle.seg_pool.specs.Holders.{holder}
-use Rattle.seg_pool.specs.Pools.{item_at, room_of, base_of}
+use Rattle.seg_pool.specs.Pools.{item_at, note_at, room_of, base_of}
 use Rattle.seg_pool.specs.declared.base.Holder.{Holder}
 use Rattle.seg_pool.specs.declared.base.Holder.TheVariants.{Elsewhere, InPool, HeldBy}
 use Rattle.seg_pool.specs.declared.base.PoolBase.{PoolBase}
@@ -106,6 +106,14 @@ pub record IsFilledPool {D : Type 0} (heads : List SegHead) (before : List (Opti
   pub room : room_of p ≡ length heads
   pub holders : (i : ℕ) (h : SegHead) → slice_get heads i ≡ Some h → holder (base_of p).holders i ≡ holder_said h
   pub items : (i : ℕ) (f : FreeSegment D) → item_at p i ≡ Some f → (slice_get heads i ≡ Some Free) × (slice_get before i ≡ Some (Some (free_part f)))
+
+-- the slot of this index has the segment that had this head, or its owner's note; the others are as they were
+pub record FillsSlot {D : Type 0} (index : ℕ) (head : SegHead) (segment : Option (Spun D)) (old new : Pool (FreeSegment D)) : Type 0 where
+  pub holder_is : holder (base_of new).holders index ≡ holder_said head
+  pub item : (f : FreeSegment D) → item_at new index ≡ Some f → (head ≡ Free) × (segment ≡ Some (free_part f))
+  pub items : (i : ℕ) → i ≢ index → item_at new i ≡ item_at old i
+  pub notes : (i : ℕ) → i ≢ index → note_at new i ≡ note_at old i
+  pub holders : (i : ℕ) → i ≢ index → holder (base_of new).holders i ≡ holder (base_of old).holders i
 
 -- an item of a pool, as the part that it is
 abbrev pub item_part : {D : Type 0} → Option (FreeSegment D) → Option (Spun D)

@@ -1,12 +1,12 @@
 // The pool of an image's free segments is made, and emptied.
-ghost use Rattle.std.specs.Prelude.{◌≡◌, ◌<◌, ◌≤◌, ℕ, [], length, None, Some, IfOk, OnOk, OnErr, MatchOption, slice_get, slice_index_or, vec_len};
+ghost use Rattle.std.specs.Prelude.{◌≡◌, ◌<◌, ◌≤◌, ℕ, [], length, None, Some, IfOk, OnOk, OnErr, IfSome, IsSome, MatchOption, slice_get, slice_index_or, vec_len};
 ghost use Rattle.wol_model.specs.Heads.{Shape};
 ghost use Rattle.wol_config.specs.Configs.{IsValid};
 ghost use Rattle.turn_lock.specs.Passes.{lock_id};
 ghost use Rattle.log_segment.specs.Segment.{IsBlank};
 ghost use Rattle.seg_pool.specs.Pools.{IsEmptyPool, IsSamePool, StandsFor, item_at, note_at, room_of, volume_of, blocks_of, base_of};
 ghost use Rattle.volume_images.specs.Volumes.{shapes_of};
-ghost use Rattle.rack.specs.Parts.{AreFillable, TakesFree, IsFilledPool, HasPlaces, EmptiesInto, CanIssue, IsIssuedPool, Supplies, Restores, CanEnd, EndsInto};
+ghost use Rattle.rack.specs.Parts.{AreFillable, IsBlankPart, left_by, FillsSlot, TakesFree, IsFilledPool, HasPlaces, EmptiesInto, CanIssue, IsIssuedPool, Supplies, Restores, CanEnd, EndsInto};
 
 use crate::heads_said::Said;
 use crate::locks::IssuedPool;
@@ -39,15 +39,38 @@ fn fill_pool<D: Disk>(
     ensures filled { IsFilledPool heads.now segments.old pool.new }
     ensures segments { TakesFree heads.now segments.old segments.new }
 {
-    for (index, head) in heads.iter().enumerate() {
-        match *head {
-            SegHead::Owned(owner) => pool.hold(index as u32, owner),
-            SegHead::Free => {
-                let Some(part) = segments[index].take() else {
-                    unreachable!()
-                };
-                pool.give(index as u32, FreeSegment::new(part));
-            }
+    for index in 0..heads.len() {
+        fill_slot(pool, index, heads[index], &mut segments[index]);
+    }
+}
+
+// Gives the segment with this head and index to the pool, or notes that its owner's pass holds it.
+fn fill_slot<D: Disk>(
+    pool: &mut Pool<FreeSegment<D>>,
+    index: usize,
+    head: SegHead,
+    segment: &mut Option<Spun<D>>,
+)
+    requires within { index < room_of pool.old }
+    requires few { room_of pool.old ≤ 1024 }
+    requires blocks { (4 ≤ blocks_of pool.old) × (blocks_of pool.old ≤ 65536) }
+    requires none { item_at pool.old index ≡ None }
+    requires unnoted { note_at pool.old index ≡ None }
+    requires stands { StandsFor (IsBlank D.state) pool.old (base_of pool.old) [] }
+    requires here { IsSome segment.old }
+    requires blank { head ≡ SegHead.Free → IfSome segment.old (IsBlankPart D.state (volume_of pool.old) (blocks_of pool.old)) }
+    ensures same { IsSamePool pool.old pool.new }
+    ensures stands { StandsFor (IsBlank D.state) pool.new (base_of pool.new) [] }
+    ensures segment { segment.new ≡ left_by head segment.old }
+    ensures filled { FillsSlot index head segment.old pool.old pool.new }
+{
+    match head {
+        SegHead::Owned(owner) => pool.hold(index as u32, owner),
+        SegHead::Free => {
+            let Some(part) = segment.take() else {
+                unreachable!()
+            };
+            pool.give(index as u32, FreeSegment::new(part));
         }
     }
 }
