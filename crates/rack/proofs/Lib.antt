@@ -18,3 +18,4 @@ pub mod Together
 pub mod LanesPut
 pub mod Slots
 pub mod Emptying
+pub mod OwnedSegments
