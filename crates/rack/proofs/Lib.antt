@@ -19,3 +19,4 @@ pub mod LanesPut
 pub mod Slots
 pub mod Emptying
 pub mod OwnedSegments
+pub mod UsedPass

@@ -39,11 +39,7 @@ use Rattle.rack.specs.declared.heads_said.Said.{Said}
 use Rattle.rack.specs.declared.rack.ImageRest.{ImageRest}
 use Rattle.rack.proofs.CutParts.{cut_reads, cut_had, cut_at}
 
-module _ {D : Type 0} (state : D → State) (sound : (d : D) → IsDisk (state d)) (volumes k : ℕ) (s : Shape) (blocks : Option (List (Values Block))) (o : OutImage D) (said : Said) (r : ImageRest D)
-    (cut : IsCutOpenable state volumes k s blocks o) (laid : IsLaidOut o said r) where
-  abbrev row : List (Spun D)
-  row = o.parts.image.segments.items
-
+module _ {D : Type 0} (state : D → State) (sound : (d : D) → IsDisk (state d)) (volumes k : ℕ) (s : Shape) (blocks : Option (List (Values Block))) (o : OutImage D) (cut : IsCutOpenable state volumes k s blocks o) where
   sized_before : ArePartsOf state k s cut.before
   sized_before =
       let of = cut.openable.of_volume in
@@ -55,8 +51,16 @@ module _ {D : Type 0} (state : D → State) (sound : (d : D) → IsDisk (state d
         segments = λ i d lt. sym (read.segments.volume i d lt) ∙ of.segments i d (omega (arith, lt, read.segments.count));
       })
 
-  sized : ArePartsOf state k s o.parts.image
+  pub sized : ArePartsOf state k s o.parts.image
   sized = read_parts state k s cut.before o.parts.image sized_before cut.openable.read
+
+module _ {D : Type 0} (state : D → State) (sound : (d : D) → IsDisk (state d)) (volumes k : ℕ) (s : Shape) (blocks : Option (List (Values Block))) (o : OutImage D) (said : Said) (r : ImageRest D)
+    (cut : IsCutOpenable state volumes k s blocks o) (laid : IsLaidOut o said r) where
+  abbrev row : List (Spun D)
+  row = o.parts.image.segments.items
+
+  are : ArePartsOf state k s o.parts.image
+  are = sized state sound volumes k s blocks o cut
 
   -- a segment that is here is that of the row
   laid_at : (i : ℕ) (p : Spun D) → segment_here r i ≡ Some p → (i < length row) × (get_or row i p ≡ p)
@@ -73,13 +77,13 @@ module _ {D : Type 0} (state : D → State) (sound : (d : D) → IsDisk (state d
   -- the parts that are here, with their room
   pub next_rest : IsImageRest state k s r
   next_rest = record {
-    label = subst (λ (q : Spun D). IsPart state k 2 q) (sym laid.label) (record { of_volume = sized.of_volume.label; sized = sized.label });
-    home = subst (λ (h : Option (Spun D)). IfSome h (IsPart state k s.home)) (sym laid.home) (record { of_volume = sized.of_volume.home; sized = sized.home });
-    count = laid_count ∙ sized.count;
+    label = subst (λ (q : Spun D). IsPart state k 2 q) (sym laid.label) (record { of_volume = are.of_volume.label; sized = are.label });
+    home = subst (λ (h : Option (Spun D)). IfSome h (IsPart state k s.home)) (sym laid.home) (record { of_volume = are.of_volume.home; sized = are.home });
+    count = laid_count ∙ are.count;
     segments = λ i p here.
         let at = laid_at i p here in
-        subst (λ (q : Spun D). IsPart state k s.segment_blocks q) at.1 (record { of_volume = sized.of_volume.segments i p at.0; sized = sized.segments i p at.0 });
-    row = (laid.row.0, omega (arith, laid.row.1, sized.count));
+        subst (λ (q : Spun D). IsPart state k s.segment_blocks q) at.1 (record { of_volume = are.of_volume.segments i p at.0; sized = are.segments i p at.0 });
+    row = (laid.row.0, omega (arith, laid.row.1, are.count));
     room = subst (λ (room : Vec D Global). (room.items ≡ []) × (2 + s.segments ≤ vec_capacity room)) (sym laid.room) (cut.openable.empty, cut.openable.room);
   }
 
@@ -132,7 +136,7 @@ module _ {D : Type 0} (state : D → State) (sound : (d : D) → IsDisk (state d
               let below : j < length cut.before.segments.items = omega (arith, there.0, read.segments.count) in
               subst (λ (q : Spun D). IsCutOf state image (head_place s j) (head_place s (j + 1)) q) there.1
               (at_entry (head_place s j) (head_place s (j + 1)) (get_or cut.before.segments.items j p) (get_or row j p) (read.segments.each j p below)
-              (at.segments j p (omega (arith, below, sized_before.count))));
+              (at.segments j p (omega (arith, below, (sized_before state sound volumes k s blocks o cut).count))));
         }
 
 -- the image of a volume was there at entry
@@ -140,7 +144,7 @@ pub next_entry : {D : Type 0} (state : D → State) → ((d : D) → IsDisk (sta
     → IsCutOpenable state (length (shapes_of config)) k (shape_in config v) (blocks_at v.name told) o → IsLaidOut o said r → IfSome told (SaysSo (length (shapes_of config)) k (shape_in config v) v.name o)
     → WasAtEntry state config t k v said r
 next_entry state sound config t k v told o said r is cut laid says =
-    let so = subst (λ (x : Option Told). IfSome x (SaysSo (length (shapes_of config)) k (shape_in config v) v.name o)) is says in
+    let so : SaysSo (length (shapes_of config)) k (shape_in config v) v.name o t = subst (λ (x : Option Told). IfSome x (SaysSo (length (shapes_of config)) k (shape_in config v) v.name o)) is says in
     let blocks : blocks_at v.name told ≡ Some so.image.blocks = ap (λ (x : Option Told). blocks_at v.name x) is ∙ ap (λ (i : Option Image). option_map (λ (j : Image). j.blocks) i) so.there in
     record {
       image = so.image;
