@@ -1,4 +1,4 @@
-use Rattle.std.proofs.Common.{◌≡◌, ◌≤◌, ◌<◌, ◌++◌, ◌×◌, ℕ, List, length, take, vec_len, Some, None}
+use Rattle.std.proofs.Common.{◌≡◌, ◌≤◌, ◌<◌, ◌++◌, ℕ, List, length, take, vec_len, Some, None}
 use Rattle.std.specs.Prelude.{slice_get, All}
 use Rattle.wol_disk.specs.Disk.{Rose}
 use Rattle.wol_bay.specs.Bay.{Name, outs, at_name, IsHome, IsOut}
