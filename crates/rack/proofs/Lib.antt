@@ -8,3 +8,6 @@ pub mod SentNames
 pub mod Members
 pub mod LanesAway
 pub mod StationBack
+pub mod PoolBack
+pub mod ListsBack
+pub mod BackInTurn

@@ -7,7 +7,7 @@ ghost use Rattle.wol_config.specs.declared.config.VolumeConf.{VolumeConf};
 ghost use Rattle.logger.specs.Lanes.{IsLane, logger_of, taken_in};
 ghost use Rattle.volume_images.specs.Formatted.{part_sizes};
 ghost use Rattle.volume_images.specs.Left.{IsTold};
-ghost use Rattle.volume_images.specs.Volumes.{NoneOut, shape_in};
+ghost use Rattle.volume_images.specs.Volumes.{shape_in};
 ghost use Rattle.rack.specs.Rests.{segment_here, IsImageRest, AreImageRests};
 ghost use Rattle.rack.specs.Racks.{AreOut};
 ghost use Rattle.rack.specs.Making.{IsFilled};
@@ -208,7 +208,6 @@ pub(crate) fn give_back<B: Bay>(
     requires images { AreImageRests B.Part.state config.now images.items }
     requires whole { AreComplete images.items }
     requires out { AreOut config.now images.items (B.state bay.old) }
-    ensures none_out { NoneOut config.now (B.state bay.new) }
     ensures home { LeavesNoneOut config.now images.items (outs (B.state bay.old)) (outs (B.state bay.new)) }
     ensures back { IsTold (GivesBack B.Part.state config.now images.items 0) (B.state bay.old).told (B.state bay.new).told }
     ensures cause { HasFaultHere B.Part.state images.items 0 → Rose (B.state bay.old).faults (B.state bay.new).faults }

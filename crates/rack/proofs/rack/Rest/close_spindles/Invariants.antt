@@ -6,7 +6,7 @@ use Rattle.spin_model.specs.Spindles.{SpindleView}
 use Rattle.spin_model.specs.declared.spindle.Spindle.{Spindle}
 use Rattle.spin_model.specs.declared.spindle.SpindleBase.{SpindleBase}
 use Rattle.rack.specs.Closing.{CanCloseSpindles, StandsClosed}
-use Rattle.rack.proofs.closing.Rest.close_spindles.Given as goal
+use Rattle.rack.proofs.rack.Rest.close_spindles.Given as goal
 
 -- the spindles behind those that are left are closed, the last first
 abbrev pub invariant-loop-lock : goal.invariant-loop-lock
