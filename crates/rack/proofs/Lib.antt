@@ -5,3 +5,9 @@ pub mod Together
 pub mod LanesPut
 pub mod Slots
 pub mod Emptying
+pub mod HomeMoved
+pub mod Filling
+pub mod Supplying
+pub mod Returned
+pub mod HeldPut
+pub mod Ended
