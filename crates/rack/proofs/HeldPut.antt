@@ -134,14 +134,14 @@ module _ {D : Type 0} where
     done_far : All (λ (d : ℕ × Spun D). h.0 ≢ d.0) so_far.done
     done_far j d within =
         (All-pop (λ (m : ℕ × Spun D). m.0 ≢ (slice_index_or so_far.done j d).0) (left.items ++ h ∷ []) left.items (Some h) refl
-          (subst (All (λ (m : ℕ × Spun D). m.0 ≢ (slice_index_or so_far.done j d).0)) held_was (so_far.far j d within))).1
+        (subst (All (λ (m : ℕ × Spun D). m.0 ≢ (slice_index_or so_far.done j d).0)) held_was (so_far.far j d within))).1
 
     pub held_next : newer.rooms ≡ new.rooms → PutsOne new newer k h.0 h.1 → AreHeldSoFar old newer v k
     held_next rooms one =
         let done = h ∷ so_far.done in
         let keeps = subst (λ (o : Option (ImageRest D)). KeepsImage o (image_here newer.images.items k)) so_far.can.out (one.images k) in
         let read : (i : ℕ) → i ≢ h.0 → segment_here so_far.can.image i ≡ None → segment_here keeps.0 i ≡ None = λ i other empty.
-            sym (ap (λ (o : Option (ImageRest D)). in_image o i) keeps.1) ∙ one.others k i (λ e. other) ∙ ap (λ (o : Option (ImageRest D)). in_image o i) so_far.can.out ∙ empty in
+        sym (ap (λ (o : Option (ImageRest D)). in_image o i) keeps.1) ∙ one.others k i (λ e. other) ∙ ap (λ (o : Option (ImageRest D)). in_image o i) so_far.can.out ∙ empty in
         record {
           done = done;
           kept = so_far.kept ∙ ap (λ (l : List (ℕ × Spun D)). l ++ so_far.done) held_was ∙ append_assoc left.items (h ∷ []) so_far.done
@@ -152,12 +152,12 @@ module _ {D : Type 0} where
             out = keeps.1;
             within = subst (All (λ i. i < length keeps.0.segments.items)) (sym indexes_now)
                 (subst (λ (n : ℕ). All (λ i. i < n) (map index_of left.items)) (sym keeps.2.count)
-                  (All-pop (λ i. i < length so_far.can.image.segments.items) (map index_of left.items ++ h.0 ∷ []) (map index_of left.items) (Some h.0) refl
-                    (subst (All (λ i. i < length so_far.can.image.segments.items)) indexes_was so_far.can.within)).0);
+                (All-pop (λ i. i < length so_far.can.image.segments.items) (map index_of left.items ++ h.0 ∷ []) (map index_of left.items) (Some h.0) refl
+                (subst (All (λ i. i < length so_far.can.image.segments.items)) indexes_was so_far.can.within)).0);
             empty = subst (All (λ i. segment_here keeps.0 i ≡ None)) (sym indexes_now)
                 (all_both (λ i. i ≢ h.0) (λ i. segment_here so_far.can.image i ≡ None) (λ i. segment_here keeps.0 i ≡ None) (map index_of left.items) read left_other
-                  (All-pop (λ i. segment_here so_far.can.image i ≡ None) (map index_of left.items ++ h.0 ∷ []) (map index_of left.items) (Some h.0) refl
-                    (subst (All (λ i. segment_here so_far.can.image i ≡ None)) indexes_was so_far.can.empty)).0);
+                (All-pop (λ i. segment_here so_far.can.image i ≡ None) (map index_of left.items ++ h.0 ∷ []) (map index_of left.items) (Some h.0) refl
+                (subst (All (λ i. segment_here so_far.can.image i ≡ None)) indexes_was so_far.can.empty)).0);
             apart = subst AreApart (sym indexes_now) apart.0;
           };
           rooms = rooms ∙ so_far.rooms;
@@ -167,11 +167,11 @@ module _ {D : Type 0} where
           images = λ j other. one.image_others j other ∙ so_far.images j other;
           back = All-cons (λ (d : ℕ × Spun D). segment_in newer k d.0 ≡ Some d.1) h so_far.done one.back
               (all_both (λ (d : ℕ × Spun D). segment_in new k d.0 ≡ Some d.1) (λ (d : ℕ × Spun D). h.0 ≢ d.0) (λ (d : ℕ × Spun D). segment_in newer k d.0 ≡ Some d.1) so_far.done
-                (λ d back other. one.others k d.0 (λ same e. other (sym e)) ∙ back) so_far.back done_far);
+              (λ d back other. one.others k d.0 (λ same e. other (sym e)) ∙ back) so_far.back done_far);
           far = subst (λ (l : List (ℕ × Spun D)). All (λ (d : ℕ × Spun D). All (λ (m : ℕ × Spun D). m.0 ≢ d.0) l) done) (sym held_now)
               (All-cons (λ (d : ℕ × Spun D). All (λ (m : ℕ × Spun D). m.0 ≢ d.0) left.items) h so_far.done left_others
-                (λ j d within. (All-pop (λ (m : ℕ × Spun D). m.0 ≢ (slice_index_or so_far.done j d).0) (left.items ++ h ∷ []) left.items (Some h) refl
-                  (subst (All (λ (m : ℕ × Spun D). m.0 ≢ (slice_index_or so_far.done j d).0)) held_was (so_far.far j d within))).0));
+              (λ j d within. (All-pop (λ (m : ℕ × Spun D). m.0 ≢ (slice_index_or so_far.done j d).0) (left.items ++ h ∷ []) left.items (Some h) refl
+              (subst (All (λ (m : ℕ × Spun D). m.0 ≢ (slice_index_or so_far.done j d).0)) held_was (so_far.far j d within))).0));
           others = λ i other.
               one.others k i (λ same e. other (0, zero_within, sym e))
               ∙ so_far.others i (λ has. other (suc has.0, suc_within (length (map index_of so_far.done)) has.0 has.1, has.2));

@@ -11,3 +11,4 @@ pub mod Supplying
 pub mod Returned
 pub mod HeldPut
 pub mod Ended
+pub mod LaneTaken

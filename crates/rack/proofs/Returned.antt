@@ -72,6 +72,9 @@ module _ {D : Type 0} where
   pub here_within : (images : List (Option (ImageRest D))) (k : ℕ) (r : ImageRest D) → image_here images k ≡ Some r → k < length images
   here_within images k r is = ⊎_elim (λ within. within) (λ past. absurd (none-some r (sym (get_or_past images k None past) ∙ is))) (cases_lt k (length images))
 
+  pub some_within : (images : List (Option (ImageRest D))) (k : ℕ) → IsSome (image_here images k) → k < length images
+  some_within images k some = ⊎_elim (λ within. within) (λ past. absurd (false≢true (sym (ap is_some (get_or_past images k None past)) ∙ some))) (cases_lt k (length images))
+
   -- one segment came to its place
   pub record PutsOne (old new : Rest D) (k i : ℕ) (part : Spun D) : Type 0 where
     pub count : length new.images.items ≡ length old.images.items
@@ -99,15 +102,19 @@ module _ {D : Type 0} where
       let lt = here_within old.images.items k r out in
       let at : image_here new.images.items k ≡ Some n = ap (λ (is : List (Option (ImageRest D))). image_here is k) set ∙ get_or-set_same old.images.items k (Some n) None lt in
       let there : (j : ℕ) → j ≢ k → image_here new.images.items j ≡ image_here old.images.items j = λ j other.
-          ap (λ (is : List (Option (ImageRest D))). image_here is j) set ∙ get_or-set_other old.images.items k j (Some n) None other in
+      ap (λ (is : List (Option (ImageRest D))). image_here is j) set ∙ get_or-set_other old.images.items k j (Some n) None other in
       let same : IsSameBut r n = record {
-            label = fill.label; home = fill.home; count = ap length fill.segments ∙ length-set r.segments.items i (Some part); row = fill.row; room = fill.room;
-          } in
+        label = fill.label;
+        home = fill.home;
+        count = ap length fill.segments ∙ length-set r.segments.items i (Some part);
+        row = fill.row;
+        room = fill.room;
+      } in
       let keeps_here : KeepsImage (image_here old.images.items k) (image_here new.images.items k) =
-          subst (λ (o : Option (ImageRest D)). KeepsImage o (image_here new.images.items k)) (sym out) (n, at, same) in
+      subst (λ (o : Option (ImageRest D)). KeepsImage o (image_here new.images.items k)) (sym out) (n, at, same) in
       let read_here : (m : ℕ) → m ≢ i → segment_in new k m ≡ segment_in old k m = λ m other.
-          ap (λ (o : Option (ImageRest D)). in_image o m) at ∙ ap (λ (ss : List (Option (Spun D))). slice_index_or ss m None) fill.segments
-          ∙ get_or-set_other r.segments.items i m (Some part) None other ∙ sym (ap (λ (o : Option (ImageRest D)). in_image o m) out) in
+      ap (λ (o : Option (ImageRest D)). in_image o m) at ∙ ap (λ (ss : List (Option (Spun D))). slice_index_or ss m None) fill.segments
+      ∙ get_or-set_other r.segments.items i m (Some part) None other ∙ sym (ap (λ (o : Option (ImageRest D)). in_image o m) out) in
       record {
         count = ap length set ∙ length-set old.images.items k (Some n);
         images = λ j. ⊎_elim
@@ -138,7 +145,10 @@ module _ {D : Type 0} where
     done = [];
     kept = sym (append-nil all);
     put = record {
-      passes = refl; rooms = refl; count = refl; images = λ k. keeps_image (image_here r.images.items k);
+      passes = refl;
+      rooms = refl;
+      count = refl;
+      images = λ k. keeps_image (image_here r.images.items k);
       back = All-nil (λ (o : OwnedPart D). segment_in r o.logger o.index ≡ Some o.part);
       others = λ k i other. refl;
     };
@@ -180,7 +190,7 @@ module _ {D : Type 0} where
             images = λ k. keeps_image_then (image_here old.images.items k) (image_here new.images.items k) (image_here newer.images.items k) (so_far.put.images k) (one.images k);
             back = All-cons (λ (d : OwnedPart D). segment_in newer d.logger d.index ≡ Some d.part) o so_far.done one.back
                 (all_both (λ (d : OwnedPart D). segment_in new d.logger d.index ≡ Some d.part) (λ (d : OwnedPart D). place_of o ≢ place_of d) (λ (d : OwnedPart D). segment_in newer d.logger d.index ≡ Some d.part) so_far.done
-                  (λ d back other. one.others d.logger d.index (λ e f. other (λ j. (sym e j, sym f j))) ∙ back) so_far.put.back owned_apart);
+                (λ d back other. one.others d.logger d.index (λ e f. other (λ j. (sym e j, sym f j))) ∙ back) so_far.put.back owned_apart);
             others = λ k i other.
                 one.others k i (λ e f. All-head (λ (d : OwnedPart D). place_of d ≢ (k, i)) o so_far.done other (λ j. (sym e j, sym f j)))
                 ∙ so_far.put.others k i (All-tail (λ (d : OwnedPart D). place_of d ≢ (k, i)) o so_far.done other);

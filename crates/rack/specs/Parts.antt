@@ -284,13 +284,14 @@ pub record IsSetUp {D : Type 0} (spindles : List (Issued Spindle SpindleBase)) (
 
 -- ---- Parts and passes go out of a rest and come back
 
--- the segments of a volume for lanes on the log of volume k
+-- how many segments a volume of this shape has
+abbrev pub segment_count : Option Shape → ℕ
+segment_count None = 0
+segment_count (Some s) = s.segments
+
+-- those of volume k
 abbrev pub segments_of : Config → (k : ℕ) → ℕ
-segments_of config k = count_in (slice_get (shapes_of config) k)
-  where
-    count_in : Option Shape → ℕ
-    count_in None = 0
-    count_in (Some s) = s.segments
+segments_of config k = segment_count (slice_get (shapes_of config) k)
 
 -- a place whose head names the owner v
 abbrev pub IsOwnedPlace : (said : List (Option Said)) → (v k i : ℕ) → Type 0

@@ -6,7 +6,7 @@ ghost use Rattle.turn_lock.specs.Passes.{lock_id};
 ghost use Rattle.log_segment.specs.Segment.{IsBlank};
 ghost use Rattle.seg_pool.specs.Pools.{IsEmptyPool, IsSamePool, StandsFor, item_at, note_at, room_of, volume_of, blocks_of, base_of};
 ghost use Rattle.volume_images.specs.Volumes.{shapes_of};
-ghost use Rattle.rack.specs.Parts.{AreFillable, IsBlankPart, left_by, FillsSlot, TakesFree, IsFilledPool, HasPlaces, EmptiesInto, MaySupply, IsSupplied, CanIssue, IsIssuedPool, Supplies, Restores, CanEnd, EndsInto};
+ghost use Rattle.rack.specs.Parts.{AreFillable, IsBlankPart, left_by, FillsSlot, TakesFree, IsFilledPool, IsSameBut, HasPlaces, EmptiesInto, MaySupply, IsSupplied, CanIssue, IsIssuedPool, Supplies, Restores, CanEnd, EndsInto};
 
 use crate::heads_said::Said;
 use crate::locks::IssuedPool;
@@ -105,7 +105,27 @@ fn supply<D: Disk>(
 {
     let Some(said) = said else { return };
     let Some(image) = image else { unreachable!() };
-    fill_pool(pool, said.heads.as_slice(), &mut image.segments);
+    image.give_free(pool, said.heads.as_slice());
+}
+
+impl<D: Disk> ImageRest<D> {
+    // Gives the free segments to an empty pool, and notes who holds the others.
+    fn give_free(&mut self, pool: &mut Pool<FreeSegment<D>>, heads: &[SegHead])
+        requires room { room_of pool.old ≡ length heads.now }
+        requires few { length heads.now ≤ 1024 }
+        requires blocks { (4 ≤ blocks_of pool.old) × (blocks_of pool.old ≤ 65536) }
+        requires empty { IsEmptyPool pool.old }
+        requires notes { (index : ℕ) → note_at pool.old index ≡ None }
+        requires stands { StandsFor (IsBlank D.state) pool.old (base_of pool.old) [] }
+        requires segments { AreFillable D.state (volume_of pool.old) (blocks_of pool.old) heads.now self.old.segments.items }
+        ensures same { IsSamePool pool.old pool.new }
+        ensures stands { StandsFor (IsBlank D.state) pool.new (base_of pool.new) [] }
+        ensures filled { IsFilledPool heads.now self.old.segments.items pool.new }
+        ensures rest { IsSameBut self.old self.new }
+        ensures segments { TakesFree heads.now self.old.segments.items self.new.segments.items }
+    {
+        fill_pool(pool, heads, &mut self.segments);
+    }
 }
 
 // The pool of an image that is out, or an empty one, behind a lock with a pass for each volume.

@@ -12,6 +12,7 @@ ghost use Rattle.rack.specs.declared.rack.ImageRest.{ImageRest};
 use crate::VolumeFault;
 use crate::heads_said::Said;
 use crate::rack::{ImageRest, Rack, Rest};
+use crate::rest::take_home;
 use log_layout::{Label, SegHead, View};
 use logger::Lane;
 use manager::Station;
@@ -164,13 +165,9 @@ impl<D: Disk> Rest<D> {
         ensures spindle { spindle_pass self.old id id ≡ Some result.1 }
         ensures rest { ChangesHome self.old self.new id None None }
     {
-        let Some(image) = &mut self.images[id as usize] else {
-            unreachable!()
-        };
-        let Some(home) = image.home.take() else {
-            unreachable!()
-        };
-        let Some(spindle) = self.passes[id as usize].spindles[id as usize].take() else {
+        let home = take_home(&mut self.images[id as usize]);
+        let passes = &mut self.passes[id as usize];
+        let Some(spindle) = passes.spindles[id as usize].take() else {
             unreachable!()
         };
         (home, spindle)
