@@ -121,6 +121,8 @@ module _ {D : Type 0} (state : D → State) where
       let held = all_get (IsHeld state logger owner m pool) items p ch.old each ch.there in
       subst (λ (k : ℕ). AllByRecursion (IsHeld state logger owner k pool) items') (sym room) (subst (AllByRecursion (IsHeld state logger owner m pool)) (sym ch.held) (all_set (IsHeld state logger owner m pool) items p ch.new each (held_same state logger owner m pool ch.old ch.new held ch.index ch.shape ch.same)))
 
+  pub indexes_changed : (items items' : List (HeldSegment D)) (p : ℕ) → IsChanged items items' p → map (λ (h : HeldSegment D). h.index) items' ≡ map (λ (h : HeldSegment D). h.index) items
+  indexes_changed items items' p ch = ap (map (λ (h : HeldSegment D). h.index)) ch.held ∙ map-set (λ (h : HeldSegment D). h.index) items p ch.old ch.new ch.there ch.index
+
   pub apart_changed : (items items' : List (HeldSegment D)) (ws : List ℕ) (p : ℕ) → IsChanged items items' p → AreApart (map (λ (h : HeldSegment D). h.index) items ++ ws) → AreApart (map (λ (h : HeldSegment D). h.index) items' ++ ws)
-  apart_changed items items' ws p ch apart =
-      subst (λ (is : List ℕ). AreApart (is ++ ws)) (sym (ap (map (λ (h : HeldSegment D). h.index)) ch.held ∙ map-set (λ (h : HeldSegment D). h.index) items p ch.old ch.new ch.there ch.index)) apart
+  apart_changed items items' ws p ch apart = subst (λ (is : List ℕ). AreApart (is ++ ws)) (sym (indexes_changed items items' p ch)) apart

@@ -1,5 +1,5 @@
 -- A lane as its manager sees it: the segments that one volume holds on one logger.
-use Rattle.std.specs.Prelude.{◌≡◌, ◌<◌, ◌≤◌, ◌⊎◌, ◌+◌, ◌-◌, ◌==◌, if◌then◌else◌, ◌∷◌, ◌++◌, ℕ, Bool, true, false, List, [], map, All, length, take, drop, slice_get, slice_set, remove, vec_len, vec_capacity, slice_index_or, Option, None, Some, IfSome, is_some, Result, Ok, Err, OnOk, OnErr, IsOk, IsErr}
+use Rattle.std.specs.Prelude.{◌≡◌, ◌<◌, ◌≤◌, ◌⊎◌, ◌+◌, ◌-◌, ◌==◌, if◌then◌else◌, ◌∷◌, ◌++◌, ℕ, Bool, true, false, List, [], map, All, length, take, drop, slice_get, slice_set, remove, vec_len, vec_capacity, slice_index_or, Contains, Option, None, Some, IfSome, is_some, Result, Ok, Err, OnOk, OnErr, IsOk, IsErr}
 use Rattle.std.specs.List.{AllByRecursion}
 use Rattle.std.specs.Option.{option_to_list}
 use Rattle.wol_disk.specs.Disk.{Block, State, Values, LeavesOnly, Rose}
@@ -8,6 +8,7 @@ use Rattle.wol_model.specs.Blocks.{AreApart}
 use Rattle.wol_model.specs.Heads.{RecordHead}
 use Rattle.wol_model.specs.Journal.{Needed, Done}
 use Rattle.wol_model.specs.Log.{Record, IsLog, IsIdle, HasFirstOf, position_of}
+use Rattle.turn_lock.specs.Histories.{Entry}
 use Rattle.turn_lock.specs.Passes.{lock_id, pass_lock, pass_number, pass_mine, IsFree, IsSamePass}
 use Rattle.turn_lock.specs.declared.pass.PassOf.{PassOf}
 use Rattle.spin_model.specs.Operations.{has_token}
@@ -71,6 +72,10 @@ module _ {D : Type 0} where
 
 -- ---- What holds of a lane between its calls, whether or not its disks tell their content
 
+-- these entries of a spindle's lock are of accesses alone: in each turn the disk was needed, or it was done
+abbrev pub AreAccesses : List Entry → Type 0
+AreAccesses entries = AllByRecursion (λ (e : Entry). (spindle.use_of e.1 ≡ Needed) ⊎ (spindle.use_of e.1 ≡ Done)) entries
+
 -- a held segment of this logger and owner: it is as long as the pool's, and the pass holds its index
 pub record IsHeld {D : Type 0} (state : D → State) (logger owner segments : ℕ) (pass : PassOf (Pool (FreeSegment D)) PoolBase) (h : HeldSegment D) : Type 0 where
   pub shape : IsSegment state h.segment
@@ -93,12 +98,17 @@ pub record IsLane {D : Type 0} (state : D → State) (l : Lane D) : Type 0 where
   pub spindle_volume : (pass_lock l.spindle).base.volume ≡ l.logger
   -- each disk access of it is over
   pub settled : has_token (pass_mine l.spindle) ≡ false
+  pub accesses : AreAccesses (pass_mine l.spindle)
   pub each : AllByRecursion (IsHeld state l.logger l.owner (segments_in l) l.pool) l.held.items
   pub unclaimed : IfSome l.taken (IsTaken state l.logger (segments_in l) l.pool)
   pub apart : AreApart (indexes_in l)
   -- it has room for all segments of the logger, and room to hand them back
   pub room : length (pass_lock l.pool).base.holders ≤ segments_in l
   pub handing : (l.parts.items ≡ []) × (segments_in l ≤ vec_capacity l.parts)
+
+-- its pass of the pool holds no index but those of its segments; this is no part of `IsLane`, since at an opening the pass holds segments before the lane does
+abbrev pub HoldsAll : {D : Type 0} → Lane D → Type 0
+HoldsAll l = (index : ℕ) → holds (pass_lock l.pool).base (pass_number l.pool) (pass_mine l.pool) index ≡ true → Contains (indexes_in l) index
 
 -- what no call of a lane changes
 pub record IsSameLane {D : Type 0} (old new : Lane D) : Type 0 where

@@ -1,7 +1,7 @@
 // Reads of a lane's records.
 ghost use Rattle.std.specs.Prelude.{◌≡◌, ℕ, length};
 ghost use Rattle.turn_lock.specs.Passes.{pass_mine};
-ghost use Rattle.logger.specs.Lanes.{IsLane, IsAt, IsSameLane, HasUsed, HasIndex, IsReadable, ReadFrom, taken_in, pool_of};
+ghost use Rattle.logger.specs.Lanes.{IsLane, HoldsAll, IsAt, IsSameLane, HasUsed, HasIndex, IsReadable, ReadFrom, taken_in, pool_of};
 
 use crate::lane::{HeldSegment, Lane, Spot};
 use crate::shared::Shared;
@@ -38,6 +38,7 @@ impl<D: Disk> Lane<D> {
         requires spot { IsReadable self.old spot.now skip (length out.old) }
         ensures lane { IsLane D.state self.new }
         ensures same { IsSameLane self.old self.new }
+        ensures all { HoldsAll self.old → HoldsAll self.new }
         ensures at { IsAt shared.now self.new }
         ensures taken { taken_in self.new ≡ taken_in self.old }
         ensures pool { pass_mine (pool_of self.new) ≡ pass_mine (pool_of self.old) }

@@ -3,7 +3,7 @@ ghost use Rattle.std.specs.Prelude.{◌≡◌, ◌≤◌, ◌+◌, ◌⊎◌, tr
 ghost use Rattle.std.specs.List.{AllByRecursion};
 ghost use Rattle.turn_lock.specs.Passes.{pass_mine};
 ghost use Rattle.log_segment.specs.Segment.{IsSegment};
-ghost use Rattle.logger.specs.Lanes.{IsLane, IsAt, IsSameLane, IsFirstWithRoom, HasRoom, HasNoRoom, AreWhole, Secured, IsFit, held_in, taken_in, spindle_of, pool_blocks};
+ghost use Rattle.logger.specs.Lanes.{IsLane, HoldsAll, IsAt, IsSameLane, IsFirstWithRoom, HasRoom, HasNoRoom, AreWhole, Secured, IsFit, held_in, taken_in, spindle_of, pool_blocks};
 
 use crate::lane::{HeldSegment, Lane};
 use crate::shared::Shared;
@@ -37,6 +37,7 @@ impl<D: Disk> Lane<D> {
         requires fits { count + 2 ≤ pool_blocks self.old }
         ensures lane { IsLane D.state self.new }
         ensures same { IsSameLane self.old self.new }
+        ensures all { HoldsAll self.old → HoldsAll self.new }
         ensures at { IsAt shared.now self.new }
         ensures held { held_in self.new ≡ held_in self.old }
         ensures spindle { pass_mine (spindle_of self.new) ≡ pass_mine (spindle_of self.old) }

@@ -5,7 +5,7 @@ ghost use Rattle.wol_model.specs.Heads.{IsRecordHead};
 ghost use Rattle.spin_model.specs.Spun.{token_volume};
 ghost use Rattle.log_layout.specs.Values.{record_head};
 ghost use Rattle.log_segment.specs.Records.{IsProperPart};
-ghost use Rattle.logger.specs.Lanes.{IsLane, IsAt, IsSameLane, HasUsed, IsTrimmable, Trimmed, lane_owner, taken_in};
+ghost use Rattle.logger.specs.Lanes.{IsLane, HoldsAll, IsAt, IsSameLane, HasUsed, IsTrimmable, Trimmed, lane_owner, taken_in};
 ghost use Rattle.logger.specs.Trims.{IsBareAt, IsCuttable, FreedAt, StaysAt, Cut};
 
 use crate::lane::{HeldSegment, Lane, Spot};
@@ -84,6 +84,7 @@ impl<D: Disk> Lane<D> {
         requires keep { IsProperPart keep head.now.keep }
         ensures lane { IsLane D.state self.new }
         ensures same { IsSameLane self.old self.new }
+        ensures all { HoldsAll self.old → HoldsAll self.new }
         ensures at { IsAt shared.now self.new }
         ensures taken { taken_in self.new ≡ taken_in self.old }
         ensures used { HasUsed self.old self.new }

@@ -5,7 +5,7 @@ ghost use Rattle.spin_model.specs.Spun.{token_volume};
 ghost use Rattle.log_segment.specs.Records.{new_record, group_of, count_of, AreItems};
 ghost use Rattle.log_segment.specs.Segment.{IsFree, room_of, free_volume, free_blocks};
 ghost use Rattle.logger.specs.declared.lane.HeldSegment.{HeldSegment};
-ghost use Rattle.logger.specs.Lanes.{IsLane, IsAt, IsSameLane, HasRoom, HasNoRoom, IsFirstWithRoom, AreWhole, HasUsed, IsFit, Claimed, Wrote, lane_owner, held_in, taken_in, pool_of, pool_blocks, first_count, spot_result};
+ghost use Rattle.logger.specs.Lanes.{IsLane, HoldsAll, IsAt, IsSameLane, HasRoom, HasNoRoom, IsFirstWithRoom, AreWhole, HasUsed, IsFit, Claimed, Wrote, lane_owner, held_in, taken_in, pool_of, pool_blocks, first_count, spot_result};
 
 use crate::lane::{HeldSegment, Lane, Spot};
 use crate::secure::first_with_room;
@@ -76,6 +76,7 @@ impl<D: Disk> Lane<D> {
         requires range { lbn + length from.now ≤ 2 ^ 32 }
         ensures lane { IsLane D.state self.new }
         ensures same { IsSameLane self.old self.new }
+        ensures all { HoldsAll self.old → HoldsAll self.new }
         ensures at { IsAt shared.now self.new }
         ensures pool { pass_mine (pool_of self.new) ≡ pass_mine (pool_of self.old) }
         ensures used { HasUsed self.old self.new }
@@ -111,6 +112,7 @@ impl<D: Disk> Lane<D> {
         requires blocks { count_of items.now ≡ length from.now }
         ensures lane { IsLane D.state self.new }
         ensures same { IsSameLane self.old self.new }
+        ensures all { HoldsAll self.old → HoldsAll self.new }
         ensures at { IsAt shared.now self.new }
         ensures pool { pass_mine (pool_of self.new) ≡ pass_mine (pool_of self.old) }
         ensures used { HasUsed self.old self.new }
@@ -142,6 +144,7 @@ impl<D: Disk> Lane<D> {
         requires blocks { count_of items.now ≡ length from.now }
         ensures lane { IsLane D.state self.new }
         ensures same { IsSameLane self.old self.new }
+        ensures all { HoldsAll self.old → HoldsAll self.new }
         ensures pool { pass_mine (pool_of self.new) ≡ pass_mine (pool_of self.old) }
         ensures used { HasUsed self.old self.new }
         ensures moved { Wrote D.state self.old self.new (first_count items.now) (group_of (lane_owner self.old) version items.now from.now) result }
@@ -175,6 +178,7 @@ impl<D: Disk> Lane<D> {
         requires blocks { count_of items.now ≡ length from.now }
         ensures lane { IsLane D.state self.new }
         ensures same { IsSameLane self.old self.new }
+        ensures all { HoldsAll self.old → HoldsAll self.new }
         ensures pool { pass_mine (pool_of self.new) ≡ pass_mine (pool_of self.old) }
         ensures used { HasUsed self.old self.new }
         ensures moved { Wrote D.state self.old self.new (first_count items.now) (group_of (lane_owner self.old) version items.now from.now) result }

@@ -26,7 +26,7 @@ use Rattle.redirect_map.specs.Masks.{IsMask}
 use Rattle.redirect_map.specs.declared.record.Rec.{Rec}
 use Rattle.log_layout.specs.Values.{record_head}
 use Rattle.log_layout.specs.declared.record.RecHead.{RecHead}
-use Rattle.logger.specs.Lanes.{IsLane, IsSameLane, HasUsed, IsTrimmable, Trimmed, in_place, to_pool, not_freed, held_in, taken_in, pool_of, logger_of}
+use Rattle.logger.specs.Lanes.{IsLane, HoldsAll, IsSameLane, HasUsed, IsTrimmable, Trimmed, in_place, to_pool, not_freed, held_in, taken_in, pool_of, logger_of}
 use Rattle.logger.specs.declared.lane.HeldSegment.{HeldSegment}
 use Rattle.logger.specs.declared.lane.Lane.{Lane}
 use Rattle.logger.proofs.Indexes.{lacks_removed}
@@ -187,7 +187,7 @@ module _ {D : Type 0} (state : D → State) (m : Manager D) (ready : IsReady sta
           fits = let w = placed.within in let p = f.record_.pos in omega arith;
         }
 
-    module _ (new : Lane D) (is_lane : IsLane state new) (same : IsSameLane old new) (taken : taken_in new ≡ taken_in old) (used : HasUsed old new) where
+    module _ (new : Lane D) (is_lane : IsLane state new) (same : IsSameLane old new) (all : HoldsAll old → HoldsAll new) (taken : taken_in new ≡ taken_in old) (used : HasUsed old new) where
       untaken : taken_in new ≡ None
       untaken = taken ∙ old_lane.untaken
 
@@ -205,9 +205,9 @@ module _ {D : Type 0} (state : D → State) (m : Manager D) (ready : IsReady sta
           where
             by : Trimmed {T = T} {E = E} state old new (record { segment = r.segment; pos = r.pos }) (record { form = 2; owner = m.id; version = version; first = r.lbn; count = r.count; mask = r.keep }) (bit_and r.keep (bit_not w128 given)) (Ok x)
                 → IsReady state (record m { lanes = with_item m.lanes r.lane new; index = index'; ups = record { items = ups } })
-            by (in_place i o n there named held pool cut) = ready_given state m ready r.lane old new lane is_lane same untaken ups flags version index' entries
+            by (in_place i o n there named held pool cut) = ready_given state m ready r.lane old new lane is_lane same all untaken ups flags version index' entries
                 (up_in_place state m ready up r.lane old lane version f.entry index at its.count lane_is r f.record_ given fits bits i o there (index_is o named) new is_lane same untaken n held cut.index cut.whole cut.fewer)
-            by (to_pool i o free there named held pool ok gave) = ready_given state m ready r.lane old new lane is_lane same untaken ups flags version index' entries
+            by (to_pool i o free there named held pool ok gave) = ready_given state m ready r.lane old new lane is_lane same all untaken ups flags version index' entries
                 (up_less state m ready up r.lane old lane version f.entry index at its.count lane_is r f.record_ given fits bits i o there (index_is o named) new is_lane same untaken held gave.fewer)
             by (not_freed i o n there named held pool err stayed) = absurd (false≢true err)
 
@@ -295,7 +295,7 @@ module _ {D : Type 0} (state : D → State) (m : Manager D) (ready : IsReady sta
         broken_one = record m { lanes = with_item m.lanes r.lane new; ups = record { items = ups }; down = Some (part.Segment volume r.segment) }
 
         pub ready_broke : IsReady state (record m { lanes = with_item m.lanes r.lane new; ups = record { items = ups }; down = Some (part.Segment volume r.segment) })
-        ready_broke = ready_broken state m ready r.lane old new lane is_lane same untaken ups flags (part.Segment volume r.segment)
+        ready_broke = ready_broken state m ready r.lane old new lane is_lane same all untaken ups flags (part.Segment volume r.segment)
 
         -- the index has the record's entry still
         one_still : 1 ≤ entries_at f.entry.listed.lane f.entry.index m.index.entries

@@ -20,7 +20,7 @@ use Rattle.log_segment.specs.declared.free.FreeSegment.{FreeSegment}
 use Rattle.redirect_map.specs.Index.{Contents, IsIndex, IsRecordOf, changed}
 use Rattle.redirect_map.specs.Masks.{IsMask}
 use Rattle.redirect_map.specs.declared.record.Rec.{Rec}
-use Rattle.logger.specs.Lanes.{IsLane, IsHeld, IsSameLane, AreWhole, held_in, taken_in, lane_owner, logger_of, segments_in, pool_of}
+use Rattle.logger.specs.Lanes.{IsLane, HoldsAll, IsHeld, IsSameLane, AreWhole, held_in, taken_in, lane_owner, logger_of, segments_in, pool_of}
 use Rattle.logger.specs.declared.lane.HeldSegment.{HeldSegment}
 use Rattle.logger.specs.declared.lane.Lane.{Lane}
 use Rattle.logger.proofs.Indexes.{same_place, lacks_removed}
@@ -241,13 +241,13 @@ module _ {D : Type 0} (state : D → State) (m : Manager D) (ready : IsReady sta
 
 -- ---- ready again
 
-module _ {D : Type 0} (state : D → State) (m : Manager D) (ready : IsReady state m) (k : ℕ) (old new : Lane D) (lane : slice_get m.lanes.items k ≡ Some old) (is_lane : IsLane state new) (same : IsSameLane old new) (untaken : taken_in new ≡ None)
+module _ {D : Type 0} (state : D → State) (m : Manager D) (ready : IsReady state m) (k : ℕ) (old new : Lane D) (lane : slice_get m.lanes.items k ≡ Some old) (is_lane : IsLane state new) (same : IsSameLane old new) (all : HoldsAll old → HoldsAll new) (untaken : taken_in new ≡ None)
     (ups : List Bool) (flags : ups ≡ slice_set m.ups.items k true) where
   -- with the index that gave up what goes
   pub ready_given : (version : ℕ) (index : Contents) → index.entries ≡ given_of version m.index.entries → IsUp (slice_set m.lanes.items k new) (given_of version m.index.entries)
       → IsReady state (record m { lanes = with_item m.lanes k new; index = index; ups = record { items = ups } })
   ready_given version index entries is_up = record {
-    ready = ready_set state m.id m.most m.lanes.items k old new lane same ready.ready is_lane untaken (ap length flags ∙ length-set m.ups.items k true);
+    ready = ready_set state m.id m.most m.lanes.items k old new lane same ready.ready is_lane all untaken (ap length flags ∙ length-set m.ups.items k true);
     next = ready.next;
     below = subst (AllByRecursion (λ (d : Indexed). d.listed.version < m.next)) (sym entries) (all_given (λ (d : Indexed). d.listed.version < m.next) version m.index.entries (λ d lt. lt) ready.below);
     ranges = subst (AllByRecursion (IsInVolume (state_of state m.home).size)) (sym entries) (all_given (IsInVolume (state_of state m.home).size) version m.index.entries
@@ -258,7 +258,7 @@ module _ {D : Type 0} (state : D → State) (m : Manager D) (ready : IsReady sta
   -- after a call that failed
   pub ready_broken : (p : Part) → IsReady state (record m { lanes = with_item m.lanes k new; ups = record { items = ups }; down = Some p })
   ready_broken p = record {
-    ready = ready_set state m.id m.most m.lanes.items k old new lane same ready.ready is_lane untaken (ap length flags ∙ length-set m.ups.items k true);
+    ready = ready_set state m.id m.most m.lanes.items k old new lane same ready.ready is_lane all untaken (ap length flags ∙ length-set m.ups.items k true);
     next = ready.next;
     below = ready.below;
     ranges = ready.ranges;

@@ -33,7 +33,7 @@ use Rattle.wol_promise.specs.Ruled.{Noted, HasPassed, entries_of, IsStep, last_l
 use Rattle.wol_promise.specs.Stands.{Upholds}
 use Rattle.wol_promise.proofs.Lists.{all_push, all_member, all_map, all_mapped, all_back, member_of}
 use Rattle.wol_promise.proofs.OneMore.{last_more}
-use Rattle.logger.specs.Lanes.{IsLane, IsHeld, IsSameLane, AreWhole, held_in, taken_in, lane_owner, logger_of, segments_in, pool_of}
+use Rattle.logger.specs.Lanes.{IsLane, HoldsAll, IsHeld, IsSameLane, AreWhole, held_in, taken_in, lane_owner, logger_of, segments_in, pool_of}
 use Rattle.logger.specs.declared.lane.HeldSegment.{HeldSegment}
 use Rattle.logger.specs.declared.lane.Lane.{Lane}
 use Rattle.logger.specs.declared.lane.Spot.{Spot}
@@ -72,7 +72,7 @@ taken_same old new took = by took.pool
 
 -- ---- A lane that had no room
 
-module _ {D : Type 0} (state : D → State) (m : Manager D) (k : ℕ) (old new : Lane D) (lane : slice_get m.lanes.items k ≡ Some old) (is_lane : IsLane state new) (same : IsSameLane old new) (untaken : taken_in new ≡ None) (v : Vec (Lane D) Global) (lanes : v.items ≡ slice_set m.lanes.items k new) where
+module _ {D : Type 0} (state : D → State) (m : Manager D) (k : ℕ) (old new : Lane D) (lane : slice_get m.lanes.items k ≡ Some old) (is_lane : IsLane state new) (same : IsSameLane old new) (all : HoldsAll old → HoldsAll new) (untaken : taken_in new ≡ None) (v : Vec (Lane D) Global) (lanes : v.items ≡ slice_set m.lanes.items k new) where
   module _ (quiet : held_in new ≡ held_in old) where
     quiet_up : IsUp m.lanes.items m.index.entries → IsUp (slice_set m.lanes.items k new) m.index.entries
     quiet_up u = record {
@@ -83,7 +83,7 @@ module _ {D : Type 0} (state : D → State) (m : Manager D) (k : ℕ) (old new :
 
     pub ready_away : IsReady state m → IsReady state (record m { lanes = v })
     ready_away r = record {
-      ready = subst (λ (l : List (Lane D)). Ready state m.id m.most m.home m.spindle l m.ups.items m.rooms.items) (sym lanes) (ready_set state m.id m.most m.lanes.items k old new lane same r.ready is_lane untaken refl);
+      ready = subst (λ (l : List (Lane D)). Ready state m.id m.most m.home m.spindle l m.ups.items m.rooms.items) (sym lanes) (ready_set state m.id m.most m.lanes.items k old new lane same r.ready is_lane all untaken refl);
       next = r.next;
       below = r.below;
       ranges = r.ranges;
@@ -112,7 +112,7 @@ module _ {D : Type 0} (state : D → State) (m : Manager D) (k : ℕ) (old new :
 
 -- ---- A lane that took the write
 
-module _ {D : Type 0} (state : D → State) (m : Manager D) (k : ℕ) (old new : Lane D) (lane : slice_get m.lanes.items k ≡ Some old) (is_lane : IsLane state new) (same : IsSameLane old new) (untaken : taken_in new ≡ None)
+module _ {D : Type 0} (state : D → State) (m : Manager D) (k : ℕ) (old new : Lane D) (lane : slice_get m.lanes.items k ≡ Some old) (is_lane : IsLane state new) (same : IsSameLane old new) (all : HoldsAll old → HoldsAll new) (untaken : taken_in new ≡ None)
     (lbn : ℕ) (from : List Block) (count : (1 ≤ length from) × (length from ≤ m.most)) (ready : IsReady state m) (up : m.down ≡ None) where
   abbrev r : Record
   r = new_record (lane_owner old) m.next lbn from
@@ -255,7 +255,7 @@ module _ {D : Type 0} (state : D → State) (m : Manager D) (k : ℕ) (old new :
     pub ready_written : lbn + length from ≤ (state_of state m.home).size → (v : Vec (Lane D) Global) (index : Contents) (ups : List Bool) → v.items ≡ slice_set m.lanes.items k new → index.entries ≡ entered m.index.entries rec → ups ≡ slice_set m.ups.items k true → m.next < 2 ^ 63
         → IsReady state (record m { lanes = v; index = index; next = m.next + 1; ups = record { items = ups } })
     ready_written fits v index ups lanes entries flags room = record {
-      ready = subst (λ (l : List (Lane D)). Ready state m.id m.most m.home m.spindle l ups m.rooms.items) (sym lanes) (ready_set state m.id m.most m.lanes.items k old new lane same ready.ready is_lane untaken (ap length flags ∙ length-set m.ups.items k true));
+      ready = subst (λ (l : List (Lane D)). Ready state m.id m.most m.home m.spindle l ups m.rooms.items) (sym lanes) (ready_set state m.id m.most m.lanes.items k old new lane same ready.ready is_lane all untaken (ap length flags ∙ length-set m.ups.items k true));
       next = (omega arith, omega arith);
       below = subst (AllByRecursion (λ (e : Indexed). e.listed.version < m.next + 1)) (sym entries) below_then;
       ranges = subst (AllByRecursion (IsInVolume (state_of state m.home).size)) (sym entries) (ranges_then fits);
@@ -264,7 +264,7 @@ module _ {D : Type 0} (state : D → State) (m : Manager D) (k : ℕ) (old new :
 
   pub ready_failed : (v : Vec (Lane D) Global) → v.items ≡ slice_set m.lanes.items k new → (p : Part) → IsReady state (record m { lanes = v; down = Some p })
   ready_failed v lanes p = record {
-    ready = subst (λ (l : List (Lane D)). Ready state m.id m.most m.home m.spindle l m.ups.items m.rooms.items) (sym lanes) (ready_set state m.id m.most m.lanes.items k old new lane same ready.ready is_lane untaken refl);
+    ready = subst (λ (l : List (Lane D)). Ready state m.id m.most m.home m.spindle l m.ups.items m.rooms.items) (sym lanes) (ready_set state m.id m.most m.lanes.items k old new lane same ready.ready is_lane all untaken refl);
     next = ready.next;
     below = ready.below;
     ranges = ready.ranges;

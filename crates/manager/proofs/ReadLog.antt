@@ -12,7 +12,7 @@ use Rattle.turn_lock.specs.Passes.{pass_mine}
 use Rattle.log_segment.specs.Segment.{IsWhole, blocks_of, valid_of}
 use Rattle.redirect_map.specs.Index.{cover_at}
 use Rattle.redirect_map.specs.declared.record.Rec.{Rec}
-use Rattle.logger.specs.Lanes.{IsLane, IsHeld, IsSameLane, AreWhole, ReadFrom, held_in, taken_in, pool_of}
+use Rattle.logger.specs.Lanes.{IsLane, HoldsAll, IsHeld, IsSameLane, AreWhole, ReadFrom, held_in, taken_in, pool_of}
 use Rattle.logger.specs.declared.lane.HeldSegment.{HeldSegment}
 use Rattle.logger.specs.declared.lane.Lane.{Lane}
 use Rattle.logger.specs.declared.lane.Spot.{Spot}
@@ -125,11 +125,11 @@ module _ {D : Type 0} (state : D → State) (m : Manager D) (ready : IsReady sta
       subst (Spotted m r first n) (same_Some s.0 l (sym s.1.lane_is ∙ slice_get_read m.lanes.items (length m.lanes.items) r.lane l refl lt is)) s.1
 
   -- ready again with another lane at one place
-  pub ready_after : (k : ℕ) (l l' : Lane D) (ups : List Bool) → slice_get m.lanes.items k ≡ Some l → IsSameLane l l' → IsLane state l' → taken_in l' ≡ taken_in l → AreWhole (held_in l')
+  pub ready_after : (k : ℕ) (l l' : Lane D) (ups : List Bool) → slice_get m.lanes.items k ≡ Some l → IsSameLane l l' → IsLane state l' → (HoldsAll l → HoldsAll l') → taken_in l' ≡ taken_in l → AreWhole (held_in l')
       → ((h : HeldSegment D) → Contains (held_in l) h → (t : HeldSegment D) × Contains (held_in l') t × (t.index ≡ h.index) × (blocks_of t.segment ≡ blocks_of h.segment)) → AllByRecursion (λ (h : HeldSegment D). valid_of h.segment ≡ entries_at k h.index m.index.entries) (held_in l') → length ups ≡ length m.ups.items
       → IsReady state (record m { lanes = with_item m.lanes k l'; ups = record { items = ups } })
-  ready_after k l l' ups lane_is same is taken whole stays counted flags = record {
-    ready = ready_set state m.id m.most m.lanes.items k l l' lane_is same ready.ready is (taken ∙ (all_at (IsReadyLane state m.id m.most) m.lanes.items k l lane_is ready.ready.each).untaken) flags;
+  ready_after k l l' ups lane_is same is all taken whole stays counted flags = record {
+    ready = ready_set state m.id m.most m.lanes.items k l l' lane_is same ready.ready is all (taken ∙ (all_at (IsReadyLane state m.id m.most) m.lanes.items k l lane_is ready.ready.each).untaken) flags;
     next = ready.next;
     below = ready.below;
     ranges = ready.ranges;

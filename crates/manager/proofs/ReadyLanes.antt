@@ -20,7 +20,7 @@ use Rattle.log_segment.specs.Segment.{blocks_of}
 use Rattle.offload_policy.specs.declared.Room.{Room}
 use Rattle.wol_model.specs.Index.{Indexed}
 use Rattle.wol_promise.proofs.Lists.{member_of}
-use Rattle.logger.specs.Lanes.{IsLane, IsAt, IsSameLane, held_in, taken_in, pool_of, logger_of}
+use Rattle.logger.specs.Lanes.{IsLane, HoldsAll, IsAt, IsSameLane, held_in, taken_in, pool_of, logger_of}
 use Rattle.logger.specs.declared.lane.HeldSegment.{HeldSegment}
 use Rattle.logger.specs.declared.lane.Lane.{Lane}
 use Rattle.logger.specs.declared.shared.Shared.{Shared}
@@ -55,18 +55,25 @@ nones_at_set (l ∷ lanes) (b ∷ bs) (suc k) old new lane le zero = omega arith
 nones_at_set (l ∷ lanes) (b ∷ bs) (suc k) old new lane le (suc j) = nones_at_set lanes bs k old new lane le j
 
 module _ {D : Type 0} (state : D → State) (id most : ℕ) (lanes : List (Lane D)) (k : ℕ) (old new : Lane D) (lane : slice_get lanes k ≡ Some old) (same : IsSameLane old new) where
-  pub ready_lane : IsReadyLane state id most old → IsLane state new → taken_in new ≡ None → IsReadyLane state id most new
-  ready_lane was is untaken = record { lane = is; owner = same.owner ∙ was.owner; untaken = untaken; long = subst (λ (b : ℕ). most + 2 ≤ b) (ap (λ (i : LockId PoolBase). i.base.blocks) (sym same.pool.0)) was.long }
+  pub ready_lane : IsReadyLane state id most old → IsLane state new → (HoldsAll old → HoldsAll new) → taken_in new ≡ None → IsReadyLane state id most new
+  ready_lane was is all untaken = record {
+    lane = is;
+    owner = same.owner ∙ was.owner;
+    untaken = untaken;
+    long = subst (λ (b : ℕ). most + 2 ≤ b) (ap (λ (i : LockId PoolBase). i.base.blocks) (sym same.pool.0)) was.long;
+    all = all was.all;
+  }
 
-  pub ready_set : {home : Spun D} {spindle : PassOf Spindle SpindleBase} {ups ups' : List Bool} {rooms : List Room} → Ready state id most home spindle lanes ups rooms → IsLane state new → taken_in new ≡ None → length ups' ≡ length ups
+  pub ready_set : {home : Spun D} {spindle : PassOf Spindle SpindleBase} {ups ups' : List Bool} {rooms : List Room} → Ready state id most home spindle lanes ups rooms → IsLane state new → (HoldsAll old → HoldsAll new) → taken_in new ≡ None → length ups' ≡ length ups
       → Ready state id most home spindle (slice_set lanes k new) ups' rooms
-  ready_set r is untaken flags = record {
+  ready_set r is all untaken flags = record {
     home_volume = r.home_volume;
     home_small = r.home_small;
     spindle_volume = r.spindle_volume;
     spindle_free = r.spindle_free;
     settled = r.settled;
-    each = all_set (IsReadyLane state id most) lanes k new r.each (ready_lane (all_at (IsReadyLane state id most) lanes k old lane r.each) is untaken);
+    accesses = r.accesses;
+    each = all_set (IsReadyLane state id most) lanes k new r.each (ready_lane (all_at (IsReadyLane state id most) lanes k old lane r.each) is all untaken);
     flags = flags ∙ r.flags ∙ sym (length-set lanes k new);
     rooms_ = r.rooms_ ∙ sym (length-set lanes k new);
     few = subst (λ (n : ℕ). n ≤ 16) (sym (length-set lanes k new)) r.few;

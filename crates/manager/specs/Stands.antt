@@ -26,7 +26,7 @@ use Rattle.wol_promise.specs.Manager.{AreInUse}
 use Rattle.wol_promise.specs.Policy.{Look}
 use Rattle.wol_promise.specs.Ruled.{Noted, entries_of, IsStep, last_look, HasPassed}
 use Rattle.wol_promise.specs.Stands.{Upholds}
-use Rattle.logger.specs.Lanes.{IsLane, IsAt, logger_of, lane_owner, held_in, taken_in, pool_of, spindle_of}
+use Rattle.logger.specs.Lanes.{IsLane, AreAccesses, HoldsAll, IsAt, logger_of, lane_owner, held_in, taken_in, pool_of, spindle_of}
 use Rattle.logger.specs.declared.lane.Lane.{Lane}
 use Rattle.logger.specs.declared.lane.HeldSegment.{HeldSegment}
 use Rattle.logger.specs.declared.shared.Shared.{Shared}
@@ -37,12 +37,13 @@ use Rattle.manager.specs.declared.manager.Manager.{Manager}
 
 -- ---- Safety: what holds of each manager between its calls, whether or not its disks tell their content
 
--- a lane is this volume's, between calls, and its pool's segments have room for any write
+-- a lane is this volume's, between calls, its pool's segments have room for any write, and its pass of the pool holds just its segments
 pub record IsReadyLane {D : Type 0} (state : D → State) (id most : ℕ) (l : Lane D) : Type 0 where
   pub lane : IsLane state l
   pub owner : lane_owner l ≡ id
   pub untaken : taken_in l ≡ None
   pub long : most + 2 ≤ (pass_lock (pool_of l)).base.blocks
+  pub all : HoldsAll l
 
 -- its locks, lanes and flags
 pub record Ready {D : Type 0} (state : D → State) (id most : ℕ) (home : Spun D) (spindle : PassOf Spindle SpindleBase) (lanes : List (Lane D)) (ups : List Bool) (rooms : List Room) : Type 0 where
@@ -51,6 +52,7 @@ pub record Ready {D : Type 0} (state : D → State) (id most : ℕ) (home : Spun
   pub spindle_volume : (pass_lock spindle).base.volume ≡ id
   pub spindle_free : IsFree spindle
   pub settled : has_token (pass_mine spindle) ≡ false
+  pub accesses : AreAccesses (pass_mine spindle)
   pub each : AllByRecursion (IsReadyLane state id most) lanes
   pub flags : length ups ≡ length lanes
   pub rooms_ : length rooms ≡ length lanes

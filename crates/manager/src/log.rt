@@ -7,7 +7,7 @@ ghost use Rattle.wol_model.specs.Placing.{Log};
 ghost use Rattle.wol_promise.specs.Policy.{placed};
 ghost use Rattle.wol_promise.specs.Ruled.{Noted, HasPassed, last_look};
 ghost use Rattle.log_segment.specs.Records.{new_record};
-ghost use Rattle.logger.specs.Lanes.{IsLane, IsAt, AreWhole, logger_of, lane_owner, held_in, taken_in, pool_blocks};
+ghost use Rattle.logger.specs.Lanes.{IsLane, HoldsAll, IsAt, AreWhole, logger_of, lane_owner, held_in, taken_in, pool_blocks};
 ghost use Rattle.manager.specs.Answers.{log_write};
 ghost use Rattle.manager.specs.Causes.{PartRoseOrClaimed};
 ghost use Rattle.manager.specs.Offers.{IsTurnedAway, HasTakenWrite, ChangesLane, IsOn, offered};
@@ -61,6 +61,7 @@ fn put<R: Wait, D: Disk>(
     ensures lane { IsLane D.state lane.new }
     ensures at { IsAt shared.now lane.new }
     ensures none { taken_in lane.new ≡ None }
+    ensures all { HoldsAll lane.old → HoldsAll lane.new }
     ensures turn { MatchOption result (IsTurnedAway (length from.now) lane.old lane.new) (λ _. HasTakenWrite lane.old lane.new) }
     ensures put { IfSome result (PutIn D.state lane.old lane.new (length from.now) (new_record (lane_owner lane.old) version lbn from.now ∷ [])) }
 {

@@ -1,5 +1,5 @@
 -- What a volume may be opened of.
-use Rattle.std.specs.Prelude.{⊤, ◌≡◌, ◌⊎◌, ◌<◌, ◌≤◌, ◌^◌, ◌+◌, ◌-◌, ℕ, true, false, List, [], ◌∷◌, map, filter, slice_index_or, None, Some}
+use Rattle.std.specs.Prelude.{⊤, ◌≡◌, ◌⊎◌, ◌<◌, ◌≤◌, ◌^◌, ◌+◌, ◌-◌, ℕ, true, false, List, [], ◌∷◌, map, filter, slice_index_or, Contains, None, Some}
 use Rattle.std.specs.List.{AllByRecursion}
 use Rattle.wol_disk.specs.Disk.{State, Block, Values, reads}
 use Rattle.wol_model.specs.Heads.{IsShape, owned_block}
@@ -8,7 +8,7 @@ use Rattle.spin_model.specs.Operations.{has_token}
 use Rattle.spin_model.specs.Spun.{state_of, volume_of}
 use Rattle.seg_pool.specs.Operations.{holds}
 use Rattle.log_layout.specs.Values.{shape_of}
-use Rattle.logger.specs.Lanes.{IsLane, IsAt, logger_of, lane_owner, held_in, taken_in, pool_of, pool_blocks, segments_in}
+use Rattle.logger.specs.Lanes.{IsLane, AreAccesses, IsAt, logger_of, lane_owner, held_in, taken_in, pool_of, pool_blocks, segments_in}
 use Rattle.logger.specs.declared.lane.Lane.{Lane}
 use Rattle.logger.specs.declared.shared.Shared.{Shared}
 use Rattle.manager.specs.Stands.{At}
@@ -50,6 +50,10 @@ AreInOrder (p ∷ ps) = AllByRecursion (IsBefore p) ps × AreInOrder ps
 abbrev pub place_of : {D : Type 0} → OwnedPart D → ℕ × ℕ
 place_of o = (o.logger, o.index)
 
+-- each segment that the lane's pass of its pool holds is among the owned ones
+abbrev pub HoldsOwned : {D : Type 0} → List (OwnedPart D) → Lane D → Type 0
+HoldsOwned os l = (index : ℕ) → holds (pass_lock (pool_of l)).base (pass_number (pool_of l)) (pass_mine (pool_of l)) index ≡ true → Contains (map place_of os) (logger_of l, index)
+
 -- the first block reads as owned by the volume
 abbrev pub SaysOwner : {D : Type 0} → (D → State) → (id : ℕ) → OwnedPart D → Type 0
 SaysOwner state id o = (vs : List (Values Block)) → (state_of state o.part).values ≡ Some vs → (rest : List Block) × (reads vs ≡ owned_block id ∷ rest)
@@ -62,6 +66,7 @@ pub record CanOpen {D : Type 0} (state : D → State) (shared : Shared D) (o : O
   pub spindle_volume : (pass_lock o.spindle).base.volume ≡ o.want.id
   pub spindle_free : IsFree o.spindle
   pub settled : has_token (pass_mine o.spindle) ≡ false
+  pub accesses : AreAccesses (pass_mine o.spindle)
   pub at : At shared o.want.id o.spindle o.lanes.items
   pub lanes : AllByRecursion (IsOpeningLane state shared o.want.id o.most) o.lanes.items
   -- one for each logger of the view that is present, in view order
@@ -69,4 +74,5 @@ pub record CanOpen {D : Type 0} (state : D → State) (shared : Shared D) (o : O
   pub most : (1 ≤ o.most) × (o.most ≤ 128)
   pub in_order : AreInOrder (map place_of o.owned.items)
   pub owned : AllByRecursion (IsOwned state o.lanes.items) o.owned.items
+  pub all : AllByRecursion (HoldsOwned o.owned.items) o.lanes.items
   pub heads : AllByRecursion (SaysOwner state o.want.id) o.owned.items

@@ -37,3 +37,9 @@ returns-then-secure-clause-put g c =
     let state = g.D.Disk.state in let old = c.args.lane.now in let mid = c.secure.new.self in let new = c.write.new.self in let s = c.secure.ensures in let w = c.write.ensures in
     put_in state old mid new s.held s.lane s.same (length c.args.from.now) (new_record (lane_owner old) c.args.version c.args.lbn c.args.from.now ∷ []) c.write.result
     (subst (λ (o : ℕ). Wrote state mid new (length c.args.from.now) (new_record o c.args.version c.args.lbn c.args.from.now ∷ []) c.write.result) s.same.owner w.moved)
+
+pub returns-then-secure-clause-all : goal.returns-then-secure-clause-all
+returns-then-secure-clause-all g c all = c.write.ensures.all (c.secure.ensures.all all)
+
+pub returns-else-secure-clause-all : goal.returns-else-secure-clause-all
+returns-else-secure-clause-all g c = c.secure.ensures.all

@@ -1,4 +1,4 @@
-use Rattle.std.proofs.Common.{◌≤◌, ◌++◌, ◌∷◌, [], ℕ, map, length, vec_capacity, is_some, Option, IfSome, option_to_list, ap, ◌∙◌, sym, subst}
+use Rattle.std.proofs.Common.{◌≤◌, ◌++◌, ◌∷◌, [], ℕ, List, map, length, vec_capacity, is_some, Option, IfSome, option_to_list, ap, ◌∙◌, sym, subst}
 use Rattle.std.specs.List.{AllByRecursion}
 use Rattle.wol_model.specs.Blocks.{AreApart}
 use Rattle.turn_lock.specs.LockIds.{LockId}
@@ -9,6 +9,7 @@ use Rattle.log_segment.specs.Segment.{IsSegment}
 use Rattle.log_segment.specs.declared.free.FreeSegment.{FreeSegment}
 use Rattle.logger.specs.Lanes.{IsHeld, IsTaken, HasNoRoom, asked}
 use Rattle.logger.specs.declared.lane.HeldSegment.{HeldSegment}
+use Rattle.logger.proofs.AllHeld.{all_taking, HoldsIn}
 use Rattle.logger.proofs.Held.{all_map}
 use Rattle.logger.proofs.Places.{took, apart_taking}
 use Rattle.logger.proofs.Rooms.{found_none}
@@ -32,6 +33,7 @@ returns-clause-lane g c =
       pool_volume = volume;
       spindle_volume = l.spindle_volume;
       settled = l.settled;
+      accesses = l.accesses;
       each = all_map (IsHeld state self.logger self.owner n self.pool) (IsHeld state self.logger self.owner n q) (λ h is. held_on state self.logger self.owner n self.pool q h t.same (t.kept h.index is.holding) is) self.held.items l.each;
       unclaimed = subst (λ (x : Option (ℕ × FreeSegment g.row.D.Denot)). IfSome x (IsTaken state self.logger n q)) (sym after) (took state self.logger n q o volume room t.blank t.within t.holds);
       apart = subst (λ (x : Option (ℕ × FreeSegment g.row.D.Denot)). AreApart (map (λ (h : HeldSegment g.row.D.Denot). h.index) self.held.items ++ map (λ (u : ℕ × FreeSegment g.row.D.Denot). u.0) (option_to_list x))) (sym after)
@@ -42,6 +44,13 @@ returns-clause-lane g c =
 
 pub returns-clause-at : goal.returns-clause-at
 returns-clause-at g c = let a = c.requires.at in record { pool_in = a.pool_in; spindle_in = a.spindle_in; pool = λ d. c.take_item-taken.ensures.same.0 ∙ a.pool d; spindle = a.spindle }
+
+pub returns-clause-all : goal.returns-clause-all
+returns-clause-all g c all =
+    let self = c.args.self.now in let t = c.take_item-taken.ensures in let q = c.take_item-taken.new.pass in let o = c.take_item-taken.result in
+    let idx : List ℕ = map (λ (h : HeldSegment g.row.D.Denot). h.index) self.held.items in
+    subst (λ (x : Option (ℕ × FreeSegment g.row.D.Denot)). HoldsIn q (idx ++ map (λ (u : ℕ × FreeSegment g.row.D.Denot). u.0) (option_to_list x))) (sym c.replace-before.ensures.after)
+    (all_taking self.pool q idx self.taken o t.same t.mine c.requires.none all)
 
 pub returns-clause-moved : goal.returns-clause-moved
 returns-clause-moved g c =

@@ -13,11 +13,12 @@ use Rattle.log_segment.specs.Segment.{IsBlank, segment_volume}
 use Rattle.log_segment.specs.declared.free.FreeSegment.{FreeSegment}
 use Rattle.logger.specs.Lanes.{IsHeld, IsTaken, GaveUp, to_pool}
 use Rattle.logger.specs.declared.lane.HeldSegment.{HeldSegment}
+use Rattle.logger.proofs.AllHeld.{HoldsIn, all_giving}
 use Rattle.logger.proofs.Held.{all_get, all_remove}
 use Rattle.logger.proofs.Indexes.{apart_remove, lacks_removed}
 use Rattle.logger.proofs.Places.{index_there, place_is}
-use Rattle.logger.proofs.Trimming.{was_freed, is_changed, trimmed_stays, each_changed, apart_changed}
-use Rattle.logger.proofs.Uses.{each_on, taken_still}
+use Rattle.logger.proofs.Trimming.{was_freed, is_changed, trimmed_stays, each_changed, indexes_changed, apart_changed}
+use Rattle.logger.proofs.Uses.{accesses_over, each_on, taken_still}
 use Rattle.logger.proofs.lane.Lane.trim.Goals as goal
 
 pub place_of_index-place-requires : goal.place_of_index-place-requires
@@ -83,6 +84,7 @@ returns-in-Ok-Some-clause-lane g c =
       pool_volume = ap (λ (i : LockId PoolBase). i.base.volume) give.same.0 ∙ l.pool_volume;
       spindle_volume = ap (λ (i : LockId SpindleBase). i.base.volume) (c.give_token.ensures.same.0 ∙ c.take_token-token.ensures.same.0) ∙ l.spindle_volume;
       settled = c.give_token.ensures.has_none;
+      accesses = accesses_over _ _ _ _ _ c.take_token-token.ensures.mine c.take_token-token.ensures.same.1 c.give_token.ensures.mine l.accesses;
       each = subst (λ (m : ℕ). AllByRecursion (IsHeld state self.logger self.owner m q) t.new.held.items) (sym same_room) (subst (AllByRecursion (IsHeld state self.logger self.owner n q)) (sym wf.gone) each);
       unclaimed = subst (λ (m : ℕ). IfSome self.taken (IsTaken state self.logger m q)) (sym same_room) unclaimed;
       apart = subst (λ (hs : List (HeldSegment g.row.D.Denot)). AreApart (map (λ (h : HeldSegment g.row.D.Denot). h.index) hs ++ ts)) (sym wf.gone) (apart_remove (λ (h : HeldSegment g.row.D.Denot). h.index) items ts p l.apart);
@@ -93,6 +95,18 @@ returns-in-Ok-Some-clause-lane g c =
 pub returns-in-Ok-Some-clause-at : goal.returns-in-Ok-Some-clause-at
 returns-in-Ok-Some-clause-at g c =
     let a = c.requires.at in record { pool_in = a.pool_in; spindle_in = a.spindle_in; pool = λ d. c.give_item.ensures.same.0 ∙ a.pool d; spindle = λ d. (c.give_token.ensures.same.0 ∙ c.take_token-token.ensures.same.0) ∙ a.spindle d }
+
+pub returns-in-Ok-Some-clause-all : goal.returns-in-Ok-Some-clause-all
+returns-in-Ok-Some-clause-all g c all =
+    let state = g.D.Disk.state in let self = c.args.self.now in let items = self.held.items in let l = c.requires.lane in let p = c.place_of_index-place.result in let t = c.trim_held-trimmed in
+    let head = record_head c.args.head.now in let ts = map (λ (u : ℕ × FreeSegment g.row.D.Denot). u.0) (option_to_list self.taken) in
+    let wf = was_freed state items t.new.held.items p c.args.spot.now.pos head c.args.keep t.result c.in-Ok-Some.segment t.ensures.cut (c.in-Ok-Some.is ∙ ap Ok c.in-Ok-Some.field-0-is) in
+    let s = c.requires.spot in let o = wf.segment in
+    let there = place_is c.deref.result.now items ts p s.place c.args.spot.now.segment s.segment c.deref.ensures.value c.place_of_index-place.ensures s.there s.named l.apart in
+    let named : o.index ≡ c.args.spot.now.segment = ap (λ (h : HeldSegment g.row.D.Denot). h.index) (same_Some o s.segment (sym wf.there ∙ there)) ∙ s.named in
+    let give = c.give_item.ensures in let q = c.give_item.new.pass in
+    subst (λ (hs : List (HeldSegment g.row.D.Denot)). HoldsIn q (map (λ (h : HeldSegment g.row.D.Denot). h.index) hs ++ ts)) (sym wf.gone)
+    (all_giving self.pool q items ts p o c.args.spot.now.segment give.same give.mine wf.there named all)
 
 pub returns-in-Ok-Some-clause-moved : goal.returns-in-Ok-Some-clause-moved
 returns-in-Ok-Some-clause-moved g c =
@@ -116,6 +130,7 @@ returns-in-Ok-None-clause-lane g c =
       pool_volume = l.pool_volume;
       spindle_volume = ap (λ (i : LockId SpindleBase). i.base.volume) (c.give_token.ensures.same.0 ∙ c.take_token-token.ensures.same.0) ∙ l.spindle_volume;
       settled = c.give_token.ensures.has_none;
+      accesses = accesses_over _ _ _ _ _ c.take_token-token.ensures.mine c.take_token-token.ensures.same.1 c.give_token.ensures.mine l.accesses;
       each = each_changed state self.logger self.owner (vec_capacity self.held) (vec_capacity t.new.held) self.pool items t.new.held.items p ch t.ensures.room l.each;
       unclaimed = subst (λ (n : ℕ). IfSome self.taken (IsTaken state self.logger n self.pool)) (sym t.ensures.room) l.unclaimed;
       apart = apart_changed state items t.new.held.items ts p ch l.apart;
@@ -126,6 +141,14 @@ returns-in-Ok-None-clause-lane g c =
 pub returns-in-Ok-None-clause-at : goal.returns-in-Ok-None-clause-at
 returns-in-Ok-None-clause-at g c =
     let a = c.requires.at in record { pool_in = a.pool_in; spindle_in = a.spindle_in; pool = a.pool; spindle = λ d. (c.give_token.ensures.same.0 ∙ c.take_token-token.ensures.same.0) ∙ a.spindle d }
+
+pub returns-in-Ok-None-clause-all : goal.returns-in-Ok-None-clause-all
+returns-in-Ok-None-clause-all g c all =
+    let state = g.D.Disk.state in let self = c.args.self.now in let items = self.held.items in let p = c.place_of_index-place.result in let t = c.trim_held-trimmed in
+    let head = record_head c.args.head.now in let ts = map (λ (u : ℕ × FreeSegment g.row.D.Denot). u.0) (option_to_list self.taken) in
+    let never : (f : FreeSegment g.row.D.Denot) → t.result ≡ Ok (Some f) → ⊥ = λ f e. let no : ◌≡◌ {A = Result (Option (FreeSegment g.row.D.Denot)) Failed} (Ok (Some f)) (Ok None) = sym e ∙ (c.in-Ok-None.is ∙ ap Ok c.in-Ok-None.field-0-is) in cc in
+    let ch = is_changed state items t.new.held.items p c.args.spot.now.pos head c.args.keep t.result t.ensures.cut never in
+    subst (λ (is : List ℕ). HoldsIn self.pool (is ++ ts)) (sym (indexes_changed state items t.new.held.items p ch)) all
 
 pub returns-in-Ok-None-clause-moved : goal.returns-in-Ok-None-clause-moved
 returns-in-Ok-None-clause-moved g c =
@@ -147,6 +170,7 @@ returns-in-Err-clause-lane g c =
       pool_volume = l.pool_volume;
       spindle_volume = ap (λ (i : LockId SpindleBase). i.base.volume) (c.give_token.ensures.same.0 ∙ c.take_token-token.ensures.same.0) ∙ l.spindle_volume;
       settled = c.give_token.ensures.has_none;
+      accesses = accesses_over _ _ _ _ _ c.take_token-token.ensures.mine c.take_token-token.ensures.same.1 c.give_token.ensures.mine l.accesses;
       each = each_changed state self.logger self.owner (vec_capacity self.held) (vec_capacity t.new.held) self.pool items t.new.held.items p ch t.ensures.room l.each;
       unclaimed = subst (λ (n : ℕ). IfSome self.taken (IsTaken state self.logger n self.pool)) (sym t.ensures.room) l.unclaimed;
       apart = apart_changed state items t.new.held.items ts p ch l.apart;
@@ -157,6 +181,14 @@ returns-in-Err-clause-lane g c =
 pub returns-in-Err-clause-at : goal.returns-in-Err-clause-at
 returns-in-Err-clause-at g c =
     let a = c.requires.at in record { pool_in = a.pool_in; spindle_in = a.spindle_in; pool = a.pool; spindle = λ d. (c.give_token.ensures.same.0 ∙ c.take_token-token.ensures.same.0) ∙ a.spindle d }
+
+pub returns-in-Err-clause-all : goal.returns-in-Err-clause-all
+returns-in-Err-clause-all g c all =
+    let state = g.D.Disk.state in let self = c.args.self.now in let items = self.held.items in let p = c.place_of_index-place.result in let t = c.trim_held-trimmed in
+    let head = record_head c.args.head.now in let ts = map (λ (u : ℕ × FreeSegment g.row.D.Denot). u.0) (option_to_list self.taken) in
+    let never : (f : FreeSegment g.row.D.Denot) → t.result ≡ Ok (Some f) → ⊥ = λ f e. let no : Ok (Some f) ≡ Err c.in-Err.failed = sym e ∙ c.in-Err.is in cc in
+    let ch = is_changed state items t.new.held.items p c.args.spot.now.pos head c.args.keep t.result t.ensures.cut never in
+    subst (λ (is : List ℕ). HoldsIn self.pool (is ++ ts)) (sym (indexes_changed state items t.new.held.items p ch)) all
 
 pub returns-in-Err-clause-moved : goal.returns-in-Err-clause-moved
 returns-in-Err-clause-moved g c =

@@ -13,3 +13,6 @@ pub returns-clause-moved : goal.returns-clause-moved
 returns-clause-moved g c =
     let item : Item = record { lbn = c.args.lbn; count = length c.args.from.now } in
     subst (λ (added : List Record). Wrote g.D.Disk.state c.args.self.now c.write_group.new.self (length c.args.from.now) added c.write_group.result) (group_of_one c.args.self.now.owner c.args.version item c.args.from.now refl) c.write_group.ensures.moved
+
+pub returns-clause-all : goal.returns-clause-all
+returns-clause-all g c = c.write_group.ensures.all

@@ -47,3 +47,9 @@ returns-in-Some-clause-at g c = at_same c.args.shared.now c.args.self.now c.writ
 
 pub returns-in-None-clause-at : goal.returns-in-None-clause-at
 returns-in-None-clause-at g c = at_same c.args.shared.now c.args.self.now c.write_taken.new.self c.write_taken.ensures.same c.requires.at
+
+pub returns-in-Some-clause-all : goal.returns-in-Some-clause-all
+returns-in-Some-clause-all g c = c.write_held.ensures.all
+
+pub returns-in-None-clause-all : goal.returns-in-None-clause-all
+returns-in-None-clause-all g c = c.write_taken.ensures.all

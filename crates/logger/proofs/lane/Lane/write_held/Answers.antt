@@ -9,9 +9,10 @@ use Rattle.log_segment.specs.declared.free.FreeSegment.{FreeSegment}
 use Rattle.logger.specs.Lanes.{IsHeld, Grown, IsSpot, to_held}
 use Rattle.logger.specs.declared.lane.HeldSegment.{HeldSegment}
 use Rattle.logger.specs.declared.lane.Spot.{Spot}
+use Rattle.logger.proofs.AllHeld.{HoldsIn}
 use Rattle.logger.proofs.Held.{all_get, all_set, there_get, within, map-set}
 use Rattle.logger.proofs.Results.{grown_of, grown_spot, spot_is}
-use Rattle.logger.proofs.Uses.{held_same, two_entries}
+use Rattle.logger.proofs.Uses.{accesses_over, held_same, two_entries}
 use Rattle.logger.proofs.lane.Lane.write_held.Goals as goal
 
 pub index_mut-held-requires : goal.index_mut-held-requires
@@ -52,12 +53,20 @@ returns-clause-lane g c =
       pool_volume = l.pool_volume;
       spindle_volume = ap (λ (i : LockId SpindleBase). i.base.volume) (c.give_token.ensures.same.0 ∙ c.take_token-token.ensures.same.0) ∙ l.spindle_volume;
       settled = c.give_token.ensures.has_none;
+      accesses = accesses_over _ _ _ _ _ c.take_token-token.ensures.mine c.take_token-token.ensures.same.1 c.give_token.ensures.mine l.accesses;
       each = all_set (IsHeld state self.logger self.owner (vec_capacity self.held) self.pool) items p n l.each (held_same state self.logger self.owner (vec_capacity self.held) self.pool o n held refl a.shape a.same);
       unclaimed = l.unclaimed;
       apart = subst (λ (is : List ℕ). AreApart (is ++ map (λ (t : ℕ × FreeSegment g.row.D.Denot). t.0) (option_to_list self.taken))) (sym (map-set (λ (h : HeldSegment g.row.D.Denot). h.index) items p o n there refl)) l.apart;
       room = l.room;
       handing = l.handing;
     }
+
+pub returns-clause-all : goal.returns-clause-all
+returns-clause-all g c all =
+    let self = c.args.self.now in let items = self.held.items in let p = c.args.place in let o = c.index_mut-held.result.now in let f = c.requires.place in
+    let there = there_get items p o (within items p f.segment f.there) c.index_mut-held.ensures.value in
+    let n : HeldSegment g.row.D.Denot = record { index = o.index; segment = c.append_group-written.new.self } in
+    subst (λ (is : List ℕ). HoldsIn self.pool (is ++ map (λ (t : ℕ × FreeSegment g.row.D.Denot). t.0) (option_to_list self.taken))) (sym (map-set (λ (h : HeldSegment g.row.D.Denot). h.index) items p o n there refl)) all
 
 pub returns-clause-used : goal.returns-clause-used
 returns-clause-used g c = two_entries _ _ _ _ _ _ _ c.take_token-token.ensures.mine c.take_token-token.ensures.same.1 c.give_token.ensures.mine

@@ -6,7 +6,7 @@ use Rattle.redirect_map.specs.Index.{entry_at}
 use Rattle.wol_model.specs.Index.{Indexed, listed_in, has_going}
 use Rattle.logger.specs.Lanes.{IsAt}
 use Rattle.manager.proofs.Copies.{refill_set}
-use Rattle.manager.proofs.DropCall.{there_is, lane_of, old_lane, spot_ready, version_ready, count_ready, range_ready, its_head, its_owner, proper_keep, given_entries, gone_is, ready_then, dropped_then, keeps_then, stops_then, dropped_broke, cause_broke, stands_broke, stops_broke}
+use Rattle.manager.proofs.DropCall.{there_is, lane_of, old_lane, spot_ready, version_ready, count_ready, range_ready, its_head, its_owner, proper_keep, given_entries, gone_is, ready_then, ready_broke, dropped_then, keeps_then, stops_then, dropped_broke, cause_broke, stands_broke, stops_broke}
 use Rattle.manager.proofs.Entries.{found_of, some_of}
 use Rattle.manager.proofs.Lanes.{all_at}
 use Rattle.manager.proofs.ReadThrough.{never_some}
@@ -103,7 +103,7 @@ returns-in-Ok-clause-ready g c =
     let head_is = its_head state m c.requires.ready up c.args.version r f index given fits mask c.head_of-head.result c.head_of-head.ensures.value in
     let flags = refill_set m.ups.items c.deref_mut.result.now r.lane true c.deref_mut.ensures.value in
     let entries = c.trim-in-Ok.ensures.entries ∙ given_entries state m c.requires.ready up c.args.version r f index given fits mask in
-    ready_then state m c.requires.ready up c.args.version r f index given fits mask l lane l' t.lane t.same t.taken t.used c.in-Ok.field-0 _ head_is c.in-Ok.ensures.moved c.trim-in-Ok.new.self _ entries flags
+    ready_then state m c.requires.ready up c.args.version r f index given fits mask l lane l' t.lane t.same t.all t.taken t.used c.in-Ok.field-0 _ head_is c.in-Ok.ensures.moved c.trim-in-Ok.new.self _ entries flags
 
 pub returns-in-Ok-clause-gone : goal.returns-in-Ok-clause-gone
 returns-in-Ok-clause-gone g c =
@@ -123,7 +123,7 @@ returns-in-Ok-clause-dropped g c =
     let head_is = its_head state m c.requires.ready up c.args.version r f index given fits mask c.head_of-head.result c.head_of-head.ensures.value in
     let flags = refill_set m.ups.items c.deref_mut.result.now r.lane true c.deref_mut.ensures.value in
     let entries = c.trim-in-Ok.ensures.entries ∙ given_entries state m c.requires.ready up c.args.version r f index given fits mask in
-    dropped_then state m c.requires.ready up c.args.version r f index given fits mask l lane l' t.lane t.same t.taken t.used c.in-Ok.field-0 _ head_is c.in-Ok.ensures.moved _ c.trim-in-Ok.new.self _ entries flags
+    dropped_then state m c.requires.ready up c.args.version r f index given fits mask l lane l' t.lane t.same t.all t.taken t.used c.in-Ok.field-0 _ head_is c.in-Ok.ensures.moved _ c.trim-in-Ok.new.self _ entries flags
 
 pub returns-in-Ok-clause-keeps : goal.returns-in-Ok-clause-keeps
 returns-in-Ok-clause-keeps g c =
@@ -135,7 +135,7 @@ returns-in-Ok-clause-keeps g c =
     let head_is = its_head state m c.requires.ready up c.args.version r f index given fits mask c.head_of-head.result c.head_of-head.ensures.value in
     let flags = refill_set m.ups.items c.deref_mut.result.now r.lane true c.deref_mut.ensures.value in
     let entries = c.trim-in-Ok.ensures.entries ∙ given_entries state m c.requires.ready up c.args.version r f index given fits mask in
-    keeps_then state m c.requires.ready up c.args.version r f index given fits mask l lane l' t.lane t.same t.taken t.used c.in-Ok.field-0 _ head_is c.in-Ok.ensures.moved g.D.Disk.tells c.trim-in-Ok.new.self _ entries flags
+    keeps_then state m c.requires.ready up c.args.version r f index given fits mask l lane l' t.lane t.same t.all t.taken t.used c.in-Ok.field-0 _ head_is c.in-Ok.ensures.moved g.D.Disk.tells c.trim-in-Ok.new.self _ entries flags
 
 pub returns-in-Ok-clause-any_moment : goal.returns-in-Ok-clause-any_moment
 returns-in-Ok-clause-any_moment g c told =
@@ -147,7 +147,18 @@ returns-in-Ok-clause-any_moment g c told =
     let head_is = its_head state m c.requires.ready up c.args.version r f index given fits mask c.head_of-head.result c.head_of-head.ensures.value in
     let flags = refill_set m.ups.items c.deref_mut.result.now r.lane true c.deref_mut.ensures.value in
     let entries = c.trim-in-Ok.ensures.entries ∙ given_entries state m c.requires.ready up c.args.version r f index given fits mask in
-    stops_then state m c.requires.ready up c.args.version r f index given fits mask l lane l' t.lane t.same t.taken t.used c.in-Ok.field-0 _ head_is c.in-Ok.ensures.moved g.D.Disk.tells g.met.D.Disk.sound told c.trim-in-Ok.new.self _ flags
+    stops_then state m c.requires.ready up c.args.version r f index given fits mask l lane l' t.lane t.same t.all t.taken t.used c.in-Ok.field-0 _ head_is c.in-Ok.ensures.moved g.D.Disk.tells g.met.D.Disk.sound told c.trim-in-Ok.new.self _ flags
+
+pub returns-in-Err-clause-ready : goal.returns-in-Err-clause-ready
+returns-in-Err-clause-ready g c =
+    let m = c.args.self.now in let state = g.D.Disk.state in let r = c.in-Some-find.record in let given = c.may_go-given.result in
+    let up = never_some m.down c.in_default.not-Some in let f = found_of m.index.entries c.args.version r c.in-Some-find.ensures.value in let index = c.in-Some-find.ensures.index in
+    let fits : given < 2 ^ 128 = omega arith in let mask = c.may_go-given.ensures.value in
+    let l = c.index_mut-lane.result.now in let lane = lane_of state m c.requires.ready up c.args.version r f index given fits mask l c.index_mut-lane.ensures.value in
+    let l' = c.trim.new.self in let t = c.trim.ensures in
+    let head_is = its_head state m c.requires.ready up c.args.version r f index given fits mask c.head_of-head.result c.head_of-head.ensures.value in
+    let flags = refill_set m.ups.items c.deref_mut.result.now r.lane true c.deref_mut.ensures.value in
+    ready_broke state m c.requires.ready up c.args.version r f index given fits mask l lane l' t.lane t.same t.all t.taken t.used c.in-Err.field-0 _ head_is c.in-Err.ensures.moved c.logger.result c.logger.ensures _ flags
 
 pub returns-in-Err-clause-fault : goal.returns-in-Err-clause-fault
 returns-in-Err-clause-fault g c =
@@ -158,7 +169,7 @@ returns-in-Err-clause-fault g c =
     let l' = c.trim.new.self in let t = c.trim.ensures in
     let head_is = its_head state m c.requires.ready up c.args.version r f index given fits mask c.head_of-head.result c.head_of-head.ensures.value in
     let flags = refill_set m.ups.items c.deref_mut.result.now r.lane true c.deref_mut.ensures.value in
-    (up, refl, cause_broke state m c.requires.ready up c.args.version r f index given fits mask l lane l' t.lane t.same t.taken t.used c.in-Err.field-0 _ head_is c.in-Err.ensures.moved c.logger.result c.logger.ensures _ flags)
+    (up, refl, cause_broke state m c.requires.ready up c.args.version r f index given fits mask l lane l' t.lane t.same t.all t.taken t.used c.in-Err.field-0 _ head_is c.in-Err.ensures.moved c.logger.result c.logger.ensures _ flags)
 
 pub returns-in-Err-clause-dropped : goal.returns-in-Err-clause-dropped
 returns-in-Err-clause-dropped g c =
@@ -169,7 +180,7 @@ returns-in-Err-clause-dropped g c =
     let l' = c.trim.new.self in let t = c.trim.ensures in
     let head_is = its_head state m c.requires.ready up c.args.version r f index given fits mask c.head_of-head.result c.head_of-head.ensures.value in
     let flags = refill_set m.ups.items c.deref_mut.result.now r.lane true c.deref_mut.ensures.value in
-    dropped_broke state m c.requires.ready up c.args.version r f index given fits mask l lane l' t.lane t.same t.taken t.used c.in-Err.field-0 _ head_is c.in-Err.ensures.moved c.logger.result c.logger.ensures _ flags Bool _
+    dropped_broke state m c.requires.ready up c.args.version r f index given fits mask l lane l' t.lane t.same t.all t.taken t.used c.in-Err.field-0 _ head_is c.in-Err.ensures.moved c.logger.result c.logger.ensures _ flags Bool _
 
 pub returns-in-Err-clause-broke : goal.returns-in-Err-clause-broke
 returns-in-Err-clause-broke g c =
@@ -180,7 +191,7 @@ returns-in-Err-clause-broke g c =
     let l' = c.trim.new.self in let t = c.trim.ensures in
     let head_is = its_head state m c.requires.ready up c.args.version r f index given fits mask c.head_of-head.result c.head_of-head.ensures.value in
     let flags = refill_set m.ups.items c.deref_mut.result.now r.lane true c.deref_mut.ensures.value in
-    stands_broke state m c.requires.ready up c.args.version r f index given fits mask l lane l' t.lane t.same t.taken t.used c.in-Err.field-0 _ head_is c.in-Err.ensures.moved c.logger.result c.logger.ensures _ flags g.D.Disk.tells g.met.D.Disk.sound
+    stands_broke state m c.requires.ready up c.args.version r f index given fits mask l lane l' t.lane t.same t.all t.taken t.used c.in-Err.field-0 _ head_is c.in-Err.ensures.moved c.logger.result c.logger.ensures _ flags g.D.Disk.tells g.met.D.Disk.sound
 
 pub returns-in-Err-clause-any_moment : goal.returns-in-Err-clause-any_moment
 returns-in-Err-clause-any_moment g c told =
@@ -191,4 +202,4 @@ returns-in-Err-clause-any_moment g c told =
     let l' = c.trim.new.self in let t = c.trim.ensures in
     let head_is = its_head state m c.requires.ready up c.args.version r f index given fits mask c.head_of-head.result c.head_of-head.ensures.value in
     let flags = refill_set m.ups.items c.deref_mut.result.now r.lane true c.deref_mut.ensures.value in
-    stops_broke state m c.requires.ready up c.args.version r f index given fits mask l lane l' t.lane t.same t.taken t.used c.in-Err.field-0 _ head_is c.in-Err.ensures.moved c.logger.result c.logger.ensures _ flags g.D.Disk.tells g.met.D.Disk.sound told
+    stops_broke state m c.requires.ready up c.args.version r f index given fits mask l lane l' t.lane t.same t.all t.taken t.used c.in-Err.field-0 _ head_is c.in-Err.ensures.moved c.logger.result c.logger.ensures _ flags g.D.Disk.tells g.met.D.Disk.sound told

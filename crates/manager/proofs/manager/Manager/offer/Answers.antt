@@ -34,7 +34,7 @@ add-requires-clause-reserved g c =
 pub returns-in-None-clause-ready : goal.returns-in-None-clause-ready
 returns-in-None-clause-ready g c =
     let m = c.args.self.now in let e = c.in-None.ensures in let t = e.turn in let old = c.index_mut-reached.result.now in
-    ready_away g.D.Disk.state m c.args.lane old c.put.new.lane (slice_get_read m.lanes.items (length m.lanes.items) c.args.lane old refl c.requires.lane c.index_mut-reached.ensures.value) e.lane t.same e.none _ refl t.held c.requires.ready
+    ready_away g.D.Disk.state m c.args.lane old c.put.new.lane (slice_get_read m.lanes.items (length m.lanes.items) c.args.lane old refl c.requires.lane c.index_mut-reached.ensures.value) e.lane t.same e.all e.none _ refl t.held c.requires.ready
 
 pub returns-in-None-clause-no_room : goal.returns-in-None-clause-no_room
 returns-in-None-clause-no_room g c _ =
@@ -44,7 +44,7 @@ returns-in-None-clause-no_room g c _ =
 pub returns-in-None-clause-keeps : goal.returns-in-None-clause-keeps
 returns-in-None-clause-keeps g c _ b notes kp =
     let m = c.args.self.now in let e = c.in-None.ensures in let t = e.turn in let old = c.index_mut-reached.result.now in
-    keeps_away g.D.Disk.state m c.args.lane old c.put.new.lane (slice_get_read m.lanes.items (length m.lanes.items) c.args.lane old refl c.requires.lane c.index_mut-reached.ensures.value) e.lane t.same e.none _ refl t.held
+    keeps_away g.D.Disk.state m c.args.lane old c.put.new.lane (slice_get_read m.lanes.items (length m.lanes.items) c.args.lane old refl c.requires.lane c.index_mut-reached.ensures.value) e.lane t.same e.all e.none _ refl t.held
     g.D.Disk.tells b notes (away_more (length c.args.from.now) old c.put.new.lane t) kp
 
 pub returns-in-None-clause-any_moment : goal.returns-in-None-clause-any_moment
@@ -58,7 +58,7 @@ returns-in-None-clause-any_moment g c told =
 pub returns-in-Some-Ok-clause-ready : goal.returns-in-Some-Ok-clause-ready
 returns-in-Some-Ok-clause-ready g c =
     let m = c.args.self.now in let e = c.in-Some-Ok.ensures in let old = c.index_mut-reached.result.now in let new = c.put.new.lane in let spot = c.in-Some-Ok.spot in
-    ready_written g.D.Disk.state m c.args.lane old new (slice_get_read m.lanes.items (length m.lanes.items) c.args.lane old refl c.requires.lane c.index_mut-reached.ensures.value) e.lane e.turn.same e.none c.args.lbn c.args.from.now c.requires.count c.requires.ready c.requires.up
+    ready_written g.D.Disk.state m c.args.lane old new (slice_get_read m.lanes.items (length m.lanes.items) c.args.lane old refl c.requires.lane c.index_mut-reached.ensures.value) e.lane e.turn.same e.all e.none c.args.lbn c.args.from.now c.requires.count c.requires.ready c.requires.up
     spot (subst (λ (q : Result Spot (ℕ × Failed)). PutIn g.D.Disk.state old new (length c.args.from.now) (new_record (lane_owner old) m.next c.args.lbn c.args.from.now ∷ []) q) c.in-Some-Ok.field-0-is e.put)
     (record { version = m.next; lbn = c.args.lbn; count = length c.args.from.now; keep = c.all_kept.result; lane = c.args.lane; segment = spot.segment; pos = spot.pos })
     (λ j. record { version = m.next; lbn = c.args.lbn; count = length c.args.from.now; keep = c.all_kept.ensures j; lane = c.args.lane; segment = spot.segment; pos = spot.pos })
@@ -73,7 +73,7 @@ pub returns-in-Some-Ok-clause-stands : goal.returns-in-Some-Ok-clause-stands
 returns-in-Some-Ok-clause-stands g c _ b notes passed n client note has kp =
     let m = c.args.self.now in let e = c.in-Some-Ok.ensures in let old = c.index_mut-reached.result.now in let new = c.put.new.lane in let spot = c.in-Some-Ok.spot in
     let flags = refill_set m.ups.items c.deref_mut.result.now c.args.lane true c.deref_mut.ensures.value in
-    stands_written g.D.Disk.state m c.args.lane old new (slice_get_read m.lanes.items (length m.lanes.items) c.args.lane old refl c.requires.lane c.index_mut-reached.ensures.value) e.lane e.turn.same e.none c.args.lbn c.args.from.now c.requires.count c.requires.ready c.requires.up
+    stands_written g.D.Disk.state m c.args.lane old new (slice_get_read m.lanes.items (length m.lanes.items) c.args.lane old refl c.requires.lane c.index_mut-reached.ensures.value) e.lane e.turn.same e.all e.none c.args.lbn c.args.from.now c.requires.count c.requires.ready c.requires.up
     g.D.Disk.tells g.met.D.Disk.told g.met.D.Disk.sound c.requires.fits c.requires.next e.turn b notes n client kp spot
     (record { version = m.next; lbn = c.args.lbn; count = length c.args.from.now; keep = c.all_kept.result; lane = c.args.lane; segment = spot.segment; pos = spot.pos })
     (λ j. record { version = m.next; lbn = c.args.lbn; count = length c.args.from.now; keep = c.all_kept.ensures j; lane = c.args.lane; segment = spot.segment; pos = spot.pos })
@@ -92,8 +92,14 @@ returns-in-Some-Ok-clause-look g c _ =
 pub returns-in-Some-Ok-clause-any_moment : goal.returns-in-Some-Ok-clause-any_moment
 returns-in-Some-Ok-clause-any_moment g c =
     let m = c.args.self.now in let e = c.in-Some-Ok.ensures in let old = c.index_mut-reached.result.now in let new = c.put.new.lane in
-    stops_put g.D.Disk.state m c.args.lane old new (slice_get_read m.lanes.items (length m.lanes.items) c.args.lane old refl c.requires.lane c.index_mut-reached.ensures.value) e.lane e.turn.same e.none c.args.lbn c.args.from.now c.requires.count c.requires.ready c.requires.up
+    stops_put g.D.Disk.state m c.args.lane old new (slice_get_read m.lanes.items (length m.lanes.items) c.args.lane old refl c.requires.lane c.index_mut-reached.ensures.value) e.lane e.turn.same e.all e.none c.args.lbn c.args.from.now c.requires.count c.requires.ready c.requires.up
     g.D.Disk.tells g.met.D.Disk.told g.met.D.Disk.sound e.put (record m { lanes = with_item m.lanes c.args.lane c.put.new.lane }) refl refl
+
+pub returns-in-Some-Err-clause-ready : goal.returns-in-Some-Err-clause-ready
+returns-in-Some-Err-clause-ready g c =
+    let m = c.args.self.now in let e = c.in-Some-Err.ensures in let old = c.index_mut-reached.result.now in
+    ready_failed g.D.Disk.state m c.args.lane old c.put.new.lane (slice_get_read m.lanes.items (length m.lanes.items) c.args.lane old refl c.requires.lane c.index_mut-reached.ensures.value) e.lane e.turn.same e.all e.none c.args.lbn c.args.from.now c.requires.count c.requires.ready c.requires.up
+    (with_item m.lanes c.args.lane c.put.new.lane) refl (part.Segment c.logger-logger.result c.in-Some-Err.index)
 
 pub returns-in-Some-Err-clause-taken : goal.returns-in-Some-Err-clause-taken
 returns-in-Some-Err-clause-taken g c _ =
@@ -107,9 +113,9 @@ returns-in-Some-Err-clause-stands g c _ b notes passed n client note has kp =
     let put : PutIn g.D.Disk.state old new (length c.args.from.now) (new_record (lane_owner old) m.next c.args.lbn c.args.from.now ∷ []) (Err (index, c.in-Some-Err.field-0-0-1)) =
     subst (λ (q : Result Spot (ℕ × Failed)). PutIn g.D.Disk.state old new (length c.args.from.now) (new_record (lane_owner old) m.next c.args.lbn c.args.from.now ∷ []) q) c.in-Some-Err.field-0-is e.put in
     subst (λ (x : ℕ). Stands g.D.Disk.tells g.D.Disk.state (record m { lanes = v; down = Some (part.Segment x index) }) b (notes ++ n ∷ [])) (sym c.logger-logger.ensures)
-    (stands_failed g.D.Disk.state m c.args.lane old new lane e.lane e.turn.same e.none c.args.lbn c.args.from.now c.requires.count c.requires.ready c.requires.up
+    (stands_failed g.D.Disk.state m c.args.lane old new lane e.lane e.turn.same e.all e.none c.args.lbn c.args.from.now c.requires.count c.requires.ready c.requires.up
     g.D.Disk.tells g.met.D.Disk.told g.met.D.Disk.sound c.requires.fits c.requires.next e.turn b notes n client kp (index, c.in-Some-Err.field-0-0-1) note.operation_is note.drain put v refl
-    (ready_failed g.D.Disk.state m c.args.lane old new lane e.lane e.turn.same e.none c.args.lbn c.args.from.now c.requires.count c.requires.ready c.requires.up v refl (part.Segment (logger_of old) index)) has note.look_is)
+    (ready_failed g.D.Disk.state m c.args.lane old new lane e.lane e.turn.same e.all e.none c.args.lbn c.args.from.now c.requires.count c.requires.ready c.requires.up v refl (part.Segment (logger_of old) index)) has note.look_is)
 
 pub returns-in-Some-Err-clause-named : goal.returns-in-Some-Err-clause-named
 returns-in-Some-Err-clause-named g c p is =
@@ -127,10 +133,10 @@ returns-in-Some-Err-clause-cause g c p is =
     subst (λ (q : Result Spot (ℕ × Failed)). PutIn g.D.Disk.state old new (length c.args.from.now) (new_record (lane_owner old) m.next c.args.lbn c.args.from.now ∷ []) q) c.in-Some-Err.field-0-is e.put in
     let part_is : part.Segment (logger_of old) index ≡ p = ap (λ (x : ℕ). part.Segment x index) (sym c.logger-logger.ensures) ∙ cc in
     subst (PartRoseOrClaimed g.D.Disk.state m m') part_is
-    (cause_put g.D.Disk.state m c.args.lane old new lane e.lane e.turn.same e.none c.args.lbn c.args.from.now c.requires.count c.requires.ready c.requires.up (index, c.in-Some-Err.field-0-0-1) put m' refl)
+    (cause_put g.D.Disk.state m c.args.lane old new lane e.lane e.turn.same e.all e.none c.args.lbn c.args.from.now c.requires.count c.requires.ready c.requires.up (index, c.in-Some-Err.field-0-0-1) put m' refl)
 
 pub returns-in-Some-Err-clause-any_moment : goal.returns-in-Some-Err-clause-any_moment
 returns-in-Some-Err-clause-any_moment g c =
     let m = c.args.self.now in let e = c.in-Some-Err.ensures in let old = c.index_mut-reached.result.now in let new = c.put.new.lane in
-    stops_put g.D.Disk.state m c.args.lane old new (slice_get_read m.lanes.items (length m.lanes.items) c.args.lane old refl c.requires.lane c.index_mut-reached.ensures.value) e.lane e.turn.same e.none c.args.lbn c.args.from.now c.requires.count c.requires.ready c.requires.up
+    stops_put g.D.Disk.state m c.args.lane old new (slice_get_read m.lanes.items (length m.lanes.items) c.args.lane old refl c.requires.lane c.index_mut-reached.ensures.value) e.lane e.turn.same e.all e.none c.args.lbn c.args.from.now c.requires.count c.requires.ready c.requires.up
     g.D.Disk.tells g.met.D.Disk.told g.met.D.Disk.sound e.put (record m { lanes = with_item m.lanes c.args.lane c.put.new.lane }) refl refl

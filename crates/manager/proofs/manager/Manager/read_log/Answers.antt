@@ -59,7 +59,7 @@ returns-clause-ready g c =
     let s = spotted_in state m c.requires.ready c.requires.up c.args.record.now c.args.lbn (length c.args.out.now) c.requires.some c.requires.source l c.index_mut-lane.ensures.value in
     let was = all_at (IsReadyLane state m.id m.most) m.lanes.items k l s.lane_is c.requires.ready.ready.each in
     subst (λ (ups : List Bool). IsReady state (record m { lanes = with_item m.lanes k l'; ups = record { items = ups } })) (sym (refill_set m.ups.items c.deref_mut.result.now k true c.deref_mut.ensures.value))
-    (ready_after state m c.requires.ready c.requires.up k l l' (slice_set m.ups.items k true) s.lane_is e.same e.lane e.taken
+    (ready_after state m c.requires.ready c.requires.up k l l' (slice_set m.ups.items k true) s.lane_is e.same e.lane e.all e.taken
     (whole_after state g.met.D.Disk.sound l l' _ _ _ _ c.read-answer.result was.lane e.lane s.whole e.same e.moved) (stays_after state g.met.D.Disk.sound l l' _ _ _ _ c.read-answer.result was.lane e.lane s.whole e.same e.moved)
     (counted_after state g.met.D.Disk.sound l l' _ _ _ _ c.read-answer.result was.lane e.lane s.whole e.same e.moved k m.index.entries ((c.requires.ready.up c.requires.up).counted k l s.lane_is)) (length-set m.ups.items k true))
 
