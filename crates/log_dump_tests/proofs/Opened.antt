@@ -52,6 +52,7 @@ module _ (config : Config) (valid : IsValid config) (v : VolumeConf) (there : sl
       spindle_volume = of.volume_is;
       spindle_free = of.alone.free;
       settled = of.settled;
+      accesses = of.accesses;
       each = rw none tt;
       flags = rw none refl;
       rooms_ = rw none refl;

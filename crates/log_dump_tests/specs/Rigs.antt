@@ -8,6 +8,7 @@ use Rattle.spin_model.specs.Operations.{has_token}
 use Rattle.spin_model.specs.declared.spindle.Spindle.{Spindle}
 use Rattle.spin_model.specs.declared.spindle.SpindleBase.{SpindleBase}
 use Rattle.wol_config.specs.declared.config.Config.{Config}
+use Rattle.logger.specs.Lanes.{AreAccesses}
 use Rattle.manager.specs.Stands.{IsHome, IsReady}
 use Rattle.log_dump.specs.Volumes.{IsVolumeOf}
 use Rattle.log_dump_tests.specs.declared.rig.Rig.{Rig}
@@ -23,6 +24,7 @@ pub record HasSpindle (lock : TurnLock Spindle SpindleBase) (pass : PassOf Spind
   pub alone : HasOnePass lock pass
   pub volume_is : (pass_lock pass).base.volume ≡ 0
   pub settled : has_token (pass_mine pass) ≡ false
+  pub accesses : AreAccesses (pass_mine pass)
 
 -- the manager serves the first volume of the configuration
 pub record IsRig (config : Config) (r : Rig) : Type 0 where

@@ -1,5 +1,5 @@
 -- A pass that holds no index but those of its lane's segments, after a turn of the pool in which it took or gave one.
-use Rattle.std.proofs.Common.{◌≡◌, ⊎_elim, ℕ, zero, suc, Bool, true, false, cond, eqb, List, [], ◌∷◌, ◌++◌, map, remove, slice_get, Option, Some, None, option_to_list, sym, ap, subst, ◌∙◌, arith, append-nil}
+use Rattle.std.proofs.Common.{◌≡◌, ⊎_elim, ℕ, zero, suc, Bool, true, false, cond, List, [], ◌∷◌, ◌++◌, map, remove, slice_get, Option, Some, None, option_to_list, sym, ap, subst, ◌∙◌, arith, append-nil}
 use Rattle.std.specs.Prelude.{Contains}
 use Rattle.std.proofs.lemmas.Bool.{false≢true}
 use Rattle.std.proofs.lemmas.Bool.Decides.{eqb_tells}
@@ -25,7 +25,7 @@ contains_removed f (y ∷ ys) ws (suc k) x i is other (suc j, lt, e) = let rest 
 
 module _ {D : Type 0} where
   -- whether the pass holds an index
-  abbrev has : PassOf (Pool (FreeSegment D)) PoolBase → ℕ → Bool
+  abbrev pub has : PassOf (Pool (FreeSegment D)) PoolBase → ℕ → Bool
   has p index = holds (pass_lock p).base (pass_number p) (pass_mine p) index
 
   -- it holds no index but these
@@ -33,7 +33,7 @@ module _ {D : Type 0} where
   HoldsIn p is = (index : ℕ) → has p index ≡ true → Contains is index
 
   -- what it holds after one more use
-  has_after : (p q : PassOf (Pool (FreeSegment D)) PoolBase) (u : PoolUse) → IsSamePass p q → pass_mine q ≡ pass_mine p ++ (pass_number p, operation_of u) ∷ [] → (i : ℕ) → has q i ≡ holds_after i (has p i) (u ∷ [])
+  pub has_after : (p q : PassOf (Pool (FreeSegment D)) PoolBase) (u : PoolUse) → IsSamePass p q → pass_mine q ≡ pass_mine p ++ (pass_number p, operation_of u) ∷ [] → (i : ℕ) → has q i ≡ holds_after i (has p i) (u ∷ [])
   has_after p q u same mine i = (λ k. holds (same.0 k).base (same.1 k) (mine k) i) ∙ holds-push (pass_lock p).base (pass_mine p) (pass_number p) i u
 
   -- the lane's segments with what a turn gave

@@ -1,6 +1,7 @@
 pub mod AllHeld
 pub mod Held
 pub mod Indexes
+pub mod Noted
 pub mod Rooms
 pub mod Uses
 pub mod Places

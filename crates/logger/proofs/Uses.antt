@@ -1,17 +1,19 @@
 -- What a lane's passes made in a call, and what its segments are to it then.
-use Rattle.std.proofs.Common.{◌≡◌, ◌≢◌, ◌<◌, ℕ, true, List, [], ◌∷◌, ◌++◌, map, vec_len, slice_index_or, Option, Some, None, IfSome, option_to_list, sym, ap, subst, ◌∙◌, append_assoc}
+use Rattle.std.proofs.Common.{◌≡◌, ◌≢◌, inl, inr, ◌<◌, ℕ, true, List, [], ◌∷◌, ◌++◌, map, vec_len, slice_index_or, Option, Some, None, IfSome, option_to_list, refl, sym, ap, subst, ◌∙◌, append_assoc}
 use Rattle.std.specs.List.{AllByRecursion}
 use Rattle.wol_disk.specs.Disk.{State}
 use Rattle.turn_lock.specs.Histories.{Entry}
 use Rattle.turn_lock.specs.LockIds.{LockId}
 use Rattle.turn_lock.specs.Passes.{lock_id, pass_lock, pass_number, pass_mine, IsSamePass}
 use Rattle.turn_lock.specs.declared.pass.PassOf.{PassOf}
+use Rattle.wol_model.specs.Journal.{Needed, Done}
+use Rattle.spin_model.specs.Operations.{operation_of}
 use Rattle.seg_pool.specs.Operations.{holds}
 use Rattle.seg_pool.specs.declared.base.PoolBase.{PoolBase}
 use Rattle.seg_pool.specs.declared.pool.Pool.{Pool}
 use Rattle.log_segment.specs.Segment.{IsSegment, IsBlank, IsSame}
 use Rattle.log_segment.specs.declared.free.FreeSegment.{FreeSegment}
-use Rattle.logger.specs.Lanes.{IsHeld, IsTaken, IsAt, IsSameLane}
+use Rattle.logger.specs.Lanes.{AreAccesses, IsHeld, IsTaken, IsAt, IsSameLane}
 use Rattle.logger.specs.declared.lane.HeldSegment.{HeldSegment}
 use Rattle.logger.specs.declared.lane.Lane.{Lane}
 use Rattle.logger.specs.declared.shared.Shared.{Shared}
@@ -20,6 +22,17 @@ use Rattle.logger.specs.declared.shared.Shared.{Shared}
 pub two_entries : (old mid new : List Entry) (n m : ℕ) (needed done : List ℕ) → mid ≡ old ++ (n, needed) ∷ [] → m ≡ n → new ≡ mid ++ (m, done) ∷ [] → new ≡ old ++ (n, needed) ∷ (n, done) ∷ []
 two_entries old mid new n m needed done first same second =
     second ∙ (ap (λ (es : List Entry). es ++ (m, done) ∷ []) first ∙ (append_assoc old ((n, needed) ∷ []) ((m, done) ∷ []) ∙ ap (λ k. old ++ (n, needed) ∷ (k, done) ∷ []) same))
+
+-- a pass that needed its disk once more, and was done, has made accesses alone still
+pub accesses_then : (old new : List Entry) (n : ℕ) → new ≡ old ++ (n, operation_of Needed) ∷ (n, operation_of Done) ∷ [] → AreAccesses old → AreAccesses new
+accesses_then old new n is all = subst AreAccesses (sym is) (more old all)
+  where
+    more : (es : List Entry) → AreAccesses es → AreAccesses (es ++ (n, operation_of Needed) ∷ (n, operation_of Done) ∷ [])
+    more [] all = (inl refl, (inr refl, tt))
+    more (e ∷ es) all = (all.0, more es all.1)
+
+pub accesses_over : (old mid new : List Entry) (n m : ℕ) → mid ≡ old ++ (n, operation_of Needed) ∷ [] → m ≡ n → new ≡ mid ++ (m, operation_of Done) ∷ [] → AreAccesses old → AreAccesses new
+accesses_over old mid new n m first same second = accesses_then old new n (two_entries old mid new n m (operation_of Needed) (operation_of Done) first same second)
 
 -- a lane whose passes are the same is at the same locks
 pub at_same : {D : Type 0} (shared : Shared D) (old new : Lane D) → IsSameLane old new → IsAt shared old → IsAt shared new

@@ -8,6 +8,7 @@ use Rattle.wol_model.specs.Blocks.{AreApart}
 use Rattle.wol_model.specs.Heads.{RecordHead}
 use Rattle.wol_model.specs.Journal.{Needed, Done}
 use Rattle.wol_model.specs.Log.{Record, IsLog, IsIdle, HasFirstOf, position_of}
+use Rattle.turn_lock.specs.Histories.{Entry}
 use Rattle.turn_lock.specs.Passes.{lock_id, pass_lock, pass_number, pass_mine, IsFree, IsSamePass}
 use Rattle.turn_lock.specs.declared.pass.PassOf.{PassOf}
 use Rattle.spin_model.specs.Operations.{has_token}
@@ -71,6 +72,10 @@ module _ {D : Type 0} where
 
 -- ---- What holds of a lane between its calls, whether or not its disks tell their content
 
+-- these entries of a spindle's lock are of accesses alone: in each turn the disk was needed, or it was done
+abbrev pub AreAccesses : List Entry → Type 0
+AreAccesses entries = AllByRecursion (λ (e : Entry). (spindle.use_of e.1 ≡ Needed) ⊎ (spindle.use_of e.1 ≡ Done)) entries
+
 -- a held segment of this logger and owner: it is as long as the pool's, and the pass holds its index
 pub record IsHeld {D : Type 0} (state : D → State) (logger owner segments : ℕ) (pass : PassOf (Pool (FreeSegment D)) PoolBase) (h : HeldSegment D) : Type 0 where
   pub shape : IsSegment state h.segment
@@ -93,6 +98,7 @@ pub record IsLane {D : Type 0} (state : D → State) (l : Lane D) : Type 0 where
   pub spindle_volume : (pass_lock l.spindle).base.volume ≡ l.logger
   -- each disk access of it is over
   pub settled : has_token (pass_mine l.spindle) ≡ false
+  pub accesses : AreAccesses (pass_mine l.spindle)
   pub each : AllByRecursion (IsHeld state l.logger l.owner (segments_in l) l.pool) l.held.items
   pub unclaimed : IfSome l.taken (IsTaken state l.logger (segments_in l) l.pool)
   pub apart : AreApart (indexes_in l)

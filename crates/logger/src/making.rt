@@ -15,7 +15,7 @@ use turn_lock::Pass;
 use wol_disk::{Disk, NoMemory};
 
 impl<D: Disk> Lane<D> {
-    ghost use Rattle.logger.specs.Lanes.{IsLane, IsSameLane, logger_of, lane_owner, held_in, taken_in, pool_of, spindle_of, segments_in, indexes_in, pool_blocks};
+    ghost use Rattle.logger.specs.Lanes.{IsLane, AreAccesses, IsSameLane, logger_of, lane_owner, held_in, taken_in, pool_of, spindle_of, segments_in, indexes_in, pool_blocks};
     ghost use Rattle.logger.specs.declared.lane.HeldSegment.{HeldSegment};
 
     /// A lane that holds nothing yet, with the room for this many segments and for `release`.
@@ -34,6 +34,7 @@ impl<D: Disk> Lane<D> {
         requires pool_free { IsFree pool }
         requires spindle_free { IsFree spindle }
         requires settled { has_token (pass_mine spindle) ≡ false }
+        requires accesses { AreAccesses (pass_mine spindle) }
         ensures lane { IfOk result (IsLane D.state) }
         ensures logger { IfOk result (λ l. logger_of l ≡ logger) }
         ensures owner { IfOk result (λ l. lane_owner l ≡ owner) }

@@ -5,7 +5,7 @@ use Rattle.std.specs.List.{list_any, AllByRecursion}
 use Rattle.std.proofs.lemmas.List.Sums.{sum_by-append}
 use Rattle.wol_disk.specs.Disk.{State}
 use Rattle.turn_lock.specs.LockIds.{LockId}
-use Rattle.turn_lock.specs.Passes.{pass_mine, IsFree, IsSamePass}
+use Rattle.turn_lock.specs.Passes.{pass_mine, pass_number, IsFree, IsSamePass}
 use Rattle.turn_lock.specs.declared.pass.PassOf.{PassOf}
 use Rattle.spin_model.specs.Operations.{has_token}
 use Rattle.spin_model.specs.Spun.{state_of, volume_of}
@@ -20,6 +20,9 @@ use Rattle.wol_promise.proofs.Kept.{other_flags, kept_more}
 use Rattle.wol_promise.proofs.OneMore.{last_more}
 use Rattle.offload_policy.specs.declared.Room.{Room}
 use Rattle.redirect_map.specs.Index.{Contents}
+use Rattle.logger.specs.Lanes.{AreAccesses}
+use Rattle.logger.proofs.Uses.{accesses_then}
+use Rattle.manager.specs.Accesses.{HasUsedOnce}
 use Rattle.manager.specs.Seen.{parts_of, seen, look_of_manager}
 use Rattle.manager.specs.Stands.{Keeps, Stands, IsReady, IsUp, IsInVolume, IsNote, nones_at}
 use Rattle.manager.specs.declared.base.ManagerBase.{ManagerBase}
@@ -41,15 +44,16 @@ none_passed nones notes n is has k =
 
 -- a manager that is ready stays so with other flags, rooms, home's pass and room of the index
 pub ready_reframed : {D : Type 0} (state : D → State) (m : Manager D) (home_up : Bool) (ups : List Bool) (rooms : List Room) (spindle : PassOf Spindle SpindleBase) (index : Contents)
-    → length ups ≡ length m.ups.items → length rooms ≡ length m.rooms.items → IsSamePass m.spindle spindle → IsFree spindle → has_token (pass_mine spindle) ≡ false → index.entries ≡ m.index.entries
+    → length ups ≡ length m.ups.items → length rooms ≡ length m.rooms.items → IsSamePass m.spindle spindle → IsFree spindle → has_token (pass_mine spindle) ≡ false → AreAccesses (pass_mine spindle) → index.entries ≡ m.index.entries
     → IsReady state m → IsReady state (record m { home_up = home_up; ups = record { items = ups }; rooms = record { items = rooms }; spindle = spindle; index = index })
-ready_reframed state m home_up ups rooms spindle index long wide pass free settled entries r = record {
+ready_reframed state m home_up ups rooms spindle index long wide pass free settled accesses entries r = record {
   ready = let s = r.ready in record {
     home_volume = s.home_volume;
     home_small = s.home_small;
     spindle_volume = ap (λ (l : LockId SpindleBase). l.base.volume) pass.0 ∙ s.spindle_volume;
     spindle_free = free;
     settled = settled;
+    accesses = accesses;
     each = s.each;
     flags = long ∙ s.flags;
     rooms_ = wide ∙ s.rooms_;
@@ -64,14 +68,15 @@ ready_reframed state m home_up ups rooms spindle index long wide pass free settl
 
 -- and with its home after a call, whether or not the call failed
 pub ready_homed : {D : Type 0} (state : D → State) (m : Manager D) (part : Spun D) (spindle : PassOf Spindle SpindleBase) (down : Option Part) → volume_of part ≡ volume_of m.home → (state_of state part).size ≡ (state_of state m.home).size
-    → IsSamePass m.spindle spindle → IsFree spindle → has_token (pass_mine spindle) ≡ false → m.down ≡ None → IsReady state m → IsReady state (record m { home = part; spindle = spindle; home_up = true; down = down })
-ready_homed state m part spindle down volume size pass free settled up r = record {
+    → IsSamePass m.spindle spindle → IsFree spindle → has_token (pass_mine spindle) ≡ false → HasUsedOnce m.spindle spindle → m.down ≡ None → IsReady state m → IsReady state (record m { home = part; spindle = spindle; home_up = true; down = down })
+ready_homed state m part spindle down volume size pass free settled used up r = record {
   ready = let s = r.ready in record {
     home_volume = volume ∙ s.home_volume;
     home_small = subst (λ (n : ℕ). (1 ≤ n) × (n ≤ 2 ^ 32)) (sym size) s.home_small;
     spindle_volume = ap (λ (l : LockId SpindleBase). l.base.volume) pass.0 ∙ s.spindle_volume;
     spindle_free = free;
     settled = settled;
+    accesses = accesses_then (pass_mine m.spindle) (pass_mine spindle) (pass_number m.spindle) used s.accesses;
     each = s.each;
     flags = s.flags;
     rooms_ = s.rooms_;

@@ -72,6 +72,7 @@ module _ {D : Type 0} (state : D → State) (id most : ℕ) (lanes : List (Lane 
     spindle_volume = r.spindle_volume;
     spindle_free = r.spindle_free;
     settled = r.settled;
+    accesses = r.accesses;
     each = all_set (IsReadyLane state id most) lanes k new r.each (ready_lane (all_at (IsReadyLane state id most) lanes k old lane r.each) is all untaken);
     flags = flags ∙ r.flags ∙ sym (length-set lanes k new);
     rooms_ = r.rooms_ ∙ sym (length-set lanes k new);

@@ -64,7 +64,7 @@ stops_at_rest {D} tells state sound told m b notes k = at m.down refl
 
 module _ {D : Type 0} (tells : Bool) (state : D → State) (old : Manager D) (rooms : List Room) (is : rooms ≡ replicate (length old.lanes.items) Unknown) (index : Contents) (entries : index.entries ≡ old.index.entries) where
   pub ready_then : IsReady state old → IsReady state (record old { rooms = record { items = rooms }; index = index })
-  ready_then r = ready_reframed state old old.home_up old.ups.items rooms old.spindle index refl (ap length is ∙ (length_copies Unknown (length old.lanes.items) ∙ sym r.ready.rooms_)) (refl, refl) r.ready.spindle_free r.ready.settled entries r
+  ready_then r = ready_reframed state old old.home_up old.ups.items rooms old.spindle index refl (ap length is ∙ (length_copies Unknown (length old.lanes.items) ∙ sym r.ready.rooms_)) (refl, refl) r.ready.spindle_free r.ready.settled r.ready.accesses entries r
 
   pub keeps_then : (b : ManagerBase) (notes : List Noted) → Keeps tells state old b notes → Keeps tells state (record old { rooms = record { items = rooms }; index = index }) b notes
   keeps_then b notes k = reframed tells state old b notes old.home_up old.ups.items rooms old.spindle index refl (refl, refl) entries (ready_then k.ready) k

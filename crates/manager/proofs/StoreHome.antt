@@ -6,7 +6,7 @@ use Rattle.std.proofs.lemmas.Bool.{leb-true, le-leb, and_parts}
 use Rattle.std.proofs.lemmas.List.{append-nil}
 use mathlib.Core.Path.{fun_ext}
 use Rattle.turn_lock.specs.LockIds.{LockId}
-use Rattle.turn_lock.specs.Passes.{pass_mine, IsFree, IsSamePass}
+use Rattle.turn_lock.specs.Passes.{pass_mine, pass_number, IsFree, IsSamePass}
 use Rattle.turn_lock.specs.declared.pass.PassOf.{PassOf}
 use Rattle.wol_disk.specs.Disk.{State, Block, Values, IsDisk, IsImageOf, IsBlend, LeavesOnly, Rose, only, reads}
 use Rattle.wol_disk.proofs.Calls.{settled_from}
@@ -37,6 +37,8 @@ use Rattle.spin_model.specs.declared.spun.Spun.{Spun}
 use Rattle.log_segment.specs.Segment.{Holds}
 use Rattle.redirect_map.specs.Index.{Contents, changed}
 use Rattle.redirect_map.specs.Masks.{in_mask}
+use Rattle.logger.proofs.Uses.{accesses_then}
+use Rattle.manager.specs.Accesses.{HasUsedOnce}
 use Rattle.manager.specs.Reading.{IsReadThrough}
 use Rattle.manager.specs.Reclaim.{put_block, IsPartlyPut, with_put}
 use Rattle.manager.specs.Seen.{Logs, AllLanesHold, parts_of, seen, all_held, down_of, look_of_manager}
@@ -62,7 +64,7 @@ use Rattle.manager.proofs.WentHome.{risen}
 
 -- an entry with other marks of home has its place, and all else, as before
 module _ {D : Type 0} (state : D → State) (m : Manager D) (version mask : ℕ) (part : Spun D) (spindle : PassOf Spindle SpindleBase) (home_up : Bool) (index : Contents) (down : Option Part)
-    (volume : volume_of part ≡ volume_of m.home) (size : (state_of state part).size ≡ (state_of state m.home).size) (pass : IsSamePass m.spindle spindle) (free : IsFree spindle) (settled : has_token (pass_mine spindle) ≡ false)
+    (volume : volume_of part ≡ volume_of m.home) (size : (state_of state part).size ≡ (state_of state m.home).size) (pass : IsSamePass m.spindle spindle) (free : IsFree spindle) (settled : has_token (pass_mine spindle) ≡ false) (used : HasUsedOnce m.spindle spindle)
     (entries : index.entries ≡ changed version (with_put mask) m.index.entries) (ready : IsReady state m) where
   each_put : (P : Indexed → Type 0) → ((d : Indexed) → P d → P (with_put mask d)) → AllByRecursion P m.index.entries → AllByRecursion P index.entries
   each_put P so all = subst (AllByRecursion P) (sym entries) (all_changed P version (with_put mask) so m.index.entries all)
@@ -78,6 +80,7 @@ module _ {D : Type 0} (state : D → State) (m : Manager D) (version mask : ℕ)
       spindle_volume = ap (λ (l : LockId SpindleBase). l.base.volume) pass.0 ∙ s.spindle_volume;
       spindle_free = free;
       settled = settled;
+      accesses = accesses_then (pass_mine m.spindle) (pass_mine spindle) (pass_number m.spindle) used s.accesses;
       each = s.each;
       flags = s.flags;
       rooms_ = s.rooms_;

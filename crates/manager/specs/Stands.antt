@@ -26,7 +26,7 @@ use Rattle.wol_promise.specs.Manager.{AreInUse}
 use Rattle.wol_promise.specs.Policy.{Look}
 use Rattle.wol_promise.specs.Ruled.{Noted, entries_of, IsStep, last_look, HasPassed}
 use Rattle.wol_promise.specs.Stands.{Upholds}
-use Rattle.logger.specs.Lanes.{IsLane, HoldsAll, IsAt, logger_of, lane_owner, held_in, taken_in, pool_of, spindle_of}
+use Rattle.logger.specs.Lanes.{IsLane, AreAccesses, HoldsAll, IsAt, logger_of, lane_owner, held_in, taken_in, pool_of, spindle_of}
 use Rattle.logger.specs.declared.lane.Lane.{Lane}
 use Rattle.logger.specs.declared.lane.HeldSegment.{HeldSegment}
 use Rattle.logger.specs.declared.shared.Shared.{Shared}
@@ -52,6 +52,7 @@ pub record Ready {D : Type 0} (state : D → State) (id most : ℕ) (home : Spun
   pub spindle_volume : (pass_lock spindle).base.volume ≡ id
   pub spindle_free : IsFree spindle
   pub settled : has_token (pass_mine spindle) ≡ false
+  pub accesses : AreAccesses (pass_mine spindle)
   pub each : AllByRecursion (IsReadyLane state id most) lanes
   pub flags : length ups ≡ length lanes
   pub rooms_ : length rooms ≡ length lanes

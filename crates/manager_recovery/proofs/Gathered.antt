@@ -12,12 +12,13 @@ use Rattle.log_scan.specs.declared.Found.{Found}
 use Rattle.log_scan.specs.declared.Scan.{Scan}
 use Rattle.spin_model.specs.Spun.{state_of}
 use Rattle.logger.specs.Lanes.{logger_of}
+use Rattle.logger.proofs.Held.{all_both}
 use Rattle.turn_lock.specs.LockIds.{LockId}
 use Rattle.seg_pool.specs.declared.base.PoolBase.{PoolBase}
 use Rattle.logger.specs.declared.lane.HeldSegment.{HeldSegment}
 use Rattle.logger.specs.declared.lane.Lane.{Lane}
 use Rattle.logger.specs.declared.shared.Shared.{Shared}
-use Rattle.manager_recovery.specs.Opening.{IsOpeningLane, AreInOrder}
+use Rattle.manager_recovery.specs.Opening.{IsOpeningLane, HoldsOwned, AreInOrder}
 use Rattle.manager_recovery.specs.Refused.{IsNamesAnswer, first_missing, first_outside, is_named}
 use Rattle.manager_recovery.specs.Left.{IsSameOwned}
 use Rattle.manager_recovery.specs.Recovery.{IsRecovered}
@@ -29,6 +30,7 @@ use Rattle.manager_recovery.specs.declared.volume.Recovered.{Recovered}
 use Rattle.manager_recovery.proofs.ByLogger.{all_among, all_from, among_filter, map_among, flat_among, among_contains, contains_among}
 use Rattle.manager_recovery.proofs.Indexing.{all_named}
 use Rattle.manager_recovery.proofs.Held.{loggers_same}
+use Rattle.manager_recovery.proofs.OwnedHeld.{holds_own}
 use Rattle.manager_recovery.proofs.OpenedKeeps.{IsLaneNow, IsGathered}
 use Rattle.manager_recovery.proofs.Places.{loggers_are}
 use Rattle.manager_recovery.proofs.Segs.{Seg, IsSeg, segs_of, all_segs, held_segs, places_segs, entries_at, entries_segs}
@@ -144,13 +146,14 @@ module _ {D : Type 0} (tells : Bool) (state : D → State) (shared : Shared D) (
     rising_entries : AreRising (map (λ (e : Indexed). e.listed.version) r.index.entries)
     rising_entries = let x = rec.index in subst AreRising (sym (ap (map (λ (e : Indexed). e.listed.version)) x.is ∙ entry_versions x.sorted)) x.are_sorted.rising
 
-    lane_now : (old new : Lane D) → IsOpeningLane state shared n.want.id n.most old → HoldsItsOwn state shared n.want.id n.most n.owned.items held.segments old new → IsLaneNow state shared n.want.id n.most gs new
+    lane_now : (old new : Lane D) → IsOpeningLane state shared n.want.id n.most old × HoldsOwned n.owned.items old → HoldsItsOwn state shared n.want.id n.most n.owned.items held.segments old new → IsLaneNow state shared n.want.id n.most gs new
     lane_now old new was has = record {
       lane = has.lane;
       at = has.at;
-      owner = has.same.owner ∙ was.owner;
-      untaken = has.taken ∙ was.untaken;
-      long = subst (λ (b : ℕ). n.most + 2 ≤ b) (ap (λ (i : LockId PoolBase). i.base.blocks) (sym has.same.pool.0)) was.long;
+      owner = has.same.owner ∙ was.0.owner;
+      untaken = has.taken ∙ was.0.untaken;
+      long = let l = was.0.long in subst (λ (b : ℕ). n.most + 2 ≤ b) (ap (λ (i : LockId PoolBase). i.base.blocks) (sym has.same.pool.0)) l;
+      all = holds_own state shared n.want.id n.most n.owned.items r.scans.items held.segments old new held.adopted has was.1;
       held = has.held ∙ held_segs state (logger_of new) n.owned.items r.scans.items held.segments held.adopted;
     }
 
@@ -177,7 +180,8 @@ module _ {D : Type 0} (tells : Bool) (state : D → State) (shared : Shared D) (
       view_ok = valid;
       loggers_before = loggers_are state shared n rec.open_ names_still.1;
       loggers = loggers_same state shared n.want.id n.most n.owned.items held.segments n.lanes.items lanes held.each ∙ loggers_are state shared n rec.open_ names_still.1;
-      each = zip_seconds (HoldsItsOwn state shared n.want.id n.most n.owned.items held.segments) (IsOpeningLane state shared n.want.id n.most) (IsLaneNow state shared n.want.id n.most gs) lane_now n.lanes.items lanes rec.open_.lanes held.each;
+      each = zip_seconds (HoldsItsOwn state shared n.want.id n.most n.owned.items held.segments) (λ (l : Lane D). IsOpeningLane state shared n.want.id n.most l × HoldsOwned n.owned.items l) (IsLaneNow state shared n.want.id n.most gs) lane_now n.lanes.items lanes
+          (all_both (IsOpeningLane state shared n.want.id n.most) (HoldsOwned n.owned.items) n.lanes.items rec.open_.lanes rec.open_.all) held.each;
       all = gathered_all;
       order = subst AreInOrder (places_segs state n.owned.items r.scans.items held.segments held.adopted) rec.open_.in_order;
       same = same_entries;

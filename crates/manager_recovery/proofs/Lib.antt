@@ -17,6 +17,7 @@ pub mod OpenedIndex
 pub mod OpenedKeeps
 pub mod OpenedStands
 pub mod Outside
+pub mod OwnedHeld
 pub mod Places
 pub mod Readings
 pub mod Recovering

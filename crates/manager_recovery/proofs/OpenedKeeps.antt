@@ -10,7 +10,7 @@ use Rattle.wol_disk.specs.Disk.{State, IsAmong}
 use Rattle.wol_model.specs.Heads.{IsViewList}
 use Rattle.wol_model.specs.Index.{Indexed, AreRising}
 use Rattle.log_segment.specs.Segment.{IsWhole, valid_of}
-use Rattle.logger.specs.Lanes.{IsLane, IsAt, logger_of, lane_owner, held_in, taken_in, pool_blocks}
+use Rattle.logger.specs.Lanes.{IsLane, HoldsAll, IsAt, logger_of, lane_owner, held_in, taken_in, pool_blocks}
 use Rattle.logger.specs.declared.lane.HeldSegment.{HeldSegment}
 use Rattle.logger.specs.declared.lane.Lane.{Lane}
 use Rattle.logger.specs.declared.shared.Shared.{Shared}
@@ -36,6 +36,7 @@ pub record IsLaneNow {D : Type 0} (state : D → State) (shared : Shared D) (id 
   pub untaken : taken_in l ≡ None
   pub long : most + 2 ≤ pool_blocks l
   pub held : held_in l ≡ map (λ (g : Seg D). g.held) (on logger_of_seg (logger_of l) gs)
+  pub all : HoldsAll l
 
 pub record IsGathered {D : Type 0} (state : D → State) (shared : Shared D) (n : Opening D) (r : Recovered) (lanes : List (Lane D)) (gs : List (Seg D)) : Type 0 where
   pub can : CanOpen state shared n
@@ -105,7 +106,8 @@ module _ {D : Type 0} (state : D → State) (shared : Shared D) (n : Opening D) 
       spindle_volume = can.spindle_volume;
       spindle_free = can.spindle_free;
       settled = can.settled;
-      each = all_lanes (IsReadyLane state n.want.id n.most) (λ k l is. let now = all_at (IsLaneNow state shared n.want.id n.most gs) lanes.items k l is c.each in record { lane = now.lane; owner = now.owner; untaken = now.untaken; long = now.long });
+      accesses = can.accesses;
+      each = all_lanes (IsReadyLane state n.want.id n.most) (λ k l is. let now = all_at (IsLaneNow state shared n.want.id n.most gs) lanes.items k l is c.each in record { lane = now.lane; owner = now.owner; untaken = now.untaken; long = now.long; all = now.all });
       flags = long-replicate (length lanes.items) true;
       rooms_ = long-replicate (length lanes.items) _;
       few = few;

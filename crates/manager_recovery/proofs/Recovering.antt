@@ -9,6 +9,7 @@ use Rattle.wol_model.specs.Log.{Record}
 use Rattle.log_segment.specs.Kept.{IsKeptOrIdle}
 use Rattle.turn_lock.specs.Passes.{pass_mine, IsFree, IsSamePass}
 use Rattle.spin_model.specs.Operations.{has_token}
+use Rattle.logger.specs.Lanes.{AreAccesses}
 use Rattle.manager_recovery.specs.Opening.{CanOpen}
 use Rattle.spin_model.specs.Spun.{state_of, disk_of}
 use Rattle.spin_model.specs.declared.spun.Spun.{Spun}
@@ -51,8 +52,8 @@ module _ {D : Type 0} (tells : Bool) (state : D → State) (sound : (d : D) → 
 
   -- what was read back, and home perhaps synced, is handed back
   pub handed_read : (o n : Opening D) (home : Spun D) (spindle : PassOf Spindle SpindleBase) → IsReadBack state shared o n → IsAsBefore state n.home home → IsSamePass n.spindle spindle
-      → IsFree spindle → has_token (pass_mine spindle) ≡ false → IsHandedBack tells state shared o (record n { home = home; spindle = spindle })
-  handed_read o n home spindle parts home_as pass free_ settled_ =
+      → IsFree spindle → has_token (pass_mine spindle) ≡ false → AreAccesses (pass_mine spindle) → IsHandedBack tells state shared o (record n { home = home; spindle = spindle })
+  handed_read o n home spindle parts home_as pass free_ settled_ accesses_ =
       let home_is : n.home ≡ o.home = ap (λ (x : Opening D). x.home) parts.same in
       let spindle_is : n.spindle ≡ o.spindle = ap (λ (x : Opening D). x.spindle) parts.same in
       record {
@@ -60,6 +61,7 @@ module _ {D : Type 0} (tells : Bool) (state : D → State) (sound : (d : D) → 
         spindle = subst (λ (s : PassOf Spindle SpindleBase). IsSamePass s spindle) spindle_is pass;
         spindle_free = free_;
         settled = settled_;
+        accesses = accesses_;
         lanes = parts.lanes;
         fates = map Kept n.owned.items;
         owned = sym (all_kept n.owned.items);
@@ -73,6 +75,7 @@ module _ {D : Type 0} (tells : Bool) (state : D → State) (sound : (d : D) → 
       let spindle_is : o.spindle ≡ n.spindle = sym (ap (λ (x : Opening D). x.spindle) parts.same) in
       handed_read o n n.home n.spindle parts (as_before n.home) (refl, refl)
       (subst (λ (s : PassOf Spindle SpindleBase). IsFree s) spindle_is can.spindle_free) (subst (λ (s : PassOf Spindle SpindleBase). has_token (pass_mine s) ≡ false) spindle_is can.settled)
+      (subst (λ (s : PassOf Spindle SpindleBase). AreAccesses (pass_mine s)) spindle_is can.accesses)
 
   -- ---- Segments that have nothing were freed
 
@@ -105,8 +108,8 @@ module _ {D : Type 0} (tells : Bool) (state : D → State) (sound : (d : D) → 
   all_fates id (o ∷ os) (n ∷ ns) (f ∷ fates) seen settled_ each = (one_fate id o n f seen.0 settled_.0 each.0, all_fates id os ns fates seen.1 settled_.1 each.1)
 
   pub handed_thinned : (o n m : Opening D) (home : Spun D) (spindle : PassOf Spindle SpindleBase) → IsReadBack state shared o n → AllZip (IsSettledPart state) o.owned.items n.owned.items → IsAsBefore state n.home home → IsSamePass n.spindle spindle
-      → IsFree spindle → has_token (pass_mine spindle) ≡ false → IsThinning state shared (record n { home = home; spindle = spindle }) m → IsHandedBack tells state shared o m
-  handed_thinned o n m home spindle parts settled_ home_as pass free_ over thinned_ =
+      → IsFree spindle → has_token (pass_mine spindle) ≡ false → AreAccesses (pass_mine spindle) → IsThinning state shared (record n { home = home; spindle = spindle }) m → IsHandedBack tells state shared o m
+  handed_thinned o n m home spindle parts settled_ home_as pass free_ over accesses_ thinned_ =
       let home_is : n.home ≡ o.home = ap (λ (x : Opening D). x.home) parts.same in
       let spindle_is : n.spindle ≡ o.spindle = ap (λ (x : Opening D). x.spindle) parts.same in
       let want : n.want ≡ o.want = ap (λ (x : Opening D). x.want) parts.same in
@@ -119,6 +122,7 @@ module _ {D : Type 0} (tells : Bool) (state : D → State) (sound : (d : D) → 
         spindle = subst (λ (s : PassOf Spindle SpindleBase). IsSamePass o.spindle s) spindle_then (subst (λ (s : PassOf Spindle SpindleBase). IsSamePass s spindle) spindle_is pass);
         spindle_free = subst (λ (s : PassOf Spindle SpindleBase). IsFree s) spindle_then free_;
         settled = subst (λ (s : PassOf Spindle SpindleBase). has_token (pass_mine s) ≡ false) spindle_then over;
+        accesses = subst (λ (s : PassOf Spindle SpindleBase). AreAccesses (pass_mine s)) spindle_then accesses_;
         lanes = zip_then (IsUsedLane state shared o.want.id o.most) (IsUsedLane state shared n.want.id n.most) (IsUsedLane state shared o.want.id o.most)
             (λ x y z first second. used_then state shared o.want.id o.most x y z first (subst (λ (w : Label). IsUsedLane state shared w.id o.most y z) want (subst (λ (most_ : ℕ). IsUsedLane state shared n.want.id most_ y z) most second)))
             o.lanes.items n.lanes.items m.lanes.items parts.lanes thinned_.lanes;

@@ -23,6 +23,7 @@ use Rattle.manager_recovery.specs.Refused.{first_missing}
 use Rattle.manager_recovery.specs.Scanned.{HasGivenNone, IsSeenAgain, IsSettledPart}
 use Rattle.manager_recovery.specs.declared.opening.Opening.{Opening}
 use Rattle.manager_recovery.specs.declared.opening.OwnedPart.{OwnedPart}
+use Rattle.manager_recovery.proofs.OwnedHeld.{HoldsAt, at_still}
 use Rattle.manager_recovery.proofs.Lists.{all_map, all_get, all_set, zip_change, zip_self, map_set}
 
 -- ---- Lanes
@@ -123,6 +124,9 @@ module _ {D : Type 0} (state : D → State) (shared : Shared D) (o : Opening D) 
         (still_held state x old new same rest (all_get (λ (l : Lane D). logger_of l ≡ x.logger → IsHeldIn state x l) o.lanes.items place old there own.held));
   }
 
+  places_same : map place_of owned.items ≡ map place_of o.owned.items
+  places_same = ap (map place_of) owned_set ∙ map_set place_of o.owned.items k q p here (λ i. place_of (part.0 i))
+
   -- the condition stands where the spindle of the lane at one place was used, and the part at one place was read back
   pub open_after : IsSettledPart state p q → CanOpen state shared (record o { lanes = lanes; owned = owned })
   open_after settled_ = record {
@@ -132,6 +136,7 @@ module _ {D : Type 0} (state : D → State) (shared : Shared D) (o : Opening D) 
     spindle_volume = can.spindle_volume;
     spindle_free = can.spindle_free;
     settled = can.settled;
+    accesses = can.accesses;
     at = record {
       spindle_in = can.at.spindle_in;
       spindle_is = can.at.spindle_is;
@@ -140,7 +145,11 @@ module _ {D : Type 0} (state : D → State) (shared : Shared D) (o : Opening D) 
     lanes = subst (AllByRecursion (IsOpeningLane state shared o.want.id o.most)) (sym lanes_set) (all_set (IsOpeningLane state shared o.want.id o.most) o.lanes.items place new can.lanes lane_now);
     loggers = ap (map logger_of) lanes_set ∙ map_set logger_of o.lanes.items place new old there same.logger ∙ can.loggers;
     most = can.most;
-    in_order = subst AreInOrder (sym (ap (map place_of) owned_set ∙ map_set place_of o.owned.items k q p here (λ i. place_of (part.0 i)))) can.in_order;
+    in_order = subst AreInOrder (sym places_same) can.in_order;
+    all = subst (λ (ps : List (ℕ × ℕ)). AllByRecursion (HoldsAt ps) lanes.items) (sym places_same)
+        (subst (AllByRecursion (HoldsAt (map place_of o.owned.items))) (sym lanes_set)
+        (all_set (HoldsAt (map place_of o.owned.items)) o.lanes.items place new can.all
+        (at_still (map place_of o.owned.items) old new same (ap (λ (l : Lane D). pass_mine (pool_of l)) rest) (all_get (HoldsAt (map place_of o.owned.items)) o.lanes.items place old there can.all))));
     owned = subst (λ (ls : List (Lane D)). AllByRecursion (IsOwned state ls) owned.items) (sym lanes_set)
         (subst (AllByRecursion (IsOwned state (slice_set o.lanes.items place new))) (sym owned_set)
         (all_set (IsOwned state (slice_set o.lanes.items place new)) o.owned.items k q (all_map (IsOwned state o.lanes.items) (IsOwned state (slice_set o.lanes.items place new)) owned_lanes o.owned.items can.owned)

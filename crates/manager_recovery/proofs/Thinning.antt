@@ -19,11 +19,11 @@ use Rattle.seg_pool.specs.Operations.{holds}
 use Rattle.seg_pool.specs.declared.base.PoolBase.{PoolBase}
 use Rattle.log_segment.specs.declared.free.FreeSegment.{FreeSegment}
 use Rattle.log_scan.specs.declared.Scan.{Scan}
-use Rattle.logger.specs.Lanes.{IsLane, IsAt, IsHeld, IsTaken, IsSameLane, logger_of, held_in, taken_in, pool_of, segments_in, indexes_in}
+use Rattle.logger.specs.Lanes.{IsLane, AreAccesses, IsAt, IsHeld, IsTaken, IsSameLane, logger_of, held_in, taken_in, pool_of, segments_in, indexes_in}
 use Rattle.logger.specs.declared.lane.Lane.{Lane}
 use Rattle.logger.specs.declared.shared.Shared.{Shared}
 use Rattle.manager.proofs.Lanes.{all_at, all_set, map_set}
-use Rattle.manager_recovery.specs.Opening.{CanOpen, IsOpeningLane, IsOwned, IsHeldIn, IsBefore, AreInOrder, SaysOwner, place_of}
+use Rattle.manager_recovery.specs.Opening.{CanOpen, HoldsOwned, IsOpeningLane, IsOwned, IsHeldIn, IsBefore, AreInOrder, SaysOwner, place_of}
 use Rattle.manager_recovery.specs.Left.{HasGiven, IsUsedLane, Fate, Kept, Freed, kept_of, IsFateOf, AreFates}
 use Rattle.manager_recovery.specs.Refused.{IsNamesAnswer, first_missing}
 use Rattle.manager_recovery.specs.Scanned.{HasGivenNone, IsScanned, IsThinning, has_some, thinned}
@@ -31,6 +31,7 @@ use Rattle.manager_recovery.specs.declared.opening.Opening.{Opening}
 use Rattle.manager_recovery.specs.declared.opening.OwnedPart.{OwnedPart}
 use Rattle.manager_recovery.proofs.Gifts.{gift, none_given, given_more, lanes_same, all_given_front}
 use Rattle.manager_recovery.proofs.Lists.{zip_self}
+use Rattle.manager_recovery.proofs.OwnedHeld.{all_less as all_held_less}
 use Rattle.manager_recovery.proofs.Places.{loggers_are, place_is, lane_is, read_at}
 use Rattle.manager_recovery.proofs.Fronts.{front_at, back_at, around, none_behind, get_middle, set_middle, remove_middle, zip_join, zip_long, zip_at, zip_other}
 
@@ -47,8 +48,8 @@ at_same shared old new same a = record {
 
 module _ {D : Type 0} (state : D → State) (shared : Shared D) (id most : ℕ) (old new : Lane D) (was : IsOpeningLane state shared id most old) (same : IsSameLane old new)
     (rest : new ≡ record old { pool = new.pool; spindle = new.spindle }) where
-  used_is : IsFree (pool_of new) → IsFree new.spindle → has_token (pass_mine new.spindle) ≡ false → IsLane state new
-  used_is pool_free spindle_free settled = let l = was.lane in
+  used_is : IsFree (pool_of new) → IsFree new.spindle → has_token (pass_mine new.spindle) ≡ false → AreAccesses (pass_mine new.spindle) → IsLane state new
+  used_is pool_free spindle_free settled accesses = let l = was.lane in
       let bare : held_in new ≡ [] = ap (λ (q : Lane D). held_in q) rest ∙ was.bare in
       let untaken : taken_in new ≡ None = ap (λ (q : Lane D). taken_in q) rest ∙ was.untaken in
       let holders : length (pass_lock new.pool).base.holders ≡ length (pass_lock old.pool).base.holders = ap (λ (i : LockId PoolBase). length i.base.holders) same.pool.0 in
@@ -58,6 +59,7 @@ module _ {D : Type 0} (state : D → State) (shared : Shared D) (id most : ℕ) 
         pool_volume = ap (λ (i : LockId PoolBase). i.base.volume) same.pool.0 ∙ l.pool_volume ∙ sym same.logger;
         spindle_volume = ap (λ (i : LockId SpindleBase). i.base.volume) same.spindle.0 ∙ l.spindle_volume ∙ sym same.logger;
         settled = settled;
+        accesses = accesses;
         each = subst (AllByRecursion (IsHeld state new.logger new.owner (segments_in new) new.pool)) (sym bare) tt;
         unclaimed = let P : Option (ℕ × FreeSegment D) → Type 0 = λ t. IfSome t (IsTaken state new.logger (segments_in new) new.pool) in subst P (sym untaken) tt;
         apart = subst AreApart (sym (ap (λ (q : Lane D). indexes_in q) rest)) l.apart;
@@ -68,10 +70,10 @@ module _ {D : Type 0} (state : D → State) (shared : Shared D) (id most : ℕ) 
   used_at : IsAt shared new
   used_at = at_same shared old new same was.at
 
-  pub used_lane : IsFree (pool_of new) → IsFree new.spindle → has_token (pass_mine new.spindle) ≡ false → IsUsedLane state shared id most old new
-  used_lane pool_free spindle_free settled = record {
+  pub used_lane : IsFree (pool_of new) → IsFree new.spindle → has_token (pass_mine new.spindle) ≡ false → AreAccesses (pass_mine new.spindle) → IsUsedLane state shared id most old new
+  used_lane pool_free spindle_free settled accesses = record {
     lane = record {
-      lane = used_is pool_free spindle_free settled;
+      lane = used_is pool_free spindle_free settled accesses;
       at = used_at;
       owner = same.owner ∙ was.owner;
       bare = ap (λ (q : Lane D). held_in q) rest ∙ was.bare;
@@ -151,8 +153,9 @@ module _ {D : Type 0} (state : D → State) (shared : Shared D) (o : Opening D) 
         });
   }
 
-  pub can_again : (n : Opening D) → n ≡ record o { lanes = n.lanes; owned = n.owned } → n.lanes.items ≡ slice_set o.lanes.items k new → (front back : List (OwnedPart D)) → o.owned.items ≡ front ++ r ∷ back → n.owned.items ≡ front ++ back → CanOpen state shared n
-  can_again n same lanes front back was is =
+  pub can_again : (n : Opening D) → n ≡ record o { lanes = n.lanes; owned = n.owned } → n.lanes.items ≡ slice_set o.lanes.items k new → (front back : List (OwnedPart D)) → o.owned.items ≡ front ++ r ∷ back → n.owned.items ≡ front ++ back
+      → AreApart (map logger_of o.lanes.items) → pass_mine (pool_of new) ≡ pass_mine (pool_of old) ++ gift (pass_number (pool_of old)) r.index ∷ [] → CanOpen state shared n
+  can_again n same lanes front back was is apart gave =
       let order : AreInOrder (map place_of (front ++ r ∷ back)) = subst (λ (l : List (OwnedPart D)). AreInOrder (map place_of l)) was can.in_order in
       let each : AllByRecursion (IsOwned state (slice_set o.lanes.items k new)) (front ++ back) = all_both (IsOwned state o.lanes.items) (λ (x : OwnedPart D). AreOther (place_of x) (place_of r)) (IsOwned state (slice_set o.lanes.items k new)) owned_set (front ++ back)
       (all_less (IsOwned state o.lanes.items) front r back (subst (AllByRecursion (IsOwned state o.lanes.items)) was can.owned)) (others front r back order) in
@@ -163,12 +166,16 @@ module _ {D : Type 0} (state : D → State) (shared : Shared D) (o : Opening D) 
         spindle_volume = can.spindle_volume;
         spindle_free = can.spindle_free;
         settled = can.settled;
+        accesses = can.accesses;
         at = record { spindle_in = can.at.spindle_in; spindle_is = can.at.spindle_is; lanes_ = subst (AllByRecursion (IsAt shared)) (sym lanes) (all_set (IsAt shared) o.lanes.items k new can.at.lanes_ used.lane.at) };
         lanes = subst (AllByRecursion (IsOpeningLane state shared o.want.id o.most)) (sym lanes) (all_set (IsOpeningLane state shared o.want.id o.most) o.lanes.items k new can.lanes used.lane);
         loggers = ap (map logger_of) lanes ∙ map_set logger_of o.lanes.items k old new lane used.same.logger ∙ can.loggers;
         most = can.most;
         in_order = subst (λ (l : List (OwnedPart D)). AreInOrder (map place_of l)) (sym is) (order_without front r back order);
         owned = subst (λ (ls : List (Lane D)). AllByRecursion (IsOwned state ls) n.owned.items) (sym lanes) (subst (AllByRecursion (IsOwned state (slice_set o.lanes.items k new))) (sym is) each);
+        all = subst (λ (ls : List (Lane D)). AllByRecursion (HoldsOwned n.owned.items) ls) (sym lanes)
+            (subst (λ (l : List (OwnedPart D)). AllByRecursion (HoldsOwned l) (slice_set o.lanes.items k new)) (sym is)
+            (all_held_less front r back old new on used.same gave o.lanes.items k lane apart (subst (λ (l : List (OwnedPart D)). AllByRecursion (HoldsOwned l) o.lanes.items) was can.all)));
         heads = subst (AllByRecursion (SaysOwner state o.want.id)) (sym is) (all_less (SaysOwner state o.want.id) front r back (subst (AllByRecursion (SaysOwner state o.want.id)) was can.heads));
       } in
       subst (CanOpen state shared) (sym same) again
@@ -346,10 +353,10 @@ module _ {D : Type 0} (state : D → State) (shared : Shared D) (sound : (p : Sp
           let same : at.part ≡ p = same_Some at.part p (sym at.part_at ∙ there) in
           all_at (λ (q : Lane D). logger_of q ≡ p.logger → IsHeldIn state p q) n.lanes.items place l lane (all_at (IsOwned state n.lanes.items) n.owned.items k p there inv.can.owned).held (on ∙ ap (λ (q : OwnedPart D). q.logger) same)
 
-      module _ (m : Lane D) (same : IsSameLane l m) (rest : m ≡ record l { pool = m.pool; spindle = m.spindle }) (pool_free : IsFree (pool_of m)) (spindle_free : IsFree m.spindle) (settled : has_token (pass_mine m.spindle) ≡ false)
+      module _ (m : Lane D) (same : IsSameLane l m) (rest : m ≡ record l { pool = m.pool; spindle = m.spindle }) (pool_free : IsFree (pool_of m)) (spindle_free : IsFree m.spindle) (settled : has_token (pass_mine m.spindle) ≡ false) (accesses : AreAccesses (pass_mine m.spindle))
           (t : Opening D) (t_same : t ≡ record n { lanes = t.lanes; owned = t.owned }) (t_lanes : t.lanes.items ≡ slice_set n.lanes.items place m) where
         used : IsUsedLane state shared n.want.id n.most l m
-        used = used_lane state shared n.want.id n.most l m is_ready same rest pool_free spindle_free settled
+        used = used_lane state shared n.want.id n.most l m is_ready same rest pool_free spindle_free settled accesses
 
         used_first : IsUsedLane state shared o.want.id o.most l m
         used_first = subst (λ (q : Opening D). IsUsedLane state shared q.want.id q.most l m) inv.same used
@@ -368,7 +375,7 @@ module _ {D : Type 0} (state : D → State) (shared : Shared D) (sound : (p : Sp
         freed none on kept owned js scans f fate apart gave =
             let T = thinned (drop (suc k) o.owned.items) (drop (suc k) was) in
             let left : t.owned.items ≡ take k o.owned.items ++ T = owned ∙ ap (λ (q : List (OwnedPart D)). remove q k) at.here ∙ remove_middle (take k o.owned.items) T k at.part at.long in
-            goes n is k inv at none t js then_same (can_again state shared n inv.can place l m lane used at.part on kept t t_same t_lanes (take k o.owned.items) T at.here left) then_lanes owned scans f fate
+            goes n is k inv at none t js then_same (can_again state shared n inv.can place l m lane used at.part on kept t t_same t_lanes (take k o.owned.items) T at.here left apart gave) then_lanes owned scans f fate
             (subst (AllZip (HasGiven (at.part ∷ drop (suc k) o.owned.items) (Freed f ∷ inv.fates)) o.lanes.items) (sym t_lanes)
             (given_more at.part (drop (suc k) o.owned.items) f inv.fates o.lanes.items n.lanes.items place l m (lanes_same state shared o.want.id o.most o.lanes.items n.lanes.items inv.lanes) apart lane on gave inv.pools))
 

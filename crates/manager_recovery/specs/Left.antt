@@ -16,7 +16,7 @@ use Rattle.log_segment.specs.Kept.{IsKeptOrIdle}
 use Rattle.log_segment.specs.Segment as segment
 use Rattle.log_segment.specs.Segment.{free_disk, free_volume}
 use Rattle.log_segment.specs.declared.free.FreeSegment.{FreeSegment}
-use Rattle.logger.specs.Lanes.{IsSameLane, logger_of, pool_of}
+use Rattle.logger.specs.Lanes.{AreAccesses, IsSameLane, logger_of, pool_of}
 use Rattle.logger.specs.declared.lane.Lane.{Lane}
 use Rattle.logger.specs.declared.shared.Shared.{Shared}
 use Rattle.manager_recovery.specs.Opening.{IsOpeningLane}
@@ -127,6 +127,7 @@ pub record IsHandedBack {D : Type 0} (tells : Bool) (state : D → State) (share
   pub spindle : IsSamePass o.spindle n.spindle
   pub spindle_free : IsFree n.spindle
   pub settled : has_token (pass_mine n.spindle) ≡ false
+  pub accesses : AreAccesses (pass_mine n.spindle)
   pub lanes : AllZip (IsUsedLane state shared o.want.id o.most) o.lanes.items n.lanes.items
   pub fates : List (Fate D)
   pub owned : n.owned.items ≡ kept_of fates

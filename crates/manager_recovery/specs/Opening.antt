@@ -8,7 +8,7 @@ use Rattle.spin_model.specs.Operations.{has_token}
 use Rattle.spin_model.specs.Spun.{state_of, volume_of}
 use Rattle.seg_pool.specs.Operations.{holds}
 use Rattle.log_layout.specs.Values.{shape_of}
-use Rattle.logger.specs.Lanes.{IsLane, IsAt, logger_of, lane_owner, held_in, taken_in, pool_of, pool_blocks, segments_in}
+use Rattle.logger.specs.Lanes.{IsLane, AreAccesses, IsAt, logger_of, lane_owner, held_in, taken_in, pool_of, pool_blocks, segments_in}
 use Rattle.logger.specs.declared.lane.Lane.{Lane}
 use Rattle.logger.specs.declared.shared.Shared.{Shared}
 use Rattle.manager.specs.Stands.{At}
@@ -66,6 +66,7 @@ pub record CanOpen {D : Type 0} (state : D → State) (shared : Shared D) (o : O
   pub spindle_volume : (pass_lock o.spindle).base.volume ≡ o.want.id
   pub spindle_free : IsFree o.spindle
   pub settled : has_token (pass_mine o.spindle) ≡ false
+  pub accesses : AreAccesses (pass_mine o.spindle)
   pub at : At shared o.want.id o.spindle o.lanes.items
   pub lanes : AllByRecursion (IsOpeningLane state shared o.want.id o.most) o.lanes.items
   -- one for each logger of the view that is present, in view order

@@ -8,7 +8,7 @@ ghost use Rattle.spin_model.specs.Spun.{state_of, volume_of};
 ghost use Rattle.seg_pool.specs.Holders.{Gave};
 ghost use Rattle.seg_pool.specs.Operations.{holds, operation_of};
 ghost use Rattle.log_segment.specs.Segment.{IsSegment, IsWhole, segment_volume, blocks_of, valid_of};
-ghost use Rattle.logger.specs.Lanes.{IsLane, IsAt, IsSameLane, logger_of, held_in, pool_of, pool_blocks};
+ghost use Rattle.logger.specs.Lanes.{IsLane, AreAccesses, IsAt, IsSameLane, logger_of, held_in, pool_of, pool_blocks};
 ghost use Rattle.log_scan.specs.declared.Found.{Found};
 ghost use Rattle.log_segment.specs.declared.free.FreeSegment.{FreeSegment};
 ghost use Rattle.manager_recovery.specs.Owned.{all_owned, AreIntact};
@@ -40,10 +40,12 @@ pub fn sync_part<R: Wait, D: Disk>(
     requires own { IsPassOf lock.now spindle.old }
     requires free { IsFree spindle.old }
     requires settled { has_token (pass_mine spindle.old) ≡ false }
+    requires accesses { AreAccesses (pass_mine spindle.old) }
     requires volume { (pass_lock spindle.old).base.volume ≡ volume_of part.old }
     ensures same { IsSamePass spindle.old spindle.new }
     ensures free { IsFree spindle.new }
     ensures settled { has_token (pass_mine spindle.new) ≡ false }
+    ensures accesses { AreAccesses (pass_mine spindle.new) }
     ensures part { IsAsBefore D.state part.old part.new }
     ensures values { OnOk result ((state_of D.state part.new).values ≡ option_map settled (state_of D.state part.old).values) }
     ensures cause { IsErr result → Rose (state_of D.state part.old).faults (state_of D.state part.new).faults }
@@ -84,6 +86,7 @@ fn free_segment<R: Wait, D: Disk>(
     ensures pool_free { IsFree (pool_of lane.new) }
     ensures spindle_free { IsFree lane.new.spindle }
     ensures settled { has_token (pass_mine lane.new.spindle) ≡ false }
+    ensures accesses { AreAccesses (pass_mine lane.new.spindle) }
     ensures kept { (i : ℕ) → i ≢ index → holds (pass_lock (pool_of lane.old)).base (pass_number (pool_of lane.old)) (pass_mine (pool_of lane.old)) i ≡ true
         → holds (pass_lock (pool_of lane.new)).base (pass_number (pool_of lane.new)) (pass_mine (pool_of lane.new)) i ≡ true }
     ensures gave { OnOk result (pass_mine (pool_of lane.new) ≡ pass_mine (pool_of lane.old) ++ (pass_number (pool_of lane.old), operation_of (Gave index)) ∷ []) }
@@ -128,6 +131,7 @@ fn retire_at<R: Wait, D: Disk>(
     ensures pool_free { IsFree (pool_of lane.new) }
     ensures spindle_free { IsFree lane.new.spindle }
     ensures settled { has_token (pass_mine lane.new.spindle) ≡ false }
+    ensures accesses { AreAccesses (pass_mine lane.new.spindle) }
     ensures kept { (o : OwnedPart D) (i : ℕ) → slice_get owned.old.items k ≡ Some o → i ≢ o.index
         → holds (pass_lock (pool_of lane.old)).base (pass_number (pool_of lane.old)) (pass_mine (pool_of lane.old)) i ≡ true
         → holds (pass_lock (pool_of lane.new)).base (pass_number (pool_of lane.new)) (pass_mine (pool_of lane.new)) i ≡ true }

@@ -2,6 +2,7 @@
 use Rattle.std.proofs.Common.{◌≡◌, ◌<◌, ◌≤◌, ◌+◌, ℕ, zero, suc, true, List, [], ◌∷◌, ◌++◌, length, Option, None, Some, refl, sym, ap, subst, ◌∙◌, arith}
 use Rattle.std.specs.Prelude.{IsTrue, slice_get, slice_index_or, map, replicate}
 use Rattle.std.specs.List.{AllByRecursion}
+use Rattle.std.proofs.lemmas.Bool.{false≢true}
 use Rattle.std.proofs.lemmas.Option.{same_Some, none-some}
 use Rattle.std.specs.declared.alloc.Global.{Global}
 use Rattle.std.specs.declared.vec.Vec.{Vec}
@@ -10,13 +11,14 @@ use Rattle.wol_disk.specs.Memory.{mem_state}
 use Rattle.wol_disk.specs.Zeros.{zeros}
 use Rattle.wol_disk.specs.declared.memory.MemDisk.{MemDisk}
 use Rattle.wol_disk.proofs.Images.{only_image}
-use Rattle.turn_lock.specs.Passes.{lock_id, pass_lock, pass_number}
+use Rattle.turn_lock.specs.Passes.{lock_id, pass_lock, pass_number, pass_mine}
 use Rattle.turn_lock.specs.declared.lock.TurnLock.{TurnLock}
 use Rattle.turn_lock.specs.declared.pass.PassOf.{PassOf}
 use Rattle.spin_model.specs.Spun.{state_of, volume_of}
 use Rattle.spin_model.specs.declared.spindle.Spindle.{Spindle}
 use Rattle.spin_model.specs.declared.spindle.SpindleBase.{SpindleBase}
 use Rattle.spin_model.specs.declared.spun.Spun.{Spun}
+use Rattle.seg_pool.specs.Operations.{holds}
 use Rattle.seg_pool.specs.declared.base.PoolBase.{PoolBase}
 use Rattle.seg_pool.specs.declared.pool.Pool.{Pool}
 use Rattle.log_segment.specs.Segment.{Holds, valid_of}
@@ -29,7 +31,7 @@ use Rattle.wol_model.specs.Log.{Record}
 use Rattle.wol_promise.specs.Manager.{Base, ManagerSeen, AreInUse}
 use Rattle.wol_promise.specs.Stands.{Upholds}
 use Rattle.wol_promise.proofs.Opens.{opens}
-use Rattle.logger.specs.Lanes.{AreWhole, IsAt, logger_of, held_in, pool_of, spindle_of}
+use Rattle.logger.specs.Lanes.{AreWhole, HoldsAll, IsAt, logger_of, held_in, pool_of, spindle_of}
 use Rattle.logger.specs.declared.lane.HeldSegment.{HeldSegment}
 use Rattle.logger.specs.declared.lane.Lane.{Lane}
 use Rattle.logger.specs.declared.shared.Shared.{Shared}
@@ -96,6 +98,9 @@ module _ (home : Spun MemDisk) (home_lock logger_lock : TurnLock Spindle Spindle
       (subst (AllByRecursion (λ (h : HeldSegment MemDisk). valid_of h.segment ≡ entries_at 0 h.index [])) (sym new.held) tt)
   counted (suc k) n is = absurd (none-some n is)
 
+  holds_none : HoldsAll l
+  holds_none i holding = absurd (false≢true (sym (of_pool.unheld i) ∙ (ap (λ (p : PassOf (Pool (FreeSegment MemDisk)) PoolBase). holds (pass_lock p).base (pass_number p) (pass_mine p) i) (sym new.pool_is) ∙ holding)))
+
   pub opened_ready : IsReady mem_state made
   opened_ready = record {
     ready = record {
@@ -104,7 +109,8 @@ module _ (home : Spun MemDisk) (home_lock logger_lock : TurnLock Spindle Spindle
       spindle_volume = of_home.volume_is;
       spindle_free = of_home.alone.free;
       settled = of_home.settled;
-      each = subst (AllByRecursion (IsReadyLane mem_state 0 4)) (sym one) (record { lane = new.lane; owner = new.owner; untaken = new.taken; long = long }, tt);
+      accesses = of_home.accesses;
+      each = subst (AllByRecursion (IsReadyLane mem_state 0 4)) (sym one) (record { lane = new.lane; owner = new.owner; untaken = new.taken; long = long; all = holds_none }, tt);
       flags = subst (λ (ls : List (Lane MemDisk)). length (replicate (length ls) true) ≡ length ls) (sym one) refl;
       rooms_ = subst (λ (ls : List (Lane MemDisk)). length (replicate (length ls) Unknown) ≡ length ls) (sym one) refl;
       few = subst (λ (ls : List (Lane MemDisk)). length ls ≤ 16) (sym one) (omega arith);

@@ -1,11 +1,13 @@
 -- Locks that have one pass each.
 use Rattle.std.specs.Prelude.{◌≡◌, ℕ, false, length}
-use Rattle.turn_lock.specs.Passes.{lock_passes, pass_lock, pass_mine, IsPassOf, IsFree}
+use Rattle.turn_lock.specs.Passes.{lock_passes, pass_lock, pass_number, pass_mine, IsPassOf, IsFree}
 use Rattle.turn_lock.specs.declared.lock.TurnLock.{TurnLock}
 use Rattle.turn_lock.specs.declared.pass.PassOf.{PassOf}
 use Rattle.spin_model.specs.Operations.{has_token}
 use Rattle.spin_model.specs.declared.spindle.Spindle.{Spindle}
 use Rattle.spin_model.specs.declared.spindle.SpindleBase.{SpindleBase}
+use Rattle.logger.specs.Lanes.{AreAccesses}
+use Rattle.seg_pool.specs.Operations.{holds}
 use Rattle.seg_pool.specs.declared.base.PoolBase.{PoolBase}
 use Rattle.seg_pool.specs.declared.pool.Pool.{Pool}
 
@@ -15,15 +17,17 @@ pub record HasOnePass {T B : Type 0} (lock : TurnLock T B) (pass : PassOf T B) :
   pub own : IsPassOf lock pass
   pub free : IsFree pass
 
--- the lock of a volume's spindle, whose one pass has no token
+-- the lock of a volume's spindle, whose one pass has no token and made accesses alone
 pub record HasSpindle (volume : ℕ) (lock : TurnLock Spindle SpindleBase) (pass : PassOf Spindle SpindleBase) : Type 0 where
   pub alone : HasOnePass lock pass
   pub volume_is : (pass_lock pass).base.volume ≡ volume
   pub settled : has_token (pass_mine pass) ≡ false
+  pub accesses : AreAccesses (pass_mine pass)
 
--- the lock of a volume's pool of one segment
+-- the lock of a volume's pool of one segment, which its one pass doesn't hold
 pub record HasPool {T : Type 0} (volume blocks : ℕ) (lock : TurnLock (Pool T) PoolBase) (pass : PassOf (Pool T) PoolBase) : Type 0 where
   pub alone : HasOnePass lock pass
   pub volume_is : (pass_lock pass).base.volume ≡ volume
   pub blocks_are : (pass_lock pass).base.blocks ≡ blocks
   pub few : length (pass_lock pass).base.holders ≡ 1
+  pub unheld : (index : ℕ) → holds (pass_lock pass).base (pass_number pass) (pass_mine pass) index ≡ false

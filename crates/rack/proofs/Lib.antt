@@ -11,3 +11,16 @@ pub mod StationBack
 pub mod PoolBack
 pub mod ListsBack
 pub mod BackInTurn
+pub mod Rows
+pub mod LanePut
+pub mod Together
+pub mod LanesPut
+pub mod Slots
+pub mod Emptying
+pub mod HomeMoved
+pub mod Filling
+pub mod Supplying
+pub mod Returned
+pub mod HeldPut
+pub mod Ended
+pub mod LaneTaken

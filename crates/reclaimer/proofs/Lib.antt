@@ -13,3 +13,8 @@ pub mod MoveHome
 pub mod Nexts
 pub mod ReadRecord
 pub mod Woken
+pub mod TakenOff
+pub mod Dues
+pub mod Counted
+pub mod CountedDrain
+pub mod CountedGone

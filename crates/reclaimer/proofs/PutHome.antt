@@ -1,32 +1,34 @@
 -- A call that puts fetched blocks home, by its answers.
 use Rattle.std.proofs.Common.{◌≡◌, ◌≢◌, ◌<◌, ◌≤◌, ◌+◌, ◌^◌, ℕ, Bool, true, false, ◌&&◌, List, length, take, Option, None, Some, Result, Ok, Err, is_ok, refl, sym, ap, subst, ◌∙◌, eqb}
-use Rattle.std.specs.Prelude.{IsTrue, is_some}
+use Rattle.std.specs.Prelude.{IsTrue, is_some, count_by}
 use Rattle.std.specs.Int.RustNames.{count_ones}
 use Rattle.std.specs.Option.{option_map_or}
 use Rattle.std.proofs.lemmas.Bool.{and_parts, eqb-true, false≢true}
 use Rattle.std.proofs.lemmas.Nat.{zero_from_ones}
 use Rattle.wol_disk.specs.Disk.{State, Block, IsDisk}
 use Rattle.wol_model.specs.History.{writes}
-use Rattle.wol_model.specs.Index.{Indexed, listed_in, is_due}
+use Rattle.wol_model.specs.Index.{Indexed, listed_in, is_due, block_numbers, left}
 use Rattle.wol_model.specs.Log.{has_bit}
 use Rattle.wol_promise.specs.Policy.{IsReclaim}
 use Rattle.wol_promise.specs.Ruled.{Noted, entries_of}
 use Rattle.wol_promise.specs.Stands.{IsDataOf}
-use Rattle.redirect_map.specs.Index.{Contents, entry_at, HasVersion, IsIndex}
+use Rattle.redirect_map.specs.Index.{Contents, entry_at, changed, HasVersion, IsIndex}
 use Rattle.redirect_map.specs.Masks.{IsMask, in_mask}
-use Rattle.manager.specs.Reclaim.{OnTried, OnFailed, TellsStep, BreaksOff, StopsSince, AreOf, HasStored}
+use Rattle.manager.specs.Reclaim.{OnTried, OnFailed, TellsStep, BreaksOff, StopsSince, AreOf, HasStored, with_put}
 use Rattle.manager.specs.Seen.{look_of_manager}
 use Rattle.manager.specs.declared.base.ManagerBase.{ManagerBase}
 use Rattle.manager.specs.declared.manager.Manager.{Manager}
 use Rattle.manager.specs.declared.part.StepFault.{StepFault}
 use Rattle.manager.specs.declared.part.StepFault.TheVariants.{DiskFault, Down}
 use Rattle.manager.proofs.ReadThrough.{through_self}
+use Rattle.reclaimer.specs.Counts.{TakesOff, CountsPut}
 use Rattle.reclaimer.specs.Fetches.{HasData, is_still_due, goes_home, home_count}
 use Rattle.reclaimer.specs.Records.{FetchedRecord, record_of}
 use Rattle.reclaimer.specs.Steps.{HasPutHome, StopsWithin}
 use Rattle.reclaimer.specs.declared.room.Filled.{Filled}
+use Rattle.reclaimer.proofs.Counted.{index_stays, put_takes, ones_of_mask, lowered_by_mask}
 use Rattle.reclaimer.proofs.Counting.{count_nothing}
-use Rattle.reclaimer.proofs.GiveUp.{some_and}
+use Rattle.reclaimer.proofs.GiveUp.{some_and, done_then}
 use Rattle.reclaimer.proofs.Moments.{at_rest}
 use Rattle.reclaimer.proofs.Putting.{seen, mask_is, counted_home, none_goes, empty_where, stored_as, put_reclaims}
 
@@ -93,23 +95,49 @@ module _ {D : Type 0} (state : D → State) (m : Manager D) (f : Filled) (blocks
       )
       was_refused T (Down p) told h = told.1
 
-      -- the look goes on by a step of reclaim
-      pub was_reclaimed : {T : Type 0} (r : Result T StepFault) → is_ok r ≡ true → HasStored state f.version put (take f.count lent) m new r → IsIndex index.entries → HasVersion index.entries f.version → IsReclaim (look_of_manager m) (look_of_manager new)
-      was_reclaimed r done h sound there = at (entry_at m.index.entries f.version) refl (subst (λ (i : Contents). HasVersion i.entries f.version) same there)
-          (λ e is_its. put_reclaims state f.version put (take f.count lent) m new r done h up (subst (λ (i : Contents). IsIndex i.entries) same sound) e is_its (due_bits e is_its))
-        where
-          at : (o : Option Indexed) → entry_at m.index.entries f.version ≡ o → is_some o ≡ true → ((e : Indexed) → entry_at m.index.entries f.version ≡ Some e → IsReclaim (look_of_manager m) (look_of_manager new)) → IsReclaim (look_of_manager m) (look_of_manager new)
-          at None is_none some_ so = absurd (false≢true some_)
-          at (Some e) is_some_ some_ so = so e is_some_
+      due_bits : (e : Indexed) → entry_at m.index.entries f.version ≡ Some e → (i : ℕ) → has_bit put i ≡ true → is_due (listed_in m.index.entries) e.listed (e.listed.first + i) ≡ true
+      due_bits e is_its i bit =
+          let test = λ (x : Indexed). eqb x.listed.first f.lbn && (eqb (length x.listed.keep) f.count && is_due (listed_in m.index.entries) x.listed (f.lbn + i)) in
+          let all = and_parts (in_mask f.lbn f.due (f.lbn + i)) (option_map_or test (entry_at m.index.entries f.version) false) (sym (masked i) ∙ bit) in
+          let passes : test e ≡ true = ap (λ (o : Option Indexed). option_map_or test o false) (sym is_its) ∙ all.1 in
+          let one = and_parts (eqb e.listed.first f.lbn) (eqb (length e.listed.keep) f.count && is_due (listed_in m.index.entries) e.listed (f.lbn + i)) passes in
+          let two = and_parts (eqb (length e.listed.keep) f.count) (is_due (listed_in m.index.entries) e.listed (f.lbn + i)) one.1 in
+          subst (λ (b : ℕ). is_due (listed_in m.index.entries) e.listed (b + i) ≡ true) (sym (eqb-true e.listed.first f.lbn one.0)) two.1
 
-          due_bits : (e : Indexed) → entry_at m.index.entries f.version ≡ Some e → (i : ℕ) → has_bit put i ≡ true → is_due (listed_in m.index.entries) e.listed (e.listed.first + i) ≡ true
-          due_bits e is_its i bit =
-              let test = λ (x : Indexed). eqb x.listed.first f.lbn && (eqb (length x.listed.keep) f.count && is_due (listed_in m.index.entries) x.listed (f.lbn + i)) in
-              let all = and_parts (in_mask f.lbn f.due (f.lbn + i)) (option_map_or test (entry_at m.index.entries f.version) false) (sym (masked i) ∙ bit) in
-              let passes : test e ≡ true = ap (λ (o : Option Indexed). option_map_or test o false) (sym is_its) ∙ all.1 in
-              let one = and_parts (eqb e.listed.first f.lbn) (eqb (length e.listed.keep) f.count && is_due (listed_in m.index.entries) e.listed (f.lbn + i)) passes in
-              let two = and_parts (eqb (length e.listed.keep) f.count) (is_due (listed_in m.index.entries) e.listed (f.lbn + i)) one.1 in
-              subst (λ (b : ℕ). is_due (listed_in m.index.entries) e.listed (b + i) ≡ true) (sym (eqb-true e.listed.first f.lbn one.0)) two.1
+      module _ {T : Type 0} (r : Result T StepFault) (done : is_ok r ≡ true) (h : HasStored state f.version put (take f.count lent) m new r) (sound : IsIndex index.entries) (there : HasVersion index.entries f.version) where
+        sound_still : IsIndex m.index.entries
+        sound_still = subst (λ (i : Contents). IsIndex i.entries) same sound
+
+        entry : (e : Indexed) × (entry_at m.index.entries f.version ≡ Some e)
+        entry = at (entry_at m.index.entries f.version) refl (subst (λ (i : Contents). HasVersion i.entries f.version) same there)
+          where
+            at : (o : Option Indexed) → entry_at m.index.entries f.version ≡ o → is_some o ≡ true → (e : Indexed) × (entry_at m.index.entries f.version ≡ Some e)
+            at None is_none some_ = absurd (false≢true some_)
+            at (Some e) is_some_ some_ = (e, is_some_)
+
+        -- the look goes on by a step of reclaim
+        pub was_reclaimed : IsReclaim (look_of_manager m) (look_of_manager new)
+        was_reclaimed = put_reclaims state f.version put (take f.count lent) m new r done h up sound_still entry.0 entry.1 (due_bits entry.0 entry.1)
+
+        marked : new.index.entries ≡ changed f.version (with_put put) m.index.entries
+        marked = done_then _ r done h.ok
+
+        ones : count_ones put ≡ count_by (in_mask entry.0.listed.first put) (block_numbers entry.0.listed)
+        ones = ones_of_mask m.index.entries new.index.entries sound_still f.version entry.0 entry.1 put (due_bits entry.0 entry.1) marked fits
+
+        -- the blocks that went home were due
+        pub was_counted : TakesOff (count_ones put) 0 (look_of_manager m) (look_of_manager new)
+        was_counted = put_takes m new sound_still f.version entry.0 entry.1 put (due_bits entry.0 entry.1) marked (count_ones put) (sym ones)
+
+        -- less is left
+        pub was_lowered : 0 < count_ones put → left (listed_in new.index.entries) < left (listed_in m.index.entries)
+        was_lowered some_ = lowered_by_mask m.index.entries new.index.entries sound_still f.version entry.0 entry.1 put (due_bits entry.0 entry.1) marked (subst (λ (n : ℕ). 0 < n) ones some_)
+
+-- home failed: as many blocks are due as before
+pub refused_counted : {D : Type 0} (T : Type 0) (state : D → State) (version mask : ℕ) (blocks : List Block) (old new : Manager D) (fault : StepFault) → TellsStep {T = T} state (Err fault) old new
+    → OnTried {T = T} (Err fault) (HasStored {T = T} state version mask blocks old new (Err fault)) → CountsPut (Err fault) (look_of_manager old) (look_of_manager new)
+refused_counted T state version mask blocks old new (DiskFault p) told h = index_stays old new h.err
+refused_counted {D} T state version mask blocks old new (Down p) told h = index_stays old new (ap (λ (k : Manager D). k.index) told.1)
 
 -- ---- moments
 

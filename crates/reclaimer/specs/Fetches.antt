@@ -1,5 +1,5 @@
 -- Which record is fetched, whose data a fetch has, and which of its blocks go home.
-use Rattle.std.specs.Prelude.{⊤, ◌≡◌, ◌==◌, ◌&&◌, ◌++◌, ℕ, Bool, false, List, find, length, Option, None, Some, IsTrue, count_by, if◌then◌else◌}
+use Rattle.std.specs.Prelude.{⊤, ◌≡◌, ◌<◌, ◌==◌, ◌&&◌, ◌++◌, ℕ, Bool, false, List, find, length, Option, None, Some, Result, Ok, Err, IsTrue, count_by, if◌then◌else◌}
 use Rattle.std.specs.List.{range_with_len}
 use Rattle.std.specs.Option.{option_map_or}
 use Rattle.wol_model.specs.History.{writes}
@@ -11,7 +11,10 @@ use Rattle.redirect_map.specs.Masks.{in_mask, IsMask}
 use Rattle.garbage_list.specs.Least.{can_go, can_go_home}
 use Rattle.manager.specs.declared.base.ManagerBase.{ManagerBase}
 use Rattle.manager.specs.declared.manager.Manager.{Manager}
+use Rattle.manager.specs.declared.part.StepFault.{StepFault}
 use Rattle.reclaimer.specs.Records.{FetchedRecord}
+use Rattle.reclaimer.specs.declared.answers.Fetched.{Fetched}
+use Rattle.reclaimer.specs.declared.answers.Fetched.TheVariants as fetched
 
 -- ---- Which record is next
 
@@ -57,3 +60,9 @@ goes_home m (Some f) b = m.home_up && is_still_due m.index.entries f.version f.f
 abbrev pub home_count : {D : Type 0} → Manager D → Option FetchedRecord → ℕ
 home_count m None = 0
 home_count m (Some f) = count_by (goes_home m (Some f)) (range_with_len f.first (length f.blocks))
+
+-- what was fetched has such a block
+abbrev pub FindsDue : {D : Type 0} → Result Fetched StepFault → Manager D → Option FetchedRecord → Type 0
+FindsDue (Ok (fetched.Some version count)) m into = 0 < home_count m into
+FindsDue (Ok fetched.Nothing) m into = ⊤
+FindsDue (Err fault) m into = ⊤

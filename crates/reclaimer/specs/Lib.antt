@@ -1,3 +1,4 @@
+pub mod Counts
 pub mod Drains
 pub mod Fetches
 pub mod Records

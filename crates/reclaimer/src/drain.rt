@@ -2,11 +2,12 @@
 ghost use Rattle.std.specs.Prelude.{◌≡◌, ◌↔◌, ◌≤◌, ℕ, List, [], true, None, Ok, IsTrue, IsSomeAnd, length};
 ghost use Rattle.wol_model.specs.Index.{listed_in, has_due};
 ghost use Rattle.wol_promise.specs.Policy.{drained};
-ghost use Rattle.redirect_map.specs.Index.{entry_at};
+ghost use Rattle.redirect_map.specs.Index.{IsIndex, entry_at};
 ghost use Rattle.manager.specs.Reclaim.{OnTried, OnKept, OnFailed, TellsStep, KeepsOn, BreaksOff, StopsSince, Always};
 ghost use Rattle.manager.specs.Seen.{look_of_manager};
 ghost use Rattle.manager.specs.Stands.{IsReady, IsHome, nones_at};
 ghost use Rattle.manager.specs.declared.base.LaneBase.{LaneBase};
+ghost use Rattle.reclaimer.specs.Counts.{CountsMoved};
 ghost use Rattle.reclaimer.specs.Drains.{HasMoved, Drains, HasDrained, Lowers};
 ghost use Rattle.reclaimer.specs.Steps.{StopsWithin};
 
@@ -68,6 +69,7 @@ fn drain_awake<R: Wait, D: Disk>(
     ensures at { IsHome shared.now m.new }
     ensures fault { TellsStep D.state result m.old m.new }
     ensures drains { Drains D.state m.old m.new result }
+    ensures index { IsIndex m.old.index.entries }
     ensures lowers { Lowers result m.old m.new }
     ensures look { drained (look_of_manager m.new) ≡ drained (look_of_manager m.old) }
     ensures keeps { OnKept result (KeepsOn D.tells D.state m.old m.new Always) }
@@ -114,6 +116,9 @@ pub fn drain_step<R: Wait, D: Disk>(
 
     // A drain ends: each step lowers the kept blocks and the due blocks together.
     ensures lowers { Lowers result m.old m.new }
+
+    // What it answers went home and is gone.
+    ensures counted { CountsMoved result (look_of_manager m.old) (look_of_manager m.new) }
 
     // It goes on to the look of which all is drained, whose flags a step sets as far as it woke disks.
     ensures look { drained (look_of_manager m.new) ≡ drained (look_of_manager m.old) }

@@ -1,7 +1,9 @@
 // What may go of a record is given up.
 ghost use Rattle.std.specs.Prelude.{◌≡◌, ◌↔◌, None, Ok, IsTrue};
 ghost use Rattle.manager.specs.Reclaim.{OnKept, OnFailed, TellsStep, KeepsOn, BreaksOff, Always};
+ghost use Rattle.manager.specs.Seen.{look_of_manager};
 ghost use Rattle.manager.specs.Stands.{IsReady, IsHome};
+ghost use Rattle.reclaimer.specs.Counts.{CountsGone, LowersGone};
 ghost use Rattle.reclaimer.specs.Fetches.{going_entry};
 ghost use Rattle.reclaimer.specs.Steps.{HasGivenUp, LooksGone, StopsWithin};
 
@@ -29,6 +31,10 @@ pub fn invalidate_one<R: Wait, D: Disk>(
     ensures nothing { (result ≡ Ok Gone.Nothing) ↔ ((m.old.down ≡ None) × (going_entry m.old ≡ None)) }
     ensures gone { HasGivenUp result m.old m.new }
     ensures look { LooksGone result m.old m.new }
+
+    // One record fewer is listed where it is gone. No block ceases to be due.
+    ensures counted { CountsGone result (look_of_manager m.old) (look_of_manager m.new) }
+    ensures lowers { LowersGone result m.old m.new }
     ensures keeps { OnKept result (KeepsOn D.tells D.state m.old m.new Always) }
     ensures broke { OnFailed result (BreaksOff D.tells D.state m.old m.new Always) }
     ensures any_moment { IsTrue D.tells → StopsWithin D.tells D.state m.old m.new Always }

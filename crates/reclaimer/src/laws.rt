@@ -2,6 +2,7 @@
 ghost use Rattle.std.specs.Prelude.{◌≡◌, None};
 ghost use Rattle.wol_promise.specs.Policy.{IsIdleLook};
 ghost use Rattle.manager.specs.Seen.{look_of_manager};
+ghost use Rattle.reclaimer.specs.Counts.{NothingTaken, TakenAddsUp};
 ghost use Rattle.reclaimer.specs.Fetches.{DataIsKept, due_entry, going_entry};
 
 use manager::Manager;
@@ -15,4 +16,10 @@ pub fn fetch_laws()
 /// Where `fetch` and `invalidate_one` find nothing, nothing is left to reclaim while the disks that are asleep stay asleep.
 pub fn idle_laws<D: Disk>(_m: &Manager<D>)
     ensures idle { due_entry _m.now ≡ None → going_entry _m.now ≡ None → IsIdleLook (look_of_manager _m.now) }
+{}
+
+/// What steps in a row take off adds up.
+pub fn count_laws()
+    ensures adds { TakenAddsUp }
+    ensures none { NothingTaken }
 {}

@@ -3,11 +3,13 @@ ghost use Rattle.std.specs.Prelude.{◌≡◌, ◌↔◌, ◌<◌, ◌+◌, ℕ,
 ghost use Rattle.std.specs.Option.{ForSome};
 ghost use Rattle.std.specs.List.{range_with_len};
 ghost use Rattle.wol_model.specs.Log.{has_bit};
-ghost use Rattle.wol_model.specs.Index.{listed_in, is_due};
+ghost use Rattle.wol_model.specs.Index.{listed_in, is_due, left};
 ghost use Rattle.redirect_map.specs.Masks.{IsMask};
 ghost use Rattle.redirect_map.specs.Index.{entry_at, HasVersion, IsIndex};
 ghost use Rattle.manager.specs.Reclaim.{OnKept, OnFailed, TellsStep, KeepsOn, BreaksOff};
+ghost use Rattle.manager.specs.Seen.{look_of_manager};
 ghost use Rattle.manager.specs.Stands.{IsReady, IsHome};
+ghost use Rattle.reclaimer.specs.Counts.{CountsPut};
 ghost use Rattle.reclaimer.specs.Fetches.{HasData, is_still_due, goes_home, home_count};
 ghost use Rattle.reclaimer.specs.Steps.{HasPutHome, LooksPut, StopsWithin};
 
@@ -54,6 +56,10 @@ pub fn put_home<R: Wait, D: Disk>(
     ensures none { (result ≡ Ok 0) ↔ ((m.old.down ≡ None) × ((b : ℕ) → goes_home m.old from.now b ≡ false)) }
     ensures put { HasPutHome D.state result m.old m.new from.now }
     ensures look { LooksPut result m.old m.new }
+
+    // The count is that of the due blocks that are due no longer.
+    ensures counted { CountsPut result (look_of_manager m.old) (look_of_manager m.new) }
+    ensures lowers { IfOk result (λ count. 0 < count → left (listed_in m.new.index.entries) < left (listed_in m.old.index.entries)) }
 
     // The premise is that the fetch has the data of its version: so it is where this volume's manager filled it.
     ensures keeps { OnKept result (KeepsOn D.tells D.state m.old m.new (HasData D.tells from.now)) }

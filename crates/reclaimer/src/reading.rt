@@ -5,7 +5,7 @@ ghost use Rattle.manager.specs.Reclaim.{OnKept, OnFailed, TellsStep, KeepsOn, Br
 ghost use Rattle.manager.specs.Seen.{look_of_manager};
 ghost use Rattle.manager.specs.Stands.{Keeps, IsReady, IsHome};
 ghost use Rattle.manager.specs.declared.base.ManagerBase.{ManagerBase};
-ghost use Rattle.reclaimer.specs.Fetches.{HasData, due_entry};
+ghost use Rattle.reclaimer.specs.Fetches.{FindsDue, HasData, due_entry};
 ghost use Rattle.reclaimer.specs.Steps.{HasFetchedNext, StopsWithin};
 
 use crate::next::due_next;
@@ -33,6 +33,9 @@ pub fn fetch<R: Wait, D: Disk>(
     ensures fault { TellsStep D.state result m.old m.new }
     ensures nothing { (result ≡ Ok Fetched.Nothing) ↔ ((m.old.down ≡ None) × (due_entry m.old ≡ None)) }
     ensures fetched { HasFetchedNext result m.old m.new into.new }
+
+    // So `put_home` in the same turn answers more than 0.
+    ensures due { FindsDue result m.new into.new }
 
     // What was fetched stays the data of its version, whatever is written later (`fetch_laws`).
     ensures content { (b : ManagerBase) (notes : List Noted) → Keeps D.tells D.state m.old b notes → HasData D.tells into.new b notes }

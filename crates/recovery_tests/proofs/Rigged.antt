@@ -1,19 +1,22 @@
 -- A volume that may be opened, and its passes once it was opened or refused.
-use Rattle.std.proofs.Common.{◌≡◌, ◌<◌, ◌≤◌, ◌^◌, ℕ, true, false, Bool, List, [], ◌∷◌, length, Option, None, Some, refl, sym, ap, subst, ◌∙◌, arith, inr}
-use Rattle.std.specs.Prelude.{slice_index_or, map, filter, SomeIff}
+use Rattle.std.proofs.Common.{◌≡◌, ◌<◌, ◌≤◌, ◌^◌, ℕ, zero, suc, true, false, Bool, List, [], ◌∷◌, length, Option, None, Some, refl, sym, ap, subst, ◌∙◌, arith, inr}
+use Rattle.std.specs.Prelude.{slice_index_or, map, filter, Contains, SomeIff}
 use Rattle.std.specs.List.{AllByRecursion, AllZip}
 use Rattle.std.proofs.lemmas.Option.{same_Some}
 use Rattle.wol_disk.specs.Disk.{Block, Values, reads, only}
 use Rattle.wol_disk.specs.Memory.{mem_state}
 use Rattle.wol_disk.specs.declared.memory.MemDisk.{MemDisk}
 use Rattle.wol_disk.proofs.Images.{reads_only}
+use Rattle.turn_lock.specs.Histories.{Entry}
 use Rattle.turn_lock.specs.Passes.{lock_id, pass_lock, pass_number, pass_mine, IsFree, IsSamePass}
 use Rattle.turn_lock.specs.declared.lock.TurnLock.{TurnLock}
 use Rattle.turn_lock.specs.declared.pass.PassOf.{PassOf}
 use Rattle.spin_model.specs.Spun.{state_of, volume_of}
 use Rattle.spin_model.specs.declared.spindle.Spindle.{Spindle}
 use Rattle.spin_model.specs.declared.spindle.SpindleBase.{SpindleBase}
+use Rattle.seg_pool.specs.Holders.{holder, is_held_by}
 use Rattle.seg_pool.specs.Operations.{holds}
+use Rattle.seg_pool.specs.declared.base.Holder.{Holder}
 use Rattle.seg_pool.specs.declared.base.PoolBase.{PoolBase}
 use Rattle.seg_pool.specs.declared.pool.Pool.{Pool}
 use Rattle.log_layout.specs.declared.label.Label.{Label}
@@ -25,7 +28,7 @@ use Rattle.manager.specs.Stands.{IsReadyLane}
 use Rattle.manager.specs.declared.manager.Manager.{Manager}
 use Rattle.manager_recovery.specs.Left.{IsHandedBack, IsUsedLane}
 use Rattle.manager_recovery.specs.Opened.{Opens}
-use Rattle.manager_recovery.specs.Opening.{AreInOrder, CanOpen, place_of, IsOpeningLane, IsOwned, IsHeldIn, SaysOwner}
+use Rattle.manager_recovery.specs.Opening.{AreInOrder, CanOpen, HoldsOwned, place_of, IsOpeningLane, IsOwned, IsHeldIn, SaysOwner}
 use Rattle.manager_recovery.specs.declared.opening.Opening.{Opening}
 use Rattle.manager_recovery.specs.declared.opening.OwnedPart.{OwnedPart}
 use Rattle.manager_tests.specs.Locked.{HasOnePass, HasSpindle}
@@ -42,6 +45,12 @@ says o is vs told = (
   _,
   ap (λ (ws : List (Values Block)). reads ws) (same_Some vs (only is.kept.bs) (sym told ∙ is.kept.settled)) ∙ (reads_only is.kept.bs ∙ is.kept.log.joined),
 )
+
+-- an index that a pass holds is one of the pool's
+held_within : (hs : List Holder) (n i : ℕ) → is_held_by n (holder hs i) ≡ true → i < length hs
+held_within [] n i is = cc
+held_within (h ∷ hs) n zero is = omega arith
+held_within (h ∷ hs) n (suc i) is = let lt = held_within hs n i is in omega arith
 
 module _ (shared : Shared MemDisk) (own_lock pool_lock : TurnLock (Pool (FreeSegment MemDisk)) PoolBase) (home_lock logger_lock : TurnLock Spindle SpindleBase)
     (own pool : PassOf (Pool (FreeSegment MemDisk)) PoolBase) (logger_pass : PassOf Spindle SpindleBase) (o : Opening MemDisk) (l : Lane MemDisk) (a b : OwnedPart MemDisk)
@@ -93,6 +102,22 @@ module _ (shared : Shared MemDisk) (own_lock pool_lock : TurnLock (Pool (FreeSeg
     held = subst (AllByRecursion (λ (m : Lane MemDisk). logger_of m ≡ c.logger → IsHeldIn mem_state c m)) (sym sole) ((λ same. held_in_lane c is below holding), tt);
   }
 
+  -- its pass holds no other segments
+  holds_owned : a.logger ≡ 1 → a.index ≡ 0 → b.logger ≡ 1 → b.index ≡ 1 → HoldsOwned (a ∷ b ∷ []) l
+  holds_owned a_logger a_index b_logger b_index i holding = among i below
+    where
+      among : (i : ℕ) → i < 2 → Contains (map place_of (a ∷ b ∷ [])) (logger_of l, i)
+      among zero lt = (0, omega arith, λ k. ((a_logger ∙ sym first.logger_is) k, a_index k))
+      among (suc zero) lt = (1, omega arith, λ k. ((b_logger ∙ sym first.logger_is) k, b_index k))
+      among (suc (suc i)) lt = absurd (omega arith)
+
+      has : holds (pass_lock pool).base (pass_number pool) [] i ≡ true
+      has = ap (λ (es : List Entry). holds (pass_lock pool).base (pass_number pool) es i) (sym two.unused)
+          ∙ (ap (λ (p : PassOf (Pool (FreeSegment MemDisk)) PoolBase). holds (pass_lock p).base (pass_number p) (pass_mine p) i) (sym first.pool_is) ∙ holding)
+
+      below : i < 2
+      below = let few = two.few in let lt = held_within (pass_lock pool).base.holders (pass_number pool) i has in omega (arith, few, lt)
+
   -- the opening of such parts
   pub can : (home : ℕ) → 1 ≤ home → home ≤ 2 ^ 32 → o.want ≡ record { id = 0; home = home; segments = 2; segment_blocks = 16 } → o.view ≡ 1 ∷ [] → o.present.items ≡ true ∷ true ∷ [] → o.most ≡ 4
       → volume_of o.home ≡ 0 → (state_of mem_state o.home).size ≡ home → o.owned.items ≡ a ∷ b ∷ []
@@ -112,6 +137,7 @@ module _ (shared : Shared MemDisk) (own_lock pool_lock : TurnLock (Pool (FreeSeg
         spindle_volume = of_home.volume_is ∙ sym id;
         spindle_free = of_home.alone.free;
         settled = of_home.settled;
+        accesses = of_home.accesses;
         at = record {
           spindle_in = let e = shared.spindles.ok.0 ∙ ap length spindles in omega (arith, e, id);
           spindle_is = λ d. of_home.alone.own
@@ -126,6 +152,8 @@ module _ (shared : Shared MemDisk) (own_lock pool_lock : TurnLock (Pool (FreeSeg
             ((inr (a_logger ∙ sym b_logger, omega (arith, a_index, b_index)), tt), (tt, tt));
         owned = subst (AllByRecursion (IsOwned mem_state o.lanes.items)) (sym owns)
             (owned a a_part (omega (arith, a_block)) (omega (arith, a_index)) held_a, (owned b b_part (omega (arith, b_block)) (omega (arith, b_index)) held_b, tt));
+        all = subst (λ (os : List (OwnedPart MemDisk)). AllByRecursion (HoldsOwned os) o.lanes.items) (sym owns)
+            (subst (AllByRecursion (HoldsOwned (a ∷ b ∷ []))) (sym sole) (holds_owned a_logger a_index b_logger b_index, tt));
         heads = subst (λ (k : ℕ). AllByRecursion (SaysOwner mem_state k) o.owned.items) (sym id)
             (subst (AllByRecursion (SaysOwner mem_state 0)) (sym owns) (says a a_part, (says b b_part, tt)));
       }

@@ -24,11 +24,12 @@ use Rattle.manager_tests.specs.Locked.{HasOnePass}
 use Rattle.manager_tests.specs.Rigs.{AreTwoLocks}
 use Rattle.recovery_tests.specs.declared.rig.Rig.{Rig}
 
--- the pass of the pool of volume 1 holds both segments of it
+-- the pass of the pool of volume 1, which made no turn yet, holds both segments of it
 pub record HasTwoHeld (pass : PassOf (Pool (FreeSegment MemDisk)) PoolBase) : Type 0 where
   pub volume_is : (pass_lock pass).base.volume ≡ 1
   pub blocks_are : (pass_lock pass).base.blocks ≡ 16
   pub few : length (pass_lock pass).base.holders ≡ 2
+  pub unused : pass_mine pass ≡ []
   pub first : holds (pass_lock pass).base (pass_number pass) (pass_mine pass) 0 ≡ true
   pub second : holds (pass_lock pass).base (pass_number pass) (pass_mine pass) 1 ≡ true
 

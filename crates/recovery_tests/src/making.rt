@@ -2,6 +2,7 @@
 ghost use Rattle.std.specs.Prelude.{◌≡◌, ◌≤◌, ◌<◌, ◌^◌, ◌∷◌, [], false, length, IfSome};
 ghost use Rattle.turn_lock.specs.Passes.{pass_lock, pass_mine, IsFree};
 ghost use Rattle.spin_model.specs.Operations.{has_token};
+ghost use Rattle.logger.specs.Lanes.{AreAccesses};
 ghost use Rattle.logger.specs.declared.lane.Lane.{Lane};
 ghost use Rattle.manager_tests.specs.Locked.{HasOnePass};
 ghost use Rattle.recovery_tests.specs.Rigs.{HavePasses, IsFirstLane, IsOwnedPart, IsRig};
@@ -50,6 +51,7 @@ fn lanes<R: Abort>(
     requires few { length (pass_lock pool).base.holders ≡ 2 }
     requires spindle_volume { (pass_lock spindle).base.volume ≡ 1 }
     requires settled { has_token (pass_mine spindle) ≡ false }
+    requires accesses { AreAccesses (pass_mine spindle) }
     requires free { IsFree pool × IsFree spindle }
     ensures { (l : Lane _) × (result.items ≡ l ∷ []) × IsFirstLane pool spindle l }
 {

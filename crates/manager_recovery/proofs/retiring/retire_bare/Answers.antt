@@ -187,7 +187,7 @@ loop-k-preserved g c =
     let a = c.in-Ok.ensures in
     let w = a.ok.1 at.part at.part_at in
     let fate = subst (λ (q : Opening g.row.D.Denot). IsFateOf state q.want.id at.part (Freed w.0)) inv.same w.1 in
-    freed state s sound o was o.want.home scanned n is (k - 1) inv at c.in-Some.place l lane.0 c.retire_at.new.lane a.same a.rest a.pool_free a.spindle_free a.settled _ refl refl none lane.1 (λ i other has. a.kept at.part i at.part_at other has) a.ok.0 c.remove.new.self.items c.remove.ensures.items w.0 fate
+    freed state s sound o was o.want.home scanned n is (k - 1) inv at c.in-Some.place l lane.0 c.retire_at.new.lane a.same a.rest a.pool_free a.spindle_free a.settled a.accesses _ refl refl none lane.1 (λ i other has. a.kept at.part i at.part_at other has) a.ok.0 c.remove.new.self.items c.remove.ensures.items w.0 fate
     (lanes_apart state s sound o was o.want.home scanned c.requires.named n is (suc (k - 1)) inv c.ids.ensures.valid) (a.gave at.part at.part_at)
 
 pub returns-in-Err-clause-parts : goal.returns-in-Err-clause-parts
@@ -204,7 +204,7 @@ returns-in-Err-clause-parts g c =
     let a = c.in-Err.ensures in
     let w = a.err at.part at.part_at in
     let fate = subst (λ (q : Opening g.row.D.Denot). IsFateOf state q.want.id at.part (Kept w.0)) inv.same w.2 in
-    failed state s sound o was o.want.home scanned n is (k - 1) inv at c.in-Some.place l lane.0 c.retire_at.new.lane a.same a.rest a.pool_free a.spindle_free a.settled _ refl refl w.0 fate w.1 a.gave_none
+    failed state s sound o was o.want.home scanned n is (k - 1) inv at c.in-Some.place l lane.0 c.retire_at.new.lane a.same a.rest a.pool_free a.spindle_free a.settled a.accesses _ refl refl w.0 fate w.1 a.gave_none
 
 pub returns-in-Err-clause-err : goal.returns-in-Err-clause-err
 returns-in-Err-clause-err g c =

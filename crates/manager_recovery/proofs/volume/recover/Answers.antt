@@ -52,7 +52,7 @@ returns-in-Err-index_of-clause-err g c =
 
 pub returns-in_default-synced-clause-parts : goal.returns-in_default-synced-clause-parts
 returns-in_default-synced-clause-parts g c =
-    handed_read g.D.Disk.tells g.D.Disk.state g.met.D.Disk.sound g.met.D.Disk.told c.args.shared.now c.args.opening.now c.scan_all.new.opening c.sync_part-synced.new.part c.sync_part-synced.new.spindle c.scan_all.ensures.parts c.sync_part-synced.ensures.part c.sync_part-synced.ensures.same c.sync_part-synced.ensures.free c.sync_part-synced.ensures.settled
+    handed_read g.D.Disk.tells g.D.Disk.state g.met.D.Disk.sound g.met.D.Disk.told c.args.shared.now c.args.opening.now c.scan_all.new.opening c.sync_part-synced.new.part c.sync_part-synced.new.spindle c.scan_all.ensures.parts c.sync_part-synced.ensures.part c.sync_part-synced.ensures.same c.sync_part-synced.ensures.free c.sync_part-synced.ensures.settled c.sync_part-synced.ensures.accesses
 
 pub returns-in_default-synced-clause-err : goal.returns-in_default-synced-clause-err
 returns-in_default-synced-clause-err g c =
@@ -82,12 +82,12 @@ returns-in-Ok-retire_bare-clause-ok g c =
 pub returns-in-Ok-retire_bare-clause-parts : goal.returns-in-Ok-retire_bare-clause-parts
 returns-in-Ok-retire_bare-clause-parts g c =
     handed_thinned g.D.Disk.tells g.D.Disk.state g.met.D.Disk.sound g.met.D.Disk.told c.args.shared.now c.args.opening.now c.scan_all.new.opening c.retire_bare.new.opening c.sync_part-synced.new.part c.sync_part-synced.new.spindle
-    c.scan_all.ensures.parts c.in-Ok.ensures.ok.settled_ c.sync_part-synced.ensures.part c.sync_part-synced.ensures.same c.sync_part-synced.ensures.free c.sync_part-synced.ensures.settled c.retire_bare.ensures.parts
+    c.scan_all.ensures.parts c.in-Ok.ensures.ok.settled_ c.sync_part-synced.ensures.part c.sync_part-synced.ensures.same c.sync_part-synced.ensures.free c.sync_part-synced.ensures.settled c.sync_part-synced.ensures.accesses c.retire_bare.ensures.parts
 
 pub returns-in-Err-retire_bare-clause-parts : goal.returns-in-Err-retire_bare-clause-parts
 returns-in-Err-retire_bare-clause-parts g c =
     handed_thinned g.D.Disk.tells g.D.Disk.state g.met.D.Disk.sound g.met.D.Disk.told c.args.shared.now c.args.opening.now c.scan_all.new.opening c.retire_bare.new.opening c.sync_part-synced.new.part c.sync_part-synced.new.spindle
-    c.scan_all.ensures.parts c.in-Ok.ensures.ok.settled_ c.sync_part-synced.ensures.part c.sync_part-synced.ensures.same c.sync_part-synced.ensures.free c.sync_part-synced.ensures.settled c.retire_bare.ensures.parts
+    c.scan_all.ensures.parts c.in-Ok.ensures.ok.settled_ c.sync_part-synced.ensures.part c.sync_part-synced.ensures.same c.sync_part-synced.ensures.free c.sync_part-synced.ensures.settled c.sync_part-synced.ensures.accesses c.retire_bare.ensures.parts
 
 pub returns-in-Err-retire_bare-clause-err : goal.returns-in-Err-retire_bare-clause-err
 returns-in-Err-retire_bare-clause-err g c =

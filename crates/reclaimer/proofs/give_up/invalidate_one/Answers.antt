@@ -1,10 +1,14 @@
 -- A step in which blocks are given up, or none may go.
-use Rattle.std.proofs.Common.{◌≡◌, Bool, true, false, rules, length, refl, sym, ap, arith, ◌∙◌}
+use Rattle.std.proofs.Common.{◌≡◌, Bool, true, false, rules, length, refl, sym, ap, subst, arith, ◌∙◌}
+use Rattle.redirect_map.specs.Index.{IsIndex}
 use Rattle.manager.specs.Reclaim.{Always}
+use Rattle.manager.specs.Seen.{look_of_manager}
 use Rattle.manager.proofs.ReadThrough.{never_some}
+use Rattle.reclaimer.proofs.CountedGone.{whole_counts, part_counts, less_left, fails_counts}
 use Rattle.reclaimer.proofs.GiveUp.{going_of, goes_of, there_of, given_whole, given_part, given_fails, reclaims}
 use Rattle.reclaimer.proofs.Moments.{within, at_rest, tried_within}
 use Rattle.reclaimer.proofs.Nexts.{within_reach}
+use Rattle.reclaimer.proofs.TakenOff.{nothing_taken}
 use Rattle.reclaimer.proofs.give_up.invalidate_one.Goals as goal
 
 pub returns-in-Some-clause-any_moment : goal.returns-in-Some-clause-any_moment
@@ -58,3 +62,34 @@ returns-in-Err-clause-gone g c =
 pub returns-in-Err-clause-any_moment : goal.returns-in-Err-clause-any_moment
 returns-in-Err-clause-any_moment g c told =
     tried_within g.D.Disk.tells g.D.Disk.state g.met.D.Disk.sound Always Bool told c.args.m.now c.drop_rec.new.self c.in-Err.fault c.in-Err.ensures.fault c.in-Err.ensures.any_moment
+
+pub returns-in-Some-clause-counted : goal.returns-in-Some-clause-counted
+returns-in-Some-clause-counted g c = nothing_taken (look_of_manager c.args.m.now) (look_of_manager c.args.m.now) refl
+
+pub returns-in_default-going-clause-counted : goal.returns-in_default-going-clause-counted
+returns-in_default-going-clause-counted g c = nothing_taken (look_of_manager c.args.m.now) (look_of_manager c.args.m.now) refl
+
+pub returns-in-Ok-true-clause-counted : goal.returns-in-Ok-true-clause-counted
+returns-in-Ok-true-clause-counted g c =
+    let r = c.in-Some-going.record in let e = c.in-Ok-true.ensures in let is : c.in-Ok-true.field-0 ≡ true = search rules in
+    whole_counts g.D.Disk.state c.args.m.now c.drop_rec.new.self r (going_of c.args.m.now r c.index.result.now c.ups.result.now c.index.ensures c.ups.ensures c.in-Some-going.ensures.index c.in-Some-going.ensures.answer) (subst (λ i. IsIndex i.entries) c.index.ensures c.in-Some-going.ensures.index) _ refl e.dropped (sym is ∙ e.gone)
+
+pub returns-in-Ok-true-clause-lowers : goal.returns-in-Ok-true-clause-lowers
+returns-in-Ok-true-clause-lowers g c =
+    let r = c.in-Some-going.record in let e = c.in-Ok-true.ensures in
+    less_left g.D.Disk.state c.args.m.now c.drop_rec.new.self r (going_of c.args.m.now r c.index.result.now c.ups.result.now c.index.ensures c.ups.ensures c.in-Some-going.ensures.index c.in-Some-going.ensures.answer) (subst (λ i. IsIndex i.entries) c.index.ensures c.in-Some-going.ensures.index) _ refl e.dropped
+
+pub returns-in-Ok-false-clause-counted : goal.returns-in-Ok-false-clause-counted
+returns-in-Ok-false-clause-counted g c =
+    let r = c.in-Some-going.record in let e = c.in-Ok-false.ensures in let is : c.in-Ok-false.field-0 ≡ false = search rules in
+    part_counts g.D.Disk.state c.args.m.now c.drop_rec.new.self r (going_of c.args.m.now r c.index.result.now c.ups.result.now c.index.ensures c.ups.ensures c.in-Some-going.ensures.index c.in-Some-going.ensures.answer) (subst (λ i. IsIndex i.entries) c.index.ensures c.in-Some-going.ensures.index) _ refl e.dropped (sym is ∙ e.gone)
+
+pub returns-in-Ok-false-clause-lowers : goal.returns-in-Ok-false-clause-lowers
+returns-in-Ok-false-clause-lowers g c =
+    let r = c.in-Some-going.record in let e = c.in-Ok-false.ensures in
+    less_left g.D.Disk.state c.args.m.now c.drop_rec.new.self r (going_of c.args.m.now r c.index.result.now c.ups.result.now c.index.ensures c.ups.ensures c.in-Some-going.ensures.index c.in-Some-going.ensures.answer) (subst (λ i. IsIndex i.entries) c.index.ensures c.in-Some-going.ensures.index) _ refl e.dropped
+
+pub returns-in-Err-clause-counted : goal.returns-in-Err-clause-counted
+returns-in-Err-clause-counted g c =
+    let r = c.in-Some-going.record in let e = c.in-Err.ensures in
+    fails_counts g.D.Disk.state c.args.m.now c.drop_rec.new.self r (going_of c.args.m.now r c.index.result.now c.ups.result.now c.index.ensures c.ups.ensures c.in-Some-going.ensures.index c.in-Some-going.ensures.answer) c.in-Err.fault e.fault e.dropped

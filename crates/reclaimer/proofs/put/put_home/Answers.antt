@@ -3,10 +3,12 @@ use Rattle.std.proofs.Common.{◌≡◌, ◌<◌, ◌≤◌, true, Ok, Err, refl
 use Rattle.std.specs.Int.RustNames.{count_ones}
 use Rattle.std.proofs.lemmas.Nat.{zero_from_ones}
 use Rattle.manager.proofs.ReadThrough.{never_some}
+use Rattle.manager.specs.Seen.{look_of_manager}
 use Rattle.reclaimer.specs.Fetches.{HasData}
 use Rattle.reclaimer.specs.Records.{record_of}
 use Rattle.reclaimer.proofs.Moments.{at_rest}
-use Rattle.reclaimer.proofs.PutHome.{asleep_none, fails_so, counted_put, none_put, none_counted, empty_put, data_are, was_put, was_refused, was_reclaimed, within_so, tried_so}
+use Rattle.reclaimer.proofs.PutHome.{asleep_none, fails_so, counted_put, none_put, none_counted, empty_put, data_are, was_put, was_refused, was_reclaimed, was_counted, was_lowered, refused_counted, within_so, tried_so}
+use Rattle.reclaimer.proofs.TakenOff.{nothing_taken}
 use Rattle.reclaimer.proofs.put.put_home.Goals as goal
 
 pub returns-in-Some-clause-any_moment : goal.returns-in-Some-clause-any_moment
@@ -115,3 +117,34 @@ returns-in-Err-clause-any_moment g c told =
     let is = sym c.from.view_is ∙ ap (λ o. record_of o bs) c.in-Some-filled.is in
     let pos : 0 < p.result = search rules in
     tried_so g.D.Disk.tells g.D.Disk.state g.met.D.Disk.sound _ (HasData g.D.Disk.tells c.args.from.now) (data_are g.D.Disk.state c.args.m.now f bs few inv.0 c.args.from.now is up c.index.result.now c.index.ensures p.result p.type_inv p.ensures.due c.if-put-eq0.false (p.ensures.range pos) g.D.Disk.tells c.deref.result.now c.deref.ensures.value) (Unit {0}) told c.args.m.now c.store_home.new.self c.in-Err.fault c.in-Err.ensures.fault c.in-Err.ensures.any_moment
+
+pub returns-in-Some-clause-counted : goal.returns-in-Some-clause-counted
+returns-in-Some-clause-counted g c = nothing_taken (look_of_manager c.args.m.now) (look_of_manager c.args.m.now) refl
+
+pub returns-then-not-home_up-clause-counted : goal.returns-then-not-home_up-clause-counted
+returns-then-not-home_up-clause-counted g c = nothing_taken (look_of_manager c.args.m.now) (look_of_manager c.args.m.now) refl
+
+pub returns-in_default-filled-clause-counted : goal.returns-in_default-filled-clause-counted
+returns-in_default-filled-clause-counted g c = nothing_taken (look_of_manager c.args.m.now) (look_of_manager c.args.m.now) refl
+
+pub returns-then-put-eq0-clause-counted : goal.returns-then-put-eq0-clause-counted
+returns-then-put-eq0-clause-counted g c = nothing_taken (look_of_manager c.args.m.now) (look_of_manager c.args.m.now) refl
+
+pub returns-in-Ok-clause-counted : goal.returns-in-Ok-clause-counted
+returns-in-Ok-clause-counted g c =
+    let f = c.in-Some-filled.filled in let bs = c.from.inside.blocks.items in let p = c.still_due-put in
+    let inv = c.from.invariant in let few : f.count ≤ 128 = search rules in let up : c.args.m.now.home_up ≡ true = search rules in
+    let is = sym c.from.view_is ∙ ap (λ o. record_of o bs) c.in-Some-filled.is in
+    let pos : 0 < p.result = search rules in
+    was_counted g.D.Disk.state c.args.m.now f bs few inv.0 c.args.from.now is up c.index.result.now c.index.ensures p.result p.type_inv p.ensures.due c.if-put-eq0.false (p.ensures.range pos) c.store_home.new.self c.deref.result.now c.deref.ensures.value (Ok tt) refl c.in-Ok.ensures.stored (p.ensures.index pos) (p.ensures.there pos)
+
+pub returns-in-Ok-clause-lowers : goal.returns-in-Ok-clause-lowers
+returns-in-Ok-clause-lowers g c =
+    let f = c.in-Some-filled.filled in let bs = c.from.inside.blocks.items in let p = c.still_due-put in
+    let inv = c.from.invariant in let few : f.count ≤ 128 = search rules in let up : c.args.m.now.home_up ≡ true = search rules in
+    let is = sym c.from.view_is ∙ ap (λ o. record_of o bs) c.in-Some-filled.is in
+    let pos : 0 < p.result = search rules in
+    was_lowered g.D.Disk.state c.args.m.now f bs few inv.0 c.args.from.now is up c.index.result.now c.index.ensures p.result p.type_inv p.ensures.due c.if-put-eq0.false (p.ensures.range pos) c.store_home.new.self c.deref.result.now c.deref.ensures.value (Ok tt) refl c.in-Ok.ensures.stored (p.ensures.index pos) (p.ensures.there pos)
+
+pub returns-in-Err-clause-counted : goal.returns-in-Err-clause-counted
+returns-in-Err-clause-counted g c = refused_counted (Unit {0}) g.D.Disk.state c.in-Some-filled.filled.version c.still_due-put.result _ c.args.m.now c.store_home.new.self c.in-Err.fault c.in-Err.ensures.fault c.in-Err.ensures.stored

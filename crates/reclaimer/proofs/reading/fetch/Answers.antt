@@ -4,7 +4,7 @@ use Rattle.manager.specs.Reclaim.{Always}
 use Rattle.manager.proofs.ReadThrough.{never_some}
 use Rattle.reclaimer.specs.Records.{record_of}
 use Rattle.reclaimer.specs.declared.room.Filled.{Filled}
-use Rattle.reclaimer.proofs.Fetching.{due_of, due_there, stays_empty, lent_back, fetched_look, next_fetched, not_fetched, look_of_fault}
+use Rattle.reclaimer.proofs.Fetching.{due_of, due_there, stays_empty, lent_back, fetched_look, next_fetched, finds_due, not_fetched, look_of_fault}
 use Rattle.reclaimer.proofs.Moments.{within, at_rest, tried_within}
 use Rattle.reclaimer.proofs.Nexts.{within_reach}
 use Rattle.reclaimer.proofs.reading.fetch.Goals as goal
@@ -33,6 +33,14 @@ returns-in-Ok-clause-fetched g c =
     let up : c.args.m.now.home_up ≡ true = search rules in
     let d = due_of c.args.m.now c.in-Some-due_next.record c.index.result.now c.ups.result.now up c.index.ensures c.ups.ensures c.in-Some-due_next.ensures.index c.in-Some-due_next.ensures.answer in
     next_fetched g.D.Disk.state c.args.m.now c.read_record.new.m c.in-Some-due_next.record d c.in-Ok.filled c.read_record.new.blocks _
+    (ap (λ bs. record_of (Some c.in-Ok.filled) bs) (lent_back c.into.inside.blocks.len c.read_record.new.blocks c.into.inside.blocks.items (let n = c.read_record.auto.blocks in let k = c.deref_mut.ensures.len in let l = c.into.inside.blocks.ok in omega arith)))
+    c.in-Ok.ensures.filled c.in-Ok.ensures.fetched
+
+pub returns-in-Ok-clause-due : goal.returns-in-Ok-clause-due
+returns-in-Ok-clause-due g c =
+    let up : c.args.m.now.home_up ≡ true = search rules in
+    let d = due_of c.args.m.now c.in-Some-due_next.record c.index.result.now c.ups.result.now up c.index.ensures c.ups.ensures c.in-Some-due_next.ensures.index c.in-Some-due_next.ensures.answer in
+    finds_due g.D.Disk.state c.args.m.now c.read_record.new.m c.in-Some-due_next.record d c.in-Ok.filled c.read_record.new.blocks _
     (ap (λ bs. record_of (Some c.in-Ok.filled) bs) (lent_back c.into.inside.blocks.len c.read_record.new.blocks c.into.inside.blocks.items (let n = c.read_record.auto.blocks in let k = c.deref_mut.ensures.len in let l = c.into.inside.blocks.ok in omega arith)))
     c.in-Ok.ensures.filled c.in-Ok.ensures.fetched
 

@@ -32,6 +32,7 @@ returns-clause-lane g c =
       pool_volume = l.pool_volume;
       spindle_volume = l.spindle_volume;
       settled = l.settled;
+      accesses = l.accesses;
       each = subst (λ (m : ℕ). AllByRecursion (IsHeld state self.logger self.owner m self.pool) pushed.items) (sym push.capacity) (subst (AllByRecursion (IsHeld state self.logger self.owner n self.pool)) (sym push.items) each);
       unclaimed = subst (λ (m : ℕ). IfSome self.taken (IsTaken state self.logger m self.pool)) (sym push.capacity) l.unclaimed;
       apart = subst (λ (is : List ℕ). AreApart (is ++ ts)) (sym (ap (map (λ (h : HeldSegment g.row.D.Denot). h.index)) push.items ∙ map-push (λ (h : HeldSegment g.row.D.Denot). h.index) self.held.items h)) (apart_insert idx ts c.args.index l.apart c.requires.apart);

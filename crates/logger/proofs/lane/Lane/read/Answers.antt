@@ -10,7 +10,7 @@ use Rattle.logger.proofs.AllHeld.{HoldsIn}
 use Rattle.logger.proofs.Held.{all_get, all_set, within, map-set}
 use Rattle.logger.proofs.Places.{index_there, found, same_segment}
 use Rattle.logger.proofs.Results.{on_err}
-use Rattle.logger.proofs.Uses.{held_same}
+use Rattle.logger.proofs.Uses.{accesses_over, held_same}
 use Rattle.logger.proofs.lane.Lane.read.Goals as goal
 
 pub place_of_index-place-requires : goal.place_of_index-place-requires
@@ -55,6 +55,7 @@ returns-clause-lane g c =
       pool_volume = l.pool_volume;
       spindle_volume = ap (λ (i : LockId SpindleBase). i.base.volume) (c.give_token.ensures.same.0 ∙ c.take_token-token.ensures.same.0) ∙ l.spindle_volume;
       settled = c.give_token.ensures.has_none;
+      accesses = accesses_over _ _ _ _ _ c.take_token-token.ensures.mine c.take_token-token.ensures.same.1 c.give_token.ensures.mine l.accesses;
       each = all_set (IsHeld g.D.Disk.state self.logger self.owner (vec_capacity self.held) self.pool) items p n l.each (held_same g.D.Disk.state self.logger self.owner (vec_capacity self.held) self.pool o n held refl a.shape a.same);
       unclaimed = l.unclaimed;
       apart = subst (λ (is : List ℕ). AreApart (is ++ map (λ (t : ℕ × FreeSegment g.row.D.Denot). t.0) (option_to_list self.taken))) (sym (map-set (λ (h : HeldSegment g.row.D.Denot). h.index) items p o n f.there refl)) l.apart;

@@ -33,6 +33,7 @@ returns-clause-lane g c =
       pool_volume = volume;
       spindle_volume = l.spindle_volume;
       settled = l.settled;
+      accesses = l.accesses;
       each = all_map (IsHeld state self.logger self.owner n self.pool) (IsHeld state self.logger self.owner n q) (λ h is. held_on state self.logger self.owner n self.pool q h t.same (t.kept h.index is.holding) is) self.held.items l.each;
       unclaimed = subst (λ (x : Option (ℕ × FreeSegment g.row.D.Denot)). IfSome x (IsTaken state self.logger n q)) (sym after) (took state self.logger n q o volume room t.blank t.within t.holds);
       apart = subst (λ (x : Option (ℕ × FreeSegment g.row.D.Denot)). AreApart (map (λ (h : HeldSegment g.row.D.Denot). h.index) self.held.items ++ map (λ (u : ℕ × FreeSegment g.row.D.Denot). u.0) (option_to_list x))) (sym after)

@@ -18,7 +18,7 @@ use Rattle.logger.proofs.Held.{all_get, all_remove}
 use Rattle.logger.proofs.Indexes.{apart_remove, lacks_removed}
 use Rattle.logger.proofs.Places.{index_there, place_is}
 use Rattle.logger.proofs.Trimming.{was_freed, is_changed, trimmed_stays, each_changed, indexes_changed, apart_changed}
-use Rattle.logger.proofs.Uses.{each_on, taken_still}
+use Rattle.logger.proofs.Uses.{accesses_over, each_on, taken_still}
 use Rattle.logger.proofs.lane.Lane.trim.Goals as goal
 
 pub place_of_index-place-requires : goal.place_of_index-place-requires
@@ -84,6 +84,7 @@ returns-in-Ok-Some-clause-lane g c =
       pool_volume = ap (λ (i : LockId PoolBase). i.base.volume) give.same.0 ∙ l.pool_volume;
       spindle_volume = ap (λ (i : LockId SpindleBase). i.base.volume) (c.give_token.ensures.same.0 ∙ c.take_token-token.ensures.same.0) ∙ l.spindle_volume;
       settled = c.give_token.ensures.has_none;
+      accesses = accesses_over _ _ _ _ _ c.take_token-token.ensures.mine c.take_token-token.ensures.same.1 c.give_token.ensures.mine l.accesses;
       each = subst (λ (m : ℕ). AllByRecursion (IsHeld state self.logger self.owner m q) t.new.held.items) (sym same_room) (subst (AllByRecursion (IsHeld state self.logger self.owner n q)) (sym wf.gone) each);
       unclaimed = subst (λ (m : ℕ). IfSome self.taken (IsTaken state self.logger m q)) (sym same_room) unclaimed;
       apart = subst (λ (hs : List (HeldSegment g.row.D.Denot)). AreApart (map (λ (h : HeldSegment g.row.D.Denot). h.index) hs ++ ts)) (sym wf.gone) (apart_remove (λ (h : HeldSegment g.row.D.Denot). h.index) items ts p l.apart);
@@ -129,6 +130,7 @@ returns-in-Ok-None-clause-lane g c =
       pool_volume = l.pool_volume;
       spindle_volume = ap (λ (i : LockId SpindleBase). i.base.volume) (c.give_token.ensures.same.0 ∙ c.take_token-token.ensures.same.0) ∙ l.spindle_volume;
       settled = c.give_token.ensures.has_none;
+      accesses = accesses_over _ _ _ _ _ c.take_token-token.ensures.mine c.take_token-token.ensures.same.1 c.give_token.ensures.mine l.accesses;
       each = each_changed state self.logger self.owner (vec_capacity self.held) (vec_capacity t.new.held) self.pool items t.new.held.items p ch t.ensures.room l.each;
       unclaimed = subst (λ (n : ℕ). IfSome self.taken (IsTaken state self.logger n self.pool)) (sym t.ensures.room) l.unclaimed;
       apart = apart_changed state items t.new.held.items ts p ch l.apart;
@@ -168,6 +170,7 @@ returns-in-Err-clause-lane g c =
       pool_volume = l.pool_volume;
       spindle_volume = ap (λ (i : LockId SpindleBase). i.base.volume) (c.give_token.ensures.same.0 ∙ c.take_token-token.ensures.same.0) ∙ l.spindle_volume;
       settled = c.give_token.ensures.has_none;
+      accesses = accesses_over _ _ _ _ _ c.take_token-token.ensures.mine c.take_token-token.ensures.same.1 c.give_token.ensures.mine l.accesses;
       each = each_changed state self.logger self.owner (vec_capacity self.held) (vec_capacity t.new.held) self.pool items t.new.held.items p ch t.ensures.room l.each;
       unclaimed = subst (λ (n : ℕ). IfSome self.taken (IsTaken state self.logger n self.pool)) (sym t.ensures.room) l.unclaimed;
       apart = apart_changed state items t.new.held.items ts p ch l.apart;

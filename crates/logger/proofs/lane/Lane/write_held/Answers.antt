@@ -12,7 +12,7 @@ use Rattle.logger.specs.declared.lane.Spot.{Spot}
 use Rattle.logger.proofs.AllHeld.{HoldsIn}
 use Rattle.logger.proofs.Held.{all_get, all_set, there_get, within, map-set}
 use Rattle.logger.proofs.Results.{grown_of, grown_spot, spot_is}
-use Rattle.logger.proofs.Uses.{held_same, two_entries}
+use Rattle.logger.proofs.Uses.{accesses_over, held_same, two_entries}
 use Rattle.logger.proofs.lane.Lane.write_held.Goals as goal
 
 pub index_mut-held-requires : goal.index_mut-held-requires
@@ -53,6 +53,7 @@ returns-clause-lane g c =
       pool_volume = l.pool_volume;
       spindle_volume = ap (λ (i : LockId SpindleBase). i.base.volume) (c.give_token.ensures.same.0 ∙ c.take_token-token.ensures.same.0) ∙ l.spindle_volume;
       settled = c.give_token.ensures.has_none;
+      accesses = accesses_over _ _ _ _ _ c.take_token-token.ensures.mine c.take_token-token.ensures.same.1 c.give_token.ensures.mine l.accesses;
       each = all_set (IsHeld state self.logger self.owner (vec_capacity self.held) self.pool) items p n l.each (held_same state self.logger self.owner (vec_capacity self.held) self.pool o n held refl a.shape a.same);
       unclaimed = l.unclaimed;
       apart = subst (λ (is : List ℕ). AreApart (is ++ map (λ (t : ℕ × FreeSegment g.row.D.Denot). t.0) (option_to_list self.taken))) (sym (map-set (λ (h : HeldSegment g.row.D.Denot). h.index) items p o n there refl)) l.apart;

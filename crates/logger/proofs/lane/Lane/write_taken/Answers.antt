@@ -13,7 +13,7 @@ use Rattle.logger.proofs.AllHeld.{HoldsIn}
 use Rattle.logger.proofs.Held.{all_push}
 use Rattle.logger.proofs.Places.{if_some, room_left, claimed_indexes}
 use Rattle.logger.proofs.Results.{claimed_spot, spot_is}
-use Rattle.logger.proofs.Uses.{two_entries}
+use Rattle.logger.proofs.Uses.{accesses_over, two_entries}
 use Rattle.logger.proofs.lane.Lane.write_taken.Goals as goal
 
 pub claim_and_append-segment-requires-clause-shape : goal.claim_and_append-segment-requires-clause-shape
@@ -49,6 +49,7 @@ returns-clause-lane g c =
       pool_volume = l.pool_volume;
       spindle_volume = ap (λ (i : LockId SpindleBase). i.base.volume) (c.give_token.ensures.same.0 ∙ c.take_token-token.ensures.same.0) ∙ l.spindle_volume;
       settled = c.give_token.ensures.has_none;
+      accesses = accesses_over _ _ _ _ _ c.take_token-token.ensures.mine c.take_token-token.ensures.same.1 c.give_token.ensures.mine l.accesses;
       each = subst (λ (m : ℕ). AllByRecursion (IsHeld state self.logger self.owner m self.pool) pushed.items) (sym push.capacity) (subst (AllByRecursion (IsHeld state self.logger self.owner (vec_capacity self.held) self.pool)) (sym push.items) each);
       unclaimed = subst (λ (o : Option (ℕ × FreeSegment g.row.D.Denot)). IfSome o (IsTaken state self.logger (vec_capacity pushed) self.pool)) (sym c.replace-before.ensures.after) tt;
       apart = subst AreApart (claimed_indexes self.held.items pushed.items n self.taken c.replace-before.new.dest (c.in-Some.index, c.in-Some.free) push.items refl has c.replace-before.ensures.after) l.apart;

@@ -95,6 +95,12 @@ returns-in-Some-Ok-clause-any_moment g c =
     stops_put g.D.Disk.state m c.args.lane old new (slice_get_read m.lanes.items (length m.lanes.items) c.args.lane old refl c.requires.lane c.index_mut-reached.ensures.value) e.lane e.turn.same e.all e.none c.args.lbn c.args.from.now c.requires.count c.requires.ready c.requires.up
     g.D.Disk.tells g.met.D.Disk.told g.met.D.Disk.sound e.put (record m { lanes = with_item m.lanes c.args.lane c.put.new.lane }) refl refl
 
+pub returns-in-Some-Err-clause-ready : goal.returns-in-Some-Err-clause-ready
+returns-in-Some-Err-clause-ready g c =
+    let m = c.args.self.now in let e = c.in-Some-Err.ensures in let old = c.index_mut-reached.result.now in
+    ready_failed g.D.Disk.state m c.args.lane old c.put.new.lane (slice_get_read m.lanes.items (length m.lanes.items) c.args.lane old refl c.requires.lane c.index_mut-reached.ensures.value) e.lane e.turn.same e.all e.none c.args.lbn c.args.from.now c.requires.count c.requires.ready c.requires.up
+    (with_item m.lanes c.args.lane c.put.new.lane) refl (part.Segment c.logger-logger.result c.in-Some-Err.index)
+
 pub returns-in-Some-Err-clause-taken : goal.returns-in-Some-Err-clause-taken
 returns-in-Some-Err-clause-taken g c _ =
     let m = c.args.self.now in let e = c.in-Some-Err.ensures in let old = c.index_mut-reached.result.now in

@@ -44,4 +44,4 @@ returns-clause-content g c told b notes keeps =
 
 pub returns-clause-ready : goal.returns-clause-ready
 returns-clause-ready g c = let e = c.fetch_at-answer.ensures in let m = c.args.self.now in
-    ready_homed g.D.Disk.state m c.fetch_at-answer.new.part c.fetch_at-answer.new.spindle m.down e.volume e.size e.same e.free e.settled c.requires.up c.requires.ready
+    ready_homed g.D.Disk.state m c.fetch_at-answer.new.part c.fetch_at-answer.new.spindle m.down e.volume e.size e.same e.free e.settled e.used c.requires.up c.requires.ready

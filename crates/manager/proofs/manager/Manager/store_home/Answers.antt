@@ -42,7 +42,7 @@ set_homed-requires-clause-live g c e is i set =
 pub returns-in-Ok-clause-ready : goal.returns-in-Ok-clause-ready
 returns-in-Ok-clause-ready g c =
     let m = c.args.self.now in let p = c.in-Ok.ensures in let f = found_of m.index.entries c.args.version c.in-Some-find.record c.in-Some-find.ensures.value in
-    ready_put g.D.Disk.state m c.args.version c.args.mask c.put_at.new.part c.put_at.new.spindle true c.set_homed.new.self m.down p.put.volume p.put.size p.same p.free p.settled
+    ready_put g.D.Disk.state m c.args.version c.args.mask c.put_at.new.part c.put_at.new.spindle true c.set_homed.new.self m.down p.put.volume p.put.size p.same p.free p.settled p.used
     (noted_home m.index.entries c.set_homed.new.self.entries c.args.version f.entry c.homed-homed.result c.args.mask c.in-Some-find.ensures.index f.is c.homed-homed.ensures.value c.set_homed.ensures.entries)
     c.requires.ready (never_some m.down c.in_default.not-Some)
 
@@ -87,7 +87,7 @@ returns-in-Err-clause-broke g c b notes n known note keeps =
     (ap (λ (n : ℕ). put_block n c.args.mask c.args.from.now) f.record_.first) p.put in
     put_fails g.D.Disk.tells g.D.Disk.state m b notes keeps (never_some m.down c.in_default.not-Some) c.args.version c.args.mask c.args.from.now f.entry at (c.requires.count f.entry f.is) (c.requires.due f.entry f.is)
     (λ told. known told f.entry f.is) c.put_at.new.part c.put_at.new.spindle m.index put.volume put.size p.same n note put.images put.cause
-    (ready_homed g.D.Disk.state m c.put_at.new.part c.put_at.new.spindle (Some (Home m.id)) put.volume put.size p.same p.free p.settled (never_some m.down c.in_default.not-Some) c.requires.ready)
+    (ready_homed g.D.Disk.state m c.put_at.new.part c.put_at.new.spindle (Some (Home m.id)) put.volume put.size p.same p.free p.settled p.used (never_some m.down c.in_default.not-Some) c.requires.ready)
 
 pub returns-in-Err-clause-any_moment : goal.returns-in-Err-clause-any_moment
 returns-in-Err-clause-any_moment g c told was read b notes known keeps =

@@ -6,11 +6,11 @@ use Rattle.manager.proofs.manager.Manager.write_home.Goals as goal
 
 pub returns-in-Ok-clause-ready : goal.returns-in-Ok-clause-ready
 returns-in-Ok-clause-ready g c = let e = c.in-Ok.ensures in
-    ready_homed g.D.Disk.state c.args.self.now c.store_at.new.part c.store_at.new.spindle c.args.self.now.down e.stored.volume e.stored.size e.same e.free e.settled c.requires.up c.requires.ready
+    ready_homed g.D.Disk.state c.args.self.now c.store_at.new.part c.store_at.new.spindle c.args.self.now.down e.stored.volume e.stored.size e.same e.free e.settled e.used c.requires.up c.requires.ready
 
 pub returns-in-Err-clause-ready : goal.returns-in-Err-clause-ready
 returns-in-Err-clause-ready g c = let e = c.in-Err.ensures in
-    ready_homed g.D.Disk.state c.args.self.now c.store_at.new.part c.store_at.new.spindle (Some (part.Home c.args.self.now.id)) e.stored.volume e.stored.size e.same e.free e.settled c.requires.up c.requires.ready
+    ready_homed g.D.Disk.state c.args.self.now c.store_at.new.part c.store_at.new.spindle (Some (part.Home c.args.self.now.id)) e.stored.volume e.stored.size e.same e.free e.settled e.used c.requires.up c.requires.ready
 
 pub returns-in-Ok-clause-stands : goal.returns-in-Ok-clause-stands
 returns-in-Ok-clause-stands g c b notes ps n client note passed k =

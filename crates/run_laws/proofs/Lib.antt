@@ -1,0 +1,5 @@
+pub mod Fronts
+pub mod ReadLines
+pub mod Cuts
+pub mod Joins
+pub mod Accounts
