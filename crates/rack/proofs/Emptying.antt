@@ -31,10 +31,17 @@ module _ {D : Type 0} where
 
   pub none_moved : (p : Pool (FreeSegment D)) (o : Option (ImageRest D)) → MatchOption o (IsEmptyPool p) (HasPlaces p) → AreMovedInto p p o o
   none_moved p None empty = (refl, empty)
-  none_moved p (Some r) places = (places, (r, refl, record {
-    same = record { label = refl; home = refl; count = refl; row = refl; room = refl };
-    each = λ i. inl (refl, refl);
-  }))
+  none_moved p (Some r) places = (
+    places,
+    (
+      r,
+      refl,
+      record {
+        same = record { label = refl; home = refl; count = refl; row = refl; room = refl };
+        each = λ i. inl (refl, refl);
+      },
+    ),
+  )
 
   -- the place of an item that is still in the pool
   module _ (p q : Pool (FreeSegment D)) (k : ℕ) (f : FreeSegment D) (had : item_at q k ≡ Some f) where
@@ -51,7 +58,7 @@ module _ {D : Type 0} where
         let n = moved.1.0 in let m = moved.1.2 in let was = was_item r n (m.each k) in
         let some : IsSome (item_at p k) = ap is_some was.0 in
         subst (λ (o : Option (ImageRest D)). IfSome o (λ r. (k < length r.segments.items) × (segment_here r k ≡ None))) (sym moved.1.1)
-          (subst (λ (m : ℕ). k < m) (sym m.same.count) (moved.0.within k some), was.1 ∙ moved.0.empty k some)
+        (subst (λ (m : ℕ). k < m) (sym m.same.count) (moved.0.within k some), was.1 ∙ moved.0.empty k some)
 
     is_there : (o : Option (ImageRest D)) → IsSome o → (n : ImageRest D) × (o ≡ Some n)
     is_there None some = absurd (false≢true some)
@@ -65,36 +72,45 @@ module _ {D : Type 0} where
         let n = moved.1.0 in let m = moved.1.2 in let there = is_there newer some in let x = there.0 in
         let was = was_item r n (m.each k) in
         let fill : IsFilled n x k (free_part f) =
-            subst (λ (o : Option (ImageRest D)). IfSome o (λ y. IsFilled n y k (free_part f))) there.1
-              (subst (λ (o : Option (ImageRest D)). IfSome o (λ a. IfSome newer (λ y. IsFilled a y k (free_part f)))) moved.1.1 filled) in
+        subst (λ (o : Option (ImageRest D)). IfSome o (λ y. IsFilled n y k (free_part f))) there.1
+        (subst (λ (o : Option (ImageRest D)). IfSome o (λ a. IfSome newer (λ y. IsFilled a y k (free_part f)))) moved.1.1 filled) in
         let within : k < length n.segments.items = subst (λ (m : ℕ). k < m) (sym m.same.count) (moved.0.within k (ap is_some was.0)) in
         let read : (i : ℕ) → segment_here x i ≡ slice_index_or (slice_set n.segments.items k (Some (free_part f))) i None = λ i. ap (λ (l : List (Option (Spun D))). slice_index_or l i None) fill.segments in
         let here : (i : ℕ) → i ≡ k → IsAt p after r x i = λ i e.
-            subst (IsAt p after r x) (sym e) (inr (changes.item_here, (f, was.0, read k ∙ get_or-set_same n.segments.items k (Some (free_part f)) None within))) in
+        subst (IsAt p after r x) (sym e) (inr (changes.item_here, (f, was.0, read k ∙ get_or-set_same n.segments.items k (Some (free_part f)) None within))) in
         let there_ : (i : ℕ) → i ≢ k → IsAt p after r x i = λ i other.
-            let seg : segment_here x i ≡ segment_here n i = read i ∙ get_or-set_other n.segments.items k i (Some (free_part f)) None other in
-            let item : item_at after i ≡ item_at q i = changes.items i other in
-            ⊎_elim (λ a. inl (item ∙ a.0, seg ∙ a.1)) (λ a. inr (item ∙ a.0, (a.1.0, a.1.1, seg ∙ a.1.2))) (m.each i) in
-        (moved.0, (x, there.1, record {
-          same = record {
-            label = fill.label ∙ m.same.label;
-            home = fill.home ∙ m.same.home;
-            count = ap length fill.segments ∙ length-set n.segments.items k (Some (free_part f)) ∙ m.same.count;
-            row = fill.row ∙ m.same.row;
-            room = fill.room ∙ m.same.room;
-          };
-          each = λ i. ⊎_elim (here i) (there_ i) (cases_eq i k);
-        }))
+        let seg : segment_here x i ≡ segment_here n i = read i ∙ get_or-set_other n.segments.items k i (Some (free_part f)) None other in
+        let item : item_at after i ≡ item_at q i = changes.items i other in
+        ⊎_elim (λ a. inl (item ∙ a.0, seg ∙ a.1)) (λ a. inr (item ∙ a.0, (a.1.0, a.1.1, seg ∙ a.1.2))) (m.each i) in (
+          moved.0,
+          (
+            x,
+            there.1,
+            record {
+              same = record {
+                label = fill.label ∙ m.same.label;
+                home = fill.home ∙ m.same.home;
+                count = ap length fill.segments ∙ length-set n.segments.items k (Some (free_part f)) ∙ m.same.count;
+                row = fill.row ∙ m.same.row;
+                room = fill.room ∙ m.same.room;
+              };
+              each = λ i. ⊎_elim (here i) (there_ i) (cases_eq i k);
+            },
+          ),
+        )
 
   -- all items are in their places
   pub all_moved : (p q : Pool (FreeSegment D)) (old new : Option (ImageRest D)) → IsEmptyPool q → AreMovedInto p q old new → EmptiesInto p old new
   all_moved p q None new empty moved = moved.0
   all_moved p q (Some r) new empty moved =
-      let n = moved.1.0 in let m = moved.1.2 in
-      (n, moved.1.1, record {
-        same = m.same;
-        segments = λ i. ⊎_elim
-            (λ a. a.1 ∙ ap (λ (o : Option (FreeSegment D)). either_part (item_part o) (segment_here r i)) (sym (sym a.0 ∙ empty i)))
-            (λ a. a.1.2 ∙ ap (λ (o : Option (FreeSegment D)). either_part (item_part o) (segment_here r i)) (sym a.1.1))
-            (m.each i);
-      })
+      let n = moved.1.0 in let m = moved.1.2 in (
+        n,
+        moved.1.1,
+        record {
+          same = m.same;
+          segments = λ i. ⊎_elim
+              (λ a. a.1 ∙ ap (λ (o : Option (FreeSegment D)). either_part (item_part o) (segment_here r i)) (sym (sym a.0 ∙ empty i)))
+              (λ a. a.1.2 ∙ ap (λ (o : Option (FreeSegment D)). either_part (item_part o) (segment_here r i)) (sym a.1.1))
+              (m.each i);
+        },
+      )

@@ -22,13 +22,13 @@ use Rattle.rack.specs.declared.rack.ImageRest.{ImageRest}
 
 -- a place is among the named ones
 named : (name : Name) (places : List ℕ) (place : ℕ) → Contains places place → Contains (each_place name places) (name, place)
-named name places place has = (has.0, (within, at))
+named name places place has = (has.0, within, at)
   where
     within : has.0 < length (each_place name places)
     within = rw (length-map) has.1.0
 
     at : get_or (each_place name places) has.0 (name, place) ≡ (name, place)
-    at = get_or-map (λ (p : ℕ). (name, p)) places has.0 place (name, place) has.1.0 ∙ ap (λ (p : ℕ). (name, p)) has.1.1
+    at = get_or-map (λ (p : ℕ). (name, p)) places has.0 place (name, place) has.1 ∙ ap (λ (p : ℕ). (name, p)) has.2
 
 module _ (name : Name) (images : List (Name × Image)) (apart : (n : Name) → at_name n (without n images) ≡ None) where
   pub stored_here : (vs : List (Values Block)) → at_name name (stored name (Some vs) images) ≡ Some (record { blocks = vs; rest = [] })

@@ -61,7 +61,7 @@ module _ {D : Type 0} where
           spindle = subst (λ (n : ℕ). spindle_pass new v n ≡ Some (spindle_of l)) logger (done.spindle ∙ get_or-set_same row.spindles.items k spindle None in_spindles ∙ spindle_is);
           held = subst (λ (n : ℕ). held_here new v n ≡ held_parts l) logger
               (done.held ∙ ap list_of (slice_get-get_or (slice_set row.held.items k held) k held in_held)
-               ∙ ap (λ (x : Vec (ℕ × Spun D) Global). x.items) (get_or-set_same row.held.items k held held (omega (arith, row_size.held))) ∙ held_is);
+              ∙ ap (λ (x : Vec (ℕ × Spun D) Global). x.items) (get_or-set_same row.held.items k held held (omega (arith, row_size.held))) ∙ held_is);
         };
         others = λ w j other. done.others w j (λ same e. other same (e ∙ logger));
       }

@@ -6,7 +6,7 @@ use Rattle.std.proofs.lemmas.List.{append-nil, map_push}
 use Rattle.std.proofs.lemmas.List.Elements.{Contains-append_left, Contains-append_right, Contains-append_cases, Contains-push, Contains-push_cases}
 use Rattle.manager.specs.declared.base.ManagerBase.{ManagerBase}
 use Rattle.rack.specs.Rests.{away_with}
-use Rattle.rack.proofs.Members.{in_map, of_map, is_member}
+use Rattle.rack.proofs.Members.{first_in, later_in, none_in, in_map, of_map, is_member}
 
 abbrev pub lanes_with : ManagerBase → List (ℕ × ℕ)
 lanes_with b = map (λ k. (b.volume.began.owner, k)) b.volume.began.view
@@ -24,16 +24,16 @@ lane_with b k has = in_map (λ (j : ℕ). (b.volume.began.owner, j)) b.volume.be
 pub with_lane : (b : ManagerBase) (v k : ℕ) → Contains (lanes_with b) (v, k) → (v ≡ b.volume.began.owner) × Contains b.volume.began.view k
 with_lane b v k has =
     let x = of_map (λ (j : ℕ). (b.volume.began.owner, j)) b.volume.began.view (v, k) has in
-    (sym (ap (λ (p : ℕ × ℕ). p.0) x.1.1), subst (λ (j : ℕ). Contains b.volume.began.view j) (ap (λ (p : ℕ × ℕ). p.1) x.1.1) x.1.0)
+    (sym (ap (λ (p : ℕ × ℕ). p.0) x.2), subst (λ (j : ℕ). Contains b.volume.began.view j) (ap (λ (p : ℕ × ℕ). p.1) x.2) x.1)
 
 -- a lane among these is one of them, whose owner it names
 pub lane_of_owner : (bs : List ManagerBase) (v k : ℕ) → Contains (away_with bs).lanes (v, k) → Contains (away_with bs).homes v
-lane_of_owner [] v k has = absurd (Rattle.rack.proofs.Members.none_in (v, k) has)
-lane_of_owner (b ∷ bs) v k has = go (Contains-append_cases (lanes_with b) (away_with bs).lanes (v, k) has)
+lane_of_owner [] v k has = absurd (none_in (v, k) has)
+lane_of_owner (b ∷ bs) v k has = go (Contains-append_cases (lanes_with b) (away_with bs).lanes (v, k) has) (λ more. lane_of_owner bs v k more)
   where
-    go : Contains (lanes_with b) (v, k) ⊎ Contains (away_with bs).lanes (v, k) → Contains (away_with (b ∷ bs)).homes v
-    go (inl here) = Rattle.rack.proofs.Members.first_in b.volume.began.owner v (away_with bs).homes (sym (with_lane b v k here).0)
-    go (inr more) = Rattle.rack.proofs.Members.later_in b.volume.began.owner v (away_with bs).homes (lane_of_owner bs v k more)
+    go : Contains (lanes_with b) (v, k) ⊎ Contains (away_with bs).lanes (v, k) → (Contains (away_with bs).lanes (v, k) → Contains (away_with bs).homes v) → Contains (away_with (b ∷ bs)).homes v
+    go (inl here) later = first_in b.volume.began.owner v (away_with bs).homes (sym (with_lane b v k here).0)
+    go (inr more) later = later_in b.volume.began.owner v (away_with bs).homes (later more)
 
 -- the same is away before and after, but what the last one had
 pub lane_stays : (bs : List ManagerBase) (b : ManagerBase) (v k : ℕ) → Contains (away_with bs).lanes (v, k) → Contains (away_with (bs ++ b ∷ [])).lanes (v, k)
@@ -65,5 +65,5 @@ is_lane_of b v k = go (cases_eq v b.volume.began.owner) (is_member b.volume.bega
     go : (v ≡ b.volume.began.owner) ⊎ (v ≡ b.volume.began.owner → ⊥) → Contains b.volume.began.view k ⊎ (Contains b.volume.began.view k → ⊥)
         → ((v ≡ b.volume.began.owner) × Contains b.volume.began.view k) ⊎ (v ≡ b.volume.began.owner → Contains b.volume.began.view k → ⊥)
     go (inl e) (inl has) = inl (e, has)
-    go (inl e) (inr no) = inr (λ same has. no has)
-    go (inr no) rest = inr (λ same has. no same)
+    go (inl e) (inr never) = inr (λ same has. never has)
+    go (inr differs) rest = inr (λ same has. differs same)

@@ -19,14 +19,14 @@ module _ {X : Type 0} where
   pairs_last R xs x pairs k d within =
       let behind : length xs < length (xs ++ x ∷ []) = omega (arith, length_push xs x) in
       subst (R (slice_index_or xs k d)) (get_or_push xs x d (length xs) refl)
-        (subst (λ (y : X). R y (slice_index_or (xs ++ x ∷ []) (length xs) d)) (get_or_append_left xs (x ∷ []) d k within) (pairs k (length xs) d within behind))
+      (subst (λ (y : X). R y (slice_index_or (xs ++ x ∷ []) (length xs) d)) (get_or_append_left xs (x ∷ []) d k within) (pairs k (length xs) d within behind))
 
   pub pairs_front : (R : X → X → Type 0) (xs : List X) (x : X) → AllPairs R (xs ++ x ∷ []) → AllPairs R xs
   pairs_front R xs x pairs i j d before within =
       let first : i < length xs = omega (arith, before, within) in
       let in_all : j < length (xs ++ x ∷ []) = omega (arith, within, length_push xs x) in
       subst (R (slice_index_or xs i d)) (get_or_append_left xs (x ∷ []) d j within)
-        (subst (λ (y : X). R y (slice_index_or (xs ++ x ∷ []) j d)) (get_or_append_left xs (x ∷ []) d i first) (pairs i j d before in_all))
+      (subst (λ (y : X). R y (slice_index_or (xs ++ x ∷ []) j d)) (get_or_append_left xs (x ∷ []) d i first) (pairs i j d before in_all))
 
 module _ {D : Type 0} where
   pub keeps_same : (r : Rest D) (v k : ℕ) → KeepsPlace r r v k

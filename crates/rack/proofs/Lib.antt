@@ -12,6 +12,9 @@ pub mod Openable
 pub mod Members
 pub mod LanesAway
 pub mod StationBack
+pub mod PoolBack
+pub mod ListsBack
+pub mod BackInTurn
 pub mod Rows
 pub mod LanePut
 pub mod Together
@@ -20,3 +23,10 @@ pub mod Slots
 pub mod Emptying
 pub mod OwnedSegments
 pub mod UsedPass
+pub mod HomeMoved
+pub mod Filling
+pub mod Supplying
+pub mod Returned
+pub mod HeldPut
+pub mod Ended
+pub mod LaneTaken

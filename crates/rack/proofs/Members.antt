@@ -8,8 +8,8 @@ use Rattle.std.proofs.lemmas.List.Elements.{All-contains, Contains-push, Contain
 use Rattle.wol_model.specs.Blocks.{AreApart}
 
 pub no_value : {A : Type 0} (o : Option A) → (IsSome o → ⊥) → o ≡ None
-no_value None no = refl
-no_value (Some x) no = absurd (no refl)
+no_value None never = refl
+no_value (Some x) never = absurd (never refl)
 
 pub a_value : {A : Type 0} (o : Option A) → IsSome o → (x : A) × (o ≡ Some x)
 a_value None s = absurd (cc s)
@@ -20,24 +20,24 @@ is_there o x e = ap is_some e
 
 module _ {X : Type 0} where
   pub first_in : (x y : X) (xs : List X) → x ≡ y → Contains (x ∷ xs) y
-  first_in x y xs e = (0, (omega arith, e))
+  first_in x y xs e = (0, omega arith, e)
 
   pub later_in : (x y : X) (xs : List X) → Contains xs y → Contains (x ∷ xs) y
-  later_in x y xs has = (suc has.0, (omega (arith, has.1.0), has.1.1))
+  later_in x y xs has = (suc has.0, omega (arith, has.1), has.2)
 
   pub in_cases : (x y : X) (xs : List X) → Contains (x ∷ xs) y → (x ≡ y) ⊎ Contains xs y
-  in_cases x y xs has = go has.0 has.1.0 has.1.1
+  in_cases x y xs has = go has.0 has.1 has.2
     where
       go : (n : ℕ) → n < length (x ∷ xs) → get_or (x ∷ xs) n y ≡ y → (x ≡ y) ⊎ Contains xs y
       go zero within at = inl at
-      go (suc n) within at = inr (n, (omega (arith, within), at))
+      go (suc n) within at = inr (n, omega (arith, within), at)
 
   pub none_in : (y : X) → Contains [] y → ⊥
-  none_in y has = absurd (omega (arith, has.1.0))
+  none_in y has = absurd (omega (arith, has.1))
 
   pub no_members : (xs : List X) → ((y : X) → Contains xs y → ⊥) → xs ≡ []
-  no_members [] no = refl
-  no_members (x ∷ xs) no = absurd (no x (first_in x x xs refl))
+  no_members [] never = refl
+  no_members (x ∷ xs) never = absurd (never x (first_in x x xs refl))
 
   pub all_last : (P : X → Type 0) (xs : List X) (x : X) → All P (xs ++ x ∷ []) → P x
   all_last P xs x all = All-contains P (xs ++ x ∷ []) x all (Contains-push xs x)
@@ -51,34 +51,53 @@ module _ {X : Type 0} where
 
   pub of_recursion : (P : X → Type 0) (xs : List X) (x : X) → AllByRecursion P xs → Contains xs x → P x
   of_recursion P [] x all has = absurd (none_in x has)
-  of_recursion P (y ∷ xs) x all has = go (in_cases y x xs has)
+  of_recursion P (y ∷ xs) x all has = go (in_cases y x xs has) (λ more. of_recursion P xs x all.1 more)
     where
-      go : (y ≡ x) ⊎ Contains xs x → P x
-      go (inl e) = subst P e all.0
-      go (inr more) = of_recursion P xs x all.1 more
+      go : (y ≡ x) ⊎ Contains xs x → (Contains xs x → P x) → P x
+      go (inl e) later = subst P e all.0
+      go (inr more) later = later more
 
 module _ {X Y : Type 0} (f : X → Y) where
   pub in_map : (xs : List X) (x : X) → Contains xs x → Contains (map f xs) (f x)
-  in_map xs x has = (has.0, (rw length-map has.1.0, get_or-map f xs has.0 x (f x) has.1.0 ∙ ap f has.1.1))
+  in_map xs x has = (has.0, rw length-map has.1, get_or-map f xs has.0 x (f x) has.1 ∙ ap f has.2)
 
   pub of_map : (xs : List X) (y : Y) → Contains (map f xs) y → (x : X) × Contains xs x × (f x ≡ y)
   of_map [] y has = absurd (none_in y has)
-  of_map (x ∷ xs) y has = go (in_cases (f x) y (map f xs) has)
+  of_map (x ∷ xs) y has = go (in_cases (f x) y (map f xs) has) (λ more. of_map xs y more)
     where
-      go : (f x ≡ y) ⊎ Contains (map f xs) y → (z : X) × Contains (x ∷ xs) z × (f z ≡ y)
-      go (inl e) = (x, (first_in x x xs refl, e))
-      go (inr more) = let rest = of_map xs y more in (rest.0, (later_in x rest.0 xs rest.1.0, rest.1.1))
+      go : (f x ≡ y) ⊎ Contains (map f xs) y → (Contains (map f xs) y → (z : X) × Contains xs z × (f z ≡ y)) → (z : X) × Contains (x ∷ xs) z × (f z ≡ y)
+      go (inl e) later = (x, first_in x x xs refl, e)
+      go (inr more) later = let rest = later more in (rest.0, later_in x rest.0 xs rest.1, rest.2)
 
 -- whether a number is among these
 pub is_member : (xs : List ℕ) (k : ℕ) → Contains xs k ⊎ (Contains xs k → ⊥)
 is_member [] k = inr (none_in k)
 is_member (x ∷ xs) k = go (cases_eq x k) (is_member xs k)
   where
+    either : (x ≡ k → ⊥) → (Contains xs k → ⊥) → (x ≡ k) ⊎ Contains xs k → ⊥
+    either differs none (inl e) = differs e
+    either differs none (inr more) = none more
+
     go : (x ≡ k) ⊎ (x ≡ k → ⊥) → Contains xs k ⊎ (Contains xs k → ⊥) → Contains (x ∷ xs) k ⊎ (Contains (x ∷ xs) k → ⊥)
     go (inl e) rest = inl (first_in x k xs e)
-    go (inr no) (inl more) = inl (later_in x k xs more)
-    go (inr no) (inr none) = inr (λ has. two (in_cases x k xs has))
-      where
-        two : (x ≡ k) ⊎ Contains xs k → ⊥
-        two (inl e) = no e
-        two (inr more) = none more
+    go (inr differs) (inl more) = inl (later_in x k xs more)
+    go (inr differs) (inr none) = inr (λ has. either differs none (in_cases x k xs has))
+
+pub map_map : {X Y Z : Type 0} (f : X → Y) (g : Y → Z) (xs : List X) → map g (map f xs) ≡ map (λ (x : X). g (f x)) xs
+map_map f g [] = refl
+map_map {X} {Y} {Z} f g (x ∷ xs) = ap (λ (l : List Z). g (f x) ∷ l) (map_map f g xs)
+
+-- the element at a place of a list
+pub element_at : {X : Type 0} (xs : List X) (k : ℕ) → k < length xs → (x : X) × (slice_get xs k ≡ Some x)
+element_at [] k within = absurd (omega (arith, within))
+element_at (x ∷ xs) zero within = (x, refl)
+element_at (x ∷ xs) (suc k) within = element_at xs k (omega (arith, within))
+
+pub get_left : {X : Type 0} (xs ys : List X) (k : ℕ) (x : X) → slice_get xs k ≡ Some x → slice_get (xs ++ ys) k ≡ Some x
+get_left [] ys k x is = absurd (cc is)
+get_left (y ∷ xs) ys zero x is = is
+get_left (y ∷ xs) ys (suc k) x is = get_left xs ys k x is
+
+pub segment_in_image : {D : Type 0} (q : Rattle.rack.specs.declared.rack.Rest.Rest D) (k : ℕ) (m : Rattle.rack.specs.declared.rack.ImageRest.ImageRest D)
+    → Rattle.rack.specs.Rests.image_here q.images.items k ≡ Some m → (i : ℕ) → Rattle.rack.specs.Parts.segment_in q k i ≡ Rattle.rack.specs.Rests.segment_here m i
+segment_in_image q k m is i = rw is

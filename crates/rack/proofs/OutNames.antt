@@ -14,14 +14,14 @@ use Rattle.rack.specs.declared.rack.ImageRest.{ImageRest}
 
 at_append : {A : Type 0} (name : Name) (xs ys : List (Name × A)) → at_name name xs ≡ None → at_name name ys ≡ None → at_name name (xs ++ ys) ≡ None
 at_append name [] ys e f = f
-at_append {A} name (x ∷ xs) ys e f = go (bytes_eq x.0 name) e
+at_append {A} name (x ∷ xs) ys e f = go (bytes_eq x.0 name) e (λ rest. at_append name xs ys rest f)
   where
-    go : (b : Bool) → cond b (Some x.1) (at_name name xs) ≡ None → cond b (Some x.1) (at_name name (xs ++ ys)) ≡ None
-    go true e = let no : true ≡ false = ap is_some e in cc
-    go false e = at_append name xs ys e f
+    go : (b : Bool) → cond b (Some x.1) (at_name name xs) ≡ None → (at_name name xs ≡ None → at_name name (xs ++ ys) ≡ None) → cond b (Some x.1) (at_name name (xs ++ ys)) ≡ None
+    go true e later = let differs : true ≡ false = ap is_some e in cc
+    go false e later = later e
 
 module _ {D : Type 0} (config : Config) where
-  none_names : (vs : List VolumeConf) → out_names {D} config vs [] ≡ []
+  pub none_names : (vs : List VolumeConf) → out_names {D} config vs [] ≡ []
   none_names [] = refl
   none_names (v ∷ vs) = refl
 

@@ -61,6 +61,12 @@ module _ {D : Type 0} (old new : Pool (FreeSegment D)) (index : ℕ) where
 
 -- ---- How many slots have an item
 
+pred_same : (m n : ℕ) → suc m ≡ suc n → m ≡ n
+pred_same m n e = omega arith
+
+other_suc : (i k : ℕ) → i ≢ k → suc i ≢ suc k
+other_suc i k other e = other (omega arith)
+
 module _ {T : Type 0} where
   abbrev one_in : Slot T → ℕ
   one_in s = cond (is_some (item_in s)) 1 0
@@ -72,9 +78,6 @@ module _ {T : Type 0} where
   abbrev item_of : List (Slot T) → (i : ℕ) → Option T
   item_of ss i = item_in (slice_index_or ss i Empty)
 
-  pred_same : (m n : ℕ) → suc m ≡ suc n → m ≡ n
-  pred_same m n e = omega arith
-
   same_count : (xs ys : List (Slot T)) → length ys ≡ length xs → ((i : ℕ) → item_of ys i ≡ item_of xs i) → free_count ys ≡ free_count xs
   same_count [] [] count same = refl
   same_count [] (y ∷ ys) count same = absurd (omega arith)
@@ -82,9 +85,6 @@ module _ {T : Type 0} where
   same_count (x ∷ xs) (y ∷ ys) count same =
       ap (λ (o : Option T). cond (is_some o) 1 0 + free_count ys) (same 0)
       ∙ ap (λ (n : ℕ). one_in x + n) (same_count xs ys (pred_same (length ys) (length xs) count) (λ i. same (suc i)))
-
-  other_suc : (i k : ℕ) → i ≢ k → suc i ≢ suc k
-  other_suc i k other e = other (omega arith)
 
   pub fewer : (xs ys : List (Slot T)) (k : ℕ) (x : T) → length ys ≡ length xs → ((i : ℕ) → i ≢ k → item_of ys i ≡ item_of xs i) → item_of xs k ≡ Some x → item_of ys k ≡ None → free_count ys < free_count xs
   fewer [] ys k x count same had has = absurd (none-some x had)
@@ -103,6 +103,6 @@ module _ {T : Type 0} where
   pub fewer_items : (old new : Pool T) (k : ℕ) (x : T) → IsSamePool old new → item_at old k ≡ Some x → ChangesOnly old new k None None → free_count new.slots.items < free_count old.slots.items
   fewer_items old new k x same had changes =
       fewer old.slots.items new.slots.items k x
-        (let a : new.slots.len ≡ length new.slots.items = new.slots.ok.0 in let b : old.slots.len ≡ length old.slots.items = old.slots.ok.0 in
-         let c : new.slots.len ≡ new.room = new.sized in let d : old.slots.len ≡ old.room = old.sized in let e : new.room ≡ old.room = same.room in omega arith)
-        changes.items had changes.item_here
+      (let a : new.slots.len ≡ length new.slots.items = new.slots.ok.0 in let b : old.slots.len ≡ length old.slots.items = old.slots.ok.0 in
+      let c : new.slots.len ≡ new.room = new.sized in let d : old.slots.len ≡ old.room = old.sized in let e : new.room ≡ old.room = same.room in omega arith)
+      changes.items had changes.item_here

@@ -62,6 +62,11 @@ module _ {D : Type 0} where
   IsUnbroken s =
       (flight_of (entries_of (notes_of (pass_mine s.worker))) ≡ None) × (flight_of (entries_of (notes_of (pass_mine s.helper))) ≡ None) × (flight_of (entries_of (notes_of (pass_mine s.keeper))) ≡ None)
 
+  -- and no pass wrote
+  abbrev pub IsQuiet : Station D → Type 0
+  IsQuiet s =
+      IsUnbroken s × ((writes (entries_of (notes_of (pass_mine s.worker))) ≡ []) × (writes (entries_of (notes_of (pass_mine s.helper))) ≡ []) × (writes (entries_of (notes_of (pass_mine s.keeper))) ≡ []))
+
   -- home of the volume, or a segment of a logger of its view, came back with a fault
   pub record HasFaultyPart (config : Config) (s : Station D) (old new : Told) : Type 0 where
     pub more : List (Name × ℕ)

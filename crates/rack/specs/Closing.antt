@@ -1,5 +1,5 @@
 -- What closing a rack does step by step. `state` is that of a part's disk.
-use Rattle.std.specs.Prelude.{⊤, ◌≡◌, ◌≢◌, ◌<◌, ◌≤◌, ◌+◌, ◌++◌, ◌⊎◌, ℕ, Bool, List, [], ◌∷◌, length, map, reverse, vec_capacity, Option, None, Some, IsSome, option_map, option_and_then, slice_get, slice_index_or, All, Contains}
+use Rattle.std.specs.Prelude.{⊤, ◌≡◌, ◌≢◌, ◌<◌, ◌≤◌, ◌+◌, ◌++◌, ◌⊎◌, ℕ, Bool, List, [], ◌∷◌, length, map, reverse, vec_capacity, Option, None, Some, IsSome, IfSome, option_map, option_and_then, slice_get, slice_index_or, All, Contains}
 use Rattle.std.specs.List.{AllZip}
 use Rattle.wol_disk.specs.Disk.{Block, Values, State, Rose}
 use Rattle.wol_model.specs.Blocks.{AreApart}
@@ -253,10 +253,11 @@ IsImageBack {D} state name (Some r) old new =
     (disks : List D) × IsTogether r disks × (new.told ≡ option_map (came_back name (blocks_of state disks) (faulty_places state disks)) old.told)
     × (faulty_places state disks ≢ [] → Rose old.faults new.faults) × (old.faults ≤ new.faults)
 
--- the names that went out for these images aren't out any more, and all others are as they were
+-- the names that went out for these images aren't out any more, and all others are as they were; where nothing was told nothing is
 abbrev pub LeavesNoneOut : {D : Type 0} → Config → List (Option (ImageRest D)) → (old new : Option (List (Name × List ℕ))) → Type 0
-LeavesNoneOut config images old new = (before : List (Name × List ℕ)) → All (λ (v : VolumeConf). at_name v.name before ≡ None) config.volumes.items
-    → old ≡ Some (before ++ out_names config config.volumes.items images) → new ≡ Some before
+LeavesNoneOut config images old new =
+    (before : Option (List (Name × List ℕ))) → IfSome before (λ os. All (λ (v : VolumeConf). at_name v.name os ≡ None) config.volumes.items)
+    → old ≡ option_map (λ os. os ++ out_names config config.volumes.items images) before → new ≡ before
 
 -- an image is in the bay with the blocks of its parts, and those with a fault are among these
 pub record IsStoredAs {D : Type 0} (state : D → State) (name : Name) (r : ImageRest D) (more : List (Name × ℕ)) (new : Told) : Type 0 where

@@ -1,5 +1,5 @@
 -- What the leaves of opening and closing do: a pool is filled and emptied, and parts and passes go out of a rest and come back.
-use Rattle.std.specs.Prelude.{⊤, ◌≡◌, ◌≢◌, ◌==◌, ◌<◌, ◌≤◌, ◌+◌, ◌∷◌, ℕ, Bool, false, List, [], length, map, filter, take, count_by, vec_capacity, Option, None, Some, MatchOption, is_some, slice_get, slice_index_or, Contains, All, AllPairs, IsSome}
+use Rattle.std.specs.Prelude.{⊤, ◌≡◌, ◌≢◌, ◌==◌, ◌<◌, ◌≤◌, ◌+◌, ◌∷◌, ℕ, Bool, false, List, [], length, map, filter, take, count_by, sum_by, vec_capacity, Option, None, Some, MatchOption, is_some, slice_get, slice_index_or, Contains, All, AllPairs, IsSome}
 use Rattle.std.specs.declared.alloc.Global.{Global}
 use Rattle.std.specs.declared.vec.Vec.{Vec}
 use Rattle.wol_disk.specs.Disk.{State}
@@ -14,7 +14,7 @@ use Rattle.spin_model.specs.declared.spindle.Spindle.{Spindle}
 use Rattle.spin_model.specs.declared.spindle.SpindleBase.{SpindleBase}
 use Rattle.spin_model.specs.declared.spun.Spun.{Spun}
 use Rattle.seg_pool.specs.Holders.{holder}
-use Rattle.seg_pool.specs.Pools.{item_at, note_at, room_of, base_of}
+use Rattle.seg_pool.specs.Pools.{IsEmptyPool, item_at, note_at, room_of, volume_of, blocks_of, base_of}
 use Rattle.seg_pool.specs.declared.base.Holder.{Holder}
 use Rattle.seg_pool.specs.declared.base.Holder.TheVariants.{Elsewhere, InPool, HeldBy}
 use Rattle.seg_pool.specs.declared.base.PoolBase.{PoolBase}
@@ -159,14 +159,15 @@ CanIssue state volumes id s None (Some r) = ⊥
 CanIssue state volumes id s (Some said) None = ⊥
 CanIssue state volumes id s (Some said) (Some r) = CanFill state volumes id s said r
 
+-- the same where there is a head
+abbrev pub of_head : Option SegHead → Holder
+of_head None = Elsewhere
+of_head (Some h) = holder_said h
+
 -- who has a segment when the lock is made, by what the image says
 abbrev pub holder_by : Option Said → (i : ℕ) → Holder
 holder_by None i = Elsewhere
 holder_by (Some said) i = of_head (slice_get said.heads.items i)
-  where
-    of_head : Option SegHead → Holder
-    of_head None = Elsewhere
-    of_head (Some h) = holder_said h
 
 -- a pool's lock with a new pass for each volume
 pub record IsIssuedPool {D : Type 0} (volumes id : ℕ) (s : Shape) (said : Option Said) (i : Issued (Pool (FreeSegment D)) PoolBase) : Type 0 where
@@ -193,6 +194,22 @@ Restores state id blocks None old new = new ≡ old
 Restores state id blocks (Some said) None new = new ≡ None
 Restores state id blocks (Some said) (Some r) None = ⊥
 Restores state id blocks (Some said) (Some r) (Some n) = IsRestored state id blocks said r n
+
+-- an empty pool of these sizes may get the segments of an image that says this
+pub record MaySupply {D : Type 0} (state : D → State) (p : Pool (FreeSegment D)) (said : Option Said) (image : Option (ImageRest D)) : Type 0 where
+  pub volumes : ℕ
+  pub shape : Shape
+  pub room : room_of p ≡ shape.segments
+  pub blocks : blocks_of p ≡ shape.segment_blocks
+  pub may : CanIssue state volumes (volume_of p) shape said image
+
+-- the pool has the free segments of the image, each of which has its place there, and the notes of the others
+pub record IsSupplied {D : Type 0} (state : D → State) (said : Option Said) (old new : Option (ImageRest D)) (p : Pool (FreeSegment D)) : Type 0 where
+  pub holders : (index : ℕ) → holder (base_of p).holders index ≡ holder_by said index
+  pub supplies : Supplies said old new
+  pub places : MatchOption new (IsEmptyPool p) (HasPlaces p)
+  -- where the pool is emptied again, all is restored
+  pub restorable : (last : Option (ImageRest D)) → EmptiesInto p new last → Restores state (volume_of p) (blocks_of p) said old last
 
 -- the lock may be ended: all of its new passes are here, and each free segment has its place in the image
 pub record CanEnd {D : Type 0} (i : Issued (Pool (FreeSegment D)) PoolBase) (image : Option (ImageRest D)) : Type 0 where
@@ -267,25 +284,39 @@ pub record IsSetUp {D : Type 0} (spindles : List (Issued Spindle SpindleBase)) (
 
 -- ---- Parts and passes go out of a rest and come back
 
--- the segments of a volume for lanes on the log of volume k
+-- how many segments a volume of this shape has
+abbrev pub segment_count : Option Shape → ℕ
+segment_count None = 0
+segment_count (Some s) = s.segments
+
+-- those of volume k
 abbrev pub segments_of : Config → (k : ℕ) → ℕ
-segments_of config k = count_in (slice_get (shapes_of config) k)
-  where
-    count_in : Option Shape → ℕ
-    count_in None = 0
-    count_in (Some s) = s.segments
+segments_of config k = segment_count (slice_get (shapes_of config) k)
 
 -- a place whose head names the owner v
 abbrev pub IsOwnedPlace : (said : List (Option Said)) → (v k i : ℕ) → Type 0
 IsOwnedPlace said v k i = (s : Said) × (slice_get said k ≡ Some (Some s)) × (slice_get s.heads.items i ≡ Some (Owned v))
 
+-- whether the head is of the owner v
+abbrev pub is_owned_by : ℕ → SegHead → Bool
+is_owned_by v Free = false
+is_owned_by v (Owned owner) = owner == v
+
+-- how many heads are of the owner v
+abbrev pub count_owners : (v : ℕ) → List SegHead → ℕ
+count_owners v heads = count_by (is_owned_by v) heads
+
 -- how many segments with the owner v an image says
 abbrev pub owned_count : (v : ℕ) → Said → ℕ
-owned_count v said = count_by (λ (h : SegHead). is_owned_by v h) said.heads.items
+owned_count v said = count_owners v said.heads.items
+
+-- how many all images say
+abbrev pub owned_total : (v : ℕ) → List (Option Said) → ℕ
+owned_total v said = sum_by (count_in v) said
   where
-    is_owned_by : ℕ → SegHead → Bool
-    is_owned_by v Free = false
-    is_owned_by v (Owned owner) = owner == v
+    count_in : ℕ → Option Said → ℕ
+    count_in v None = 0
+    count_in v (Some s) = owned_count v s
 
 module _ {D : Type 0} where
   -- what a volume has at a logger is as it was
@@ -394,13 +425,14 @@ module _ {D : Type 0} where
   abbrev pub KeepsImage : (old new : Option (ImageRest D)) → Type 0
   KeepsImage old new = MatchOption old (new ≡ None) (λ r. (n : ImageRest D) × (new ≡ Some n) × IsSameBut r n)
 
-  -- segment i of volume k, where the image is out and it is here
+  -- segment i of an image, where the image is out and it is here
+  abbrev pub in_image : Option (ImageRest D) → ℕ → Option (Spun D)
+  in_image None i = None
+  in_image (Some r) i = segment_here r i
+
+  -- the same of the image of volume k
   abbrev pub segment_in : Rest D → (k i : ℕ) → Option (Spun D)
   segment_in r k i = in_image (image_here r.images.items k) i
-    where
-      in_image : {D : Type 0} → Option (ImageRest D) → ℕ → Option (Spun D)
-      in_image None i = None
-      in_image (Some r) i = segment_here r i
 
   -- owned segments came back to their places
   pub record PutsOwned (old new : Rest D) (os : List (OwnedPart D)) : Type 0 where
@@ -507,27 +539,40 @@ module _ {D : Type 0} where
     pub head : slice_get saying.heads.items o.index ≡ Some (Owned v)
     pub first : (s : Shape) → slice_get (shapes_of config) o.logger ≡ Some s → o.first_block ≡ head_place s o.index
 
+  -- each segment with the owner v is in its place
+  abbrev pub AreOwnersHere : ImageRest D → (v : ℕ) → List SegHead → Type 0
+  AreOwnersHere r v heads = (i : ℕ) → slice_get heads i ≡ Some (Owned v) → IsSome (segment_here r i)
+
+  -- the segments with the owner v went out of the image of volume k, by rising index
+  pub record TakesOwners (s : Shape) (old new : ImageRest D) (v k : ℕ) (heads : List SegHead) (os : List (OwnedPart D)) : Type 0 where
+    pub same : IsSameBut old new
+    pub in_order : AreInOrder (map place_of os)
+    pub loggers : All (λ (o : OwnedPart D). o.logger ≡ k) os
+    pub each : All (λ (o : OwnedPart D). (slice_get heads o.index ≡ Some (Owned v)) × (segment_here old o.index ≡ Some o.part)) os
+    pub first : All (λ (o : OwnedPart D). o.first_block ≡ head_place s o.index) os
+    pub all : (i : ℕ) → slice_get heads i ≡ Some (Owned v) → Contains (map place_of os) (k, i)
+    pub gone : (i : ℕ) → slice_get heads i ≡ Some (Owned v) → segment_here new i ≡ None
+    pub others : (i : ℕ) → slice_get heads i ≢ Some (Owned v) → segment_here new i ≡ segment_here old i
+
   -- the image of volume k is out and says this, and its segments with the owner v are in their places
   pub record CanTakeOwnedOf (r : Rest D) (v k : ℕ) (said : Said) : Type 0 where
     pub image : ImageRest D
     pub out : image_here r.images.items k ≡ Some image
     pub count : length said.heads.items ≡ length image.segments.items
-    pub here : (i : ℕ) → slice_get said.heads.items i ≡ Some (Owned v) → IsSome (segment_here image i)
+    pub few : length said.heads.items ≤ 1024
+    pub here : AreOwnersHere image v said.heads.items
 
-  -- the owned segments of volume v in the image of volume k went out, by rising index
+  -- the owned segments of volume v in the image of volume k went out
   pub record TakesOwnedOf (config : Config) (old new : Rest D) (v k : ℕ) (said : Said) (os : List (OwnedPart D)) : Type 0 where
     pub passes : new.passes ≡ old.passes
     pub rooms : new.rooms ≡ old.rooms
     pub count : length new.images.items ≡ length old.images.items
-    pub image : KeepsImage (image_here old.images.items k) (image_here new.images.items k)
     pub images : (j : ℕ) → j ≢ k → image_here new.images.items j ≡ image_here old.images.items j
-    pub in_order : AreInOrder (map place_of os)
-    pub loggers : All (λ (o : OwnedPart D). o.logger ≡ k) os
-    pub each : All (λ (o : OwnedPart D). (slice_get said.heads.items o.index ≡ Some (Owned v)) × (segment_in old k o.index ≡ Some o.part)) os
-    pub first : (s : Shape) → slice_get (shapes_of config) k ≡ Some s → All (λ (o : OwnedPart D). o.first_block ≡ head_place s o.index) os
-    pub all : (i : ℕ) → slice_get said.heads.items i ≡ Some (Owned v) → Contains (map place_of os) (k, i)
-    pub gone : (i : ℕ) → slice_get said.heads.items i ≡ Some (Owned v) → segment_in new k i ≡ None
-    pub others : (i : ℕ) → slice_get said.heads.items i ≢ Some (Owned v) → segment_in new k i ≡ segment_in old k i
+    pub before : ImageRest D
+    pub was : image_here old.images.items k ≡ Some before
+    pub after : ImageRest D
+    pub is : image_here new.images.items k ≡ Some after
+    pub takes : (s : Shape) → slice_get (shapes_of config) k ≡ Some s → TakesOwners s before after v k said.heads.items os
 
   -- all owned segments of volume v went out, by rising logger and index
   pub record TakesOwned (config : Config) (old new : Rest D) (said : List (Option Said)) (v : ℕ) (os : List (OwnedPart D)) : Type 0 where
@@ -544,7 +589,7 @@ module _ {D : Type 0} where
   -- an image is out exactly where it says something, and each segment with an owner v is in its place
   pub record AreOwnedHere (r : Rest D) (said : List (Option Said)) (v : ℕ) : Type 0 where
     pub count : length said ≡ length r.images.items
-    pub out : (k : ℕ) (s : Said) → slice_get said k ≡ Some (Some s) → (image : ImageRest D) × (image_here r.images.items k ≡ Some image) × (length s.heads.items ≡ length image.segments.items)
+    pub out : (k : ℕ) (s : Said) → slice_get said k ≡ Some (Some s) → (image : ImageRest D) × (image_here r.images.items k ≡ Some image) × (length s.heads.items ≡ length image.segments.items) × (length s.heads.items ≤ 1024)
     pub here : (k i : ℕ) → IsOwnedPlace said v k i → IsSome (segment_in r k i)
 
   -- what volume v may be opened of is here

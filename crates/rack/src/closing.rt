@@ -5,12 +5,12 @@ ghost use Rattle.wol_bay.specs.Bay.{Name, Told, outs, at_name, IsHome};
 ghost use Rattle.wol_config.specs.Configs.{IsValid};
 ghost use Rattle.spin_model.specs.Spindles.{SpindleView};
 ghost use Rattle.volume_images.specs.Left.{IsTold};
-ghost use Rattle.volume_images.specs.Volumes.{NoneOut, shapes_of};
+ghost use Rattle.volume_images.specs.Volumes.{shapes_of};
 ghost use Rattle.rack.specs.Foreign.{AreForeign};
-ghost use Rattle.rack.specs.Racks.{IsClosable, AreUnused, base_of_station};
+ghost use Rattle.rack.specs.Racks.{IsClosable};
 ghost use Rattle.rack.specs.Owners.{HadRefused};
 ghost use Rattle.rack.specs.Opens.{out_names, BeganWith, KeepsAllSound};
-ghost use Rattle.rack.specs.Closes.{IsClosedSpindle, IsClosedVolume, IsUnbroken, AreLeftOfParts, HasFaultIn, LeavesOut};
+ghost use Rattle.rack.specs.Closes.{IsClosedSpindle, IsClosedVolume, IsUnbroken, IsQuiet, AreLeftOfParts, HasFaultIn, LeavesOut};
 ghost use Rattle.rack.specs.Closing.{pool_in, spindle_in, ArePoolsTaken, AreSpindlesTaken, LeavesNoneOut};
 ghost use Rattle.rack.specs.declared.rack.VolumePasses.{VolumePasses};
 
@@ -237,14 +237,13 @@ fn gather_spindles<D: Disk>(
 pub fn close_all<B: Bay>(rack: Rack<B::Part>, bay: &mut B, config: &Config) -> Vec<Spindle>
     requires config { IsValid config.now }
     requires rack { IsClosable B.Part.state config.now (B.state bay.old) rack }
-    ensures none_out { NoneOut config.now (B.state bay.new) }
     ensures home { LeavesNoneOut config.now rack.rest.images.items (outs (B.state bay.old)) (outs (B.state bay.new)) }
     ensures count { length result.items ≡ length (shapes_of config.now) }
     ensures spindles { (k : ℕ) (s : SpindleView) → slice_get result.items k ≡ Some s → IsClosedSpindle rack k s }
     ensures stations { All (IsClosedVolume B.Part.tells config.now rack.rest.images.items (B.state bay.old) (B.state bay.new)) rack.stations.items }
     ensures parts { IsTrue B.Part.tells → IsTold (λ old new. AreLeftOfParts B.Part.state config.now rack new) (B.state bay.old).told (B.state bay.new).told }
-    // since the rack was opened, where no pass was used
-    ensures left { (entry : Told) → IsTrue B.Part.tells → BeganWith B.Part.state config.now entry rack → AreUnused rack.stations.items
+    // since the rack was opened, where nothing was written
+    ensures left { (entry : Told) → IsTrue B.Part.tells → BeganWith B.Part.state config.now entry rack → All (λ s. IsQuiet s) rack.stations.items
         → IsTold (λ old new. HadRefused config.now rack.rest.images.items entry old → LeavesOut config.now rack.rest.images.items entry new) (B.state bay.old).told (B.state bay.new).told }
     // and where no call of a disk failed
     ensures sound { (entry : Told) → IsTrue B.Part.tells → BeganWith B.Part.state config.now entry rack → All (λ s. IsUnbroken s) rack.stations.items

@@ -6,7 +6,7 @@ ghost use Rattle.turn_lock.specs.Passes.{lock_id};
 ghost use Rattle.log_segment.specs.Segment.{IsBlank};
 ghost use Rattle.seg_pool.specs.Pools.{IsEmptyPool, IsSamePool, StandsFor, item_at, note_at, room_of, volume_of, blocks_of, base_of};
 ghost use Rattle.volume_images.specs.Volumes.{shapes_of};
-ghost use Rattle.rack.specs.Parts.{AreFillable, IsBlankPart, left_by, FillsSlot, TakesFree, IsFilledPool, HasPlaces, EmptiesInto, CanIssue, IsIssuedPool, Supplies, Restores, CanEnd, EndsInto};
+ghost use Rattle.rack.specs.Parts.{AreFillable, IsBlankPart, left_by, FillsSlot, TakesFree, IsFilledPool, IsSameBut, HasPlaces, EmptiesInto, MaySupply, IsSupplied, CanIssue, IsIssuedPool, Supplies, Restores, CanEnd, EndsInto};
 
 use crate::heads_said::Said;
 use crate::locks::IssuedPool;
@@ -87,6 +87,47 @@ pub(crate) fn empty_pool<D: Disk>(pool: Pool<FreeSegment<D>>, image: &mut Option
     pool.destroy_empty();
 }
 
+// Gives an empty pool the free segments of an image, where it is out.
+fn supply<D: Disk>(
+    pool: &mut Pool<FreeSegment<D>>,
+    said: &Option<Said>,
+    image: &mut Option<ImageRest<D>>,
+)
+    requires blocks { (4 ≤ blocks_of pool.old) × (blocks_of pool.old ≤ 65536) }
+    requires few { room_of pool.old ≤ 1024 }
+    requires empty { IsEmptyPool pool.old }
+    requires notes { (index : ℕ) → note_at pool.old index ≡ None }
+    requires stands { StandsFor (IsBlank D.state) pool.old (base_of pool.old) [] }
+    requires ready { MaySupply D.state pool.old said.now image.old }
+    ensures same { IsSamePool pool.old pool.new }
+    ensures stands { StandsFor (IsBlank D.state) pool.new (base_of pool.new) [] }
+    ensures supplied { IsSupplied D.state said.now image.old image.new pool.new }
+{
+    let Some(said) = said else { return };
+    let Some(image) = image else { unreachable!() };
+    image.give_free(pool, said.heads.as_slice());
+}
+
+impl<D: Disk> ImageRest<D> {
+    // Gives the free segments to an empty pool, and notes who holds the others.
+    fn give_free(&mut self, pool: &mut Pool<FreeSegment<D>>, heads: &[SegHead])
+        requires room { room_of pool.old ≡ length heads.now }
+        requires few { length heads.now ≤ 1024 }
+        requires blocks { (4 ≤ blocks_of pool.old) × (blocks_of pool.old ≤ 65536) }
+        requires empty { IsEmptyPool pool.old }
+        requires notes { (index : ℕ) → note_at pool.old index ≡ None }
+        requires stands { StandsFor (IsBlank D.state) pool.old (base_of pool.old) [] }
+        requires segments { AreFillable D.state (volume_of pool.old) (blocks_of pool.old) heads.now self.old.segments.items }
+        ensures same { IsSamePool pool.old pool.new }
+        ensures stands { StandsFor (IsBlank D.state) pool.new (base_of pool.new) [] }
+        ensures filled { IsFilledPool heads.now self.old.segments.items pool.new }
+        ensures rest { IsSameBut self.old self.new }
+        ensures segments { TakesFree heads.now self.old.segments.items self.new.segments.items }
+    {
+        fill_pool(pool, heads, &mut self.segments);
+    }
+}
+
 // The pool of an image that is out, or an empty one, behind a lock with a pass for each volume.
 fn issue_pool<D: Disk>(
     alloc: Global,
@@ -104,9 +145,7 @@ fn issue_pool<D: Disk>(
 {
     let segments = config.volumes[id as usize].segments;
     let mut pool = Pool::new(alloc, segments, id, config.segment_blocks)?;
-    if let (Some(said), Some(image)) = (said, &mut *image) {
-        fill_pool(&mut pool, said.heads.as_slice(), &mut image.segments);
-    }
+    supply(&mut pool, said, image);
     match TurnLock::new(alloc, pool, config.volumes.len() as u32, 0) {
         Ok((lock, passes)) => Ok(IssuedPool { lock, passes }),
         Err((pool, _)) => {
@@ -160,9 +199,18 @@ pub(crate) fn end_pools<D: Disk>(made: Vec<IssuedPool<D>>, images: &mut [Option<
     ensures others { (k : ℕ) → length made.items ≤ k → slice_index_or images.new k None ≡ slice_index_or images.old k None }
 {
     let mut made = made;
-    while let Some(IssuedPool { lock, passes }) = made.pop() {
-        let pool = lock.close(passes);
-        empty_pool(pool, &mut images[made.len()]);
+    while let Some(issued) = made.pop() {
+        end_pool(issued, &mut images[made.len()]);
     }
     made.destroy_empty();
+}
+
+// Ends one of them.
+fn end_pool<D: Disk>(issued: IssuedPool<D>, image: &mut Option<ImageRest<D>>)
+    requires ready { CanEnd issued image.old }
+    ensures { EndsInto D.state (lock_id issued.lock).base image.old image.new }
+{
+    let IssuedPool { lock, passes } = issued;
+    let pool = lock.close(passes);
+    empty_pool(pool, image);
 }

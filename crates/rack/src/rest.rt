@@ -7,11 +7,11 @@ ghost use Rattle.wol_config.specs.declared.config.VolumeConf.{VolumeConf};
 ghost use Rattle.logger.specs.Lanes.{IsLane, logger_of, taken_in};
 ghost use Rattle.volume_images.specs.Formatted.{part_sizes};
 ghost use Rattle.volume_images.specs.Left.{IsTold};
-ghost use Rattle.volume_images.specs.Volumes.{NoneOut, shape_in};
+ghost use Rattle.volume_images.specs.Volumes.{shape_in};
 ghost use Rattle.rack.specs.Rests.{segment_here, IsImageRest, AreImageRests};
 ghost use Rattle.rack.specs.Racks.{AreOut};
 ghost use Rattle.rack.specs.Making.{IsFilled};
-ghost use Rattle.rack.specs.Parts.{IsBarePlace, CanPutLanes, PutsLane, PutsLanes, CanPutHeld, PutsHeld, IsHomeAway, ChangesHome, PutsManager, CanPutOwned, PutsOpening};
+ghost use Rattle.rack.specs.Parts.{IsBarePlace, CanPutLanes, PutsLane, PutsLanes, CanPutHeld, PutsHeld, IsHomeAway, with_home, ChangesHome, PutsManager, CanPutOwned, PutsOpening};
 ghost use Rattle.rack.specs.Closing.{IsComplete, AreComplete, IsImageBack, GivesBack, HasFaultHere, LeavesNoneOut};
 ghost use Rattle.rack.specs.declared.rack.ImageRest.{ImageRest};
 
@@ -45,6 +45,27 @@ pub(crate) fn put_segment<D: Disk>(image: &mut Option<ImageRest<D>>, index: u32,
 {
     let Some(image) = image else { unreachable!() };
     image.put(index, part);
+}
+
+// The home comes back to what is here of its image.
+fn put_home<D: Disk>(image: &mut Option<ImageRest<D>>, home: Spun<D>)
+    requires there { IsSome image.old }
+    requires none { IfSome image.old (λ r. r.home ≡ None) }
+    ensures { image.new ≡ with_home (Some home) image.old }
+{
+    let Some(image) = image else { unreachable!() };
+    image.put_home(home);
+}
+
+/// The home goes out of what is here of its image.
+pub(crate) fn take_home<D: Disk>(image: &mut Option<ImageRest<D>>) -> Spun<D>
+    requires there { IsSome image.old }
+    requires here { IfSome image.old (λ r. IsSome r.home) }
+    ensures home { IfSome image.old (λ r. r.home ≡ Some result) }
+    ensures rest { image.new ≡ with_home None image.old }
+{
+    let Some(image) = image else { unreachable!() };
+    image.take_home()
 }
 
 impl<D: Disk> Rest<D> {
@@ -96,11 +117,9 @@ impl<D: Disk> Rest<D> {
         requires { IsHomeAway self.old id }
         ensures { ChangesHome self.old self.new id (Some home) (Some spindle) }
     {
-        let Some(image) = &mut self.images[id as usize] else {
-            unreachable!()
-        };
-        fill(&mut image.home, home);
-        fill(&mut self.passes[id as usize].spindles[id as usize], spindle);
+        put_home(&mut self.images[id as usize], home);
+        let passes = &mut self.passes[id as usize];
+        fill(&mut passes.spindles[id as usize], spindle);
     }
 
     /// What volume `id` was opened with comes back.
@@ -156,7 +175,7 @@ impl<D: Disk> Rest<D> {
 }
 
 impl<D: Disk> ImageRest<D> {
-    ghost use Rattle.std.specs.Prelude.{◌≡◌, ◌<◌, None, length};
+    ghost use Rattle.std.specs.Prelude.{◌≡◌, ◌<◌, None, Some, length, IsSome};
     ghost use Rattle.rack.specs.Rests.{segment_here};
     ghost use Rattle.rack.specs.Making.{IsFilled};
     ghost use Rattle.rack.specs.Parts.{IsAllHere, IsTogether};
@@ -168,6 +187,26 @@ impl<D: Disk> ImageRest<D> {
         ensures { IsFilled self.old self.new index part }
     {
         fill(&mut self.segments[index as usize], part);
+    }
+
+    // Its home comes back.
+    fn put_home(&mut self, home: Spun<D>)
+        requires { self.old.home ≡ None }
+        ensures { self.new ≡ record self.old { home = Some home } }
+    {
+        fill(&mut self.home, home);
+    }
+
+    // Its home goes out.
+    fn take_home(&mut self) -> Spun<D>
+        requires { IsSome self.old.home }
+        ensures home { self.old.home ≡ Some result }
+        ensures rest { self.new ≡ record self.old { home = None } }
+    {
+        let Some(home) = self.home.take() else {
+            unreachable!()
+        };
+        home
     }
 
     // The parts of an image all of which are here, for its bay.
@@ -208,7 +247,6 @@ pub(crate) fn give_back<B: Bay>(
     requires images { AreImageRests B.Part.state config.now images.items }
     requires whole { AreComplete images.items }
     requires out { AreOut config.now images.items (B.state bay.old) }
-    ensures none_out { NoneOut config.now (B.state bay.new) }
     ensures home { LeavesNoneOut config.now images.items (outs (B.state bay.old)) (outs (B.state bay.new)) }
     ensures back { IsTold (GivesBack B.Part.state config.now images.items 0) (B.state bay.old).told (B.state bay.new).told }
     ensures cause { HasFaultHere B.Part.state images.items 0 → Rose (B.state bay.old).faults (B.state bay.new).faults }

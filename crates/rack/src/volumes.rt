@@ -1,16 +1,19 @@
 // The volumes whose images are out are opened.
 ghost use Rattle.std.specs.Prelude.{◌≡◌, ◌<◌, ◌≤◌, ◌+◌, ◌∷◌, [], ◌++◌, List, None, Some, length, map, All, IfOk, OnOk, OnErr, IfSome, IsSome, is_some, vec_len, vec_capacity};
+ghost use Rattle.wol_model.specs.Heads.{IsShape};
 ghost use Rattle.wol_config.specs.Configs.{IsValid};
+ghost use Rattle.log_layout.specs.Values.{shape_of};
 ghost use Rattle.logger.specs.Lanes.{logger_of};
 ghost use Rattle.manager_recovery.specs.declared.opening.OwnedPart.{OwnedPart};
 ghost use Rattle.rack.specs.Rests.{image_here, spindle_pass};
-ghost use Rattle.rack.specs.Parts.{IsUsablePlace, IsNewLane, TakesPasses, TakesLanes, IsSameRest, loggers_out, segments_of, owned_count, TakesOwnedOf, CanTakeOwnedOf, AreOwnedHere, TakesOwned, HasPlace, ChangesHome, CanTake, TakesOpening};
+ghost use Rattle.rack.specs.Parts.{IsUsablePlace, IsNewLane, TakesPasses, TakesLanes, IsSameRest, loggers_out, segments_of, owned_count, TakesOwnedOf, CanTakeOwnedOf, AreOwnedHere, TakesOwned, HasPlace, ChangesHome, CanTake, TakesOpening, owned_total, count_owners, AreOwnersHere, TakesOwners};
 ghost use Rattle.rack.specs.declared.rack.ImageRest.{ImageRest};
 
 use crate::VolumeFault;
 use crate::heads_said::Said;
-use crate::rack::{Rack, Rest};
-use log_layout::{SegHead, View};
+use crate::rack::{ImageRest, Rack, Rest};
+use crate::rest::take_home;
+use log_layout::{Label, SegHead, View};
 use logger::Lane;
 use manager::Station;
 use manager_recovery::{OpenRefusal, Opening, OwnedPart, open_volume};
@@ -32,6 +35,14 @@ impl<D: Disk> Rest<D> {
             present.push_reserved(image.is_some());
         }
         Ok(present)
+    }
+
+    // Whether the image of a volume is out.
+    fn is_out(&self, id: u32) -> bool
+        ensures { result ≡ is_some (image_here self.now.images.items id) }
+    {
+        let place = id as usize;
+        place < self.images.len() && self.images[place].is_some()
     }
 
     // A lane of volume `id` on the log of another.
@@ -84,8 +95,7 @@ impl<D: Disk> Rest<D> {
             return Err(NoMemory);
         };
         for logger in view.ids() {
-            let place = *logger as usize;
-            if place < self.images.len() && self.images[place].is_some() {
+            if self.is_out(*logger) {
                 match self.take_lane(alloc, config, id, *logger) {
                     Ok(lane) => lanes.push_reserved(lane),
                     Err(NoMemory) => {
@@ -118,19 +128,7 @@ impl<D: Disk> Rest<D> {
             unreachable!()
         };
         let label = label_of(config, logger);
-        for (index, head) in said.heads.iter().enumerate() {
-            if *head == SegHead::Owned(id) {
-                let Some(part) = image.segments[index].take() else {
-                    unreachable!()
-                };
-                owned.push_reserved(OwnedPart {
-                    logger,
-                    index: index as u32,
-                    first_block: head_place(&label, index as u32),
-                    part,
-                });
-            }
-        }
+        image.take_owned(&label, id, said.heads.as_slice(), owned);
     }
 
     // All segments that the volume owns, by rising logger and index.
@@ -147,15 +145,10 @@ impl<D: Disk> Rest<D> {
         ensures taken { IfOk result (λ owned. TakesOwned config.now self.old self.new said.now id owned.items) }
         ensures same { OnErr result (self.new ≡ self.old) }
     {
-        let mut count = 0;
-        for said in said {
-            if let Some(said) = said {
-                count += said.owned(id);
-            }
-        }
+        let count = count_owned(said, id);
         let mut owned = Vec::with_capacity(alloc, count)?;
-        for (logger, said) in said.iter().enumerate() {
-            if let Some(said) = said {
+        for logger in 0..said.len() {
+            if let Some(said) = &said[logger] {
                 self.take_owned_of(config, id, logger as u32, said, &mut owned);
             }
         }
@@ -172,13 +165,9 @@ impl<D: Disk> Rest<D> {
         ensures spindle { spindle_pass self.old id id ≡ Some result.1 }
         ensures rest { ChangesHome self.old self.new id None None }
     {
-        let Some(image) = &mut self.images[id as usize] else {
-            unreachable!()
-        };
-        let Some(home) = image.home.take() else {
-            unreachable!()
-        };
-        let Some(spindle) = self.passes[id as usize].spindles[id as usize].take() else {
+        let home = take_home(&mut self.images[id as usize]);
+        let passes = &mut self.passes[id as usize];
+        let Some(spindle) = passes.spindles[id as usize].take() else {
             unreachable!()
         };
         (home, spindle)
@@ -220,6 +209,54 @@ impl<D: Disk> Rest<D> {
             lanes,
             owned,
         })
+    }
+}
+
+// How many segments the volume owns in all images.
+fn count_owned(said: &[Option<Said>], id: u32) -> usize
+    requires few { length said.now ≤ 64 }
+    requires short { All (λ s. IfSome s (λ x. length x.heads.items ≤ 1024)) said.now }
+    ensures { result ≡ owned_total id said.now }
+{
+    let mut count = 0;
+    for said in said {
+        if let Some(said) = said {
+            count += said.owned(id);
+        }
+    }
+    count
+}
+
+impl<D: Disk> ImageRest<D> {
+    // The segments with the owner `id` go behind `owned`.
+    fn take_owned(
+        &mut self,
+        label: &Label,
+        id: u32,
+        heads: &[SegHead],
+        owned: &mut Vec<OwnedPart<D>>,
+    )
+        requires shape { IsShape (shape_of label.now) }
+        requires count { length heads.now ≡ length self.old.segments.items }
+        requires few { length heads.now ≤ 1024 }
+        requires here { AreOwnersHere self.old id heads.now }
+        requires room { vec_len owned.old + count_owners id heads.now ≤ vec_capacity owned.old }
+        ensures room { vec_capacity owned.new ≡ vec_capacity owned.old }
+        ensures taken { (more : List (OwnedPart D)) × (owned.new.items ≡ owned.old.items ++ more) × (length more ≡ count_owners id heads.now) × TakesOwners (shape_of label.now) self.old self.new id label.now.id heads.now more }
+    {
+        for index in 0..heads.len() {
+            if heads[index] == SegHead::Owned(id) {
+                let Some(part) = self.segments[index].take() else {
+                    unreachable!()
+                };
+                owned.push_reserved(OwnedPart {
+                    logger: label.id,
+                    index: index as u32,
+                    first_block: head_place(label, index as u32),
+                    part,
+                });
+            }
+        }
     }
 }
 

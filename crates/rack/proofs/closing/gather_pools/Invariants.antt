@@ -13,6 +13,6 @@ invariant-loop-volume g l = record {
   count : length l.passes ≡ length l.initial.passes;
   gathered : length l.room.items ≡ l.volume-index;
   capacity : vec_capacity l.room ≡ vec_capacity l.fn.room;
-  taken : (v : ℕ) (d : VolumePasses g.D) (e : PassOf (Pool (FreeSegment g.D)) PoolBase) → v < l.volume-index → IsPoolTaken l.id (get_or l.initial.passes v d) (get_or l.passes v d) (get_or l.room.items v e);
-  others : (v : ℕ) (d : VolumePasses g.D) → l.volume-index ≤ v → get_or l.passes v d ≡ get_or l.initial.passes v d;
+  taken : (v : ℕ) (d : VolumePasses g.row.D.Denot) (e : PassOf (Pool (FreeSegment g.row.D.Denot)) PoolBase) → v < l.volume-index → IsPoolTaken l.id (get_or l.initial.passes v d) (get_or l.passes v d) (get_or l.room.items v e);
+  others : (v : ℕ) (d : VolumePasses g.row.D.Denot) → l.volume-index ≤ v → get_or l.passes v d ≡ get_or l.initial.passes v d;
 }

@@ -28,7 +28,7 @@ loop-segment-preserved g c =
     record {
       kept = ap (λ (l : List Part). map (λ (p : Part). Some p) l ++ reverse c.pop.new.self.items) c.push_reserved.ensures.items
           ∙ together_next c.loop-segment.row.items c.pop.new.self.items c.in-Some-segment.part c.in-Some.segment c.args.self.segments.items c.in-Some-segment.is
-            (ap (λ (l : List (Option Part)). map (λ (p : Part). Some p) c.loop-segment.row.items ++ reverse l) (sym c.in-Some.ensures.items) ∙ inv.kept);
+          (ap (λ (l : List (Option Part)). map (λ (p : Part). Some p) c.loop-segment.row.items ++ reverse l) (sym c.in-Some.ensures.items) ∙ inv.kept);
       here = (All-pop (λ (o : Option Part). IsSome o) _ _ (Some c.in-Some.segment) c.in-Some.ensures.items inv.here).0;
       room = omega (arith, inv.room, c.push_reserved.ensures.len, c.push_reserved.ensures.capacity, c.in-Some.ensures.len);
     }

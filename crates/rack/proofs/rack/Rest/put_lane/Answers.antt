@@ -18,7 +18,7 @@ destroy_empty-requires g c =
     let is : slice_get r.passes.items c.args.id ≡ Some row = slice_get_read r.passes.items (length r.passes.items) c.args.id row refl (omega (arith, c.requires.bare.place.row)) c.index_mut-passes.ensures.value in
     let size = size_of r c.args.id k row c.requires.bare.place is in
     let at : slice_get row.held.items c.release-logger.result.logger ≡ Some x = slice_get_read row.held.items (length row.held.items) c.release-logger.result.logger x refl
-        (omega (arith, size.1.held, size.2, c.release-logger.ensures.logger)) c.index_mut-3.ensures.value in
+    (omega (arith, size.1.held, size.2, c.release-logger.ensures.logger)) c.index_mut-3.ensures.value in
     let here : slice_get row.held.items k ≡ Some x = subst (λ (n : ℕ). slice_get row.held.items n ≡ Some x) c.release-logger.ensures.logger at in
     let none = held_bare r c.args.id k row x is here c.requires.bare.held in
     ap (λ (x : Vec (ℕ × Spun g.row.D.Denot) Global). x.len) c.replace-none.ensures.value ∙ (x.ok.0 ∙ ap length none)
@@ -29,5 +29,5 @@ returns g c =
     let r = c.args.self.now in
     let is : slice_get r.passes.items c.args.id ≡ Some row = slice_get_read r.passes.items (length r.passes.items) c.args.id row refl (omega (arith, c.requires.bare.place.row)) c.index_mut-passes.ensures.value in
     lane_put r c.args.id row c.args.lane c.release-logger.result.logger c.fill.new.place c.fill-2.new.place c.replace-none.new.dest
-        c.release-logger.ensures.logger is c.requires.bare.place (c.fill.ensures ∙ ap Some c.release-logger.ensures.pool) (c.fill-2.ensures ∙ ap Some c.release-logger.ensures.spindle)
-        (ap (λ (x : Vec (ℕ × Spun g.row.D.Denot) Global). x.items) c.replace-none.ensures.after ∙ c.release-logger.ensures.held)
+    c.release-logger.ensures.logger is c.requires.bare.place (c.fill.ensures ∙ ap Some c.release-logger.ensures.pool) (c.fill-2.ensures ∙ ap Some c.release-logger.ensures.spindle)
+    (ap (λ (x : Vec (ℕ × Spun g.row.D.Denot) Global). x.items) c.replace-none.ensures.after ∙ c.release-logger.ensures.held)
