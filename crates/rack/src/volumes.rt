@@ -333,6 +333,7 @@ impl<D: Disk> Rack<D> {
         }
     }
 
+    #[tactic(none)]
     /// Opens the volumes whose images are out, in order. After want of memory some are open, and all of the others is in the rest.
     pub(crate) fn open_volumes<R: Wait>(
         &mut self,

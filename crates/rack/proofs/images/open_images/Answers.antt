@@ -4,10 +4,11 @@ use Rattle.std.proofs.lemmas.List.{length-map, length-set}
 use Rattle.std.proofs.lemmas.Option.{slice_get-get_or, slice_get_within, same_Some, get_or_from_slice_get}
 use Rattle.wol_bay.specs.Bay.{IsHome}
 use Rattle.wol_config.specs.declared.config.VolumeConf.{VolumeConf}
-use Rattle.volume_images.specs.Volumes.{shapes_of}
+use Rattle.volume_images.specs.Volumes.{shape_in, shapes_of}
 use Rattle.rack.specs.Opening.{HasSentOut, AreAsked}
 use Rattle.rack.proofs.Asking.{some_at, asked_more, none_asked}
 use Rattle.rack.proofs.SentNames.{same_until, sent_on, none_sent, next_home}
+use Rattle.rack.proofs.AllBack.{all_back, all_whole}
 use Rattle.rack.proofs.UsedPass.{used_spindle}
 use Rattle.rack.proofs.images.open_images.Goals as goal
 
@@ -86,11 +87,21 @@ returns-clause-out g c =
     let all : c.loop-id.id ≡ length c.args.config.now.volumes.items = omega (arith, t, l, v, e) in
     subst (λ n. HasSentOut c.args.config.now c.loop-id.images.out.items n (g.B.Bay.state c.args.bay.now) (g.B.Bay.state c.loop-id.bay)) all c.loop-id.invariant.sent
 
+pub give_back-requires-clause-count : goal.give_back-requires-clause-count
+give_back-requires-clause-count g c =
+    let t = c.loop-id-test.true in
+    let l = c.len-id-end.ensures in
+    let v = c.args.config.now.volumes.ok.0 in
+    let n = c.loop-id.invariant.asked.out_count in
+    let m = length-map c.args.config.now.volumes.items (λ w. shape_in c.args.config.now w) in
+    omega (arith, t, l, v, n, m)
+
 pub give_back-requires-clause-images : goal.give_back-requires-clause-images
-give_back-requires-clause-images g c = ?
+give_back-requires-clause-images g c = λ k s r shape here. (c.loop-id.invariant.asked.out k s r shape here).rest
 
 pub give_back-requires-clause-whole : goal.give_back-requires-clause-whole
-give_back-requires-clause-whole g c = ?
+give_back-requires-clause-whole g c = all_whole g.B.Part.Disk.tells g.B.Part.Disk.state c.args.config.now (g.B.Bay.state c.args.bay.now) (g.B.Bay.state c.loop-id.bay) c.loop-id.id c.loop-id.images c.loop-id.invariant.asked
+    (let t = c.loop-id-test.true in let l = c.len-id-end.ensures in let v = c.args.config.now.volumes.ok.0 in omega (arith, t, l, v))
 
 pub give_back-requires-clause-out : goal.give_back-requires-clause-out
 give_back-requires-clause-out g c = ?
