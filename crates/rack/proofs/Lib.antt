@@ -24,3 +24,8 @@ pub mod Returned
 pub mod HeldPut
 pub mod Ended
 pub mod LaneTaken
+pub mod StationsInTurn
+pub mod PoolsInTurn
+pub mod Closable
+pub mod LeftParts
+pub mod SpindlesInTurn

@@ -116,12 +116,12 @@ module _ {D : Type 0} (state : D → State) (tells : Rattle.std.specs.Prelude.Bo
   logger_below l has =
       let e = (lane_base l has).2.logger in
       let n = (lane_shared l has).pool_in in
-      subst (λ (k : ℕ). k < length shared.pools.items) (sym e) n
+      omega (arith, e, n, shared.pools.ok.0)
 
   id_below : s.id < length old.passes.items
   id_below =
-      let n : b.volume.began.owner < length shared.spindles.items = open_base.at.spindle_in in
-      subst (λ (k : ℕ). k < length old.passes.items) owner_is (omega (arith, n, can.locks.spindle_count, parts.count))
+      let n = open_base.at.spindle_in in
+      omega (arith, n, owner_is, shared.spindles.ok.0, can.locks.spindle_count, parts.count)
 
   place : (k : ℕ) → k < volumes → HasPlace mid s.id k
   place k below = record { row = id_below; volumes = volumes; rows = parts.rows; within = below }
@@ -506,7 +506,7 @@ module _ {D : Type 0} (state : D → State) (tells : Rattle.std.specs.Prelude.Bo
                 let among = subst (λ (xs : List ℕ). Contains xs i) (all_indexes l lane ∙ sym (indexes_back h.0 k l at back)) ((ready_lane l lane).all i holding) in
                 absurd (h.2 among)
             go (as_before never pool held) =
-                (h.0, (h.1.0, sym pool ∙ h.1.1, h.1.2), λ has. h.2 (subst (λ (xs : List (ℕ × Spun D)). Contains (map (λ (x : ℕ × Spun D). x.0) xs) i) (sym held) has)))
+                (h.0, (h.1.0, sym pool ∙ h.1.1, h.1.2), λ has. h.2 (subst (λ (xs : List (ℕ × Spun D)). Contains (map (λ (x : ℕ × Spun D). x.0) xs) i) (sym held) has))
 
         to_new : IsHeldHere old k i → IsHeldHere new k i
         to_new h = go (at_place h.0 k)
@@ -516,7 +516,7 @@ module _ {D : Type 0} (state : D → State) (tells : Rattle.std.specs.Prelude.Bo
                 let none : pool_pass old s.id k ≡ None = subst (λ (j : ℕ). pool_pass old s.id j ≡ None) at (no_pool (logger_of l) (logger_below l lane) (away_lane l lane)) in
                 absurd (none-some h.1.0 (sym none ∙ subst (λ (w : ℕ). pool_pass old w k ≡ Some h.1.0) (same ∙ owner_is) h.1.1))
             go (as_before never pool held) =
-                (h.0, (h.1.0, pool ∙ h.1.1, h.1.2), λ has. h.2 (subst (λ (xs : List (ℕ × Spun D)). Contains (map (λ (x : ℕ × Spun D). x.0) xs) i) held has)))
+                (h.0, (h.1.0, pool ∙ h.1.1, h.1.2), λ has. h.2 (subst (λ (xs : List (ℕ × Spun D)). Contains (map (λ (x : ℕ × Spun D). x.0) xs) i) held has))
 
     -- ---- The images
 
@@ -575,7 +575,7 @@ module _ {D : Type 0} (state : D → State) (tells : Rattle.std.specs.Prelude.Bo
         here = λ k i n here within.
             let was = was_image k n here in
             let old_one = parts.placed.here k i was.0 was.1 (subst (λ (x : ImageRest D). i < length x.segments.items) was.2 within) in
-            subst (λ (x : ImageRest D). IsSome (segment_here x i) ↔ (IsHeldHere new k i × (Contains [] (k, i) → ⊥))) (sym was.2)
+            subst (λ (x : ImageRest D). IsSome (segment_here x i) ↔ (IsHeldHere new k i × (Contains {X = ℕ × ℕ} [] (k, i) → ⊥))) (sym was.2)
             (λ some. let x = old_one.0 some in ((held_here_same k i).1 x.0, x.1), λ x. old_one.1 ((held_here_same k i).0 x.0, x.1));
         others = λ k i l is none. parts.placed.others k i l is (none_was k none);
       };
@@ -617,9 +617,6 @@ module _ {D : Type 0} (state : D → State) (tells : Rattle.std.specs.Prelude.Bo
       rest = record { parts = parts_back; rooms = are };
     }
       where
-        ids : (ts : List (Station D)) → List ℕ
-        ids ts = map (λ (t : Station D). t.id) ts
-
         longer : (i n : ℕ) → slice_get (map (λ (t : Station D). t.id) before) i ≡ Some n → slice_get (map (λ (t : Station D). t.id) (before ++ s ∷ [])) i ≡ Some n
         longer i n is =
             subst (λ (l : List ℕ). slice_get l i ≡ Some n) (sym (map_push (λ (t : Station D). t.id) before s)) (get_left (map (λ (t : Station D). t.id) before) (s.id ∷ []) i n is)

@@ -133,7 +133,7 @@ AreRefused tells state config old new r = (k : ℕ) (v : VolumeConf) (f : Volume
 -- that were refused give no segments.
 pub record LeavesAll {D : Type 0} (tells : Bool) (state : D → State) (config : Config) (b b' : BayState) (old new : Told) : Type 0 where
   pub refused : ℕ → Bool
-  pub cause : (k : ℕ) (v : VolumeConf) → slice_get config.volumes.items k ≡ Some v → refused k ≡ true → (f : VolumeFault) × RefusesVolume {D} tells state config [] b b' k v f
+  pub cause : (k : ℕ) (v : VolumeConf) → slice_get config.volumes.items k ≡ Some v → refused k ≡ true → (f : VolumeFault) × RefusesVolume {D = D} tells state config [] b b' k v f
   pub left : (images : Images) → AreLeft config new images → (v : ℕ) → IsThere (shapes_of config) images v
       → (before : Images) × AreLeft config old before × (recovered_but (shapes_of config) refused images v ≡ recovered_but (shapes_of config) refused before v)
 
