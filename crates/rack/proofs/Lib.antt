@@ -12,3 +12,9 @@ pub mod Returned
 pub mod HeldPut
 pub mod Ended
 pub mod LaneTaken
+pub mod Setting
+pub mod Issues
+pub mod Dealing
+pub mod SetUp
+pub mod Taking
+pub mod LanesTaken

@@ -1,9 +1,9 @@
 // What comes back to the rest of a rack, and the images that go back to their bay.
 ghost use Rattle.std.specs.Prelude.{◌≡◌, ◌≢◌, ◌<◌, None, Some, length, IsSome, IfSome, All};
 ghost use Rattle.logger.specs.Lanes.{IsLane, logger_of, taken_in};
-ghost use Rattle.rack.specs.Rests.{segment_here};
+ghost use Rattle.rack.specs.Rests.{segment_here, held_here};
 ghost use Rattle.rack.specs.Making.{IsFilled};
-ghost use Rattle.rack.specs.Parts.{IsBarePlace, CanPutLanes, PutsLane, PutsLanes, CanPutHeld, PutsHeld, IsHomeAway, with_home, ChangesHome, PutsManager, CanPutOwned, PutsOpening};
+ghost use Rattle.rack.specs.Parts.{HasPlace, IsBarePlace, CanPutLanes, PutsLane, PutsLanes, CanPutHeld, PutsHeld, PopsHeld, IsHomeAway, with_home, ChangesHome, PutsManager, CanPutOwned, PutsOpening};
 
 use crate::rack::{ImageRest, Rest};
 use logger::{Lane, LaneParts};
@@ -85,9 +85,23 @@ impl<D: Disk> Rest<D> {
         requires { CanPutHeld self.old id logger }
         ensures { PutsHeld self.old self.new id logger }
     {
-        while let Some((index, part)) = self.passes[id].held[logger].pop() {
+        for _segment in 0..self.passes[id].held[logger].len() {
+            let (index, part) = self.pop_held(id, logger);
             put_segment(&mut self.images[logger], index, part);
         }
+    }
+
+    // The last of them goes out.
+    fn pop_held(&mut self, id: usize, logger: usize) -> (u32, Spun<D>)
+        requires place { HasPlace self.old id logger }
+        requires some { 0 < length (held_here self.old id logger) }
+        ensures { PopsHeld self.old self.new id logger result }
+    {
+        let passes = &mut self.passes[id];
+        let Some(held) = passes.held[logger].pop() else {
+            unreachable!()
+        };
+        held
     }
 
     /// Lanes of volume `id` come back.
