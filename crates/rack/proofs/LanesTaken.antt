@@ -54,7 +54,7 @@ module _ {D : Type 0} where
     held = keeps.held ∙ u.held;
   }
 
-  module _ (state : D → State) (config : Config) (view : List ℕ) (v : ℕ) (apart : AreApart view) where
+  module _ (state : D → State) (config : Config) (view : List ℕ) (v : ℕ) where
     -- the lanes of the first loggers went out
     pub record AreLanesTaken (old new : Rest D) (lanes : List (Lane D)) (n : ℕ) : Type 0 where
       pub takes : TakesLanes state config old new v (loggers_out old (take n view)) lanes
@@ -80,7 +80,7 @@ module _ {D : Type 0} where
       few = omega arith;
     }
 
-    module _ (old new : Rest D) (lanes : List (Lane D)) (n : ℕ) (so_far : AreLanesTaken old new lanes n) where
+    module _ (apart : AreApart view) (old new : Rest D) (lanes : List (Lane D)) (n : ℕ) (so_far : AreLanesTaken old new lanes n) where
       loggers : List ℕ
       loggers = loggers_out old (take n view)
 

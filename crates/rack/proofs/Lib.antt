@@ -18,3 +18,5 @@ pub mod Dealing
 pub mod SetUp
 pub mod Taking
 pub mod LanesTaken
+pub mod Owning
+pub mod OpeningTaken

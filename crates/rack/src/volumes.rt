@@ -6,8 +6,9 @@ ghost use Rattle.log_layout.specs.Values.{shape_of};
 ghost use Rattle.logger.specs.Lanes.{logger_of};
 ghost use Rattle.manager_recovery.specs.declared.opening.OwnedPart.{OwnedPart};
 ghost use Rattle.rack.specs.Rests.{image_here, segment_here, spindle_pass};
-ghost use Rattle.rack.specs.Parts.{IsUsablePlace, IsNewLane, TakesPasses, TakesLanes, IsSameRest, loggers_out, segments_of, owned_in, TakesOwnedOf, CanTakeOwnedOf, AreOwnedHere, TakesOwned, HasPlace, ChangesHome, CanTake, TakesOpening, owned_total, count_owners, AreOwnersHere, TakesOwners, TakesOne, is_owned_by};
+ghost use Rattle.rack.specs.Parts.{CanPutLanes, PutsLanes, IsUsablePlace, IsNewLane, TakesPasses, TakesLanes, IsSameRest, loggers_out, segments_of, owned_in, TakesOwnedOf, CanTakeOwnedOf, AreOwnedHere, TakesOwned, HasPlace, ChangesHome, CanTake, TakesOpening, owned_total, count_owners, AreOwnersHere, TakesOwners, TakesOne, is_owned_by};
 ghost use Rattle.rack.specs.declared.rack.ImageRest.{ImageRest};
+ghost use Rattle.rack.specs.declared.rack.Rest.{Rest};
 
 use crate::VolumeFault;
 use crate::heads_said::{Said, is_owned_by};
@@ -89,6 +90,8 @@ impl<D: Disk> Rest<D> {
         requires config { length self.old.images.items ≡ vec_len config.now.volumes }
         requires places { All (λ k. IsUsablePlace self.old id k (segments_of config.now k)) (loggers_out self.old view.now) }
         ensures taken { IfOk result (λ lanes. TakesLanes D.state config.now self.old self.new id (loggers_out self.old view.now) lanes.items) }
+        ensures back { IfOk result (λ lanes. CanPutLanes D.state self.new id lanes.items) }
+        ensures restored { IfOk result (λ lanes. (last : Rest D) → PutsLanes self.new last id lanes.items → IsSameRest self.old last) }
         ensures same { OnErr result (IsSameRest self.old self.new) }
     {
         let Ok(mut lanes) = Vec::with_capacity(alloc, view.len() as usize) else {
