@@ -76,19 +76,19 @@ module _ {T : Type 0} where
     rooms = cut.rooms;
   }
 
+abbrev pub PoolPass : Type 0 → Type 0
+PoolPass D = PassOf (Pool (FreeSegment D)) PoolBase
+
+abbrev pub SpindlePass : Type 0
+SpindlePass = PassOf Spindle SpindleBase
+
+abbrev pub pools_at : {D : Type 0} → List (Vec (PassOf (Pool (FreeSegment D)) PoolBase) Global) → ℕ → List (Option (PassOf (Pool (FreeSegment D)) PoolBase))
+pools_at {D} rows v = map (λ (row : Vec (PassOf (Pool (FreeSegment D)) PoolBase) Global). slice_get row.items v) rows
+
+abbrev pub spindles_at : List (Vec SpindlePass Global) → ℕ → List (Option SpindlePass)
+spindles_at rows v = map (λ (row : Vec SpindlePass Global). slice_get row.items v) rows
+
 module _ {D : Type 0} where
-  abbrev PoolPass : Type 0
-  PoolPass = PassOf (Pool (FreeSegment D)) PoolBase
-
-  abbrev SpindlePass : Type 0
-  SpindlePass = PassOf Spindle SpindleBase
-
-  abbrev pools_at : List (Vec PoolPass Global) → ℕ → List (Option PoolPass)
-  pools_at rows v = map (λ (row : Vec PoolPass Global). slice_get row.items v) rows
-
-  abbrev spindles_at : List (Vec SpindlePass Global) → ℕ → List (Option SpindlePass)
-  spindles_at rows v = map (λ (row : Vec SpindlePass Global). slice_get row.items v) rows
-
   -- the volumes from `left` on have their passes
   pub record AreDealtDown (old new : Lists D) (left : ℕ) : Type 0 where
     pub within : left ≤ length old.passes.items

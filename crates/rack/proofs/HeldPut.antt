@@ -90,6 +90,10 @@ module _ {D : Type 0} where
     size = λ n is. record { pools = is.pools; spindles = is.spindles; held = length-set row.held.items k held ∙ is.held };
   }
 
+  -- the list at a place
+  pub held_is : (r : Rest D) (v k : ℕ) (row : VolumePasses D) (list : Vec (ℕ × Spun D) Global) → slice_get r.passes.items v ≡ Some row → slice_get row.held.items k ≡ Some list → held_here r v k ≡ list.items
+  held_is r v k row list is at = ap list_of (ap (option_and_then (λ (p : VolumePasses D). slice_get p.held.items k)) is ∙ at)
+
   -- a list lost its last segment
   pub held_popped : (old new : Rest D) (v k : ℕ) (row : VolumePasses D) (list left : Vec (ℕ × Spun D) Global) (h : ℕ × Spun D)
       → slice_get old.passes.items v ≡ Some row → slice_get row.held.items k ≡ Some list → list.items ≡ left.items ++ h ∷ []

@@ -20,3 +20,4 @@ pub mod Taking
 pub mod LanesTaken
 pub mod Owning
 pub mod OpeningTaken
+pub mod OwnedOf

@@ -87,7 +87,9 @@ module _ {D : Type 0} (config : Config) (said : List (Option Said)) (v : ℕ) wh
 
   pub owned_to_none : (r : Rest D) → AreOwnedTo r r [] 0
   owned_to_none r = record {
-    passes = refl; rooms = refl; count = refl;
+    passes = refl;
+    rooms = refl;
+    count = refl;
     images = λ k. same_image (image_here r.images.items k);
     total = refl;
     in_order = tt;
@@ -107,9 +109,13 @@ module _ {D : Type 0} (config : Config) (said : List (Option Said)) (v : ℕ) wh
     pub may_take_of : (o : Option Said) → slice_get said n ≡ Some o → AreOwnedHere old said v → CanTakeOwnedOf new v n o
     may_take_of None is here = tt
     may_take_of (Some s) is here =
-        let out = here.out n s is in
-        (out.0, still_at ∙ out.1, out.2, out.3,
-         λ i owner. ap is_some (sym (ap (λ (x : Option (ImageRest D)). in_image x i) out.1)) ∙ here.here n i (s, is, owner))
+        let out = here.out n s is in (
+          out.0,
+          still_at ∙ out.1,
+          out.2,
+          out.3,
+          λ i owner. ap is_some (sym (ap (λ (x : Option (ImageRest D)). in_image x i) out.1)) ∙ here.here n i (s, is, owner),
+        )
 
     widen : (ps : List (ℕ × ℕ)) → AllByRecursion (λ (p : ℕ × ℕ). p.0 < n) ps → AllByRecursion (λ (p : ℕ × ℕ). p.0 < n + 1) ps
     widen [] all = tt
@@ -158,7 +164,7 @@ module _ {D : Type 0} (config : Config) (said : List (Option Said)) (v : ℕ) wh
         count = t.count ∙ so_far.count;
         images = λ k. keeps_image_then (image_here old.images.items k) (image_here new.images.items k) (image_here newer.images.items k) (so_far.images k) (⊎_elim
             (λ e. subst (λ (x : ℕ). KeepsImage (image_here new.images.items x) (image_here newer.images.items x)) (sym e)
-                (subst (λ (x : Option (ImageRest D)). KeepsImage x (image_here newer.images.items n)) (sym t.was) (t.after, t.is, t.takes.same)))
+            (subst (λ (x : Option (ImageRest D)). KeepsImage x (image_here newer.images.items n)) (sym t.was) (t.after, t.is, t.takes.same)))
             (λ other. subst (λ (x : Option (ImageRest D)). KeepsImage (image_here new.images.items k) x) (sym (t.images k other)) (same_image (image_here new.images.items k)))
             (cases_eq k n));
         total = length-append os more ∙ ap (λ (m : ℕ). m + length more) so_far.total ∙ ap (λ (m : ℕ). owned_total v (take n said) + m) size ∙ sym (total_next v said n (Some s) is);
@@ -167,8 +173,8 @@ module _ {D : Type 0} (config : Config) (said : List (Option Said)) (v : ℕ) wh
         each = All-append (IsTakenOf config old said v) os more so_far.each (λ j d within. taken (slice_index_or more j d) (t.takes.loggers j d within) (t.takes.each j d within) (t.takes.first j d within));
         all = λ k i lt owned. subst (λ (l : List (ℕ × ℕ)). Contains l (k, i)) (sym joined) (⊎_elim
             (λ e. Contains-append_right (map place_of os) (map place_of more) (k, i)
-                (subst (λ (x : ℕ). Contains (map place_of more) (x, i)) (sym e) (t.takes.all i (subst (λ (x : Said). slice_get x.heads.items i ≡ Some (Owned v))
-                  (sym (same_Some s owned.0 (same_Some (Some s) (Some owned.0) (sym is ∙ ap (slice_get said) (sym e) ∙ owned.1)))) owned.2))))
+            (subst (λ (x : ℕ). Contains (map place_of more) (x, i)) (sym e) (t.takes.all i (subst (λ (x : Said). slice_get x.heads.items i ≡ Some (Owned v))
+            (sym (same_Some s owned.0 (same_Some (Some s) (Some owned.0) (sym is ∙ ap (slice_get said) (sym e) ∙ owned.1)))) owned.2))))
             (λ other. Contains-append_left (map place_of os) (map place_of more) (k, i) (so_far.all k i (omega (arith, lt, other)) owned))
             (cases_eq k n));
         gone = λ k i has. ⊎_elim
@@ -179,10 +185,10 @@ module _ {D : Type 0} (config : Config) (said : List (Option Said)) (v : ℕ) wh
             let none_first : Contains (map place_of os) (k, i) → ⊥ = λ has. none (subst (λ (l : List (ℕ × ℕ)). Contains l (k, i)) (sym joined) (Contains-append_left (map place_of os) (map place_of more) (k, i) has)) in
             let none_second : Contains (map place_of more) (k, i) → ⊥ = λ has. none (subst (λ (l : List (ℕ × ℕ)). Contains l (k, i)) (sym joined) (Contains-append_right (map place_of os) (map place_of more) (k, i) has)) in
             ⊎_elim
-              (λ e. ap (λ (x : ℕ). segment_in newer x i) e ∙ here_now i ∙ t.takes.others i (λ owned. none_second (subst (λ (x : ℕ). Contains (map place_of more) (x, i)) (sym e) (t.takes.all i owned)))
-                  ∙ sym (here_was i) ∙ ap (λ (x : ℕ). segment_in new x i) (sym e))
-              (λ other. ap (λ (x : Option (ImageRest D)). in_image x i) (t.images k other))
-              (cases_eq k n)
+            (λ e. ap (λ (x : ℕ). segment_in newer x i) e ∙ here_now i ∙ t.takes.others i (λ owned. none_second (subst (λ (x : ℕ). Contains (map place_of more) (x, i)) (sym e) (t.takes.all i owned)))
+            ∙ sym (here_was i) ∙ ap (λ (x : ℕ). segment_in new x i) (sym e))
+            (λ other. ap (λ (x : Option (ImageRest D)). in_image x i) (t.images k other))
+            (cases_eq k n)
             ∙ so_far.others k i none_first;
         left = λ k behind. t.images k (λ e. absurd (omega (arith, e, behind))) ∙ so_far.left k (omega (arith, behind));
       }
@@ -193,7 +199,10 @@ module _ {D : Type 0} (config : Config) (said : List (Option Said)) (v : ℕ) wh
 
     pub owned_to_same : slice_get said n ≡ Some None → newer ≡ new → AreOwnedTo old newer os (n + 1)
     owned_to_same is same = subst (λ (r : Rest D). AreOwnedTo old r os (n + 1)) (sym same) (record {
-      passes = so_far.passes; rooms = so_far.rooms; count = so_far.count; images = so_far.images;
+      passes = so_far.passes;
+      rooms = so_far.rooms;
+      count = so_far.count;
+      images = so_far.images;
       total = so_far.total ∙ (let t = total_next v said n None is in omega (arith, t));
       in_order = so_far.in_order;
       before = widen (map place_of os) so_far.before;
@@ -213,7 +222,13 @@ module _ {D : Type 0} (config : Config) (said : List (Option Said)) (v : ℕ) wh
 
   pub owned_to_all : (old new : Rest D) (os : List (OwnedPart D)) (n : ℕ) → AreOwnedTo old new os n → length said ≤ n → TakesOwned config old new said v os
   owned_to_all old new os n so_far end = record {
-    passes = so_far.passes; rooms = so_far.rooms; count = so_far.count; images = so_far.images; in_order = so_far.in_order; each = so_far.each;
+    passes = so_far.passes;
+    rooms = so_far.rooms;
+    count = so_far.count;
+    images = so_far.images;
+    in_order = so_far.in_order;
+    each = so_far.each;
     all = λ k i owned. so_far.all k i (let w = slice_get_within said k (Some owned.0) owned.1 in omega (arith, w, end)) owned;
-    gone = so_far.gone; others = so_far.others;
+    gone = so_far.gone;
+    others = so_far.others;
   }

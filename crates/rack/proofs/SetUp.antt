@@ -8,6 +8,7 @@ use Rattle.std.proofs.lemmas.Bool.{cases_lt}
 use Rattle.std.proofs.lemmas.List.{length-map, length-take}
 use Rattle.std.proofs.lemmas.List.Elements.{All-nil, length_all_zip}
 use Rattle.std.proofs.lemmas.Option.{none-some, same_Some, slice_get-map, slice_get-get_or, slice_get_past, slice_get_within, get_or_from_slice_get}
+use Rattle.turn_lock.specs.declared.lock.TurnLock.{TurnLock}
 use Rattle.turn_lock.specs.declared.pass.PassOf.{PassOf}
 use Rattle.spin_model.specs.declared.spindle.Spindle.{Spindle}
 use Rattle.spin_model.specs.declared.spindle.SpindleBase.{SpindleBase}
@@ -15,6 +16,10 @@ use Rattle.spin_model.specs.declared.spun.Spun.{Spun}
 use Rattle.seg_pool.specs.declared.base.PoolBase.{PoolBase}
 use Rattle.seg_pool.specs.declared.pool.Pool.{Pool}
 use Rattle.log_segment.specs.declared.free.FreeSegment.{FreeSegment}
+use Rattle.logger.specs.declared.shared.Shared.{Shared}
+use Rattle.manager.specs.declared.base.ManagerBase.{ManagerBase}
+use Rattle.manager.specs.declared.manager.Manager.{Manager}
+use Rattle.manager.specs.declared.station.Station.{Station}
 use Rattle.manager_recovery.proofs.Lists.{zip_get, zip_length}
 use Rattle.rack.specs.Making.{AreLists, AreEmptyPasses}
 use Rattle.rack.specs.Rests.{IsRow, AreRooms, pool_pass, spindle_pass, held_here, list_of}
@@ -22,6 +27,7 @@ use Rattle.rack.specs.Parts.{PutsSpindles, PutsPools, CanDeal, Deals, AreEmptied
 use Rattle.rack.specs.declared.lists.Lists.{Lists}
 use Rattle.rack.specs.declared.locks.Issued.{Issued}
 use Rattle.rack.specs.declared.rack.Rack.{Rack}
+use Rattle.rack.specs.declared.rack.Rooms.{Rooms}
 use Rattle.rack.specs.declared.rack.VolumePasses.{VolumePasses}
 use Rattle.rack.proofs.Rows.{all_read}
 use Rattle.rack.proofs.Dealing.{get_take}
@@ -35,11 +41,21 @@ there_at (x ∷ xs) (suc k) lt = there_at xs k (omega (arith, lt))
 map_read : {X Y : Type 0} (f : X → Y) (xs : List X) (k : ℕ) (x : X) (d : Y) → slice_get xs k ≡ Some x → slice_index_or (map f xs) k d ≡ f x
 map_read f xs k x d is = get_or_from_slice_get (map f xs) k (f x) d (slice_get-map f xs k ∙ ap (option_map f) is)
 
+module _ {D : Type 0} (n : ℕ) (pools : List (Issued (Pool (FreeSegment D)) PoolBase)) (a b : Lists D) (lists : AreLists n a) (pool_count : length pools ≡ n)
+    (same_pools : b.shared.pools ≡ a.shared.pools) (same_rooms : b.rooms.pools ≡ a.rooms.pools) where
+  pub pools_shared : (b.shared.pools.items ≡ []) × (length pools ≤ vec_capacity b.shared.pools)
+  pools_shared = (ap (λ (v : Vec (TurnLock (Pool (FreeSegment D)) PoolBase) Global). v.items) same_pools ∙ lists.shared.pools.0,
+      subst (λ (m : ℕ). m ≤ vec_capacity b.shared.pools) (sym pool_count) (subst (λ (m : ℕ). n ≤ m) (sym (ap (λ (v : Vec (TurnLock (Pool (FreeSegment D)) PoolBase) Global). vec_capacity v) same_pools)) lists.shared.pools.1))
+
+  pub pools_rooms : (b.rooms.pools.items ≡ []) × (length pools ≤ vec_capacity b.rooms.pools)
+  pools_rooms = (ap (λ (v : Vec (Vec (PassOf (Pool (FreeSegment D)) PoolBase) Global) Global). v.items) same_rooms ∙ lists.rooms.pools.0,
+      subst (λ (m : ℕ). m ≤ vec_capacity b.rooms.pools) (sym pool_count) (subst (λ (m : ℕ). n ≤ m) (sym (ap (λ (v : Vec (Vec (PassOf (Pool (FreeSegment D)) PoolBase) Global) Global). vec_capacity v) same_rooms)) lists.rooms.pools.1))
+
 module _ {D : Type 0} (spindles : List (Issued Spindle SpindleBase)) (pools : List (Issued (Pool (FreeSegment D)) PoolBase)) (a b c : Lists D)
     (lists : AreLists (length spindles) a) (spindle_sizes : All (λ (i : Issued Spindle SpindleBase). length i.passes.items ≡ length spindles + 1) spindles)
     (pool_count : length pools ≡ length spindles) (pool_sizes : All (λ (i : Issued (Pool (FreeSegment D)) PoolBase). length i.passes.items ≡ length spindles) pools)
     (puts : PutsSpindles spindles a b) (puts_pools : PutsPools pools b c) where
-  n : ℕ
+  abbrev n : ℕ
   n = length spindles
 
   abbrev PoolRow : Type 0
@@ -60,18 +76,6 @@ module _ {D : Type 0} (spindles : List (Issued Spindle SpindleBase)) (pools : Li
   abbrev row_of : Issued (Pool (FreeSegment D)) PoolBase → PoolRow
   row_of i = i.passes
 
-  pub pools_shared : (b.shared.pools.items ≡ []) × (length pools ≤ vec_capacity b.shared.pools)
-  pools_shared = (
-    ap (λ (v : Vec _ Global). v.items) puts.pools ∙ lists.shared.pools.0,
-    subst (λ (m : ℕ). m ≤ vec_capacity b.shared.pools) (sym pool_count) (subst (λ (m : ℕ). n ≤ m) (sym (ap (λ (v : Vec _ Global). vec_capacity v) puts.pools)) lists.shared.pools.1),
-  )
-
-  pub pools_rooms : (b.rooms.pools.items ≡ []) × (length pools ≤ vec_capacity b.rooms.pools)
-  pools_rooms = (
-    ap (λ (v : Vec PoolRow Global). v.items) puts.pool_rooms ∙ lists.rooms.pools.0,
-    subst (λ (m : ℕ). m ≤ vec_capacity b.rooms.pools) (sym pool_count) (subst (λ (m : ℕ). n ≤ m) (sym (ap (λ (v : Vec PoolRow Global). vec_capacity v) puts.pool_rooms)) lists.rooms.pools.1),
-  )
-
   pool_row_size : All (λ (row : PoolRow). length row.items ≡ n) (map row_of pools)
   pool_row_size k d within =
       let lt : k < length pools = let m = length-map pools row_of in omega (arith, within, m) in
@@ -79,13 +83,13 @@ module _ {D : Type 0} (spindles : List (Issued Spindle SpindleBase)) (pools : Li
       ap (λ (r : PoolRow). length r.items) (map_read row_of pools k i.0 d i.1) ∙ all_read (λ (j : Issued (Pool (FreeSegment D)) PoolBase). length j.passes.items ≡ n) pools k i.0 i.1 pool_sizes
 
   spindle_row_count : length b.rooms.spindles.items ≡ n
-  spindle_row_count = zip_length _ spindles b.rooms.spindles.items puts.rows
+  spindle_row_count = zip_length (λ (j : Issued Spindle SpindleBase) (x : SpindleRow). (x.items ≡ take (length spindles) j.passes.items) × (length spindles + 1 ≤ vec_capacity x)) spindles b.rooms.spindles.items puts.rows
 
   spindle_row_size : All (λ (row : SpindleRow). length row.items ≡ n) b.rooms.spindles.items
   spindle_row_size k d within =
       let i = there_at spindles k (omega (arith, within, spindle_row_count)) in
       let row = there_at b.rooms.spindles.items k within in
-      let fact = zip_get _ spindles b.rooms.spindles.items k i.0 row.0 i.1 row.1 puts.rows in
+      let fact = zip_get (λ (j : Issued Spindle SpindleBase) (x : SpindleRow). (x.items ≡ take (length spindles) j.passes.items) × (length spindles + 1 ≤ vec_capacity x)) spindles b.rooms.spindles.items k i.0 row.0 i.1 row.1 puts.rows in
       let size = all_read (λ (j : Issued Spindle SpindleBase). length j.passes.items ≡ n + 1) spindles k i.0 i.1 spindle_sizes in
       let len = length-take n i.0.passes.items in
       ap (λ (r : SpindleRow). length r.items) (get_or_from_slice_get b.rooms.spindles.items k row.0 d row.1) ∙ ap length fact.0 ∙ (omega (arith, len, size))
@@ -157,12 +161,12 @@ module _ {D : Type 0} (spindles : List (Issued Spindle SpindleBase)) (pools : Li
           let in_b : k < length b.rooms.spindles.items = subst (λ (l : List SpindleRow). k < length l) spindle_rows in_c in
           let i = there_at spindles k (omega (arith, in_b, spindle_row_count)) in
           let row = there_at b.rooms.spindles.items k in_b in
-          let fact = zip_get _ spindles b.rooms.spindles.items k i.0 row.0 i.1 row.1 puts.rows in
+          let fact = zip_get (λ (j : Issued Spindle SpindleBase) (x : SpindleRow). (x.items ≡ take (length spindles) j.passes.items) × (length spindles + 1 ≤ vec_capacity x)) spindles b.rooms.spindles.items k i.0 row.0 i.1 row.1 puts.rows in
           let same = deals.spindle_rows.rooms k e in_c in
           let at : slice_index_or c.rooms.spindles.items k e ≡ row.0 = ap (λ (l : List SpindleRow). slice_index_or l k e) spindle_rows ∙ get_or_from_slice_get b.rooms.spindles.items k row.0 e row.1 in
           (deals.spindle_rows.empty k e within, subst (λ (m : ℕ). n + 1 ≤ m) (sym (same ∙ ap (λ (x : SpindleRow). vec_capacity x) at)) fact.1);
-      manager_count = ap (λ (v : Vec _ Global). length v.items) managers_same ∙ ap length lists.rooms.managers.0;
-      managers = subst (λ (l : List _). All (λ row. (row.items ≡ []) × (3 ≤ vec_capacity row)) l) (sym (ap (λ (v : Vec _ Global). v.items) managers_same ∙ lists.rooms.managers.0)) (All-nil _);
+      manager_count = ap (λ (v : Vec (Vec (PassOf (Manager D) ManagerBase) Global) Global). length v.items) managers_same ∙ ap length lists.rooms.managers.0;
+      managers = subst (λ (l : List (Vec (PassOf (Manager D) ManagerBase) Global)). All (λ (row : Vec (PassOf (Manager D) ManagerBase) Global). (row.items ≡ []) × (3 ≤ vec_capacity row)) l) (sym (ap (λ (v : Vec (Vec (PassOf (Manager D) ManagerBase) Global) Global). v.items) managers_same ∙ lists.rooms.managers.0)) (All-nil (λ (row : Vec (PassOf (Manager D) ManagerBase) Global). (row.items ≡ []) × (3 ≤ vec_capacity row)));
       closed = subst (λ (v : Vec Spindle Global). (v.items ≡ []) × (n ≤ vec_capacity v)) (sym (deals.closed ∙ puts_pools.closed ∙ puts.closed)) lists.rooms.closed;
     })
       where
@@ -171,13 +175,13 @@ module _ {D : Type 0} (spindles : List (Issued Spindle SpindleBase)) (pools : Li
 
     pub set_up : IsSetUp spindles pools n r
     set_up = record {
-      pool_locks = ap (λ s. s.pools.items) (shared ∙ deals.shared) ∙ puts_pools.locks;
-      spindle_locks = ap (λ s. s.spindles.items) (shared ∙ deals.shared) ∙ ap (λ (v : Vec _ Global). v.items) puts_pools.spindles ∙ puts.locks;
-      keeper_count = ap (λ (v : Vec (PassOf Spindle SpindleBase) Global). length v.items) keepers_same ∙ zip_length _ spindles b.keepers.items puts.keepers;
+      pool_locks = ap (λ (x : Shared D). x.pools.items) (shared ∙ deals.shared) ∙ puts_pools.locks;
+      spindle_locks = ap (λ (x : Shared D). x.spindles.items) (shared ∙ deals.shared) ∙ ap (λ (v : Vec (TurnLock Spindle SpindleBase) Global). v.items) puts_pools.spindles ∙ puts.locks;
+      keeper_count = ap (λ (v : Vec (PassOf Spindle SpindleBase) Global). length v.items) keepers_same ∙ zip_length (λ (j : Issued Spindle SpindleBase) (x : PassOf Spindle SpindleBase). slice_get j.passes.items (length spindles) ≡ Some x) spindles b.keepers.items puts.keepers;
       keepers = λ k i is.
-          let p = there_at b.keepers.items k (let w = slice_get_within spindles k i is in let z = zip_length _ spindles b.keepers.items puts.keepers in omega (arith, w, z)) in
-          ap (λ (v : Vec (PassOf Spindle SpindleBase) Global). slice_get v.items k) keepers_same ∙ p.1 ∙ sym (zip_get _ spindles b.keepers.items k i p.0 is p.1 puts.keepers);
-      stations = subst (λ v. (v.items ≡ []) × (n ≤ vec_capacity v)) (sym (stations ∙ deals.stations ∙ puts_pools.stations ∙ puts.stations)) lists.stations;
+          let p = there_at b.keepers.items k (let w = slice_get_within spindles k i is in let z = zip_length (λ (j : Issued Spindle SpindleBase) (x : PassOf Spindle SpindleBase). slice_get j.passes.items (length spindles) ≡ Some x) spindles b.keepers.items puts.keepers in omega (arith, w, z)) in
+          ap (λ (v : Vec (PassOf Spindle SpindleBase) Global). slice_get v.items k) keepers_same ∙ p.1 ∙ sym (zip_get (λ (j : Issued Spindle SpindleBase) (x : PassOf Spindle SpindleBase). slice_get j.passes.items (length spindles) ≡ Some x) spindles b.keepers.items k i p.0 is p.1 puts.keepers);
+      stations = subst (λ (v : Vec (Station D) Global). (v.items ≡ []) × (n ≤ vec_capacity v)) (sym (stations ∙ deals.stations ∙ puts_pools.stations ∙ puts.stations)) lists.stations;
       count = row_count;
       rows = λ v e within. let p = row_at v (omega (arith, within, row_count)) in
           subst (IsRow n) (sym (get_or_from_slice_get r.rest.passes.items v p.0 e p.1)) (row_size v p.0 (in_d v p.0 p.1));
@@ -189,14 +193,14 @@ module _ {D : Type 0} (spindles : List (Issued Spindle SpindleBase)) (pools : Li
       spindle_passes = λ v k i lt is.
           let p = row_at v lt in
           let row = there_at b.rooms.spindles.items k (let w = slice_get_within spindles k i is in omega (arith, w, spindle_row_count)) in
-          let fact = zip_get _ spindles b.rooms.spindles.items k i row.0 is row.1 puts.rows in
+          let fact = zip_get (λ (j : Issued Spindle SpindleBase) (x : SpindleRow). (x.items ≡ take (length spindles) j.passes.items) × (length spindles + 1 ≤ vec_capacity x)) spindles b.rooms.spindles.items k i row.0 is row.1 puts.rows in
           ap (option_and_then (λ (q : VolumePasses D). slice_index_or q.spindles.items k None)) p.1
           ∙ ap (λ (l : List (Option (PassOf Spindle SpindleBase))). slice_index_or l k None) (deals.spindles v p.0 (in_d v p.0 p.1) ∙ ap (map (λ (x : SpindleRow). slice_get x.items v)) spindle_rows)
           ∙ map_read (λ (x : SpindleRow). slice_get x.items v) b.rooms.spindles.items k row.0 None row.1
           ∙ ap (λ (l : List (PassOf Spindle SpindleBase)). slice_get l v) fact.0 ∙ get_take i.passes.items n v lt;
       held = none_held;
       rooms = rooms_are;
-      managers = subst (λ v. n ≤ vec_capacity v.managers) (sym rooms) (subst (λ v. n ≤ vec_capacity v) (sym (deals.managers ∙ puts_pools.managers ∙ puts.managers)) lists.rooms.managers.1);
+      managers = subst (λ (x : Rooms D). n ≤ vec_capacity x.managers) (sym rooms) (subst (λ (v : Vec (Vec (PassOf (Manager D) ManagerBase) Global) Global). n ≤ vec_capacity v) (sym (deals.managers ∙ puts_pools.managers ∙ puts.managers)) lists.rooms.managers.1);
     }
       where
         keepers_same : r.keepers ≡ b.keepers

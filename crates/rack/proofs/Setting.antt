@@ -46,22 +46,25 @@ fewer_done {X} all done rest x kept =
     let e = ap length kept in let a = length-append done (reverse (rest ++ x ∷ [])) in let r = length-reverse (rest ++ x ∷ []) in let p = length-append rest (x ∷ []) in
     omega (arith, e, a, r, p)
 
+abbrev pub SpindleLock : Type 0
+SpindleLock = Issued Spindle SpindleBase
+
+abbrev pub PoolLock : Type 0 → Type 0
+PoolLock D = Issued (Pool (FreeSegment D)) PoolBase
+
+abbrev pub SpindlePass : Type 0
+SpindlePass = PassOf Spindle SpindleBase
+
+abbrev pub keeper_is : ℕ → SpindleLock → SpindlePass → Type 0
+keeper_is n i p = slice_get i.passes.items n ≡ Some p
+
+abbrev pub row_is : ℕ → SpindleLock → Vec SpindlePass Global → Type 0
+row_is n i row = (row.items ≡ take n i.passes.items) × (n + 1 ≤ vec_capacity row)
+
+nil_zip : {X Y : Type 0} (R : X → Y → Type 0) (ys : List Y) → ys ≡ [] → AllZip R [] ys
+nil_zip {X} {Y} R ys none = subst (AllZip R []) (sym none) tt
+
 module _ {D : Type 0} where
-  abbrev SpindleLock : Type 0
-  SpindleLock = Issued Spindle SpindleBase
-
-  abbrev PoolLock : Type 0
-  PoolLock = Issued (Pool (FreeSegment D)) PoolBase
-
-  abbrev SpindlePass : Type 0
-  SpindlePass = PassOf Spindle SpindleBase
-
-  abbrev keeper_is : ℕ → SpindleLock → SpindlePass → Type 0
-  keeper_is n i p = slice_get i.passes.items n ≡ Some p
-
-  abbrev row_is : ℕ → SpindleLock → Vec SpindlePass Global → Type 0
-  row_is n i row = (row.items ≡ take n i.passes.items) × (n + 1 ≤ vec_capacity row)
-
   -- some spindles are left, the last first, and the others are put
   pub record AreSpindlesPut (all left : List SpindleLock) (old new : Lists D) : Type 0 where
     pub done : List SpindleLock
@@ -81,9 +84,6 @@ module _ {D : Type 0} where
     pub pool_rooms : new.rooms.pools ≡ old.rooms.pools
     pub managers : new.rooms.managers ≡ old.rooms.managers
     pub closed : new.rooms.closed ≡ old.rooms.closed
-
-  nil_zip : {X Y : Type 0} (R : X → Y → Type 0) (ys : List Y) → ys ≡ [] → AllZip R [] ys
-  nil_zip {X} {Y} R ys none = subst (AllZip R []) (sym none) tt
 
   pub spindles_none : (all left : List SpindleLock) (l : Lists D) → left ≡ reverse all → AreLists (length all) l → All (λ (i : SpindleLock). length i.passes.items ≡ length all + 1) left → AreSpindlesPut all left l l
   spindles_none all left l reversed lists sizes = record {
@@ -181,11 +181,11 @@ module _ {D : Type 0} where
       }
 
   -- the same of pools
-  pub record ArePoolsPut (all left : List PoolLock) (old new : Lists D) : Type 0 where
-    pub done : List PoolLock
+  pub record ArePoolsPut (all left : List (PoolLock D)) (old new : Lists D) : Type 0 where
+    pub done : List (PoolLock D)
     pub kept : all ≡ done ++ reverse left
-    pub locks : new.shared.pools.items ≡ map (λ (i : PoolLock). i.lock) done
-    pub rows : new.rooms.pools.items ≡ map (λ (i : PoolLock). i.passes) done
+    pub locks : new.shared.pools.items ≡ map (λ (i : (PoolLock D)). i.lock) done
+    pub rows : new.rooms.pools.items ≡ map (λ (i : (PoolLock D)). i.passes) done
     pub lock_room : length all ≤ vec_capacity new.shared.pools
     pub row_room : length all ≤ vec_capacity new.rooms.pools
     pub spindles : new.shared.spindles ≡ old.shared.spindles
@@ -196,7 +196,7 @@ module _ {D : Type 0} where
     pub managers : new.rooms.managers ≡ old.rooms.managers
     pub closed : new.rooms.closed ≡ old.rooms.closed
 
-  pub pools_none : (all left : List PoolLock) (l : Lists D) → left ≡ reverse all → (l.shared.pools.items ≡ []) × (length all ≤ vec_capacity l.shared.pools)
+  pub pools_none : (all left : List (PoolLock D)) (l : Lists D) → left ≡ reverse all → (l.shared.pools.items ≡ []) × (length all ≤ vec_capacity l.shared.pools)
       → (l.rooms.pools.items ≡ []) × (length all ≤ vec_capacity l.rooms.pools) → ArePoolsPut all left l l
   pools_none all left l reversed shared rooms = record {
     done = [];
@@ -214,15 +214,15 @@ module _ {D : Type 0} where
     closed = refl;
   }
 
-  module _ (all rest : List PoolLock) (i : PoolLock) (old new : Lists D) (so_far : ArePoolsPut all (rest ++ i ∷ []) old new) where
+  module _ (all rest : List (PoolLock D)) (i : (PoolLock D)) (old new : Lists D) (so_far : ArePoolsPut all (rest ++ i ∷ []) old new) where
     pub pool_lock_room : vec_len new.shared.pools < vec_capacity new.shared.pools
     pool_lock_room =
-        let lt = fewer_done all so_far.done rest i so_far.kept in let m = length-map so_far.done (λ (j : PoolLock). j.lock) in let e = ap length so_far.locks in
+        let lt = fewer_done all so_far.done rest i so_far.kept in let m = length-map so_far.done (λ (j : (PoolLock D)). j.lock) in let e = ap length so_far.locks in
         omega (arith, lt, m, e, so_far.lock_room, new.shared.pools.ok.0)
 
     pub pool_row_room : vec_len new.rooms.pools < vec_capacity new.rooms.pools
     pool_row_room =
-        let lt = fewer_done all so_far.done rest i so_far.kept in let m = length-map so_far.done (λ (j : PoolLock). j.passes) in let e = ap length so_far.rows in
+        let lt = fewer_done all so_far.done rest i so_far.kept in let m = length-map so_far.done (λ (j : (PoolLock D)). j.passes) in let e = ap length so_far.rows in
         omega (arith, lt, m, e, so_far.row_room, new.rooms.pools.ok.0)
 
     pub pools_next : (newer : Lists D) → newer.shared.pools.items ≡ new.shared.pools.items ++ i.lock ∷ [] → vec_capacity newer.shared.pools ≡ vec_capacity new.shared.pools
@@ -232,8 +232,8 @@ module _ {D : Type 0} where
     pools_next newer locks lock_room rows row_room spindles keepers stations passes spindle_rooms managers closed = record {
       done = so_far.done ++ i ∷ [];
       kept = row_next all so_far.done rest i so_far.kept;
-      locks = locks ∙ ap (λ (l : List (TurnLock (Pool (FreeSegment D)) PoolBase)). l ++ i.lock ∷ []) so_far.locks ∙ sym (map-append (λ (j : PoolLock). j.lock) so_far.done (i ∷ []));
-      rows = rows ∙ ap (λ (l : List (Vec (PassOf (Pool (FreeSegment D)) PoolBase) Global)). l ++ i.passes ∷ []) so_far.rows ∙ sym (map-append (λ (j : PoolLock). j.passes) so_far.done (i ∷ []));
+      locks = locks ∙ ap (λ (l : List (TurnLock (Pool (FreeSegment D)) PoolBase)). l ++ i.lock ∷ []) so_far.locks ∙ sym (map-append (λ (j : (PoolLock D)). j.lock) so_far.done (i ∷ []));
+      rows = rows ∙ ap (λ (l : List (Vec (PassOf (Pool (FreeSegment D)) PoolBase) Global)). l ++ i.passes ∷ []) so_far.rows ∙ sym (map-append (λ (j : (PoolLock D)). j.passes) so_far.done (i ∷ []));
       lock_room = subst (λ (m : ℕ). length all ≤ m) (sym lock_room) so_far.lock_room;
       row_room = subst (λ (m : ℕ). length all ≤ m) (sym row_room) so_far.row_room;
       spindles = spindles ∙ so_far.spindles;
@@ -245,12 +245,12 @@ module _ {D : Type 0} where
       closed = closed ∙ so_far.closed;
     }
 
-  pub pools_all : (all : List PoolLock) (old new : Lists D) → ArePoolsPut all [] old new → PutsPools all old new
+  pub pools_all : (all : List (PoolLock D)) (old new : Lists D) → ArePoolsPut all [] old new → PutsPools all old new
   pools_all all old new so_far =
       let same : all ≡ so_far.done = so_far.kept ∙ append-nil so_far.done in
       record {
-        locks = so_far.locks ∙ ap (map (λ (i : PoolLock). i.lock)) (sym same);
-        rows = so_far.rows ∙ ap (map (λ (i : PoolLock). i.passes)) (sym same);
+        locks = so_far.locks ∙ ap (map (λ (i : (PoolLock D)). i.lock)) (sym same);
+        rows = so_far.rows ∙ ap (map (λ (i : (PoolLock D)). i.passes)) (sym same);
         spindles = so_far.spindles;
         keepers = so_far.keepers;
         stations = so_far.stations;

@@ -1,5 +1,5 @@
 -- The owned segments of a volume go out of an image.
-use Rattle.std.proofs.Common.{◌≡◌, ◌≢◌, ◌<◌, ◌≤◌, ◌+◌, ⊎_elim, inl, inr, ℕ, zero, suc, Bool, true, false, List, [], ◌∷◌, ◌++◌, length, map, take, drop, cond, Option, None, Some, refl, sym, ap, subst, ◌∙◌, arith}
+use Rattle.std.proofs.Common.{◌≡◌, ◌≢◌, ◌<◌, ◌≤◌, ◌+◌, ⊎_elim, inl, inr, ℕ, zero, suc, Bool, true, false, List, [], ◌∷◌, ◌++◌, length, map, take, drop, cond, not, Option, None, Some, refl, sym, ap, subst, ◌∙◌, arith}
 use Rattle.std.specs.Prelude.{All, Contains, IsSome, slice_get, slice_index_or, slice_set, count_by}
 use Rattle.std.specs.List.{AllByRecursion}
 use Rattle.std.proofs.lemmas.Bool.{cases_eq, cases_Bool, false≢true, eq-eqb, eqb-true}
@@ -18,6 +18,10 @@ use Rattle.rack.specs.Rests.{segment_here}
 use Rattle.rack.specs.Parts.{is_owned_by, count_owners, IsSameBut, AreOwnersHere, TakesOwners, TakesOne}
 use Rattle.rack.specs.declared.rack.ImageRest.{ImageRest}
 use Rattle.rack.proofs.Returned.{same_but_then}
+
+pub true_if : (b : Bool) → not b ≡ false → b ≡ true
+true_if true is = refl
+true_if false is = absurd (false≢true (sym is))
 
 -- the test of a head says whose it is
 pub owner_of_true : (v : ℕ) (h : SegHead) → is_owned_by v h ≡ true → h ≡ Owned v
@@ -81,17 +85,17 @@ module _ {D : Type 0} (s : Shape) (v k : ℕ) (heads : List SegHead) where
     still_here = so_far.others n (λ lt. absurd (omega (arith, lt)))
 
     pub fewer_taken : is_owned_by v h ≡ true → length os < count_owners v heads
-    fewer_taken yes =
-        let more = count_by_more_yes (is_owned_by v) heads n h within (ap (is_owned_by v) (get_or_from_slice_get heads n h h is) ∙ yes) in
+    fewer_taken is_own =
+        let more = count_by_more_yes (is_owned_by v) heads n h within (ap (is_owned_by v) (get_or_from_slice_get heads n h h is) ∙ is_own) in
         let front = count_front (is_owned_by v) heads (n + 1) in
         omega (arith, more, front, so_far.count)
 
     skip : is_owned_by v h ≡ false → AreTakenTo old new os (n + 1)
-    skip no =
-        let other : (i : ℕ) → i < n + 1 → slice_get heads i ≡ Some (Owned v) → i < n = λ i lt owned. ⊎_elim (λ e. absurd (false≢true (sym no ∙ here_is i e owned))) (λ ne. omega (arith, lt, ne)) (cases_eq i n) in
+    skip is_other =
+        let other : (i : ℕ) → i < n + 1 → slice_get heads i ≡ Some (Owned v) → i < n = λ i lt owned. ⊎_elim (λ e. absurd (false≢true (sym is_other ∙ here_is i e owned))) (λ ne. omega (arith, lt, ne)) (cases_eq i n) in
         record {
           same = so_far.same;
-          count = so_far.count ∙ sym (count_by_more_no (is_owned_by v) heads n h within (ap (is_owned_by v) (get_or_from_slice_get heads n h h is) ∙ no));
+          count = so_far.count ∙ sym (count_by_more_no (is_owned_by v) heads n h within (ap (is_owned_by v) (get_or_from_slice_get heads n h h is) ∙ is_other));
           in_order = so_far.in_order;
           before = widen (map place_of os) so_far.before;
           loggers = so_far.loggers;
@@ -108,16 +112,16 @@ module _ {D : Type 0} (s : Shape) (v k : ℕ) (heads : List SegHead) where
 
     more : (o : OwnedPart D) → is_owned_by v h ≡ true → place_of o ≡ (k, n) → o.first_block ≡ head_place s n → segment_here new n ≡ Some o.part → IsSameBut new newer
         → newer.segments.items ≡ slice_set new.segments.items n None → AreTakenTo old newer (os ++ o ∷ []) (n + 1)
-    more o yes place first there same set =
+    more o is_own place first there same set =
         let index : o.index ≡ n = ap (λ (p : ℕ × ℕ). p.1) place in
         let logger : o.logger ≡ k = ap (λ (p : ℕ × ℕ). p.0) place in
-        let h_is : h ≡ Owned v = owner_of_true v h yes in
+        let h_is : h ≡ Owned v = owner_of_true v h is_own in
         let places : map place_of (os ++ o ∷ []) ≡ map place_of os ++ (k, n) ∷ [] = map-append place_of os (o ∷ []) ∙ ap (λ (p : ℕ × ℕ). map place_of os ++ p ∷ []) place in
         let in_new : n < length new.segments.items = let w = within in omega (arith, w, count, so_far.same.count) in
         let read : (i : ℕ) → segment_here newer i ≡ slice_index_or (slice_set new.segments.items n None) i None = λ i. ap (λ (l : List (Option (Spun D))). slice_index_or l i None) set in
         record {
           same = same_but_then old new newer so_far.same same;
-          count = length_push os o ∙ ap (λ (m : ℕ). m + 1) so_far.count ∙ sym (count_by_more_yes (is_owned_by v) heads n h within (ap (is_owned_by v) (get_or_from_slice_get heads n h h is) ∙ yes));
+          count = length_push os o ∙ ap (λ (m : ℕ). m + 1) so_far.count ∙ sym (count_by_more_yes (is_owned_by v) heads n h within (ap (is_owned_by v) (get_or_from_slice_get heads n h h is) ∙ is_own));
           in_order = subst AreInOrder (sym places) (in_order_push (map place_of os) (k, n) so_far.in_order (lower (map place_of os) so_far.before));
           before = subst (AllByRecursion (λ (p : ℕ × ℕ). (p.0 ≡ k) × (p.1 < n + 1))) (sym places) (widen_push (map place_of os) so_far.before);
           loggers = All-push (λ (p : OwnedPart D). p.logger ≡ k) os o so_far.loggers logger;
@@ -145,15 +149,15 @@ module _ {D : Type 0} (s : Shape) (v k : ℕ) (heads : List SegHead) where
         widen_push (p ∷ ps) all = ((all.0.0, (let lt = all.0.1 in omega (arith, lt))), widen_push ps all.1)
 
     pub taken_next : (before after base : List (OwnedPart D)) → before ≡ base ++ os → TakesOne s k (is_owned_by v h) new newer n before after → (us : List (OwnedPart D)) × (after ≡ base ++ us) × AreTakenTo old newer us (n + 1)
-    taken_next before after base was takes = ⊎_elim yes no (cases_Bool (is_owned_by v h))
+    taken_next before after base was takes = ⊎_elim is_own is_other (cases_Bool (is_owned_by v h))
       where
-        yes : is_owned_by v h ≡ true → (us : List (OwnedPart D)) × (after ≡ base ++ us) × AreTakenTo old newer us (n + 1)
-        yes is_true =
+        is_own : is_owned_by v h ≡ true → (us : List (OwnedPart D)) × (after ≡ base ++ us) × AreTakenTo old newer us (n + 1)
+        is_own is_true =
             let t = subst (λ (b : Bool). TakesOne s k b new newer n before after) is_true takes in
             (os ++ t.0 ∷ [], t.1 ∙ ap (λ (l : List (OwnedPart D)). l ++ t.0 ∷ []) was ∙ append_assoc base os (t.0 ∷ []), more t.0 is_true t.2 t.3 t.4 t.5 t.6)
 
-        no : is_owned_by v h ≡ false → (us : List (OwnedPart D)) × (after ≡ base ++ us) × AreTakenTo old newer us (n + 1)
-        no is_false =
+        is_other : is_owned_by v h ≡ false → (us : List (OwnedPart D)) × (after ≡ base ++ us) × AreTakenTo old newer us (n + 1)
+        is_other is_false =
             let t = subst (λ (b : Bool). TakesOne s k b new newer n before after) is_false takes in
             (os, t.1 ∙ was, subst (λ (r : ImageRest D). AreTakenTo old r os (n + 1)) (sym t.0) (skip is_false))
 

@@ -9,7 +9,7 @@ close-pool-requires g c = record { count = c.args.issued.passes.ok.0 ∙ c.requi
 pub empty_pool-requires : goal.empty_pool-requires
 empty_pool-requires g c =
     let i = c.args.issued in let e = c.close-pool.ensures in
-    may_empty g.D.Disk.state i c.args.image.now c.requires.ready c.close-pool.result e.0 e.1 (no_entries i.lock i.passes.items e.0 c.requires.ready.passes e.2)
+    record { places = may_empty g.D.Disk.state i c.args.image.now c.requires.ready c.close-pool.result e.0 e.1 (no_entries i.lock i.passes.items e.0 c.requires.ready.passes e.2) }
 
 pub returns : goal.returns
 returns g c =
