@@ -29,3 +29,12 @@ pub mod PoolsInTurn
 pub mod Closable
 pub mod LeftParts
 pub mod SpindlesInTurn
+pub mod Setting
+pub mod Issues
+pub mod Dealing
+pub mod SetUp
+pub mod Taking
+pub mod LanesTaken
+pub mod Owning
+pub mod OpeningTaken
+pub mod OwnedOf

@@ -9,9 +9,9 @@ ghost use Rattle.logger.specs.Lanes.{IsLane, logger_of, taken_in};
 ghost use Rattle.volume_images.specs.Formatted.{part_sizes};
 ghost use Rattle.volume_images.specs.Left.{IsTold};
 ghost use Rattle.volume_images.specs.Volumes.{shape_in, shapes_of};
-ghost use Rattle.rack.specs.Rests.{segment_here, image_here, IsImageOut, IsImageRest};
+ghost use Rattle.rack.specs.Rests.{segment_here, image_here, held_here, IsImageOut, IsImageRest};
 ghost use Rattle.rack.specs.Making.{IsFilled};
-ghost use Rattle.rack.specs.Parts.{IsBarePlace, CanPutLanes, PutsLane, PutsLanes, CanPutHeld, PutsHeld, IsHomeAway, with_home, ChangesHome, PutsManager, CanPutOwned, PutsOpening};
+ghost use Rattle.rack.specs.Parts.{HasPlace, IsBarePlace, CanPutLanes, PutsLane, PutsLanes, CanPutHeld, PutsHeld, PopsHeld, IsHomeAway, with_home, ChangesHome, PutsManager, CanPutOwned, PutsOpening};
 ghost use Rattle.rack.specs.Closing.{IsComplete, AreComplete, IsImageBack, GivesBack, HasFaultHere, LeavesNoneOut};
 ghost use Rattle.rack.specs.declared.rack.ImageRest.{ImageRest};
 
@@ -95,9 +95,23 @@ impl<D: Disk> Rest<D> {
         requires { CanPutHeld self.old id logger }
         ensures { PutsHeld self.old self.new id logger }
     {
-        while let Some((index, part)) = self.passes[id].held[logger].pop() {
+        for _segment in 0..self.passes[id].held[logger].len() {
+            let (index, part) = self.pop_held(id, logger);
             put_segment(&mut self.images[logger], index, part);
         }
+    }
+
+    // The last of them goes out.
+    fn pop_held(&mut self, id: usize, logger: usize) -> (u32, Spun<D>)
+        requires place { HasPlace self.old id logger }
+        requires some { 0 < length (held_here self.old id logger) }
+        ensures { PopsHeld self.old self.new id logger result }
+    {
+        let passes = &mut self.passes[id];
+        let Some(held) = passes.held[logger].pop() else {
+            unreachable!()
+        };
+        held
     }
 
     /// Lanes of volume `id` come back.
