@@ -1,6 +1,8 @@
 -- Pools are closed one after another, the last first.
 use Rattle.std.proofs.Common.{◌≡◌, ◌≢◌, ◌<◌, ◌≤◌, ◌+◌, ◌⊎◌, inl, inr, ℕ, List, [], ◌∷◌, ◌++◌, length, map, Option, Some, None, refl, sym, ap, ◌∙◌, subst, arith}
 use Rattle.std.specs.Prelude.{Contains, All, IsSome, slice_get}
+use Rattle.std.proofs.lemmas.Bool.{cases_eq}
+use Rattle.std.proofs.lemmas.Option.{same_Some, slice_get_within}
 use Rattle.wol_disk.specs.Disk.{State}
 use Rattle.wol_model.specs.Blocks.{AreApart}
 use Rattle.wol_model.specs.Heads.{Shape}
@@ -8,6 +10,7 @@ use Rattle.spin_model.specs.declared.spun.Spun.{Spun}
 use Rattle.seg_pool.specs.declared.base.PoolBase.{PoolBase}
 use Rattle.seg_pool.specs.declared.pool.Pool.{Pool}
 use Rattle.log_segment.specs.declared.free.FreeSegment.{FreeSegment}
+use Rattle.turn_lock.specs.Passes.{lock_id}
 use Rattle.turn_lock.specs.declared.lock.TurnLock.{TurnLock}
 use Rattle.rack.specs.Rests.{image_here, segment_here, pool_pass, held_here, indexes_here, IsHeldHere, IsHolding, IsPart}
 use Rattle.rack.specs.Closing.{CanClosePool, RefillsAll, IsRefilledAll, KeepsLogger, KeepsSpindles}
@@ -83,3 +86,47 @@ module _ {D : Type 0} (state : D → State) where
 
       to_old : (i : ℕ) → IsHeldHere cur k i → IsHeldHere old k i
       to_old i h = (h.0, (h.1.0, sym (kept.pools h.0) ∙ h.1.1, h.1.2), λ has. h.2 (listed_now h.0 i has))
+
+  -- ---- The pools from number n on are closed
+
+  module _ (all : List (TurnLock (Pool (FreeSegment D)) PoolBase)) (init : Rest D) where
+    pub record ArePoolsClosed (n : ℕ) (cur : Rest D) : Type 0 where
+      pub images : (k : ℕ) (f : TurnLock (Pool (FreeSegment D)) PoolBase) → n ≤ k → slice_get all k ≡ Some f → RefillsAll state (lock_id f).base.blocks init k (image_here init.images.items k) (image_here cur.images.items k)
+      pub held : (v k : ℕ) → n ≤ k → k < length all → held_here cur v k ≡ []
+      pub before : (k : ℕ) → k < n → KeepsLogger init cur k
+      pub behind : (k : ℕ) → length all ≤ k → KeepsLogger init cur k
+      pub spindles : KeepsSpindles init cur
+
+    pub no_pool_closed : ArePoolsClosed (length all) init
+    no_pool_closed = record {
+      images = λ k f from at. absurd (let below = slice_get_within all k f at in omega (arith, below, from));
+      held = λ v k from below. absurd (omega (arith, from, below));
+      before = λ k less. logger_same init k;
+      behind = λ k past. logger_same init k;
+      spindles = spindles_same init;
+    }
+
+    module _ (n : ℕ) (lock : TurnLock (Pool (FreeSegment D)) PoolBase) (at : slice_get all n ≡ Some lock) (cur new : Rest D) (so_far : ArePoolsClosed (n + 1) cur)
+        (image : RefillsAll state (lock_id lock).base.blocks cur n (image_here cur.images.items n) (image_here new.images.items n)) (held : (v : ℕ) → held_here new v n ≡ [])
+        (others : (k : ℕ) → k ≢ n → KeepsLogger cur new k) (spindles : KeepsSpindles cur new) where
+      pub one_pool_more : ArePoolsClosed n new
+      one_pool_more = record {
+        images = λ k f from is. image_of k f from is (cases_eq k n);
+        held = λ v k from below. list_of_volume v k from below (cases_eq k n);
+        before = λ k less. logger_then init cur new k (so_far.before k (omega (arith, less))) (others k (λ e. absurd (omega (arith, less, e))));
+        behind = λ k past. logger_then init cur new k (so_far.behind k past) (others k (λ e. absurd (let below = slice_get_within all n lock at in omega (arith, past, e, below))));
+        spindles = spindles_then init cur new so_far.spindles spindles;
+      }
+        where
+          image_of : (k : ℕ) (f : TurnLock (Pool (FreeSegment D)) PoolBase) → n ≤ k → slice_get all k ≡ Some f → (k ≡ n) ⊎ (k ≡ n → ⊥) → RefillsAll state (lock_id f).base.blocks init k (image_here init.images.items k) (image_here new.images.items k)
+          image_of k f from is (inl e) =
+              let same : lock ≡ f = same_Some lock f (sym at ∙ ap (slice_get all) (sym e) ∙ is) in
+              let one = refills_same (lock_id lock).base.blocks init cur n (so_far.before n (omega arith)) (image_here new.images.items n) image in
+              subst (λ (j : ℕ). RefillsAll state (lock_id f).base.blocks init j (image_here init.images.items j) (image_here new.images.items j)) (sym e)
+              (subst (λ (x : TurnLock (Pool (FreeSegment D)) PoolBase). RefillsAll state (lock_id x).base.blocks init n (image_here init.images.items n) (image_here new.images.items n)) same one)
+          image_of k f from is (inr differs) =
+              subst (λ (o : Option (ImageRest D)). RefillsAll state (lock_id f).base.blocks init k (image_here init.images.items k) o) (sym (others k differs).image) (so_far.images k f (omega (arith, from, differs)) is)
+
+          list_of_volume : (v k : ℕ) → n ≤ k → k < length all → (k ≡ n) ⊎ (k ≡ n → ⊥) → held_here new v k ≡ []
+          list_of_volume v k from below (inl e) = subst (λ (j : ℕ). held_here new v j ≡ []) (sym e) (held v)
+          list_of_volume v k from below (inr differs) = (others k differs).held v ∙ so_far.held v k (omega (arith, from, differs)) below
