@@ -180,6 +180,12 @@ module _ {D : Type 0} (state : D → State) (config : Config) (images : List (Op
                 not_named config config.volumes.items (take n images) v.name (λ k w within at_k. others_named k w (λ same. absurd (let l = Rattle.std.proofs.lemmas.List.length-take n images in omega (arith, l, within, same))) at_k) in
                 gone ∙ ap (option_map (without v.name)) (is ∙ ap (λ (l : List (Name × List ℕ)). Some (os ++ l)) more) ∙ ap (λ (l : List (Name × List ℕ)). Some l) (last_gone config os (out_names config config.volumes.items (take n images)) v free apart)
 
+  -- the next one comes back, or isn't out
+  pub one_more_back : IsValid config → (n : ℕ) (v : VolumeConf) → slice_get config.volumes.items n ≡ Some v → (b cur new : BayState) (image : Option (ImageRest D)) → slice_get images n ≡ Some image → IsBackFrom state config images (suc n) b cur
+      → IsImageBack state v.name image cur new → IsBackFrom state config images n b new
+  one_more_back valid n v at b cur new None is so_far back = passes_over valid n v at b cur new is so_far back.0 back.1
+  one_more_back valid n v at b cur new (Some r) is so_far back = comes_back valid n v at b cur new r back.0 is back.1 so_far back.2 back.3 back.4
+
   -- all are back
   pub all_are_back : (b b' : BayState) → IsBackFrom state config images 0 b b' → Rattle.rack.specs.Closing.LeavesNoneOut config images (outs b) (outs b')
   all_are_back b b' so_far before away is = so_far.names before away is ∙ nothing before

@@ -25,7 +25,7 @@ named : (name : Name) (places : List ℕ) (place : ℕ) → Contains places plac
 named name places place has = (has.0, within, at)
   where
     within : has.0 < length (each_place name places)
-    within = rw (length-map) has.1.0
+    within = rw (length-map) has.1
 
     at : get_or (each_place name places) has.0 (name, place) ≡ (name, place)
     at = get_or-map (λ (p : ℕ). (name, p)) places has.0 place (name, place) has.1 ∙ ap (λ (p : ℕ). (name, p)) has.2

@@ -1,5 +1,5 @@
 -- The images that a crash leaves of an image's blocks, by its parts.
-use Rattle.std.proofs.Common.{◌≡◌, ◌<◌, ◌≤◌, ◌+◌, ◌-◌, ◌*◌, ℕ, zero, suc, List, [], ◌∷◌, ◌++◌, length, take, drop, get_or, map, Option, Some, None, refl, sym, ap, ◌∙◌, subst, arith}
+use Rattle.std.proofs.Common.{◌≡◌, ◌<◌, ◌≤◌, ◌+◌, ◌-◌, ◌*◌, ℕ, zero, suc, List, [], ◌∷◌, ◌++◌, length, take, drop, get_or, replicate, map, Option, Some, None, refl, sym, ap, ◌∙◌, subst, arith}
 use Rattle.std.specs.Prelude.{slice_range, slice_get, Contains, IfSome}
 use Rattle.std.proofs.Math.Nat.{suc-mul, add-mul}
 use Rattle.std.proofs.lemmas.List.{drop-drop, length-append, length-map, length-drop}
@@ -7,7 +7,8 @@ use Rattle.std.proofs.lemmas.Option.{none-some, same_Some, slice_get-get_or}
 use Rattle.wol_disk.specs.Disk.{Block, Values, State, IsDisk, TellsContent, IsImage, IsImageOf}
 use Rattle.wol_model.specs.Heads.{Shape}
 use Rattle.wol_model.specs.Images.{image_size, segment_of}
-use Rattle.wol_bay.specs.Parts.{joined, blocks_of}
+use Rattle.wol_bay.specs.Parts.{joined, blocks_of, sizes_of}
+use Rattle.volume_images.specs.Formatted.{part_sizes}
 use Rattle.spin_model.specs.Spun.{state_of, disk_of}
 use Rattle.spin_model.specs.declared.spun.Spun.{Spun}
 use Rattle.rack.specs.Rests.{segment_here, IsPart, IsImageRest}
@@ -148,3 +149,26 @@ module _ {D : Type 0} (state : D → State) where
           drop-drop (i * z.segment_blocks) z.home (drop 2 c) ∙ drop-drop (z.home + i * z.segment_blocks) 2 c ∙ ap (λ (m : ℕ). drop m c) at in
           subst (λ (n : ℕ). IsImageOf (state_of state p).values (take n (drop (2 + z.home + i * z.segment_blocks) c))) size
           (subst (λ (l : List Block). IsImageOf (state_of state p).values (take z.segment_blocks l)) dropped one)
+
+-- the parts of an image together have the sizes of its volume's
+pub sizes_together : {D : Type 0} (state : D → State) (k : ℕ) (z : Shape) (r : ImageRest D) (disks : List D) → IsImageRest state k z r → IsTogether r disks → sizes_of state disks ≡ part_sizes z
+sizes_together {D} state k z r disks rest together =
+    ap (sizes_of state) together.disks_are
+    ∙ (λ i. rest.label.sized i ∷ home i ∷ map (λ (d : D). (state d).size) (map (λ (p : Spun D). disk_of p) together.segments))
+    ∙ ap (λ (l : List ℕ). 2 ∷ z.home ∷ l) (all_same together.segments z.segments (λ n q at. (rest.segments n q (place n ∙ at)).sized) count)
+  where
+    home : (state_of state together.home).size ≡ z.home
+    home = (subst (λ (o : Option (Spun D)). IfSome o (IsPart state k z.home)) together.home_is rest.home).sized
+
+    place : (i : ℕ) → segment_here r i ≡ slice_get together.segments i
+    place i = ap (λ (l : List (Option (Spun D))). get_or l i None) together.segments_are ∙ each_some together.segments i
+
+    count : length together.segments ≡ z.segments
+    count = sym (length-map together.segments (λ (q : Spun D). Some q)) ∙ sym (ap length together.segments_are) ∙ rest.count
+
+    all_same : (qs : List (Spun D)) (n : ℕ) → ((i : ℕ) (q : Spun D) → slice_get qs i ≡ Some q → (state_of state q).size ≡ z.segment_blocks) → length qs ≡ n
+        → map (λ (d : D). (state d).size) (map (λ (p : Spun D). disk_of p) qs) ≡ replicate n z.segment_blocks
+    all_same [] zero each e = refl
+    all_same [] (suc n) each e = absurd (omega (arith, e))
+    all_same (q ∷ qs) zero each e = absurd (omega (arith, e))
+    all_same (q ∷ qs) (suc n) each e = λ i. each 0 q refl i ∷ all_same qs n (λ j p at. each (suc j) p at) (omega (arith, e)) i

@@ -11,7 +11,7 @@ use Rattle.wol_model.specs.Blocks.{AreApart}
 use Rattle.wol_model.specs.Heads.{Shape}
 use Rattle.wol_config.specs.declared.config.Config.{Config}
 use Rattle.turn_lock.specs.Histories.{Entry}
-use Rattle.turn_lock.specs.Passes.{lock_id, pass_lock, pass_number, pass_mine, IsPassOf, IsFree}
+use Rattle.turn_lock.specs.Passes.{AreWhole, lock_id, pass_lock, pass_number, pass_mine, IsPassOf, IsFree}
 use Rattle.turn_lock.specs.declared.lock.TurnLock.{TurnLock}
 use Rattle.turn_lock.specs.declared.pass.PassOf.{PassOf}
 use Rattle.spin_model.specs.Operations.{has_token}
@@ -38,12 +38,12 @@ use Rattle.volume_images.specs.Volumes.{shapes_of}
 use Rattle.rack.specs.Rests.{image_here, segment_here, pool_pass, spindle_pass, held_here, indexes_here, away_with, IsImageOut, IsPassAt, IsPart, IsImageRest, IsRow, IsHolding, IsHeldHere, AreLocks, IsRest, IsRestBut, AreRooms}
 use Rattle.rack.specs.Racks.{base_of_station, IsOpenBase, IsStation}
 use Rattle.rack.specs.Parts.{HasPlace, IsBarePlace, HasBack, KeepsPlace, CanPutLanes, IsHomeAway, PutsManager, held_parts, with_home}
-use Rattle.rack.specs.Closing.{CanCloseStations, home_here}
+use Rattle.rack.specs.Closing.{CanCloseStations, ClosesStation, home_here}
 use Rattle.rack.specs.declared.rack.ImageRest.{ImageRest}
 use Rattle.rack.specs.declared.rack.Rest.{Rest}
 use Rattle.rack.specs.declared.rack.Rooms.{Rooms}
 use Rattle.rack.proofs.Members.{first_in, later_in, map_map, element_at, get_left, no_value, a_value, is_there, none_in, no_members, all_last, all_front, all_member, of_recursion, in_map, of_map, in_cases, is_member}
-use Rattle.rack.proofs.LanesAway.{lane_came, lane_cases, lane_stays, home_came, home_cases, home_stays, is_lane_of, lane_of_owner}
+use Rattle.rack.proofs.LanesAway.{lanes_with, lane_with, lane_came, lane_cases, lane_stays, home_came, home_cases, home_stays, is_lane_of, lane_of_owner}
 
 -- the base of a lane among these
 named_lane : {D : Type 0} (ls : List (Lane D)) (bs : List LaneBase) (l : Lane D) → AreNamed ls bs → Contains ls l → (b : LaneBase) × Contains bs b × IsNamed l b
@@ -623,3 +623,38 @@ module _ {D : Type 0} (state : D → State) (tells : Rattle.std.specs.Prelude.Bo
 
         rising : Rattle.rack.specs.Racks.AreRising (map (λ (t : Station D). t.id) before)
         rising i j x y less at_i at_j = can.rising i j x y less (longer i x at_i) (longer j y at_j)
+
+    -- the station is closed
+    pub station_closed : AreWhole entries (s.worker ∷ s.helper ∷ s.keeper ∷ []) → ClosesStation tells state s old new
+    station_closed whole = record {
+      closing = record { manager = m; entries = entries };
+      closed = record { stands = stands; whole = whole; home = home_came_back; back = all_member (HasBack new s.id) m.lanes.items lane_back };
+      images = images_kept;
+      homes = homes_kept;
+      places = λ w k differs. other_place w k (λ same has. differs (same ∙ owner_is)) (λ same. absurd (differs same));
+      held = λ v k away. list_kept v k away (at_place v k);
+    }
+      where
+        list_kept : (v k : ℕ) → (Contains (away_with (base_of_station s ∷ [])).lanes (v, k) → ⊥) → AtPlace v k → held_here new v k ≡ held_here old v k
+        list_kept v k away (of_lane l same has at back) =
+            absurd (away (subst (λ (x : ℕ × ℕ). Contains (away_with (base_of_station s ∷ [])).lanes x) {x = (b.volume.began.owner, k)} {y = (v, k)} (λ i. (sym same i, k))
+            (Rattle.std.proofs.lemmas.List.Elements.Contains-append_left (lanes_with b) [] (b.volume.began.owner, k) (lane_with b k (subst (λ (j : ℕ). Contains b.volume.began.view j) at (in_view l has))))))
+        list_kept v k away (as_before never pool held) = held
+
+-- rooms once the last station's went
+pub rooms_less : {D : Type 0} (volumes : ℕ) (rooms : Rooms D) (before : List (Station D)) (s : Station D) (ms : Rattle.std.specs.declared.vec.Vec.Vec (Rattle.std.specs.declared.vec.Vec.Vec (PassOf (Manager D) ManagerBase) Rattle.std.specs.declared.alloc.Global.Global) Rattle.std.specs.declared.alloc.Global.Global)
+    (row : Rattle.std.specs.declared.vec.Vec.Vec (PassOf (Manager D) ManagerBase) Rattle.std.specs.declared.alloc.Global.Global) → AreRooms volumes (length (map (λ (t : Station D). base_of_station t) (before ++ s ∷ []))) rooms → rooms.managers.items ≡ ms.items ++ row ∷ []
+    → AreRooms volumes (length (map (λ (t : Station D). base_of_station t) before)) (record rooms { managers = ms })
+rooms_less {D} volumes rooms before s ms row are split = record {
+  pool_count = are.pool_count;
+  pools = are.pools;
+  spindle_count = are.spindle_count;
+  spindles = are.spindles;
+  manager_count =
+      let all = ap length split ∙ length_push ms.items row in
+      let stations = length-map (before ++ s ∷ []) (λ (t : Station D). base_of_station t) ∙ length_push before s in
+      let fewer = length-map before (λ (t : Station D). base_of_station t) in
+      omega (arith, are.manager_count, all, stations, fewer);
+  managers = all_front (λ r. (r.items ≡ []) × (3 ≤ Rattle.std.specs.Prelude.vec_capacity r)) ms.items row (subst (λ l. All (λ r. (r.items ≡ []) × (3 ≤ Rattle.std.specs.Prelude.vec_capacity r)) l) split are.managers);
+  closed = are.closed;
+}

@@ -1,8 +1,9 @@
 -- Stations are closed one after another, the last first.
-use Rattle.std.proofs.Common.{◌≡◌, ◌≢◌, ◌<◌, ◌≤◌, ◌+◌, ◌⊎◌, inl, inr, ℕ, Bool, List, [], ◌∷◌, ◌++◌, length, map, Option, Some, None, refl, sym, ap, ◌∙◌, subst, arith}
-use Rattle.std.specs.Prelude.{Contains, All, option_and_then}
+use Rattle.std.proofs.Common.{◌≡◌, ◌≢◌, ◌<◌, ◌≤◌, ◌+◌, ◌-◌, ◌⊎◌, inl, inr, ℕ, Bool, List, [], ◌∷◌, ◌++◌, length, drop, map, Option, Some, None, refl, sym, ap, ◌∙◌, subst, arith}
+use Rattle.std.specs.Prelude.{Contains, All, slice_get, option_map, option_and_then}
 use Rattle.std.specs.List.{AllZip}
-use Rattle.std.proofs.lemmas.List.{append-nil}
+use Rattle.std.proofs.lemmas.List.{append-nil, length-drop, get_or-drop, drop_more}
+use Rattle.std.proofs.lemmas.Option.{slice_get-get_or, slice_get-map, slice_get_within, get_or_from_slice_get}
 use Rattle.std.proofs.lemmas.List.Elements.{Contains-append_left, Contains-append_cases}
 use Rattle.wol_disk.specs.Disk.{State}
 use Rattle.logger.specs.Lanes.{logger_of}
@@ -72,3 +73,17 @@ module _ {D : Type 0} (tells : Bool) (state : D → State) where
             let mine : Contains (Rattle.rack.proofs.LanesAway.lanes_with (base_of_station s)) (v, k) =
             subst (λ (l : List (ℕ × ℕ)). Contains l (v, k)) (append-nil (Rattle.rack.proofs.LanesAway.lanes_with (base_of_station s))) has in
             Contains-append_left (Rattle.rack.proofs.LanesAway.lanes_with (base_of_station s)) (away_with (map (λ (t : Station D). base_of_station t) done)).lanes (v, k) mine
+
+-- what stands behind a place of a rising list has another number
+pub apart_behind : {D : Type 0} (all : List (Station D)) (n : ℕ) (s : Station D) → Rattle.rack.specs.Racks.AreRising (map (λ (t : Station D). t.id) all) → slice_get all n ≡ Some s → (t : Station D) → Contains (drop (n + 1) all) t → t.id ≢ s.id
+apart_behind {D} all n s rising at t has same =
+    let place : length (drop (n + 1) all) ≡ length all - (n + 1) = length-drop (n + 1) all in
+    let within : n + 1 + has.0 < length all = omega (arith, place, has.1) in
+    let there : slice_get all (n + 1 + has.0) ≡ Some t = slice_get-get_or all (n + 1 + has.0) t within ∙ ap (λ (x : Station D). Some x) (sym (get_or-drop (n + 1) all has.0 t) ∙ has.2) in
+    let less = rising n (n + 1 + has.0) s.id t.id (omega arith)
+        (slice_get-map (λ (x : Station D). x.id) all n ∙ ap (option_map (λ (x : Station D). x.id)) at)
+        (slice_get-map (λ (x : Station D). x.id) all (n + 1 + has.0) ∙ ap (option_map (λ (x : Station D). x.id)) there) in
+    absurd (omega (arith, less, same))
+
+pub next_drop : {D : Type 0} (all : List (Station D)) (n : ℕ) (s : Station D) → slice_get all n ≡ Some s → drop n all ≡ s ∷ drop (n + 1) all
+next_drop {D} all n s at = drop_more all n s (slice_get_within all n s at) ∙ ap (λ (x : Station D). x ∷ drop (n + 1) all) (get_or_from_slice_get all n s s at)
