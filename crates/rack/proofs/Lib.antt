@@ -30,3 +30,4 @@ pub mod Returned
 pub mod HeldPut
 pub mod Ended
 pub mod LaneTaken
+pub mod SameSegments
