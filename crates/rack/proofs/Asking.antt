@@ -1,5 +1,5 @@
 -- The images of a configuration that are asked for one after the other.
-use Rattle.std.proofs.Common.{◌≡◌, ◌≢◌, ◌⊎◌, inl, inr, ⊎_elim, ℕ, suc, ◌+◌, ◌-◌, ◌^◌, ◌<◌, ◌≤◌, Bool, true, false, List, [], ◌∷◌, ◌++◌, length, map, get_or, Option, None, Some, option_map, IfSome, Ok, Err, refl, sym, ap, ◌∙◌, subst, arith, append_assoc}
+use Rattle.std.proofs.Common.{◌≡◌, ◌≢◌, ◌⊎◌, inl, inr, ⊎_elim, ℕ, zero, suc, ◌+◌, ◌-◌, ◌^◌, ◌<◌, ◌≤◌, Bool, true, false, List, [], ◌∷◌, ◌++◌, length, map, get_or, Option, None, Some, option_map, IfSome, Result, Ok, Err, IfOk, IfErr, refl, sym, ap, ◌∙◌, subst, arith, append_assoc}
 use Rattle.std.specs.Prelude.{slice_get, IsSome, IsTrue, is_some}
 use Rattle.std.specs.Str.{bytes_eq}
 use Rattle.std.proofs.lemmas.Bool.{cases_lt}
@@ -22,7 +22,7 @@ use Rattle.volume_images.specs.Volumes.{shape_in, shapes_of, MayLeave}
 use Rattle.volume_images.proofs.NamedApart.{other_gone, second_gone}
 use Rattle.volume_images.proofs.Refused.{rose_since}
 use Rattle.rack.specs.Rests.{image_here, IsImageOut}
-use Rattle.rack.specs.Making.{PushesImage}
+use Rattle.rack.specs.Making.{AreNewImages, PushesImage}
 use Rattle.rack.specs.Opens.{out_names, RefusesVolume, RefusesImage}
 use Rattle.rack.specs.Opening.{said_at, fault_at, IsRefused, IsOut, WasAtEntry, AreAsked, IsNextOpened, IsNextRefused, StayedAs, StayedSo, HasSentOut, LeavesNoMore}
 use Rattle.rack.specs.declared.heads_said.Said.{Said}
@@ -53,6 +53,11 @@ module _ {A : Type 0} (xs : List (Option A)) (y : Option A) (n : ℕ) (count : l
       (λ (past : n + 1 ≤ k). absurd (none-some x (sym (get_or_past (xs ++ y ∷ []) k None (omega (arith, past, count, length_push xs y))) ∙ at)))
       (cases_lt k (n + 1)))
       (cases_lt k n)
+
+pub some_at : {A : Type 0} (xs : List A) (k : ℕ) → k < length xs → (x : A) × (slice_get xs k ≡ Some x)
+some_at [] k lt = absurd (omega (arith, lt))
+some_at (x ∷ xs) zero lt = (x, refl)
+some_at (x ∷ xs) (suc k) lt = some_at xs k (omega (arith, lt))
 
 -- what is there stays there
 pub still_there : {A : Type 0} (xs : List (Option A)) (y : Option A) (k : ℕ) → IsSome (get_or xs k None) → IsSome (get_or (xs ++ y ∷ []) k None)
@@ -96,17 +101,17 @@ module _ {D : Type 0} (tells : Bool) (state : D → State) (config : Config) whe
       go None s = absurd s
       go (Some t1) s = (t1, refl, s apart)
 
-  image_since : (b b1 b2 : BayState) (k : ℕ) (v : VolumeConf) (f : VolumeFault) → IsTold (SameAt v.name) b.told b1.told → b.faults ≤ b1.faults → RefusesImage {D} config [] b1 b2 k v f → RefusesImage {D} config [] b b2 k v f
+  image_since : (b b1 b2 : BayState) (k : ℕ) (v : VolumeConf) (f : VolumeFault) → IsTold (SameAt v.name) b.told b1.told → b.faults ≤ b1.faults → RefusesImage {D = D} config [] b1 b2 k v f → RefusesImage {D = D} config [] b b2 k v f
   image_since b b1 b2 k v f same le r = record {
     not_out = r.not_out;
     image_fault = r.image_fault;
     is_fault = r.is_fault;
-    said = λ t i told apart at. let then = told_there v.name t b.told b1.told told same apart in r.said then.0 i then.1.0 then.1.1.0 (then.1.1.1 ∙ at);
+    said = λ t i told apart at. let then = told_there v.name t b.told b1.told told same apart in r.said then.0 i then.1 then.2.0 (then.2.1 ∙ at);
     cause = λ call. rose_since b.faults b1.faults b2.faults le (r.cause call);
   }
 
   -- and was one before
-  pub refuses_since : (b b1 b2 : BayState) (k : ℕ) (v : VolumeConf) (f : VolumeFault) → IsTold (SameAt v.name) b.told b1.told → b.faults ≤ b1.faults → RefusesVolume {D} tells state config [] b1 b2 k v f → RefusesVolume {D} tells state config [] b b2 k v f
+  pub refuses_since : (b b1 b2 : BayState) (k : ℕ) (v : VolumeConf) (f : VolumeFault) → IsTold (SameAt v.name) b.told b1.told → b.faults ≤ b1.faults → RefusesVolume {D = D} tells state config [] b1 b2 k v f → RefusesVolume {D = D} tells state config [] b b2 k v f
   refuses_since b b1 b2 k v Absent same le r = (r.0, bay_since v.name (part_sizes (shape_in config v)) _ b.told b1.told same r.1)
   refuses_since b b1 b2 k v (WrongLength bytes) same le r = (r.0, bay_since v.name (part_sizes (shape_in config v)) _ b.told b1.told same r.1)
   refuses_since b b1 b2 k v BayFailed same le r = ((r.0.0, bay_since v.name (part_sizes (shape_in config v)) _ b.told b1.told same r.0.1), rose_since b.faults b1.faults b2.faults le r.1)
@@ -161,8 +166,8 @@ module _ {D : Type 0} (tells : Bool) (state : D → State) (config : Config) whe
           let is : r ≡ q = same_Some r q now.1 in
           let says_n : Some said ≡ Some own = sym said_new ∙ sym (ap (λ (j : ℕ). said_at i2.said.items j) now.0) ∙ says in
           let then = told_there v.name t b.told b1.told told same apart in
-          let new = next.entry telling then.0 then.1.0 then.1.1.0 in
-          let was_there : WasAtEntry state config t n v said r = record { image = new.image; there = sym then.1.1.1 ∙ new.there; says = new.says; cut = new.cut } in
+          let new = next.entry telling then.0 then.1 then.2.0 in
+          let was_there : WasAtEntry state config t n v said r = record { image = new.image; there = sym then.2.1 ∙ new.there; says = new.says; cut = new.cut } in
           let W : ℕ → VolumeConf → Said → ImageRest D → Type 0 = λ j u y x. WasAtEntry state config t j u y x in
           subst (λ (j : ℕ). W j w own q) (sym now.0) (subst (λ (u : VolumeConf). W n u own q) (same_volume k w now.0 found) (subst (λ (y : Said). W n v y q) (same_Some said own says_n) (subst (λ (x : ImageRest D). W n v said x) is was_there))))
           (push_cases i1.out.items (Some r) n asked.out_count k q (sym (ap (λ l. get_or l k None) pushes.out.0) ∙ here));
@@ -228,3 +233,21 @@ module _ {D : Type 0} (tells : Bool) (state : D → State) (config : Config) whe
           fault_is = ap (λ l. get_or l n None) pushes.faults.0 ∙ at_new i1.faults.items (Some fault) n asked.fault_count;
           refuses = refuses_since b b1 b2 n v fault same le next.refuses;
         }
+
+    pub asked_more : (opened : Result (Said × ImageRest D) VolumeFault) → PushesImage i1 i2 opened → IfOk opened (λ pair. (w : VolumeConf) → slice_get config.volumes.items n ≡ Some w → IsNextOpened tells state config n w b1 b2 pair.0 pair.1)
+        → IfErr opened (λ fault. (w : VolumeConf) → slice_get config.volumes.items n ≡ Some w → IsNextRefused {D = D} tells state config n w b1 b2 fault) → AreAsked tells state config b b2 (n + 1) i2
+    asked_more (Ok pair) pushes ok err = asked_opened pair.0 pair.1 pushes (ok v at)
+    asked_more (Err fault) pushes ok err = asked_refused fault pushes (err v at)
+
+  -- before the first
+  pub none_asked : (b : BayState) (volumes : ℕ) (i : Images D) → AreNewImages volumes i → AreAsked tells state config b b 0 i
+  none_asked b volumes i new =
+      let none : (k : ℕ) (r : ImageRest D) → image_here i.out.items k ≡ Some r → ⊥ = λ k r here. none-some r (sym (ap (λ (l : List (Option (ImageRest D))). get_or l k None) new.out.0) ∙ here) in
+      record {
+        said_count = ap (λ (l : List (Option Said)). length l) new.said.0;
+        out_count = ap (λ (l : List (Option (ImageRest D))). length l) new.out.0;
+        fault_count = ap (λ (l : List (Option VolumeFault)). length l) new.faults.0;
+        refused = λ k w lt found none_here. absurd (omega (arith, lt));
+        out = λ k s r shape here. absurd (none k r here);
+        entry = λ telling t told apart k w own r found says here. absurd (none k r here);
+      }

@@ -5,6 +5,10 @@ pub mod GivingBack
 pub mod CutParts
 pub mod Asking
 pub mod SentNames
+pub mod NextImage
+pub mod NextRefused
+pub mod Takes
+pub mod Openable
 pub mod Members
 pub mod LanesAway
 pub mod StationBack
@@ -17,6 +21,8 @@ pub mod Together
 pub mod LanesPut
 pub mod Slots
 pub mod Emptying
+pub mod OwnedSegments
+pub mod UsedPass
 pub mod HomeMoved
 pub mod Filling
 pub mod Supplying
@@ -38,3 +44,4 @@ pub mod LanesTaken
 pub mod Owning
 pub mod OpeningTaken
 pub mod OwnedOf
+pub mod SameSegments

@@ -1,12 +1,12 @@
 -- What a bay tells while images go out of it in order.
-use Rattle.std.proofs.Common.{◌≡◌, ◌≢◌, ⊎_elim, ℕ, zero, suc, ◌+◌, ◌<◌, ◌≤◌, Bool, true, false, List, [], ◌∷◌, ◌++◌, length, get_or, Option, None, Some, option_map, refl, sym, ap, ◌∙◌, subst, arith, append_assoc}
+use Rattle.std.proofs.Common.{◌≡◌, ◌≢◌, ⊎_elim, ℕ, zero, suc, ◌+◌, ◌<◌, ◌≤◌, Bool, true, false, cond, List, [], ◌∷◌, ◌++◌, length, get_or, Option, None, Some, option_map, IfSome, Result, Ok, Err, IfOk, IfErr, refl, sym, ap, ◌∙◌, subst, arith, append_assoc}
 use Rattle.std.specs.Prelude.{slice_get}
 use Rattle.std.specs.Str.{bytes_eq}
 use Rattle.std.proofs.lemmas.Bool.{cases_lt}
 use Rattle.std.proofs.lemmas.Option.{none-some, same_Some, slice_get_within, get_or_from_slice_get}
 use Rattle.std.proofs.lemmas.Slice.Eq.{bytes_eq-Decides}
-use Rattle.wol_disk.specs.Disk.{Block}
-use Rattle.wol_bay.specs.Bay.{Name, Image, Told, BayState, at_name, without, outs, sent_out}
+use Rattle.wol_disk.specs.Disk.{State}
+use Rattle.wol_bay.specs.Bay.{Name, Image, Told, BayState, at_name, without, outs, sent_out, IsHome}
 use Rattle.wol_bay.proofs.NameLists.{without_none}
 use Rattle.wol_config.specs.Configs.{IsValid}
 use Rattle.wol_config.specs.declared.config.Config.{Config}
@@ -17,7 +17,10 @@ use Rattle.volume_images.specs.Volumes.{shape_in, MayLeave}
 use Rattle.volume_images.proofs.NamedApart.{other_gone, second_gone}
 use Rattle.rack.specs.Rests.{IsImageOut}
 use Rattle.rack.specs.Opens.{out_names}
-use Rattle.rack.specs.Opening.{StayedAs, StayedSo, HasSentOut, IsNextRefused}
+use Rattle.rack.specs.Opening.{StayedAs, StayedSo, HasSentOut, IsNextOpened, IsNextRefused}
+use Rattle.rack.specs.Making.{image_by}
+use Rattle.rack.specs.declared.heads_said.Said.{Said}
+use Rattle.rack.specs.declared.volume_fault.VolumeFault.{VolumeFault}
 use Rattle.rack.specs.declared.rack.ImageRest.{ImageRest}
 use Rattle.rack.proofs.Asking.{still_there, at_new, SameAt}
 
@@ -49,36 +52,36 @@ names_differ config valid j k v w at at' other = λ same.
     (λ (above : k ≤ j). (valid.apart k j v (omega (arith, above, other)) lt).names (ap N two ∙ sym same ∙ sym (ap N one)))
     (cases_lt j k)
 
-module _ {D : Type 0} (config : Config) where
-  none_out : (vs : List VolumeConf) → out_names {D} config vs [] ≡ []
-  none_out [] = refl
-  none_out (v ∷ vs) = refl
+none_out : (D : Type 0) (config : Config) (vs : List VolumeConf) → out_names {D = D} config vs [] ≡ []
+none_out D config [] = refl
+none_out D config (v ∷ vs) = refl
 
+outs_more : (names : List (Name × List ℕ)) (name : Name) (sizes : List ℕ) (o o1 o2 : Option Told) → option_map (λ t. t.out) o1 ≡ option_map (λ os. os ++ names) (option_map (λ t. t.out) o) → o2 ≡ option_map (sent_out name sizes) o1
+    → option_map (λ t. t.out) o2 ≡ option_map (λ os. os ++ (names ++ (name, sizes) ∷ [])) (option_map (λ t. t.out) o)
+outs_more names name sizes o o1 o2 so_far sent = ap (option_map (λ t. t.out)) sent ∙ one o1 ∙ ap (option_map (λ os. os ++ (name, sizes) ∷ [])) so_far ∙ both o
+  where
+    one : (o1 : Option Told) → option_map (λ t. t.out) (option_map (sent_out name sizes) o1) ≡ option_map (λ os. os ++ (name, sizes) ∷ []) (option_map (λ t. t.out) o1)
+    one None = refl
+    one (Some t) = refl
+
+    both : (o : Option Told) → option_map (λ os. os ++ (name, sizes) ∷ []) (option_map (λ os. os ++ names) (option_map (λ t. t.out) o)) ≡ option_map (λ os. os ++ (names ++ (name, sizes) ∷ [])) (option_map (λ t. t.out) o)
+    both None = refl
+    both (Some t) = ap Some (append_assoc t.out names ((name, sizes) ∷ []))
+
+module _ {D : Type 0} (config : Config) where
   pub out_push : (vs : List VolumeConf) (images : List (Option (ImageRest D))) (v : VolumeConf) (r : ImageRest D) → slice_get vs (length images) ≡ Some v
       → out_names config vs (images ++ Some r ∷ []) ≡ out_names config vs images ++ (v.name, part_sizes (shape_in config v)) ∷ []
   out_push [] images v r at = absurd (none-some v at)
   out_push (w ∷ vs) [] v r at = let is : w ≡ v = same_Some w v at in
-      ap (λ (l : List (Name × List ℕ)). (w.name, part_sizes (shape_in config w)) ∷ l) (none_out vs) ∙ ap (λ (u : VolumeConf). (u.name, part_sizes (shape_in config u)) ∷ []) is
+      ap (λ (l : List (Name × List ℕ)). (w.name, part_sizes (shape_in config w)) ∷ l) (none_out D config vs) ∙ ap (λ (u : VolumeConf). (u.name, part_sizes (shape_in config u)) ∷ []) is
   out_push (w ∷ vs) (None ∷ images) v r at = out_push vs images v r at
   out_push (w ∷ vs) (Some i ∷ images) v r at = ap (λ (l : List (Name × List ℕ)). (w.name, part_sizes (shape_in config w)) ∷ l) (out_push vs images v r at)
 
   pub out_none : (vs : List VolumeConf) (images : List (Option (ImageRest D))) → out_names config vs (images ++ None ∷ []) ≡ out_names config vs images
   out_none [] images = refl
-  out_none (w ∷ vs) [] = none_out vs
+  out_none (w ∷ vs) [] = none_out D config vs
   out_none (w ∷ vs) (None ∷ images) = out_none vs images
   out_none (w ∷ vs) (Some i ∷ images) = ap (λ (l : List (Name × List ℕ)). (w.name, part_sizes (shape_in config w)) ∷ l) (out_none vs images)
-
-  outs_more : (names : List (Name × List ℕ)) (name : Name) (sizes : List ℕ) (o o1 o2 : Option Told) → option_map (λ t. t.out) o1 ≡ option_map (λ os. os ++ names) (option_map (λ t. t.out) o) → o2 ≡ option_map (sent_out name sizes) o1
-      → option_map (λ t. t.out) o2 ≡ option_map (λ os. os ++ (names ++ (name, sizes) ∷ [])) (option_map (λ t. t.out) o)
-  outs_more names name sizes o o1 o2 so_far sent = ap (option_map (λ t. t.out)) sent ∙ one o1 ∙ ap (option_map (λ os. os ++ (name, sizes) ∷ [])) so_far ∙ both o
-    where
-      one : (o1 : Option Told) → option_map (λ t. t.out) (option_map (sent_out name sizes) o1) ≡ option_map (λ os. os ++ (name, sizes) ∷ []) (option_map (λ t. t.out) o1)
-      one None = refl
-      one (Some t) = refl
-
-      both : (o : Option Told) → option_map (λ os. os ++ (name, sizes) ∷ []) (option_map (λ os. os ++ names) (option_map (λ t. t.out) o)) ≡ option_map (λ os. os ++ (names ++ (name, sizes) ∷ [])) (option_map (λ t. t.out) o)
-      both None = refl
-      both (Some t) = ap Some (append_assoc t.out names ((name, sizes) ∷ []))
 
   -- ---- One image more was asked for
 
@@ -145,14 +148,61 @@ module _ {D : Type 0} (config : Config) where
       counts = omega (arith, so_far.counts, counts);
     }
 
+    pub sent_on : (tells : Bool) (state : D → State) (opened : Result (Said × ImageRest D) VolumeFault) (out' : List (Option (ImageRest D))) (b b1 b2 : BayState) → HasSentOut config out n b b1 → out' ≡ out ++ image_by opened ∷ []
+        → IfOk opened (λ pair. (w : VolumeConf) → slice_get config.volumes.items n ≡ Some w → IsNextOpened tells state config n w b1 b2 pair.0 pair.1)
+        → IfErr opened (λ fault. (w : VolumeConf) → slice_get config.volumes.items n ≡ Some w → IsNextRefused {D = D} tells state config n w b1 b2 fault) → HasSentOut config out' (n + 1) b b2
+    sent_on tells state (Ok pair) out' b b1 b2 so_far is ok err =
+        let next = ok v at in subst (λ (l : List (Option (ImageRest D))). HasSentOut config l (n + 1) b b2) (sym is) (sent_more pair.1 b b1 b2 so_far next.sent next.counts)
+    sent_on tells state (Err fault) out' b b1 b2 so_far is ok err =
+        let next = err v at in subst (λ (l : List (Option (ImageRest D))). HasSentOut config l (n + 1) b b2) (sym is) (refused_more b b1 b2 so_far next.outs next.left next.counts)
+
   -- before the first
-  pub none_sent : (b : BayState) → HasSentOut {D} config [] 0 b b
+  pub none_sent : (b : BayState) → HasSentOut {D = D} config [] 0 b b
   none_sent b = record { outs = same (outs b); stayed = stays b.told; counts = omega arith }
     where
-      same : (o : Option (List (Name × List ℕ))) → o ≡ option_map (λ os. os ++ out_names {D} config config.volumes.items []) o
+      same : (o : Option (List (Name × List ℕ))) → o ≡ option_map (λ os. os ++ out_names {D = D} config config.volumes.items []) o
       same None = refl
-      same (Some os) = ap Some (sym (ap (λ (l : List (Name × List ℕ)). os ++ l) (none_out config.volumes.items) ∙ Rattle.std.proofs.Common.append-nil os))
+      same (Some os) = ap Some (sym (ap (λ (l : List (Name × List ℕ)). os ++ l) (none_out D config config.volumes.items) ∙ Rattle.std.proofs.Common.append-nil os))
 
-      stays : (o : Option Told) → IsTold (StayedSo {D} config [] 0) o o
+      stays : (o : Option Told) → IsTold (StayedSo {D = D} config [] 0) o o
       stays None = refl
       stays (Some t) = λ apart. record { apart = apart; stayed = λ name not c may. may; further = λ k w le found. refl }
+
+-- ---- A name that isn't out
+
+not_this : (x name : Name) → x ≢ name → bytes_eq x name ≡ false
+not_this x name other = go (bytes_eq x name) refl
+  where
+    go : (b : Bool) → bytes_eq x name ≡ b → b ≡ false
+    go true e = absurd (other ((bytes_eq-Decides x name).0 e))
+    go false e = refl
+
+neither : {A : Type 0} (name : Name) (es fs : List (Name × A)) → at_name name es ≡ None → at_name name fs ≡ None → at_name name (es ++ fs) ≡ None
+neither {A} name [] fs none none' = none'
+neither {A} name (e ∷ es) fs none none' = go (bytes_eq e.0 name) none (λ n. neither name es fs n none')
+  where
+    go : (b : Bool) → cond b (Some e.1) (at_name name es) ≡ None → (at_name name es ≡ None → at_name name (es ++ fs) ≡ None) → cond b (Some e.1) (at_name name (es ++ fs)) ≡ None
+    go true n more = absurd (none-some e.1 (sym n))
+    go false n more = more n
+
+not_named : {D : Type 0} (config : Config) (name : Name) (vs : List VolumeConf) (out : List (Option (ImageRest D))) → ((k : ℕ) (w : VolumeConf) → k < length out → slice_get vs k ≡ Some w → w.name ≢ name) → at_name name (out_names config vs out) ≡ None
+not_named config name [] out other = refl
+not_named config name (v ∷ vs) [] other = refl
+not_named config name (v ∷ vs) (None ∷ out) other = not_named config name vs out (λ k w lt at. other (suc k) w (omega (arith, lt)) at)
+not_named config name (v ∷ vs) (Some r ∷ out) other =
+    ap (λ (b : Bool). cond b (Some (part_sizes (shape_in config v))) (at_name name (out_names config vs out))) (not_this v.name name (other 0 v (omega arith) refl))
+    ∙ not_named config name vs out (λ k w lt at. other (suc k) w (omega (arith, lt)) at)
+
+-- the next name isn't out yet
+pub next_home : {D : Type 0} (config : Config) → IsValid config → (out : List (Option (ImageRest D))) (n : ℕ) (v : VolumeConf) (b b1 : BayState) → length out ≡ n → slice_get config.volumes.items n ≡ Some v → IsHome v.name b → HasSentOut config out n b b1 → IsHome v.name b1
+next_home config valid out n v b b1 count at home sent = go b.told b1.told home sent.outs
+  where
+    names : List (Name × List ℕ)
+    names = out_names config config.volumes.items out
+
+    go : (o o1 : Option Told) → IfSome o (λ t. at_name v.name t.out ≡ None) → option_map (λ t. t.out) o1 ≡ option_map (λ os. os ++ names) (option_map (λ t. t.out) o) → IfSome o1 (λ t. at_name v.name t.out ≡ None)
+    go o None home e = tt
+    go None (Some t1) home e = absurd (cc e)
+    go (Some t) (Some t1) home e =
+        let same : t1.out ≡ t.out ++ names = cc in
+        ap (at_name v.name) same ∙ neither v.name t.out names home (not_named config v.name config.volumes.items out (λ k w lt found. names_differ config valid k n w v found at (λ is. omega (arith, lt, count, is))))

@@ -1,8 +1,9 @@
 -- The images that were taken out, what they say, and how far their volumes are opened. `state` is that of a part's disk.
 use Rattle.std.specs.Prelude.{◌≡◌, ◌≢◌, ◌≤◌, ◌<◌, ◌+◌, ◌++◌, ◌↔◌, ℕ, Bool, List, [], map, length, vec_capacity, Option, None, Some, is_some, option_map, slice_get, slice_index_or, slice_range, Contains, IsSome, IsTrue, All}
-use Rattle.wol_disk.specs.Disk.{Block, State, IsImageOf, reads}
+use Rattle.wol_disk.specs.Disk.{Block, State, TellsContent, IsImageOf, reads}
 use Rattle.wol_model.specs.Heads.{Shape}
 use Rattle.wol_model.specs.Images.{image_size}
+use Rattle.wol_promise.specs.Manager.{SaysOwnerOrFree}
 use Rattle.wol_bay.specs.Bay.{Name, Image, Told, BayState, at_name, outs, sent_out}
 use Rattle.wol_config.specs.declared.config.Config.{Config}
 use Rattle.wol_config.specs.declared.config.VolumeConf.{VolumeConf}
@@ -11,7 +12,7 @@ use Rattle.turn_lock.specs.declared.lock.TurnLock.{TurnLock}
 use Rattle.turn_lock.specs.declared.pass.PassOf.{PassOf}
 use Rattle.log_layout.specs.Values.{segment_head}
 use Rattle.log_layout.specs.declared.segment.SegHead.{SegHead}
-use Rattle.log_layout.specs.declared.segment.SegHead.TheVariants.{Owned}
+use Rattle.log_layout.specs.declared.segment.SegHead.TheVariants.{Free, Owned}
 use Rattle.log_segment.specs.declared.free.FreeSegment.{FreeSegment}
 use Rattle.seg_pool.specs.Holders.{holder}
 use Rattle.seg_pool.specs.declared.base.PoolBase.{PoolBase}
@@ -24,7 +25,7 @@ use Rattle.volume_images.specs.Accepted.{HasHead, IsConfigured, IsAccepted, head
 use Rattle.volume_images.specs.Formatted.{part_sizes}
 use Rattle.volume_images.specs.Left.{IsTold, AreNamedApart}
 use Rattle.volume_images.specs.Volumes.{shape_in, shapes_of, MayLeave}
-use Rattle.rack.specs.Rests.{image_here, segment_here, pool_pass, IsImageOut, IsImageRest}
+use Rattle.rack.specs.Rests.{image_here, segment_here, pool_pass, held_here, IsImageOut, IsImageRest}
 use Rattle.rack.specs.Parts.{holder_by}
 use Rattle.rack.specs.Racks.{IsClosable, IsUnused, AreUnused}
 use Rattle.rack.specs.Closing.{IsComplete}
@@ -83,7 +84,7 @@ pub record IsRefused {D : Type 0} (tells : Bool) (state : D → State) (config :
   pub unsaid : said_at i.said.items k ≡ None
   pub fault : VolumeFault
   pub fault_is : fault_at i.faults.items k ≡ Some fault
-  pub refuses : RefusesVolume {D} tells state config [] b b' k v fault
+  pub refuses : RefusesVolume {D = D} tells state config [] b b' k v fault
 
 -- the image of volume k is out, and all of it is here
 pub record IsOut {D : Type 0} (state : D → State) (volumes k : ℕ) (s : Shape) (i : Images D) (r : ImageRest D) : Type 0 where
@@ -132,7 +133,7 @@ pub record IsNextOpened {D : Type 0} (tells : Bool) (state : D → State) (confi
 
 -- the next image was refused for this, and is in the bay
 pub record IsNextRefused {D : Type 0} (tells : Bool) (state : D → State) (config : Config) (k : ℕ) (v : VolumeConf) (b b' : BayState) (fault : VolumeFault) : Type 0 where
-  pub refuses : RefusesVolume {D} tells state config [] b b' k v fault
+  pub refuses : RefusesVolume {D = D} tells state config [] b b' k v fault
   pub outs : outs b' ≡ outs b
   pub left : IsTold (StayedAs v.name) b.told b'.told
   pub counts : b.faults ≤ b'.faults
@@ -188,6 +189,15 @@ pub record AreStillCut {D : Type 0} (state : D → State) (config : Config) (t :
       → said_at said k ≡ Some own → slice_get own.heads.items j ≡ Some (Owned owner) → image_here r.images.items k ≡ Some image → segment_here image j ≡ Some p
       → IsCutOf state i (head_place (shape_in config v) j) (head_place (shape_in config v) (j + 1)) p
 
+-- A segment that is here is no station's by its head, and where all disks tell their content each of its images says its owner or is free.
+pub record AreOwnersHere {D : Type 0} (state : D → State) (said : List (Option Said)) (r : Rack D) : Type 0 where
+  pub closed : (k i w : ℕ) (own : Said) (image : ImageRest D) (p : Spun D) → said_at said k ≡ Some own → slice_get own.heads.items i ≡ Some (Owned w) → image_here r.rest.images.items k ≡ Some image
+      → segment_here image i ≡ Some p → Contains (map (λ (s : Station D). s.id) r.stations.items) w → ⊥
+  pub says : (k i w : ℕ) (own : Said) (image : ImageRest D) (p : Spun D) → said_at said k ≡ Some own → slice_get own.heads.items i ≡ Some (Owned w) → image_here r.rest.images.items k ≡ Some image
+      → segment_here image i ≡ Some p → ((d : D) → TellsContent (state d)) → (c : List Block) → IsImageOf (state_of state p).values c → SaysOwnerOrFree w c
+  -- free ones went to their pools
+  pub free : (k i : ℕ) (own : Said) (image : ImageRest D) → said_at said k ≡ Some own → slice_get own.heads.items i ≡ Some Free → image_here r.rest.images.items k ≡ Some image → segment_here image i ≡ None
+
 -- volumes below n have a station or a fault; of the others those have a fault whose image isn't out
 pub record AreTried {D : Type 0} (config : Config) (n : ℕ) (r : Rack D) : Type 0 where
   pub count : length r.faults.items ≡ length (shapes_of config)
@@ -205,6 +215,9 @@ pub record IsOpeningRack {D : Type 0} (state : D → State) (config : Config) (b
   pub says : (k : ℕ) (s : Shape) → slice_get (shapes_of config) k ≡ Some s → IsImageOut r.rest.images.items k → (own : Said) × (said_at said k ≡ Some own) × IsSaidOf (length (shapes_of config)) k s own
   pub silent : (k : ℕ) → image_here r.rest.images.items k ≡ None → said_at said k ≡ None
   pub pools : BeganAsSaid r.shared.pools.items said
+  pub said_count : length said ≡ length (shapes_of config)
+  pub unheld : (v k : ℕ) → held_here r.rest v k ≡ []
+  pub owners : AreOwnersHere state said r
   pub untouched : AreUntouched state (length (shapes_of config)) n said r.rest
 
 -- what it began with so far, where the bay told this at entry

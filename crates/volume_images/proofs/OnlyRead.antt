@@ -50,7 +50,7 @@ pub always_head : (volumes : ℕ) (old new : Option (List (Values Block))) (h : 
     → ((vs : List (Values Block)) → old ≡ Some vs → HasHead volumes (reads vs) h) → (c : List Block) → IsImageOf new c → HasHead volumes c h
 always_head volumes old new h synced has c i =
     let f = settled_from (λ (bs : List Block). bs) old c (subst (λ (o : Option (List (Values Block))). IsImageOf o c) synced i) in
-    subst (λ (bs : List Block). HasHead volumes bs h) (sym f.1.1) (has f.0 f.1.0)
+    subst (λ (bs : List Block). HasHead volumes bs h) (sym f.2) (has f.0 f.1)
 
 -- the first block as it is read after a sync
 pub first_read : (old mid : Option (List (Values Block))) (vs : List (Values Block)) (out : List Block) → 1 ≤ length vs → old ≡ Some vs → mid ≡ option_map settled old → IfSome mid (λ ws. out ≡ take 1 (reads ws))
