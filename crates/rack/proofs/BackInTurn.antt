@@ -17,12 +17,11 @@ use Rattle.volume_images.specs.Volumes.{shape_in, shapes_of}
 use Rattle.volume_images.proofs.InOrder.{told_then}
 use Rattle.volume_images.proofs.NamedApart.{other_gone}
 use Rattle.rack.specs.Rests.{image_here, IsImageOut}
-use Rattle.rack.specs.Racks.{AreOut}
 use Rattle.rack.specs.Opens.{out_names}
 use Rattle.rack.specs.Parts.{IsTogether}
 use Rattle.rack.specs.Closing.{IsImageBack, GivesBack, HasFaultHere}
 use Rattle.rack.specs.declared.rack.ImageRest.{ImageRest}
-use Rattle.rack.proofs.OutNames.{out_more, home_more, not_named, last_gone}
+use Rattle.rack.proofs.OutNames.{none_names, out_more, home_more, not_named, last_gone}
 use Rattle.rack.proofs.GivingBack.{none_back, home_passed, one_back}
 
 -- ---- Names of a configuration
@@ -31,9 +30,6 @@ use Rattle.rack.proofs.GivingBack.{none_back, home_passed, one_back}
 pub names_apart : (config : Config) → IsValid config → (j k : ℕ) (v w : VolumeConf) → j ≢ k → slice_get config.volumes.items j ≡ Some v → slice_get config.volumes.items k ≡ Some w → v.name ≢ w.name
 names_apart config valid j k v w differs at_j at_k same = go (cases_lt j k)
   where
-    vs : List VolumeConf
-    vs = config.volumes.items
-
     go : (j < k) ⊎ (k ≤ j) → ⊥
     go (inl less) =
         let apart = valid.apart j k v less (slice_get_within config.volumes.items k w at_k) in
@@ -71,9 +67,9 @@ module _ {D : Type 0} (state : D → State) (config : Config) (images : List (Op
   past : (k : ℕ) → length images ≤ k → image_here images k ≡ None
   past k le = Rattle.std.proofs.lemmas.List.get_or_past images k None le
 
-  pub none_so_far : (b : BayState) → AreOut config images b → IsBackFrom state config images (length images) b b
+  pub none_so_far : (b : BayState) → ((k : ℕ) (v : VolumeConf) → slice_get config.volumes.items k ≡ Some v → IsImageOut images k → IsOut v.name (part_sizes (shape_in config v)) b) → IsBackFrom state config images (length images) b b
   none_so_far b are = record {
-    out = λ k v less at is. (are k v at).0 is;
+    out = λ k v less at is. are k v at is;
     names = λ before none is. is ∙ ap (λ (l : List (Option (ImageRest D))). option_map (λ os. os ++ out_names config config.volumes.items l) before) (sym (take_all (length images) images (omega arith)));
     back = told_self (GivesBack state config images (length images)) b.told (λ t apart. none_back state config images t apart past);
     cause = λ fault. absurd (none-some fault.image (sym (past fault.volume fault.behind) ∙ fault.here));
@@ -182,15 +178,21 @@ module _ {D : Type 0} (state : D → State) (config : Config) (images : List (Op
                 let free : at_name v.name os ≡ None = All-contains (λ (w : VolumeConf). at_name w.name os ≡ None) config.volumes.items v away (n, slice_get_within config.volumes.items n v at, get_or_from_slice_get config.volumes.items n v v at) in
                 let apart : at_name v.name (out_names config config.volumes.items (take n images)) ≡ None =
                 not_named config config.volumes.items (take n images) v.name (λ k w within at_k. others_named k w (λ same. absurd (let l = Rattle.std.proofs.lemmas.List.length-take n images in omega (arith, l, within, same))) at_k) in
-                gone ∙ ap (option_map (without v.name)) (is ∙ ap (λ (l : List (Name × List ℕ)). Some (os ++ l)) more) ∙ ap (λ (l : List (Name × List ℕ)). Some l) (last_gone {D} config os (out_names config config.volumes.items (take n images)) v free apart)
+                gone ∙ ap (option_map (without v.name)) (is ∙ ap (λ (l : List (Name × List ℕ)). Some (os ++ l)) more) ∙ ap (λ (l : List (Name × List ℕ)). Some l) (last_gone config os (out_names config config.volumes.items (take n images)) v free apart)
+
+  -- the next one comes back, or isn't out
+  pub one_more_back : IsValid config → (n : ℕ) (v : VolumeConf) → slice_get config.volumes.items n ≡ Some v → (b cur new : BayState) (image : Option (ImageRest D)) → slice_get images n ≡ Some image → IsBackFrom state config images (suc n) b cur
+      → IsImageBack state v.name image cur new → IsBackFrom state config images n b new
+  one_more_back valid n v at b cur new None is so_far back = passes_over valid n v at b cur new is so_far back.0 back.1
+  one_more_back valid n v at b cur new (Some r) is so_far back = comes_back valid n v at b cur new r back.0 is back.1 so_far back.2 back.3 back.4
 
   -- all are back
   pub all_are_back : (b b' : BayState) → IsBackFrom state config images 0 b b' → Rattle.rack.specs.Closing.LeavesNoneOut config images (outs b) (outs b')
   all_are_back b b' so_far before away is = so_far.names before away is ∙ nothing before
     where
-      none_left : out_names {D} config config.volumes.items [] ≡ []
-      none_left = Rattle.rack.proofs.OutNames.none_names config config.volumes.items
+      none_left : out_names {D = D} config config.volumes.items [] ≡ []
+      none_left = none_names D config config.volumes.items
 
-      nothing : (o : Option (List (Name × List ℕ))) → option_map (λ os. os ++ out_names {D} config config.volumes.items []) o ≡ o
+      nothing : (o : Option (List (Name × List ℕ))) → option_map (λ os. os ++ out_names {D = D} config config.volumes.items []) o ≡ o
       nothing None = refl
       nothing (Some os) = ap (λ (l : List (Name × List ℕ)). Some (os ++ l)) none_left ∙ ap (λ (l : List (Name × List ℕ)). Some l) (Rattle.std.proofs.lemmas.List.append-nil os)

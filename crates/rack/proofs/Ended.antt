@@ -62,7 +62,7 @@ module _ {D : Type 0} (state : D → State) where
 
   module _ (i : Issued (Pool (FreeSegment D)) PoolBase) (image : Option (ImageRest D)) (can : CanEnd i image) (p : Pool (FreeSegment D)) (es : List Entry)
       (stands : StandsFor (IsBlank state) p (lock_id i.lock).base es) (none : es ≡ []) where
-    b : PoolBase
+    abbrev pub b : PoolBase
     b = (lock_id i.lock).base
 
     free_at : (index : ℕ) → is_some (item_at p index) ≡ is_in_pool (holder b.holders index)

@@ -9,8 +9,11 @@ use Rattle.turn_lock.specs.declared.lock.TurnLock.{TurnLock}
 use Rattle.turn_lock.specs.declared.pass.PassOf.{PassOf}
 use Rattle.spin_model.specs.declared.spindle.Spindle.{Spindle}
 use Rattle.spin_model.specs.declared.spindle.SpindleBase.{SpindleBase}
-use Rattle.rack.specs.Rests.{IsPassAt}
-use Rattle.rack.specs.Closing.{spindle_in, AreSpindlesTaken}
+use Rattle.seg_pool.specs.declared.base.PoolBase.{PoolBase}
+use Rattle.seg_pool.specs.declared.pool.Pool.{Pool}
+use Rattle.log_segment.specs.declared.free.FreeSegment.{FreeSegment}
+use Rattle.rack.specs.Rests.{list_of, IsPassAt, IsRow}
+use Rattle.rack.specs.Closing.{pool_in, spindle_in, IsPoolTaken, ArePoolsTaken, AreSpindlesTaken}
 use Rattle.rack.specs.declared.rack.VolumePasses.{VolumePasses}
 
 -- an element of a list that has one
@@ -68,3 +71,52 @@ module _ {D : Type 0} where
       go (inr past) =
           let f : Option (VolumePasses D) → Option (PassOf Spindle SpindleBase) = λ o. option_and_then (λ p. slice_index_or p.spindles.items j None) o in
           ap f (slice_get_past new v (omega (arith, past, taken.count))) ∙ sym (ap f (slice_get_past old v past))
+
+  -- the passes of a pool, in the same way
+  abbrev pub pool_of_row : List (VolumePasses D) → (v k : ℕ) → Option (PassOf (Pool (FreeSegment D)) PoolBase)
+  pool_of_row rows v k = option_and_then (λ p. slice_index_or p.pools.items k None) (slice_get rows v)
+
+  pub pool_at_row : (rows : List (VolumePasses D)) (v k : ℕ) (d : VolumePasses D) → v < length rows → pool_of_row rows v k ≡ pool_in (get_or rows v d) k
+  pool_at_row rows v k d h = ap (λ (o : Option (VolumePasses D)). option_and_then (λ p. slice_index_or p.pools.items k None) o) (slice_get-get_or rows v d h)
+
+  pub pools_gathered : (l : TurnLock (Pool (FreeSegment D)) PoolBase) (k : ℕ) (old new : List (VolumePasses D)) (ps : List (PassOf (Pool (FreeSegment D)) PoolBase)) → ArePoolsTaken k old new ps
+      → ((v : ℕ) → v < length old → (p : PassOf (Pool (FreeSegment D)) PoolBase) × (pool_of_row old v k ≡ Some p) × IsPassAt l v p) → All (λ p. IsPassOf l p × IsFree p) ps
+  pools_gathered l k old new ps taken here n d within =
+      let h : n < length old = omega (arith, taken.taken, within) in
+      let row = some_element old n h in
+      let t = here n h in
+      let same : Some t.0 ≡ Some (get_or ps n d) = sym t.1 ∙ pool_at_row old n k row h ∙ (taken.each n row d h).there in
+      subst (λ (p : PassOf (Pool (FreeSegment D)) PoolBase). IsPassOf l p × IsFree p) (same_Some t.0 (get_or ps n d) same) (t.2.own, t.2.free)
+
+  -- what is said of rows that agree in what it reads is the same
+  pub same_rows : {X : Type 0} (f : Option (VolumePasses D) → X) (old new : List (VolumePasses D)) → length new ≡ length old
+      → ((v : ℕ) (d : VolumePasses D) → v < length old → f (Some (get_or new v d)) ≡ f (Some (get_or old v d))) → (v : ℕ) → f (slice_get new v) ≡ f (slice_get old v)
+  same_rows {X} f old new count same v = go (cases_lt v (length old))
+    where
+      go : (v < length old) ⊎ (length old ≤ v) → f (slice_get new v) ≡ f (slice_get old v)
+      go (inl within) =
+          let d = some_element old v within in
+          ap f (slice_get-get_or new v d (omega (arith, within, count))) ∙ same v d within ∙ sym (ap f (slice_get-get_or old v d within))
+      go (inr past) = ap f (slice_get_past new v (omega (arith, past, count))) ∙ sym (ap f (slice_get_past old v past))
+
+  module _ (k : ℕ) (old new : List (VolumePasses D)) (ps : List (PassOf (Pool (FreeSegment D)) PoolBase)) (taken : ArePoolsTaken k old new ps) where
+    taken_at : (v : ℕ) (d : VolumePasses D) (within : v < length old) → IsPoolTaken k (get_or old v d) (get_or new v d) (get_or ps v (some_element ps v (omega (arith, within, taken.taken))))
+    taken_at v d within = taken.each v d (some_element ps v (omega (arith, within, taken.taken))) within
+
+    pub pools_kept : (v j : ℕ) → (j ≡ k → ⊥) → pool_of_row new v j ≡ pool_of_row old v j
+    pools_kept v j differs = same_rows (λ o. option_and_then (λ p. slice_index_or p.pools.items j None) o) old new taken.count (λ w d within. (taken_at w d within).others j differs) v
+
+    pub spindles_stay : (v j : ℕ) → spindle_of_row new v j ≡ spindle_of_row old v j
+    spindles_stay v j =
+        same_rows (λ o. option_and_then (λ p. slice_index_or p.spindles.items j None) o) old new taken.count (λ w d within. ap (λ s. slice_index_or s.items j None) (taken_at w d within).spindles) v
+
+    pub lists_stay : (v j : ℕ) → list_of (option_and_then (λ (p : VolumePasses D). slice_get p.held.items j) (slice_get new v)) ≡ list_of (option_and_then (λ (p : VolumePasses D). slice_get p.held.items j) (slice_get old v))
+    lists_stay v j =
+        same_rows (λ o. list_of (option_and_then (λ (p : VolumePasses D). slice_get p.held.items j) o)) old new taken.count (λ w d within. ap (λ h. list_of (slice_get h.items j)) (taken_at w d within).held) v
+
+    pub rows_stay : (n : ℕ) → All (λ p. IsRow n p) old → All (λ p. IsRow n p) new
+    rows_stay n all v d within =
+        let h : v < length old = omega (arith, within, taken.count) in
+        let row = all v d h in
+        let t = taken_at v d h in
+        record { pools = t.count ∙ row.pools; spindles = ap (λ s. length s.items) t.spindles ∙ row.spindles; held = ap (λ s. length s.items) t.held ∙ row.held }

@@ -25,7 +25,7 @@ named : (name : Name) (places : List ℕ) (place : ℕ) → Contains places plac
 named name places place has = (has.0, within, at)
   where
     within : has.0 < length (each_place name places)
-    within = rw (length-map) has.1.0
+    within = rw (length-map) has.1
 
     at : get_or (each_place name places) has.0 (name, place) ≡ (name, place)
     at = get_or-map (λ (p : ℕ). (name, p)) places has.0 place (name, place) has.1 ∙ ap (λ (p : ℕ). (name, p)) has.2
@@ -88,44 +88,35 @@ module _ {D : Type 0} (state : D → State) (config : Config) (images : List (Op
       → ((k : ℕ) (w : VolumeConf) → k ≢ n → slice_get config.volumes.items k ≡ Some w → w.name ≢ v.name)
       → GivesBack state config images (suc n) old new → GivesBack state config images n old (came_back v.name (blocks_of state disks) (faulty_places state disks) new)
   one_back n v r disks old new at here together names given = record {
-    more = given.more ++ each_place v.name places;
-    faulty = ap (λ (l : List (Name × ℕ)). l ++ each_place v.name places) given.faulty ∙ append_assoc old.faulty given.more (each_place v.name places);
+    more = given.more ++ each_place v.name (faulty_places state disks);
+    faulty = ap (λ (l : List (Name × ℕ)). l ++ each_place v.name (faulty_places state disks)) given.faulty ∙ append_assoc old.faulty given.more (each_place v.name (faulty_places state disks));
     back = back;
     others = λ name away. stored_others v.name new.images given.apart (blocks_of state disks) name (away n v (omega arith) at (ap is_some here)) ∙ given.others name (λ k w from is out. away k w (omega (arith, from)) is out);
     apart = stored_apart v.name new.images given.apart (blocks_of state disks);
   }
     where
-      abbrev places : List ℕ
-      places = faulty_places state disks
-
-      abbrev then : Told
-      then = came_back v.name (blocks_of state disks) places new
-
-      abbrev all : List (Name × ℕ)
-      all = given.more ++ each_place v.name places
-
-      this : (w : VolumeConf) (q : ImageRest D) → w ≡ v → q ≡ r → IsStoredAs state w.name q all then
+      this : (w : VolumeConf) (q : ImageRest D) → w ≡ v → q ≡ r → IsStoredAs state w.name q (given.more ++ each_place v.name (faulty_places state disks)) (came_back v.name (blocks_of state disks) (faulty_places state disks) new)
       this w q same_conf same =
-          subst (λ (u : VolumeConf). IsStoredAs state u.name q all then) (sym same_conf) (subst (λ (i : ImageRest D). IsStoredAs state v.name i all then) (sym same)
+          subst (λ (u : VolumeConf). IsStoredAs state u.name q (given.more ++ each_place v.name (faulty_places state disks)) (came_back v.name (blocks_of state disks) (faulty_places state disks) new)) (sym same_conf) (subst (λ (i : ImageRest D). IsStoredAs state v.name i (given.more ++ each_place v.name (faulty_places state disks)) (came_back v.name (blocks_of state disks) (faulty_places state disks) new)) (sym same)
           (record {
             disks = disks;
             together = together;
             stored = λ vs is. subst (λ (o : Option (List (Values Block))). at_name v.name (stored v.name o new.images) ≡ Some (record { blocks = vs; rest = [] })) (sym is) (stored_here v.name new.images given.apart vs);
-            faulty = λ place has. Contains-append_right given.more (each_place v.name places) (v.name, place) (named v.name places place has);
+            faulty = λ place has. Contains-append_right given.more (each_place v.name (faulty_places state disks)) (v.name, place) (named v.name (faulty_places state disks) place has);
           }))
 
-      earlier : (k : ℕ) (w : VolumeConf) (q : ImageRest D) → k ≢ n → slice_get config.volumes.items k ≡ Some w → IsStoredAs state w.name q given.more new → IsStoredAs state w.name q all then
+      earlier : (k : ℕ) (w : VolumeConf) (q : ImageRest D) → k ≢ n → slice_get config.volumes.items k ≡ Some w → IsStoredAs state w.name q given.more new → IsStoredAs state w.name q (given.more ++ each_place v.name (faulty_places state disks)) (came_back v.name (blocks_of state disks) (faulty_places state disks) new)
       earlier k w q differs is s = record {
         disks = s.disks;
         together = s.together;
         stored = λ vs e. stored_others v.name new.images given.apart (blocks_of state disks) w.name (names k w differs is) ∙ s.stored vs e;
-        faulty = λ place has. Contains-append_left given.more (each_place v.name places) (w.name, place) (s.faulty place has);
+        faulty = λ place has. Contains-append_left given.more (each_place v.name (faulty_places state disks)) (w.name, place) (s.faulty place has);
       }
 
-      back : (k : ℕ) (w : VolumeConf) (q : ImageRest D) → n ≤ k → slice_get config.volumes.items k ≡ Some w → image_here images k ≡ Some q → IsStoredAs state w.name q all then
+      back : (k : ℕ) (w : VolumeConf) (q : ImageRest D) → n ≤ k → slice_get config.volumes.items k ≡ Some w → image_here images k ≡ Some q → IsStoredAs state w.name q (given.more ++ each_place v.name (faulty_places state disks)) (came_back v.name (blocks_of state disks) (faulty_places state disks) new)
       back k w q from is out = go (cases_eq k n)
         where
-          go : (k ≡ n) ⊎ (k ≡ n → ⊥) → IsStoredAs state w.name q all then
+          go : (k ≡ n) ⊎ (k ≡ n → ⊥) → IsStoredAs state w.name q (given.more ++ each_place v.name (faulty_places state disks)) (came_back v.name (blocks_of state disks) (faulty_places state disks) new)
           go (inl same) =
               this w q (same_Some w v (sym is ∙ ap (slice_get config.volumes.items) same ∙ at)) (same_Some q r (sym out ∙ ap (image_here images) same ∙ here))
           go (inr differs) = earlier k w q differs is (given.back k w q (omega (arith, from, differs)) is out)

@@ -28,14 +28,18 @@ use Rattle.rack.proofs.Rows.{IsRowBut, row_set, size_of, at_changed}
 pub segments_are : (config : Config) (k : ℕ) (v : VolumeConf) → slice_get config.volumes.items k ≡ Some v → segments_of config k ≡ v.segments
 segments_are config k v is = ap segment_count (slice_get-map (shape_in config) config.volumes.items k ∙ ap (option_map (shape_in config)) is)
 
-module _ {D : Type 0} where
-  abbrev PoolPass : Type 0
-  PoolPass = PassOf (Pool (FreeSegment D)) PoolBase
+-- what was taken from a place comes back to it
+same_at : {X : Type 0} (xs : List (Option X)) (k : ℕ) (a b : Option X) → k < length xs → b ≡ slice_index_or xs k None → (j : ℕ) → slice_index_or (slice_set (slice_set xs k a) k b) j None ≡ slice_index_or xs j None
+same_at xs k a b within is j = ⊎_elim
+    (λ e. ap (λ (n : ℕ). slice_index_or (slice_set (slice_set xs k a) k b) n None) e ∙ get_or-set_same (slice_set xs k a) k b None (omega (arith, within, length-set xs k a)) ∙ is ∙ sym (ap (λ (n : ℕ). slice_index_or xs n None) e))
+    (λ other. get_or-set_other (slice_set xs k a) k j b None other ∙ get_or-set_other xs k j a None other)
+    (cases_eq j k)
 
-  abbrev pub row_passes : VolumePasses D → (k : ℕ) → Option PoolPass → Option (PassOf Spindle SpindleBase) → VolumePasses D
+module _ {D : Type 0} where
+  abbrev pub row_passes : VolumePasses D → (k : ℕ) → Option (PassOf (Pool (FreeSegment D)) PoolBase) → Option (PassOf Spindle SpindleBase) → VolumePasses D
   row_passes row k pool spindle = record { pools = with_item row.pools k pool; spindles = with_item row.spindles k spindle; held = row.held }
 
-  row_but : (row : VolumePasses D) (k : ℕ) (pool : Option PoolPass) (spindle : Option (PassOf Spindle SpindleBase)) → IsRowBut row (row_passes row k pool spindle) k
+  row_but : (row : VolumePasses D) (k : ℕ) (pool : Option (PassOf (Pool (FreeSegment D)) PoolBase)) (spindle : Option (PassOf Spindle SpindleBase)) → IsRowBut row (row_passes row k pool spindle) k
   row_but row k pool spindle = record {
     pools = λ j other. get_or-set_other row.pools.items k j pool None other;
     spindles = λ j other. get_or-set_other row.spindles.items k j spindle None other;
@@ -43,7 +47,7 @@ module _ {D : Type 0} where
     size = λ n is. record { pools = length-set row.pools.items k pool ∙ is.pools; spindles = length-set row.spindles.items k spindle ∙ is.spindles; held = is.held };
   }
 
-  pub lane_gone : (r : Rest D) (v k : ℕ) (row : VolumePasses D) (pool : Option PoolPass) (spindle : Option (PassOf Spindle SpindleBase)) → slice_get r.passes.items v ≡ Some row → HasPlace r v k → held_here r v k ≡ []
+  pub lane_gone : (r : Rest D) (v k : ℕ) (row : VolumePasses D) (pool : Option (PassOf (Pool (FreeSegment D)) PoolBase)) (spindle : Option (PassOf Spindle SpindleBase)) → slice_get r.passes.items v ≡ Some row → HasPlace r v k → held_here r v k ≡ []
       → pool ≡ None → spindle ≡ None → TakesPasses r (record { images = r.images; passes = with_item r.passes v (row_passes row k pool spindle); rooms = r.rooms }) v (k ∷ [])
   lane_gone r v k row pool spindle is place held no_pool no_spindle =
       let new : Rest D = record { images = r.images; passes = with_item r.passes v (row_passes row k pool spindle); rooms = r.rooms } in
@@ -61,14 +65,7 @@ module _ {D : Type 0} where
         others = λ w j other. done.others w j (λ same. All-head (λ (l : ℕ). j ≢ l) k [] (other same));
       }
 
-  -- what was taken from a place comes back to it
-  same_at : {X : Type 0} (xs : List (Option X)) (k : ℕ) (a b : Option X) → k < length xs → b ≡ slice_index_or xs k None → (j : ℕ) → slice_index_or (slice_set (slice_set xs k a) k b) j None ≡ slice_index_or xs j None
-  same_at xs k a b within is j = ⊎_elim
-      (λ e. ap (λ (n : ℕ). slice_index_or (slice_set (slice_set xs k a) k b) n None) e ∙ get_or-set_same (slice_set xs k a) k b None (omega (arith, within, length-set xs k a)) ∙ is ∙ sym (ap (λ (n : ℕ). slice_index_or xs n None) e))
-      (λ other. get_or-set_other (slice_set xs k a) k j b None other ∙ get_or-set_other xs k j a None other)
-      (cases_eq j k)
-
-  pub lane_back : (r : Rest D) (v k : ℕ) (row : VolumePasses D) (pool0 pool : Option PoolPass) (spindle0 spindle : Option (PassOf Spindle SpindleBase)) → slice_get r.passes.items v ≡ Some row → HasPlace r v k
+  pub lane_back : (r : Rest D) (v k : ℕ) (row : VolumePasses D) (pool0 pool : Option (PassOf (Pool (FreeSegment D)) PoolBase)) (spindle0 spindle : Option (PassOf Spindle SpindleBase)) → slice_get r.passes.items v ≡ Some row → HasPlace r v k
       → pool ≡ slice_index_or row.pools.items k None → spindle ≡ slice_index_or row.spindles.items k None
       → IsSameRest r (record { images = r.images; passes = with_item r.passes v (record { pools = with_item (with_item row.pools k pool0) k pool; spindles = with_item (with_item row.spindles k spindle0) k spindle; held = row.held }); rooms = r.rooms })
   lane_back r v k row pool0 pool spindle0 spindle is place pool_is spindle_is =

@@ -1,9 +1,10 @@
 -- Members of lists, and options that are empty.
-use Rattle.std.proofs.Common.{◌≡◌, ◌≢◌, ◌<◌, ◌+◌, ◌⊎◌, inl, inr, ℕ, zero, suc, List, [], ◌∷◌, ◌++◌, length, get_or, map, Option, Some, None, is_some, refl, sym, ap, ◌∙◌, subst, arith}
+use Rattle.std.proofs.Common.{◌≡◌, ◌≢◌, ◌<◌, ◌≤◌, ◌+◌, ◌⊎◌, inl, inr, ℕ, zero, suc, List, [], ◌∷◌, ◌++◌, length, take, get_or, map, Option, Some, None, is_some, refl, sym, ap, ◌∙◌, subst, arith}
 use Rattle.std.specs.Prelude.{Contains, All, IsSome, slice_get}
 use Rattle.std.specs.List.{AllByRecursion, AllZip}
 use Rattle.std.proofs.lemmas.Bool.{cases_eq}
-use Rattle.std.proofs.lemmas.List.{get_or_append_left, get_or_default, get_or-map, length-map, length-append, length_push}
+use Rattle.std.proofs.lemmas.Option.{slice_get-get_or}
+use Rattle.std.proofs.lemmas.List.{take-take, take_at, length-take, get_or-take, get_or_at, get_or_append_left, get_or_default, get_or-map, length-map, length-append, length_push}
 use Rattle.std.proofs.lemmas.List.Elements.{All-contains, Contains-push, Contains-push_cases, Contains-append_left, Contains-get_or}
 use Rattle.wol_model.specs.Blocks.{AreApart}
 
@@ -101,3 +102,27 @@ get_left (y ∷ xs) ys (suc k) x is = get_left xs ys k x is
 pub segment_in_image : {D : Type 0} (q : Rattle.rack.specs.declared.rack.Rest.Rest D) (k : ℕ) (m : Rattle.rack.specs.declared.rack.ImageRest.ImageRest D)
     → Rattle.rack.specs.Rests.image_here q.images.items k ≡ Some m → (i : ℕ) → Rattle.rack.specs.Parts.segment_in q k i ≡ Rattle.rack.specs.Rests.segment_here m i
 segment_in_image q k m is i = rw is
+
+-- an image that is out is one of the list
+pub here_within : {R : Type 0} (xs : List (Option R)) (k : ℕ) (r : R) → get_or xs k None ≡ Some r → k < length xs
+here_within xs k r is = go (Rattle.std.proofs.lemmas.Bool.cases_lt k (length xs))
+  where
+    go : (k < length xs) ⊎ (length xs ≤ k) → k < length xs
+    go (inl less) = less
+    go (inr past) = absurd (cc (sym (Rattle.std.proofs.lemmas.List.get_or_past xs k None past) ∙ is))
+
+-- the first elements of a list, when the last of them goes
+pub front_less : {X : Type 0} (all xs ys : List X) (y : X) → xs ≡ take (length xs) all → xs ≡ ys ++ y ∷ [] → ys ≡ take (length ys) all
+front_less all xs ys y front split =
+    let n : length xs ≡ length ys + 1 = ap length split ∙ length_push ys y in
+    let is : take (length ys) all ≡ take (length ys) xs = sym (take-take (length ys) (length xs) all (omega (arith, n))) ∙ ap (take (length ys)) (sym front) in
+    sym (is ∙ ap (take (length ys)) split ∙ take_at ys (y ∷ []) (length ys) refl)
+
+-- and that one stands there
+pub front_last : {X : Type 0} (all xs ys : List X) (y : X) → xs ≡ take (length xs) all → xs ≡ ys ++ y ∷ [] → slice_get all (length ys) ≡ Some y
+front_last {X} all xs ys y front split =
+    let n : length xs ≡ length ys + 1 = ap length split ∙ length_push ys y in
+    let l = length-take (length xs) all in
+    let within : length ys < length all = omega (arith, n, l, ap length front) in
+    slice_get-get_or all (length ys) y within
+    ∙ ap (λ (x : X). Some x) (sym (get_or-take (length xs) all (length ys) y (omega (arith, n))) ∙ ap (λ (l : List X). get_or l (length ys) y) (sym front ∙ split) ∙ get_or_at ys y [] y (length ys) refl)

@@ -20,11 +20,11 @@ at_append {A} name (x ∷ xs) ys e f = go (bytes_eq x.0 name) e (λ rest. at_app
     go true e later = let differs : true ≡ false = ap is_some e in cc
     go false e later = later e
 
-module _ {D : Type 0} (config : Config) where
-  pub none_names : (vs : List VolumeConf) → out_names {D} config vs [] ≡ []
-  none_names [] = refl
-  none_names (v ∷ vs) = refl
+pub none_names : (D : Type 0) (config : Config) (vs : List VolumeConf) → out_names {D = D} config vs [] ≡ []
+none_names D config [] = refl
+none_names D config (v ∷ vs) = refl
 
+module _ {D : Type 0} (config : Config) where
   -- one image more that is out
   pub out_more : (vs : List VolumeConf) (images : List (Option (ImageRest D))) (n : ℕ) (v : VolumeConf) (r : ImageRest D) → slice_get vs n ≡ Some v → slice_get images n ≡ Some (Some r)
       → out_names config vs (take (suc n) images) ≡ out_names config vs (take n images) ++ (v.name, part_sizes (shape_in config v)) ∷ []
@@ -33,7 +33,7 @@ module _ {D : Type 0} (config : Config) where
   out_more (w ∷ vs) (Some i ∷ images) zero v r there is =
       let same : w ≡ v = cc in
       subst (λ (u : VolumeConf). (w.name, part_sizes (shape_in config w)) ∷ out_names config vs (take zero images) ≡ (u.name, part_sizes (shape_in config u)) ∷ []) same
-      (ap (λ l. (w.name, part_sizes (shape_in config w)) ∷ l) (none_names vs))
+      (ap (λ l. (w.name, part_sizes (shape_in config w)) ∷ l) (none_names D config vs))
   out_more (w ∷ vs) (None ∷ images) zero v r there is = absurd (cc is)
   out_more (w ∷ vs) (Some i ∷ images) (suc n) v r there is = ap (λ l. (w.name, part_sizes (shape_in config w)) ∷ l) (out_more vs images n v r there is)
   out_more (w ∷ vs) (None ∷ images) (suc n) v r there is = out_more vs images n v r there is
@@ -41,9 +41,10 @@ module _ {D : Type 0} (config : Config) where
   -- one more that isn't
   pub home_more : (vs : List VolumeConf) (images : List (Option (ImageRest D))) (n : ℕ) → slice_get images n ≡ Some None → out_names config vs (take (suc n) images) ≡ out_names config vs (take n images)
   home_more [] images n is = refl
-  home_more (w ∷ vs) [] n is = refl
+  home_more (w ∷ vs) [] zero is = refl
+  home_more (w ∷ vs) [] (suc n) is = refl
   home_more (w ∷ vs) (Some i ∷ images) zero is = absurd (cc is)
-  home_more (w ∷ vs) (None ∷ images) zero is = none_names vs
+  home_more (w ∷ vs) (None ∷ images) zero is = none_names D config vs
   home_more (w ∷ vs) (Some i ∷ images) (suc n) is = ap (λ l. (w.name, part_sizes (shape_in config w)) ∷ l) (home_more vs images n is)
   home_more (w ∷ vs) (None ∷ images) (suc n) is = home_more vs images n is
 
@@ -61,10 +62,10 @@ module _ {D : Type 0} (config : Config) where
       go true e rest = absurd (apart 0 w (omega arith) refl ((bytes_eq-Decides w.name name).0 e))
       go false e rest = rest
 
-  -- the last one that is out goes back
-  pub last_gone : (before names : List (Name × List ℕ)) (v : VolumeConf) → at_name v.name before ≡ None → at_name v.name names ≡ None
-      → without v.name (before ++ (names ++ (v.name, part_sizes (shape_in config v)) ∷ [])) ≡ before ++ names
-  last_gone before names v e f =
-      let es : List (Name × List ℕ) = before ++ names in
-      subst (λ (l : List (Name × List ℕ)). without v.name l ≡ es) (append_assoc before names ((v.name, part_sizes (shape_in config v)) ∷ []))
-      (out_again v.name es (part_sizes (shape_in config v)) (at_append v.name before names e f))
+-- the last one that is out goes back
+pub last_gone : (config : Config) (before names : List (Name × List ℕ)) (v : VolumeConf) → at_name v.name before ≡ None → at_name v.name names ≡ None
+    → without v.name (before ++ (names ++ (v.name, part_sizes (shape_in config v)) ∷ [])) ≡ before ++ names
+last_gone config before names v e f =
+    let es : List (Name × List ℕ) = before ++ names in
+    subst (λ (l : List (Name × List ℕ)). without v.name l ≡ es) (append_assoc before names ((v.name, part_sizes (shape_in config v)) ∷ []))
+    (out_again v.name es (part_sizes (shape_in config v)) (at_append v.name before names e f))

@@ -27,7 +27,7 @@ place o = (o.logger, o.index)
 places : List Owned → List (ℕ × ℕ)
 places os = map (λ (o : Owned). (o.logger, o.index)) os
 
-never_itself : (p : ℕ × ℕ) → IsBefore p p → ⊥
+pub never_itself : (p : ℕ × ℕ) → IsBefore p p → ⊥
 never_itself p before = ⊎_elim (λ less. omega (arith, less)) (λ same. let l = same.1 in omega (arith, l)) before
 
 never_both : (p q : ℕ × ℕ) → IsBefore p q → IsBefore q p → ⊥
@@ -89,66 +89,66 @@ says_nothing v (b ∷ bs) is = ap records (ap (λ (t : Bool). ltb v (2 ^ 32) && 
     records : Bool → List Extent
     records t = map extent_of (unwrap_or (cond t (read_records v 0 bs) None) [])
 
--- ---- All segments that say so
+-- ---- All segments that a test keeps
 
-module _ (v : ℕ) where
-  abbrev segment_at : (k : ℕ) → Shape → List Block → (i : ℕ) → Owned
+module _ (keeps : List Block → Bool) where
+  abbrev pub segment_at : (k : ℕ) → Shape → List Block → (i : ℕ) → Owned
   segment_at k s image i = record { logger = k; index = i; first = head_place s i; blocks = segment_of s image i }
 
-  abbrev listed_of : (k : ℕ) → Shape → List Block → List ℕ → List Owned
+  abbrev pub listed_of : (k : ℕ) → Shape → List Block → List ℕ → List Owned
   listed_of k s image [] = []
-  listed_of k s image (i ∷ is) = cond (says v (segment_of s image i)) (segment_at k s image i ∷ listed_of k s image is) (listed_of k s image is)
+  listed_of k s image (i ∷ is) = cond (keeps (segment_of s image i)) (segment_at k s image i ∷ listed_of k s image is) (listed_of k s image is)
 
-  abbrev listed_at : (k : ℕ) → Shape → Option (List Block) → List Owned
+  abbrev pub listed_at : (k : ℕ) → Shape → Option (List Block) → List Owned
   listed_at k s None = []
   listed_at k s (Some image) = listed_of k s image (range_with_len 0 s.segments)
 
-  abbrev listed : (k : ℕ) → List Shape → Images → List Owned
+  abbrev pub listed : (k : ℕ) → List Shape → Images → List Owned
   listed k [] images = []
   listed k (s ∷ shapes) [] = []
   listed k (s ∷ shapes) (image ∷ images) = listed_at k s image ++ listed (k + 1) shapes images
 
   -- ---- They give the same extents
 
-  abbrev blocks_of : List Owned → List (List Block)
+  abbrev pub blocks_of : List Owned → List (List Block)
   blocks_of os = map (λ (o : Owned). o.blocks) os
 
-  same_of : (k : ℕ) (s : Shape) (image : List Block) (is : List ℕ) → extents_of v (map (segment_of s image) is) ≡ extents_of v (blocks_of (listed_of k s image is))
-  same_of k s image [] = refl
-  same_of k s image (i ∷ is) = at (same_of k s image is) (says v (segment_of s image i)) refl
+  same_of : (v : ℕ) → ((bs : List Block) → keeps bs ≡ false → extents_in v bs ≡ []) → (k : ℕ) (s : Shape) (image : List Block) (is : List ℕ) → extents_of v (map (segment_of s image) is) ≡ extents_of v (blocks_of (listed_of k s image is))
+  same_of v none k s image [] = refl
+  same_of v none k s image (i ∷ is) = at (same_of v none k s image is) (keeps (segment_of s image i)) refl
     where
-      at : extents_of v (map (segment_of s image) is) ≡ extents_of v (blocks_of (listed_of k s image is)) → (t : Bool) → says v (segment_of s image i) ≡ t
+      at : extents_of v (map (segment_of s image) is) ≡ extents_of v (blocks_of (listed_of k s image is)) → (t : Bool) → keeps (segment_of s image i) ≡ t
           → extents_in v (segment_of s image i) ++ extents_of v (map (segment_of s image) is) ≡ extents_of v (blocks_of (cond t (segment_at k s image i ∷ listed_of k s image is) (listed_of k s image is)))
       at further true is_so = ap (λ (l : List Extent). extents_in v (segment_of s image i) ++ l) further
-      at further false is_so = ap (λ (l : List Extent). l ++ extents_of v (map (segment_of s image) is)) (says_nothing v (segment_of s image i) is_so) ∙ further
+      at further false is_so = ap (λ (l : List Extent). l ++ extents_of v (map (segment_of s image) is)) (none (segment_of s image i) is_so) ∙ further
 
-  abbrev Fit : Shape → Option (List Block) → Type 0
+  abbrev pub Fit : Shape → Option (List Block) → Type 0
   Fit s None = ⊤
   Fit s (Some image) = length image ≡ image_size s
 
-  abbrev Fits : List Shape → Images → Type 0
+  abbrev pub Fits : List Shape → Images → Type 0
   Fits [] images = ⊤
   Fits (s ∷ shapes) [] = ⊤
   Fits (s ∷ shapes) (image ∷ images) = Fit s image × Fits shapes images
 
-  same_at : (k : ℕ) (s : Shape) (o : Option (List Block)) → Fit s o → extents_of v (segments_of s o) ≡ extents_of v (blocks_of (listed_at k s o))
-  same_at k s None fit = refl
-  same_at k s (Some image) fit = ap (λ (t : Bool). extents_of v (cond t (map (segment_of s image) (range_with_len 0 s.segments)) [])) (eq-eqb (length image) (image_size s) fit) ∙ same_of k s image (range_with_len 0 s.segments)
+  same_at : (v : ℕ) → ((bs : List Block) → keeps bs ≡ false → extents_in v bs ≡ []) → (k : ℕ) (s : Shape) (o : Option (List Block)) → Fit s o → extents_of v (segments_of s o) ≡ extents_of v (blocks_of (listed_at k s o))
+  same_at v none k s None fit = refl
+  same_at v none k s (Some image) fit = ap (λ (t : Bool). extents_of v (cond t (map (segment_of s image) (range_with_len 0 s.segments)) [])) (eq-eqb (length image) (image_size s) fit) ∙ same_of v none k s image (range_with_len 0 s.segments)
 
   joined_blocks : (xs ys : List Owned) → blocks_of (xs ++ ys) ≡ blocks_of xs ++ blocks_of ys
   joined_blocks [] ys = refl
   joined_blocks (x ∷ xs) ys = ap (λ (l : List (List Block)). x.blocks ∷ l) (joined_blocks xs ys)
 
-  joined_extents : (xs ys : List (List Block)) → extents_of v (xs ++ ys) ≡ extents_of v xs ++ extents_of v ys
-  joined_extents xs ys = flat_map-append (extents_in v) xs ys
+  joined_extents : (v : ℕ) (xs ys : List (List Block)) → extents_of v (xs ++ ys) ≡ extents_of v xs ++ extents_of v ys
+  joined_extents v xs ys = flat_map-append (extents_in v) xs ys
 
-  same_all : (k : ℕ) (shapes : List Shape) (images : Images) → Fits shapes images → extents_of v (all_segments shapes images) ≡ extents_of v (blocks_of (listed k shapes images))
-  same_all k [] images fits = refl
-  same_all k (s ∷ shapes) [] fits = refl
-  same_all k (s ∷ shapes) (image ∷ images) fits =
-      joined_extents (segments_of s image) (all_segments shapes images)
-      ∙ (λ i. same_at k s image fits.0 i ++ same_all (k + 1) shapes images fits.1 i)
-      ∙ sym (ap (extents_of v) (joined_blocks (listed_at k s image) (listed (k + 1) shapes images)) ∙ joined_extents (blocks_of (listed_at k s image)) (blocks_of (listed (k + 1) shapes images)))
+  pub same_all : (v : ℕ) → ((bs : List Block) → keeps bs ≡ false → extents_in v bs ≡ []) → (k : ℕ) (shapes : List Shape) (images : Images) → Fits shapes images → extents_of v (all_segments shapes images) ≡ extents_of v (blocks_of (listed k shapes images))
+  same_all v none k [] images fits = refl
+  same_all v none k (s ∷ shapes) [] fits = refl
+  same_all v none k (s ∷ shapes) (image ∷ images) fits =
+      joined_extents v (segments_of s image) (all_segments shapes images)
+      ∙ (λ i. same_at v none k s image fits.0 i ++ same_all v none (k + 1) shapes images fits.1 i)
+      ∙ sym (ap (extents_of v) (joined_blocks (listed_at k s image) (listed (k + 1) shapes images)) ∙ joined_extents v (blocks_of (listed_at k s image)) (blocks_of (listed (k + 1) shapes images)))
 
   -- ---- They are in order
 
@@ -161,7 +161,7 @@ module _ (v : ℕ) where
 
   from_of : (k : ℕ) (s : Shape) (image : List Block) (i n : ℕ) → From k i (listed_of k s image (range_with_len i n))
   from_of k s image i zero = tt
-  from_of k s image i (suc n) = at (weaker k i (listed_of k s image (range_with_len (i + 1) n)) (from_of k s image (i + 1) n)) (says v (segment_of s image i))
+  from_of k s image i (suc n) = at (weaker k i (listed_of k s image (range_with_len (i + 1) n)) (from_of k s image (i + 1) n)) (keeps (segment_of s image i))
     where
       at : From k i (listed_of k s image (range_with_len (i + 1) n)) → (t : Bool) → From k i (cond t (segment_at k s image i ∷ listed_of k s image (range_with_len (i + 1) n)) (listed_of k s image (range_with_len (i + 1) n)))
       at further true = ((refl, omega arith), further)
@@ -173,7 +173,7 @@ module _ (v : ℕ) where
 
   order_of : (k : ℕ) (s : Shape) (image : List Block) (i n : ℕ) → AreInOrder (map (λ (o : Owned). (o.logger, o.index)) (listed_of k s image (range_with_len i n)))
   order_of k s image i zero = tt
-  order_of k s image i (suc n) = at (order_of k s image (i + 1) n) (from_of k s image (i + 1) n) (says v (segment_of s image i))
+  order_of k s image i (suc n) = at (order_of k s image (i + 1) n) (from_of k s image (i + 1) n) (keeps (segment_of s image i))
     where
       at : AreInOrder (map (λ (o : Owned). (o.logger, o.index)) (listed_of k s image (range_with_len (i + 1) n))) → From k (i + 1) (listed_of k s image (range_with_len (i + 1) n)) → (t : Bool)
           → AreInOrder (map (λ (o : Owned). (o.logger, o.index)) (cond t (segment_at k s image i ∷ listed_of k s image (range_with_len (i + 1) n)) (listed_of k s image (range_with_len (i + 1) n))))
@@ -225,7 +225,7 @@ module _ (v : ℕ) where
   order_at k s None = tt
   order_at k s (Some image) = order_of k s image 0 s.segments
 
-  ordered : (k : ℕ) (shapes : List Shape) (images : Images) → AreInOrder (map (λ (o : Owned). (o.logger, o.index)) (listed k shapes images))
+  pub ordered : (k : ℕ) (shapes : List Shape) (images : Images) → AreInOrder (map (λ (o : Owned). (o.logger, o.index)) (listed k shapes images))
   ordered k [] images = tt
   ordered k (s ∷ shapes) [] = tt
   ordered k (s ∷ shapes) (image ∷ images) = order_joined k (listed_at k s image) (listed (k + 1) shapes images) (from_at k s image) (least (k + 1) shapes images) (order_at k s image) (ordered (k + 1) shapes images)
@@ -243,14 +243,14 @@ module _ (v : ℕ) where
     pub logger_is : o.logger ≡ k + at
     pub blocks_are : o.blocks ≡ segment_of shape image o.index
     pub first_is : o.first ≡ head_place shape o.index
-    pub so : says v o.blocks ≡ true
+    pub so : keeps o.blocks ≡ true
 
   stands_of : (k : ℕ) (s : Shape) (image : List Block) (shapes : List Shape) (images : Images) (i n : ℕ) (o : Owned) → i + n ≤ s.segments → IsAmong (listed_of k s image (range_with_len i n)) o
       → Stands k (s ∷ shapes) (Some image ∷ images) o
   stands_of k s image shapes images i zero o few has = absurd has
-  stands_of k s image shapes images i (suc n) o few has = at (stands_of k s image shapes images (i + 1) n o (omega (arith, few))) (says v (segment_of s image i)) refl has
+  stands_of k s image shapes images i (suc n) o few has = at (stands_of k s image shapes images (i + 1) n o (omega (arith, few))) (keeps (segment_of s image i)) refl has
     where
-      here : o ≡ segment_at k s image i → says v (segment_of s image i) ≡ true → Stands k (s ∷ shapes) (Some image ∷ images) o
+      here : o ≡ segment_at k s image i → keeps (segment_of s image i) ≡ true → Stands k (s ∷ shapes) (Some image ∷ images) o
       here same is = record {
         at = 0;
         image = image;
@@ -261,10 +261,10 @@ module _ (v : ℕ) where
         logger_is = (let e = ap (λ (x : Owned). x.logger) same in omega (arith, e));
         blocks_are = ap (λ (x : Owned). x.blocks) same ∙ ap (segment_of s image) (sym (ap (λ (x : Owned). x.index) same));
         first_is = ap (λ (x : Owned). x.first) same ∙ ap (head_place s) (sym (ap (λ (x : Owned). x.index) same));
-        so = ap (λ (x : Owned). says v x.blocks) same ∙ is;
+        so = ap (λ (x : Owned). keeps x.blocks) same ∙ is;
       }
 
-      at : (IsAmong (listed_of k s image (range_with_len (i + 1) n)) o → Stands k (s ∷ shapes) (Some image ∷ images) o) → (t : Bool) → says v (segment_of s image i) ≡ t
+      at : (IsAmong (listed_of k s image (range_with_len (i + 1) n)) o → Stands k (s ∷ shapes) (Some image ∷ images) o) → (t : Bool) → keeps (segment_of s image i) ≡ t
           → IsAmong (cond t (segment_at k s image i ∷ listed_of k s image (range_with_len (i + 1) n)) (listed_of k s image (range_with_len (i + 1) n))) o → Stands k (s ∷ shapes) (Some image ∷ images) o
       at further true is has = ⊎_elim (λ same. here same is) further has
       at further false is has = further has
@@ -291,32 +291,32 @@ module _ (v : ℕ) where
   stands_at k s None shapes images o has = absurd has
   stands_at k s (Some image) shapes images o has = stands_of k s image shapes images 0 s.segments o (omega arith) has
 
-  stands : (k : ℕ) (shapes : List Shape) (images : Images) (o : Owned) → IsAmong (listed k shapes images) o → Stands k shapes images o
+  pub stands : (k : ℕ) (shapes : List Shape) (images : Images) (o : Owned) → IsAmong (listed k shapes images) o → Stands k shapes images o
   stands k [] images o has = absurd has
   stands k (s ∷ shapes) [] o has = absurd has
   stands k (s ∷ shapes) (image ∷ images) o has = ⊎_elim (λ here. stands_at k s image shapes images o here) (λ more. later k s image shapes images o (stands (k + 1) shapes images o more))
       (in_either (listed_at k s image) (listed (k + 1) shapes images) o has)
 
-  found_of : (k : ℕ) (s : Shape) (image : List Block) (i n j : ℕ) → says v (segment_of s image (i + j)) ≡ true → j < n → IsAmong (listed_of k s image (range_with_len i n)) (segment_at k s image (i + j))
+  found_of : (k : ℕ) (s : Shape) (image : List Block) (i n j : ℕ) → keeps (segment_of s image (i + j)) ≡ true → j < n → IsAmong (listed_of k s image (range_with_len i n)) (segment_at k s image (i + j))
   found_of k s image i zero j is lt = absurd (omega (arith, lt))
   found_of k s image i (suc n) zero is lt =
       let e : i + 0 ≡ i = omega arith in
-      subst (λ (m : ℕ). IsAmong (listed_of k s image (range_with_len i (suc n))) (segment_at k s image m)) (sym e) (at (says v (segment_of s image i)) (subst (λ (m : ℕ). says v (segment_of s image m) ≡ true) e is))
+      subst (λ (m : ℕ). IsAmong (listed_of k s image (range_with_len i (suc n))) (segment_at k s image m)) (sym e) (at (keeps (segment_of s image i)) (subst (λ (m : ℕ). keeps (segment_of s image m) ≡ true) e is))
     where
       at : (t : Bool) → t ≡ true → IsAmong (cond t (segment_at k s image i ∷ listed_of k s image (range_with_len (i + 1) n)) (listed_of k s image (range_with_len (i + 1) n))) (segment_at k s image i)
       at true yes_ = inl refl
       at false yes_ = no_true yes_
   found_of k s image i (suc n) (suc j) is lt =
       let e : i + suc j ≡ i + 1 + j = omega arith in
-      let further = found_of k s image (i + 1) n j (subst (λ (m : ℕ). says v (segment_of s image m) ≡ true) e is) (omega (arith, lt)) in
-      at (says v (segment_of s image i)) (subst (λ (m : ℕ). IsAmong (listed_of k s image (range_with_len (i + 1) n)) (segment_at k s image m)) (sym e) further)
+      let further = found_of k s image (i + 1) n j (subst (λ (m : ℕ). keeps (segment_of s image m) ≡ true) e is) (omega (arith, lt)) in
+      at (keeps (segment_of s image i)) (subst (λ (m : ℕ). IsAmong (listed_of k s image (range_with_len (i + 1) n)) (segment_at k s image m)) (sym e) further)
     where
       at : (t : Bool) → IsAmong (listed_of k s image (range_with_len (i + 1) n)) (segment_at k s image (i + suc j))
           → IsAmong (cond t (segment_at k s image i ∷ listed_of k s image (range_with_len (i + 1) n)) (listed_of k s image (range_with_len (i + 1) n))) (segment_at k s image (i + suc j))
       at true has = inr has
       at false has = has
 
-  found : (k at i : ℕ) (shapes : List Shape) (images : Images) (s : Shape) (image : List Block) → slice_get shapes at ≡ Some s → image_of images at ≡ Some image → i < s.segments → says v (segment_of s image i) ≡ true
+  pub found : (k at i : ℕ) (shapes : List Shape) (images : Images) (s : Shape) (image : List Block) → slice_get shapes at ≡ Some s → image_of images at ≡ Some image → i < s.segments → keeps (segment_of s image i) ≡ true
       → IsAmong (listed k shapes images) (segment_at (k + at) s image i)
   found k at i [] images s image shape_is there lt is = absurd (none-some s shape_is)
   found k at i (t ∷ shapes) [] s image shape_is there lt is = absurd (none-some image there)
@@ -325,7 +325,7 @@ module _ (v : ℕ) where
       let same : t ≡ s = same_Some t s shape_is in
       let z : 0 + i ≡ i = omega arith in
       let first : IsAmong (listed_at k s (Some image)) (segment_at k s image i)
-      = subst (λ (m : ℕ). IsAmong (listed_at k s (Some image)) (segment_at k s image m)) z (found_of k s image 0 s.segments i (subst (λ (m : ℕ). says v (segment_of s image m) ≡ true) (sym z) is) lt) in
+      = subst (λ (m : ℕ). IsAmong (listed_at k s (Some image)) (segment_at k s image m)) z (found_of k s image 0 s.segments i (subst (λ (m : ℕ). keeps (segment_of s image m) ≡ true) (sym z) is) lt) in
       among_left (listed_at k t o) (listed (k + 1) shapes images) (segment_at (k + 0) s image i)
       (subst (λ (x : Shape). IsAmong (listed_at k x o) (segment_at (k + 0) s image i)) (sym same)
       (subst (λ (x : Option (List Block)). IsAmong (listed_at k s x) (segment_at (k + 0) s image i)) (sym there)
@@ -335,9 +335,10 @@ module _ (v : ℕ) where
       among_right (listed_at k t o) (listed (k + 1) shapes images) (segment_at (k + suc at) s image i)
       (subst (λ (m : ℕ). IsAmong (listed (k + 1) shapes images) (segment_at m s image i)) (sym e) (found (k + 1) at i shapes images s image shape_is there lt is))
 
-  -- ---- The whole
+-- ---- The owned ones
 
-  owned_so : (shapes : List Shape) (images : Images) (o : Owned) → Stands 0 shapes images o → IsOwnedIn shapes images v o
+module _ (v : ℕ) where
+  owned_so : (shapes : List Shape) (images : Images) (o : Owned) → Stands (says v) 0 shapes images o → IsOwnedIn shapes images v o
   owned_so shapes images o is =
       let e : o.logger ≡ is.at = (let l = is.logger_is in omega (arith, l)) in
       let owner = says_so v o.blocks is.so in record {
@@ -352,27 +353,27 @@ module _ (v : ℕ) where
         owner = owner.1;
       }
 
-  listed_so : (shapes : List Shape) (images : Images) (o : Owned) → IsOwnedIn shapes images v o → IsAmong (listed 0 shapes images) o
+  listed_so : (shapes : List Shape) (images : Images) (o : Owned) → IsOwnedIn shapes images v o → IsAmong (listed (says v) 0 shapes images) o
   listed_so shapes images o is =
-      let there = found 0 o.logger o.index shapes images is.shape is.image is.shape_is is.there is.within (says_of v (segment_of is.shape is.image o.index) is.rest (sym is.blocks_are ∙ is.owner)) in
+      let there = found (says v) 0 o.logger o.index shapes images is.shape is.image is.shape_is is.there is.within (says_of v (segment_of is.shape is.image o.index) is.rest (sym is.blocks_are ∙ is.owner)) in
       let z : 0 + o.logger ≡ o.logger = omega arith in
-      let same : segment_at (0 + o.logger) is.shape is.image o.index ≡ o = λ i. record { logger = z i; index = o.index; first = sym is.first_is i; blocks = sym is.blocks_are i } in
-      subst (λ (x : Owned). IsAmong (listed 0 shapes images) x) same there
+      let same : segment_at (says v) (0 + o.logger) is.shape is.image o.index ≡ o = λ i. record { logger = z i; index = o.index; first = sym is.first_is i; blocks = sym is.blocks_are i } in
+      subst (λ (x : Owned). IsAmong (listed (says v) 0 shapes images) x) same there
 
   each_so : (P : Owned → Type 0) (os : List Owned) → All P os → (o : Owned) → IsAmong os o → P o
   each_so P os all o has = let at = contains_among os o has in subst P at.2 (all at.0 o at.1)
 
-  are_listed : (shapes : List Shape) (images : Images) (os : List Owned) → AreOwnedIn shapes images v os → os ≡ listed 0 shapes images
-  are_listed shapes images os are = same_sorted os (listed 0 shapes images) are.in_order (ordered 0 shapes images)
+  are_listed : (shapes : List Shape) (images : Images) (os : List Owned) → AreOwnedIn shapes images v os → os ≡ listed (says v) 0 shapes images
+  are_listed shapes images os are = same_sorted os (listed (says v) 0 shapes images) are.in_order (ordered (says v) 0 shapes images)
       (λ o has. listed_so shapes images o (each_so (IsOwnedIn shapes images v) os are.each o has))
-      (λ o has. among_contains os o (are.all o (owned_so shapes images o (stands 0 shapes images o has))))
+      (λ o has. among_contains os o (are.all o (owned_so shapes images o (stands (says v) 0 shapes images o has))))
 
-fits : (shapes : List Shape) (images : Images) → ((k : ℕ) (t : Shape) (i : List Block) → slice_get shapes k ≡ Some t → image_of images k ≡ Some i → length i ≡ image_size t) → (v : ℕ) → Fits v shapes images
-fits [] images each v = tt
-fits (s ∷ shapes) [] each v = tt
-fits (s ∷ shapes) (o ∷ images) each v = (at o (λ i is. each 0 s i refl is), fits shapes images (λ k t i a b. each (suc k) t i a b) v)
+pub fits : (keeps : List Block → Bool) (shapes : List Shape) (images : Images) → ((k : ℕ) (t : Shape) (i : List Block) → slice_get shapes k ≡ Some t → image_of images k ≡ Some i → length i ≡ image_size t) → Fits keeps shapes images
+fits keeps [] images each = tt
+fits keeps (s ∷ shapes) [] each = tt
+fits keeps (s ∷ shapes) (o ∷ images) each = (at o (λ i is. each 0 s i refl is), fits keeps shapes images (λ k t i a b. each (suc k) t i a b))
   where
-    at : (x : Option (List Block)) → ((i : List Block) → x ≡ Some i → length i ≡ image_size s) → Fit v s x
+    at : (x : Option (List Block)) → ((i : List Block) → x ≡ Some i → length i ≡ image_size s) → Fit keeps s x
     at None is = tt
     at (Some i) is = is i refl
 
@@ -381,7 +382,7 @@ pub extents_owned : (shapes : List Shape) (images : Images) (v : ℕ) (os : List
     → ((k : ℕ) (t : Shape) (i : List Block) → slice_get shapes k ≡ Some t → image_of images k ≡ Some i → length i ≡ image_size t)
     → AreOwnedIn shapes images v os → extents_of v (all_segments shapes images) ≡ extents_of v (map (λ (o : Owned). o.blocks) os)
 extents_owned shapes images v os each are =
-    same_all v 0 shapes images (fits shapes images each v) ∙ ap (λ (l : List Owned). extents_of v (map (λ (o : Owned). o.blocks) l)) (sym (are_listed v shapes images os are))
+    same_all (says v) v (says_nothing v) 0 shapes images (fits (says v) shapes images each) ∙ ap (λ (l : List Owned). extents_of v (map (λ (o : Owned). o.blocks) l)) (sym (are_listed v shapes images os are))
 
 -- what a volume recovers to is what its home and the segments that it owns do
 pub recovered_owned : (shapes : List Shape) (images : Images) (v : ℕ) (s : Shape) (image : List Block) (os : List Owned)

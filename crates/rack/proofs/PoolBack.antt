@@ -116,7 +116,7 @@ module _ {D : Type 0} (state : D → State) (volumes k : ℕ) (z : Shape) (lock 
           let none : slice_get old.passes.items v ≡ None = slice_get_past old.passes.items v (omega (arith, past, can.count)) in
           absurd (none-some p (sym (ap (λ (o : Option (VolumePasses D)). option_and_then (λ q. slice_index_or q.pools.items k None) o) none) ∙ here))
 
-  pass_of : (v : ℕ) → v < volumes → PassOf (Pool (FreeSegment D)) PoolBase
+  abbrev pass_of : (v : ℕ) → v < volumes → PassOf (Pool (FreeSegment D)) PoolBase
   pass_of v below = (can.passes v below).0
 
   among : (v : ℕ) (below : v < volumes) → Contains ps (pass_of v below)
@@ -300,7 +300,7 @@ module _ {D : Type 0} (state : D → State) (volumes k : ℕ) (z : Shape) (lock 
 
     module _ (after : Option (ImageRest D)) (emptied : EmptiesInto pool (image_here put.images.items k) after) where
 
-      refilled : (r n : ImageRest D) → image_here old.images.items k ≡ Some r → image_here put.images.items k ≡ Some n → IsSameBut r n → (q : ImageRest D) → IsRefilled pool n q → IsRefilledAll state old k r q
+      refilled : (r n : ImageRest D) → image_here old.images.items k ≡ Some r → image_here put.images.items k ≡ Some n → IsSameBut r n → (q : ImageRest D) → IsRefilled pool n q → IsRefilledAll state base.blocks old k r q
       refilled r n here there same q re = record {
         same = record {
           label = re.same.label ∙ same.label;
@@ -353,14 +353,14 @@ module _ {D : Type 0} (state : D → State) (volumes k : ℕ) (z : Shape) (lock 
                       let p = a_value (segment_here r i) ((can.here i r here below).1 (m, h, never)) in
                       is_there (segment_here q i) p.0 (kept i p.0 p.1)
 
-          only : (i : ℕ) (p : Spun D) → segment_here q i ≡ Some p → (segment_here r i ≡ Some p) ⊎ (((v : ℕ) × Contains (held_here old v k) (i, p)) ⊎ ((blocks : ℕ) × IsBlankPart state k blocks p))
+          only : (i : ℕ) (p : Spun D) → segment_here q i ≡ Some p → (segment_here r i ≡ Some p) ⊎ (((v : ℕ) × Contains (held_here old v k) (i, p)) ⊎ IsBlankPart state k base.blocks p)
           only i p is = go (item_at pool i) refl
             where
-              go : (o : Option (FreeSegment D)) → item_at pool i ≡ o → (segment_here r i ≡ Some p) ⊎ (((v : ℕ) × Contains (held_here old v k) (i, p)) ⊎ ((blocks : ℕ) × IsBlankPart state k blocks p))
+              go : (o : Option (FreeSegment D)) → item_at pool i ≡ o → (segment_here r i ≡ Some p) ⊎ (((v : ℕ) × Contains (held_here old v k) (i, p)) ⊎ IsBlankPart state k base.blocks p)
               go (Some f) e =
                   let blank = stands.items i f e in
                   let part : free_part f ≡ p = same_Some (free_part f) p (sym (re.segments i ∙ ap (λ (o : Option (FreeSegment D)). either_part (item_part o) (segment_here n i)) e) ∙ is) in
-                  inr (inr (base.blocks, subst (IsBlankPart state k base.blocks) part
+                  inr (inr (subst (IsBlankPart state k base.blocks) part
                   (record { part = record { of_volume = blank.of ∙ can.lock.volume; sized = blank.free.size ∙ blank.long }; idle = blank.free.idle })))
               go None e = pick (listed old k i volumes)
                 where
@@ -368,7 +368,7 @@ module _ {D : Type 0} (state : D → State) (volumes k : ℕ) (z : Shape) (lock 
                   then = sym (unpooled i e) ∙ is
 
                   pick : ((v : ℕ) × Contains (indexes_here old v k) i) ⊎ ((v : ℕ) → v < volumes → Contains (indexes_here old v k) i → ⊥)
-                      → (segment_here r i ≡ Some p) ⊎ (((v : ℕ) × Contains (held_here old v k) (i, p)) ⊎ ((blocks : ℕ) × IsBlankPart state k blocks p))
+                      → (segment_here r i ≡ Some p) ⊎ (((v : ℕ) × Contains (held_here old v k) (i, p)) ⊎ IsBlankPart state k base.blocks p)
                   pick (inl v) =
                       let x = none_listed v.0 i v.1 in
                       let at : Contains (held_here old v.0 k) (i, x.0.1) = subst (λ (j : ℕ). Contains (held_here old v.0 k) (j, x.0.1)) x.2 x.1 in
@@ -377,12 +377,12 @@ module _ {D : Type 0} (state : D → State) (volumes k : ℕ) (z : Shape) (lock 
                   pick (inr none) = inl (sym (segment_then r n here there i (λ v has. none v (past_rows v i has) has)) ∙ then)
 
       -- so all of the image is here
-      pub all_back : RefillsAll state old k (image_here old.images.items k) after
+      pub all_back : RefillsAll state base.blocks old k (image_here old.images.items k) after
       all_back = go (image_here old.images.items k) refl
         where
-          go : (o : Option (ImageRest D)) → image_here old.images.items k ≡ o → RefillsAll state old k (image_here old.images.items k) after
-          go None none = subst (λ (o : Option (ImageRest D)). RefillsAll state old k o after) (sym none) (subst (λ (o : Option (ImageRest D)). EmptiesInto pool o after) (not_filled none) emptied)
+          go : (o : Option (ImageRest D)) → image_here old.images.items k ≡ o → RefillsAll state base.blocks old k (image_here old.images.items k) after
+          go None none = subst (λ (o : Option (ImageRest D)). RefillsAll state base.blocks old k o after) (sym none) (subst (λ (o : Option (ImageRest D)). EmptiesInto pool o after) (not_filled none) emptied)
           go (Some r) here =
               let n = filled r here in
               let q = subst (λ (o : Option (ImageRest D)). EmptiesInto pool o after) n.1 emptied in
-              subst (λ (o : Option (ImageRest D)). RefillsAll state old k o after) (sym here) (q.0, q.1, refilled r n.0 here n.1 n.2 q.0 q.2)
+              subst (λ (o : Option (ImageRest D)). RefillsAll state base.blocks old k o after) (sym here) (q.0, q.1, refilled r n.0 here n.1 n.2 q.0 q.2)

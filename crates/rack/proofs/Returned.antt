@@ -1,6 +1,6 @@
 -- What a volume was opened with comes back.
 use Rattle.std.proofs.Common.{◌≡◌, ◌≢◌, ◌<◌, ◌≤◌, ⊎_elim, ℕ, List, [], ◌∷◌, ◌++◌, length, map, Option, None, Some, is_some, refl, sym, ap, subst, ◌∙◌, arith}
-use Rattle.std.specs.Prelude.{All, AllPairs, IsSome, slice_get, slice_set, slice_index_or}
+use Rattle.std.specs.Prelude.{All, AllPairs, IsSome, IfSome, slice_get, slice_set, slice_index_or}
 use Rattle.std.specs.declared.alloc.Global.{Global}
 use Rattle.std.specs.declared.vec.Vec.{Vec}
 use Rattle.std.proofs.lemmas.Bool.{cases_eq, cases_lt, false≢true}
@@ -129,6 +129,12 @@ module _ {D : Type 0} where
             (λ far. ap (λ (o : Option (ImageRest D)). in_image o m) (there j far))
             (cases_eq j k);
       }
+
+  -- the same by the clauses of a place that is filled
+  pub one_put_at : (old new : Rest D) (k i : ℕ) (r : ImageRest D) (image : Option (ImageRest D)) (part : Spun D) → new.images.items ≡ slice_set old.images.items k image
+      → image_here old.images.items k ≡ Some r → IsSome image → IfSome image (λ m. IsFilled r m i part) → i < length r.segments.items → PutsOne old new k i part
+  one_put_at old new k i r None part set out some fill within = absurd (false≢true some)
+  one_put_at old new k i r (Some n) part set out some fill within = one_put old new k i r n part set out fill within
 
   -- ---- Owned segments
 

@@ -11,7 +11,7 @@ use Rattle.wol_model.specs.Blocks.{AreApart}
 use Rattle.wol_model.specs.Heads.{Shape}
 use Rattle.wol_config.specs.declared.config.Config.{Config}
 use Rattle.turn_lock.specs.Histories.{Entry}
-use Rattle.turn_lock.specs.Passes.{lock_id, pass_lock, pass_number, pass_mine, IsPassOf, IsFree}
+use Rattle.turn_lock.specs.Passes.{AreWhole, lock_id, pass_lock, pass_number, pass_mine, IsPassOf, IsFree}
 use Rattle.turn_lock.specs.declared.lock.TurnLock.{TurnLock}
 use Rattle.turn_lock.specs.declared.pass.PassOf.{PassOf}
 use Rattle.spin_model.specs.Operations.{has_token}
@@ -38,12 +38,12 @@ use Rattle.volume_images.specs.Volumes.{shapes_of}
 use Rattle.rack.specs.Rests.{image_here, segment_here, pool_pass, spindle_pass, held_here, indexes_here, away_with, IsImageOut, IsPassAt, IsPart, IsImageRest, IsRow, IsHolding, IsHeldHere, AreLocks, IsRest, IsRestBut, AreRooms}
 use Rattle.rack.specs.Racks.{base_of_station, IsOpenBase, IsStation}
 use Rattle.rack.specs.Parts.{HasPlace, IsBarePlace, HasBack, KeepsPlace, CanPutLanes, IsHomeAway, PutsManager, held_parts, with_home}
-use Rattle.rack.specs.Closing.{CanCloseStations, home_here}
+use Rattle.rack.specs.Closing.{CanCloseStations, ClosesStation, home_here}
 use Rattle.rack.specs.declared.rack.ImageRest.{ImageRest}
 use Rattle.rack.specs.declared.rack.Rest.{Rest}
 use Rattle.rack.specs.declared.rack.Rooms.{Rooms}
 use Rattle.rack.proofs.Members.{first_in, later_in, map_map, element_at, get_left, no_value, a_value, is_there, none_in, no_members, all_last, all_front, all_member, of_recursion, in_map, of_map, in_cases, is_member}
-use Rattle.rack.proofs.LanesAway.{lane_came, lane_cases, lane_stays, home_came, home_cases, home_stays, is_lane_of, lane_of_owner}
+use Rattle.rack.proofs.LanesAway.{lanes_with, lane_with, lane_came, lane_cases, lane_stays, home_came, home_cases, home_stays, is_lane_of, lane_of_owner}
 
 -- the base of a lane among these
 named_lane : {D : Type 0} (ls : List (Lane D)) (bs : List LaneBase) (l : Lane D) → AreNamed ls bs → Contains ls l → (b : LaneBase) × Contains bs b × IsNamed l b
@@ -116,12 +116,12 @@ module _ {D : Type 0} (state : D → State) (tells : Rattle.std.specs.Prelude.Bo
   logger_below l has =
       let e = (lane_base l has).2.logger in
       let n = (lane_shared l has).pool_in in
-      subst (λ (k : ℕ). k < length shared.pools.items) (sym e) n
+      omega (arith, e, n, shared.pools.ok.0)
 
   id_below : s.id < length old.passes.items
   id_below =
-      let n : b.volume.began.owner < length shared.spindles.items = open_base.at.spindle_in in
-      subst (λ (k : ℕ). k < length old.passes.items) owner_is (omega (arith, n, can.locks.spindle_count, parts.count))
+      let n = open_base.at.spindle_in in
+      omega (arith, n, owner_is, shared.spindles.ok.0, can.locks.spindle_count, parts.count)
 
   place : (k : ℕ) → k < volumes → HasPlace mid s.id k
   place k below = record { row = id_below; volumes = volumes; rows = parts.rows; within = below }
@@ -506,7 +506,7 @@ module _ {D : Type 0} (state : D → State) (tells : Rattle.std.specs.Prelude.Bo
                 let among = subst (λ (xs : List ℕ). Contains xs i) (all_indexes l lane ∙ sym (indexes_back h.0 k l at back)) ((ready_lane l lane).all i holding) in
                 absurd (h.2 among)
             go (as_before never pool held) =
-                (h.0, (h.1.0, sym pool ∙ h.1.1, h.1.2), λ has. h.2 (subst (λ (xs : List (ℕ × Spun D)). Contains (map (λ (x : ℕ × Spun D). x.0) xs) i) (sym held) has)))
+                (h.0, (h.1.0, sym pool ∙ h.1.1, h.1.2), λ has. h.2 (subst (λ (xs : List (ℕ × Spun D)). Contains (map (λ (x : ℕ × Spun D). x.0) xs) i) (sym held) has))
 
         to_new : IsHeldHere old k i → IsHeldHere new k i
         to_new h = go (at_place h.0 k)
@@ -516,7 +516,7 @@ module _ {D : Type 0} (state : D → State) (tells : Rattle.std.specs.Prelude.Bo
                 let none : pool_pass old s.id k ≡ None = subst (λ (j : ℕ). pool_pass old s.id j ≡ None) at (no_pool (logger_of l) (logger_below l lane) (away_lane l lane)) in
                 absurd (none-some h.1.0 (sym none ∙ subst (λ (w : ℕ). pool_pass old w k ≡ Some h.1.0) (same ∙ owner_is) h.1.1))
             go (as_before never pool held) =
-                (h.0, (h.1.0, pool ∙ h.1.1, h.1.2), λ has. h.2 (subst (λ (xs : List (ℕ × Spun D)). Contains (map (λ (x : ℕ × Spun D). x.0) xs) i) held has)))
+                (h.0, (h.1.0, pool ∙ h.1.1, h.1.2), λ has. h.2 (subst (λ (xs : List (ℕ × Spun D)). Contains (map (λ (x : ℕ × Spun D). x.0) xs) i) held has))
 
     -- ---- The images
 
@@ -575,7 +575,7 @@ module _ {D : Type 0} (state : D → State) (tells : Rattle.std.specs.Prelude.Bo
         here = λ k i n here within.
             let was = was_image k n here in
             let old_one = parts.placed.here k i was.0 was.1 (subst (λ (x : ImageRest D). i < length x.segments.items) was.2 within) in
-            subst (λ (x : ImageRest D). IsSome (segment_here x i) ↔ (IsHeldHere new k i × (Contains [] (k, i) → ⊥))) (sym was.2)
+            subst (λ (x : ImageRest D). IsSome (segment_here x i) ↔ (IsHeldHere new k i × (Contains {X = ℕ × ℕ} [] (k, i) → ⊥))) (sym was.2)
             (λ some. let x = old_one.0 some in ((held_here_same k i).1 x.0, x.1), λ x. old_one.1 ((held_here_same k i).0 x.0, x.1));
         others = λ k i l is none. parts.placed.others k i l is (none_was k none);
       };
@@ -617,12 +617,44 @@ module _ {D : Type 0} (state : D → State) (tells : Rattle.std.specs.Prelude.Bo
       rest = record { parts = parts_back; rooms = are };
     }
       where
-        ids : (ts : List (Station D)) → List ℕ
-        ids ts = map (λ (t : Station D). t.id) ts
-
         longer : (i n : ℕ) → slice_get (map (λ (t : Station D). t.id) before) i ≡ Some n → slice_get (map (λ (t : Station D). t.id) (before ++ s ∷ [])) i ≡ Some n
         longer i n is =
             subst (λ (l : List ℕ). slice_get l i ≡ Some n) (sym (map_push (λ (t : Station D). t.id) before s)) (get_left (map (λ (t : Station D). t.id) before) (s.id ∷ []) i n is)
 
         rising : Rattle.rack.specs.Racks.AreRising (map (λ (t : Station D). t.id) before)
         rising i j x y less at_i at_j = can.rising i j x y less (longer i x at_i) (longer j y at_j)
+
+    -- the station is closed
+    pub station_closed : AreWhole entries (s.worker ∷ s.helper ∷ s.keeper ∷ []) → ClosesStation tells state s old new
+    station_closed whole = record {
+      closing = record { manager = m; entries = entries };
+      closed = record { stands = stands; whole = whole; home = home_came_back; back = all_member (HasBack new s.id) m.lanes.items lane_back };
+      images = images_kept;
+      homes = homes_kept;
+      places = λ w k differs. other_place w k (λ same has. differs (same ∙ owner_is)) (λ same. absurd (differs same));
+      held = λ v k away. list_kept v k away (at_place v k);
+    }
+      where
+        list_kept : (v k : ℕ) → (Contains (away_with (base_of_station s ∷ [])).lanes (v, k) → ⊥) → AtPlace v k → held_here new v k ≡ held_here old v k
+        list_kept v k away (of_lane l same has at back) =
+            absurd (away (subst (λ (x : ℕ × ℕ). Contains (away_with (base_of_station s ∷ [])).lanes x) {x = (b.volume.began.owner, k)} {y = (v, k)} (λ i. (sym same i, k))
+            (Rattle.std.proofs.lemmas.List.Elements.Contains-append_left (lanes_with b) [] (b.volume.began.owner, k) (lane_with b k (subst (λ (j : ℕ). Contains b.volume.began.view j) at (in_view l has))))))
+        list_kept v k away (as_before never pool held) = held
+
+-- rooms once the last station's went
+pub rooms_less : {D : Type 0} (volumes : ℕ) (rooms : Rooms D) (before : List (Station D)) (s : Station D) (ms : Rattle.std.specs.declared.vec.Vec.Vec (Rattle.std.specs.declared.vec.Vec.Vec (PassOf (Manager D) ManagerBase) Rattle.std.specs.declared.alloc.Global.Global) Rattle.std.specs.declared.alloc.Global.Global)
+    (row : Rattle.std.specs.declared.vec.Vec.Vec (PassOf (Manager D) ManagerBase) Rattle.std.specs.declared.alloc.Global.Global) → AreRooms volumes (length (map (λ (t : Station D). base_of_station t) (before ++ s ∷ []))) rooms → rooms.managers.items ≡ ms.items ++ row ∷ []
+    → AreRooms volumes (length (map (λ (t : Station D). base_of_station t) before)) (record rooms { managers = ms })
+rooms_less {D} volumes rooms before s ms row are split = record {
+  pool_count = are.pool_count;
+  pools = are.pools;
+  spindle_count = are.spindle_count;
+  spindles = are.spindles;
+  manager_count =
+      let all = ap length split ∙ length_push ms.items row in
+      let stations = length-map (before ++ s ∷ []) (λ (t : Station D). base_of_station t) ∙ length_push before s in
+      let fewer = length-map before (λ (t : Station D). base_of_station t) in
+      omega (arith, are.manager_count, all, stations, fewer);
+  managers = all_front (λ r. (r.items ≡ []) × (3 ≤ Rattle.std.specs.Prelude.vec_capacity r)) ms.items row (subst (λ l. All (λ r. (r.items ≡ []) × (3 ≤ Rattle.std.specs.Prelude.vec_capacity r)) l) split are.managers);
+  closed = are.closed;
+}

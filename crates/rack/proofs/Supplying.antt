@@ -50,7 +50,7 @@ module _ {D : Type 0} (state : D → State) where
   module _ (said : Said) (r n : ImageRest D) (old p : Pool (FreeSegment D)) (volumes : ℕ) (s : Shape) (can : CanFill state volumes (volume_of old) s said r)
       (room : room_of old ≡ s.segments) (blocks : blocks_of old ≡ s.segment_blocks) (same : IsSamePool old p) (same_image : IsSameBut r n)
       (stands : StandsFor (IsBlank state) p (base_of p) []) (filled : IsFilledPool said.heads.items r.segments.items p) (takes : TakesFree said.heads.items r.segments.items n.segments.items) where
-    heads : List SegHead
+    abbrev heads : List SegHead
     heads = said.heads.items
 
     past : (i : ℕ) → length heads ≡ length (base_of p).holders

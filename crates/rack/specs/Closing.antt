@@ -107,17 +107,17 @@ pub record CanClosePool {D : Type 0} (state : D → State) (volumes k : ℕ) (s 
   pub out : (v : ℕ) → image_here r.images.items k ≡ None → held_here r v k ≡ []
 
 -- all of the image of volume k is here: what was, what came back with lanes, and blank segments from the pool
-pub record IsRefilledAll {D : Type 0} (state : D → State) (old : Rest D) (k : ℕ) (r n : ImageRest D) : Type 0 where
+pub record IsRefilledAll {D : Type 0} (state : D → State) (blocks : ℕ) (old : Rest D) (k : ℕ) (r n : ImageRest D) : Type 0 where
   pub same : IsSameBut r n
   pub all : (i : ℕ) → i < length n.segments.items → IsSome (segment_here n i)
   pub kept : (i : ℕ) (p : Spun D) → segment_here r i ≡ Some p → segment_here n i ≡ Some p
   pub back : (v i : ℕ) (p : Spun D) → Contains (held_here old v k) (i, p) → segment_here n i ≡ Some p
   pub only : (i : ℕ) (p : Spun D) → segment_here n i ≡ Some p
-      → (segment_here r i ≡ Some p) ⊎ (((v : ℕ) × Contains (held_here old v k) (i, p)) ⊎ ((blocks : ℕ) × IsBlankPart state k blocks p))
+      → (segment_here r i ≡ Some p) ⊎ (((v : ℕ) × Contains (held_here old v k) (i, p)) ⊎ IsBlankPart state k blocks p)
 
-abbrev pub RefillsAll : {D : Type 0} → (D → State) → (old : Rest D) → (k : ℕ) → (before after : Option (ImageRest D)) → Type 0
-RefillsAll state old k None after = after ≡ None
-RefillsAll {D} state old k (Some r) after = (n : ImageRest D) × (after ≡ Some n) × IsRefilledAll state old k r n
+abbrev pub RefillsAll : {D : Type 0} → (D → State) → (blocks : ℕ) → (old : Rest D) → (k : ℕ) → (before after : Option (ImageRest D)) → Type 0
+RefillsAll state blocks old k None after = after ≡ None
+RefillsAll {D} state blocks old k (Some r) after = (n : ImageRest D) × (after ≡ Some n) × IsRefilledAll state blocks old k r n
 
 -- the segments of volume k that came back with lanes may go to their places, where its image is out, and there are none where it isn't
 pub record CanPutAllHeld {D : Type 0} (r : Rest D) (k : ℕ) : Type 0 where

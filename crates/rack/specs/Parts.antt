@@ -1,5 +1,6 @@
 -- What the leaves of opening and closing do: a pool is filled and emptied, and parts and passes go out of a rest and come back.
-use Rattle.std.specs.Prelude.{⊤, ◌≡◌, ◌≢◌, ◌==◌, ◌<◌, ◌≤◌, ◌+◌, ◌∷◌, ℕ, Bool, false, List, [], length, map, filter, take, count_by, sum_by, vec_capacity, Option, None, Some, MatchOption, is_some, slice_get, slice_index_or, Contains, All, AllPairs, IsSome}
+use Rattle.std.specs.Prelude.{⊤, ◌≡◌, ◌≢◌, ◌==◌, ◌<◌, ◌≤◌, ◌+◌, ◌-◌, ◌∷◌, ◌++◌, ℕ, Bool, true, false, List, [], length, map, filter, take, count_by, sum_by, vec_capacity, Option, None, Some, MatchOption, is_some, slice_get, slice_set, slice_index_or, Contains, All, AllPairs, IsSome}
+use Rattle.std.specs.List.{AllZip}
 use Rattle.std.specs.declared.alloc.Global.{Global}
 use Rattle.std.specs.declared.vec.Vec.{Vec}
 use Rattle.wol_disk.specs.Disk.{State}
@@ -25,7 +26,7 @@ use Rattle.log_segment.specs.declared.free.FreeSegment.{FreeSegment}
 use Rattle.log_layout.specs.Values.{shape_of}
 use Rattle.log_layout.specs.declared.segment.SegHead.{SegHead}
 use Rattle.log_layout.specs.declared.segment.SegHead.TheVariants.{Free, Owned}
-use Rattle.logger.specs.Lanes.{IsLane, logger_of, lane_owner, held_in, taken_in, pool_of, spindle_of, segments_in}
+use Rattle.logger.specs.Lanes.{IsLane, AreAccesses, logger_of, lane_owner, held_in, taken_in, pool_of, spindle_of, segments_in}
 use Rattle.logger.specs.declared.lane.HeldSegment.{HeldSegment}
 use Rattle.logger.specs.declared.lane.Lane.{Lane}
 use Rattle.manager.specs.declared.manager.ManagerParts.{ManagerParts}
@@ -228,20 +229,39 @@ EndsInto {D} state b old new = MatchOption old (new ≡ None) (λ r. (n : ImageR
 
 -- ---- A rack before a volume is opened
 
--- the locks and their rows of passes are there, but the keepers' passes stand in a list of their own
-pub record PutsLocks {D : Type 0} (spindles : List (Issued Spindle SpindleBase)) (pools : List (Issued (Pool (FreeSegment D)) PoolBase)) (old new : Lists D) : Type 0 where
-  pub pool_locks : new.shared.pools.items ≡ map (λ (i : Issued (Pool (FreeSegment D)) PoolBase). i.lock) pools
-  pub spindle_locks : new.shared.spindles.items ≡ map (λ (i : Issued Spindle SpindleBase). i.lock) spindles
-  pub keeper_count : length new.keepers.items ≡ length spindles
-  pub keepers : (k : ℕ) (i : Issued Spindle SpindleBase) → slice_get spindles k ≡ Some i → slice_get new.keepers.items k ≡ slice_get i.passes.items (length spindles)
-  pub pool_rows : new.rooms.pools.items ≡ map (λ (i : Issued (Pool (FreeSegment D)) PoolBase). i.passes) pools
-  pub spindle_row_count : length new.rooms.spindles.items ≡ length spindles
-  pub spindle_rows : (k : ℕ) (i : Issued Spindle SpindleBase) (row : Vec (PassOf Spindle SpindleBase) Global) → slice_get spindles k ≡ Some i → slice_get new.rooms.spindles.items k ≡ Some row
-      → (row.items ≡ take (length spindles) i.passes.items) × (length spindles + 1 ≤ vec_capacity row)
+-- the locks of the spindles and their rows of passes are there, but the keepers' passes stand in a list of their own
+pub record PutsSpindles {D : Type 0} (spindles : List (Issued Spindle SpindleBase)) (old new : Lists D) : Type 0 where
+  pub locks : new.shared.spindles.items ≡ map (λ (i : Issued Spindle SpindleBase). i.lock) spindles
+  pub keepers : AllZip (λ (i : Issued Spindle SpindleBase) p. slice_get i.passes.items (length spindles) ≡ Some p) spindles new.keepers.items
+  pub rows : AllZip (λ (i : Issued Spindle SpindleBase) (row : Vec (PassOf Spindle SpindleBase) Global). (row.items ≡ take (length spindles) i.passes.items) × (length spindles + 1 ≤ vec_capacity row)) spindles new.rooms.spindles.items
+  pub pools : new.shared.pools ≡ old.shared.pools
   pub stations : new.stations ≡ old.stations
   pub passes : new.passes ≡ old.passes
+  pub pool_rooms : new.rooms.pools ≡ old.rooms.pools
   pub managers : new.rooms.managers ≡ old.rooms.managers
   pub closed : new.rooms.closed ≡ old.rooms.closed
+
+-- the locks of the pools and their rows of passes are there
+pub record PutsPools {D : Type 0} (pools : List (Issued (Pool (FreeSegment D)) PoolBase)) (old new : Lists D) : Type 0 where
+  pub locks : new.shared.pools.items ≡ map (λ (i : Issued (Pool (FreeSegment D)) PoolBase). i.lock) pools
+  pub rows : new.rooms.pools.items ≡ map (λ (i : Issued (Pool (FreeSegment D)) PoolBase). i.passes) pools
+  pub spindles : new.shared.spindles ≡ old.shared.spindles
+  pub keepers : new.keepers ≡ old.keepers
+  pub stations : new.stations ≡ old.stations
+  pub passes : new.passes ≡ old.passes
+  pub spindle_rooms : new.rooms.spindles ≡ old.rooms.spindles
+  pub managers : new.rooms.managers ≡ old.rooms.managers
+  pub closed : new.rooms.closed ≡ old.rooms.closed
+
+-- the last element of a row
+abbrev pub last_of : {T : Type 0} → Vec T Global → Option T
+last_of row = slice_get row.items (length row.items - 1)
+
+-- each row lost its last element
+pub record ArePopped {T : Type 0} (old new : List (Vec T Global)) : Type 0 where
+  pub count : length new ≡ length old
+  pub each : (k : ℕ) (d : Vec T Global) → k < length old → (slice_index_or new k d).items ≡ take (length (slice_index_or old k d).items - 1) (slice_index_or old k d).items
+  pub rooms : (k : ℕ) (d : Vec T Global) → k < length old → vec_capacity (slice_index_or new k d) ≡ vec_capacity (slice_index_or old k d)
 
 -- each row has a pass for each volume, and there is room for it
 pub record CanDeal {D : Type 0} (l : Lists D) : Type 0 where
@@ -251,16 +271,20 @@ pub record CanDeal {D : Type 0} (l : Lists D) : Type 0 where
   pub spindle_count : length l.rooms.spindles.items ≡ length l.passes.items
   pub passes : All (AreEmptyPasses (length l.passes.items)) l.passes.items
 
+-- the rows are empty, and have the room that they had
+pub record AreEmptied {T : Type 0} (old new : List (Vec T Global)) : Type 0 where
+  pub count : length new ≡ length old
+  pub empty : All (λ row. row.items ≡ []) new
+  pub rooms : (k : ℕ) (d : Vec T Global) → k < length old → vec_capacity (slice_index_or new k d) ≡ vec_capacity (slice_index_or old k d)
+
 -- volume v has the pass at place v of each row, and the rows are empty
 pub record Deals {D : Type 0} (old new : Lists D) : Type 0 where
   pub count : length new.passes.items ≡ length old.passes.items
   pub pools : (v : ℕ) (p : VolumePasses D) → slice_get new.passes.items v ≡ Some p → p.pools.items ≡ map (λ (row : Vec (PassOf (Pool (FreeSegment D)) PoolBase) Global). slice_get row.items v) old.rooms.pools.items
   pub spindles : (v : ℕ) (p : VolumePasses D) → slice_get new.passes.items v ≡ Some p → p.spindles.items ≡ map (λ (row : Vec (PassOf Spindle SpindleBase) Global). slice_get row.items v) old.rooms.spindles.items
   pub held : (v : ℕ) (p q : VolumePasses D) → slice_get old.passes.items v ≡ Some p → slice_get new.passes.items v ≡ Some q → q.held ≡ p.held
-  pub pool_rows : map (λ (row : Vec (PassOf (Pool (FreeSegment D)) PoolBase) Global). vec_capacity row) new.rooms.pools.items ≡ map (λ (row : Vec (PassOf (Pool (FreeSegment D)) PoolBase) Global). vec_capacity row) old.rooms.pools.items
-  pub pools_empty : All (λ row. row.items ≡ []) new.rooms.pools.items
-  pub spindle_rows : map (λ (row : Vec (PassOf Spindle SpindleBase) Global). vec_capacity row) new.rooms.spindles.items ≡ map (λ (row : Vec (PassOf Spindle SpindleBase) Global). vec_capacity row) old.rooms.spindles.items
-  pub spindles_empty : All (λ row. row.items ≡ []) new.rooms.spindles.items
+  pub pool_rows : AreEmptied old.rooms.pools.items new.rooms.pools.items
+  pub spindle_rows : AreEmptied old.rooms.spindles.items new.rooms.spindles.items
   pub shared : new.shared ≡ old.shared
   pub keepers : new.keepers ≡ old.keepers
   pub stations : new.stations ≡ old.stations
@@ -310,13 +334,14 @@ count_owners v heads = count_by (is_owned_by v) heads
 abbrev pub owned_count : (v : ℕ) → Said → ℕ
 owned_count v said = count_owners v said.heads.items
 
+-- the same where it says something
+abbrev pub owned_in : (v : ℕ) → Option Said → ℕ
+owned_in v None = 0
+owned_in v (Some s) = owned_count v s
+
 -- how many all images say
 abbrev pub owned_total : (v : ℕ) → List (Option Said) → ℕ
-owned_total v said = sum_by (count_in v) said
-  where
-    count_in : ℕ → Option Said → ℕ
-    count_in v None = 0
-    count_in v (Some s) = owned_count v s
+owned_total v said = sum_by (owned_in v) said
 
 module _ {D : Type 0} where
   -- what a volume has at a logger is as it was
@@ -457,6 +482,16 @@ module _ {D : Type 0} where
     pub empty : All (λ i. segment_here image i ≡ None) (indexes_here r v k)
     pub apart : AreApart (indexes_here r v k)
 
+  -- the last of them went out
+  pub record PopsHeld (old new : Rest D) (v k : ℕ) (h : ℕ × Spun D) : Type 0 where
+    pub images : new.images ≡ old.images
+    pub rooms : new.rooms ≡ old.rooms
+    pub rows : KeepsRows old new
+    pub held : held_here old v k ≡ held_here new v k ++ h ∷ []
+    pub held_others : (w j : ℕ) → (w ≡ v → j ≢ k) → held_here new w j ≡ held_here old w j
+    pub pools : (w j : ℕ) → pool_pass new w j ≡ pool_pass old w j
+    pub spindles : (w j : ℕ) → spindle_pass new w j ≡ spindle_pass old w j
+
   -- they are there
   pub record PutsHeld (old new : Rest D) (v k : ℕ) : Type 0 where
     pub rooms : new.rooms ≡ old.rooms
@@ -494,6 +529,7 @@ module _ {D : Type 0} where
     pub spindle_volume : (pass_lock spindle).base.volume ≡ k
     pub spindle_free : IsFree spindle
     pub settled : has_token (pass_mine spindle) ≡ false
+    pub accesses : AreAccesses (pass_mine spindle)
     pub held : held_here r v k ≡ []
 
   -- a new lane of volume v with the passes that were here
@@ -543,6 +579,12 @@ module _ {D : Type 0} where
   abbrev pub AreOwnersHere : ImageRest D → (v : ℕ) → List SegHead → Type 0
   AreOwnersHere r v heads = (i : ℕ) → slice_get heads i ≡ Some (Owned v) → IsSome (segment_here r i)
 
+  -- the segment of index i went behind these of volume k, where it does
+  abbrev pub TakesOne : Shape → (k : ℕ) → (taken : Bool) → (old new : ImageRest D) → (i : ℕ) → (before after : List (OwnedPart D)) → Type 0
+  TakesOne s k false old new i before after = (new ≡ old) × (after ≡ before)
+  TakesOne s k true old new i before after = (o : OwnedPart D) × (after ≡ before ++ o ∷ []) × (place_of o ≡ (k, i)) × (o.first_block ≡ head_place s i) × (segment_here old i ≡ Some o.part)
+      × IsSameBut old new × (new.segments.items ≡ slice_set old.segments.items i None)
+
   -- the segments with the owner v went out of the image of volume k, by rising index
   pub record TakesOwners (s : Shape) (old new : ImageRest D) (v k : ℕ) (heads : List SegHead) (os : List (OwnedPart D)) : Type 0 where
     pub same : IsSameBut old new
@@ -554,16 +596,14 @@ module _ {D : Type 0} where
     pub gone : (i : ℕ) → slice_get heads i ≡ Some (Owned v) → segment_here new i ≡ None
     pub others : (i : ℕ) → slice_get heads i ≢ Some (Owned v) → segment_here new i ≡ segment_here old i
 
-  -- the image of volume k is out and says this, and its segments with the owner v are in their places
-  pub record CanTakeOwnedOf (r : Rest D) (v k : ℕ) (said : Said) : Type 0 where
-    pub image : ImageRest D
-    pub out : image_here r.images.items k ≡ Some image
-    pub count : length said.heads.items ≡ length image.segments.items
-    pub few : length said.heads.items ≤ 1024
-    pub here : AreOwnersHere image v said.heads.items
+  -- where the image of volume k says something it is out, and its segments with the owner v are in their places
+  abbrev pub CanTakeOwnedOf : Rest D → (v k : ℕ) → Option Said → Type 0
+  CanTakeOwnedOf r v k None = ⊤
+  CanTakeOwnedOf r v k (Some said) = (image : ImageRest D) × (image_here r.images.items k ≡ Some image) × (length said.heads.items ≡ length image.segments.items)
+      × (length said.heads.items ≤ 1024) × AreOwnersHere image v said.heads.items
 
   -- the owned segments of volume v in the image of volume k went out
-  pub record TakesOwnedOf (config : Config) (old new : Rest D) (v k : ℕ) (said : Said) (os : List (OwnedPart D)) : Type 0 where
+  pub record TakesOwnedIn (config : Config) (old new : Rest D) (v k : ℕ) (said : Said) (os : List (OwnedPart D)) : Type 0 where
     pub passes : new.passes ≡ old.passes
     pub rooms : new.rooms ≡ old.rooms
     pub count : length new.images.items ≡ length old.images.items
@@ -572,7 +612,13 @@ module _ {D : Type 0} where
     pub was : image_here old.images.items k ≡ Some before
     pub after : ImageRest D
     pub is : image_here new.images.items k ≡ Some after
-    pub takes : (s : Shape) → slice_get (shapes_of config) k ≡ Some s → TakesOwners s before after v k said.heads.items os
+    pub shape : Shape
+    pub shape_is : slice_get (shapes_of config) k ≡ Some shape
+    pub takes : TakesOwners shape before after v k said.heads.items os
+
+  abbrev pub TakesOwnedOf : Config → (old new : Rest D) → (v k : ℕ) → Option Said → List (OwnedPart D) → Type 0
+  TakesOwnedOf config old new v k None os = (new ≡ old) × (os ≡ [])
+  TakesOwnedOf config old new v k (Some said) os = TakesOwnedIn config old new v k said os
 
   -- all owned segments of volume v went out, by rising logger and index
   pub record TakesOwned (config : Config) (old new : Rest D) (said : List (Option Said)) (v : ℕ) (os : List (OwnedPart D)) : Type 0 where

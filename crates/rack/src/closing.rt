@@ -29,7 +29,12 @@ use wol_config::Config;
 use wol_disk::Disk;
 
 impl<D: Disk> Rest<D> {
-    ghost use Rattle.std.specs.Prelude.{◌≡◌, ◌≢◌, ◌<◌, ◌≤◌, ◌+◌, ◌++◌, ◌∷◌, ℕ, List, [], length, vec_capacity};
+    ghost use Rattle.std.specs.Prelude.{◌≡◌, ◌≢◌, ◌<◌, ◌≤◌, ◌+◌, ◌++◌, ◌∷◌, ℕ, List, [], length, vec_capacity, Some, slice_get};
+    ghost use Rattle.turn_lock.specs.Passes.{lock_id};
+    ghost use Rattle.turn_lock.specs.declared.lock.TurnLock.{TurnLock};
+    ghost use Rattle.seg_pool.specs.declared.base.PoolBase.{PoolBase};
+    ghost use Rattle.seg_pool.specs.declared.pool.Pool.{Pool};
+    ghost use Rattle.log_segment.specs.declared.free.FreeSegment.{FreeSegment};
     ghost use Rattle.wol_model.specs.Heads.{Shape};
     ghost use Rattle.wol_config.specs.declared.config.Config.{Config};
     ghost use Rattle.logger.specs.declared.shared.Shared.{Shared};
@@ -83,7 +88,7 @@ impl<D: Disk> Rest<D> {
         requires pool { (volumes : ℕ) × (s : Shape) × CanClosePool D.state volumes id s lock self.old }
         requires empty { room.items ≡ [] }
         requires room { length self.old.passes.items ≤ vec_capacity room }
-        ensures image { RefillsAll D.state self.old id (image_here self.old.images.items id) (image_here self.new.images.items id) }
+        ensures image { RefillsAll D.state (lock_id lock).base.blocks self.old id (image_here self.old.images.items id) (image_here self.new.images.items id) }
         ensures held { (v : ℕ) → held_here self.new v id ≡ [] }
         ensures others { (k : ℕ) → k ≢ id → KeepsLogger self.old self.new k }
         ensures spindles { KeepsSpindles self.old self.new }
@@ -110,7 +115,7 @@ impl<D: Disk> Rest<D> {
     // All pools are closed.
     fn close_pools(&mut self, locks: Vec<TurnLock<Pool<FreeSegment<D>>>>)
         requires { (config : Config) × CanClosePools D.state config locks.items self.old }
-        ensures images { (k : ℕ) → k < length locks.items → RefillsAll D.state self.old k (image_here self.old.images.items k) (image_here self.new.images.items k) }
+        ensures images { (k : ℕ) (lock : TurnLock (Pool (FreeSegment D)) PoolBase) → slice_get locks.items k ≡ Some lock → RefillsAll D.state (lock_id lock).base.blocks self.old k (image_here self.old.images.items k) (image_here self.new.images.items k) }
         ensures held { (v k : ℕ) → k < length locks.items → held_here self.new v k ≡ [] }
         ensures others { (k : ℕ) → length locks.items ≤ k → KeepsLogger self.old self.new k }
         ensures spindles { KeepsSpindles self.old self.new }

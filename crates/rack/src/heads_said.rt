@@ -1,6 +1,6 @@
 // What the images that are out say, while volumes are opened.
 ghost use Rattle.std.specs.Prelude.{◌≡◌, ◌≤◌, [], length, vec_capacity};
-ghost use Rattle.rack.specs.Parts.{IsLaidOut};
+ghost use Rattle.rack.specs.Parts.{IsLaidOut, is_owned_by};
 
 use crate::rack::ImageRest;
 use log_layout::{SegHead, View};
@@ -15,12 +15,27 @@ pub(crate) struct Said {
     pub heads: Vec<SegHead>,
 }
 
+/// Whether a head names this owner.
+pub(crate) fn is_owned_by(head: SegHead, owner: u32) -> bool
+    ensures { result ≡ is_owned_by owner head }
+{
+    match head {
+        SegHead::Free => false,
+        SegHead::Owned(found) => found == owner,
+    }
+}
+
 impl Said {
+    ghost use Rattle.std.specs.Prelude.{◌≡◌};
+    ghost use Rattle.rack.specs.Parts.{owned_count};
+
     /// How many segments the volume owns in this image.
-    pub(crate) fn owned(&self, owner: u32) -> usize {
+    pub(crate) fn owned(&self, owner: u32) -> usize
+        ensures { result ≡ owned_count owner self.now }
+    {
         self.heads
             .iter()
-            .filter(|head| **head == SegHead::Owned(owner))
+            .filter(|head| is_owned_by(**head, owner))
             .count()
     }
 }

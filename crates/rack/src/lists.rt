@@ -1,5 +1,6 @@
 // The lists that a rack keeps are made, and filled.
-ghost use Rattle.std.specs.Prelude.{ℕ, ◌≡◌, ◌≤◌, [], length, IfOk, All, vec_capacity};
+ghost use Rattle.std.specs.Prelude.{ℕ, ◌≡◌, ◌≤◌, [], length, map, IfOk, All, vec_capacity};
+ghost use Rattle.rack.specs.Parts.{last_of, ArePopped};
 ghost use Rattle.rack.specs.Making.{IsEmptyShared, AreNewRooms, AreEmptyPasses};
 
 use crate::VolumeFault;
@@ -113,10 +114,22 @@ fn destroy_shared<D: Disk>(shared: Shared<D>)
     spindles.destroy_empty();
 }
 
+// The last element of each row goes behind those of this list.
+fn deal_one<T>(rows: &mut [Vec<T>], places: &mut Vec<Option<T>>)
+    requires empty { places.old.items ≡ [] }
+    requires room { length rows.old ≤ vec_capacity places.old }
+    ensures places { places.new.items ≡ map last_of rows.old }
+    ensures rows { ArePopped rows.old rows.new }
+{
+    for row in 0..rows.len() {
+        places.push_reserved(rows[row].pop());
+    }
+}
+
 impl<D: Disk> Lists<D> {
-    ghost use Rattle.std.specs.Prelude.{◌≡◌, ◌+◌, ℕ, length, IfOk, All};
+    ghost use Rattle.std.specs.Prelude.{◌≡◌, ◌≤◌, ◌+◌, ℕ, [], length, IfOk, All, vec_capacity};
     ghost use Rattle.rack.specs.Making.{AreLists};
-    ghost use Rattle.rack.specs.Parts.{PutsLocks, CanDeal, Deals, IsSetUp};
+    ghost use Rattle.rack.specs.Parts.{PutsSpindles, PutsPools, CanDeal, Deals, IsSetUp};
 
     /// Lists with room for so many volumes.
     pub(crate) fn new(alloc: Global, volumes: usize) -> Result<Lists<D>, NoMemory>
@@ -158,14 +171,12 @@ impl<D: Disk> Lists<D> {
         stations.destroy_empty();
     }
 
-    // The locks and their rows of passes, of which the keepers' are taken.
-    fn put_locks(&mut self, spindles: Vec<Issued<Spindle>>, pools: Vec<IssuedPool<D>>)
+    // The locks of the spindles and their rows of passes, of which the keepers' are taken.
+    fn put_spindles(&mut self, mut spindles: Vec<Issued<Spindle>>)
         requires lists { AreLists (length spindles.items) self.old }
         requires spindles { All (λ i. length i.passes.items ≡ length spindles.items + 1) spindles.items }
-        requires pools { length pools.items ≡ length spindles.items }
-        ensures { PutsLocks spindles.items pools.items self.old self.new }
+        ensures { PutsSpindles spindles.items self.old self.new }
     {
-        let (mut spindles, mut pools) = (spindles, pools);
         spindles.reverse();
         while let Some(Issued { lock, mut passes }) = spindles.pop() {
             let Some(keeper) = passes.pop() else {
@@ -176,6 +187,14 @@ impl<D: Disk> Lists<D> {
             self.rooms.spindles.push_reserved(passes);
         }
         spindles.destroy_empty();
+    }
+
+    // The locks of the pools and their rows of passes.
+    fn put_pools(&mut self, mut pools: Vec<IssuedPool<D>>)
+        requires shared { (self.old.shared.pools.items ≡ []) × (length pools.items ≤ vec_capacity self.old.shared.pools) }
+        requires rooms { (self.old.rooms.pools.items ≡ []) × (length pools.items ≤ vec_capacity self.old.rooms.pools) }
+        ensures { PutsPools pools.items self.old self.new }
+    {
         pools.reverse();
         while let Some(Issued { lock, passes }) = pools.pop() {
             self.shared.pools.push_reserved(lock);
@@ -193,12 +212,8 @@ impl<D: Disk> Lists<D> {
         while left > 0 {
             left -= 1;
             let volume = &mut self.passes[left];
-            for row in self.rooms.pools.iter_mut() {
-                volume.pools.push_reserved(row.pop());
-            }
-            for row in self.rooms.spindles.iter_mut() {
-                volume.spindles.push_reserved(row.pop());
-            }
+            deal_one(&mut self.rooms.pools, &mut volume.pools);
+            deal_one(&mut self.rooms.spindles, &mut volume.spindles);
         }
     }
 
@@ -219,7 +234,8 @@ impl<D: Disk> Lists<D> {
         ensures rest { IsSetUp spindles.items pools.items (length spindles.items) result }
     {
         let mut lists = self;
-        lists.put_locks(spindles, pools);
+        lists.put_spindles(spindles);
+        lists.put_pools(pools);
         lists.deal();
         let Lists {
             shared,

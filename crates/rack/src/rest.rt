@@ -1,17 +1,17 @@
 // What comes back to the rest of a rack, and the images that go back to their bay.
-ghost use Rattle.std.specs.Prelude.{◌≡◌, ◌≢◌, ◌<◌, ◌≤◌, None, Some, length, IsSome, IfSome, slice_get, All};
+ghost use Rattle.std.specs.Prelude.{◌≡◌, ◌≢◌, ◌<◌, ◌≤◌, ℕ, None, Some, length, IsSome, IfSome, slice_get, All};
 ghost use Rattle.wol_disk.specs.Disk.{Rose};
+ghost use Rattle.wol_model.specs.Heads.{Shape};
 ghost use Rattle.wol_bay.specs.Bay.{outs, IsOut};
 ghost use Rattle.wol_config.specs.Configs.{IsValid};
 ghost use Rattle.wol_config.specs.declared.config.VolumeConf.{VolumeConf};
 ghost use Rattle.logger.specs.Lanes.{IsLane, logger_of, taken_in};
 ghost use Rattle.volume_images.specs.Formatted.{part_sizes};
 ghost use Rattle.volume_images.specs.Left.{IsTold};
-ghost use Rattle.volume_images.specs.Volumes.{shape_in};
-ghost use Rattle.rack.specs.Rests.{segment_here, IsImageRest, AreImageRests};
-ghost use Rattle.rack.specs.Racks.{AreOut};
+ghost use Rattle.volume_images.specs.Volumes.{shape_in, shapes_of};
+ghost use Rattle.rack.specs.Rests.{segment_here, image_here, held_here, IsImageOut, IsImageRest};
 ghost use Rattle.rack.specs.Making.{IsFilled};
-ghost use Rattle.rack.specs.Parts.{IsBarePlace, CanPutLanes, PutsLane, PutsLanes, CanPutHeld, PutsHeld, IsHomeAway, with_home, ChangesHome, PutsManager, CanPutOwned, PutsOpening};
+ghost use Rattle.rack.specs.Parts.{HasPlace, IsBarePlace, CanPutLanes, PutsLane, PutsLanes, CanPutHeld, PutsHeld, PopsHeld, IsHomeAway, with_home, ChangesHome, PutsManager, CanPutOwned, PutsOpening};
 ghost use Rattle.rack.specs.Closing.{IsComplete, AreComplete, IsImageBack, GivesBack, HasFaultHere, LeavesNoneOut};
 ghost use Rattle.rack.specs.declared.rack.ImageRest.{ImageRest};
 
@@ -95,9 +95,23 @@ impl<D: Disk> Rest<D> {
         requires { CanPutHeld self.old id logger }
         ensures { PutsHeld self.old self.new id logger }
     {
-        while let Some((index, part)) = self.passes[id].held[logger].pop() {
+        for _segment in 0..self.passes[id].held[logger].len() {
+            let (index, part) = self.pop_held(id, logger);
             put_segment(&mut self.images[logger], index, part);
         }
+    }
+
+    // The last of them goes out.
+    fn pop_held(&mut self, id: usize, logger: usize) -> (u32, Spun<D>)
+        requires place { HasPlace self.old id logger }
+        requires some { 0 < length (held_here self.old id logger) }
+        ensures { PopsHeld self.old self.new id logger result }
+    {
+        let passes = &mut self.passes[id];
+        let Some(held) = passes.held[logger].pop() else {
+            unreachable!()
+        };
+        held
     }
 
     /// Lanes of volume `id` come back.
@@ -244,9 +258,10 @@ pub(crate) fn give_back<B: Bay>(
     images: Vec<Option<ImageRest<B::Part>>>,
 )
     requires config { IsValid config.now }
-    requires images { AreImageRests B.Part.state config.now images.items }
+    requires count { length images.items ≤ length config.now.volumes.items }
+    requires images { (k : ℕ) (s : Shape) (r : ImageRest B.Part) → slice_get (shapes_of config.now) k ≡ Some s → image_here images.items k ≡ Some r → IsImageRest B.Part.state k s r }
     requires whole { AreComplete images.items }
-    requires out { AreOut config.now images.items (B.state bay.old) }
+    requires out { (k : ℕ) (v : VolumeConf) → slice_get config.now.volumes.items k ≡ Some v → IsImageOut images.items k → IsOut v.name (part_sizes (shape_in config.now v)) (B.state bay.old) }
     ensures home { LeavesNoneOut config.now images.items (outs (B.state bay.old)) (outs (B.state bay.new)) }
     ensures back { IsTold (GivesBack B.Part.state config.now images.items 0) (B.state bay.old).told (B.state bay.new).told }
     ensures cause { HasFaultHere B.Part.state images.items 0 → Rose (B.state bay.old).faults (B.state bay.new).faults }

@@ -1,16 +1,17 @@
 // The volumes whose images are out are opened.
-ghost use Rattle.std.specs.Prelude.{◌≡◌, ◌<◌, ◌≤◌, ◌+◌, ◌∷◌, [], ◌++◌, List, None, Some, length, map, All, IfOk, OnOk, OnErr, IfSome, IsSome, is_some, vec_len, vec_capacity};
+ghost use Rattle.std.specs.Prelude.{true, ◌≡◌, ◌<◌, ◌≤◌, ◌+◌, ◌∷◌, [], ◌++◌, List, None, Some, length, map, All, IfOk, OnOk, OnErr, IfSome, IsSome, is_some, vec_len, vec_capacity};
 ghost use Rattle.wol_model.specs.Heads.{IsShape};
 ghost use Rattle.wol_config.specs.Configs.{IsValid};
 ghost use Rattle.log_layout.specs.Values.{shape_of};
 ghost use Rattle.logger.specs.Lanes.{logger_of};
 ghost use Rattle.manager_recovery.specs.declared.opening.OwnedPart.{OwnedPart};
-ghost use Rattle.rack.specs.Rests.{image_here, spindle_pass};
-ghost use Rattle.rack.specs.Parts.{IsUsablePlace, IsNewLane, TakesPasses, TakesLanes, IsSameRest, loggers_out, segments_of, owned_count, TakesOwnedOf, CanTakeOwnedOf, AreOwnedHere, TakesOwned, HasPlace, ChangesHome, CanTake, TakesOpening, owned_total, count_owners, AreOwnersHere, TakesOwners};
+ghost use Rattle.rack.specs.Rests.{image_here, segment_here, spindle_pass};
+ghost use Rattle.rack.specs.Parts.{CanPutLanes, PutsLanes, IsUsablePlace, IsNewLane, TakesPasses, TakesLanes, IsSameRest, loggers_out, segments_of, owned_in, TakesOwnedOf, CanTakeOwnedOf, AreOwnedHere, TakesOwned, HasPlace, ChangesHome, CanTake, TakesOpening, owned_total, count_owners, AreOwnersHere, TakesOwners, TakesOne, is_owned_by};
 ghost use Rattle.rack.specs.declared.rack.ImageRest.{ImageRest};
+ghost use Rattle.rack.specs.declared.rack.Rest.{Rest};
 
 use crate::VolumeFault;
-use crate::heads_said::Said;
+use crate::heads_said::{Said, is_owned_by};
 use crate::rack::{ImageRest, Rack, Rest};
 use crate::rest::take_home;
 use log_layout::{Label, SegHead, View};
@@ -89,6 +90,8 @@ impl<D: Disk> Rest<D> {
         requires config { length self.old.images.items ≡ vec_len config.now.volumes }
         requires places { All (λ k. IsUsablePlace self.old id k (segments_of config.now k)) (loggers_out self.old view.now) }
         ensures taken { IfOk result (λ lanes. TakesLanes D.state config.now self.old self.new id (loggers_out self.old view.now) lanes.items) }
+        ensures back { IfOk result (λ lanes. CanPutLanes D.state self.new id lanes.items) }
+        ensures restored { IfOk result (λ lanes. (last : Rest D) → PutsLanes self.new last id lanes.items → IsSameRest self.old last) }
         ensures same { OnErr result (IsSameRest self.old self.new) }
     {
         let Ok(mut lanes) = Vec::with_capacity(alloc, view.len() as usize) else {
@@ -114,21 +117,26 @@ impl<D: Disk> Rest<D> {
         config: &Config,
         id: u32,
         logger: u32,
-        said: &Said,
+        said: &Option<Said>,
         owned: &mut Vec<OwnedPart<D>>,
     )
         requires config { IsValid config.now }
         requires within { logger < vec_len config.now.volumes }
+        requires images { logger < vec_len self.old.images }
         requires here { CanTakeOwnedOf self.old id logger said.now }
-        requires room { vec_len owned.old + owned_count id said.now ≤ vec_capacity owned.old }
+        requires room { vec_len owned.old + owned_in id said.now ≤ vec_capacity owned.old }
         ensures room { vec_capacity owned.new ≡ vec_capacity owned.old }
-        ensures taken { (more : List (OwnedPart D)) × (owned.new.items ≡ owned.old.items ++ more) × (length more ≡ owned_count id said.now) × TakesOwnedOf config.now self.old self.new id logger said.now more }
+        ensures taken { (more : List (OwnedPart D)) × (owned.new.items ≡ owned.old.items ++ more) × (length more ≡ owned_in id said.now) × TakesOwnedOf config.now self.old self.new id logger said.now more }
     {
-        let Some(image) = &mut self.images[logger as usize] else {
-            unreachable!()
-        };
+        let Some(said) = said else { return };
         let label = label_of(config, logger);
-        image.take_owned(&label, id, said.heads.as_slice(), owned);
+        take_owned_in(
+            &mut self.images[logger as usize],
+            &label,
+            id,
+            said.heads.as_slice(),
+            owned,
+        );
     }
 
     // All segments that the volume owns, by rising logger and index.
@@ -148,9 +156,7 @@ impl<D: Disk> Rest<D> {
         let count = count_owned(said, id);
         let mut owned = Vec::with_capacity(alloc, count)?;
         for logger in 0..said.len() {
-            if let Some(said) = &said[logger] {
-                self.take_owned_of(config, id, logger as u32, said, &mut owned);
-            }
+            self.take_owned_of(config, id, logger as u32, &said[logger], &mut owned);
         }
         Ok(owned)
     }
@@ -219,12 +225,41 @@ fn count_owned(said: &[Option<Said>], id: u32) -> usize
     ensures { result ≡ owned_total id said.now }
 {
     let mut count = 0;
-    for said in said {
-        if let Some(said) = said {
-            count += said.owned(id);
-        }
+    for image in 0..said.len() {
+        count += owned_in(&said[image], id);
     }
     count
+}
+
+// How many it owns in one of them.
+fn owned_in(said: &Option<Said>, id: u32) -> usize
+    ensures { result ≡ owned_in id said.now }
+{
+    match said {
+        Some(said) => said.owned(id),
+        None => 0,
+    }
+}
+
+// The segments with the owner `id` go out of an image that is out, behind `owned`.
+fn take_owned_in<D: Disk>(
+    image: &mut Option<ImageRest<D>>,
+    label: &Label,
+    id: u32,
+    heads: &[SegHead],
+    owned: &mut Vec<OwnedPart<D>>,
+)
+    requires shape { IsShape (shape_of label.now) }
+    requires few { length heads.now ≤ 1024 }
+    requires there { IsSome image.old }
+    requires here { IfSome image.old (λ r. (length heads.now ≡ length r.segments.items) × AreOwnersHere r id heads.now) }
+    requires room { vec_len owned.old + count_owners id heads.now ≤ vec_capacity owned.old }
+    ensures room { vec_capacity owned.new ≡ vec_capacity owned.old }
+    ensures there { IsSome image.new }
+    ensures taken { IfSome image.old (λ r. IfSome image.new (λ n. (more : List (OwnedPart D)) × (owned.new.items ≡ owned.old.items ++ more) × (length more ≡ count_owners id heads.now) × TakesOwners (shape_of label.now) r n id label.now.id heads.now more)) }
+{
+    let Some(image) = image else { unreachable!() };
+    image.take_owned(label, id, heads, owned);
 }
 
 impl<D: Disk> ImageRest<D> {
@@ -245,18 +280,38 @@ impl<D: Disk> ImageRest<D> {
         ensures taken { (more : List (OwnedPart D)) × (owned.new.items ≡ owned.old.items ++ more) × (length more ≡ count_owners id heads.now) × TakesOwners (shape_of label.now) self.old self.new id label.now.id heads.now more }
     {
         for index in 0..heads.len() {
-            if heads[index] == SegHead::Owned(id) {
-                let Some(part) = self.segments[index].take() else {
-                    unreachable!()
-                };
-                owned.push_reserved(OwnedPart {
-                    logger: label.id,
-                    index: index as u32,
-                    first_block: head_place(label, index as u32),
-                    part,
-                });
-            }
+            self.take_one(label, id, heads[index], index as u32, owned);
         }
+    }
+
+    // The segment with this head and index goes there where the head is of the owner `id`.
+    fn take_one(
+        &mut self,
+        label: &Label,
+        id: u32,
+        head: SegHead,
+        index: u32,
+        owned: &mut Vec<OwnedPart<D>>,
+    )
+        requires shape { IsShape (shape_of label.now) }
+        requires within { index < length self.old.segments.items }
+        requires here { is_owned_by id head ≡ true → IsSome (segment_here self.old index) }
+        requires room { is_owned_by id head ≡ true → vec_len owned.old < vec_capacity owned.old }
+        ensures room { vec_capacity owned.new ≡ vec_capacity owned.old }
+        ensures taken { TakesOne (shape_of label.now) label.now.id (is_owned_by id head) self.old self.new index owned.old.items owned.new.items }
+    {
+        if !is_owned_by(head, id) {
+            return;
+        }
+        let Some(part) = self.segments[index as usize].take() else {
+            unreachable!()
+        };
+        owned.push_reserved(OwnedPart {
+            logger: label.id,
+            index,
+            first_block: head_place(label, index),
+            part,
+        });
     }
 }
 

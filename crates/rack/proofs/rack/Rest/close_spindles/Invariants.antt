@@ -5,7 +5,7 @@ use Rattle.turn_lock.specs.declared.pass.PassOf.{PassOf}
 use Rattle.spin_model.specs.Spindles.{SpindleView}
 use Rattle.spin_model.specs.declared.spindle.Spindle.{Spindle}
 use Rattle.spin_model.specs.declared.spindle.SpindleBase.{SpindleBase}
-use Rattle.rack.specs.Closing.{CanCloseSpindles, StandsClosed}
+use Rattle.rack.specs.Closing.{CanCloseSpindles, StandsClosed, KeepsOtherRows}
 use Rattle.rack.proofs.rack.Rest.close_spindles.Given as goal
 
 -- the spindles behind those that are left are closed, the last first
@@ -19,6 +19,7 @@ invariant-loop-lock g l = record {
   closed : (k : ℕ) (f : TurnLock Spindle SpindleBase) (p : PassOf Spindle SpindleBase) (d : SpindleView) → length l.locks.items ≤ k → slice_get l.fn.locks.items k ≡ Some f → slice_get l.fn.keepers.items k ≡ Some p
       → StandsClosed f p (get_or l.self.rooms.closed.items (length l.fn.locks.items - 1 - k) d);
   images : l.self.images ≡ l.initial.self.images;
+  rows : KeepsOtherRows l.initial.self l.self;
 }
 
 abbrev pub decreases-loop-lock : goal.decreases-loop-lock

@@ -14,4 +14,4 @@ returns-clause-rest g c =
     let is : slice_get r.passes.items v ≡ Some row = slice_get_read r.passes.items (length r.passes.items) v row refl (omega (arith, c.requires.place.row)) c.index_mut-passes.ensures.value in
     let within : v < length r.images.items = some_within r.images.items v c.requires.out in
     let was : c.index_mut.result.now ≡ image_here r.images.items v = get_or_read r.images.items v c.index_mut.result.now within c.index_mut.ensures.value None in
-    home_moved r v row c.take_home.new.image None c.take.new.self None within (c.take_home.ensures.rest ∙ ap (with_home None) was) c.take.ensures.after c.requires.place is
+    home_moved r v row c.take_home-home.new.image None c.take.new.self None within (c.take_home-home.ensures.rest ∙ ap (with_home None) was) c.take.ensures.after c.requires.place is
