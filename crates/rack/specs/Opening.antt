@@ -27,7 +27,7 @@ use Rattle.volume_images.specs.Left.{IsTold, AreNamedApart}
 use Rattle.volume_images.specs.Volumes.{shape_in, shapes_of, MayLeave}
 use Rattle.rack.specs.Rests.{image_here, segment_here, pool_pass, held_here, IsImageOut, IsImageRest}
 use Rattle.rack.specs.Parts.{holder_by}
-use Rattle.rack.specs.Racks.{IsClosable, IsUnused, AreUnused}
+use Rattle.rack.specs.Racks.{IsClosable, NamesVolumes, IsUnused, AreUnused}
 use Rattle.rack.specs.Closing.{IsComplete}
 use Rattle.rack.specs.Opens.{HadBefore, out_names, BeganWith, RefusesVolume}
 use Rattle.rack.specs.declared.heads_said.Said.{Said}
@@ -201,6 +201,7 @@ pub record AreOwnersHere {D : Type 0} (state : D → State) (said : List (Option
 -- volumes below n have a station or a fault; of the others those have a fault whose image isn't out
 pub record AreTried {D : Type 0} (config : Config) (n : ℕ) (r : Rack D) : Type 0 where
   pub count : length r.faults.items ≡ length (shapes_of config)
+  pub known : (k : ℕ) (f : VolumeFault) → slice_get r.faults.items k ≡ Some (Some f) → NamesVolumes (length (shapes_of config)) f
   pub below : All (λ (s : Station D). s.id < n) r.stations.items
   pub tried : (k : ℕ) → k < n → (fault_at r.faults.items k ≡ None) ↔ Contains (map (λ (s : Station D). s.id) r.stations.items) k
   pub further : (k : ℕ) → n ≤ k → k < length (shapes_of config) → (fault_at r.faults.items k ≡ None) ↔ IsImageOut r.rest.images.items k
