@@ -46,3 +46,4 @@ pub mod Owning
 pub mod OpeningTaken
 pub mod OwnedOf
 pub mod SameSegments
+pub mod Shapes
