@@ -21,3 +21,5 @@ pub mod LanesTaken
 pub mod Owning
 pub mod OpeningTaken
 pub mod OwnedOf
+pub mod AllEnded
+pub mod IssuedOne
