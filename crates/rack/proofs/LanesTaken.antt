@@ -18,10 +18,10 @@ use Rattle.logger.specs.declared.lane.HeldSegment.{HeldSegment}
 use Rattle.logger.specs.declared.lane.Lane.{Lane}
 use Rattle.log_segment.specs.Segment.{part_of}
 use Rattle.rack.specs.Rests.{image_here, pool_pass, spindle_pass, held_here}
-use Rattle.rack.specs.Parts.{KeepsPlace, KeepsRows, HasPlace, IsBarePlace, HasBack, PutsLanes, CanPutLanes, held_parts, IsUsablePlace, IsNewLane, TakesPasses, IsSameRest, segments_of, loggers_out, TakesLanes}
+use Rattle.rack.specs.Parts.{KeepsPlace, KeepsRows, HasPlace, IsBarePlace, HasBack, PutsLanes, CanPutLanes, held_parts, IsUsablePlace, IsNewLane, TakesPasses, TakesOneLane, IsSameRest, segments_of, loggers_out, TakesLanes}
 use Rattle.rack.specs.declared.rack.ImageRest.{ImageRest}
 use Rattle.rack.specs.declared.rack.Rest.{Rest}
-use Rattle.rack.proofs.LanesPut.{all_both, keeps_same, keeps_then, rows_same, rows_then, place_then}
+use Rattle.rack.proofs.LanesPut.{all_both, bare_then, keeps_same, keeps_then, rows_same, rows_then, place_then}
 
 -- different numbers at different places
 pub apart_at : (xs : List ℕ) (i j : ℕ) → AreApart xs → i < j → j < length xs → slice_index_or xs i 0 ≢ slice_index_or xs j 0
@@ -258,3 +258,41 @@ module _ {D : Type 0} where
                 (λ none. far w k (λ same. subst (All (λ l. k ≢ l)) so_far.takes.loggers_are (All-map (λ l. k ≢ l) logger_of lanes none)) (λ same. none))
                 (λ keeps. subst (λ (x : ℕ). KeepsPlace old last x k) (sym e) keeps)
                 (which k lanes so_far.takes.each (place_of_lane places end) last puts.back)
+
+  -- a rest in which nothing changed
+  pub can_after_same : (state : D → State) (a b : Rest D) (v : ℕ) (lanes : List (Lane D)) → IsSameRest a b → CanPutLanes state a v lanes → CanPutLanes state b v lanes
+  can_after_same state a b v lanes same can = record {
+    whole = can.whole;
+    bare = All-weaker (λ l. IsBarePlace a v (logger_of l)) (λ l. IsBarePlace b v (logger_of l)) (λ l bare. bare_then a b v (logger_of l) same.rows (same.places v (logger_of l)) bare) lanes can.bare;
+    apart = can.apart;
+  }
+
+  pub puts_after_same : (a b c : Rest D) (v : ℕ) (lanes : List (Lane D)) → IsSameRest a b → PutsLanes b c v lanes → PutsLanes a c v lanes
+  puts_after_same a b c v lanes same puts = record {
+    images = puts.images ∙ same.images;
+    rooms = puts.rooms ∙ same.rooms;
+    rows = rows_then a b c same.rows puts.rows;
+    back = puts.back;
+    others = λ w k other. keeps_then a b c w k (same.places w k) (puts.others w k other);
+  }
+
+  -- one step of the loop over loggers
+  pub lanes_step : (state : D → State) (config : Config) (view : List ℕ) (v : ℕ) → AreApart view → (old new newer : Rest D) (lanes after : List (Lane D)) (n : ℕ) → AreLanesTaken state config view v old new lanes n
+      → (k : ℕ) → n < length view → k ≡ slice_index_or view n 0 → TakesOneLane state config (is_some (image_here new.images.items k)) new newer v k lanes after → AreLanesTaken state config view v old newer after (n + 1)
+  lanes_step state config view v apart old new newer lanes after n so_far k within k_is takes = ⊎_elim taken skipped (cases_Bool (is_some (image_here new.images.items k)))
+    where
+      same : is_some (image_here new.images.items k) ≡ is_some (image_here old.images.items k)
+      same = ap is_some (same_out state config view v apart old new lanes n so_far k)
+
+      taken : is_some (image_here new.images.items k) ≡ true → AreLanesTaken state config view v old newer after (n + 1)
+      taken is_true =
+          let t = subst (λ (b : Bool). TakesOneLane state config b new newer v k lanes after) is_true takes in
+          subst (λ (l : List (Lane D)). AreLanesTaken state config view v old newer l (n + 1)) (sym t.1)
+          (lanes_next state config view v apart old new lanes n so_far k within k_is newer t.0 (sym same ∙ is_true) t.2 t.3 t.4)
+
+      skipped : is_some (image_here new.images.items k) ≡ false → AreLanesTaken state config view v old newer after (n + 1)
+      skipped is_false =
+          let t = subst (λ (b : Bool). TakesOneLane state config b new newer v k lanes after) is_false takes in
+          subst (λ (l : List (Lane D)). AreLanesTaken state config view v old newer l (n + 1)) (sym t.1)
+          (subst (λ (r : Rest D). AreLanesTaken state config view v old r lanes (n + 1)) (sym t.0)
+          (lanes_skip state config view v apart old new lanes n so_far k within k_is (sym same ∙ is_false)))
