@@ -1,5 +1,5 @@
 // The pool of an image's free segments is made, and emptied.
-ghost use Rattle.std.specs.Prelude.{◌≡◌, ◌<◌, ◌≤◌, ℕ, [], length, None, Some, IfOk, IfErr, OnOk, OnErr, IfSome, IsSome, MatchOption, slice_get, slice_index_or, vec_len};
+ghost use Rattle.std.specs.Prelude.{◌≡◌, ◌<◌, ◌≤◌, ℕ, [], length, None, Some, IfOk, IfErr, OnOk, OnErr, IfSome, IsSome, MatchOption, slice_get, slice_index_or, slice_set, vec_len};
 ghost use Rattle.wol_model.specs.Heads.{Shape};
 ghost use Rattle.wol_config.specs.Configs.{IsValid};
 ghost use Rattle.turn_lock.specs.Passes.{lock_id, lock_passes, AreNewPasses};
@@ -199,7 +199,7 @@ pub(crate) fn issue_pools<D: Disk>(
         return Err(NoMemory);
     };
     for id in 0..count {
-        match issue_pool(alloc, config, id as u32, &said[id], &mut images[id]) {
+        match issue_at(alloc, config, id, said, images) {
             Ok(issued) => made.push_reserved(issued),
             Err(NoMemory) => {
                 end_pools(made, images);
@@ -208,6 +208,27 @@ pub(crate) fn issue_pools<D: Disk>(
         }
     }
     Ok(made)
+}
+
+// The lock of one of them.
+fn issue_at<D: Disk>(
+    alloc: Global,
+    config: &Config,
+    id: usize,
+    said: &[Option<Said>],
+    images: &mut [Option<ImageRest<D>>],
+) -> Result<IssuedPool<D>, NoMemory>
+    requires config { IsValid config.now }
+    requires within { id < vec_len config.now.volumes }
+    requires in_said { id < length said.now }
+    requires in_images { id < length images.old }
+    requires image { (s : Shape) → slice_get (shapes_of config.now) id ≡ Some s → CanIssue D.state (vec_len config.now.volumes) id s (slice_index_or said.now id None) (slice_index_or images.old id None) }
+    ensures images { images.new ≡ slice_set images.old id (slice_index_or images.new id None) }
+    ensures issued { IfOk result (λ i. (s : Shape) → slice_get (shapes_of config.now) id ≡ Some s → IsIssuedPool (vec_len config.now.volumes) id s (slice_index_or said.now id None) i) }
+    ensures supplies { OnOk result (Supplies (slice_index_or said.now id None) (slice_index_or images.old id None) (slice_index_or images.new id None)) }
+    ensures restores { OnErr result (Restores D.state id config.now.segment_blocks (slice_index_or said.now id None) (slice_index_or images.old id None) (slice_index_or images.new id None)) }
+{
+    issue_pool(alloc, config, id as u32, &said[id], &mut images[id])
 }
 
 /// Ends the locks of pools, of each volume in order, and puts their segments to those that are here.
