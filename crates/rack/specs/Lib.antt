@@ -3,5 +3,8 @@ pub mod Making
 pub mod Racks
 pub mod Owners
 pub mod Opens
-pub mod Closes
 pub mod Parts
+pub mod Foreign
+pub mod Closing
+pub mod Closes
+pub mod Opening

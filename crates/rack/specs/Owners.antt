@@ -1,10 +1,12 @@
 -- What the images of a configuration say of one volume as they read: which segments it owns, and what it recovers to.
-use Rattle.std.specs.Prelude.{◌≡◌, ◌<◌, ◌-◌, ℕ, List, ◌∷◌, map, min, Option, None, Some, is_some, not, slice_get, Contains, All}
+use Rattle.std.specs.Prelude.{◌≡◌, ◌<◌, ◌-◌, ℕ, Bool, List, ◌∷◌, map, min, Option, None, Some, is_some, not, slice_get, Contains, All}
 use Rattle.wol_disk.specs.Disk.{Block, State}
 use Rattle.wol_model.specs.Heads.{Shape, owned_block}
-use Rattle.wol_model.specs.Images.{Images, image_of, home_of, segment_of, accepted, recovered_from}
-use Rattle.wol_bay.specs.Bay.{Told}
+use Rattle.wol_model.specs.Images.{Images, image_of, home_of, home_in, segment_of, all_segments, accepted, recovered_from}
+use Rattle.wol_model.specs.Recovered.{recovered}
+use Rattle.wol_bay.specs.Bay.{Told, at_name}
 use Rattle.wol_config.specs.declared.config.Config.{Config}
+use Rattle.wol_config.specs.declared.config.VolumeConf.{VolumeConf}
 use Rattle.wol_promise.specs.Manager.{Base}
 use Rattle.wol_promise.specs.Stands.{next_version}
 use Rattle.log_layout.specs.Values.{shape_of}
@@ -14,13 +16,22 @@ use Rattle.manager_recovery.specs.Opening.{AreInOrder}
 use Rattle.manager_recovery.specs.Owned.{Owned, all_owned, read_of, records_in, writes_in, heads_in, AreIntact, HaveNoTwins}
 use Rattle.manager_recovery.specs.declared.opening.Opening.{Opening}
 use Rattle.volume_images.specs.Accepted.{head_place}
-use Rattle.volume_images.specs.Volumes.{shapes_of, images_read}
+use Rattle.volume_images.specs.Volumes.{shapes_of, images_read, MayLeave}
 use Rattle.rack.specs.Rests.{image_here}
 use Rattle.rack.specs.declared.rack.ImageRest.{ImageRest}
 
 -- the images as they read, where one that isn't out gives no segments
 abbrev pub images_taken : {D : Type 0} → Config → List (Option (ImageRest D)) → Told → Images
 images_taken config out t = accepted (λ k. not (is_some (image_here out k))) (images_read config t)
+
+-- what volume v recovers to where refused images give no segments
+abbrev pub recovered_but : List Shape → (refused : ℕ → Bool) → Images → (v : ℕ) → List Block
+recovered_but shapes refused images v = recovered v (home_in (slice_get shapes v) (image_of images v)) (all_segments shapes (accepted refused images))
+
+-- of an image that isn't out a crash may leave only what it might have left before
+abbrev pub HadRefused : {D : Type 0} → Config → List (Option (ImageRest D)) → (old new : Told) → Type 0
+HadRefused config out old new = (k : ℕ) (v : VolumeConf) → slice_get config.volumes.items k ≡ Some v → image_here out k ≡ None
+    → (c : Option (List Block)) → MayLeave (at_name v.name new.images) c → MayLeave (at_name v.name old.images) c
 
 -- a segment of these images that reads as owned by volume v
 pub record IsOwnedIn (shapes : List Shape) (images : Images) (v : ℕ) (o : Owned) : Type 0 where

@@ -65,6 +65,10 @@ module _ {D : Type 0} where
   abbrev pub indexes_here : Rest D → (v k : ℕ) → List ℕ
   indexes_here r v k = map (λ (h : ℕ × Spun D). h.0) (held_here r v k)
 
+-- segment i of volume k is here, in its place or in a lane's list
+abbrev pub IsSegmentHere : {D : Type 0} → Rest D → (k i : ℕ) → Spun D → Type 0
+IsSegmentHere {D} r k i p = ((image : ImageRest D) × (image_here r.images.items k ≡ Some image) × (segment_here image i ≡ Some p)) ⊎ ((v : ℕ) × Contains (held_here r v k) (i, p))
+
 -- What is away from a rest.
 pub record Away : Type 0 where
   -- the volumes whose homes are away

@@ -1,4 +1,13 @@
 // The images of a configuration are taken out of their bay.
+ghost use Rattle.std.specs.Prelude.{◌≡◌, ◌<◌, length, slice_index_or, slice_get, Some, ℕ, IfOk, IfErr, OnErr, IsOk};
+ghost use Rattle.wol_bay.specs.Bay.{IsHome};
+ghost use Rattle.wol_config.specs.Configs.{IsValid};
+ghost use Rattle.wol_config.specs.declared.config.VolumeConf.{VolumeConf};
+ghost use Rattle.volume_images.specs.Volumes.{NoneOut, shapes_of};
+ghost use Rattle.rack.specs.Rests.{IsSpindleLock};
+ghost use Rattle.rack.specs.Making.{IsInOrder, AreSettled, AreSpindlesOf};
+ghost use Rattle.rack.specs.Opening.{IsNextOpened, IsNextRefused, IsBackAtOnce, AreAsked, HasSentOut, HasAllBack};
+
 use crate::VolumeFault;
 use crate::heads_said::{Said, lay_out};
 use crate::locks::Issued;
@@ -62,7 +71,20 @@ fn open_next<R: Wait, B: Bay>(
     config: &Config,
     id: u32,
     spindle: &mut Issued<Spindle>,
-) -> Result<Result<(Said, ImageRest<B::Part>), VolumeFault>, NoMemory> {
+) -> Result<Result<(Said, ImageRest<B::Part>), VolumeFault>, NoMemory>
+    requires config { IsValid config.now }
+    requires within { id < length config.now.volumes.items }
+    requires home { (v : VolumeConf) → slice_get config.now.volumes.items id ≡ Some v → IsHome v.name (B.state bay.old) }
+    requires spindle { IsSpindleLock (length config.now.volumes.items) id config.now.timeout spindle.old.lock }
+    requires passes { IsInOrder spindle.old × AreSettled spindle.old }
+    ensures opened { IfOk result (λ r. IfOk r (λ pair. (v : VolumeConf) → slice_get config.now.volumes.items id ≡ Some v
+        → IsNextOpened B.Part.tells B.Part.state config.now id v (B.state bay.old) (B.state bay.new) pair.0 pair.1)) }
+    ensures refused { IfOk result (λ r. IfErr r (λ fault. (v : VolumeConf) → slice_get config.now.volumes.items id ≡ Some v
+        → IsNextRefused B.Part.tells B.Part.state config.now id v (B.state bay.old) (B.state bay.new) fault)) }
+    ensures err { OnErr result (IsBackAtOnce (B.state bay.old) (B.state bay.new)) }
+    ensures spindle { spindle.new.lock ≡ spindle.old.lock }
+    ensures passes { IsInOrder spindle.new × AreSettled spindle.new }
+{
     let volume = &config.volumes[id as usize];
     let Ok(segments) = Vec::with_capacity(alloc, volume.segments as usize) else {
         return Err(NoMemory);
@@ -90,7 +112,17 @@ pub(crate) fn open_images<R: Wait, B: Bay>(
     bay: &mut B,
     config: &Config,
     spindles: &mut [Issued<Spindle>],
-) -> Result<Images<B::Part>, NoMemory> {
+) -> Result<Images<B::Part>, NoMemory>
+    requires config { IsValid config.now }
+    requires home { NoneOut config.now (B.state bay.old) }
+    requires count { length spindles.old ≡ length config.now.volumes.items }
+    requires spindles { AreSpindlesOf (length config.now.volumes.items) config.now.timeout spindles.old }
+    ensures asked { IfOk result (AreAsked B.Part.tells B.Part.state config.now (B.state bay.old) (B.state bay.new) (length config.now.volumes.items)) }
+    ensures out { IfOk result (λ i. HasSentOut config.now i.out.items (length config.now.volumes.items) (B.state bay.old) (B.state bay.new)) }
+    ensures err { OnErr result (HasAllBack B.Part.tells (B.state bay.old) (B.state bay.new)) }
+    ensures count { length spindles.new ≡ length spindles.old }
+    ensures spindles { AreSpindlesOf (length config.now.volumes.items) config.now.timeout spindles.new }
+{
     let mut images = Images::new(alloc, config.volumes.len())?;
     for id in 0..config.volumes.len() {
         match open_next(alloc, rt, bay, config, id as u32, &mut spindles[id]) {

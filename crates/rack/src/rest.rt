@@ -1,9 +1,19 @@
 // What comes back to the rest of a rack, and the images that go back to their bay.
-ghost use Rattle.std.specs.Prelude.{◌≡◌, ◌≢◌, ◌<◌, None, Some, length, IsSome, IfSome, All};
+ghost use Rattle.std.specs.Prelude.{◌≡◌, ◌≢◌, ◌<◌, ◌≤◌, ℕ, None, Some, length, IsSome, IfSome, slice_get, All};
+ghost use Rattle.wol_disk.specs.Disk.{Rose};
+ghost use Rattle.wol_model.specs.Heads.{Shape};
+ghost use Rattle.wol_bay.specs.Bay.{outs, IsOut};
+ghost use Rattle.wol_config.specs.Configs.{IsValid};
+ghost use Rattle.wol_config.specs.declared.config.VolumeConf.{VolumeConf};
 ghost use Rattle.logger.specs.Lanes.{IsLane, logger_of, taken_in};
-ghost use Rattle.rack.specs.Rests.{segment_here, held_here};
+ghost use Rattle.volume_images.specs.Formatted.{part_sizes};
+ghost use Rattle.volume_images.specs.Left.{IsTold};
+ghost use Rattle.volume_images.specs.Volumes.{shape_in, shapes_of};
+ghost use Rattle.rack.specs.Rests.{segment_here, image_here, held_here, IsImageOut, IsImageRest};
 ghost use Rattle.rack.specs.Making.{IsFilled};
 ghost use Rattle.rack.specs.Parts.{HasPlace, IsBarePlace, CanPutLanes, PutsLane, PutsLanes, CanPutHeld, PutsHeld, PopsHeld, IsHomeAway, with_home, ChangesHome, PutsManager, CanPutOwned, PutsOpening};
+ghost use Rattle.rack.specs.Closing.{IsComplete, AreComplete, IsImageBack, GivesBack, HasFaultHere, LeavesNoneOut};
+ghost use Rattle.rack.specs.declared.rack.ImageRest.{ImageRest};
 
 use crate::rack::{ImageRest, Rest};
 use logger::{Lane, LaneParts};
@@ -246,13 +256,38 @@ pub(crate) fn give_back<B: Bay>(
     bay: &mut B,
     config: &Config,
     images: Vec<Option<ImageRest<B::Part>>>,
-) {
+)
+    requires config { IsValid config.now }
+    requires count { length images.items ≤ length config.now.volumes.items }
+    requires images { (k : ℕ) (s : Shape) (r : ImageRest B.Part) → slice_get (shapes_of config.now) k ≡ Some s → image_here images.items k ≡ Some r → IsImageRest B.Part.state k s r }
+    requires whole { AreComplete images.items }
+    requires out { (k : ℕ) (v : VolumeConf) → slice_get config.now.volumes.items k ≡ Some v → IsImageOut images.items k → IsOut v.name (part_sizes (shape_in config.now v)) (B.state bay.old) }
+    ensures home { LeavesNoneOut config.now images.items (outs (B.state bay.old)) (outs (B.state bay.new)) }
+    ensures back { IsTold (GivesBack B.Part.state config.now images.items 0) (B.state bay.old).told (B.state bay.new).told }
+    ensures cause { HasFaultHere B.Part.state images.items 0 → Rose (B.state bay.old).faults (B.state bay.new).faults }
+    ensures counts { (B.state bay.old).faults ≤ (B.state bay.new).faults }
+{
     let mut images = images;
     while let Some(image) = images.pop() {
-        if let Some(image) = image {
-            let name = config.volumes[images.len()].name.as_str();
-            bay.detach(name, image.into_parts());
-        }
+        give_image_back(bay, config, images.len(), image);
     }
     images.destroy_empty();
+}
+
+// The image of one volume goes back to its bay, where it is out.
+fn give_image_back<B: Bay>(
+    bay: &mut B,
+    config: &Config,
+    id: usize,
+    image: Option<ImageRest<B::Part>>,
+)
+    requires known { id < length config.now.volumes.items }
+    requires image { (v : VolumeConf) (r : ImageRest B.Part) → slice_get config.now.volumes.items id ≡ Some v → image ≡ Some r
+        → IsImageRest B.Part.state id (shape_in config.now v) r × IsComplete r × IsOut v.name (part_sizes (shape_in config.now v)) (B.state bay.old) }
+    ensures { (v : VolumeConf) → slice_get config.now.volumes.items id ≡ Some v → IsImageBack B.Part.state v.name image (B.state bay.old) (B.state bay.new) }
+{
+    if let Some(image) = image {
+        let name = config.volumes[id].name.as_str();
+        bay.detach(name, image.into_parts());
+    }
 }

@@ -336,6 +336,15 @@ impl<D: Disk> ImageRest<D> {
 }
 
 impl<D: Disk> Rack<D> {
+    ghost use Rattle.std.specs.Prelude.{◌≡◌, ◌<◌, ◌+◌, ℕ, Some, length, slice_get, OnOk, OnErr, IsTrue};
+    ghost use Rattle.wol_bay.specs.Bay.{BayState, Told};
+    ghost use Rattle.wol_config.specs.Configs.{IsValid};
+    ghost use Rattle.volume_images.specs.Left.{AreNamedApart};
+    ghost use Rattle.rack.specs.Racks.{IsRack, AreUnused};
+    ghost use Rattle.rack.specs.Opens.{BeganWith, AreRefused};
+    ghost use Rattle.rack.specs.Opening.{IsOpeningRack, HasBegun, AreRefusedBelow, AreSameOut, IsStopped};
+    ghost use Rattle.rack.specs.declared.heads_said.Said.{Said};
+
     // Opens one volume: it has a station then, or a fault. Where there is no memory all of it is in the rest.
     fn open_one<R: Wait>(
         &mut self,
@@ -345,7 +354,22 @@ impl<D: Disk> Rack<D> {
         id: u32,
         view: View,
         said: &[Option<Said>],
-    ) -> Result<(), NoMemory> {
+    ) -> Result<(), NoMemory>
+        ghost bays: { BayState × BayState }
+        requires config { IsValid config.now }
+        requires within { id < length config.now.volumes.items }
+        requires rack { IsOpeningRack D.state config.now bays.1 said.now id self.old }
+        requires said { (own : Said) × (slice_get said.now id ≡ Some (Some own)) × (own.view ≡ view) }
+        ensures rack { OnOk result (IsOpeningRack D.state config.now bays.1 said.now (id + 1) self.new) }
+        ensures same_out { AreSameOut self.old self.new }
+        ensures begun { IsTrue D.tells → (t : Told) → HasBegun D.state config.now t said.now id self.old
+            → OnOk result (HasBegun D.state config.now t said.now (id + 1) self.new) }
+        ensures refused { (IsTrue D.tells → (t : Told) → bays.0.told ≡ Some t → AreNamedApart t → HasBegun D.state config.now t said.now id self.old)
+            → AreRefusedBelow D.tells D.state config.now bays.0 bays.1 id self.old
+            → OnOk result (AreRefusedBelow D.tells D.state config.now bays.0 bays.1 (id + 1) self.new) }
+        ensures stopped { OnErr result (IsStopped D.state config.now bays.1 self.old self.new) }
+        ensures began { IsTrue D.tells → (t : Told) → HasBegun D.state config.now t said.now id self.old → OnErr result (BeganWith D.state config.now t self.new) }
+    {
         let opening = self.rest.take_opening(alloc, config, id, view, said)?;
         let manager = match open_volume(alloc, rt, &self.shared, opening) {
             Ok(manager) => manager,
@@ -384,6 +408,7 @@ impl<D: Disk> Rack<D> {
         }
     }
 
+    #[tactic(none)]
     /// Opens the volumes whose images are out, in order. After want of memory some are open, and all of the others is in the rest.
     pub(crate) fn open_volumes<R: Wait>(
         &mut self,
@@ -391,7 +416,19 @@ impl<D: Disk> Rack<D> {
         rt: &R,
         config: &Config,
         said: &[Option<Said>],
-    ) -> Result<(), NoMemory> {
+    ) -> Result<(), NoMemory>
+        ghost bays: { BayState × BayState }
+        requires config { IsValid config.now }
+        requires count { length said.now ≡ length config.now.volumes.items }
+        requires rack { IsOpeningRack D.state config.now bays.1 said.now 0 self.old }
+        ensures rack { OnOk result (IsRack D.state config.now bays.1 self.new) }
+        ensures fresh { AreUnused self.new.stations.items }
+        ensures same_out { AreSameOut self.old self.new }
+        ensures refused { (IsTrue D.tells → (t : Told) → bays.0.told ≡ Some t → AreNamedApart t → HasBegun D.state config.now t said.now 0 self.old)
+            → AreRefusedBelow D.tells D.state config.now bays.0 bays.1 0 self.old → OnOk result (AreRefused D.tells D.state config.now bays.0 bays.1 self.new) }
+        ensures began { IsTrue D.tells → (t : Told) → HasBegun D.state config.now t said.now 0 self.old → BeganWith D.state config.now t self.new }
+        ensures stopped { OnErr result (IsStopped D.state config.now bays.1 self.old self.new) }
+    {
         for (id, own) in said.iter().enumerate() {
             if let Some(own) = own {
                 self.open_one(alloc, rt, config, id as u32, own.view, said)?;

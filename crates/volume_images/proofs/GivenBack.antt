@@ -1,9 +1,12 @@
 -- An image that was read: what it says, and what is left of it in its bay.
 use Rattle.std.proofs.Common.{◌≡◌, ◌≢◌, ⊎_elim, ℕ, zero, suc, ◌+◌, ◌<◌, List, [], ◌∷◌, ◌++◌, length, map, get_or, Option, None, Some, option_map, is_some, IfSome, Ok, refl, sym, ap, ◌∙◌, subst, arith}
-use Rattle.std.specs.Prelude.{IsSome, Contains}
+use Rattle.std.specs.Prelude.{IsSome, Contains, sum, replicate}
+use Rattle.std.proofs.lemmas.List.Sums.{sum_by-cons}
+use Rattle.std.proofs.lemmas.List.Folds.{sum_by-replicate}
 use Rattle.wol_disk.specs.Disk.{Block, Values, State, IsDisk, IsImage, IsImageOf, settled, reads}
 use Rattle.wol_disk.proofs.Images.{settled_image}
 use Rattle.wol_model.specs.Heads.{Shape}
+use Rattle.wol_model.specs.Images.{image_size}
 use Rattle.wol_bay.specs.Bay.{Name, Image, Told, BayState, at_name, sent_out, came_back}
 use Rattle.wol_bay.specs.Parts.{joined, blocks_of, faulty_places}
 use Rattle.wol_bay.specs.Refusals.{refusal, IsAnswered, blocks_at}
@@ -31,6 +34,14 @@ use Rattle.volume_images.proofs.SettledParts.{cut_image, both_told, told_both, f
 use Rattle.volume_images.proofs.Refused.{not_empty}
 use Rattle.volume_images.proofs.Stored.{rose_above}
 use Rattle.volume_images.proofs.WholeReads.{accepted, refused}
+
+-- the parts of an image have all of its blocks
+all_sizes : (s : Shape) → sum (part_sizes s) ≡ image_size s
+all_sizes s =
+    let one = sum_by-cons (λ x. x) 2 (s.home ∷ replicate s.segments s.segment_blocks) in
+    let two = sum_by-cons (λ x. x) s.home (replicate s.segments s.segment_blocks) in
+    let more = sum_by-replicate (λ x. x) s.segments s.segment_blocks in
+    omega (arith, one, two, more)
 
 -- ---- No new image
 
@@ -157,8 +168,7 @@ module _ {D : Type 0} (state : D → State) where
     says_so None image sent answered may = tt
     says_so (Some t) image sent answered may =
         let whole = whole_of t sent answered in
-        let P : Option Image → Type 0 = λ o. IfSome o (λ i. IsAccepted volumes own s (reads i.blocks) image.view (map segment_head image.heads.items)) in
-        subst P (sym whole.there) (accepted state sound own s out.image (sent_parts state sound own s (blocks_at name (Some t)) out sent) whole.image.blocks whole.blocks volumes own image.view image.heads.items may.may)
+        record { image = whole.image; there = whole.there; rest = whole.rest; size = whole.count ∙ all_sizes s; accepted = accepted state sound own s out.image (sent_parts state sound own s (blocks_at name (Some t)) out sent) whole.image.blocks whole.blocks volumes own image.view image.heads.items may.may }
 
     -- what is refused is there as it was
     pub gave_back : (old mid new : BayState) (f : ImageFault) → IsSentOut state own s (blocks_at name old.told) out → IfSome old.told (λ t. IsAnswered (refusal name (part_sizes s) t) (Ok out))

@@ -4,7 +4,7 @@ use Rattle.std.specs.Prelude.{slice_get, IsErrOf}
 use Rattle.std.proofs.lemmas.Bool.{cases_lt, cases_eq}
 use Rattle.std.proofs.lemmas.List.{get_or_default, get_or-set_same, get_or-set_other, length-set}
 use Rattle.std.proofs.lemmas.Option.{same_Some, none-some, slice_get_within}
-use Rattle.wol_disk.specs.Disk.{Block, Values, State, IsDisk, reads}
+use Rattle.wol_disk.specs.Disk.{Block, Values, State, IsDisk, IsImageOf, reads}
 use Rattle.wol_disk.proofs.Moments.{started}
 use Rattle.spin_model.specs.Spun.{state_of, volume_of, disk_of}
 use Rattle.spin_model.specs.declared.spun.Spun.{Spun}
@@ -12,7 +12,7 @@ use Rattle.log_layout.specs.Values.{segment_head}
 use Rattle.log_layout.specs.declared.segment.SegHead.{SegHead}
 use Rattle.volume_images.specs.Accepted.{HasHead, IsConfigured}
 use Rattle.volume_images.specs.Reads.{IsOnlyRead, AreOnlyRead}
-use Rattle.volume_images.specs.Heads.{SayHeads, AreCalm}
+use Rattle.volume_images.specs.Heads.{SayHeads, AlwaysSay, AreCalm}
 use Rattle.volume_images.specs.declared.heads.HeadFault.{HeadFault}
 use Rattle.volume_images.specs.declared.heads.HeadFault.TheVariants as fault
 
@@ -45,6 +45,9 @@ none_at {A} xs i x none at = none-some x (sym (ap (λ (l : List A). slice_get l 
 
 pub say_none : {D : Type 0} (state : D → State) (volumes : ℕ) (xs : List (Spun D)) (heads : List SegHead) → heads ≡ [] → SayHeads state volumes xs 0 heads
 say_none state volumes xs heads none = record { count = ap (λ (l : List SegHead). length l) none; each = λ i d vs h lt told at. absurd (omega (arith, lt)); configured = λ i h at. absurd (none_at heads i h none at) }
+
+pub always_none : {D : Type 0} (state : D → State) (volumes : ℕ) (xs : List (Spun D)) (heads : List SegHead) → heads ≡ [] → AlwaysSay state volumes xs heads
+always_none state volumes xs heads none = λ i d h lt at. absurd (none_at heads i h none at)
 
 module _ {D : Type 0} (state : D → State) (xs ys : List (Spun D)) (i : ℕ) (p r : Spun D) (lt : i < length xs) (same_length : length ys ≡ length xs)
     (rest : (k : ℕ) (d : Spun D) → i ≤ k → get_or ys k d ≡ get_or xs k d) where
@@ -101,3 +104,17 @@ module _ {D : Type 0} (state : D → State) (xs ys : List (Spun D)) (i : ℕ) (p
         subst (λ (g : SegHead). IsConfigured volumes (segment_head g)) is known)
         (cases_lt j (length heads));
   }
+
+  pub always_more : (volumes : ℕ) (heads : List SegHead) (head : SegHead) → length heads ≡ i → AlwaysSay state volumes ys heads
+      → ((c : List Block) → IsImageOf (state_of state p).values c → HasHead volumes c (segment_head head)) → AlwaysSay state volumes (set ys i p) (heads ++ head ∷ [])
+  always_more volumes heads head count so_far one = λ j d h below at.
+      let Says : Spun D → SegHead → Type 0 = λ q g. (c : List Block) → IsImageOf (state_of state q).values c → HasHead volumes c (segment_head g) in
+      let within : j < length ys = omega (arith, below, length-set ys i p) in
+      ⊎_elim
+        (λ (less : j < i). subst (λ (q : Spun D). Says q h) (sym (get_or-set_other ys i j p d (λ e. omega (arith, less, e)))) (so_far j d h within (sym (get_front heads head j (omega (arith, less, count))) ∙ at)))
+        (λ (more : i ≤ j).
+        let more_heads : j < length (heads ++ head ∷ []) = slice_get_within (heads ++ head ∷ []) j h at in
+        let e : j ≡ length heads = omega (arith, more, count, more_heads, length-append heads (head ∷ [])) in
+        let is : head ≡ h = same_Some head h (sym (get_last heads head) ∙ sym (ap (λ (n : ℕ). slice_get (heads ++ head ∷ []) n) e) ∙ at) in
+        subst (λ (q : Spun D). Says q h) (sym (here j d (e ∙ count))) (subst (λ (g : SegHead). Says p g) is one))
+        (cases_lt j i)

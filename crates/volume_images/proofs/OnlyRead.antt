@@ -2,9 +2,9 @@
 use Rattle.std.proofs.Common.{◌≡◌, ◌⊎◌, inl, inr, ⊎_elim, ℕ, ◌<◌, ◌≤◌, List, [], ◌∷◌, length, take, get_or, Option, Some, option_map, Result, Ok, Err, OnOk, OnErr, IfSome, sym, ap, ◌∙◌, subst, arith}
 use Rattle.std.specs.Prelude.{slice_get}
 use Rattle.std.proofs.lemmas.Option.{same_Some}
-use Rattle.wol_disk.specs.Disk.{Block, Values, State, Passes, IsDisk, settled, reads}
+use Rattle.wol_disk.specs.Disk.{Block, Values, State, Passes, IsDisk, IsImageOf, settled, reads}
 use Rattle.wol_disk.proofs.Moments.{started}
-use Rattle.wol_disk.proofs.Calls.{sync_goes_on, read_goes_on}
+use Rattle.wol_disk.proofs.Calls.{sync_goes_on, read_goes_on, settled_from}
 use Rattle.wol_model.specs.Heads.{SegmentHead, Owned, SpellsSegment}
 use Rattle.wol_model.proofs.Spellings.{one_segment_head}
 use Rattle.volume_images.specs.Accepted.{HasHead, IsHeadless, IsConfigured}
@@ -44,6 +44,13 @@ not_configured volumes owner b h has spelled le =
     let is : h ≡ Owned owner = one_segment_head b h (Owned owner) (subst (λ (c : Block). SpellsSegment c h) (sym same) has.spelled) spelled in
     let lt : owner < volumes = subst (λ (k : SegmentHead). IsConfigured volumes k) is has.configured in
     omega (arith, lt, le)
+
+-- after a sync every image has the head that was read
+pub always_head : (volumes : ℕ) (old new : Option (List (Values Block))) (h : SegmentHead) → new ≡ option_map settled old
+    → ((vs : List (Values Block)) → old ≡ Some vs → HasHead volumes (reads vs) h) → (c : List Block) → IsImageOf new c → HasHead volumes c h
+always_head volumes old new h synced has c i =
+    let f = settled_from (λ (bs : List Block). bs) old c (subst (λ (o : Option (List (Values Block))). IsImageOf o c) synced i) in
+    subst (λ (bs : List Block). HasHead volumes bs h) (sym f.2) (has f.0 f.1)
 
 -- the first block as it is read after a sync
 pub first_read : (old mid : Option (List (Values Block))) (vs : List (Values Block)) (out : List Block) → 1 ≤ length vs → old ≡ Some vs → mid ≡ option_map settled old → IfSome mid (λ ws. out ≡ take 1 (reads ws))

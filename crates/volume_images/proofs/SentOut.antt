@@ -75,6 +75,7 @@ module _ {D : Type 0} (state : D → State) (sound : (d : D) → IsDisk (state d
     pub image : Image
     pub there : o ≡ Some image
     pub blocks : blocks_of state parts ≡ Some image.blocks
+    pub count : length image.blocks ≡ sum sizes
     pub rest : image.rest ≡ []
 
   pub cut_whole : (sizes : List ℕ) (o : Option Image) (parts : List D) → IsWhole sizes o → AreCut state (option_map (λ i. i.blocks) o) sizes parts → IsCutWhole sizes o parts
@@ -83,7 +84,7 @@ module _ {D : Type 0} (state : D → State) (sound : (d : D) → IsDisk (state d
       let long = cut_long whole.image.blocks sizes parts cut in
       let count : length whole.image.blocks ≡ sum sizes = omega (arith, whole.bytes, long) in
       let none : length whole.image.rest ≡ 0 = omega (arith, whole.bytes, count) in
-      record { image = whole.image; there = whole.there; blocks = cut_joined whole.image.blocks sizes parts cut count; rest = no_bytes whole.image.rest none }
+      record { image = whole.image; there = whole.there; blocks = cut_joined whole.image.blocks sizes parts cut count; count = count; rest = no_bytes whole.image.rest none }
     where
       no_bytes : (bytes : List ℕ) → length bytes ≡ 0 → bytes ≡ []
       no_bytes [] e = refl

@@ -1,6 +1,6 @@
 -- What the heads of segments say, part by part. `state` is that of a part's disk.
 use Rattle.std.specs.Prelude.{◌≡◌, ◌<◌, ℕ, List, length, slice_get, slice_index_or, Some}
-use Rattle.wol_disk.specs.Disk.{Block, Values, State, Rose, reads}
+use Rattle.wol_disk.specs.Disk.{Block, Values, State, Rose, IsImageOf, reads}
 use Rattle.wol_model.specs.Heads.{Shape}
 use Rattle.spin_model.specs.Spun.{state_of}
 use Rattle.spin_model.specs.declared.spun.Spun.{Spun}
@@ -15,6 +15,11 @@ pub record SayHeads {D : Type 0} (state : D → State) (volumes : ℕ) (segments
       → slice_get heads i ≡ Some h → HasHead volumes (reads vs) (segment_head h)
   -- also where they don't
   pub configured : (i : ℕ) (h : SegHead) → slice_get heads i ≡ Some h → IsConfigured volumes (segment_head h)
+
+-- every image that the segments may have begins with these heads
+abbrev pub AlwaysSay : {D : Type 0} → (D → State) → (volumes : ℕ) → List (Spun D) → List SegHead → Type 0
+AlwaysSay {D} state volumes segments heads = (i : ℕ) (d : Spun D) (h : SegHead) → i < length segments → slice_get heads i ≡ Some h
+    → (c : List Block) → IsImageOf (state_of state (slice_index_or segments i d)).values c → HasHead volumes c (segment_head h)
 
 -- the block is the place of the head of a segment that has none, and those before it have theirs
 pub record IsDamagedSegment {D : Type 0} (state : D → State) (volumes : ℕ) (s : Shape) (segments : List (Spun D)) (block : ℕ) : Type 0 where

@@ -1,7 +1,8 @@
 -- What came of an image that was to be opened, as its bay tells.
-use Rattle.std.specs.Prelude.{⊤, ◌≡◌, ◌+◌, ℕ, List, map, Contains, Option, None, Some, IfSome}
+use Rattle.std.specs.Prelude.{⊤, ◌≡◌, ◌+◌, ℕ, List, [], length, map, Contains, Option, None, Some}
 use Rattle.wol_disk.specs.Disk.{Block, Values, State, IsImage, reads}
 use Rattle.wol_model.specs.Heads.{Shape}
+use Rattle.wol_model.specs.Images.{image_size}
 use Rattle.wol_bay.specs.Bay.{Name, Image, Told, at_name}
 use Rattle.wol_bay.specs.Parts.{AreCut}
 use Rattle.wol_bay.specs.Refusals.{refusal}
@@ -26,9 +27,13 @@ pub record IsCutOpenable {D : Type 0} (state : D → State) (volumes own : ℕ) 
   pub cut : AreCut state blocks (part_sizes s) (disks_of before)
   pub openable : IsOpenable state volumes own s before o
 
--- the image of this name, as it reads, is one that may be opened, and these are its view and its heads
-abbrev pub SaysSo : {D : Type 0} → (volumes own : ℕ) → Shape → Name → OutImage D → Told → Type 0
-SaysSo volumes own s name o t = IfSome (at_name name t.images) (λ i. IsAccepted volumes own s (reads i.blocks) o.view (map segment_head o.heads.items))
+-- the image of this name was there with the blocks of its parts, is one that may be opened as it reads, and these are its view and its heads
+pub record SaysSo {D : Type 0} (volumes own : ℕ) (s : Shape) (name : Name) (o : OutImage D) (t : Told) : Type 0 where
+  pub image : Image
+  pub there : at_name name t.images ≡ Some image
+  pub rest : image.rest ≡ []
+  pub size : length image.blocks ≡ image_size s
+  pub accepted : IsAccepted volumes own s (reads image.blocks) o.view (map segment_head o.heads.items)
 
 -- a part a call of which failed is among these places
 abbrev pub IsFaultAt : ImageFault → (places : List ℕ) → Type 0

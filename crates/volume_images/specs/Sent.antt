@@ -10,6 +10,7 @@ use Rattle.volume_images.specs.declared.attach.OutImage.{OutImage}
 use Rattle.volume_images.specs.declared.reading.ImageFault.{ImageFault}
 use Rattle.volume_images.specs.Formatted.{part_sizes}
 use Rattle.volume_images.specs.Disks.{disks_of, AreOfVolume}
+use Rattle.volume_images.specs.Heads.{AlwaysSay}
 use Rattle.volume_images.specs.ImageParts.{IsReadImage, IsCalmImage, MayOpen, MayNotOpen}
 
 -- the parts of a volume's image, cut from these blocks, and an empty list with room for them
@@ -24,6 +25,8 @@ pub record IsOpenable {D : Type 0} (state : D → State) (volumes own : ℕ) (s 
   pub read : IsReadImage state before o.parts.image
   pub calm : IsCalmImage state before o.parts.image
   pub may : MayOpen state volumes own s before o.view o.heads.items
+  -- each segment was synced before its head was read
+  pub always : AlwaysSay state volumes o.parts.image.segments.items o.heads.items
   pub of_volume : AreOfVolume own o.parts.image
   pub empty : o.parts.room.items ≡ []
   pub room : 2 + s.segments ≤ vec_capacity o.parts.room

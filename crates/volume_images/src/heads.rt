@@ -1,6 +1,6 @@
 // The heads of an image's segments are read.
 ghost use Rattle.std.specs.Prelude.{◌≡◌, ◌≤◌, ◌∷◌, [], Some, List, option_map, IfOk, OnOk, IfSome, IfNone, IsErrOf};
-ghost use Rattle.wol_disk.specs.Disk.{Block, Values, Rose, reads, settled};
+ghost use Rattle.wol_disk.specs.Disk.{Block, Values, Rose, IsImageOf, reads, settled};
 ghost use Rattle.wol_model.specs.Heads.{SegmentHead};
 ghost use Rattle.spin_model.specs.Spun.{volume_of, state_of, token_volume};
 ghost use Rattle.log_layout.specs.Values.{segment_head};
@@ -50,6 +50,7 @@ pub(crate) fn read_head<D: Disk>(
     requires volume { token_volume token.now ≡ volume_of part.old }
     requires size { 1 ≤ (state_of D.state part.old).size }
     ensures content { (vs : List (Values Block)) → (state_of D.state part.old).values ≡ Some vs → IfOk result (λ head. HasHead volumes (reads vs) (segment_head head)) }
+    ensures always { IfOk result (λ head. (c : List Block) → IsImageOf (state_of D.state part.new).values c → HasHead volumes c (segment_head head)) }
     ensures configured { IfOk result (λ head. IsConfigured volumes (segment_head head)) }
     ensures damaged { (vs : List (Values Block)) → (state_of D.state part.old).values ≡ Some vs → IsErrOf result HeadFault.Damaged → IsHeadless volumes (reads vs) }
     ensures settled { OnOk result ((state_of D.state part.new).values ≡ option_map settled (state_of D.state part.old).values) }

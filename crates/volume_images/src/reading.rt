@@ -6,7 +6,7 @@ ghost use Rattle.log_layout.specs.Values.{shape_of};
 ghost use Rattle.volume_images.specs.Accepted.{head_place};
 ghost use Rattle.volume_images.specs.ImageParts.{ArePartsOf, IsReadImage, IsCalmImage, MayOpen, MayNotOpen};
 ghost use Rattle.volume_images.specs.Reads.{AreOnlyRead};
-ghost use Rattle.volume_images.specs.Heads.{SayHeads, IsDamagedSegment, RoseAt, AreCalm};
+ghost use Rattle.volume_images.specs.Heads.{SayHeads, AlwaysSay, IsDamagedSegment, RoseAt, AreCalm};
 
 use crate::heads::{HeadFault, read_head};
 use crate::parts::ImageParts;
@@ -51,6 +51,7 @@ fn read_heads<D: Disk>(
     requires empty { heads.old.items ≡ [] }
     requires room { length segments.old ≤ vec_capacity heads.old }
     ensures ok { OnOk result (SayHeads D.state volumes segments.old (length segments.old) heads.new.items) }
+    ensures always { OnOk result (AlwaysSay D.state volumes segments.new heads.new.items) }
     ensures damaged { (block : ℕ) → IsErrOf result (ImageFault.Damaged block) → IsDamagedSegment D.state volumes (shape_of label.now) segments.old block }
     ensures label { IsErrOf result ImageFault.LabelDiffers → ⊥ }
     ensures label_part { IsErrOf result ImageFault.LabelFault → ⊥ }
@@ -85,6 +86,7 @@ pub(crate) fn read_image<D: Disk>(
     requires empty { heads.old.items ≡ [] }
     requires room { want.now.segments ≤ vec_capacity heads.old }
     ensures ok { IfOk result (λ view. MayOpen D.state volumes want.now.id (shape_of want.now) parts.old view heads.new.items) }
+    ensures always { OnOk result (AlwaysSay D.state volumes parts.new.segments.items heads.new.items) }
     ensures refused { IfErr result (MayNotOpen D.state volumes want.now.id (shape_of want.now) parts.old parts.new) }
     ensures calm { OnOk result (IsCalmImage D.state parts.old parts.new) }
     ensures read { IsReadImage D.state parts.old parts.new }

@@ -1,13 +1,14 @@
-use Rattle.std.proofs.Common.{◌≡◌, ◌+◌, length, Err, refl, sym, ap, ◌∙◌, subst, arith}
+use Rattle.std.proofs.Common.{◌≡◌, ◌+◌, length, set, Err, refl, sym, ap, ◌∙◌, subst, arith}
 use Rattle.spin_model.specs.Spun.{state_of}
-use Rattle.volume_images.specs.Heads.{SayHeads}
-use Rattle.volume_images.proofs.HeadSteps.{not_both, all_same, say_none, at_hand, read_more, calm_more, rest_more, say_more}
+use Rattle.volume_images.specs.Heads.{SayHeads, AlwaysSay}
+use Rattle.volume_images.proofs.HeadSteps.{always_none, always_more, not_both, all_same, say_none, at_hand, read_more, calm_more, rest_more, say_more}
 use Rattle.volume_images.proofs.reading.read_heads.Goals as goal
 
 pub loop-index-init : goal.loop-index-init
 loop-index-init g c = record {
   heads = say_none g.D.Disk.state c.args.volumes c.args.segments.now c.args.heads.now.items c.requires.empty;
   room = c.requires.room;
+  always = always_none g.D.Disk.state c.args.volumes c.args.segments.now c.args.heads.now.items c.requires.empty;
   read = all_same g.D.Disk.state g.met.D.Disk.sound c.args.segments.now;
   calm = λ k d lt. refl;
   rest = λ k d le. refl;
@@ -24,6 +25,7 @@ loop-index-preserved g c =
     let inv = c.loop-index.invariant in
     record {
       heads = subst (λ hs. SayHeads state c.args.volumes xs (i + 1) hs) (sym c.push_reserved.ensures.items) (say_more state xs ys i p r (omega arith) inv.read.count inv.rest c.args.volumes c.loop-index.heads.items c.in-Ok.head inv.heads c.in-Ok.ensures.content c.in-Ok.ensures.configured);
+      always = subst (λ hs. AlwaysSay state c.args.volumes (set ys i p) hs) (sym c.push_reserved.ensures.items) (always_more state xs ys i p r (omega arith) inv.read.count inv.rest c.args.volumes c.loop-index.heads.items c.in-Ok.head inv.heads.count inv.always c.in-Ok.ensures.always);
       room = omega (arith, c.push_reserved.ensures.capacity, inv.room);
       read = read_more state xs ys i p r (omega arith) inv.read.count inv.rest inv.read c.in-Ok.ensures.read c.in-Ok.ensures.volume;
       calm = calm_more state xs ys i p r (omega arith) inv.read.count inv.rest inv.calm (c.in-Ok.ensures.calm (λ e. cc e));

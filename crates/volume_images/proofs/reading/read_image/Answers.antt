@@ -8,7 +8,7 @@ use Rattle.std.specs.Vec.{with_items}
 use Rattle.volume_images.specs.declared.parts.ImageParts.{ImageParts}
 use Rattle.volume_images.specs.Accepted.{HasOwnLabel}
 use Rattle.volume_images.specs.ImageParts.{SaysLabel}
-use Rattle.volume_images.specs.Heads.{SayHeads, IsDamagedSegment, RoseAt, AreCalm}
+use Rattle.volume_images.specs.Heads.{SayHeads, AlwaysSay, IsDamagedSegment, RoseAt, AreCalm}
 use Rattle.volume_images.proofs.ImageReads.{came_back_whole, same_label, own_label, segment_refuses}
 use Rattle.volume_images.proofs.reading.read_image.Goals as goal
 
@@ -80,3 +80,11 @@ returns-clause-calm g c =
       label = c.in-Ok.ensures.calm;
       segments = subst (λ segments. AreCalm state xs segments) (sym whole) (subst (λ segments. AreCalm state segments c.read_heads.new.segments) c.deref_mut.ensures.value (c.in_ok-read_heads.ensures.calm (λ index e. cc e)));
     }
+
+pub returns-clause-always : goal.returns-clause-always
+returns-clause-always g c =
+    let state = g.D.Disk.state in
+    let xs = c.args.parts.now.segments.items in
+    let read : AreOnlyRead state xs c.read_heads.new.segments = subst (λ segments. AreOnlyRead state segments c.read_heads.new.segments) c.deref_mut.ensures.value c.read_heads.ensures.read in
+    let whole = came_back_whole c.args.parts.now.segments.len xs c.read_heads.new.segments (omega arith) read.count in
+    subst (λ segments. AlwaysSay state c.args.volumes segments c.read_heads.new.heads.items) (sym whole) c.in_ok-read_heads.ensures.always
