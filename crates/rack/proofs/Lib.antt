@@ -45,3 +45,7 @@ pub mod Owning
 pub mod OpeningTaken
 pub mod OwnedOf
 pub mod SameSegments
+pub mod StationRecovers
+pub mod RackClosed
+pub mod HeldSegments
+pub mod FinalImages
