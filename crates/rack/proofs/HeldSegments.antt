@@ -2,15 +2,14 @@
 use Rattle.std.proofs.Common.{◌≡◌, ◌≢◌, ◌<◌, ◌+◌, ◌^◌, ◌⊎◌, inl, inr, ℕ, zero, suc, Bool, drop, List, [], ◌∷◌, ◌++◌, length, map, Option, Some, None, refl, sym, ap, ◌∙◌, subst, arith}
 use Rattle.std.specs.Prelude.{Contains, unwrap_or}
 use Rattle.std.specs.List.{AllByRecursion}
-use Rattle.byteorder.specs.Endian.{little_number}
 use Rattle.wol_disk.specs.Disk.{Block}
 use Rattle.wol_model.specs.Extents.{Extent}
-use Rattle.wol_model.specs.Heads.{owned_block}
+use Rattle.wol_model.specs.Heads.{SegmentHead, Owned, SpellsSegment, owned_block}
 use Rattle.wol_model.specs.Log.{Record, IsLog, IsIdle, extent_of}
 use Rattle.wol_model.specs.Recovered.{read_log, extents_in}
 use Rattle.wol_model.proofs.Images.{idle_none}
 use Rattle.wol_model.proofs.ReadLogs.{log_from}
-use Rattle.wol_model.proofs.Spellings.{owner_back}
+use Rattle.wol_model.proofs.Spellings.{one_segment_head}
 use Rattle.wol_promise.specs.Manager.{Held, SaysOwnerOrFree}
 use Rattle.spin_model.specs.declared.spun.Spun.{Spun}
 use Rattle.log_segment.specs.Segment.{part_of}
@@ -36,13 +35,25 @@ not_of_other v w [] small differs says = absurd says
 not_of_other v w (b ∷ bs) small differs (inr free) = idle_none v (b ∷ bs) free
 not_of_other v w (b ∷ bs) small differs (inl owned) = no_log v (b ∷ bs) (λ rs log.
     let first : b ≡ owned_block v = first_same b bs (owned_block v) _ log.joined in
-    let same : owned_block v ≡ owned_block w = sym first ∙ owned in
-    differs (sym (owner_back v log.known) ∙ ap (λ (x : Block). little_number 4 (drop 8 x)) same ∙ owner_back w small))
+    let same : Owned v ≡ Owned w = one_segment_head b (Owned v) (Owned w) (record { in_range = log.known; bytes = first }) (record { in_range = small; bytes = owned }) in
+    differs (cc same))
   where
     first_same : (x : Block) (xs : List Block) (y : Block) (ys : List Block) → x ∷ xs ≡ y ∷ ys → x ≡ y
     first_same x xs y ys e = cc e
 
 -- ---- What is held
+
+all_append : {X : Type 0} (P : X → Type 0) (xs ys : List X) → AllByRecursion P xs → AllByRecursion P ys → AllByRecursion P (xs ++ ys)
+all_append P [] ys front back = back
+all_append P (x ∷ xs) ys front back = (front.0, all_append P xs ys front.1 back)
+
+front_of : {X : Type 0} (P : X → Type 0) (xs ys : List X) → AllByRecursion P (xs ++ ys) → AllByRecursion P xs
+front_of P [] ys all = tt
+front_of P (x ∷ xs) ys all = (all.0, front_of P xs ys all.1)
+
+back_of : {X : Type 0} (P : X → Type 0) (xs ys : List X) → AllByRecursion P (xs ++ ys) → AllByRecursion P ys
+back_of P [] ys all = all
+back_of P (x ∷ xs) ys all = back_of P xs ys all.1
 
 module _ {D : Type 0} where
   each_with : (P : Held (Spun D) → Type 0) (j : ℕ) (hs : List (HeldSegment D)) (logs : List (List Record)) → ((h : HeldSegment D) (rs : List Record) (broken : Bool) → Contains hs h → P (record { part = part_of h.segment; lane = j; index = h.index; broken = broken; records = rs }))
@@ -50,10 +61,6 @@ module _ {D : Type 0} where
   each_with P j [] logs each = tt
   each_with P j (h ∷ hs) [] each = tt
   each_with P j (h ∷ hs) (rs ∷ logs) each = (each h rs h.segment.broken (first_in h h hs refl), each_with P j hs logs (λ g gs broken has. each g gs broken (later_in h g hs has)))
-
-  all_append : {X : Type 0} (P : X → Type 0) (xs ys : List X) → AllByRecursion P xs → AllByRecursion P ys → AllByRecursion P (xs ++ ys)
-  all_append P [] ys front back = back
-  all_append P (x ∷ xs) ys front back = (front.0, all_append P xs ys front.1 back)
 
   -- what holds of each segment of each lane holds of each held one
   pub each_held : (P : Held (Spun D) → Type 0) (j : ℕ) (lanes : List (Lane D)) (logs : Logs)
@@ -64,14 +71,6 @@ module _ {D : Type 0} where
   each_held P j (l ∷ lanes) (ls ∷ logs) each =
       all_append P (held_with j (held_in l) ls) (all_held (j + 1) lanes logs) (each_with P j (held_in l) ls (λ h rs broken has. each j l h rs broken (first_in l l lanes refl) has))
       (each_held P (j + 1) lanes logs (λ i k h rs broken in_lanes in_held. each i k h rs broken (later_in l k lanes in_lanes) in_held))
-
-  front_of : {X : Type 0} (P : X → Type 0) (xs ys : List X) → AllByRecursion P (xs ++ ys) → AllByRecursion P xs
-  front_of P [] ys all = tt
-  front_of P (x ∷ xs) ys all = (all.0, front_of P xs ys all.1)
-
-  back_of : {X : Type 0} (P : X → Type 0) (xs ys : List X) → AllByRecursion P (xs ++ ys) → AllByRecursion P ys
-  back_of P [] ys all = all
-  back_of P (x ∷ xs) ys all = back_of P xs ys all.1
 
   held_at : (P : Held (Spun D) → Type 0) (Q : Type 0) (j : ℕ) (hs : List (HeldSegment D)) (logs : List (List Record)) (R : HeldSegment D → List Record → Type 0) → AllHold R hs logs → AllByRecursion P (held_with j hs logs) → (h : HeldSegment D) → Contains hs h
       → ((rs : List Record) (broken : Bool) → P (record { part = part_of h.segment; lane = j; index = h.index; broken = broken; records = rs }) → Q) → Q

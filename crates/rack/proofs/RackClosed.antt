@@ -69,11 +69,11 @@ module _ {D : Type 0} (state : D → State) (tells : Bool) (config : Config) (b 
       inside : (k : ℕ) → k < length first.images.items → is_some (image_here second.images.items k) ≡ is_some (image_here first.images.items k)
       inside k less =
           let f = element_at r.shared.pools.items k (omega (arith, less, is.parts.images.0, can.locks.pool_count)) in
-          go (image_here first.images.items k) refl (filled k f.0 f.1)
+          go (lock_id f.0).base.blocks (image_here first.images.items k) refl (filled k f.0 f.1)
         where
-          go : {blocks : ℕ} (o : Option (ImageRest D)) → image_here first.images.items k ≡ o → RefillsAll state blocks first k (image_here first.images.items k) (image_here second.images.items k) → is_some (image_here second.images.items k) ≡ is_some (image_here first.images.items k)
-          go {blocks} None e x = ap is_some (subst (λ (o : Option (ImageRest D)). RefillsAll state blocks first k o (image_here second.images.items k)) e x) ∙ sym (ap is_some e)
-          go {blocks} (Some q) e x = ap is_some (subst (λ (o : Option (ImageRest D)). RefillsAll state blocks first k o (image_here second.images.items k)) e x).1 ∙ sym (ap is_some e)
+          go : (blocks : ℕ) (o : Option (ImageRest D)) → image_here first.images.items k ≡ o → RefillsAll state blocks first k (image_here first.images.items k) (image_here second.images.items k) → is_some (image_here second.images.items k) ≡ is_some (image_here first.images.items k)
+          go blocks None e x = ap is_some (subst (λ (o : Option (ImageRest D)). RefillsAll state blocks first k o (image_here second.images.items k)) e x) ∙ sym (ap is_some e)
+          go blocks (Some q) e x = ap is_some (subst (λ (o : Option (ImageRest D)). RefillsAll state blocks first k o (image_here second.images.items k)) e x).1 ∙ sym (ap is_some e)
 
       pick : (k < length first.images.items) ⊎ (length first.images.items ≤ k) → is_some (image_here second.images.items k) ≡ is_some (image_here first.images.items k)
       pick (inl less) = inside k less

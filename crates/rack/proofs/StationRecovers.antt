@@ -74,7 +74,7 @@ module _ {D : Type 0} (tells : Bool) (state : D → State) (told : IsTrue tells)
     pub sized : (k : ℕ) (z : Shape) (c : List Block) → slice_get shapes k ≡ Some z → image_of images k ≡ Some c → length c ≡ image_size z
     pub home_left : IsImageOf (state_of state m.home).values home
     pub each : AllByRecursion IsThereNow held
-    pub others : (k i : ℕ) (z : Shape) (c : List Block) → slice_get shapes k ≡ Some z → image_of images k ≡ Some c → i < z.segments → AllByRecursion (λ (h : Held (Spun D)). (volume_of h.part, h.index) ≢ (k, i)) held
+    pub others : (k i : ℕ) (z : Shape) (c : List Block) → slice_get shapes k ≡ Some z → image_of images k ≡ Some c → i < z.segments → AllByRecursion (λ (h : Held (Spun D)). ◌≢◌ {A = ℕ × ℕ} (volume_of h.part, h.index) (k, i)) held
         → extents_in v (segment_of z c i) ≡ []
 
   module _ (are : AreLeftNow) where
@@ -108,11 +108,11 @@ module _ {D : Type 0} (tells : Bool) (state : D → State) (told : IsTrue tells)
     apart_each [] all apart = tt
     apart_each (h ∷ hs) all apart = (apart_from h hs all.0 all.1 apart.0, apart_each hs all.1 apart.1)
 
-    unplaced : (hs : List (Held (Spun D))) (k i : ℕ) → All (λ (p : Placed). p.0 ≢ (k, i)) (map placed_held hs) → AllByRecursion (λ (h : Held (Spun D)). (volume_of h.part, h.index) ≢ (k, i)) hs
+    unplaced : (hs : List (Held (Spun D))) (k i : ℕ) → All (λ (p : Placed). ◌≢◌ {A = ℕ × ℕ} p.0 (k, i)) (map placed_held hs) → AllByRecursion (λ (h : Held (Spun D)). ◌≢◌ {A = ℕ × ℕ} (volume_of h.part, h.index) (k, i)) hs
     unplaced [] k i all = tt
     unplaced (h ∷ hs) k i all =
-        (Rattle.std.proofs.lemmas.List.Elements.All-head (λ (p : Placed). p.0 ≢ (k, i)) (placed_held h) (map placed_held hs) all,
-        unplaced hs k i (Rattle.std.proofs.lemmas.List.Elements.All-tail (λ (p : Placed). p.0 ≢ (k, i)) (placed_held h) (map placed_held hs) all))
+        (Rattle.std.proofs.lemmas.List.Elements.All-head (λ (p : Placed). ◌≢◌ {A = ℕ × ℕ} p.0 (k, i)) (placed_held h) (map placed_held hs) all,
+        unplaced hs k i (Rattle.std.proofs.lemmas.List.Elements.All-tail (λ (p : Placed). ◌≢◌ {A = ℕ × ℕ} p.0 (k, i)) (placed_held h) (map placed_held hs) all))
 
     these : AreThese shapes images v (map placed_held held)
     these = record {

@@ -6,6 +6,7 @@ use Rattle.std.proofs.lemmas.Option.{slice_get_within}
 use Rattle.turn_lock.specs.Passes.{lock_id}
 use Rattle.volume_images.specs.Volumes.{shapes_of}
 use Rattle.rack.specs.Rests.{image_here}
+use Rattle.rack.specs.declared.rack.Rooms.{Rooms}
 use Rattle.rack.specs.Closing.{CanClosePool, RefillsAll, KeepsLogger, KeepsSpindles}
 use Rattle.rack.proofs.Members.{element_at, all_last, front_less, front_last}
 use Rattle.rack.proofs.PoolsInTurn.{ArePoolsClosed, still_may, refills_same, no_pool_closed, one_pool_more}
@@ -91,7 +92,7 @@ loop-lock-preserved g c =
       rooms_front = pools ∙ front_less c.args.self.now.rooms.pools.items c.loop-lock.self.rooms.pools.items c.pop-in-Some.new.self.items c.in-Some-pop.room rows_front c.in-Some-pop.ensures.items
           ∙ ap (λ (n : ℕ). take n c.args.self.now.rooms.pools.items) (omega (arith, rows_count, rows_all, all));
       closed = subst (λ (n : ℕ). ArePoolsClosed g.D.Disk.state c.args.locks.items c.args.self.now n new) (sym number) now;
-      rooms = c.close_pool.ensures.rooms ∙ ap (λ r. record r { pools = c.pop-in-Some.new.self }) i.rooms ∙ ap (λ p. record c.args.self.now.rooms { pools = p }) (sym (ap (λ r. r.pools) c.close_pool.ensures.rooms));
+      rooms = c.close_pool.ensures.rooms ∙ ap {A = Rooms g.row.D.Denot} (λ r. record r { pools = c.pop-in-Some.new.self }) i.rooms ∙ ap (λ p. record c.args.self.now.rooms { pools = p }) (sym (ap (λ r. r.pools) c.close_pool.ensures.rooms));
     }
 
 pub returns-clause-images : goal.returns-clause-images
