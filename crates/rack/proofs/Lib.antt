@@ -48,3 +48,7 @@ pub mod OwnedOf
 pub mod AllEnded
 pub mod IssuedOne
 pub mod SameSegments
+pub mod StationRecovers
+pub mod RackClosed
+pub mod HeldSegments
+pub mod FinalImages
