@@ -96,7 +96,7 @@ module _ {D : Type 0} (state : D → State) (config : Config) where
 
     -- the images once all pools are closed
     module _ (cur : Rest D) (count : length cur.images.items ≡ length rest.images.items) (filled : (k : ℕ) (f : TurnLock (Pool (FreeSegment D)) PoolBase) → slice_get shared.pools.items k ≡ Some f → RefillsAll state (lock_id f).base.blocks rest k (image_here rest.images.items k) (image_here cur.images.items k)) where
-      abbrev blocks_at : ℕ → ℕ
+      abbrev pub blocks_at : ℕ → ℕ
       blocks_at k = blocks_in (slice_get shared.pools.items k)
         where
           blocks_in : {D : Type 0} → Option (TurnLock (Pool (FreeSegment D)) PoolBase) → ℕ

@@ -45,5 +45,11 @@ pub mod LanesTaken
 pub mod Owning
 pub mod OpeningTaken
 pub mod OwnedOf
+pub mod AllEnded
+pub mod IssuedOne
 pub mod SameSegments
 pub mod Shapes
+pub mod StationRecovers
+pub mod RackClosed
+pub mod HeldSegments
+pub mod FinalImages

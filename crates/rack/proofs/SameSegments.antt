@@ -93,7 +93,7 @@ one_of : (P : Extent → Type 0) (rs : List Extent) (x : Extent) → AllByRecurs
 one_of P [] x all has = absurd has
 one_of P (r ∷ rs) x all has = ⊎_elim (λ same. subst P (sym same) all.0) (λ more. one_of P rs x all.1 more) has
 
-once : (rs : List Extent) → AreDistinct (covers_of rs) → (x y : Extent) → IsAmong rs x → IsAmong rs y → IsValid x.cover → IsValid y.cover → x.cover.version ≡ y.cover.version → x ≡ y
+pub once : (rs : List Extent) → AreDistinct (covers_of rs) → (x y : Extent) → IsAmong rs x → IsAmong rs y → IsValid x.cover → IsValid y.cover → x.cover.version ≡ y.cover.version → x ≡ y
 once [] distinct x y has other vx vy same = absurd has
 once (r ∷ rs) distinct x y has other vx vy same =
     let apart = unmapped (λ (d : Cover). IsValid r.cover → IsValid d → r.cover.version ≢ d.version) (λ (e : Extent). e.cover) rs distinct.0 in

@@ -11,6 +11,7 @@ use Rattle.wol_model.specs.Recovered.{extents_of}
 use Rattle.wol_promise.specs.Manager.{SaysOwnerOrFree}
 use Rattle.wol_promise.specs.Ruled.{entries_of}
 use Rattle.wol_promise.specs.Run.{IsThere}
+use Rattle.wol_promise.specs.Stands.{HasHistory}
 use Rattle.wol_bay.specs.Bay.{Name, Told, BayState}
 use Rattle.wol_config.specs.declared.config.Config.{Config}
 use Rattle.wol_config.specs.declared.config.VolumeConf.{VolumeConf}
@@ -94,6 +95,7 @@ pub record IsClosedVolume {D : Type 0} (tells : Rattle.std.specs.Prelude.Bool) (
   pub helper_part : IsPartOf entries s.helper
   pub keeper_part : IsPartOf entries s.keeper
   pub no_more : (n : ℕ) → n ≢ worker → n ≢ helper → n ≢ keeper → own n entries ≡ []
+  pub history : HasHistory (IsTrue tells) (base_of_station s).volume.began (notes_of entries)
   -- a failed call has its cause
   pub cause : (flight_of (entries_of (notes_of entries)) ≡ None → ⊥) → Rose old.faults new.faults
   pub faulty : (flight_of (entries_of (notes_of entries)) ≡ None → ⊥) → IsTold (HasFaultyPart config s) old.told new.told

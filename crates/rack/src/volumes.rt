@@ -6,7 +6,7 @@ ghost use Rattle.log_layout.specs.Values.{shape_of};
 ghost use Rattle.logger.specs.Lanes.{logger_of};
 ghost use Rattle.manager_recovery.specs.declared.opening.OwnedPart.{OwnedPart};
 ghost use Rattle.rack.specs.Rests.{image_here, segment_here, spindle_pass};
-ghost use Rattle.rack.specs.Parts.{CanPutLanes, PutsLanes, IsUsablePlace, IsNewLane, TakesPasses, TakesLanes, IsSameRest, loggers_out, segments_of, owned_in, TakesOwnedOf, CanTakeOwnedOf, AreOwnedHere, TakesOwned, HasPlace, ChangesHome, CanTake, TakesOpening, owned_total, count_owners, AreOwnersHere, TakesOwners, TakesOne, is_owned_by};
+ghost use Rattle.rack.specs.Parts.{CanPutLanes, PutsLanes, IsUsablePlace, IsNewLane, TakesPasses, TakesOneLane, TakesLanes, IsSameRest, loggers_out, segments_of, owned_in, TakesOwnedOf, CanTakeOwnedOf, AreOwnedHere, TakesOwned, HasPlace, ChangesHome, CanTake, TakesOpening, owned_total, count_owners, AreOwnersHere, TakesOwners, TakesOne, is_owned_by};
 ghost use Rattle.rack.specs.declared.rack.ImageRest.{ImageRest};
 ghost use Rattle.rack.specs.declared.rack.Rest.{Rest};
 
@@ -98,17 +98,37 @@ impl<D: Disk> Rest<D> {
             return Err(NoMemory);
         };
         for logger in view.ids() {
-            if self.is_out(*logger) {
-                match self.take_lane(alloc, config, id, *logger) {
-                    Ok(lane) => lanes.push_reserved(lane),
-                    Err(NoMemory) => {
-                        self.put_lanes(id, lanes);
-                        return Err(NoMemory);
-                    }
-                }
+            if let Err(NoMemory) = self.take_lane_of(alloc, config, id, *logger, &mut lanes) {
+                self.put_lanes(id, lanes);
+                return Err(NoMemory);
             }
         }
         Ok(lanes)
+    }
+
+    // The lane for this logger goes behind the others, where its image is out.
+    fn take_lane_of(
+        &mut self,
+        alloc: Global,
+        config: &Config,
+        id: u32,
+        logger: u32,
+        lanes: &mut Vec<Lane<D>>,
+    ) -> Result<(), NoMemory>
+        requires config { length self.old.images.items ≡ vec_len config.now.volumes }
+        requires room { vec_len lanes.old < vec_capacity lanes.old }
+        requires place { IsSome (image_here self.old.images.items logger) → IsUsablePlace self.old id logger (segments_of config.now logger) }
+        ensures room { vec_capacity lanes.new ≡ vec_capacity lanes.old }
+        ensures taken { OnOk result (TakesOneLane D.state config.now (is_some (image_here self.old.images.items logger)) self.old self.new id logger lanes.old.items lanes.new.items) }
+        ensures same { OnErr result (IsSameRest self.old self.new) }
+        ensures same_lanes { OnErr result (lanes.new.items ≡ lanes.old.items) }
+    {
+        if !self.is_out(logger) {
+            return Ok(());
+        }
+        let lane = self.take_lane(alloc, config, id, logger)?;
+        lanes.push_reserved(lane);
+        Ok(())
     }
 
     // The segments of one image that the volume owns go behind `owned`.

@@ -6,6 +6,7 @@ use Rattle.std.proofs.lemmas.Option.{slice_get_within}
 use Rattle.turn_lock.specs.Passes.{lock_id}
 use Rattle.volume_images.specs.Volumes.{shapes_of}
 use Rattle.rack.specs.Rests.{image_here}
+use Rattle.rack.specs.declared.rack.Rooms.{Rooms}
 use Rattle.rack.specs.Closing.{CanClosePool, RefillsAll, KeepsLogger, KeepsSpindles}
 use Rattle.rack.proofs.Members.{element_at, all_last, front_less, front_last}
 use Rattle.rack.proofs.PoolsInTurn.{ArePoolsClosed, still_may, refills_same, no_pool_closed, one_pool_more}
@@ -34,7 +35,7 @@ close_pool-requires-clause-pool g c =
     let popped = still_may g.D.Disk.state (length (shapes_of c.requires.0)) (length locks) z.0 c.in-Some.lock c.loop-lock.self
         (record c.loop-lock.self { rooms = record c.loop-lock.self.rooms { pools = c.pop-in-Some.new.self } })
         (record { image = refl; pools = λ v. refl; held = λ v. refl }) (record { count = refl; image_count = refl; rows = λ n rows. rows; spindles = λ v k. refl }) now in
-    (length (shapes_of c.requires.0), z.0, subst (λ (n : ℕ). CanClosePool g.D.Disk.state (length (shapes_of c.requires.0)) n z.0 c.in-Some.lock _) number popped)
+    (length (shapes_of c.requires.0), z.0, subst (λ (n : ℕ). CanClosePool g.D.Disk.state (length (shapes_of c.requires.0)) n z.0 c.in-Some.lock (record c.loop-lock.self { rooms = record c.loop-lock.self.rooms { pools = c.pop-in-Some.new.self } })) number popped)
 
 pub close_pool-requires-clause-empty : goal.close_pool-requires-clause-empty
 close_pool-requires-clause-empty g c =
@@ -43,8 +44,8 @@ close_pool-requires-clause-empty g c =
     let rows : All (λ row. (row.items ≡ []) × (length (shapes_of c.requires.0) ≤ vec_capacity row)) c.loop-lock.self.rooms.pools.items =
     subst (λ l. All (λ row. (row.items ≡ []) × (length (shapes_of c.requires.0) ≤ vec_capacity row)) l) (sym i.rooms_front)
     (All-take (λ row. (row.items ≡ []) × (length (shapes_of c.requires.0) ≤ vec_capacity row)) (length c.loop-lock.locks.items) c.args.self.now.rooms.pools.items can.rooms) in
-    (all_last (λ row. (row.items ≡ []) × (length (shapes_of c.requires.0) ≤ vec_capacity row)) c.pop-in-Some.new.self.items c.in-Some-Some.room
-    (subst (λ l. All (λ row. (row.items ≡ []) × (length (shapes_of c.requires.0) ≤ vec_capacity row)) l) c.in-Some-Some.ensures.items rows)).0
+    (all_last (λ row. (row.items ≡ []) × (length (shapes_of c.requires.0) ≤ vec_capacity row)) c.pop-in-Some.new.self.items c.in-Some-pop.room
+    (subst (λ l. All (λ row. (row.items ≡ []) × (length (shapes_of c.requires.0) ≤ vec_capacity row)) l) c.in-Some-pop.ensures.items rows)).0
 
 pub close_pool-requires-clause-room : goal.close_pool-requires-clause-room
 close_pool-requires-clause-room g c =
@@ -58,8 +59,8 @@ close_pool-requires-clause-room g c =
     let rows : All (λ row. (row.items ≡ []) × (length (shapes_of c.requires.0) ≤ vec_capacity row)) c.loop-lock.self.rooms.pools.items =
     subst (λ l. All (λ row. (row.items ≡ []) × (length (shapes_of c.requires.0) ≤ vec_capacity row)) l) (sym i.rooms_front)
     (All-take (λ row. (row.items ≡ []) × (length (shapes_of c.requires.0) ≤ vec_capacity row)) (length c.loop-lock.locks.items) c.args.self.now.rooms.pools.items can.rooms) in
-    let room = (all_last (λ row. (row.items ≡ []) × (length (shapes_of c.requires.0) ≤ vec_capacity row)) c.pop-in-Some.new.self.items c.in-Some-Some.room
-        (subst (λ l. All (λ row. (row.items ≡ []) × (length (shapes_of c.requires.0) ≤ vec_capacity row)) l) c.in-Some-Some.ensures.items rows)).1 in
+    let room = (all_last (λ row. (row.items ≡ []) × (length (shapes_of c.requires.0) ≤ vec_capacity row)) c.pop-in-Some.new.self.items c.in-Some-pop.room
+        (subst (λ l. All (λ row. (row.items ≡ []) × (length (shapes_of c.requires.0) ≤ vec_capacity row)) l) c.in-Some-pop.ensures.items rows)).1 in
     omega (arith, room, count, i.closed.spindles.count)
 
 pub loop-lock-preserved : goal.loop-lock-preserved
@@ -72,7 +73,7 @@ loop-lock-preserved g c =
     let number : length locks ≡ c.len.result = omega (arith, c.len.ensures, c.pop.new.self.ok.0) in
     let rows_count : length c.loop-lock.self.rooms.pools.items ≡ length c.loop-lock.locks.items =
     ap length i.rooms_front ∙ length-take-le (length c.loop-lock.locks.items) c.args.self.now.rooms.pools.items (omega (arith, can.room_count, i.few)) in
-    let rows_all : length c.loop-lock.self.rooms.pools.items ≡ length c.pop-in-Some.new.self.items + 1 = ap length c.in-Some-Some.ensures.items ∙ length_push c.pop-in-Some.new.self.items c.in-Some-Some.room in
+    let rows_all : length c.loop-lock.self.rooms.pools.items ≡ length c.pop-in-Some.new.self.items + 1 = ap length c.in-Some-pop.ensures.items ∙ length_push c.pop-in-Some.new.self.items c.in-Some-pop.room in
     let rows_front : c.loop-lock.self.rooms.pools.items ≡ take (length c.loop-lock.self.rooms.pools.items) c.args.self.now.rooms.pools.items =
     i.rooms_front ∙ ap (λ (n : ℕ). take n c.args.self.now.rooms.pools.items) (sym rows_count) in
     let new = c.close_pool.new.self in
@@ -88,10 +89,10 @@ loop-lock-preserved g c =
     record {
       front = front_less c.args.locks.items c.loop-lock.locks.items locks c.in-Some.lock i.front c.in-Some.ensures.items;
       few = omega (arith, all, i.few);
-      rooms_front = pools ∙ front_less c.args.self.now.rooms.pools.items c.loop-lock.self.rooms.pools.items c.pop-in-Some.new.self.items c.in-Some-Some.room rows_front c.in-Some-Some.ensures.items
+      rooms_front = pools ∙ front_less c.args.self.now.rooms.pools.items c.loop-lock.self.rooms.pools.items c.pop-in-Some.new.self.items c.in-Some-pop.room rows_front c.in-Some-pop.ensures.items
           ∙ ap (λ (n : ℕ). take n c.args.self.now.rooms.pools.items) (omega (arith, rows_count, rows_all, all));
       closed = subst (λ (n : ℕ). ArePoolsClosed g.D.Disk.state c.args.locks.items c.args.self.now n new) (sym number) now;
-      rooms = c.close_pool.ensures.rooms ∙ ap (λ r. record r { pools = c.pop-in-Some.new.self }) i.rooms ∙ ap (λ p. record c.args.self.now.rooms { pools = p }) (sym (ap (λ r. r.pools) c.close_pool.ensures.rooms));
+      rooms = c.close_pool.ensures.rooms ∙ ap {A = Rooms g.row.D.Denot} (λ r. record r { pools = c.pop-in-Some.new.self }) i.rooms ∙ ap (λ p. record c.args.self.now.rooms { pools = p }) (sym (ap (λ r. r.pools) c.close_pool.ensures.rooms));
     }
 
 pub returns-clause-images : goal.returns-clause-images
