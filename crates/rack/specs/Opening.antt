@@ -1,5 +1,5 @@
 -- The images that were taken out, what they say, and how far their volumes are opened. `state` is that of a part's disk.
-use Rattle.std.specs.Prelude.{◌≡◌, ◌≢◌, ◌≤◌, ◌<◌, ◌+◌, ◌++◌, ◌↔◌, ℕ, Bool, List, [], map, length, vec_capacity, Option, None, Some, is_some, option_map, slice_get, slice_index_or, slice_range, Contains, IsSome, IsTrue, All}
+use Rattle.std.specs.Prelude.{◌≡◌, ◌≢◌, ◌⊎◌, ◌≤◌, ◌<◌, ◌+◌, ◌++◌, ◌↔◌, ℕ, Bool, List, [], map, length, vec_capacity, Option, None, Some, is_some, option_map, slice_get, slice_index_or, slice_range, Contains, IsSome, IsTrue, All}
 use Rattle.wol_disk.specs.Disk.{Block, State, TellsContent, IsImageOf, reads}
 use Rattle.wol_model.specs.Heads.{Shape}
 use Rattle.wol_model.specs.Images.{image_size}
@@ -230,9 +230,9 @@ pub record HasBegun {D : Type 0} (state : D → State) (config : Config) (t : To
   pub began : BeganWith state config t r
   pub cut : AreStillCut state config t n said r.rest
 
--- each fault of the first n volumes has its cause
+-- each fault of the first n volumes, and of those whose images aren't out, has its cause
 abbrev pub AreRefusedBelow : {D : Type 0} → (tells : Bool) → (D → State) → Config → (old new : BayState) → (n : ℕ) → Rack D → Type 0
-AreRefusedBelow tells state config old new n r = (k : ℕ) (v : VolumeConf) (f : VolumeFault) → k < n → slice_get config.volumes.items k ≡ Some v → fault_at r.faults.items k ≡ Some f
+AreRefusedBelow tells state config old new n r = (k : ℕ) (v : VolumeConf) (f : VolumeFault) → (k < n) ⊎ (image_here r.rest.images.items k ≡ None) → slice_get config.volumes.items k ≡ Some v → fault_at r.faults.items k ≡ Some f
     → RefusesVolume tells state config r.rest.images.items old new k v f
 
 -- the same images are out
