@@ -49,3 +49,9 @@ pub mod StationRecovers
 pub mod RackClosed
 pub mod HeldSegments
 pub mod FinalImages
+pub mod FaultyParts
+pub mod StationParts
+pub mod StationClosed
+pub mod PartsThrough
+pub mod Unbroken
+pub mod LeftOfParts

@@ -2,11 +2,11 @@
 use Rattle.std.specs.Prelude.{◌≡◌, ◌≢◌, ◌<◌, ◌≤◌, ◌+◌, ◌++◌, ◌⊎◌, ℕ, List, [], ◌∷◌, length, Option, None, Some, not, is_some, unwrap_or, slice_get, slice_range, All, Contains, IsTrue}
 use Rattle.wol_disk.specs.Disk.{Block, State, Rose, IsImageOf}
 use Rattle.wol_model.specs.Blocks.{after}
-use Rattle.wol_model.specs.Extents.{AreDistinct, covers_of}
+use Rattle.wol_model.specs.Extents.{IsValid, AreDistinct, covers_of}
 use Rattle.wol_model.specs.Heads.{Shape}
 use Rattle.wol_model.specs.History.{worker, helper, keeper, writes, flight_of, IsCut}
 use Rattle.wol_model.specs.Images.{Images, image_of, accepted, all_segments, segment_of}
-use Rattle.wol_model.specs.Log.{Record, IsLog, IsIdle}
+use Rattle.wol_model.specs.Log.{Record, IsLog, IsIdle, extent_of}
 use Rattle.wol_model.specs.Recovered.{extents_of}
 use Rattle.wol_promise.specs.Manager.{SaysOwnerOrFree}
 use Rattle.wol_promise.specs.Ruled.{entries_of}
@@ -115,11 +115,11 @@ module _ {D : Type 0} where
     pub here : IsPartHere r part
     pub fault : 0 < (state_of state part).faults
 
--- a log of an open volume, whose records lie in it, on a logger of its view
+-- a log of an open volume, whose records that keep a block lie in it, on a logger of its view
 pub record IsLogOfStation {D : Type 0} (s : Station D) (k : ℕ) (bs : List Block) : Type 0 where
   pub records : List Record
   pub log : IsLog bs s.id records
-  pub within : All (λ (r : Record). r.head.first + r.head.count ≤ (base_of_station s).volume.began.home_blocks) records
+  pub within : All (λ (r : Record). IsValid (extent_of r).cover → r.head.first + r.head.count ≤ (base_of_station s).volume.began.home_blocks) records
 
 -- Where an image of segment i of volume k comes from: the segment was here when the rack was closed; or it was in its pool; or a manager had it.
 pub data ComesFrom {D : Type 0} (state : D → State) (r : Rack D) (k i : ℕ) (bs : List Block) : Type 0 where
