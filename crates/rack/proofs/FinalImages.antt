@@ -62,7 +62,7 @@ no_image : (t : Bool) → ◌≡◌ {A = Option (List Block)} None (cond t None 
 no_image true = refl
 no_image false = refl
 
-accepted_at : (n : ℕ) (refused : ℕ → Bool) (images : Images) (k : ℕ) → image_of (accepted_from n refused images) k ≡ cond (refused (n + k)) None (image_of images k)
+pub accepted_at : (n : ℕ) (refused : ℕ → Bool) (images : Images) (k : ℕ) → image_of (accepted_from n refused images) k ≡ cond (refused (n + k)) None (image_of images k)
 accepted_at n refused [] k = no_image (refused (n + k))
 accepted_at n refused (x ∷ images) zero = ap (λ (m : ℕ). cond (refused m) None x) (omega arith)
 accepted_at n refused (x ∷ images) (suc k) = accepted_at (n + 1) refused images k ∙ ap (λ (m : ℕ). cond (refused m) None (image_of images k)) (omega arith)

@@ -55,3 +55,4 @@ pub mod StationClosed
 pub mod PartsThrough
 pub mod Unbroken
 pub mod LeftOfParts
+pub mod QuietClosed

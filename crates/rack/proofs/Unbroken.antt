@@ -1,11 +1,11 @@
--- A history in which no pass made a Broke has none.
-use Rattle.std.proofs.Common.{◌≡◌, ◌≢◌, ◌⊎◌, ◌==◌, inl, inr, ℕ, Bool, true, false, cond, List, [], ◌∷◌, Option, Some, None, refl, sym, ap, ◌∙◌, subst, arith}
+-- A history in which no pass made a Broke has none, and one in which no pass wrote has no writes.
+use Rattle.std.proofs.Common.{◌≡◌, ◌≢◌, ◌⊎◌, ◌==◌, inl, inr, ℕ, Bool, true, false, cond, List, [], ◌∷◌, ◌++◌, Option, Some, None, refl, sym, ap, ◌∙◌, subst, arith}
 use Rattle.std.proofs.lemmas.Bool.{cases_eq}
 use Rattle.std.proofs.lemmas.Bool.Decides.{nat_tests}
 use Rattle.std.proofs.lemmas.Option.{none-some}
 use Rattle.std.proofs.lemmas.List.Elements.{All-from_recursion}
 use Rattle.wol_model.specs.Blocks.{Write}
-use Rattle.wol_model.specs.History.{Operation, Broke, Wrote, Read, Kept, worker, helper, keeper, flight_of, flight_from}
+use Rattle.wol_model.specs.History.{Operation, Broke, Wrote, Read, Kept, worker, helper, keeper, flight_of, flight_from, writes, written_by}
 use Rattle.wol_promise.specs.Code.{noted_of}
 use Rattle.wol_promise.specs.Ruled.{entries_of}
 use Rattle.turn_lock.specs.Histories.{Entry, own}
@@ -13,7 +13,7 @@ use Rattle.turn_lock.specs.Passes.{pass_number, pass_mine, AreWhole}
 use Rattle.manager.specs.Stands.{notes_of}
 use Rattle.manager.specs.declared.station.Station.{Station}
 use Rattle.rack.specs.Racks.{IsStation}
-use Rattle.rack.specs.Closes.{IsUnbroken}
+use Rattle.rack.specs.Closes.{IsUnbroken, IsQuiet}
 
 abbrev flight_in : List Entry → Option (List Write)
 flight_in es = flight_of (entries_of (notes_of es))
@@ -70,4 +70,52 @@ unbroken {D} s es station whole quiet = by_pass es each
         one (inr w) (inr h) (inl e) = at n keeper e by_keeper
         one (inr w) (inr h) (inr k) =
             ap flight_in (whole.no_more n (All-from_recursion (λ p. pass_number p ≢ n) (s.worker ∷ s.helper ∷ s.keeper ∷ [])
+            (λ e. w (sym e ∙ station.worker_.number_is), (λ e. h (sym e ∙ station.helper_.number_is), (λ e. k (sym e ∙ station.keeper_.number_is), tt)))))
+
+-- ---- And one in which no pass wrote has no writes
+
+abbrev written_in : List Entry → List Write
+written_in es = writes (entries_of (notes_of es))
+
+front_none : (xs ys : List Write) → xs ++ ys ≡ [] → xs ≡ []
+front_none [] ys e = refl
+front_none (x ∷ xs) ys e = absurd (cc e)
+
+back_none : (xs ys : List Write) → xs ++ ys ≡ [] → ys ≡ []
+back_none [] ys e = e
+back_none (x ∷ xs) ys e = absurd (cc e)
+
+rest_none : (t : Bool) (e : Entry) (xs : List Entry) → written_in (cond t (e ∷ xs) xs) ≡ [] → written_in xs ≡ []
+rest_none false e xs none = none
+rest_none true e xs none = back_none (written_by (operation_of e)) (written_in xs) none
+
+pub none_by_pass : (es : List Entry) → ((n : ℕ) → written_in (own n es) ≡ []) → written_in es ≡ []
+none_by_pass [] each = refl
+none_by_pass (e ∷ es) each =
+    ap (λ (xs : List Write). xs ++ written_in es) (front_none (written_by (operation_of e)) (written_in (own e.0 es)) made) ∙ none_by_pass es (λ n. rest_none (e.0 == n) e (own n es) (each n))
+  where
+    made : written_by (operation_of e) ++ written_in (own e.0 es) ≡ []
+    made = subst (λ (t : Bool). written_in (cond t (e ∷ own e.0 es) (own e.0 es)) ≡ []) (self_equal e.0) (each e.0)
+
+pub unwritten : {D : Type 0} (s : Station D) (es : List Entry) → IsStation s → AreWhole es (s.worker ∷ s.helper ∷ s.keeper ∷ []) → IsQuiet s → writes (entries_of (notes_of es)) ≡ []
+unwritten {D} s es station whole quiet = none_by_pass es each
+  where
+    by_worker : written_in (own worker es) ≡ []
+    by_worker = ap (λ (k : ℕ). written_in (own k es)) (sym station.worker_.number_is) ∙ ap written_in (whole.parts 0 s.worker (omega arith)).mine ∙ quiet.1.0
+
+    by_helper : written_in (own helper es) ≡ []
+    by_helper = ap (λ (k : ℕ). written_in (own k es)) (sym station.helper_.number_is) ∙ ap written_in (whole.parts 1 s.worker (omega arith)).mine ∙ quiet.1.1
+
+    by_keeper : written_in (own keeper es) ≡ []
+    by_keeper = ap (λ (k : ℕ). written_in (own k es)) (sym station.keeper_.number_is) ∙ ap written_in (whole.parts 2 s.worker (omega arith)).mine ∙ quiet.1.2
+
+    each : (n : ℕ) → written_in (own n es) ≡ []
+    each n = one (cases_eq n worker) (cases_eq n helper) (cases_eq n keeper)
+      where
+        one : (n ≡ worker) ⊎ (n ≢ worker) → (n ≡ helper) ⊎ (n ≢ helper) → (n ≡ keeper) ⊎ (n ≢ keeper) → written_in (own n es) ≡ []
+        one (inl e) x y = ap (λ (k : ℕ). written_in (own k es)) e ∙ by_worker
+        one (inr w) (inl e) y = ap (λ (k : ℕ). written_in (own k es)) e ∙ by_helper
+        one (inr w) (inr h) (inl e) = ap (λ (k : ℕ). written_in (own k es)) e ∙ by_keeper
+        one (inr w) (inr h) (inr k) =
+            ap written_in (whole.no_more n (All-from_recursion (λ p. pass_number p ≢ n) (s.worker ∷ s.helper ∷ s.keeper ∷ [])
             (λ e. w (sym e ∙ station.worker_.number_is), (λ e. h (sym e ∙ station.helper_.number_is), (λ e. k (sym e ∙ station.keeper_.number_is), tt)))))

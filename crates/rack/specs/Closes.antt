@@ -10,7 +10,6 @@ use Rattle.wol_model.specs.Log.{Record, IsLog, IsIdle, extent_of}
 use Rattle.wol_model.specs.Recovered.{extents_of}
 use Rattle.wol_promise.specs.Manager.{SaysOwnerOrFree}
 use Rattle.wol_promise.specs.Ruled.{entries_of}
-use Rattle.wol_promise.specs.Run.{IsThere}
 use Rattle.wol_promise.specs.Stands.{HasHistory}
 use Rattle.wol_bay.specs.Bay.{Name, Told, BayState}
 use Rattle.wol_config.specs.declared.config.Config.{Config}
@@ -27,7 +26,7 @@ use Rattle.spin_model.specs.declared.spindle.SpindleBase.{SpindleBase}
 use Rattle.manager.specs.Stands.{notes_of}
 use Rattle.manager.specs.declared.station.Station.{Station}
 use Rattle.volume_images.specs.Left.{IsTold}
-use Rattle.volume_images.specs.Volumes.{shapes_of, AreLeft}
+use Rattle.volume_images.specs.Volumes.{shapes_of, images_read, AreLeft}
 use Rattle.rack.specs.Rests.{image_here, segment_here, held_here, IsImageOut, IsSegmentHere}
 use Rattle.rack.specs.Racks.{base_of_station}
 use Rattle.rack.specs.Owners.{recovered_but}
@@ -139,10 +138,9 @@ abbrev pub AreLeftOfParts : {D : Type 0} → (D → State) → Config → Rack D
 AreLeftOfParts {D} state config r new = (images : Images) → AreLeft config new images → (k : ℕ) (s : Shape) (image : ImageRest D) → slice_get (shapes_of config) k ≡ Some s
     → image_here r.rest.images.items k ≡ Some image → (c : List Block) × (image_of images k ≡ Some c) × IsLeftOfParts state s r k image c
 
--- ---- Before a volume was told anything
+-- ---- Where nothing was written
 
--- Whatever images a crash leaves, each volume that is there recovers to what it might have recovered to at entry, where images that weren't
--- out give no segments.
-abbrev pub LeavesOut : {D : Type 0} → Config → List (Option (ImageRest D)) → (entry new : Told) → Type 0
-LeavesOut config out entry new = (images : Images) → AreLeft config new images → (v : ℕ) → IsThere (shapes_of config) images v
-    → (before : Images) × AreLeft config entry before × (recovered_out config out images v ≡ recovered_out config out before v)
+-- whatever images a crash leaves, each open volume recovers to what the images at entry recovered to as they read
+abbrev pub LeavesOpen : {D : Type 0} → Config → Rack D → (entry new : Told) → Type 0
+LeavesOpen config r entry new = (images : Images) → AreLeft config new images
+    → All (λ s. recovered_out config r.rest.images.items images s.id ≡ recovered_out config r.rest.images.items (images_read config entry) s.id) r.stations.items

@@ -9,6 +9,7 @@ use Rattle.rack.proofs.FinalImages.{origin}
 use Rattle.rack.proofs.StationClosed.{closed_volume, told_map}
 use Rattle.rack.proofs.PartsThrough.{fault_through}
 use Rattle.rack.proofs.LeftOfParts.{left_parts}
+use Rattle.rack.proofs.QuietClosed.{left_quiet}
 use Rattle.rack.proofs.closing.close_all.Goals as goal
 
 pub close_stations-requires : goal.close_stations-requires
@@ -110,9 +111,8 @@ returns-clause-home g c =
 pub returns-clause-spindles : goal.returns-clause-spindles
 returns-clause-spindles g c = λ k s at.
     let closed = c.close_spindles.ensures.closed in
-    let count = c.args.rack.keepers.items in
-    let list : c.reverse.new.self ≡ Rattle.std.specs.Prelude.reverse c.close_spindles.new.self.rooms.closed.items = c.reverse.ensures in
-    let below = Rattle.std.proofs.lemmas.Option.slice_get_within c.reverse.new.self k s at in
+    let list : c.reverse.new.self.items ≡ Rattle.std.specs.Prelude.reverse c.close_spindles.new.self.rooms.closed.items = c.reverse.ensures in
+    let below = Rattle.std.proofs.lemmas.Option.slice_get_within c.reverse.new.self.items k s at in
     let n = ap length list ∙ Rattle.std.proofs.lemmas.List.length-reverse c.close_spindles.new.self.rooms.closed.items in
     let l = Rattle.rack.proofs.Members.element_at c.args.rack.shared.spindles.items k (omega (arith, below, n, closed.count)) in
     let p = Rattle.rack.proofs.Members.element_at c.args.rack.keepers.items k (omega (arith, below, n, closed.count, c.requires.rack.keepers.0, c.requires.rack.locks.spindle_count)) in
@@ -166,3 +166,18 @@ returns-clause-parts g c = λ told.
     let given = subst (λ w. Rattle.volume_images.specs.Left.IsTold (Rattle.rack.specs.Closing.GivesBack state config w.items 0) old.told new.told) c.close_spindles.ensures.images c.give_back.ensures.back in
     told_map (Rattle.rack.specs.Closing.GivesBack state config second.images.items 0) (λ o n. Rattle.rack.specs.Closes.AreLeftOfParts state config c.args.rack n) old.told new.told given
     (λ o n back images left k z m at here. left_parts state g.B.Part.Disk.tells told (g.met.B.Part.Disk.told told) g.met.B.Part.Disk.sound config few old c.args.rack can c.close_stations.new.self second is1 c.close_stations.ensures.closed c.close_pools.ensures.images c.close_pools.ensures.spindles o n back images left k z m at here)
+
+pub returns-clause-left : goal.returns-clause-left
+returns-clause-left g c = λ entry told began quiet.
+    let can = c.requires.rack in
+    let state = g.B.Part.Disk.state in
+    let config = c.args.config.now in
+    let shared = c.args.rack.shared in
+    let is1 = c.close_stations.ensures.rest config shared (stations_may state config (g.B.Bay.state c.args.bay.now) c.args.rack can) in
+    let second = c.close_pools.new.self in
+    let old = g.B.Bay.state c.args.bay.now in
+    let new = g.B.Bay.state c.give_back.new.bay in
+    let few : length (shapes_of config) ≤ 64 = let n = Rattle.std.proofs.lemmas.List.length-map config.volumes.items (Rattle.volume_images.specs.Volumes.shape_in config) in omega (arith, n, c.requires.config.count) in
+    let given = subst (λ w. Rattle.volume_images.specs.Left.IsTold (Rattle.rack.specs.Closing.GivesBack state config w.items 0) old.told new.told) c.close_spindles.ensures.images c.give_back.ensures.back in
+    told_map (Rattle.rack.specs.Closing.GivesBack state config second.images.items 0) (λ o n. Rattle.rack.specs.Closes.LeavesOpen config c.args.rack entry n) old.told new.told given
+    (λ o n back. left_quiet state g.B.Part.Disk.tells config old c.args.rack can c.close_stations.new.self second is1 c.close_stations.ensures.closed c.close_pools.ensures.images c.close_pools.ensures.spindles told (g.met.B.Part.Disk.told told) g.met.B.Part.Disk.sound few entry began quiet o n back)
