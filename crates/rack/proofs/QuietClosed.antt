@@ -46,7 +46,7 @@ use Rattle.rack.proofs.Members.{a_value, element_at, in_map, of_recursion, none_
 use Rattle.rack.proofs.Closable.{images_whole}
 use Rattle.rack.proofs.StationParts.{zip_at, is_base, is_station, home_there, lane_there, shape_of_image}
 use Rattle.rack.proofs.FinalImages.{volume_at, cut_left, whole_left, distinct_left}
-use Rattle.std.proofs.Common.{not, cond}
+use Rattle.std.proofs.Common.{not, cond, false}
 use Rattle.wol_disk.specs.Disk.{Block}
 use Rattle.wol_model.specs.Blocks.{after}
 use Rattle.wol_model.specs.Images.{Images, image_of, home_in, all_segments, accepted, recovered_from}

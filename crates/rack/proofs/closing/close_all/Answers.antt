@@ -111,7 +111,7 @@ returns-clause-home g c =
 pub returns-clause-spindles : goal.returns-clause-spindles
 returns-clause-spindles g c = λ k s at.
     let closed = c.close_spindles.ensures.closed in
-    let list : c.reverse.new.self.items ≡ Rattle.std.specs.Prelude.reverse c.close_spindles.new.self.rooms.closed.items = c.reverse.ensures in
+    let list : c.reverse.new.self.items ≡ Rattle.std.specs.Prelude.reverse c.close_spindles.new.self.rooms.closed.items = c.reverse.ensures.items in
     let below = Rattle.std.proofs.lemmas.Option.slice_get_within c.reverse.new.self.items k s at in
     let n = ap length list ∙ Rattle.std.proofs.lemmas.List.length-reverse c.close_spindles.new.self.rooms.closed.items in
     let l = Rattle.rack.proofs.Members.element_at c.args.rack.shared.spindles.items k (omega (arith, below, n, closed.count)) in
