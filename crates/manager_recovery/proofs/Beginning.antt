@@ -1,5 +1,5 @@
 -- What a volume begins with when it is opened, whether or not its disks tell their content.
-use Rattle.std.proofs.Common.{◌≡◌, ◌+◌, ◌<◌, ◌≤◌, ℕ, zero, suc, Bool, true, false, not, eqb, List, [], ◌∷◌, length, map, Option, Some, option_map, refl, sym, ap, subst, ◌∙◌, arith}
+use Rattle.std.proofs.Common.{◌≡◌, ◌+◌, ◌<◌, ◌≤◌, ℕ, zero, suc, Bool, true, false, not, cond, eqb, List, [], ◌∷◌, length, map, Option, Some, option_map, refl, sym, ap, subst, ◌∙◌, arith}
 use Rattle.std.specs.Prelude.{filter, replicate, IsTrue, unwrap_or}
 use Rattle.std.specs.List.{AllByRecursion, AllZip, flat_map}
 use Rattle.std.specs.declared.alloc.Global.{Global}
@@ -21,14 +21,17 @@ use Rattle.wol_promise.specs.Manager.{versions}
 use Rattle.wol_promise.specs.Stands.{LiesIn, next_version}
 use Rattle.spin_model.specs.Spun.{state_of}
 use Rattle.spin_model.specs.declared.spun.Spun.{Spun}
-use Rattle.logger.specs.Lanes.{IsSameLane}
+use Rattle.turn_lock.specs.Passes.{pass_lock, pass_mine, pass_number}
+use Rattle.log_layout.specs.declared.label.Label.{Label}
+use Rattle.logger.specs.Lanes.{IsSameLane, logger_of, pool_of, spindle_of}
 use Rattle.logger.specs.declared.lane.HeldSegment.{HeldSegment}
 use Rattle.logger.specs.declared.lane.Lane.{Lane}
 use Rattle.logger.specs.declared.shared.Shared.{Shared}
-use Rattle.manager.specs.Stands.{opened}
+use Rattle.manager.specs.Seen.{look_of_manager}
+use Rattle.manager.specs.Stands.{nones_in, opened}
 use Rattle.manager_recovery.specs.Owned.{Owned, read_of, all_owned, records_in, writes_in, recovered_of}
 use Rattle.manager_recovery.specs.Left.{HasGiven, IsUsedLane, IsHandedBack}
-use Rattle.manager_recovery.specs.Opened.{Opens, IsInLane}
+use Rattle.manager_recovery.specs.Opened.{Opens, IsInLane, base_at_opening, untold_write}
 use Rattle.manager_recovery.proofs.InLanes.{all_in_lanes}
 use Rattle.manager_recovery.specs.Recovery.{IsRecovered}
 use Rattle.manager_recovery.specs.Scanned.{AreHeld, HoldsItsOwn}
@@ -90,13 +93,9 @@ recovered_is : (id : ℕ) (home : List Block) (segments : List (List Block)) →
 unfolding recovered
 recovered_is id home segments = refl
 
--- a write that an entry could be of
-abbrev entry_write : Indexed → Write
-entry_write e = record { first = e.listed.first; blocks = replicate (length e.listed.keep) []; version = Some e.listed.version }
-
-entry_write_versions : (es : List Indexed) → versions (map entry_write es) ≡ map (λ (e : Indexed). e.listed.version) es
-entry_write_versions [] = refl
-entry_write_versions (e ∷ es) = ap (λ l. e.listed.version ∷ l) (entry_write_versions es)
+untold_versions : (es : List Indexed) → versions (map untold_write es) ≡ map (λ (e : Indexed). e.listed.version) es
+untold_versions [] = refl
+untold_versions (e ∷ es) = ap (λ l. e.listed.version ∷ l) (untold_versions es)
 
 module _ {D : Type 0} (tells : Bool) (state : D → State) (shared : Shared D) (o n : Opening D) (want : n.want ≡ o.want) (view : n.view ≡ o.view) (present : n.present ≡ o.present) (label : n.label ≡ o.label) (most : n.most ≡ o.most) (r : Recovered)
     (rec : IsRecovered tells state shared o n r) (valid : IsViewList n.view) (lanes : Vec (Lane D) Global) (held : AreHeld state shared n.want.id n.most n.owned.items r.scans.items n.lanes.items lanes.items) where
@@ -108,13 +107,13 @@ module _ {D : Type 0} (tells : Bool) (state : D → State) (shared : Shared D) (
 
   -- ---- Disks that don't tell
 
-  plain_beginning : tells ≡ false → IsBeginning state n r all_gs tells (map entry_write r.index.entries) (replicate n.want.home [])
+  plain_beginning : tells ≡ false → IsBeginning state n r all_gs tells (map untold_write r.index.entries) (replicate n.want.home [])
   plain_beginning untold = record {
-    apart = subst AreApart (sym (entry_write_versions r.index.entries)) (apart_once (map (λ (e : Indexed). e.listed.version) r.index.entries) (rising_counts (map (λ (e : Indexed). e.listed.version) r.index.entries) c.rising));
-    below = subst (AllByRecursion (λ v. v < r.next)) (sym (entry_write_versions r.index.entries)) (all_mapped (λ v. v < r.next) (λ (e : Indexed). e.listed.version) r.index.entries c.below);
-    lie = all_mapped (LiesIn n.want.home) entry_write r.index.entries (all_from (λ (e : Indexed). LiesIn n.want.home (entry_write e)) r.index.entries (λ e has.
+    apart = subst AreApart (sym (untold_versions r.index.entries)) (apart_once (map (λ (e : Indexed). e.listed.version) r.index.entries) (rising_counts (map (λ (e : Indexed). e.listed.version) r.index.entries) c.rising));
+    below = subst (AllByRecursion (λ v. v < r.next)) (sym (untold_versions r.index.entries)) (all_mapped (λ v. v < r.next) (λ (e : Indexed). e.listed.version) r.index.entries c.below);
+    lie = all_mapped (LiesIn n.want.home) untold_write r.index.entries (all_from (λ (e : Indexed). LiesIn n.want.home (untold_write e)) r.index.entries (λ e has.
         let v = in_volume state n.lanes.items n.want.id n.want.home n.view all_gs c.all c.order c.view_ok.distinct r.index.entries c.same c.rising e has in let lies = v.lies in let long = long-replicate {X = Block} (length e.listed.keep) [] in omega (arith, lies, long)));
-    known = λ e has. record { write = entry_write e; among = among_map entry_write r.index.entries e has; version = refl; first = refl; count = long-replicate (length e.listed.keep) [] };
+    known = λ e has. record { write = untold_write e; among = among_map untold_write r.index.entries e has; version = refl; first = refl; count = long-replicate (length e.listed.keep) [] };
     sized = long-replicate n.want.home [];
     told = λ t. absurd (let bad : false ≡ true = sym untold ∙ t in cc);
   }
@@ -263,10 +262,47 @@ module _ {D : Type 0} (tells : Bool) (state : D → State) (shared : Shared D) (
       spindle = (t.spindle.0 ∙ s.spindle.0, t.spindle.1 ∙ s.spindle.1);
     }) o.lanes.items n.lanes.items lanes.items back.lanes held.each
 
-    finish : (ws : List Write) (array : List Block) → IsBeginning state n r all_gs tells ws array → (IsTrue tells → array ≡ recovered_of o.want.id (read_of (state_of state o.home)) (all_owned state o.owned.items)) → (IsTrue tells → ws ≡ writes_in o.want.id (all_owned state o.owned.items))
+    arrays : List Block
+    arrays = cond tells (recovered_of o.want.id (read_of (state_of state o.home)) (all_owned state o.owned.items)) (replicate o.want.home [])
+
+    records : List Write
+    records = cond tells (writes_in o.want.id (all_owned state o.owned.items)) (map untold_write r.index.entries)
+
+    -- the base is that function of the opening and the manager
+    same_base : (ws : List Write) (array : List Block) (b : IsBeginning state n r all_gs tells ws array) → array ≡ arrays → ws ≡ records
+        → opened_base tells state shared n r lanes all_gs c ws array b ≡ base_at_opening tells state o (opened n.want.id n.home n.spindle lanes r.index r.next n.most)
+    unfolding arrays records
+    same_base ws array b array_is ws_is = λ i. record {
+      volume = record {
+        marker = record {};
+        began = record {
+          array = array_is i;
+          records = ws_is i;
+          next = r.next;
+          owner = (want i).id;
+          home_blocks = (want i).home;
+          most = most i;
+          view = view i;
+          look = look_of_manager (opened n.want.id n.home n.spindle lanes r.index r.next n.most);
+        };
+      };
+      spindle = record { marker = record {}; id = pass_lock n.spindle };
+      spindle_number = pass_number n.spindle;
+      lanes = map (λ (l : Lane D). record {
+        logger = logger_of l;
+        pool = record { marker = record {}; id = pass_lock (pool_of l) };
+        pool_number = pass_number (pool_of l);
+        spindle = record { marker = record {}; id = pass_lock (spindle_of l) };
+        spindle_number = pass_number (spindle_of l);
+        nones = nones_in (pass_mine (pool_of l));
+      }) lanes.items;
+    }
+
+    finish : (ws : List Write) (array : List Block) → (b : IsBeginning state n r all_gs tells ws array) → array ≡ arrays → ws ≡ records → (IsTrue tells → array ≡ recovered_of o.want.id (read_of (state_of state o.home)) (all_owned state o.owned.items)) → (IsTrue tells → ws ≡ writes_in o.want.id (all_owned state o.owned.items))
         → (IsTrue tells → r.next ≡ next_version (records_in o.want.id (all_owned state o.owned.items))) → Opens tells state shared o (opened n.want.id n.home n.spindle lanes r.index r.next n.most)
-    finish ws array b is_array is_writes is_next = record {
+    finish ws array b array_is ws_is is_array is_writes is_next = record {
       base = opened_base tells state shared n r lanes all_gs c ws array b;
+      is_base = same_base ws array b array_is ws_is;
       begins = record { owner = ap (λ (w : _). w.id) want; home_blocks = ap (λ (w : _). w.home) want; most = most; view = view; array = is_array; records = is_writes; next = is_next };
       stands = opened_stands tells state shared n r lanes all_gs c ws array b;
       at = is_home state shared n r lanes all_gs c;
@@ -283,6 +319,22 @@ module _ {D : Type 0} (tells : Bool) (state : D → State) (shared : Shared D) (
     home_size : (state_of state o.home).size ≡ n.want.home
     home_size = sym back.parts.home.size ∙ rec.open_.home_size
 
+    told_array : tells ≡ true → recovered_of o.want.id (read_of (state_of state o.home)) (all_owned state o.owned.items) ≡ arrays
+    unfolding arrays
+    told_array is = sym (ap (λ (t : Bool). cond t (recovered_of o.want.id (read_of (state_of state o.home)) (all_owned state o.owned.items)) (replicate o.want.home [])) is)
+
+    told_writes : tells ≡ true → writes_in o.want.id (all_owned state o.owned.items) ≡ records
+    unfolding records
+    told_writes is = sym (ap (λ (t : Bool). cond t (writes_in o.want.id (all_owned state o.owned.items)) (map untold_write r.index.entries)) is)
+
+    plain_array : tells ≡ false → replicate n.want.home [] ≡ arrays
+    unfolding arrays
+    plain_array is = ap (λ (w : Label). replicate w.home []) want ∙ sym (ap (λ (t : Bool). cond t (recovered_of o.want.id (read_of (state_of state o.home)) (all_owned state o.owned.items)) (replicate o.want.home [])) is)
+
+    plain_writes : tells ≡ false → map untold_write r.index.entries ≡ records
+    unfolding records
+    plain_writes is = sym (ap (λ (t : Bool). cond t (writes_in o.want.id (all_owned state o.owned.items)) (map untold_write r.index.entries)) is)
+
     pub opens_as : (t : Bool) → tells ≡ t → Opens tells state shared o (opened n.want.id n.home n.spindle lanes r.index r.next n.most)
-    opens_as true is = finish (first_writes sound (told is) home_size) (first_array sound (told is) home_size) (told_beginning sound (told is) home_size) (λ t. refl) (λ t. refl) (λ t. next_told sound (told is) home_size)
-    opens_as false is = finish (map entry_write r.index.entries) (replicate n.want.home []) (plain_beginning is) (λ t. absurd (let bad : false ≡ true = sym is ∙ t in cc)) (λ t. absurd (let bad : false ≡ true = sym is ∙ t in cc)) (λ t. absurd (let bad : false ≡ true = sym is ∙ t in cc))
+    opens_as true is = finish (first_writes sound (told is) home_size) (first_array sound (told is) home_size) (told_beginning sound (told is) home_size) (told_array is) (told_writes is) (λ t. refl) (λ t. refl) (λ t. next_told sound (told is) home_size)
+    opens_as false is = finish (map untold_write r.index.entries) (replicate n.want.home []) (plain_beginning is) (plain_array is) (plain_writes is) (λ t. absurd (let bad : false ≡ true = sym is ∙ t in cc)) (λ t. absurd (let bad : false ≡ true = sym is ∙ t in cc)) (λ t. absurd (let bad : false ≡ true = sym is ∙ t in cc))

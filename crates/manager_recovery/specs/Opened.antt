@@ -1,16 +1,20 @@
 -- The manager of a volume that was opened.
-use Rattle.std.specs.Prelude.{◌≡◌, Bool, List, [], None, Contains, IsTrue}
+use Rattle.std.specs.Prelude.{◌≡◌, Bool, List, [], None, Some, Contains, IsTrue, cond, length, map, replicate}
 use Rattle.std.specs.List.{AllByRecursion, AllZip}
 use Rattle.wol_disk.specs.Disk.{State}
-use Rattle.turn_lock.specs.Passes.{IsSamePass}
+use Rattle.turn_lock.specs.Passes.{IsSamePass, pass_lock, pass_mine, pass_number}
 use Rattle.spin_model.specs.Spun.{state_of}
 use Rattle.log_segment.specs.Segment.{part_of}
-use Rattle.logger.specs.Lanes.{IsSameLane, logger_of, held_in}
+use Rattle.wol_model.specs.Blocks.{Write}
+use Rattle.wol_model.specs.Index.{Indexed}
+use Rattle.logger.specs.Lanes.{IsSameLane, logger_of, held_in, pool_of, spindle_of}
 use Rattle.logger.specs.declared.lane.HeldSegment.{HeldSegment}
 use Rattle.logger.specs.declared.lane.Lane.{Lane}
 use Rattle.wol_promise.specs.Manager.{Base}
 use Rattle.wol_promise.specs.Stands.{next_version}
-use Rattle.manager.specs.Stands.{Stands, IsHome}
+use Rattle.manager.specs.Seen.{look_of_manager}
+use Rattle.manager.specs.Stands.{Stands, IsHome, nones_in}
+use Rattle.manager.specs.declared.base.LaneBase.{LaneBase}
 use Rattle.manager.specs.declared.base.ManagerBase.{ManagerBase}
 use Rattle.manager.specs.declared.manager.Manager.{Manager}
 use Rattle.logger.specs.declared.shared.Shared.{Shared}
@@ -31,6 +35,44 @@ pub record Begins {D : Type 0} (tells : Bool) (state : D → State) (o : Opening
   pub records : IsTrue tells → b.records ≡ writes_in o.want.id (all_owned state o.owned.items)
   pub next : IsTrue tells → b.next ≡ next_version (records_in o.want.id (all_owned state o.owned.items))
 
+-- a write of which only the place and the version are told
+abbrev pub untold_write : Indexed → Write
+untold_write e = record { first = e.listed.first; blocks = replicate (length e.listed.keep) []; version = Some e.listed.version }
+
+module _ {D : Type 0} (tells : Bool) (state : D → State) (o : Opening D) (m : Manager D) where
+  -- What a manager that was opened of these parts began with; where disks tell no content, some array and records.
+  abbrev pub beginning : Base
+  beginning = record {
+    array = cond tells (recovered_of o.want.id (read_of (state_of state o.home)) (all_owned state o.owned.items)) (replicate o.want.home []);
+    records = cond tells (writes_in o.want.id (all_owned state o.owned.items)) (map untold_write m.index.entries);
+    next = m.next;
+    look = look_of_manager m;
+    owner = o.want.id;
+    view = o.view;
+    home_blocks = o.want.home;
+    most = o.most;
+  }
+
+  -- a lane's passes
+  abbrev pub lane_at_opening : Lane D → LaneBase
+  lane_at_opening l = record {
+    logger = logger_of l;
+    pool = record { marker = record {}; id = pass_lock (pool_of l) };
+    pool_number = pass_number (pool_of l);
+    spindle = record { marker = record {}; id = pass_lock (spindle_of l) };
+    spindle_number = pass_number (spindle_of l);
+    nones = nones_in (pass_mine (pool_of l));
+  }
+
+  -- the base of its lock: a function of what it was opened of and of what it is
+  abbrev pub base_at_opening : ManagerBase
+  base_at_opening = record {
+    volume = record { marker = record {}; began = beginning };
+    spindle = record { marker = record {}; id = pass_lock m.spindle };
+    spindle_number = pass_number m.spindle;
+    lanes = map lane_at_opening m.lanes.items;
+  }
+
 -- an owned segment that the lane of its logger holds
 pub record IsInLane {D : Type 0} (lanes : List (Lane D)) (o : OwnedPart D) : Type 0 where
   pub lane : Lane D
@@ -44,6 +86,7 @@ pub record IsInLane {D : Type 0} (lanes : List (Lane D)) (o : OwnedPart D) : Typ
 -- The manager stands for that beginning and no entries, over the locks and passes of the opening.
 pub record Opens {D : Type 0} (tells : Bool) (state : D → State) (shared : Shared D) (o : Opening D) (m : Manager D) : Type 0 where
   pub base : ManagerBase
+  pub is_base : base ≡ base_at_opening tells state o m
   pub begins : Begins tells state o base.volume.began
   pub stands : Stands tells state m base []
   pub at : IsHome shared m

@@ -42,7 +42,7 @@ use Rattle.manager.specs.declared.base.ManagerBase.{ManagerBase}
 use Rattle.manager.specs.declared.manager.Manager.{Manager}
 use Rattle.reclaimer.specs.Fetches.{HasData}
 use Rattle.reclaimer.specs.Records.{FetchedRecord}
-use Rattle.manager_tests.specs.Locked.{HasSpindle, HasPool}
+use Rattle.manager_tests.specs.Locked.{HasSpindle, HasKeptSpindle, HasPool}
 use Rattle.manager_tests.specs.Rigs.{IsNewLane, IsOfVolume, IsRig}
 
 no_extents : with_extents (zeros 8) [] ≡ zeros 8
@@ -50,9 +50,9 @@ unfolding with_extents newest_block
 no_extents = refl
 
 module _ (home : Spun MemDisk) (home_lock logger_lock : TurnLock Spindle SpindleBase) (own_lock pool_lock : TurnLock (Pool (FreeSegment MemDisk)) PoolBase)
-    (spindle logger_pass : PassOf Spindle SpindleBase) (pool : PassOf (Pool (FreeSegment MemDisk)) PoolBase) (lanes : Vec (Lane MemDisk) Global) (index : Contents) (l : Lane MemDisk)
+    (keeper spindle logger_pass : PassOf Spindle SpindleBase) (pool : PassOf (Pool (FreeSegment MemDisk)) PoolBase) (lanes : Vec (Lane MemDisk) Global) (index : Contents) (l : Lane MemDisk)
     (volume : volume_of home ≡ 0) (size : (state_of mem_state home).size ≡ 8) (values : (state_of mem_state home).values ≡ Some (only (zeros 8)))
-    (of_home : HasSpindle 0 home_lock spindle) (of_logger : HasSpindle 1 logger_lock logger_pass) (of_pool : HasPool 1 16 pool_lock pool)
+    (of_home : HasKeptSpindle 0 home_lock keeper spindle) (of_logger : HasSpindle 1 logger_lock logger_pass) (of_pool : HasPool 1 16 pool_lock pool)
     (one : lanes.items ≡ l ∷ []) (new : IsNewLane pool logger_pass l) (bare : index.entries ≡ []) where
   abbrev made : Manager MemDisk
   made = opened 0 home spindle lanes index 1 4
@@ -107,7 +107,7 @@ module _ (home : Spun MemDisk) (home_lock logger_lock : TurnLock Spindle Spindle
       home_volume = volume;
       home_small = (omega (arith, size), omega (arith, size));
       spindle_volume = of_home.volume_is;
-      spindle_free = of_home.alone.free;
+      spindle_free = of_home.both.free;
       settled = of_home.settled;
       accesses = of_home.accesses;
       each = subst (AllByRecursion (IsReadyLane mem_state 0 4)) (sym one) (record { lane = new.lane; owner = new.owner; untaken = new.taken; long = long; all = holds_none }, tt);
@@ -176,7 +176,7 @@ module _ (home : Spun MemDisk) (home_lock logger_lock : TurnLock Spindle Spindle
     pub opened_home : IsHome shared made
     opened_home = record {
       spindle_in = let e = shared.spindles.ok.0 ∙ ap length spindles in omega (arith, e);
-      spindle_is = λ d. of_home.alone.own ∙ sym (ap (λ (ls : List (TurnLock Spindle SpindleBase)). lock_id (slice_index_or ls 0 d)) spindles);
+      spindle_is = λ d. of_home.both.own ∙ sym (ap (λ (ls : List (TurnLock Spindle SpindleBase)). lock_id (slice_index_or ls 0 d)) spindles);
       lanes_ = subst (AllByRecursion (IsAt shared)) (sym one) (
         record {
           pool_in = let e = shared.pools.ok.0 ∙ ap length pools in let k = new.logger_is in omega (arith, e, k);
@@ -190,8 +190,8 @@ module _ (home : Spun MemDisk) (home_lock logger_lock : TurnLock Spindle Spindle
       );
     }
 
-    pub opened_rig : (own : PassOf (Pool (FreeSegment MemDisk)) PoolBase) → HasPool 0 16 own_lock own → (m : Manager MemDisk) → m ≡ made → (fetched : Option FetchedRecord) → fetched ≡ None → IsRig (record { shared = shared; manager = m; fetched = fetched; own_pool = own })
-    opened_rig own of_own m is fetched empty = subst (λ (m : Manager MemDisk). IsRig (record { shared = shared; manager = m; fetched = fetched; own_pool = own })) (sym is) (record {
+    pub opened_rig : (own : PassOf (Pool (FreeSegment MemDisk)) PoolBase) → HasPool 0 16 own_lock own → (m : Manager MemDisk) → m ≡ made → (fetched : Option FetchedRecord) → fetched ≡ None → IsRig (record { shared = shared; manager = m; fetched = fetched; own_pool = own; keeper = keeper })
+    opened_rig own of_own m is fetched empty = subst (λ (m : Manager MemDisk). IsRig (record { shared = shared; manager = m; fetched = fetched; own_pool = own; keeper = keeper })) (sym is) (record {
       base = opened_base;
       notes = [];
       began = opened_of;
@@ -199,7 +199,9 @@ module _ (home : Spun MemDisk) (home_lock logger_lock : TurnLock Spindle Spindle
       fetched = subst (λ (f : Option FetchedRecord). HasData true f opened_base []) (sym empty) tt;
       at = opened_home;
       pools = record { first = own_lock; second = pool_lock; both = pools; one_pass = (of_own.alone.one, of_pool.alone.one) };
-      spindles = record { first = home_lock; second = logger_lock; both = spindles; one_pass = (of_home.alone.one, of_logger.alone.one) };
+      spindles = record { first = home_lock; second = logger_lock; both = spindles; passes = (of_home.both.two, of_logger.alone.one) };
       own = of_own.alone.own;
       free = of_own.alone.free;
+      keeper = of_home.both.keeper_own;
+      keeper_free = of_home.both.keeper_free;
     })

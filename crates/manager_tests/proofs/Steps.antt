@@ -29,7 +29,7 @@ use Rattle.manager.specs.declared.part.StepFault.TheVariants.{DiskFault, Down}
 use Rattle.reclaimer.specs.Fetches.{HasData}
 use Rattle.reclaimer.specs.Records.{FetchedRecord}
 use Rattle.manager.specs.declared.manager.Manager.{Manager}
-use Rattle.manager_tests.specs.Locked.{HasOnePass}
+use Rattle.manager_tests.specs.Locked.{HasOnePass, HasTwoPasses}
 use Rattle.manager_tests.specs.Rigs.{AreTwoLocks, IsRig}
 use Rattle.manager_tests.specs.declared.rig.Rig.{Rig}
 
@@ -49,11 +49,11 @@ is_note l operation passed pass m = record { operation_is = refl; look_is = refl
 module _ (r : Rig) (is : IsRig r) (m : Manager MemDisk) (at : IsHome r.shared m) where
   -- with no entry more
   kept : (fetched : Option FetchedRecord) → HasData true fetched is.base is.notes → Keeps true mem_state m is.base is.notes → IsRig (record r { manager = m; fetched = fetched })
-  kept fetched holds keeps = record { base = is.base; notes = is.notes; began = is.began; keeps = keeps; fetched = holds; at = at; pools = is.pools; spindles = is.spindles; own = is.own; free = is.free }
+  kept fetched holds keeps = record { base = is.base; notes = is.notes; began = is.began; keeps = keeps; fetched = holds; at = at; pools = is.pools; spindles = is.spindles; own = is.own; free = is.free; keeper = is.keeper; keeper_free = is.keeper_free }
 
   -- with this entry more
   more : (fetched : Option FetchedRecord) → HasData true fetched is.base is.notes → (n : Noted) → Keeps true mem_state m is.base (is.notes ++ n ∷ []) → IsRig (record r { manager = m; fetched = fetched })
-  more fetched holds n keeps = record { base = is.base; notes = is.notes ++ n ∷ []; began = is.began; keeps = keeps; fetched = data_kept fetched is.base is.notes n holds; at = at; pools = is.pools; spindles = is.spindles; own = is.own; free = is.free }
+  more fetched holds n keeps = record { base = is.base; notes = is.notes ++ n ∷ []; began = is.began; keeps = keeps; fetched = data_kept fetched is.base is.notes n holds; at = at; pools = is.pools; spindles = is.spindles; own = is.own; free = is.free; keeper = is.keeper; keeper_free = is.keeper_free }
 
   -- after a call that leaves an entry
   pub rig_after : (operation : Operation) (passed : List ℕ) (pass : ℕ) → Leaves true mem_state r.manager m operation passed pass → IsRig (record r { manager = m })
@@ -87,18 +87,17 @@ firsts a b c d e = ap (λ (ls : List _). slice_index_or ls 0 a) e
 seconds : {A : Type 0} (a b c d : A) → a ∷ b ∷ [] ≡ c ∷ d ∷ [] → b ≡ d
 seconds a b c d e = ap (λ (ls : List _). slice_index_or ls 1 a) e
 
-one_first : {T B : Type 0} (locks : List (TurnLock T B)) (a b : TurnLock T B) → locks ≡ a ∷ b ∷ [] → AreTwoLocks locks → lock_passes a ≡ 1
-one_first locks a b e two = ap lock_passes (firsts a b two.first two.second (sym e ∙ two.both)) ∙ two.one_pass.0
-
 one_second : {T B : Type 0} (locks : List (TurnLock T B)) (a b : TurnLock T B) → locks ≡ a ∷ b ∷ [] → AreTwoLocks locks → lock_passes b ≡ 1
 one_second locks a b e two = ap lock_passes (seconds a b two.first two.second (sym e ∙ two.both)) ∙ two.one_pass.1
 
-pub home_lock : (r : Rig) (is : IsRig r) (a b : TurnLock Spindle SpindleBase) → r.shared.spindles.items ≡ a ∷ b ∷ [] → HasOnePass a r.manager.spindle
+pub home_lock : (r : Rig) (is : IsRig r) (a b : TurnLock Spindle SpindleBase) → r.shared.spindles.items ≡ a ∷ b ∷ [] → HasTwoPasses a r.keeper r.manager.spindle
 home_lock r is a b e = record {
-  one = one_first r.shared.spindles.items a b e is.spindles;
+  two = ap lock_passes (firsts a b is.spindles.first is.spindles.second (sym e ∙ is.spindles.both)) ∙ is.spindles.passes.0;
   own = is.at.spindle_is a ∙ ap (λ (ls : List (TurnLock Spindle SpindleBase)). lock_id (slice_index_or ls r.manager.id a)) e
       ∙ ap (λ (k : ℕ). lock_id (slice_index_or (a ∷ b ∷ []) k a)) (is.keeps.locks.owner ∙ is.began.owner);
   free = is.keeps.ready.ready.spindle_free;
+  keeper_own = is.keeper ∙ ap lock_id (sym (firsts a b is.spindles.first is.spindles.second (sym e ∙ is.spindles.both)));
+  keeper_free = is.keeper_free;
 }
 
 module _ (r : Rig) (is : IsRig r) (l : Lane MemDisk) (sole : r.manager.lanes.items ≡ l ∷ []) where
@@ -113,7 +112,7 @@ module _ (r : Rig) (is : IsRig r) (l : Lane MemDisk) (sole : r.manager.lanes.ite
 
   pub logger_lock : (a b : TurnLock Spindle SpindleBase) → r.shared.spindles.items ≡ a ∷ b ∷ [] → HasOnePass b (spindle_of l)
   logger_lock a b e = record {
-    one = one_second r.shared.spindles.items a b e is.spindles;
+    one = ap lock_passes (seconds a b is.spindles.first is.spindles.second (sym e ∙ is.spindles.both)) ∙ is.spindles.passes.1;
     own = at.spindle a ∙ ap (λ (ls : List (TurnLock Spindle SpindleBase)). lock_id (slice_index_or ls (logger_of l) a)) e
         ∙ ap (λ (k : ℕ). lock_id (slice_index_or (a ∷ b ∷ []) k a)) logger_is;
     free = ready.lane.spindle_free;

@@ -35,6 +35,13 @@ pub record AreTwoLocks {T B : Type 0} (locks : List (TurnLock T B)) : Type 0 whe
   pub both : locks ≡ first ∷ second ∷ []
   pub one_pass : (lock_passes first ≡ 1) × (lock_passes second ≡ 1)
 
+-- the locks of the spindles of volumes 0 and 1, the first of which has a keeper's pass too
+pub record AreSpindleLocks (locks : List (TurnLock Spindle SpindleBase)) : Type 0 where
+  pub first : TurnLock Spindle SpindleBase
+  pub second : TurnLock Spindle SpindleBase
+  pub both : locks ≡ first ∷ second ∷ []
+  pub passes : (lock_passes first ≡ 2) × (lock_passes second ≡ 1)
+
 -- a manager of volume 0 with a home of 8 blocks, which logs on volume 1
 pub record IsOfVolume (b : ManagerBase) : Type 0 where
   pub owner : b.volume.began.owner ≡ 0
@@ -51,6 +58,8 @@ pub record IsRig (r : Rig) : Type 0 where
   pub fetched : HasData true r.fetched base notes
   pub at : IsHome r.shared r.manager
   pub pools : AreTwoLocks r.shared.pools.items
-  pub spindles : AreTwoLocks r.shared.spindles.items
+  pub spindles : AreSpindleLocks r.shared.spindles.items
   pub own : IsPassOf pools.first r.own_pool
   pub free : IsFree r.own_pool
+  pub keeper : IsPassOf spindles.first r.keeper
+  pub keeper_free : IsFree r.keeper

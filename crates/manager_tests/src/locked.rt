@@ -3,7 +3,7 @@ ghost use Rattle.std.specs.Prelude.{◌≡◌, []};
 ghost use Rattle.turn_lock.specs.Passes.{pass_lock, pass_mine};
 ghost use Rattle.wol_disk.specs.Memory.{mem_state};
 ghost use Rattle.log_segment.specs.Segment.{IsBlank};
-ghost use Rattle.manager_tests.specs.Locked.{HasOnePass, HasSpindle, HasPool};
+ghost use Rattle.manager_tests.specs.Locked.{HasOnePass, HasSpindle, HasKeptSpindle, HasPool};
 
 use log_layout::{SegHead, write_seg};
 use log_scan::Adopted;
@@ -60,6 +60,29 @@ pub fn spindle_of<R: Abort>(
     ensures { HasSpindle volume result.0 result.1 }
 {
     locked(rt, alloc, Spindle::new(alloc, volume, TIMEOUT))
+}
+
+/// The spindle of a volume under its lock, with a keeper's pass and another.
+pub fn kept_spindle<R: Abort>(
+    rt: &R,
+    alloc: Global,
+    volume: u32,
+) -> (TurnLock<Spindle>, Pass<Spindle>, Pass<Spindle>)
+    ensures { HasKeptSpindle volume result.0 result.1 result.2 }
+{
+    match TurnLock::new(alloc, Spindle::new(alloc, volume, TIMEOUT), 2, 0) {
+        Ok((lock, mut passes)) => {
+            let Some(pass) = passes.pop() else {
+                unreachable!()
+            };
+            let Some(keeper) = passes.pop() else {
+                unreachable!()
+            };
+            passes.destroy_empty();
+            (lock, keeper, pass)
+        }
+        Err(_) => panic!(rt; "no memory for a lock"),
+    }
 }
 
 /// The pool of a volume with one segment, which is free or not there, under its lock.

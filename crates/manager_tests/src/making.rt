@@ -4,10 +4,10 @@ ghost use Rattle.turn_lock.specs.Passes.{pass_lock, pass_mine, IsFree};
 ghost use Rattle.spin_model.specs.Operations.{has_token};
 ghost use Rattle.logger.specs.Lanes.{AreAccesses};
 ghost use Rattle.logger.specs.declared.lane.Lane.{Lane};
-ghost use Rattle.manager_tests.specs.Locked.{HasOnePass, HasSpindle};
+ghost use Rattle.manager_tests.specs.Locked.{HasOnePass, HasTwoPasses, HasKeptSpindle};
 ghost use Rattle.manager_tests.specs.Rigs.{IsNewLane, IsRig};
 
-use crate::locked::{pool_of, spindle_of, unlocked};
+use crate::locked::{kept_spindle, pool_of, spindle_of, unlocked};
 use crate::rig::Rig;
 use log_segment::FreeSegment;
 use logger::{Lane, LaneParts, Shared};
@@ -66,22 +66,25 @@ fn lanes<R: Abort>(
     }
 }
 
-// The lock of home's spindle, whose disk has gone to sleep.
-fn sleeping<R: Abort + Wait>(rt: &R, alloc: Global) -> (TurnLock<Spindle>, Pass<Spindle>)
-    ensures { HasSpindle 0 result.0 result.1 }
+// The lock of home's spindle, whose disk has gone to sleep, with its keeper's pass and another.
+fn sleeping<R: Abort + Wait>(
+    rt: &R,
+    alloc: Global,
+) -> (TurnLock<Spindle>, Pass<Spindle>, Pass<Spindle>)
+    ensures { HasKeptSpindle 0 result.0 result.1 result.2 }
 {
-    let (lock, mut pass) = spindle_of(rt, alloc, 0);
-    start_turn(rt, &lock, &mut pass, 0);
-    let awake = begin_turn(rt, &lock, &mut pass, 700_000_000);
+    let (lock, mut keeper, pass) = kept_spindle(rt, alloc, 0);
+    start_turn(rt, &lock, &mut keeper, 0);
+    let awake = begin_turn(rt, &lock, &mut keeper, 700_000_000);
     assert!(rt; awake.is_ok_and(|awake| !awake));
-    (lock, pass)
+    (lock, keeper, pass)
 }
 
 /// A new rig, in which home's disk has gone to sleep and both disks count as awake.
 pub fn new_rig<R: Abort + Wait>(rt: &R, alloc: Global) -> Rig
     ensures { IsRig result }
 {
-    let (home_lock, home_pass) = sleeping(rt, alloc);
+    let (home_lock, keeper, home_pass) = sleeping(rt, alloc);
     let (logger_lock, logger_pass) = spindle_of(rt, alloc, 1);
     let (own_pool_lock, own_pool) = pool_of(rt, alloc, 0, false);
     let (pool_lock, pool_pass) = pool_of(rt, alloc, 1, true);
@@ -95,6 +98,7 @@ pub fn new_rig<R: Abort + Wait>(rt: &R, alloc: Global) -> Rig
         manager: Manager::new(0, home, home_pass, lanes, Index::new(alloc), 1, 4),
         fetched: Fetch::new(alloc).expect(rt, "room for a record"),
         own_pool,
+        keeper,
     }
 }
 
@@ -107,6 +111,7 @@ pub fn apart<R: Abort>(rt: &R, alloc: Global, rig: Rig) -> Remains
         manager,
         fetched: _,
         own_pool,
+        keeper,
     } = rig;
     let ManagerParts {
         home: _,
@@ -124,7 +129,7 @@ pub fn apart<R: Abort>(rt: &R, alloc: Global, rig: Rig) -> Remains
     let (home_lock, logger_lock) = both(spindles);
     unlocked(rt, alloc, own_pool_lock, own_pool);
     Remains {
-        home: journal(rt, alloc, home_lock, spindle),
+        home: kept_journal(rt, alloc, home_lock, keeper, spindle),
         logger: journal(rt, alloc, logger_lock, logger_pass),
         free: unlocked(rt, alloc, pool_lock, pool_pass).len(),
     }
@@ -167,6 +172,22 @@ fn journal<R: Abort>(
     requires { HasOnePass lock pass }
 {
     unlocked(rt, alloc, lock, pass)
+        .journal()
+        .to_vec(alloc)
+        .expect(rt, "a journal")
+}
+
+// The journal of a spindle whose time was kept.
+fn kept_journal<R: Abort>(
+    rt: &R,
+    alloc: Global,
+    lock: TurnLock<Spindle>,
+    keeper: Pass<Spindle>,
+    pass: Pass<Spindle>,
+) -> Vec<Turned>
+    requires { HasTwoPasses lock keeper pass }
+{
+    lock.close(two(rt, alloc, keeper, pass))
         .journal()
         .to_vec(alloc)
         .expect(rt, "a journal")

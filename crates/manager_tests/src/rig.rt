@@ -7,6 +7,7 @@ use logger::Shared;
 use manager::{Manager, Place, ReadRefusal, Sources, StepFault, WriteRefusal};
 use reclaimer::{Drain, Fetch, Fetched, Gone, drain_step, fetch, invalidate_one, put_home};
 use seg_pool::Pool;
+use spin_model::Spindle;
 use std::sync::Wait;
 use turn_lock::Pass;
 use wol_disk::{Block, MemDisk};
@@ -18,6 +19,8 @@ pub struct Rig {
     pub fetched: Fetch,
     // nobody logs on volume 0
     pub(crate) own_pool: Pass<Pool<FreeSegment<MemDisk>>>,
+    // it keeps the time of home's disk
+    pub(crate) keeper: Pass<Spindle>,
 }
 
 impl Rig {

@@ -1,91 +1,18 @@
 -- A helper's turns.
-use Rattle.std.proofs.Common.{◌≡◌, ◌≢◌, ◌⊎◌, ◌<◌, ◌≤◌, ◌+◌, ◌==◌, inl, inr, ⊎_elim, ℕ, zero, suc, Bool, true, false, List, [], ◌∷◌, ◌++◌, length, get_or, set, Option, Some, Result, Ok, Err, refl, sym, ap, subst, ◌∙◌, arith}
-use Rattle.std.specs.Prelude.{IsSome, is_some, is_ok, IfErr}
-use Rattle.std.proofs.lemmas.List.{map-append, get_or-set_same, get_or-set_other}
+use Rattle.std.proofs.Common.{◌≡◌, ◌≢◌, ◌⊎◌, ◌<◌, ◌≤◌, ◌+◌, ◌==◌, inl, inr, ⊎_elim, ℕ, zero, suc, Bool, true, false, List, [], ◌∷◌, ◌++◌, length, get_or, set, Option, None, Some, Result, Ok, Err, refl, sym, ap, subst, ◌∙◌, arith}
+use Rattle.std.specs.Prelude.{is_ok, OnOk, IfErr}
+use Rattle.std.proofs.lemmas.List.{get_or-set_same, get_or-set_other}
 use Rattle.std.proofs.lemmas.Bool.Decides.{eqb_tells}
-use Rattle.turn_lock.specs.Histories.{Entry, own, Begins}
-use Rattle.turn_lock.specs.LockIds.{LockId}
-use Rattle.turn_lock.specs.Passes.{pass_lock, pass_number, pass_seen, pass_mine, IsFree, IsSamePass}
-use Rattle.wol_disk.specs.Disk.{State}
-use Rattle.wol_model.specs.History.{helper, IsHelp}
-use Rattle.wol_promise.specs.Code.{noted_of}
-use Rattle.wol_promise.specs.Policy.{Look}
-use Rattle.wol_promise.specs.Ruled.{Noted, IsKeep}
-use Rattle.wol_promise.specs.Ruled as ruled
+use Rattle.turn_lock.specs.Passes.{IsFree}
+use Rattle.wol_model.specs.History.{IsHelp}
+use Rattle.wol_promise.specs.Ruled.{Noted}
 use Rattle.wol_promise.proofs.Lists.{all_joined}
-use Rattle.manager.specs.Reclaim.{OnKept, OnFailed, KeepsOn, BreaksOff, TellsStep}
-use Rattle.manager.specs.Seen.{look_of_manager}
-use Rattle.manager.specs.Stands.{Stands, notes_of}
-use Rattle.manager.specs.declared.base.ManagerBase.{ManagerBase}
-use Rattle.manager.specs.declared.manager.Manager.{Manager}
+use Rattle.manager.specs.Stands.{notes_of}
 use Rattle.manager.specs.declared.part.StepFault.{StepFault}
-use Rattle.manager.specs.declared.part.StepFault.TheVariants as fault
-use Rattle.reclaimer.specs.Fetches.{HasData}
-use Rattle.reclaimer.specs.Records.{FetchedRecord}
-use Rattle.reclaimer.specs.Steps.{LooksPut, LooksGone}
-use Rattle.reclaimer.specs.declared.answers.Gone.{Gone}
-use Rattle.reclaimer.specs.declared.answers.Gone.TheVariants as gone
-use Rattle.reclaimer.proofs.Later.{data_is_kept}
-use Rattle.request_workers.specs.Entries.{note_of, step_operation, has_failed}
-use Rattle.request_workers.specs.Helped.{ManagerLock, ArePassesAt, HasHelped, AreHelped, IsCause}
-use Rattle.request_workers.specs.Turns.{ManagerPass, notes_seen, IsBroken, HasLeft}
-use Rattle.request_workers.proofs.Gaining.{gains_none, gains_turn, gains_both, seen_more, broken_more}
-use Rattle.request_workers.proofs.Noting.{notes_at}
-use Rattle.request_workers.proofs.StepNotes.{step_stands, step_helps}
-use Rattle.request_workers.proofs.Turning.{turned}
-
--- ---- The entry
-
-module _ {D : Type 0} (old new : Manager D) (pass : ℕ) where
-  pub same_keep : {T : Type 0} (a : Result T StepFault) → look_of_manager new ≡ look_of_manager old → OnKept a (IsKeep [] pass (look_of_manager old) (look_of_manager new))
-  same_keep (Ok x) same = ruled.same same
-  same_keep (Err (fault.DiskFault p)) same = tt
-  same_keep (Err (fault.Down p)) same = ruled.same same
-
-  pub put_keep : (a : Result ℕ StepFault) → pass ≡ helper → LooksPut a old new → OnKept a (IsKeep [] pass (look_of_manager old) (look_of_manager new))
-  put_keep (Ok zero) is put = ruled.same (put.0 refl)
-  put_keep (Ok (suc k)) is put = ruled.helped is (put.1 (omega arith))
-  put_keep (Err (fault.DiskFault p)) is put = tt
-  put_keep (Err (fault.Down p)) is put = ruled.same put
-
-  pub gone_keep : (a : Result Gone StepFault) → pass ≡ helper → LooksGone a old new → OnKept a (IsKeep [] pass (look_of_manager old) (look_of_manager new))
-  gone_keep (Ok (gone.Version v)) is step = ruled.helped is step
-  gone_keep (Ok (gone.Trimmed v)) is step = ruled.helped is step
-  gone_keep (Ok gone.Nothing) is step = ruled.same step
-  gone_keep (Err (fault.DiskFault p)) is step = tt
-  gone_keep (Err (fault.Down p)) is step = ruled.same step
-
-pub help_stands : {D T : Type 0} (tells : Bool) (state : D → State) (old new : Manager D) (b : ManagerBase) (notes : List Noted) (pass : ℕ) (answer : Result T StepFault) (failed : Bool) → failed ≡ has_failed answer
-    → (Where : ManagerBase → List Noted → Type 0) → Where b notes → OnKept answer (KeepsOn tells state old new Where) → OnFailed answer (BreaksOff tells state old new Where)
-    → OnKept answer (IsKeep [] pass (look_of_manager old) (look_of_manager new)) → Stands tells state old b notes → Stands tells state new b (notes ++ note_of pass (step_operation failed) (look_of_manager new) [] false ∷ [])
-help_stands tells state old new b notes pass answer failed is Where w keeps breaks keep s = subst (λ (f : Bool). Stands tells state new b (notes ++ note_of pass (step_operation f) (look_of_manager new) [] false ∷ [])) (sym is)
-    (step_stands tells state old new b notes pass answer Where w keeps breaks keep s.look s.keeps)
-
-pub has_helped : {D : Type 0} (tells : Bool) (p i q : ManagerPass D) (failed : Bool) (l : Look) → IsSamePass p i → Begins (pass_seen p) (pass_seen i) → pass_mine i ≡ pass_mine p → own (pass_number i) (pass_seen i) ≡ pass_mine i
-    → HasLeft tells (note_of (pass_number i) (step_operation failed) l [] false) i q → HasHelped tells p q
-has_helped tells p i q failed l same begins mine owns left = record {
-  more = _;
-  notes = _;
-  gains = gains_turn tells p q (pass_seen i) (note_of (pass_number i) (step_operation failed) l [] false) (turned tells p i q (note_of (pass_number i) (step_operation failed) l [] false) same begins mine owns left refl);
-  help = (step_helps failed, tt);
-}
-
-pub down_at : {D T : Type 0} (state : D → State) (old new : Manager D) (a : Result T StepFault) (f : StepFault) → a ≡ Err f → TellsStep state a old new → IsSome new.down
-down_at {D} {T} state old new a (fault.DiskFault p) is told = let t = subst (λ (r : Result T StepFault). TellsStep state r old new) is told in ap is_some t.1
-down_at {D} {T} state old new a (fault.Down p) is told = let t = subst (λ (r : Result T StepFault). TellsStep state r old new) is told in ap (λ (m : Manager D). is_some m.down) t.1 ∙ ap is_some t.0
-
--- ---- What was fetched
-
-notes_begin : (xs ys : List Entry) → (b : Begins xs ys) → notes_of ys ≡ notes_of xs ++ notes_of b.0
-notes_begin xs ys b = ap notes_of (sym b.1) ∙ map-append (λ (e : Entry). noted_of e.0 e.1) xs b.0
-
-pub data_in : {D : Type 0} (tells : Bool) (f : Option FetchedRecord) (p i : ManagerPass D) → IsSamePass p i → Begins (pass_seen p) (pass_seen i) → HasData tells f (pass_lock p).base (notes_seen p) → HasData tells f (pass_lock i).base (notes_seen i)
-data_in tells f p i same begins data_ = subst (λ (l : LockId ManagerBase). HasData tells f l.base (notes_seen i)) (sym same.0)
-    (subst (HasData tells f (pass_lock p).base) (sym (notes_begin (pass_seen p) (pass_seen i) begins)) (data_is_kept tells f (pass_lock p).base (notes_seen p) (notes_of begins.0) data_))
-
-pub data_left : {D : Type 0} (tells : Bool) (f : Option FetchedRecord) (i q : ManagerPass D) (n : Noted) → HasLeft tells n i q → HasData tells f (pass_lock i).base (notes_seen i) → HasData tells f (pass_lock q).base (notes_seen q)
-data_left tells f i q n left data_ = subst (λ (l : LockId ManagerBase). HasData tells f l.base (notes_seen q)) (sym left.same.0)
-    (subst (HasData tells f (pass_lock i).base) (sym (ap notes_of left.seen ∙ notes_at (pass_seen i) n.entry.pass n refl)) (data_is_kept tells f (pass_lock i).base (notes_seen i) (n ∷ []) data_))
+use Rattle.request_turns.specs.Helped.{ManagerLock, HasHelped, AreKept}
+use Rattle.request_workers.specs.Helped.{ArePassesAt, AreHelped, IsCause, AreAllKept}
+use Rattle.request_turns.specs.Turns.{ManagerPass, notes_seen, IsBroken}
+use Rattle.request_turns.proofs.Gaining.{gains_none, gains_both, seen_more, broken_more, kept_none, kept_both}
 
 -- ---- One after another
 
@@ -168,3 +95,40 @@ module _ {D : Type 0} (ls : List (ManagerLock D)) (number : ℕ) (ps : List (Man
   pub passes_helped : (tells : Bool) (qs : List (ManagerPass D)) → length qs ≡ length ps → AreHelped tells ps qs → ArePassesAt ls number qs
   passes_helped tells qs same h k l d i = let j = subst (λ (n : ℕ). k < n) same i in let g = (h k d j).gains in let a = at k l d j in
       record { own = g.same.0 ∙ a.own; free = g.free; number_is = g.same.1 ∙ a.number_is }
+
+-- ---- Entries that are Kept
+
+pub refused_before : {F : Type 0} (old new : Option F) → ((f : F) → old ≡ Some f → new ≡ Some f) → new ≡ None → old ≡ None
+refused_before None new kept none = refl
+refused_before (Some f) new kept none = absurd (let no : Some f ≡ None = sym (kept f refl) ∙ none in cc)
+
+pub on_ok : {A B : Type 0} (a : Result A StepFault) → OnOk a B → is_ok a ≡ true → B
+on_ok (Ok x) so is = so
+on_ok (Err f) so is = absurd (let no : false ≡ true = is in cc)
+
+module _ {D : Type 0} where
+  pub kept_helped : (tells : Bool) (p q r : ManagerPass D) → HasHelped tells p q → HasHelped tells q r → AreKept p q → AreKept q r → AreKept p r
+  kept_helped tells p q r a b first then = kept_both tells p q r a.more b.more a.notes b.notes a.gains b.gains first then
+
+  pub all_kept_none : (ps : List (ManagerPass D)) (fault : Option (ℕ × StepFault)) → AreAllKept fault ps ps
+  all_kept_none ps fault none k d h = kept_none (get_or ps k d)
+
+  pub all_kept_both : (tells : Bool) (ps qs rs : List (ManagerPass D)) (was is : Option (ℕ × StepFault)) → length qs ≡ length ps → AreHelped tells ps qs → AreHelped tells qs rs → (is ≡ None → was ≡ None)
+      → AreAllKept was ps qs → AreAllKept is qs rs → AreAllKept is ps rs
+  all_kept_both tells ps qs rs was is e f g before first then none k d h = let i = subst (λ (n : ℕ). k < n) (sym e) h in
+      kept_helped tells (get_or ps k d) (get_or qs k d) (get_or rs k d) (f k d h) (g k d i) (first (before none) k d h) (then none k d i)
+
+-- one volume more in a round
+module _ {D : Type 0} (is ps : List (ManagerPass D)) (k : ℕ) (p q : ManagerPass D) (within : k < length ps) (at : p ≡ get_or ps k p) (kept : AreKept p q)
+    (rest : (j : ℕ) (d : ManagerPass D) → k ≤ j → get_or ps j d ≡ get_or is j d) where
+  pub step_all_kept : ((j : ℕ) (d : ManagerPass D) → j < k → AreKept (get_or is j d) (get_or ps j d)) → (j : ℕ) (d : ManagerPass D) → j < k + 1 → AreKept (get_or is j d) (get_or (set ps k q) j d)
+  step_all_kept before j d h = ⊎_elim
+      (λ (t : ((j == k) ≡ true) × (j ≡ k)).
+      let was : p ≡ get_or is j d = at ∙ any_default ps k p d within ∙ (let le : k ≤ k = omega arith in rest k d le) ∙ ap (λ (i : ℕ). get_or is i d) (sym t.1) in
+      let now : get_or (set ps k q) j d ≡ q = ap (λ (i : ℕ). get_or (set ps k q) i d) t.1 ∙ get_or-set_same ps k q d within in
+      subst (λ (x : ManagerPass D). AreKept x (get_or (set ps k q) j d)) was (subst (λ (x : ManagerPass D). AreKept p x) (sym now) kept))
+      (λ (t : ((j == k) ≡ false) × (j ≢ k)). subst (λ (x : ManagerPass D). AreKept (get_or is j d) x) (sym (get_or-set_other ps k j q d t.1)) (before j d (let n = t.1 in below j k h n)))
+      (eqb_tells j k)
+    where
+      below : (j k : ℕ) → j < k + 1 → j ≢ k → j < k
+      below j k h n = omega (arith, h, n)

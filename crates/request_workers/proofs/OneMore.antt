@@ -25,3 +25,17 @@ module _ {B : Type 0} (P : ℕ → B → Type 0) (qs : List B) (q : B) (k : ℕ)
     | inl same ↦ subst (λ (i : ℕ). P i (slice_index_or (slice_set qs k q) i d)) (sym same) (subst (λ (z : B). P k z) (sym (get_or-set_same qs k q d (omega (arith, within, same)))) here)
     | inr other ↦ subst (λ (z : B). P j z) (sym (get_or-set_other qs k j q d other)) (before j d within)
   ]
+
+module _ {B : Type 0} (R : B → B → Type 0) (is ps : List B) (q : B) (k : ℕ) (before : (j : ℕ) (d : B) → j < length ps → R (slice_index_or is j d) (slice_index_or ps j d)) (here : (d : B) → R (slice_index_or is k d) q) where
+  pub each_pair : (j : ℕ) (d : B) → j < length ps → R (slice_index_or is j d) (slice_index_or (slice_set ps k q) j d)
+  each_pair j d within = elim (cases_eq j k) [
+    | inl same ↦ subst (λ (i : ℕ). R (slice_index_or is i d) (slice_index_or (slice_set ps k q) i d)) (sym same) (subst (R (slice_index_or is k d)) (sym (get_or-set_same ps k q d (omega (arith, within, same)))) (here d))
+    | inr other ↦ subst (R (slice_index_or is j d)) (sym (get_or-set_other ps k j q d other)) (before j d within)
+  ]
+
+module _ {B : Type 0} (R : B → B → Type 0) (is ps : List B) (q : B) (k : ℕ) (room : k < length ps) (before : (j : ℕ) (d : B) → j < k → R (slice_index_or is j d) (slice_index_or ps j d)) (here : (d : B) → R (slice_index_or is k d) q) where
+  pub each_next : (j : ℕ) (d : B) → j < k + 1 → R (slice_index_or is j d) (slice_index_or (slice_set ps k q) j d)
+  each_next j d lt = elim (cases_eq j k) [
+    | inl same ↦ subst (λ (i : ℕ). R (slice_index_or is i d) (slice_index_or (slice_set ps k q) i d)) (sym same) (subst (R (slice_index_or is k d)) (sym (get_or-set_same ps k q d room)) (here d))
+    | inr other ↦ subst (R (slice_index_or is j d)) (sym (get_or-set_other ps k j q d other)) (before j d (omega (arith, lt, other)))
+  ]

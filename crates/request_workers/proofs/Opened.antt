@@ -8,9 +8,9 @@ use Rattle.logger.specs.declared.shared.Shared.{Shared}
 use Rattle.manager.specs.declared.base.LaneBase.{LaneBase}
 use Rattle.manager.specs.Stands.{IsLaneShared}
 use Rattle.request_workers.specs.Floors.{IsFloor, IsOn}
-use Rattle.request_workers.specs.Turns.{ManagerPass}
+use Rattle.request_turns.specs.Turns.{ManagerPass}
 use Rattle.request_workers.specs.declared.floor.Floor.{Floor}
-use Rattle.request_workers.proofs.Flagged.{there_is}
+use Rattle.request_turns.proofs.Flagged.{there_is}
 
 module _ {D : Type 0} (shared : Shared D) (n : ℕ) where
   below : vec_len shared.spindles ≡ n → (bs : List LaneBase) → AllByRecursion (IsLaneShared shared) bs → AllByRecursion (λ (b : LaneBase). b.logger < n) bs

@@ -10,14 +10,16 @@ use Rattle.manager.specs.declared.part.StepFault.{StepFault}
 use Rattle.request_workers.specs.Closed.{IsClosed}
 use Rattle.request_workers.specs.Desks.{IsReadyDesk, AreReady, AreServed, AreAt, ShareDesks, AreNumbered, AreEmpty}
 use Rattle.request_workers.specs.Floors.{IsFloor, IsOn, AreInside, HasRoom, HaveRoom, AreSameButRoom}
-use Rattle.request_workers.specs.Helped.{ManagerLock, IsPassAt, ArePassesAt, AreSharing}
+use Rattle.request_turns.specs.Helped.{ManagerLock, IsPassAt}
+use Rattle.request_workers.specs.Helped.{ArePassesAt, AreSharing}
 use Rattle.request_workers.specs.Requests.{AreWithin, own_requests}
-use Rattle.request_workers.specs.Turns.{ManagerPass, Gains}
+use Rattle.request_turns.specs.Counts.{Counts, blocks_between, records_between}
+use Rattle.request_turns.specs.Turns.{ManagerPass, IsHonest, Gains}
 use Rattle.request_workers.specs.Worked.{HasWorked, AreWorked, HelpedIn}
 use Rattle.request_workers.specs.declared.desk.Desk.{Desk}
 use Rattle.request_workers.specs.declared.floor.Floor.{Floor}
-use Rattle.request_workers.specs.declared.request.Request.{Request}
-use Rattle.request_workers.specs.declared.request.Outcome.{Outcome}
+use Rattle.trace_windows.specs.declared.request.Request.{Request}
+use Rattle.request_turns.specs.declared.outcome.Outcome.{Outcome}
 use Rattle.request_workers.specs.declared.request.Reclaim.{Reclaim}
 use Rattle.request_workers.specs.declared.request.Reclaim.TheVariants as reclaim
 
@@ -80,6 +82,7 @@ module _ {D : Type 0} (tells : Bool) (rs : List Request) (os : List Outcome) (mo
     faults = w.faults;
     closed = w.closed;
     empty = w.empty;
+    counted = subst (λ (p : ManagerPass D). IsHonest tells p → Counts (blocks_between p f.worker) (records_between p f.worker) f.tally) r.worker_is w.counted;
   }
 
   pub all_roomy : (ds es fs : List (Desk D)) → length es ≡ length ds → HaveRoom rs ds es → AreWorked tells rs os mode es fs → AreWorked tells rs os mode ds fs

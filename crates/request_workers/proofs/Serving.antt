@@ -15,16 +15,18 @@ use Rattle.manager.specs.declared.part.ReadRefusal.{ReadRefusal}
 use Rattle.manager.specs.declared.part.ReadRefusal.TheVariants as refused_read
 use Rattle.manager.specs.declared.part.WriteRefusal.{WriteRefusal}
 use Rattle.manager.specs.declared.part.WriteRefusal.TheVariants as refused
-use Rattle.request_workers.specs.Entries.{IsEntryOf, AreEntriesOf, AreMade, TellsFault, TellsOfRead, TellsOfWrite}
-use Rattle.request_workers.specs.Requests.{IsWithin, AreWithin, was_answered, was_run, both, going_after, StopsAtRefusal, own_requests}
+use Rattle.request_turns.specs.Entries.{IsEntryOf, AreEntriesOf, AreMade, TellsFault, TellsOfRead, TellsOfWrite}
+use Rattle.request_turns.specs.Requests.{IsWithin}
+use Rattle.request_workers.specs.Requests.{AreWithin, was_answered, was_run, both, going_after, StopsAtRefusal, own_requests}
 use Rattle.request_workers.specs.Served.{HasServedNext, IsServing}
-use Rattle.request_workers.specs.Turns.{began, notes_seen}
+use Rattle.request_turns.specs.Turns.{began, notes_seen}
 use Rattle.turn_lock.specs.Passes.{IsFree}
 use Rattle.request_workers.specs.declared.desk.Desk.{Desk}
-use Rattle.request_workers.specs.declared.request.Request.{Request}
-use Rattle.request_workers.specs.declared.request.Outcome.{Outcome}
-use Rattle.request_workers.specs.declared.request.Outcome.TheVariants as outcome
-use Rattle.request_workers.proofs.Gaining.{gains_none, gains_both, stays_both, seen_more, broken_more}
+use Rattle.trace_windows.specs.declared.request.Request.{Request}
+use Rattle.request_turns.specs.declared.outcome.Outcome.{Outcome}
+use Rattle.request_turns.specs.declared.outcome.Outcome.TheVariants as outcome
+use Rattle.request_turns.proofs.Counting.{counted_both, counted_none}
+use Rattle.request_turns.proofs.Gaining.{gains_none, gains_both, stays_both, seen_more, broken_more}
 
 made_push : (view : List ℕ) (rs : List Request) (os : List Outcome) (r : Request) (o : Outcome) (ns n : List Noted) → AreMade view rs os ns → AreEntriesOf view r o n → AreMade view (rs ++ r ∷ []) (os ++ o ∷ []) (ns ++ n)
 made_push view [] [] r o ns n m h = (n, [], ap (λ t. t ++ n) m ∙ sym (append-nil n), h, refl)
@@ -88,6 +90,7 @@ module _ {D : Type 0} (tells : Bool) (rs : List Request) (r : Request) (going : 
           faults = rw h.outcomes (all_push (TellsFault (notes_seen f.worker)) os o
               (all_map (TellsFault (notes_seen e.worker)) (TellsFault (notes_seen f.worker)) (λ x t. subst (λ (ns : List Noted). TellsFault ns x) (sym (seen_more tells e.worker f.worker h.more h.notes h.gains)) (tells_more (notes_seen e.worker) (notes_of h.more) x t)) os v.faults) h.fault);
           reclaim = h.reclaim ∙ v.reclaim;
+          counted = counted_both tells d.worker e.worker f.worker v.more h.more v.notes h.notes v.gains h.gains d.tally e.tally f.tally v.counted h.counted;
         };
         going_is = rw h.outcomes (h.next_is ∙ (ap (λ b. both b (was_answered o)) s.going_is ∙ sym (going_after_push true os o)));
         room = h.room ∙ s.room;
@@ -105,6 +108,7 @@ module _ {D : Type 0} (tells : Bool) (rs : List Request) (r : Request) (going : 
       stays = v.stays;
       faults = v.faults;
       reclaim = v.reclaim;
+      counted = v.counted;
     };
     going_is = s.going_is;
     room = s.room;
@@ -155,6 +159,7 @@ serving_none tells d free empty = record {
     stays = λ _. tt;
     faults = subst (AllByRecursion (TellsFault (notes_seen d.worker))) (sym empty) tt;
     reclaim = refl;
+    counted = counted_none tells d.worker d.tally;
   };
   going_is = ap (going_after true) (sym empty);
   room = refl;

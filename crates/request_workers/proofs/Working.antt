@@ -12,16 +12,19 @@ use Rattle.manager.specs.declared.part.WriteRefusal.TheVariants as refused
 use Rattle.request_workers.specs.Closed.{IsClosed, HasClosedDesk, AreClosed}
 use Rattle.request_workers.specs.Collects.{IsCollected, HoldsOutcomes}
 use Rattle.request_workers.specs.Desks.{AreNumbered, AreServed}
-use Rattle.request_workers.specs.Entries.{AreEntriesOf, AreMade, IsRefusedRead, IsRefusedWrite, TellsFault}
+use Rattle.request_turns.specs.Counts.{Counts, blocks_between, records_between}
+use Rattle.request_turns.specs.Entries.{AreEntriesOf, AreMade, IsRefusedRead, IsRefusedWrite, TellsFault}
 use Rattle.request_workers.specs.Requests.{own_requests, outcomes_of, answers_to, StopsAtRefusal}
 use Rattle.request_workers.specs.Served.{HasServed}
-use Rattle.request_workers.specs.Turns.{ManagerPass, began, notes_seen}
+use Rattle.request_turns.specs.Turns.{ManagerPass, began, notes_seen}
 use Rattle.request_workers.specs.Worked.{HasWorked, AreWorked}
 use Rattle.request_workers.specs.declared.desk.Desk.{Desk}
 use Rattle.request_workers.specs.declared.request.Reclaim.{Reclaim}
-use Rattle.request_workers.specs.declared.request.Request.{Request}
-use Rattle.request_workers.specs.declared.request.Outcome.{Outcome}
-use Rattle.request_workers.specs.declared.request.Outcome.TheVariants as outcome
+use Rattle.trace_windows.specs.declared.request.Request.{Request}
+use Rattle.request_turns.specs.declared.outcome.Outcome.{Outcome}
+use Rattle.request_turns.specs.declared.outcome.Outcome.TheVariants as outcome
+use Rattle.request_turns.specs.declared.tally.Tally.{Tally}
+use Rattle.request_workers.proofs.Counted.{from_none, closed_counted}
 use Rattle.request_workers.proofs.Serving.{made_length}
 use Rattle.std.specs.List.{AllByRecursion}
 
@@ -79,8 +82,8 @@ module _ {D : Type 0} (tells : Bool) (rs : List Request) (mode : Reclaim) (k : �
   holds_outcomes : HoldsOutcomes rs k f
   holds_outcomes = ap length c.outcomes ∙ (made_length (began d.worker).view (own_requests d.id rs) e.outcomes.items s.notes s.made ∙ ap (λ v. length (own_requests v rs)) numbered)
 
-  worked : (os : List Outcome) (g : Desk D) → IsCollected rs os k f g → HasWorked tells rs os mode k d g
-  worked os g t =
+  worked : Counts 0 0 d.tally → (os : List Outcome) (g : Desk D) → IsCollected rs os k f g → HasWorked tells rs os mode k d g
+  worked fresh os g t =
       let are : e.outcomes.items ≡ outcomes_of k rs os = sym (t.outcomes ∙ c.outcomes) in
       let made : AreMade (began d.worker).view (own_requests k rs) (outcomes_of k rs os) s.notes =
       subst (λ (xs : List Outcome). AreMade (began d.worker).view (own_requests k rs) xs s.notes) are (subst (λ (v : ℕ). AreMade (began d.worker).view (own_requests v rs) e.outcomes.items s.notes) numbered s.made) in
@@ -97,13 +100,16 @@ module _ {D : Type 0} (tells : Bool) (rs : List Request) (mode : Reclaim) (k : �
         faults = subst (AllByRecursion (TellsFault (notes_seen e.worker))) are s.faults;
         closed = subst (λ (x : Option StepFault). IsClosed tells mode x e.worker g.worker) (sym t.same.fault) (subst (λ (p : ManagerPass D). IsClosed tells mode f.fault e.worker p) (sym t.same.worker) c.closed);
         empty = t.empty;
+        counted = λ honest. subst (λ (u : Tally). Counts (blocks_between d.worker g.worker) (records_between d.worker g.worker) u) (sym t.same.tally)
+            (subst (λ (q : ManagerPass D). Counts (blocks_between d.worker q) (records_between d.worker q) f.tally) (sym t.same.worker)
+            (from_none tells d.worker f.worker d.tally f.tally fresh (closed_counted tells d.worker e.worker f.worker s.more s.notes s.gains d.tally e.tally f.tally s.counted mode f.fault c.closed c.counted) honest));
       }
 
 module _ {D : Type 0} (tells : Bool) (rs : List Request) (mode : Reclaim) (ds es fs : List (Desk D)) (numbered : AreNumbered ds) (s : AreServed tells rs ds es) (c : AreClosed tells mode es fs) (same : length es ≡ length ds) where
   pub all_hold : (k : ℕ) (d : Desk D) → k < length ds → HoldsOutcomes rs k (get_or fs k d)
   all_hold k d h = let h2 = subst (λ n. k < n) (sym same) h in holds_outcomes tells rs mode k (get_or ds k d) (get_or es k d) (get_or fs k d) (numbered k d h) (s k d h) (c k d h2)
 
-  pub all_worked : (os : List Outcome) (gs : List (Desk D)) → length fs ≡ length ds → ((k : ℕ) (d : Desk D) → k < length fs → IsCollected rs os k (get_or fs k d) (get_or gs k d)) → AreWorked tells rs os mode ds gs
-  all_worked os gs same3 t k d h =
+  pub all_worked : ((k : ℕ) (d : Desk D) → k < length ds → Counts 0 0 (get_or ds k d).tally) → (os : List Outcome) (gs : List (Desk D)) → length fs ≡ length ds → ((k : ℕ) (d : Desk D) → k < length fs → IsCollected rs os k (get_or fs k d) (get_or gs k d)) → AreWorked tells rs os mode ds gs
+  all_worked fresh os gs same3 t k d h =
       let h2 = subst (λ n. k < n) (sym same) h in let h3 = subst (λ n. k < n) (sym same3) h in
-      worked tells rs mode k (get_or ds k d) (get_or es k d) (get_or fs k d) (numbered k d h) (s k d h) (c k d h2) os (get_or gs k d) (t k d h3)
+      worked tells rs mode k (get_or ds k d) (get_or es k d) (get_or fs k d) (numbered k d h) (s k d h) (c k d h2) (fresh k d h) os (get_or gs k d) (t k d h3)

@@ -1,7 +1,6 @@
 -- What the beginning of a window makes of the keepers' passes.
-use Rattle.std.specs.Prelude.{◌≡◌, ◌<◌, ◌∷◌, ◌++◌, ℕ, Bool, false, List, [], map, length, slice_index_or}
-use Rattle.turn_lock.specs.Histories.{Entry, Begins}
-use Rattle.turn_lock.specs.Passes.{lock_id, pass_lock, pass_number, pass_seen, pass_mine, IsPassOf, IsFree, IsSamePass}
+use Rattle.std.specs.Prelude.{◌≡◌, ◌<◌, ◌∷◌, ◌++◌, ℕ, Bool, List, [], length, slice_index_or}
+use Rattle.turn_lock.specs.Passes.{pass_lock, pass_number, pass_seen, pass_mine, IsPassOf, IsFree, IsSamePass}
 use Rattle.turn_lock.specs.declared.pass.PassOf.{PassOf}
 use Rattle.spin_model.specs.Operations.{operation_of}
 use Rattle.spin_model.specs.Spindles.{state_after}
@@ -9,9 +8,8 @@ use Rattle.spin_model.specs.declared.spindle.Spindle.{Spindle}
 use Rattle.spin_model.specs.declared.spindle.SpindleBase.{SpindleBase}
 use Rattle.wol_model.specs.Journal.{Began}
 use Rattle.logger.specs.declared.shared.Shared.{Shared}
-use Rattle.wol_promise.specs.Report.{IsBegun}
-use Rattle.wol_promise.specs.Ruled.{Noted}
-use Rattle.request_workers.specs.Turns.{ManagerPass, began, HasTurned}
+use Rattle.request_turns.specs.Begun.{HasBegunVolume}
+use Rattle.request_turns.specs.Turns.{ManagerPass}
 
 -- a pass of a spindle's lock
 abbrev pub SpindlePass : Type 0
@@ -34,12 +32,6 @@ pub record HasBegun (t : ℕ) (awake : Bool) (p q : SpindlePass) : Type 0 where
 abbrev pub HaveBegun : (t : ℕ) → (awake : List Bool) → List SpindlePass → List SpindlePass → Type 0
 HaveBegun t awake ps qs = (k : ℕ) (b : Bool) (d : SpindlePass) → k < length ps → HasBegun t (slice_index_or awake k b) (slice_index_or ps k d) (slice_index_or qs k d)
 
--- the volume's keeper set the flags of home and of the view's loggers to what the spindles answered
-pub record HasBegunVolume {D : Type 0} (tells : Bool) (awake : List Bool) (p q : ManagerPass D) : Type 0 where
-  pub before : List Entry
-  pub note : Noted
-  pub turned : HasTurned tells p q before note
-  pub begun : IsBegun (slice_index_or awake (began p).owner false) (map (λ (v : ℕ). slice_index_or awake v false) (began p).view) note
-
+-- so did the keeper of each volume
 abbrev pub HaveBegunVolumes : {D : Type 0} → (tells : Bool) → (awake : List Bool) → List (ManagerPass D) → List (ManagerPass D) → Type 0
 HaveBegunVolumes {D} tells awake ps qs = (k : ℕ) (d : ManagerPass D) → k < length ps → HasBegunVolume tells awake (slice_index_or ps k d) (slice_index_or qs k d)

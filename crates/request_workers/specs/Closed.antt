@@ -1,27 +1,12 @@
 -- What the reclaim turn of a volume makes of its worker's pass.
-use Rattle.std.specs.Prelude.{◌≡◌, ◌<◌, ℕ, Bool, List, Option, None, Some, length, slice_index_or}
-use Rattle.turn_lock.specs.Histories.{Entry}
-use Rattle.wol_model.specs.History.{IsHelp}
-use Rattle.wol_promise.specs.Policy.{Look, AreReclaims, IsIdleLook}
-use Rattle.wol_promise.specs.Ruled.{Noted}
+use Rattle.std.specs.Prelude.{◌≡◌, ◌<◌, ℕ, Bool, List, Option, None, length, slice_index_or}
 use Rattle.manager.specs.declared.part.StepFault.{StepFault}
-use Rattle.request_workers.specs.Turns.{ManagerPass, notes_seen, IsBroken, HasTurned}
+use Rattle.request_turns.specs.Closed.{HasClosed}
+use Rattle.request_turns.specs.Counts.{HasCounted}
+use Rattle.request_turns.specs.Turns.{ManagerPass}
 use Rattle.request_workers.specs.declared.desk.Desk.{Desk}
 use Rattle.request_workers.specs.declared.request.Reclaim.{Reclaim}
 use Rattle.request_workers.specs.declared.request.Reclaim.TheVariants as reclaim
-
--- steps of reclaim led from one look to the other, wherever steps led to the first
-abbrev pub GoesOn : (l m : Look) → Type 0
-GoesOn l m = (k : Look) → AreReclaims k l → AreReclaims k m
-
--- One turn, whose entry changes no content. It leaves an idle look, unless a step was refused; that comes only where a disk call failed.
-pub record HasClosed {D : Type 0} (tells : Bool) (fault : Option StepFault) (p q : ManagerPass D) : Type 0 where
-  pub before : List Entry
-  pub note : Noted
-  pub turned : HasTurned tells p q before note
-  pub help : IsHelp note.entry.operation
-  pub idle : fault ≡ None → IsIdleLook note.look
-  pub cause : (f : StepFault) → fault ≡ Some f → IsBroken (notes_seen q)
 
 -- a reclaim turn in the modes that have one
 abbrev pub IsClosed : {D : Type 0} → (tells : Bool) → Reclaim → Option StepFault → (p q : ManagerPass D) → Type 0
@@ -34,6 +19,7 @@ pub record HasClosedDesk {D : Type 0} (tells : Bool) (mode : Reclaim) (d e : Des
   pub id : e.id ≡ d.id
   pub outcomes : e.outcomes.items ≡ d.outcomes.items
   pub closed : IsClosed tells mode e.fault d.worker e.worker
+  pub counted : HasCounted tells d.tally e.tally d.worker e.worker
 
 abbrev pub AreClosed : {D : Type 0} → (tells : Bool) → Reclaim → List (Desk D) → List (Desk D) → Type 0
 AreClosed {D} tells mode ds es = (k : ℕ) (d : Desk D) → k < length ds → HasClosedDesk tells mode (slice_index_or ds k d) (slice_index_or es k d)

@@ -2,14 +2,15 @@
 use Rattle.std.specs.Prelude.{◌≡◌, ◌++◌, ℕ, List, [], length}
 use Rattle.request_workers.specs.Requests.{own_requests, outcomes_of}
 use Rattle.request_workers.specs.declared.desk.Desk.{Desk}
-use Rattle.request_workers.specs.declared.request.Request.{Request}
-use Rattle.request_workers.specs.declared.request.Outcome.{Outcome}
+use Rattle.trace_windows.specs.declared.request.Request.{Request}
+use Rattle.request_turns.specs.declared.outcome.Outcome.{Outcome}
 
 -- all but the outcomes
 pub record IsSameDesk {D : Type 0} (d e : Desk D) : Type 0 where
   pub id : e.id ≡ d.id
   pub worker : e.worker ≡ d.worker
   pub fault : e.fault ≡ d.fault
+  pub tally : e.tally ≡ d.tally
 
 -- as many outcomes as requests of the volume k
 abbrev pub HoldsOutcomes : {D : Type 0} → List Request → ℕ → Desk D → Type 0

@@ -4,11 +4,11 @@ use Rattle.turn_lock.specs.Passes.{pass_lock}
 use Rattle.wol_model.specs.History.{worker}
 use Rattle.logger.specs.declared.shared.Shared.{Shared}
 use Rattle.manager.specs.Stands.{IsShared}
-use Rattle.request_workers.specs.Helped.{ManagerLock, IsPassAt}
+use Rattle.request_turns.specs.Helped.{ManagerLock, IsPassAt}
 use Rattle.request_workers.specs.Requests.{AreWithin, own_requests}
 use Rattle.request_workers.specs.Served.{HasServed}
 use Rattle.request_workers.specs.declared.desk.Desk.{Desk}
-use Rattle.request_workers.specs.declared.request.Request.{Request}
+use Rattle.trace_windows.specs.declared.request.Request.{Request}
 
 -- a desk has its worker's pass of this lock, and room for the outcomes of its requests, each of which lies in its volume
 pub record IsReadyDesk {D : Type 0} (l : ManagerLock D) (shared : Shared D) (rs : List Request) (d : Desk D) : Type 0 where

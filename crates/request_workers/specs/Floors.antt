@@ -1,17 +1,22 @@
 -- A floor between windows, and what a window makes of it.
-use Rattle.std.specs.Prelude.{◌≡◌, ◌≤◌, ◌<◌, ℕ, Bool, List, [], map, length, vec_capacity, slice_index_or, None}
+use Rattle.std.specs.Prelude.{◌≡◌, ◌+◌, ◌≤◌, ◌<◌, ℕ, Bool, List, [], map, length, vec_capacity, slice_index_or, None}
 use Rattle.std.specs.Option.{option_or}
 use Rattle.turn_lock.specs.Passes.{lock_id}
 use Rattle.wol_model.specs.History.{helper, keeper}
 use Rattle.logger.specs.declared.shared.Shared.{Shared}
 use Rattle.manager.specs.Stands.{IsShared}
+use Rattle.wol_promise.specs.Report.{put_home_by}
+use Rattle.request_turns.specs.Counts.{Counts, dropped_by}
+use Rattle.request_turns.specs.Turns.{ManagerPass}
+use Rattle.request_workers.specs.Counted.{AreHonest, all_between}
 use Rattle.request_workers.specs.Desks.{AreAt, AreNumbered, AreEmpty}
-use Rattle.request_workers.specs.Helped.{ManagerLock, ArePassesAt, IsCause}
+use Rattle.request_turns.specs.Helped.{ManagerLock}
+use Rattle.request_workers.specs.Helped.{ArePassesAt, IsCause, AreAllKept}
 use Rattle.request_workers.specs.Requests.{AreWithin, own_requests}
 use Rattle.request_workers.specs.Worked.{AreWorked, HelpedIn, first_fault}
 use Rattle.request_workers.specs.declared.desk.Desk.{Desk}
 use Rattle.request_workers.specs.declared.floor.Floor.{Floor}
-use Rattle.request_workers.specs.declared.request.Request.{Request}
+use Rattle.trace_windows.specs.declared.request.Request.{Request}
 use Rattle.request_workers.specs.declared.request.Reclaim.{Reclaim}
 use Rattle.request_workers.specs.declared.request.Window.{Window}
 
@@ -41,12 +46,13 @@ IsOn {D} shared ls = (k : ℕ) (l : ManagerLock D) → k < length ls → IsShare
 abbrev pub AreInside : {D : Type 0} → List (ManagerLock D) → List Request → Type 0
 AreInside {D} ls rs = (k : ℕ) (l : ManagerLock D) → k < length ls → AreWithin (lock_id (slice_index_or ls k l)).base k rs
 
--- more room for outcomes and no refused step, and no other change
+-- more room for outcomes, no refused step and nothing counted, and no other change
 pub record HasRoom {D : Type 0} (rs : List Request) (d e : Desk D) : Type 0 where
   pub id : e.id ≡ d.id
   pub worker_is : e.worker ≡ d.worker
   pub outcomes : e.outcomes.items ≡ d.outcomes.items
   pub fault : e.fault ≡ None
+  pub tally : Counts 0 0 e.tally
   pub room : length (own_requests d.id rs) ≤ vec_capacity e.outcomes
 
 -- the same locks, passes and outcomes
@@ -61,6 +67,10 @@ HaveRoom {D} rs ds es = (k : ℕ) (d : Desk D) → k < length ds → HasRoom rs 
 abbrev pub AreSameButRoom : {D : Type 0} → List (Desk D) → List (Desk D) → Type 0
 AreSameButRoom {D} ds es = (k : ℕ) (d : Desk D) → k < length ds → IsSameButRoom (slice_index_or ds k d) (slice_index_or es k d)
 
+-- the workers' passes, in order
+abbrev pub workers_of : {D : Type 0} → Floor D → List (ManagerPass D)
+workers_of {D} f = map (λ (d : Desk D). d.worker) f.desks.items
+
 -- what a window makes of a floor
 pub record HasRun {D : Type 0} (tells : Bool) (rs : List Request) (mode : Reclaim) (f g : Floor D) (w : Window) : Type 0 where
   pub len : length w.outcomes.items ≡ length rs
@@ -71,6 +81,11 @@ pub record HasRun {D : Type 0} (tells : Bool) (rs : List Request) (mode : Reclai
   -- the first refused step: the helper's, or else that of the first reclaim turn that was refused
   pub fault : w.fault ≡ option_or g.help.fault (first_fault 0 (map (λ (d : Desk D). d.fault) g.desks.items))
   pub cause : IsCause g.helpers.items g.help.fault
+  pub kept : AreAllKept g.help.fault f.helpers.items g.helpers.items
+  -- what was put home and dropped in this window by the workers and the helper, drains included
+  pub counted : AreHonest tells (workers_of f) → AreHonest tells f.helpers.items
+      → Counts (all_between put_home_by (workers_of f) (workers_of g) + all_between put_home_by f.helpers.items g.helpers.items)
+      (all_between dropped_by (workers_of f) (workers_of g) + all_between dropped_by f.helpers.items g.helpers.items) (record { blocks = w.blocks; records = w.records })
 
 -- where there was no memory nothing was run
 pub record IsAsItWas {D : Type 0} (f g : Floor D) : Type 0 where

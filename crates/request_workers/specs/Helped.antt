@@ -1,26 +1,13 @@
 -- What a helper beside the workers makes of its passes.
-use Rattle.std.specs.Prelude.{◌≡◌, ◌<◌, ℕ, Bool, List, Option, Some, length, slice_index_or}
-use Rattle.turn_lock.specs.Histories.{Entry}
-use Rattle.turn_lock.specs.Passes.{pass_lock, pass_number, IsPassOf, IsFree}
-use Rattle.turn_lock.specs.declared.lock.TurnLock.{TurnLock}
-use Rattle.wol_promise.specs.Ruled.{Noted}
+use Rattle.std.specs.Prelude.{◌≡◌, ◌<◌, ℕ, Bool, List, Option, None, Some, length, slice_index_or}
+use Rattle.turn_lock.specs.Passes.{pass_lock}
 use Rattle.logger.specs.declared.shared.Shared.{Shared}
 use Rattle.manager.specs.Stands.{IsShared}
-use Rattle.manager.specs.declared.base.ManagerBase.{ManagerBase}
-use Rattle.manager.specs.declared.manager.Manager.{Manager}
 use Rattle.manager.specs.declared.part.StepFault.{StepFault}
-use Rattle.request_workers.specs.Turns.{ManagerPass, notes_seen, IsBroken, Gains, AreHelp}
+use Rattle.request_turns.specs.Helped.{AreKept, ManagerLock, IsPassAt, HasHelped}
+use Rattle.request_turns.specs.Turns.{ManagerPass, notes_seen, IsBroken}
 
--- the lock of a manager
-abbrev pub ManagerLock : Type 0 → Type 0
-ManagerLock D = TurnLock (Manager D) ManagerBase
-
--- passes of the locks in order, each in no turn, with this number in its lock
-pub record IsPassAt {D : Type 0} (l : ManagerLock D) (number : ℕ) (p : ManagerPass D) : Type 0 where
-  pub own : IsPassOf l p
-  pub free : IsFree p
-  pub number_is : pass_number p ≡ number
-
+-- the passes of the locks, in order
 abbrev pub ArePassesAt : {D : Type 0} → List (ManagerLock D) → (number : ℕ) → List (ManagerPass D) → Type 0
 ArePassesAt {D} ls number ps = (k : ℕ) (l : ManagerLock D) (d : ManagerPass D) → k < length ps → IsPassAt (slice_index_or ls k l) number (slice_index_or ps k d)
 
@@ -28,16 +15,14 @@ ArePassesAt {D} ls number ps = (k : ℕ) (l : ManagerLock D) (d : ManagerPass D)
 abbrev pub AreSharing : {D : Type 0} → Shared D → List (ManagerPass D) → Type 0
 AreSharing {D} shared ps = (k : ℕ) (d : ManagerPass D) → k < length ps → IsShared shared (pass_lock (slice_index_or ps k d)).base
 
--- turns whose entries change no content
-pub record HasHelped {D : Type 0} (tells : Bool) (p q : ManagerPass D) : Type 0 where
-  pub more : List Entry
-  pub notes : List Noted
-  pub gains : Gains tells p q more notes
-  pub help : AreHelp notes
-
+-- the helper made turns with each of them
 abbrev pub AreHelped : {D : Type 0} → (tells : Bool) → List (ManagerPass D) → List (ManagerPass D) → Type 0
 AreHelped {D} tells ps qs = (k : ℕ) (d : ManagerPass D) → k < length ps → HasHelped tells (slice_index_or ps k d) (slice_index_or qs k d)
 
 -- a refused step is that of a volume in which a disk call failed
 abbrev pub IsCause : {D : Type 0} → List (ManagerPass D) → Option (ℕ × StepFault) → Type 0
 IsCause {D} qs fault = (v : ℕ) (f : StepFault) → fault ≡ Some (v, f) → (v < length qs) × ((d : ManagerPass D) → IsBroken (notes_seen (slice_index_or qs v d)))
+
+-- where no step was refused, no disk call failed in the turns that they made
+abbrev pub AreAllKept : {D : Type 0} → Option (ℕ × StepFault) → (ps qs : List (ManagerPass D)) → Type 0
+AreAllKept {D} fault ps qs = fault ≡ None → (k : ℕ) (d : ManagerPass D) → k < length ps → AreKept (slice_index_or ps k d) (slice_index_or qs k d)

@@ -1,13 +1,11 @@
 pub mod Requests
-pub mod Turns
-pub mod Entries
 pub mod Served
 pub mod Closed
 pub mod Helped
 pub mod Desks
+pub mod Counted
 pub mod Collects
 pub mod Worked
 pub mod Floors
 pub mod Stations
 pub mod Begun
-pub mod Written

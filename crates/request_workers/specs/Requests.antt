@@ -1,26 +1,16 @@
 -- Requests and outcomes, and what the model calls them.
-use Rattle.std.specs.Prelude.{⊤, ◌≡◌, ◌<◌, ◌≤◌, ◌+◌, ◌==◌, ◌∷◌, ℕ, Bool, true, false, List, [], cond, filter, All, length, slice_index_or}
-use Rattle.wol_model.specs.Trace as trace
+use Rattle.std.specs.Prelude.{⊤, ◌≡◌, ◌<◌, ◌==◌, ◌∷◌, ℕ, Bool, true, false, List, [], cond, filter, All, length, slice_index_or}
 use Rattle.wol_promise.specs.Outcomes as outcomes
 use Rattle.wol_promise.specs.Outcomes.{WasRead, WasWritten, Unanswered, Answered, is_answered}
 use Rattle.manager.specs.declared.base.ManagerBase.{ManagerBase}
-use Rattle.manager.specs.declared.part.Place.{Place}
-use Rattle.manager.specs.declared.part.Place.TheVariants as place
-use Rattle.request_workers.specs.declared.request.Request.{Request}
-use Rattle.request_workers.specs.declared.request.Outcome.{Outcome}
-use Rattle.request_workers.specs.declared.request.Outcome.TheVariants as outcome
+use Rattle.request_turns.specs.Requests.{IsWithin}
+use Rattle.request_turns.specs.Entries.{is_log}
+use Rattle.trace_windows.specs.Requests.{asked}
+use Rattle.trace_windows.specs.declared.request.Request.{Request}
+use Rattle.request_turns.specs.declared.outcome.Outcome.{Outcome}
+use Rattle.request_turns.specs.declared.outcome.Outcome.TheVariants as outcome
 
 -- ---- Requests
-
--- a request as the model has it
-abbrev pub asked : Request → trace.Request
-asked r = record { line = r.line; volume = r.volume; kind = r.kind; first = r.lbn; count = r.count }
-
--- it has 1 to `most` blocks, which lie in the volume
-pub record IsWithin (b : ManagerBase) (r : Request) : Type 0 where
-  pub some : 1 ≤ r.count
-  pub few : r.count ≤ b.volume.began.most
-  pub fits : r.lbn + r.count ≤ b.volume.began.home_blocks
 
 -- the requests of a volume, in order
 abbrev pub own_requests : ℕ → List Request → List Request
@@ -35,11 +25,6 @@ abbrev pub AreOfVolumes : ℕ → List Request → Type 0
 AreOfVolumes n rs = All (λ (r : Request). r.volume < n) rs
 
 -- ---- Outcomes
-
--- the place is a log
-abbrev pub is_log : Place → Bool
-is_log place.Home = false
-is_log (place.Log logger) = true
 
 -- an outcome as the model has it
 abbrev pub told : Outcome → outcomes.Outcome

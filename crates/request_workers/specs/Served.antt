@@ -2,24 +2,14 @@
 use Rattle.std.specs.Prelude.{◌≡◌, ◌∷◌, ◌++◌, Bool, true, List, [], vec_capacity}
 use Rattle.std.specs.List.{AllByRecursion}
 use Rattle.turn_lock.specs.Histories.{Entry}
-use Rattle.wol_model.specs.History.{Kept}
-use Rattle.wol_promise.specs.Ruled.{Noted, last_look}
-use Rattle.manager.specs.Stands.{notes_of}
+use Rattle.wol_promise.specs.Ruled.{Noted}
 use Rattle.request_workers.specs.Requests.{was_answered, was_run, both, going_after, StopsAtRefusal, own_requests}
-use Rattle.request_workers.specs.Turns.{ManagerPass, began, notes_seen, IsHonest, HasTurned, Gains, Stays, LooksStay}
-use Rattle.request_workers.specs.Entries.{IsEntryOf, AreEntriesOf, AreMade, TellsFault}
+use Rattle.request_turns.specs.Counts.{HasCounted}
+use Rattle.request_turns.specs.Turns.{began, notes_seen, IsHonest, Gains, LooksStay}
+use Rattle.request_turns.specs.Entries.{AreEntriesOf, AreMade, TellsFault}
 use Rattle.request_workers.specs.declared.desk.Desk.{Desk}
-use Rattle.request_workers.specs.declared.request.Request.{Request}
-use Rattle.request_workers.specs.declared.request.Outcome.{Outcome}
-
--- one request, in one turn
-pub record HasAnswered {D : Type 0} (tells : Bool) (r : Request) (o : Outcome) (p q : ManagerPass D) : Type 0 where
-  pub before : List Entry
-  pub note : Noted
-  pub turned : HasTurned tells p q before note
-  pub entry : IsEntryOf (began p).view r o note
-  pub stays : note.entry.operation ≡ Kept → Stays (last_look (began p).look (notes_of before)) note
-  pub fault : TellsFault (notes_seen q) o
+use Rattle.trace_windows.specs.declared.request.Request.{Request}
+use Rattle.request_turns.specs.declared.outcome.Outcome.{Outcome}
 
 -- one request more: in a turn, or not run
 pub record HasServedNext {D : Type 0} (tells : Bool) (r : Request) (going : Bool) (d e : Desk D) (next : Bool) : Type 0 where
@@ -36,6 +26,7 @@ pub record HasServedNext {D : Type 0} (tells : Bool) (r : Request) (going : Bool
   pub room : vec_capacity e.outcomes ≡ vec_capacity d.outcomes
   pub fault : TellsFault (notes_seen e.worker) outcome
   pub reclaim : e.fault ≡ d.fault
+  pub counted : HasCounted tells d.tally e.tally d.worker e.worker
 
 -- the requests of its volume among these: what the worker's pass gained, and what is told of each
 pub record HasServed {D : Type 0} (tells : Bool) (rs : List Request) (d e : Desk D) : Type 0 where
@@ -48,6 +39,7 @@ pub record HasServed {D : Type 0} (tells : Bool) (rs : List Request) (d e : Desk
   pub stays : IsHonest tells d.worker → LooksStay d.worker more
   pub faults : AllByRecursion (TellsFault (notes_seen e.worker)) e.outcomes.items
   pub reclaim : e.fault ≡ d.fault
+  pub counted : HasCounted tells d.tally e.tally d.worker e.worker
 
 -- so it is for the first requests
 pub record IsServing {D : Type 0} (tells : Bool) (rs : List Request) (going : Bool) (d e : Desk D) : Type 0 where

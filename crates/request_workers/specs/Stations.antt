@@ -2,9 +2,9 @@
 use Rattle.std.specs.Prelude.{◌≡◌, ◌<◌, ◌≤◌, ◌+◌, ◌++◌, ℕ, List, [], map, reverse, length, vec_capacity, slice_index_or, All}
 use Rattle.turn_lock.specs.Passes.{lock_id}
 use Rattle.wol_model.specs.History.{worker, helper, keeper}
-use Rattle.request_workers.specs.Helped.{IsPassAt}
+use Rattle.request_turns.specs.Helped.{IsPassAt}
 use Rattle.request_workers.specs.declared.desk.Desk.{Desk}
-use Rattle.request_workers.specs.declared.station.Station.{Station}
+use Rattle.manager.specs.declared.station.Station.{Station}
 use Rattle.request_workers.specs.declared.floor.Floor.{Floor}
 
 -- station k has the id k, the lock of that volume's manager, and the passes 0, 1 and 2 of its lock, in no turn

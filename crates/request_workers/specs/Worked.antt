@@ -6,13 +6,14 @@ use Rattle.wol_promise.specs.Outcomes.{AreOutcomes, answered_in}
 use Rattle.wol_promise.specs.Ruled.{Noted}
 use Rattle.manager.specs.declared.part.StepFault.{StepFault}
 use Rattle.request_workers.specs.Closed.{IsClosed}
-use Rattle.request_workers.specs.Entries.{AreMade, TellsFault}
+use Rattle.request_turns.specs.Counts.{Counts, blocks_between, records_between}
+use Rattle.request_turns.specs.Entries.{AreMade, TellsFault}
 use Rattle.request_workers.specs.Helped.{AreHelped}
 use Rattle.request_workers.specs.Requests.{own_requests, outcomes_of, answers_to, StopsAtRefusal}
-use Rattle.request_workers.specs.Turns.{ManagerPass, began, notes_seen, IsHonest, Gains, LooksStay}
+use Rattle.request_turns.specs.Turns.{ManagerPass, began, notes_seen, IsHonest, Gains, LooksStay}
 use Rattle.request_workers.specs.declared.desk.Desk.{Desk}
-use Rattle.request_workers.specs.declared.request.Request.{Request}
-use Rattle.request_workers.specs.declared.request.Outcome.{Outcome}
+use Rattle.trace_windows.specs.declared.request.Request.{Request}
+use Rattle.request_turns.specs.declared.outcome.Outcome.{Outcome}
 use Rattle.request_workers.specs.declared.request.Reclaim.{Reclaim}
 use Rattle.request_workers.specs.declared.request.Reclaim.TheVariants as reclaim
 
@@ -32,6 +33,8 @@ pub record HasWorked {D : Type 0} (tells : Bool) (rs : List Request) (os : List 
   pub faults : AllByRecursion (TellsFault (notes_seen middle)) (outcomes_of k rs os)
   pub closed : IsClosed tells mode e.fault middle e.worker
   pub empty : e.outcomes.items ≡ []
+  -- what the worker's own entries put home and dropped
+  pub counted : IsHonest tells d.worker → Counts (blocks_between d.worker e.worker) (records_between d.worker e.worker) e.tally
 
 abbrev pub AreWorked : {D : Type 0} → (tells : Bool) → List Request → List Outcome → Reclaim → List (Desk D) → List (Desk D) → Type 0
 AreWorked {D} tells rs os mode ds es = (k : ℕ) (d : Desk D) → k < length ds → HasWorked tells rs os mode k (slice_index_or ds k d) (slice_index_or es k d)

@@ -1,27 +1,26 @@
 // The beginning of a window: the spindles are told the moment, and the managers which disks are awake.
 ghost use Rattle.std.specs.Prelude.{◌≡◌, ◌≤◌, ◌<◌, [], ℕ, Bool, false, List, All, length, map, take, vec_len, vec_capacity, slice_index_or, OnOk, OnErr};
 ghost use Rattle.std.specs.List.{AllByRecursion};
-ghost use Rattle.turn_lock.specs.Passes.{pass_lock, IsPassOf, IsFree};
+ghost use Rattle.turn_lock.specs.Passes.{pass_lock, IsPassOf, IsFree, IsSamePass};
 ghost use Rattle.wol_model.specs.History.{keeper};
 ghost use Rattle.logger.specs.Lanes.{logger_of};
 ghost use Rattle.manager.specs.Stands.{IsShared};
 ghost use Rattle.manager.specs.declared.base.LaneBase.{LaneBase};
-ghost use Rattle.request_workers.specs.Begun.{AreKeepers, HaveBegun, HasBegunVolume, HaveBegunVolumes};
+ghost use Rattle.request_turns.specs.Begun.{HasBegunVolume};
+ghost use Rattle.request_workers.specs.Begun.{SpindlePass, AreKeepers, HaveBegun, HaveBegunVolumes};
 ghost use Rattle.request_workers.specs.Floors.{IsFloor, IsOn};
-ghost use Rattle.request_workers.specs.Helped.{IsPassAt, ArePassesAt, AreSharing};
+ghost use Rattle.request_turns.specs.Helped.{IsPassAt};
+ghost use Rattle.request_workers.specs.Helped.{ArePassesAt, AreSharing};
 
 use crate::floor::Floor;
-use crate::noted::leave_step;
 use logger::Shared;
 use manager::Manager;
+use request_turns::begin_volume;
 use spin_model::{Spindle, begin_turn};
 use std::alloc::Global;
 use std::sync::Wait;
 use turn_lock::{Pass, TurnLock};
 use wol_disk::{Disk, NoMemory};
-
-/// The most loggers of a view.
-const LANES: usize = 16;
 
 // Begins every spindle in order, and notes which disks are awake.
 fn begin_spindles<R: Wait>(
@@ -38,6 +37,7 @@ fn begin_spindles<R: Wait>(
     requires room { length keepers.old ≤ vec_capacity awake.old }
     ensures own { (k : ℕ) (l : _) (d : _) → k < length keepers.new → IsPassOf (slice_index_or spindles.now k l) (slice_index_or keepers.new k d) }
     ensures free { (k : ℕ) (d : _) → k < length keepers.new → IsFree (slice_index_or keepers.new k d) }
+    ensures same { (k : ℕ) (d : _) → k < length keepers.old → IsSamePass (slice_index_or keepers.old k d) (slice_index_or keepers.new k d) }
     ensures begun { OnOk result (HaveBegun t awake.new.items keepers.old keepers.new) }
     ensures len { OnOk result (length awake.new.items ≡ length keepers.old) }
 {
@@ -46,41 +46,6 @@ fn begin_spindles<R: Wait>(
         awake.push_reserved(up);
     }
     Ok(())
-}
-
-// Which loggers of a manager's view are awake, in front.
-fn flags<D: Disk>(manager: &Manager<D>, awake: &[bool]) -> [bool; LANES]
-    requires few { length manager.now.lanes.items ≤ 16 }
-    requires count { length manager.now.ups.items ≡ length manager.now.lanes.items }
-    requires view { All (λ v. v < length awake.now) (map logger_of manager.now.lanes.items) }
-    ensures { take (length manager.now.lanes.items) result ≡ map (λ v. slice_index_or awake.now v false) (map logger_of manager.now.lanes.items) }
-{
-    let mut flags = [false; LANES];
-    for lane in 0..manager.ups().len() {
-        flags[lane] = awake[manager.logger(lane as u32) as usize];
-    }
-    flags
-}
-
-// One turn of a volume's keeper, in which its manager is told which disks are awake.
-fn begin_volume<R: Wait, D: Disk>(
-    rt: &R,
-    lock: &TurnLock<Manager<D>>,
-    pass: &mut Pass<Manager<D>>,
-    volume: usize,
-    awake: &[bool],
-)
-    requires pass { IsPassAt lock.now keeper pass.old }
-    requires owner { (pass_lock pass.old).base.volume.began.owner ≡ volume }
-    requires volume { volume < length awake.now }
-    requires view { AllByRecursion (λ (b : LaneBase). b.logger < length awake.now) (pass_lock pass.old).base.lanes }
-    ensures { HasBegunVolume D.tells awake.now pass.old pass.new }
-{
-    let mut turn = lock.enter(rt, pass);
-    let ups = flags(&turn.value, awake);
-    let lanes = turn.value.ups().len();
-    turn.value.begin(awake[volume], &ups[..lanes]);
-    leave_step(lock, turn, pass, false);
 }
 
 // One turn of each volume's keeper.
@@ -118,6 +83,7 @@ pub fn begin_window<D: Disk, R: Wait>(
     requires keepers { AreKeepers shared.now keepers.old }
     ensures floor { IsFloor floor.new }
     ensures keepers { AreKeepers shared.now keepers.new }
+    ensures same { (k : ℕ) (d : SpindlePass) → k < length keepers.old → IsSamePass (slice_index_or keepers.old k d) (slice_index_or keepers.new k d) }
     ensures begun { OnOk result ((awake : List Bool) × HaveBegun t awake keepers.old keepers.new × HaveBegunVolumes D.tells awake floor.old.keepers.items floor.new.keepers.items) }
     ensures unchanged { floor.new ≡ record floor.old { keepers = floor.new.keepers } }
     ensures refused { OnErr result (floor.new ≡ floor.old) }

@@ -1,17 +1,18 @@
 // The workers and the helper, side by side.
 ghost use Rattle.std.specs.Prelude.{◌≡◌, ◌^◌, ◌≤◌, ◌<◌, ◌+◌, ℕ, length, slice_index_or};
 ghost use Rattle.wol_model.specs.History.{helper};
+ghost use Rattle.request_workers.specs.Counted.{HaveCounted};
 ghost use Rattle.request_workers.specs.Desks.{AreReady, AreServed};
-ghost use Rattle.request_workers.specs.Helped.{ArePassesAt, AreSharing, AreHelped, IsCause};
+ghost use Rattle.request_workers.specs.Helped.{ArePassesAt, AreSharing, AreHelped, AreAllKept, IsCause};
 
 use crate::desk::Desk;
 use crate::helper::{HelperRoom, help};
-use crate::request::Request;
 use crate::run::serve_all;
 use logger::Shared;
 use manager::Manager;
 use std::sync::Wait;
 use std::thread::{Threads, join_mut};
+use trace_windows::Request;
 use turn_lock::{Pass, TurnLock};
 use wol_disk::Disk;
 use wol_io::Gate;
@@ -39,6 +40,8 @@ pub(crate) fn serve_beside<'a, D: Disk + Send, G: Gate + Sync, R: Threads + Wait
     requires cause { IsCause helpers.old room.old.fault }
     ensures served { AreServed D.tells requests.now desks.old desks.new }
     ensures helped { AreHelped D.tells helpers.old helpers.new }
+    ensures counted { HaveCounted D.tells room.old.tally room.new.tally helpers.old helpers.new }
+    ensures all_kept { AreAllKept room.new.fault helpers.old helpers.new }
     ensures cause { IsCause helpers.new room.new.fault }
 {
     join_mut(
@@ -49,7 +52,7 @@ pub(crate) fn serve_beside<'a, D: Disk + Send, G: Gate + Sync, R: Threads + Wait
         { serve_all(rt, locks, shared, size, requests, gate, desks) },
         &mut ||
             requires { (length helpers.now ≡ length locks.now) × (length helpers.now ≤ 2 ^ 32) × ArePassesAt locks.now helper helpers.now × AreSharing shared.now helpers.now × IsCause helpers.now room.now.fault }
-            ensures { AreHelped D.tells helpers.entry.now helpers.exit.now × IsCause helpers.exit.now room.exit.now.fault }
+            ensures { AreHelped D.tells helpers.entry.now helpers.exit.now × IsCause helpers.exit.now room.exit.now.fault × HaveCounted D.tells room.entry.now.tally room.exit.now.tally helpers.entry.now helpers.exit.now × AreAllKept room.exit.now.fault helpers.entry.now helpers.exit.now }
         { help(rt, locks, shared, rounds, helpers, room) },
     );
 }

@@ -1,5 +1,6 @@
 // Windows over a floor.
-ghost use Rattle.std.specs.Prelude.{◌≡◌, ◌≤◌, ◌<◌, ◌^◌, [], ℕ, List, map, length, vec_len, vec_capacity, slice_index_or, OnOk, OnErr, IfOk};
+ghost use Rattle.std.specs.Prelude.{◌≡◌, ◌≤◌, ◌<◌, ◌^◌, [], ℕ, List, map, length, vec_len, vec_capacity, slice_index_or, sum_by, OnOk, OnErr, IfOk};
+ghost use Rattle.request_turns.specs.Counts.{CountsMore};
 ghost use Rattle.request_workers.specs.Desks.{AreEmpty};
 ghost use Rattle.request_workers.specs.Floors.{IsFloor, IsOn, AreInside, HaveRoom, AreSameButRoom, HasRun, IsAsItWas};
 ghost use Rattle.request_workers.specs.Requests.{own_requests, AreOfVolumes};
@@ -9,14 +10,15 @@ ghost use Rattle.request_workers.specs.declared.desk.Desk.{Desk};
 use crate::desk::Desk;
 use crate::floor::Floor;
 use crate::helper::HelperRoom;
-use crate::request::{Reclaim, Request, Window};
+use crate::request::{Reclaim, Window};
 use crate::slices::run_window;
-use crate::tally::Tally;
 use logger::Shared;
 use manager::StepFault;
+use request_turns::Tally;
 use std::alloc::Global;
 use std::sync::Wait;
 use std::thread::Threads;
+use trace_windows::Request;
 use wol_disk::{Disk, NoMemory};
 use wol_io::Gate;
 
@@ -42,7 +44,7 @@ fn make_room<D: Disk>(desks: &mut [Desk<D>], requests: &[Request]) -> Result<(),
     for k in 0..desks.len() {
         let count = count_own(requests, desks[k].id);
         let desk = &mut desks[k];
-        desk.tally = Tally::default();
+        desk.tally = Tally::new();
         desk.fault = None;
         desk.outcomes.reserve(count)?;
     }
@@ -50,7 +52,9 @@ fn make_room<D: Disk>(desks: &mut [Desk<D>], requests: &[Request]) -> Result<(),
 }
 
 // What was reclaimed by the workers and the helper.
-fn reclaimed<D: Disk>(desks: &[Desk<D>], help: &HelperRoom) -> Tally {
+fn reclaimed<D: Disk>(desks: &[Desk<D>], help: &HelperRoom) -> Tally
+    ensures { CountsMore (sum_by (λ (d : Desk _). d.tally.blocks) desks.now) (sum_by (λ (d : Desk _). d.tally.records) desks.now) help.now.tally result }
+{
     let mut tally = help.tally;
     for desk in desks {
         tally.add(desk.tally);
@@ -100,7 +104,7 @@ pub fn window<D: Disk + Send, G: Gate + Sync, R: Threads + Wait + Sync>(
 {
     let mut outcomes = Vec::with_capacity(alloc, requests.len())?;
     make_room(floor.desks.as_mut_slice(), requests)?;
-    floor.help.tally = Tally::default();
+    floor.help.tally = Tally::new();
     floor.help.fault = None;
     let size = floor.desks.len().div_ceil(workers as usize).max(1);
     run_window(

@@ -5,21 +5,19 @@ ghost use Rattle.wol_model.specs.History.{worker};
 ghost use Rattle.manager.specs.Stands.{IsShared};
 ghost use Rattle.request_workers.specs.Closed.{HasClosedDesk, AreClosed};
 ghost use Rattle.request_workers.specs.Desks.{AreAt, ShareDesks};
-ghost use Rattle.request_workers.specs.Helped.{IsPassAt};
+ghost use Rattle.request_turns.specs.Helped.{IsPassAt};
 ghost use Rattle.request_workers.specs.declared.desk.Desk.{Desk};
 
 use crate::desk::Desk;
-use crate::noted::leave_step;
-use crate::reclaim::reclaim_all;
 use crate::request::Reclaim;
-use crate::step::{has_failed, refusal_in};
 use logger::Shared;
 use manager::Manager;
+use request_turns::reclaim_turn;
 use std::sync::Wait;
 use turn_lock::TurnLock;
 use wol_disk::Disk;
 
-// One reclaim turn. A refused step ends it.
+// One reclaim turn of a desk's volume.
 fn close_one<D: Disk, R: Wait>(
     rt: &R,
     lock: &TurnLock<Manager<D>>,
@@ -30,16 +28,14 @@ fn close_one<D: Disk, R: Wait>(
     requires shared { IsShared shared.now (pass_lock desk.old.worker).base }
     ensures { HasClosedDesk D.tells Reclaim.Between desk.old desk.new }
 {
-    let mut turn = lock.enter(rt, &mut desk.worker);
-    let answer = reclaim_all(
+    desk.fault = reclaim_turn(
         rt,
-        &mut turn.value,
+        lock,
+        &mut desk.worker,
         shared,
         &mut desk.fetch,
         &mut desk.tally,
     );
-    leave_step(lock, turn, &mut desk.worker, has_failed(&answer));
-    desk.fault = refusal_in(answer);
 }
 
 // One reclaim turn of each volume in order.

@@ -1,9 +1,7 @@
 // What the worker of a volume has.
-use crate::payload::Payload;
-use crate::request::Outcome;
-use crate::tally::Tally;
 use manager::{Manager, StepFault};
 use reclaimer::Fetch;
+use request_turns::{Outcome, Payload, Tally};
 use turn_lock::Pass;
 use wol_disk::Disk;
 

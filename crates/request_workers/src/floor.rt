@@ -1,8 +1,7 @@
 // All volumes.
 use crate::desk::Desk;
 use crate::helper::HelperRoom;
-use crate::station::Station;
-use manager::Manager;
+use manager::{Manager, Station};
 use turn_lock::{Pass, TurnLock};
 use wol_disk::Disk;
 

@@ -5,7 +5,8 @@ ghost use Rattle.request_workers.specs.Requests.{AreOfVolumes};
 ghost use Rattle.request_workers.specs.declared.desk.Desk.{Desk};
 
 use crate::desk::Desk;
-use crate::request::{Outcome, Request};
+use request_turns::Outcome;
+use trace_windows::Request;
 use wol_disk::Disk;
 
 impl<D: Disk> Desk<D> {

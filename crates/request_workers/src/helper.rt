@@ -1,18 +1,19 @@
 // A helper beside the workers.
-ghost use Rattle.std.specs.Prelude.{◌≡◌, ◌⊎◌, ◌^◌, ◌≤◌, ◌<◌, ℕ, length, slice_index_or, IfErr, OnOk, Option, Some, None, is_ok, false};
+ghost use Rattle.std.specs.Prelude.{◌≡◌, ◌⊎◌, ◌^◌, ◌≤◌, ◌<◌, ℕ, length, slice_index_or, IfErr, OnOk, Option, Some, None, is_ok, true, false};
 ghost use Rattle.turn_lock.specs.Passes.{pass_lock, IsSamePass};
 ghost use Rattle.wol_model.specs.History.{helper};
 ghost use Rattle.manager.specs.Stands.{IsShared};
 ghost use Rattle.reclaimer.specs.Fetches.{HasData};
-ghost use Rattle.request_workers.specs.Helped.{IsPassAt, ArePassesAt, AreSharing, HasHelped, AreHelped, IsCause};
-ghost use Rattle.request_workers.specs.Turns.{notes_seen, IsBroken};
+ghost use Rattle.request_turns.specs.Counts.{HasCounted};
+ghost use Rattle.request_turns.specs.Helped.{IsPassAt, HasHelped, AreKept};
+ghost use Rattle.request_workers.specs.Counted.{HaveCounted};
+ghost use Rattle.request_workers.specs.Helped.{ArePassesAt, AreSharing, AreHelped, AreAllKept, IsCause};
+ghost use Rattle.request_turns.specs.Turns.{notes_seen, IsBroken};
 
-use crate::noted::leave_step;
-use crate::step::has_failed;
-use crate::tally::Tally;
 use logger::Shared;
 use manager::{Manager, StepFault};
-use reclaimer::{Fetch, Fetched, Gone, fetch, invalidate_one, put_home};
+use reclaimer::Fetch;
+use request_turns::{Tally, drop_turn, fetch_turn, put_turn};
 use std::sync::Wait;
 use turn_lock::{Pass, TurnLock};
 use wol_disk::Disk;
@@ -31,6 +32,8 @@ impl HelperRoom {
         ensures kept { (f : _) → self.old.fault ≡ Some f → self.new.fault ≡ Some f }
         ensures fault { (f : _) → self.new.fault ≡ Some f → (self.old.fault ≡ Some f) ⊎ ((f.0 ≡ volume) × (is_ok answer ≡ false)) }
         ensures fetch { self.new.fetch ≡ self.old.fetch }
+        ensures tally { self.new.tally ≡ self.old.tally }
+        ensures none { self.new.fault ≡ None → is_ok answer ≡ true }
     {
         match answer {
             Ok(did) => did,
@@ -41,84 +44,6 @@ impl HelperRoom {
                 false
             }
         }
-    }
-}
-
-// Reads a record with due blocks in one turn. Tells whether there was one.
-fn fetch_turn<D: Disk, R: Wait>(
-    rt: &R,
-    lock: &TurnLock<Manager<D>>,
-    pass: &mut Pass<Manager<D>>,
-    shared: &Shared<D>,
-    room: &mut Fetch,
-) -> Result<bool, StepFault>
-    requires pass { IsPassAt lock.now helper pass.old }
-    requires shared { IsShared shared.now (pass_lock pass.old).base }
-    ensures helped { HasHelped D.tells pass.old pass.new }
-    ensures data { HasData D.tells room.new (pass_lock pass.new).base (notes_seen pass.new) }
-    ensures cause { IfErr result (λ f. IsBroken (notes_seen pass.new)) }
-{
-    let mut turn = lock.enter(rt, pass);
-    let answer = fetch(rt, &mut turn.value, shared, room);
-    leave_step(lock, turn, pass, has_failed(&answer));
-    match answer {
-        Ok(Fetched::Some { .. }) => Ok(true),
-        Ok(Fetched::Nothing) => Ok(false),
-        Err(fault) => Err(fault),
-    }
-}
-
-// Puts home in one turn what was fetched. Tells whether there was anything.
-fn put_turn<D: Disk, R: Wait>(
-    rt: &R,
-    lock: &TurnLock<Manager<D>>,
-    pass: &mut Pass<Manager<D>>,
-    shared: &Shared<D>,
-    room: &Fetch,
-    tally: &mut Tally,
-) -> Result<bool, StepFault>
-    requires pass { IsPassAt lock.now helper pass.old }
-    requires shared { IsShared shared.now (pass_lock pass.old).base }
-    requires data { HasData D.tells room.now (pass_lock pass.old).base (notes_seen pass.old) }
-    ensures helped { HasHelped D.tells pass.old pass.new }
-    ensures cause { IfErr result (λ f. IsBroken (notes_seen pass.new)) }
-{
-    let mut turn = lock.enter(rt, pass);
-    let answer = put_home(rt, &mut turn.value, shared, room);
-    leave_step(lock, turn, pass, has_failed(&answer));
-    match answer {
-        Ok(blocks) => {
-            tally.count(blocks, 0);
-            Ok(blocks > 0)
-        }
-        Err(fault) => Err(fault),
-    }
-}
-
-// Gives up in one turn what may go of a record. Tells whether there was one.
-fn drop_turn<D: Disk, R: Wait>(
-    rt: &R,
-    lock: &TurnLock<Manager<D>>,
-    pass: &mut Pass<Manager<D>>,
-    shared: &Shared<D>,
-    tally: &mut Tally,
-) -> Result<bool, StepFault>
-    requires pass { IsPassAt lock.now helper pass.old }
-    requires shared { IsShared shared.now (pass_lock pass.old).base }
-    ensures helped { HasHelped D.tells pass.old pass.new }
-    ensures cause { IfErr result (λ f. IsBroken (notes_seen pass.new)) }
-{
-    let mut turn = lock.enter(rt, pass);
-    let answer = invalidate_one(rt, &mut turn.value, shared);
-    leave_step(lock, turn, pass, has_failed(&answer));
-    match answer {
-        Ok(Gone::Version(_)) => {
-            tally.count(0, 1);
-            Ok(true)
-        }
-        Ok(Gone::Trimmed(_)) => Ok(true),
-        Ok(Gone::Nothing) => Ok(false),
-        Err(fault) => Err(fault),
     }
 }
 
@@ -134,6 +59,8 @@ fn help_one<D: Disk, R: Wait>(
     requires pass { IsPassAt lock.now helper pass.old }
     requires shared { IsShared shared.now (pass_lock pass.old).base }
     ensures helped { HasHelped D.tells pass.old pass.new }
+    ensures counted { HasCounted D.tells help.old.tally help.new.tally pass.old pass.new }
+    ensures all_kept { help.new.fault ≡ None → AreKept pass.old pass.new }
     ensures kept { (f : _) → help.old.fault ≡ Some f → help.new.fault ≡ Some f }
     ensures fault { (f : _) → help.new.fault ≡ Some f → (help.old.fault ≡ Some f) ⊎ ((f.0 ≡ volume) × IsBroken (notes_seen pass.new)) }
 {
@@ -160,6 +87,9 @@ fn help_round<D: Disk, R: Wait>(
     requires shared { AreSharing shared.now helpers.old }
     requires cause { IsCause helpers.old help.old.fault }
     ensures helped { AreHelped D.tells helpers.old helpers.new }
+    ensures counted { HaveCounted D.tells help.old.tally help.new.tally helpers.old helpers.new }
+    ensures all_kept { AreAllKept help.new.fault helpers.old helpers.new }
+    ensures refused { help.new.fault ≡ None → help.old.fault ≡ None }
     ensures cause { IsCause helpers.new help.new.fault }
 {
     let mut did = false;
@@ -185,6 +115,9 @@ pub(crate) fn help<D: Disk, R: Wait>(
     requires shared { AreSharing shared.now helpers.old }
     requires cause { IsCause helpers.old help.old.fault }
     ensures helped { AreHelped D.tells helpers.old helpers.new }
+    ensures counted { HaveCounted D.tells help.old.tally help.new.tally helpers.old helpers.new }
+    ensures all_kept { AreAllKept help.new.fault helpers.old helpers.new }
+    ensures refused { help.new.fault ≡ None → help.old.fault ≡ None }
     ensures cause { IsCause helpers.new help.new.fault }
 {
     for _ in 0..rounds {

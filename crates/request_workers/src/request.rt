@@ -1,20 +1,6 @@
-// Requests, what becomes of them, and what a window gives.
-use manager::{Place, ReadRefusal, Sources, StepFault, WriteRefusal};
-use wol_model::Kind;
-
-/// What one piece of a trace line asks of a volume.
-#[derive(Clone, Copy, Debug, PartialEq, Eq)]
-pub struct Request {
-    /// Its number in the trace, counted from 0.
-    pub number: u64,
-    /// The number of its line, which its payload is made of.
-    pub line: u64,
-    pub volume: u32,
-    pub kind: Kind,
-    /// The first block.
-    pub lbn: u64,
-    pub count: u32,
-}
+// When a window reclaims, and what it gives.
+use manager::StepFault;
+use request_turns::Outcome;
 
 /// When a window reclaims, beside the drains that writes need.
 #[derive(Clone, Copy, Debug, PartialEq, Eq)]
@@ -24,21 +10,6 @@ pub enum Reclaim {
     Between,
     /// Beside the requests, and after them.
     Beside,
-}
-
-/// What became of a request.
-#[derive(Clone, Copy, Debug, PartialEq, Eq)]
-pub enum Outcome {
-    /// It was read. The mark is that of what was read.
-    Read { mark: u64, sources: Sources },
-    /// It was written, perhaps after a drain, since no logger had room.
-    Wrote { place: Place, drained: bool },
-    /// A read was refused.
-    NoRead(ReadRefusal),
-    /// A write, or its drain, was refused. It is never refused as full.
-    NoWrite(WriteRefusal),
-    /// An earlier request of the volume in this window wasn't answered.
-    NotRun,
 }
 
 /// What a window gives.

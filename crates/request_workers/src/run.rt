@@ -3,13 +3,13 @@ ghost use Rattle.std.specs.Prelude.{◌≡◌, ◌≤◌, ◌<◌, ◌+◌, ℕ,
 ghost use Rattle.request_workers.specs.Desks.{AreReady, AreServed};
 
 use crate::desk::Desk;
-use crate::request::Request;
 use crate::serve::serve_desk;
 use logger::Shared;
 use manager::Manager;
 use std::sync::Wait;
 use std::thread;
 use std::thread::Threads;
+use trace_windows::Request;
 use turn_lock::TurnLock;
 use wol_disk::Disk;
 use wol_io::Gate;

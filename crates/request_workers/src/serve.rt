@@ -3,18 +3,20 @@ ghost use Rattle.std.specs.Prelude.{◌≡◌, ◌≤◌, ◌<◌, [], ℕ, All,
 ghost use Rattle.turn_lock.specs.Passes.{pass_lock};
 ghost use Rattle.wol_model.specs.History.{worker};
 ghost use Rattle.manager.specs.Stands.{IsShared};
-ghost use Rattle.request_workers.specs.Helped.{IsPassAt};
-ghost use Rattle.request_workers.specs.Requests.{IsWithin, was_answered, own_requests};
+ghost use Rattle.request_turns.specs.Helped.{IsPassAt};
+ghost use Rattle.request_turns.specs.Requests.{IsWithin};
+ghost use Rattle.request_turns.specs.Counts.{HasCounted};
+ghost use Rattle.request_workers.specs.Requests.{was_answered, own_requests};
 ghost use Rattle.request_workers.specs.Desks.{IsReadyDesk};
-ghost use Rattle.request_workers.specs.Served.{HasAnswered, HasServed, HasServedNext};
+ghost use Rattle.request_turns.specs.Answered.{HasAnswered};
+ghost use Rattle.request_workers.specs.Served.{HasServed, HasServedNext};
 
 use crate::desk::Desk;
-use crate::read::read_turn;
-use crate::request::{Outcome, Request};
-use crate::write::write_turn;
 use logger::Shared;
 use manager::Manager;
+use request_turns::{Outcome, read_turn, write_turn};
 use std::sync::Wait;
+use trace_windows::Request;
 use turn_lock::TurnLock;
 use wol_disk::Disk;
 use wol_io::Gate;
@@ -35,6 +37,7 @@ fn serve_one<D: Disk, R: Wait>(
     ensures id { desk.new.id ≡ desk.old.id }
     ensures outcomes { desk.new.outcomes ≡ desk.old.outcomes }
     ensures fault { desk.new.fault ≡ desk.old.fault }
+    ensures counted { HasCounted D.tells desk.old.tally desk.new.tally desk.old.worker desk.new.worker }
 {
     match request.kind {
         Kind::Read => read_turn(

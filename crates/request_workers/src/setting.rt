@@ -6,10 +6,9 @@ ghost use Rattle.request_workers.specs.Floors.{IsFloor};
 use crate::desk::Desk;
 use crate::floor::Floor;
 use crate::helper::HelperRoom;
-use crate::payload::Payload;
-use crate::station::Station;
-use crate::tally::Tally;
+use manager::Station;
 use reclaimer::Fetch;
+use request_turns::{Payload, Tally};
 use std::alloc::Global;
 use wol_disk::{Disk, NoMemory};
 
@@ -57,7 +56,7 @@ fn move_all<D: Disk>(alloc: Global, floor: &mut Floor<D>, mut tools: Vec<Tools>)
             outcomes: Vec::new(alloc),
             payload,
             fetch,
-            tally: Tally::default(),
+            tally: Tally::new(),
             fault: None,
         });
         floor.helpers.push_reserved(helper);
@@ -103,7 +102,7 @@ pub fn set_up<D: Disk>(
         keepers,
         help: HelperRoom {
             fetch,
-            tally: Tally::default(),
+            tally: Tally::new(),
             fault: None,
         },
         room: stations,

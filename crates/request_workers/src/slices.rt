@@ -1,8 +1,10 @@
 // One window of requests, over lists of locks, desks and helpers.
 ghost use Rattle.std.specs.Prelude.{◌≡◌, ◌^◌, ◌≤◌, ◌<◌, [], ℕ, List, None, length, vec_len, vec_capacity, slice_index_or};
 ghost use Rattle.wol_model.specs.History.{helper};
+ghost use Rattle.request_turns.specs.Counts.{Counts};
+ghost use Rattle.request_workers.specs.Counted.{HaveCounted};
 ghost use Rattle.request_workers.specs.Desks.{AreReady, AreServed, AreNumbered};
-ghost use Rattle.request_workers.specs.Helped.{ArePassesAt, AreSharing, IsCause};
+ghost use Rattle.request_workers.specs.Helped.{ArePassesAt, AreSharing, AreAllKept, IsCause};
 ghost use Rattle.request_workers.specs.Requests.{AreOfVolumes};
 ghost use Rattle.request_workers.specs.Worked.{AreWorked, HelpedIn};
 ghost use Rattle.request_workers.specs.declared.desk.Desk.{Desk};
@@ -12,12 +14,14 @@ use crate::closing::close_all;
 use crate::desk::Desk;
 use crate::gather::collect;
 use crate::helper::HelperRoom;
-use crate::request::{Outcome, Reclaim, Request};
+use crate::request::Reclaim;
 use crate::run::serve_all;
 use logger::Shared;
 use manager::Manager;
+use request_turns::Outcome;
 use std::sync::Wait;
 use std::thread::Threads;
+use trace_windows::Request;
 use turn_lock::{Pass, TurnLock};
 use wol_disk::Disk;
 use wol_io::Gate;
@@ -45,6 +49,8 @@ fn serve_mode<'a, D: Disk + Send, G: Gate + Sync, R: Threads + Wait + Sync>(
     requires cause { IsCause helpers.old room.old.fault }
     ensures served { AreServed D.tells requests.now desks.old desks.new }
     ensures helped { HelpedIn D.tells reclaim helpers.old helpers.new }
+    ensures counted { HaveCounted D.tells room.old.tally room.new.tally helpers.old helpers.new }
+    ensures all_kept { AreAllKept room.new.fault helpers.old helpers.new }
     ensures cause { IsCause helpers.new room.new.fault }
 {
     match reclaim {
@@ -78,6 +84,7 @@ pub(crate) fn run_window<'a, D: Disk + Send, G: Gate + Sync, R: Threads + Wait +
     requires ids { AreNumbered desks.old }
     requires ready { AreReady locks.now shared.now 0 requests.now desks.old }
     requires faultless { (k : ℕ) (d : Desk _) → k < length desks.old → (slice_index_or desks.old k d).fault ≡ None }
+    requires fresh { (k : ℕ) (d : Desk _) → k < length desks.old → Counts 0 0 (slice_index_or desks.old k d).tally }
     requires helpers { length helpers.old ≡ length locks.now }
     requires few { length helpers.old ≤ 2 ^ 32 }
     requires passes { ArePassesAt locks.now helper helpers.old }
@@ -89,6 +96,8 @@ pub(crate) fn run_window<'a, D: Disk + Send, G: Gate + Sync, R: Threads + Wait +
     ensures len { length out.new.items ≡ length requests.now }
     ensures worked { AreWorked D.tells requests.now out.new.items reclaim desks.old desks.new }
     ensures helped { HelpedIn D.tells reclaim helpers.old helpers.new }
+    ensures counted { HaveCounted D.tells room.old.tally room.new.tally helpers.old helpers.new }
+    ensures all_kept { AreAllKept room.new.fault helpers.old helpers.new }
     ensures cause { IsCause helpers.new room.new.fault }
 {
     serve_mode(

@@ -1,16 +1,16 @@
 use Rattle.std.proofs.Common.{sym, ap, subst, ◌∙◌}
-use Rattle.manager_tests.specs.Locked.{HasOnePass}
+use Rattle.manager_tests.specs.Locked.{HasOnePass, HasTwoPasses}
 use Rattle.manager_tests.proofs.Steps.{sole_lane, home_lock, logger_lock, pool_lock}
 use Rattle.manager_tests.proofs.making.apart.Goals as goal
 
 pub sole-requires : goal.sole-requires
 sole-requires g c = let lane = sole_lane c.args.rig c.requires in (lane.0, ap (λ (v : _). v.items) c.release-spindle.ensures.lanes ∙ lane.1)
 
-pub journal-requires : goal.journal-requires
-journal-requires g c = subst (HasOnePass c.both-home_lock.result.0) (sym c.release-spindle.ensures.spindle) (home_lock c.args.rig c.requires c.both-home_lock.result.0 c.both-home_lock.result.1 c.both-home_lock.ensures)
+pub kept_journal-requires : goal.kept_journal-requires
+kept_journal-requires g c = subst (HasTwoPasses c.both-home_lock.result.0 c.args.rig.keeper) (sym c.release-spindle.ensures.spindle) (home_lock c.args.rig c.requires c.both-home_lock.result.0 c.both-home_lock.result.1 c.both-home_lock.ensures)
 
-pub journal-requires-2 : goal.journal-requires-2
-journal-requires-2 g c =
+pub journal-requires : goal.journal-requires
+journal-requires g c =
     let sole = sym (ap (λ (v : _). v.items) c.release-spindle.ensures.lanes) ∙ c.sole.ensures in
     subst (HasOnePass c.both-home_lock.result.1) (sym c.release-pool_pass.ensures.spindle)
     (logger_lock c.args.rig c.requires c.sole.result sole c.both-home_lock.result.0 c.both-home_lock.result.1 c.both-home_lock.ensures)

@@ -1,6 +1,6 @@
 use Rattle.std.proofs.Common.{◌≡◌, ◌≤◌, ◌<◌, ℕ, slice_index_or}
-use Rattle.request_workers.specs.Begun.{HasBegunVolume}
-use Rattle.request_workers.specs.Turns.{ManagerPass}
+use Rattle.request_turns.specs.Begun.{HasBegunVolume}
+use Rattle.request_turns.specs.Turns.{ManagerPass}
 use Rattle.request_workers.proofs.begin.begin_volumes.Given as goal
 
 abbrev pub invariant-loop-k : goal.invariant-loop-k

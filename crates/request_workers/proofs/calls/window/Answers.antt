@@ -3,9 +3,10 @@ use Rattle.std.specs.Option.{option_or}
 use Rattle.std.proofs.lemmas.List.{with_items_is}
 use Rattle.std.specs.Vec.{with_items}
 use Rattle.wol_model.specs.History.{helper}
-use Rattle.request_workers.specs.Turns.{ManagerPass}
+use Rattle.request_turns.specs.Turns.{ManagerPass}
 use Rattle.request_workers.specs.Worked.{AreWorked, HelpedIn, first_fault}
 use Rattle.request_workers.specs.declared.desk.Desk.{Desk}
+use Rattle.request_workers.proofs.Counted.{window_counts}
 use Rattle.request_workers.proofs.Roomy.{sharing, all_ready, all_roomy, floor_after, floor_same}
 use Rattle.request_workers.proofs.calls.window.Goals as goal
 
@@ -58,12 +59,18 @@ returns-clause-run g c =
     let s1 = c.make_room.auto.desks ∙ ap length c.as_mut_slice.ensures.value in
     let h = c.args.floor.now.helpers in let h1 = c.run_window.new.helpers in
     let f1 = with_items_is h h1 (c.run_window.auto.helpers ∙ c.as_mut_slice-3.ensures.len) in
+    let worked : AreWorked g.D.Disk.tells c.args.requests.now c.run_window.new.out.items c.args.reclaim v.items d2 =
+    all_roomy _ _ _ _ v.items d1 d2 s1 (rw c.as_mut_slice.ensures.value at c.in_ok-make_room.ensures.room) (rw (c.as_mut_slice-2.ensures.value ∙ e1) at c.run_window.ensures.worked) in
     record {
       len = c.run_window.ensures.len;
-      worked = rw e2 (all_roomy _ _ _ _ v.items d1 d2 s1 (rw c.as_mut_slice.ensures.value at c.in_ok-make_room.ensures.room) (rw (c.as_mut_slice-2.ensures.value ∙ e1) at c.run_window.ensures.worked));
+      worked = rw e2 worked;
       helped = rw f1 (rw c.as_mut_slice-3.ensures.value at c.run_window.ensures.helped);
       locks = refl;
       keepers = refl;
       fault = c.or-fault.ensures ∙ ap (option_or c.run_window.new.room.fault) (c.refused_turn-refused.ensures ∙ ap (λ (ds : List (Desk g.row.D.Denot)). first_fault 0 (map (λ (d : Desk g.row.D.Denot). d.fault) ds)) c.as_slice-3.ensures.value);
       cause = rw f1 c.run_window.ensures.cause;
+      kept = rw f1 (rw c.as_mut_slice-3.ensures.value at c.run_window.ensures.all_kept);
+      counted = λ honest helps. rw (e2, f1) (window_counts g.D.Disk.tells v.items d2 h.items h1 c.new-floor.result c.run_window.new.room.tally c.reclaimed-tally.result
+          (c.run_window.auto.desks ∙ (ap length (c.as_mut_slice-2.ensures.value ∙ e1) ∙ s1)) (λ k d i. (worked k d i).counted) c.new-floor.ensures
+          (rw c.as_mut_slice-3.ensures.value at c.run_window.ensures.counted) (rw (c.as_slice-2.ensures.value ∙ e2) at c.reclaimed-tally.ensures) honest helps);
     }

@@ -1,18 +1,5 @@
-use Rattle.std.proofs.Common.{refl, ◌∙◌}
-use Rattle.request_workers.proofs.ClosedTurn.{closed_stands, has_closed}
-use Rattle.request_workers.proofs.Taking.{home_at}
+use Rattle.std.proofs.Common.{refl}
 use Rattle.request_workers.proofs.closing.close_one.Goals as goal
 
-pub reclaim_all-answer-requires-clause-at : goal.reclaim_all-answer-requires-clause-at
-reclaim_all-answer-requires-clause-at g c = home_at _ _ _ _ _ _ _ c.enter-turn.ensures.same.0 c.enter-turn.ensures.value.keeps c.requires.shared
-
-pub leave_step-requires-clause-value : goal.leave_step-requires-clause-value
-leave_step-requires-clause-value g c = let r = c.reclaim_all-answer.ensures in
-    closed_stands _ _ _ _ c.reclaim_all-answer.result _ _ _ _ c.has_failed.ensures (c.enter-turn.ensures.same.1 ∙ c.requires.pass.number_is) r.keeps r.broke r.look c.enter-turn.ensures.value
-
 pub returns : goal.returns
-returns g c = let e = c.enter-turn.ensures in let r = c.reclaim_all-answer.ensures in let l = c.leave_step.ensures in record {
-  id = refl;
-  outcomes = refl;
-  closed = has_closed _ g.D.Disk.state c.enter-turn.result.value c.reclaim_all-answer.new.m c.reclaim_all-answer.result c.args.desk.now.worker c.enter-turn.new.pass _ _ _ c.refusal_in-desk.ensures r.idle r.down e.same e.seen e.mine e.own l.left l.broken;
-}
+returns g c = let r = c.reclaim_turn-desk.ensures in record { id = refl; outcomes = refl; closed = r.closed; counted = r.counted }

@@ -1,8 +1,13 @@
-use Rattle.request_workers.specs.Helped.{AreHelped, IsCause}
+use Rattle.std.proofs.Common.{◌≡◌, None}
+use Rattle.request_workers.specs.Counted.{HaveCounted}
+use Rattle.request_workers.specs.Helped.{AreHelped, AreAllKept, IsCause}
 use Rattle.request_workers.proofs.helper.help.Given as goal
 
 abbrev pub invariant-loop : goal.invariant-loop
 invariant-loop g l = record {
   helped : AreHelped g.D.Disk.tells l.initial.helpers l.helpers;
   cause : IsCause l.helpers l.help.fault;
+  all_kept : AreAllKept l.help.fault l.initial.helpers l.helpers;
+  refused : l.help.fault ≡ None → l.initial.help.fault ≡ None;
+  counted : HaveCounted g.D.Disk.tells l.initial.help.tally l.help.tally l.initial.helpers l.helpers;
 }

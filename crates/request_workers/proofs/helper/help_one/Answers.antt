@@ -1,5 +1,6 @@
 use Rattle.std.proofs.Common.{inl, inr, ⊎_elim}
-use Rattle.request_workers.proofs.HelpTurn.{helped_both, broken_helped, cause_of}
+use Rattle.request_workers.proofs.Counted.{helped_counted}
+use Rattle.request_workers.proofs.HelpTurn.{kept_helped, on_ok, refused_before, helped_both, broken_helped, cause_of}
 use Rattle.request_workers.proofs.helper.help_one.Goals as goal
 
 pub returns-clause-helped : goal.returns-clause-helped
@@ -15,3 +16,19 @@ returns-clause-fault g c f some =
     (c.took-put.ensures.fault f third))
     (λ t. inr (t.0, cause_of c.drop_turn-dropped.result dropped.cause t.1))
     (c.took-dropped.ensures.fault f some)
+
+pub returns-clause-counted : goal.returns-clause-counted
+returns-clause-counted g c =
+    let f = c.fetch_turn-fetched.ensures in let put = c.put_turn-put.ensures in let dropped = c.drop_turn-dropped.ensures in
+    rw c.took-dropped.ensures.tally
+    (helped_counted _ _ _ _ _ _ _ (helped_both _ _ _ _ f.helped put.helped) dropped.helped
+    (helped_counted _ _ _ _ _ _ _ f.helped put.helped (f.counted c.args.help.now.tally) (rw c.took-fetched.ensures.tally at put.counted))
+    (rw c.took-put.ensures.tally at dropped.counted))
+
+pub returns-clause-all_kept : goal.returns-clause-all_kept
+returns-clause-all_kept g c none =
+    let f = c.fetch_turn-fetched.ensures in let put = c.put_turn-put.ensures in let dropped = c.drop_turn-dropped.ensures in
+    let second = refused_before _ _ c.took-dropped.ensures.kept none in let first = refused_before _ _ c.took-put.ensures.kept second in
+    kept_helped _ _ _ _ (helped_both _ _ _ _ f.helped put.helped) dropped.helped
+    (kept_helped _ _ _ _ f.helped put.helped (on_ok c.fetch_turn-fetched.result f.kept (c.took-fetched.ensures.none first)) (on_ok c.put_turn-put.result put.kept (c.took-put.ensures.none second)))
+    (on_ok c.drop_turn-dropped.result dropped.kept (c.took-dropped.ensures.none none))

@@ -1,8 +1,10 @@
-use Rattle.std.proofs.Common.{rules, ◌≡◌, ◌≤◌, ◌<◌, length, slice_set, arith, sym, subst, get_or}
+use Rattle.std.proofs.Common.{rules, ◌≡◌, ◌≤◌, ◌<◌, length, slice_set, arith, refl, sym, subst, get_or}
 use Rattle.wol_model.specs.History.{helper}
-use Rattle.request_workers.specs.Helped.{ManagerLock, IsPassAt, HasHelped}
-use Rattle.request_workers.specs.Turns.{ManagerPass}
-use Rattle.request_workers.proofs.HelpTurn.{cause_set, step_helped, step_rest}
+use Rattle.request_turns.specs.Counts.{HasCounted}
+use Rattle.request_turns.specs.Helped.{AreKept, ManagerLock, IsPassAt, HasHelped}
+use Rattle.request_turns.specs.Turns.{ManagerPass}
+use Rattle.request_workers.proofs.Counted.{have_none, have_set}
+use Rattle.request_workers.proofs.HelpTurn.{cause_set, step_helped, step_rest, step_all_kept, refused_before}
 use Rattle.request_workers.proofs.helper.help_round.Goals as goal
 
 pub help_one-some-requires-clause-pass : goal.help_one-some-requires-clause-pass
@@ -28,4 +30,10 @@ loop-k-preserved g c =
       helped = step_helped _ c.args.helpers.now c.loop-k.helpers c.loop-k.k c.index-helpers-k.result c.help_one-some.new.pass within at helped i.rest i.helped;
       rest = step_rest _ c.args.helpers.now c.loop-k.helpers c.loop-k.k c.index-helpers-k.result c.help_one-some.new.pass within at helped i.rest;
       cause = cause_set _ c.loop-k.helpers c.loop-k.k c.index-helpers-k.result c.help_one-some.new.pass c.loop-k.help.fault c.help_one-some.new.help.fault within at helped i.cause e.fault same;
+      all_kept = λ none. step_all_kept c.args.helpers.now c.loop-k.helpers c.loop-k.k c.index-helpers-k.result c.help_one-some.new.pass within at (subst (λ (x : ManagerPass g.row.D.Denot). AreKept x c.help_one-some.new.pass) (sym at) (e.all_kept none)) i.rest (i.all_kept (refused_before _ _ e.kept none));
+      refused = λ none. i.refused (refused_before _ _ e.kept none);
+      counted = have_set _ c.args.helpers.now c.loop-k.helpers c.loop-k.k c.index-helpers-k.result c.help_one-some.new.pass _ _ _ c.loop-k.auto.helpers within at i.rest i.counted (subst (λ (x : ManagerPass g.row.D.Denot). HasCounted g.D.Disk.tells c.loop-k.help.tally c.help_one-some.new.help.tally x c.help_one-some.new.pass) (sym at) e.counted);
     }
+
+pub loop-k-init : goal.loop-k-init
+loop-k-init g c = record { helped = λ j d h. absurd (omega (arith, h)); rest = λ j d h. refl; cause = c.requires.cause; all_kept = λ none j d h. absurd (omega (arith, h)); refused = λ none. none; counted = have_none _ c.args.helpers.now c.args.help.now.tally }

@@ -1,6 +1,6 @@
 use Rattle.std.proofs.Common.{◌≤◌, ◌<◌, length, arith, sym, subst, get_or}
 use Rattle.request_workers.specs.Desks.{IsReadyDesk}
-use Rattle.request_workers.specs.Helped.{ManagerLock}
+use Rattle.request_turns.specs.Helped.{ManagerLock}
 use Rattle.request_workers.proofs.run.serve_run.Goals as goal
 
 pub serve_desk-requires : goal.serve_desk-requires

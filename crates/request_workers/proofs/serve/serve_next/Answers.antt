@@ -1,7 +1,8 @@
 use Rattle.std.proofs.Common.{refl, ap, sym, ◌∙◌, ◌++◌, ◌∷◌, [], Bool}
 use Rattle.request_workers.specs.Requests.{both, was_answered}
-use Rattle.request_workers.specs.declared.request.Outcome.TheVariants as outcome
-use Rattle.request_workers.proofs.Gaining.{gains_none, gains_turn, stays_turn}
+use Rattle.request_turns.specs.declared.outcome.Outcome.TheVariants as outcome
+use Rattle.request_turns.proofs.Counting.{counted_none}
+use Rattle.request_turns.proofs.Gaining.{gains_none, gains_turn, stays_turn}
 use Rattle.request_workers.proofs.Serving.{one_entry, is_run}
 use Rattle.request_workers.proofs.serve.serve_next.Goals as goal
 
@@ -20,6 +21,7 @@ returns-then-not-going g c = record {
   room = c.push_reserved.ensures.capacity;
   fault = tt;
   reclaim = refl;
+  counted = counted_none _ _ c.args.desk.now.tally;
 }
 
 pub returns : goal.returns
@@ -37,4 +39,5 @@ returns g c = let e = c.serve_one-outcome.ensures in let a = e.answered in recor
   room = c.push_reserved-2.ensures.capacity ∙ ap (λ v. v.cap) e.outcomes;
   fault = a.fault;
   reclaim = e.fault;
+  counted = e.counted;
 }

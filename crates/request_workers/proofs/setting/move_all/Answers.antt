@@ -5,7 +5,7 @@ use Rattle.request_workers.proofs.setting.move_all.Goals as goal
 pub loop-station-preserved : goal.loop-station-preserved
 loop-station-preserved g c = record {
   moving = moving_more _ c.in-Some.station
-      (record { id = c.in-Some.station.id; worker = c.in-Some.station.worker; outcomes = c.new.result; payload = c.unwrap-payload.result.payload; fetch = c.unwrap-payload.result.fetch; tally = c.default.result; fault = None })
+      (record { id = c.in-Some.station.id; worker = c.in-Some.station.worker; outcomes = c.new.result; payload = c.unwrap-payload.result.payload; fetch = c.unwrap-payload.result.fetch; tally = c.new-in-Some.result; fault = None })
       c.loop-station.floor _ c.loop-station.invariant.moving (record {
         room = search rules;
         locks = c.push_reserved.ensures.items;

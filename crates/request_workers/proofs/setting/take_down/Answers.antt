@@ -1,7 +1,7 @@
 use Rattle.std.proofs.Common.{◌≡◌, List, length, reverse, sym, ap, subst, ◌∙◌}
 use Rattle.std.proofs.lemmas.List.{length-reverse, with_items_is}
 use Rattle.manager.proofs.ReadThrough.{never_some}
-use Rattle.request_workers.specs.declared.station.Station.{Station}
+use Rattle.manager.specs.declared.station.Station.{Station}
 use Rattle.request_workers.specs.Stations.{IsMoved}
 use Rattle.request_workers.proofs.Stationed.{moved_of, stations_of}
 use Rattle.request_workers.proofs.setting.take_down.Goals as goal

@@ -9,7 +9,7 @@ collect-requires-clause-each g c k d h =
 
 pub returns-clause-worked : goal.returns-clause-worked
 returns-clause-worked g c =
-    all_worked _ _ _ _ _ _ c.requires.ids c.serve_mode.ensures.served c.close_all.ensures c.serve_mode.auto.desks _ _ (c.close_all.auto.desks ∙ c.serve_mode.auto.desks) c.collect.ensures.each
+    all_worked _ _ _ _ _ _ c.requires.ids c.serve_mode.ensures.served c.close_all.ensures c.serve_mode.auto.desks c.requires.fresh _ _ (c.close_all.auto.desks ∙ c.serve_mode.auto.desks) c.collect.ensures.each
 
 pub close_all-requires-clause-passes : goal.close_all-requires-clause-passes
 close_all-requires-clause-passes g c = passes_served _ c.args.shared.now c.args.requests.now _ _ _ c.requires.count c.serve_mode.auto.desks c.requires.ready c.serve_mode.ensures.served

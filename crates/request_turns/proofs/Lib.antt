@@ -1,0 +1,17 @@
+pub mod WriteNotes
+pub mod DrainNotes
+pub mod Merging
+pub mod Noting
+pub mod Turning
+pub mod ReadNotes
+pub mod WroteTurn
+pub mod StepNotes
+pub mod ClosedTurn
+pub mod Payloads
+pub mod Taking
+pub mod Waking
+pub mod Flagged
+pub mod Gaining
+pub mod HelpNotes
+pub mod Counting
+pub mod CountLaws

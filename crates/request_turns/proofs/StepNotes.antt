@@ -1,0 +1,95 @@
+-- Steps of reclaim: a turn of them and its entry, and one after another.
+use Rattle.std.proofs.Common.{◌≡◌, ◌<◌, ℕ, zero, suc, Bool, true, false, List, [], ◌∷◌, ◌++◌, Result, Ok, Err, refl, sym, subst, ◌∙◌, arith}
+use Rattle.wol_disk.specs.Disk.{State}
+use Rattle.wol_model.specs.History.{Kept, Broke, IsHelp}
+use Rattle.wol_model.specs.Index.{listed_in, left}
+use Rattle.wol_promise.specs.Policy.{Look, IsReclaim, AreReclaims}
+use Rattle.wol_promise.specs.Policy as policy
+use Rattle.wol_promise.specs.Ruled.{Noted, IsKeep, last_look}
+use Rattle.manager.specs.Reclaim.{OnKept, OnFailed, KeepsOn, BreaksOff, Always}
+use Rattle.manager.specs.Seen.{look_of_manager}
+use Rattle.manager.specs.Stands.{Keeps, Stands, nones_at}
+use Rattle.manager.specs.declared.base.ManagerBase.{ManagerBase}
+use Rattle.manager.specs.declared.manager.Manager.{Manager}
+use Rattle.manager.specs.declared.part.StepFault.{StepFault}
+use Rattle.manager.specs.declared.part.StepFault.TheVariants as fault
+use Rattle.manager.proofs.Frames.{stands_kept, none_passed}
+use Rattle.reclaimer.specs.Counts.{TakesOff, CountsPut, CountsGone}
+use Rattle.reclaimer.specs.Steps.{LooksPut, LooksGone}
+use Rattle.reclaimer.specs.declared.answers.Gone.{Gone}
+use Rattle.reclaimer.specs.declared.answers.Gone.TheVariants as gone
+use Rattle.request_turns.specs.Closed.{GoesOn}
+use Rattle.request_turns.specs.Counts.{CountsMore, HasTaken, gone_count}
+use Rattle.request_turns.specs.Entries.{note_of, step_operation, has_failed}
+use Rattle.request_turns.specs.declared.tally.Tally.{Tally}
+
+module _ {D : Type 0} (tells : Bool) (state : D → State) (old new : Manager D) (b : ManagerBase) (notes : List Noted) (pass : ℕ) where
+  kept_stands : IsKeep [] pass (look_of_manager old) (look_of_manager new) → last_look b.volume.began.look notes ≡ look_of_manager old → Keeps tells state new b notes
+      → Stands tells state new b (notes ++ note_of pass Kept (look_of_manager new) [] false ∷ [])
+  kept_stands keep is k = stands_kept tells state new b notes (note_of pass Kept (look_of_manager new) [] false) []
+      (record { operation_is = refl; look_is = refl; passed_is = refl; drain = refl; follows = λ _. (refl, subst (λ (l : Look). IsKeep [] pass l (look_of_manager new)) (sym is) keep) })
+      (none_passed (nones_at new.lanes.items b.lanes) notes (note_of pass Kept (look_of_manager new) [] false) refl k.passed) k
+
+  -- after a step, or steps, a manager stands for their entry
+  pub step_stands : {T : Type 0} (answer : Result T StepFault) (Where : ManagerBase → List Noted → Type 0) → Where b notes → OnKept answer (KeepsOn tells state old new Where) → OnFailed answer (BreaksOff tells state old new Where)
+      → OnKept answer (IsKeep [] pass (look_of_manager old) (look_of_manager new)) → last_look b.volume.began.look notes ≡ look_of_manager old → Keeps tells state old b notes
+      → Stands tells state new b (notes ++ note_of pass (step_operation (has_failed answer)) (look_of_manager new) [] false ∷ [])
+  step_stands (Ok x) Where w keeps breaks keep is k = kept_stands keep is (keeps b notes w k)
+  step_stands (Err (fault.DiskFault p)) Where w keeps breaks keep is k =
+      breaks b notes (note_of pass (Broke []) (look_of_manager new) [] false) w (record { operation_is = refl; look_is = refl; passed_is = refl; drain = refl; follows = λ _. refl }) k
+  step_stands (Err (fault.Down p)) Where w keeps breaks keep is k = kept_stands keep is (keeps b notes w k)
+
+pub step_helps : (failed : Bool) → IsHelp (step_operation failed)
+step_helps true = refl
+step_helps false = tt
+
+-- ---- One after another
+
+pub reclaims_then : (l k m : Look) → AreReclaims l k → IsReclaim k m → AreReclaims l m
+reclaims_then l k m (policy.none x) step = policy.more x m m step (policy.none m)
+reclaims_then l k m (policy.more x j y first rest) step = policy.more x j m first (reclaims_then j y m rest step)
+
+module _ {D : Type 0} where
+  pub put_goes : (old mid new : Manager D) (k : ℕ) → look_of_manager mid ≡ look_of_manager old → LooksPut (Ok k) mid new → GoesOn (look_of_manager old) (look_of_manager new)
+  put_goes old mid new zero same put l r = subst (AreReclaims l) (sym (put.0 refl ∙ same)) r
+  put_goes old mid new (suc k) same put l r = reclaims_then l (look_of_manager mid) (look_of_manager new) (subst (AreReclaims l) (sym same) r) (put.1 (omega arith))
+
+  pub gone_goes : (old new : Manager D) (g : Gone) → LooksGone (Ok g) old new → GoesOn (look_of_manager old) (look_of_manager new)
+  gone_goes old new (gone.Version v) step l r = reclaims_then l (look_of_manager old) (look_of_manager new) r step
+  gone_goes old new (gone.Trimmed v) step l r = reclaims_then l (look_of_manager old) (look_of_manager new) r step
+  gone_goes old new gone.Nothing same l r = subst (AreReclaims l) (sym same) r
+
+module _ (A B : Type 0) where
+  pub on_kept : (e : StepFault) (P Q : Type 0) → (P → Q) → OnKept {T = A} (Err e) P → OnKept {T = B} (Err e) Q
+  on_kept (fault.DiskFault p) P Q f h = tt
+  on_kept (fault.Down p) P Q f h = f h
+
+  pub on_failed : (e : StepFault) (P Q : Type 0) → (P → Q) → OnFailed {T = A} (Err e) P → OnFailed {T = B} (Err e) Q
+  on_failed (fault.DiskFault p) P Q f h = f h
+  on_failed (fault.Down p) P Q f h = tt
+
+module _ {D : Type 0} (tells : Bool) (state : D → State) (old mid new : Manager D) where
+  pub keeps_on : (Where : ManagerBase → List Noted → Type 0) → ((b : ManagerBase) (notes : List Noted) → Keeps tells state mid b notes → Where b notes) → KeepsOn tells state old mid Always → KeepsOn tells state mid new Where → KeepsOn tells state old new Always
+  keeps_on Where data_ first then b notes w k = then b notes (data_ b notes (first b notes tt k)) (first b notes tt k)
+
+  pub breaks_off : (Where : ManagerBase → List Noted → Type 0) → ((b : ManagerBase) (notes : List Noted) → Keeps tells state mid b notes → Where b notes) → KeepsOn tells state old mid Always → BreaksOff tells state mid new Where → BreaksOff tells state old new Always
+  breaks_off Where data_ first then b notes n w note k = then b notes n (data_ b notes (first b notes tt k)) note (first b notes tt k)
+
+-- ---- What is counted
+
+module _ {D : Type 0} where
+  pub put_taken : (old mid new : Manager D) (k : ℕ) → look_of_manager mid ≡ look_of_manager old → CountsPut (Ok k) (look_of_manager mid) (look_of_manager new) → (t u : Tally) → CountsMore k 0 t u → HasTaken t u (look_of_manager old) (look_of_manager new)
+  put_taken old mid new k same put t u more = record { blocks = k; records = 0; taken = subst (λ (l : Look). TakesOff k 0 l (look_of_manager new)) same put; counts = more }
+
+  -- where a block went home less is left
+  pub put_lowers : (old mid new : Manager D) (k : ℕ) → look_of_manager mid ≡ look_of_manager old → (0 < k → left (listed_in new.index.entries) < left (listed_in mid.index.entries)) → 0 < k
+      → left (listed_in new.index.entries) < left (listed_in old.index.entries)
+  put_lowers old mid new k same lowers some = subst (λ (l : Look). left (listed_in new.index.entries) < left l.listed) same (lowers some)
+
+pub gone_takes : (l m : Look) (g : Gone) → CountsGone (Ok g) l m → TakesOff 0 (gone_count g) l m
+gone_takes l m (gone.Version v) taken = taken
+gone_takes l m (gone.Trimmed v) taken = taken
+gone_takes l m gone.Nothing taken = taken
+
+pub gone_taken : (l m : Look) (g : Gone) (r : ℕ) → CountsGone (Ok g) l m → (t u : Tally) → CountsMore 0 r t u → r ≡ gone_count g → HasTaken t u l m
+gone_taken l m g r taken t u more is = record { blocks = 0; records = gone_count g; taken = gone_takes l m g taken; counts = subst (λ (k : ℕ). CountsMore 0 k t u) is more }

@@ -1,0 +1,186 @@
+-- A write's entry, where a log or home took it or it was refused.
+use Rattle.std.proofs.Common.{◌≡◌, ◌^◌, ℕ, Bool, true, false, List, [], ◌∷◌, ◌++◌, map, Option, None, Some, Result, Ok, Err, refl, sym, ap, subst, ◌∙◌, inl, inr}
+use Rattle.std.specs.Prelude.{IsSome, is_some, ◌↔◌}
+use Rattle.wol_disk.specs.Disk.{State, Block}
+use Rattle.turn_lock.specs.Passes.{pass_number}
+use Rattle.wol_model.specs.Blocks.{Write}
+use Rattle.wol_model.specs.ArrayLaws.{unversioned}
+use Rattle.wol_model.specs.History.{Wrote, Kept, Broke}
+use Rattle.wol_model.specs.Placing.{Home as AtHome, Log as InLog, Full as Nowhere}
+use Rattle.wol_model.specs.Placing as placing
+use Rattle.wol_promise.specs.Policy.{Look, place_of, placed, version_at}
+use Rattle.wol_promise.specs.Ruled.{Noted, IsStep, last_look}
+use Rattle.wol_promise.specs.Ruled as ruled
+use Rattle.logger.specs.Lanes.{logger_of}
+use Rattle.manager.specs.Answers.{home_write, log_write, failed_write, written, IsPlaceOf}
+use Rattle.manager.specs.Seen.{look_of_manager}
+use Rattle.manager.specs.Stands.{IsNote, passed_in}
+use Rattle.manager.specs.Writing as writing
+use Rattle.manager.specs.Writing.{HasLook, ruled_place}
+use Rattle.manager.specs.declared.manager.Manager.{Manager}
+use Rattle.manager.specs.declared.part.Part.{Part}
+use Rattle.manager.specs.declared.part.Part.TheVariants as part
+use Rattle.manager.specs.declared.part.Place.{Place}
+use Rattle.manager.specs.declared.part.Place.TheVariants as place
+use Rattle.manager.specs.declared.part.WriteRefusal.{WriteRefusal}
+use Rattle.manager.specs.declared.part.WriteRefusal.TheVariants.{Full, DiskFault, Down, VersionsSpent, NoMemory}
+use Rattle.manager.specs.Stands.{Keeps, Stands, Leaves}
+use Rattle.manager.specs.declared.base.ManagerBase.{ManagerBase}
+use Rattle.wol_model.specs.History.{worker}
+use Rattle.request_turns.specs.Counts.{CountsEntry}
+use Rattle.request_turns.specs.Entries.{note_of, full_note, written_outcome, is_full, IsWrittenAs, TellsFault}
+use Rattle.request_turns.specs.Turns.{ManagerPass, began, notes_seen, HasLeft, IsBroken, Stays}
+use Rattle.request_turns.specs.Written.{HasWritten}
+use Rattle.request_turns.specs.declared.tally.Tally.{Tally}
+use Rattle.request_turns.proofs.Counting.{entry_same, entry_quiet}
+
+-- a part that failed had this payload in flight
+pub one_flight : (next first : ℕ) (blocks : List Block) (p : Part) → unversioned (failed_write next first blocks p) ≡ home_write first blocks
+one_flight next first blocks (part.Home volume) = refl
+one_flight next first blocks (part.Segment volume index) = refl
+
+pub full_is : (a : Result Place WriteRefusal) → is_full a ≡ true → a ≡ Err Full
+full_is (Ok p) is = absurd (let no : false ≡ true = is in cc)
+full_is (Err Full) is = refl
+full_is (Err (DiskFault p)) is = absurd (let no : false ≡ true = is in cc)
+full_is (Err (Down p)) is = absurd (let no : false ≡ true = is in cc)
+full_is (Err VersionsSpent) is = absurd (let no : false ≡ true = is in cc)
+full_is (Err NoMemory) is = absurd (let no : false ≡ true = is in cc)
+
+module _ {D : Type 0} (old new : Manager D) (first : ℕ) (blocks : List Block) (pass : ℕ) where
+  abbrev w : Write
+  w = home_write first blocks
+
+  abbrev P : placing.Place
+  P = ruled_place old new first blocks
+
+  abbrev l : Look
+  l = look_of_manager old
+
+  abbrev pub write_note : Result Place WriteRefusal → Noted
+  write_note a = note_of pass (written old.next first blocks a) (look_of_manager new) (passed_in new.rooms.items) false
+
+  write_step : (view : List ℕ) (a : Result Place WriteRefusal) → IsPlaceOf view a P → HasLook P w a l (look_of_manager new) → IsStep (write_note a) pass (written old.next first blocks a) l (look_of_manager new)
+  write_step view (Ok place.Home) at look = inl (refl, ((λ no. absurd (let e : AtHome ≡ Nowhere = sym at ∙ no in cc)), sym (ap (λ (q : placing.Place). version_at q l) at), look))
+  write_step view (Ok (place.Log logger)) at look = inl (
+    refl,
+    (
+      (λ no. absurd (let e : InLog at.0 ≡ Nowhere = sym at.2 ∙ no in cc)),
+      sym (ap (λ (q : placing.Place). version_at q l) at.2),
+      look ∙ ap (λ (q : placing.Place). placed q l w) at.2 ∙ sym (ap (λ (q : placing.Place). placed q l (log_write old.next first blocks)) at.2),
+    ),
+  )
+  write_step view (Err Full) at look = (refl, ruled.same look)
+  write_step view (Err (DiskFault p)) at look = refl
+  write_step view (Err (Down p)) at look = (refl, ruled.same look)
+  write_step view (Err VersionsSpent) at look = (refl, ruled.same look)
+  write_step view (Err NoMemory) at look = (refl, ruled.same look)
+
+  pub is_write_note : (view : List ℕ) (a : Result Place WriteRefusal) → IsPlaceOf view a P → HasLook P w a l (look_of_manager new) → (k : Look) → k ≡ l
+      → IsNote k (written old.next first blocks a) (passed_in new.rooms.items) (look_of_manager new) (write_note a)
+  is_write_note view a at look k is = subst (λ (j : Look). IsNote j (written old.next first blocks a) (passed_in new.rooms.items) (look_of_manager new) (write_note a)) (sym is)
+      (record { operation_is = refl; look_is = refl; passed_is = refl; drain = refl; follows = λ _. write_step view a at look })
+
+  write_entry : (view : List ℕ) (a : Result Place WriteRefusal) → is_full a ≡ false → IsPlaceOf view a P → HasLook P w a l (look_of_manager new)
+      → ((a ≡ Err VersionsSpent) → old.next ≡ 2 ^ 63) → IsWrittenAs view w (written_outcome false a) (write_note a)
+  write_entry view (Ok place.Home) not_full at look spent = record { write = w; operation = refl; same = refl; logged = refl; placed = tt; drain = refl }
+  write_entry view (Ok (place.Log logger)) not_full at look spent = record {
+    write = log_write old.next first blocks;
+    operation = refl;
+    same = refl;
+    logged = refl;
+    placed = (_, _, ap (λ (k : Look). k.listed) (look ∙ ap (λ (q : placing.Place). placed q l w) at.2), at.1);
+    drain = refl;
+  }
+  write_entry view (Err Full) not_full at look spent = absurd (let no : true ≡ false = not_full in cc)
+  write_entry view (Err (DiskFault p)) not_full at look spent = (failed_write old.next first blocks p ∷ [], refl, inr (failed_write old.next first blocks p, refl, one_flight old.next first blocks p))
+  write_entry view (Err (Down p)) not_full at look spent = refl
+  write_entry view (Err VersionsSpent) not_full at look spent = (refl, ap (λ (k : Look). k.next) look ∙ spent refl)
+  write_entry view (Err NoMemory) not_full at look spent = refl
+
+  write_stays : (a : Result Place WriteRefusal) → HasLook P w a l (look_of_manager new) → (k : Look) → k ≡ l → written old.next first blocks a ≡ Kept → Stays k (write_note a)
+  write_stays (Ok place.Home) look k is kept = absurd (let no : Wrote (w ∷ []) ≡ Kept = kept in cc)
+  write_stays (Ok (place.Log logger)) look k is kept = absurd (let no : Wrote (log_write old.next first blocks ∷ []) ≡ Kept = kept in cc)
+  write_stays (Err Full) look k is kept = inl (look ∙ sym is)
+  write_stays (Err (DiskFault p)) look k is kept = absurd (let no : Broke (failed_write old.next first blocks p ∷ []) ≡ Kept = kept in cc)
+  write_stays (Err (Down p)) look k is kept = inl (look ∙ sym is)
+  write_stays (Err VersionsSpent) look k is kept = inl (look ∙ sym is)
+  write_stays (Err NoMemory) look k is kept = inl (look ∙ sym is)
+
+  write_counted : (a : Result Place WriteRefusal) → HasLook P w a l (look_of_manager new) → (k : Look) → k ≡ l → (t : Tally) → CountsEntry k (write_note a) t t
+  write_counted (Ok place.Home) look k is t = entry_quiet k (write_note (Ok place.Home)) t refl
+  write_counted (Ok (place.Log logger)) look k is t = entry_quiet k (write_note (Ok (place.Log logger))) t refl
+  write_counted (Err Full) look k is t = entry_same k (write_note (Err Full)) t (λ _. ap (λ (j : Look). j.listed) (look ∙ sym is))
+  write_counted (Err (DiskFault p)) look k is t = entry_quiet k (write_note (Err (DiskFault p))) t refl
+  write_counted (Err (Down p)) look k is t = entry_same k (write_note (Err (Down p))) t (λ _. ap (λ (j : Look). j.listed) (look ∙ sym is))
+  write_counted (Err VersionsSpent) look k is t = entry_same k (write_note (Err VersionsSpent)) t (λ _. ap (λ (j : Look). j.listed) (look ∙ sym is))
+  write_counted (Err NoMemory) look k is t = entry_same k (write_note (Err NoMemory)) t (λ _. ap (λ (j : Look). j.listed) (look ∙ sym is))
+
+-- a refusal that tells of a part comes where the manager is down after the call
+pub write_fault : {D : Type 0} (state : D → State) (old new : Manager D) (drained : Bool) (seen : List Noted) (a : Result Place WriteRefusal) → writing.TellsFault state a old new
+    → ((p : Part) → (a ≡ Err (Down p)) ↔ (old.down ≡ Some p)) → (IsSome new.down → IsBroken seen) → TellsFault seen (written_outcome drained a)
+write_fault state old new drained seen (Ok p) told down broken = tt
+write_fault state old new drained seen (Err Full) told down broken = tt
+write_fault state old new drained seen (Err (DiskFault p)) told down broken = broken (ap is_some told.0)
+write_fault state old new drained seen (Err (Down p)) told down broken = broken (ap is_some (told ∙ (down p).0 refl))
+write_fault state old new drained seen (Err VersionsSpent) told down broken = tt
+write_fault state old new drained seen (Err NoMemory) told down broken = tt
+
+module _ {D : Type 0} (tells : Bool) (state : D → State) (old new : Manager D) (first : ℕ) (blocks : List Block) (a : Result Place WriteRefusal) (next : ℕ) (is_next : next ≡ old.next) where
+  abbrev at_next : (pass : ℕ) → Noted
+  at_next pass = note_of pass (written next first blocks a) (look_of_manager new) (passed_in new.rooms.items) false
+
+  to_next : (Q : Noted → Type 0) (pass : ℕ) → Q (write_note old new first blocks pass a) → Q (at_next pass)
+  to_next Q pass q = subst (λ (k : ℕ). Q (note_of pass (written k first blocks a) (look_of_manager new) (passed_in new.rooms.items) false)) (sym is_next) q
+
+  pub write_stands : (b : ManagerBase) (notes : List Noted) (pass : ℕ) (view : List ℕ) → pass ≡ worker → last_look b.volume.began.look notes ≡ look_of_manager old
+      → IsPlaceOf view a (ruled_place old new first blocks) → HasLook (ruled_place old new first blocks) (home_write first blocks) a (look_of_manager old) (look_of_manager new)
+      → Leaves tells state old new (written old.next first blocks a) (passed_in new.rooms.items) worker → Keeps tells state old b notes
+      → Stands tells state new b (notes ++ note_of pass (written next first blocks a) (look_of_manager new) (passed_in new.rooms.items) false ∷ [])
+  write_stands b notes pass view client is at look stands keeps =
+      to_next (λ n. Stands tells state new b (notes ++ n ∷ [])) pass
+      (stands b notes (write_note old new first blocks pass a) client (is_write_note old new first blocks pass view a at look (last_look b.volume.began.look notes) is) keeps)
+
+  pub has_written : (p q : ManagerPass D) (t : Tally)
+      → is_full a ≡ false → map logger_of old.lanes.items ≡ (began p).view → last_look (began p).look (notes_seen p) ≡ look_of_manager old
+      → IsPlaceOf (map logger_of old.lanes.items) a (ruled_place old new first blocks) → HasLook (ruled_place old new first blocks) (home_write first blocks) a (look_of_manager old) (look_of_manager new)
+      → ((d : Part) → (a ≡ Err (Down d)) ↔ (old.down ≡ Some d)) → ((a ≡ Err VersionsSpent) ↔ ((old.down ≡ None) × (old.next ≡ 2 ^ 63))) → writing.TellsFault state a old new
+      → HasLeft tells (note_of (pass_number p) (written next first blocks a) (look_of_manager new) (passed_in new.rooms.items) false) p q → (IsSome new.down → IsBroken (notes_seen q))
+      → HasWritten tells first blocks (written_outcome false a) t t p q
+  has_written p q t not_full view is at look down spent told left broken = record {
+    note = write_note old new first blocks (pass_number p) a;
+    left = subst (λ (k : ℕ). HasLeft tells (note_of (pass_number p) (written k first blocks a) (look_of_manager new) (passed_in new.rooms.items) false) p q) is_next left;
+    ruled = refl;
+    entry = write_entry old new first blocks (pass_number p) (began p).view a not_full (subst (λ (v : List ℕ). IsPlaceOf v a (ruled_place old new first blocks)) view at) look (λ e. (spent.0 e).1);
+    stays = write_stays old new first blocks (pass_number p) a look (last_look (began p).look (notes_seen p)) is;
+    fault = write_fault state old new false (notes_seen q) a told down broken;
+    counted = write_counted old new first blocks (pass_number p) a look (last_look (began p).look (notes_seen p)) is t;
+  }
+
+-- ---- A write that is refused as full
+
+differ : (p : Part) → (let f : Result Place WriteRefusal = Err Full in let r : Result Place WriteRefusal = Err (Down p) in f ≡ r) → ⊥
+differ p is = absurd (let no : true ≡ false = ap is_full is in cc)
+
+no_part : (o : Option Part) → ((p : Part) → o ≡ Some p → ⊥) → o ≡ None
+no_part None not = refl
+no_part (Some p) not = absurd (not p refl)
+
+module _ {D : Type 0} (old new : Manager D) (first : ℕ) (blocks : List Block) (a : Result Place WriteRefusal) (full : is_full a ≡ true) (k : Look) (is_l : k ≡ look_of_manager old) where
+  pub full_place : (view : List ℕ) → IsPlaceOf view a (ruled_place old new first blocks) → place_of (passed_in new.rooms.items) k (home_write first blocks) ≡ Nowhere
+  full_place view at = ap (λ (j : Look). place_of (passed_in new.rooms.items) j (home_write first blocks)) is_l
+      ∙ subst (λ (r : Result Place WriteRefusal). IsPlaceOf view r (ruled_place old new first blocks)) (full_is a full) at
+
+  pub full_look : HasLook (ruled_place old new first blocks) (home_write first blocks) a (look_of_manager old) (look_of_manager new) → look_of_manager new ≡ k
+  full_look look = subst (λ (r : Result Place WriteRefusal). HasLook (ruled_place old new first blocks) (home_write first blocks) r (look_of_manager old) (look_of_manager new)) (full_is a full) look ∙ sym is_l
+
+  pub full_up : (state : D → State) → ((p : Part) → (a ≡ Err (Down p)) ↔ (old.down ≡ Some p)) → writing.TellsFault state a old new → new.down ≡ None
+  full_up state down told = subst (λ (r : Result Place WriteRefusal). writing.TellsFault state r old new) (full_is a full) told
+      ∙ no_part old.down (λ p is. absurd (differ p (sym (full_is a full) ∙ (down p).1 is)))
+
+  pub full_keeps : (tells : Bool) (state : D → State) (b : ManagerBase) (notes : List Noted) (pass : ℕ) → pass ≡ worker
+      → Leaves tells state old new (written old.next first blocks a) (passed_in new.rooms.items) worker → Keeps tells state old b notes
+      → Keeps tells state new b (notes ++ full_note pass (look_of_manager new) (passed_in new.rooms.items) ∷ [])
+  full_keeps tells state b notes pass client stands keeps =
+      (stands b notes (full_note pass (look_of_manager new) (passed_in new.rooms.items)) client
+      (record { operation_is = sym (ap (written old.next first blocks) (full_is a full)); look_is = refl; passed_is = refl; drain = refl; follows = λ is. absurd (let no : false ≡ true = is in cc) }) keeps).keeps

@@ -1,0 +1,42 @@
+use Rattle.std.proofs.Common.{[], false, refl, ap, subst, ◌∙◌, Result}
+use Rattle.manager.specs.Reclaim.{Always}
+use Rattle.manager.specs.Seen.{look_of_manager}
+use Rattle.manager.specs.declared.part.StepFault.{StepFault}
+use Rattle.reclaimer.specs.Counts.{CountsGone}
+use Rattle.reclaimer.specs.declared.answers.Gone.{Gone}
+use Rattle.turn_lock.specs.Passes.{pass_number}
+use Rattle.request_turns.specs.Entries.{note_of, step_operation, has_failed}
+use Rattle.request_turns.proofs.Counting.{counted_turn}
+use Rattle.request_turns.specs.Counts.{gone_count}
+use Rattle.request_turns.proofs.StepNotes.{gone_takes}
+use Rattle.request_turns.proofs.HelpNotes.{gone_keep, help_stands, has_helped, step_kept, done_counted, refused_counted}
+use Rattle.request_turns.proofs.Taking.{home_at}
+use Rattle.request_turns.proofs.help.drop_turn.Goals as goal
+
+pub invalidate_one-answer-requires-clause-at : goal.invalidate_one-answer-requires-clause-at
+invalidate_one-answer-requires-clause-at g c = home_at _ _ _ _ _ _ _ c.enter-turn.ensures.same.0 c.enter-turn.ensures.value.keeps c.requires.shared
+
+pub leave_step-requires-clause-value : goal.leave_step-requires-clause-value
+leave_step-requires-clause-value g c = let r = c.invalidate_one-answer.ensures in let e = c.enter-turn.ensures in
+    help_stands _ _ c.enter-turn.result.value c.invalidate_one-answer.new.m _ _ _ c.invalidate_one-answer.result _ c.has_failed.ensures Always tt r.keeps r.broke
+    (gone_keep c.enter-turn.result.value c.invalidate_one-answer.new.m _ c.invalidate_one-answer.result (e.same.1 ∙ c.requires.pass.number_is) r.look) e.value
+
+pub returns-in-Ok-clause-helped : goal.returns-in-Ok-clause-helped
+returns-in-Ok-clause-helped g c = let e = c.enter-turn.ensures in has_helped _ _ _ _ _ _ e.same e.seen e.mine e.own c.leave_step.ensures.left
+
+pub returns-in-Err-clause-helped : goal.returns-in-Err-clause-helped
+returns-in-Err-clause-helped g c = let e = c.enter-turn.ensures in has_helped _ _ _ _ _ _ e.same e.seen e.mine e.own c.leave_step.ensures.left
+
+pub returns-in-Ok-clause-counted : goal.returns-in-Ok-clause-counted
+returns-in-Ok-clause-counted g c = let e = c.enter-turn.ensures in let i = c.enter-turn.new.pass in let l = look_of_manager c.enter-turn.result.value in let m = look_of_manager c.invalidate_one-answer.new.m in
+    counted_turn _ _ i _ (note_of (pass_number i) (step_operation c.has_failed.result) m [] false) l c.args.tally.now c.count_gone.new.tally e.same e.seen e.mine e.own c.leave_step.ensures.left refl e.value.look
+    (done_counted Gone l m (pass_number i) c.in-Ok.gone c.has_failed.result 0 (gone_count c.in-Ok.gone) c.args.tally.now c.count_gone.new.tally (c.has_failed.ensures ∙ ap has_failed c.in-Ok.is)
+    (gone_takes l m c.in-Ok.gone (subst (λ (a : Result Gone StepFault). CountsGone a l m) c.in-Ok.is c.invalidate_one-answer.ensures.counted)) c.count_gone.ensures)
+
+pub returns-in-Err-clause-counted : goal.returns-in-Err-clause-counted
+returns-in-Err-clause-counted g c = let e = c.enter-turn.ensures in let i = c.enter-turn.new.pass in let l = look_of_manager c.enter-turn.result.value in let m = look_of_manager c.invalidate_one-answer.new.m in
+    counted_turn _ _ i _ (note_of (pass_number i) (step_operation c.has_failed.result) m [] false) l c.args.tally.now c.args.tally.now e.same e.seen e.mine e.own c.leave_step.ensures.left refl e.value.look
+    (refused_counted Gone l m (pass_number i) c.in-Err.fault c.has_failed.result c.args.tally.now (c.has_failed.ensures ∙ ap has_failed c.in-Err.is) (subst (λ (a : Result Gone StepFault). CountsGone a l m) c.in-Err.is c.invalidate_one-answer.ensures.counted))
+
+pub returns-in-Ok-clause-kept : goal.returns-in-Ok-clause-kept
+returns-in-Ok-clause-kept g c = step_kept _ _ c.enter-turn.new.pass _ _ _ c.invalidate_one-answer.result _ c.in-Ok.is c.has_failed.ensures c.enter-turn.ensures.mine c.leave_step.ensures.left

@@ -1,0 +1,188 @@
+-- The entry that a request leaves, by its outcome.
+use Rattle.std.specs.Prelude.{⊤, ◌≡◌, ◌⊎◌, ◌+◌, ◌^◌, ◌∷◌, ◌++◌, ℕ, Bool, true, false, List, [], Option, None, Some, is_some, slice_get, count_by, length, Result, Ok, Err}
+use Rattle.std.specs.List.{range_with_len}
+use Rattle.wol_disk.specs.Disk.{Block}
+use Rattle.wol_model.specs.ArrayLaws.{unversioned}
+use Rattle.wol_model.specs.Blocks.{Write}
+use Rattle.wol_model.specs.History.{Operation, Wrote, Read, Kept, Broke}
+use Rattle.wol_model.specs.Index.{Listed, is_covered}
+use Rattle.wol_model.specs.Trace as trace
+use Rattle.wol_model.specs.Trace.{payload}
+use Rattle.wol_model.specs.declared.trace.Kind.TheVariants as kind
+use Rattle.wol_promise.specs.Policy.{Look}
+use Rattle.wol_promise.specs.Ruled.{Noted}
+use Rattle.manager.specs.declared.part.Place.{Place}
+use Rattle.manager.specs.declared.part.Place.TheVariants as place
+use Rattle.manager.specs.declared.part.ReadRefusal.{ReadRefusal}
+use Rattle.manager.specs.declared.part.ReadRefusal.TheVariants as refused_read
+use Rattle.manager.specs.declared.part.Sources.{Sources}
+use Rattle.manager.specs.declared.part.StepFault.{StepFault}
+use Rattle.manager.specs.declared.part.StepFault.TheVariants as fault
+use Rattle.manager.specs.declared.part.WriteRefusal.{WriteRefusal}
+use Rattle.manager.specs.declared.part.WriteRefusal.TheVariants as refused
+use Rattle.request_turns.specs.Turns.{IsBroken}
+use Rattle.trace_windows.specs.Requests.{asked}
+use Rattle.trace_windows.specs.declared.request.Request.{Request}
+use Rattle.request_turns.specs.declared.outcome.Outcome.{Outcome}
+use Rattle.request_turns.specs.declared.outcome.Outcome.TheVariants as outcome
+
+-- ---- Notes
+
+-- a ruled entry of this pass, that leaves this look
+abbrev pub note_of : (pass : ℕ) → Operation → Look → (passed : List ℕ) → (after_drain : Bool) → Noted
+note_of pass operation look passed after_drain = record { entry = record { pass = pass; operation = operation }; look = look; passed = passed; after_drain = after_drain; ruled = true }
+
+-- the note of a refused write that isn't an entry of its own, since a drain follows
+abbrev pub full_note : (pass : ℕ) → Look → (passed : List ℕ) → Noted
+full_note pass look passed = record { entry = record { pass = pass; operation = Kept }; look = look; passed = passed; after_drain = false; ruled = false }
+
+-- the operation of a turn with steps of reclaim
+abbrev pub step_operation : (failed : Bool) → Operation
+step_operation true = Broke []
+step_operation false = Kept
+
+-- a step failed at a disk
+abbrev pub has_failed : {T : Type 0} → Result T StepFault → Bool
+has_failed (Ok x) = false
+has_failed (Err (fault.DiskFault p)) = true
+has_failed (Err (fault.Down p)) = false
+
+-- a write failed at a disk
+abbrev pub has_broken : Result Place WriteRefusal → Bool
+has_broken (Ok place) = false
+has_broken (Err refused.Full) = false
+has_broken (Err (refused.DiskFault p)) = true
+has_broken (Err (refused.Down p)) = false
+has_broken (Err refused.VersionsSpent) = false
+has_broken (Err refused.NoMemory) = false
+
+-- the refusal of a step that was refused
+abbrev pub refusal_in : {T : Type 0} → Result T StepFault → Option StepFault
+refusal_in (Ok x) = None
+refusal_in (Err f) = Some f
+
+-- ---- Outcomes
+
+-- the place is a log
+abbrev pub is_log : Place → Bool
+is_log place.Home = false
+is_log (place.Log logger) = true
+
+-- the outcome of a read that gave these blocks
+abbrev pub read_outcome : List Block → Result Sources ReadRefusal → Outcome
+read_outcome blocks (Ok sources) = outcome.Read (trace.mark blocks) sources
+read_outcome blocks (Err refusal) = outcome.NoRead refusal
+
+-- the outcome of a write with this answer
+abbrev pub written_outcome : (drained : Bool) → Result Place WriteRefusal → Outcome
+written_outcome drained (Ok place) = outcome.Wrote place drained
+written_outcome drained (Err refusal) = outcome.NoWrite refusal
+
+-- it was refused as full
+abbrev pub is_full : Result Place WriteRefusal → Bool
+is_full (Ok place) = false
+is_full (Err refused.Full) = true
+is_full (Err (refused.DiskFault p)) = false
+is_full (Err (refused.Down p)) = false
+is_full (Err refused.VersionsSpent) = false
+is_full (Err refused.NoMemory) = false
+
+-- a write is refused as its drain was
+abbrev pub refused_as : StepFault → WriteRefusal
+refused_as (fault.DiskFault p) = refused.DiskFault p
+refused_as (fault.Down p) = refused.Down p
+
+-- ---- Entries
+
+-- a Read of the request's range, with the mark of its reply; so many of its blocks came from logs as records cover
+pub record IsReadEntry (r : Request) (mark : ℕ) (sources : Sources) (n : Noted) : Type 0 where
+  pub kind_is : r.kind ≡ kind.Read
+  pub reply : List Block
+  pub operation : n.entry.operation ≡ Read r.lbn reply
+  pub count : length reply ≡ r.count
+  pub marked : mark ≡ trace.mark reply
+  pub logged : sources.logged ≡ count_by (is_covered n.look.listed) (range_with_len r.lbn r.count)
+  pub all : sources.home + sources.logged ≡ r.count
+
+-- a write to a log left the newest record on this logger
+abbrev pub IsPlaced : (view : List ℕ) → Place → Look → Type 0
+IsPlaced view place.Home l = ⊤
+IsPlaced view (place.Log logger) l = (front : List Listed) × (e : Listed) × (l.listed ≡ front ++ e ∷ []) × (slice_get view e.lane ≡ Some logger)
+
+-- a Wrote of this payload, with a version exactly where it went to a log
+pub record IsWriteEntry (view : List ℕ) (w : Write) (place : Place) (drained : Bool) (n : Noted) : Type 0 where
+  pub write : Write
+  pub operation : n.entry.operation ≡ Wrote (write ∷ [])
+  pub same : unversioned write ≡ w
+  pub logged : is_some write.version ≡ is_log place
+  pub placed : IsPlaced view place n.look
+  pub drain : n.after_drain ≡ drained
+
+-- in flight was nothing, or this payload
+abbrev pub IsFlight : Write → List Write → Type 0
+IsFlight w ws = (ws ≡ []) ⊎ ((v : Write) × (ws ≡ v ∷ []) × (unversioned v ≡ w))
+
+-- what a refused read leaves
+abbrev pub IsRefusedRead : ReadRefusal → Noted → Type 0
+IsRefusedRead (refused_read.DiskFault p) n = n.entry.operation ≡ Broke []
+IsRefusedRead (refused_read.Down p) n = n.entry.operation ≡ Kept
+
+-- what a refused write of this payload leaves; none is refused as full
+abbrev pub IsRefusedWrite : Write → WriteRefusal → Noted → Type 0
+IsRefusedWrite w refused.Full n = ⊥
+IsRefusedWrite w (refused.DiskFault p) n = (ws : List Write) × (n.entry.operation ≡ Broke ws) × IsFlight w ws
+IsRefusedWrite w (refused.Down p) n = n.entry.operation ≡ Kept
+IsRefusedWrite w refused.VersionsSpent n = (n.entry.operation ≡ Kept) × (n.look.next ≡ 2 ^ 63)
+IsRefusedWrite w refused.NoMemory n = n.entry.operation ≡ Kept
+
+-- the entry of a write of this payload with this outcome
+abbrev pub IsWrittenAs : (view : List ℕ) → Write → Outcome → Noted → Type 0
+IsWrittenAs view w (outcome.Read mark sources) n = ⊥
+IsWrittenAs view w (outcome.Wrote place drained) n = IsWriteEntry view w place drained n
+IsWrittenAs view w (outcome.NoRead refusal) n = ⊥
+IsWrittenAs view w (outcome.NoWrite refusal) n = IsRefusedWrite w refusal n
+IsWrittenAs view w outcome.NotRun n = ⊥
+
+-- the entry of a request with this outcome; `view` has the loggers of the volume's view
+abbrev pub IsEntryOf : (view : List ℕ) → Request → Outcome → Noted → Type 0
+IsEntryOf view r (outcome.Read mark sources) n = IsReadEntry r mark sources n
+IsEntryOf view r (outcome.Wrote place drained) n = (r.kind ≡ kind.Write) × IsWriteEntry view (payload (asked r)) place drained n
+IsEntryOf view r (outcome.NoRead refusal) n = (r.kind ≡ kind.Read) × IsRefusedRead refusal n
+IsEntryOf view r (outcome.NoWrite refusal) n = (r.kind ≡ kind.Write) × IsRefusedWrite (payload (asked r)) refusal n
+IsEntryOf view r outcome.NotRun n = ⊥
+
+-- the entries of a request: one, and none where it wasn't run
+abbrev pub AreEntriesOf : (view : List ℕ) → Request → Outcome → List Noted → Type 0
+AreEntriesOf view r outcome.NotRun notes = notes ≡ []
+AreEntriesOf view r (outcome.Read mark sources) notes = (n : Noted) × (notes ≡ n ∷ []) × IsEntryOf view r (outcome.Read mark sources) n
+AreEntriesOf view r (outcome.Wrote place drained) notes = (n : Noted) × (notes ≡ n ∷ []) × IsEntryOf view r (outcome.Wrote place drained) n
+AreEntriesOf view r (outcome.NoRead refusal) notes = (n : Noted) × (notes ≡ n ∷ []) × IsEntryOf view r (outcome.NoRead refusal) n
+AreEntriesOf view r (outcome.NoWrite refusal) notes = (n : Noted) × (notes ≡ n ∷ []) × IsEntryOf view r (outcome.NoWrite refusal) n
+
+-- the entries of requests with these outcomes, in order; there are as many outcomes as requests
+abbrev pub AreMade : (view : List ℕ) → List Request → List Outcome → List Noted → Type 0
+AreMade view [] [] notes = notes ≡ []
+AreMade view [] (o ∷ os) notes = ⊥
+AreMade view (r ∷ rs) [] notes = ⊥
+AreMade view (r ∷ rs) (o ∷ os) notes = (first rest : List Noted) × (notes ≡ first ++ rest) × AreEntriesOf view r o first × AreMade view rs os rest
+
+-- ---- Causes
+
+-- a refusal that tells of a disk comes only where a disk call failed
+abbrev pub TellsOfRead : ReadRefusal → List Noted → Type 0
+TellsOfRead (refused_read.DiskFault p) seen = IsBroken seen
+TellsOfRead (refused_read.Down p) seen = IsBroken seen
+
+abbrev pub TellsOfWrite : WriteRefusal → List Noted → Type 0
+TellsOfWrite refused.Full seen = ⊤
+TellsOfWrite (refused.DiskFault p) seen = IsBroken seen
+TellsOfWrite (refused.Down p) seen = IsBroken seen
+TellsOfWrite refused.VersionsSpent seen = ⊤
+TellsOfWrite refused.NoMemory seen = ⊤
+
+abbrev pub TellsFault : List Noted → Outcome → Type 0
+TellsFault seen (outcome.Read mark sources) = ⊤
+TellsFault seen (outcome.Wrote place drained) = ⊤
+TellsFault seen (outcome.NoRead refusal) = TellsOfRead refusal seen
+TellsFault seen (outcome.NoWrite refusal) = TellsOfWrite refusal seen
+TellsFault seen outcome.NotRun = ⊤

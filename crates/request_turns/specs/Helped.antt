@@ -1,0 +1,37 @@
+-- What turns of a helper make of its pass.
+use Rattle.std.specs.Prelude.{◌≡◌, ℕ, Bool, List, drop, length}
+use Rattle.std.specs.List.{AllByRecursion}
+use Rattle.turn_lock.specs.Histories.{Entry}
+use Rattle.turn_lock.specs.Passes.{pass_number, pass_mine, IsPassOf, IsFree}
+use Rattle.turn_lock.specs.declared.lock.TurnLock.{TurnLock}
+use Rattle.wol_model.specs.History.{Kept}
+use Rattle.wol_promise.specs.Ruled.{Noted}
+use Rattle.manager.specs.Stands.{notes_of}
+use Rattle.manager.specs.declared.base.ManagerBase.{ManagerBase}
+use Rattle.manager.specs.declared.manager.Manager.{Manager}
+use Rattle.request_turns.specs.Turns.{ManagerPass, Gains, AreHelp}
+
+-- the lock of a manager
+abbrev pub ManagerLock : Type 0 → Type 0
+ManagerLock D = TurnLock (Manager D) ManagerBase
+
+-- a pass of the lock in no turn, with this number
+pub record IsPassAt {D : Type 0} (l : ManagerLock D) (number : ℕ) (p : ManagerPass D) : Type 0 where
+  pub own : IsPassOf l p
+  pub free : IsFree p
+  pub number_is : pass_number p ≡ number
+
+-- turns whose entries change no content
+pub record HasHelped {D : Type 0} (tells : Bool) (p q : ManagerPass D) : Type 0 where
+  pub more : List Entry
+  pub notes : List Noted
+  pub gains : Gains tells p q more notes
+  pub help : AreHelp notes
+
+-- the entries that a pass made since
+abbrev pub made_since : {D : Type 0} → (p q : ManagerPass D) → List Entry
+made_since p q = drop (length (pass_mine p)) (pass_mine q)
+
+-- no disk call failed in them
+abbrev pub AreKept : {D : Type 0} → (p q : ManagerPass D) → Type 0
+AreKept p q = AllByRecursion (λ (n : Noted). n.entry.operation ≡ Kept) (notes_of (made_since p q))

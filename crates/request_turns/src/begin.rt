@@ -1,0 +1,53 @@
+// The beginning of a window for one manager: it is told which disks are awake.
+ghost use Rattle.std.specs.Prelude.{◌≡◌, ◌≤◌, ◌<◌, false, All, length, map, take, slice_index_or};
+ghost use Rattle.std.specs.List.{AllByRecursion};
+ghost use Rattle.turn_lock.specs.Passes.{pass_lock};
+ghost use Rattle.wol_model.specs.History.{keeper};
+ghost use Rattle.logger.specs.Lanes.{logger_of};
+ghost use Rattle.manager.specs.declared.base.LaneBase.{LaneBase};
+ghost use Rattle.request_turns.specs.Begun.{HasBegunVolume};
+ghost use Rattle.request_turns.specs.Helped.{IsPassAt};
+
+use crate::noted::leave_step;
+use manager::Manager;
+use std::sync::Wait;
+use turn_lock::{Pass, TurnLock};
+use wol_disk::Disk;
+
+/// The most loggers of a view.
+const LANES: usize = 16;
+
+// Which loggers of a manager's view are awake, in front.
+fn flags<D: Disk>(manager: &Manager<D>, awake: &[bool]) -> [bool; LANES]
+    requires few { length manager.now.lanes.items ≤ 16 }
+    requires count { length manager.now.ups.items ≡ length manager.now.lanes.items }
+    requires view { All (λ v. v < length awake.now) (map logger_of manager.now.lanes.items) }
+    ensures { take (length manager.now.lanes.items) result ≡ map (λ v. slice_index_or awake.now v false) (map logger_of manager.now.lanes.items) }
+{
+    let mut flags = [false; LANES];
+    for lane in 0..manager.ups().len() {
+        flags[lane] = awake[manager.logger(lane as u32) as usize];
+    }
+    flags
+}
+
+/// One turn of a volume's keeper, in which its manager is told which disks are awake.
+pub fn begin_volume<R: Wait, D: Disk>(
+    rt: &R,
+    lock: &TurnLock<Manager<D>>,
+    pass: &mut Pass<Manager<D>>,
+    volume: usize,
+    awake: &[bool],
+)
+    requires pass { IsPassAt lock.now keeper pass.old }
+    requires owner { (pass_lock pass.old).base.volume.began.owner ≡ volume }
+    requires volume { volume < length awake.now }
+    requires view { AllByRecursion (λ (b : LaneBase). b.logger < length awake.now) (pass_lock pass.old).base.lanes }
+    ensures { HasBegunVolume D.tells awake.now pass.old pass.new }
+{
+    let mut turn = lock.enter(rt, pass);
+    let ups = flags(&turn.value, awake);
+    let lanes = turn.value.ups().len();
+    turn.value.begin(awake[volume], &ups[..lanes]);
+    leave_step(lock, turn, pass, false);
+}

@@ -1,0 +1,77 @@
+// How a turn ends: with an entry that the caller's proof names, with its notes.
+ghost use Rattle.std.specs.Prelude.{ℕ, ◌≡◌, ◌++◌, ◌∷◌, [], false, IsSome};
+ghost use Rattle.turn_lock.specs.Passes.{pass_lock, pass_number, IsPassOf, IsInTurn};
+ghost use Rattle.wol_promise.specs.Code.{no_note};
+ghost use Rattle.wol_promise.specs.Ruled.{Noted};
+ghost use Rattle.manager.specs.Stands.{Stands};
+ghost use Rattle.manager.specs.Seen.{look_of_manager};
+ghost use Rattle.request_turns.specs.Entries.{note_of, step_operation};
+ghost use Rattle.request_turns.specs.Turns.{notes_seen, HasLeft, IsBroken};
+
+use manager::Manager;
+use std::marker::Brand;
+use turn_lock::{Pass, Turn, TurnLock};
+use wol_disk::Disk;
+
+/// What a proof remembers of a turn: an entry with its notes, and a next version.
+pub trait Memo {
+    ghost note: { Noted };
+
+    ghost next: { ℕ };
+}
+
+impl Memo for Brand {
+    ghost note = { no_note 0 };
+
+    ghost next = { 0 };
+}
+
+/// Ends a turn with the entry that `N` names. The manager stands for it.
+pub fn leave_noted<D: Disk, N: Memo>(
+    lock: &TurnLock<Manager<D>>,
+    turn: Turn<Manager<D>>,
+    pass: &mut Pass<Manager<D>>,
+)
+    requires own { IsPassOf lock.now pass.old }
+    requires turn { IsInTurn pass.old }
+    requires number { N.note.entry.pass ≡ pass_number pass.old }
+    requires value { Stands D.tells D.state turn.value (pass_lock pass.old).base (notes_seen pass.old ++ N.note ∷ []) }
+    ensures left { HasLeft D.tells N.note pass.old pass.new }
+    ensures broken { IsSome turn.value.down → IsBroken (notes_seen pass.new) }
+{
+    lock.leave::<Brand>(turn, pass);
+}
+
+// The same, where the note is that of steps of reclaim.
+fn leave_named<D: Disk, N: Memo>(
+    lock: &TurnLock<Manager<D>>,
+    turn: Turn<Manager<D>>,
+    pass: &mut Pass<Manager<D>>,
+    failed: bool,
+)
+    requires own { IsPassOf lock.now pass.old }
+    requires turn { IsInTurn pass.old }
+    requires note { N.note ≡ note_of (pass_number pass.old) (step_operation failed) (look_of_manager turn.value) [] false }
+    requires value { Stands D.tells D.state turn.value (pass_lock pass.old).base (notes_seen pass.old ++ note_of (pass_number pass.old) (step_operation failed) (look_of_manager turn.value) [] false ∷ []) }
+    ensures broken { IsSome turn.value.down → IsBroken (notes_seen pass.new) }
+    ensures left { HasLeft D.tells (note_of (pass_number pass.old) (step_operation failed) (look_of_manager turn.value) [] false) pass.old pass.new }
+{
+    let _ = failed;
+    leave_noted::<D, N>(lock, turn, pass);
+}
+
+/// Ends a turn of steps of reclaim, one of which failed at a disk or none.
+pub(crate) fn leave_step<D: Disk>(
+    lock: &TurnLock<Manager<D>>,
+    turn: Turn<Manager<D>>,
+    pass: &mut Pass<Manager<D>>,
+    failed: bool,
+)
+    requires own { IsPassOf lock.now pass.old }
+    requires turn { IsInTurn pass.old }
+    requires value { Stands D.tells D.state turn.value (pass_lock pass.old).base (notes_seen pass.old ++ note_of (pass_number pass.old) (step_operation failed) (look_of_manager turn.value) [] false ∷ []) }
+    ensures broken { IsSome turn.value.down → IsBroken (notes_seen pass.new) }
+    ensures left { HasLeft D.tells (note_of (pass_number pass.old) (step_operation failed) (look_of_manager turn.value) [] false) pass.old pass.new }
+{
+    leave_named::<D, Brand>(lock, turn, pass, failed);
+}

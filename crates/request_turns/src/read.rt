@@ -1,0 +1,83 @@
+// A read in one turn.
+ghost use Rattle.std.specs.Prelude.{ℕ, IsSome, ◌≡◌, ◌++◌, ◌∷◌, [], false};
+ghost use Rattle.turn_lock.specs.Passes.{pass_lock, pass_number, IsPassOf, IsFree, IsInTurn};
+ghost use Rattle.wol_model.specs.History.{worker};
+ghost use Rattle.manager.specs.Answers.{was_read};
+ghost use Rattle.manager.specs.Seen.{look_of_manager};
+ghost use Rattle.manager.specs.Stands.{Stands, IsShared};
+ghost use Rattle.request_turns.specs.Entries.{note_of, read_outcome};
+ghost use Rattle.request_turns.specs.Requests.{IsWithin};
+ghost use Rattle.request_turns.specs.Answered.{HasAnswered};
+ghost use Rattle.request_turns.specs.Counts.{ReclaimsNothing};
+ghost use Rattle.request_turns.specs.Turns.{notes_seen, HasLeft, IsBroken};
+
+use crate::noted::{Memo, leave_noted};
+use crate::outcome::Outcome;
+use crate::payload::Payload;
+use logger::Shared;
+use manager::{Manager, ReadRefusal, Sources};
+use msr_trace::mark;
+use std::marker::Brand;
+use std::sync::Wait;
+use trace_windows::Request;
+use turn_lock::{Pass, Turn, TurnLock};
+use wol_disk::{Block, Disk};
+use wol_model::Kind;
+
+// The outcome of a read that gave these blocks.
+fn outcome_of(answer: Result<Sources, ReadRefusal>, out: &[Block]) -> Outcome
+    ensures { result ≡ read_outcome out.now answer }
+{
+    match answer {
+        Ok(sources) => Outcome::Read {
+            mark: mark(out),
+            sources,
+        },
+        Err(refusal) => Outcome::NoRead(refusal),
+    }
+}
+
+// Ends a turn in which blocks were read with this answer.
+fn leave_read<D: Disk, N: Memo>(
+    lock: &TurnLock<Manager<D>>,
+    turn: Turn<Manager<D>>,
+    pass: &mut Pass<Manager<D>>,
+    lbn: u64,
+    out: &[Block],
+    answer: &Result<Sources, ReadRefusal>,
+)
+    requires own { IsPassOf lock.now pass.old }
+    requires turn { IsInTurn pass.old }
+    requires note { N.note ≡ note_of (pass_number pass.old) (was_read lbn out.now answer.now) (look_of_manager turn.value) [] false }
+    requires value { Stands D.tells D.state turn.value (pass_lock pass.old).base (notes_seen pass.old ++ N.note ∷ []) }
+    ensures left { HasLeft D.tells N.note pass.old pass.new }
+    ensures broken { IsSome turn.value.down → IsBroken (notes_seen pass.new) }
+{
+    let _ = out;
+    leave_noted::<D, N>(lock, turn, pass);
+}
+
+/// Reads the blocks of a request in one turn.
+pub fn read_turn<D: Disk, R: Wait>(
+    rt: &R,
+    lock: &TurnLock<Manager<D>>,
+    pass: &mut Pass<Manager<D>>,
+    shared: &Shared<D>,
+    request: &Request,
+    payload: &mut Payload,
+) -> Outcome
+    requires own { IsPassOf lock.now pass.old }
+    requires free { IsFree pass.old }
+    requires client { pass_number pass.old ≡ worker }
+    requires shared { IsShared shared.now (pass_lock pass.old).base }
+    requires within { IsWithin (pass_lock pass.old).base request.now }
+    requires kind { request.now.kind ≡ Kind.Read }
+    ensures answered { HasAnswered D.tells request.now result pass.old pass.new }
+    ensures counted { ReclaimsNothing D.tells pass.old pass.new }
+{
+    let mut turn = lock.enter(rt, pass);
+    let out = &mut payload.blocks[..request.count as usize];
+    let answer = turn.value.read(rt, shared, request.lbn, out);
+    leave_read::<D, Brand>(lock, turn, pass, request.lbn, out, &answer);
+    outcome_of(answer, out)
+}

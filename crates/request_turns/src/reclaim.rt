@@ -1,0 +1,136 @@
+// Reclaim in one turn: all that is due goes home, and then what may go is given up.
+ghost use Rattle.std.specs.Prelude.{◌≡◌, ◌<◌, ◌≤◌, ℕ, true, false, None, Ok, OnOk, IfErr, IsSome};
+ghost use Rattle.turn_lock.specs.Passes.{pass_lock};
+ghost use Rattle.wol_model.specs.History.{worker};
+ghost use Rattle.wol_model.specs.Index.{listed_in, left};
+ghost use Rattle.wol_promise.specs.Policy.{IsIdleLook};
+ghost use Rattle.manager.specs.Reclaim.{OnKept, OnFailed, KeepsOn, BreaksOff, Always};
+ghost use Rattle.manager.specs.Seen.{look_of_manager};
+ghost use Rattle.manager.specs.Stands.{IsReady, IsHome, IsShared};
+ghost use Rattle.reclaimer.specs.Fetches.{due_entry, going_entry};
+ghost use Rattle.request_turns.specs.Closed.{GoesOn, HasClosed};
+ghost use Rattle.request_turns.specs.Counts.{HasTaken, HasCounted};
+ghost use Rattle.request_turns.specs.Helped.{IsPassAt};
+
+use crate::answer::{has_failed, refusal_in};
+use crate::noted::leave_step;
+use crate::tally::Tally;
+use logger::Shared;
+use manager::{Manager, StepFault};
+use reclaimer::{Fetch, Fetched, Gone, fetch, invalidate_one, put_home};
+use std::sync::Wait;
+use turn_lock::{Pass, TurnLock};
+use wol_disk::Disk;
+
+// Puts home what is due, record by record.
+fn put_due<R: Wait, D: Disk>(
+    rt: &R,
+    m: &mut Manager<D>,
+    shared: &Shared<D>,
+    room: &mut Fetch,
+    tally: &mut Tally,
+) -> Result<(), StepFault>
+    requires ready { IsReady D.state m.old }
+    requires at { IsHome shared.now m.old }
+    ensures ready { IsReady D.state m.new }
+    ensures at { IsHome shared.now m.new }
+    ensures down { IfErr result (λ f. IsSome m.new.down) }
+    ensures nothing { OnOk result (due_entry m.new ≡ None) }
+    ensures look { OnKept result (GoesOn (look_of_manager m.old) (look_of_manager m.new)) }
+    ensures taken { OnKept result (HasTaken tally.old tally.new (look_of_manager m.old) (look_of_manager m.new)) }
+    ensures no_more { OnOk result (left (listed_in m.new.index.entries) ≤ left (listed_in m.old.index.entries)) }
+    ensures keeps { OnKept result (KeepsOn D.tells D.state m.old m.new Always) }
+    ensures broke { OnFailed result (BreaksOff D.tells D.state m.old m.new Always) }
+{
+    'steps: loop {
+        match fetch(rt, m, shared, room)? {
+            Fetched::Nothing => return Ok(()),
+            Fetched::Some { .. } => match put_home(rt, m, shared, room) {
+                Ok(blocks) => tally.count(blocks, 0),
+                Err(fault) => return Err(fault),
+            },
+        }
+    }
+}
+
+// Gives up what may go, record by record. Tells whether there was anything.
+fn give_up<R: Wait, D: Disk>(
+    rt: &R,
+    m: &mut Manager<D>,
+    shared: &Shared<D>,
+    tally: &mut Tally,
+) -> Result<bool, StepFault>
+    requires ready { IsReady D.state m.old }
+    requires at { IsHome shared.now m.old }
+    ensures ready { IsReady D.state m.new }
+    ensures at { IsHome shared.now m.new }
+    ensures down { IfErr result (λ f. IsSome m.new.down) }
+    ensures nothing { OnOk result (going_entry m.new ≡ None) }
+    ensures none { result ≡ Ok false → m.new ≡ m.old }
+    ensures look { OnKept result (GoesOn (look_of_manager m.old) (look_of_manager m.new)) }
+    ensures taken { OnKept result (HasTaken tally.old tally.new (look_of_manager m.old) (look_of_manager m.new)) }
+    ensures fewer { result ≡ Ok true → left (listed_in m.new.index.entries) < left (listed_in m.old.index.entries) }
+    ensures keeps { OnKept result (KeepsOn D.tells D.state m.old m.new Always) }
+    ensures broke { OnFailed result (BreaksOff D.tells D.state m.old m.new Always) }
+{
+    let mut some = false;
+    'steps: loop {
+        match invalidate_one(rt, m, shared)? {
+            Gone::Nothing => return Ok(some),
+            Gone::Version(_) => tally.count(0, 1),
+            Gone::Trimmed(_) => {}
+        }
+        some = true;
+    }
+}
+
+// Puts home what is due, and then gives up what may go, until nothing of either is left within reach.
+fn reclaim_all<R: Wait, D: Disk>(
+    rt: &R,
+    m: &mut Manager<D>,
+    shared: &Shared<D>,
+    room: &mut Fetch,
+    tally: &mut Tally,
+) -> Result<(), StepFault>
+    requires ready { IsReady D.state m.old }
+    requires at { IsHome shared.now m.old }
+    ensures ready { IsReady D.state m.new }
+    ensures at { IsHome shared.now m.new }
+    ensures down { IfErr result (λ f. IsSome m.new.down) }
+    ensures idle { OnOk result (IsIdleLook (look_of_manager m.new)) }
+    ensures look { OnKept result (GoesOn (look_of_manager m.old) (look_of_manager m.new)) }
+    ensures taken { OnKept result (HasTaken tally.old tally.new (look_of_manager m.old) (look_of_manager m.new)) }
+    ensures keeps { OnKept result (KeepsOn D.tells D.state m.old m.new Always) }
+    ensures broke { OnFailed result (BreaksOff D.tells D.state m.old m.new Always) }
+{
+    'steps: loop {
+        put_due(rt, m, shared, room, tally)?;
+        if !give_up(rt, m, shared, tally)? {
+            return Ok(());
+        }
+    }
+}
+
+/// One turn in which all that is due goes home and all that may go is given up, within reach. A refused step ends it. Where a
+/// disk call failed, nothing of the turn is counted.
+pub fn reclaim_turn<D: Disk, R: Wait>(
+    rt: &R,
+    lock: &TurnLock<Manager<D>>,
+    pass: &mut Pass<Manager<D>>,
+    shared: &Shared<D>,
+    room: &mut Fetch,
+    tally: &mut Tally,
+) -> Option<StepFault>
+    requires pass { IsPassAt lock.now worker pass.old }
+    requires shared { IsShared shared.now (pass_lock pass.old).base }
+    ensures closed { HasClosed D.tells result pass.old pass.new }
+    ensures counted { HasCounted D.tells tally.old tally.new pass.old pass.new }
+{
+    let mut turn = lock.enter(rt, pass);
+    let mut done = Tally::new();
+    let answer = reclaim_all(rt, &mut turn.value, shared, room, &mut done);
+    let failed = has_failed(&answer);
+    leave_step(lock, turn, pass, failed);
+    tally.add_unless(failed, done);
+    refusal_in(answer)
+}

@@ -1,0 +1,136 @@
+// A write in one turn, after a drain where no log has room.
+ghost use Rattle.std.specs.Prelude.{ℕ, IsSome, ◌≡◌, ◌++◌, ◌∷◌, [], ◌≤◌, ◌+◌, false, length};
+ghost use Rattle.turn_lock.specs.Passes.{pass_lock, pass_number, IsPassOf, IsFree, IsInTurn};
+ghost use Rattle.wol_model.specs.History.{worker};
+ghost use Rattle.wol_model.specs.Trace.{payload_block};
+ghost use Rattle.std.specs.List.{range_with_len};
+ghost use Rattle.manager.specs.Answers.{written};
+ghost use Rattle.manager.specs.Seen.{look_of_manager};
+ghost use Rattle.manager.specs.Stands.{Stands, IsShared, passed_in};
+ghost use Rattle.request_turns.specs.Entries.{note_of, written_outcome, is_full};
+ghost use Rattle.request_turns.specs.Requests.{IsWithin};
+ghost use Rattle.request_turns.specs.Answered.{HasAnswered};
+ghost use Rattle.request_turns.specs.Counts.{HasCounted};
+ghost use Rattle.request_turns.specs.Turns.{notes_seen, HasLeft, IsBroken};
+ghost use Rattle.request_turns.specs.Written.{HasWritten};
+
+use crate::drain::drain_and_write;
+use crate::noted::{Memo, leave_noted};
+use crate::outcome::Outcome;
+use crate::payload::Payload;
+use crate::tally::Tally;
+use logger::Shared;
+use manager::{Manager, Place, WriteRefusal};
+use msr_trace::fill;
+use reclaimer::Fetch;
+use std::marker::Brand;
+use std::sync::Wait;
+use trace_windows::Request;
+use turn_lock::{Pass, Turn, TurnLock};
+use wol_disk::{Block, Disk};
+use wol_model::Kind;
+
+/// The outcome of a write with this answer.
+pub(crate) fn outcome_of(answer: Result<Place, WriteRefusal>, drained: bool) -> Outcome
+    ensures { result ≡ written_outcome drained answer }
+{
+    match answer {
+        Ok(place) => Outcome::Wrote { place, drained },
+        Err(refusal) => Outcome::NoWrite(refusal),
+    }
+}
+
+// Whether no log had room.
+fn is_full(answer: &Result<Place, WriteRefusal>) -> bool
+    ensures { result ≡ is_full answer.now }
+{
+    matches!(answer, Err(WriteRefusal::Full))
+}
+
+// Ends a turn in which blocks were written with this answer, where `N` has the next version that stood before.
+fn leave_written<D: Disk, B: Memo, N: Memo>(
+    lock: &TurnLock<Manager<D>>,
+    turn: Turn<Manager<D>>,
+    pass: &mut Pass<Manager<D>>,
+    lbn: u64,
+    from: &[Block],
+    answer: &Result<Place, WriteRefusal>,
+)
+    requires own { IsPassOf lock.now pass.old }
+    requires turn { IsInTurn pass.old }
+    requires note { N.note ≡ note_of (pass_number pass.old) (written B.next lbn from.now answer.now) (look_of_manager turn.value) (passed_in turn.value.rooms.items) false }
+    requires value { Stands D.tells D.state turn.value (pass_lock pass.old).base (notes_seen pass.old ++ N.note ∷ []) }
+    ensures left { HasLeft D.tells N.note pass.old pass.new }
+    ensures broken { IsSome turn.value.down → IsBroken (notes_seen pass.new) }
+{
+    let _ = from;
+    leave_noted::<D, N>(lock, turn, pass);
+}
+
+// Writes within a turn, and ends it. `B` has the next version at its beginning.
+fn write_within<D: Disk, R: Wait, B: Memo>(
+    rt: &R,
+    lock: &TurnLock<Manager<D>>,
+    mut turn: Turn<Manager<D>>,
+    pass: &mut Pass<Manager<D>>,
+    shared: &Shared<D>,
+    lbn: u64,
+    from: &[Block],
+    fetch: &mut Fetch,
+    tally: &mut Tally,
+) -> Outcome
+    requires own { IsPassOf lock.now pass.old }
+    requires turn { IsInTurn pass.old }
+    requires client { pass_number pass.old ≡ worker }
+    requires next { B.next ≡ turn.value.next }
+    requires shared { IsShared shared.now (pass_lock pass.old).base }
+    requires count { (1 ≤ length from.now) × (length from.now ≤ (pass_lock pass.old).base.volume.began.most) }
+    requires fits { lbn + length from.now ≤ (pass_lock pass.old).base.volume.began.home_blocks }
+    requires value { Stands D.tells D.state turn.value (pass_lock pass.old).base (notes_seen pass.old) }
+    ensures { HasWritten D.tells lbn from.now result tally.old tally.new pass.old pass.new }
+{
+    let answer = turn.value.write(rt, shared, lbn, from);
+    if is_full(&answer) {
+        return drain_and_write::<D, R, Brand>(
+            rt, lock, turn, pass, shared, lbn, from, fetch, tally,
+        );
+    }
+    leave_written::<D, B, Brand>(lock, turn, pass, lbn, from, &answer);
+    outcome_of(answer, false)
+}
+
+/// Writes the payload of a request in one turn. Where no log has room, all records are drained first.
+pub fn write_turn<D: Disk, R: Wait>(
+    rt: &R,
+    lock: &TurnLock<Manager<D>>,
+    pass: &mut Pass<Manager<D>>,
+    shared: &Shared<D>,
+    request: &Request,
+    payload: &mut Payload,
+    fetch: &mut Fetch,
+    tally: &mut Tally,
+) -> Outcome
+    requires own { IsPassOf lock.now pass.old }
+    requires free { IsFree pass.old }
+    requires client { pass_number pass.old ≡ worker }
+    requires shared { IsShared shared.now (pass_lock pass.old).base }
+    requires within { IsWithin (pass_lock pass.old).base request.now }
+    requires kind { request.now.kind ≡ Kind.Write }
+    ensures answered { HasAnswered D.tells request.now result pass.old pass.new }
+    ensures counted { HasCounted D.tells tally.old tally.new pass.old pass.new }
+{
+    let turn = lock.enter(rt, pass);
+    let from = &mut payload.blocks[..request.count as usize];
+    fill(request.line, request.lbn, from);
+    write_within::<D, R, Brand>(
+        rt,
+        lock,
+        turn,
+        pass,
+        shared,
+        request.lbn,
+        from,
+        fetch,
+        tally,
+    )
+}
