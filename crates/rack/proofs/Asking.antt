@@ -239,6 +239,17 @@ module _ {D : Type 0} (tells : Bool) (state : D → State) (config : Config) whe
     asked_more (Ok pair) pushes ok err = asked_opened pair.0 pair.1 pushes (ok v at)
     asked_more (Err fault) pushes ok err = asked_refused fault pushes (err v at)
 
+  -- the faults of the bay may go on
+  pub asked_later : (b b1 b2 : BayState) (n : ℕ) (i : Images D) → b1.faults ≤ b2.faults → AreAsked tells state config b b1 n i → AreAsked tells state config b b2 n i
+  asked_later b b1 b2 n i le asked = record {
+    said_count = asked.said_count;
+    out_count = asked.out_count;
+    fault_count = asked.fault_count;
+    refused = λ k w lt found none. let r = asked.refused k w lt found none in record { unsaid = r.unsaid; fault = r.fault; fault_is = r.fault_is; refuses = refuses_later [] b b1 b2 k w r.fault le r.refuses };
+    out = asked.out;
+    entry = asked.entry;
+  }
+
   -- before the first
   pub none_asked : (b : BayState) (volumes : ℕ) (i : Images D) → AreNewImages volumes i → AreAsked tells state config b b 0 i
   none_asked b volumes i new =

@@ -1,6 +1,6 @@
 -- The locks of pools are made one after another, and ended where there is no memory for one.
 use Rattle.std.proofs.Common.{◌≡◌, ◌≢◌, ◌<◌, ◌≤◌, ◌+◌, ⊎_elim, ℕ, zero, suc, List, [], ◌∷◌, ◌++◌, length, Option, None, Some, is_some, option_map, refl, sym, ap, subst, ◌∙◌, arith}
-use Rattle.std.specs.Prelude.{IsSome, MatchOption, slice_get, slice_index_or, slice_set}
+use Rattle.std.specs.Prelude.{Result, Ok, Err, OnErr, IsSome, MatchOption, slice_get, slice_index_or, slice_set}
 use Rattle.std.proofs.lemmas.Bool.{cases_eq, cases_lt, false≢true}
 use Rattle.std.proofs.lemmas.List.{length-set, length-map, length_push, get_or-set_same, get_or-set_other, get_or_past}
 use Rattle.std.proofs.lemmas.Option.{none-some, same_Some, slice_get-map, slice_get-get_or, slice_get_past, slice_get_within, get_or_from_slice_get}
@@ -32,6 +32,10 @@ shape_blocks config k s is = by_volume (slice_get config.volumes.items k) (sym (
     by_volume : (o : Option VolumeConf) → option_map (shape_in config) o ≡ Some s → s.segment_blocks ≡ config.segment_blocks
     by_volume None is = absurd (none-some s is)
     by_volume (Some v) is = ap (λ (x : Shape). x.segment_blocks) (sym (same_Some (shape_in config v) s is))
+
+pub on_err : {X E : Type 0} (r : Result X E) (P : Type 0) → P → OnErr r P
+on_err (Ok x) P p = tt
+on_err (Err e) P p = p
 
 free_not_held : (h : Option SegHead) → of_head h ≡ InPool → h ≡ Some Free
 free_not_held None is = absurd (cc)
@@ -148,6 +152,12 @@ module _ {D : Type 0} (state : D → State) (config : Config) (volumes : ℕ) (s
       subst (λ (b : ℕ). Restores state k b (saying k) (image_of old k) (image_of old k)) (shape_blocks config k shape.0 shape.1) (unchanged state volumes k shape.0 (saying k) (image_of old k) (can k shape.0 shape.1)))
       (λ past. subst (λ (o : Option Said). Restores state k config.segment_blocks o (image_of old k) (image_of old k)) (sym (get_or_past said k None (omega (arith, past, sayings)))) refl)
       (cases_lt k (length old))
+
+  pub supplies_all : (old now : List (Option (ImageRest D))) (made : List (Issued (Pool (FreeSegment D)) PoolBase)) (n : ℕ) → AreIssuedTo old now made n → length said ≤ n → (k : ℕ) → Supplies (saying k) (image_of old k) (image_of now k)
+  supplies_all old now made n so_far end k = ⊎_elim
+      (λ lt. so_far.supplies k lt)
+      (λ past. subst (λ (o : Option Said). Supplies o (image_of old k) (image_of now k)) (sym (get_or_past said k None (omega (arith, past, end)))) (so_far.left k past))
+      (cases_lt k n)
 
   module _ (old now : List (Option (ImageRest D))) (made : List (Issued (Pool (FreeSegment D)) PoolBase)) (n : ℕ) (so_far : AreIssuedTo old now made n) (within : n < length old)
       (can : (k : ℕ) (s : Shape) → slice_get (shapes_of config) k ≡ Some s → CanIssue state volumes k s (saying k) (image_of old k)) where

@@ -18,10 +18,10 @@ use Rattle.logger.specs.declared.lane.HeldSegment.{HeldSegment}
 use Rattle.logger.specs.declared.lane.Lane.{Lane}
 use Rattle.log_segment.specs.Segment.{part_of}
 use Rattle.rack.specs.Rests.{image_here, pool_pass, spindle_pass, held_here}
-use Rattle.rack.specs.Parts.{KeepsPlace, KeepsRows, HasPlace, IsBarePlace, HasBack, PutsLanes, CanPutLanes, held_parts, IsUsablePlace, IsNewLane, TakesPasses, IsSameRest, segments_of, loggers_out, TakesLanes}
+use Rattle.rack.specs.Parts.{KeepsPlace, KeepsRows, HasPlace, IsBarePlace, HasBack, PutsLanes, CanPutLanes, held_parts, IsUsablePlace, IsNewLane, TakesPasses, TakesOneLane, IsSameRest, segments_of, loggers_out, TakesLanes}
 use Rattle.rack.specs.declared.rack.ImageRest.{ImageRest}
 use Rattle.rack.specs.declared.rack.Rest.{Rest}
-use Rattle.rack.proofs.LanesPut.{all_both, keeps_same, keeps_then, rows_same, rows_then, place_then}
+use Rattle.rack.proofs.LanesPut.{all_both, bare_then, keeps_same, keeps_then, rows_same, rows_then, place_then}
 
 -- different numbers at different places
 pub apart_at : (xs : List ℕ) (i j : ℕ) → AreApart xs → i < j → j < length xs → slice_index_or xs i 0 ≢ slice_index_or xs j 0
@@ -81,7 +81,7 @@ module _ {D : Type 0} where
     }
 
     module _ (apart : AreApart view) (old new : Rest D) (lanes : List (Lane D)) (n : ℕ) (so_far : AreLanesTaken old new lanes n) where
-      loggers : List ℕ
+      abbrev loggers : List ℕ
       loggers = loggers_out old (take n view)
 
       pub same_out : (k : ℕ) → image_here new.images.items k ≡ image_here old.images.items k
@@ -90,16 +90,16 @@ module _ {D : Type 0} where
       -- the next logger, and whether its image is out
       module _ (k : ℕ) (within : n < length view) (k_is : k ≡ slice_index_or view n 0) where
         next_out : is_some (image_here old.images.items k) ≡ true → loggers_out old (take (n + 1) view) ≡ loggers ++ k ∷ []
-        next_out yes =
+        next_out is_out =
             filter_more (λ (j : ℕ). is_some (image_here old.images.items j)) view n 0 within
             ∙ ap (λ (x : ℕ). loggers ++ cond (is_some (image_here old.images.items x)) (x ∷ []) []) (sym k_is)
-            ∙ ap (λ (b : Bool). loggers ++ cond b (k ∷ []) []) yes
+            ∙ ap (λ (b : Bool). loggers ++ cond b (k ∷ []) []) is_out
 
         next_in : is_some (image_here old.images.items k) ≡ false → loggers_out old (take (n + 1) view) ≡ loggers
-        next_in no =
+        next_in not_out =
             filter_more (λ (j : ℕ). is_some (image_here old.images.items j)) view n 0 within
             ∙ ap (λ (x : ℕ). loggers ++ cond (is_some (image_here old.images.items x)) (x ∷ []) []) (sym k_is)
-            ∙ ap (λ (b : Bool). loggers ++ cond b (k ∷ []) []) no ∙ append-nil loggers
+            ∙ ap (λ (b : Bool). loggers ++ cond b (k ∷ []) []) not_out ∙ append-nil loggers
 
         fresh : All (λ l. logger_of l ≢ k) lanes
         fresh = All-weaker (λ l. (j : ℕ) × (j < n) × (logger_of l ≡ slice_index_or view j 0)) (λ l. logger_of l ≢ k) (λ l s e. apart_at view s.0 n apart s.1 within (sym s.2 ∙ e ∙ k_is)) lanes so_far.seen
@@ -111,7 +111,7 @@ module _ {D : Type 0} where
         keeps_next = so_far.takes.passes.others v k (λ same. fresh_loggers)
 
         pub next_usable : is_some (image_here old.images.items k) ≡ true → All (λ j. IsUsablePlace old v j (segments_of config j)) (loggers_out old view) → IsUsablePlace new v k (segments_of config k)
-        next_usable yes places =
+        next_usable is_out places =
             usable_then old new v k (segments_of config k) so_far.takes.passes.rows keeps_next
             (All-contains (λ j. IsUsablePlace old v j (segments_of config j)) (loggers_out old view) k places (in_filter view n within k_is))
           where
@@ -120,7 +120,7 @@ module _ {D : Type 0} where
             in_filter (x ∷ xs) zero lt is = (0, first, head_is)
               where
                 kept : loggers_out old (x ∷ xs) ≡ x ∷ loggers_out old xs
-                kept = ap (λ (b : Bool). cond b (x ∷ loggers_out old xs) (loggers_out old xs)) (ap (λ (j : ℕ). is_some (image_here old.images.items j)) (sym is) ∙ yes)
+                kept = ap (λ (b : Bool). cond b (x ∷ loggers_out old xs) (loggers_out old xs)) (ap (λ (j : ℕ). is_some (image_here old.images.items j)) (sym is) ∙ is_out)
 
                 first : 0 < length (loggers_out old (x ∷ xs))
                 first = let e = ap length kept in omega (arith, e)
@@ -135,11 +135,11 @@ module _ {D : Type 0} where
 
         pub lanes_next : (newer : Rest D) (lane : Lane D) → is_some (image_here old.images.items k) ≡ true → IsNewLane state new v (segments_of config k) lane → logger_of lane ≡ k → TakesPasses new newer v (k ∷ [])
             → AreLanesTaken old newer (lanes ++ lane ∷ []) (n + 1)
-        lanes_next newer lane yes is_new logger taken =
+        lanes_next newer lane is_out is_new logger taken =
             let keeps : (j : ℕ) → j ≢ k → KeepsPlace new newer v j = λ j other. taken.others v j (λ same. All-cons (λ l. j ≢ l) k [] other (All-nil (λ l. j ≢ l))) in
             record {
               takes = record {
-                loggers_are = map_push logger_of lanes lane ∙ ap (λ (l : List ℕ). l ++ logger_of lane ∷ []) so_far.takes.loggers_are ∙ ap (λ (x : ℕ). loggers ++ x ∷ []) logger ∙ sym (next_out yes);
+                loggers_are = map_push logger_of lanes lane ∙ ap (λ (l : List ℕ). l ++ logger_of lane ∷ []) so_far.takes.loggers_are ∙ ap (λ (x : ℕ). loggers ++ x ∷ []) logger ∙ sym (next_out is_out);
                 each = All-push (λ l. IsNewLane state old v (segments_of config (logger_of l)) l) lanes lane so_far.takes.each (record {
                   lane = is_new.lane;
                   owner = is_new.owner;
@@ -153,13 +153,13 @@ module _ {D : Type 0} where
                   images = taken.images ∙ so_far.takes.passes.images;
                   rooms = taken.rooms ∙ so_far.takes.passes.rooms;
                   rows = rows_then old new newer so_far.takes.passes.rows taken.rows;
-                  gone = subst (All (λ j. (pool_pass newer v j ≡ None) × (spindle_pass newer v j ≡ None) × (held_here newer v j ≡ []))) (sym (next_out yes))
+                  gone = subst (All (λ j. (pool_pass newer v j ≡ None) × (spindle_pass newer v j ≡ None) × (held_here newer v j ≡ []))) (sym (next_out is_out))
                       (All-append (λ j. (pool_pass newer v j ≡ None) × (spindle_pass newer v j ≡ None) × (held_here newer v j ≡ [])) loggers (k ∷ [])
                       (all_both (λ j. (pool_pass new v j ≡ None) × (spindle_pass new v j ≡ None) × (held_here new v j ≡ [])) (λ j. k ≢ j) (λ j. (pool_pass newer v j ≡ None) × (spindle_pass newer v j ≡ None) × (held_here newer v j ≡ [])) loggers
                       (λ j none other. (let q = keeps j (λ e. other (sym e)) in (q.pool ∙ none.0, q.spindle ∙ none.1, q.held ∙ none.2))) so_far.takes.passes.gone fresh_loggers)
                       taken.gone);
                   others = λ w j other.
-                      let split : w ≡ v → All (λ l. j ≢ l) (loggers ++ k ∷ []) = λ same. subst (All (λ l. j ≢ l)) (next_out yes) (other same) in
+                      let split : w ≡ v → All (λ l. j ≢ l) (loggers ++ k ∷ []) = λ same. subst (All (λ l. j ≢ l)) (next_out is_out) (other same) in
                       keeps_then old new newer w j (so_far.takes.passes.others w j (λ same. front (λ l. j ≢ l) loggers (k ∷ []) (split same))) (taken.others w j (λ same. back (λ l. j ≢ l) loggers (k ∷ []) (split same)));
                 };
               };
@@ -179,8 +179,8 @@ module _ {D : Type 0} where
             back P (x ∷ xs) ys all = back P xs ys (All-tail P x (xs ++ ys) all)
 
         pub lanes_skip : is_some (image_here old.images.items k) ≡ false → AreLanesTaken old new lanes (n + 1)
-        lanes_skip no = record {
-          takes = subst (λ (ls : List ℕ). TakesLanes state config old new v ls lanes) (sym (next_in no)) so_far.takes;
+        lanes_skip not_out = record {
+          takes = subst (λ (ls : List ℕ). TakesLanes state config old new v ls lanes) (sym (next_in not_out)) so_far.takes;
           pairs = so_far.pairs;
           seen = All-weaker (λ l. (j : ℕ) × (j < n) × (logger_of l ≡ slice_index_or view j 0)) (λ l. (j : ℕ) × (j < n + 1) × (logger_of l ≡ slice_index_or view j 0)) (λ l s. (s.0, (let lt = s.1 in omega (arith, lt)), s.2)) lanes so_far.seen;
           few = let f = so_far.few in omega (arith, f);
@@ -210,11 +210,11 @@ module _ {D : Type 0} where
           take_of : (xs : List ℕ) (m : ℕ) → All P (loggers_out old xs) → All P (loggers_out old (take m xs))
           take_of xs zero all = All-nil P
           take_of [] (suc m) all = All-nil P
-          take_of (x ∷ xs) (suc m) all = by (is_some (image_here old.images.items x)) all
+          take_of (x ∷ xs) (suc m) all = by (is_some (image_here old.images.items x)) all (λ whole. take_of xs m whole)
             where
-              by : (b : Bool) → All P (cond b (x ∷ loggers_out old xs) (loggers_out old xs)) → All P (cond b (x ∷ loggers_out old (take m xs)) (loggers_out old (take m xs)))
-              by true whole = All-cons P x (loggers_out old (take m xs)) (All-head P x (loggers_out old xs) whole) (take_of xs m (All-tail P x (loggers_out old xs) whole))
-              by false whole = take_of xs m whole
+              by : (b : Bool) → All P (cond b (x ∷ loggers_out old xs) (loggers_out old xs)) → (All P (loggers_out old xs) → All P (loggers_out old (take m xs))) → All P (cond b (x ∷ loggers_out old (take m xs)) (loggers_out old (take m xs)))
+              by true whole rest = All-cons P x (loggers_out old (take m xs)) (All-head P x (loggers_out old xs) whole) (rest (All-tail P x (loggers_out old xs) whole))
+              by false whole rest = rest whole
 
       module _ (places : All (λ j. IsUsablePlace old v j (segments_of config j)) (loggers_out old view)) (end : n ≤ length view) where
         pub may_put_back : CanPutLanes state new v lanes
@@ -230,9 +230,9 @@ module _ {D : Type 0} where
             → All (λ l. k ≢ logger_of l) ls ⊎ KeepsPlace old last v k
         which k [] news usable last back = inl (All-nil (λ (l : Lane D). k ≢ logger_of l))
         which k (l ∷ ls) news usable last back = ⊎_elim
-            (λ e. inr (subst (KeepsPlace old last v) (sym e) (same (All-head _ l ls news) (All-head _ l ls usable) (All-head (HasBack last v) l ls back))))
+            (λ e. inr (subst (KeepsPlace old last v) (sym e) (same (All-head (λ (m : Lane D). IsNewLane state old v (segments_of config (logger_of m)) m) l ls news) (All-head (λ (m : Lane D). IsUsablePlace old v (logger_of m) (segments_of config (logger_of m))) l ls usable) (All-head (HasBack last v) l ls back))))
             (λ other. ⊎_elim (λ none. inl (All-cons (λ (m : Lane D). k ≢ logger_of m) l ls other none)) (λ keeps. inr keeps)
-            (which k ls (All-tail _ l ls news) (All-tail _ l ls usable) last (All-tail (HasBack last v) l ls back)))
+            (which k ls (All-tail (λ (m : Lane D). IsNewLane state old v (segments_of config (logger_of m)) m) l ls news) (All-tail (λ (m : Lane D). IsUsablePlace old v (logger_of m) (segments_of config (logger_of m))) l ls usable) last (All-tail (HasBack last v) l ls back)))
             (cases_eq k (logger_of l))
           where
             same : IsNewLane state old v (segments_of config (logger_of l)) l → IsUsablePlace old v (logger_of l) (segments_of config (logger_of l)) → HasBack last v l → KeepsPlace old last v (logger_of l)
@@ -258,3 +258,41 @@ module _ {D : Type 0} where
                 (λ none. far w k (λ same. subst (All (λ l. k ≢ l)) so_far.takes.loggers_are (All-map (λ l. k ≢ l) logger_of lanes none)) (λ same. none))
                 (λ keeps. subst (λ (x : ℕ). KeepsPlace old last x k) (sym e) keeps)
                 (which k lanes so_far.takes.each (place_of_lane places end) last puts.back)
+
+  -- a rest in which nothing changed
+  pub can_after_same : (state : D → State) (a b : Rest D) (v : ℕ) (lanes : List (Lane D)) → IsSameRest a b → CanPutLanes state a v lanes → CanPutLanes state b v lanes
+  can_after_same state a b v lanes same can = record {
+    whole = can.whole;
+    bare = All-weaker (λ l. IsBarePlace a v (logger_of l)) (λ l. IsBarePlace b v (logger_of l)) (λ l bare. bare_then a b v (logger_of l) same.rows (same.places v (logger_of l)) bare) lanes can.bare;
+    apart = can.apart;
+  }
+
+  pub puts_after_same : (a b c : Rest D) (v : ℕ) (lanes : List (Lane D)) → IsSameRest a b → PutsLanes b c v lanes → PutsLanes a c v lanes
+  puts_after_same a b c v lanes same puts = record {
+    images = puts.images ∙ same.images;
+    rooms = puts.rooms ∙ same.rooms;
+    rows = rows_then a b c same.rows puts.rows;
+    back = puts.back;
+    others = λ w k other. keeps_then a b c w k (same.places w k) (puts.others w k other);
+  }
+
+  -- one step of the loop over loggers
+  pub lanes_step : (state : D → State) (config : Config) (view : List ℕ) (v : ℕ) → AreApart view → (old new newer : Rest D) (lanes after : List (Lane D)) (n : ℕ) → AreLanesTaken state config view v old new lanes n
+      → (k : ℕ) → n < length view → k ≡ slice_index_or view n 0 → TakesOneLane state config (is_some (image_here new.images.items k)) new newer v k lanes after → AreLanesTaken state config view v old newer after (n + 1)
+  lanes_step state config view v apart old new newer lanes after n so_far k within k_is takes = ⊎_elim taken skipped (cases_Bool (is_some (image_here new.images.items k)))
+    where
+      same : is_some (image_here new.images.items k) ≡ is_some (image_here old.images.items k)
+      same = ap is_some (same_out state config view v apart old new lanes n so_far k)
+
+      taken : is_some (image_here new.images.items k) ≡ true → AreLanesTaken state config view v old newer after (n + 1)
+      taken is_true =
+          let t = subst (λ (b : Bool). TakesOneLane state config b new newer v k lanes after) is_true takes in
+          subst (λ (l : List (Lane D)). AreLanesTaken state config view v old newer l (n + 1)) (sym t.1)
+          (lanes_next state config view v apart old new lanes n so_far k within k_is newer t.0 (sym same ∙ is_true) t.2 t.3 t.4)
+
+      skipped : is_some (image_here new.images.items k) ≡ false → AreLanesTaken state config view v old newer after (n + 1)
+      skipped is_false =
+          let t = subst (λ (b : Bool). TakesOneLane state config b new newer v k lanes after) is_false takes in
+          subst (λ (l : List (Lane D)). AreLanesTaken state config view v old newer l (n + 1)) (sym t.1)
+          (subst (λ (r : Rest D). AreLanesTaken state config view v old r lanes (n + 1)) (sym t.0)
+          (lanes_skip state config view v apart old new lanes n so_far k within k_is (sym same ∙ is_false)))

@@ -30,6 +30,7 @@ pub mod Returned
 pub mod HeldPut
 pub mod Ended
 pub mod LaneTaken
+pub mod AllBack
 pub mod StationsInTurn
 pub mod PoolsInTurn
 pub mod Closable
@@ -44,7 +45,10 @@ pub mod LanesTaken
 pub mod Owning
 pub mod OpeningTaken
 pub mod OwnedOf
+pub mod AllEnded
+pub mod IssuedOne
 pub mod SameSegments
+pub mod Shapes
 pub mod StationRecovers
 pub mod RackClosed
 pub mod HeldSegments

@@ -35,14 +35,11 @@ module _ {D : Type 0} where
   -- a volume that the view doesn't name is none of its loggers
   pub not_logger : (r : Rest D) (view : List ℕ) (v : ℕ) → (Contains view v → ⊥) → All (λ l. v ≢ l) (loggers_out r view)
   not_logger r [] v others = All-nil (λ (l : ℕ). v ≢ l)
-  not_logger r (x ∷ xs) v others = by (is_some (image_here r.images.items x))
+  not_logger r (x ∷ xs) v others = by (is_some (image_here r.images.items x)) (not_logger r xs v (λ has. others (suc has.0, (let lt = has.1 in omega (arith, lt)), has.2)))
     where
-      rest : All (λ l. v ≢ l) (loggers_out r xs)
-      rest = not_logger r xs v (λ has. others (suc has.0, (let lt = has.1 in omega (arith, lt)), has.2))
-
-      by : (b : Bool) → All (λ l. v ≢ l) (cond b (x ∷ loggers_out r xs) (loggers_out r xs))
-      by true = All-cons (λ (l : ℕ). v ≢ l) x (loggers_out r xs) (λ e. others (0, omega arith, sym e)) rest
-      by false = rest
+      by : (b : Bool) → All (λ l. v ≢ l) (loggers_out r xs) → All (λ l. v ≢ l) (cond b (x ∷ loggers_out r xs) (loggers_out r xs))
+      by true rest = All-cons (λ (l : ℕ). v ≢ l) x (loggers_out r xs) (λ e. others (0, omega arith, sym e)) rest
+      by false rest = rest
 
   module _ (state : D → State) (config : Config) (old mid last : Rest D) (said : List (Option Said)) (v : ℕ) (view : List ℕ) (lanes : List (Lane D)) (os : List (OwnedPart D))
       (can : CanTake config old said v view) (takes : TakesLanes state config old mid v (loggers_out old view) lanes) (owned : TakesOwned config mid last said v os) where

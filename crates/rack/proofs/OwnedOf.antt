@@ -38,20 +38,24 @@ module _ {D : Type 0} where
       → k < length r.images.items → was ≡ image_here r.images.items k → slice_get (shapes_of config) k ≡ Some shape → IsSome was → IsSome new
       → IfSome was (λ o. IfSome new (λ n. Gave v k shape s.heads.items o n before after))
       → (more : List (OwnedPart D)) × (after ≡ before ++ more) × (length more ≡ owned_in v (Some s))
-        × TakesOwnedIn config r (record { images = with_item r.images k new; passes = r.passes; rooms = r.rooms }) v k s more
+      × TakesOwnedIn config r (record { images = with_item r.images k new; passes = r.passes; rooms = r.rooms }) v k s more
   took_of config r v k s shape None new before after within was_is shape_is some new_some gave = absurd (false≢true some)
   took_of config r v k s shape (Some o) None before after within was_is shape_is some new_some gave = absurd (false≢true new_some)
-  took_of config r v k s shape (Some o) (Some n) before after within was_is shape_is some new_some gave =
-      (gave.0, gave.1, gave.2, record {
-        passes = refl;
-        rooms = refl;
-        count = length-set r.images.items k (Some n);
-        images = λ j other. get_or-set_other r.images.items k j (Some n) None other;
-        before = o;
-        was = sym was_is;
-        after = n;
-        is = get_or-set_same r.images.items k (Some n) None within;
-        shape = shape;
-        shape_is = shape_is;
-        takes = gave.3;
-      })
+  took_of config r v k s shape (Some o) (Some n) before after within was_is shape_is some new_some gave = (
+    gave.0,
+    gave.1,
+    gave.2,
+    record {
+      passes = refl;
+      rooms = refl;
+      count = length-set r.images.items k (Some n);
+      images = λ j other. get_or-set_other r.images.items k j (Some n) None other;
+      before = o;
+      was = sym was_is;
+      after = n;
+      is = get_or-set_same r.images.items k (Some n) None within;
+      shape = shape;
+      shape_is = shape_is;
+      takes = gave.3;
+    },
+  )

@@ -62,6 +62,9 @@ pub total_next : (v : ℕ) (said : List (Option Said)) (n : ℕ) (o : Option Sai
 total_next v said n o is =
     ap (owned_total v) (take_more said n o (slice_get_within said n o is) ∙ ap (λ (x : Option Said). take n said ++ x ∷ []) (get_or_from_slice_get said n o o is)) ∙ sum_by_push (owned_in v) (take n said) o
 
+none_in : (p : ℕ × ℕ) → Contains [] p → ⊥
+none_in p has = absurd (let lt = has.1 in omega (arith, lt))
+
 module _ {D : Type 0} (config : Config) (said : List (Option Said)) (v : ℕ) where
   -- those on the first loggers went out
   pub record AreOwnedTo (old new : Rest D) (os : List (OwnedPart D)) (n : ℕ) : Type 0 where
@@ -81,9 +84,6 @@ module _ {D : Type 0} (config : Config) (said : List (Option Said)) (v : ℕ) wh
   same_image : (o : Option (ImageRest D)) → KeepsImage o o
   same_image None = refl
   same_image (Some r) = (r, refl, record { label = refl; home = refl; count = refl; row = refl; room = refl })
-
-  none_in : (p : ℕ × ℕ) → Contains [] p → ⊥
-  none_in p has = absurd (let lt = has.1 in omega (arith, lt))
 
   pub owned_to_none : (r : Rest D) → AreOwnedTo r r [] 0
   owned_to_none r = record {

@@ -6,7 +6,7 @@ use Rattle.std.proofs.lemmas.Bool.{cases_lt}
 use Rattle.std.proofs.lemmas.Option.{none-some, same_Some, slice_get_within, get_or_from_slice_get}
 use Rattle.std.proofs.lemmas.Slice.Eq.{bytes_eq-Decides}
 use Rattle.wol_disk.specs.Disk.{State}
-use Rattle.wol_bay.specs.Bay.{Name, Image, Told, BayState, at_name, without, outs, sent_out, IsHome}
+use Rattle.wol_bay.specs.Bay.{Name, Image, Told, BayState, at_name, without, outs, sent_out, IsHome, IsOut}
 use Rattle.wol_bay.proofs.NameLists.{without_none}
 use Rattle.wol_config.specs.Configs.{IsValid}
 use Rattle.wol_config.specs.declared.config.Config.{Config}
@@ -17,7 +17,7 @@ use Rattle.volume_images.specs.Volumes.{shape_in, MayLeave}
 use Rattle.volume_images.proofs.NamedApart.{other_gone, second_gone}
 use Rattle.rack.specs.Rests.{IsImageOut}
 use Rattle.rack.specs.Opens.{out_names}
-use Rattle.rack.specs.Opening.{StayedAs, StayedSo, HasSentOut, IsNextOpened, IsNextRefused}
+use Rattle.rack.specs.Opening.{StayedAs, StayedSo, HasSentOut, IsBackAtOnce, IsNextOpened, IsNextRefused}
 use Rattle.rack.specs.Making.{image_by}
 use Rattle.rack.specs.declared.heads_said.Said.{Said}
 use Rattle.rack.specs.declared.volume_fault.VolumeFault.{VolumeFault}
@@ -206,3 +206,56 @@ next_home config valid out n v b b1 count at home sent = go b.told b1.told home 
     go (Some t) (Some t1) home e =
         let same : t1.out ≡ t.out ++ names = cc in
         ap (at_name v.name) same ∙ neither v.name t.out names home (not_named config v.name config.volumes.items out (λ k w lt found. names_differ config valid k n w v found at (λ is. omega (arith, lt, count, is))))
+
+-- a name behind others that don't have it
+behind_others : {A : Type 0} (name : Name) (es fs : List (Name × A)) (a : A) → at_name name es ≡ None → at_name name fs ≡ Some a → at_name name (es ++ fs) ≡ Some a
+behind_others {A} name [] fs a none there = there
+behind_others {A} name (e ∷ es) fs a none there = go (bytes_eq e.0 name) none (λ n. behind_others name es fs a n there)
+  where
+    go : (b : Bool) → cond b (Some e.1) (at_name name es) ≡ None → (at_name name es ≡ None → at_name name (es ++ fs) ≡ Some a) → cond b (Some e.1) (at_name name (es ++ fs)) ≡ Some a
+    go true n more = absurd (none-some e.1 (sym n))
+    go false n more = more n
+
+is_same_name : (x : Name) → bytes_eq x x ≡ true
+is_same_name x = (bytes_eq-Decides x x).1 refl
+
+named_out : {D : Type 0} (config : Config) (vs : List VolumeConf) (out : List (Option (ImageRest D))) (k : ℕ) (v : VolumeConf) → slice_get vs k ≡ Some v → IsImageOut out k
+    → ((j : ℕ) (w : VolumeConf) → j < k → slice_get vs j ≡ Some w → w.name ≢ v.name) → at_name v.name (out_names config vs out) ≡ Some (part_sizes (shape_in config v))
+named_out config [] out k v at there other = absurd (none-some v at)
+named_out config (w ∷ vs) [] k v at there other = absurd (cc there)
+named_out config (w ∷ vs) (None ∷ out) zero v at there other = absurd (cc there)
+named_out config (w ∷ vs) (Some r ∷ out) zero v at there other =
+    let is : w ≡ v = same_Some w v at in
+    ap (λ (u : VolumeConf). at_name v.name ((u.name, part_sizes (shape_in config u)) ∷ out_names config vs out)) is
+    ∙ ap (λ (b : Bool). cond b (Some (part_sizes (shape_in config v))) (at_name v.name (out_names config vs out))) (is_same_name v.name)
+named_out config (w ∷ vs) (None ∷ out) (suc k) v at there other = named_out config vs out k v at there (λ j u lt found. other (suc j) u (omega (arith, lt)) found)
+named_out config (w ∷ vs) (Some r ∷ out) (suc k) v at there other =
+    ap (λ (b : Bool). cond b (Some (part_sizes (shape_in config w))) (at_name v.name (out_names config vs out))) (not_this w.name v.name (other 0 w (omega arith) refl))
+    ∙ named_out config vs out k v at there (λ j u lt found. other (suc j) u (omega (arith, lt)) found)
+
+-- the names of the images that are out are out
+pub names_out : {D : Type 0} (config : Config) → IsValid config → (out : List (Option (ImageRest D))) (n k : ℕ) (v : VolumeConf) (b b1 : BayState) → slice_get config.volumes.items k ≡ Some v → IsImageOut out k → IsHome v.name b → HasSentOut config out n b b1
+    → IsOut v.name (part_sizes (shape_in config v)) b1
+names_out {D} config valid out n k v b b1 at there home sent = go b.told b1.told home sent.outs
+  where
+    names : List (Name × List ℕ)
+    names = out_names config config.volumes.items out
+
+    go : (o o1 : Option Told) → IfSome o (λ t. at_name v.name t.out ≡ None) → option_map (λ t. t.out) o1 ≡ option_map (λ os. os ++ names) (option_map (λ t. t.out) o) → IfSome o1 (λ t. at_name v.name t.out ≡ Some (part_sizes (shape_in config v)))
+    go o None home e = tt
+    go None (Some t1) home e = absurd (cc e)
+    go (Some t) (Some t1) home e =
+        let same : t1.out ≡ t.out ++ names = cc in
+        ap (at_name v.name) same
+        ∙ behind_others v.name t.out names (part_sizes (shape_in config v)) home (named_out config config.volumes.items out k v at there (λ j w lt found. names_differ config valid j k w v found at (λ is. omega (arith, lt, is))))
+
+-- the next image wasn't taken out, and all is as it was
+pub sent_same : {D : Type 0} (config : Config) (out : List (Option (ImageRest D))) (n : ℕ) (b b1 b2 : BayState) → HasSentOut config out n b b1 → IsBackAtOnce b1 b2 → HasSentOut config out n b b2
+sent_same config out n b b1 b2 so_far back = record { outs = back.outs ∙ so_far.outs; stayed = go b.told b1.told b2.told so_far.stayed back.same; counts = let c = so_far.counts in let d = back.counts in omega (arith, c, d) }
+  where
+    go : (o o1 o2 : Option Told) → IsTold (StayedSo config out n) o o1 → IsTold (λ old new. new ≡ old) o1 o2 → IsTold (StayedSo config out n) o o2
+    go None None o2 s same = same
+    go None (Some t1) o2 s same = absurd (cc s)
+    go (Some t) None o2 s same = absurd s
+    go (Some t) (Some t1) None s same = absurd same
+    go (Some t) (Some t1) (Some t2) s same = λ apart. let h = s apart in subst (λ (x : Told). StayedSo config out n t x) (sym (same h.apart)) h

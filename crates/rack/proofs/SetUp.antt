@@ -44,12 +44,16 @@ map_read f xs k x d is = get_or_from_slice_get (map f xs) k (f x) d (slice_get-m
 module _ {D : Type 0} (n : ℕ) (pools : List (Issued (Pool (FreeSegment D)) PoolBase)) (a b : Lists D) (lists : AreLists n a) (pool_count : length pools ≡ n)
     (same_pools : b.shared.pools ≡ a.shared.pools) (same_rooms : b.rooms.pools ≡ a.rooms.pools) where
   pub pools_shared : (b.shared.pools.items ≡ []) × (length pools ≤ vec_capacity b.shared.pools)
-  pools_shared = (ap (λ (v : Vec (TurnLock (Pool (FreeSegment D)) PoolBase) Global). v.items) same_pools ∙ lists.shared.pools.0,
-      subst (λ (m : ℕ). m ≤ vec_capacity b.shared.pools) (sym pool_count) (subst (λ (m : ℕ). n ≤ m) (sym (ap (λ (v : Vec (TurnLock (Pool (FreeSegment D)) PoolBase) Global). vec_capacity v) same_pools)) lists.shared.pools.1))
+  pools_shared = (
+    ap (λ (v : Vec (TurnLock (Pool (FreeSegment D)) PoolBase) Global). v.items) same_pools ∙ lists.shared.pools.0,
+    subst (λ (m : ℕ). m ≤ vec_capacity b.shared.pools) (sym pool_count) (subst (λ (m : ℕ). n ≤ m) (sym (ap (λ (v : Vec (TurnLock (Pool (FreeSegment D)) PoolBase) Global). vec_capacity v) same_pools)) lists.shared.pools.1),
+  )
 
   pub pools_rooms : (b.rooms.pools.items ≡ []) × (length pools ≤ vec_capacity b.rooms.pools)
-  pools_rooms = (ap (λ (v : Vec (Vec (PassOf (Pool (FreeSegment D)) PoolBase) Global) Global). v.items) same_rooms ∙ lists.rooms.pools.0,
-      subst (λ (m : ℕ). m ≤ vec_capacity b.rooms.pools) (sym pool_count) (subst (λ (m : ℕ). n ≤ m) (sym (ap (λ (v : Vec (Vec (PassOf (Pool (FreeSegment D)) PoolBase) Global) Global). vec_capacity v) same_rooms)) lists.rooms.pools.1))
+  pools_rooms = (
+    ap (λ (v : Vec (Vec (PassOf (Pool (FreeSegment D)) PoolBase) Global) Global). v.items) same_rooms ∙ lists.rooms.pools.0,
+    subst (λ (m : ℕ). m ≤ vec_capacity b.rooms.pools) (sym pool_count) (subst (λ (m : ℕ). n ≤ m) (sym (ap (λ (v : Vec (Vec (PassOf (Pool (FreeSegment D)) PoolBase) Global) Global). vec_capacity v) same_rooms)) lists.rooms.pools.1),
+  )
 
 module _ {D : Type 0} (spindles : List (Issued Spindle SpindleBase)) (pools : List (Issued (Pool (FreeSegment D)) PoolBase)) (a b c : Lists D)
     (lists : AreLists (length spindles) a) (spindle_sizes : All (λ (i : Issued Spindle SpindleBase). length i.passes.items ≡ length spindles + 1) spindles)

@@ -1,5 +1,5 @@
 -- The owned segments of a volume go out of an image.
-use Rattle.std.proofs.Common.{◌≡◌, ◌≢◌, ◌<◌, ◌≤◌, ◌+◌, ⊎_elim, inl, inr, ℕ, zero, suc, Bool, true, false, List, [], ◌∷◌, ◌++◌, length, map, take, drop, cond, not, Option, None, Some, refl, sym, ap, subst, ◌∙◌, arith}
+use Rattle.std.proofs.Common.{◌≡◌, ◌≢◌, ◌<◌, ◌≤◌, ◌+◌, ⊎_elim, inl, inr, ℕ, zero, suc, Bool, true, false, List, [], ◌∷◌, ◌++◌, length, map, take, drop, cond, Option, None, Some, refl, sym, ap, subst, ◌∙◌, arith}
 use Rattle.std.specs.Prelude.{All, Contains, IsSome, slice_get, slice_index_or, slice_set, count_by}
 use Rattle.std.specs.List.{AllByRecursion}
 use Rattle.std.proofs.lemmas.Bool.{cases_eq, cases_Bool, false≢true, eq-eqb, eqb-true}
@@ -18,10 +18,6 @@ use Rattle.rack.specs.Rests.{segment_here}
 use Rattle.rack.specs.Parts.{is_owned_by, count_owners, IsSameBut, AreOwnersHere, TakesOwners, TakesOne}
 use Rattle.rack.specs.declared.rack.ImageRest.{ImageRest}
 use Rattle.rack.proofs.Returned.{same_but_then}
-
-pub true_if : (b : Bool) → not b ≡ false → b ≡ true
-true_if true is = refl
-true_if false is = absurd (false≢true (sym is))
 
 -- the test of a head says whose it is
 pub owner_of_true : (v : ℕ) (h : SegHead) → is_owned_by v h ≡ true → h ≡ Owned v

@@ -17,6 +17,9 @@ use Rattle.log_segment.specs.declared.free.FreeSegment.{FreeSegment}
 use Rattle.seg_pool.specs.Holders.{holder}
 use Rattle.seg_pool.specs.declared.base.PoolBase.{PoolBase}
 use Rattle.seg_pool.specs.declared.pool.Pool.{Pool}
+use Rattle.spin_model.specs.declared.spindle.Spindle.{Spindle}
+use Rattle.spin_model.specs.declared.spindle.SpindleBase.{SpindleBase}
+use Rattle.logger.specs.Lanes.{AreAccesses}
 use Rattle.spin_model.specs.Spun.{state_of}
 use Rattle.spin_model.specs.declared.spun.Spun.{Spun}
 use Rattle.manager.specs.declared.station.Station.{Station}
@@ -25,9 +28,9 @@ use Rattle.volume_images.specs.Accepted.{HasHead, IsConfigured, IsAccepted, head
 use Rattle.volume_images.specs.Formatted.{part_sizes}
 use Rattle.volume_images.specs.Left.{IsTold, AreNamedApart}
 use Rattle.volume_images.specs.Volumes.{shape_in, shapes_of, MayLeave}
-use Rattle.rack.specs.Rests.{image_here, segment_here, pool_pass, held_here, IsImageOut, IsImageRest}
+use Rattle.rack.specs.Rests.{image_here, segment_here, pool_pass, spindle_pass, held_here, IsImageOut, IsImageRest}
 use Rattle.rack.specs.Parts.{holder_by}
-use Rattle.rack.specs.Racks.{IsClosable, IsUnused, AreUnused}
+use Rattle.rack.specs.Racks.{IsClosable, NamesVolumes, IsUnused, AreUnused}
 use Rattle.rack.specs.Closing.{IsComplete}
 use Rattle.rack.specs.Opens.{HadBefore, out_names, BeganWith, RefusesVolume}
 use Rattle.rack.specs.declared.heads_said.Said.{Said}
@@ -201,6 +204,7 @@ pub record AreOwnersHere {D : Type 0} (state : D → State) (said : List (Option
 -- volumes below n have a station or a fault; of the others those have a fault whose image isn't out
 pub record AreTried {D : Type 0} (config : Config) (n : ℕ) (r : Rack D) : Type 0 where
   pub count : length r.faults.items ≡ length (shapes_of config)
+  pub known : (k : ℕ) (f : VolumeFault) → slice_get r.faults.items k ≡ Some (Some f) → NamesVolumes (length (shapes_of config)) f
   pub below : All (λ (s : Station D). s.id < n) r.stations.items
   pub tried : (k : ℕ) → k < n → (fault_at r.faults.items k ≡ None) ↔ Contains (map (λ (s : Station D). s.id) r.stations.items) k
   pub further : (k : ℕ) → n ≤ k → k < length (shapes_of config) → (fault_at r.faults.items k ≡ None) ↔ IsImageOut r.rest.images.items k
@@ -217,6 +221,7 @@ pub record IsOpeningRack {D : Type 0} (state : D → State) (config : Config) (b
   pub pools : BeganAsSaid r.shared.pools.items said
   pub said_count : length said ≡ length (shapes_of config)
   pub unheld : (v k : ℕ) → held_here r.rest v k ≡ []
+  pub accesses : (v k : ℕ) (p : PassOf Spindle SpindleBase) → spindle_pass r.rest v k ≡ Some p → AreAccesses (pass_mine p)
   pub owners : AreOwnersHere state said r
   pub untouched : AreUntouched state (length (shapes_of config)) n said r.rest
 

@@ -561,6 +561,11 @@ module _ {D : Type 0} where
   abbrev pub loggers_out : Rest D → (view : List ℕ) → List ℕ
   loggers_out r view = filter (λ k. is_some (image_here r.images.items k)) view
 
+  -- a lane for this logger went behind these, where it is out
+  abbrev pub TakesOneLane : (D → State) → Config → (out : Bool) → (old new : Rest D) → (v k : ℕ) → (before after : List (Lane D)) → Type 0
+  TakesOneLane state config false old new v k before after = (new ≡ old) × (after ≡ before)
+  TakesOneLane state config true old new v k before after = (l : Lane D) × (after ≡ before ++ l ∷ []) × IsNewLane state old v (segments_of config k) l × (logger_of l ≡ k) × TakesPasses old new v (k ∷ [])
+
   -- lanes of volume v went out, one for each of these loggers, in order
   pub record TakesLanes (state : D → State) (config : Config) (old new : Rest D) (v : ℕ) (loggers : List ℕ) (lanes : List (Lane D)) : Type 0 where
     pub loggers_are : map logger_of lanes ≡ loggers

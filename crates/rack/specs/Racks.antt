@@ -1,5 +1,5 @@
 -- A rack, whatever its volumes were told since it was opened: what it needs to be closed.
-use Rattle.std.specs.Prelude.{◌≡◌, ◌≢◌, ◌<◌, ◌↔◌, ℕ, List, [], length, map, None, Some, slice_get, slice_index_or, Contains, All, AllPairs, IsSome}
+use Rattle.std.specs.Prelude.{⊤, ◌≡◌, ◌≢◌, ◌<◌, ◌↔◌, ℕ, List, [], length, map, None, Some, slice_get, slice_index_or, Contains, All, AllPairs, IsSome}
 use Rattle.std.specs.List.{AllByRecursion}
 use Rattle.wol_disk.specs.Disk.{State}
 use Rattle.wol_model.specs.Heads.{Shape}
@@ -20,7 +20,12 @@ use Rattle.manager.specs.declared.station.Station.{Station}
 use Rattle.volume_images.specs.Formatted.{part_sizes}
 use Rattle.volume_images.specs.Volumes.{shape_in, shapes_of}
 use Rattle.rack.specs.Rests.{IsPassAt, AreLocks, IsRest, IsImageOut, image_here}
+use Rattle.rack.specs.Owners.{most_of}
 use Rattle.rack.specs.Foreign.{AreForeign}
+use Rattle.manager.specs.declared.part.Part.TheVariants.{Home, Segment}
+use Rattle.manager_recovery.specs.declared.refusal.OpenRefusal.TheVariants.{LabelDiffers, LoggerMissing, OutsideView, Damaged, Twins, DiskFault, NoMemory}
+use Rattle.rack.specs.declared.volume_fault.VolumeFault.{VolumeFault}
+use Rattle.rack.specs.declared.volume_fault.VolumeFault.TheVariants.{Absent, WrongLength, Refused, LabelFault, BayFailed}
 use Rattle.rack.specs.declared.rack.ImageRest.{ImageRest}
 use Rattle.rack.specs.declared.rack.Rack.{Rack}
 
@@ -38,6 +43,7 @@ pub record IsOpenBase {D : Type 0} (config : Config) (shared : Shared D) (images
   -- the view names each logger once, and not the volume itself
   pub others : Contains b.volume.began.view b.volume.began.owner → ⊥
   pub apart : AllPairs (λ j k. j ≢ k) b.volume.began.view
+  pub most : b.volume.began.most ≡ most_of config
   pub own_spindle : b.spindle_number ≡ b.volume.began.owner
   pub own_lanes : AllByRecursion (λ (l : LaneBase). (l.pool_number ≡ b.volume.began.owner) × (l.spindle_number ≡ b.volume.began.owner)) b.lanes
 
@@ -84,6 +90,21 @@ pub record IsClosable {D : Type 0} (state : D → State) (config : Config) (b : 
   pub rest : IsRest state config r.shared (map (λ (s : Station D). base_of_station s) r.stations.items) r.rest
   pub foreign : AreForeign state (map (λ (s : Station D). base_of_station s) r.stations.items) r.rest
 
+-- the volumes that a fault names are among so many; no volume is refused for want of memory
+abbrev pub NamesVolumes : (volumes : ℕ) → VolumeFault → Type 0
+NamesVolumes n Absent = ⊤
+NamesVolumes n (WrongLength bytes) = ⊤
+NamesVolumes n LabelFault = ⊤
+NamesVolumes n BayFailed = ⊤
+NamesVolumes n (Refused LabelDiffers) = ⊤
+NamesVolumes n (Refused (LoggerMissing id)) = ⊤
+NamesVolumes n (Refused (OutsideView logger segment)) = logger < n
+NamesVolumes n (Refused (Damaged volume block)) = volume < n
+NamesVolumes n (Refused (Twins first_volume first second_volume second)) = (first_volume < n) × (second_volume < n)
+NamesVolumes n (Refused (DiskFault (Home volume))) = ⊤
+NamesVolumes n (Refused (DiskFault (Segment volume index))) = volume < n
+NamesVolumes n (Refused NoMemory) = ⊥
+
 -- The rack is whole: it may be closed, and a volume has a station exactly where it has no fault.
 pub record IsRack {D : Type 0} (state : D → State) (config : Config) (b : BayState) (r : Rack D) : Type 0 where
   pub out : AreOut config r.rest.images.items b
@@ -94,5 +115,6 @@ pub record IsRack {D : Type 0} (state : D → State) (config : Config) (b : BayS
   pub bases : All (λ s. IsOpenBase config r.shared r.rest.images.items (base_of_station s)) r.stations.items
   pub fault_count : length r.faults.items ≡ length (shapes_of config)
   pub faults : (k : ℕ) → k < length (shapes_of config) → (slice_index_or r.faults.items k None ≡ None) ↔ Contains (map (λ (s : Station D). s.id) r.stations.items) k
+  pub known : (k : ℕ) (f : VolumeFault) → slice_get r.faults.items k ≡ Some (Some f) → NamesVolumes (length (shapes_of config)) f
   pub rest : IsRest state config r.shared (map (λ (s : Station D). base_of_station s) r.stations.items) r.rest
   pub foreign : AreForeign state (map (λ (s : Station D). base_of_station s) r.stations.items) r.rest

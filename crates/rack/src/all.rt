@@ -1,5 +1,5 @@
 // All volumes of a bay are opened.
-ghost use Rattle.std.specs.Prelude.{◌≡◌, ◌≤◌, ◌++◌, option_map, IfOk, OnErr, IfSome, IsTrue};
+ghost use Rattle.std.specs.Prelude.{ℕ, ◌≡◌, ◌⊎◌, ◌≤◌, ◌++◌, Some, slice_get, option_map, IfOk, OnErr, IfSome, IsTrue};
 ghost use Rattle.wol_bay.specs.Bay.{outs};
 ghost use Rattle.wol_config.specs.Configs.{IsValid};
 ghost use Rattle.volume_images.specs.Left.{IsTold, AreNamedApart};
@@ -7,6 +7,12 @@ ghost use Rattle.volume_images.specs.Volumes.{NoneOut};
 ghost use Rattle.rack.specs.Racks.{IsRack, AreUnused};
 ghost use Rattle.rack.specs.Owners.{HadRefused};
 ghost use Rattle.rack.specs.Opens.{out_names, BeganWith, AreRefused, LeavesAll, KeepsAllSound};
+
+ghost use Rattle.wol_disk.specs.Disk.{Rose};
+ghost use Rattle.manager.specs.declared.part.Part.{Part};
+ghost use Rattle.manager_recovery.specs.declared.refusal.OpenRefusal.TheVariants.{DiskFault};
+ghost use Rattle.rack.specs.Closes.{HasFaultIn};
+ghost use Rattle.rack.specs.declared.volume_fault.VolumeFault.TheVariants.{Refused};
 
 use crate::closing::close_all;
 use crate::images::{Images, open_images};
@@ -82,6 +88,8 @@ pub fn open_all<R: Wait, B: Bay>(
     // no pass of a station was used
     ensures fresh { IfOk result (λ r. AreUnused r.stations.items) }
     ensures kept { IfOk result (λ r. IsTrue B.Part.tells → IsTold (HadRefused config.now r.rest.images.items) (B.state bay.old).told (B.state bay.new).told) }
+    ensures failed { IfOk result (λ r. (k : ℕ) (p : Part) → slice_get r.faults.items k ≡ Some (Some (Refused (DiskFault p)))
+        → HasFaultIn B.Part.state r.rest ⊎ Rose (B.state bay.old).faults (B.state bay.new).faults) }
     ensures home { OnErr result (outs (B.state bay.new) ≡ outs (B.state bay.old)) }
     // each image left in the bay recovers to what one at entry did, also after a stop within
     ensures left { OnErr result (IsTrue B.Part.tells → IsTold (LeavesAll B.Part.tells B.Part.state config.now (B.state bay.old) (B.state bay.new)) (B.state bay.old).told (B.state bay.new).told) }

@@ -1,8 +1,8 @@
 // The pool of an image's free segments is made, and emptied.
-ghost use Rattle.std.specs.Prelude.{◌≡◌, ◌<◌, ◌≤◌, ℕ, [], length, None, Some, IfOk, OnOk, OnErr, IfSome, IsSome, MatchOption, slice_get, slice_index_or, vec_len};
+ghost use Rattle.std.specs.Prelude.{◌≡◌, ◌<◌, ◌≤◌, ℕ, [], length, None, Some, IfOk, IfErr, OnOk, OnErr, IfSome, IsSome, MatchOption, slice_get, slice_index_or, slice_set, vec_len};
 ghost use Rattle.wol_model.specs.Heads.{Shape};
 ghost use Rattle.wol_config.specs.Configs.{IsValid};
-ghost use Rattle.turn_lock.specs.Passes.{lock_id};
+ghost use Rattle.turn_lock.specs.Passes.{lock_id, lock_passes, AreNewPasses};
 ghost use Rattle.log_segment.specs.Segment.{IsBlank};
 ghost use Rattle.seg_pool.specs.Pools.{IsEmptyPool, IsSamePool, StandsFor, item_at, note_at, room_of, volume_of, blocks_of, base_of};
 ghost use Rattle.volume_images.specs.Volumes.{shapes_of};
@@ -146,12 +146,32 @@ fn issue_pool<D: Disk>(
     let segments = config.volumes[id as usize].segments;
     let mut pool = Pool::new(alloc, segments, id, config.segment_blocks)?;
     supply(&mut pool, said, image);
-    match TurnLock::new(alloc, pool, config.volumes.len() as u32, 0) {
-        Ok((lock, passes)) => Ok(IssuedPool { lock, passes }),
-        Err((pool, _)) => {
+    match lock_pool(alloc, pool, config.volumes.len() as u32) {
+        Ok(issued) => Ok(issued),
+        Err(pool) => {
             empty_pool(pool, image);
             Err(NoMemory)
         }
+    }
+}
+
+// A lock over the pool, with all of its passes. The pool comes back where there is no memory.
+fn lock_pool<D: Disk>(
+    alloc: Global,
+    pool: Pool<FreeSegment<D>>,
+    passes: u32,
+) -> Result<IssuedPool<D>, Pool<FreeSegment<D>>>
+    requires count { (1 ≤ passes) × (passes ≤ 1024) }
+    requires stands { StandsFor (IsBlank D.state) pool (base_of pool) [] }
+    ensures base { IfOk result (λ i. (lock_id i.lock).base ≡ base_of pool) }
+    ensures passes { IfOk result (λ i. lock_passes i.lock ≡ passes) }
+    ensures count { IfOk result (λ i. length i.passes.items ≡ passes) }
+    ensures new { IfOk result (λ i. AreNewPasses i.lock i.passes.items) }
+    ensures unchanged { IfErr result (λ p. p ≡ pool) }
+{
+    match TurnLock::new(alloc, pool, passes, 0) {
+        Ok((lock, passes)) => Ok(IssuedPool { lock, passes }),
+        Err((pool, _)) => Err(pool),
     }
 }
 
@@ -179,7 +199,7 @@ pub(crate) fn issue_pools<D: Disk>(
         return Err(NoMemory);
     };
     for id in 0..count {
-        match issue_pool(alloc, config, id as u32, &said[id], &mut images[id]) {
+        match issue_at(alloc, config, id, said, images) {
             Ok(issued) => made.push_reserved(issued),
             Err(NoMemory) => {
                 end_pools(made, images);
@@ -188,6 +208,27 @@ pub(crate) fn issue_pools<D: Disk>(
         }
     }
     Ok(made)
+}
+
+// The lock of one of them.
+fn issue_at<D: Disk>(
+    alloc: Global,
+    config: &Config,
+    id: usize,
+    said: &[Option<Said>],
+    images: &mut [Option<ImageRest<D>>],
+) -> Result<IssuedPool<D>, NoMemory>
+    requires config { IsValid config.now }
+    requires within { id < vec_len config.now.volumes }
+    requires in_said { id < length said.now }
+    requires in_images { id < length images.old }
+    requires image { (s : Shape) → slice_get (shapes_of config.now) id ≡ Some s → CanIssue D.state (vec_len config.now.volumes) id s (slice_index_or said.now id None) (slice_index_or images.old id None) }
+    ensures images { images.new ≡ slice_set images.old id (slice_index_or images.new id None) }
+    ensures issued { IfOk result (λ i. (s : Shape) → slice_get (shapes_of config.now) id ≡ Some s → IsIssuedPool (vec_len config.now.volumes) id s (slice_index_or said.now id None) i) }
+    ensures supplies { OnOk result (Supplies (slice_index_or said.now id None) (slice_index_or images.old id None) (slice_index_or images.new id None)) }
+    ensures restores { OnErr result (Restores D.state id config.now.segment_blocks (slice_index_or said.now id None) (slice_index_or images.old id None) (slice_index_or images.new id None)) }
+{
+    issue_pool(alloc, config, id as u32, &said[id], &mut images[id])
 }
 
 /// Ends the locks of pools, of each volume in order, and puts their segments to those that are here.

@@ -6,9 +6,14 @@ ghost use Rattle.log_layout.specs.Values.{shape_of};
 ghost use Rattle.logger.specs.Lanes.{logger_of};
 ghost use Rattle.manager_recovery.specs.declared.opening.OwnedPart.{OwnedPart};
 ghost use Rattle.rack.specs.Rests.{image_here, segment_here, spindle_pass};
-ghost use Rattle.rack.specs.Parts.{CanPutLanes, PutsLanes, IsUsablePlace, IsNewLane, TakesPasses, TakesLanes, IsSameRest, loggers_out, segments_of, owned_in, TakesOwnedOf, CanTakeOwnedOf, AreOwnedHere, TakesOwned, HasPlace, ChangesHome, CanTake, TakesOpening, owned_total, count_owners, AreOwnersHere, TakesOwners, TakesOne, is_owned_by};
+ghost use Rattle.rack.specs.Parts.{CanPutLanes, PutsLanes, IsUsablePlace, IsNewLane, TakesPasses, TakesOneLane, TakesLanes, IsSameRest, loggers_out, segments_of, owned_in, TakesOwnedOf, CanTakeOwnedOf, AreOwnedHere, TakesOwned, HasPlace, ChangesHome, CanTake, TakesOpening, owned_total, count_owners, AreOwnersHere, TakesOwners, TakesOne, is_owned_by};
 ghost use Rattle.rack.specs.declared.rack.ImageRest.{ImageRest};
 ghost use Rattle.rack.specs.declared.rack.Rest.{Rest};
+
+ghost use Rattle.std.specs.Prelude.{◌≡◌, IfOk, IfErr};
+ghost use Rattle.manager_recovery.specs.Opening.{CanOpen};
+ghost use Rattle.manager_recovery.specs.declared.opening.Opening.{Opening};
+ghost use Rattle.rack.specs.Locked.{IsLocked, IsUnopened};
 
 use crate::VolumeFault;
 use crate::heads_said::{Said, is_owned_by};
@@ -16,7 +21,8 @@ use crate::rack::{ImageRest, Rack, Rest};
 use crate::rest::take_home;
 use log_layout::{Label, SegHead, View};
 use logger::Lane;
-use manager::Station;
+use logger::Shared;
+use manager::{Manager, Station};
 use manager_recovery::{OpenRefusal, Opening, OwnedPart, open_volume};
 use spin_model::{Spindle, Spun};
 use std::alloc::Global;
@@ -98,17 +104,37 @@ impl<D: Disk> Rest<D> {
             return Err(NoMemory);
         };
         for logger in view.ids() {
-            if self.is_out(*logger) {
-                match self.take_lane(alloc, config, id, *logger) {
-                    Ok(lane) => lanes.push_reserved(lane),
-                    Err(NoMemory) => {
-                        self.put_lanes(id, lanes);
-                        return Err(NoMemory);
-                    }
-                }
+            if let Err(NoMemory) = self.take_lane_of(alloc, config, id, *logger, &mut lanes) {
+                self.put_lanes(id, lanes);
+                return Err(NoMemory);
             }
         }
         Ok(lanes)
+    }
+
+    // The lane for this logger goes behind the others, where its image is out.
+    fn take_lane_of(
+        &mut self,
+        alloc: Global,
+        config: &Config,
+        id: u32,
+        logger: u32,
+        lanes: &mut Vec<Lane<D>>,
+    ) -> Result<(), NoMemory>
+        requires config { length self.old.images.items ≡ vec_len config.now.volumes }
+        requires room { vec_len lanes.old < vec_capacity lanes.old }
+        requires place { IsSome (image_here self.old.images.items logger) → IsUsablePlace self.old id logger (segments_of config.now logger) }
+        ensures room { vec_capacity lanes.new ≡ vec_capacity lanes.old }
+        ensures taken { OnOk result (TakesOneLane D.state config.now (is_some (image_here self.old.images.items logger)) self.old self.new id logger lanes.old.items lanes.new.items) }
+        ensures same { OnErr result (IsSameRest self.old self.new) }
+        ensures same_lanes { OnErr result (lanes.new.items ≡ lanes.old.items) }
+    {
+        if !self.is_out(logger) {
+            return Ok(());
+        }
+        let lane = self.take_lane(alloc, config, id, logger)?;
+        lanes.push_reserved(lane);
+        Ok(())
     }
 
     // The segments of one image that the volume owns go behind `owned`.
@@ -315,6 +341,35 @@ impl<D: Disk> ImageRest<D> {
     }
 }
 
+// Why a volume has no lock yet: it was refused, or there is no memory for the lock.
+enum Unopened<D: Disk> {
+    Refused(OpenRefusal, Opening<D>),
+    NoRoom(Manager<D>),
+}
+
+// Opens a volume, and makes the lock of its manager: a pass for a client, and two for helpers.
+fn open_locked<R: Wait, D: Disk>(
+    alloc: Global,
+    rt: &R,
+    shared: &Shared<D>,
+    opening: Opening<D>,
+) -> Result<(TurnLock<Manager<D>>, Vec<Pass<Manager<D>>>), Unopened<D>>
+    ghost before: { Opening D }
+    requires before { opening ≡ before }
+    requires ready { CanOpen D.state shared.now opening }
+    ensures locked { IfOk result (λ r. IsLocked D.tells D.state shared.now before r.0 r.1.items) }
+    ensures unopened { IfErr result (IsUnopened D.tells D.state shared.now before) }
+{
+    let manager = match open_volume(alloc, rt, shared, opening) {
+        Ok(manager) => manager,
+        Err((refusal, opening)) => return Err(Unopened::Refused(refusal, opening)),
+    };
+    match TurnLock::new(alloc, manager, 1, 2) {
+        Ok(locked) => Ok(locked),
+        Err((manager, _)) => Err(Unopened::NoRoom(manager)),
+    }
+}
+
 impl<D: Disk> Rack<D> {
     ghost use Rattle.std.specs.Prelude.{◌≡◌, ◌<◌, ◌+◌, ℕ, Some, length, slice_get, OnOk, OnErr, IsTrue};
     ghost use Rattle.wol_bay.specs.Bay.{BayState, Told};
@@ -325,6 +380,7 @@ impl<D: Disk> Rack<D> {
     ghost use Rattle.rack.specs.Opening.{IsOpeningRack, HasBegun, AreRefusedBelow, AreSameOut, IsStopped};
     ghost use Rattle.rack.specs.declared.heads_said.Said.{Said};
 
+    #[tactic(none)]
     // Opens one volume: it has a station then, or a fault. Where there is no memory all of it is in the rest.
     fn open_one<R: Wait>(
         &mut self,
@@ -351,9 +407,9 @@ impl<D: Disk> Rack<D> {
         ensures began { IsTrue D.tells → (t : Told) → HasBegun D.state config.now t said.now id self.old → OnErr result (BeganWith D.state config.now t self.new) }
     {
         let opening = self.rest.take_opening(alloc, config, id, view, said)?;
-        let manager = match open_volume(alloc, rt, &self.shared, opening) {
-            Ok(manager) => manager,
-            Err((refusal, opening)) => {
+        let (lock, mut passes) = match open_locked(alloc, rt, &self.shared, opening) {
+            Ok(locked) => locked,
+            Err(Unopened::Refused(refusal, opening)) => {
                 self.rest.put_opening(id, opening);
                 if refusal == OpenRefusal::NoMemory {
                     return Err(NoMemory);
@@ -361,33 +417,26 @@ impl<D: Disk> Rack<D> {
                 self.faults[id as usize] = Some(VolumeFault::Refused(refusal));
                 return Ok(());
             }
-        };
-        match TurnLock::new(alloc, manager, 1, 2) {
-            Ok((lock, mut passes)) => {
-                let (Some(keeper), Some(helper), Some(worker)) = (
-                    passes.pop(),
-                    passes.pop(),
-                    passes.pop(),
-                ) else {
-                    unreachable!()
-                };
-                self.rest.rooms.managers.push_reserved(passes);
-                self.stations.push_reserved(Station {
-                    id,
-                    lock,
-                    worker,
-                    helper,
-                    keeper,
-                });
-                Ok(())
-            }
-            Err((manager, _)) => {
+            Err(Unopened::NoRoom(manager)) => {
                 self.rest.put_manager(id, manager.release());
-                Err(NoMemory)
+                return Err(NoMemory);
             }
-        }
+        };
+        let (Some(keeper), Some(helper), Some(worker)) = (passes.pop(), passes.pop(), passes.pop()) else {
+            unreachable!()
+        };
+        self.rest.rooms.managers.push_reserved(passes);
+        self.stations.push_reserved(Station {
+            id,
+            lock,
+            worker,
+            helper,
+            keeper,
+        });
+        Ok(())
     }
 
+    #[tactic(none)]
     /// Opens the volumes whose images are out, in order. After want of memory some are open, and all of the others is in the rest.
     pub(crate) fn open_volumes<R: Wait>(
         &mut self,

@@ -4,15 +4,16 @@ use Rattle.std.proofs.lemmas.List.{length-map, length-set}
 use Rattle.std.proofs.lemmas.Option.{slice_get-get_or, slice_get_within, same_Some, get_or_from_slice_get}
 use Rattle.wol_bay.specs.Bay.{IsHome}
 use Rattle.wol_config.specs.declared.config.VolumeConf.{VolumeConf}
-use Rattle.volume_images.specs.Volumes.{shapes_of}
+use Rattle.volume_images.specs.Volumes.{shape_in, shapes_of}
 use Rattle.rack.specs.Opening.{HasSentOut, AreAsked}
-use Rattle.rack.proofs.Asking.{some_at, asked_more, none_asked}
-use Rattle.rack.proofs.SentNames.{same_until, sent_on, none_sent, next_home}
+use Rattle.rack.proofs.Asking.{some_at, asked_more, asked_later, none_asked}
+use Rattle.rack.proofs.SentNames.{same_until, sent_on, none_sent, next_home, names_out, sent_same}
+use Rattle.rack.proofs.AllBack.{all_back, all_whole, nothing_out}
 use Rattle.rack.proofs.UsedPass.{used_spindle}
 use Rattle.rack.proofs.images.open_images.Goals as goal
 
 pub returns-in_err-images-clause-err : goal.returns-in_err-images-clause-err
-returns-in_err-images-clause-err g c = ?
+returns-in_err-images-clause-err g c = let back = nothing_out g.B.Part.Disk.tells (g.B.Bay.state c.args.bay.now) in search (rules, back)
 
 pub loop-id-init : goal.loop-id-init
 loop-id-init g c =
@@ -86,17 +87,40 @@ returns-clause-out g c =
     let all : c.loop-id.id ≡ length c.args.config.now.volumes.items = omega (arith, t, l, v, e) in
     subst (λ n. HasSentOut c.args.config.now c.loop-id.images.out.items n (g.B.Bay.state c.args.bay.now) (g.B.Bay.state c.loop-id.bay)) all c.loop-id.invariant.sent
 
+pub give_back-requires-clause-count : goal.give_back-requires-clause-count
+give_back-requires-clause-count g c =
+    let t = c.loop-id-test.true in
+    let l = c.len-id-end.ensures in
+    let v = c.args.config.now.volumes.ok.0 in
+    let n = c.loop-id.invariant.asked.out_count in
+    let m = length-map c.args.config.now.volumes.items (λ w. shape_in c.args.config.now w) in
+    omega (arith, t, l, v, n, m)
+
 pub give_back-requires-clause-images : goal.give_back-requires-clause-images
-give_back-requires-clause-images g c = ?
+give_back-requires-clause-images g c = λ k s r shape here. (c.loop-id.invariant.asked.out k s r shape here).rest
 
 pub give_back-requires-clause-whole : goal.give_back-requires-clause-whole
-give_back-requires-clause-whole g c = ?
+give_back-requires-clause-whole g c = all_whole g.B.Part.Disk.tells g.B.Part.Disk.state c.args.config.now (g.B.Bay.state c.args.bay.now) (g.B.Bay.state c.loop-id.bay) c.loop-id.id c.loop-id.images c.loop-id.invariant.asked
+    (let t = c.loop-id-test.true in let l = c.len-id-end.ensures in let v = c.args.config.now.volumes.ok.0 in omega (arith, t, l, v))
 
 pub give_back-requires-clause-out : goal.give_back-requires-clause-out
-give_back-requires-clause-out g c = ?
+give_back-requires-clause-out g c = λ k v at there.
+    let vs = c.args.config.now.volumes.items in
+    let home = subst (λ (w : VolumeConf). IsHome w.name (g.B.Bay.state c.args.bay.now)) (get_or_from_slice_get vs k v v at) (c.requires.home k v (slice_get_within vs k v at)) in
+    names_out c.args.config.now c.requires.config c.loop-id.images.out.items c.loop-id.id k v (g.B.Bay.state c.args.bay.now) (g.B.Bay.state c.open_next.new.bay) at there home
+    (sent_same c.args.config.now c.loop-id.images.out.items c.loop-id.id (g.B.Bay.state c.args.bay.now) (g.B.Bay.state c.loop-id.bay) (g.B.Bay.state c.open_next.new.bay) c.loop-id.invariant.sent c.in-Err.ensures.err)
 
 pub returns-in-Err-clause-err : goal.returns-in-Err-clause-err
-returns-in-Err-clause-err g c = ?
+returns-in-Err-clause-err g c =
+    let b = g.B.Bay.state c.args.bay.now in
+    let b1 = g.B.Bay.state c.loop-id.bay in
+    let b2 = g.B.Bay.state c.open_next.new.bay in
+    let b3 = g.B.Bay.state c.give_back.new.bay in
+    let at_once = c.in-Err.ensures.err in
+    let inv = c.loop-id.invariant in
+    all_back g.B.Part.Disk.tells g.B.Part.Disk.state g.met.B.Part.Disk.told c.args.config.now b b2 b3 c.loop-id.id c.loop-id.images
+    (asked_later g.B.Part.Disk.tells g.B.Part.Disk.state c.args.config.now b b1 b2 c.loop-id.id c.loop-id.images at_once.counts inv.asked)
+    (sent_same c.args.config.now c.loop-id.images.out.items c.loop-id.id b b1 b2 inv.sent at_once) c.give_back.ensures.back c.requires.home c.give_back.ensures.home c.give_back.ensures.counts
 
 pub loop-id-preserved : goal.loop-id-preserved
 loop-id-preserved g c =

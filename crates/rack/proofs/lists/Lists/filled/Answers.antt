@@ -18,4 +18,4 @@ pub returns-clause-rest : goal.returns-clause-rest
 returns-clause-rest g c =
     let d = c.deal.new.self in
     set_up c.args.spindles.items c.args.pools.items c.args.self c.put_spindles.new.self c.put_pools.new.self c.requires.lists c.requires.spindles c.requires.pool_count c.requires.pools c.put_spindles.ensures c.put_pools.ensures
-        d c.deal.ensures (record { shared = d.shared; keepers = d.keepers; stations = d.stations; faults = c.args.faults; rest = record { images = c.args.images; passes = d.passes; rooms = d.rooms } }) refl refl refl refl refl
+    d c.deal.ensures (record { shared = d.shared; keepers = d.keepers; stations = d.stations; faults = c.args.faults; rest = record { images = c.args.images; passes = d.passes; rooms = d.rooms } }) refl refl refl refl refl
