@@ -590,6 +590,7 @@ module _ {D : Type 0} (state : D → State) (tells : Rattle.std.specs.Prelude.Bo
       loggers_out = each_out c.volume.began.view o.loggers_out;
       others = o.others;
       apart = o.apart;
+      most = o.most;
       own_spindle = o.own_spindle;
       own_lanes = o.own_lanes;
     }
