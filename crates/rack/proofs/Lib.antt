@@ -52,3 +52,4 @@ pub mod StationRecovers
 pub mod RackClosed
 pub mod HeldSegments
 pub mod FinalImages
+pub mod FirstRest

@@ -91,7 +91,7 @@ give_back-requires-clause-out g c =
     let shared = c.args.rack.shared in
     let is1 = c.close_stations.ensures.rest config shared (stations_may state config (g.B.Bay.state c.args.bay.now) c.args.rack can) in
     λ k v at out. out_there state g.B.Part.Disk.tells config (g.B.Bay.state c.args.bay.now) c.args.rack can c.close_stations.new.self c.close_pools.new.self is1 c.close_stations.ensures.closed c.close_pools.ensures.images c.close_pools.ensures.spindles
-        k v at (subst (λ w. Rattle.rack.specs.Rests.IsImageOut w.items k) c.close_spindles.ensures.images out)
+    k v at (subst (λ w. Rattle.rack.specs.Rests.IsImageOut w.items k) c.close_spindles.ensures.images out)
 
 pub returns-clause-home : goal.returns-clause-home
 returns-clause-home g c =
@@ -103,4 +103,3 @@ returns-clause-home g c =
     none_out state g.B.Part.Disk.tells config (g.B.Bay.state c.args.bay.now) c.args.rack can c.close_stations.new.self c.close_pools.new.self is1 c.close_stations.ensures.closed c.close_pools.ensures.images c.close_pools.ensures.spindles
     (Rattle.wol_bay.specs.Bay.outs (g.B.Bay.state c.args.bay.now)) (Rattle.wol_bay.specs.Bay.outs (g.B.Bay.state c.give_back.new.bay))
     (subst (λ w. Rattle.rack.specs.Closing.LeavesNoneOut config w.items (Rattle.wol_bay.specs.Bay.outs (g.B.Bay.state c.args.bay.now)) (Rattle.wol_bay.specs.Bay.outs (g.B.Bay.state c.give_back.new.bay))) c.close_spindles.ensures.images c.give_back.ensures.home)
-
