@@ -48,6 +48,7 @@ pub mod OwnedOf
 pub mod AllEnded
 pub mod IssuedOne
 pub mod SameSegments
+pub mod Shapes
 pub mod StationRecovers
 pub mod RackClosed
 pub mod HeldSegments

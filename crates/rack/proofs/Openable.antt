@@ -2,7 +2,7 @@
 use Rattle.std.proofs.Common.{◌≡◌, ◌≢◌, ⊎_elim, ℕ, zero, suc, ◌+◌, ◌-◌, ◌*◌, ◌^◌, ◌<◌, ◌≤◌, min, Bool, true, false, eqb, List, [], ◌∷◌, length, map, filter, get_or, Option, None, Some, option_map, refl, sym, ap, ◌∙◌, subst, arith}
 use Rattle.std.specs.Prelude.{slice_get, is_some, Contains, All}
 use Rattle.std.specs.List.{AllByRecursion}
-use Rattle.std.proofs.lemmas.Bool.{cases_lt, eq-eqb}
+use Rattle.std.proofs.lemmas.Bool.{cases_lt, eq-eqb, eqb-true}
 use Rattle.std.proofs.lemmas.List.{length-map, get_or-map, get_or_past}
 use Rattle.std.proofs.lemmas.List.Elements.{recursion_from_All, Contains-get_or, filter_agree}
 use Rattle.std.proofs.lemmas.Option.{none-some, same_Some, slice_get-map, slice_get_within, slice_get-get_or, get_or_from_slice_get}
@@ -18,54 +18,40 @@ use Rattle.turn_lock.specs.Passes.{lock_id, pass_lock, pass_number, pass_mine}
 use Rattle.turn_lock.specs.declared.lock.TurnLock.{TurnLock}
 use Rattle.turn_lock.specs.declared.pass.PassOf.{PassOf}
 use Rattle.log_layout.specs.Values.{shape_of, segment_head}
-use Rattle.log_layout.specs.declared.segment.SegHead.TheVariants.{Owned}
+use Rattle.log_layout.specs.declared.segment.SegHead.TheVariants.{Free, Owned}
+use Rattle.log_layout.specs.declared.segment.SegHead.{SegHead}
 use Rattle.seg_pool.specs.Holders.{holder, is_held_by}
 use Rattle.seg_pool.specs.Operations.{holds}
 use Rattle.seg_pool.specs.declared.base.Holder.{Holder}
-use Rattle.seg_pool.specs.declared.base.Holder.TheVariants.{HeldBy}
+use Rattle.seg_pool.specs.declared.base.Holder.TheVariants.{Elsewhere, HeldBy}
 use Rattle.spin_model.specs.Spun.{state_of, volume_of}
 use Rattle.spin_model.specs.declared.spun.Spun.{Spun}
 use Rattle.logger.specs.Lanes.{IsAt, logger_of, pool_of, spindle_of, segments_in, pool_blocks}
 use Rattle.logger.specs.declared.lane.Lane.{Lane}
-use Rattle.manager_recovery.specs.Opening.{IsOpeningLane, IsHeldIn, IsOwned, SaysOwner, CanOpen}
+use Rattle.manager_recovery.specs.Opening.{IsOpeningLane, IsHeldIn, IsOwned, SaysOwner, HoldsOwned, CanOpen}
 use Rattle.manager_recovery.specs.declared.opening.Opening.{Opening}
 use Rattle.manager_recovery.specs.declared.opening.OwnedPart.{OwnedPart}
 use Rattle.volume_images.specs.Accepted.{HasHead, head_place}
 use Rattle.volume_images.specs.Volumes.{shape_in, shapes_of}
 use Rattle.rack.specs.Owners.{most_of}
-use Rattle.rack.specs.Rests.{image_here, segment_here, pool_pass, spindle_pass, IsPart}
-use Rattle.rack.specs.Parts.{TakesOpening, IsNewLane, IsTakenOf, loggers_out, segments_of, segment_in, holder_by}
+use Rattle.rack.specs.Rests.{image_here, segment_here, pool_pass, spindle_pass, away_with, IsRestBut, IsPart}
+use Rattle.rack.specs.Racks.{base_of_station}
+use Rattle.manager.specs.declared.station.Station.{Station}
+use Rattle.rack.specs.Parts.{TakesOpening, IsNewLane, IsTakenOf, loggers_out, segments_of, segment_in, holder_by, holder_said, IsOwnedPlace}
 use Rattle.rack.specs.Opening.{said_at, IsOpeningRack}
 use Rattle.rack.specs.declared.heads_said.Said.{Said}
 use Rattle.rack.specs.declared.rack.ImageRest.{ImageRest}
 use Rattle.rack.specs.declared.rack.Rack.{Rack}
 use Rattle.rack.specs.declared.rack.Rest.{Rest}
-use Rattle.rack.proofs.Takes.{parts}
-
-some_at : {A : Type 0} (xs : List A) (k : ℕ) → k < length xs → (x : A) × (slice_get xs k ≡ Some x)
-some_at [] k lt = absurd (omega (arith, lt))
-some_at (x ∷ xs) zero lt = (x, refl)
-some_at (x ∷ xs) (suc k) lt = some_at xs k (omega (arith, lt))
-
--- the sizes of a valid configuration are in their ranges
-pub valid_shape : (config : Config) → IsValid config → (k : ℕ) (s : Shape) → slice_get (shapes_of config) k ≡ Some s → IsShape s × (s.segment_blocks ≡ config.segment_blocks)
-valid_shape config valid k s at =
-    let vs = config.volumes.items in
-    let within = slice_get_within (shapes_of config) k s at in
-    let below : k < length vs = let e = length-map vs (shape_in config) in omega (arith, within, e) in
-    let v = some_at vs k below in
-    let is : shape_in config v.0 ≡ s = same_Some (shape_in config v.0) s (sym (ap (option_map (shape_in config)) v.1) ∙ sym (slice_get-map (shape_in config) vs k) ∙ at) in
-    let one : get_or vs k v.0 ≡ v.0 = get_or_from_slice_get vs k v.0 v.0 v.1 in
-    let ok = valid.volumes k v.0 below in
-    let home : (1 ≤ v.0.home) × (v.0.home ≤ 2 ^ 32) = subst (λ (w : VolumeConf). (1 ≤ w.home) × (w.home ≤ 2 ^ 32)) one ok.home in
-    let segments : v.0.segments ≤ 1024 = subst (λ (w : VolumeConf). w.segments ≤ 1024) one ok.segments in
-    let shape : IsShape (shape_in config v.0) = record { home = home; segments = segments; segment_blocks = valid.segment_blocks } in
-    subst (λ (t : Shape). IsShape t × (t.segment_blocks ≡ config.segment_blocks)) is (shape, refl)
+use Rattle.rack.proofs.Asking.{some_at}
+use Rattle.rack.proofs.Shapes.{valid_shape}
+use Rattle.rack.proofs.Takes.{parts, image_id}
 
 module _ {D : Type 0} (state : D → State) (config : Config) (valid : IsValid config) (b : BayState) (said : List (Option Said)) (id : ℕ) (r : Rack D) (own : Said)
     (ready : IsOpeningRack state config b said id r) (lt : id < length (shapes_of config)) (at : slice_get said id ≡ Some (Some own)) (view : List ℕ)
     (new : Rest D) (o : Opening D) (takes : TakesOpening state config r.rest new said id view o) where
-  abbrev here = parts state config b said id r own ready lt at
+  here : IsRestBut state config r.shared (away_with (map (λ (s : Station D). base_of_station s) r.stations.items)) r.rest
+  here = parts state config valid b said id r own ready lt at
 
   -- a lane that was taken out
   record IsTakenLane (l : Lane D) : Type 0 where
@@ -74,7 +60,7 @@ module _ {D : Type 0} (state : D → State) (config : Config) (valid : IsValid c
     pub shape_is : slice_get (shapes_of config) (logger_of l) ≡ Some shape
     pub segments : segments_in l ≡ shape.segments
     pub blocks : pool_blocks l ≡ shape.segment_blocks
-    pub at : IsAt r.shared l
+    pub placed : IsAt r.shared l
     pub number : pass_number (pool_of l) ≡ id
     pub unused : pass_mine (pool_of l) ≡ []
     pub holders : (i : ℕ) → holder (pass_lock (pool_of l)).base.holders i ≡ holder_by (said_at said (logger_of l)) i
@@ -105,7 +91,7 @@ module _ {D : Type 0} (state : D → State) (config : Config) (valid : IsValid c
         shape_is = s.1;
         segments = is.size ∙ segments;
         blocks = ap (λ i. i.base.blocks) pass.own ∙ lock.blocks;
-        at = record {
+        placed = record {
           pool_in = let v = r.shared.pools.ok.0 in omega (arith, pool_in, v);
           spindle_in = let v = r.shared.spindles.ok.0 in omega (arith, spindle_in, v);
           pool = λ d. pass.own ∙ ap (λ x. lock_id x) (sym (get_or_from_slice_get r.shared.pools.items k p.0 d p.1));
@@ -127,7 +113,7 @@ module _ {D : Type 0} (state : D → State) (config : Config) (valid : IsValid c
       let same : get_or (loggers_out r.rest view) j 0 ≡ logger_of (get_or o.lanes.items j d) = sym (ap (λ (l : List ℕ). get_or l j 0) loggers) ∙ get_or-map logger_of o.lanes.items j d 0 below in
       subst (λ (k : ℕ). k < length (shapes_of config)) same (out_within (get_or (loggers_out r.rest view) j 0) (Rattle.std.proofs.lemmas.List.Elements.filter_passes (λ k. is_some (image_here r.rest.images.items k)) view j 0 (omega (arith, below, long))))
 
-  pub lanes_taken : All IsTakenLane o.lanes.items
+  lanes_taken : All IsTakenLane o.lanes.items
   lanes_taken = λ j d below. taken_lane (get_or o.lanes.items j d) (lane_out j d below) (takes.lanes.each j d below)
 
   most_fits : (o.most ≤ config.segment_blocks - 2) × ((1 ≤ o.most) × (o.most ≤ 128))
@@ -142,7 +128,7 @@ module _ {D : Type 0} (state : D → State) (config : Config) (valid : IsValid c
       let fits = most_fits in
       let sb = valid.segment_blocks in
       let blocks : pool_blocks l ≡ config.segment_blocks = taken.blocks ∙ shape.1 in
-      record { lane = is.lane; at = taken.at; owner = is.owner ∙ sym takes.id; bare = is.bare; untaken = is.untaken; long = omega (arith, fits.0, sb, blocks) }
+      record { lane = is.lane; at = taken.placed; owner = is.owner ∙ sym takes.id; bare = is.bare; untaken = is.untaken; long = omega (arith, fits.0, sb, blocks) }
 
   same_loggers : map logger_of o.lanes.items ≡ filter (λ k. get_or o.present.items k false) o.view
   same_loggers =
@@ -203,7 +189,7 @@ module _ {D : Type 0} (state : D → State) (config : Config) (valid : IsValid c
             first = is.first shape.0 shape.1;
           }
 
-  pub parts_in_images : All IsInImage o.owned.items
+  parts_in_images : All IsInImage o.owned.items
   parts_in_images = λ j d below. in_image (get_or o.owned.items j d) (takes.owned.each j d below)
 
   held_in : (p : OwnedPart D) → IsInImage p → (l : Lane D) → IsTakenLane l → logger_of l ≡ p.logger → IsHeldIn state p l
@@ -232,7 +218,9 @@ module _ {D : Type 0} (state : D → State) (config : Config) (valid : IsValid c
       let few = shape.0.segments in
       let w = is.within in
       let f = is.first in
-      let most : p.index * is.shape.segment_blocks ≤ 1024 * 65536 = mul-le-mul (omega (arith, w, few)) (omega (arith, sbs, sb)) in
+      let low : p.index ≤ 1024 = omega (arith, w, few) in
+      let wide : is.shape.segment_blocks ≤ 65536 = omega (arith, sbs, sb) in
+      let most : p.index * is.shape.segment_blocks ≤ 1024 * 65536 = mul-le-mul low wide in
       record {
         size = (omega (arith, blocks, sb), omega (arith, blocks, sb));
         last = omega (arith, f, home, most, blocks, sb);
@@ -252,13 +240,46 @@ module _ {D : Type 0} (state : D → State) (config : Config) (valid : IsValid c
       go [] x first is = absurd (none-some x first)
       go (y ∷ bs) x first is = (bs, ap (λ (z : Block). z ∷ bs) (same_Some y x first ∙ is))
 
+  -- a segment that a pass of the volume holds from the beginning is an owned one
+  owned_place : (k i number : ℕ) → number ≡ id → is_held_by number (holder_by (said_at said k) i) ≡ true → IsOwnedPlace said id k i
+  owned_place k i number is held = go (said_at said k) refl held
+    where
+      of_head : Option SegHead → Holder
+      of_head None = Elsewhere
+      of_head (Some h) = holder_said h
+
+      found : (s : Said) → said_at said k ≡ Some s → slice_get said k ≡ Some (Some s)
+      found s e =
+          ⊎_elim
+          (λ (lt : k < length said). slice_get-get_or said k None lt ∙ ap Some e)
+          (λ (past : length said ≤ k). absurd (none-some s (sym (get_or_past said k None past) ∙ e)))
+          (cases_lt k (length said))
+
+      at_head : (s : Said) → said_at said k ≡ Some s → (x : Option SegHead) → slice_get s.heads.items i ≡ x → is_held_by number (of_head x) ≡ true → IsOwnedPlace said id k i
+      at_head s e None at held = absurd (cc held)
+      at_head s e (Some Free) at held = absurd (cc held)
+      at_head s e (Some (Owned w)) at held =
+          let same : w ≡ id = eqb-true w number held ∙ is in
+          (s, found s e, at ∙ ap (λ (x : ℕ). Some (Owned x)) same)
+
+      go : (x : Option Said) → said_at said k ≡ x → is_held_by number (holder_by x i) ≡ true → IsOwnedPlace said id k i
+      go None e held = absurd (cc held)
+      go (Some s) e held = at_head s e (slice_get s.heads.items i) refl held
+
+  holds_owned : (l : Lane D) → IsTakenLane l → HoldsOwned o.owned.items l
+  holds_owned l taken index held =
+      let start : is_held_by (pass_number (pool_of l)) (holder (pass_lock (pool_of l)).base.holders index) ≡ true =
+      sym (ap (λ es. holds (pass_lock (pool_of l)).base (pass_number (pool_of l)) es index) taken.unused) ∙ held in
+      let said_so : is_held_by (pass_number (pool_of l)) (holder_by (said_at said (logger_of l)) index) ≡ true = sym (ap (is_held_by (pass_number (pool_of l))) (taken.holders index)) ∙ start in
+      takes.owned.all (logger_of l) index (owned_place (logger_of l) index (pass_number (pool_of l)) taken.number said_so)
+
   pub can_open : CanOpen state r.shared o
   can_open =
       let locks = ready.closable.locks in
       let spindle_in : id < length r.shared.spindles.items = let c = locks.spindle_count in omega (arith, lt, c) in
       let q = some_at r.shared.spindles.items id spindle_in in
       let spindle = here.spindles.each id id q.0 o.spindle q.1 takes.spindle_was in
-      let image = Rattle.rack.proofs.Takes.image_id state config b said id r own ready lt at in
+      let image = image_id state config valid b said id r own ready lt at in
       let rest = here.images.1 id (shape_of o.want) image.0 takes.shape image.1 in
       let home = subst (λ (h : Option (Spun D)). Rattle.std.specs.Prelude.IfSome h (IsPart state id (shape_of o.want).home)) (takes.home_was image.0 image.1) rest.home in
       let fits = most_fits in
@@ -269,10 +290,12 @@ module _ {D : Type 0} (state : D → State) (config : Config) (valid : IsValid c
         spindle_volume = ap (λ i. i.base.volume) spindle.own ∙ (locks.spindles id q.0 q.1).volume ∙ sym takes.id;
         spindle_free = spindle.free;
         settled = here.spindles.settled id id o.spindle takes.spindle_was;
+        accesses = ready.accesses id id o.spindle takes.spindle_was;
+        all = recursion_from_All (HoldsOwned o.owned.items) o.lanes.items (λ j d below. holds_owned (get_or o.lanes.items j d) (lanes_taken j d below));
         at = record {
           spindle_in = let v = r.shared.spindles.ok.0 in let i = takes.id in omega (arith, spindle_in, v, i);
           spindle_is = λ d. spindle.own ∙ ap (λ x. lock_id x) (sym (get_or_from_slice_get r.shared.spindles.items id q.0 d q.1)) ∙ ap (λ (k : ℕ). lock_id (get_or r.shared.spindles.items k d)) (sym takes.id);
-          lanes_ = recursion_from_All (IsAt r.shared) o.lanes.items (λ j d below. (lanes_taken j d below).at);
+          lanes_ = recursion_from_All (IsAt r.shared) o.lanes.items (λ j d below. (lanes_taken j d below).placed);
         };
         lanes = recursion_from_All (IsOpeningLane state r.shared o.want.id o.most) o.lanes.items (λ j d below. opening_lane (get_or o.lanes.items j d) (lanes_taken j d below) (takes.lanes.each j d below));
         loggers = same_loggers;

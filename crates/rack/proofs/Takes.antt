@@ -29,6 +29,7 @@ use Rattle.rack.specs.Rests.{image_here, segment_here, pool_pass, spindle_pass, 
 use Rattle.rack.specs.Racks.{base_of_station}
 use Rattle.rack.specs.Parts.{HasPlace, IsUsablePlace, CanTake, AreOwnedHere, IsOwnedPlace, loggers_out, segments_of, segment_in}
 use Rattle.rack.specs.Opening.{said_at, IsSaidOf, IsOpeningRack}
+use Rattle.rack.proofs.Shapes.{valid_shape}
 use Rattle.rack.specs.declared.heads_said.Said.{Said}
 use Rattle.rack.specs.declared.rack.ImageRest.{ImageRest}
 use Rattle.rack.specs.declared.rack.Rack.{Rack}
@@ -51,7 +52,7 @@ contains_flat f (x ∷ xs) y c =
     (λ behind. let more = contains_flat f xs y behind in (more.0, (suc more.1.0, let l = more.1.1 in omega (arith, l), more.1.2), more.2))
     (Contains-append_cases (f x) (flat_map f xs) y c)
 
-module _ {D : Type 0} (state : D → State) (config : Config) (b : BayState) (said : List (Option Said)) (id : ℕ) (r : Rack D) (own : Said)
+module _ {D : Type 0} (state : D → State) (config : Config) (valid : IsValid config) (b : BayState) (said : List (Option Said)) (id : ℕ) (r : Rack D) (own : Said)
     (ready : IsOpeningRack state config b said id r) (lt : id < length (shapes_of config)) (at : slice_get said id ≡ Some (Some own)) where
   abbrev bases : List ManagerBase
   bases = map (λ (s : Station D). base_of_station s) r.stations.items
@@ -124,6 +125,7 @@ module _ {D : Type 0} (state : D → State) (config : Config) (b : BayState) (sa
         spindle_volume = ap (λ i. i.base.volume) spindle_at.own ∙ spindle_lock.volume;
         spindle_free = spindle_at.free;
         settled = parts.spindles.settled id k q.0 q.1;
+        accesses = ready.accesses id k q.0 q.1;
         held = ready.unheld id k;
       }
     where
@@ -195,10 +197,10 @@ module _ {D : Type 0} (state : D → State) (config : Config) (b : BayState) (sa
       some_shape (x ∷ xs) zero lt = (x, refl)
       some_shape (x ∷ xs) (suc k) lt = some_shape xs k (omega (arith, lt))
 
-      go_out : (k : ℕ) (s : Said) → said_at said k ≡ Some s → (image : ImageRest D) × (image_here r.rest.images.items k ≡ Some image) × (length s.heads.items ≡ length image.segments.items)
+      go_out : (k : ℕ) (s : Said) → said_at said k ≡ Some s → (image : ImageRest D) × (image_here r.rest.images.items k ≡ Some image) × (length s.heads.items ≡ length image.segments.items) × (length s.heads.items ≤ 1024)
       go_out k s says = go (image_here r.rest.images.items k) refl
         where
-          go : (o : Option (ImageRest D)) → image_here r.rest.images.items k ≡ o → (image : ImageRest D) × (image_here r.rest.images.items k ≡ Some image) × (length s.heads.items ≡ length image.segments.items)
+          go : (o : Option (ImageRest D)) → image_here r.rest.images.items k ≡ o → (image : ImageRest D) × (image_here r.rest.images.items k ≡ Some image) × (length s.heads.items ≡ length image.segments.items) × (length s.heads.items ≤ 1024)
           go None e = absurd (none-some s (sym (ready.silent k e) ∙ says))
           go (Some image) e =
               let within = out_within k (ap is_some e) in
@@ -206,4 +208,4 @@ module _ {D : Type 0} (state : D → State) (config : Config) (b : BayState) (sa
               let of = ready.says k shape.0 shape.1 (ap is_some e) in
               let same : of.0 ≡ s = same_Some of.0 s (sym of.1 ∙ says) in
               let count : length s.heads.items ≡ shape.0.segments = subst (λ (o : Said). length o.heads.items ≡ shape.0.segments) same of.2.count in
-              (image, e, count ∙ sym (parts.images.1 k shape.0 image shape.1 e).count)
+              (image, e, count ∙ sym (parts.images.1 k shape.0 image shape.1 e).count, (let few = (valid_shape config valid k shape.0 shape.1).0.segments in omega (arith, few, count)))
