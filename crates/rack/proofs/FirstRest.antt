@@ -51,7 +51,7 @@ from_map f [] k y is = absurd (none-some y is)
 from_map f (x ∷ xs) zero y is = (x, refl, same_Some (f x) y is)
 from_map f (x ∷ xs) (suc k) y is = from_map f xs k y is
 
-nothing_in : {X : Type 0} (x : X) → Contains [] x → ⊥
+pub nothing_in : {X : Type 0} (x : X) → Contains [] x → ⊥
 nothing_in x has = absurd (let lt = has.1 in omega (arith, lt))
 
 held_owner : (o : Option SegHead) (v : ℕ) → is_held_by v (of_head o) ≡ true → o ≡ Some (Owned v)
@@ -115,7 +115,7 @@ module _ {D : Type 0} (state : D → State) (config : Config) (spindles : List (
     spindle_at k l is = from_map (λ (i : Issued Spindle SpindleBase). i.lock) spindles k l (ap (λ (ls : List (TurnLock Spindle SpindleBase)). slice_get ls k) (sym first.set_up.spindle_locks) ∙ is)
 
     -- a pass that is here is the new pass of its volume
-    pool_new : (v k : ℕ) (l : TurnLock (Pool (FreeSegment D)) PoolBase) (p : PassOf (Pool (FreeSegment D)) PoolBase) → slice_get r.shared.pools.items k ≡ Some l → pool_pass r.rest v k ≡ Some p → IsNewPass l v p
+    pub pool_new : (v k : ℕ) (l : TurnLock (Pool (FreeSegment D)) PoolBase) (p : PassOf (Pool (FreeSegment D)) PoolBase) → slice_get r.shared.pools.items k ≡ Some l → pool_pass r.rest v k ≡ Some p → IsNewPass l v p
     pool_new v k l p lock here =
         let at = pool_at k l lock in
         let lt : v < volumes = row_within v (λ gone. none-some p (sym (past_pool gone) ∙ here)) in
@@ -130,7 +130,7 @@ module _ {D : Type 0} (state : D → State) (config : Config) (spindles : List (
         past_pool : length r.rest.passes.items ≤ v → pool_pass r.rest v k ≡ None
         past_pool past = ap (option_and_then (λ (p : VolumePasses D). slice_index_or p.pools.items k None)) (slice_get_past r.rest.passes.items v past)
 
-    spindle_in : (v k : ℕ) (l : TurnLock Spindle SpindleBase) (p : PassOf Spindle SpindleBase) → slice_get r.shared.spindles.items k ≡ Some l → spindle_pass r.rest v k ≡ Some p
+    pub spindle_in : (v k : ℕ) (l : TurnLock Spindle SpindleBase) (p : PassOf Spindle SpindleBase) → slice_get r.shared.spindles.items k ≡ Some l → spindle_pass r.rest v k ≡ Some p
         → (i : Issued Spindle SpindleBase) × (slice_get spindles k ≡ Some i) × (i.lock ≡ l) × (v < volumes) × (slice_get i.passes.items v ≡ Some p)
     spindle_in v k l p lock here =
         let at = spindle_at k l lock in
@@ -205,7 +205,7 @@ module _ {D : Type 0} (state : D → State) (config : Config) (spindles : List (
                     get_or_past q.spindles.items k None (omega (arith, row.spindles, e, m, first.spindle_count, past))
 
     -- who holds a segment of an image when its lock is made
-    holder_is : (k i : ℕ) (l : TurnLock (Pool (FreeSegment D)) PoolBase) → slice_get r.shared.pools.items k ≡ Some l → holder (lock_id l).base.holders i ≡ holder_by (saying k) i
+    pub holder_is : (k i : ℕ) (l : TurnLock (Pool (FreeSegment D)) PoolBase) → slice_get r.shared.pools.items k ≡ Some l → holder (lock_id l).base.holders i ≡ holder_by (saying k) i
     holder_is k i l lock = (let at = pool_at k l lock in subst (λ (x : TurnLock (Pool (FreeSegment D)) PoolBase). holder (lock_id x).base.holders i ≡ holder_by (saying k) i) at.2 (at.3.2.holders i))
 
     -- what a new pass holds
@@ -321,3 +321,22 @@ module _ {D : Type 0} (state : D → State) (config : Config) (spindles : List (
             number_is = ap pass_number (sym same) ∙ order.numbered volumes p within;
           },
     )
+
+    -- a pass that is here has its lock
+    pub spindle_there : (v k : ℕ) (p : PassOf Spindle SpindleBase) → spindle_pass r.rest v k ≡ Some p → (l : TurnLock Spindle SpindleBase) × (slice_get r.shared.spindles.items k ≡ Some l)
+    spindle_there v k p here = there_at r.shared.spindles.items k (by_row (slice_get r.rest.passes.items v) refl here)
+      where
+        by_row : (o : Option (VolumePasses D)) → slice_get r.rest.passes.items v ≡ o → option_and_then (λ (q : VolumePasses D). slice_index_or q.spindles.items k None) o ≡ Some p → k < length r.shared.spindles.items
+        by_row None is none = absurd (none-some p none)
+        by_row (Some q) is some =
+            let row = all_read (λ (x : VolumePasses D). IsRow volumes x) r.rest.passes.items v q is first.set_up.rows in
+            ⊎_elim (λ lt. omega (arith, lt, row.spindles, first_locks.spindle_count)) (λ past. absurd (none-some p (sym (get_or_past q.spindles.items k None past) ∙ some))) (cases_lt k (length q.spindles.items))
+
+    pub pool_there : (v k : ℕ) (p : PassOf (Pool (FreeSegment D)) PoolBase) → pool_pass r.rest v k ≡ Some p → (l : TurnLock (Pool (FreeSegment D)) PoolBase) × (slice_get r.shared.pools.items k ≡ Some l)
+    pool_there v k p here = there_at r.shared.pools.items k (by_row (slice_get r.rest.passes.items v) refl here)
+      where
+        by_row : (o : Option (VolumePasses D)) → slice_get r.rest.passes.items v ≡ o → option_and_then (λ (q : VolumePasses D). slice_index_or q.pools.items k None) o ≡ Some p → k < length r.shared.pools.items
+        by_row None is none = absurd (none-some p none)
+        by_row (Some q) is some =
+            let row = all_read (λ (x : VolumePasses D). IsRow volumes x) r.rest.passes.items v q is first.set_up.rows in
+            ⊎_elim (λ lt. omega (arith, lt, row.pools, first_locks.pool_count)) (λ past. absurd (none-some p (sym (get_or_past q.pools.items k None past) ∙ some))) (cases_lt k (length q.pools.items))

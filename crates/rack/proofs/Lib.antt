@@ -54,3 +54,4 @@ pub mod RackClosed
 pub mod HeldSegments
 pub mod FinalImages
 pub mod FirstRest
+pub mod FirstOpening
