@@ -142,12 +142,15 @@ find_name {D = D} (w ∷ vs) (o ∷ out) name =
 module _ {D : Type 0} (tells : Bool) (state : D → State) (told : IsTrue tells → (d : D) → TellsContent (state d)) (config : Config) (b b1 b2 : BayState) (n : ℕ) (i : Images D)
     (asked : AreAsked tells state config b b1 n i) (sent : HasSentOut config i.out.items n b b1) (back : IsTold (GivesBack state config i.out.items 0) b1.told b2.told) where
   left : IsTrue tells → (t t1 t2 : Told) → b.told ≡ Some t → StayedSo config i.out.items n t t1 → GivesBack state config i.out.items 0 t1 t2 → AreNamedApart t → LeavesNoMore t t2
-  left telling t t1 t2 is s g apart = (g.apart, λ name c may.
-    ⊎_elim
-    (λ found. at_found name c may found)
-    (λ (not : (k : ℕ) (v : VolumeConf) → slice_get config.volumes.items k ≡ Some v → IsImageOut i.out.items k → name ≢ v.name).
-    s.stayed name (λ k v there at e. not k v at there (sym e)) c (subst (λ (x : Option Image). MayLeave x c) (g.others name (λ k v le at there. not k v at there)) may))
-    (find_name config.volumes.items i.out.items name))
+  left telling t t1 t2 is s g apart = (
+    g.apart,
+    λ name c may.
+        ⊎_elim
+        (λ found. at_found name c may found)
+        (λ (not : (k : ℕ) (v : VolumeConf) → slice_get config.volumes.items k ≡ Some v → IsImageOut i.out.items k → name ≢ v.name).
+        s.stayed name (λ k v there at e. not k v at there (sym e)) c (subst (λ (x : Option Image). MayLeave x c) (g.others name (λ k v le at there. not k v at there)) may))
+        (find_name config.volumes.items i.out.items name),
+  )
     where
       at_found : (name : Name) (c : Option (List Block)) → MayLeave (at_name name t2.images) c → IsFound config.volumes.items i.out.items name → MayLeave (at_name name t.images) c
       at_found name c may f =

@@ -86,7 +86,6 @@ module _ {D : Type 0} (state : D → State) (tells : Bool) (told : IsTrue tells)
     (closed : ClosesStations tells state r.stations.items r.rest first)
     (filled : (k : ℕ) (f : TurnLock (Pool (FreeSegment D)) PoolBase) → slice_get r.shared.pools.items k ≡ Some f → RefillsAll state (lock_id f).base.blocks first k (image_here first.images.items k) (image_here second.images.items k))
     (kept : KeepsSpindles first second) (old new : Told) (given : GivesBack state config second.images.items 0 old new) (images : Images) (left : AreLeft config new images) where
-
   abbrev bases : List ManagerBase
   bases = map (λ (t : Station D). base_of_station t) r.stations.items
 
@@ -113,13 +112,16 @@ module _ {D : Type 0} (state : D → State) (tells : Bool) (told : IsTrue tells)
       go None e m = absurd ((subst (λ o. MayLeave (Some (record { blocks = vs.0; rest = [] })) o) e m) refl)
       go (Some c) e m =
           let image = (subst (λ o. MayLeave (Some (record { blocks = vs.0; rest = [] })) o) e m).1 in
-          let rest = (images_rest state config r.shared first can.locks is second kept.image_count filled).1 k z q at here in
-          (c, e, record {
-            size = left_size state sound k z q rest back.disks back.together vs.0 vs.1 c image;
-            label = left_label state sound k z q rest back.disks back.together vs.0 vs.1 c image;
-            home = left_home state sound k z q rest back.disks back.together vs.0 vs.1 c image;
-            segments = left_segment state sound k z q rest back.disks back.together vs.0 vs.1 c image;
-          })
+          let rest = (images_rest state config r.shared first can.locks is second kept.image_count filled).1 k z q at here in (
+            c,
+            e,
+            record {
+              size = left_size state sound k z q rest back.disks back.together vs.0 vs.1 c image;
+              label = left_label state sound k z q rest back.disks back.together vs.0 vs.1 c image;
+              home = left_home state sound k z q rest back.disks back.together vs.0 vs.1 c image;
+              segments = left_segment state sound k z q rest back.disks back.together vs.0 vs.1 c image;
+            },
+          )
 
   abbrev refused : ℕ → Bool
   refused k = not (is_some (image_here r.rest.images.items k))

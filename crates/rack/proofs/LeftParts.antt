@@ -62,9 +62,10 @@ module _ {D : Type 0} (state : D → State) where
         let n : length t.0 ≡ size = (sound d).each_block t.0 t.2 ∙ sized in
         let whole : IsImage (t.0 ++ t.1) c = subst (λ (l : List (Values Block)). IsImage l c) (sym t.4) image in
         let front : IsImageOf (state d).values (take (length t.0) c) = subst (λ (o : Option (List (Values Block))). IsImageOf o (take (length t.0) c)) (sym t.2) (image_front t.0 t.1 c whole) in
-        let all : length c ≡ length t.0 + length t.1 = image_length (t.0 ++ t.1) c whole ∙ length-append t.0 t.1 in
-        (subst (λ (m : ℕ). IsImageOf (state d).values (take m c)) n front,
-        (t.1, t.3, subst (λ (m : ℕ). IsImage t.1 (drop m c)) n (image_back t.0 t.1 c whole), omega (arith, all, n)))
+        let all : length c ≡ length t.0 + length t.1 = image_length (t.0 ++ t.1) c whole ∙ length-append t.0 t.1 in (
+          subst (λ (m : ℕ). IsImageOf (state d).values (take m c)) n front,
+          (t.1, t.3, subst (λ (m : ℕ). IsImage t.1 (drop m c)) n (image_back t.0 t.1 c whole), omega (arith, all, n)),
+        )
 
     -- each of the parts in a row
     pub in_row : (qs : List (Spun D)) (size : ℕ) (vs : List (Values Block)) (c : List Block) → ((q : Spun D) → Contains qs q → (state_of state q).size ≡ size) → blocks_of state (map (λ (q : Spun D). disk_of q) qs) ≡ Some vs → IsImage vs c

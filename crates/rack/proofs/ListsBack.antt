@@ -22,14 +22,17 @@ keeps_on : {D : Type 0} (a b c : Option (ImageRest D)) → KeepsImage a b → Ke
 keeps_on {D} None b c first then = subst (λ (o : Option (ImageRest D)). KeepsImage o c) first then
 keeps_on {D} (Some r) b c first then =
     let n = first.0 in
-    let m = subst (λ (o : Option (ImageRest D)). KeepsImage o c) first.1 then in
-    (m.0, m.1, record {
-      label = m.2.label ∙ first.2.label;
-      home = m.2.home ∙ first.2.home;
-      count = m.2.count ∙ first.2.count;
-      row = m.2.row ∙ first.2.row;
-      room = m.2.room ∙ first.2.room;
-    })
+    let m = subst (λ (o : Option (ImageRest D)). KeepsImage o c) first.1 then in (
+      m.0,
+      m.1,
+      record {
+        label = m.2.label ∙ first.2.label;
+        home = m.2.home ∙ first.2.home;
+        count = m.2.count ∙ first.2.count;
+        row = m.2.row ∙ first.2.row;
+        room = m.2.room ∙ first.2.room;
+      },
+    )
 
 module _ {D : Type 0} (k : ℕ) (init : Rest D) where
   -- those of the first n volumes are in their places

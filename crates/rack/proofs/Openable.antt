@@ -196,7 +196,7 @@ module _ {D : Type 0} (state : D → State) (config : Config) (valid : IsValid c
   held_in p is l taken same =
       let shapes : taken.shape ≡ is.shape = same_Some taken.shape is.shape (sym taken.shape_is ∙ ap (λ (k : ℕ). slice_get (shapes_of config) k) same ∙ is.shape_is) in
       let who : holder (pass_lock (pool_of l)).base.holders p.index ≡ HeldBy id =
-          taken.holders p.index ∙ ap (λ (k : ℕ). holder_by (said_at said k) p.index) same ∙ ap (λ (x : Option Said). holder_by x p.index) is.said_is ∙ ap of_head is.head in
+      taken.holders p.index ∙ ap (λ (k : ℕ). holder_by (said_at said k) p.index) same ∙ ap (λ (x : Option Said). holder_by x p.index) is.said_is ∙ ap of_head is.head in
       record {
         volume = is.part.of_volume ∙ sym same;
         blocks = is.part.sized ∙ sym (ap (λ (t : Shape). t.segment_blocks) shapes) ∙ sym taken.blocks;

@@ -52,11 +52,11 @@ same_sorted (x ∷ xs) [] a b to from = absurd (to x (inl refl))
 same_sorted (x ∷ xs) (y ∷ ys) a b to from =
     let same : x ≡ y = ⊎_elim (λ (e : x ≡ y). e) (λ more. ⊎_elim (λ (e : y ≡ x). sym e) (λ other. absurd (never_both (y.logger, y.index) (x.logger, x.index) (behind (y.logger, y.index) ys x b.0 more) (behind (x.logger, x.index) xs y a.0 other))) (from y (inl refl))) (to x (inl refl)) in
     let forth : (o : Owned) → IsAmong xs o → IsAmong ys o = λ o has. ⊎_elim
-        (λ (e : o ≡ y). absurd (never_itself (x.logger, x.index) (subst (λ (z : Owned). IsBefore (x.logger, x.index) (z.logger, z.index)) (e ∙ sym same) (behind (x.logger, x.index) xs o a.0 has))))
-        (λ more. more) (to o (inr has)) in
+    (λ (e : o ≡ y). absurd (never_itself (x.logger, x.index) (subst (λ (z : Owned). IsBefore (x.logger, x.index) (z.logger, z.index)) (e ∙ sym same) (behind (x.logger, x.index) xs o a.0 has))))
+    (λ more. more) (to o (inr has)) in
     let back : (o : Owned) → IsAmong ys o → IsAmong xs o = λ o has. ⊎_elim
-        (λ (e : o ≡ x). absurd (never_itself (y.logger, y.index) (subst (λ (z : Owned). IsBefore (y.logger, y.index) (z.logger, z.index)) (e ∙ same) (behind (y.logger, y.index) ys o b.0 has))))
-        (λ more. more) (from o (inr has)) in
+    (λ (e : o ≡ x). absurd (never_itself (y.logger, y.index) (subst (λ (z : Owned). IsBefore (y.logger, y.index) (z.logger, z.index)) (e ∙ same) (behind (y.logger, y.index) ys o b.0 has))))
+    (λ more. more) (from o (inr has)) in
     let rest = same_sorted xs ys a.1 b.1 forth back in
     λ i. same i ∷ rest i
 

@@ -99,7 +99,6 @@ listed r k i (suc n) = go (is_member (indexes_here r n k) i) (listed r k i n)
 module _ {D : Type 0} (state : D → State) (volumes k : ℕ) (z : Shape) (lock : TurnLock (Pool (FreeSegment D)) PoolBase) (old : Rest D) (can : CanClosePool state volumes k z lock old)
     (pool : Pool (FreeSegment D)) (entries : List Entry) (rows : List (VolumePasses D)) (ps : List (PassOf (Pool (FreeSegment D)) PoolBase)) (taken : ArePoolsTaken k old.passes.items rows ps)
     (stands : StandsFor (IsBlank state) pool (lock_id lock).base entries) (whole : AreWhole entries ps) where
-
   abbrev base : PoolBase
   base = (lock_id lock).base
 
@@ -126,7 +125,7 @@ module _ {D : Type 0} (state : D → State) (volumes k : ℕ) (z : Shape) (lock 
       let within : v < length ps = omega (arith, h, taken.taken) in
       let p = pass_of v below in
       let same : p ≡ get_or ps v p = same_Some p (get_or ps v p) (sym (can.passes v below).1
-          ∙ ap (λ (o : Option (VolumePasses D)). option_and_then (λ q. slice_index_or q.pools.items k None) o) (slice_get-get_or old.passes.items v d h) ∙ (taken.each v d p h).there) in
+      ∙ ap (λ (o : Option (VolumePasses D)). option_and_then (λ q. slice_index_or q.pools.items k None) o) (slice_get-get_or old.passes.items v d h) ∙ (taken.each v d p h).there) in
       (v, within, sym same)
 
   own_is : (v : ℕ) (below : v < volumes) → own v entries ≡ pass_mine (pass_of v below)
@@ -239,7 +238,6 @@ module _ {D : Type 0} (state : D → State) (volumes k : ℕ) (z : Shape) (lock 
   }
 
   module _ (mid put : Rest D) (images : mid.images ≡ old.images) (held : (v : ℕ) → held_here mid v k ≡ held_here old v k) (puts : PutsAllHeld mid put k) where
-
     at_start : image_here mid.images.items k ≡ image_here old.images.items k
     at_start = ap (λ v. image_here v.items k) images
 
@@ -299,7 +297,6 @@ module _ {D : Type 0} (state : D → State) (volumes k : ℕ) (z : Shape) (lock 
                 let both : HeldBy h.0 ≡ InPool = sym (holding_has h.0 i h.1) ∙ e in absurd (cc both))
 
     module _ (after : Option (ImageRest D)) (emptied : EmptiesInto pool (image_here put.images.items k) after) where
-
       refilled : (r n : ImageRest D) → image_here old.images.items k ≡ Some r → image_here put.images.items k ≡ Some n → IsSameBut r n → (q : ImageRest D) → IsRefilled pool n q → IsRefilledAll state base.blocks old k r q
       refilled r n here there same q re = record {
         same = record {

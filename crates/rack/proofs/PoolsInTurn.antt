@@ -24,13 +24,17 @@ module _ {D : Type 0} (state : D → State) where
     where
       go : (o : Option (ImageRest D)) → RefillsAll state blocks cur k o after → RefillsAll state blocks old k o after
       go None e = e
-      go (Some r) x = (x.0, x.1, record {
-        same = x.2.same;
-        all = x.2.all;
-        kept = x.2.kept;
-        back = λ v i p has. x.2.back v i p (subst (λ (xs : List (ℕ × Spun D)). Contains xs (i, p)) (sym (kept.held v)) has);
-        only = λ i p is. of_old i p (x.2.only i p is);
-      })
+      go (Some r) x = (
+        x.0,
+        x.1,
+        record {
+          same = x.2.same;
+          all = x.2.all;
+          kept = x.2.kept;
+          back = λ v i p has. x.2.back v i p (subst (λ (xs : List (ℕ × Spun D)). Contains xs (i, p)) (sym (kept.held v)) has);
+          only = λ i p is. of_old i p (x.2.only i p is);
+        },
+      )
         where
           of_old : (i : ℕ) (p : Spun D) → (segment_here r i ≡ Some p) ⊎ (((v : ℕ) × Contains (held_here cur v k) (i, p)) ⊎ Rattle.rack.specs.Parts.IsBlankPart state k blocks p)
               → (segment_here r i ≡ Some p) ⊎ (((v : ℕ) × Contains (held_here old v k) (i, p)) ⊎ Rattle.rack.specs.Parts.IsBlankPart state k blocks p)

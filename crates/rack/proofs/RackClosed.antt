@@ -52,7 +52,6 @@ module _ {D : Type 0} (state : D → State) (tells : Bool) (config : Config) (b 
     (closed : ClosesStations tells state r.stations.items r.rest first)
     (filled : (k : ℕ) (f : TurnLock (Pool (FreeSegment D)) PoolBase) → slice_get r.shared.pools.items k ≡ Some f → RefillsAll state (lock_id f).base.blocks first k (image_here first.images.items k) (image_here second.images.items k))
     (kept : KeepsSpindles first second) where
-
   -- the same images are out
   first_out : (k : ℕ) → is_some (image_here first.images.items k) ≡ is_some (image_here r.rest.images.items k)
   first_out k = go (image_here r.rest.images.items k) refl (image_here first.images.items k) refl (closed.images k)

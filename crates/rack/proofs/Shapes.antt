@@ -24,4 +24,3 @@ valid_shape config valid k s at =
     let segments : v.0.segments ≤ 1024 = subst (λ (w : VolumeConf). w.segments ≤ 1024) one ok.segments in
     let shape : IsShape (shape_in config v.0) = record { home = home; segments = segments; segment_blocks = valid.segment_blocks } in
     subst (λ (t : Shape). IsShape t × (t.segment_blocks ≡ config.segment_blocks)) is (shape, refl)
-

@@ -61,7 +61,6 @@ lane_named lanes view k same has = of_map logger_of lanes k (subst (λ (xs : Lis
 
 module _ {D : Type 0} (state : D → State) (tells : Rattle.std.specs.Prelude.Bool) (config : Config) (shared : Shared D) (before : List (Station D)) (s : Station D) (old : Rest D)
     (can : CanCloseStations state config shared (before ++ s ∷ []) old) (m : Manager D) (entries : List Entry) (stands : StandsCoded tells state m (base_of_station s) entries) (rooms : Rooms D) where
-
   abbrev b : ManagerBase
   b = base_of_station s
 
@@ -183,7 +182,6 @@ module _ {D : Type 0} (state : D → State) (tells : Rattle.std.specs.Prelude.Bo
       (λ l has. λ same. open_base.others (subst (λ (k : ℕ). Contains b.volume.began.view k) (sym (owner_is ∙ same)) (in_view l has)))
 
   module _ (mp : ManagerParts D) (home_is : mp.home ≡ m.home) (spindle_is : mp.spindle ≡ m.spindle) (lanes_is : mp.lanes ≡ m.lanes) (new : Rest D) (put : PutsManager mid new s.id mp) where
-
     lanes_same : mp.lanes.items ≡ m.lanes.items
     lanes_same = ap (λ (v : Rattle.std.specs.declared.vec.Vec.Vec (Lane D) Rattle.std.specs.declared.alloc.Global.Global). v.items) lanes_is
 
@@ -198,8 +196,11 @@ module _ {D : Type 0} (state : D → State) (tells : Rattle.std.specs.Prelude.Bo
     -- other places are as they were
     pub other_place : (w k : ℕ) → (w ≡ b.volume.began.owner → Contains b.volume.began.view k → ⊥) → (w ≡ s.id → k ≢ s.id) → KeepsPlace old new w k
     other_place w k never not_own =
-        let kept = put.others w k (λ same. (not_own same, all_member (λ l. k ≢ logger_of l) mp.lanes.items (λ l has. λ at. never (same ∙ sym owner_is)
-            (subst (λ (j : ℕ). Contains b.volume.began.view j) (sym at) (in_view l (subst (λ (xs : List (Lane D)). Contains xs l) lanes_same has)))))) in
+        let kept = put.others w k (λ same. (
+          not_own same,
+          all_member (λ l. k ≢ logger_of l) mp.lanes.items (λ l has. λ at. never (same ∙ sym owner_is)
+              (subst (λ (j : ℕ). Contains b.volume.began.view j) (sym at) (in_view l (subst (λ (xs : List (Lane D)). Contains xs l) lanes_same has)))),
+        )) in
         record { pool = kept.pool; spindle = kept.spindle; held = kept.held }
 
     not_viewed : (w : ℕ) → w ≡ b.volume.began.owner → Contains b.volume.began.view s.id → ⊥
@@ -336,12 +337,14 @@ module _ {D : Type 0} (state : D → State) (tells : Rattle.std.specs.Prelude.Bo
         row_old = omega (arith, row, put.rows.count)
 
         go : AtPlace v k → IsSome (pool_pass new v k) ↔ (Contains (away_with bases).lanes (v, k) → ⊥)
-        go (of_lane l same has at back) =
-            (λ some. λ away. no_lane_again k (subst (λ (w : ℕ). Contains (away_with bases).lanes (w, k)) same away),
-            λ never. is_there (pool_pass new v k) (pool_of l) (subst (λ (j : ℕ). pool_pass new v j ≡ Some (pool_of l)) at back.pool))
-        go (as_before never pool held) =
-            (λ some. λ away. (parts.pools.here v k row_old below).0 (ap is_some (sym pool) ∙ some) (lane_stays bases b v k away),
-            λ none. ap is_some pool ∙ (parts.pools.here v k row_old below).1 (λ away. two (lane_cases bases b v k away) none never))
+        go (of_lane l same has at back) = (
+          λ some. λ away. no_lane_again k (subst (λ (w : ℕ). Contains (away_with bases).lanes (w, k)) same away),
+          λ never. is_there (pool_pass new v k) (pool_of l) (subst (λ (j : ℕ). pool_pass new v j ≡ Some (pool_of l)) at back.pool),
+        )
+        go (as_before never pool held) = (
+          λ some. λ away. (parts.pools.here v k row_old below).0 (ap is_some (sym pool) ∙ some) (lane_stays bases b v k away),
+          λ none. ap is_some pool ∙ (parts.pools.here v k row_old below).1 (λ away. two (lane_cases bases b v k away) none never),
+        )
           where
             two : Contains (away_with bases).lanes (v, k) ⊎ ((v ≡ b.volume.began.owner) × Contains b.volume.began.view k) → (Contains (away_with bases).lanes (v, k) → ⊥) → (v ≡ b.volume.began.owner → Contains b.volume.began.view k → ⊥) → ⊥
             two (inl front) none never = none front
@@ -403,9 +406,10 @@ module _ {D : Type 0} (state : D → State) (tells : Rattle.std.specs.Prelude.Bo
         go : AtSpindle v k → IsSome (spindle_pass new v k) ↔ ((Contains (away_with bases).lanes (v, k) ⊎ ((v ≡ k) × Contains (away_with bases).homes v)) → ⊥)
         go (lane_spindle l same has at here) = (λ some. front_not same, λ none. is_there (spindle_pass new v k) (spindle_of l) here)
         go (own_spindle e f here) = (λ some. front_not (e ∙ sym owner_is), λ none. is_there (spindle_pass new v k) m.spindle here)
-        go (other_spindle never not_own same) =
-            (λ some. λ away. (parts.spindles.here v k row_old below).0 (ap is_some (sym same) ∙ some) (stays away),
-            λ none. ap is_some same ∙ (parts.spindles.here v k row_old below).1 (leaves never not_own none))
+        go (other_spindle never not_own same) = (
+          λ some. λ away. (parts.spindles.here v k row_old below).0 (ap is_some (sym same) ∙ some) (stays away),
+          λ none. ap is_some same ∙ (parts.spindles.here v k row_old below).1 (leaves never not_own none),
+        )
 
     spindles_each : (v k : ℕ) (f : TurnLock Spindle SpindleBase) (p : PassOf Spindle SpindleBase) → slice_get shared.spindles.items k ≡ Some f → spindle_pass new v k ≡ Some p → IsPassAt f v p
     spindles_each v k f p is here = go (at_spindle v k)
@@ -547,9 +551,10 @@ module _ {D : Type 0} (state : D → State) (tells : Rattle.std.specs.Prelude.Bo
     homes_here k n here = go (cases_eq k s.id)
       where
         go : (k ≡ s.id) ⊎ (k ≡ s.id → ⊥) → IsSome n.home ↔ (Contains (away_with bases).homes k → ⊥)
-        go (inl same) =
-            (λ some. λ away. not_again (subst (λ (j : ℕ). Contains (away_with bases).homes j) (same ∙ sym owner_is) away),
-            λ none. is_there n.home m.home (ap (λ (o : Option (ImageRest D)). option_and_then (λ x. x.home) o) (sym here) ∙ subst (λ (j : ℕ). home_here new j ≡ Some m.home) (sym same) home_came_back))
+        go (inl same) = (
+          λ some. λ away. not_again (subst (λ (j : ℕ). Contains (away_with bases).homes j) (same ∙ sym owner_is) away),
+          λ none. is_there n.home m.home (ap (λ (o : Option (ImageRest D)). option_and_then (λ x. x.home) o) (sym here) ∙ subst (λ (j : ℕ). home_here new j ≡ Some m.home) (sym same) home_came_back),
+        )
         go (inr differs) =
             let was : image_here old.images.items k ≡ Some n = sym (put.images k differs) ∙ here in
             (λ some. λ away. (parts.homes k n was).0 some (home_stays bases b k away), λ none. (parts.homes k n was).1 (λ away. two (home_cases bases b k away) none))

@@ -47,7 +47,6 @@ same_recovered v home ss ts same = same
 
 module _ {D : Type 0} (tells : Bool) (state : D → State) (told : IsTrue tells) (m : Manager D) (b : ManagerBase) (notes : List Noted) (kp : Keeps tells state m b notes) (view_apart : AllPairs (λ j k. j ≢ k) b.volume.began.view)
     (shapes : List Shape) (images : Images) (home : List Block) where
-
   abbrev held : List (Held (Spun D))
   held = all_held 0 m.lanes.items kp.logs
 
@@ -110,9 +109,10 @@ module _ {D : Type 0} (tells : Bool) (state : D → State) (told : IsTrue tells)
 
     unplaced : (hs : List (Held (Spun D))) (k i : ℕ) → All (λ (p : Placed). ◌≢◌ {A = ℕ × ℕ} p.0 (k, i)) (map placed_held hs) → AllByRecursion (λ (h : Held (Spun D)). ◌≢◌ {A = ℕ × ℕ} (volume_of h.part, h.index) (k, i)) hs
     unplaced [] k i all = tt
-    unplaced (h ∷ hs) k i all =
-        (Rattle.std.proofs.lemmas.List.Elements.All-head (λ (p : Placed). ◌≢◌ {A = ℕ × ℕ} p.0 (k, i)) (placed_held h) (map placed_held hs) all,
-        unplaced hs k i (Rattle.std.proofs.lemmas.List.Elements.All-tail (λ (p : Placed). ◌≢◌ {A = ℕ × ℕ} p.0 (k, i)) (placed_held h) (map placed_held hs) all))
+    unplaced (h ∷ hs) k i all = (
+      Rattle.std.proofs.lemmas.List.Elements.All-head (λ (p : Placed). ◌≢◌ {A = ℕ × ℕ} p.0 (k, i)) (placed_held h) (map placed_held hs) all,
+      unplaced hs k i (Rattle.std.proofs.lemmas.List.Elements.All-tail (λ (p : Placed). ◌≢◌ {A = ℕ × ℕ} p.0 (k, i)) (placed_held h) (map placed_held hs) all),
+    )
 
     these : AreThese shapes images v (map placed_held held)
     these = record {

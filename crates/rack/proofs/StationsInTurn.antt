@@ -81,8 +81,8 @@ apart_behind {D} all n s rising at t has same =
     let within : n + 1 + has.0 < length all = omega (arith, place, has.1) in
     let there : slice_get all (n + 1 + has.0) ≡ Some t = slice_get-get_or all (n + 1 + has.0) t within ∙ ap (λ (x : Station D). Some x) (sym (get_or-drop (n + 1) all has.0 t) ∙ has.2) in
     let less = rising n (n + 1 + has.0) s.id t.id (omega arith)
-        (slice_get-map (λ (x : Station D). x.id) all n ∙ ap (option_map (λ (x : Station D). x.id)) at)
-        (slice_get-map (λ (x : Station D). x.id) all (n + 1 + has.0) ∙ ap (option_map (λ (x : Station D). x.id)) there) in
+    (slice_get-map (λ (x : Station D). x.id) all n ∙ ap (option_map (λ (x : Station D). x.id)) at)
+    (slice_get-map (λ (x : Station D). x.id) all (n + 1 + has.0) ∙ ap (option_map (λ (x : Station D). x.id)) there) in
     absurd (omega (arith, less, same))
 
 pub next_drop : {D : Type 0} (all : List (Station D)) (n : ℕ) (s : Station D) → slice_get all n ≡ Some s → drop n all ≡ s ∷ drop (n + 1) all

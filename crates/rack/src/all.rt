@@ -7,7 +7,6 @@ ghost use Rattle.volume_images.specs.Volumes.{NoneOut};
 ghost use Rattle.rack.specs.Racks.{IsRack, AreUnused};
 ghost use Rattle.rack.specs.Owners.{HadRefused};
 ghost use Rattle.rack.specs.Opens.{out_names, BeganWith, AreRefused, LeavesAll, KeepsAllSound};
-
 ghost use Rattle.wol_disk.specs.Disk.{Rose};
 ghost use Rattle.manager.specs.declared.part.Part.{Part};
 ghost use Rattle.manager_recovery.specs.declared.refusal.OpenRefusal.TheVariants.{DiskFault};

@@ -24,7 +24,7 @@ pub loop-volume-preserved : goal.loop-volume-preserved
 loop-volume-preserved g c =
     let l = c.loop-volume in
     let more = gathered_more (IsPoolTaken c.args.id) c.args.passes.now l.passes l.room.items l.volume-index c.take_pool.new.self c.take_pool.result c.volume-item.result
-        (omega arith) l.invariant.count l.invariant.gathered c.take_pool.ensures l.invariant.taken l.invariant.others in
+    (omega arith) l.invariant.count l.invariant.gathered c.take_pool.ensures l.invariant.taken l.invariant.others in
     record {
       count = length-set l.passes l.volume-index c.take_pool.new.self ∙ l.invariant.count;
       gathered = ap length c.push_reserved.ensures.items ∙ length_push l.room.items c.take_pool.result ∙ ap (λ (n : ℕ). n + 1) l.invariant.gathered;

@@ -24,10 +24,11 @@ give_image_back-requires-clause-image g c = λ v r at is.
     let number : length c.pop.new.self.items ≡ n = omega (arith, c.len.ensures, c.pop.new.self.ok.0) in
     let there : slice_get all n ≡ Some c.in-Some.image = subst (λ (m : ℕ). slice_get all m ≡ Some c.in-Some.image) number (front_last all c.loop-image.images.items c.pop.new.self.items c.in-Some.image c.loop-image.invariant.front c.in-Some.ensures.items) in
     let here : image_here all n ≡ Some r = get_or_from_slice_get all n c.in-Some.image None there ∙ is in
-    let count : length c.loop-image.images.items ≡ length c.pop.new.self.items + 1 = ap length c.in-Some.ensures.items ∙ length_push c.pop.new.self.items c.in-Some.image in
-    (c.requires.images n (shape_in c.args.config.now v) r (slice_get-map (shape_in c.args.config.now) c.args.config.now.volumes.items n ∙ ap (option_map (shape_in c.args.config.now)) at) here,
-    c.requires.whole n r here,
-    c.loop-image.invariant.back.out n v (omega (arith, number, count)) at (is_there (image_here all n) r here))
+    let count : length c.loop-image.images.items ≡ length c.pop.new.self.items + 1 = ap length c.in-Some.ensures.items ∙ length_push c.pop.new.self.items c.in-Some.image in (
+      c.requires.images n (shape_in c.args.config.now v) r (slice_get-map (shape_in c.args.config.now) c.args.config.now.volumes.items n ∙ ap (option_map (shape_in c.args.config.now)) at) here,
+      c.requires.whole n r here,
+      c.loop-image.invariant.back.out n v (omega (arith, number, count)) at (is_there (image_here all n) r here),
+    )
 
 pub loop-image-preserved : goal.loop-image-preserved
 loop-image-preserved g c =

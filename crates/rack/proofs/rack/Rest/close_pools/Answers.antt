@@ -33,8 +33,8 @@ close_pool-requires-clause-pool g c =
     let first = can.each (length locks) z.0 c.in-Some.lock z.1 there in
     let now = still_may g.D.Disk.state (length (shapes_of c.requires.0)) (length locks) z.0 c.in-Some.lock c.args.self.now c.loop-lock.self (i.closed.before (length locks) (omega (arith, all))) i.closed.spindles first in
     let popped = still_may g.D.Disk.state (length (shapes_of c.requires.0)) (length locks) z.0 c.in-Some.lock c.loop-lock.self
-        (record c.loop-lock.self { rooms = record c.loop-lock.self.rooms { pools = c.pop-in-Some.new.self } })
-        (record { image = refl; pools = λ v. refl; held = λ v. refl }) (record { count = refl; image_count = refl; rows = λ n rows. rows; spindles = λ v k. refl }) now in
+    (record c.loop-lock.self { rooms = record c.loop-lock.self.rooms { pools = c.pop-in-Some.new.self } })
+    (record { image = refl; pools = λ v. refl; held = λ v. refl }) (record { count = refl; image_count = refl; rows = λ n rows. rows; spindles = λ v k. refl }) now in
     (length (shapes_of c.requires.0), z.0, subst (λ (n : ℕ). CanClosePool g.D.Disk.state (length (shapes_of c.requires.0)) n z.0 c.in-Some.lock (record c.loop-lock.self { rooms = record c.loop-lock.self.rooms { pools = c.pop-in-Some.new.self } })) number popped)
 
 pub close_pool-requires-clause-empty : goal.close_pool-requires-clause-empty
@@ -60,7 +60,7 @@ close_pool-requires-clause-room g c =
     subst (λ l. All (λ row. (row.items ≡ []) × (length (shapes_of c.requires.0) ≤ vec_capacity row)) l) (sym i.rooms_front)
     (All-take (λ row. (row.items ≡ []) × (length (shapes_of c.requires.0) ≤ vec_capacity row)) (length c.loop-lock.locks.items) c.args.self.now.rooms.pools.items can.rooms) in
     let room = (all_last (λ row. (row.items ≡ []) × (length (shapes_of c.requires.0) ≤ vec_capacity row)) c.pop-in-Some.new.self.items c.in-Some-pop.room
-        (subst (λ l. All (λ row. (row.items ≡ []) × (length (shapes_of c.requires.0) ≤ vec_capacity row)) l) c.in-Some-pop.ensures.items rows)).1 in
+    (subst (λ l. All (λ row. (row.items ≡ []) × (length (shapes_of c.requires.0) ≤ vec_capacity row)) l) c.in-Some-pop.ensures.items rows)).1 in
     omega (arith, room, count, i.closed.spindles.count)
 
 pub loop-lock-preserved : goal.loop-lock-preserved
@@ -81,11 +81,11 @@ loop-lock-preserved g c =
     let so_far : ArePoolsClosed g.D.Disk.state c.args.locks.items c.args.self.now (c.len.result + 1) c.loop-lock.self =
     subst (λ (n : ℕ). ArePoolsClosed g.D.Disk.state c.args.locks.items c.args.self.now n c.loop-lock.self) (omega (arith, all, number)) i.closed in
     let now = one_pool_more g.D.Disk.state c.args.locks.items c.args.self.now c.len.result c.in-Some.lock (subst (λ (n : ℕ). slice_get c.args.locks.items n ≡ Some c.in-Some.lock) number there) c.loop-lock.self new so_far
-        (refills_same g.D.Disk.state (lock_id c.in-Some.lock).base.blocks c.loop-lock.self (record c.loop-lock.self { rooms = record c.loop-lock.self.rooms { pools = c.pop-in-Some.new.self } }) c.len.result
-        (record { image = refl; pools = λ v. refl; held = λ v. refl }) (image_here new.images.items c.len.result) c.close_pool.ensures.image)
-        c.close_pool.ensures.held
-        (λ k differs. let x = c.close_pool.ensures.others k differs in record { image = x.image; pools = x.pools; held = x.held })
-        (let x = c.close_pool.ensures.spindles in record { count = x.count; image_count = x.image_count; rows = x.rows; spindles = x.spindles }) in
+    (refills_same g.D.Disk.state (lock_id c.in-Some.lock).base.blocks c.loop-lock.self (record c.loop-lock.self { rooms = record c.loop-lock.self.rooms { pools = c.pop-in-Some.new.self } }) c.len.result
+    (record { image = refl; pools = λ v. refl; held = λ v. refl }) (image_here new.images.items c.len.result) c.close_pool.ensures.image)
+    c.close_pool.ensures.held
+    (λ k differs. let x = c.close_pool.ensures.others k differs in record { image = x.image; pools = x.pools; held = x.held })
+    (let x = c.close_pool.ensures.spindles in record { count = x.count; image_count = x.image_count; rows = x.rows; spindles = x.spindles }) in
     record {
       front = front_less c.args.locks.items c.loop-lock.locks.items locks c.in-Some.lock i.front c.in-Some.ensures.items;
       few = omega (arith, all, i.few);

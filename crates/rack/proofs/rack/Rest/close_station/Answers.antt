@@ -28,7 +28,7 @@ close-manager-requires-clause-count g c =
     let can = c.requires.3 in
     let empty = (all_last (λ r. (r.items ≡ []) × (3 ≤ vec_capacity r)) c.pop.new.self.items c.in-Some.passes (subst (λ l. All (λ r. (r.items ≡ []) × (3 ≤ vec_capacity r)) l) c.in-Some.ensures.items can.rest.rooms.managers)).0 in
     let items = row_of_three c.args.station.worker c.args.station.helper c.args.station.keeper c.in-Some.passes.items c.push_reserved.new.self.items c.push_reserved-2.new.self.items c.push_reserved-3.new.self.items
-        empty c.push_reserved.ensures.items c.push_reserved-2.ensures.items c.push_reserved-3.ensures.items in
+    empty c.push_reserved.ensures.items c.push_reserved-2.ensures.items c.push_reserved-3.ensures.items in
     let three : length c.push_reserved-3.new.self.items ≡ 3 = ap length items in
     let station : IsStation c.args.station = all_last (λ t. IsStation t) c.requires.2 c.args.station can.each in
     omega (arith, three, c.push_reserved-3.new.self.ok.0, station.passes)
@@ -40,7 +40,7 @@ close-manager-requires-clause-passes g c =
     let P : PassOf (Manager g.row.D.Denot) ManagerBase → Type 0 = λ p. IsPassOf s.lock p × IsFree p in
     let empty = (all_last (λ r. (r.items ≡ []) × (3 ≤ vec_capacity r)) c.pop.new.self.items c.in-Some.passes (subst (λ l. All (λ r. (r.items ≡ []) × (3 ≤ vec_capacity r)) l) c.in-Some.ensures.items can.rest.rooms.managers)).0 in
     let items = row_of_three s.worker s.helper s.keeper c.in-Some.passes.items c.push_reserved.new.self.items c.push_reserved-2.new.self.items c.push_reserved-3.new.self.items
-        empty c.push_reserved.ensures.items c.push_reserved-2.ensures.items c.push_reserved-3.ensures.items in
+    empty c.push_reserved.ensures.items c.push_reserved-2.ensures.items c.push_reserved-3.ensures.items in
     let station : IsStation s = all_last (λ t. IsStation t) c.requires.2 s can.each in
     subst (λ (l : List (PassOf (Manager g.row.D.Denot) ManagerBase)). All P l) (sym items)
     (All-cons P s.worker (s.helper ∷ s.keeper ∷ []) (station.worker_.own, station.worker_.free) (All-cons P s.helper (s.keeper ∷ []) (station.helper_.own, station.helper_.free)
@@ -77,7 +77,7 @@ returns-clause-closed g c =
     let s = c.args.station in
     let empty = (all_last (λ r. (r.items ≡ []) × (3 ≤ vec_capacity r)) c.pop.new.self.items c.in-Some.passes (subst (λ l. All (λ r. (r.items ≡ []) × (3 ≤ vec_capacity r)) l) c.in-Some.ensures.items can.rest.rooms.managers)).0 in
     let items = row_of_three s.worker s.helper s.keeper c.in-Some.passes.items c.push_reserved.new.self.items c.push_reserved-2.new.self.items c.push_reserved-3.new.self.items
-        empty c.push_reserved.ensures.items c.push_reserved-2.ensures.items c.push_reserved-3.ensures.items in
+    empty c.push_reserved.ensures.items c.push_reserved-2.ensures.items c.push_reserved-3.ensures.items in
     station_closed g.D.Disk.state g.D.Disk.tells c.requires.0 c.requires.1 c.requires.2 s c.args.self.now can c.close-manager.result c.close-manager.ensures.0 c.close-manager.ensures.1
     (record c.args.self.now.rooms { managers = c.pop.new.self }) c.release.result c.release.ensures.home c.release.ensures.spindle c.release.ensures.lanes c.put_manager.new.self c.put_manager.ensures
     (subst (λ (l : List (PassOf (Manager g.row.D.Denot) ManagerBase)). AreWhole c.close-manager.ensures.0 l) items c.close-manager.ensures.2)

@@ -18,9 +18,12 @@ loop-station-init g c = record {
 }
 
 pub close_station-requires : goal.close_station-requires
-close_station-requires g c =
-    (c.requires.0, c.requires.1, c.pop.new.self.items,
-    subst (λ (l : List (Station g.row.D.Denot)). CanCloseStations g.D.Disk.state c.requires.0 c.requires.1 l c.loop-station.self) c.in-Some.ensures.items (c.loop-station.invariant.may c.requires.0 c.requires.1 c.requires.2))
+close_station-requires g c = (
+  c.requires.0,
+  c.requires.1,
+  c.pop.new.self.items,
+  subst (λ (l : List (Station g.row.D.Denot)). CanCloseStations g.D.Disk.state c.requires.0 c.requires.1 l c.loop-station.self) c.in-Some.ensures.items (c.loop-station.invariant.may c.requires.0 c.requires.1 c.requires.2),
+)
 
 pub loop-station-preserved : goal.loop-station-preserved
 loop-station-preserved g c =
