@@ -19,7 +19,7 @@ use Rattle.log_segment.specs.declared.free.FreeSegment.{FreeSegment}
 use Rattle.logger.specs.declared.shared.Shared.{Shared}
 use Rattle.manager.specs.declared.station.Station.{Station}
 use Rattle.volume_images.specs.Volumes.{shapes_of}
-use Rattle.rack.specs.Rests.{image_here, segment_here, pool_pass, spindle_pass, held_here, IsImageOut, IsPart, IsImageRest, AreImageRests, IsPassAt, AreLocks, IsRest, IsHeldHere}
+use Rattle.rack.specs.Rests.{image_here, segment_here, pool_pass, spindle_pass, held_here, IsImageOut, IsPart, IsImageRest, AreImageRests, IsPassAt, AreLocks, OnlyAccess, IsRest, IsHeldHere}
 use Rattle.rack.specs.Racks.{base_of_station, IsClosable, AreKeepers, AreOut}
 use Rattle.rack.specs.Closing.{CanCloseStations, CanClosePool, CanClosePools, CanCloseSpindles, HasSpindlePasses, KeepsSpindles, RefillsAll, IsComplete, AreComplete}
 use Rattle.rack.specs.declared.rack.ImageRest.{ImageRest}
@@ -29,7 +29,7 @@ use Rattle.rack.proofs.Members.{a_value, none_in, is_there, all_member}
 
 module _ {D : Type 0} (state : D → State) (config : Config) where
   pub stations_may : (b : BayState) (r : Rack D) → IsClosable state config b r → CanCloseStations state config r.shared r.stations.items r.rest
-  stations_may b r can = record { each = can.stations; rising = can.rising; bases = can.bases; locks = can.locks; rest = can.rest }
+  stations_may b r can = record { each = can.stations; rising = can.rising; bases = can.bases; locks = can.locks; rest = can.rest; accesses = can.accesses }
 
   module _ (shared : Shared D) (rest : Rest D) (locks : AreLocks config shared) (is : IsRest state config shared [] rest) where
     abbrev volumes : ℕ
@@ -71,8 +71,8 @@ module _ {D : Type 0} (state : D → State) (config : Config) where
       rooms = is.rooms.pools;
     }
 
-    pub spindles_may : (keepers : List (PassOf Spindle SpindleBase)) (cur : Rest D) → AreKeepers config shared keepers → KeepsSpindles rest cur → cur.rooms ≡ record rest.rooms { pools = cur.rooms.pools } → CanCloseSpindles shared.spindles.items keepers cur
-    spindles_may keepers cur are kept rooms = record {
+    pub spindles_may : (keepers : List (PassOf Spindle SpindleBase)) (cur : Rest D) → AreKeepers config shared keepers → OnlyAccess rest → KeepsSpindles rest cur → cur.rooms ≡ record rest.rooms { pools = cur.rooms.pools } → CanCloseSpindles shared.spindles.items keepers cur
+    spindles_may keepers cur are only kept rooms = record {
       keeper_count = are.0 ∙ sym locks.spindle_count;
       passes = λ k l p at has.
           let lock = locks.spindles k l at in
@@ -82,6 +82,7 @@ module _ {D : Type 0} (state : D → State) (config : Config) where
                 let x = a_value (spindle_pass rest v k) ((is.parts.spindles.here v k (omega (arith, less, kept.count)) (slice_get_within shared.spindles.items k l at)).1 (nobody_there v k)) in
                 (x.0, kept.spindles v k ∙ x.1, is.parts.spindles.each v k l x.0 at x.1);
             keeper_ = subst (λ (n : ℕ). IsPassAt l n p) (sym (kept.count ∙ is.parts.count)) (are.1 k l p at has);
+            accesses = λ v q there. only v k q (sym (kept.spindles v k) ∙ there);
           };
       room_count = ap (λ r. length r.spindles.items) rooms ∙ is.rooms.spindle_count ∙ sym locks.spindle_count;
       rooms = subst (λ r. All (λ row. (row.items ≡ []) × (length cur.passes.items + 1 ≤ Rattle.std.specs.Prelude.vec_capacity row)) r.spindles.items) (sym rooms)

@@ -53,7 +53,6 @@ pub mod StationRecovers
 pub mod RackClosed
 pub mod HeldSegments
 pub mod FinalImages
-<<<<<<< HEAD
 pub mod FaultyParts
 pub mod StationParts
 pub mod StationClosed
@@ -61,7 +60,6 @@ pub mod PartsThrough
 pub mod Unbroken
 pub mod LeftOfParts
 pub mod QuietClosed
-=======
 pub mod FirstRest
 pub mod FirstOpening
->>>>>>> 6f4fac335ccd7fb6b0d897eb070284336997ba1e
+pub mod OthersAccess

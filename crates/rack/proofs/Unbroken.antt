@@ -21,7 +21,7 @@ flight_in es = flight_of (entries_of (notes_of es))
 abbrev operation_of : Entry → Operation
 operation_of e = (noted_of e.0 e.1).entry.operation
 
-self_equal : (n : ℕ) → (n == n) ≡ true
+pub self_equal : (n : ℕ) → (n == n) ≡ true
 self_equal n = grind (arith, nat_tests)
 
 rest_quiet : (t : Bool) (e : Entry) (xs : List Entry) → flight_in (e ∷ xs) ≡ flight_in xs → flight_in (cond t (e ∷ xs) xs) ≡ None → flight_in xs ≡ None

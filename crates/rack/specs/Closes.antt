@@ -1,5 +1,6 @@
 -- What closing a rack leaves. `state` is that of a part's disk.
 use Rattle.std.specs.Prelude.{◌≡◌, ◌≢◌, ◌<◌, ◌≤◌, ◌+◌, ◌++◌, ◌⊎◌, ℕ, List, [], ◌∷◌, length, Option, None, Some, not, is_some, unwrap_or, slice_get, slice_range, All, Contains, IsTrue}
+use Rattle.std.specs.List.{AllByRecursion}
 use Rattle.wol_disk.specs.Disk.{Block, State, Rose, IsImageOf}
 use Rattle.wol_model.specs.Blocks.{after}
 use Rattle.wol_model.specs.Extents.{IsValid, AreDistinct, covers_of}
@@ -15,7 +16,7 @@ use Rattle.wol_bay.specs.Bay.{Name, Told, BayState}
 use Rattle.wol_config.specs.declared.config.Config.{Config}
 use Rattle.wol_config.specs.declared.config.VolumeConf.{VolumeConf}
 use Rattle.turn_lock.specs.Histories.{Entry, own}
-use Rattle.turn_lock.specs.Passes.{lock_id, pass_mine, IsPartOf}
+use Rattle.turn_lock.specs.Passes.{lock_id, pass_number, pass_mine, IsPartOf}
 use Rattle.turn_lock.specs.declared.lock.TurnLock.{TurnLock}
 use Rattle.turn_lock.specs.declared.pass.PassOf.{PassOf}
 use Rattle.spin_model.specs.Spindles.{SpindleView, StandsFor}
@@ -29,6 +30,7 @@ use Rattle.volume_images.specs.Left.{IsTold}
 use Rattle.volume_images.specs.Volumes.{shapes_of, images_read, AreLeft}
 use Rattle.rack.specs.Rests.{image_here, segment_here, held_here, IsImageOut, IsSegmentHere}
 use Rattle.rack.specs.Racks.{base_of_station}
+use Rattle.rack.specs.Closing.{IsAccessBut}
 use Rattle.rack.specs.Owners.{recovered_but}
 use Rattle.rack.specs.declared.rack.ImageRest.{ImageRest}
 use Rattle.rack.specs.declared.rack.Rack.{Rack}
@@ -41,6 +43,8 @@ pub record IsClosedSpindle {D : Type 0} (r : Rack D) (k : ℕ) (s : SpindleView)
   pub entries : List Entry
   pub stands : (l : TurnLock Spindle SpindleBase) → slice_get r.shared.spindles.items k ≡ Some l → StandsFor s (lock_id l).base entries
   pub keeper_part : (p : PassOf Spindle SpindleBase) → slice_get r.keepers.items k ≡ Some p → IsPartOf entries p
+  -- each entry of another pass is one of an access
+  pub accesses : (p : PassOf Spindle SpindleBase) → slice_get r.keepers.items k ≡ Some p → AllByRecursion (IsAccessBut (pass_number p)) entries
 
 -- ---- Volumes
 

@@ -38,7 +38,7 @@ impl<D: Disk> Rest<D> {
     ghost use Rattle.wol_config.specs.declared.config.Config.{Config};
     ghost use Rattle.logger.specs.declared.shared.Shared.{Shared};
     ghost use Rattle.manager.specs.declared.station.Station.{Station};
-    ghost use Rattle.rack.specs.Rests.{spindle_pass, image_here, held_here, IsRest};
+    ghost use Rattle.rack.specs.Rests.{spindle_pass, image_here, held_here, OnlyAccess, IsRest};
     ghost use Rattle.rack.specs.Closing.{CanCloseStations, ClosesStation, ClosesStations, CanClosePool, CanClosePools, CanPutAllHeld, PutsAllHeld, RefillsAll, KeepsLogger, KeepsSpindles, KeepsOtherRows, HasSpindlePasses, StandsClosed, CanCloseSpindles, AreClosed};
 
     // Each station's lock is closed, and what its manager had comes back.
@@ -46,6 +46,7 @@ impl<D: Disk> Rest<D> {
         requires { (config : Config) × (shared : Shared D) × CanCloseStations D.state config shared stations.items self.old }
         ensures rest { (config : Config) (shared : Shared D) → CanCloseStations D.state config shared stations.items self.old → IsRest D.state config shared [] self.new }
         ensures closed { ClosesStations D.tells D.state stations.items self.old self.new }
+        ensures accesses { (config : Config) (shared : Shared D) → CanCloseStations D.state config shared stations.items self.old → OnlyAccess self.new }
     {
         let mut stations = stations;
         while let Some(station) = stations.pop() {

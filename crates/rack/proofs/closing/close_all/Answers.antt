@@ -1,5 +1,9 @@
 use Rattle.std.proofs.Common.{◌≡◌, ◌<◌, ◌≤◌, ◌+◌, ℕ, List, [], length, Option, Some, None, sym, ap, ◌∙◌, subst, refl, arith}
 use Rattle.std.specs.Prelude.{All}
+use Rattle.std.specs.List.{AllByRecursion}
+use Rattle.turn_lock.specs.declared.pass.PassOf.{PassOf}
+use Rattle.spin_model.specs.declared.spindle.Spindle.{Spindle}
+use Rattle.spin_model.specs.declared.spindle.SpindleBase.{SpindleBase}
 use Rattle.rack.specs.Racks.{base_of_station}
 use Rattle.volume_images.specs.Volumes.{shapes_of}
 use Rattle.rack.proofs.Closable.{stations_may, pools_may, spindles_may, images_rest, images_whole}
@@ -34,7 +38,7 @@ close_spindles-requires-clause-locks g c =
     let config = c.args.config.now in
     let shared = c.args.rack.shared in
     let is1 = c.close_stations.ensures.rest config shared (stations_may state config (g.B.Bay.state c.args.bay.now) c.args.rack can) in
-    spindles_may state config shared c.close_stations.new.self can.locks is1 c.args.rack.keepers.items c.close_pools.new.self can.keepers c.close_pools.ensures.spindles c.close_pools.ensures.rooms
+    spindles_may state config shared c.close_stations.new.self can.locks is1 c.args.rack.keepers.items c.close_pools.new.self can.keepers (c.close_stations.ensures.accesses config shared (stations_may state config (g.B.Bay.state c.args.bay.now) c.args.rack can)) c.close_pools.ensures.spindles c.close_pools.ensures.rooms
 
 pub close_spindles-requires-clause-empty : goal.close_spindles-requires-clause-empty
 close_spindles-requires-clause-empty g c =
@@ -120,6 +124,7 @@ returns-clause-spindles g c = λ k s at.
     record {
       entries = is.entries;
       stands = λ m there. subst (λ q. Rattle.spin_model.specs.Spindles.StandsFor s (Rattle.turn_lock.specs.Passes.lock_id q).base is.entries) (Rattle.std.proofs.lemmas.Option.same_Some l.0 m (sym l.1 ∙ there)) is.stands;
+      accesses = λ q there. subst (λ (x : PassOf Spindle SpindleBase). AllByRecursion (Rattle.rack.specs.Closing.IsAccessBut (Rattle.turn_lock.specs.Passes.pass_number x)) is.entries) (Rattle.std.proofs.lemmas.Option.same_Some p.0 q (sym p.1 ∙ there)) is.accesses;
       keeper_part = λ q there. subst (λ x. Rattle.turn_lock.specs.Passes.IsPartOf is.entries x) (Rattle.std.proofs.lemmas.Option.same_Some p.0 q (sym p.1 ∙ there)) is.keeper_part;
     }
 
