@@ -8,3 +8,4 @@ pub mod Foreign
 pub mod Closing
 pub mod Closes
 pub mod Opening
+pub mod Locked

@@ -10,13 +10,19 @@ ghost use Rattle.rack.specs.Parts.{CanPutLanes, PutsLanes, IsUsablePlace, IsNewL
 ghost use Rattle.rack.specs.declared.rack.ImageRest.{ImageRest};
 ghost use Rattle.rack.specs.declared.rack.Rest.{Rest};
 
+ghost use Rattle.std.specs.Prelude.{◌≡◌, IfOk, IfErr};
+ghost use Rattle.manager_recovery.specs.Opening.{CanOpen};
+ghost use Rattle.manager_recovery.specs.declared.opening.Opening.{Opening};
+ghost use Rattle.rack.specs.Locked.{IsLocked, IsUnopened};
+
 use crate::VolumeFault;
 use crate::heads_said::{Said, is_owned_by};
 use crate::rack::{ImageRest, Rack, Rest};
 use crate::rest::take_home;
 use log_layout::{Label, SegHead, View};
 use logger::Lane;
-use manager::Station;
+use logger::Shared;
+use manager::{Manager, Station};
 use manager_recovery::{OpenRefusal, Opening, OwnedPart, open_volume};
 use spin_model::{Spindle, Spun};
 use std::alloc::Global;
@@ -335,6 +341,35 @@ impl<D: Disk> ImageRest<D> {
     }
 }
 
+// Why a volume has no lock yet: it was refused, or there is no memory for the lock.
+enum Unopened<D: Disk> {
+    Refused(OpenRefusal, Opening<D>),
+    NoRoom(Manager<D>),
+}
+
+// Opens a volume, and makes the lock of its manager: a pass for a client, and two for helpers.
+fn open_locked<R: Wait, D: Disk>(
+    alloc: Global,
+    rt: &R,
+    shared: &Shared<D>,
+    opening: Opening<D>,
+) -> Result<(TurnLock<Manager<D>>, Vec<Pass<Manager<D>>>), Unopened<D>>
+    ghost before: { Opening D }
+    requires before { opening ≡ before }
+    requires ready { CanOpen D.state shared.now opening }
+    ensures locked { IfOk result (λ r. IsLocked D.tells D.state shared.now before r.0 r.1.items) }
+    ensures unopened { IfErr result (IsUnopened D.tells D.state shared.now before) }
+{
+    let manager = match open_volume(alloc, rt, shared, opening) {
+        Ok(manager) => manager,
+        Err((refusal, opening)) => return Err(Unopened::Refused(refusal, opening)),
+    };
+    match TurnLock::new(alloc, manager, 1, 2) {
+        Ok(locked) => Ok(locked),
+        Err((manager, _)) => Err(Unopened::NoRoom(manager)),
+    }
+}
+
 impl<D: Disk> Rack<D> {
     ghost use Rattle.std.specs.Prelude.{◌≡◌, ◌<◌, ◌+◌, ℕ, Some, length, slice_get, OnOk, OnErr, IsTrue};
     ghost use Rattle.wol_bay.specs.Bay.{BayState, Told};
@@ -345,6 +380,7 @@ impl<D: Disk> Rack<D> {
     ghost use Rattle.rack.specs.Opening.{IsOpeningRack, HasBegun, AreRefusedBelow, AreSameOut, IsStopped};
     ghost use Rattle.rack.specs.declared.heads_said.Said.{Said};
 
+    #[tactic(none)]
     // Opens one volume: it has a station then, or a fault. Where there is no memory all of it is in the rest.
     fn open_one<R: Wait>(
         &mut self,
@@ -371,9 +407,9 @@ impl<D: Disk> Rack<D> {
         ensures began { IsTrue D.tells → (t : Told) → HasBegun D.state config.now t said.now id self.old → OnErr result (BeganWith D.state config.now t self.new) }
     {
         let opening = self.rest.take_opening(alloc, config, id, view, said)?;
-        let manager = match open_volume(alloc, rt, &self.shared, opening) {
-            Ok(manager) => manager,
-            Err((refusal, opening)) => {
+        let (lock, mut passes) = match open_locked(alloc, rt, &self.shared, opening) {
+            Ok(locked) => locked,
+            Err(Unopened::Refused(refusal, opening)) => {
                 self.rest.put_opening(id, opening);
                 if refusal == OpenRefusal::NoMemory {
                     return Err(NoMemory);
@@ -381,31 +417,23 @@ impl<D: Disk> Rack<D> {
                 self.faults[id as usize] = Some(VolumeFault::Refused(refusal));
                 return Ok(());
             }
-        };
-        match TurnLock::new(alloc, manager, 1, 2) {
-            Ok((lock, mut passes)) => {
-                let (Some(keeper), Some(helper), Some(worker)) = (
-                    passes.pop(),
-                    passes.pop(),
-                    passes.pop(),
-                ) else {
-                    unreachable!()
-                };
-                self.rest.rooms.managers.push_reserved(passes);
-                self.stations.push_reserved(Station {
-                    id,
-                    lock,
-                    worker,
-                    helper,
-                    keeper,
-                });
-                Ok(())
-            }
-            Err((manager, _)) => {
+            Err(Unopened::NoRoom(manager)) => {
                 self.rest.put_manager(id, manager.release());
-                Err(NoMemory)
+                return Err(NoMemory);
             }
-        }
+        };
+        let (Some(keeper), Some(helper), Some(worker)) = (passes.pop(), passes.pop(), passes.pop()) else {
+            unreachable!()
+        };
+        self.rest.rooms.managers.push_reserved(passes);
+        self.stations.push_reserved(Station {
+            id,
+            lock,
+            worker,
+            helper,
+            keeper,
+        });
+        Ok(())
     }
 
     #[tactic(none)]
