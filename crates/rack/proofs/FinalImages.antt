@@ -1,15 +1,15 @@
 -- The images that a crash leaves of a rack that was closed, by its parts.
-use Rattle.std.proofs.Common.{◌≡◌, ◌≢◌, ◌<◌, ◌≤◌, ◌+◌, ◌^◌, ◌⊎◌, inl, inr, ℕ, zero, suc, Bool, true, false, cond, List, [], ◌∷◌, ◌++◌, length, get_or, map, Option, Some, None, is_some, not, option_map, refl, sym, ap, ◌∙◌, subst, arith}
-use Rattle.std.specs.Prelude.{Contains, All, AllPairs, IsTrue, IsSome, slice_get, slice_index_or, slice_range, option_and_then, unwrap_or}
-use Rattle.std.specs.List.{AllByRecursion, AllZip}
+use Rattle.std.proofs.Common.{◌≡◌, ◌≢◌, ◌<◌, ◌≤◌, ◌+◌, ◌^◌, ◌⊎◌, inl, inr, ℕ, zero, suc, Bool, true, false, cond, List, [], ◌∷◌, length, map, Option, Some, None, is_some, not, option_map, refl, sym, ap, ◌∙◌, subst, arith}
+use Rattle.std.specs.Prelude.{Contains, IsTrue, slice_get, slice_index_or, slice_range, unwrap_or}
+use Rattle.std.specs.List.{AllByRecursion}
 use Rattle.std.proofs.lemmas.Bool.{cases_eq, cases_lt}
-use Rattle.std.proofs.lemmas.List.{length-map, get_or-map}
-use Rattle.std.proofs.lemmas.Option.{none-some, same_Some, slice_get_within, slice_get-get_or, slice_get-map, get_or_from_slice_get}
+use Rattle.std.proofs.lemmas.List.{length-map}
+use Rattle.std.proofs.lemmas.Option.{none-some, same_Some, slice_get_within, slice_get-map, get_or_from_slice_get}
 use Rattle.std.proofs.lemmas.List.Elements.{All-contains}
 use Rattle.wol_disk.specs.Disk.{Block, State, Values, IsDisk, TellsContent, IsImageOf}
 use Rattle.wol_model.specs.Heads.{Shape}
-use Rattle.wol_model.specs.Images.{Images, image_of, image_size, home_of, home_in, segment_of, accepted_from, accepted}
-use Rattle.wol_model.specs.Log.{Record, IsLog}
+use Rattle.wol_model.specs.Images.{Images, image_of, image_size, home_in, segment_of, accepted_from, accepted}
+use Rattle.wol_model.specs.Log.{Record}
 use Rattle.wol_model.specs.Blocks.{after}
 use Rattle.wol_model.specs.Extents.{AreDistinct, covers_of}
 use Rattle.wol_model.specs.History.{writes, flight_of, IsCut}
@@ -30,11 +30,11 @@ use Rattle.seg_pool.specs.declared.pool.Pool.{Pool}
 use Rattle.log_segment.specs.Kept.{IsFreeInAll}
 use Rattle.log_segment.specs.Segment.{part_of}
 use Rattle.log_segment.specs.declared.free.FreeSegment.{FreeSegment}
-use Rattle.logger.specs.Lanes.{IsHeld, logger_of, held_in}
+use Rattle.logger.specs.Lanes.{logger_of, held_in}
 use Rattle.logger.specs.declared.lane.HeldSegment.{HeldSegment}
 use Rattle.logger.specs.declared.lane.Lane.{Lane}
 use Rattle.manager.specs.Seen.{parts_of, all_held}
-use Rattle.manager.specs.Stands.{IsReadyLane, notes_of}
+use Rattle.manager.specs.Stands.{notes_of}
 use Rattle.manager.specs.declared.base.ManagerBase.{ManagerBase}
 use Rattle.manager.specs.declared.station.Station.{Station}
 use Rattle.volume_images.specs.Volumes.{shape_in, shapes_of, MayLeave, AreLeft}
@@ -42,12 +42,12 @@ use Rattle.rack.specs.Foreign.{IsForeign}
 use Rattle.rack.specs.Closes.{segments_out, recovered_out}
 use Rattle.rack.specs.Rests.{image_here, segment_here, held_here, away_with, IsImageOut, IsSegmentHere, IsRest}
 use Rattle.rack.specs.Racks.{IsClosable, IsOpenBase, base_of_station}
-use Rattle.rack.specs.Parts.{IsTogether, HasBack, held_parts}
-use Rattle.rack.specs.Closing.{Closing, IsClosing, ClosesStations, KeepsButHome, RefillsAll, KeepsSpindles, GivesBack, home_here}
+use Rattle.rack.specs.Parts.{HasBack, held_parts}
+use Rattle.rack.specs.Closing.{Closing, IsClosing, ClosesStations, KeepsButHome, RefillsAll, KeepsSpindles, GivesBack}
 use Rattle.rack.specs.declared.rack.ImageRest.{ImageRest}
 use Rattle.rack.specs.declared.rack.Rack.{Rack}
 use Rattle.rack.specs.declared.rack.Rest.{Rest}
-use Rattle.rack.proofs.Members.{no_value, a_value, is_there, element_at, here_within, of_map, in_map, of_recursion, none_in, first_in, later_in, is_member}
+use Rattle.rack.proofs.Members.{a_value, is_there, element_at, here_within, of_map, in_map, none_in}
 use Rattle.rack.proofs.LanesAway.{is_lane_of}
 use Rattle.rack.proofs.LeftParts.{all_told, left_size, left_label, left_home, left_segment}
 use Rattle.rack.proofs.Closable.{blocks_at, image_was, images_rest, images_whole}

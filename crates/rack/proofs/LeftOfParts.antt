@@ -1,59 +1,42 @@
 -- The images that a crash leaves of a rack that was closed: what each of their parts comes from.
-use Rattle.std.proofs.Common.{◌≡◌, ◌≢◌, ◌<◌, ◌≤◌, ◌+◌, ◌^◌, ◌⊎◌, inl, inr, ℕ, zero, suc, Bool, true, false, cond, List, [], ◌∷◌, ◌++◌, length, get_or, map, Option, Some, None, is_some, not, option_map, refl, sym, ap, ◌∙◌, subst, arith}
-use Rattle.std.specs.Prelude.{Contains, All, AllPairs, IsTrue, IsSome, slice_get, slice_index_or, slice_range, option_and_then, unwrap_or}
-use Rattle.std.specs.List.{AllByRecursion, AllZip}
-use Rattle.std.proofs.lemmas.Bool.{cases_eq, cases_lt}
-use Rattle.std.proofs.lemmas.List.{length-map, get_or-map}
-use Rattle.std.proofs.lemmas.Option.{none-some, same_Some, slice_get_within, slice_get-get_or, slice_get-map, get_or_from_slice_get}
-use Rattle.std.proofs.lemmas.List.Elements.{All-contains}
-use Rattle.wol_disk.specs.Disk.{Block, State, Values, IsDisk, TellsContent, IsImageOf}
+use Rattle.std.proofs.Common.{◌≡◌, ◌<◌, ◌≤◌, ◌+◌, ℕ, Bool, List, [], ◌∷◌, ◌++◌, length, map, Some, None, sym, ap, subst, arith}
+use Rattle.std.specs.Prelude.{Contains, IsTrue, slice_get, slice_range, unwrap_or}
+use Rattle.std.specs.List.{AllByRecursion}
+use Rattle.wol_disk.specs.Disk.{Block, State, IsDisk, TellsContent, IsImageOf}
 use Rattle.wol_model.specs.Heads.{Shape}
-use Rattle.wol_model.specs.Images.{Images, image_of, image_size, home_of, home_in, segment_of, accepted_from, accepted}
+use Rattle.wol_model.specs.Images.{Images, image_of, segment_of}
 use Rattle.wol_model.specs.Log.{Record, IsLog}
-use Rattle.wol_model.specs.Blocks.{after}
-use Rattle.wol_model.specs.Extents.{AreDistinct, covers_of}
-use Rattle.wol_model.specs.History.{writes, flight_of, IsCut}
-use Rattle.wol_model.specs.Recovered.{extents_in, extents_of}
+use Rattle.wol_model.specs.History.{writes, flight_of}
 use Rattle.wol_promise.specs.Ruled.{entries_of}
-use Rattle.wol_model.proofs.Images.{idle_none}
 use Rattle.wol_promise.specs.Manager.{Held, SaysOwnerOrFree}
 use Rattle.wol_promise.specs.Stands.{IsHeldBy}
-use Rattle.wol_bay.specs.Bay.{Told, BayState, at_name}
+use Rattle.wol_bay.specs.Bay.{Told, BayState}
 use Rattle.wol_config.specs.declared.config.Config.{Config}
-use Rattle.wol_config.specs.declared.config.VolumeConf.{VolumeConf}
 use Rattle.turn_lock.specs.Passes.{lock_id}
 use Rattle.turn_lock.specs.declared.lock.TurnLock.{TurnLock}
-use Rattle.spin_model.specs.Spun.{state_of, volume_of}
+use Rattle.spin_model.specs.Spun.{state_of}
 use Rattle.spin_model.specs.declared.spun.Spun.{Spun}
 use Rattle.seg_pool.specs.declared.base.PoolBase.{PoolBase}
 use Rattle.seg_pool.specs.declared.pool.Pool.{Pool}
-use Rattle.log_segment.specs.Kept.{IsFreeInAll}
 use Rattle.log_segment.specs.Segment.{part_of}
 use Rattle.log_segment.specs.declared.free.FreeSegment.{FreeSegment}
-use Rattle.logger.specs.Lanes.{IsHeld, logger_of, held_in}
+use Rattle.logger.specs.Lanes.{logger_of, held_in}
 use Rattle.logger.specs.declared.lane.HeldSegment.{HeldSegment}
 use Rattle.logger.specs.declared.lane.Lane.{Lane}
 use Rattle.manager.specs.Seen.{parts_of, all_held}
-use Rattle.manager.specs.Stands.{IsReadyLane, notes_of}
-use Rattle.manager.specs.declared.base.ManagerBase.{ManagerBase}
+use Rattle.manager.specs.Stands.{notes_of}
 use Rattle.manager.specs.declared.station.Station.{Station}
-use Rattle.volume_images.specs.Volumes.{shape_in, shapes_of, MayLeave, AreLeft}
-use Rattle.rack.specs.Foreign.{IsForeign}
-use Rattle.rack.specs.Closes.{segments_out, recovered_out}
-use Rattle.rack.specs.Rests.{image_here, segment_here, held_here, away_with, IsImageOut, IsSegmentHere, IsRest}
-use Rattle.rack.specs.Racks.{IsClosable, IsOpenBase, base_of_station}
-use Rattle.rack.specs.Parts.{IsTogether, HasBack, held_parts}
-use Rattle.rack.specs.Closing.{Closing, IsClosing, ClosesStations, KeepsButHome, RefillsAll, KeepsSpindles, GivesBack, home_here}
+use Rattle.volume_images.specs.Volumes.{shapes_of, AreLeft}
+use Rattle.rack.specs.Rests.{image_here, segment_here, IsRest}
+use Rattle.rack.specs.Racks.{IsClosable, base_of_station}
+use Rattle.rack.specs.Closing.{Closing, IsClosing, ClosesStations, RefillsAll, KeepsSpindles, GivesBack}
 use Rattle.rack.specs.declared.rack.ImageRest.{ImageRest}
 use Rattle.rack.specs.declared.rack.Rack.{Rack}
 use Rattle.rack.specs.declared.rack.Rest.{Rest}
-use Rattle.rack.proofs.Members.{no_value, a_value, is_there, element_at, here_within, of_map, in_map, of_recursion, none_in, first_in, later_in, is_member}
-use Rattle.rack.proofs.LanesAway.{is_lane_of}
-use Rattle.rack.proofs.LeftParts.{all_told, left_size, left_label, left_home, left_segment}
-use Rattle.rack.proofs.Closable.{blocks_at, image_was, images_rest, images_whole}
-use Rattle.rack.proofs.RackClosed.{same_out}
-use Rattle.rack.proofs.StationParts.{zip_at, among, is_base, is_station, image_end, shape_of_image, home_there, lane_there}
-use Rattle.rack.proofs.HeldSegments.{no_log, not_of_other, each_held, of_held}
+use Rattle.rack.proofs.Members.{a_value, in_map, of_recursion}
+use Rattle.rack.proofs.Closable.{images_rest, images_whole}
+use Rattle.rack.proofs.StationParts.{among, is_station}
+use Rattle.rack.proofs.HeldSegments.{of_held}
 use Rattle.wol_model.specs.Extents.{IsValid}
 use Rattle.wol_model.specs.Log.{extent_of, IsNamed}
 use Rattle.wol_model.specs.Blocks.{Write}
@@ -88,8 +71,6 @@ module _ {D : Type 0} (state : D → State) (tells : Bool) (told : IsTrue tells)
     (closed : ClosesStations tells state r.stations.items r.rest first)
     (filled : (k : ℕ) (f : TurnLock (Pool (FreeSegment D)) PoolBase) → slice_get r.shared.pools.items k ≡ Some f → RefillsAll state (lock_id f).base.blocks first k (image_here first.images.items k) (image_here second.images.items k))
     (kept : KeepsSpindles first second) (old new : Told) (given : GivesBack state config second.images.items 0 old new) (images : Images) (left : AreLeft config new images) where
-
-
   abbrev kept_logs : (t : Station D) → Held (Spun D) → Type 0
   kept_logs t h = ((bs : List Block) → IsTrue tells × may_be state h.part bs → IsLog bs (base_of_station t).volume.began.owner h.records)
 
@@ -106,12 +87,12 @@ module _ {D : Type 0} (state : D → State) (tells : Bool) (told : IsTrue tells)
       of_held (λ g. kept_logs t g × AllByRecursion (λ q. IsValid (extent_of q).cover → WasWritten ws q) g.records) (IsLogOfStation t k bs) 0 d.manager.lanes.items id.stands.keeps.logs
       (λ g rs. IsTrue tells → d.manager.down ≡ None → Rattle.log_segment.specs.Segment.Holds state g.segment rs) id.stands.keeps.held all l h in_lanes in_held
       (λ i rs broken x.
-          let log = x.0 bs (told, is_image) in
-          record {
-            records = rs;
-            log = subst (λ (v : ℕ). IsLog bs v rs) station.id log;
-            within = All-from_recursion (λ (q : Record). IsValid (extent_of q).cover → q.head.first + q.head.count ≤ b0.home_blocks) rs (records_within b0.home_blocks b0.owner ws u.lie rs log.named x.1);
-          })
+      let log = x.0 bs (told, is_image) in
+      record {
+        records = rs;
+        log = subst (λ (v : ℕ). IsLog bs v rs) station.id log;
+        within = All-from_recursion (λ (q : Record). IsValid (extent_of q).cover → q.head.first + q.head.count ≤ b0.home_blocks) rs (records_within b0.home_blocks b0.owner ws u.lie rs log.named x.1);
+      })
 
   -- what it says of its owner
   says_of : (j : ℕ) (t : Station D) (d : Closing D) → slice_get r.stations.items j ≡ Some t → IsClosing tells state first t d → (l : Lane D) (h : HeldSegment D) → Contains d.manager.lanes.items l → Contains (held_in l) h
@@ -123,12 +104,16 @@ module _ {D : Type 0} (state : D → State) (tells : Bool) (told : IsTrue tells)
       (λ i rs broken x. x.owned bs (told, is_image)))
 
   pub left_parts : (k : ℕ) (z : Shape) (m : ImageRest D) → slice_get (shapes_of config) k ≡ Some z → image_here r.rest.images.items k ≡ Some m → (c : List Block) × (image_of images k ≡ Some c) × IsLeftOfParts state z r k m c
-  left_parts k z m at here = (x.0, x.1, record {
-    sized = x.2.size;
-    label = subst (λ (p : Spun D). IsImageOf (state_of state p).values (slice_range x.0 0 2)) q.1.label x.2.label;
-    home = λ p home. x.2.home p (q.1.home p home);
-    segments = segment;
-  })
+  left_parts k z m at here = (
+    x.0,
+    x.1,
+    record {
+      sized = x.2.size;
+      label = subst (λ (p : Spun D). IsImageOf (state_of state p).values (slice_range x.0 0 2)) q.1.label x.2.label;
+      home = λ p home. x.2.home p (q.1.home p home);
+      segments = segment;
+    },
+  )
     where
       q : (q : ImageRest D) × Rattle.rack.proofs.PartsThrough.IsThrough state tells config b r can first second is closed filled kept k m q
       q = image_through state tells config b r can first second is closed filled kept k m here

@@ -1,5 +1,5 @@
 -- The entries of a lock's other passes, where each made accesses only.
-use Rattle.std.proofs.Common.{◌≡◌, ◌≢◌, ◌⊎◌, ◌==◌, inl, inr, ℕ, Bool, true, false, cond, List, [], ◌∷◌, ◌++◌, map, refl, sym, ap, ◌∙◌, subst, arith}
+use Rattle.std.proofs.Common.{◌≡◌, ◌≢◌, ◌⊎◌, ◌==◌, inl, inr, ℕ, Bool, true, false, cond, List, [], ◌∷◌, ◌++◌, map, sym, ap, ◌∙◌, subst}
 use Rattle.std.specs.Prelude.{Contains, All}
 use Rattle.std.specs.List.{AllByRecursion}
 use Rattle.std.proofs.lemmas.List.Elements.{All-push, All-contains, Contains-append_left}
@@ -38,6 +38,6 @@ others_access es ps keeper whole accesses = by_own (pass_number keeper) es each
             subst AreAccesses (sym mine) (All-contains (λ q. AreAccesses (pass_mine q)) ps p.0 accesses p.1)
         go (inr never) =
             let none : own n es ≡ [] = whole.no_more n (All-push (λ q. pass_number q ≢ n) ps keeper
-                (all_member (λ q. pass_number q ≢ n) ps (λ q has e. never (subst (λ (m : ℕ). Contains (map (λ (p : PassOf Spindle SpindleBase). pass_number p) ps) m) e (in_map (λ (p : PassOf Spindle SpindleBase). pass_number p) ps q has))))
-                (λ e. differs (sym e))) in
+            (all_member (λ q. pass_number q ≢ n) ps (λ q has e. never (subst (λ (m : ℕ). Contains (map (λ (p : PassOf Spindle SpindleBase). pass_number p) ps) m) e (in_map (λ (p : PassOf Spindle SpindleBase). pass_number p) ps q has))))
+            (λ e. differs (sym e))) in
             subst AreAccesses (sym none) tt

@@ -1,14 +1,13 @@
 -- The parts that were here when a rack was closed, among the images that go back.
-use Rattle.std.proofs.Common.{◌≡◌, ◌≢◌, ◌<◌, ◌≤◌, ◌+◌, ◌⊎◌, inl, inr, ℕ, Bool, List, [], ◌∷◌, length, map, Option, Some, None, refl, sym, ap, ◌∙◌, subst, arith}
-use Rattle.std.specs.Prelude.{Contains, IsSome, slice_get, slice_index_or, option_and_then}
+use Rattle.std.proofs.Common.{◌≡◌, ◌<◌, ◌≤◌, ◌+◌, ◌⊎◌, inl, inr, ℕ, Bool, List, [], length, map, Option, Some, None, refl, sym, ap, ◌∙◌, subst, arith}
+use Rattle.std.specs.Prelude.{Contains, slice_get, slice_index_or, option_and_then}
 use Rattle.std.proofs.lemmas.Bool.{cases_lt}
-use Rattle.std.proofs.lemmas.Option.{none-some, same_Some, slice_get_past, get_or_from_slice_get, slice_get-get_or}
+use Rattle.std.proofs.lemmas.Option.{none-some, slice_get_past, slice_get-get_or}
 use Rattle.wol_disk.specs.Disk.{State}
 use Rattle.wol_bay.specs.Bay.{BayState}
 use Rattle.wol_config.specs.declared.config.Config.{Config}
 use Rattle.turn_lock.specs.Passes.{lock_id}
 use Rattle.turn_lock.specs.declared.lock.TurnLock.{TurnLock}
-use Rattle.turn_lock.specs.declared.pass.PassOf.{PassOf}
 use Rattle.spin_model.specs.Spun.{state_of}
 use Rattle.spin_model.specs.declared.spun.Spun.{Spun}
 use Rattle.seg_pool.specs.declared.base.PoolBase.{PoolBase}
@@ -16,16 +15,15 @@ use Rattle.seg_pool.specs.declared.pool.Pool.{Pool}
 use Rattle.log_segment.specs.declared.free.FreeSegment.{FreeSegment}
 use Rattle.manager.specs.declared.base.ManagerBase.{ManagerBase}
 use Rattle.manager.specs.declared.station.Station.{Station}
-use Rattle.volume_images.specs.Volumes.{shapes_of}
 use Rattle.rack.specs.Rests.{image_here, segment_here, held_here, pool_pass, away_with, IsSegmentHere, IsRest}
-use Rattle.rack.specs.Racks.{IsClosable, IsStation, base_of_station}
+use Rattle.rack.specs.Racks.{IsClosable, base_of_station}
 use Rattle.rack.specs.Closing.{ClosesStations, KeepsButHome, RefillsAll, KeepsSpindles, HasFaultHere, home_here}
 use Rattle.rack.specs.Closes.{HasFaultIn, IsPartHere}
 use Rattle.rack.specs.declared.rack.ImageRest.{ImageRest}
 use Rattle.rack.specs.declared.rack.Rack.{Rack}
 use Rattle.rack.specs.declared.rack.Rest.{Rest}
 use Rattle.rack.specs.declared.rack.VolumePasses.{VolumePasses}
-use Rattle.rack.proofs.Members.{no_value, a_value, is_there, in_map, of_map, none_in, here_within}
+use Rattle.rack.proofs.Members.{is_there, in_map, of_map, none_in, here_within}
 use Rattle.rack.proofs.Closable.{image_was}
 use Rattle.rack.proofs.FaultyParts.{label_fault, home_fault, segment_fault}
 use Rattle.rack.proofs.StationParts.{image_end, is_station}
@@ -35,7 +33,6 @@ module _ {D : Type 0} (state : D → State) (tells : Bool) (config : Config) (b 
     (closed : ClosesStations tells state r.stations.items r.rest first)
     (filled : (k : ℕ) (f : TurnLock (Pool (FreeSegment D)) PoolBase) → slice_get r.shared.pools.items k ≡ Some f → RefillsAll state (lock_id f).base.blocks first k (image_here first.images.items k) (image_here second.images.items k))
     (kept : KeepsSpindles first second) where
-
   -- an image that was out: what it is at the end
   pub record IsThrough (k : ℕ) (m q : ImageRest D) : Type 0 where
     pub here : image_here second.images.items k ≡ Some q
@@ -78,14 +75,16 @@ module _ {D : Type 0} (state : D → State) (tells : Bool) (config : Config) (b 
   image_through k m here =
       let q = image_end state tells config b r can first second is closed filled kept k (is_there (image_here r.rest.images.items k) m here) in
       let was = image_was state config r.shared first can.locks is second kept.image_count filled k q.0 q.1 in
-      let same : was.0 ≡ record m { home = was.0.home } = subst (λ (o : Option (ImageRest D)). KeepsButHome (Some m) o) was.1 (subst (λ (o : Option (ImageRest D)). KeepsButHome o (image_here first.images.items k)) here (closed.images k)) in
-      (q.0, record {
-        here = q.1;
-        label = was.2.same.label ∙ ap (λ (n : ImageRest D). n.label) same;
-        home = λ p home. was.2.same.home ∙ sym (ap (λ (o : Option (ImageRest D)). option_and_then (λ j. j.home) o) was.1) ∙ homes_kept k m p here home;
-        places = λ i p at. was.2.kept i p (ap (λ (n : ImageRest D). segment_here n i) same ∙ at);
-        held = λ v i p has. was.2.back v i p (lists_kept k v i m p here has);
-      })
+      let same : was.0 ≡ record m { home = was.0.home } = subst (λ (o : Option (ImageRest D)). KeepsButHome (Some m) o) was.1 (subst (λ (o : Option (ImageRest D)). KeepsButHome o (image_here first.images.items k)) here (closed.images k)) in (
+        q.0,
+        record {
+          here = q.1;
+          label = was.2.same.label ∙ ap (λ (n : ImageRest D). n.label) same;
+          home = λ p home. was.2.same.home ∙ sym (ap (λ (o : Option (ImageRest D)). option_and_then (λ j. j.home) o) was.1) ∙ homes_kept k m p here home;
+          places = λ i p at. was.2.kept i p (ap (λ (n : ImageRest D). segment_here n i) same ∙ at);
+          held = λ v i p has. was.2.back v i p (lists_kept k v i m p here has);
+        },
+      )
 
   -- a part with a fault is among those that go back
   pub fault_through : HasFaultIn state r.rest → HasFaultHere state second.images.items 0

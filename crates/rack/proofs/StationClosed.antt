@@ -1,24 +1,18 @@
 -- A volume that was closed: its entries, and the parts that had a fault.
 use Rattle.std.proofs.Common.{◌≡◌, ◌≢◌, ◌<◌, ◌≤◌, ◌+◌, ◌⊎◌, inl, inr, ℕ, Bool, true, List, [], ◌∷◌, length, Option, Some, None, is_some, refl, sym, ap, ◌∙◌, subst, arith}
-use Rattle.std.specs.Prelude.{Contains, All, IsTrue, IsSome, slice_get}
-use Rattle.std.specs.List.{AllByRecursion}
+use Rattle.std.specs.Prelude.{Contains, IsTrue, slice_get}
 use Rattle.std.proofs.lemmas.Option.{slice_get-get_or}
 use Rattle.std.proofs.lemmas.List.Elements.{All-from_recursion}
 use Rattle.wol_disk.specs.Disk.{State, Rose, IsDisk, TellsContent}
 use Rattle.wol_model.specs.Blocks.{Write}
-use Rattle.wol_model.specs.Extents.{AreDistinct, covers_of}
-use Rattle.wol_model.specs.History.{worker, helper, keeper, writes, flight_of, IsCut}
-use Rattle.wol_model.specs.Recovered.{extents_of}
+use Rattle.wol_model.specs.History.{flight_of}
 use Rattle.wol_promise.specs.Manager.{PartName, HomePart, SegmentPart, Held, IsPartOf}
 use Rattle.wol_promise.specs.Ruled.{entries_of}
 use Rattle.wol_bay.specs.Bay.{Told, BayState}
 use Rattle.wol_bay.specs.Parts.{faulty_places}
 use Rattle.wol_config.specs.declared.config.Config.{Config}
-use Rattle.wol_config.specs.declared.config.VolumeConf.{VolumeConf}
-use Rattle.turn_lock.specs.Histories.{own}
 use Rattle.turn_lock.specs.Passes.{lock_id, pass_number}
 use Rattle.turn_lock.specs.declared.lock.TurnLock.{TurnLock}
-use Rattle.turn_lock.specs.declared.pass.PassOf.{PassOf}
 use Rattle.spin_model.specs.Spun.{state_of}
 use Rattle.spin_model.specs.declared.spun.Spun.{Spun}
 use Rattle.seg_pool.specs.declared.base.PoolBase.{PoolBase}
@@ -30,23 +24,22 @@ use Rattle.logger.specs.declared.lane.HeldSegment.{HeldSegment}
 use Rattle.logger.specs.declared.lane.Lane.{Lane}
 use Rattle.manager.specs.Seen.{all_held, seen, down_of}
 use Rattle.manager.specs.Stands.{notes_of}
-use Rattle.manager.specs.declared.manager.Manager.{Manager}
 use Rattle.manager.specs.declared.station.Station.{Station}
 use Rattle.volume_images.specs.Left.{IsTold}
-use Rattle.volume_images.specs.Volumes.{shape_in, shapes_of, AreLeft}
-use Rattle.rack.specs.Rests.{image_here, segment_here, IsRest}
+use Rattle.volume_images.specs.Volumes.{shapes_of}
+use Rattle.rack.specs.Rests.{image_here, IsRest}
 use Rattle.rack.specs.Racks.{IsClosable, base_of_station}
 use Rattle.rack.specs.Parts.{IsTogether}
 use Rattle.rack.specs.Closing.{Closing, IsClosing, ClosesStations, RefillsAll, KeepsSpindles, GivesBack, HasFaultHere}
-use Rattle.rack.specs.Closes.{RecoversTo, IsClosedVolume, HasFaultyPart, segments_out, recovered_out}
+use Rattle.rack.specs.Closes.{RecoversTo, IsClosedVolume, HasFaultyPart}
 use Rattle.rack.specs.declared.rack.ImageRest.{ImageRest}
 use Rattle.rack.specs.declared.rack.Rack.{Rack}
 use Rattle.rack.specs.declared.rack.Rest.{Rest}
-use Rattle.rack.proofs.Members.{a_value, element_at, in_map, of_recursion, none_in, all_member, here_within}
+use Rattle.rack.proofs.Members.{a_value, in_map, of_recursion, none_in}
 use Rattle.rack.proofs.Closable.{images_whole}
 use Rattle.rack.proofs.HeldSegments.{each_held}
 use Rattle.rack.proofs.FaultyParts.{together_of, home_fault, segment_fault}
-use Rattle.rack.proofs.StationParts.{zip_at, is_base, is_station, home_there, lane_there, shape_of_image}
+use Rattle.rack.proofs.StationParts.{zip_at, is_station, home_there, lane_there, shape_of_image}
 use Rattle.rack.proofs.FinalImages.{volume_at, cut_left, whole_left, distinct_left}
 
 pub told_map : (P Q : Told → Told → Type 0) (a b : Option Told) → IsTold P a b → ((o n : Told) → P o n → Q o n) → IsTold Q a b
@@ -58,7 +51,6 @@ module _ {D : Type 0} (state : D → State) (tells : Bool) (config : Config) (b 
     (closed : ClosesStations tells state r.stations.items r.rest first)
     (filled : (k : ℕ) (f : TurnLock (Pool (FreeSegment D)) PoolBase) → slice_get r.shared.pools.items k ≡ Some f → RefillsAll state (lock_id f).base.blocks first k (image_here first.images.items k) (image_here second.images.items k))
     (kept : KeepsSpindles first second) where
-
   -- a fault of a part that is here makes the count of the bay rise
   pub fault_here : (k place : ℕ) (q : ImageRest D) → image_here second.images.items k ≡ Some q → ((disks : List D) → IsTogether q disks → Contains (faulty_places state disks) place) → HasFaultHere state second.images.items 0
   fault_here k place q here among =

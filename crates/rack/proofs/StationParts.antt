@@ -1,50 +1,35 @@
 -- The parts of a station, among the images that go back.
-use Rattle.std.proofs.Common.{◌≡◌, ◌≢◌, ◌<◌, ◌≤◌, ◌+◌, ◌^◌, ◌⊎◌, inl, inr, ℕ, zero, suc, Bool, true, false, cond, List, [], ◌∷◌, ◌++◌, length, get_or, map, Option, Some, None, is_some, not, option_map, refl, sym, ap, ◌∙◌, subst, arith}
-use Rattle.std.specs.Prelude.{Contains, All, AllPairs, IsTrue, IsSome, slice_get, slice_index_or, slice_range, option_and_then}
-use Rattle.std.specs.List.{AllByRecursion, AllZip}
-use Rattle.std.proofs.lemmas.Bool.{cases_eq, cases_lt}
-use Rattle.std.proofs.lemmas.List.{length-map, get_or-map}
-use Rattle.std.proofs.lemmas.Option.{none-some, same_Some, slice_get_within, slice_get-get_or, slice_get-map, get_or_from_slice_get}
+use Rattle.std.proofs.Common.{◌≡◌, ℕ, zero, suc, Bool, List, [], ◌∷◌, Option, Some, refl, sym, ap, ◌∙◌, subst, arith}
+use Rattle.std.specs.Prelude.{Contains, slice_get, option_and_then}
+use Rattle.std.specs.List.{AllZip}
+use Rattle.std.proofs.lemmas.Option.{slice_get_within, get_or_from_slice_get}
 use Rattle.std.proofs.lemmas.List.Elements.{All-contains}
-use Rattle.wol_disk.specs.Disk.{Block, State, Values, IsDisk, TellsContent, IsImageOf}
+use Rattle.wol_disk.specs.Disk.{State}
 use Rattle.wol_model.specs.Heads.{Shape}
-use Rattle.wol_model.specs.Images.{Images, image_of, image_size, home_of, home_in, segment_of, accepted_from, accepted}
-use Rattle.wol_model.specs.Log.{Record, IsLog}
-use Rattle.wol_model.specs.Recovered.{extents_in}
-use Rattle.wol_model.proofs.Images.{idle_none}
-use Rattle.wol_promise.specs.Manager.{Held, SaysOwnerOrFree}
-use Rattle.wol_promise.specs.Stands.{IsHeldBy}
-use Rattle.wol_bay.specs.Bay.{Told, BayState, at_name}
+use Rattle.wol_bay.specs.Bay.{BayState}
 use Rattle.wol_config.specs.declared.config.Config.{Config}
-use Rattle.wol_config.specs.declared.config.VolumeConf.{VolumeConf}
 use Rattle.turn_lock.specs.Passes.{lock_id}
 use Rattle.turn_lock.specs.declared.lock.TurnLock.{TurnLock}
-use Rattle.spin_model.specs.Spun.{state_of, volume_of}
-use Rattle.spin_model.specs.declared.spun.Spun.{Spun}
+use Rattle.spin_model.specs.Spun.{volume_of}
 use Rattle.seg_pool.specs.declared.base.PoolBase.{PoolBase}
 use Rattle.seg_pool.specs.declared.pool.Pool.{Pool}
-use Rattle.log_segment.specs.Kept.{IsFreeInAll}
 use Rattle.log_segment.specs.Segment.{part_of}
 use Rattle.log_segment.specs.declared.free.FreeSegment.{FreeSegment}
 use Rattle.logger.specs.Lanes.{IsHeld, logger_of, held_in}
 use Rattle.logger.specs.declared.lane.HeldSegment.{HeldSegment}
 use Rattle.logger.specs.declared.lane.Lane.{Lane}
-use Rattle.manager.specs.Seen.{parts_of, all_held}
-use Rattle.manager.specs.Stands.{IsReadyLane, notes_of}
-use Rattle.manager.specs.declared.base.ManagerBase.{ManagerBase}
+use Rattle.manager.specs.Stands.{IsReadyLane}
 use Rattle.manager.specs.declared.station.Station.{Station}
-use Rattle.volume_images.specs.Volumes.{shape_in, shapes_of, MayLeave, AreLeft}
-use Rattle.rack.specs.Foreign.{IsForeign}
-use Rattle.rack.specs.Rests.{image_here, segment_here, held_here, away_with, IsImageOut, IsSegmentHere, IsRest}
+use Rattle.volume_images.specs.Volumes.{shapes_of}
+use Rattle.rack.specs.Rests.{image_here, segment_here, held_here, IsImageOut, IsRest}
 use Rattle.rack.specs.Racks.{IsClosable, IsOpenBase, base_of_station}
-use Rattle.rack.specs.Parts.{IsTogether, HasBack, held_parts}
-use Rattle.rack.specs.Closing.{Closing, IsClosing, ClosesStations, KeepsButHome, RefillsAll, KeepsSpindles, GivesBack, home_here}
+use Rattle.rack.specs.Parts.{HasBack}
+use Rattle.rack.specs.Closing.{Closing, IsClosing, ClosesStations, RefillsAll, KeepsSpindles, home_here}
 use Rattle.rack.specs.declared.rack.ImageRest.{ImageRest}
 use Rattle.rack.specs.declared.rack.Rack.{Rack}
 use Rattle.rack.specs.declared.rack.Rest.{Rest}
-use Rattle.rack.proofs.Members.{no_value, a_value, is_there, element_at, here_within, of_map, in_map, of_recursion, none_in, first_in, later_in, is_member}
-use Rattle.rack.proofs.LanesAway.{is_lane_of}
-use Rattle.rack.proofs.Closable.{blocks_at, image_was, images_rest, images_whole}
+use Rattle.rack.proofs.Members.{a_value, element_at, here_within, in_map, of_recursion}
+use Rattle.rack.proofs.Closable.{image_was}
 use Rattle.rack.proofs.RackClosed.{same_out}
 
 -- the closing at the place of a station
@@ -59,7 +44,6 @@ module _ {D : Type 0} (state : D → State) (tells : Bool) (config : Config) (b 
     (closed : ClosesStations tells state r.stations.items r.rest first)
     (filled : (k : ℕ) (f : TurnLock (Pool (FreeSegment D)) PoolBase) → slice_get r.shared.pools.items k ≡ Some f → RefillsAll state (lock_id f).base.blocks first k (image_here first.images.items k) (image_here second.images.items k))
     (kept : KeepsSpindles first second) where
-
   -- a station is one of those of the rack
   pub among : (j : ℕ) (t : Station D) → slice_get r.stations.items j ≡ Some t → Contains r.stations.items t
   among j t at = (j, slice_get_within r.stations.items j t at, get_or_from_slice_get r.stations.items j t t at)
@@ -105,4 +89,3 @@ module _ {D : Type 0} (state : D → State) (tells : Bool) (config : Config) (b 
         let was = image_was state config r.shared first can.locks is second kept.image_count filled (logger_of l) q.0 q.1 in
         let in_list : Contains (held_here first s.id (logger_of l)) (h.index, part_of h.segment) = subst (λ xs. Contains xs (h.index, part_of h.segment)) (sym back.held) (in_map (λ (g : HeldSegment D). (g.index, part_of g.segment)) (held_in l) h in_held) in
         (held.volume, q.0, q.1, was.2.back s.id h.index (part_of h.segment) in_list)
-

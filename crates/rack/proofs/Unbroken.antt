@@ -1,5 +1,5 @@
 -- A history in which no pass made a Broke has none, and one in which no pass wrote has no writes.
-use Rattle.std.proofs.Common.{◌≡◌, ◌≢◌, ◌⊎◌, ◌==◌, inl, inr, ℕ, Bool, true, false, cond, List, [], ◌∷◌, ◌++◌, Option, Some, None, refl, sym, ap, ◌∙◌, subst, arith}
+use Rattle.std.proofs.Common.{◌≡◌, ◌≢◌, ◌⊎◌, ◌==◌, inl, inr, ℕ, Bool, true, false, cond, List, [], ◌∷◌, ◌++◌, Option, None, refl, sym, ap, ◌∙◌, subst, arith}
 use Rattle.std.proofs.lemmas.Bool.{cases_eq}
 use Rattle.std.proofs.lemmas.Bool.Decides.{nat_tests}
 use Rattle.std.proofs.lemmas.Option.{none-some}
@@ -9,7 +9,7 @@ use Rattle.wol_model.specs.History.{Operation, Broke, Wrote, Read, Kept, worker,
 use Rattle.wol_promise.specs.Code.{noted_of}
 use Rattle.wol_promise.specs.Ruled.{entries_of}
 use Rattle.turn_lock.specs.Histories.{Entry, own}
-use Rattle.turn_lock.specs.Passes.{pass_number, pass_mine, AreWhole}
+use Rattle.turn_lock.specs.Passes.{pass_number, AreWhole}
 use Rattle.manager.specs.Stands.{notes_of}
 use Rattle.manager.specs.declared.station.Station.{Station}
 use Rattle.rack.specs.Racks.{IsStation}

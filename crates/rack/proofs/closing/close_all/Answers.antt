@@ -1,15 +1,11 @@
-use Rattle.std.proofs.Common.{◌≡◌, ◌<◌, ◌≤◌, ◌+◌, ℕ, List, [], length, Option, Some, None, sym, ap, ◌∙◌, subst, refl, arith}
-use Rattle.std.specs.Prelude.{All}
+use Rattle.std.proofs.Common.{◌≡◌, ◌≤◌, length, sym, ap, ◌∙◌, subst, arith}
 use Rattle.std.specs.List.{AllByRecursion}
 use Rattle.turn_lock.specs.declared.pass.PassOf.{PassOf}
 use Rattle.spin_model.specs.declared.spindle.Spindle.{Spindle}
 use Rattle.spin_model.specs.declared.spindle.SpindleBase.{SpindleBase}
-use Rattle.rack.specs.Racks.{base_of_station}
 use Rattle.volume_images.specs.Volumes.{shapes_of}
 use Rattle.rack.proofs.Closable.{stations_may, pools_may, spindles_may, images_rest, images_whole}
 use Rattle.rack.proofs.RackClosed.{none_out, few, out_there, lists_ended}
-use Rattle.rack.proofs.StationRecovers.{whole_now}
-use Rattle.rack.proofs.FinalImages.{origin}
 use Rattle.rack.proofs.StationClosed.{closed_volume, told_map}
 use Rattle.rack.proofs.PartsThrough.{fault_through}
 use Rattle.rack.proofs.LeftOfParts.{left_parts}
@@ -99,7 +95,7 @@ give_back-requires-clause-out g c =
     let shared = c.args.rack.shared in
     let is1 = c.close_stations.ensures.rest config shared (stations_may state config (g.B.Bay.state c.args.bay.now) c.args.rack can) in
     λ k v at out. out_there state g.B.Part.Disk.tells config (g.B.Bay.state c.args.bay.now) c.args.rack can c.close_stations.new.self c.close_pools.new.self is1 c.close_stations.ensures.closed c.close_pools.ensures.images c.close_pools.ensures.spindles
-        k v at (subst (λ w. Rattle.rack.specs.Rests.IsImageOut w.items k) c.close_spindles.ensures.images out)
+    k v at (subst (λ w. Rattle.rack.specs.Rests.IsImageOut w.items k) c.close_spindles.ensures.images out)
 
 pub returns-clause-home : goal.returns-clause-home
 returns-clause-home g c =
