@@ -10,6 +10,8 @@ mod locks;
 mod pools;
 mod rack;
 mod rest;
+#[cfg(test)]
+mod tests;
 mod volume_fault;
 mod volumes;
 
