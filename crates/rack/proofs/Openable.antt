@@ -290,7 +290,7 @@ module _ {D : Type 0} (state : D → State) (config : Config) (valid : IsValid c
         spindle_volume = ap (λ i. i.base.volume) spindle.own ∙ (locks.spindles id q.0 q.1).volume ∙ sym takes.id;
         spindle_free = spindle.free;
         settled = here.spindles.settled id id o.spindle takes.spindle_was;
-        accesses = ready.accesses id id o.spindle takes.spindle_was;
+        accesses = ready.closable.accesses id id o.spindle takes.spindle_was;
         all = recursion_from_All (HoldsOwned o.owned.items) o.lanes.items (λ j d below. holds_owned (get_or o.lanes.items j d) (lanes_taken j d below));
         at = record {
           spindle_in = let v = r.shared.spindles.ok.0 in let i = takes.id in omega (arith, spindle_in, v, i);

@@ -17,9 +17,6 @@ use Rattle.log_segment.specs.declared.free.FreeSegment.{FreeSegment}
 use Rattle.seg_pool.specs.Holders.{holder}
 use Rattle.seg_pool.specs.declared.base.PoolBase.{PoolBase}
 use Rattle.seg_pool.specs.declared.pool.Pool.{Pool}
-use Rattle.spin_model.specs.declared.spindle.Spindle.{Spindle}
-use Rattle.spin_model.specs.declared.spindle.SpindleBase.{SpindleBase}
-use Rattle.logger.specs.Lanes.{AreAccesses}
 use Rattle.spin_model.specs.Spun.{state_of}
 use Rattle.spin_model.specs.declared.spun.Spun.{Spun}
 use Rattle.manager.specs.declared.station.Station.{Station}
@@ -28,7 +25,7 @@ use Rattle.volume_images.specs.Accepted.{HasHead, IsConfigured, IsAccepted, head
 use Rattle.volume_images.specs.Formatted.{part_sizes}
 use Rattle.volume_images.specs.Left.{IsTold, AreNamedApart}
 use Rattle.volume_images.specs.Volumes.{shape_in, shapes_of, MayLeave}
-use Rattle.rack.specs.Rests.{image_here, segment_here, pool_pass, spindle_pass, held_here, IsImageOut, IsImageRest}
+use Rattle.rack.specs.Rests.{image_here, segment_here, pool_pass, held_here, IsImageOut, IsImageRest}
 use Rattle.rack.specs.Parts.{holder_by}
 use Rattle.rack.specs.Racks.{IsClosable, NamesVolumes, IsUnused, AreUnused}
 use Rattle.rack.specs.Closing.{IsComplete}
@@ -221,7 +218,6 @@ pub record IsOpeningRack {D : Type 0} (state : D → State) (config : Config) (b
   pub pools : BeganAsSaid r.shared.pools.items said
   pub said_count : length said ≡ length (shapes_of config)
   pub unheld : (v k : ℕ) → held_here r.rest v k ≡ []
-  pub accesses : (v k : ℕ) (p : PassOf Spindle SpindleBase) → spindle_pass r.rest v k ≡ Some p → AreAccesses (pass_mine p)
   pub owners : AreOwnersHere state said r
   pub untouched : AreUntouched state (length (shapes_of config)) n said r.rest
 
