@@ -63,3 +63,4 @@ pub mod QuietClosed
 pub mod FirstRest
 pub mod FirstOpening
 pub mod OthersAccess
+pub mod OpenedInTurn
