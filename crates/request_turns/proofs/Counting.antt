@@ -115,7 +115,7 @@ module _ (worth : Bool → Look → Look → ℕ) (pass : ℕ) where
   added_joined l [] ys = omega arith
   added_joined l (x ∷ xs) ys = let rest = added_joined x.look xs ys in omega (arith, rest)
 
-  others_nothing : (l : Look) (es : List Entry) → own pass es ≡ [] → added_up worth pass l (notes_of es) ≡ 0
+  pub others_nothing : (l : Look) (es : List Entry) → own pass es ≡ [] → added_up worth pass l (notes_of es) ≡ 0
   others_nothing l [] none = refl
   others_nothing l (e ∷ es) none = by (λ further. others_nothing (noted_of e.0 e.1).look es further) (e.0 == pass) refl
     where

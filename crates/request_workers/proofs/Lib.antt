@@ -7,3 +7,4 @@ pub mod HelpTurn
 pub mod Moving
 pub mod Stationed
 pub mod Counted
+pub mod Totals
