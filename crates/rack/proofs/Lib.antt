@@ -55,3 +55,5 @@ pub mod HeldSegments
 pub mod FinalImages
 pub mod FirstRest
 pub mod FirstOpening
+mod TakenOut
+mod TakenReady

@@ -78,7 +78,13 @@ fn each_refused_volume_has_its_fault(rt: HostRuntime) -> Result<(), Fail> {
     let opened = open_and_close(&rt, rt.alloc(), &mut bay, &other, &faults);
     assert_eq!(rt; opened, Some((true, 0, 3)));
     bay.plan("a", 0, 0)?;
-    let opened = open_and_close(&rt, rt.alloc(), &mut bay, &config, &[Some(VolumeFault::LabelFault), None]);
+    let opened = open_and_close(
+        &rt,
+        rt.alloc(),
+        &mut bay,
+        &config,
+        &[Some(VolumeFault::LabelFault), None],
+    );
     assert_eq!(rt; opened, Some((true, 1, 2)));
     Ok(())
 }

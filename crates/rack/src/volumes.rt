@@ -9,7 +9,6 @@ ghost use Rattle.rack.specs.Rests.{image_here, segment_here, spindle_pass};
 ghost use Rattle.rack.specs.Parts.{CanPutLanes, PutsLanes, IsUsablePlace, IsNewLane, TakesPasses, TakesOneLane, TakesLanes, IsSameRest, loggers_out, segments_of, owned_in, TakesOwnedOf, CanTakeOwnedOf, AreOwnedHere, TakesOwned, HasPlace, ChangesHome, CanTake, TakesOpening, owned_total, count_owners, AreOwnersHere, TakesOwners, TakesOne, is_owned_by};
 ghost use Rattle.rack.specs.declared.rack.ImageRest.{ImageRest};
 ghost use Rattle.rack.specs.declared.rack.Rest.{Rest};
-
 ghost use Rattle.std.specs.Prelude.{◌≡◌, IfOk, IfErr};
 ghost use Rattle.manager_recovery.specs.Opening.{CanOpen};
 ghost use Rattle.manager_recovery.specs.declared.opening.Opening.{Opening};
@@ -20,8 +19,7 @@ use crate::heads_said::{Said, is_owned_by};
 use crate::rack::{ImageRest, Rack, Rest};
 use crate::rest::take_home;
 use log_layout::{Label, SegHead, View};
-use logger::Lane;
-use logger::Shared;
+use logger::{Lane, Shared};
 use manager::{Manager, Station};
 use manager_recovery::{OpenRefusal, Opening, OwnedPart, open_volume};
 use spin_model::{Spindle, Spun};
@@ -422,7 +420,8 @@ impl<D: Disk> Rack<D> {
                 return Err(NoMemory);
             }
         };
-        let (Some(keeper), Some(helper), Some(worker)) = (passes.pop(), passes.pop(), passes.pop()) else {
+        let (Some(keeper), Some(helper), Some(worker)) = (passes.pop(), passes.pop(), passes.pop())
+        else {
             unreachable!()
         };
         self.rest.rooms.managers.push_reserved(passes);
