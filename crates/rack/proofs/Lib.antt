@@ -63,4 +63,5 @@ pub mod QuietClosed
 pub mod FirstRest
 pub mod FirstOpening
 pub mod OthersAccess
-pub mod OpenedInTurn
+pub mod TakenOut
+pub mod TakenReady
