@@ -1,20 +1,19 @@
-//! All volumes of a bay: their images are formatted, and opened one by one.
+//! All volumes of a bay: what opening them takes, and how they are closed together.
 #![tactic(auto)]
 
-mod attach;
-mod content;
-mod fault;
-mod formatting;
-mod heads;
-mod image;
-mod laws;
-mod opening;
-mod part;
-mod parts;
-mod reading;
-#[cfg(test)]
-mod tests;
+mod all;
+mod closing;
+mod heads_said;
+mod images;
+mod lists;
+mod locks;
+mod pools;
+mod rack;
+mod rest;
+mod volume_fault;
+mod volumes;
 
-pub use fault::{PartName, RackFault};
-pub use formatting::format;
-pub use laws::opening_laws;
+pub use closing::close_all;
+pub use rack::Rack;
+pub use volume_fault::VolumeFault;
+pub use volume_images::{PartName, RackFault, format};

@@ -4,10 +4,10 @@ use Rattle.std.specs.Prelude.{codes}
 use Rattle.wol_disk.specs.Disk.{Rose}
 use Rattle.wol_bay.specs.Bay.{BayState}
 use Rattle.wol_config.specs.declared.config.Config.{Config}
-use Rattle.rack.specs.declared.fault.PartName.{PartName}
-use Rattle.rack.specs.declared.fault.PartName.TheVariants as part
-use Rattle.rack.specs.declared.fault.RackFault.{RackFault}
-use Rattle.rack.specs.declared.fault.RackFault.TheVariants.{Failed, NoMemory}
+use Rattle.volume_images.specs.declared.fault.PartName.{PartName}
+use Rattle.volume_images.specs.declared.fault.PartName.TheVariants as part
+use Rattle.volume_images.specs.declared.fault.RackFault.{RackFault}
+use Rattle.volume_images.specs.declared.fault.RackFault.TheVariants.{Failed, NoMemory}
 use Rattle.report.specs.declared.fault.Fault.{Fault}
 use Rattle.report.specs.declared.fault.Fault.TheVariants as fault
 use Rattle.report.specs.Faults.{fault_text, status_of}

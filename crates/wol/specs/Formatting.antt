@@ -5,13 +5,13 @@ use Rattle.wol_disk.specs.Disk.{Rose}
 use Rattle.wol_bay.specs.Bay.{BayState}
 use Rattle.wol_model.specs.Images.{image_size}
 use Rattle.wol_config.specs.declared.config.Config.{Config}
-use Rattle.rack.specs.Left.{IsTold}
-use Rattle.rack.specs.Volumes.{shape_in}
-use Rattle.rack.specs.Formats.{LeavesImages, LeavesSound, LeavesZeros, LosesNone}
-use Rattle.rack.specs.declared.fault.PartName.{PartName}
-use Rattle.rack.specs.declared.fault.PartName.TheVariants as part
-use Rattle.rack.specs.declared.fault.RackFault.{RackFault}
-use Rattle.rack.specs.declared.fault.RackFault.TheVariants.{Failed, NoMemory}
+use Rattle.volume_images.specs.Left.{IsTold}
+use Rattle.volume_images.specs.Volumes.{shape_in}
+use Rattle.volume_images.specs.Formats.{LeavesImages, LeavesSound, LeavesZeros, LosesNone}
+use Rattle.volume_images.specs.declared.fault.PartName.{PartName}
+use Rattle.volume_images.specs.declared.fault.PartName.TheVariants as part
+use Rattle.volume_images.specs.declared.fault.RackFault.{RackFault}
+use Rattle.volume_images.specs.declared.fault.RackFault.TheVariants.{Failed, NoMemory}
 use Rattle.report.specs.declared.fault.Fault.{Fault}
 use Rattle.report.specs.declared.fault.Fault.TheVariants as fault
 use Rattle.report.specs.declared.trouble.Trouble.{Trouble}

@@ -4,7 +4,7 @@ ghost use Rattle.wol_disk.specs.Disk.{Rose};
 ghost use Rattle.wol_model.specs.Heads.{IsShape};
 ghost use Rattle.wol_model.specs.Images.{image_size};
 ghost use Rattle.wol_config.specs.Configs.{IsValid};
-ghost use Rattle.rack.specs.Volumes.{shape_in};
+ghost use Rattle.volume_images.specs.Volumes.{shape_in};
 ghost use Rattle.solo.specs.Images.{NoneOut};
 ghost use Rattle.wol.specs.Formatting.{RunsFormat, fault_of, format_lines, trouble_of};
 

@@ -1,7 +1,7 @@
 use Rattle.std.proofs.Common.{◌≡◌, take}
 use Rattle.std.specs.List.{flat_map}
 use Rattle.wol_model.specs.Images.{image_size}
-use Rattle.rack.specs.Volumes.{shape_in}
+use Rattle.volume_images.specs.Volumes.{shape_in}
 use Rattle.report.specs.Summaries.{format_text}
 use Rattle.wol.proofs.formatting.lines_of.Given as goal
 

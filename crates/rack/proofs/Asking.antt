@@ -1,0 +1,264 @@
+-- The images of a configuration that are asked for one after the other.
+use Rattle.std.proofs.Common.{◌≡◌, ◌≢◌, ◌⊎◌, inl, inr, ⊎_elim, ℕ, zero, suc, ◌+◌, ◌-◌, ◌^◌, ◌<◌, ◌≤◌, Bool, true, false, List, [], ◌∷◌, ◌++◌, length, map, get_or, Option, None, Some, option_map, IfSome, Result, Ok, Err, IfOk, IfErr, refl, sym, ap, ◌∙◌, subst, arith, append_assoc}
+use Rattle.std.specs.Prelude.{slice_get, IsSome, IsTrue, is_some}
+use Rattle.std.specs.Str.{bytes_eq}
+use Rattle.std.proofs.lemmas.Bool.{cases_lt}
+use Rattle.std.proofs.lemmas.List.{get_or_append_left, get_or_push, get_or_past, length_push, get_or_default}
+use Rattle.std.proofs.lemmas.Option.{none-some, same_Some, slice_get_within, slice_get-map, get_or_from_slice_get}
+use Rattle.std.proofs.lemmas.Slice.Eq.{bytes_eq-Decides}
+use Rattle.wol_disk.specs.Disk.{Block, State, Rose, reads}
+use Rattle.wol_model.specs.Heads.{Shape}
+use Rattle.wol_bay.specs.Bay.{Name, Image, Told, BayState, at_name, without, outs, sent_out}
+use Rattle.wol_bay.specs.Refusals.{refusal, refusal_of}
+use Rattle.wol_bay.specs.declared.fault.BayFault.{BayFault}
+use Rattle.wol_bay.proofs.NameLists.{without_none}
+use Rattle.wol_config.specs.Configs.{IsValid}
+use Rattle.wol_config.specs.declared.config.Config.{Config}
+use Rattle.wol_config.specs.declared.config.VolumeConf.{VolumeConf}
+use Rattle.volume_images.specs.Formatted.{part_sizes}
+use Rattle.volume_images.specs.Left.{AreNamedApart, IsTold}
+use Rattle.volume_images.specs.Refusals.{IsCallFault}
+use Rattle.volume_images.specs.Volumes.{shape_in, shapes_of, MayLeave}
+use Rattle.volume_images.proofs.NamedApart.{other_gone, second_gone}
+use Rattle.volume_images.proofs.Refused.{rose_since}
+use Rattle.rack.specs.Rests.{image_here, IsImageOut}
+use Rattle.rack.specs.Making.{AreNewImages, PushesImage}
+use Rattle.rack.specs.Opens.{out_names, RefusesVolume, RefusesImage}
+use Rattle.rack.specs.Opening.{said_at, fault_at, IsRefused, IsOut, WasAtEntry, AreAsked, IsNextOpened, IsNextRefused, StayedAs, StayedSo, HasSentOut, LeavesNoMore}
+use Rattle.rack.specs.declared.heads_said.Said.{Said}
+use Rattle.rack.specs.declared.images.Images.{Images}
+use Rattle.rack.specs.declared.rack.ImageRest.{ImageRest}
+use Rattle.rack.specs.declared.volume_fault.VolumeFault.{VolumeFault}
+use Rattle.rack.specs.declared.volume_fault.VolumeFault.TheVariants.{Absent, WrongLength, Refused, LabelFault, BayFailed}
+
+-- ---- One more at the end of a list
+
+module _ {A : Type 0} (xs : List (Option A)) (y : Option A) (n : ℕ) (count : length xs ≡ n) where
+  pub at_less : (k : ℕ) → k < n → get_or (xs ++ y ∷ []) k None ≡ get_or xs k None
+  at_less k lt = get_or_append_left xs (y ∷ []) None k (omega (arith, lt, count))
+
+  pub at_new : get_or (xs ++ y ∷ []) n None ≡ y
+  at_new = get_or_push xs y None n count
+
+  -- what is there now was there, or is the new one
+  pub push_cases : (k : ℕ) (x : A) → get_or (xs ++ y ∷ []) k None ≡ Some x → ((k < n) × (get_or xs k None ≡ Some x)) ⊎ ((k ≡ n) × (y ≡ Some x))
+  push_cases k x at =
+      ⊎_elim
+      (λ (less : k < n). inl (less, sym (at_less k less) ∙ at))
+      (λ (more : n ≤ k).
+      ⊎_elim
+      (λ (here : k < n + 1).
+      let e : k ≡ n = omega (arith, more, here) in
+      inr (e, sym at_new ∙ sym (ap (λ (j : ℕ). get_or (xs ++ y ∷ []) j None) e) ∙ at))
+      (λ (past : n + 1 ≤ k). absurd (none-some x (sym (get_or_past (xs ++ y ∷ []) k None (omega (arith, past, count, length_push xs y))) ∙ at)))
+      (cases_lt k (n + 1)))
+      (cases_lt k n)
+
+pub some_at : {A : Type 0} (xs : List A) (k : ℕ) → k < length xs → (x : A) × (slice_get xs k ≡ Some x)
+some_at [] k lt = absurd (omega (arith, lt))
+some_at (x ∷ xs) zero lt = (x, refl)
+some_at (x ∷ xs) (suc k) lt = some_at xs k (omega (arith, lt))
+
+-- what is there stays there
+pub still_there : {A : Type 0} (xs : List (Option A)) (y : Option A) (k : ℕ) → IsSome (get_or xs k None) → IsSome (get_or (xs ++ y ∷ []) k None)
+still_there xs y k there =
+    ⊎_elim
+    (λ (less : k < length xs). ap is_some (at_less xs y (length xs) refl k less) ∙ there)
+    (λ (past : length xs ≤ k). let none : is_some (get_or xs k None) ≡ false = ap is_some (get_or_past xs k None past) in absurd (cc (there, none)))
+    (cases_lt k (length xs))
+
+-- ---- Faults that rise
+
+pub rose_on : (a b c : ℕ) → Rose a b → b ≤ c → Rose a c
+rose_on a b c rose le = ⊎_elim (λ (lt : a < b). inl (omega (arith, lt, le))) (λ (top : 2 ^ 64 - 1 ≤ b). inr (omega (arith, top, le))) rose
+
+-- the name has the image that it had
+abbrev pub SameAt : Name → Told → Told → Type 0
+SameAt name old new = AreNamedApart new × (at_name name new.images ≡ at_name name old.images)
+
+module _ {D : Type 0} (tells : Bool) (state : D → State) (config : Config) where
+  image_later : (out : List (Option (ImageRest D))) (b b1 b2 : BayState) (k : ℕ) (v : VolumeConf) (f : VolumeFault) → b1.faults ≤ b2.faults → RefusesImage config out b b1 k v f → RefusesImage config out b b2 k v f
+  image_later out b b1 b2 k v f le r = record { not_out = r.not_out; image_fault = r.image_fault; is_fault = r.is_fault; said = r.said; cause = λ call. rose_on b.faults b1.faults b2.faults (r.cause call) le }
+
+  -- a cause stays one while the bay goes on
+  pub refuses_later : (out : List (Option (ImageRest D))) (b b1 b2 : BayState) (k : ℕ) (v : VolumeConf) (f : VolumeFault) → b1.faults ≤ b2.faults → RefusesVolume tells state config out b b1 k v f → RefusesVolume tells state config out b b2 k v f
+  refuses_later out b b1 b2 k v Absent le r = r
+  refuses_later out b b1 b2 k v (WrongLength bytes) le r = r
+  refuses_later out b b1 b2 k v BayFailed le r = (r.0, rose_on b.faults b1.faults b2.faults r.1 le)
+  refuses_later out b b1 b2 k v LabelFault le r = image_later out b b1 b2 k v LabelFault le r
+  refuses_later out b b1 b2 k v (Refused f) le r = ⊎_elim (λ i. inl (image_later out b b1 b2 k v (Refused f) le i)) (λ o. inr o) r
+
+  bay_since : (name : Name) (sizes : List ℕ) (answer : Option BayFault) (o o1 : Option Told) → IsTold (SameAt name) o o1 → IfSome o1 (λ t. AreNamedApart t → refusal name sizes t ≡ answer)
+      → IfSome o (λ t. AreNamedApart t → refusal name sizes t ≡ answer)
+  bay_since name sizes answer None o1 same h = tt
+  bay_since name sizes answer (Some t) None same h = absurd same
+  bay_since name sizes answer (Some t) (Some t1) same h = λ apart. let both = same apart in ap (refusal_of sizes) (sym both.1) ∙ h both.0
+
+  told_there : (name : Name) (t : Told) (o o1 : Option Told) → o ≡ Some t → IsTold (SameAt name) o o1 → AreNamedApart t → (t1 : Told) × (o1 ≡ Some t1) × SameAt name t t1
+  told_there name t o o1 e same apart = go o1 (subst (λ (x : Option Told). IsTold (SameAt name) x o1) e same)
+    where
+      go : (x : Option Told) → IsTold (SameAt name) (Some t) x → (t1 : Told) × (x ≡ Some t1) × SameAt name t t1
+      go None s = absurd s
+      go (Some t1) s = (t1, refl, s apart)
+
+  image_since : (b b1 b2 : BayState) (k : ℕ) (v : VolumeConf) (f : VolumeFault) → IsTold (SameAt v.name) b.told b1.told → b.faults ≤ b1.faults → RefusesImage {D = D} config [] b1 b2 k v f → RefusesImage {D = D} config [] b b2 k v f
+  image_since b b1 b2 k v f same le r = record {
+    not_out = r.not_out;
+    image_fault = r.image_fault;
+    is_fault = r.is_fault;
+    said = λ t i told apart at. let then = told_there v.name t b.told b1.told told same apart in r.said then.0 i then.1 then.2.0 (then.2.1 ∙ at);
+    cause = λ call. rose_since b.faults b1.faults b2.faults le (r.cause call);
+  }
+
+  -- and was one before
+  pub refuses_since : (b b1 b2 : BayState) (k : ℕ) (v : VolumeConf) (f : VolumeFault) → IsTold (SameAt v.name) b.told b1.told → b.faults ≤ b1.faults → RefusesVolume {D = D} tells state config [] b1 b2 k v f → RefusesVolume {D = D} tells state config [] b b2 k v f
+  refuses_since b b1 b2 k v Absent same le r = (r.0, bay_since v.name (part_sizes (shape_in config v)) _ b.told b1.told same r.1)
+  refuses_since b b1 b2 k v (WrongLength bytes) same le r = (r.0, bay_since v.name (part_sizes (shape_in config v)) _ b.told b1.told same r.1)
+  refuses_since b b1 b2 k v BayFailed same le r = ((r.0.0, bay_since v.name (part_sizes (shape_in config v)) _ b.told b1.told same r.0.1), rose_since b.faults b1.faults b2.faults le r.1)
+  refuses_since b b1 b2 k v LabelFault same le r = image_since b b1 b2 k v LabelFault same le r
+  refuses_since b b1 b2 k v (Refused f) same le r = ⊎_elim (λ i. inl (image_since b b1 b2 k v (Refused f) same le i)) (λ o. absurd (let out : false ≡ true = o.is_out in cc)) r
+
+  -- ---- One image more
+
+  module _ (b b1 b2 : BayState) (n : ℕ) (i1 i2 : Images D) (v : VolumeConf) (at : slice_get config.volumes.items n ≡ Some v)
+      (asked : AreAsked tells state config b b1 n i1) (same : IsTold (SameAt v.name) b.told b1.told) (le : b.faults ≤ b1.faults) where
+    same_volume : (k : ℕ) (w : VolumeConf) → k ≡ n → slice_get config.volumes.items k ≡ Some w → v ≡ w
+    same_volume k w e found = same_Some v w (sym at ∙ sym (ap (λ (j : ℕ). slice_get config.volumes.items j) e) ∙ found)
+
+    same_shape : (k : ℕ) (s : Shape) → k ≡ n → slice_get (shapes_of config) k ≡ Some s → shape_in config v ≡ s
+    same_shape k s e found =
+        same_Some (shape_in config v) s (sym (ap (option_map (shape_in config)) at) ∙ sym (slice_get-map (shape_in config) config.volumes.items n) ∙ sym (ap (λ (j : ℕ). slice_get (shapes_of config) j) e) ∙ found)
+
+    refused_before : (k : ℕ) (w : VolumeConf) → b1.faults ≤ b2.faults → said_at i2.said.items k ≡ said_at i1.said.items k → fault_at i2.faults.items k ≡ fault_at i1.faults.items k
+        → IsRefused tells state config b b1 k w i1 → IsRefused tells state config b b2 k w i2
+    refused_before k w later said fault r = record { unsaid = said ∙ r.unsaid; fault = r.fault; fault_is = fault ∙ r.fault_is; refuses = refuses_later [] b b1 b2 k w r.fault later r.refuses }
+
+    out_before : (k : ℕ) (s : Shape) (r : ImageRest D) → said_at i2.said.items k ≡ said_at i1.said.items k → fault_at i2.faults.items k ≡ fault_at i1.faults.items k
+        → IsOut state (length (shapes_of config)) k s i1 r → IsOut state (length (shapes_of config)) k s i2 r
+    out_before k s r said fault o = record { said = o.said; said_is = said ∙ o.said_is; no_fault = fault ∙ o.no_fault; rest = o.rest; all = o.all; says = o.says; heads = o.heads }
+
+    -- the next image is out
+    pub asked_opened : (said : Said) (r : ImageRest D) → PushesImage i1 i2 (Ok (said, r)) → IsNextOpened tells state config n v b1 b2 said r → AreAsked tells state config b b2 (n + 1) i2
+    asked_opened said r pushes next = record {
+      said_count = ap (λ l. length l) pushes.said.0 ∙ length_push i1.said.items (Some said) ∙ ap (λ m. m + 1) asked.said_count;
+      out_count = ap (λ l. length l) pushes.out.0 ∙ length_push i1.out.items (Some r) ∙ ap (λ m. m + 1) asked.out_count;
+      fault_count = ap (λ l. length l) pushes.faults.0 ∙ length_push i1.faults.items None ∙ ap (λ m. m + 1) asked.fault_count;
+      refused = λ k w lt found none.
+          let none_now : get_or (i1.out.items ++ Some r ∷ []) k None ≡ None = sym (ap (λ l. get_or l k None) pushes.out.0) ∙ none in
+          ⊎_elim
+          (λ (less : k < n). refused_before k w next.counts (said_less k less) (fault_less k less) (asked.refused k w less found (sym (at_less i1.out.items (Some r) n asked.out_count k less) ∙ none_now)))
+          (λ (more : n ≤ k).
+          let e : k ≡ n = omega (arith, more, lt) in
+          absurd (none-some r (sym none_now ∙ ap (λ (j : ℕ). get_or (i1.out.items ++ Some r ∷ []) j None) e ∙ at_new i1.out.items (Some r) n asked.out_count)))
+          (cases_lt k n);
+      out = λ k s q shape here.
+          ⊎_elim
+          (λ was. out_before k s q (said_less k was.0) (fault_less k was.0) (asked.out k s q shape was.1))
+          (λ now.
+          let is : r ≡ q = same_Some r q now.1 in
+          let O : ℕ → Shape → ImageRest D → Type 0 = λ j t x. IsOut state (length (shapes_of config)) j t i2 x in
+          subst (λ (j : ℕ). O j s q) (sym now.0) (subst (λ (t : Shape). O n t q) (same_shape k s now.0 shape) (subst (λ (x : ImageRest D). O n (shape_in config v) x) is opened)))
+          (push_cases i1.out.items (Some r) n asked.out_count k q (sym (ap (λ l. get_or l k None) pushes.out.0) ∙ here));
+      entry = λ telling t told apart k w own q found says here.
+          ⊎_elim
+          (λ was. asked.entry telling t told apart k w own q found (sym (said_less k was.0) ∙ says) was.1)
+          (λ now.
+          let is : r ≡ q = same_Some r q now.1 in
+          let says_n : Some said ≡ Some own = sym said_new ∙ sym (ap (λ (j : ℕ). said_at i2.said.items j) now.0) ∙ says in
+          let then = told_there v.name t b.told b1.told told same apart in
+          let new = next.entry telling then.0 then.1 then.2.0 in
+          let was_there : WasAtEntry state config t n v said r = record { image = new.image; there = sym then.2.1 ∙ new.there; says = new.says; cut = new.cut } in
+          let W : ℕ → VolumeConf → Said → ImageRest D → Type 0 = λ j u y x. WasAtEntry state config t j u y x in
+          subst (λ (j : ℕ). W j w own q) (sym now.0) (subst (λ (u : VolumeConf). W n u own q) (same_volume k w now.0 found) (subst (λ (y : Said). W n v y q) (same_Some said own says_n) (subst (λ (x : ImageRest D). W n v said x) is was_there))))
+          (push_cases i1.out.items (Some r) n asked.out_count k q (sym (ap (λ l. get_or l k None) pushes.out.0) ∙ here));
+    }
+      where
+        said_less : (k : ℕ) → k < n → said_at i2.said.items k ≡ said_at i1.said.items k
+        said_less k less = ap (λ l. get_or l k None) pushes.said.0 ∙ at_less i1.said.items (Some said) n asked.said_count k less
+
+        fault_less : (k : ℕ) → k < n → fault_at i2.faults.items k ≡ fault_at i1.faults.items k
+        fault_less k less = ap (λ l. get_or l k None) pushes.faults.0 ∙ at_less i1.faults.items None n asked.fault_count k less
+
+        said_new : said_at i2.said.items n ≡ Some said
+        said_new = ap (λ l. get_or l n None) pushes.said.0 ∙ at_new i1.said.items (Some said) n asked.said_count
+
+        opened : IsOut state (length (shapes_of config)) n (shape_in config v) i2 r
+        opened = record {
+          said = said;
+          said_is = said_new;
+          no_fault = ap (λ l. get_or l n None) pushes.faults.0 ∙ at_new i1.faults.items None n asked.fault_count;
+          rest = next.rest;
+          all = next.all;
+          says = next.says;
+          heads = next.heads;
+        }
+
+    -- the next image was refused
+    pub asked_refused : (fault : VolumeFault) → PushesImage i1 i2 (Err fault) → IsNextRefused tells state config n v b1 b2 fault → AreAsked tells state config b b2 (n + 1) i2
+    asked_refused fault pushes next = record {
+      said_count = ap (λ l. length l) pushes.said.0 ∙ length_push i1.said.items None ∙ ap (λ m. m + 1) asked.said_count;
+      out_count = ap (λ l. length l) pushes.out.0 ∙ length_push i1.out.items None ∙ ap (λ m. m + 1) asked.out_count;
+      fault_count = ap (λ l. length l) pushes.faults.0 ∙ length_push i1.faults.items (Some fault) ∙ ap (λ m. m + 1) asked.fault_count;
+      refused = λ k w lt found none.
+          let none_now : get_or (i1.out.items ++ None ∷ []) k None ≡ None = sym (ap (λ l. get_or l k None) pushes.out.0) ∙ none in
+          ⊎_elim
+          (λ (less : k < n). refused_before k w next.counts (said_less k less) (fault_less k less) (asked.refused k w less found (sym (at_less i1.out.items None n asked.out_count k less) ∙ none_now)))
+          (λ (more : n ≤ k).
+          let e : k ≡ n = omega (arith, more, lt) in
+          let R : ℕ → VolumeConf → Type 0 = λ j u. IsRefused tells state config b b2 j u i2 in
+          subst (λ (j : ℕ). R j w) (sym e) (subst (λ (u : VolumeConf). R n u) (same_volume k w e found) now_refused))
+          (cases_lt k n);
+      out = λ k s q shape here.
+          ⊎_elim
+          (λ was. out_before k s q (said_less k was.0) (fault_less k was.0) (asked.out k s q shape was.1))
+          (λ now. absurd (none-some q now.1))
+          (push_cases i1.out.items None n asked.out_count k q (sym (ap (λ l. get_or l k None) pushes.out.0) ∙ here));
+      entry = λ telling t told apart k w own q found says here.
+          ⊎_elim
+          (λ was. asked.entry telling t told apart k w own q found (sym (said_less k was.0) ∙ says) was.1)
+          (λ now. absurd (none-some q now.1))
+          (push_cases i1.out.items None n asked.out_count k q (sym (ap (λ l. get_or l k None) pushes.out.0) ∙ here));
+    }
+      where
+        said_less : (k : ℕ) → k < n → said_at i2.said.items k ≡ said_at i1.said.items k
+        said_less k less = ap (λ l. get_or l k None) pushes.said.0 ∙ at_less i1.said.items None n asked.said_count k less
+
+        fault_less : (k : ℕ) → k < n → fault_at i2.faults.items k ≡ fault_at i1.faults.items k
+        fault_less k less = ap (λ l. get_or l k None) pushes.faults.0 ∙ at_less i1.faults.items (Some fault) n asked.fault_count k less
+
+        now_refused : IsRefused tells state config b b2 n v i2
+        now_refused = record {
+          unsaid = ap (λ l. get_or l n None) pushes.said.0 ∙ at_new i1.said.items None n asked.said_count;
+          fault = fault;
+          fault_is = ap (λ l. get_or l n None) pushes.faults.0 ∙ at_new i1.faults.items (Some fault) n asked.fault_count;
+          refuses = refuses_since b b1 b2 n v fault same le next.refuses;
+        }
+
+    pub asked_more : (opened : Result (Said × ImageRest D) VolumeFault) → PushesImage i1 i2 opened → IfOk opened (λ pair. (w : VolumeConf) → slice_get config.volumes.items n ≡ Some w → IsNextOpened tells state config n w b1 b2 pair.0 pair.1)
+        → IfErr opened (λ fault. (w : VolumeConf) → slice_get config.volumes.items n ≡ Some w → IsNextRefused {D = D} tells state config n w b1 b2 fault) → AreAsked tells state config b b2 (n + 1) i2
+    asked_more (Ok pair) pushes ok err = asked_opened pair.0 pair.1 pushes (ok v at)
+    asked_more (Err fault) pushes ok err = asked_refused fault pushes (err v at)
+
+  -- the faults of the bay may go on
+  pub asked_later : (b b1 b2 : BayState) (n : ℕ) (i : Images D) → b1.faults ≤ b2.faults → AreAsked tells state config b b1 n i → AreAsked tells state config b b2 n i
+  asked_later b b1 b2 n i le asked = record {
+    said_count = asked.said_count;
+    out_count = asked.out_count;
+    fault_count = asked.fault_count;
+    refused = λ k w lt found none. let r = asked.refused k w lt found none in record { unsaid = r.unsaid; fault = r.fault; fault_is = r.fault_is; refuses = refuses_later [] b b1 b2 k w r.fault le r.refuses };
+    out = asked.out;
+    entry = asked.entry;
+  }
+
+  -- before the first
+  pub none_asked : (b : BayState) (volumes : ℕ) (i : Images D) → AreNewImages volumes i → AreAsked tells state config b b 0 i
+  none_asked b volumes i new =
+      let none : (k : ℕ) (r : ImageRest D) → image_here i.out.items k ≡ Some r → ⊥ = λ k r here. none-some r (sym (ap (λ (l : List (Option (ImageRest D))). get_or l k None) new.out.0) ∙ here) in
+      record {
+        said_count = ap (λ (l : List (Option Said)). length l) new.said.0;
+        out_count = ap (λ (l : List (Option (ImageRest D))). length l) new.out.0;
+        fault_count = ap (λ (l : List (Option VolumeFault)). length l) new.faults.0;
+        refused = λ k w lt found none_here. absurd (omega (arith, lt));
+        out = λ k s r shape here. absurd (none k r here);
+        entry = λ telling t told apart k w own r found says here. absurd (none k r here);
+      }

@@ -1,0 +1,113 @@
+-- An image that was refused, and is in its bay.
+use Rattle.std.proofs.Common.{◌≡◌, ◌≢◌, ◌⊎◌, inl, inr, ⊎_elim, ℕ, ◌≤◌, Bool, List, [], length, Option, None, Some, option_map, IfSome, Err, refl, sym, ap, ◌∙◌, subst}
+use Rattle.std.specs.Prelude.{IsErrOf}
+use Rattle.wol_disk.specs.Disk.{Block, State, Rose, IsImage, reads}
+use Rattle.wol_model.specs.Heads.{Shape}
+use Rattle.wol_bay.specs.Bay.{Name, Image, Told, BayState, at_name, outs}
+use Rattle.wol_bay.specs.Refusals.{refusal}
+use Rattle.wol_bay.specs.declared.fault.BayFault.{BayFault}
+use Rattle.wol_bay.specs.declared.fault.BayFault.TheVariants as bay
+use Rattle.wol_config.specs.declared.config.Config.{Config}
+use Rattle.wol_config.specs.declared.config.VolumeConf.{VolumeConf}
+use Rattle.volume_images.specs.Accepted.{IsImageFault}
+use Rattle.volume_images.specs.Formatted.{part_sizes}
+use Rattle.volume_images.specs.Left.{AreNamedApart, IsTold}
+use Rattle.volume_images.specs.Refusals.{Refuses, GaveBack, IsCallFault}
+use Rattle.volume_images.specs.Volumes.{shape_in, shapes_of, MayLeave}
+use Rattle.volume_images.specs.declared.opening.ImageRefusal.{ImageRefusal}
+use Rattle.volume_images.specs.declared.opening.ImageRefusal.TheVariants as refusal
+use Rattle.volume_images.specs.declared.reading.ImageFault.{ImageFault}
+use Rattle.volume_images.specs.declared.reading.ImageFault.TheVariants as fault
+use Rattle.rack.specs.Opens.{fault_in_image, fault_of_image, RefusesVolume, RefusesImage}
+use Rattle.rack.specs.Opening.{StayedAs, IsNextRefused}
+use Rattle.rack.specs.declared.rack.ImageRest.{ImageRest}
+use Rattle.rack.specs.declared.volume_fault.VolumeFault.{VolumeFault}
+use Rattle.rack.specs.declared.volume_fault.VolumeFault.TheVariants.{Absent, WrongLength, Refused, LabelFault, BayFailed}
+
+module _ {D : Type 0} (tells : Bool) (state : D → State) (config : Config) (b b' : BayState) (k : ℕ) (v : VolumeConf) where
+  abbrev volumes : ℕ
+  volumes = length (shapes_of config)
+
+  abbrev shape : Shape
+  shape = shape_in config v
+
+  bay_answer : (answer : Option BayFault) (o o' : Option Told) → IsTold (λ old new. (refusal v.name (part_sizes shape) old ≡ answer) × (new ≡ old)) o o' → IfSome o (λ t. AreNamedApart t → refusal v.name (part_sizes shape) t ≡ answer)
+  bay_answer answer None o' h = tt
+  bay_answer answer (Some t) None h = absurd h
+  bay_answer answer (Some t) (Some t') h = λ apart. (h apart).0
+
+  gave : (f : ImageFault) (t : Told) (i : Image) (o o' : Option Told) → IsTold (GaveBack volumes k shape v.name f) o o' → o ≡ Some t → AreNamedApart t → at_name v.name t.images ≡ Some i → IsImageFault volumes k shape (reads i.blocks) f
+  gave f t i None o' h is apart at = absurd (cc is)
+  gave f t i (Some u) None h is apart at = absurd h
+  gave f t i (Some u) (Some u') h is apart at =
+      let same : u ≡ t = cc in
+      let g = h (subst (λ (x : Told). AreNamedApart x) (sym same) apart) in
+      let one : Some g.before ≡ Some i = sym g.there ∙ ap (λ (x : Told). at_name v.name x.images) same ∙ at in
+      let image : g.before ≡ i = cc in
+      subst (λ (x : Image). IsImageFault volumes k shape (reads x.blocks) f) image g.refused
+
+  of_image : (f : ImageFault) → IsTold (GaveBack volumes k shape v.name f) b.told b'.told → (IsCallFault f → Rose b.faults b'.faults) → RefusesImage {D = D} config [] b b' k v (fault_in_image k f)
+  of_image f h cause = record {
+    not_out = refl;
+    image_fault = f;
+    is_fault = refl;
+    said = λ t i told apart at. gave f t i b.told b'.told h told apart at;
+    cause = cause;
+  }
+
+  by_fault : (f : ImageFault) → RefusesImage {D = D} config [] b b' k v (fault_in_image k f) → RefusesVolume {D = D} tells state config [] b b' k v (fault_in_image k f)
+  by_fault (fault.Damaged block) r = inl r
+  by_fault fault.LabelDiffers r = inl r
+  by_fault fault.LabelFault r = r
+  by_fault (fault.SegmentFault index) r = inl r
+
+  -- why the volume is refused
+  pub next_refuses : {T : Type 0} (r : ImageRefusal) (f : VolumeFault) → fault_of_image k r ≡ Some f → IsTold (Refuses volumes k shape v.name r) b.told b'.told
+      → (IsErrOf {T = T} (Err r) refusal.BayFailed → Rose b.faults b'.faults) → ((g : ImageFault) → IsErrOf {T = T} (Err r) (refusal.Fault g) → IsCallFault g → Rose b.faults b'.faults)
+      → RefusesVolume {D = D} tells state config [] b b' k v f
+  next_refuses refusal.Absent f is h bay_cause part_cause = let e : Absent ≡ f = cc in subst (λ (x : VolumeFault). RefusesVolume {D = D} tells state config [] b b' k v x) e (refl, bay_answer (Some bay.Absent) b.told b'.told h)
+  next_refuses (refusal.WrongLength bytes) f is h bay_cause part_cause =
+      let e : WrongLength bytes ≡ f = cc in subst (λ (x : VolumeFault). RefusesVolume {D = D} tells state config [] b b' k v x) e (refl, bay_answer (Some (bay.WrongLength bytes)) b.told b'.told h)
+  next_refuses refusal.BayFailed f is h bay_cause part_cause =
+      let e : BayFailed ≡ f = cc in subst (λ (x : VolumeFault). RefusesVolume {D = D} tells state config [] b b' k v x) e ((refl, bay_answer None b.told b'.told h), bay_cause refl)
+  next_refuses (refusal.Fault g) f is h bay_cause part_cause =
+      let e : fault_in_image k g ≡ f = cc in
+      subst (λ (x : VolumeFault). RefusesVolume {D = D} tells state config [] b b' k v x) e (by_fault g (of_image g h (part_cause g refl)))
+  next_refuses refusal.NoMemory f is h bay_cause part_cause = absurd (cc is)
+
+  may_less : (before after : Image) → after.rest ≡ before.rest → ((c : List Block) → IsImage after.blocks c → IsImage before.blocks c) → (c : Option (List Block)) → MayLeave (Some after) c → MayLeave (Some before) c
+  may_less before after rest images None may = λ none. may (rest ∙ none)
+  may_less before after rest images (Some c) may = (sym rest ∙ may.0, images c may.1)
+
+  stayed : (r : ImageRefusal) (t t' : Told) → Refuses volumes k shape v.name r t t' → AreNamedApart t → StayedAs v.name t t'
+  stayed refusal.Absent t t' h apart = all_stayed t t' h.1 apart
+    where
+      all_stayed : (t t' : Told) → t' ≡ t → AreNamedApart t → StayedAs v.name t t'
+      all_stayed t t' same apart = subst (λ (x : Told). StayedAs v.name t x) (sym same) (record { apart = apart; here = λ c may. may; others = λ other differs. refl })
+  stayed (refusal.WrongLength bytes) t t' h apart = subst (λ (x : Told). StayedAs v.name t x) (sym h.1) (record { apart = apart; here = λ c may. may; others = λ other differs. refl })
+  stayed refusal.BayFailed t t' h apart = subst (λ (x : Told). StayedAs v.name t x) (sym h.1) (record { apart = apart; here = λ c may. may; others = λ other differs. refl })
+  stayed (refusal.Fault f) t t' h apart = record {
+    apart = h.back.apart;
+    here = λ c may.
+        let now : MayLeave (Some h.after) c = subst (λ (i : Option Image). MayLeave i c) h.back.here may in
+        subst (λ (i : Option Image). MayLeave i c) (sym h.there) (may_less h.before h.after h.rest h.images c now);
+    others = h.back.others;
+  }
+  stayed refusal.NoMemory t t' h apart = subst (λ (x : Told). StayedAs v.name t x) (sym h) (record { apart = apart; here = λ c may. may; others = λ other differs. refl })
+
+  pub next_stayed : (r : ImageRefusal) (o o' : Option Told) → IsTold (Refuses volumes k shape v.name r) o o' → IsTold (StayedAs v.name) o o'
+  next_stayed r None o' h = h
+  next_stayed r (Some t) None h = h
+  next_stayed r (Some t) (Some t') h = λ apart. stayed r t t' (h apart) apart
+
+  -- where there is no memory all is as it was
+  pub next_same : (r : ImageRefusal) (o o' : Option Told) → fault_of_image k r ≡ None → IsTold (Refuses volumes k shape v.name r) o o' → IsTold (λ old new. new ≡ old) o o'
+  next_same refusal.Absent o o' is h = absurd (cc is)
+  next_same (refusal.WrongLength bytes) o o' is h = absurd (cc is)
+  next_same refusal.BayFailed o o' is h = absurd (cc is)
+  next_same (refusal.Fault f) o o' is h = absurd (cc is)
+  next_same refusal.NoMemory o o' is h = h
+
+pub untouched : (o : Option Told) → IsTold (λ old new. new ≡ old) o o
+untouched None = refl
+untouched (Some t) = λ apart. refl

@@ -1,0 +1,331 @@
+-- The opening that was taken out may be opened.
+use Rattle.std.proofs.Common.{◌≡◌, ◌≢◌, ⊎_elim, ℕ, zero, suc, ◌+◌, ◌-◌, ◌*◌, ◌^◌, ◌<◌, ◌≤◌, min, Bool, true, false, eqb, List, [], ◌∷◌, length, map, filter, get_or, Option, None, Some, option_map, refl, sym, ap, ◌∙◌, subst, arith}
+use Rattle.std.specs.Prelude.{slice_get, is_some, Contains, All}
+use Rattle.std.specs.List.{AllByRecursion}
+use Rattle.std.proofs.lemmas.Bool.{cases_lt, eq-eqb, eqb-true}
+use Rattle.std.proofs.lemmas.List.{length-map, get_or-map, get_or_past}
+use Rattle.std.proofs.lemmas.List.Elements.{recursion_from_All, Contains-get_or, filter_agree}
+use Rattle.std.proofs.lemmas.Option.{MatchOption-at_some, none-some, same_Some, slice_get-map, slice_get_within, slice_get-get_or, get_or_from_slice_get}
+use Rattle.std.proofs.Math.Nat.{mul-le-mul}
+use Rattle.wol_disk.specs.Disk.{Block, Values, State, IsImageOf, reads}
+use Rattle.wol_disk.proofs.Images.{image_reads}
+use Rattle.wol_model.specs.Heads.{Shape, IsShape, owned_block}
+use Rattle.wol_bay.specs.Bay.{BayState}
+use Rattle.wol_config.specs.Configs.{IsValid}
+use Rattle.wol_config.specs.declared.config.Config.{Config}
+use Rattle.wol_config.specs.declared.config.VolumeConf.{VolumeConf}
+use Rattle.turn_lock.specs.Passes.{lock_id, pass_lock, pass_number, pass_mine}
+use Rattle.turn_lock.specs.declared.lock.TurnLock.{TurnLock}
+use Rattle.turn_lock.specs.declared.pass.PassOf.{PassOf}
+use Rattle.log_layout.specs.Values.{shape_of, segment_head}
+use Rattle.log_layout.specs.declared.segment.SegHead.TheVariants.{Free, Owned}
+use Rattle.log_layout.specs.declared.segment.SegHead.{SegHead}
+use Rattle.seg_pool.specs.Holders.{holder, is_held_by}
+use Rattle.seg_pool.specs.Operations.{holds}
+use Rattle.seg_pool.specs.declared.base.Holder.{Holder}
+use Rattle.seg_pool.specs.declared.base.Holder.TheVariants.{Elsewhere, HeldBy}
+use Rattle.spin_model.specs.Spun.{state_of, volume_of}
+use Rattle.spin_model.specs.declared.spun.Spun.{Spun}
+use Rattle.logger.specs.Lanes.{IsAt, logger_of, pool_of, spindle_of, segments_in, pool_blocks}
+use Rattle.logger.specs.declared.lane.Lane.{Lane}
+use Rattle.manager_recovery.specs.Opening.{IsOpeningLane, IsHeldIn, IsOwned, SaysOwner, HoldsOwned, CanOpen}
+use Rattle.manager_recovery.specs.declared.opening.Opening.{Opening}
+use Rattle.manager_recovery.specs.declared.opening.OwnedPart.{OwnedPart}
+use Rattle.volume_images.specs.Accepted.{HasHead, head_place}
+use Rattle.volume_images.specs.Volumes.{shape_in, shapes_of}
+use Rattle.rack.specs.Owners.{most_of}
+use Rattle.rack.specs.Rests.{image_here, segment_here, pool_pass, spindle_pass, away_with, IsRestBut, IsPart, IsRow}
+use Rattle.rack.specs.Racks.{base_of_station}
+use Rattle.manager.specs.declared.station.Station.{Station}
+use Rattle.rack.specs.Parts.{TakesOpening, IsNewLane, IsTakenOf, loggers_out, segments_of, segment_in, holder_by, holder_said, IsOwnedPlace, IsHomeAway, IsSameBut, with_home}
+use Rattle.rack.specs.Opening.{said_at, IsOpeningRack}
+use Rattle.rack.specs.declared.heads_said.Said.{Said}
+use Rattle.rack.specs.declared.rack.ImageRest.{ImageRest}
+use Rattle.rack.specs.declared.rack.Rack.{Rack}
+use Rattle.rack.specs.declared.rack.Rest.{Rest}
+use Rattle.rack.proofs.Asking.{some_at}
+use Rattle.rack.proofs.Shapes.{valid_shape}
+use Rattle.rack.proofs.Takes.{parts, image_id}
+
+module _ {D : Type 0} (state : D → State) (config : Config) (valid : IsValid config) (b : BayState) (said : List (Option Said)) (id : ℕ) (r : Rack D) (own : Said)
+    (ready : IsOpeningRack state config b said id r) (lt : id < length (shapes_of config)) (at : slice_get said id ≡ Some (Some own)) (view : List ℕ)
+    (new : Rest D) (o : Opening D) (takes : TakesOpening state config r.rest new said id view o) where
+  here : IsRestBut state config r.shared (away_with (map (λ (s : Station D). base_of_station s) r.stations.items)) r.rest
+  here = parts state config valid b said id r own ready lt at
+
+  -- a lane that was taken out
+  record IsTakenLane (l : Lane D) : Type 0 where
+    pub within : logger_of l < length (shapes_of config)
+    pub shape : Shape
+    pub shape_is : slice_get (shapes_of config) (logger_of l) ≡ Some shape
+    pub segments : segments_in l ≡ shape.segments
+    pub blocks : pool_blocks l ≡ shape.segment_blocks
+    pub placed : IsAt r.shared l
+    pub number : pass_number (pool_of l) ≡ id
+    pub unused : pass_mine (pool_of l) ≡ []
+    pub holders : (i : ℕ) → holder (pass_lock (pool_of l)).base.holders i ≡ holder_by (said_at said (logger_of l)) i
+
+  out_within : (k : ℕ) → is_some (image_here r.rest.images.items k) ≡ true → k < length (shapes_of config)
+  out_within k there =
+      ⊎_elim
+      (λ (below : k < length r.rest.images.items). let count = here.images.0 in omega (arith, below, count))
+      (λ (past : length r.rest.images.items ≤ k). let none : is_some (image_here r.rest.images.items k) ≡ false = ap is_some (get_or_past r.rest.images.items k None past) in absurd (cc (none, there)))
+      (cases_lt k (length r.rest.images.items))
+
+  taken_lane : (l : Lane D) → logger_of l < length (shapes_of config) → IsNewLane state r.rest id (segments_of config (logger_of l)) l → IsTakenLane l
+  taken_lane l within is =
+      let k = logger_of l in
+      let locks = ready.closable.locks in
+      let pool_in : k < length r.shared.pools.items = let c = locks.pool_count in omega (arith, within, c) in
+      let spindle_in : k < length r.shared.spindles.items = let c = locks.spindle_count in omega (arith, within, c) in
+      let p = some_at r.shared.pools.items k pool_in in
+      let q = some_at r.shared.spindles.items k spindle_in in
+      let s = some_at (shapes_of config) k within in
+      let lock = locks.pools k s.0 p.0 s.1 p.1 in
+      let pass = here.pools.each id k p.0 (pool_of l) p.1 is.pool in
+      let spindle = here.spindles.each id k q.0 (spindle_of l) q.1 is.spindle in
+      let segments : segments_of config k ≡ s.0.segments = ap count_of s.1 in
+      record {
+        within = within;
+        shape = s.0;
+        shape_is = s.1;
+        segments = is.size ∙ segments;
+        blocks = ap (λ i. i.base.blocks) pass.own ∙ lock.blocks;
+        placed = record {
+          pool_in = let v = r.shared.pools.ok.0 in omega (arith, pool_in, v);
+          spindle_in = let v = r.shared.spindles.ok.0 in omega (arith, spindle_in, v);
+          pool = λ d. pass.own ∙ ap (λ x. lock_id x) (sym (get_or_from_slice_get r.shared.pools.items k p.0 d p.1));
+          spindle = λ d. spindle.own ∙ ap (λ x. lock_id x) (sym (get_or_from_slice_get r.shared.spindles.items k q.0 d q.1));
+        };
+        number = pass.number_is;
+        unused = ready.untouched.passes id k (pool_of l) (omega arith) is.pool;
+        holders = λ i. ap (λ x. holder x.base.holders i) pass.own ∙ ready.pools k i p.0 p.1;
+      }
+    where
+      count_of : Option Shape → ℕ
+      count_of None = 0
+      count_of (Some s) = s.segments
+
+  lane_out : (j : ℕ) (d : Lane D) → j < length o.lanes.items → logger_of (get_or o.lanes.items j d) < length (shapes_of config)
+  lane_out j d below =
+      let loggers = takes.lanes.loggers_are in
+      let long : length (loggers_out r.rest view) ≡ length o.lanes.items = sym (ap (λ (l : List ℕ). length l) loggers) ∙ length-map o.lanes.items logger_of in
+      let same : get_or (loggers_out r.rest view) j 0 ≡ logger_of (get_or o.lanes.items j d) = sym (ap (λ (l : List ℕ). get_or l j 0) loggers) ∙ get_or-map logger_of o.lanes.items j d 0 below in
+      subst (λ (k : ℕ). k < length (shapes_of config)) same (out_within (get_or (loggers_out r.rest view) j 0) (Rattle.std.proofs.lemmas.List.Elements.filter_passes (λ k. is_some (image_here r.rest.images.items k)) view j 0 (omega (arith, below, long))))
+
+  lanes_taken : All IsTakenLane o.lanes.items
+  lanes_taken = λ j d below. taken_lane (get_or o.lanes.items j d) (lane_out j d below) (takes.lanes.each j d below)
+
+  most_fits : (o.most ≤ config.segment_blocks - 2) × ((1 ≤ o.most) × (o.most ≤ 128))
+  most_fits = let e = takes.most in let sb = valid.segment_blocks in (omega (arith, e, sb), (omega (arith, e, sb), omega (arith, e, sb)))
+
+  want_shape : IsShape (shape_of o.want) × ((shape_of o.want).segment_blocks ≡ config.segment_blocks)
+  want_shape = valid_shape config valid id (shape_of o.want) takes.shape
+
+  opening_lane : (l : Lane D) → IsTakenLane l → IsNewLane state r.rest id (segments_of config (logger_of l)) l → IsOpeningLane state r.shared o.want.id o.most l
+  opening_lane l taken is =
+      let shape = valid_shape config valid (logger_of l) taken.shape taken.shape_is in
+      let fits = most_fits in
+      let sb = valid.segment_blocks in
+      let blocks : pool_blocks l ≡ config.segment_blocks = taken.blocks ∙ shape.1 in
+      record { lane = is.lane; at = taken.placed; owner = is.owner ∙ sym takes.id; bare = is.bare; untaken = is.untaken; long = omega (arith, fits.0, sb, blocks) }
+
+  same_loggers : map logger_of o.lanes.items ≡ filter (λ k. get_or o.present.items k false) o.view
+  same_loggers =
+      takes.lanes.loggers_are
+      ∙ filter_agree (λ k. is_some (image_here r.rest.images.items k)) (λ k. get_or o.present.items k false) (λ k. sym (ap (λ l. get_or l k false) takes.present ∙ at_some r.rest.images.items k)) view
+      ∙ ap (filter (λ k. get_or o.present.items k false)) (sym takes.view_is)
+    where
+      at_some : (xs : List (Option (ImageRest D))) (k : ℕ) → get_or (map (λ (i : Option (ImageRest D)). is_some i) xs) k false ≡ is_some (get_or xs k None)
+      at_some [] k = refl
+      at_some (x ∷ xs) zero = refl
+      at_some (x ∷ xs) (suc k) = at_some xs k
+
+  -- an owned segment as it stood in its image
+  record IsInImage (p : OwnedPart D) : Type 0 where
+    pub image : ImageRest D
+    pub out : image_here r.rest.images.items p.logger ≡ Some image
+    pub there : segment_here image p.index ≡ Some p.part
+    pub saying : Said
+    pub said_is : said_at said p.logger ≡ Some saying
+    pub head : slice_get saying.heads.items p.index ≡ Some (Owned id)
+    pub shape : Shape
+    pub shape_is : slice_get (shapes_of config) p.logger ≡ Some shape
+    pub within : p.index < shape.segments
+    pub part : IsPart state p.logger shape.segment_blocks p.part
+    pub first : p.first_block ≡ head_place shape p.index
+
+  in_image : (p : OwnedPart D) → IsTakenOf config takes.without_lanes said id p → IsInImage p
+  in_image p is =
+      let images = takes.lanes.passes.images in
+      let there : segment_of (image_here r.rest.images.items p.logger) p.index ≡ Some p.part = sym (ap (λ x. segment_of (image_here x.items p.logger) p.index) images) ∙ is.here in
+      go (image_here r.rest.images.items p.logger) refl there
+    where
+      segment_of : Option (ImageRest D) → ℕ → Option (Spun D)
+      segment_of None i = None
+      segment_of (Some image) i = segment_here image i
+
+      go : (x : Option (ImageRest D)) → image_here r.rest.images.items p.logger ≡ x → segment_of x p.index ≡ Some p.part → IsInImage p
+      go None e there = absurd (none-some p.part there)
+      go (Some image) e there =
+          let within = out_within p.logger (ap is_some e) in
+          let shape = some_at (shapes_of config) p.logger within in
+          let says = get_or_from_slice_get said p.logger (Some is.saying) None is.said_is in
+          let of = ready.says p.logger shape.0 shape.1 (ap is_some e) in
+          let same : of.0 ≡ is.saying = same_Some of.0 is.saying (sym of.1 ∙ says) in
+          let count : length is.saying.heads.items ≡ shape.0.segments = subst (λ (x : Said). length x.heads.items ≡ shape.0.segments) same of.2.count in
+          let below = slice_get_within is.saying.heads.items p.index (Owned id) is.head in
+          record {
+            image = image;
+            out = e;
+            there = there;
+            saying = is.saying;
+            said_is = says;
+            head = is.head;
+            shape = shape.0;
+            shape_is = shape.1;
+            within = omega (arith, below, count);
+            part = (here.images.1 p.logger shape.0 image shape.1 e).segments p.index p.part there;
+            first = is.first shape.0 shape.1;
+          }
+
+  parts_in_images : All IsInImage o.owned.items
+  parts_in_images = λ j d below. in_image (get_or o.owned.items j d) (takes.owned.each j d below)
+
+  held_in : (p : OwnedPart D) → IsInImage p → (l : Lane D) → IsTakenLane l → logger_of l ≡ p.logger → IsHeldIn state p l
+  held_in p is l taken same =
+      let shapes : taken.shape ≡ is.shape = same_Some taken.shape is.shape (sym taken.shape_is ∙ ap (λ (k : ℕ). slice_get (shapes_of config) k) same ∙ is.shape_is) in
+      let who : holder (pass_lock (pool_of l)).base.holders p.index ≡ HeldBy id =
+      taken.holders p.index ∙ ap (λ (k : ℕ). holder_by (said_at said k) p.index) same ∙ ap (λ (x : Option Said). holder_by x p.index) is.said_is ∙ ap of_head is.head in
+      record {
+        volume = is.part.of_volume ∙ sym same;
+        blocks = is.part.sized ∙ sym (ap (λ (t : Shape). t.segment_blocks) shapes) ∙ sym taken.blocks;
+        below = let w = is.within in let s = taken.segments in let e : taken.shape.segments ≡ is.shape.segments = ap (λ (t : Shape). t.segments) shapes in omega (arith, w, s, e);
+        holding = ap (λ es. holds (pass_lock (pool_of l)).base (pass_number (pool_of l)) es p.index) taken.unused ∙ ap (is_held_by (pass_number (pool_of l))) who ∙ eq-eqb id (pass_number (pool_of l)) (sym taken.number);
+      }
+    where
+      of_head : Option Rattle.log_layout.specs.declared.segment.SegHead.SegHead → Holder
+      of_head None = Rattle.seg_pool.specs.declared.base.Holder.TheVariants.Elsewhere
+      of_head (Some h) = Rattle.rack.specs.Parts.holder_said h
+
+  owned_part : (p : OwnedPart D) → IsInImage p → IsOwned state o.lanes.items p
+  owned_part p is =
+      let shape = valid_shape config valid p.logger is.shape is.shape_is in
+      let sb = valid.segment_blocks in
+      let blocks : (state_of state p.part).size ≡ config.segment_blocks = is.part.sized ∙ shape.1 in
+      let sbs = shape.1 in
+      let home = shape.0.home in
+      let few = shape.0.segments in
+      let w = is.within in
+      let f = is.first in
+      let low : p.index ≤ 1024 = omega (arith, w, few) in
+      let wide : is.shape.segment_blocks ≤ 65536 = omega (arith, sbs, sb) in
+      let most : p.index * is.shape.segment_blocks ≤ 1024 * 65536 = mul-le-mul low wide in
+      record {
+        size = (omega (arith, blocks, sb), omega (arith, blocks, sb));
+        last = omega (arith, f, home, most, blocks, sb);
+        held = recursion_from_All (λ (l : Lane D). logger_of l ≡ p.logger → IsHeldIn state p l) o.lanes.items (λ j d below. held_in p is (get_or o.lanes.items j d) (lanes_taken j d below));
+      }
+
+  says_owner : (p : OwnedPart D) → IsInImage p → SaysOwner state o.want.id p
+  says_owner p is vs told =
+      let untouched = ready.untouched.here id p.logger p.index is.saying is.image (omega arith) is.said_is is.head is.out in
+      let same : untouched.0 ≡ p.part = same_Some untouched.0 p.part (sym untouched.1 ∙ is.there) in
+      let image : IsImageOf (state_of state untouched.0).values (reads vs) = subst (λ (x : Option (List (Values Block))). IsImageOf x (reads vs)) (sym (ap (λ (x : Spun D). (state_of state x).values) same ∙ told)) (image_reads vs) in
+      let has = untouched.2 (reads vs) image in
+      let block : has.block ≡ owned_block o.want.id = has.spelled.bytes ∙ ap owned_block (sym takes.id) in
+      go (reads vs) has.block has.first block
+    where
+      go : (bs : List Block) (x : Block) → slice_get bs 0 ≡ Some x → x ≡ owned_block o.want.id → (rest : List Block) × (bs ≡ owned_block o.want.id ∷ rest)
+      go [] x first is = absurd (none-some x first)
+      go (y ∷ bs) x first is = (bs, ap (λ (z : Block). z ∷ bs) (same_Some y x first ∙ is))
+
+  -- a segment that a pass of the volume holds from the beginning is an owned one
+  owned_place : (k i number : ℕ) → number ≡ id → is_held_by number (holder_by (said_at said k) i) ≡ true → IsOwnedPlace said id k i
+  owned_place k i number is held = go (said_at said k) refl held
+    where
+      of_head : Option SegHead → Holder
+      of_head None = Elsewhere
+      of_head (Some h) = holder_said h
+
+      found : (s : Said) → said_at said k ≡ Some s → slice_get said k ≡ Some (Some s)
+      found s e =
+          ⊎_elim
+          (λ (lt : k < length said). slice_get-get_or said k None lt ∙ ap Some e)
+          (λ (past : length said ≤ k). absurd (none-some s (sym (get_or_past said k None past) ∙ e)))
+          (cases_lt k (length said))
+
+      at_head : (s : Said) → said_at said k ≡ Some s → (x : Option SegHead) → slice_get s.heads.items i ≡ x → is_held_by number (of_head x) ≡ true → IsOwnedPlace said id k i
+      at_head s e None at held = absurd (cc held)
+      at_head s e (Some Free) at held = absurd (cc held)
+      at_head s e (Some (Owned w)) at held =
+          let same : w ≡ id = eqb-true w number held ∙ is in
+          (s, found s e, at ∙ ap (λ (x : ℕ). Some (Owned x)) same)
+
+      go : (x : Option Said) → said_at said k ≡ x → is_held_by number (holder_by x i) ≡ true → IsOwnedPlace said id k i
+      go None e held = absurd (cc held)
+      go (Some s) e held = at_head s e (slice_get s.heads.items i) refl held
+
+  holds_owned : (l : Lane D) → IsTakenLane l → HoldsOwned o.owned.items l
+  holds_owned l taken index held =
+      let start : is_held_by (pass_number (pool_of l)) (holder (pass_lock (pool_of l)).base.holders index) ≡ true =
+      sym (ap (λ es. holds (pass_lock (pool_of l)).base (pass_number (pool_of l)) es index) taken.unused) ∙ held in
+      let said_so : is_held_by (pass_number (pool_of l)) (holder_by (said_at said (logger_of l)) index) ≡ true = sym (ap (is_held_by (pass_number (pool_of l))) (taken.holders index)) ∙ start in
+      takes.owned.all (logger_of l) index (owned_place (logger_of l) index (pass_number (pool_of l)) taken.number said_so)
+
+  pub can_open : CanOpen state r.shared o
+  can_open =
+      let locks = ready.closable.locks in
+      let spindle_in : id < length r.shared.spindles.items = let c = locks.spindle_count in omega (arith, lt, c) in
+      let q = some_at r.shared.spindles.items id spindle_in in
+      let spindle = here.spindles.each id id q.0 o.spindle q.1 takes.spindle_was in
+      let image = image_id state config valid b said id r own ready lt at in
+      let rest = here.images.1 id (shape_of o.want) image.0 takes.shape image.1 in
+      let home = subst (λ (h : Option (Spun D)). Rattle.std.specs.Prelude.IfSome h (IsPart state id (shape_of o.want).home)) (takes.home_was image.0 image.1) rest.home in
+      let fits = most_fits in
+      record {
+        want = want_shape.0;
+        home_volume = home.of_volume ∙ sym takes.id;
+        home_size = home.sized;
+        spindle_volume = ap (λ i. i.base.volume) spindle.own ∙ (locks.spindles id q.0 q.1).volume ∙ sym takes.id;
+        spindle_free = spindle.free;
+        settled = here.spindles.settled id id o.spindle takes.spindle_was;
+        accesses = ready.closable.accesses id id o.spindle takes.spindle_was;
+        all = recursion_from_All (HoldsOwned o.owned.items) o.lanes.items (λ j d below. holds_owned (get_or o.lanes.items j d) (lanes_taken j d below));
+        at = record {
+          spindle_in = let v = r.shared.spindles.ok.0 in let i = takes.id in omega (arith, spindle_in, v, i);
+          spindle_is = λ d. spindle.own ∙ ap (λ x. lock_id x) (sym (get_or_from_slice_get r.shared.spindles.items id q.0 d q.1)) ∙ ap (λ (k : ℕ). lock_id (get_or r.shared.spindles.items k d)) (sym takes.id);
+          lanes_ = recursion_from_All (IsAt r.shared) o.lanes.items (λ j d below. (lanes_taken j d below).placed);
+        };
+        lanes = recursion_from_All (IsOpeningLane state r.shared o.want.id o.most) o.lanes.items (λ j d below. opening_lane (get_or o.lanes.items j d) (lanes_taken j d below) (takes.lanes.each j d below));
+        loggers = same_loggers;
+        most = fits.1;
+        in_order = takes.owned.in_order;
+        owned = recursion_from_All (IsOwned state o.lanes.items) o.owned.items (λ j d below. owned_part (get_or o.owned.items j d) (parts_in_images j d below));
+        heads = recursion_from_All (SaysOwner state o.want.id) o.owned.items (λ j d below. says_owner (get_or o.owned.items j d) (parts_in_images j d below));
+      }
+
+  -- its home is away then, with the pass of its spindle
+  pub home_away : IsHomeAway new id
+  home_away =
+      let image = image_id state config valid b said id r own ready lt at in
+      let lanes = takes.lanes.passes in
+      let rows = takes.home.rows in
+      let was : image_here takes.without_lanes.images.items id ≡ Some image.0 = ap (λ x. image_here x.items id) lanes.images ∙ image.1 in
+      let kept = MatchOption-at_some (image_here takes.without_owned.images.items id ≡ None) (λ (x : ImageRest D). (n : ImageRest D) × (image_here takes.without_owned.images.items id ≡ Some n) × IsSameBut x n) image.0 was (takes.owned.images id) in
+      let a = rows.count in
+      let p = ap (λ x. length x.items) takes.owned.passes in
+      let q = lanes.rows.count in
+      let s = here.count in
+      record {
+        place = record {
+          row = omega (arith, a, p, q, s, lt);
+          volumes = length (shapes_of config);
+          rows = rows.rows (length (shapes_of config)) (subst (λ x. All (λ p. IsRow (length (shapes_of config)) p) x.items) (sym takes.owned.passes) (lanes.rows.rows (length (shapes_of config)) here.rows));
+          within = lt;
+        };
+        image = record kept.0 { home = None };
+        out = takes.home.image ∙ ap (with_home None) kept.1;
+        home = refl;
+        spindle = takes.home.spindle_here;
+      }

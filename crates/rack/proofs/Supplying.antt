@@ -1,0 +1,110 @@
+-- A pool gets the free segments of an image.
+use Rattle.std.proofs.Common.{◌≡◌, ◌≢◌, ◌<◌, ◌⊎◌, ⊎_elim, inl, inr, ℕ, List, [], length, Option, None, Some, is_some, refl, sym, ap, subst, ◌∙◌, arith}
+use Rattle.std.specs.Prelude.{IsSome, MatchOption, slice_get, slice_index_or}
+use Rattle.std.proofs.lemmas.Bool.{cases_lt, false≢true}
+use Rattle.std.proofs.lemmas.List.{get_or_past}
+use Rattle.std.proofs.lemmas.Option.{none-some, same_Some, slice_get-get_or, slice_get_past, slice_get_within, get_or_from_slice_get}
+use Rattle.wol_disk.specs.Disk.{State}
+use Rattle.wol_model.specs.Heads.{Shape}
+use Rattle.spin_model.specs.Spun.{volume_of as part_volume}
+use Rattle.spin_model.specs.declared.spun.Spun.{Spun}
+use Rattle.seg_pool.specs.Holders.{holder}
+use Rattle.seg_pool.specs.Pools.{IsEmptyPool, IsSamePool, item_at, note_at, room_of, volume_of, blocks_of, base_of, StandsFor}
+use Rattle.seg_pool.specs.declared.base.Holder.{Holder}
+use Rattle.seg_pool.specs.declared.base.Holder.TheVariants.{Elsewhere, InPool, HeldBy}
+use Rattle.seg_pool.specs.declared.pool.Pool.{Pool}
+use Rattle.log_segment.specs.Segment.{IsBlank, free_part}
+use Rattle.log_segment.specs.declared.free.FreeSegment.{FreeSegment}
+use Rattle.log_layout.specs.declared.segment.SegHead.{SegHead}
+use Rattle.log_layout.specs.declared.segment.SegHead.TheVariants.{Free, Owned}
+use Rattle.rack.specs.Rests.{segment_here}
+use Rattle.rack.specs.Parts.{of_head, holder_by, left_by, either_part, item_part, AreFillable, IsBlankPart, IsFilledPool, TakesFree, HasPlaces, IsSameBut, IsRefilled, EmptiesInto, CanFill, Supplies, IsRestored, Restores, MaySupply, IsSupplied}
+use Rattle.rack.specs.declared.heads_said.Said.{Said}
+use Rattle.rack.specs.declared.rack.ImageRest.{ImageRest}
+use Rattle.rack.proofs.Slots.{holder_of, holder_at}
+
+module _ {D : Type 0} (state : D → State) where
+  -- a pool without items and notes
+  pub supplied_none : (p : Pool (FreeSegment D)) (said : Option Said) (image : Option (ImageRest D)) → said ≡ None → MaySupply state p said image → IsEmptyPool p → ((i : ℕ) → note_at p i ≡ None) → IsSupplied state said image image p
+  supplied_none p None None is may empty unnoted = record {
+    holders = λ i. holder_at p i ∙ ap (λ (o : Option (FreeSegment D)). holder_of o (note_at p i)) (empty i) ∙ ap (λ (o : Option ℕ). holder_of {T = FreeSegment D} None o) (unnoted i);
+    supplies = refl;
+    places = empty;
+    restorable = λ last empties. empties;
+  }
+  supplied_none p None (Some r) is may empty unnoted = absurd may.may
+  supplied_none p (Some said) image is may empty unnoted = absurd (none-some said (sym is))
+
+  in_pool_item : (o : Option (FreeSegment D)) (note : Option ℕ) → holder_of o note ≡ InPool → (f : FreeSegment D) × (o ≡ Some f)
+  in_pool_item None None is = absurd (cc)
+  in_pool_item None (Some pass) is = absurd (cc)
+  in_pool_item (Some f) note is = (f, refl)
+
+  held_none : (o : Option (FreeSegment D)) (note : Option ℕ) (pass : ℕ) → holder_of o note ≡ HeldBy pass → o ≡ None
+  held_none None note pass is = refl
+  held_none (Some f) note pass is = absurd (cc)
+
+  is_elsewhere : (o : Option (FreeSegment D)) (note : Option ℕ) → o ≡ None → note ≡ None → holder_of o note ≡ Elsewhere
+  is_elsewhere o note none unnoted = ap (λ (p : Option (FreeSegment D)). holder_of p note) none ∙ ap (λ (n : Option ℕ). holder_of {T = FreeSegment D} None n) unnoted
+
+  module _ (said : Said) (r n : ImageRest D) (old p : Pool (FreeSegment D)) (volumes : ℕ) (s : Shape) (can : CanFill state volumes (volume_of old) s said r)
+      (room : room_of old ≡ s.segments) (blocks : blocks_of old ≡ s.segment_blocks) (same : IsSamePool old p) (same_image : IsSameBut r n)
+      (stands : StandsFor (IsBlank state) p (base_of p) []) (filled : IsFilledPool said.heads.items r.segments.items p) (takes : TakesFree said.heads.items r.segments.items n.segments.items) where
+    abbrev heads : List SegHead
+    heads = said.heads.items
+
+    past : (i : ℕ) → length heads ≡ length (base_of p).holders
+    past i = sym filled.room ∙ stands.room
+
+    known : (i : ℕ) → i < length heads → slice_get heads i ≡ Some (slice_index_or heads i Free)
+    known i within = slice_get-get_or heads i Free within
+
+    -- an item stood where the head is free, and its place is empty
+    item_place : (i : ℕ) (f : FreeSegment D) → item_at p i ≡ Some f → (i < length n.segments.items) × (segment_here n i ≡ None)
+    item_place i f is =
+        let was = filled.items i f is in let within = slice_get_within heads i Free was.0 in
+        (omega (arith, within, can.segments.count, takes.count), takes.each i Free was.0)
+
+    some_item : (i : ℕ) → IsSome (item_at p i) → (f : FreeSegment D) × (item_at p i ≡ Some f)
+    some_item i some = which (item_at p i) some
+      where
+        which : (o : Option (FreeSegment D)) → IsSome o → (f : FreeSegment D) × (o ≡ Some f)
+        which None some = absurd (false≢true some)
+        which (Some f) some = (f, refl)
+
+    restored : (m : ImageRest D) → IsRefilled p n m → IsRestored state (volume_of p) (blocks_of p) said r m
+    restored m refilled = record {
+      same = record {
+        label = refilled.same.label ∙ same_image.label;
+        home = refilled.same.home ∙ same_image.home;
+        count = refilled.same.count ∙ same_image.count;
+        row = refilled.same.row ∙ same_image.row;
+        room = refilled.same.room ∙ same_image.room;
+      };
+      free = λ i is.
+          let found = in_pool_item (item_at p i) (note_at p i) (sym (holder_at p i) ∙ filled.holders i Free is) in
+          let was = filled.items i found.0 found.1 in
+          let blank : IsBlankPart state (volume_of old) s.segment_blocks (free_part found.0) = can.segments.blank i (free_part found.0) is was.1 in (
+            free_part found.0,
+            refilled.segments i ∙ ap (λ (o : Option (FreeSegment D)). either_part (item_part o) (segment_here n i)) found.1,
+            subst (λ (v : ℕ). IsBlankPart state v (blocks_of p) (free_part found.0)) (sym same.volume)
+                (subst (λ (b : ℕ). IsBlankPart state (volume_of old) b (free_part found.0)) (sym (same.blocks ∙ blocks)) blank),
+          );
+      owned = λ i owner is.
+          let none = held_none (item_at p i) (note_at p i) owner (sym (holder_at p i) ∙ filled.holders i (Owned owner) is) in
+          refilled.segments i ∙ ap (λ (o : Option (FreeSegment D)). either_part (item_part o) (segment_here n i)) none ∙ takes.each i (Owned owner) is;
+    }
+
+    pub supplied_some : IsSupplied state (Some said) (Some r) (Some n) p
+    supplied_some = record {
+      holders = λ i. ⊎_elim
+          (λ within. filled.holders i (slice_index_or heads i Free) (known i within) ∙ sym (ap of_head (known i within)))
+          (λ behind. get_or_past (base_of p).holders i Elsewhere (omega (arith, behind, past i)) ∙ sym (ap of_head (slice_get_past heads i behind)))
+          (cases_lt i (length heads));
+      supplies = (same_image, takes);
+      places = record {
+        within = λ i some. (let f = some_item i some in (item_place i f.0 f.1).0);
+        empty = λ i some. (let f = some_item i some in (item_place i f.0 f.1).1);
+      };
+      restorable = λ last empties. subst (Restores state (volume_of p) (blocks_of p) (Some said) (Some r)) (sym empties.1) (restored empties.0 empties.2);
+    }

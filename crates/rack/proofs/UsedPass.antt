@@ -1,0 +1,48 @@
+-- A pass of a spindle that was used among those of its lock.
+use Rattle.std.proofs.Common.{◌≡◌, ⊎_elim, ℕ, ◌<◌, Bool, false, List, length, get_or, set, refl, sym, ap, ◌∙◌, subst, arith}
+use Rattle.std.specs.Vec.{with_item}
+use Rattle.std.proofs.lemmas.Bool.{cases_eq}
+use Rattle.std.proofs.lemmas.List.{length-set, get_or-set_same, get_or-set_other, get_or_default}
+use Rattle.std.proofs.lemmas.List.Elements.{All-set}
+use Rattle.turn_lock.specs.Passes.{lock_id, lock_passes, pass_lock, pass_number, pass_mine, IsPassOf, IsFree, IsSamePass}
+use Rattle.turn_lock.specs.declared.pass.PassOf.{PassOf}
+use Rattle.spin_model.specs.Operations.{has_token}
+use Rattle.spin_model.specs.declared.spindle.Spindle.{Spindle}
+use Rattle.spin_model.specs.declared.spindle.SpindleBase.{SpindleBase}
+use Rattle.rack.specs.Making.{IsInOrder, AreSettled, AreSpindlesOf}
+use Rattle.rack.specs.Rests.{IsSpindleLock}
+use Rattle.rack.specs.declared.locks.Issued.{Issued}
+
+pub used_pass : (i : Issued Spindle SpindleBase) (n : ℕ) (p q : PassOf Spindle SpindleBase) → n < length i.passes.items → p ≡ get_or i.passes.items n p → IsSamePass p q → IsFree q → has_token (pass_mine q) ≡ false
+    → IsInOrder i × AreSettled i → IsInOrder (record i { passes = with_item i.passes n q }) × AreSettled (record i { passes = with_item i.passes n q })
+used_pass i n p q lt is same free settled old = (
+  record {
+    whole = record {
+      count = length-set i.passes.items n q ∙ old.0.whole.count;
+      each = All-set (λ x. IsPassOf i.lock x × IsFree x) i.passes.items n q (same.0 ∙ ap (λ x. pass_lock x) is ∙ (old.0.whole.each n p lt).0, free) old.0.whole.each;
+    };
+    numbered = λ k d within. ⊎_elim
+        (λ (e : k ≡ n).
+        ap (λ (j : ℕ). pass_number (get_or (set i.passes.items n q) j d)) e ∙ ap (λ x. pass_number x) (get_or-set_same i.passes.items n q d lt) ∙ same.1 ∙ ap (λ x. pass_number x) is ∙ old.0.numbered n p lt ∙ sym e)
+        (λ (other : k ≡ n → ⊥).
+        let below : k < length i.passes.items = omega (arith, within, length-set i.passes.items n q) in
+        ap (λ x. pass_number x) (get_or-set_other i.passes.items n k q d other) ∙ old.0.numbered k d below)
+        (cases_eq k n);
+  },
+  All-set (λ x. has_token (pass_mine x) ≡ false) i.passes.items n q settled old.1,
+)
+
+-- one of the spindles was used
+pub used_spindle : (volumes timeout : ℕ) (xs : List (Issued Spindle SpindleBase)) (i : ℕ) (x y : Issued Spindle SpindleBase) → AreSpindlesOf volumes timeout xs → i < length xs → y.lock ≡ (get_or xs i x).lock → IsInOrder y × AreSettled y
+    → AreSpindlesOf volumes timeout (set xs i y)
+used_spindle volumes timeout xs i x y old lt lock ok = record {
+  each = All-set (λ z. IsInOrder z) xs i y ok.0 old.each;
+  spindles = λ k d within. ⊎_elim
+      (λ (e : k ≡ i).
+      let at : get_or (set xs i y) k d ≡ y = ap (λ (j : ℕ). get_or (set xs i y) j d) e ∙ get_or-set_same xs i y d lt in
+      subst (λ (z : Issued Spindle SpindleBase). IsSpindleLock volumes k timeout z.lock) (sym at)
+      (subst (λ (j : ℕ). IsSpindleLock volumes j timeout y.lock) (sym e) (subst (λ l. IsSpindleLock volumes i timeout l) (sym lock) (old.spindles i x lt))))
+      (λ (other : k ≡ i → ⊥). subst (λ (z : Issued Spindle SpindleBase). IsSpindleLock volumes k timeout z.lock) (sym (get_or-set_other xs i k y d other)) (old.spindles k d (omega (arith, within, length-set xs i y))))
+      (cases_eq k i);
+  settled = All-set (λ z. AreSettled z) xs i y ok.1 old.settled;
+}

@@ -1,0 +1,151 @@
+use Rattle.std.proofs.Common.{◌≡◌, ◌<◌, ◌≤◌, ◌+◌, ℕ, length, get_or, Some, sym, ap, ◌∙◌, subst, arith, rules}
+use Rattle.std.specs.Prelude.{slice_get}
+use Rattle.std.proofs.lemmas.List.{length-map, length-set}
+use Rattle.std.proofs.lemmas.Option.{slice_get-get_or, slice_get_within, same_Some, get_or_from_slice_get}
+use Rattle.wol_bay.specs.Bay.{IsHome}
+use Rattle.wol_config.specs.declared.config.VolumeConf.{VolumeConf}
+use Rattle.volume_images.specs.Volumes.{shape_in, shapes_of}
+use Rattle.rack.specs.Opening.{HasSentOut, AreAsked}
+use Rattle.rack.proofs.Asking.{some_at, asked_more, asked_later, none_asked}
+use Rattle.rack.proofs.SentNames.{same_until, sent_on, none_sent, next_home, names_out, sent_same}
+use Rattle.rack.proofs.AllBack.{all_back, all_whole, nothing_out}
+use Rattle.rack.proofs.UsedPass.{used_spindle}
+use Rattle.rack.proofs.images.open_images.Goals as goal
+
+pub returns-in_err-images-clause-err : goal.returns-in_err-images-clause-err
+returns-in_err-images-clause-err g c = let back = nothing_out g.B.Part.Disk.tells (g.B.Bay.state c.args.bay.now) in search (rules, back)
+
+pub loop-id-init : goal.loop-id-init
+loop-id-init g c =
+    let new = c.in_ok-images.ensures in
+    let v = c.args.config.now.volumes.ok.0 in
+    let b = g.B.Bay.state c.args.bay.now in
+    record {
+      asked = none_asked g.B.Part.Disk.tells g.B.Part.Disk.state c.args.config.now b _ c.in_ok-images.images new;
+      sent = subst (λ out. HasSentOut c.args.config.now out 0 b b) (sym new.out.0) (none_sent c.args.config.now b);
+      said_room = let r = new.said.1 in let l = c.len.ensures in omega (arith, r, v, l);
+      out_room = let r = new.out.1 in let l = c.len.ensures in omega (arith, r, v, l);
+      fault_room = let r = new.faults.1 in let l = c.len.ensures in omega (arith, r, v, l);
+      count = c.requires.count;
+      spindles = c.requires.spindles;
+    }
+
+pub open_next-requires-clause-home : goal.open_next-requires-clause-home
+open_next-requires-clause-home g c = λ v at.
+    let config = c.args.config.now in
+    let vs = config.volumes.items in
+    let n = c.loop-id.id in
+    let inv = c.loop-id.invariant in
+    let within = slice_get_within vs n v at in
+    let home = subst (λ (w : VolumeConf). IsHome w.name (g.B.Bay.state c.args.bay.now)) (get_or_from_slice_get vs n v v at) (c.requires.home n v within) in
+    next_home config c.requires.config c.loop-id.images.out.items n v (g.B.Bay.state c.args.bay.now) (g.B.Bay.state c.loop-id.bay) inv.asked.out_count at home inv.sent
+
+pub open_next-requires-clause-spindle : goal.open_next-requires-clause-spindle
+open_next-requires-clause-spindle g c =
+    let inv = c.loop-id.invariant in
+    let t = c.loop-id-test.true in
+    let l = c.len-id-end.ensures in
+    let v = c.args.config.now.volumes.ok.0 in
+    let n = inv.count in
+    inv.spindles.spindles c.loop-id.id c.index-spindles-id.result (omega (arith, t, l, v, n))
+
+pub open_next-requires-clause-passes : goal.open_next-requires-clause-passes
+open_next-requires-clause-passes g c =
+    let inv = c.loop-id.invariant in
+    let t = c.loop-id-test.true in
+    let l = c.len-id-end.ensures in
+    let v = c.args.config.now.volumes.ok.0 in
+    let n = inv.count in
+    let lt : c.loop-id.id < length c.loop-id.spindles = omega (arith, t, l, v, n) in
+    (inv.spindles.each c.loop-id.id c.index-spindles-id.result lt, inv.spindles.settled c.loop-id.id c.index-spindles-id.result lt)
+
+pub returns-in-Err-clause-spindles : goal.returns-in-Err-clause-spindles
+returns-in-Err-clause-spindles g c =
+    let inv = c.loop-id.invariant in
+    let t = c.loop-id-test.true in
+    let l = c.len-id-end.ensures in
+    let v = c.args.config.now.volumes.ok.0 in
+    let n = inv.count in
+    let lt : c.loop-id.id < length c.loop-id.spindles = omega (arith, t, l, v, n) in
+    used_spindle (length c.args.config.now.volumes.items) c.args.config.now.timeout c.loop-id.spindles c.loop-id.id c.index-spindles-id.result c.open_next.new.spindle inv.spindles lt c.open_next.ensures.spindle c.open_next.ensures.passes
+
+pub returns-clause-asked : goal.returns-clause-asked
+returns-clause-asked g c =
+    let t = c.loop-id-test.false in
+    let l = c.len-id-end.ensures in
+    let v = c.args.config.now.volumes.ok.0 in
+    let e = c.loop-id.auto.id-end in
+    let all : c.loop-id.id ≡ length c.args.config.now.volumes.items = omega (arith, t, l, v, e) in
+    subst (λ n. AreAsked g.B.Part.Disk.tells g.B.Part.Disk.state c.args.config.now (g.B.Bay.state c.args.bay.now) (g.B.Bay.state c.loop-id.bay) n c.loop-id.images) all c.loop-id.invariant.asked
+
+pub returns-clause-out : goal.returns-clause-out
+returns-clause-out g c =
+    let t = c.loop-id-test.false in
+    let l = c.len-id-end.ensures in
+    let v = c.args.config.now.volumes.ok.0 in
+    let e = c.loop-id.auto.id-end in
+    let all : c.loop-id.id ≡ length c.args.config.now.volumes.items = omega (arith, t, l, v, e) in
+    subst (λ n. HasSentOut c.args.config.now c.loop-id.images.out.items n (g.B.Bay.state c.args.bay.now) (g.B.Bay.state c.loop-id.bay)) all c.loop-id.invariant.sent
+
+pub give_back-requires-clause-count : goal.give_back-requires-clause-count
+give_back-requires-clause-count g c =
+    let t = c.loop-id-test.true in
+    let l = c.len-id-end.ensures in
+    let v = c.args.config.now.volumes.ok.0 in
+    let n = c.loop-id.invariant.asked.out_count in
+    let m = length-map c.args.config.now.volumes.items (λ w. shape_in c.args.config.now w) in
+    omega (arith, t, l, v, n, m)
+
+pub give_back-requires-clause-images : goal.give_back-requires-clause-images
+give_back-requires-clause-images g c = λ k s r shape here. (c.loop-id.invariant.asked.out k s r shape here).rest
+
+pub give_back-requires-clause-whole : goal.give_back-requires-clause-whole
+give_back-requires-clause-whole g c = all_whole g.B.Part.Disk.tells g.B.Part.Disk.state c.args.config.now (g.B.Bay.state c.args.bay.now) (g.B.Bay.state c.loop-id.bay) c.loop-id.id c.loop-id.images c.loop-id.invariant.asked
+    (let t = c.loop-id-test.true in let l = c.len-id-end.ensures in let v = c.args.config.now.volumes.ok.0 in omega (arith, t, l, v))
+
+pub give_back-requires-clause-out : goal.give_back-requires-clause-out
+give_back-requires-clause-out g c = λ k v at there.
+    let vs = c.args.config.now.volumes.items in
+    let home = subst (λ (w : VolumeConf). IsHome w.name (g.B.Bay.state c.args.bay.now)) (get_or_from_slice_get vs k v v at) (c.requires.home k v (slice_get_within vs k v at)) in
+    names_out c.args.config.now c.requires.config c.loop-id.images.out.items c.loop-id.id k v (g.B.Bay.state c.args.bay.now) (g.B.Bay.state c.open_next.new.bay) at there home
+    (sent_same c.args.config.now c.loop-id.images.out.items c.loop-id.id (g.B.Bay.state c.args.bay.now) (g.B.Bay.state c.loop-id.bay) (g.B.Bay.state c.open_next.new.bay) c.loop-id.invariant.sent c.in-Err.ensures.err)
+
+pub returns-in-Err-clause-err : goal.returns-in-Err-clause-err
+returns-in-Err-clause-err g c =
+    let b = g.B.Bay.state c.args.bay.now in
+    let b1 = g.B.Bay.state c.loop-id.bay in
+    let b2 = g.B.Bay.state c.open_next.new.bay in
+    let b3 = g.B.Bay.state c.give_back.new.bay in
+    let at_once = c.in-Err.ensures.err in
+    let inv = c.loop-id.invariant in
+    all_back g.B.Part.Disk.tells g.B.Part.Disk.state g.met.B.Part.Disk.told c.args.config.now b b2 b3 c.loop-id.id c.loop-id.images
+    (asked_later g.B.Part.Disk.tells g.B.Part.Disk.state c.args.config.now b b1 b2 c.loop-id.id c.loop-id.images at_once.counts inv.asked)
+    (sent_same c.args.config.now c.loop-id.images.out.items c.loop-id.id b b1 b2 inv.sent at_once) c.give_back.ensures.back c.requires.home c.give_back.ensures.home c.give_back.ensures.counts
+
+pub loop-id-preserved : goal.loop-id-preserved
+loop-id-preserved g c =
+    let config = c.args.config.now in
+    let vs = config.volumes.items in
+    let n = c.loop-id.id in
+    let inv = c.loop-id.invariant in
+    let b = g.B.Bay.state c.args.bay.now in
+    let b1 = g.B.Bay.state c.loop-id.bay in
+    let b2 = g.B.Bay.state c.open_next.new.bay in
+    let t = c.loop-id-test.true in
+    let l = c.len-id-end.ensures in
+    let vec = config.volumes.ok.0 in
+    let count = inv.count in
+    let within : n < length vs = omega (arith, t, l, vec) in
+    let lt : n < length c.loop-id.spindles = omega (arith, within, count) in
+    let e = some_at vs n within in
+    let p = c.push.ensures in
+    record {
+      asked = asked_more g.B.Part.Disk.tells g.B.Part.Disk.state config b b1 b2 n c.loop-id.images c.push.new.self e.0 e.1 inv.asked
+          (same_until config c.requires.config c.loop-id.images.out.items n e.0 inv.asked.out_count e.1 b.told b1.told inv.sent.stayed) inv.sent.counts c.in-Ok.opened p c.in-Ok.ensures.opened c.in-Ok.ensures.refused;
+      sent = sent_on config c.requires.config c.loop-id.images.out.items n e.0 inv.asked.out_count e.1 g.B.Part.Disk.tells g.B.Part.Disk.state c.in-Ok.opened c.push.new.self.out.items b b1 b2 inv.sent p.out.0 c.in-Ok.ensures.opened c.in-Ok.ensures.refused;
+      said_room = let r = inv.said_room in let q = p.said.1 in omega (arith, r, q);
+      out_room = let r = inv.out_room in let q = p.out.1 in omega (arith, r, q);
+      fault_room = let r = inv.fault_room in let q = p.faults.1 in omega (arith, r, q);
+      count = length-set c.loop-id.spindles n c.open_next.new.spindle ∙ count;
+      spindles = used_spindle (length vs) config.timeout c.loop-id.spindles n c.index-spindles-id.result c.open_next.new.spindle inv.spindles lt c.open_next.ensures.spindle c.open_next.ensures.passes;
+    }

@@ -1,0 +1,26 @@
+use Rattle.std.proofs.Common.{◌≡◌, ◌+◌, List, length, refl, sym, subst, arith}
+use Rattle.std.specs.Prelude.{All}
+use Rattle.rack.proofs.Setting.{SpindleLock, AreSpindlesPut, spindles_none, last_size, spindles_next}
+use Rattle.rack.proofs.Together.{all_reverse}
+use Rattle.rack.proofs.lists.Lists.put_spindles.Goals as goal
+
+pub loop-lock-init : goal.loop-lock-init
+loop-lock-init g c =
+    let all = c.args.spindles.items in
+    spindles_none all c.reverse.new.self.items c.args.self.now c.reverse.ensures.items c.requires.lists
+    (subst (All (λ (i : SpindleLock). length i.passes.items ≡ length all + 1)) (sym c.reverse.ensures.items) (all_reverse (λ (i : SpindleLock). length i.passes.items ≡ length all + 1) all c.requires.spindles))
+
+pub unreachable-requires : goal.unreachable-requires
+unreachable-requires g c =
+    let all = c.args.spindles.items in let rest = c.pop.new.self.items in let old = c.args.self.now in let new = c.loop-lock.self in let i = c.in-Some.field-0 in
+    let so_far = subst (λ (l : List SpindleLock). AreSpindlesPut all l old new) c.in-Some.ensures.items c.loop-lock.invariant in
+    let size = last_size all rest i old new so_far in
+    omega (arith, size, i.passes.ok.0, c.in_default-pop.ensures.cases)
+
+pub loop-lock-preserved : goal.loop-lock-preserved
+loop-lock-preserved g c =
+    let all = c.args.spindles.items in let rest = c.pop.new.self.items in let old = c.args.self.now in let new = c.loop-lock.self in let i = c.in-Some.field-0 in
+    let so_far = subst (λ (l : List SpindleLock). AreSpindlesPut all l old new) c.in-Some.ensures.items c.loop-lock.invariant in
+    spindles_next all rest i old new so_far _ c.in-Some-pop.keeper c.pop-in-Some.new.self c.in-Some-pop.ensures.items c.in-Some-pop.ensures.capacity
+    c.push_reserved.ensures.items c.push_reserved.ensures.capacity refl c.push_reserved-in-Some.ensures.items c.push_reserved-in-Some.ensures.capacity
+    c.push_reserved-in-Some-2.ensures.items c.push_reserved-in-Some-2.ensures.capacity refl refl refl refl refl

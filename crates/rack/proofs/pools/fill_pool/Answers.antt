@@ -1,0 +1,20 @@
+use Rattle.std.proofs.Common.{◌≡◌, ◌<◌, ℕ, None, length, refl, arith}
+use Rattle.std.specs.Prelude.{slice_index_or}
+use Rattle.std.proofs.lemmas.List.{get_or_default}
+use Rattle.std.proofs.lemmas.Option.{slice_get-get_or}
+use Rattle.log_layout.specs.declared.segment.SegHead.TheVariants.{Free}
+use Rattle.rack.proofs.Filling.{filled_next, filled_all}
+use Rattle.rack.proofs.pools.fill_pool.Goals as goal
+
+pub loop-index-preserved : goal.loop-index-preserved
+loop-index-preserved g c =
+    let heads = c.args.heads.now in let n = c.loop-index.index in let now = c.loop-index.segments in let inv = c.loop-index.invariant in
+    let lt : n < length heads = omega arith in
+    let in_before : n < length c.args.segments.now = omega (arith, lt, c.requires.segments.count) in
+    let in_now : n < length now = omega (arith, in_before, inv.count) in
+    filled_next g.D.Disk.state heads c.args.segments.now now c.args.pool.now c.loop-index.pool c.fill_slot.new.pool n inv (slice_index_or heads n Free) (slice_index_or now n c.index-segments-index.result) c.fill_slot.new.segment
+    (slice_get-get_or heads n Free lt) in_before (get_or_default now n c.index-segments-index.result None in_now) c.fill_slot.ensures.segment c.fill_slot.ensures.same c.fill_slot.ensures.stands c.fill_slot.ensures.filled
+
+pub returns-clause-filled : goal.returns-clause-filled
+returns-clause-filled g c =
+    (filled_all g.D.Disk.state c.args.heads.now c.args.segments.now c.loop-index.segments c.args.pool.now c.loop-index.pool c.loop-index.index c.loop-index.invariant (omega arith) c.requires.room).0

@@ -1,0 +1,15 @@
+use Rattle.std.proofs.Common.{◌≡◌, ◌<◌, ℕ, List, None, Some, Option, length, sym, ap, subst, ◌∙◌}
+use Rattle.std.specs.Prelude.{Result, Ok, Err, OnOk, OnErr, IfOk, slice_get, slice_index_or, slice_set}
+use Rattle.std.proofs.lemmas.List.{get_or_read, get_or_default, get_or-set_same}
+use Rattle.wol_model.specs.Heads.{Shape}
+use Rattle.volume_images.specs.Volumes.{shapes_of}
+use Rattle.rack.specs.Parts.{CanIssue, IsIssuedPool, Supplies, Restores}
+use Rattle.rack.specs.declared.heads_said.Said.{Said}
+use Rattle.rack.specs.declared.rack.ImageRest.{ImageRest}
+use Rattle.rack.proofs.pools.issue_at.Goals as goal
+
+pub issue_pool-requires-clause-image : goal.issue_pool-requires-clause-image
+issue_pool-requires-clause-image g c = λ s is.
+    let said = c.args.said.now in let old = c.args.images.now in let n = c.args.id in let state = g.D.Disk.state in let m = c.args.config.now.volumes.len in
+    subst (λ (o : Option Said). CanIssue state m n s o (slice_index_or old n c.index-images-id.result)) (sym (get_or_read said n c.index-said-id.result c.requires.in_said c.index-said-id.is None))
+    (subst (CanIssue state m n s (slice_index_or said n None)) (sym (get_or_default old n c.index-images-id.result None c.requires.in_images)) (c.requires.image s is))

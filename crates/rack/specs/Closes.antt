@@ -1,0 +1,150 @@
+-- What closing a rack leaves. `state` is that of a part's disk.
+use Rattle.std.specs.Prelude.{◌≡◌, ◌≢◌, ◌<◌, ◌≤◌, ◌+◌, ◌++◌, ◌⊎◌, ℕ, List, [], ◌∷◌, length, Option, None, Some, not, is_some, unwrap_or, slice_get, slice_range, All, Contains, IsTrue}
+use Rattle.std.specs.List.{AllByRecursion}
+use Rattle.wol_disk.specs.Disk.{Block, State, Rose, IsImageOf}
+use Rattle.wol_model.specs.Blocks.{after}
+use Rattle.wol_model.specs.Extents.{IsValid, AreDistinct, covers_of}
+use Rattle.wol_model.specs.Heads.{Shape}
+use Rattle.wol_model.specs.History.{worker, helper, keeper, writes, flight_of, IsCut}
+use Rattle.wol_model.specs.Images.{Images, image_of, accepted, all_segments, segment_of}
+use Rattle.wol_model.specs.Log.{Record, IsLog, IsIdle, extent_of}
+use Rattle.wol_model.specs.Recovered.{extents_of}
+use Rattle.wol_promise.specs.Manager.{SaysOwnerOrFree}
+use Rattle.wol_promise.specs.Ruled.{entries_of}
+use Rattle.wol_promise.specs.Stands.{HasHistory}
+use Rattle.wol_bay.specs.Bay.{Name, Told, BayState}
+use Rattle.wol_config.specs.declared.config.Config.{Config}
+use Rattle.wol_config.specs.declared.config.VolumeConf.{VolumeConf}
+use Rattle.turn_lock.specs.Histories.{Entry, own}
+use Rattle.turn_lock.specs.Passes.{lock_id, pass_number, pass_mine, IsPartOf}
+use Rattle.turn_lock.specs.declared.lock.TurnLock.{TurnLock}
+use Rattle.turn_lock.specs.declared.pass.PassOf.{PassOf}
+use Rattle.spin_model.specs.Spindles.{SpindleView, StandsFor}
+use Rattle.spin_model.specs.Spun.{state_of}
+use Rattle.spin_model.specs.declared.spun.Spun.{Spun}
+use Rattle.spin_model.specs.declared.spindle.Spindle.{Spindle}
+use Rattle.spin_model.specs.declared.spindle.SpindleBase.{SpindleBase}
+use Rattle.manager.specs.Stands.{notes_of}
+use Rattle.manager.specs.declared.station.Station.{Station}
+use Rattle.volume_images.specs.Left.{IsTold}
+use Rattle.volume_images.specs.Volumes.{shapes_of, images_read, AreLeft}
+use Rattle.rack.specs.Rests.{image_here, segment_here, held_here, IsImageOut, IsSegmentHere}
+use Rattle.rack.specs.Racks.{base_of_station}
+use Rattle.rack.specs.Closing.{IsAccessBut}
+use Rattle.rack.specs.Owners.{recovered_but}
+use Rattle.rack.specs.declared.rack.ImageRest.{ImageRest}
+use Rattle.rack.specs.declared.rack.Rack.{Rack}
+use Rattle.rack.specs.declared.rack.Rest.{Rest}
+
+-- ---- Spindles
+
+-- a spindle stands for all entries of its lock, among which are those of its keeper
+pub record IsClosedSpindle {D : Type 0} (r : Rack D) (k : ℕ) (s : SpindleView) : Type 0 where
+  pub entries : List Entry
+  pub stands : (l : TurnLock Spindle SpindleBase) → slice_get r.shared.spindles.items k ≡ Some l → StandsFor s (lock_id l).base entries
+  pub keeper_part : (p : PassOf Spindle SpindleBase) → slice_get r.keepers.items k ≡ Some p → IsPartOf entries p
+  -- each entry of another pass is one of an access
+  pub accesses : (p : PassOf Spindle SpindleBase) → slice_get r.keepers.items k ≡ Some p → AllByRecursion (IsAccessBut (pass_number p)) entries
+
+-- ---- Volumes
+
+module _ {D : Type 0} where
+  -- the image of volume k isn't out with these, so it gives no segments to what is recovered
+  abbrev pub is_kept_home : List (Option (ImageRest D)) → (k : ℕ) → Rattle.std.specs.Prelude.Bool
+  is_kept_home out k = not (is_some (image_here out k))
+
+  -- the segments of the images that are out with these
+  abbrev pub segments_out : Config → List (Option (ImageRest D)) → Images → List (List Block)
+  segments_out config out images = all_segments (shapes_of config) (accepted (is_kept_home out) images)
+
+  -- what a volume recovers to of them
+  abbrev pub recovered_out : Config → List (Option (ImageRest D)) → Images → (v : ℕ) → List Block
+  recovered_out config out images v = recovered_but (shapes_of config) (is_kept_home out) images v
+
+  -- no pass of a station made a Broke
+  abbrev pub IsUnbroken : Station D → Type 0
+  IsUnbroken s =
+      (flight_of (entries_of (notes_of (pass_mine s.worker))) ≡ None) × (flight_of (entries_of (notes_of (pass_mine s.helper))) ≡ None) × (flight_of (entries_of (notes_of (pass_mine s.keeper))) ≡ None)
+
+  -- and no pass wrote
+  abbrev pub IsQuiet : Station D → Type 0
+  IsQuiet s =
+      IsUnbroken s × ((writes (entries_of (notes_of (pass_mine s.worker))) ≡ []) × (writes (entries_of (notes_of (pass_mine s.helper))) ≡ []) × (writes (entries_of (notes_of (pass_mine s.keeper))) ≡ []))
+
+  -- home of the volume, or a segment of a logger of its view, came back with a fault
+  pub record HasFaultyPart (config : Config) (s : Station D) (old new : Told) : Type 0 where
+    pub more : List (Name × ℕ)
+    pub more_is : new.faulty ≡ old.faulty ++ more
+    pub volume : ℕ
+    pub conf : VolumeConf
+    pub conf_is : slice_get config.volumes.items volume ≡ Some conf
+    pub place : ℕ
+    pub among : Contains more (conf.name, place)
+    pub of_volume : ((volume ≡ s.id) × (place ≡ 1)) ⊎ (Contains (base_of_station s).volume.began.view volume × (2 ≤ place))
+
+-- What images a crash leaves of an open volume, by the entries of its passes: it recovers to what was written to the array at opening,
+-- or to a cut of the writes in flight where a call of a disk had failed and no two of its records in these images have one version.
+pub record RecoversTo {D : Type 0} (config : Config) (out : List (Option (ImageRest D))) (s : Station D) (entries : List Entry) (new : Told) : Type 0 where
+  pub cut : (images : Images) → AreLeft config new images → AreDistinct (covers_of (extents_of s.id (segments_out config out images)))
+      → IsCut (base_of_station s).volume.began.array (writes (entries_of (notes_of entries))) (unwrap_or (flight_of (entries_of (notes_of entries))) []) (recovered_out config out images s.id)
+  pub whole : (images : Images) → AreLeft config new images → flight_of (entries_of (notes_of entries)) ≡ None
+      → recovered_out config out images s.id ≡ after (base_of_station s).volume.began.array (writes (entries_of (notes_of entries)))
+  pub distinct : (images : Images) → AreLeft config new images → flight_of (entries_of (notes_of entries)) ≡ None → AreDistinct (covers_of (extents_of s.id (segments_out config out images)))
+
+-- the entries of a volume, which are those of its passes, and what they leave
+pub record IsClosedVolume {D : Type 0} (tells : Rattle.std.specs.Prelude.Bool) (config : Config) (out : List (Option (ImageRest D))) (old new : BayState) (s : Station D) : Type 0 where
+  pub entries : List Entry
+  pub worker_part : IsPartOf entries s.worker
+  pub helper_part : IsPartOf entries s.helper
+  pub keeper_part : IsPartOf entries s.keeper
+  pub no_more : (n : ℕ) → n ≢ worker → n ≢ helper → n ≢ keeper → own n entries ≡ []
+  pub history : HasHistory (IsTrue tells) (base_of_station s).volume.began (notes_of entries)
+  -- a failed call has its cause
+  pub cause : (flight_of (entries_of (notes_of entries)) ≡ None → ⊥) → Rose old.faults new.faults
+  pub faulty : (flight_of (entries_of (notes_of entries)) ≡ None → ⊥) → IsTold (HasFaultyPart config s) old.told new.told
+  pub recovers : IsTrue tells → IsTold (λ o n. RecoversTo config out s entries n) old.told new.told
+
+-- ---- The parts of images
+
+module _ {D : Type 0} where
+  -- the part is here: a label, a home or a segment
+  abbrev pub IsPartHere : Rest D → Spun D → Type 0
+  IsPartHere r p =
+      ((k : ℕ) × (image : ImageRest D) × (image_here r.images.items k ≡ Some image) × ((image.label ≡ p) ⊎ (image.home ≡ Some p))) ⊎ ((k : ℕ) × (i : ℕ) × IsSegmentHere r k i p)
+
+  -- one of them had a fault
+  pub record HasFaultIn (state : D → State) (r : Rest D) : Type 0 where
+    pub part : Spun D
+    pub here : IsPartHere r part
+    pub fault : 0 < (state_of state part).faults
+
+-- a log of an open volume, whose records that keep a block lie in it, on a logger of its view
+pub record IsLogOfStation {D : Type 0} (s : Station D) (k : ℕ) (bs : List Block) : Type 0 where
+  pub records : List Record
+  pub log : IsLog bs s.id records
+  pub within : All (λ (r : Record). IsValid (extent_of r).cover → r.head.first + r.head.count ≤ (base_of_station s).volume.began.home_blocks) records
+
+-- Where an image of segment i of volume k comes from: the segment was here when the rack was closed; or it was in its pool; or a manager had it.
+pub data ComesFrom {D : Type 0} (state : D → State) (r : Rack D) (k i : ℕ) (bs : List Block) : Type 0 where
+  from_here : (p : Spun D) → IsSegmentHere r.rest k i p → IsImageOf (state_of state p).values bs → ComesFrom state r k i bs
+  from_pool : IsIdle bs → ComesFrom state r k i bs
+  from_manager : (s : Station D) → Contains r.stations.items s → Contains (base_of_station s).volume.began.view k → SaysOwnerOrFree s.id bs → (IsUnbroken s → IsLogOfStation s k bs) → ComesFrom state r k i bs
+
+-- The image that is left of volume k, by its parts: those that were here have images that they had.
+pub record IsLeftOfParts {D : Type 0} (state : D → State) (s : Shape) (r : Rack D) (k : ℕ) (image : ImageRest D) (c : List Block) : Type 0 where
+  pub sized : length c ≡ Rattle.wol_model.specs.Images.image_size s
+  pub label : IsImageOf (state_of state image.label).values (slice_range c 0 2)
+  pub home : (p : Spun D) → image.home ≡ Some p → IsImageOf (state_of state p).values (slice_range c 2 (2 + s.home))
+  pub segments : (i : ℕ) → i < s.segments → ComesFrom state r k i (segment_of s c i)
+
+-- the images that are left: those that were out have whole blocks, part by part
+abbrev pub AreLeftOfParts : {D : Type 0} → (D → State) → Config → Rack D → Told → Type 0
+AreLeftOfParts {D} state config r new = (images : Images) → AreLeft config new images → (k : ℕ) (s : Shape) (image : ImageRest D) → slice_get (shapes_of config) k ≡ Some s
+    → image_here r.rest.images.items k ≡ Some image → (c : List Block) × (image_of images k ≡ Some c) × IsLeftOfParts state s r k image c
+
+-- ---- Where nothing was written
+
+-- whatever images a crash leaves, each open volume recovers to what the images at entry recovered to as they read
+abbrev pub LeavesOpen : {D : Type 0} → Config → Rack D → (entry new : Told) → Type 0
+LeavesOpen config r entry new = (images : Images) → AreLeft config new images
+    → All (λ s. recovered_out config r.rest.images.items images s.id ≡ recovered_out config r.rest.images.items (images_read config entry) s.id) r.stations.items

@@ -1,0 +1,277 @@
+// A rack is closed.
+ghost use Rattle.std.specs.Prelude.{◌≡◌, ◌<◌, ◌≤◌, ◌++◌, ℕ, List, [], length, vec_capacity, Some, IsSome, All, IsTrue, slice_get, slice_index_or};
+ghost use Rattle.wol_disk.specs.Disk.{Rose};
+ghost use Rattle.wol_bay.specs.Bay.{Name, Told, outs, at_name, IsHome};
+ghost use Rattle.wol_config.specs.Configs.{IsValid};
+ghost use Rattle.spin_model.specs.Spindles.{SpindleView};
+ghost use Rattle.volume_images.specs.Left.{IsTold};
+ghost use Rattle.volume_images.specs.Volumes.{shapes_of};
+ghost use Rattle.rack.specs.Foreign.{AreForeign};
+ghost use Rattle.rack.specs.Racks.{IsClosable};
+ghost use Rattle.rack.specs.Opens.{BeganWith};
+ghost use Rattle.rack.specs.Closes.{IsClosedSpindle, IsClosedVolume, IsQuiet, AreLeftOfParts, HasFaultIn, LeavesOpen};
+ghost use Rattle.rack.specs.Closing.{pool_in, spindle_in, ArePoolsTaken, AreSpindlesTaken, LeavesNoneOut};
+ghost use Rattle.rack.specs.declared.rack.VolumePasses.{VolumePasses};
+
+use crate::lists::end_passes;
+use crate::pools::empty_pool;
+use crate::rack::{PoolPass, Rack, Rest, VolumePasses};
+use crate::rest::give_back;
+use log_segment::FreeSegment;
+use logger::Shared;
+use manager::Station;
+use seg_pool::Pool;
+use spin_model::Spindle;
+use turn_lock::{Pass, TurnLock};
+use wol_bay::Bay;
+use wol_config::Config;
+use wol_disk::Disk;
+
+impl<D: Disk> Rest<D> {
+    ghost use Rattle.std.specs.Prelude.{◌≡◌, ◌≢◌, ◌<◌, ◌≤◌, ◌+◌, ◌++◌, ◌∷◌, ℕ, List, [], length, vec_capacity, Some, slice_get};
+    ghost use Rattle.turn_lock.specs.Passes.{lock_id};
+    ghost use Rattle.turn_lock.specs.declared.lock.TurnLock.{TurnLock};
+    ghost use Rattle.seg_pool.specs.declared.base.PoolBase.{PoolBase};
+    ghost use Rattle.seg_pool.specs.declared.pool.Pool.{Pool};
+    ghost use Rattle.log_segment.specs.declared.free.FreeSegment.{FreeSegment};
+    ghost use Rattle.wol_model.specs.Heads.{Shape};
+    ghost use Rattle.wol_config.specs.declared.config.Config.{Config};
+    ghost use Rattle.logger.specs.declared.shared.Shared.{Shared};
+    ghost use Rattle.manager.specs.declared.station.Station.{Station};
+    ghost use Rattle.rack.specs.Rests.{spindle_pass, image_here, held_here, OnlyAccess, IsRest};
+    ghost use Rattle.rack.specs.Closing.{CanCloseStations, ClosesStation, ClosesStations, CanClosePool, CanClosePools, CanPutAllHeld, PutsAllHeld, RefillsAll, KeepsLogger, KeepsSpindles, KeepsOtherRows, HasSpindlePasses, StandsClosed, CanCloseSpindles, AreClosed};
+
+    // Each station's lock is closed, and what its manager had comes back.
+    fn close_stations(&mut self, stations: Vec<Station<D>>)
+        requires { (config : Config) × (shared : Shared D) × CanCloseStations D.state config shared stations.items self.old }
+        ensures rest { (config : Config) (shared : Shared D) → CanCloseStations D.state config shared stations.items self.old → IsRest D.state config shared [] self.new }
+        ensures closed { ClosesStations D.tells D.state stations.items self.old self.new }
+        ensures accesses { (config : Config) (shared : Shared D) → CanCloseStations D.state config shared stations.items self.old → OnlyAccess self.new }
+    {
+        let mut stations = stations;
+        while let Some(station) = stations.pop() {
+            self.close_station(station);
+        }
+        stations.destroy_empty();
+    }
+
+    // One station's lock is closed.
+    fn close_station(&mut self, station: Station<D>)
+        requires { (config : Config) × (shared : Shared D) × (before : List (Station D)) × CanCloseStations D.state config shared (before ++ station ∷ []) self.old }
+        ensures rest { (config : Config) (shared : Shared D) (before : List (Station D)) → CanCloseStations D.state config shared (before ++ station ∷ []) self.old → CanCloseStations D.state config shared before self.new }
+        ensures closed { ClosesStation D.tells D.state station self.old self.new }
+    {
+        let Station {
+            id,
+            lock,
+            worker,
+            helper,
+            keeper,
+        } = station;
+        let Some(mut passes) = self.rooms.managers.pop() else {
+            unreachable!()
+        };
+        passes.push_reserved(worker);
+        passes.push_reserved(helper);
+        passes.push_reserved(keeper);
+        let manager = lock.close(passes);
+        self.put_manager(id, manager.release());
+    }
+
+    // The pool of volume `id` is closed, and its segments and those that came back with lanes go to their places.
+    fn close_pool(
+        &mut self,
+        id: usize,
+        lock: TurnLock<Pool<FreeSegment<D>>>,
+        room: Vec<PoolPass<D>>,
+    )
+        requires pool { (volumes : ℕ) × (s : Shape) × CanClosePool D.state volumes id s lock self.old }
+        requires empty { room.items ≡ [] }
+        requires room { length self.old.passes.items ≤ vec_capacity room }
+        ensures image { RefillsAll D.state (lock_id lock).base.blocks self.old id (image_here self.old.images.items id) (image_here self.new.images.items id) }
+        ensures held { (v : ℕ) → held_here self.new v id ≡ [] }
+        ensures others { (k : ℕ) → k ≢ id → KeepsLogger self.old self.new k }
+        ensures spindles { KeepsSpindles self.old self.new }
+        ensures rooms { self.new.rooms ≡ self.old.rooms }
+    {
+        let room = gather_pools(&mut self.passes, id, room);
+        let pool = lock.close(room);
+        self.put_all_held(id);
+        empty_pool(pool, &mut self.images[id]);
+    }
+
+    // The segments of volume `id` that came back with lanes go to their places.
+    fn put_all_held(&mut self, id: usize)
+        requires { CanPutAllHeld self.old id }
+        ensures { PutsAllHeld self.old self.new id }
+    {
+        if self.images[id].is_some() {
+            for volume in 0..self.passes.len() {
+                self.put_held(volume, id);
+            }
+        }
+    }
+
+    // All pools are closed.
+    fn close_pools(&mut self, locks: Vec<TurnLock<Pool<FreeSegment<D>>>>)
+        requires { (config : Config) × CanClosePools D.state config locks.items self.old }
+        ensures images { (k : ℕ) (lock : TurnLock (Pool (FreeSegment D)) PoolBase) → slice_get locks.items k ≡ Some lock → RefillsAll D.state (lock_id lock).base.blocks self.old k (image_here self.old.images.items k) (image_here self.new.images.items k) }
+        ensures held { (v k : ℕ) → k < length locks.items → held_here self.new v k ≡ [] }
+        ensures others { (k : ℕ) → length locks.items ≤ k → KeepsLogger self.old self.new k }
+        ensures spindles { KeepsSpindles self.old self.new }
+        ensures rooms { self.new.rooms ≡ record self.old.rooms { pools = self.new.rooms.pools } }
+    {
+        let mut locks = locks;
+        while let Some(lock) = locks.pop() {
+            let Some(room) = self.rooms.pools.pop() else {
+                unreachable!()
+            };
+            self.close_pool(locks.len(), lock, room);
+        }
+        locks.destroy_empty();
+    }
+
+    // The spindle of volume `id` is closed.
+    fn close_spindle(
+        &mut self,
+        id: usize,
+        lock: TurnLock<Spindle>,
+        keeper: Pass<Spindle>,
+        room: Vec<Pass<Spindle>>,
+    ) -> Spindle
+        requires passes { HasSpindlePasses self.old id lock keeper }
+        requires empty { room.items ≡ [] }
+        requires room { length self.old.passes.items + 1 ≤ vec_capacity room }
+        ensures spindle { StandsClosed lock keeper result }
+        ensures images { self.new.images ≡ self.old.images }
+        ensures rooms { self.new.rooms ≡ self.old.rooms }
+        ensures rows { KeepsOtherRows self.old self.new }
+        ensures others { (v k : ℕ) → k ≢ id → spindle_pass self.new v k ≡ spindle_pass self.old v k }
+    {
+        let mut room = gather_spindles(&mut self.passes, id, room);
+        room.push_reserved(keeper);
+        lock.close(room)
+    }
+
+    // All spindles are closed. They stand in the room for them then, the last first.
+    fn close_spindles(&mut self, locks: Vec<TurnLock<Spindle>>, keepers: Vec<Pass<Spindle>>)
+        requires locks { CanCloseSpindles locks.items keepers.items self.old }
+        requires empty { self.old.rooms.closed.items ≡ [] }
+        ensures closed { AreClosed locks.items keepers.items self.new.rooms.closed.items }
+        ensures images { self.new.images ≡ self.old.images }
+        ensures rows { KeepsOtherRows self.old self.new }
+    {
+        let (mut locks, mut keepers) = (locks, keepers);
+        while let Some(lock) = locks.pop() {
+            let (Some(keeper), Some(room)) = (keepers.pop(), self.rooms.spindles.pop()) else {
+                unreachable!()
+            };
+            let spindle = self.close_spindle(locks.len(), lock, keeper, room);
+            self.rooms.closed.push_reserved(spindle);
+        }
+        locks.destroy_empty();
+    }
+}
+
+impl<D: Disk> VolumePasses<D> {
+    ghost use Rattle.std.specs.Prelude.{◌≡◌, IsSome};
+    ghost use Rattle.rack.specs.Closing.{pool_in, spindle_in, IsPoolTaken, IsSpindleTaken};
+
+    // The pass of the pool of volume `id` goes.
+    fn take_pool(&mut self, id: usize) -> PoolPass<D>
+        requires { IsSome (pool_in self.old id) }
+        ensures { IsPoolTaken id self.old self.new result }
+    {
+        let Some(pass) = self.pools[id].take() else {
+            unreachable!()
+        };
+        pass
+    }
+
+    // The pass of the spindle of volume `id` goes.
+    fn take_spindle(&mut self, id: usize) -> Pass<Spindle>
+        requires { IsSome (spindle_in self.old id) }
+        ensures { IsSpindleTaken id self.old self.new result }
+    {
+        let Some(pass) = self.spindles[id].take() else {
+            unreachable!()
+        };
+        pass
+    }
+}
+
+// Takes the pass of the pool of volume `id` from each row, in order.
+fn gather_pools<D: Disk>(
+    passes: &mut [VolumePasses<D>],
+    id: usize,
+    room: Vec<PoolPass<D>>,
+) -> Vec<PoolPass<D>>
+    requires there { (v : ℕ) (d : VolumePasses D) → v < length passes.old → IsSome (pool_in (slice_index_or passes.old v d) id) }
+    requires empty { room.items ≡ [] }
+    requires room { length passes.old ≤ vec_capacity room }
+    ensures { ArePoolsTaken id passes.old passes.new result.items }
+{
+    let mut room = room;
+    for volume in passes.iter_mut() {
+        room.push_reserved(volume.take_pool(id));
+    }
+    room
+}
+
+// Takes the pass of the spindle of volume `id` from each row, in order.
+fn gather_spindles<D: Disk>(
+    passes: &mut [VolumePasses<D>],
+    id: usize,
+    room: Vec<Pass<Spindle>>,
+) -> Vec<Pass<Spindle>>
+    requires there { (v : ℕ) (d : VolumePasses D) → v < length passes.old → IsSome (spindle_in (slice_index_or passes.old v d) id) }
+    requires empty { room.items ≡ [] }
+    requires room { length passes.old ≤ vec_capacity room }
+    ensures taken { AreSpindlesTaken id passes.old passes.new result.items }
+    ensures capacity { vec_capacity result ≡ vec_capacity room }
+{
+    let mut room = room;
+    for volume in passes.iter_mut() {
+        room.push_reserved(volume.take_spindle(id));
+    }
+    room
+}
+
+/// Closes a rack that `open_all` opened over this bay with this configuration. Each part goes back to its image, and each image
+/// that is out to the bay. The spindles come in order. It takes no memory.
+pub fn close_all<B: Bay>(rack: Rack<B::Part>, bay: &mut B, config: &Config) -> Vec<Spindle>
+    requires config { IsValid config.now }
+    requires rack { IsClosable B.Part.state config.now (B.state bay.old) rack }
+    ensures home { LeavesNoneOut config.now rack.rest.images.items (outs (B.state bay.old)) (outs (B.state bay.new)) }
+    ensures count { length result.items ≡ length (shapes_of config.now) }
+    ensures spindles { (k : ℕ) (s : SpindleView) → slice_get result.items k ≡ Some s → IsClosedSpindle rack k s }
+    ensures stations { All (IsClosedVolume B.Part.tells config.now rack.rest.images.items (B.state bay.old) (B.state bay.new)) rack.stations.items }
+    ensures parts { IsTrue B.Part.tells → IsTold (λ old new. AreLeftOfParts B.Part.state config.now rack new) (B.state bay.old).told (B.state bay.new).told }
+    // since the rack was opened, where nothing was written
+    ensures left { (entry : Told) → IsTrue B.Part.tells → BeganWith B.Part.state config.now entry rack → All (λ s. IsQuiet s) rack.stations.items
+        → IsTold (λ old new. LeavesOpen config.now rack entry new) (B.state bay.old).told (B.state bay.new).told }
+    ensures counts { (B.state bay.old).faults ≤ (B.state bay.new).faults }
+    ensures cause { HasFaultIn B.Part.state rack.rest → Rose (B.state bay.old).faults (B.state bay.new).faults }
+{
+    let Rack {
+        shared,
+        keepers,
+        stations,
+        faults: _,
+        mut rest,
+    } = rack;
+    let Shared { pools, spindles } = shared;
+    rest.close_stations(stations);
+    rest.close_pools(pools);
+    rest.close_spindles(spindles, keepers);
+    let Rest {
+        images,
+        passes,
+        rooms,
+    } = rest;
+    end_passes(passes);
+    give_back(bay, config, images);
+    let mut closed = rooms.closed;
+    closed.reverse();
+    closed
+}

@@ -1,8 +1,0 @@
-// Laws of what images are refused for at opening.
-ghost use Rattle.rack.specs.OpeningLaws.{AcceptedOrFaulty, OneImageFault};
-
-/// An image that may be opened has no fault, and any other has one at most.
-pub fn opening_laws()
-    ensures accepted { AcceptedOrFaulty }
-    ensures one { OneImageFault }
-{}

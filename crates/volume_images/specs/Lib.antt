@@ -1,0 +1,14 @@
+pub mod Contents
+pub mod Settled
+pub mod Formatted
+pub mod Left
+pub mod Volumes
+pub mod Formats
+pub mod Accepted
+pub mod Reads
+pub mod Heads
+pub mod ImageParts
+pub mod Disks
+pub mod Sent
+pub mod Refusals
+pub mod OpeningLaws
