@@ -4,7 +4,6 @@ ghost use Rattle.wol_bay.specs.Bay.{outs};
 ghost use Rattle.wol_config.specs.Configs.{IsValid};
 ghost use Rattle.volume_images.specs.Volumes.{NoneOut};
 ghost use Rattle.rack.specs.Opening.{IsTaken};
-ghost use Rattle.manager.specs.declared.part.Part.{Part};
 
 use crate::images::{Images, open_images};
 use crate::locks::{Issued, IssuedPool, end_spindles, issue_spindles};
@@ -25,7 +24,7 @@ struct Taken<D: Disk> {
 }
 
 // Takes the images out and makes the locks. Where there is no memory each image is in the bay.
-pub(crate) fn take_out<R: Wait, B: Bay>(
+fn take_out<R: Wait, B: Bay>(
     alloc: Global,
     rt: &R,
     bay: &mut B,
