@@ -60,8 +60,5 @@ pub mod PartsThrough
 pub mod Unbroken
 pub mod LeftOfParts
 pub mod QuietClosed
-pub mod FirstRest
-pub mod FirstOpening
 pub mod OthersAccess
 pub mod TakenOut
-pub mod TakenReady
