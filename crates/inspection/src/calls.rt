@@ -1,0 +1,80 @@
+// All volumes of a rack are looked at.
+ghost use Rattle.std.specs.Prelude.{◌≡◌, ◌≤◌, ◌<◌};
+ghost use Rattle.wol_config.specs.Configs.{IsValid};
+ghost use Rattle.inspection.specs.Racks.{CanLook, IsSameRack};
+ghost use Rattle.inspection.specs.Lines.{PrintsVolumes, first_of};
+ghost use Rattle.inspection.specs.declared.calls.Stop.TheVariants.{Sink as sink_failed, Memory as no_memory};
+
+use crate::asked::Asked;
+use crate::lines::append_volume;
+use rack::Rack;
+use report::Trouble;
+use std::alloc::Global;
+use std::sync::Wait;
+use wol_config::Config;
+use wol_disk::{Disk, Failed, NoMemory};
+use wol_io::Sink;
+
+/// Why not all volumes were looked at.
+#[derive(Debug, Drop)]
+pub enum Stop {
+    /// The sink failed.
+    Sink,
+    /// There was no memory.
+    Memory,
+}
+
+impl From<Failed> for Stop {
+    ghost from_gives = { λ _ e. e ≡ sink_failed };
+
+    fn from(_e: Failed) -> Stop {
+        Stop::Sink
+    }
+}
+
+impl From<NoMemory> for Stop {
+    ghost from_gives = { λ _ e. e ≡ no_memory };
+
+    fn from(_e: NoMemory) -> Stop {
+        Stop::Memory
+    }
+}
+
+// The first of what may be wrong.
+fn first_of(first: Option<Trouble>, other: Option<Trouble>) -> Option<Trouble>
+    ensures { result ≡ first_of first other }
+{
+    match first {
+        Some(trouble) => Some(trouble),
+        None => other,
+    }
+}
+
+/// Prints the lines of each volume of a rack in order, and answers what is wrong with the first that isn't in order. A volume is
+/// in order where it was opened and no call of a disk failed until its turn was over.
+///
+/// `Sink`: the sink failed. `Memory`: there was no memory, and the lines of some first volumes were printed.
+pub fn print_volumes<D: Disk, R: Wait, K: Sink>(
+    rt: &R,
+    alloc: Global,
+    asked: Asked,
+    rack: &mut Rack<D>,
+    config: &Config,
+    out: &mut K,
+) -> Result<Option<Trouble>, Stop>
+    requires valid { IsValid config.now }
+    requires rack { CanLook config.now rack.old }
+    ensures same { IsSameRack rack.old rack.new }
+    ensures content { PrintsVolumes D.tells D.state config.now asked rack.old rack.new result (K.faults out.old) (K.faults out.new) (K.taken out.old) (K.taken out.new) }
+    ensures later { K.faults out.old ≤ K.faults out.new }
+{
+    let mut first = None;
+    let mut text = Vec::new(alloc);
+    for volume in 0..config.volumes.len() {
+        let trouble = append_volume(rt, alloc, asked, rack, config, volume as u32, &mut text)?;
+        out.write(&text)?;
+        text.clear();
+        first = first_of(first, trouble);
+    }
+    Ok(first)
+}

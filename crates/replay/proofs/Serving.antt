@@ -1,0 +1,234 @@
+-- Windows that are served one after another.
+use Rattle.std.proofs.Common.{◌≡◌, ◌≤◌, ◌<◌, ◌+◌, ◌^◌, ℕ, zero, suc, Bool, true, not, List, [], ◌∷◌, ◌++◌, length, min, refl, sym, ap, subst, zero-add, ◌∙◌, append-nil, Option, Result, Ok, Err, inl, inr, arith}
+use Rattle.std.specs.Prelude.{count_by, sum_by, slice_index_or, slice_set}
+use Rattle.std.specs.Prelude.{All, OnOk, IfErr}
+use Rattle.std.specs.List.{flat_map, AllByRecursion}
+use Rattle.std.proofs.lemmas.List.Elements.{All-from_recursion}
+use Rattle.std.proofs.lemmas.Bool.{cases_eq}
+use Rattle.std.proofs.lemmas.List.{map-append, length-map, get_or-set_same, get_or-set_other}
+use Rattle.std.proofs.lemmas.List.Concat.{flat_map-append}
+use Rattle.std.proofs.lemmas.List.Sums.{sum_by-append}
+use Rattle.wol_model.specs.Trace as trace
+use Rattle.wol_model.specs.Trace.{Window}
+use Rattle.wol_promise.specs.Run.{joined_lines}
+use Rattle.wol_config.specs.declared.config.Config.{Config}
+use Rattle.wol_config.specs.Configs.{IsValid}
+use Rattle.trace_gen.specs.Generated.{target_of, targets_of}
+use Rattle.trace_windows.specs.Batches.{Batched, IsBatchOf}
+use Rattle.trace_windows.specs.Cutting.{next_number}
+use Rattle.trace_windows.specs.Requests.{IsInside, most_of, numbered, requests_in, requests_in_all}
+use Rattle.trace_windows.specs.declared.request.Request.{Request}
+use Rattle.trace_windows.proofs.Numbering.{numbered_both}
+use Rattle.report.specs.declared.totals.Totals.{Totals}
+use Rattle.request_turns.specs.declared.outcome.Outcome.{Outcome}
+use Rattle.request_turns.specs.Helped.{ManagerLock}
+use Rattle.request_workers.specs.Begun.{SpindlePass, HaveBegun, HaveBegunVolumes}
+use Rattle.request_workers.specs.Floors.{AreInside, HasRun}
+use Rattle.request_workers.specs.Requests.{AreOfVolumes}
+use Rattle.request_workers.specs.declared.floor.Floor.{Floor}
+use Rattle.request_workers.specs.declared.request.Reclaim.{Reclaim}
+use Rattle.request_workers.specs.declared.request.Window.{Window as Answer}
+use Rattle.replay.specs.Counts.{CountsWindow, most_count, was_read, was_written, was_logged, went_home, was_drained}
+use Rattle.replay.specs.Served.{AreSamePasses, AreTotals, HaveStarted, ServedFromStart, ServedWindow, StartsOnce, WasServed, WereServed, is_none_served, outcomes_in}
+use Rattle.replay.specs.Sessions.{AreServedOf, AreVolumes, EndsIn, Finishes, GoesOn, HasBegunWindow, HasServed, lines_of_window, lines_of_windows}
+use Rattle.replay.specs.declared.session.Options.{Options}
+use Rattle.replay.specs.declared.session.Session.{Session}
+use Rattle.replay.specs.declared.stop.Stop.{Stop}
+use Rattle.replay.proofs.Outcomes.{counted_both}
+use Rattle.replay.proofs.Waiting.{joined_both}
+
+-- ---- Passes
+
+pub same_passes : (ps : List SpindlePass) → AreSamePasses ps ps
+same_passes ps = record { count = refl; each = λ k d h. (refl, refl) }
+
+pub same_both : (ps qs rs : List SpindlePass) → AreSamePasses ps qs → AreSamePasses qs rs → AreSamePasses ps rs
+same_both ps qs rs first then = record {
+  count = then.count ∙ first.count;
+  each = λ k d h. let (lock, number) = first.each k d h in let (lock', number') = then.each k d (omega (arith, h, first.count)) in (lock' ∙ lock, number' ∙ number);
+}
+
+-- one place more, at which another value is put
+module _ {B : Type 0} (R : B → B → Type 0) (ps qs : List B) (q : B) (k : ℕ) (room : k < length qs) where
+  pub each_then : ((j : ℕ) (d : B) → j < k → R (slice_index_or ps j d) (slice_index_or qs j d)) → ((d : B) → R (slice_index_or ps k d) q)
+      → (j : ℕ) (d : B) → j < k + 1 → R (slice_index_or ps j d) (slice_index_or (slice_set qs k q) j d)
+  each_then before here j d lt = elim (cases_eq j k) [
+    | inl same ↦ subst (λ (i : ℕ). R (slice_index_or ps i d) (slice_index_or (slice_set qs k q) i d)) (sym same) (subst (λ (z : B). R (slice_index_or ps k d) z) (sym (get_or-set_same qs k q d room)) (here d))
+    | inr other ↦ subst (λ (z : B). R (slice_index_or ps j d) z) (sym (get_or-set_other qs k j q d other)) (before j d (omega (arith, lt, other)))
+  ]
+
+-- ---- The floor
+
+module _ {D : Type 0} (tells : Bool) (mode : Reclaim) where
+  were_more : (ss : List ServedWindow) (s : ServedWindow) (f : Floor D) (ps : List SpindlePass) (g : Floor D) (qs : List SpindlePass) (h : Floor D) (rs : List SpindlePass)
+      → WereServed tells mode ss f ps g qs → WasServed tells mode s g qs h rs → WereServed tells mode (ss ++ s ∷ []) f ps h rs
+  were_more [] s f ps g qs h rs (floor, passes) was =
+      (h, rs, subst (λ (x : Floor D). WasServed tells mode s x ps h rs) floor (subst (λ (x : List SpindlePass). WasServed tells mode s g x h rs) passes was), (refl, refl))
+  were_more (x ∷ ss) s f ps g qs h rs (i, ts, first, others) was = (i, ts, first, were_more ss s i ts g qs h rs others was)
+
+  -- a window more was served
+  pub served_more : (ss : List ServedWindow) (s : ServedWindow) (f : Floor D) (ps : List SpindlePass) (g : Floor D) (qs start : List SpindlePass) (h : Floor D) (rs : List SpindlePass)
+      → ServedFromStart tells mode ss f ps g qs → StartsOnce (not (is_none_served ss)) s.batch.moment qs start → WasServed tells mode s g start h rs
+      → ServedFromStart tells mode (ss ++ s ∷ []) f ps h rs
+  served_more [] s f ps g qs start h rs (floor, passes) starts was = (
+    start,
+    subst (λ (x : List SpindlePass). HaveStarted s.batch.moment x start) passes starts,
+    (h, rs, subst (λ (x : Floor D). WasServed tells mode s x start h rs) floor was, (refl, refl)),
+  )
+  served_more (x ∷ ss) s f ps g qs start h rs (begun, started, were) starts was =
+      (begun, started, were_more (x ∷ ss) s f begun g qs h rs were (subst (λ (x : List SpindlePass). WasServed tells mode s g x h rs) starts was))
+
+pub some_served : (ss : List ServedWindow) (s : ServedWindow) → not (is_none_served (ss ++ s ∷ [])) ≡ true
+some_served [] s = refl
+some_served (x ∷ ss) s = refl
+
+-- ---- Counts
+
+one_outcomes : (s : ServedWindow) → outcomes_in (s ∷ []) ≡ s.answer.outcomes.items
+one_outcomes s = append-nil s.answer.outcomes.items
+
+outcomes_more : (ss : List ServedWindow) (s : ServedWindow) → outcomes_in (ss ++ s ∷ []) ≡ outcomes_in ss ++ s.answer.outcomes.items
+outcomes_more ss s = flat_map-append (λ (x : ServedWindow). x.answer.outcomes.items) ss (s ∷ []) ∙ ap (λ (os : List Outcome). outcomes_in ss ++ os) (one_outcomes s)
+
+count_more : (p : Outcome → Bool) (ss : List ServedWindow) (s : ServedWindow) (a b : ℕ) → a ≡ count_by p (outcomes_in ss) → b ≡ a + count_by p s.answer.outcomes.items → b ≡ count_by p (outcomes_in (ss ++ s ∷ []))
+count_more p ss s a b before more = rw (outcomes_more ss s) (counted_both p (outcomes_in ss) s.answer.outcomes.items 0 a b (before ∙ sym (zero-add (count_by p (outcomes_in ss)))) more ∙ zero-add (count_by p (outcomes_in ss ++ s.answer.outcomes.items)))
+
+-- a count that stands still at its type's end
+sum_more : (f : ServedWindow → ℕ) (ss : List ServedWindow) (s : ServedWindow) (a b : ℕ) → a ≡ min (sum_by f ss) most_count → b ≡ min (a + f s) most_count → b ≡ min (sum_by f (ss ++ s ∷ [])) most_count
+sum_more f ss s a b before more =
+    let all : sum_by f (ss ++ s ∷ []) ≡ sum_by f ss + f s = omega (arith, sum_by-append f ss (s ∷ [])) in
+    rw (more, before, all) (capped (sum_by f ss) (f s) most_count)
+  where
+    capped : (x y m : ℕ) → min (min x m + y) m ≡ min (x + y) m
+    capped x y m = omega arith
+
+pub totals_none : (t : Totals) → t ≡ record { lines = 0; blank = 0; skipped = 0; reads = 0; writes = 0; home = 0; log = 0; drains = 0; blocks = 0; records = 0; span = 0 } → AreTotals [] t
+totals_none t is = rw is (record { reads = refl; writes = refl; home = refl; log = refl; drains = refl; blocks = refl; records = refl })
+
+pub totals_more : (ss : List ServedWindow) (s : ServedWindow) (t u : Totals) → AreTotals ss t → CountsWindow s.answer t u → AreTotals (ss ++ s ∷ []) u
+totals_more ss s t u are counts = record {
+  reads = count_more was_read ss s t.reads u.reads are.reads counts.reads;
+  writes = count_more was_written ss s t.writes u.writes are.writes counts.writes;
+  home = count_more went_home ss s t.home u.home are.home counts.home;
+  log = count_more was_logged ss s t.log u.log are.log counts.log;
+  drains = count_more was_drained ss s t.drains u.drains are.drains counts.drains;
+  blocks = sum_more (λ (x : ServedWindow). x.answer.blocks) ss s t.blocks u.blocks are.blocks counts.blocks;
+  records = sum_more (λ (x : ServedWindow). x.answer.records) ss s t.records u.records are.records counts.records;
+}
+
+-- ---- Windows
+
+pub served_none : (config : Config) → AreServedOf config [] []
+served_none config = record { moments = refl; requests = refl }
+
+pub served_of_more : (config : Config) (ws : List Window) (w : Window) (ss : List ServedWindow) (s : ServedWindow) → AreServedOf config ws ss
+    → IsBatchOf (most_of config) (targets_of config) (next_number (most_of config) (targets_of config) ws) w s.batch → AreServedOf config (ws ++ w ∷ []) (ss ++ s ∷ [])
+served_of_more config ws w ss s are of =
+    let most = most_of config in
+    let targets = targets_of config in
+    let before = requests_in_all most targets ws in
+    let one : requests_in_all most targets (w ∷ []) ≡ requests_in most targets w = append-nil (requests_in most targets w) in
+    let all : requests_in_all most targets (ws ++ w ∷ []) ≡ before ++ requests_in most targets w = flat_map-append (requests_in most targets) ws (w ∷ []) ∙ ap (λ (x : List trace.Request). before ++ x) one in
+    let here : s.batch.requests ≡ numbered (0 + length before) (requests_in most targets w) = of.requests ∙ ap (λ (n : ℕ). numbered n (requests_in most targets w)) (sym (zero-add (length before))) in
+    record {
+      moments = map-append (λ (x : ServedWindow). x.batch.moment) ss (s ∷ []) ∙ rw (are.moments, of.moment) (sym (map-append (λ (x : Window). x.moment) ws (w ∷ [])));
+      requests = flat_map-append (λ (x : ServedWindow). x.batch.requests) ss (s ∷ [])
+          ∙ ap (λ (x : List Request). flat_map (λ (y : ServedWindow). y.batch.requests) ss ++ x) (append-nil s.batch.requests)
+          ∙ rw (are.requests, here, all) (sym (numbered_both 0 before (requests_in most targets w)));
+    }
+
+-- ---- Lines
+
+pub lines_of_more : (config : Config) (options : Options) (ss : List ServedWindow) (s : ServedWindow) → joined_lines (lines_of_windows config options (ss ++ s ∷ []))
+    ≡ joined_lines (lines_of_windows config options ss) ++ joined_lines (lines_of_window config options s)
+lines_of_more config options ss s =
+    ap joined_lines (flat_map-append (lines_of_window config options) ss (s ∷ []) ∙ ap (λ (x : List (List ℕ)). lines_of_windows config options ss ++ x) (append-nil (lines_of_window config options s)))
+    ∙ joined_both (lines_of_windows config options ss) (lines_of_window config options s)
+
+-- each went well
+pub well_more : (P : ServedWindow → Type 0) (ss : List ServedWindow) (s : ServedWindow) → AllByRecursion P ss → P s → AllByRecursion P (ss ++ s ∷ [])
+well_more P [] s all here = (here, tt)
+well_more P (x ∷ ss) s (first, others) here = (first, well_more P ss s others here)
+
+-- ---- Requests that lie in their volumes
+
+pub all_at : {X : Type 0} (P : X → Type 0) (xs : List X) → AllByRecursion P xs → (k : ℕ) (d : X) → k < length xs → P (slice_index_or xs k d)
+all_at P [] all k d lt = absurd (omega (arith, lt))
+all_at P (x ∷ xs) (first, others) zero d lt = first
+all_at P (x ∷ xs) (first, others) (suc k) d lt = all_at P xs others k d (omega (arith, lt))
+
+pub inside_all : (config : Config) (rs : List Request) → AllByRecursion (IsInside (most_of config) (targets_of config)) rs → All (λ (r : Request). r.volume < length config.volumes.items) rs
+inside_all config rs all = All-from_recursion (λ (r : Request). r.volume < length config.volumes.items) rs (each rs all)
+  where
+    each : (xs : List Request) → AllByRecursion (IsInside (most_of config) (targets_of config)) xs → AllByRecursion (λ (r : Request). r.volume < length config.volumes.items) xs
+    each [] all = tt
+    each (x ∷ xs) (first, others) = (omega (arith, first.volume, length-map config.volumes.items target_of), each xs others)
+
+module _ {D : Type 0} (config : Config) (ls : List (ManagerLock D)) (sizes : AreVolumes config ls) (rs : List Request) (lie : AllByRecursion (IsInside (most_of config) (targets_of config)) rs) where
+  pub of_volumes : (n : ℕ) → n ≡ length ls → AreOfVolumes n rs
+  of_volumes n is = All-from_recursion (λ (r : Request). r.volume < n) rs (each rs lie)
+    where
+      each : (xs : List Request) → AllByRecursion (IsInside (most_of config) (targets_of config)) xs → AllByRecursion (λ (r : Request). r.volume < n) xs
+      each [] all = tt
+      each (x ∷ xs) (first, others) = (omega (arith, first.volume, sizes.count, is), each xs others)
+
+  pub within_volumes : AreInside ls rs
+  within_volumes k l lt j r here of =
+      let size = sizes.sizes k l lt in
+      let inside = all_at (IsInside (most_of config) (targets_of config)) rs lie j r here in
+      record {
+        some = inside.some;
+        few = rw size.most inside.short;
+        fits = rw (size.home, ← of) inside.within;
+      }
+
+pub few_volumes : {D : Type 0} (config : Config) (ls : List (ManagerLock D)) (n : ℕ) → AreVolumes config ls → IsValid config → n ≡ length ls → n ≤ 2 ^ 32
+few_volumes config ls n sizes valid is = let most = valid.count.1 in omega (arith, is, sizes.count, length-map config.volumes.items target_of, most)
+
+-- ---- A window is begun and served
+
+pub on_ok : {T E P Q : Type 0} (r : Result T E) → (P → Q) → OnOk r P → OnOk r Q
+on_ok (Ok x) f h = f h
+on_ok (Err e) f h = tt
+
+pub window_begun : {D : Type 0} (tells : Bool) (t : ℕ) (s m n : Session D) → m ≡ record s { keepers = m.keepers; started = true } → StartsOnce s.started t s.keepers.items m.keepers.items
+    → n.floor ≡ record m.floor { keepers = n.floor.keepers }
+    → ((awake : List Bool) × HaveBegun t awake m.keepers.items n.keepers.items × HaveBegunVolumes tells awake m.floor.keepers.items n.floor.keepers.items) → HasBegunWindow tells t s n
+window_begun {D} tells t s m n only starts rest (awake, spindles, volumes) =
+    let floor : m.floor ≡ s.floor = ap (λ (x : Session D). x.floor) only in
+    record {
+      start = m.keepers.items;
+      starts = starts;
+      awake = awake;
+      spindles = spindles;
+      volumes = subst (λ (x : Floor D). HaveBegunVolumes tells awake x.keepers.items n.floor.keepers.items) floor volumes;
+      only = subst (λ (x : Floor D). n.floor ≡ record x { keepers = n.floor.keepers }) floor rest;
+    }
+
+module _ {D : Type 0} (tells : Bool) (config : Config) (options : Options) (b : Batched) (s m n : Session D) (begun : HasBegunWindow tells b.moment s m) (answer : Answer)
+    (run : HasRun tells b.requests options.reclaim m.floor n.floor answer) (counts : CountsWindow answer s.totals n.totals) (same : n.keepers.items ≡ m.keepers.items) where
+  abbrev served_here : HasServed tells options b s n
+  served_here = record {
+    answer = answer;
+    start = begun.start;
+    starts = begun.starts;
+    was = record {
+      awake = begun.awake;
+      begun = m.floor;
+      spindles = subst (λ (x : List SpindlePass). HaveBegun b.moment begun.awake begun.start x) (sym same) begun.spindles;
+      volumes = begun.volumes;
+      only = begun.only;
+      run = run;
+    };
+    counted = counts;
+  }
+
+  pub goes_on : {T : Type 0} (result : Result T Stop) (faults faults' : ℕ) (printed new : Option (List ℕ)) → Finishes result config options b.requests answer faults faults' printed new
+      → OnOk result (GoesOn tells config options b s n faults faults' printed new)
+  goes_on (Ok x) faults faults' printed new (well, calm, prints) = (served_here, well, calm, prints)
+  goes_on (Err e) faults faults' printed new finishes = tt
+
+  pub ends_in : {T : Type 0} (result : Result T Stop) (faults faults' : ℕ) (printed new : Option (List ℕ)) → Finishes result config options b.requests answer faults faults' printed new
+      → IfErr result (λ e. EndsIn e tells config options b s n faults faults' printed new)
+  ends_in (Ok x) faults faults' printed new finishes = tt
+  ends_in (Err e) faults faults' printed new finishes = inr (served_here, finishes)

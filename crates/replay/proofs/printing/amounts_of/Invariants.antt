@@ -1,0 +1,12 @@
+use Rattle.std.proofs.Common.{◌≡◌, ◌≤◌, ◌*◌, take, length}
+use Rattle.std.specs.Prelude.{vec_capacity}
+use Rattle.report.specs.Summaries.{units_of}
+use Rattle.replay.specs.Prints.{all_amounts}
+use Rattle.replay.proofs.printing.amounts_of.Given as goal
+
+abbrev pub invariant-loop-spindle : goal.invariant-loop-spindle
+invariant-loop-spindle l = record {
+  so_far : l.amounts.items ≡ all_amounts l.powers l.counted.started l.counted.ended (take l.spindle-index l.spindles);
+  units : units_of l.amounts.items ≤ l.spindle-index * 1329227995784915872903807060280344576;
+  room : length l.spindles ≤ vec_capacity l.amounts;
+}
