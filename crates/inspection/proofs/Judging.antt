@@ -8,7 +8,7 @@ use Rattle.log_dump.specs.declared.fault.DumpFault.TheVariants.{DiskFault, Down,
 use Rattle.report.specs.declared.trouble.Trouble.{Trouble}
 use Rattle.troubles.specs.Troubles.{trouble_of_part}
 use Rattle.rack.specs.declared.rack.Rack.{Rack}
-use Rattle.inspection.specs.Lines.{IsTelling, LooksAtVolume, trouble_line, trouble_told}
+use Rattle.inspection.specs.Lines.{IsTelling, LooksAtVolume, Telling, trouble_line, trouble_told}
 use Rattle.inspection.specs.declared.asked.Asked.{Asked}
 
 module _ {D : Type 0} (tells : Bool) (state : D → State) (config : Config) (asked : Asked) (r q : Rack D) (k : ℕ) where

@@ -2,6 +2,9 @@ pub mod Serving
 pub mod Looking
 pub mod SameRacks
 pub mod Printing
-pub mod Places
+pub mod Unhelped
+pub mod Telling
+pub mod Opened
+pub mod Whole
 pub mod Placing
 pub mod Judging

@@ -20,7 +20,7 @@ use Rattle.request_turns.proofs.Noting.{notes_at}
 use Rattle.log_dump.specs.Faults.{was_told}
 use Rattle.log_dump.specs.declared.fault.DumpFault.{DumpFault}
 use Rattle.log_dump.specs.declared.fault.DumpFault.TheVariants.{DiskFault, Down, NoMemory}
-use Rattle.inspection.specs.Looks.{AppendsAsked, BreaksIn, LooksAt, note_told}
+use Rattle.inspection.specs.Looks.{AppendsAsked, BreaksIn, HasAdded, LooksAt, note_told}
 use Rattle.inspection.specs.declared.asked.Asked.{Asked}
 
 pub is_note : (l : Look) (operation : Operation) (look : Look) (pass : ℕ) → IsNote l operation [] look (note_told pass operation look)

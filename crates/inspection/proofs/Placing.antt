@@ -1,9 +1,10 @@
 -- The station of a volume, found among all and looked at.
-use Rattle.std.proofs.Common.{◌≡◌, ◌<◌, ◌≤◌, ◌+◌, ℕ, Bool, List, [], length, Some, Result, get_or, refl, sym, ap, subst, ◌∙◌, arith, below_more}
-use Rattle.std.specs.Prelude.{slice_get, slice_set, Contains}
+use Rattle.std.proofs.Common.{◌≡◌, ◌⊎◌, inl, inr, ◌<◌, ◌≤◌, ◌+◌, ℕ, Bool, List, [], length, Option, None, Some, Result, map, get_or, refl, sym, ap, subst, ◌∙◌, arith, below_more}
+use Rattle.std.specs.Prelude.{slice_get, slice_set, slice_index_or, Contains}
 use Rattle.std.specs.Option.{option_map}
 use Rattle.std.specs.declared.alloc.Global.{Global}
 use Rattle.std.specs.declared.vec.Vec.{Vec}
+use Rattle.std.proofs.lemmas.Bool.Decides.{eqb_tells}
 use Rattle.std.proofs.lemmas.List.{length-map}
 use Rattle.std.proofs.lemmas.Option.{slice_get_read, slice_get-map, get_or_from_slice_get, same_Some}
 use Rattle.wol_disk.specs.Disk.{State}
@@ -17,7 +18,7 @@ use Rattle.inspection.specs.Racks.{numbers_of, IsSameStation, IsSameRack, IsStat
 use Rattle.inspection.specs.Lines.{LooksAtVolume}
 use Rattle.inspection.specs.declared.asked.Asked.{Asked}
 use Rattle.inspection.proofs.SameRacks.{rack_set}
-use Rattle.inspection.proofs.Places.{there_is}
+use Rattle.inspection.proofs.Unhelped.{there_is}
 
 module _ {D : Type 0} (stations : List (Station D)) (volume : ℕ) where
   -- none of the first so many is the volume's

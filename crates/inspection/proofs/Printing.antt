@@ -1,6 +1,7 @@
 -- The volumes are printed one after another.
 use Rattle.std.proofs.Common.{◌≡◌, ◌≢◌, ◌⊎◌, inl, inr, ◌<◌, ◌≤◌, ◌+◌, ℕ, zero, suc, Bool, List, [], ◌∷◌, ◌++◌, length, Option, None, Some, Result, Ok, Err, refl, sym, ap, subst, ◌∙◌, arith, append-nil, length-append}
 use Rattle.std.specs.Prelude.{slice_get}
+use Rattle.std.specs.List.{AllZip, flat_map}
 use Rattle.std.specs.Io.KnownBytes.{Appends}
 use Rattle.std.proofs.lemmas.Option.{slice_get_within, same_Some}
 use Rattle.wol_disk.specs.Disk.{State}
@@ -12,8 +13,8 @@ use Rattle.manager.proofs.ReadThrough.{zip_back}
 use Rattle.log_dump.specs.declared.fault.DumpFault.{DumpFault}
 use Rattle.report.specs.declared.trouble.Trouble.{Trouble}
 use Rattle.rack.specs.declared.rack.Rack.{Rack}
-use Rattle.inspection.specs.Racks.{IsSameStation, IsSameRack}
-use Rattle.inspection.specs.Lines.{Telling, IsTelling, AreTellings, LooksAtVolume, text_of, first_of, first_trouble}
+use Rattle.inspection.specs.Racks.{IsSameStation, IsSameRack, IsStationAt}
+use Rattle.inspection.specs.Lines.{Telling, TellsFault, TellsOrder, TellsFailed, IsTelling, AreTellings, LooksAtVolume, text_of, first_of, first_trouble}
 use Rattle.inspection.specs.declared.asked.Asked.{Asked}
 use Rattle.inspection.proofs.SameRacks.{rack_self, rack_then}
 

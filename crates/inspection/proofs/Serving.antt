@@ -7,6 +7,7 @@ use Rattle.wol_promise.specs.Manager.{SegmentPart}
 use Rattle.wol_promise.specs.Ruled.{Noted}
 use Rattle.wol_config.specs.declared.config.Config.{Config}
 use Rattle.logger.specs.Lanes.{logger_of}
+use Rattle.logger.specs.declared.lane.Lane.{Lane}
 use Rattle.logger.specs.declared.shared.Shared.{Shared}
 use Rattle.manager.specs.Seen.{down_of}
 use Rattle.manager.specs.Stands.{Keeps}

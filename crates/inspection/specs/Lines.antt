@@ -1,8 +1,9 @@
 -- What is printed of the volumes of a rack, and what is wrong with them.
-use Rattle.std.specs.Prelude.{◌≡◌, ◌⊎◌, ◌≤◌, ℕ, Bool, List, [], ◌∷◌, length, Option, None, Some, Result, Ok, Err, slice_get}
+use Rattle.std.specs.Prelude.{◌≡◌, ◌⊎◌, ◌≤◌, ◌<◌, ℕ, Bool, List, [], ◌∷◌, length, Option, None, Some, Result, Ok, Err, slice_get, slice_set}
 use Rattle.std.specs.List.{flat_map}
 use Rattle.std.specs.Io.KnownBytes.{Appends}
 use Rattle.wol_disk.specs.Disk.{State, Rose}
+use Rattle.wol_disk.specs.declared.disk.NoMemory.{NoMemory}
 use Rattle.wol_io.specs.Streams.{AppendsFront}
 use Rattle.wol_config.specs.declared.config.Config.{Config}
 use Rattle.manager.specs.declared.part.Part.{Part}

@@ -2,7 +2,7 @@
 use Rattle.std.specs.Prelude.{◌≡◌, ◌<◌, ◌++◌, ◌∷◌, ℕ, Bool, false, List, [], length, Some, Result, Ok, Err, slice_get, IsTrue, OnOk}
 use Rattle.std.specs.List.{AllByRecursion}
 use Rattle.wol_disk.specs.Disk.{State}
-use Rattle.wol_model.specs.History.{Operation}
+use Rattle.wol_model.specs.History.{Operation, Kept, worker}
 use Rattle.wol_promise.specs.Policy.{Look}
 use Rattle.wol_promise.specs.Ruled.{Noted}
 use Rattle.wol_config.specs.Documents.{names_of}

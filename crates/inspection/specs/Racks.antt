@@ -1,5 +1,5 @@
 -- The rack whose volumes are looked at.
-use Rattle.std.specs.Prelude.{◌≡◌, ℕ, List, length, map, None, Some, slice_get, Contains, All}
+use Rattle.std.specs.Prelude.{◌≡◌, ◌<◌, ℕ, List, length, map, None, Some, slice_get, Contains, All}
 use Rattle.std.specs.List.{AllByRecursion, AllZip}
 use Rattle.wol_config.specs.declared.config.Config.{Config}
 use Rattle.turn_lock.specs.Passes.{pass_mine, IsFree, IsSamePass}

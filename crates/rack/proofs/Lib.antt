@@ -60,5 +60,16 @@ pub mod PartsThrough
 pub mod Unbroken
 pub mod LeftOfParts
 pub mod QuietClosed
+pub mod FirstRest
+pub mod FirstOpening
+mod TakenOut
+mod TakenReady
+mod TakenBegun
+mod OpeningSteps
 pub mod OthersAccess
-pub mod TakenOut
+pub mod Without
+pub mod OpenAway
+pub mod OpenNamed
+pub mod OpenBase
+pub mod OneOpened
+pub mod OneClosable

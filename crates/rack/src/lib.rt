@@ -1,4 +1,4 @@
-//! All volumes of a bay: what opening them takes, and how they are closed together.
+//! All volumes of a bay: they are opened and closed together.
 #![tactic(auto)]
 
 mod all;
@@ -10,9 +10,12 @@ mod locks;
 mod pools;
 mod rack;
 mod rest;
+#[cfg(test)]
+mod tests;
 mod volume_fault;
 mod volumes;
 
+pub use all::open_all;
 pub use closing::close_all;
 pub use rack::Rack;
 pub use volume_fault::VolumeFault;

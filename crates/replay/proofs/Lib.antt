@@ -3,5 +3,13 @@ pub mod Outcomes
 pub mod Refused
 pub mod Waiting
 pub mod Serving
+pub mod AnswersServed
+pub mod FirstsServed
+pub mod LinesTold
+pub mod RacksServed
+pub mod ServingOn
+pub mod Accounts
+pub mod Closed
 pub mod LinesServed
 pub mod Energies
+pub mod Stopped

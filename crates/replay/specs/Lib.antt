@@ -5,3 +5,5 @@ pub mod Endings
 pub mod Prints
 pub mod Served
 pub mod Sessions
+pub mod Runs
+pub mod Replays

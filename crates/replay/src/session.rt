@@ -43,7 +43,7 @@ pub struct Options {
 }
 
 /// What windows are served on, and what was counted of those that were.
-pub struct Session<D: Disk> {
+pub(crate) struct Session<D: Disk> {
     pub floor: Floor<D>,
     pub keepers: Vec<Pass<Spindle>>,
     pub totals: Totals,
@@ -93,7 +93,7 @@ fn finish<K: Sink>(
 }
 
 impl<D: Disk> Session<D> {
-    pub fn new(floor: Floor<D>, keepers: Vec<Pass<Spindle>>) -> Session<D>
+    pub(crate) fn new(floor: Floor<D>, keepers: Vec<Pass<Spindle>>) -> Session<D>
         ensures { result ≡ record { floor = floor; keepers = keepers; totals = no_totals; started = false } }
     {
         Session {
@@ -288,7 +288,7 @@ impl<D: Disk> Session<D> {
 
     /// Serves the windows of the lines that are given, each as soon as it is whole. Where no further line is given the last one
     /// is served too, but not where there is no memory for a line.
-    pub fn serve_all<R: Threads + Wait + Sync, S: Source, K: Sink, G: Gate + Sync>(
+    pub(crate) fn serve_all<R: Threads + Wait + Sync, S: Source, K: Sink, G: Gate + Sync>(
         &mut self,
         rt: &R,
         alloc: Global,

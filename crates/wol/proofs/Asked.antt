@@ -1,5 +1,5 @@
 -- The one command that words ask for.
-use Rattle.std.proofs.Common.{◌≡◌, inl, inr, Bool, true, false, sym, ap, subst, ◌∙◌, ◌≤◌, ◌^◌, arith, ℕ, List, true≢false, refl}
+use Rattle.std.proofs.Common.{◌≡◌, ◌⊎◌, inl, inr, Bool, true, false, sym, ap, subst, ◌∙◌, ◌≤◌, ◌^◌, arith, ℕ, List, true≢false, refl}
 use Rattle.wol_model.specs.Trace.{Target}
 use Rattle.solo.specs.Volume.{IsVolume, target_of}
 use Rattle.solo.specs.declared.volume.Volume.{Volume}

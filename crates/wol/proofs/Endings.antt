@@ -1,5 +1,5 @@
 -- What is told at the end of a run.
-use Rattle.std.proofs.Common.{◌≡◌, inl, inr, ℕ, List, [], ◌∷◌, Option, Ok, Err, refl, sym, subst, append-nil, arith}
+use Rattle.std.proofs.Common.{◌≡◌, inl, inr, ℕ, List, [], ◌∷◌, Option, Ok, Err, refl, sym, subst, ◌∙◌, append-nil, arith}
 use Rattle.msr_trace.specs.declared.format.BadLine.{BadLine}
 use Rattle.wol_disk.specs.Disk.{Block, Rose, Values}
 use Rattle.wol_bay.specs.Bay.{Told}

@@ -3,6 +3,7 @@ mod Complete
 mod Endings
 mod FormatEndings
 mod GenEndings
+mod LookEndings
 mod Pending
 mod Taken
 mod Unread

@@ -7,20 +7,19 @@ use Rattle.command_words.specs.declared.command.Command.TheVariants.{Solo, Forma
 
 -- whether a command uses the bay
 abbrev pub uses_bay : Command → Bool
-uses_bay (Solo volume) = true
-uses_bay Format = true
-uses_bay command = false
+uses_bay (Gen asked) = false
+uses_bay command = true
 
 -- whether it uses the trace that it is given
 abbrev pub uses_trace : Command → Bool
 uses_trace (Solo volume) = true
+uses_trace (Replay options) = true
 uses_trace command = false
 
 -- whether it uses the configuration
 abbrev pub uses_config : Command → Bool
-uses_config Format = true
-uses_config (Gen asked) = true
-uses_config command = false
+uses_config (Solo volume) = false
+uses_config command = true
 
 -- the words ask for no command that passes the test
 abbrev pub NoneOf : (Command → Bool) → List (List ℕ) → Type 0
@@ -29,8 +28,6 @@ NoneOf test words = (command : Command) → IsCommand words command → test com
 -- a command that isn't built yet
 abbrev pub IsPending : Command → Type 0
 IsPending (Replay options) = ⊤
-IsPending Check = ⊤
-IsPending Dump = ⊤
 IsPending (Soak asked options) = ⊤
 IsPending command = ⊥
 

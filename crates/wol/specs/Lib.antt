@@ -4,3 +4,4 @@ pub mod Tops
 pub mod Settings
 pub mod Generating
 pub mod Formatting
+pub mod Inspecting

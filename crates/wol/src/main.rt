@@ -2,6 +2,7 @@
 #![tactic(auto)]
 
 mod formatting;
+mod inspecting;
 mod listing;
 mod settings;
 mod status;

@@ -11,11 +11,14 @@ ghost use Rattle.wol.specs.Tops.{EndsWith, HasBadLine, HasMoreLines, IsDoneOrMem
 ghost use Rattle.wol.specs.Settings.{HasNoConfig, IsConfigured};
 ghost use Rattle.wol.specs.Generating.{RunsGen};
 ghost use Rattle.wol.specs.Formatting.{RunsFormat};
+ghost use Rattle.wol.specs.Inspecting.{RunsLook};
 
 use crate::formatting::format;
+use crate::inspecting::inspect;
 use crate::listing::generate;
 use crate::telling::{NO_MEMORY, end_with, tell};
 use command_words::{Command, Generated, WordsFault, command_of};
+use inspection::Asked;
 use solo::Volume;
 use std::alloc::Global;
 use std::sync::Wait;
@@ -28,15 +31,18 @@ use wol_io::{Gate, Sink, Source};
 /// The words are those after the program's name. `solo HOST DISK BLOCKS` makes the image `solo` in the bay and runs on it
 /// the lines of the trace that belong to that host and disk. `gen SEED LINES` prints the first LINES lines of the trace that
 /// SEED generates on the volumes of the configuration. `format` makes the image of each volume of the configuration anew,
-/// and prints a line for each. `replay`, `check`, `dump` and `soak` are read and not yet run: they end as words that aren't a
-/// command. Which words are a command is what `clap` makes of them.
+/// and prints a line for each. `check` opens the volumes of the configuration and prints a line for each: what its array is,
+/// or what is wrong with it. `dump` prints the records of each in the same way. Which words are a command is what `clap` makes
+/// of them.
 ///
 /// 0: done; a trace that was run was read to its end. 1: the words aren't a command. 2: the configuration's bytes are none.
-/// 3: a line is no line of a trace; all lines before it were run. 4: the bay or a part of an image failed. 7: the sink failed, and
-/// nothing more is written to it. 8: the source of the configuration or of the trace failed; the whole lines before were run.
-/// 9: there was no memory. 10: there are more than 2^32 lines.
+/// 3: a line is no line of a trace; all lines before it were run. 4: the bay or a part of an image failed. 5: an image isn't what
+/// the configuration says, is damaged, or has a segment or a record that it shouldn't have. 6: a view names a logger that isn't
+/// configured or whose image was refused. 7: the sink failed, and nothing more is written to it. 8: the source of the
+/// configuration or of the trace failed; the whole lines before were run. 9: there was no memory. 10: there are more than 2^32
+/// lines. 12: an image isn't there. Where volumes are looked at it is the status of the first that isn't in order.
 pub fn run<R: Threads + Wait + Sync, C: Source, S: Source, K: Sink, B: Bay, G: Gate + Sync>(
-    _rt: &R,
+    rt: &R,
     alloc: Global,
     words: &[String],
     config: &mut C,
@@ -62,6 +68,11 @@ where
     // leaves are sound, and each volume of the configuration recovers to zeros; at each exit an image is as it was, has no
     // label or is whole.
     ensures formatted { IsCommand (map string_bytes words.now) Command.Format → RunsFormat (C.left config.old) (C.faults config.old) (C.faults config.new)
+        (B.state bay.old) (B.state bay.new) result (K.taken out.old) (K.taken out.new) }
+    // The lines of the volumes, each by what its image and the others say as they read, or by its first fault.
+    ensures checked { IsCommand (map string_bytes words.now) Command.Check → RunsLook B.Part.tells B.Part.state Asked.Check (C.left config.old) (C.faults config.old) (C.faults config.new)
+        (B.state bay.old) (B.state bay.new) result (K.taken out.old) (K.taken out.new) }
+    ensures dumped { IsCommand (map string_bytes words.now) Command.Dump → RunsLook B.Part.tells B.Part.state Asked.Dump (C.left config.old) (C.faults config.old) (C.faults config.new)
         (B.state bay.old) (B.state bay.new) result (K.taken out.old) (K.taken out.new) }
     // Words that ask for no command that is built.
     ensures refused { AskForNone (map string_bytes words.now) → EndsWith (codes "fault 1 words\n") 1 result (K.taken out.old) (K.taken out.new)
@@ -89,14 +100,15 @@ where
     ensures calm { K.faults out.old < K.faults out.new → result ≡ 7 }
 {
     match command_of(alloc, words) {
-        Ok(command) => obey(alloc, command, config, trace, out, bay, gate),
+        Ok(command) => obey(rt, alloc, command, config, trace, out, bay, gate),
         Err(WordsFault::NotACommand) => end_with(out, b"fault 1 words\n", 1),
         Err(WordsFault::NoMemory) => end_with(out, NO_MEMORY, 9),
     }
 }
 
 // Runs the command, and answers the exit status.
-fn obey<C: Source, S: Source, K: Sink, B: Bay, G: Gate + Sync>(
+fn obey<R: Threads + Wait + Sync, C: Source, S: Source, K: Sink, B: Bay, G: Gate + Sync>(
+    rt: &R,
     alloc: Global,
     command: Command<'_>,
     config: &mut C,
@@ -124,6 +136,11 @@ where
     // label or is whole.
     ensures formatted { command.entry ≡ Command.Format → RunsFormat (C.left config.old) (C.faults config.old) (C.faults config.new)
         (B.state bay.old) (B.state bay.new) result (K.taken out.old) (K.taken out.new) }
+    // The lines of the volumes, each by what its image and the others say as they read, or by its first fault.
+    ensures checked { command.entry ≡ Command.Check → RunsLook B.Part.tells B.Part.state Asked.Check (C.left config.old) (C.faults config.old) (C.faults config.new)
+        (B.state bay.old) (B.state bay.new) result (K.taken out.old) (K.taken out.new) }
+    ensures dumped { command.entry ≡ Command.Dump → RunsLook B.Part.tells B.Part.state Asked.Dump (C.left config.old) (C.faults config.old) (C.faults config.new)
+        (B.state bay.old) (B.state bay.new) result (K.taken out.old) (K.taken out.new) }
     ensures refused { IsPending command.entry → EndsWith (codes "fault 1 words\n") 1 result (K.taken out.old) (K.taken out.new) }
     ensures words { result ≡ 1 → IsPending command.entry }
     ensures unchanged { uses_bay command.entry ≡ false → B.state bay.new ≡ B.state bay.old }
@@ -149,14 +166,12 @@ where
     match command {
         Command::Gen(asked) => generate(alloc, asked, config, out),
         Command::Format => format(alloc, config, out, bay),
+        Command::Check => inspect(rt, alloc, Asked::Check, config, out, bay),
+        Command::Dump => inspect(rt, alloc, Asked::Dump, config, out, bay),
         Command::Solo(volume) => match solo::run(alloc, &volume, trace, out, bay, gate) {
             Ok(()) => 0,
             Err(fault) => tell(alloc, out, fault),
         },
-        Command::Replay(_) | Command::Check | Command::Dump | Command::Soak(_, _) => end_with(
-            out,
-            b"fault 1 words\n",
-            1,
-        ),
+        Command::Replay(_) | Command::Soak(_, _) => end_with(out, b"fault 1 words\n", 1),
     }
 }

@@ -1,7 +1,7 @@
 use Rattle.std.proofs.Common.{[], ◌∷◌, ◌++◌, refl, ◌∙◌, arith}
 use Rattle.std.proofs.lemmas.Result.{err_from_is_err_and}
 use Rattle.wol_io.proofs.Appending.{appends_none, keeps_same}
-use Rattle.inspection.proofs.Printing.{begins, front_more, goes_on, tellings_more, tellings_still}
+use Rattle.inspection.proofs.Printing.{begins, front_more, goes_on, stopped, tellings_more, tellings_still}
 use Rattle.inspection.specs.Lines.{Telling}
 use Rattle.inspection.proofs.SameRacks.{can_look_still, rack_then}
 use Rattle.inspection.proofs.calls.print_volumes.Goals as goal

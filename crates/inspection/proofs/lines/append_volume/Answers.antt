@@ -1,5 +1,7 @@
-use Rattle.std.proofs.Common.{Some, refl, ap, ◌∙◌, inl, arith}
+use Rattle.std.proofs.Common.{Some, refl, sym, ap, ◌∙◌, inl, arith}
+use Rattle.std.specs.Prelude.{◌++◌}
 use Rattle.std.proofs.lemmas.Option.{slice_get_read}
+use Rattle.inspection.specs.Lines.{trouble_line}
 use Rattle.inspection.proofs.SameRacks.{rack_self}
 use Rattle.inspection.proofs.lines.append_volume.Goals as goal
 

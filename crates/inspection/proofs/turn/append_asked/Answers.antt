@@ -1,6 +1,7 @@
-use Rattle.std.proofs.Common.{ap, ◌∙◌}
-use Rattle.std.specs.Prelude.{is_some}
-use Rattle.wol_model.specs.History.{worker}
+use Rattle.std.proofs.Common.{◌≡◌, ap, sym, subst, ◌∙◌}
+use Rattle.std.specs.Prelude.{[], is_some}
+use Rattle.wol_model.specs.History.{Operation, worker}
+use Rattle.manager.specs.Stands.{Leaves}
 use Rattle.manager.specs.declared.manager.Manager.{Manager}
 use Rattle.inspection.proofs.Looking.{dump_kept}
 use Rattle.inspection.proofs.turn.append_asked.Goals as goal

@@ -1,3 +1,4 @@
+use Rattle.std.proofs.Common.{[]}
 use Rattle.turn_lock.specs.Passes.{pass_number}
 use Rattle.manager.specs.Seen.{look_of_manager}
 use Rattle.log_dump.specs.Faults.{was_told}

@@ -5,6 +5,7 @@ use Rattle.wol.proofs.Complete.{complete_format, complete_gen}
 use Rattle.wol.proofs.Endings.{comes_of_bad_line, comes_of_lines, done_for, fault_for, has_cause}
 use Rattle.wol.proofs.FormatEndings.{format_comes_of_config}
 use Rattle.wol.proofs.GenEndings.{comes_of_config}
+use Rattle.wol.proofs.LookEndings.{look_comes_of_config}
 use Rattle.wol.proofs.top.obey.Goals as goal
 
 pub returns-in-Gen-clause-generated : goal.returns-in-Gen-clause-generated
@@ -37,6 +38,12 @@ returns-in-Gen-clause-complete_gen g c asked is configured calm sink = complete_
 
 pub returns-in-Format-clause-complete_format : goal.returns-in-Format-clause-complete_format
 returns-in-Format-clause-complete_format g c is configured bay calm sink = complete_format _ _ _ _ _ c.format.result _ _ configured calm bay (λ seven. sink (c.format.ensures.cause seven)) c.format.ensures.content
+
+pub returns-in-Check-clause-config : goal.returns-in-Check-clause-config
+returns-in-Check-clause-config g c two = look_comes_of_config _ _ _ _ _ _ _ _ _ _ _ c.inspect.ensures.content two
+
+pub returns-in-Dump-clause-config : goal.returns-in-Dump-clause-config
+returns-in-Dump-clause-config g c two = look_comes_of_config _ _ _ _ _ _ _ _ _ _ _ c.inspect-in-Dump.ensures.content two
 
 pub generate-requires : goal.generate-requires
 generate-requires g c = record { few = range_of_gen c.args.command c.in-Gen.asked c.in-Gen.is c.requires.range }

@@ -5,11 +5,13 @@ use Rattle.solo.proofs.Imaging.{not_made}
 use Rattle.solo.specs.declared.fault.Fault.TheVariants as solo_fault
 use Rattle.wol_bay.specs.declared.fault.BayFault.TheVariants as bay_fault
 use Rattle.report.specs.declared.fault.Fault.TheVariants as fault
-use Rattle.command_words.specs.declared.command.Command.TheVariants.{Format, Gen, Solo}
+use Rattle.inspection.specs.declared.asked.Asked.TheVariants as asked
+use Rattle.command_words.specs.declared.command.Command.TheVariants.{Format, Check, Dump, Gen, Solo}
 use Rattle.wol.proofs.Asked.{in_range, one_command, one_volume, pending_alone}
 use Rattle.wol.proofs.Endings.{told_fault}
 use Rattle.wol.proofs.FormatEndings.{told_untouched}
 use Rattle.wol.proofs.GenEndings.{told_unread}
+use Rattle.wol.proofs.LookEndings.{look_untouched}
 use Rattle.wol.proofs.top.run.Goals as goal
 
 -- ---- The words are a command
@@ -24,6 +26,12 @@ returns-in-Ok-clause-generated g c asked is = c.obey.ensures.generated asked (on
 
 pub returns-in-Ok-clause-formatted : goal.returns-in-Ok-clause-formatted
 returns-in-Ok-clause-formatted g c is = c.obey.ensures.formatted (one_command (map (string_bytes {Z = Rattle.std.proofs.Common.Global}) c.args.words.now) c.in-Ok.command Format refl c.in-Ok.ensures.ok is)
+
+pub returns-in-Ok-clause-checked : goal.returns-in-Ok-clause-checked
+returns-in-Ok-clause-checked g c is = c.obey.ensures.checked (one_command (map (string_bytes {Z = Rattle.std.proofs.Common.Global}) c.args.words.now) c.in-Ok.command Check refl c.in-Ok.ensures.ok is)
+
+pub returns-in-Ok-clause-dumped : goal.returns-in-Ok-clause-dumped
+returns-in-Ok-clause-dumped g c is = c.obey.ensures.dumped (one_command (map (string_bytes {Z = Rattle.std.proofs.Common.Global}) c.args.words.now) c.in-Ok.command Dump refl c.in-Ok.ensures.ok is)
 
 pub returns-in-Ok-clause-refused : goal.returns-in-Ok-clause-refused
 returns-in-Ok-clause-refused g c none = inl (c.obey.ensures.refused (none c.in-Ok.command c.in-Ok.ensures.ok))
@@ -72,6 +80,12 @@ returns-in-Err-NoMemory-clause-generated g c asked is = told_unread asked _ _ _ 
 pub returns-in-Err-NoMemory-clause-formatted : goal.returns-in-Err-NoMemory-clause-formatted
 returns-in-Err-NoMemory-clause-formatted g c is = told_untouched _ _ _ _ _ c.end_with-in-Err-NoMemory.result _ _ fault.Memory tt refl (inr c.end_with-in-Err-NoMemory.ensures.content)
 
+pub returns-in-Err-NoMemory-clause-checked : goal.returns-in-Err-NoMemory-clause-checked
+returns-in-Err-NoMemory-clause-checked g c is = look_untouched _ _ asked.Check _ _ _ _ _ c.end_with-in-Err-NoMemory.result _ _ fault.Memory tt refl (inr c.end_with-in-Err-NoMemory.ensures.content)
+
+pub returns-in-Err-NoMemory-clause-dumped : goal.returns-in-Err-NoMemory-clause-dumped
+returns-in-Err-NoMemory-clause-dumped g c is = look_untouched _ _ asked.Dump _ _ _ _ _ c.end_with-in-Err-NoMemory.result _ _ fault.Memory tt refl (inr c.end_with-in-Err-NoMemory.ensures.content)
+
 pub obey-requires-clause-range : goal.obey-requires-clause-range
 obey-requires-clause-range g c = λ κs within. in_range (map (string_bytes {Z = Rattle.std.proofs.Common.Global}) c.args.words.now) c.in-Ok.command c.in-Ok.ensures.ok
 
@@ -88,6 +102,12 @@ returns-in-Err-NotACommand-clause-generated g c asked is = absurd (c.in-Err-NotA
 
 pub returns-in-Err-NotACommand-clause-formatted : goal.returns-in-Err-NotACommand-clause-formatted
 returns-in-Err-NotACommand-clause-formatted g c is = absurd (c.in-Err-NotACommand.ensures.refused (ap Err c.in-Err-NotACommand.field-0-is) Format is)
+
+pub returns-in-Err-NotACommand-clause-checked : goal.returns-in-Err-NotACommand-clause-checked
+returns-in-Err-NotACommand-clause-checked g c is = absurd (c.in-Err-NotACommand.ensures.refused (ap Err c.in-Err-NotACommand.field-0-is) Check is)
+
+pub returns-in-Err-NotACommand-clause-dumped : goal.returns-in-Err-NotACommand-clause-dumped
+returns-in-Err-NotACommand-clause-dumped g c is = absurd (c.in-Err-NotACommand.ensures.refused (ap Err c.in-Err-NotACommand.field-0-is) Dump is)
 
 pub returns-in-Err-NotACommand-clause-refused : goal.returns-in-Err-NotACommand-clause-refused
 returns-in-Err-NotACommand-clause-refused g c none = inl c.end_with.ensures.content

@@ -1,0 +1,9 @@
+//! Tests of runs on all volumes of a bay in memory.
+#![tactic(auto)]
+
+#[cfg(test)]
+mod gates;
+#[cfg(test)]
+mod rows;
+#[cfg(test)]
+mod several;
