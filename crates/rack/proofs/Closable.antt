@@ -1,7 +1,6 @@
 -- What the steps of closing a rack need, from what the rack promises.
-use Rattle.std.proofs.Common.{◌≡◌, ◌≢◌, ◌<◌, ◌≤◌, ◌+◌, ◌⊎◌, inl, inr, ℕ, List, [], ◌∷◌, length, get_or, map, Option, Some, None, refl, sym, ap, ◌∙◌, subst, arith}
-use Rattle.std.specs.Prelude.{Contains, All, IsSome, slice_get, slice_index_or}
-use Rattle.std.proofs.lemmas.List.{length-map}
+use Rattle.std.proofs.Common.{◌≡◌, ◌<◌, ◌≤◌, ◌+◌, ◌⊎◌, inl, inr, ℕ, List, [], length, Option, Some, None, refl, sym, ap, ◌∙◌, subst, arith}
+use Rattle.std.specs.Prelude.{Contains, All, IsSome, slice_get}
 use Rattle.std.proofs.lemmas.Option.{none-some, slice_get_within}
 use Rattle.wol_disk.specs.Disk.{State}
 use Rattle.wol_model.specs.Heads.{Shape}
@@ -14,22 +13,20 @@ use Rattle.spin_model.specs.declared.spindle.Spindle.{Spindle}
 use Rattle.spin_model.specs.declared.spindle.SpindleBase.{SpindleBase}
 use Rattle.seg_pool.specs.declared.base.PoolBase.{PoolBase}
 use Rattle.seg_pool.specs.declared.pool.Pool.{Pool}
-use Rattle.seg_pool.specs.Holders.{holder}
 use Rattle.log_segment.specs.declared.free.FreeSegment.{FreeSegment}
 use Rattle.logger.specs.declared.shared.Shared.{Shared}
-use Rattle.manager.specs.declared.station.Station.{Station}
 use Rattle.volume_images.specs.Volumes.{shapes_of}
-use Rattle.rack.specs.Rests.{image_here, segment_here, pool_pass, spindle_pass, held_here, IsImageOut, IsPart, IsImageRest, AreImageRests, IsPassAt, AreLocks, IsRest, IsHeldHere}
-use Rattle.rack.specs.Racks.{base_of_station, IsClosable, AreKeepers, AreOut}
-use Rattle.rack.specs.Closing.{CanCloseStations, CanClosePool, CanClosePools, CanCloseSpindles, HasSpindlePasses, KeepsSpindles, RefillsAll, IsComplete, AreComplete}
+use Rattle.rack.specs.Rests.{image_here, segment_here, pool_pass, spindle_pass, held_here, IsImageOut, IsPart, IsImageRest, AreImageRests, IsPassAt, AreLocks, OnlyAccess, IsRest}
+use Rattle.rack.specs.Racks.{IsClosable, AreKeepers, AreOut}
+use Rattle.rack.specs.Closing.{CanCloseStations, CanClosePool, CanClosePools, CanCloseSpindles, KeepsSpindles, RefillsAll, AreComplete}
 use Rattle.rack.specs.declared.rack.ImageRest.{ImageRest}
 use Rattle.rack.specs.declared.rack.Rack.{Rack}
 use Rattle.rack.specs.declared.rack.Rest.{Rest}
-use Rattle.rack.proofs.Members.{a_value, none_in, is_there, all_member}
+use Rattle.rack.proofs.Members.{a_value, none_in, is_there}
 
 module _ {D : Type 0} (state : D → State) (config : Config) where
   pub stations_may : (b : BayState) (r : Rack D) → IsClosable state config b r → CanCloseStations state config r.shared r.stations.items r.rest
-  stations_may b r can = record { each = can.stations; rising = can.rising; bases = can.bases; locks = can.locks; rest = can.rest }
+  stations_may b r can = record { each = can.stations; rising = can.rising; bases = can.bases; locks = can.locks; rest = can.rest; accesses = can.accesses }
 
   module _ (shared : Shared D) (rest : Rest D) (locks : AreLocks config shared) (is : IsRest state config shared [] rest) where
     abbrev volumes : ℕ
@@ -71,8 +68,8 @@ module _ {D : Type 0} (state : D → State) (config : Config) where
       rooms = is.rooms.pools;
     }
 
-    pub spindles_may : (keepers : List (PassOf Spindle SpindleBase)) (cur : Rest D) → AreKeepers config shared keepers → KeepsSpindles rest cur → cur.rooms ≡ record rest.rooms { pools = cur.rooms.pools } → CanCloseSpindles shared.spindles.items keepers cur
-    spindles_may keepers cur are kept rooms = record {
+    pub spindles_may : (keepers : List (PassOf Spindle SpindleBase)) (cur : Rest D) → AreKeepers config shared keepers → OnlyAccess rest → KeepsSpindles rest cur → cur.rooms ≡ record rest.rooms { pools = cur.rooms.pools } → CanCloseSpindles shared.spindles.items keepers cur
+    spindles_may keepers cur are only kept rooms = record {
       keeper_count = are.0 ∙ sym locks.spindle_count;
       passes = λ k l p at has.
           let lock = locks.spindles k l at in
@@ -82,6 +79,7 @@ module _ {D : Type 0} (state : D → State) (config : Config) where
                 let x = a_value (spindle_pass rest v k) ((is.parts.spindles.here v k (omega (arith, less, kept.count)) (slice_get_within shared.spindles.items k l at)).1 (nobody_there v k)) in
                 (x.0, kept.spindles v k ∙ x.1, is.parts.spindles.each v k l x.0 at x.1);
             keeper_ = subst (λ (n : ℕ). IsPassAt l n p) (sym (kept.count ∙ is.parts.count)) (are.1 k l p at has);
+            accesses = λ v q there. only v k q (sym (kept.spindles v k) ∙ there);
           };
       room_count = ap (λ r. length r.spindles.items) rooms ∙ is.rooms.spindle_count ∙ sym locks.spindle_count;
       rooms = subst (λ r. All (λ row. (row.items ≡ []) × (length cur.passes.items + 1 ≤ Rattle.std.specs.Prelude.vec_capacity row)) r.spindles.items) (sym rooms)

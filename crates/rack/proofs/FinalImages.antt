@@ -1,16 +1,20 @@
 -- The images that a crash leaves of a rack that was closed, by its parts.
-use Rattle.std.proofs.Common.{◌≡◌, ◌≢◌, ◌<◌, ◌≤◌, ◌+◌, ◌^◌, ◌⊎◌, inl, inr, ℕ, zero, suc, Bool, true, false, cond, List, [], ◌∷◌, ◌++◌, length, get_or, map, Option, Some, None, is_some, not, option_map, refl, sym, ap, ◌∙◌, subst, arith}
-use Rattle.std.specs.Prelude.{Contains, All, AllPairs, IsTrue, IsSome, slice_get, slice_index_or, slice_range, option_and_then}
-use Rattle.std.specs.List.{AllByRecursion, AllZip}
+use Rattle.std.proofs.Common.{◌≡◌, ◌≢◌, ◌<◌, ◌≤◌, ◌+◌, ◌^◌, ◌⊎◌, inl, inr, ℕ, zero, suc, Bool, true, false, cond, List, [], ◌∷◌, length, map, Option, Some, None, is_some, not, option_map, refl, sym, ap, ◌∙◌, subst, arith}
+use Rattle.std.specs.Prelude.{Contains, IsTrue, slice_get, slice_index_or, slice_range, unwrap_or}
+use Rattle.std.specs.List.{AllByRecursion}
 use Rattle.std.proofs.lemmas.Bool.{cases_eq, cases_lt}
-use Rattle.std.proofs.lemmas.List.{length-map, get_or-map}
-use Rattle.std.proofs.lemmas.Option.{none-some, same_Some, slice_get_within, slice_get-get_or, slice_get-map, get_or_from_slice_get}
+use Rattle.std.proofs.lemmas.List.{length-map}
+use Rattle.std.proofs.lemmas.Option.{none-some, same_Some, slice_get_within, slice_get-map, get_or_from_slice_get}
 use Rattle.std.proofs.lemmas.List.Elements.{All-contains}
 use Rattle.wol_disk.specs.Disk.{Block, State, Values, IsDisk, TellsContent, IsImageOf}
 use Rattle.wol_model.specs.Heads.{Shape}
-use Rattle.wol_model.specs.Images.{Images, image_of, image_size, home_of, home_in, segment_of, accepted_from, accepted}
-use Rattle.wol_model.specs.Log.{Record, IsLog}
-use Rattle.wol_model.specs.Recovered.{extents_in}
+use Rattle.wol_model.specs.Images.{Images, image_of, image_size, home_in, segment_of, accepted_from, accepted}
+use Rattle.wol_model.specs.Log.{Record}
+use Rattle.wol_model.specs.Blocks.{after}
+use Rattle.wol_model.specs.Extents.{AreDistinct, covers_of}
+use Rattle.wol_model.specs.History.{writes, flight_of, IsCut}
+use Rattle.wol_model.specs.Recovered.{extents_in, extents_of}
+use Rattle.wol_promise.specs.Ruled.{entries_of}
 use Rattle.wol_model.proofs.Images.{idle_none}
 use Rattle.wol_promise.specs.Manager.{Held, SaysOwnerOrFree}
 use Rattle.wol_promise.specs.Stands.{IsHeldBy}
@@ -26,29 +30,31 @@ use Rattle.seg_pool.specs.declared.pool.Pool.{Pool}
 use Rattle.log_segment.specs.Kept.{IsFreeInAll}
 use Rattle.log_segment.specs.Segment.{part_of}
 use Rattle.log_segment.specs.declared.free.FreeSegment.{FreeSegment}
-use Rattle.logger.specs.Lanes.{IsHeld, logger_of, held_in}
+use Rattle.logger.specs.Lanes.{logger_of, held_in}
 use Rattle.logger.specs.declared.lane.HeldSegment.{HeldSegment}
 use Rattle.logger.specs.declared.lane.Lane.{Lane}
 use Rattle.manager.specs.Seen.{parts_of, all_held}
-use Rattle.manager.specs.Stands.{IsReadyLane, notes_of}
+use Rattle.manager.specs.Stands.{notes_of}
 use Rattle.manager.specs.declared.base.ManagerBase.{ManagerBase}
 use Rattle.manager.specs.declared.station.Station.{Station}
 use Rattle.volume_images.specs.Volumes.{shape_in, shapes_of, MayLeave, AreLeft}
 use Rattle.rack.specs.Foreign.{IsForeign}
+use Rattle.rack.specs.Closes.{segments_out, recovered_out}
 use Rattle.rack.specs.Rests.{image_here, segment_here, held_here, away_with, IsImageOut, IsSegmentHere, IsRest}
 use Rattle.rack.specs.Racks.{IsClosable, IsOpenBase, base_of_station}
-use Rattle.rack.specs.Parts.{IsTogether, HasBack, held_parts}
-use Rattle.rack.specs.Closing.{Closing, IsClosing, ClosesStations, KeepsButHome, RefillsAll, KeepsSpindles, GivesBack, home_here}
+use Rattle.rack.specs.Parts.{HasBack, held_parts}
+use Rattle.rack.specs.Closing.{Closing, IsClosing, ClosesStations, KeepsButHome, RefillsAll, KeepsSpindles, GivesBack}
 use Rattle.rack.specs.declared.rack.ImageRest.{ImageRest}
 use Rattle.rack.specs.declared.rack.Rack.{Rack}
 use Rattle.rack.specs.declared.rack.Rest.{Rest}
-use Rattle.rack.proofs.Members.{no_value, a_value, is_there, element_at, here_within, of_map, in_map, of_recursion, none_in, first_in, later_in, is_member}
+use Rattle.rack.proofs.Members.{a_value, is_there, element_at, here_within, of_map, in_map, none_in}
 use Rattle.rack.proofs.LanesAway.{is_lane_of}
 use Rattle.rack.proofs.LeftParts.{all_told, left_size, left_label, left_home, left_segment}
 use Rattle.rack.proofs.Closable.{blocks_at, image_was, images_rest, images_whole}
 use Rattle.rack.proofs.RackClosed.{same_out}
+use Rattle.rack.proofs.StationParts.{zip_at, among, is_base, is_station, image_end, shape_of_image, home_there, lane_there}
 use Rattle.rack.proofs.HeldSegments.{no_log, not_of_other, each_held, of_held}
-use Rattle.rack.proofs.StationRecovers.{IsThereNow, AreLeftNow}
+use Rattle.rack.proofs.StationRecovers.{IsThereNow, AreLeftNow, cut_now, whole_now, distinct_now}
 
 -- ---- Images without those that were refused
 
@@ -56,13 +62,13 @@ no_image : (t : Bool) → ◌≡◌ {A = Option (List Block)} None (cond t None 
 no_image true = refl
 no_image false = refl
 
-accepted_at : (n : ℕ) (refused : ℕ → Bool) (images : Images) (k : ℕ) → image_of (accepted_from n refused images) k ≡ cond (refused (n + k)) None (image_of images k)
+pub accepted_at : (n : ℕ) (refused : ℕ → Bool) (images : Images) (k : ℕ) → image_of (accepted_from n refused images) k ≡ cond (refused (n + k)) None (image_of images k)
 accepted_at n refused [] k = no_image (refused (n + k))
 accepted_at n refused (x ∷ images) zero = ap (λ (m : ℕ). cond (refused m) None x) (omega arith)
 accepted_at n refused (x ∷ images) (suc k) = accepted_at (n + 1) refused images k ∙ ap (λ (m : ℕ). cond (refused m) None (image_of images k)) (omega arith)
 
 -- the image of a shape, by its volume
-volume_at : (config : Config) (k : ℕ) (z : Shape) → slice_get (shapes_of config) k ≡ Some z → (v : VolumeConf) × (slice_get config.volumes.items k ≡ Some v) × (shape_in config v ≡ z)
+pub volume_at : (config : Config) (k : ℕ) (z : Shape) → slice_get (shapes_of config) k ≡ Some z → (v : VolumeConf) × (slice_get config.volumes.items k ≡ Some v) × (shape_in config v ≡ z)
 volume_at config k z at =
     let n = length-map config.volumes.items (shape_in config) in
     let v = element_at config.volumes.items k (let w = slice_get_within (shapes_of config) k z at in omega (arith, n, w)) in
@@ -74,14 +80,6 @@ pub record IsLeftNow {D : Type 0} (state : D → State) (z : Shape) (q : ImageRe
   pub label : IsImageOf (state_of state q.label).values (slice_range c 0 2)
   pub home : (p : Spun D) → q.home ≡ Some p → IsImageOf (state_of state p).values (slice_range c 2 (2 + z.home))
   pub segments : (i : ℕ) (p : Spun D) → segment_here q i ≡ Some p → IsImageOf (state_of state p).values (segment_of z c i)
-
--- the closing at the place of a station
-zip_at : {A B : Type 0} (R : A → B → Type 0) (xs : List A) (ys : List B) (n : ℕ) (x : A) → AllZip R xs ys → slice_get xs n ≡ Some x → (y : B) × (slice_get ys n ≡ Some y) × R x y
-zip_at R [] [] n x all at = absurd (cc at)
-zip_at R [] (y ∷ ys) n x all at = absurd all
-zip_at R (a ∷ xs) [] n x all at = absurd all
-zip_at R (a ∷ xs) (y ∷ ys) zero x all at = let same : a ≡ x = cc at in (y, refl, subst (λ z. R z y) same all.0)
-zip_at R (a ∷ xs) (y ∷ ys) (suc n) x all at = zip_at R xs ys n x all.1 at
 
 module _ {D : Type 0} (state : D → State) (tells : Bool) (told : IsTrue tells) (tell_all : (d : D) → TellsContent (state d)) (sound : (d : D) → IsDisk (state d)) (config : Config) (few_volumes : length (shapes_of config) ≤ 64)
     (b : BayState) (r : Rack D) (can : IsClosable state config b r) (first second : Rest D) (is : IsRest state config r.shared [] first)
@@ -210,29 +208,10 @@ module _ {D : Type 0} (state : D → State) (tells : Bool) (told : IsTrue tells)
       go blocks q was (inr (inl w)) = listed_origin w.0 k i p w.1
       go blocks q was (inr (inr blank)) = was_pooled blank.idle
 
-  -- a station is one of those of the rack
-  pub among : (j : ℕ) (t : Station D) → slice_get r.stations.items j ≡ Some t → Contains r.stations.items t
-  among j t at = (j, slice_get_within r.stations.items j t at, get_or_from_slice_get r.stations.items j t t at)
-
-  pub is_base : (j : ℕ) (t : Station D) → slice_get r.stations.items j ≡ Some t → IsOpenBase config r.shared r.rest.images.items (base_of_station t)
-  is_base j t at = All-contains (λ u. IsOpenBase config r.shared r.rest.images.items (base_of_station u)) r.stations.items t can.bases (among j t at)
-
-  pub is_station : (j : ℕ) (t : Station D) → slice_get r.stations.items j ≡ Some t → Rattle.rack.specs.Racks.IsStation t
-  is_station j t at = All-contains (λ u. Rattle.rack.specs.Racks.IsStation u) r.stations.items t can.stations (among j t at)
-
-  -- an image that was out at closing is there at the end
-  pub image_end : (k : ℕ) → IsImageOut r.rest.images.items k → (q : ImageRest D) × (image_here second.images.items k ≡ Some q)
-  image_end k out = a_value (image_here second.images.items k) (same_out state tells config b r can first second is closed filled kept k ∙ out)
-
-  pub shape_of_image : (k : ℕ) (q : ImageRest D) → image_here second.images.items k ≡ Some q → (z : Shape) × (slice_get (shapes_of config) k ≡ Some z)
-  shape_of_image k q here =
-      let within = here_within second.images.items k q here in
-      element_at (shapes_of config) k (omega (arith, within, kept.image_count, is.parts.images.0))
-
   -- a volume's number is small
   pub owner_small : (j : ℕ) (t : Station D) → slice_get r.stations.items j ≡ Some t → (base_of_station t).volume.began.owner < 2 ^ 32
   owner_small j t at =
-      let q = image_end (base_of_station t).volume.began.owner (is_base j t at).out in
+      let q = image_end state tells config b r can first second is closed filled kept (base_of_station t).volume.began.owner (is_base state tells config b r can first second is closed filled kept j t at).out in
       let within = here_within second.images.items (base_of_station t).volume.began.owner q.0 q.1 in
       omega (arith, within, kept.image_count, is.parts.images.0, few_volumes)
 
@@ -246,10 +225,10 @@ module _ {D : Type 0} (state : D → State) (tells : Bool) (told : IsTrue tells)
     owner = base.volume.began.owner
 
     owner_is : owner ≡ s.id
-    owner_is = (is_station n s s_at).id
+    owner_is = (is_station state tells config b r can first second is closed filled kept n s s_at).id
 
-    open_base : IsOpenBase config r.shared r.rest.images.items base
-    open_base = is_base n s s_at
+    pub open_base : IsOpenBase config r.shared r.rest.images.items base
+    open_base = is_base state tells config b r can first second is closed filled kept n s s_at
 
     abbrev home : List Block
     home = home_in (slice_get (shapes_of config) owner) (image_of images owner)
@@ -257,26 +236,10 @@ module _ {D : Type 0} (state : D → State) (tells : Bool) (told : IsTrue tells)
     -- home as it was closed
     home_left : IsImageOf (state_of state c.manager.home).values home
     home_left =
-        let q = image_end owner open_base.out in
-        let z = shape_of_image owner q.0 q.1 in
+        let q = home_there state tells config b r can first second is closed filled kept n s c s_at ic in
+        let z = shape_of_image state tells config b r can first second is closed filled kept owner q.0 q.1 in
         let x = left_now owner z.0 q.0 z.1 q.1 in
-        let was = image_was state config r.shared first can.locks is second kept.image_count filled owner q.0 q.1 in
-        let here : home_here first owner ≡ Some c.manager.home = ap (λ k. home_here first k) owner_is ∙ ic.home in
-        let home_was : was.0.home ≡ Some c.manager.home = sym (ap (λ (o : Option (ImageRest D)). option_and_then (λ m. m.home) o) was.1) ∙ here in
-        subst (λ bs. IsImageOf (state_of state c.manager.home).values bs) (sym (λ i. home_in (z.1 i) (x.1 i))) (x.2.home c.manager.home (was.2.same.home ∙ home_was))
-
-    -- a segment of a lane
-    lane_there : (l : Lane D) (h : HeldSegment D) → Contains c.manager.lanes.items l → Contains (held_in l) h
-        → (volume_of (part_of h.segment) ≡ logger_of l) × (q : ImageRest D) × (image_here second.images.items (logger_of l) ≡ Some q) × (segment_here q h.index ≡ Some (part_of h.segment))
-    lane_there l h in_lanes in_held =
-        let lane = of_recursion (IsReadyLane state c.manager.id c.manager.most) c.manager.lanes.items l ic.stands.keeps.ready.ready.each in_lanes in
-        let held = of_recursion (IsHeld state (logger_of l) (Rattle.logger.specs.Lanes.lane_owner l) (Rattle.logger.specs.Lanes.segments_in l) l.pool) (held_in l) h lane.lane.each in_held in
-        let in_view : Contains base.volume.began.view (logger_of l) = subst (λ xs. Contains xs (logger_of l)) ic.stands.keeps.locks.view (in_map logger_of c.manager.lanes.items l in_lanes) in
-        let q = image_end (logger_of l) (of_recursion (IsImageOut r.rest.images.items) base.volume.began.view (logger_of l) open_base.loggers_out in_view) in
-        let back = All-contains (HasBack first s.id) c.manager.lanes.items l ic.back in_lanes in
-        let was = image_was state config r.shared first can.locks is second kept.image_count filled (logger_of l) q.0 q.1 in
-        let in_list : Contains (held_here first s.id (logger_of l)) (h.index, part_of h.segment) = subst (λ xs. Contains xs (h.index, part_of h.segment)) (sym back.held) (in_map (λ (g : HeldSegment D). (g.index, part_of g.segment)) (held_in l) h in_held) in
-        (held.volume, q.0, q.1, was.2.back s.id h.index (part_of h.segment) in_list)
+        subst (λ bs. IsImageOf (state_of state c.manager.home).values bs) (sym (λ i. home_in (z.1 i) (x.1 i))) (x.2.home c.manager.home q.2)
 
     -- the index of a segment that is here
     index_within : (k : ℕ) (z : Shape) (q : ImageRest D) (i : ℕ) (p : Spun D) → slice_get (shapes_of config) k ≡ Some z → image_here second.images.items k ≡ Some q → segment_here q i ≡ Some p → i < z.segments
@@ -294,8 +257,8 @@ module _ {D : Type 0} (state : D → State) (tells : Bool) (told : IsTrue tells)
         one : (i : ℕ) (l : Lane D) (h : HeldSegment D) (rs : List Record) (broken : Bool) → Contains c.manager.lanes.items l → Contains (held_in l) h
             → IsThereNow tells state told c.manager base notes ic.stands.keeps open_base.apart (shapes_of config) taken home (record { part = part_of h.segment; lane = i; index = h.index; broken = broken; records = rs })
         one i l h rs broken in_lanes in_held =
-            let t = lane_there l h in_lanes in_held in
-            let z = shape_of_image (logger_of l) t.1 t.2 in
+            let t = lane_there state tells config b r can first second is closed filled kept n s c s_at ic l h in_lanes in_held in
+            let z = shape_of_image state tells config b r can first second is closed filled kept (logger_of l) t.1 t.2 in
             let x = left_now (logger_of l) z.0 t.1 z.1 t.2 in
             let out = is_there (image_here second.images.items (logger_of l)) t.1 t.2 in
             record {
@@ -311,9 +274,9 @@ module _ {D : Type 0} (state : D → State) (tells : Bool) (told : IsTrue tells)
     mine_placed : (k i : ℕ) → AllByRecursion (λ (h : Held (Spun D)). ◌≢◌ {A = ℕ × ℕ} (volume_of h.part, h.index) (k, i)) (all_held 0 c.manager.lanes.items ic.stands.keeps.logs)
         → (l : Lane D) (h : HeldSegment D) → Contains c.manager.lanes.items l → logger_of l ≡ k → Contains (held_in l) h → h.index ≡ i → ⊥
     mine_placed k i never l h in_lanes logger in_held index =
-        of_held (λ (g : Held (Spun D)). ◌≢◌ {A = ℕ × ℕ} (volume_of g.part, g.index) (k, i)) ⊥ 0 c.manager.lanes.items ic.stands.keeps.logs (λ g rs. IsTrue tells → c.manager.down ≡ None → Rattle.log_segment.specs.Kept.Holds state g.segment rs)
+        of_held (λ (g : Held (Spun D)). ◌≢◌ {A = ℕ × ℕ} (volume_of g.part, g.index) (k, i)) ⊥ 0 c.manager.lanes.items ic.stands.keeps.logs (λ g rs. IsTrue tells → c.manager.down ≡ None → Rattle.log_segment.specs.Segment.Holds state g.segment rs)
         ic.stands.keeps.held never l h in_lanes in_held
-        (λ j rs broken x. let v = (lane_there l h in_lanes in_held).0 in x (λ e. ((v ∙ logger) e, index e)))
+        (λ j rs broken x. let v = (lane_there state tells config b r can first second is closed filled kept n s c s_at ic l h in_lanes in_held).0 in x (λ e. ((v ∙ logger) e, index e)))
 
     -- a part of another station isn't a log of this one
     not_mine : (j : ℕ) (t : Station D) (d : Closing D) → j ≢ n → slice_get r.stations.items j ≡ Some t → IsClosing tells state first t d
@@ -321,7 +284,7 @@ module _ {D : Type 0} (state : D → State) (tells : Bool) (told : IsTrue tells)
     not_mine j t d differs t_at id l h in_lanes in_held bs is_image =
         not_of_other owner (base_of_station t).volume.began.owner bs (owner_small j t t_at) owners
         (of_held (IsHeldBy (parts_of tells state) (base_of_station t).volume.began) (SaysOwnerOrFree (base_of_station t).volume.began.owner bs) 0 d.manager.lanes.items id.stands.keeps.logs
-        (λ g rs. IsTrue tells → d.manager.down ≡ None → Rattle.log_segment.specs.Kept.Holds state g.segment rs) id.stands.keeps.held id.stands.keeps.upholds.places.each l h in_lanes in_held
+        (λ g rs. IsTrue tells → d.manager.down ≡ None → Rattle.log_segment.specs.Segment.Holds state g.segment rs) id.stands.keeps.held id.stands.keeps.upholds.places.each l h in_lanes in_held
         (λ i rs broken x. x.owned bs (told, is_image)))
       where
         ids_at : (m : ℕ) (u : Station D) → slice_get r.stations.items m ≡ Some u → slice_get (map (λ (w : Station D). w.id) r.stations.items) m ≡ Some u.id
@@ -331,7 +294,7 @@ module _ {D : Type 0} (state : D → State) (tells : Bool) (told : IsTrue tells)
         owners e = go (cases_lt j n)
           where
             ids : s.id ≡ t.id
-            ids = sym owner_is ∙ e ∙ (is_station j t t_at).id
+            ids = sym owner_is ∙ e ∙ (is_station state tells config b r can first second is closed filled kept j t t_at).id
 
             two : n ≤ j → (n < j) ⊎ (j ≤ n) → ⊥
             two le (inl less) = let rise = can.rising n j s.id t.id less (ids_at n s s_at) (ids_at j t t_at) in omega (arith, rise, ids)
@@ -358,7 +321,7 @@ module _ {D : Type 0} (state : D → State) (tells : Bool) (told : IsTrue tells)
         is_image = x.2.segments i p.0 p.1
 
         go : Origin k i p.0 → extents_in owner (segment_of z bs i) ≡ []
-        go (was_here there foreign) = no_log owner (segment_of z bs i) (λ rs log. foreign tell_all (segment_of z bs i) base rs is_image (in_map (λ (t : Station D). base_of_station t) r.stations.items s (among n s s_at)) log)
+        go (was_here there foreign) = no_log owner (segment_of z bs i) (λ rs log. foreign tell_all (segment_of z bs i) base rs is_image (in_map (λ (t : Station D). base_of_station t) r.stations.items s (among state tells config b r can first second is closed filled kept n s s_at)) log)
         go (was_pooled free) = idle_none owner (segment_of z bs i) (free (segment_of z bs i) is_image)
         go (of_station j t d t_at d_at id l h in_lanes logger in_held index part) = two (cases_eq j n)
           where
@@ -375,3 +338,21 @@ module _ {D : Type 0} (state : D → State) (tells : Bool) (told : IsTrue tells)
       each = each_now;
       others = other_now;
     }
+
+    -- what it recovers to
+    pub cut_left : AreDistinct (covers_of (extents_of s.id (segments_out config r.rest.images.items images)))
+        → IsCut base.volume.began.array (writes (entries_of notes)) (unwrap_or (flight_of (entries_of notes)) []) (recovered_out config r.rest.images.items images s.id)
+    cut_left distinct =
+        subst (λ (v : ℕ). IsCut base.volume.began.array (writes (entries_of notes)) (unwrap_or (flight_of (entries_of notes)) []) (recovered_out config r.rest.images.items images v)) owner_is
+        (cut_now tells state told c.manager base notes ic.stands.keeps open_base.apart (shapes_of config) taken home are_left
+        (subst (λ (v : ℕ). AreDistinct (covers_of (extents_of v (segments_out config r.rest.images.items images)))) (sym owner_is) distinct))
+
+    pub whole_left : flight_of (entries_of notes) ≡ None → recovered_out config r.rest.images.items images s.id ≡ after base.volume.began.array (writes (entries_of notes))
+    whole_left up =
+        subst (λ (v : ℕ). recovered_out config r.rest.images.items images v ≡ after base.volume.began.array (writes (entries_of notes))) owner_is
+        (whole_now tells state told c.manager base notes ic.stands.keeps open_base.apart (shapes_of config) taken home are_left up)
+
+    pub distinct_left : flight_of (entries_of notes) ≡ None → AreDistinct (covers_of (extents_of s.id (segments_out config r.rest.images.items images)))
+    distinct_left up =
+        subst (λ (v : ℕ). AreDistinct (covers_of (extents_of v (segments_out config r.rest.images.items images)))) owner_is
+        (distinct_now tells state told c.manager base notes ic.stands.keeps open_base.apart (shapes_of config) taken home are_left up)

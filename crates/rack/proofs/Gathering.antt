@@ -59,6 +59,14 @@ module _ {D : Type 0} where
       let same : Some t.0 ≡ Some (get_or ps n d) = sym t.1 ∙ spindle_at_row old n k row h ∙ (taken.each n row d h).there in
       subst (λ (p : PassOf Spindle SpindleBase). IsPassOf l p × IsFree p) (same_Some t.0 (get_or ps n d) same) (t.2.own, t.2.free)
 
+  -- what holds of the passes in those places holds of those that were gathered
+  pub spindles_all : (P : PassOf Spindle SpindleBase → Type 0) (k : ℕ) (old new : List (VolumePasses D)) (ps : List (PassOf Spindle SpindleBase)) → AreSpindlesTaken k old new ps
+      → ((v : ℕ) (p : PassOf Spindle SpindleBase) → spindle_of_row old v k ≡ Some p → P p) → All P ps
+  spindles_all P k old new ps taken each n d within =
+      let h : n < length old = omega (arith, taken.taken, within) in
+      let row = some_element old n h in
+      each n (get_or ps n d) (spindle_at_row old n k row h ∙ (taken.each n row d h).there)
+
   -- the places of other spindles are as they were
   pub spindles_kept : (k : ℕ) (old new : List (VolumePasses D)) (ps : List (PassOf Spindle SpindleBase)) → AreSpindlesTaken k old new ps → (v j : ℕ) → (j ≡ k → ⊥) → spindle_of_row new v j ≡ spindle_of_row old v j
   spindles_kept k old new ps taken v j differs = go (cases_lt v (length old))

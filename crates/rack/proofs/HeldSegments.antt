@@ -1,11 +1,10 @@
 -- The segments of a manager's lanes, and the segments that it is seen to hold.
-use Rattle.std.proofs.Common.{◌≡◌, ◌≢◌, ◌<◌, ◌+◌, ◌^◌, ◌⊎◌, inl, inr, ℕ, zero, suc, Bool, drop, List, [], ◌∷◌, ◌++◌, length, map, Option, Some, None, refl, sym, ap, ◌∙◌, subst, arith}
+use Rattle.std.proofs.Common.{◌≡◌, ◌≢◌, ◌<◌, ◌+◌, ◌^◌, ◌⊎◌, inl, inr, ℕ, Bool, List, [], ◌∷◌, ◌++◌, map, Option, Some, None, refl, sym, ap, subst}
 use Rattle.std.specs.Prelude.{Contains, unwrap_or}
 use Rattle.std.specs.List.{AllByRecursion}
 use Rattle.wol_disk.specs.Disk.{Block}
-use Rattle.wol_model.specs.Extents.{Extent}
-use Rattle.wol_model.specs.Heads.{SegmentHead, Owned, SpellsSegment, owned_block}
-use Rattle.wol_model.specs.Log.{Record, IsLog, IsIdle, extent_of}
+use Rattle.wol_model.specs.Heads.{Owned, owned_block}
+use Rattle.wol_model.specs.Log.{Record, IsLog, extent_of}
 use Rattle.wol_model.specs.Recovered.{read_log, extents_in}
 use Rattle.wol_model.proofs.Images.{idle_none}
 use Rattle.wol_model.proofs.ReadLogs.{log_from}

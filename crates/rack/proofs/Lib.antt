@@ -53,7 +53,15 @@ pub mod StationRecovers
 pub mod RackClosed
 pub mod HeldSegments
 pub mod FinalImages
+pub mod FaultyParts
+pub mod StationParts
+pub mod StationClosed
+pub mod PartsThrough
+pub mod Unbroken
+pub mod LeftOfParts
+pub mod QuietClosed
 pub mod FirstRest
 pub mod FirstOpening
 mod TakenOut
 mod TakenReady
+pub mod OthersAccess

@@ -5,7 +5,7 @@ use Rattle.std.specs.List.{AllByRecursion}
 use Rattle.std.proofs.lemmas.Bool.{cases_lt, eq-eqb, eqb-true}
 use Rattle.std.proofs.lemmas.List.{length-map, get_or-map, get_or_past}
 use Rattle.std.proofs.lemmas.List.Elements.{recursion_from_All, Contains-get_or, filter_agree}
-use Rattle.std.proofs.lemmas.Option.{none-some, same_Some, slice_get-map, slice_get_within, slice_get-get_or, get_or_from_slice_get}
+use Rattle.std.proofs.lemmas.Option.{MatchOption-at_some, none-some, same_Some, slice_get-map, slice_get_within, slice_get-get_or, get_or_from_slice_get}
 use Rattle.std.proofs.Math.Nat.{mul-le-mul}
 use Rattle.wol_disk.specs.Disk.{Block, Values, State, IsImageOf, reads}
 use Rattle.wol_disk.proofs.Images.{image_reads}
@@ -34,10 +34,10 @@ use Rattle.manager_recovery.specs.declared.opening.OwnedPart.{OwnedPart}
 use Rattle.volume_images.specs.Accepted.{HasHead, head_place}
 use Rattle.volume_images.specs.Volumes.{shape_in, shapes_of}
 use Rattle.rack.specs.Owners.{most_of}
-use Rattle.rack.specs.Rests.{image_here, segment_here, pool_pass, spindle_pass, away_with, IsRestBut, IsPart}
+use Rattle.rack.specs.Rests.{image_here, segment_here, pool_pass, spindle_pass, away_with, IsRestBut, IsPart, IsRow}
 use Rattle.rack.specs.Racks.{base_of_station}
 use Rattle.manager.specs.declared.station.Station.{Station}
-use Rattle.rack.specs.Parts.{TakesOpening, IsNewLane, IsTakenOf, loggers_out, segments_of, segment_in, holder_by, holder_said, IsOwnedPlace}
+use Rattle.rack.specs.Parts.{TakesOpening, IsNewLane, IsTakenOf, loggers_out, segments_of, segment_in, holder_by, holder_said, IsOwnedPlace, IsHomeAway, IsSameBut, with_home}
 use Rattle.rack.specs.Opening.{said_at, IsOpeningRack}
 use Rattle.rack.specs.declared.heads_said.Said.{Said}
 use Rattle.rack.specs.declared.rack.ImageRest.{ImageRest}
@@ -290,7 +290,7 @@ module _ {D : Type 0} (state : D → State) (config : Config) (valid : IsValid c
         spindle_volume = ap (λ i. i.base.volume) spindle.own ∙ (locks.spindles id q.0 q.1).volume ∙ sym takes.id;
         spindle_free = spindle.free;
         settled = here.spindles.settled id id o.spindle takes.spindle_was;
-        accesses = ready.accesses id id o.spindle takes.spindle_was;
+        accesses = ready.closable.accesses id id o.spindle takes.spindle_was;
         all = recursion_from_All (HoldsOwned o.owned.items) o.lanes.items (λ j d below. holds_owned (get_or o.lanes.items j d) (lanes_taken j d below));
         at = record {
           spindle_in = let v = r.shared.spindles.ok.0 in let i = takes.id in omega (arith, spindle_in, v, i);
@@ -303,4 +303,29 @@ module _ {D : Type 0} (state : D → State) (config : Config) (valid : IsValid c
         in_order = takes.owned.in_order;
         owned = recursion_from_All (IsOwned state o.lanes.items) o.owned.items (λ j d below. owned_part (get_or o.owned.items j d) (parts_in_images j d below));
         heads = recursion_from_All (SaysOwner state o.want.id) o.owned.items (λ j d below. says_owner (get_or o.owned.items j d) (parts_in_images j d below));
+      }
+
+  -- its home is away then, with the pass of its spindle
+  pub home_away : IsHomeAway new id
+  home_away =
+      let image = image_id state config valid b said id r own ready lt at in
+      let lanes = takes.lanes.passes in
+      let rows = takes.home.rows in
+      let was : image_here takes.without_lanes.images.items id ≡ Some image.0 = ap (λ x. image_here x.items id) lanes.images ∙ image.1 in
+      let kept = MatchOption-at_some (image_here takes.without_owned.images.items id ≡ None) (λ (x : ImageRest D). (n : ImageRest D) × (image_here takes.without_owned.images.items id ≡ Some n) × IsSameBut x n) image.0 was (takes.owned.images id) in
+      let a = rows.count in
+      let p = ap (λ x. length x.items) takes.owned.passes in
+      let q = lanes.rows.count in
+      let s = here.count in
+      record {
+        place = record {
+          row = omega (arith, a, p, q, s, lt);
+          volumes = length (shapes_of config);
+          rows = rows.rows (length (shapes_of config)) (subst (λ x. All (λ p. IsRow (length (shapes_of config)) p) x.items) (sym takes.owned.passes) (lanes.rows.rows (length (shapes_of config)) here.rows));
+          within = lt;
+        };
+        image = record kept.0 { home = None };
+        out = takes.home.image ∙ ap (with_home None) kept.1;
+        home = refl;
+        spindle = takes.home.spindle_here;
       }

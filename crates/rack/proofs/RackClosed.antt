@@ -1,11 +1,10 @@
 -- A rack whose stations and pools are closed: its images are whole, and the same ones are out.
-use Rattle.std.proofs.Common.{◌≡◌, ◌≢◌, ◌<◌, ◌≤◌, ◌+◌, ◌⊎◌, inl, inr, ℕ, zero, suc, Bool, true, false, List, [], ◌∷◌, ◌++◌, length, get_or, map, Option, Some, None, is_some, option_map, refl, sym, ap, ◌∙◌, subst, arith}
-use Rattle.std.specs.Prelude.{Contains, All, IsSome, IfSome, slice_get, slice_index_or, option_and_then}
+use Rattle.std.proofs.Common.{◌≡◌, ◌<◌, ◌≤◌, ◌+◌, ◌⊎◌, inl, inr, ℕ, suc, Bool, List, [], ◌∷◌, ◌++◌, length, get_or, Option, Some, None, is_some, option_map, refl, sym, ap, ◌∙◌, subst, arith}
+use Rattle.std.specs.Prelude.{All, slice_get, option_and_then}
 use Rattle.std.proofs.lemmas.List.{length-map}
-use Rattle.std.proofs.lemmas.Option.{none-some, same_Some, slice_get_within, slice_get-get_or, get_or_from_slice_get}
+use Rattle.std.proofs.lemmas.Option.{slice_get-get_or}
 use Rattle.wol_disk.specs.Disk.{State}
-use Rattle.wol_model.specs.Heads.{Shape}
-use Rattle.wol_bay.specs.Bay.{Name, BayState, at_name, IsOut}
+use Rattle.wol_bay.specs.Bay.{Name, BayState, IsOut}
 use Rattle.wol_config.specs.declared.config.Config.{Config}
 use Rattle.wol_config.specs.declared.config.VolumeConf.{VolumeConf}
 use Rattle.turn_lock.specs.Passes.{lock_id}
@@ -14,7 +13,7 @@ use Rattle.seg_pool.specs.declared.base.PoolBase.{PoolBase}
 use Rattle.seg_pool.specs.declared.pool.Pool.{Pool}
 use Rattle.log_segment.specs.declared.free.FreeSegment.{FreeSegment}
 use Rattle.volume_images.specs.Formatted.{part_sizes}
-use Rattle.volume_images.specs.Volumes.{shape_in, shapes_of}
+use Rattle.volume_images.specs.Volumes.{shape_in}
 use Rattle.rack.specs.Rests.{image_here, held_here, list_of, IsImageOut, IsRow, IsRest}
 use Rattle.rack.specs.Racks.{IsClosable}
 use Rattle.rack.specs.Opens.{out_names}
@@ -23,7 +22,7 @@ use Rattle.rack.specs.declared.rack.ImageRest.{ImageRest}
 use Rattle.rack.specs.declared.rack.Rack.{Rack}
 use Rattle.rack.specs.declared.rack.Rest.{Rest}
 use Rattle.rack.specs.declared.rack.VolumePasses.{VolumePasses}
-use Rattle.rack.proofs.Members.{no_value, a_value, is_there, element_at, here_within}
+use Rattle.rack.proofs.Members.{element_at}
 
 -- the same names are out where the same images are
 out_same : {D : Type 0} (config : Config) (vs : List VolumeConf) (xs ys : List (Option (ImageRest D))) → length xs ≡ length ys → ((k : ℕ) → is_some (image_here xs k) ≡ is_some (image_here ys k)) → out_names config vs xs ≡ out_names config vs ys

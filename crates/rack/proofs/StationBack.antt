@@ -427,6 +427,15 @@ module _ {D : Type 0} (state : D → State) (tells : Rattle.std.specs.Prelude.Bo
         go (own_spindle e g there) = subst (λ (q : PassOf Spindle SpindleBase). has_token (pass_mine q) ≡ Rattle.std.specs.Prelude.false) (same_Some m.spindle p (sym there ∙ here)) keeps.ready.ready.settled
         go (other_spindle never not_own same) = parts.spindles.settled v k p (sym same ∙ here)
 
+    -- spindles were only accessed
+    spindles_accessed : Rattle.rack.specs.Rests.OnlyAccess new
+    spindles_accessed v k p here = go (at_spindle v k)
+      where
+        go : AtSpindle v k → Rattle.logger.specs.Lanes.AreAccesses (pass_mine p)
+        go (lane_spindle l same has at there) = subst (λ (q : PassOf Spindle SpindleBase). Rattle.logger.specs.Lanes.AreAccesses (pass_mine q)) (same_Some (spindle_of l) p (sym there ∙ here)) (ready_lane l has).lane.accesses
+        go (own_spindle e g there) = subst (λ (q : PassOf Spindle SpindleBase). Rattle.logger.specs.Lanes.AreAccesses (pass_mine q)) (same_Some m.spindle p (sym there ∙ here)) keeps.ready.ready.accesses
+        go (other_spindle never not_own same) = can.accesses v k p (sym same ∙ here)
+
     -- ---- The segments
 
     -- the indexes of a lane that came back are those of its held segments
@@ -595,6 +604,7 @@ module _ {D : Type 0} (state : D → State) (tells : Rattle.std.specs.Prelude.Bo
       loggers_out = each_out c.volume.began.view o.loggers_out;
       others = o.others;
       apart = o.apart;
+      most = o.most;
       own_spindle = o.own_spindle;
       own_lanes = o.own_lanes;
     }
@@ -620,6 +630,7 @@ module _ {D : Type 0} (state : D → State) (tells : Rattle.std.specs.Prelude.Bo
           (λ t has. open_still (base_of_station t) (All-contains (λ q. IsOpenBase config shared old.images.items (base_of_station q)) before t (all_front (λ q. IsOpenBase config shared old.images.items (base_of_station q)) before s can.bases) has));
       locks = can.locks;
       rest = record { parts = parts_back; rooms = are };
+      accesses = spindles_accessed;
     }
       where
         longer : (i n : ℕ) → slice_get (map (λ (t : Station D). t.id) before) i ≡ Some n → slice_get (map (λ (t : Station D). t.id) (before ++ s ∷ [])) i ≡ Some n

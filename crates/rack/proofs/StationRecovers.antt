@@ -1,9 +1,9 @@
 -- What images of a station's parts recover to, among all segments.
-use Rattle.std.proofs.Common.{◌≡◌, ◌≢◌, ◌<◌, ◌≤◌, ◌⊎◌, inl, inr, ℕ, Bool, List, [], ◌∷◌, ◌++◌, length, map, Option, Some, None, refl, sym, ap, ◌∙◌, subst, arith}
-use Rattle.std.specs.Prelude.{Contains, All, AllPairs, IsTrue, slice_get, unwrap_or, get_or}
+use Rattle.std.proofs.Common.{◌≡◌, ◌≢◌, ◌<◌, ◌≤◌, ◌⊎◌, inl, inr, ℕ, Bool, List, [], ◌∷◌, length, map, Option, Some, None, refl, sym, ap, ◌∙◌, subst, arith}
+use Rattle.std.specs.Prelude.{All, AllPairs, IsTrue, slice_get, unwrap_or}
 use Rattle.std.specs.List.{AllByRecursion, AllZip}
 use Rattle.std.proofs.lemmas.Bool.{cases_lt}
-use Rattle.std.proofs.lemmas.Option.{same_Some, slice_get_within, get_or_from_slice_get}
+use Rattle.std.proofs.lemmas.Option.{slice_get_within, get_or_from_slice_get}
 use Rattle.std.proofs.lemmas.List.Elements.{All-from_recursion}
 use Rattle.wol_disk.specs.Disk.{Block, State, IsImageOf}
 use Rattle.wol_model.specs.Blocks.{after}
@@ -12,7 +12,7 @@ use Rattle.wol_model.specs.Heads.{Shape}
 use Rattle.wol_model.specs.History.{writes, flight_of, IsCut}
 use Rattle.wol_model.specs.Images.{Images, image_of, image_size, segment_of, all_segments}
 use Rattle.wol_model.specs.Recovered.{extents_in, extents_of, recovered}
-use Rattle.wol_promise.specs.Manager.{Base, Held, Recovers, extents_held}
+use Rattle.wol_promise.specs.Manager.{Held, extents_held}
 use Rattle.wol_promise.specs.Ruled.{Noted, entries_of}
 use Rattle.wol_promise.specs.Stands.{place_in, ApartFrom, AreApartPlaces, IsHeldBy, IsWhole}
 use Rattle.wol_promise.proofs.Choices.{chosen_extents, recovers_from}
@@ -23,7 +23,6 @@ use Rattle.manager.specs.Stands.{Keeps}
 use Rattle.manager.specs.declared.base.ManagerBase.{ManagerBase}
 use Rattle.manager.specs.declared.manager.Manager.{Manager}
 use Rattle.manager_recovery.proofs.SameNewest.{same_array}
-use Rattle.rack.proofs.Members.{none_in, first_in, later_in}
 use Rattle.rack.proofs.SameSegments.{Placed, AreApartPlaced, AreThese, Shuffled, same_extents, shuffled_same, shuffled_distinct, shuffled_to, shuffled_from, once}
 
 -- the blocks of a segment of these images

@@ -26,7 +26,7 @@ use Rattle.volume_images.specs.Formatted.{part_sizes}
 use Rattle.volume_images.specs.Volumes.{shape_in, shapes_of, NoneOut}
 use Rattle.volume_images.specs.declared.reading.ImageFault.{ImageFault}
 use Rattle.volume_images.specs.declared.reading.ImageFault.TheVariants as fault
-use Rattle.rack.specs.Making.{AreSpindlesOf}
+use Rattle.rack.specs.Making.{AreSettled, AreSpindlesOf}
 use Rattle.rack.specs.Rests.{image_here, segment_here, IsImageOut, IsPart, IsImageRest}
 use Rattle.rack.specs.Racks.{AreOut, NamesVolumes}
 use Rattle.rack.specs.Opens.{out_names, fault_in_image, RefusesVolume}
@@ -198,8 +198,10 @@ module _ {D : Type 0} (tells : Bool) (state : D → State) (config : Config) (va
       );
     }
 
-  module _ (home : NoneOut config b) (r : Rack D) (set_up : IsSetUp t.spindles.items t.pools.items (length t.spindles.items) r) (images_are : r.rest.images ≡ t.images.out) (faults_are : r.faults ≡ t.images.faults)
-      (accesses : (k : ℕ) (i : Issued Spindle SpindleBase) → slice_get t.spindles.items k ≡ Some i → All (λ p. AreAccesses (pass_mine p)) i.passes.items) where
+  module _ (home : NoneOut config b) (r : Rack D) (set_up : IsSetUp t.spindles.items t.pools.items (length t.spindles.items) r) (images_are : r.rest.images ≡ t.images.out) (faults_are : r.faults ≡ t.images.faults) where
+    settled : (k : ℕ) (i : Issued Spindle SpindleBase) → slice_get t.spindles.items k ≡ Some i → AreSettled i
+    settled k i is = subst AreSettled (get_or_from_slice_get t.spindles.items k i i is) (taken.spindles.settled k i (slice_get_within t.spindles.items k i is))
+
     spindles_many : length t.spindles.items ≡ length (shapes_of config)
     spindles_many = taken.spindle_count ∙ sym many
 
@@ -290,7 +292,7 @@ module _ {D : Type 0} (tells : Bool) (state : D → State) (config : Config) (va
           let same : own ≡ l.own = same_Some own l.own (sym is ∙ l.own_is) in
           let head_of : slice_get l.own.heads.items i ≡ Some h = subst (λ (x : Said). slice_get x.heads.items i ≡ Some h) same head in
           heads_of k s.0 n l i p h (still k s.0 n l i p h head_of there) head_of;
-      accesses = accesses;
+      accesses = λ k i is. (settled k i is).accesses;
     }
       where
         says_at : (k : ℕ) (s : Shape) → slice_get (shapes_of config) k ≡ Some s → IsImageOut out k → (own : Said) × (said_at said k ≡ Some own) × IsSaidOf (length (shapes_of config)) k s own

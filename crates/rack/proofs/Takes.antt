@@ -125,7 +125,7 @@ module _ {D : Type 0} (state : D → State) (config : Config) (valid : IsValid c
         spindle_volume = ap (λ i. i.base.volume) spindle_at.own ∙ spindle_lock.volume;
         spindle_free = spindle_at.free;
         settled = parts.spindles.settled id k q.0 q.1;
-        accesses = ready.accesses id k q.0 q.1;
+        accesses = ready.closable.accesses id k q.0 q.1;
         held = ready.unheld id k;
       }
     where

@@ -1,22 +1,22 @@
 -- What closing a rack leaves. `state` is that of a part's disk.
 use Rattle.std.specs.Prelude.{◌≡◌, ◌≢◌, ◌<◌, ◌≤◌, ◌+◌, ◌++◌, ◌⊎◌, ℕ, List, [], ◌∷◌, length, Option, None, Some, not, is_some, unwrap_or, slice_get, slice_range, All, Contains, IsTrue}
+use Rattle.std.specs.List.{AllByRecursion}
 use Rattle.wol_disk.specs.Disk.{Block, State, Rose, IsImageOf}
 use Rattle.wol_model.specs.Blocks.{after}
-use Rattle.wol_model.specs.Extents.{AreDistinct, covers_of}
+use Rattle.wol_model.specs.Extents.{IsValid, AreDistinct, covers_of}
 use Rattle.wol_model.specs.Heads.{Shape}
 use Rattle.wol_model.specs.History.{worker, helper, keeper, writes, flight_of, IsCut}
 use Rattle.wol_model.specs.Images.{Images, image_of, accepted, all_segments, segment_of}
-use Rattle.wol_model.specs.Log.{Record, IsLog, IsIdle}
+use Rattle.wol_model.specs.Log.{Record, IsLog, IsIdle, extent_of}
 use Rattle.wol_model.specs.Recovered.{extents_of}
 use Rattle.wol_promise.specs.Manager.{SaysOwnerOrFree}
 use Rattle.wol_promise.specs.Ruled.{entries_of}
-use Rattle.wol_promise.specs.Run.{IsThere}
 use Rattle.wol_promise.specs.Stands.{HasHistory}
 use Rattle.wol_bay.specs.Bay.{Name, Told, BayState}
 use Rattle.wol_config.specs.declared.config.Config.{Config}
 use Rattle.wol_config.specs.declared.config.VolumeConf.{VolumeConf}
 use Rattle.turn_lock.specs.Histories.{Entry, own}
-use Rattle.turn_lock.specs.Passes.{lock_id, pass_mine, IsPartOf}
+use Rattle.turn_lock.specs.Passes.{lock_id, pass_number, pass_mine, IsPartOf}
 use Rattle.turn_lock.specs.declared.lock.TurnLock.{TurnLock}
 use Rattle.turn_lock.specs.declared.pass.PassOf.{PassOf}
 use Rattle.spin_model.specs.Spindles.{SpindleView, StandsFor}
@@ -27,9 +27,10 @@ use Rattle.spin_model.specs.declared.spindle.SpindleBase.{SpindleBase}
 use Rattle.manager.specs.Stands.{notes_of}
 use Rattle.manager.specs.declared.station.Station.{Station}
 use Rattle.volume_images.specs.Left.{IsTold}
-use Rattle.volume_images.specs.Volumes.{shapes_of, AreLeft}
+use Rattle.volume_images.specs.Volumes.{shapes_of, images_read, AreLeft}
 use Rattle.rack.specs.Rests.{image_here, segment_here, held_here, IsImageOut, IsSegmentHere}
 use Rattle.rack.specs.Racks.{base_of_station}
+use Rattle.rack.specs.Closing.{IsAccessBut}
 use Rattle.rack.specs.Owners.{recovered_but}
 use Rattle.rack.specs.declared.rack.ImageRest.{ImageRest}
 use Rattle.rack.specs.declared.rack.Rack.{Rack}
@@ -42,6 +43,8 @@ pub record IsClosedSpindle {D : Type 0} (r : Rack D) (k : ℕ) (s : SpindleView)
   pub entries : List Entry
   pub stands : (l : TurnLock Spindle SpindleBase) → slice_get r.shared.spindles.items k ≡ Some l → StandsFor s (lock_id l).base entries
   pub keeper_part : (p : PassOf Spindle SpindleBase) → slice_get r.keepers.items k ≡ Some p → IsPartOf entries p
+  -- each entry of another pass is one of an access
+  pub accesses : (p : PassOf Spindle SpindleBase) → slice_get r.keepers.items k ≡ Some p → AllByRecursion (IsAccessBut (pass_number p)) entries
 
 -- ---- Volumes
 
@@ -115,11 +118,11 @@ module _ {D : Type 0} where
     pub here : IsPartHere r part
     pub fault : 0 < (state_of state part).faults
 
--- a log of an open volume, whose records lie in it, on a logger of its view
+-- a log of an open volume, whose records that keep a block lie in it, on a logger of its view
 pub record IsLogOfStation {D : Type 0} (s : Station D) (k : ℕ) (bs : List Block) : Type 0 where
   pub records : List Record
   pub log : IsLog bs s.id records
-  pub within : All (λ (r : Record). r.head.first + r.head.count ≤ (base_of_station s).volume.began.home_blocks) records
+  pub within : All (λ (r : Record). IsValid (extent_of r).cover → r.head.first + r.head.count ≤ (base_of_station s).volume.began.home_blocks) records
 
 -- Where an image of segment i of volume k comes from: the segment was here when the rack was closed; or it was in its pool; or a manager had it.
 pub data ComesFrom {D : Type 0} (state : D → State) (r : Rack D) (k i : ℕ) (bs : List Block) : Type 0 where
@@ -139,10 +142,9 @@ abbrev pub AreLeftOfParts : {D : Type 0} → (D → State) → Config → Rack D
 AreLeftOfParts {D} state config r new = (images : Images) → AreLeft config new images → (k : ℕ) (s : Shape) (image : ImageRest D) → slice_get (shapes_of config) k ≡ Some s
     → image_here r.rest.images.items k ≡ Some image → (c : List Block) × (image_of images k ≡ Some c) × IsLeftOfParts state s r k image c
 
--- ---- Before a volume was told anything
+-- ---- Where nothing was written
 
--- Whatever images a crash leaves, each volume that is there recovers to what it might have recovered to at entry, where images that weren't
--- out give no segments.
-abbrev pub LeavesOut : {D : Type 0} → Config → List (Option (ImageRest D)) → (entry new : Told) → Type 0
-LeavesOut config out entry new = (images : Images) → AreLeft config new images → (v : ℕ) → IsThere (shapes_of config) images v
-    → (before : Images) × AreLeft config entry before × (recovered_out config out images v ≡ recovered_out config out before v)
+-- whatever images a crash leaves, each open volume recovers to what the images at entry recovered to as they read
+abbrev pub LeavesOpen : {D : Type 0} → Config → Rack D → (entry new : Told) → Type 0
+LeavesOpen config r entry new = (images : Images) → AreLeft config new images
+    → All (λ s. recovered_out config r.rest.images.items images s.id ≡ recovered_out config r.rest.images.items (images_read config entry) s.id) r.stations.items

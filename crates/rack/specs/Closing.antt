@@ -1,9 +1,10 @@
 -- What closing a rack does step by step. `state` is that of a part's disk.
 use Rattle.std.specs.Prelude.{⊤, ◌≡◌, ◌≢◌, ◌<◌, ◌≤◌, ◌+◌, ◌++◌, ◌⊎◌, ℕ, Bool, List, [], ◌∷◌, length, map, reverse, vec_capacity, Option, None, Some, IsSome, IfSome, option_map, option_and_then, slice_get, slice_index_or, All, Contains}
-use Rattle.std.specs.List.{AllZip}
+use Rattle.std.specs.List.{AllByRecursion, AllZip}
 use Rattle.wol_disk.specs.Disk.{Block, Values, State, Rose}
 use Rattle.wol_model.specs.Blocks.{AreApart}
 use Rattle.wol_model.specs.Heads.{Shape}
+use Rattle.wol_model.specs.Journal.{Needed, Done}
 use Rattle.wol_bay.specs.Bay.{Name, Told, BayState, at_name, came_back}
 use Rattle.wol_bay.specs.Parts.{blocks_of, faulty_places}
 use Rattle.wol_config.specs.declared.config.Config.{Config}
@@ -12,6 +13,7 @@ use Rattle.turn_lock.specs.Histories.{Entry}
 use Rattle.turn_lock.specs.Passes.{lock_id, lock_passes, pass_lock, pass_number, pass_mine, IsPartOf, AreWhole}
 use Rattle.turn_lock.specs.declared.lock.TurnLock.{TurnLock}
 use Rattle.turn_lock.specs.declared.pass.PassOf.{PassOf}
+use Rattle.spin_model.specs.Operations.{use_of}
 use Rattle.spin_model.specs.Spindles.{SpindleView, StandsFor}
 use Rattle.spin_model.specs.Spun.{disk_of}
 use Rattle.spin_model.specs.declared.spun.Spun.{Spun}
@@ -22,13 +24,14 @@ use Rattle.seg_pool.specs.declared.base.Holder.TheVariants.{Elsewhere, HeldBy}
 use Rattle.seg_pool.specs.declared.base.PoolBase.{PoolBase}
 use Rattle.seg_pool.specs.declared.pool.Pool.{Pool}
 use Rattle.log_segment.specs.declared.free.FreeSegment.{FreeSegment}
+use Rattle.logger.specs.Lanes.{AreAccesses}
 use Rattle.logger.specs.declared.shared.Shared.{Shared}
 use Rattle.manager.specs.Stands.{StandsCoded}
 use Rattle.manager.specs.declared.manager.Manager.{Manager}
 use Rattle.manager.specs.declared.station.Station.{Station}
 use Rattle.volume_images.specs.Left.{AreNamedApart}
 use Rattle.volume_images.specs.Volumes.{shapes_of}
-use Rattle.rack.specs.Rests.{image_here, segment_here, pool_pass, spindle_pass, held_here, indexes_here, away_with, IsImageOut, IsPassAt, IsPoolLock, IsRow, IsImageRest, IsPart, IsHeldHere, IsHolding, AreLocks, IsRest}
+use Rattle.rack.specs.Rests.{image_here, segment_here, pool_pass, spindle_pass, held_here, indexes_here, away_with, IsImageOut, IsPassAt, IsPoolLock, IsRow, IsImageRest, IsPart, IsHeldHere, IsHolding, AreLocks, OnlyAccess, IsRest}
 use Rattle.rack.specs.Racks.{base_of_station, IsOpenBase, IsStation, AreRising}
 use Rattle.rack.specs.Parts.{IsSameBut, IsTogether, IsBlankPart, HasBack, KeepsPlace, KeepsRows, KeepsImage, segment_in}
 use Rattle.rack.specs.Opens.{out_names}
@@ -85,6 +88,7 @@ pub record CanCloseStations {D : Type 0} (state : D → State) (config : Config)
   pub bases : All (λ s. IsOpenBase config shared r.images.items (base_of_station s)) stations
   pub locks : AreLocks config shared
   pub rest : IsRest state config shared (map (λ (s : Station D). base_of_station s) stations) r
+  pub accesses : OnlyAccess r
 
 -- ---- Pools
 
@@ -209,17 +213,24 @@ module _ {D : Type 0} where
 
 -- ---- Spindles
 
+-- of another pass the entry is one of an access
+abbrev pub IsAccessBut : (keeper : ℕ) → Entry → Type 0
+IsAccessBut keeper e = e.0 ≢ keeper → (use_of e.1 ≡ Needed) ⊎ (use_of e.1 ≡ Done)
+
 -- a spindle stands for all entries of its lock, among which are those of its keeper
 pub record StandsClosed (l : TurnLock Spindle SpindleBase) (keeper : PassOf Spindle SpindleBase) (s : SpindleView) : Type 0 where
   pub entries : List Entry
   pub stands : StandsFor s (lock_id l).base entries
   pub keeper_part : IsPartOf entries keeper
+  -- each entry of another pass is one of an access
+  pub accesses : AllByRecursion (IsAccessBut (pass_number keeper)) entries
 
 -- the passes of the lock of spindle k: one in each row, and the keeper's
 pub record HasSpindlePasses {D : Type 0} (r : Rest D) (k : ℕ) (l : TurnLock Spindle SpindleBase) (keeper : PassOf Spindle SpindleBase) : Type 0 where
   pub count : lock_passes l ≡ length r.passes.items + 1
   pub each : (v : ℕ) → v < length r.passes.items → (p : PassOf Spindle SpindleBase) × (spindle_pass r v k ≡ Some p) × IsPassAt l v p
   pub keeper_ : IsPassAt l (length r.passes.items) keeper
+  pub accesses : (v : ℕ) (p : PassOf Spindle SpindleBase) → spindle_pass r v k ≡ Some p → AreAccesses (pass_mine p)
 
 -- the first spindles have all their passes, and there is room to close them
 pub record CanCloseSpindles {D : Type 0} (locks : List (TurnLock Spindle SpindleBase)) (keepers : List (PassOf Spindle SpindleBase)) (r : Rest D) : Type 0 where

@@ -1,5 +1,5 @@
 -- The images that were taken out, what they say, and how far their volumes are opened. `state` is that of a part's disk.
-use Rattle.std.specs.Prelude.{◌≡◌, ◌≢◌, ◌≤◌, ◌<◌, ◌+◌, ◌++◌, ◌↔◌, ℕ, Bool, List, [], map, length, vec_capacity, Option, None, Some, is_some, option_map, slice_get, slice_index_or, slice_range, Contains, IsSome, IsTrue, All}
+use Rattle.std.specs.Prelude.{◌≡◌, ◌≢◌, ◌⊎◌, ◌≤◌, ◌<◌, ◌+◌, ◌++◌, ◌↔◌, ℕ, Bool, List, [], map, length, vec_capacity, Option, None, Some, is_some, option_map, slice_get, slice_index_or, slice_range, Contains, IsSome, IsTrue, All}
 use Rattle.wol_disk.specs.Disk.{Block, State, TellsContent, IsImageOf, reads}
 use Rattle.wol_model.specs.Heads.{Shape}
 use Rattle.wol_model.specs.Images.{image_size}
@@ -17,9 +17,6 @@ use Rattle.log_segment.specs.declared.free.FreeSegment.{FreeSegment}
 use Rattle.seg_pool.specs.Holders.{holder}
 use Rattle.seg_pool.specs.declared.base.PoolBase.{PoolBase}
 use Rattle.seg_pool.specs.declared.pool.Pool.{Pool}
-use Rattle.spin_model.specs.declared.spindle.Spindle.{Spindle}
-use Rattle.spin_model.specs.declared.spindle.SpindleBase.{SpindleBase}
-use Rattle.logger.specs.Lanes.{AreAccesses}
 use Rattle.spin_model.specs.Spun.{state_of}
 use Rattle.spin_model.specs.declared.spun.Spun.{Spun}
 use Rattle.manager.specs.declared.station.Station.{Station}
@@ -28,7 +25,7 @@ use Rattle.volume_images.specs.Accepted.{HasHead, IsConfigured, IsAccepted, head
 use Rattle.volume_images.specs.Formatted.{part_sizes}
 use Rattle.volume_images.specs.Left.{IsTold, AreNamedApart}
 use Rattle.volume_images.specs.Volumes.{shape_in, shapes_of, MayLeave}
-use Rattle.rack.specs.Rests.{image_here, segment_here, pool_pass, spindle_pass, held_here, IsImageOut, IsImageRest}
+use Rattle.rack.specs.Rests.{image_here, segment_here, pool_pass, held_here, IsImageOut, IsImageRest}
 use Rattle.rack.specs.Making.{AreSpindlesOf}
 use Rattle.rack.specs.Parts.{holder_by, IsIssuedPool, Supplies}
 use Rattle.rack.specs.Racks.{IsClosable, NamesVolumes, IsUnused, AreUnused}
@@ -238,7 +235,6 @@ pub record IsOpeningRack {D : Type 0} (state : D → State) (config : Config) (b
   pub pools : BeganAsSaid r.shared.pools.items said
   pub said_count : length said ≡ length (shapes_of config)
   pub unheld : (v k : ℕ) → held_here r.rest v k ≡ []
-  pub accesses : (v k : ℕ) (p : PassOf Spindle SpindleBase) → spindle_pass r.rest v k ≡ Some p → AreAccesses (pass_mine p)
   pub owners : AreOwnersHere state said r
   pub untouched : AreUntouched state (length (shapes_of config)) n said r.rest
 
@@ -247,9 +243,9 @@ pub record HasBegun {D : Type 0} (state : D → State) (config : Config) (t : To
   pub began : BeganWith state config t r
   pub cut : AreStillCut state config t n said r.rest
 
--- each fault of the first n volumes has its cause
+-- each fault of the first n volumes, and of those whose images aren't out, has its cause
 abbrev pub AreRefusedBelow : {D : Type 0} → (tells : Bool) → (D → State) → Config → (old new : BayState) → (n : ℕ) → Rack D → Type 0
-AreRefusedBelow tells state config old new n r = (k : ℕ) (v : VolumeConf) (f : VolumeFault) → k < n → slice_get config.volumes.items k ≡ Some v → fault_at r.faults.items k ≡ Some f
+AreRefusedBelow tells state config old new n r = (k : ℕ) (v : VolumeConf) (f : VolumeFault) → (k < n) ⊎ (image_here r.rest.images.items k ≡ None) → slice_get config.volumes.items k ≡ Some v → fault_at r.faults.items k ≡ Some f
     → RefusesVolume tells state config r.rest.images.items old new k v f
 
 -- the same images are out

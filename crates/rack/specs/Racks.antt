@@ -19,7 +19,7 @@ use Rattle.manager.specs.declared.base.ManagerBase.{ManagerBase}
 use Rattle.manager.specs.declared.station.Station.{Station}
 use Rattle.volume_images.specs.Formatted.{part_sizes}
 use Rattle.volume_images.specs.Volumes.{shape_in, shapes_of}
-use Rattle.rack.specs.Rests.{IsPassAt, AreLocks, IsRest, IsImageOut, image_here}
+use Rattle.rack.specs.Rests.{IsPassAt, AreLocks, IsRest, IsImageOut, OnlyAccess, image_here}
 use Rattle.rack.specs.Owners.{most_of}
 use Rattle.rack.specs.Foreign.{AreForeign}
 use Rattle.manager.specs.declared.part.Part.TheVariants.{Home, Segment}
@@ -89,6 +89,7 @@ pub record IsClosable {D : Type 0} (state : D → State) (config : Config) (b : 
   pub bases : All (λ s. IsOpenBase config r.shared r.rest.images.items (base_of_station s)) r.stations.items
   pub rest : IsRest state config r.shared (map (λ (s : Station D). base_of_station s) r.stations.items) r.rest
   pub foreign : AreForeign state (map (λ (s : Station D). base_of_station s) r.stations.items) r.rest
+  pub accesses : OnlyAccess r.rest
 
 -- the volumes that a fault names are among so many; no volume is refused for want of memory
 abbrev pub NamesVolumes : (volumes : ℕ) → VolumeFault → Type 0
@@ -118,3 +119,4 @@ pub record IsRack {D : Type 0} (state : D → State) (config : Config) (b : BayS
   pub known : (k : ℕ) (f : VolumeFault) → slice_get r.faults.items k ≡ Some (Some f) → NamesVolumes (length (shapes_of config)) f
   pub rest : IsRest state config r.shared (map (λ (s : Station D). base_of_station s) r.stations.items) r.rest
   pub foreign : AreForeign state (map (λ (s : Station D). base_of_station s) r.stations.items) r.rest
+  pub accesses : OnlyAccess r.rest

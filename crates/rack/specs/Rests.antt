@@ -21,6 +21,7 @@ use Rattle.seg_pool.specs.declared.base.Holder.TheVariants.{Elsewhere, HeldBy}
 use Rattle.seg_pool.specs.declared.base.PoolBase.{PoolBase}
 use Rattle.seg_pool.specs.declared.pool.Pool.{Pool}
 use Rattle.log_segment.specs.declared.free.FreeSegment.{FreeSegment}
+use Rattle.logger.specs.Lanes.{AreAccesses}
 use Rattle.logger.specs.declared.shared.Shared.{Shared}
 use Rattle.manager.specs.declared.base.ManagerBase.{ManagerBase}
 use Rattle.volume_images.specs.Volumes.{shapes_of}
@@ -154,6 +155,10 @@ pub record AreSpindlePasses {D : Type 0} (shared : Shared D) (away : Away) (r : 
   pub each : (v k : ℕ) (l : TurnLock Spindle SpindleBase) (p : PassOf Spindle SpindleBase) → slice_get shared.spindles.items k ≡ Some l → spindle_pass r v k ≡ Some p
       → IsPassAt l v p
   pub settled : (v k : ℕ) (p : PassOf Spindle SpindleBase) → spindle_pass r v k ≡ Some p → has_token (pass_mine p) ≡ false
+
+-- the passes of spindles made accesses only
+abbrev pub OnlyAccess : {D : Type 0} → Rest D → Type 0
+OnlyAccess r = (v k : ℕ) (p : PassOf Spindle SpindleBase) → spindle_pass r v k ≡ Some p → AreAccesses (pass_mine p)
 
 -- ---- The segments: each is in one place
 

@@ -8,9 +8,8 @@ ghost use Rattle.volume_images.specs.Left.{IsTold};
 ghost use Rattle.volume_images.specs.Volumes.{shapes_of};
 ghost use Rattle.rack.specs.Foreign.{AreForeign};
 ghost use Rattle.rack.specs.Racks.{IsClosable};
-ghost use Rattle.rack.specs.Owners.{HadRefused};
-ghost use Rattle.rack.specs.Opens.{out_names, BeganWith, KeepsAllSound};
-ghost use Rattle.rack.specs.Closes.{IsClosedSpindle, IsClosedVolume, IsUnbroken, IsQuiet, AreLeftOfParts, HasFaultIn, LeavesOut};
+ghost use Rattle.rack.specs.Opens.{BeganWith};
+ghost use Rattle.rack.specs.Closes.{IsClosedSpindle, IsClosedVolume, IsQuiet, AreLeftOfParts, HasFaultIn, LeavesOpen};
 ghost use Rattle.rack.specs.Closing.{pool_in, spindle_in, ArePoolsTaken, AreSpindlesTaken, LeavesNoneOut};
 ghost use Rattle.rack.specs.declared.rack.VolumePasses.{VolumePasses};
 
@@ -39,7 +38,7 @@ impl<D: Disk> Rest<D> {
     ghost use Rattle.wol_config.specs.declared.config.Config.{Config};
     ghost use Rattle.logger.specs.declared.shared.Shared.{Shared};
     ghost use Rattle.manager.specs.declared.station.Station.{Station};
-    ghost use Rattle.rack.specs.Rests.{spindle_pass, image_here, held_here, IsRest};
+    ghost use Rattle.rack.specs.Rests.{spindle_pass, image_here, held_here, OnlyAccess, IsRest};
     ghost use Rattle.rack.specs.Closing.{CanCloseStations, ClosesStation, ClosesStations, CanClosePool, CanClosePools, CanPutAllHeld, PutsAllHeld, RefillsAll, KeepsLogger, KeepsSpindles, KeepsOtherRows, HasSpindlePasses, StandsClosed, CanCloseSpindles, AreClosed};
 
     // Each station's lock is closed, and what its manager had comes back.
@@ -47,6 +46,7 @@ impl<D: Disk> Rest<D> {
         requires { (config : Config) × (shared : Shared D) × CanCloseStations D.state config shared stations.items self.old }
         ensures rest { (config : Config) (shared : Shared D) → CanCloseStations D.state config shared stations.items self.old → IsRest D.state config shared [] self.new }
         ensures closed { ClosesStations D.tells D.state stations.items self.old self.new }
+        ensures accesses { (config : Config) (shared : Shared D) → CanCloseStations D.state config shared stations.items self.old → OnlyAccess self.new }
     {
         let mut stations = stations;
         while let Some(station) = stations.pop() {
@@ -249,10 +249,7 @@ pub fn close_all<B: Bay>(rack: Rack<B::Part>, bay: &mut B, config: &Config) -> V
     ensures parts { IsTrue B.Part.tells → IsTold (λ old new. AreLeftOfParts B.Part.state config.now rack new) (B.state bay.old).told (B.state bay.new).told }
     // since the rack was opened, where nothing was written
     ensures left { (entry : Told) → IsTrue B.Part.tells → BeganWith B.Part.state config.now entry rack → All (λ s. IsQuiet s) rack.stations.items
-        → IsTold (λ old new. HadRefused config.now rack.rest.images.items entry old → LeavesOut config.now rack.rest.images.items entry new) (B.state bay.old).told (B.state bay.new).told }
-    // and where no call of a disk failed
-    ensures sound { (entry : Told) → IsTrue B.Part.tells → BeganWith B.Part.state config.now entry rack → All (λ s. IsUnbroken s) rack.stations.items
-        → IsTold (λ old new. HadRefused config.now rack.rest.images.items entry old → KeepsAllSound config.now entry new) (B.state bay.old).told (B.state bay.new).told }
+        → IsTold (λ old new. LeavesOpen config.now rack entry new) (B.state bay.old).told (B.state bay.new).told }
     ensures counts { (B.state bay.old).faults ≤ (B.state bay.new).faults }
     ensures cause { HasFaultIn B.Part.state rack.rest → Rose (B.state bay.old).faults (B.state bay.new).faults }
 {

@@ -378,7 +378,6 @@ impl<D: Disk> Rack<D> {
     ghost use Rattle.rack.specs.Opening.{IsOpeningRack, HasBegun, AreRefusedBelow, AreSameOut, IsStopped};
     ghost use Rattle.rack.specs.declared.heads_said.Said.{Said};
 
-    #[tactic(none)]
     // Opens one volume: it has a station then, or a fault. Where there is no memory all of it is in the rest.
     fn open_one<R: Wait>(
         &mut self,
@@ -435,7 +434,6 @@ impl<D: Disk> Rack<D> {
         Ok(())
     }
 
-    #[tactic(none)]
     /// Opens the volumes whose images are out, in order. After want of memory some are open, and all of the others is in the rest.
     pub(crate) fn open_volumes<R: Wait>(
         &mut self,

@@ -111,10 +111,10 @@ module _ {D : Type 0} (state : D → State) (xs ys : List (Spun D)) (i : ℕ) (p
       let Says : Spun D → SegHead → Type 0 = λ q g. (c : List Block) → IsImageOf (state_of state q).values c → HasHead volumes c (segment_head g) in
       let within : j < length ys = omega (arith, below, length-set ys i p) in
       ⊎_elim
-        (λ (less : j < i). subst (λ (q : Spun D). Says q h) (sym (get_or-set_other ys i j p d (λ e. omega (arith, less, e)))) (so_far j d h within (sym (get_front heads head j (omega (arith, less, count))) ∙ at)))
-        (λ (more : i ≤ j).
-        let more_heads : j < length (heads ++ head ∷ []) = slice_get_within (heads ++ head ∷ []) j h at in
-        let e : j ≡ length heads = omega (arith, more, count, more_heads, length-append heads (head ∷ [])) in
-        let is : head ≡ h = same_Some head h (sym (get_last heads head) ∙ sym (ap (λ (n : ℕ). slice_get (heads ++ head ∷ []) n) e) ∙ at) in
-        subst (λ (q : Spun D). Says q h) (sym (here j d (e ∙ count))) (subst (λ (g : SegHead). Says p g) is one))
-        (cases_lt j i)
+      (λ (less : j < i). subst (λ (q : Spun D). Says q h) (sym (get_or-set_other ys i j p d (λ e. omega (arith, less, e)))) (so_far j d h within (sym (get_front heads head j (omega (arith, less, count))) ∙ at)))
+      (λ (more : i ≤ j).
+      let more_heads : j < length (heads ++ head ∷ []) = slice_get_within (heads ++ head ∷ []) j h at in
+      let e : j ≡ length heads = omega (arith, more, count, more_heads, length-append heads (head ∷ [])) in
+      let is : head ≡ h = same_Some head h (sym (get_last heads head) ∙ sym (ap (λ (n : ℕ). slice_get (heads ++ head ∷ []) n) e) ∙ at) in
+      subst (λ (q : Spun D). Says q h) (sym (here j d (e ∙ count))) (subst (λ (g : SegHead). Says p g) is one))
+      (cases_lt j i)

@@ -16,3 +16,4 @@ pub mod SentOut
 pub mod ReadOut
 pub mod GivenBack
 pub mod OneFault
+pub mod TwoTurns

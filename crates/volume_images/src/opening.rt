@@ -1,11 +1,12 @@
 // An image is opened, in one use of its spindle.
-ghost use Rattle.std.specs.Prelude.{◌≡◌, ◌≤◌, false, ℕ, option_map, IfOk, IfErr, OnOk, OnErr, IfSome, IsErrOf};
+ghost use Rattle.std.specs.Prelude.{◌≡◌, ◌⊎◌, ◌≤◌, ◌∷◌, ◌++◌, [], false, ℕ, option_map, IfOk, IfErr, OnOk, OnErr, IfSome, IsErrOf};
 ghost use Rattle.wol_disk.specs.Disk.{Rose};
 ghost use Rattle.wol_model.specs.Heads.{IsShape};
-ghost use Rattle.turn_lock.specs.Passes.{pass_lock, pass_mine, IsPassOf, IsFree, IsSamePass};
+ghost use Rattle.wol_model.specs.Journal.{Needed, Done};
+ghost use Rattle.turn_lock.specs.Passes.{pass_lock, pass_number, pass_mine, IsPassOf, IsFree, IsSamePass};
 ghost use Rattle.wol_bay.specs.Bay.{IsHome, outs, sent_out};
 ghost use Rattle.wol_bay.specs.Refusals.{blocks_at};
-ghost use Rattle.spin_model.specs.Operations.{has_token};
+ghost use Rattle.spin_model.specs.Operations.{has_token, operation_of};
 ghost use Rattle.log_layout.specs.Values.{shape_of};
 ghost use Rattle.volume_images.specs.Formatted.{part_sizes};
 ghost use Rattle.volume_images.specs.Left.{IsTold};
@@ -63,6 +64,9 @@ pub fn open_image<R: Wait, B: Bay>(
     ensures part_cause { (f : ImageFault) → IsErrOf result (ImageRefusal.Fault f) → IsCallFault f → Rose (B.state bay.old).faults (B.state bay.new).faults }
     ensures counts { (B.state bay.old).faults ≤ (B.state bay.new).faults }
     ensures same { IsSamePass pass.old pass.new }
+    // it made no turn, or two
+    ensures uses { (pass_mine pass.new ≡ pass_mine pass.old)
+        ⊎ (pass_mine pass.new ≡ pass_mine pass.old ++ (pass_number pass.old, operation_of Needed) ∷ (pass_number pass.old, operation_of Done) ∷ []) }
     ensures free { IsFree pass.new }
     ensures settled { has_token (pass_mine pass.new) ≡ false }
 {

@@ -1,11 +1,15 @@
-use Rattle.std.proofs.Common.{◌≡◌, ◌<◌, ◌≤◌, ◌+◌, ℕ, List, [], length, Option, Some, None, sym, ap, ◌∙◌, subst, refl, arith}
-use Rattle.std.specs.Prelude.{All}
-use Rattle.rack.specs.Racks.{base_of_station}
+use Rattle.std.proofs.Common.{◌≡◌, ◌≤◌, length, sym, ap, ◌∙◌, subst, arith}
+use Rattle.std.specs.List.{AllByRecursion}
+use Rattle.turn_lock.specs.declared.pass.PassOf.{PassOf}
+use Rattle.spin_model.specs.declared.spindle.Spindle.{Spindle}
+use Rattle.spin_model.specs.declared.spindle.SpindleBase.{SpindleBase}
 use Rattle.volume_images.specs.Volumes.{shapes_of}
 use Rattle.rack.proofs.Closable.{stations_may, pools_may, spindles_may, images_rest, images_whole}
 use Rattle.rack.proofs.RackClosed.{none_out, few, out_there, lists_ended}
-use Rattle.rack.proofs.StationRecovers.{whole_now}
-use Rattle.rack.proofs.FinalImages.{origin}
+use Rattle.rack.proofs.StationClosed.{closed_volume, told_map}
+use Rattle.rack.proofs.PartsThrough.{fault_through}
+use Rattle.rack.proofs.LeftOfParts.{left_parts}
+use Rattle.rack.proofs.QuietClosed.{left_quiet}
 use Rattle.rack.proofs.closing.close_all.Goals as goal
 
 pub close_stations-requires : goal.close_stations-requires
@@ -30,7 +34,7 @@ close_spindles-requires-clause-locks g c =
     let config = c.args.config.now in
     let shared = c.args.rack.shared in
     let is1 = c.close_stations.ensures.rest config shared (stations_may state config (g.B.Bay.state c.args.bay.now) c.args.rack can) in
-    spindles_may state config shared c.close_stations.new.self can.locks is1 c.args.rack.keepers.items c.close_pools.new.self can.keepers c.close_pools.ensures.spindles c.close_pools.ensures.rooms
+    spindles_may state config shared c.close_stations.new.self can.locks is1 c.args.rack.keepers.items c.close_pools.new.self can.keepers (c.close_stations.ensures.accesses config shared (stations_may state config (g.B.Bay.state c.args.bay.now) c.args.rack can)) c.close_pools.ensures.spindles c.close_pools.ensures.rooms
 
 pub close_spindles-requires-clause-empty : goal.close_spindles-requires-clause-empty
 close_spindles-requires-clause-empty g c =
@@ -103,3 +107,78 @@ returns-clause-home g c =
     none_out state g.B.Part.Disk.tells config (g.B.Bay.state c.args.bay.now) c.args.rack can c.close_stations.new.self c.close_pools.new.self is1 c.close_stations.ensures.closed c.close_pools.ensures.images c.close_pools.ensures.spindles
     (Rattle.wol_bay.specs.Bay.outs (g.B.Bay.state c.args.bay.now)) (Rattle.wol_bay.specs.Bay.outs (g.B.Bay.state c.give_back.new.bay))
     (subst (λ w. Rattle.rack.specs.Closing.LeavesNoneOut config w.items (Rattle.wol_bay.specs.Bay.outs (g.B.Bay.state c.args.bay.now)) (Rattle.wol_bay.specs.Bay.outs (g.B.Bay.state c.give_back.new.bay))) c.close_spindles.ensures.images c.give_back.ensures.home)
+
+pub returns-clause-spindles : goal.returns-clause-spindles
+returns-clause-spindles g c = λ k s at.
+    let closed = c.close_spindles.ensures.closed in
+    let list : c.reverse.new.self.items ≡ Rattle.std.specs.Prelude.reverse c.close_spindles.new.self.rooms.closed.items = c.reverse.ensures.items in
+    let below = Rattle.std.proofs.lemmas.Option.slice_get_within c.reverse.new.self.items k s at in
+    let n = ap length list ∙ Rattle.std.proofs.lemmas.List.length-reverse c.close_spindles.new.self.rooms.closed.items in
+    let l = Rattle.rack.proofs.Members.element_at c.args.rack.shared.spindles.items k (omega (arith, below, n, closed.count)) in
+    let p = Rattle.rack.proofs.Members.element_at c.args.rack.keepers.items k (omega (arith, below, n, closed.count, c.requires.rack.keepers.0, c.requires.rack.locks.spindle_count)) in
+    let is = closed.each k l.0 p.0 s l.1 p.1 (sym (ap (λ xs. Rattle.std.specs.Prelude.slice_get xs k) list) ∙ at) in
+    record {
+      entries = is.entries;
+      stands = λ m there. subst (λ q. Rattle.spin_model.specs.Spindles.StandsFor s (Rattle.turn_lock.specs.Passes.lock_id q).base is.entries) (Rattle.std.proofs.lemmas.Option.same_Some l.0 m (sym l.1 ∙ there)) is.stands;
+      accesses = λ q there. subst (λ (x : PassOf Spindle SpindleBase). AllByRecursion (Rattle.rack.specs.Closing.IsAccessBut (Rattle.turn_lock.specs.Passes.pass_number x)) is.entries) (Rattle.std.proofs.lemmas.Option.same_Some p.0 q (sym p.1 ∙ there)) is.accesses;
+      keeper_part = λ q there. subst (λ x. Rattle.turn_lock.specs.Passes.IsPartOf is.entries x) (Rattle.std.proofs.lemmas.Option.same_Some p.0 q (sym p.1 ∙ there)) is.keeper_part;
+    }
+
+pub returns-clause-stations : goal.returns-clause-stations
+returns-clause-stations g c =
+    let can = c.requires.rack in
+    let state = g.B.Part.Disk.state in
+    let config = c.args.config.now in
+    let shared = c.args.rack.shared in
+    let is1 = c.close_stations.ensures.rest config shared (stations_may state config (g.B.Bay.state c.args.bay.now) c.args.rack can) in
+    let second = c.close_pools.new.self in
+    let old = g.B.Bay.state c.args.bay.now in
+    let new = g.B.Bay.state c.give_back.new.bay in
+    let few : length (shapes_of config) ≤ 64 = let n = Rattle.std.proofs.lemmas.List.length-map config.volumes.items (Rattle.volume_images.specs.Volumes.shape_in config) in omega (arith, n, c.requires.config.count) in
+    let same = c.close_spindles.ensures.images in
+    let given = subst (λ w. Rattle.volume_images.specs.Left.IsTold (Rattle.rack.specs.Closing.GivesBack state config w.items 0) old.told new.told) same c.give_back.ensures.back in
+    let cause = subst (λ w. Rattle.rack.specs.Closing.HasFaultHere state w.items 0 → Rattle.wol_disk.specs.Disk.Rose old.faults new.faults) same c.give_back.ensures.cause in
+    Rattle.rack.proofs.Members.all_member (Rattle.rack.specs.Closes.IsClosedVolume g.B.Part.Disk.tells config c.args.rack.rest.images.items old new) c.args.rack.stations.items
+    (closed_volume state g.B.Part.Disk.tells config old c.args.rack can c.close_stations.new.self second is1 c.close_stations.ensures.closed c.close_pools.ensures.images c.close_pools.ensures.spindles
+    (λ told d. g.met.B.Part.Disk.told told d) g.met.B.Part.Disk.sound few old new given cause)
+
+pub returns-clause-cause : goal.returns-clause-cause
+returns-clause-cause g c = λ fault.
+    let can = c.requires.rack in
+    let state = g.B.Part.Disk.state in
+    let config = c.args.config.now in
+    let shared = c.args.rack.shared in
+    let is1 = c.close_stations.ensures.rest config shared (stations_may state config (g.B.Bay.state c.args.bay.now) c.args.rack can) in
+    let old = g.B.Bay.state c.args.bay.now in
+    let cause = subst (λ w. Rattle.rack.specs.Closing.HasFaultHere state w.items 0 → Rattle.wol_disk.specs.Disk.Rose old.faults (g.B.Bay.state c.give_back.new.bay).faults) c.close_spindles.ensures.images c.give_back.ensures.cause in
+    cause (fault_through state g.B.Part.Disk.tells config old c.args.rack can c.close_stations.new.self c.close_pools.new.self is1 c.close_stations.ensures.closed c.close_pools.ensures.images c.close_pools.ensures.spindles fault)
+
+pub returns-clause-parts : goal.returns-clause-parts
+returns-clause-parts g c = λ told.
+    let can = c.requires.rack in
+    let state = g.B.Part.Disk.state in
+    let config = c.args.config.now in
+    let shared = c.args.rack.shared in
+    let is1 = c.close_stations.ensures.rest config shared (stations_may state config (g.B.Bay.state c.args.bay.now) c.args.rack can) in
+    let second = c.close_pools.new.self in
+    let old = g.B.Bay.state c.args.bay.now in
+    let new = g.B.Bay.state c.give_back.new.bay in
+    let few : length (shapes_of config) ≤ 64 = let n = Rattle.std.proofs.lemmas.List.length-map config.volumes.items (Rattle.volume_images.specs.Volumes.shape_in config) in omega (arith, n, c.requires.config.count) in
+    let given = subst (λ w. Rattle.volume_images.specs.Left.IsTold (Rattle.rack.specs.Closing.GivesBack state config w.items 0) old.told new.told) c.close_spindles.ensures.images c.give_back.ensures.back in
+    told_map (Rattle.rack.specs.Closing.GivesBack state config second.images.items 0) (λ o n. Rattle.rack.specs.Closes.AreLeftOfParts state config c.args.rack n) old.told new.told given
+    (λ o n back images left k z m at here. left_parts state g.B.Part.Disk.tells told (g.met.B.Part.Disk.told told) g.met.B.Part.Disk.sound config few old c.args.rack can c.close_stations.new.self second is1 c.close_stations.ensures.closed c.close_pools.ensures.images c.close_pools.ensures.spindles o n back images left k z m at here)
+
+pub returns-clause-left : goal.returns-clause-left
+returns-clause-left g c = λ entry told began quiet.
+    let can = c.requires.rack in
+    let state = g.B.Part.Disk.state in
+    let config = c.args.config.now in
+    let shared = c.args.rack.shared in
+    let is1 = c.close_stations.ensures.rest config shared (stations_may state config (g.B.Bay.state c.args.bay.now) c.args.rack can) in
+    let second = c.close_pools.new.self in
+    let old = g.B.Bay.state c.args.bay.now in
+    let new = g.B.Bay.state c.give_back.new.bay in
+    let few : length (shapes_of config) ≤ 64 = let n = Rattle.std.proofs.lemmas.List.length-map config.volumes.items (Rattle.volume_images.specs.Volumes.shape_in config) in omega (arith, n, c.requires.config.count) in
+    let given = subst (λ w. Rattle.volume_images.specs.Left.IsTold (Rattle.rack.specs.Closing.GivesBack state config w.items 0) old.told new.told) c.close_spindles.ensures.images c.give_back.ensures.back in
+    told_map (Rattle.rack.specs.Closing.GivesBack state config second.images.items 0) (λ o n. Rattle.rack.specs.Closes.LeavesOpen config c.args.rack entry n) old.told new.told given
+    (λ o n back. left_quiet state g.B.Part.Disk.tells config old c.args.rack can c.close_stations.new.self second is1 c.close_stations.ensures.closed c.close_pools.ensures.images c.close_pools.ensures.spindles told (g.met.B.Part.Disk.told told) g.met.B.Part.Disk.sound few entry began quiet o n back)

@@ -1,10 +1,11 @@
-use Rattle.std.proofs.Common.{◌≡◌, subst, arith}
+use Rattle.std.proofs.Common.{◌≡◌, inr, subst, arith}
 use Rattle.wol_bay.proofs.OneImage.{goes_out, comes_home}
 use Rattle.log_layout.specs.Values.{shape_of}
 use Rattle.volume_images.specs.Formatted.{part_sizes}
 use Rattle.volume_images.proofs.GivenBack.{says_so, gave_back, call_faults}
 use Rattle.volume_images.proofs.Refused.{rose_since}
 use Rattle.volume_images.specs.Refusals.{IsCallFault}
+use Rattle.volume_images.proofs.TwoTurns.{two_turns}
 use Rattle.volume_images.proofs.opening.open_image.Goals as goal
 
 pub read_out-read-requires-clause-name : goal.read_out-read-requires-clause-name
@@ -34,3 +35,9 @@ returns-in-Err-read-clause-part_cause g c = λ f is call.
     let same : f ≡ c.in-Err-read.fault = cc in
     rose_since (g.B.Bay.state c.args.bay.now).faults (g.B.Bay.state c.send_out.new.bay).faults (g.B.Bay.state c.read_out-read.new.bay).faults c.send_out.ensures.counts
     (given.cause (call_faults g.B.Part.Disk.state c.args.volumes c.args.want.now.id (shape_of c.args.want.now) c.in-Ok-send_out.out.image given.after c.in-Err-read.fault (subst (λ e. IsCallFault e) same call) given.read given.refused))
+
+pub returns-in-Ok-read-clause-uses : goal.returns-in-Ok-read-clause-uses
+returns-in-Ok-read-clause-uses g c = inr (two_turns c.args.pass.now c.take_token-token.new.pass c.give_token.new.pass c.take_token-token.ensures.same c.take_token-token.ensures.mine c.give_token.ensures.mine)
+
+pub returns-in-Err-read-clause-uses : goal.returns-in-Err-read-clause-uses
+returns-in-Err-read-clause-uses g c = inr (two_turns c.args.pass.now c.take_token-token.new.pass c.give_token.new.pass c.take_token-token.ensures.same c.take_token-token.ensures.mine c.give_token.ensures.mine)

@@ -51,3 +51,6 @@ pub returns-clause-closed : goal.returns-clause-closed
 returns-clause-closed g c =
     let none : length c.loop-station.stations.items ≡ 0 = omega (arith, c.in_default.ensures.cases, c.loop-station.stations.ok.0) in
     subst (λ (n : ℕ). ClosesStations g.D.Disk.tells g.D.Disk.state (drop n c.args.stations.items) c.args.self.now c.loop-station.self) none c.loop-station.invariant.closed
+
+pub returns-clause-accesses : goal.returns-clause-accesses
+returns-clause-accesses g c = λ config shared can. (c.loop-station.invariant.may config shared can).accesses

@@ -1,0 +1,43 @@
+-- The entries of a lock's other passes, where each made accesses only.
+use Rattle.std.proofs.Common.{◌≡◌, ◌≢◌, ◌⊎◌, ◌==◌, inl, inr, ℕ, Bool, true, false, cond, List, [], ◌∷◌, ◌++◌, map, sym, ap, ◌∙◌, subst}
+use Rattle.std.specs.Prelude.{Contains, All}
+use Rattle.std.specs.List.{AllByRecursion}
+use Rattle.std.proofs.lemmas.List.Elements.{All-push, All-contains, Contains-append_left}
+use Rattle.turn_lock.specs.Histories.{Entry, own}
+use Rattle.turn_lock.specs.Passes.{pass_number, pass_mine, IsPartOf, AreWhole}
+use Rattle.turn_lock.specs.declared.pass.PassOf.{PassOf}
+use Rattle.spin_model.specs.declared.spindle.Spindle.{Spindle}
+use Rattle.spin_model.specs.declared.spindle.SpindleBase.{SpindleBase}
+use Rattle.logger.specs.Lanes.{AreAccesses}
+use Rattle.rack.specs.Closing.{IsAccessBut}
+use Rattle.rack.proofs.Members.{is_member, of_map, in_map, all_member}
+use Rattle.rack.proofs.Unbroken.{self_equal}
+
+rest_accesses : (t : Bool) (e : Entry) (xs : List Entry) → AreAccesses (cond t (e ∷ xs) xs) → AreAccesses xs
+rest_accesses false e xs all = all
+rest_accesses true e xs all = all.1
+
+by_own : (keeper : ℕ) (es : List Entry) → ((n : ℕ) → n ≢ keeper → AreAccesses (own n es)) → AllByRecursion (IsAccessBut keeper) es
+by_own keeper [] each = tt
+by_own keeper (e ∷ es) each = (one, by_own keeper es (λ n differs. rest_accesses (e.0 == n) e (own n es) (each n differs)))
+  where
+    one : IsAccessBut keeper e
+    one differs = (subst (λ (t : Bool). AreAccesses (cond t (e ∷ own e.0 es) (own e.0 es))) (self_equal e.0) (each e.0 differs)).0
+
+pub others_access : (es : List Entry) (ps : List (PassOf Spindle SpindleBase)) (keeper : PassOf Spindle SpindleBase) → AreWhole es (ps ++ keeper ∷ []) → All (λ p. AreAccesses (pass_mine p)) ps → AllByRecursion (IsAccessBut (pass_number keeper)) es
+others_access es ps keeper whole accesses = by_own (pass_number keeper) es each
+  where
+    each : (n : ℕ) → n ≢ pass_number keeper → AreAccesses (own n es)
+    each n differs = go (is_member (map (λ (p : PassOf Spindle SpindleBase). pass_number p) ps) n)
+      where
+        go : Contains (map (λ (p : PassOf Spindle SpindleBase). pass_number p) ps) n ⊎ (Contains (map (λ (p : PassOf Spindle SpindleBase). pass_number p) ps) n → ⊥) → AreAccesses (own n es)
+        go (inl has) =
+            let p = of_map (λ (p : PassOf Spindle SpindleBase). pass_number p) ps n has in
+            let part = All-contains (λ q. IsPartOf es q) (ps ++ keeper ∷ []) p.0 whole.parts (Contains-append_left ps (keeper ∷ []) p.0 p.1) in
+            let mine : own n es ≡ pass_mine p.0 = ap (λ (m : ℕ). own m es) (sym p.2) ∙ part.mine in
+            subst AreAccesses (sym mine) (All-contains (λ q. AreAccesses (pass_mine q)) ps p.0 accesses p.1)
+        go (inr never) =
+            let none : own n es ≡ [] = whole.no_more n (All-push (λ q. pass_number q ≢ n) ps keeper
+            (all_member (λ q. pass_number q ≢ n) ps (λ q has e. never (subst (λ (m : ℕ). Contains (map (λ (p : PassOf Spindle SpindleBase). pass_number p) ps) m) e (in_map (λ (p : PassOf Spindle SpindleBase). pass_number p) ps q has))))
+            (λ e. differs (sym e))) in
+            subst AreAccesses (sym none) tt

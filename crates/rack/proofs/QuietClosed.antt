@@ -1,0 +1,74 @@
+-- What is left of open volumes to which nothing was written.
+use Rattle.std.proofs.Common.{◌≡◌, ◌≤◌, ℕ, Bool, List, [], length, Option, Some, None, ap, ◌∙◌, arith}
+use Rattle.std.specs.Prelude.{Contains, All, IsTrue, slice_get}
+use Rattle.std.proofs.lemmas.Option.{slice_get-get_or}
+use Rattle.wol_disk.specs.Disk.{State, IsDisk, TellsContent}
+use Rattle.wol_model.specs.History.{writes}
+use Rattle.wol_promise.specs.Ruled.{entries_of}
+use Rattle.wol_bay.specs.Bay.{Told, BayState}
+use Rattle.wol_config.specs.declared.config.Config.{Config}
+use Rattle.turn_lock.specs.Passes.{lock_id}
+use Rattle.turn_lock.specs.declared.lock.TurnLock.{TurnLock}
+use Rattle.seg_pool.specs.declared.base.PoolBase.{PoolBase}
+use Rattle.seg_pool.specs.declared.pool.Pool.{Pool}
+use Rattle.log_segment.specs.declared.free.FreeSegment.{FreeSegment}
+use Rattle.manager.specs.Stands.{notes_of}
+use Rattle.manager.specs.declared.station.Station.{Station}
+use Rattle.volume_images.specs.Volumes.{shapes_of}
+use Rattle.rack.specs.Rests.{image_here, IsRest}
+use Rattle.rack.specs.Racks.{IsClosable, base_of_station}
+use Rattle.rack.specs.Closing.{IsClosing, ClosesStations, RefillsAll, KeepsSpindles, GivesBack}
+use Rattle.rack.specs.Closes.{recovered_out}
+use Rattle.rack.specs.declared.rack.ImageRest.{ImageRest}
+use Rattle.rack.specs.declared.rack.Rack.{Rack}
+use Rattle.rack.specs.declared.rack.Rest.{Rest}
+use Rattle.rack.proofs.Members.{all_member}
+use Rattle.rack.proofs.StationParts.{zip_at, is_base, is_station}
+use Rattle.rack.proofs.FinalImages.{whole_left}
+use Rattle.std.proofs.Common.{not, cond, false}
+use Rattle.wol_disk.specs.Disk.{Block}
+use Rattle.wol_model.specs.Blocks.{after}
+use Rattle.wol_model.specs.Images.{Images, image_of, home_in, all_segments, accepted, recovered_from}
+use Rattle.wol_model.specs.Recovered.{recovered}
+use Rattle.wol_model.proofs.Overlay.{after_none}
+use Rattle.std.proofs.lemmas.List.Elements.{All-contains}
+use Rattle.volume_images.specs.Volumes.{images_read}
+use Rattle.rack.specs.Rests.{IsImageOut}
+use Rattle.rack.specs.Owners.{IsBegun, images_taken}
+use Rattle.rack.specs.Opens.{BeganWith}
+use Rattle.rack.specs.Closes.{IsQuiet, LeavesOpen, is_kept_home}
+use Rattle.rack.proofs.FinalImages.{accepted_at}
+use Rattle.rack.proofs.Unbroken.{unbroken, unwritten}
+
+-- an image that is out isn't refused
+home_taken : (v : ℕ) (refused : ℕ → Bool) (images : Images) → refused v ≡ false → image_of (accepted refused images) v ≡ image_of images v
+home_taken v refused images out =
+    accepted_at 0 refused images v ∙ ap (λ (t : Bool). cond t None (image_of images v)) (ap refused (omega arith) ∙ out)
+
+array_out : {D : Type 0} (config : Config) (out : List (Option (ImageRest D))) (images : Images) (v : ℕ) → IsImageOut out v → recovered_from (shapes_of config) (accepted (is_kept_home out) images) v ≡ recovered_out config out images v
+unfolding recovered_from
+array_out config out images v is_out =
+    ap (λ (i : Option (List Block)). recovered v (home_in (slice_get (shapes_of config) v) i) (all_segments (shapes_of config) (accepted (is_kept_home out) images))) (home_taken v (is_kept_home out) images (ap not is_out))
+
+module _ {D : Type 0} (state : D → State) (tells : Bool) (config : Config) (b : BayState) (r : Rack D) (can : IsClosable state config b r) (first second : Rest D) (is : IsRest state config r.shared [] first)
+    (closed : ClosesStations tells state r.stations.items r.rest first)
+    (filled : (k : ℕ) (f : TurnLock (Pool (FreeSegment D)) PoolBase) → slice_get r.shared.pools.items k ≡ Some f → RefillsAll state (lock_id f).base.blocks first k (image_here first.images.items k) (image_here second.images.items k))
+    (kept : KeepsSpindles first second) where
+  pub left_quiet : (told : IsTrue tells) → ((d : D) → TellsContent (state d)) → ((d : D) → IsDisk (state d)) → length (shapes_of config) ≤ 64 → (entry : Told) → BeganWith state config entry r → All (λ s. IsQuiet s) r.stations.items
+      → (old new : Told) → GivesBack state config second.images.items 0 old new → LeavesOpen config r entry new
+  left_quiet told tell_all sound few entry began quiet old new given images left =
+      all_member (λ s. recovered_out config r.rest.images.items images s.id ≡ recovered_out config r.rest.images.items (images_read config entry) s.id) r.stations.items one
+    where
+      one : (s : Station D) → Contains r.stations.items s → recovered_out config r.rest.images.items images s.id ≡ recovered_out config r.rest.images.items (images_read config entry) s.id
+      one s has =
+          let at : slice_get r.stations.items has.0 ≡ Some s = slice_get-get_or r.stations.items has.0 s has.1 ∙ ap (λ (t : Station D). Some t) has.2 in
+          let c = zip_at (IsClosing tells state first) r.stations.items closed.closings has.0 s closed.each at in
+          let station = is_station state tells config b r can first second is closed filled kept has.0 s at in
+          let base = is_base state tells config b r can first second is closed filled kept has.0 s at in
+          let hush = All-contains (λ t. IsQuiet t) r.stations.items s quiet has in
+          let begun = All-contains (λ t. IsBegun config (images_taken config r.rest.images.items entry) (base_of_station t).volume.began) r.stations.items s began.stations has in
+          let array = (base_of_station s).volume.began.array in
+          let end = whole_left state tells told tell_all sound config few b r can first second is closed filled kept old new given images left has.0 s c.0 at c.1 c.2 (unbroken s c.0.entries station c.2.whole hush.0) in
+          let same : after array (writes (entries_of (notes_of c.0.entries))) ≡ array = ap (after array) (unwritten s c.0.entries station c.2.whole hush) ∙ after_none array in
+          let then = begun.array ∙ array_out config r.rest.images.items (images_read config entry) (base_of_station s).volume.began.owner base.out in
+          end ∙ same ∙ then ∙ ap (λ (v : ℕ). recovered_out config r.rest.images.items (images_read config entry) v) station.id

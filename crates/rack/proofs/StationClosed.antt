@@ -1,0 +1,149 @@
+-- A volume that was closed: its entries, and the parts that had a fault.
+use Rattle.std.proofs.Common.{◌≡◌, ◌≢◌, ◌<◌, ◌≤◌, ◌+◌, ◌⊎◌, inl, inr, ℕ, Bool, true, List, [], ◌∷◌, length, Option, Some, None, is_some, refl, sym, ap, ◌∙◌, subst, arith}
+use Rattle.std.specs.Prelude.{Contains, IsTrue, slice_get}
+use Rattle.std.proofs.lemmas.Option.{slice_get-get_or}
+use Rattle.std.proofs.lemmas.List.Elements.{All-from_recursion}
+use Rattle.wol_disk.specs.Disk.{State, Rose, IsDisk, TellsContent}
+use Rattle.wol_model.specs.Blocks.{Write}
+use Rattle.wol_model.specs.History.{flight_of}
+use Rattle.wol_promise.specs.Manager.{PartName, HomePart, SegmentPart, Held, IsPartOf}
+use Rattle.wol_promise.specs.Ruled.{entries_of}
+use Rattle.wol_bay.specs.Bay.{Told, BayState}
+use Rattle.wol_bay.specs.Parts.{faulty_places}
+use Rattle.wol_config.specs.declared.config.Config.{Config}
+use Rattle.turn_lock.specs.Passes.{lock_id, pass_number}
+use Rattle.turn_lock.specs.declared.lock.TurnLock.{TurnLock}
+use Rattle.spin_model.specs.Spun.{state_of}
+use Rattle.spin_model.specs.declared.spun.Spun.{Spun}
+use Rattle.seg_pool.specs.declared.base.PoolBase.{PoolBase}
+use Rattle.seg_pool.specs.declared.pool.Pool.{Pool}
+use Rattle.log_segment.specs.Segment.{part_of}
+use Rattle.log_segment.specs.declared.free.FreeSegment.{FreeSegment}
+use Rattle.logger.specs.Lanes.{logger_of, held_in}
+use Rattle.logger.specs.declared.lane.HeldSegment.{HeldSegment}
+use Rattle.logger.specs.declared.lane.Lane.{Lane}
+use Rattle.manager.specs.Seen.{all_held, seen, down_of}
+use Rattle.manager.specs.Stands.{notes_of}
+use Rattle.manager.specs.declared.station.Station.{Station}
+use Rattle.volume_images.specs.Left.{IsTold}
+use Rattle.volume_images.specs.Volumes.{shapes_of}
+use Rattle.rack.specs.Rests.{image_here, IsRest}
+use Rattle.rack.specs.Racks.{IsClosable, base_of_station}
+use Rattle.rack.specs.Parts.{IsTogether}
+use Rattle.rack.specs.Closing.{Closing, IsClosing, ClosesStations, RefillsAll, KeepsSpindles, GivesBack, HasFaultHere}
+use Rattle.rack.specs.Closes.{RecoversTo, IsClosedVolume, HasFaultyPart}
+use Rattle.rack.specs.declared.rack.ImageRest.{ImageRest}
+use Rattle.rack.specs.declared.rack.Rack.{Rack}
+use Rattle.rack.specs.declared.rack.Rest.{Rest}
+use Rattle.rack.proofs.Members.{a_value, in_map, of_recursion, none_in}
+use Rattle.rack.proofs.Closable.{images_whole}
+use Rattle.rack.proofs.HeldSegments.{each_held}
+use Rattle.rack.proofs.FaultyParts.{together_of, home_fault, segment_fault}
+use Rattle.rack.proofs.StationParts.{zip_at, is_station, home_there, lane_there, shape_of_image}
+use Rattle.rack.proofs.FinalImages.{volume_at, cut_left, whole_left, distinct_left}
+
+pub told_map : (P Q : Told → Told → Type 0) (a b : Option Told) → IsTold P a b → ((o n : Told) → P o n → Q o n) → IsTold Q a b
+told_map P Q None b is each = is
+told_map P Q (Some o) None is each = is
+told_map P Q (Some o) (Some n) is each = λ apart. each o n (is apart)
+
+module _ {D : Type 0} (state : D → State) (tells : Bool) (config : Config) (b : BayState) (r : Rack D) (can : IsClosable state config b r) (first second : Rest D) (is : IsRest state config r.shared [] first)
+    (closed : ClosesStations tells state r.stations.items r.rest first)
+    (filled : (k : ℕ) (f : TurnLock (Pool (FreeSegment D)) PoolBase) → slice_get r.shared.pools.items k ≡ Some f → RefillsAll state (lock_id f).base.blocks first k (image_here first.images.items k) (image_here second.images.items k))
+    (kept : KeepsSpindles first second) where
+  -- a fault of a part that is here makes the count of the bay rise
+  pub fault_here : (k place : ℕ) (q : ImageRest D) → image_here second.images.items k ≡ Some q → ((disks : List D) → IsTogether q disks → Contains (faulty_places state disks) place) → HasFaultHere state second.images.items 0
+  fault_here k place q here among =
+      let disks = together_of state q (images_whole state config r.shared first can.locks is second kept.image_count filled k q here) in
+      record { volume = k; behind = omega arith; image = q; here = here; disks = disks.0; together = disks.1; fault = λ e. none_in place (subst (λ (xs : List ℕ). Contains xs place) e (among disks.0 disks.1)) }
+
+  module _ (n : ℕ) (s : Station D) (c : Closing D) (s_at : slice_get r.stations.items n ≡ Some s) (c_at : slice_get closed.closings n ≡ Some c) (ic : IsClosing tells state first s c) where
+    -- a part of the volume that had a fault, and its place in its image
+    pub record IsFaulty : Type 0 where
+      pub volume : ℕ
+      pub image : ImageRest D
+      pub here : image_here second.images.items volume ≡ Some image
+      pub place : ℕ
+      pub among : (disks : List D) → IsTogether image disks → Contains (faulty_places state disks) place
+      pub of_volume : ((volume ≡ s.id) × (place ≡ 1)) ⊎ (Contains (base_of_station s).volume.began.view volume × (2 ≤ place))
+
+    abbrev in_lane : Held (Spun D) → Type 0
+    in_lane h = (l : Lane D) × (g : HeldSegment D) × Contains c.manager.lanes.items l × Contains (held_in l) g × (part_of g.segment ≡ h.part)
+
+    named : (name : PartName) (p : Spun D) → IsPartOf (base_of_station s).volume.began.view (seen c.manager ic.stands.keeps.logs) name p → 0 < (state_of state p).faults → IsFaulty
+    named HomePart p home fault =
+        let q = home_there state tells config b r can first second is closed filled kept n s c s_at ic in
+        record {
+          volume = (base_of_station s).volume.began.owner;
+          image = q.0;
+          here = q.1;
+          place = 1;
+          among = λ disks together. home_fault state q.0 disks together p (q.2 ∙ ap (λ (x : Spun D). Some x) home) fault;
+          of_volume = inl ((is_station state tells config b r can first second is closed filled kept n s s_at).id, refl);
+        }
+    named (SegmentPart logger index) p held fault =
+        let all = each_held in_lane 0 c.manager.lanes.items ic.stands.keeps.logs (λ i l g rs broken in_lanes in_held. (l, g, in_lanes, in_held, refl)) in
+        let x = of_recursion in_lane (all_held 0 c.manager.lanes.items ic.stands.keeps.logs) held.0 all held.1 in
+        let t = lane_there state tells config b r can first second is closed filled kept n s c s_at ic x.0 x.1 x.2 x.3 in
+        let part : part_of x.1.segment ≡ p = x.4 ∙ held.4 in
+        record {
+          volume = logger_of x.0;
+          image = t.1;
+          here = t.2;
+          place = 2 + x.1.index;
+          among = λ disks together. segment_fault state t.1 disks together x.1.index (part_of x.1.segment) t.3 (subst (λ (y : Spun D). 0 < (state_of state y).faults) (sym part) fault);
+          of_volume = inr (subst (λ xs. Contains xs (logger_of x.0)) ic.stands.keeps.locks.view (in_map logger_of c.manager.lanes.items x.0 x.2), omega arith);
+        }
+
+    pub broken : (flight_of (entries_of (notes_of c.entries)) ≡ None → ⊥) → IsFaulty
+    broken broke =
+        let u = ic.stands.keeps.upholds in
+        let name = a_value (down_of c.manager.down) (u.is_down ∙ some (flight_of (entries_of (notes_of c.entries))) refl) in
+        let p = u.failed name.0 name.1 in
+        named name.0 p.0 p.1 p.2
+      where
+        some : (o : Option (List Write)) → flight_of (entries_of (notes_of c.entries)) ≡ o → is_some (flight_of (entries_of (notes_of c.entries))) ≡ true
+        some None e = absurd (broke e)
+        some (Some ws) e = ap is_some e
+
+    pub faulty_part : (old new : Told) → GivesBack state config second.images.items 0 old new → IsFaulty → HasFaultyPart config s old new
+    faulty_part old new given part =
+        let z = shape_of_image state tells config b r can first second is closed filled kept part.volume part.image part.here in
+        let v = volume_at config part.volume z.0 z.1 in
+        let back = given.back part.volume v.0 part.image (omega arith) v.1 part.here in
+        record { more = given.more; more_is = given.faulty; volume = part.volume; conf = v.0; conf_is = v.1; place = part.place; among = back.faulty part.place (part.among back.disks back.together); of_volume = part.of_volume }
+
+    pub recovers : (told : IsTrue tells) → ((d : D) → TellsContent (state d)) → ((d : D) → IsDisk (state d)) → length (shapes_of config) ≤ 64 → (old new : Told) → GivesBack state config second.images.items 0 old new
+        → RecoversTo config r.rest.images.items s c.entries new
+    recovers told tell_all sound few old new given = record {
+      cut = λ images left distinct. cut_left state tells told tell_all sound config few b r can first second is closed filled kept old new given images left n s c s_at c_at ic distinct;
+      whole = λ images left up. whole_left state tells told tell_all sound config few b r can first second is closed filled kept old new given images left n s c s_at c_at ic up;
+      distinct = λ images left up. distinct_left state tells told tell_all sound config few b r can first second is closed filled kept old new given images left n s c s_at c_at ic up;
+    }
+
+  -- what is said of a volume
+  pub closed_volume : ((told : IsTrue tells) → (d : D) → TellsContent (state d)) → ((d : D) → IsDisk (state d)) → length (shapes_of config) ≤ 64
+      → (x y : BayState) → IsTold (GivesBack state config second.images.items 0) x.told y.told → (HasFaultHere state second.images.items 0 → Rose x.faults y.faults)
+      → (s : Station D) → Contains r.stations.items s → IsClosedVolume tells config r.rest.images.items x y s
+  closed_volume tell_all sound few x y given cause s has = record {
+    entries = c.0.entries;
+    worker_part = c.2.whole.parts 0 s.worker (omega arith);
+    helper_part = c.2.whole.parts 1 s.worker (omega arith);
+    keeper_part = c.2.whole.parts 2 s.worker (omega arith);
+    no_more = λ m w h k. c.2.whole.no_more m
+        (All-from_recursion (λ p. pass_number p ≢ m) (s.worker ∷ s.helper ∷ s.keeper ∷ [])
+        (λ e. w (sym e ∙ station.worker_.number_is), (λ e. h (sym e ∙ station.helper_.number_is), (λ e. k (sym e ∙ station.keeper_.number_is), tt))));
+    history = c.2.stands.keeps.upholds.history;
+    cause = λ broke. let part = broken has.0 s c.0 at c.1 c.2 broke in cause (fault_here part.volume part.place part.image part.here part.among);
+    faulty = λ broke. told_map (GivesBack state config second.images.items 0) (HasFaultyPart config s) x.told y.told given (λ old new back. faulty_part has.0 s c.0 at c.1 c.2 old new back (broken has.0 s c.0 at c.1 c.2 broke));
+    recovers = λ told. told_map (GivesBack state config second.images.items 0) (λ o n. RecoversTo config r.rest.images.items s c.0.entries n) x.told y.told given (λ old new back. recovers has.0 s c.0 at c.1 c.2 told (tell_all told) sound few old new back);
+  }
+    where
+      at : slice_get r.stations.items has.0 ≡ Some s
+      at = slice_get-get_or r.stations.items has.0 s has.1 ∙ ap (λ (t : Station D). Some t) has.2
+
+      c : (c : Closing D) × (slice_get closed.closings has.0 ≡ Some c) × IsClosing tells state first s c
+      c = zip_at (IsClosing tells state first) r.stations.items closed.closings has.0 s closed.each at
+
+      station : Rattle.rack.specs.Racks.IsStation s
+      station = is_station state tells config b r can first second is closed filled kept has.0 s at

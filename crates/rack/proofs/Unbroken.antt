@@ -1,0 +1,121 @@
+-- A history in which no pass made a Broke has none, and one in which no pass wrote has no writes.
+use Rattle.std.proofs.Common.{◌≡◌, ◌≢◌, ◌⊎◌, ◌==◌, inl, inr, ℕ, Bool, true, false, cond, List, [], ◌∷◌, ◌++◌, Option, None, refl, sym, ap, ◌∙◌, subst, arith}
+use Rattle.std.proofs.lemmas.Bool.{cases_eq}
+use Rattle.std.proofs.lemmas.Bool.Decides.{nat_tests}
+use Rattle.std.proofs.lemmas.Option.{none-some}
+use Rattle.std.proofs.lemmas.List.Elements.{All-from_recursion}
+use Rattle.wol_model.specs.Blocks.{Write}
+use Rattle.wol_model.specs.History.{Operation, Broke, Wrote, Read, Kept, worker, helper, keeper, flight_of, flight_from, writes, written_by}
+use Rattle.wol_promise.specs.Code.{noted_of}
+use Rattle.wol_promise.specs.Ruled.{entries_of}
+use Rattle.turn_lock.specs.Histories.{Entry, own}
+use Rattle.turn_lock.specs.Passes.{pass_number, AreWhole}
+use Rattle.manager.specs.Stands.{notes_of}
+use Rattle.manager.specs.declared.station.Station.{Station}
+use Rattle.rack.specs.Racks.{IsStation}
+use Rattle.rack.specs.Closes.{IsUnbroken, IsQuiet}
+
+abbrev flight_in : List Entry → Option (List Write)
+flight_in es = flight_of (entries_of (notes_of es))
+
+abbrev operation_of : Entry → Operation
+operation_of e = (noted_of e.0 e.1).entry.operation
+
+pub self_equal : (n : ℕ) → (n == n) ≡ true
+self_equal n = grind (arith, nat_tests)
+
+rest_quiet : (t : Bool) (e : Entry) (xs : List Entry) → flight_in (e ∷ xs) ≡ flight_in xs → flight_in (cond t (e ∷ xs) xs) ≡ None → flight_in xs ≡ None
+rest_quiet false e xs same quiet = quiet
+rest_quiet true e xs same quiet = sym same ∙ quiet
+
+pub by_pass : (es : List Entry) → ((n : ℕ) → flight_in (own n es) ≡ None) → flight_in es ≡ None
+by_pass [] each = refl
+by_pass (e ∷ es) each = go (operation_of e) refl (λ quiet. by_pass es quiet)
+  where
+    passing : (o : Operation) → operation_of e ≡ o → ((rest : Option (List Write)) → flight_from o rest ≡ rest) → (((n : ℕ) → flight_in (own n es) ≡ None) → flight_in es ≡ None) → flight_in (e ∷ es) ≡ None
+    passing o is through later =
+        let same : (xs : List Entry) → flight_in (e ∷ xs) ≡ flight_in xs = λ xs. ap (λ (p : Operation). flight_from p (flight_in xs)) is ∙ through (flight_in xs) in
+        same es ∙ later (λ n. rest_quiet (e.0 == n) e (own n es) (same (own n es)) (each n))
+
+    go : (o : Operation) → operation_of e ≡ o → (((n : ℕ) → flight_in (own n es) ≡ None) → flight_in es ≡ None) → flight_in (e ∷ es) ≡ None
+    go (Broke ws) is later =
+        let first : flight_in (cond (e.0 == e.0) (e ∷ own e.0 es) (own e.0 es)) ≡ None = each e.0 in
+        let made : flight_in (e ∷ own e.0 es) ≡ None = subst (λ (t : Bool). flight_in (cond t (e ∷ own e.0 es) (own e.0 es)) ≡ None) (self_equal e.0) first in
+        absurd (none-some ws (sym made ∙ ap (λ (p : Operation). flight_from p (flight_in (own e.0 es))) is))
+    go (Wrote ws) is later = passing (Wrote ws) is (λ rest. refl) later
+    go (Read first reply) is later = passing (Read first reply) is (λ rest. refl) later
+    go Kept is later = passing Kept is (λ rest. refl) later
+
+pub unbroken : {D : Type 0} (s : Station D) (es : List Entry) → IsStation s → AreWhole es (s.worker ∷ s.helper ∷ s.keeper ∷ []) → IsUnbroken s → flight_of (entries_of (notes_of es)) ≡ None
+unbroken {D} s es station whole quiet = by_pass es each
+  where
+    at : (n m : ℕ) → n ≡ m → flight_in (own m es) ≡ None → flight_in (own n es) ≡ None
+    at n m e is = ap (λ (k : ℕ). flight_in (own k es)) e ∙ is
+
+    by_worker : flight_in (own worker es) ≡ None
+    by_worker = ap (λ (k : ℕ). flight_in (own k es)) (sym station.worker_.number_is) ∙ ap flight_in (whole.parts 0 s.worker (omega arith)).mine ∙ quiet.0
+
+    by_helper : flight_in (own helper es) ≡ None
+    by_helper = ap (λ (k : ℕ). flight_in (own k es)) (sym station.helper_.number_is) ∙ ap flight_in (whole.parts 1 s.worker (omega arith)).mine ∙ quiet.1
+
+    by_keeper : flight_in (own keeper es) ≡ None
+    by_keeper = ap (λ (k : ℕ). flight_in (own k es)) (sym station.keeper_.number_is) ∙ ap flight_in (whole.parts 2 s.worker (omega arith)).mine ∙ quiet.2
+
+    each : (n : ℕ) → flight_in (own n es) ≡ None
+    each n = one (cases_eq n worker) (cases_eq n helper) (cases_eq n keeper)
+      where
+        one : (n ≡ worker) ⊎ (n ≢ worker) → (n ≡ helper) ⊎ (n ≢ helper) → (n ≡ keeper) ⊎ (n ≢ keeper) → flight_in (own n es) ≡ None
+        one (inl e) x y = at n worker e by_worker
+        one (inr w) (inl e) y = at n helper e by_helper
+        one (inr w) (inr h) (inl e) = at n keeper e by_keeper
+        one (inr w) (inr h) (inr k) =
+            ap flight_in (whole.no_more n (All-from_recursion (λ p. pass_number p ≢ n) (s.worker ∷ s.helper ∷ s.keeper ∷ [])
+            (λ e. w (sym e ∙ station.worker_.number_is), (λ e. h (sym e ∙ station.helper_.number_is), (λ e. k (sym e ∙ station.keeper_.number_is), tt)))))
+
+-- ---- And one in which no pass wrote has no writes
+
+abbrev written_in : List Entry → List Write
+written_in es = writes (entries_of (notes_of es))
+
+front_none : (xs ys : List Write) → xs ++ ys ≡ [] → xs ≡ []
+front_none [] ys e = refl
+front_none (x ∷ xs) ys e = absurd (cc e)
+
+back_none : (xs ys : List Write) → xs ++ ys ≡ [] → ys ≡ []
+back_none [] ys e = e
+back_none (x ∷ xs) ys e = absurd (cc e)
+
+rest_none : (t : Bool) (e : Entry) (xs : List Entry) → written_in (cond t (e ∷ xs) xs) ≡ [] → written_in xs ≡ []
+rest_none false e xs none = none
+rest_none true e xs none = back_none (written_by (operation_of e)) (written_in xs) none
+
+pub none_by_pass : (es : List Entry) → ((n : ℕ) → written_in (own n es) ≡ []) → written_in es ≡ []
+none_by_pass [] each = refl
+none_by_pass (e ∷ es) each =
+    ap (λ (xs : List Write). xs ++ written_in es) (front_none (written_by (operation_of e)) (written_in (own e.0 es)) made) ∙ none_by_pass es (λ n. rest_none (e.0 == n) e (own n es) (each n))
+  where
+    made : written_by (operation_of e) ++ written_in (own e.0 es) ≡ []
+    made = subst (λ (t : Bool). written_in (cond t (e ∷ own e.0 es) (own e.0 es)) ≡ []) (self_equal e.0) (each e.0)
+
+pub unwritten : {D : Type 0} (s : Station D) (es : List Entry) → IsStation s → AreWhole es (s.worker ∷ s.helper ∷ s.keeper ∷ []) → IsQuiet s → writes (entries_of (notes_of es)) ≡ []
+unwritten {D} s es station whole quiet = none_by_pass es each
+  where
+    by_worker : written_in (own worker es) ≡ []
+    by_worker = ap (λ (k : ℕ). written_in (own k es)) (sym station.worker_.number_is) ∙ ap written_in (whole.parts 0 s.worker (omega arith)).mine ∙ quiet.1.0
+
+    by_helper : written_in (own helper es) ≡ []
+    by_helper = ap (λ (k : ℕ). written_in (own k es)) (sym station.helper_.number_is) ∙ ap written_in (whole.parts 1 s.worker (omega arith)).mine ∙ quiet.1.1
+
+    by_keeper : written_in (own keeper es) ≡ []
+    by_keeper = ap (λ (k : ℕ). written_in (own k es)) (sym station.keeper_.number_is) ∙ ap written_in (whole.parts 2 s.worker (omega arith)).mine ∙ quiet.1.2
+
+    each : (n : ℕ) → written_in (own n es) ≡ []
+    each n = one (cases_eq n worker) (cases_eq n helper) (cases_eq n keeper)
+      where
+        one : (n ≡ worker) ⊎ (n ≢ worker) → (n ≡ helper) ⊎ (n ≢ helper) → (n ≡ keeper) ⊎ (n ≢ keeper) → written_in (own n es) ≡ []
+        one (inl e) x y = ap (λ (k : ℕ). written_in (own k es)) e ∙ by_worker
+        one (inr w) (inl e) y = ap (λ (k : ℕ). written_in (own k es)) e ∙ by_helper
+        one (inr w) (inr h) (inl e) = ap (λ (k : ℕ). written_in (own k es)) e ∙ by_keeper
+        one (inr w) (inr h) (inr k) =
+            ap written_in (whole.no_more n (All-from_recursion (λ p. pass_number p ≢ n) (s.worker ∷ s.helper ∷ s.keeper ∷ [])
+            (λ e. w (sym e ∙ station.worker_.number_is), (λ e. h (sym e ∙ station.helper_.number_is), (λ e. k (sym e ∙ station.keeper_.number_is), tt)))))
