@@ -70,6 +70,11 @@ module _ {D : Type 0} (state : D → State) (config : Config) (b : BayState) (sp
     pub first_opening : IsOpeningRack state config b said 0 r
     first_opening = record {
       closable = record {
+        accesses = λ v k p here.
+            let lock = spindle_there state config spindles pools said r ready.first v k p here in
+            let at = spindle_in state config spindles pools said r ready.first v k lock.0 p lock.1 here in
+            subst (λ (x : PassOf Spindle SpindleBase). AreAccesses (pass_mine x)) (get_or_from_slice_get at.0.passes.items v p p at.4)
+            (ready.accesses k at.0 at.1 v p (slice_get_within at.0.passes.items v p at.4));
         out = ready.out;
         locks = first_locks state config spindles pools said r ready.first;
         keepers = first_keepers state config spindles pools said r ready.first;
@@ -91,11 +96,6 @@ module _ {D : Type 0} (state : D → State) (config : Config) (b : BayState) (sp
       pools = λ k i l lock. holder_is state config spindles pools said r ready.first k i l lock;
       said_count = ready.said_count;
       unheld = ready.first.set_up.held;
-      accesses = λ v k p here.
-          let lock = spindle_there state config spindles pools said r ready.first v k p here in
-          let at = spindle_in state config spindles pools said r ready.first v k lock.0 p lock.1 here in
-          subst (λ (x : PassOf Spindle SpindleBase). AreAccesses (pass_mine x)) (get_or_from_slice_get at.0.passes.items v p p at.4)
-          (ready.accesses k at.0 at.1 v p (slice_get_within at.0.passes.items v p at.4));
       owners = record {
         closed = λ k i w own image p says owned is here has. nothing_in w (subst (λ (l : List (Station D)). Contains (map (λ (s : Station D). s.id) l) w) none has);
         says = λ k i w own image p says owned is here tells c image_of. says_owner (length (shapes_of config)) w c (ready.heads k image own is says i p (Owned w) here owned c image_of);

@@ -21,7 +21,7 @@ abbrev pub Uses : (p q : PassOf Spindle SpindleBase) → Type 0
 Uses p q = (pass_mine q ≡ pass_mine p) ⊎ (pass_mine q ≡ pass_mine p ++ (pass_number p, operation_of Needed) ∷ (pass_number p, operation_of Done) ∷ [])
 
 more_accesses : (n : ℕ) (es : List Entry) → AreAccesses es → AreAccesses (es ++ (n, operation_of Needed) ∷ (n, operation_of Done) ∷ [])
-more_accesses n [] all = (inl refl, inr refl, tt)
+more_accesses n [] all = (inl refl, (inr refl, tt))
 more_accesses n (e ∷ es) all = (all.0, more_accesses n es all.1)
 
 still_accesses : (p q : PassOf Spindle SpindleBase) → AreAccesses (pass_mine p) → Uses p q → AreAccesses (pass_mine q)
