@@ -17,7 +17,7 @@ use Rattle.volume_images.specs.Formatted.{part_sizes}
 use Rattle.volume_images.specs.Reads.{IsOnlyRead}
 use Rattle.volume_images.specs.declared.parts.ImageParts.{ImageParts}
 
-reads_range : (vs : List (Values Block)) (a b : ℕ) → reads (slice_range vs a b) ≡ slice_range (reads vs) a b
+pub reads_range : (vs : List (Values Block)) (a b : ℕ) → reads (slice_range vs a b) ≡ slice_range (reads vs) a b
 reads_range vs a b = sym (take-map (λ (v : Values Block). v.now) (b - a) (drop a vs)) ∙ ap (take (b - a)) (sym (drop-map (λ (v : Values Block). v.now) a vs))
 
 reads_settled : (vs : List (Values Block)) → reads (settled vs) ≡ reads vs

@@ -64,4 +64,6 @@ pub mod FirstRest
 pub mod FirstOpening
 mod TakenOut
 mod TakenReady
+mod TakenBegun
+mod OpeningSteps
 pub mod OthersAccess

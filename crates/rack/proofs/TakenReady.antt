@@ -90,23 +90,23 @@ names_of_refused tells state config b b1 volumes k v (Refused why) lt r =
     go (fault.SegmentFault index) = lt
 
 module _ {D : Type 0} (tells : Bool) (state : D → State) (config : Config) (valid : IsValid config) (b b1 : BayState) (t : Taken D) (taken : IsTaken tells state config b b1 t) where
-  abbrev before : List (Option (ImageRest D))
+  abbrev pub before : List (Option (ImageRest D))
   before = taken.before.out.items
 
-  abbrev out : List (Option (ImageRest D))
+  abbrev pub out : List (Option (ImageRest D))
   out = t.images.out.items
 
-  abbrev said : List (Option Said)
+  abbrev pub said : List (Option Said)
   said = t.images.said.items
 
-  many : length (shapes_of config) ≡ length config.volumes.items
+  pub many : length (shapes_of config) ≡ length config.volumes.items
   many = length-map config.volumes.items (shape_in config)
 
-  same_said : (k : ℕ) → said_at said k ≡ said_at taken.before.said.items k
+  pub same_said : (k : ℕ) → said_at said k ≡ said_at taken.before.said.items k
   same_said k = ap (λ (x : _). said_at x.items k) taken.same.0
 
   -- what is left here of an image that is out
-  record IsLess (k : ℕ) (s : Shape) (n : ImageRest D) : Type 0 where
+  pub record IsLess (k : ℕ) (s : Shape) (n : ImageRest D) : Type 0 where
     pub own : Said
     pub own_is : said_at said k ≡ Some own
     pub was : ImageRest D
@@ -116,7 +116,7 @@ module _ {D : Type 0} (tells : Bool) (state : D → State) (config : Config) (va
     pub same : IsSameBut was n
     pub takes : TakesFree own.heads.items was.segments.items n.segments.items
 
-  less : (k : ℕ) (s : Shape) (n : ImageRest D) → slice_get (shapes_of config) k ≡ Some s → image_here out k ≡ Some n → IsLess k s n
+  pub less : (k : ℕ) (s : Shape) (n : ImageRest D) → slice_get (shapes_of config) k ≡ Some s → image_here out k ≡ Some n → IsLess k s n
   less k s n is here = go (said_at taken.before.said.items k) (image_here before k) refl refl (subst (Supplies (said_at taken.before.said.items k) (image_here before k)) here (taken.supplies k))
     where
       go : (o : Option Said) (p : Option (ImageRest D)) → said_at taken.before.said.items k ≡ o → image_here before k ≡ p → Supplies o p (Some n) → IsLess k s n
@@ -127,7 +127,7 @@ module _ {D : Type 0} (tells : Bool) (state : D → State) (config : Config) (va
           record { own = own; own_is = same_said k ∙ e; was = r; was_is = f; of = of; own_of = same_Some of.said own (sym of.said_is ∙ e); same = takes.0; takes = takes.1 }
 
   -- the same images are out
-  alike : (k : ℕ) → is_some (image_here out k) ≡ is_some (image_here before k)
+  pub alike : (k : ℕ) → is_some (image_here out k) ≡ is_some (image_here before k)
   alike k = go (said_at taken.before.said.items k) (image_here before k) (image_here out k) (taken.supplies k)
     where
       go : (o : Option Said) (p q : Option (ImageRest D)) → Supplies o p q → is_some q ≡ is_some p
@@ -136,26 +136,26 @@ module _ {D : Type 0} (tells : Bool) (state : D → State) (config : Config) (va
       go (Some own) (Some r) None e = absurd e
       go (Some own) (Some r) (Some n) e = refl
 
-  none_before : (k : ℕ) → image_here out k ≡ None → image_here before k ≡ None
+  pub none_before : (k : ℕ) → image_here out k ≡ None → image_here before k ≡ None
   none_before k none = go (image_here before k) refl
     where
       go : (o : Option (ImageRest D)) → image_here before k ≡ o → image_here before k ≡ None
       go None e = e
       go (Some r) e = let f = alike k in let g = ap is_some none in let h = ap is_some e in absurd (cc (f, g, h))
 
-  shape_at : (k : ℕ) → k < length config.volumes.items → (s : Shape) × (slice_get (shapes_of config) k ≡ Some s)
+  pub shape_at : (k : ℕ) → k < length config.volumes.items → (s : Shape) × (slice_get (shapes_of config) k ≡ Some s)
   shape_at k lt = some_at (shapes_of config) k (omega (arith, lt, many))
 
-  volume_at : (k : ℕ) → k < length config.volumes.items → (v : VolumeConf) × (slice_get config.volumes.items k ≡ Some v)
+  pub volume_at : (k : ℕ) → k < length config.volumes.items → (v : VolumeConf) × (slice_get config.volumes.items k ≡ Some v)
   volume_at k lt = some_at config.volumes.items k lt
 
-  within : (k : ℕ) (n : ImageRest D) → image_here out k ≡ Some n → k < length config.volumes.items
+  pub within : (k : ℕ) (n : ImageRest D) → image_here out k ≡ Some n → k < length config.volumes.items
   within k n here =
       ⊎_elim (λ (lt : k < length out). let c = taken.out_count in let d = taken.asked.out_count in omega (arith, lt, c, d))
       (λ (past : length out ≤ k). absurd (none-some n (sym (get_or_past out k None past) ∙ here)))
       (cases_lt k (length out))
 
-  silent : (k : ℕ) → image_here out k ≡ None → said_at said k ≡ None
+  pub silent : (k : ℕ) → image_here out k ≡ None → said_at said k ≡ None
   silent k none =
       ⊎_elim
       (λ (lt : k < length config.volumes.items). let v = volume_at k lt in same_said k ∙ (taken.asked.refused k v.0 lt v.1 (none_before k none)).unsaid)
@@ -163,14 +163,14 @@ module _ {D : Type 0} (tells : Bool) (state : D → State) (config : Config) (va
       (cases_lt k (length config.volumes.items))
 
   module _ (k : ℕ) (s : Shape) (n : ImageRest D) (l : IsLess k s n) where
-    says : IsSaidOf (length (shapes_of config)) k s l.own
+    pub says : IsSaidOf (length (shapes_of config)) k s l.own
     says = subst (λ (x : Said). IsSaidOf (length (shapes_of config)) k s x) l.own_of l.of.says
 
     heads_of : HaveHeads state (length (shapes_of config)) l.own l.was
     heads_of = subst (λ (x : Said). HaveHeads state (length (shapes_of config)) x l.was) l.own_of l.of.heads
 
     -- a segment that is still here is another's
-    still : (i : ℕ) (p : Spun D) (h : SegHead) → slice_get l.own.heads.items i ≡ Some h → segment_here n i ≡ Some p → segment_here l.was i ≡ Some p
+    pub still : (i : ℕ) (p : Spun D) (h : SegHead) → slice_get l.own.heads.items i ≡ Some h → segment_here n i ≡ Some p → segment_here l.was i ≡ Some p
     still i p Free head there = absurd (none-some p (sym (l.takes.each i Free head) ∙ there))
     still i p (Owned owner) head there = sym (l.takes.each i (Owned owner) head) ∙ there
 
@@ -199,13 +199,13 @@ module _ {D : Type 0} (tells : Bool) (state : D → State) (config : Config) (va
     }
 
   module _ (home : NoneOut config b) (r : Rack D) (set_up : IsSetUp t.spindles.items t.pools.items (length t.spindles.items) r) (images_are : r.rest.images ≡ t.images.out) (faults_are : r.faults ≡ t.images.faults) where
-    settled : (k : ℕ) (i : Issued Spindle SpindleBase) → slice_get t.spindles.items k ≡ Some i → AreSettled i
+    pub settled : (k : ℕ) (i : Issued Spindle SpindleBase) → slice_get t.spindles.items k ≡ Some i → AreSettled i
     settled k i is = subst AreSettled (get_or_from_slice_get t.spindles.items k i i is) (taken.spindles.settled k i (slice_get_within t.spindles.items k i is))
 
     spindles_many : length t.spindles.items ≡ length (shapes_of config)
     spindles_many = taken.spindle_count ∙ sym many
 
-    here_is : (k : ℕ) → image_here r.rest.images.items k ≡ image_here out k
+    pub here_is : (k : ℕ) → image_here r.rest.images.items k ≡ image_here out k
     here_is k = ap (λ (x : _). image_here x.items k) images_are
 
     first : AreFirst state config t.spindles.items t.pools.items said r

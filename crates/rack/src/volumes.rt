@@ -388,19 +388,19 @@ impl<D: Disk> Rack<D> {
         view: View,
         said: &[Option<Said>],
     ) -> Result<(), NoMemory>
-        ghost bays: { BayState × BayState }
         requires config { IsValid config.now }
         requires within { id < length config.now.volumes.items }
-        requires rack { IsOpeningRack D.state config.now bays.1 said.now id self.old }
+        requires rack { (b : BayState) × IsOpeningRack D.state config.now b said.now id self.old }
         requires said { (own : Said) × (slice_get said.now id ≡ Some (Some own)) × (own.view ≡ view) }
-        ensures rack { OnOk result (IsOpeningRack D.state config.now bays.1 said.now (id + 1) self.new) }
+        ensures rack { (b : BayState) → IsOpeningRack D.state config.now b said.now id self.old → OnOk result (IsOpeningRack D.state config.now b said.now (id + 1) self.new) }
+        ensures keepers { self.new.keepers ≡ self.old.keepers }
         ensures same_out { AreSameOut self.old self.new }
         ensures begun { IsTrue D.tells → (t : Told) → HasBegun D.state config.now t said.now id self.old
             → OnOk result (HasBegun D.state config.now t said.now (id + 1) self.new) }
-        ensures refused { (IsTrue D.tells → (t : Told) → bays.0.told ≡ Some t → AreNamedApart t → HasBegun D.state config.now t said.now id self.old)
-            → AreRefusedBelow D.tells D.state config.now bays.0 bays.1 id self.old
-            → OnOk result (AreRefusedBelow D.tells D.state config.now bays.0 bays.1 (id + 1) self.new) }
-        ensures stopped { OnErr result (IsStopped D.state config.now bays.1 self.old self.new) }
+        ensures refused { (b b' : BayState) → (IsTrue D.tells → (t : Told) → b.told ≡ Some t → AreNamedApart t → HasBegun D.state config.now t said.now id self.old)
+            → AreRefusedBelow D.tells D.state config.now b b' id self.old
+            → OnOk result (AreRefusedBelow D.tells D.state config.now b b' (id + 1) self.new) }
+        ensures stopped { (b : BayState) → IsOpeningRack D.state config.now b said.now id self.old → OnErr result (IsStopped D.state config.now b self.old self.new) }
         ensures began { IsTrue D.tells → (t : Told) → HasBegun D.state config.now t said.now id self.old → OnErr result (BeganWith D.state config.now t self.new) }
     {
         let opening = self.rest.take_opening(alloc, config, id, view, said)?;
@@ -442,17 +442,17 @@ impl<D: Disk> Rack<D> {
         config: &Config,
         said: &[Option<Said>],
     ) -> Result<(), NoMemory>
-        ghost bays: { BayState × BayState }
         requires config { IsValid config.now }
         requires count { length said.now ≡ length config.now.volumes.items }
-        requires rack { IsOpeningRack D.state config.now bays.1 said.now 0 self.old }
-        ensures rack { OnOk result (IsRack D.state config.now bays.1 self.new) }
+        requires rack { (b : BayState) × IsOpeningRack D.state config.now b said.now 0 self.old }
+        ensures rack { (b : BayState) → IsOpeningRack D.state config.now b said.now 0 self.old → OnOk result (IsRack D.state config.now b self.new) }
+        ensures keepers { self.new.keepers ≡ self.old.keepers }
         ensures fresh { AreUnused self.new.stations.items }
         ensures same_out { AreSameOut self.old self.new }
-        ensures refused { (IsTrue D.tells → (t : Told) → bays.0.told ≡ Some t → AreNamedApart t → HasBegun D.state config.now t said.now 0 self.old)
-            → AreRefusedBelow D.tells D.state config.now bays.0 bays.1 0 self.old → OnOk result (AreRefused D.tells D.state config.now bays.0 bays.1 self.new) }
+        ensures refused { (b b' : BayState) → (IsTrue D.tells → (t : Told) → b.told ≡ Some t → AreNamedApart t → HasBegun D.state config.now t said.now 0 self.old)
+            → AreRefusedBelow D.tells D.state config.now b b' 0 self.old → OnOk result (AreRefused D.tells D.state config.now b b' self.new) }
         ensures began { IsTrue D.tells → (t : Told) → HasBegun D.state config.now t said.now 0 self.old → BeganWith D.state config.now t self.new }
-        ensures stopped { OnErr result (IsStopped D.state config.now bays.1 self.old self.new) }
+        ensures stopped { (b : BayState) → IsOpeningRack D.state config.now b said.now 0 self.old → OnErr result (IsStopped D.state config.now b self.old self.new) }
     {
         for (id, own) in said.iter().enumerate() {
             if let Some(own) = own {
