@@ -28,7 +28,7 @@ use Rattle.log_segment.specs.declared.free.FreeSegment.{FreeSegment}
 use Rattle.log_layout.specs.declared.segment.SegHead.{SegHead}
 use Rattle.log_layout.specs.declared.segment.SegHead.TheVariants.{Free, Owned}
 use Rattle.volume_images.specs.Volumes.{shapes_of}
-use Rattle.rack.specs.Making.{IsInOrder, AreSpindlesOf}
+use Rattle.rack.specs.Making.{IsInOrder, AreSettled, AreSpindlesOf}
 use Rattle.rack.specs.Rests.{IsPart, IsRow, image_here, segment_here, pool_pass, spindle_pass, held_here, indexes_here, away_with, AreImageRests, IsPoolLock, IsSpindleLock, IsPassAt, ArePoolPasses, AreSpindlePasses, AreHandedBack, ArePlaced, IsHolding, IsHeldHere, AreLocks, IsRestBut, IsRest}
 use Rattle.rack.specs.Racks.{AreKeepers}
 use Rattle.rack.specs.Parts.{of_head, holder_said, holder_by, IsIssuedPool, IsSetUp}
@@ -179,7 +179,7 @@ module _ {D : Type 0} (state : D → State) (config : Config) (spindles : List (
           let within = slice_get_within at.0.passes.items v p at.4 in
           let settled = first.spindles_are.settled k at.0 (slice_get_within spindles k at.0 at.1) in
           subst (λ (x : PassOf Spindle SpindleBase). has_token (pass_mine x) ≡ false) (get_or_from_slice_get at.0.passes.items v p p at.4)
-          (subst (λ (x : Issued Spindle SpindleBase). All (λ q. has_token (pass_mine q) ≡ false) x.passes.items) (get_or_from_slice_get spindles k at.0 at.0 at.1) settled v p within);
+          ((subst (λ (x : Issued Spindle SpindleBase). AreSettled x) (get_or_from_slice_get spindles k at.0 at.0 at.1) settled).settled v p within);
     }
       where
         in_order : (k : ℕ) (i : Issued Spindle SpindleBase) → slice_get spindles k ≡ Some i → IsInOrder i

@@ -62,4 +62,6 @@ pub mod LeftOfParts
 pub mod QuietClosed
 pub mod FirstRest
 pub mod FirstOpening
+mod TakenOut
+mod TakenReady
 pub mod OthersAccess

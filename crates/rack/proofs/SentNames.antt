@@ -170,14 +170,14 @@ module _ {D : Type 0} (config : Config) where
 
 -- ---- A name that isn't out
 
-not_this : (x name : Name) → x ≢ name → bytes_eq x name ≡ false
+pub not_this : (x name : Name) → x ≢ name → bytes_eq x name ≡ false
 not_this x name other = go (bytes_eq x name) refl
   where
     go : (b : Bool) → bytes_eq x name ≡ b → b ≡ false
     go true e = absurd (other ((bytes_eq-Decides x name).0 e))
     go false e = refl
 
-neither : {A : Type 0} (name : Name) (es fs : List (Name × A)) → at_name name es ≡ None → at_name name fs ≡ None → at_name name (es ++ fs) ≡ None
+pub neither : {A : Type 0} (name : Name) (es fs : List (Name × A)) → at_name name es ≡ None → at_name name fs ≡ None → at_name name (es ++ fs) ≡ None
 neither {A} name [] fs none none' = none'
 neither {A} name (e ∷ es) fs none none' = go (bytes_eq e.0 name) none (λ n. neither name es fs n none')
   where

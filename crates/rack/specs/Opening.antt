@@ -26,12 +26,15 @@ use Rattle.volume_images.specs.Formatted.{part_sizes}
 use Rattle.volume_images.specs.Left.{IsTold, AreNamedApart}
 use Rattle.volume_images.specs.Volumes.{shape_in, shapes_of, MayLeave}
 use Rattle.rack.specs.Rests.{image_here, segment_here, pool_pass, held_here, IsImageOut, IsImageRest}
-use Rattle.rack.specs.Parts.{holder_by}
+use Rattle.rack.specs.Making.{AreSpindlesOf}
+use Rattle.rack.specs.Parts.{holder_by, IsIssuedPool, Supplies}
 use Rattle.rack.specs.Racks.{IsClosable, NamesVolumes, IsUnused, AreUnused}
 use Rattle.rack.specs.Closing.{IsComplete}
 use Rattle.rack.specs.Opens.{HadBefore, out_names, BeganWith, RefusesVolume}
+use Rattle.rack.specs.declared.all.Taken.{Taken}
 use Rattle.rack.specs.declared.heads_said.Said.{Said}
 use Rattle.rack.specs.declared.images.Images.{Images}
+use Rattle.rack.specs.declared.locks.Issued.{Issued}
 use Rattle.rack.specs.declared.rack.ImageRest.{ImageRest}
 use Rattle.rack.specs.declared.rack.Rack.{Rack}
 use Rattle.rack.specs.declared.rack.Rest.{Rest}
@@ -166,6 +169,20 @@ pub record HasAllBack (tells : Bool) (b b' : BayState) : Type 0 where
   pub outs : outs b' ≡ outs b
   pub left : IsTrue tells → IsTold LeavesNoMore b.told b'.told
   pub counts : b.faults ≤ b'.faults
+
+-- The images went out, and the locks are made. The pools have the free segments of what was here of the images before.
+pub record IsTaken {D : Type 0} (tells : Bool) (state : D → State) (config : Config) (b b' : BayState) (t : Taken D) : Type 0 where
+  pub before : Images D
+  pub same : (t.images.said ≡ before.said) × (t.images.faults ≡ before.faults)
+  pub asked : AreAsked tells state config b b' (length config.volumes.items) before
+  pub sent : HasSentOut config before.out.items (length config.volumes.items) b b'
+  pub out_count : length t.images.out.items ≡ length before.out.items
+  pub supplies : (k : ℕ) → Supplies (said_at before.said.items k) (image_here before.out.items k) (image_here t.images.out.items k)
+  pub spindle_count : length t.spindles.items ≡ length config.volumes.items
+  pub spindles : AreSpindlesOf (length config.volumes.items) config.timeout t.spindles.items
+  pub pool_count : length t.pools.items ≡ length config.volumes.items
+  pub pools : (k : ℕ) (s : Shape) (i : Issued (Pool (FreeSegment D)) PoolBase) → slice_get (shapes_of config) k ≡ Some s → slice_get t.pools.items k ≡ Some i
+      → IsIssuedPool (length config.volumes.items) k s (said_at before.said.items k) i
 
 -- ---- The rack while its volumes are opened, of which the first n were tried
 

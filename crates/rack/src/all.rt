@@ -7,6 +7,7 @@ ghost use Rattle.volume_images.specs.Volumes.{NoneOut, shapes_of};
 ghost use Rattle.rack.specs.Racks.{IsRack, IsUnused, AreUnused};
 ghost use Rattle.rack.specs.Rests.{IsImageOut};
 ghost use Rattle.rack.specs.Owners.{HadRefused};
+ghost use Rattle.rack.specs.Opening.{IsTaken};
 ghost use Rattle.rack.specs.Opens.{out_names, BeganWith, AreRefused, LeavesAll, KeepsAllSound};
 ghost use Rattle.wol_disk.specs.Disk.{Rose};
 ghost use Rattle.manager.specs.declared.part.Part.{Part};
@@ -41,7 +42,13 @@ fn take_out<R: Wait, B: Bay>(
     rt: &R,
     bay: &mut B,
     config: &Config,
-) -> Result<Taken<B::Part>, NoMemory> {
+) -> Result<Taken<B::Part>, NoMemory>
+    requires config { IsValid config.now }
+    requires home { NoneOut config.now (B.state bay.old) }
+    ensures taken { IfOk result (IsTaken B.Part.tells B.Part.state config.now (B.state bay.old) (B.state bay.new)) }
+    ensures home { OnErr result (outs (B.state bay.new) ≡ outs (B.state bay.old)) }
+    ensures counts { (B.state bay.old).faults ≤ (B.state bay.new).faults }
+{
     let count = config.volumes.len() as u32;
     let mut spindles = issue_spindles(alloc, count, config.timeout)?;
     let Images {

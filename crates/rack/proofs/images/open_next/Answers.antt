@@ -67,7 +67,8 @@ returns-in-Ok-open_image-clause-passes g c =
     let i = c.args.spindle.now in
     used_pass i c.args.id c.index_mut-pass.result.now c.open_image.new.pass
     (let n = c.requires.within in let p = c.requires.passes.0.whole.count in let s = c.requires.spindle.passes in omega (arith, n, p, s))
-    c.index_mut-pass.ensures.value c.open_image.ensures.same c.open_image.ensures.free c.open_image.ensures.settled c.requires.passes
+    c.index_mut-pass.ensures.value c.open_image.ensures.same c.open_image.ensures.free c.open_image.ensures.settled
+    (let n = c.requires.within in let p = c.requires.passes.0.whole.count in let s = c.requires.spindle.passes in omega (arith, n, p, s)) c.open_image.ensures.uses c.requires.passes
 
 pub returns-in-Some-clause-refused : goal.returns-in-Some-clause-refused
 returns-in-Some-clause-refused g c = λ v found.
@@ -98,11 +99,13 @@ returns-in-Some-clause-passes g c =
     let i = c.args.spindle.now in
     used_pass i c.args.id c.index_mut-pass.result.now c.open_image.new.pass
     (let n = c.requires.within in let p = c.requires.passes.0.whole.count in let s = c.requires.spindle.passes in omega (arith, n, p, s))
-    c.index_mut-pass.ensures.value c.open_image.ensures.same c.open_image.ensures.free c.open_image.ensures.settled c.requires.passes
+    c.index_mut-pass.ensures.value c.open_image.ensures.same c.open_image.ensures.free c.open_image.ensures.settled
+    (let n = c.requires.within in let p = c.requires.passes.0.whole.count in let s = c.requires.spindle.passes in omega (arith, n, p, s)) c.open_image.ensures.uses c.requires.passes
 
 pub returns-in-None-clause-passes : goal.returns-in-None-clause-passes
 returns-in-None-clause-passes g c =
     let i = c.args.spindle.now in
     used_pass i c.args.id c.index_mut-pass.result.now c.open_image.new.pass
     (let n = c.requires.within in let p = c.requires.passes.0.whole.count in let s = c.requires.spindle.passes in omega (arith, n, p, s))
-    c.index_mut-pass.ensures.value c.open_image.ensures.same c.open_image.ensures.free c.open_image.ensures.settled c.requires.passes
+    c.index_mut-pass.ensures.value c.open_image.ensures.same c.open_image.ensures.free c.open_image.ensures.settled
+    (let n = c.requires.within in let p = c.requires.passes.0.whole.count in let s = c.requires.spindle.passes in omega (arith, n, p, s)) c.open_image.ensures.uses c.requires.passes

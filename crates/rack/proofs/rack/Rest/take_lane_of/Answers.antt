@@ -1,3 +1,4 @@
+use Rattle.rack.proofs.TakenReady.{taken_opening}
 use Rattle.std.proofs.Common.{◌≡◌, Bool, true, is_some, sym, subst, ◌∙◌}
 use Rattle.rack.specs.Rests.{image_here}
 use Rattle.rack.specs.Parts.{TakesOneLane}

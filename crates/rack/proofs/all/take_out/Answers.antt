@@ -1,0 +1,117 @@
+use Rattle.std.proofs.Common.{◌≡◌, ◌<◌, ℕ, length, List, Option, None, Some, refl, sym, ap, ◌∙◌, subst, arith}
+use Rattle.std.specs.Prelude.{slice_get, slice_index_or, vec_len, is_some, All}
+use Rattle.std.specs.Vec.{with_items}
+use Rattle.std.proofs.lemmas.List.{with_items_is, length-map}
+use Rattle.std.proofs.lemmas.Option.{slice_get_within, get_or_from_slice_get}
+use Rattle.spin_model.specs.declared.spindle.Spindle.{Spindle}
+use Rattle.spin_model.specs.declared.spindle.SpindleBase.{SpindleBase}
+use Rattle.wol_bay.specs.Bay.{IsHome, outs}
+use Rattle.wol_config.specs.declared.config.VolumeConf.{VolumeConf}
+use Rattle.volume_images.specs.Volumes.{shape_in, shapes_of}
+use Rattle.rack.specs.Closing.{LeavesNoneOut, IsComplete}
+use Rattle.rack.specs.Making.{IsWholeLock, AreSpindlesOf}
+use Rattle.rack.specs.Parts.{CanIssue, IsIssuedPool, Supplies, Restores}
+use Rattle.rack.specs.Rests.{image_here, IsImageOut, IsImageRest}
+use Rattle.rack.specs.declared.heads_said.Said.{Said}
+use Rattle.rack.specs.declared.locks.Issued.{Issued}
+use Rattle.rack.specs.declared.rack.ImageRest.{ImageRest}
+use Rattle.rack.proofs.Asking.{some_at}
+use Rattle.rack.proofs.SentNames.{names_out}
+use Rattle.rack.proofs.TakenOut.{shape_here, may_issue, again, same_here, home_again}
+use Rattle.rack.proofs.all.take_out.Goals as goal
+
+pub issue_pools-requires-clause-each : goal.issue_pools-requires-clause-each
+issue_pools-requires-clause-each g c = λ k s is.
+    let v = c.args.config.now.volumes.ok.0 in
+    let many : length c.args.config.now.volumes.items ≡ vec_len c.args.config.now.volumes = omega (arith, v) in
+    let state = g.B.Part.Disk.state in
+    let can = may_issue g.B.Part.Disk.tells state c.args.config.now (g.B.Bay.state c.args.bay.now) (g.B.Bay.state c.open_images.new.bay) c.in-Ok.images c.in-Ok.ensures.asked k s is in
+    let at_said = subst (λ (l : List (Option Said)). CanIssue state (length c.args.config.now.volumes.items) k s (slice_index_or l k None) (image_here c.in-Ok.images.out.items k)) (sym c.as_slice.ensures.value) can in
+    let at_images = subst (λ (l : List (Option (ImageRest g.row.B-Part.Denot))). CanIssue state (length c.args.config.now.volumes.items) k s (slice_index_or c.as_slice.result.now k None) (slice_index_or l k None)) (sym c.as_mut_slice.ensures.value) at_said in
+    subst (λ (n : ℕ). CanIssue state n k s (slice_index_or c.as_slice.result.now k None) (slice_index_or c.as_mut_slice.result.now k None)) many at_images
+
+pub give_back-requires-clause-images : goal.give_back-requires-clause-images
+give_back-requires-clause-images g c = λ k s r is here.
+    let state = g.B.Part.Disk.state in
+    let v = c.in-Ok.images.out.ok.0 in
+    let count : length c.issue_pools.new.images ≡ length c.in-Ok.images.out.items = c.issue_pools.ensures.images ∙ ap length c.as_mut_slice.ensures.value in
+    let e = with_items_is c.in-Ok.images.out c.issue_pools.new.images (omega (arith, count, v)) in
+    let restores = λ (j : ℕ). subst (λ (l : List (Option (ImageRest g.row.B-Part.Denot))). Restores state j c.args.config.now.segment_blocks (slice_index_or c.in-Ok.images.said.items j None) (slice_index_or l j None) (slice_index_or c.issue_pools.new.images j None)) c.as_mut_slice.ensures.value
+    (subst (λ (l : List (Option Said)). Restores state j c.args.config.now.segment_blocks (slice_index_or l j None) (slice_index_or c.as_mut_slice.result.now j None) (slice_index_or c.issue_pools.new.images j None)) c.as_slice.ensures.value (c.in-Err-issue_pools.ensures.restores j)) in
+    (again g.B.Part.Disk.tells state c.args.config.now (g.B.Bay.state c.args.bay.now) (g.B.Bay.state c.open_images.new.bay) c.in-Ok.images c.in-Ok.ensures.asked c.issue_pools.new.images count restores k s r is (sym (ap (λ (l : List (Option (ImageRest g.row.B-Part.Denot))). image_here l k) e) ∙ here)).rest
+
+pub give_back-requires-clause-whole : goal.give_back-requires-clause-whole
+give_back-requires-clause-whole g c = λ k r here.
+    let state = g.B.Part.Disk.state in
+    let v = c.in-Ok.images.out.ok.0 in
+    let count : length c.issue_pools.new.images ≡ length c.in-Ok.images.out.items = c.issue_pools.ensures.images ∙ ap length c.as_mut_slice.ensures.value in
+    let e = with_items_is c.in-Ok.images.out c.issue_pools.new.images (omega (arith, count, v)) in
+    let restores = λ (j : ℕ). subst (λ (l : List (Option (ImageRest g.row.B-Part.Denot))). Restores state j c.args.config.now.segment_blocks (slice_index_or c.in-Ok.images.said.items j None) (slice_index_or l j None) (slice_index_or c.issue_pools.new.images j None)) c.as_mut_slice.ensures.value
+    (subst (λ (l : List (Option Said)). Restores state j c.args.config.now.segment_blocks (slice_index_or l j None) (slice_index_or c.as_mut_slice.result.now j None) (slice_index_or c.issue_pools.new.images j None)) c.as_slice.ensures.value (c.in-Err-issue_pools.ensures.restores j)) in
+    let there = sym (ap (λ (l : List (Option (ImageRest g.row.B-Part.Denot))). image_here l k) e) ∙ here in
+    let s = shape_here c.args.config.now c.issue_pools.new.images k r (let a = c.in-Ok.ensures.asked.out_count in omega (arith, count, a)) there in
+    (again g.B.Part.Disk.tells state c.args.config.now (g.B.Bay.state c.args.bay.now) (g.B.Bay.state c.open_images.new.bay) c.in-Ok.images c.in-Ok.ensures.asked c.issue_pools.new.images count restores k s.0 r s.1 there).all
+
+pub give_back-requires-clause-out : goal.give_back-requires-clause-out
+give_back-requires-clause-out g c = λ k w at there.
+    let state = g.B.Part.Disk.state in
+    let vs = c.args.config.now.volumes.items in
+    let v = c.in-Ok.images.out.ok.0 in
+    let count : length c.issue_pools.new.images ≡ length c.in-Ok.images.out.items = c.issue_pools.ensures.images ∙ ap length c.as_mut_slice.ensures.value in
+    let e = with_items_is c.in-Ok.images.out c.issue_pools.new.images (omega (arith, count, v)) in
+    let restores = λ (j : ℕ). subst (λ (l : List (Option (ImageRest g.row.B-Part.Denot))). Restores state j c.args.config.now.segment_blocks (slice_index_or c.in-Ok.images.said.items j None) (slice_index_or l j None) (slice_index_or c.issue_pools.new.images j None)) c.as_mut_slice.ensures.value
+    (subst (λ (l : List (Option Said)). Restores state j c.args.config.now.segment_blocks (slice_index_or l j None) (slice_index_or c.as_mut_slice.result.now j None) (slice_index_or c.issue_pools.new.images j None)) c.as_slice.ensures.value (c.in-Err-issue_pools.ensures.restores j)) in
+    let same = same_here g.B.Part.Disk.tells state c.args.config.now (g.B.Bay.state c.args.bay.now) (g.B.Bay.state c.open_images.new.bay) c.in-Ok.images c.in-Ok.ensures.asked c.issue_pools.new.images count restores k in
+    let home = subst (λ (x : VolumeConf). IsHome x.name (g.B.Bay.state c.args.bay.now)) (get_or_from_slice_get vs k w w at) (c.requires.home k w (slice_get_within vs k w at)) in
+    names_out c.args.config.now c.requires.config c.in-Ok.images.out.items (length vs) k w (g.B.Bay.state c.args.bay.now) (g.B.Bay.state c.open_images.new.bay) at
+    (sym same ∙ sym (ap (λ (l : List (Option (ImageRest g.row.B-Part.Denot))). is_some (image_here l k)) e) ∙ there) home c.in-Ok.ensures.out
+
+pub end_spindles-requires-in-Err-issue_pools : goal.end_spindles-requires-in-Err-issue_pools
+end_spindles-requires-in-Err-issue_pools g c =
+    let v = c.in_ok-spindles.spindles.ok.0 in
+    let n = c.open_images.ensures.count in
+    let m = ap length c.deref_mut.ensures.value in
+    let e = with_items_is c.in_ok-spindles.spindles c.open_images.new.spindles (omega (arith, v, n, m)) in
+    subst (All (λ (i : Issued Spindle SpindleBase). IsWholeLock i)) (sym e) (λ k d lt. (c.open_images.ensures.spindles.each k d lt).whole)
+
+pub returns-in-Ok-issue_pools-clause-taken : goal.returns-in-Ok-issue_pools-clause-taken
+returns-in-Ok-issue_pools-clause-taken g c =
+    let config = c.args.config.now in
+    let v = c.in-Ok.images.out.ok.0 in
+    let u = c.in_ok-spindles.spindles.ok.0 in
+    let w = config.volumes.ok.0 in
+    let n = c.open_images.ensures.count in
+    let m = ap length c.deref_mut.ensures.value in
+    let count : length c.issue_pools.new.images ≡ length c.in-Ok.images.out.items = c.issue_pools.ensures.images ∙ ap length c.as_mut_slice.ensures.value in
+    let e = with_items_is c.in-Ok.images.out c.issue_pools.new.images (omega (arith, count, v)) in
+    let es = with_items_is c.in_ok-spindles.spindles c.open_images.new.spindles (omega (arith, u, n, m)) in
+    let all : vec_len config.volumes ≡ length config.volumes.items = omega (arith, w) in
+    record {
+      before = c.in-Ok.images;
+      same = (refl, refl);
+      asked = c.in-Ok.ensures.asked;
+      sent = c.in-Ok.ensures.out;
+      out_count = ap length e ∙ count;
+      supplies = λ j. subst (λ (l : List (Option (ImageRest g.row.B-Part.Denot))). Supplies (slice_index_or c.in-Ok.images.said.items j None) (image_here c.in-Ok.images.out.items j) (image_here l j)) (sym e)
+          (subst (λ (l : List (Option (ImageRest g.row.B-Part.Denot))). Supplies (slice_index_or c.in-Ok.images.said.items j None) (slice_index_or l j None) (slice_index_or c.issue_pools.new.images j None)) c.as_mut_slice.ensures.value
+          (subst (λ (l : List (Option Said)). Supplies (slice_index_or l j None) (slice_index_or c.as_mut_slice.result.now j None) (slice_index_or c.issue_pools.new.images j None)) c.as_slice.ensures.value (c.in-Ok-issue_pools.ensures.supplies j)));
+      spindle_count = ap length es ∙ (let a = c.in_ok-spindles.ensures.count in let l = c.len-count.ensures in omega (arith, n, m, a, l, w));
+      spindles = subst (λ (l : List (Issued Spindle SpindleBase)). AreSpindlesOf (length config.volumes.items) config.timeout l) (sym es) c.open_images.ensures.spindles;
+      pool_count = c.in-Ok-issue_pools.ensures.count ∙ all;
+      pools = λ k s i is at. subst (λ (x : ℕ). IsIssuedPool x k s (slice_index_or c.in-Ok.images.said.items k None) i) all
+          (subst (λ (l : List (Option Said)). IsIssuedPool (vec_len config.volumes) k s (slice_index_or l k None) i) c.as_slice.ensures.value (c.in-Ok-issue_pools.ensures.issued k s i is at));
+    }
+
+pub returns-in-Err-issue_pools-clause-home : goal.returns-in-Err-issue_pools-clause-home
+returns-in-Err-issue_pools-clause-home g c =
+    let state = g.B.Part.Disk.state in
+    let b = g.B.Bay.state c.args.bay.now in
+    let b1 = g.B.Bay.state c.open_images.new.bay in
+    let b2 = g.B.Bay.state c.give_back.new.bay in
+    let v = c.in-Ok.images.out.ok.0 in
+    let count : length c.issue_pools.new.images ≡ length c.in-Ok.images.out.items = c.issue_pools.ensures.images ∙ ap length c.as_mut_slice.ensures.value in
+    let e = with_items_is c.in-Ok.images.out c.issue_pools.new.images (omega (arith, count, v)) in
+    let restores = λ (j : ℕ). subst (λ (l : List (Option (ImageRest g.row.B-Part.Denot))). Restores state j c.args.config.now.segment_blocks (slice_index_or c.in-Ok.images.said.items j None) (slice_index_or l j None) (slice_index_or c.issue_pools.new.images j None)) c.as_mut_slice.ensures.value
+    (subst (λ (l : List (Option Said)). Restores state j c.args.config.now.segment_blocks (slice_index_or l j None) (slice_index_or c.as_mut_slice.result.now j None) (slice_index_or c.issue_pools.new.images j None)) c.as_slice.ensures.value (c.in-Err-issue_pools.ensures.restores j)) in
+    home_again g.B.Part.Disk.tells state c.args.config.now b b1 c.in-Ok.images c.in-Ok.ensures.asked c.issue_pools.new.images count restores c.requires.home c.in-Ok.ensures.out b2
+    (subst (λ (l : List (Option (ImageRest g.row.B-Part.Denot))). LeavesNoneOut c.args.config.now l (outs b1) (outs b2)) e c.give_back.ensures.home)
