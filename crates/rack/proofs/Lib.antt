@@ -65,3 +65,4 @@ pub mod FirstOpening
 mod TakenOut
 mod TakenReady
 pub mod OthersAccess
+pub mod Without
