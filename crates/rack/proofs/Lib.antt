@@ -66,3 +66,4 @@ mod TakenOut
 mod TakenReady
 pub mod OthersAccess
 pub mod Without
+pub mod OpenAway
