@@ -67,3 +67,4 @@ mod TakenReady
 pub mod OthersAccess
 pub mod Without
 pub mod OpenAway
+pub mod OpenNamed

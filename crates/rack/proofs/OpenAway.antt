@@ -120,20 +120,23 @@ module _ {D : Type 0} (state : D → State) (config : Config) (valid : IsValid c
       (is_pair (map place_of o.owned.items) k i)
 
   pub images : (length new.images.items ≡ length (shapes_of config)) × ((k : ℕ) (s : Shape) (y : ImageRest D) → slice_get (shapes_of config) k ≡ Some s → image_here new.images.items k ≡ Some y → IsImageRest state k s y)
-  images = (without.count_without state config said id view r.rest new o takes ∙ old.images.0, λ k s y shape now.
-      let w = was_here k y now in
-      let rest = old.images.1 k s w.image shape w.here in
-      record {
-        label = subst (λ (p : Spun D). IsPart state k 2 p) (sym w.is.label) rest.label;
-        home = ⊎_elim
-            (λ (e : k ≡ id). subst (λ (h : Option (Spun D)). IfSome h (IsPart state k s.home)) (sym (w.is.own e)) tt)
-            (λ (other : k ≡ id → ⊥). subst (λ (h : Option (Spun D)). IfSome h (IsPart state k s.home)) (sym (w.is.others other)) rest.home)
-            (cases_eq k id);
-        count = w.is.count ∙ rest.count;
-        segments = λ i p here. rest.segments i p (segment_was k i y p w now here);
-        row = subst (λ x. (x.items ≡ []) × (s.segments ≤ Rattle.std.proofs.Common.vec_capacity x)) (sym w.is.row) rest.row;
-        room = subst (λ x. (x.items ≡ []) × (2 + s.segments ≤ Rattle.std.proofs.Common.vec_capacity x)) (sym w.is.room) rest.room;
-      })
+  images = (
+    without.count_without state config said id view r.rest new o takes ∙ old.images.0,
+    λ k s y shape now.
+        let w = was_here k y now in
+        let rest = old.images.1 k s w.image shape w.here in
+        record {
+          label = subst (λ (p : Spun D). IsPart state k 2 p) (sym w.is.label) rest.label;
+          home = ⊎_elim
+              (λ (e : k ≡ id). subst (λ (h : Option (Spun D)). IfSome h (IsPart state k s.home)) (sym (w.is.own e)) tt)
+              (λ (other : k ≡ id → ⊥). subst (λ (h : Option (Spun D)). IfSome h (IsPart state k s.home)) (sym (w.is.others other)) rest.home)
+              (cases_eq k id);
+          count = w.is.count ∙ rest.count;
+          segments = λ i p here. rest.segments i p (segment_was k i y p w now here);
+          row = subst (λ x. (x.items ≡ []) × (s.segments ≤ Rattle.std.proofs.Common.vec_capacity x)) (sym w.is.row) rest.row;
+          room = subst (λ x. (x.items ≡ []) × (2 + s.segments ≤ Rattle.std.proofs.Common.vec_capacity x)) (sym w.is.room) rest.room;
+        },
+  )
 
   -- ---- Homes and passes
 
@@ -216,9 +219,10 @@ module _ {D : Type 0} (state : D → State) (config : Config) (valid : IsValid c
           (inr (e ∙ sym f, subst (λ (n : ℕ). Contains (away_with (bases ++ m ∷ [])).homes n) (sym e) home_now))
       go (of_view e there) = gone (spindle_gone v k e there) (inl (lane_now v k e there))
       go (other_one other never) =
-          let same : is_some (spindle_pass new v k) ≡ is_some (spindle_pass r.rest v k) = ap is_some (spindle_kept v k other never) in
-          (λ there c. before.0 (sym same ∙ there) (⊎_elim (λ l. inl (lane_was v k never l)) (λ h. inr (h.0, home_was v (λ e. other e (sym h.0 ∙ e)) h.1)) c),
-          λ none. same ∙ before.1 (λ c. none (⊎_elim (λ l. inl (lane_stays bases m v k l)) (λ h. inr (h.0, home_stays bases m v h.1)) c)))
+          let same : is_some (spindle_pass new v k) ≡ is_some (spindle_pass r.rest v k) = ap is_some (spindle_kept v k other never) in (
+            λ there c. before.0 (sym same ∙ there) (⊎_elim (λ l. inl (lane_was v k never l)) (λ h. inr (h.0, home_was v (λ e. other e (sym h.0 ∙ e)) h.1)) c),
+            λ none. same ∙ before.1 (λ c. none (⊎_elim (λ l. inl (lane_stays bases m v k l)) (λ h. inr (h.0, home_stays bases m v h.1)) c)),
+          )
 
   spindle_was : (v k : ℕ) (p : PassOf Spindle SpindleBase) → spindle_pass new v k ≡ Some p → spindle_pass r.rest v k ≡ Some p
   spindle_was v k p here = go (place_of_pass v k)
@@ -259,26 +263,27 @@ module _ {D : Type 0} (state : D → State) (config : Config) (valid : IsValid c
   segments_here : (k i : ℕ) (y : ImageRest D) → image_here new.images.items k ≡ Some y → i < length y.segments.items → IsSome (segment_here y i) ↔ (IsHeldHere new k i × (Contains {X = ℕ × ℕ} [] (k, i) → ⊥))
   segments_here k i y now within =
       let w = was_here k y now in
-      let before = old.placed.here k i w.image w.here (let n = w.is.count in omega (arith, within, n)) in
-      (λ there.
-      let p = a_value (segment_here y i) there in
-      let was : segment_here w.image i ≡ Some p.0 = segment_was k i y p.0 w now p.1 in
-      let held = (before.0 (ap is_some was)).0 in
-      let holding = held.1 in
-      let place = ready.since held.0 k i holding.0 holding.1 holding.2 in
-      let never : held.0 ≡ id → Contains view k → ⊥ = λ same in_view.
-      let taken = takes.owned.all k i (subst (λ (n : ℕ). IsOwnedPlace said n k i) same place) in
-      none-some p.0 (sym (without.segment_gone state config said id view r.rest new o takes k i taken) ∙ segment_in_image new k y now i ∙ p.1) in
-      ((held.0, (holding.0, pool_kept held.0 k never ∙ holding.1, holding.2), indexes_none held.0 k i), λ c. let l = c.1 in omega (arith, l)),
-      λ both.
-      let held = both.0 in
-      let holding = held.1 in
-      let was = pool_was held.0 k holding.0 holding.1 in
-      let place = ready.since held.0 k i holding.0 was.0 holding.2 in
-      let none_here : Contains (indexes_here r.rest held.0 k) i → ⊥ = λ c. let none : Contains (map (λ (h : ℕ × Spun D). h.0) []) i = subst (λ (l : List (ℕ × Spun D)). Contains (map (λ (h : ℕ × Spun D). h.0) l) i) (ready.unheld held.0 k) c in let l = none.1 in omega (arith, l) in
-      let there = before.1 ((held.0, (holding.0, was.0, holding.2), none_here), λ c. let l = c.1 in omega (arith, l)) in
-      let never : Contains (map place_of o.owned.items) (k, i) → ⊥ = λ c. was.1 (owner_of held.0 k i place c) (inside k i c) in
-      ap is_some (sym (segment_in_image new k y now i) ∙ without.segment_kept state config said id view r.rest new o takes k i never ∙ segment_in_image r.rest k w.image w.here i) ∙ there)
+      let before = old.placed.here k i w.image w.here (let n = w.is.count in omega (arith, within, n)) in (
+        λ there.
+            let p = a_value (segment_here y i) there in
+            let was : segment_here w.image i ≡ Some p.0 = segment_was k i y p.0 w now p.1 in
+            let held = (before.0 (ap is_some was)).0 in
+            let holding = held.1 in
+            let place = ready.since held.0 k i holding.0 holding.1 holding.2 in
+            let never : held.0 ≡ id → Contains view k → ⊥ = λ same in_view.
+            let taken = takes.owned.all k i (subst (λ (n : ℕ). IsOwnedPlace said n k i) same place) in
+            none-some p.0 (sym (without.segment_gone state config said id view r.rest new o takes k i taken) ∙ segment_in_image new k y now i ∙ p.1) in
+            ((held.0, (holding.0, pool_kept held.0 k never ∙ holding.1, holding.2), indexes_none held.0 k i), λ c. let l = c.1 in omega (arith, l)),
+        λ both.
+            let held = both.0 in
+            let holding = held.1 in
+            let was = pool_was held.0 k holding.0 holding.1 in
+            let place = ready.since held.0 k i holding.0 was.0 holding.2 in
+            let none_here : Contains (indexes_here r.rest held.0 k) i → ⊥ = λ c. let none : Contains (map (λ (h : ℕ × Spun D). h.0) []) i = subst (λ (l : List (ℕ × Spun D)). Contains (map (λ (h : ℕ × Spun D). h.0) l) i) (ready.unheld held.0 k) c in let l = none.1 in omega (arith, l) in
+            let there = before.1 ((held.0, (holding.0, was.0, holding.2), none_here), λ c. let l = c.1 in omega (arith, l)) in
+            let never : Contains (map place_of o.owned.items) (k, i) → ⊥ = λ c. was.1 (owner_of held.0 k i place c) (inside k i c) in
+            ap is_some (sym (segment_in_image new k y now i) ∙ without.segment_kept state config said id view r.rest new o takes k i never ∙ segment_in_image r.rest k w.image w.here i) ∙ there,
+      )
 
   -- the rest, where one manager more is away
   pub open_away : IsRestBut state config r.shared (away_with (bases ++ m ∷ [])) new
