@@ -68,3 +68,4 @@ pub mod OthersAccess
 pub mod Without
 pub mod OpenAway
 pub mod OpenNamed
+pub mod OpenBase
