@@ -69,3 +69,5 @@ pub mod Without
 pub mod OpenAway
 pub mod OpenNamed
 pub mod OpenBase
+pub mod OneOpened
+pub mod OneClosable

@@ -95,12 +95,12 @@ module _ {D : Type 0} (state : D → State) (config : Config) (valid : IsValid c
 
   -- ---- Images
 
-  record WasHere (k : ℕ) (y : ImageRest D) : Type 0 where
+  pub record WasHere (k : ℕ) (y : ImageRest D) : Type 0 where
     pub image : ImageRest D
     pub here : image_here r.rest.images.items k ≡ Some image
     pub is : without.IsImageWithout state config said id view r.rest new o takes k image y
 
-  was_here : (k : ℕ) (y : ImageRest D) → image_here new.images.items k ≡ Some y → WasHere k y
+  pub was_here : (k : ℕ) (y : ImageRest D) → image_here new.images.items k ≡ Some y → WasHere k y
   was_here k y now = go (image_here r.rest.images.items k) refl
     where
       go : (x : Option (ImageRest D)) → image_here r.rest.images.items k ≡ x → WasHere k y
@@ -111,7 +111,7 @@ module _ {D : Type 0} (state : D → State) (config : Config) (valid : IsValid c
           record { image = x; here = e; is = subst (λ (z : ImageRest D). without.IsImageWithout state config said id view r.rest new o takes k x z) same w.2 }
 
   -- a segment that is here was here, and isn't of the opening
-  segment_was : (k i : ℕ) (y : ImageRest D) (p : Spun D) → (w : WasHere k y) → image_here new.images.items k ≡ Some y → segment_here y i ≡ Some p → segment_here w.image i ≡ Some p
+  pub segment_was : (k i : ℕ) (y : ImageRest D) (p : Spun D) → (w : WasHere k y) → image_here new.images.items k ≡ Some y → segment_here y i ≡ Some p → segment_here w.image i ≡ Some p
   segment_was k i y p w now here =
       let now_in : segment_in new k i ≡ Some p = segment_in_image new k y now i ∙ here in
       ⊎_elim
@@ -170,7 +170,7 @@ module _ {D : Type 0} (state : D → State) (config : Config) (valid : IsValid c
       (mine v k)
 
   -- a pass that is here was here
-  pool_was : (v k : ℕ) (p : PassOf (Pool (FreeSegment D)) PoolBase) → pool_pass new v k ≡ Some p → (pool_pass r.rest v k ≡ Some p) × (v ≡ id → Contains view k → ⊥)
+  pub pool_was : (v k : ℕ) (p : PassOf (Pool (FreeSegment D)) PoolBase) → pool_pass new v k ≡ Some p → (pool_pass r.rest v k ≡ Some p) × (v ≡ id → Contains view k → ⊥)
   pool_was v k p here =
       ⊎_elim
       (λ is. absurd (none-some p (sym (pool_gone v k is.0 is.1) ∙ here)))
@@ -224,7 +224,7 @@ module _ {D : Type 0} (state : D → State) (config : Config) (valid : IsValid c
             λ none. same ∙ before.1 (λ c. none (⊎_elim (λ l. inl (lane_stays bases m v k l)) (λ h. inr (h.0, home_stays bases m v h.1)) c)),
           )
 
-  spindle_was : (v k : ℕ) (p : PassOf Spindle SpindleBase) → spindle_pass new v k ≡ Some p → spindle_pass r.rest v k ≡ Some p
+  pub spindle_was : (v k : ℕ) (p : PassOf Spindle SpindleBase) → spindle_pass new v k ≡ Some p → spindle_pass r.rest v k ≡ Some p
   spindle_was v k p here = go (place_of_pass v k)
     where
       go : Place v k → spindle_pass r.rest v k ≡ Some p
@@ -234,7 +234,7 @@ module _ {D : Type 0} (state : D → State) (config : Config) (valid : IsValid c
 
   -- ---- Segments
 
-  held_none : (v k : ℕ) → held_here new v k ≡ []
+  pub held_none : (v k : ℕ) → held_here new v k ≡ []
   held_none v k =
       ⊎_elim
       (λ is. ap (λ (n : ℕ). held_here new n k) is.0 ∙ without.held_gone state config said id view r.rest new o takes k (out k is.1))
