@@ -1,10 +1,11 @@
 -- The rack may be closed once one volume more is open.
-use Rattle.std.proofs.Common.{◌≡◌, ◌≢◌, ◌⊎◌, inl, inr, ⊎_elim, ℕ, ◌+◌, ◌^◌, ◌<◌, ◌≤◌, List, [], ◌∷◌, ◌++◌, length, map, Option, None, Some, refl, sym, ap, ◌∙◌, subst, arith}
+use Rattle.std.proofs.Common.{◌≡◌, ◌≢◌, ◌⊎◌, inl, inr, ⊎_elim, ℕ, ◌+◌, ◌^◌, ◌<◌, ◌≤◌, List, [], ◌∷◌, ◌++◌, length, map, Option, None, Some, refl, sym, ap, ◌∙◌, subst, arith, vec_capacity}
 use Rattle.std.specs.Prelude.{slice_get, IsSome, is_some, All, Contains}
 use Rattle.std.specs.declared.alloc.Global.{Global}
 use Rattle.std.specs.declared.vec.Vec.{Vec}
-use Rattle.std.proofs.lemmas.List.{length-map, map_push}
-use Rattle.std.proofs.lemmas.List.Elements.{All-push, Contains-push_cases}
+use Rattle.std.proofs.lemmas.List.{length-map, length_push, map_push}
+use Rattle.std.proofs.lemmas.Bool.{cases_lt}
+use Rattle.std.proofs.lemmas.List.Elements.{All-push, Contains-push, Contains-push_cases, Contains-append_left}
 use Rattle.std.proofs.lemmas.Option.{none-some, same_Some, slice_get_within, slice_get-map}
 use Rattle.wol_disk.specs.Disk.{Block, State, TellsContent, IsImageOf}
 use Rattle.wol_model.specs.Heads.{owned_block, free_block, segment_block, SpellsSegment}
@@ -26,18 +27,19 @@ use Rattle.manager_recovery.specs.declared.opening.Opening.{Opening}
 use Rattle.volume_images.specs.Volumes.{shape_in, shapes_of}
 use Rattle.rack.specs.Rests.{image_here, segment_here, held_here, IsImageOut, IsRestBut, away_with, AreRooms}
 use Rattle.rack.specs.Foreign.{IsForeign}
-use Rattle.rack.specs.Racks.{base_of_station, AreRising, IsOpenBase, IsStation, IsClosable}
+use Rattle.rack.specs.Racks.{base_of_station, AreRising, IsOpenBase, IsStation, IsUnused, IsClosable}
 use Rattle.rack.specs.Parts.{TakesOpening, IsOwnedPlace, loggers_out, segment_in}
-use Rattle.rack.specs.Opening.{said_at, IsSaidOf, IsOpeningRack}
+use Rattle.rack.specs.Opening.{said_at, fault_at, IsSaidOf, AreTried, IsOpeningRack}
 use Rattle.rack.specs.declared.heads_said.Said.{Said}
 use Rattle.rack.specs.declared.rack.ImageRest.{ImageRest}
 use Rattle.rack.specs.declared.rack.Rack.{Rack}
 use Rattle.rack.specs.declared.rack.Rest.{Rest}
 use Rattle.rack.specs.declared.rack.Rooms.{Rooms}
 use Rattle.rack.proofs.Asking.{some_at}
-use Rattle.rack.proofs.Members.{segment_in_image, here_within}
+use Rattle.rack.proofs.Members.{segment_in_image, a_value, no_value, here_within}
 use Rattle.rack.proofs.OneOpened.{with_rooms, rising_push, base_stays, out_stays}
-use Rattle.rack.proofs.OpenAway.{open_away, was_here, segment_was, spindle_was, held_none}
+use Rattle.rack.proofs.OpenAway.{open_away, WasHere, was_here, segment_was, pool_was, spindle_was, held_none, owner_of}
+use Rattle.rack.proofs.Takes.{image_id}
 use Rattle.rack.proofs.Without as without
 
 -- a log of a volume says no other owner
@@ -171,3 +173,82 @@ module _ {D : Type 0} (state : D → State) (config : Config) (valid : IsValid c
           let none : Contains [] (i, p) = subst (λ (l : List (ℕ × Spun D)). Contains l (i, p)) (held_none state config valid b said id r own ready lt at view new o takes (base_of_station s) owner view_is others all inside v k) has in
           let l = none.1 in
           omega (arith, l)
+
+  -- ---- The rack goes on being opened
+
+  module _ (unused : IsUnused s.worker × IsUnused s.helper × IsUnused s.keeper) (station_cap : vec_capacity stations ≡ vec_capacity r.stations) (manager_cap : vec_capacity rooms.managers ≡ vec_capacity r.rest.rooms.managers) where
+    count_stations : length stations.items ≡ length r.stations.items + 1
+    count_stations = ap (λ (xs : List (Station D)). length xs) stations_are ∙ length_push r.stations.items s
+
+    contains_now : (k : ℕ) → Contains (map (λ (x : Station D). x.id) r.stations.items) k → Contains (map (λ (x : Station D). x.id) stations.items) k
+    contains_now k c = subst (λ (ns : List ℕ). Contains ns k) (sym ids_are) (Contains-append_left (map (λ (x : Station D). x.id) r.stations.items) (s.id ∷ []) k c)
+
+    contains_own : Contains (map (λ (x : Station D). x.id) stations.items) id
+    contains_own = subst (λ (n : ℕ). Contains (map (λ (x : Station D). x.id) stations.items) n) s_id (subst (λ (ns : List ℕ). Contains ns s.id) (sym ids_are) (Contains-push (map (λ (x : Station D). x.id) r.stations.items) s.id))
+
+    contains_cases : (k : ℕ) → Contains (map (λ (x : Station D). x.id) stations.items) k → Contains (map (λ (x : Station D). x.id) r.stations.items) k ⊎ (id ≡ k)
+    contains_cases k c = ⊎_elim (λ b. inl b) (λ (e : s.id ≡ k). inr (sym s_id ∙ e)) (Contains-push_cases (map (λ (x : Station D). x.id) r.stations.items) s.id k (subst (λ (ns : List ℕ). Contains ns k) ids_are c))
+
+    was_at : (k : ℕ) (image : ImageRest D) → image_here new.images.items k ≡ Some image → WasHere state config valid b said id r own ready lt at view new o takes (base_of_station s) owner view_is others all inside k image
+    was_at k image now = was_here state config valid b said id r own ready lt at view new o takes (base_of_station s) owner view_is others all inside k image now
+
+    segment_before : (k i : ℕ) (image : ImageRest D) (p : Spun D) (now : image_here new.images.items k ≡ Some image) → segment_here image i ≡ Some p → segment_here (was_at k image now).image i ≡ Some p
+    segment_before k i image p now here = segment_was state config valid b said id r own ready lt at view new o takes (base_of_station s) owner view_is others all inside k i image p (was_at k image now) now here
+
+    tried : AreTried config (id + 1) next
+    tried = record {
+      count = ready.tried.count;
+      known = ready.tried.known;
+      below = subst (λ (xs : List (Station D)). All (λ (x : Station D). x.id < id + 1) xs) (sym stations_are)
+          (All-push (λ (x : Station D). x.id < id + 1) r.stations.items s (λ j d within. let one = ready.tried.below j d within in omega (arith, one)) (omega (arith, s_id)));
+      tried = λ k less. ⊎_elim
+          (λ (before : k < id).
+          let old = ready.tried.tried k before in
+          (λ none. contains_now k (old.0 none), λ c. old.1 (⊎_elim (λ b. b) (λ (e : id ≡ k). absurd (omega (arith, e, before))) (contains_cases k c))))
+          (λ (more : id ≤ k).
+          let e : k ≡ id = omega (arith, less, more) in
+          let out = ap is_some (image_id state config valid b said id r own ready lt at).1 in
+          let none = (ready.tried.further id (omega arith) lt).1 out in
+          (λ is. subst (λ (n : ℕ). Contains (map (λ (x : Station D). x.id) stations.items) n) (sym e) contains_own, λ c. ap (λ (n : ℕ). fault_at r.faults.items n) e ∙ none))
+          (cases_lt k id);
+      further = λ k le within. let old = ready.tried.further k (omega (arith, le)) within in (λ none. stays k (old.0 none), λ out. old.1 (was k out));
+    }
+
+    pub one_opening : IsOpeningRack state config b said (id + 1) next
+    one_opening = record {
+      closable = one_closable;
+      fresh = subst (λ (xs : List (Station D)). All (λ (x : Station D). IsUnused x.worker × IsUnused x.helper × IsUnused x.keeper) xs) (sym stations_are)
+          (All-push (λ (x : Station D). IsUnused x.worker × IsUnused x.helper × IsUnused x.keeper) r.stations.items s ready.fresh unused);
+      station_room = let n = ready.station_room in let c = count_stations in omega (arith, n, c, station_cap);
+      manager_room = let n = ready.manager_room in let c = count_stations in omega (arith, n, c, manager_cap);
+      tried = tried;
+      says = λ k sh shape out. ready.says k sh shape (was k out);
+      silent = λ k none. ready.silent k (none_was k none);
+      pools = ready.pools;
+      said_count = ready.said_count;
+      unheld = λ v k. held_none state config valid b said id r own ready lt at view new o takes (base_of_station s) owner view_is others all inside v k;
+      since = λ v k i p here holding. ready.since v k i p (pool_was state config valid b said id r own ready lt at view new o takes (base_of_station s) owner view_is others all inside v k p here).0 holding;
+      owners = record {
+        closed = λ k i w own_k image p is head now here has.
+            let before = segment_before k i image p now here in
+            ⊎_elim
+            (λ old. ready.owners.closed k i w own_k (was_at k image now).image p is head (was_at k image now).here before old)
+            (λ (e : id ≡ w).
+            let place : IsOwnedPlace said id k i = (own_k, Rattle.std.proofs.lemmas.Option.slice_get-get_or said k None (here_within said k own_k is) ∙ ap Some is, head ∙ ap (λ (n : ℕ). Some (Owned n)) (sym e)) in
+            none-some p (sym (without.segment_gone state config said id view r.rest new o takes k i (takes.owned.all k i place)) ∙ segment_in_image new k image now i ∙ here))
+            (contains_cases w has);
+        says = λ k i w own_k image p is head now here told c im. ready.owners.says k i w own_k (was_at k image now).image p is head (was_at k image now).here (segment_before k i image p now here) told c im;
+        free = λ k i own_k image is head now. no_value (segment_here image i) (λ there.
+            let p = a_value (segment_here image i) there in
+            none-some p.0 (sym (ready.owners.free k i own_k (was_at k image now).image is head (was_at k image now).here) ∙ segment_before k i image p.0 now p.1));
+      };
+      untouched = record {
+        passes = λ v k p le here. ready.untouched.passes v k p (omega (arith, le)) (pool_was state config valid b said id r own ready lt at view new o takes (base_of_station s) owner view_is others all inside v k p here).0;
+        here = λ v k i own_k image le is head now.
+            let w = was_at k image now in
+            let before = ready.untouched.here v k i own_k w.image (omega (arith, le)) is head w.here in
+            let place : IsOwnedPlace said v k i = (own_k, Rattle.std.proofs.lemmas.Option.slice_get-get_or said k None (here_within said k own_k is) ∙ ap Some is, head) in
+            let never : Contains (map place_of o.owned.items) (k, i) → ⊥ = λ c. let e = owner_of state config valid b said id r own ready lt at view new o takes (base_of_station s) owner view_is others all inside v k i place c in omega (arith, le, e) in
+            (before.0, sym (segment_in_image new k image now i) ∙ without.segment_kept state config said id view r.rest new o takes k i never ∙ segment_in_image r.rest k w.image w.here i ∙ before.1, before.2);
+      };
+    }

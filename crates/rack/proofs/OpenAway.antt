@@ -248,7 +248,7 @@ module _ {D : Type 0} (state : D → State) (config : Config) (valid : IsValid c
       absurd (omega (arith, l))
 
   -- who holds a segment of the opening is the volume
-  owner_of : (v k i : ℕ) → IsOwnedPlace said v k i → Contains (map place_of o.owned.items) (k, i) → v ≡ id
+  pub owner_of : (v k i : ℕ) → IsOwnedPlace said v k i → Contains (map place_of o.owned.items) (k, i) → v ≡ id
   owner_of v k i place c =
       let from = contains_map place_of o.owned.items (k, i) c in
       let taken = All-contains (IsTakenOf config takes.without_lanes said id) o.owned.items from.0 takes.owned.each from.1 in

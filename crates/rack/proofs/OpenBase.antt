@@ -32,13 +32,15 @@ module _ {D : Type 0} where
   lanes_shared shared (l ∷ ls) [] named at = absurd named
   lanes_shared shared (l ∷ ls) (b ∷ bs) named at =
       let one = named.0 in
-      let place = at.0 in
-      (record {
-        pool_in = subst (λ (k : ℕ). k < vec_len shared.pools) one.logger place.pool_in;
-        spindle_in = subst (λ (k : ℕ). k < vec_len shared.spindles) one.logger place.spindle_in;
-        pool = λ d. sym one.pool ∙ place.pool d ∙ ap (λ (k : ℕ). lock_id (Rattle.std.specs.Prelude.slice_index_or shared.pools.items k d)) one.logger;
-        spindle = λ d. sym one.spindle ∙ place.spindle d ∙ ap (λ (k : ℕ). lock_id (Rattle.std.specs.Prelude.slice_index_or shared.spindles.items k d)) one.logger;
-      }, lanes_shared shared ls bs named.1 at.1)
+      let place = at.0 in (
+        record {
+          pool_in = subst (λ (k : ℕ). k < vec_len shared.pools) one.logger place.pool_in;
+          spindle_in = subst (λ (k : ℕ). k < vec_len shared.spindles) one.logger place.spindle_in;
+          pool = λ d. sym one.pool ∙ place.pool d ∙ ap (λ (k : ℕ). lock_id (Rattle.std.specs.Prelude.slice_index_or shared.pools.items k d)) one.logger;
+          spindle = λ d. sym one.spindle ∙ place.spindle d ∙ ap (λ (k : ℕ). lock_id (Rattle.std.specs.Prelude.slice_index_or shared.spindles.items k d)) one.logger;
+        },
+        lanes_shared shared ls bs named.1 at.1,
+      )
 
   lanes_named : (ls : List (Lane D)) (bs : List LaneBase) → AreNamed ls bs → map (λ (b : LaneBase). b.logger) bs ≡ map logger_of ls
   lanes_named [] [] named = refl
