@@ -67,3 +67,9 @@ mod TakenReady
 mod TakenBegun
 mod OpeningSteps
 pub mod OthersAccess
+pub mod Without
+pub mod OpenAway
+pub mod OpenNamed
+pub mod OpenBase
+pub mod OneOpened
+pub mod OneClosable

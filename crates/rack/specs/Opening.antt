@@ -1,5 +1,5 @@
 -- The images that were taken out, what they say, and how far their volumes are opened. `state` is that of a part's disk.
-use Rattle.std.specs.Prelude.{◌≡◌, ◌≢◌, ◌⊎◌, ◌≤◌, ◌<◌, ◌+◌, ◌++◌, ◌↔◌, ℕ, Bool, List, [], map, length, vec_capacity, Option, None, Some, is_some, option_map, slice_get, slice_index_or, slice_range, Contains, IsSome, IsTrue, All}
+use Rattle.std.specs.Prelude.{true, ◌≡◌, ◌≢◌, ◌⊎◌, ◌≤◌, ◌<◌, ◌+◌, ◌++◌, ◌↔◌, ℕ, Bool, List, [], map, length, vec_capacity, Option, None, Some, is_some, option_map, slice_get, slice_index_or, slice_range, Contains, IsSome, IsTrue, All}
 use Rattle.wol_disk.specs.Disk.{Block, State, TellsContent, IsImageOf, reads}
 use Rattle.wol_model.specs.Heads.{Shape}
 use Rattle.wol_model.specs.Images.{image_size}
@@ -7,13 +7,14 @@ use Rattle.wol_promise.specs.Manager.{SaysOwnerOrFree}
 use Rattle.wol_bay.specs.Bay.{Name, Image, Told, BayState, at_name, outs, sent_out}
 use Rattle.wol_config.specs.declared.config.Config.{Config}
 use Rattle.wol_config.specs.declared.config.VolumeConf.{VolumeConf}
-use Rattle.turn_lock.specs.Passes.{lock_id, pass_mine}
+use Rattle.turn_lock.specs.Passes.{lock_id, pass_lock, pass_number, pass_mine}
 use Rattle.turn_lock.specs.declared.lock.TurnLock.{TurnLock}
 use Rattle.turn_lock.specs.declared.pass.PassOf.{PassOf}
 use Rattle.log_layout.specs.Values.{segment_head}
 use Rattle.log_layout.specs.declared.segment.SegHead.{SegHead}
 use Rattle.log_layout.specs.declared.segment.SegHead.TheVariants.{Free, Owned}
 use Rattle.log_segment.specs.declared.free.FreeSegment.{FreeSegment}
+use Rattle.seg_pool.specs.Operations.{holds}
 use Rattle.seg_pool.specs.Holders.{holder}
 use Rattle.seg_pool.specs.declared.base.PoolBase.{PoolBase}
 use Rattle.seg_pool.specs.declared.pool.Pool.{Pool}
@@ -27,7 +28,7 @@ use Rattle.volume_images.specs.Left.{IsTold, AreNamedApart}
 use Rattle.volume_images.specs.Volumes.{shape_in, shapes_of, MayLeave}
 use Rattle.rack.specs.Rests.{image_here, segment_here, pool_pass, held_here, IsImageOut, IsImageRest}
 use Rattle.rack.specs.Making.{AreSpindlesOf}
-use Rattle.rack.specs.Parts.{holder_by, IsIssuedPool, Supplies}
+use Rattle.rack.specs.Parts.{holder_by, IsIssuedPool, Supplies, IsOwnedPlace}
 use Rattle.rack.specs.Racks.{IsClosable, NamesVolumes, IsUnused, AreUnused}
 use Rattle.rack.specs.Closing.{IsComplete}
 use Rattle.rack.specs.Opens.{HadBefore, out_names, BeganWith, RefusesVolume}
@@ -235,6 +236,8 @@ pub record IsOpeningRack {D : Type 0} (state : D → State) (config : Config) (b
   pub pools : BeganAsSaid r.shared.pools.items said
   pub said_count : length said ≡ length (shapes_of config)
   pub unheld : (v k : ℕ) → held_here r.rest v k ≡ []
+  -- a pass that is here holds only what its volume owned at the beginning
+  pub since : (v k i : ℕ) (p : PassOf (Pool (FreeSegment D)) PoolBase) → pool_pass r.rest v k ≡ Some p → holds (pass_lock p).base (pass_number p) (pass_mine p) i ≡ true → IsOwnedPlace said v k i
   pub owners : AreOwnersHere state said r
   pub untouched : AreUntouched state (length (shapes_of config)) n said r.rest
 

@@ -1,10 +1,11 @@
 // All volumes of a bay are opened.
-ghost use Rattle.std.specs.Prelude.{ℕ, ◌≡◌, ◌⊎◌, ◌≤◌, ◌++◌, Some, slice_get, option_map, IfOk, OnErr, IfSome, IsTrue};
-ghost use Rattle.wol_bay.specs.Bay.{outs};
+ghost use Rattle.std.specs.Prelude.{ℕ, ◌≡◌, ◌⊎◌, ◌<◌, ◌≤◌, List, length, All, ◌++◌, Some, slice_get, option_map, IfOk, OnErr, IfSome, IsTrue};
+ghost use Rattle.wol_bay.specs.Bay.{Name, outs};
 ghost use Rattle.wol_config.specs.Configs.{IsValid};
 ghost use Rattle.volume_images.specs.Left.{IsTold, AreNamedApart};
-ghost use Rattle.volume_images.specs.Volumes.{NoneOut};
-ghost use Rattle.rack.specs.Racks.{IsRack, AreUnused};
+ghost use Rattle.volume_images.specs.Volumes.{NoneOut, shapes_of};
+ghost use Rattle.rack.specs.Racks.{IsRack, IsUnused, AreUnused};
+ghost use Rattle.rack.specs.Rests.{IsImageOut};
 ghost use Rattle.rack.specs.Owners.{HadRefused};
 ghost use Rattle.rack.specs.Opening.{IsTaken};
 ghost use Rattle.rack.specs.Opens.{out_names, BeganWith, AreRefused, LeavesAll, KeepsAllSound};
@@ -93,6 +94,12 @@ pub fn open_all<R: Wait, B: Bay>(
     ensures refused { IfOk result (AreRefused B.Part.tells B.Part.state config.now (B.state bay.old) (B.state bay.new)) }
     // no pass of a station was used
     ensures fresh { IfOk result (λ r. AreUnused r.stations.items) }
+    ensures fresh_keepers { IfOk result (λ r. All (λ p. IsUnused p) r.keepers.items) }
+    ensures apart { IfOk result (λ r. IsTrue B.Part.tells → IsTold (λ old new. AreNamedApart new) (B.state bay.old).told (B.state bay.new).told) }
+    // parts of images that came back; none where all images are out
+    ensures faulty { IfOk result (λ r. IsTold (λ old new. (more : List (Name × ℕ)) × (new.faulty ≡ old.faulty ++ more)) (B.state bay.old).told (B.state bay.new).told) }
+    ensures unfaulty { IfOk result (λ r. ((k : ℕ) → k < length (shapes_of config.now) → IsImageOut r.rest.images.items k)
+        → IsTold (λ old new. new.faulty ≡ old.faulty) (B.state bay.old).told (B.state bay.new).told) }
     ensures kept { IfOk result (λ r. IsTrue B.Part.tells → IsTold (HadRefused config.now r.rest.images.items) (B.state bay.old).told (B.state bay.new).told) }
     ensures failed { IfOk result (λ r. (k : ℕ) (p : Part) → slice_get r.faults.items k ≡ Some (Some (Refused (DiskFault p)))
         → HasFaultIn B.Part.state r.rest ⊎ Rose (B.state bay.old).faults (B.state bay.new).faults) }
