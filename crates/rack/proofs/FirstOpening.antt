@@ -1,11 +1,12 @@
 -- A rack before its first volume is opened.
-use Rattle.std.proofs.Common.{◌≡◌, ◌<◌, ◌≤◌, ◌+◌, ◌⊎◌, inl, inr, ℕ, List, [], ◌∷◌, length, map, Option, None, Some, is_some, refl, sym, ap, subst, ◌∙◌, arith}
+use Rattle.std.proofs.Common.{◌≡◌, ◌<◌, ◌≤◌, ◌+◌, ◌⊎◌, inl, inr, ⊎_elim, true, ℕ, List, [], ◌∷◌, length, map, Option, None, Some, is_some, refl, sym, ap, subst, ◌∙◌, arith}
 use Rattle.std.specs.Prelude.{All, Contains, IsSome, slice_get, slice_index_or, vec_capacity}
 use Rattle.std.specs.declared.alloc.Global.{Global}
 use Rattle.std.specs.declared.vec.Vec.{Vec}
-use Rattle.std.proofs.lemmas.Bool.{false≢true}
+use Rattle.std.proofs.lemmas.Bool.{cases_lt, false≢true}
+use Rattle.std.proofs.lemmas.List.{get_or_past}
 use Rattle.std.proofs.lemmas.List.Elements.{All-nil}
-use Rattle.std.proofs.lemmas.Option.{none-some, same_Some, get_or_from_slice_get, slice_get_within}
+use Rattle.std.proofs.lemmas.Option.{none-some, same_Some, get_or_from_slice_get, slice_get-get_or, slice_get_within}
 use Rattle.wol_disk.specs.Disk.{Block, State, TellsContent, IsImageOf}
 use Rattle.wol_model.specs.Heads.{Shape, owned_block}
 use Rattle.wol_promise.specs.Manager.{SaysOwnerOrFree}
@@ -31,11 +32,13 @@ use Rattle.rack.specs.Foreign.{AreForeign}
 use Rattle.rack.specs.Opening.{AlwaysSays, IsSaidOf, HaveHeads, said_at, AreTried, IsOpeningRack}
 use Rattle.rack.specs.Racks.{IsStation, IsOpenBase, IsUnused, AreRising, AreOut, base_of_station}
 use Rattle.rack.specs.Rests.{image_here, segment_here, IsImageOut, IsRest}
+use Rattle.rack.specs.Parts.{holder_by, IsOwnedPlace}
+use Rattle.seg_pool.specs.Holders.{is_held_by}
 use Rattle.rack.specs.declared.heads_said.Said.{Said}
 use Rattle.rack.specs.declared.locks.Issued.{Issued}
 use Rattle.rack.specs.declared.rack.ImageRest.{ImageRest}
 use Rattle.rack.specs.declared.rack.Rack.{Rack}
-use Rattle.rack.proofs.FirstRest.{AreFirst, IsSupplier, nothing_in, pool_new, spindle_in, holder_is, first_rest, first_locks, first_keepers, spindle_there, pool_there}
+use Rattle.rack.proofs.FirstRest.{held_owner, new_holds, AreFirst, IsSupplier, nothing_in, pool_new, spindle_in, holder_is, first_rest, first_locks, first_keepers, spindle_there, pool_there}
 
 -- what always begins with an owner's head says the owner
 pub says_owner : (volumes w : ℕ) (c : List Block) → HasHead volumes c (segment_head (Owned w)) → SaysOwnerOrFree w c
@@ -67,6 +70,16 @@ module _ {D : Type 0} (state : D → State) (config : Config) (b : BayState) (sp
         let o = ready.first.out k image is in
         subst (λ (x : Said). IsSupplier (length (shapes_of config)) x image) (same_Some o.0 own (sym o.1 ∙ says)) o.2
 
+    -- what is held at first is owned
+    owned_place : (v k i : ℕ) → is_held_by v (holder_by (said_at said k) i) ≡ true → IsOwnedPlace said v k i
+    owned_place v k i is = go (said_at said k) refl is
+      where
+        go : (o : Option Said) → said_at said k ≡ o → is_held_by v (holder_by o i) ≡ true → IsOwnedPlace said v k i
+        go None e held = absurd (false≢true held)
+        go (Some s) e held =
+            let within : k < length said = ⊎_elim (λ (lt : k < length said). lt) (λ (past : length said ≤ k). absurd (none-some s (sym (get_or_past said k None past) ∙ e))) (cases_lt k (length said)) in
+            (s, slice_get-get_or said k None within ∙ ap (λ (o : Option Said). Some o) e, held_owner (slice_get s.heads.items i) v held)
+
     pub first_opening : IsOpeningRack state config b said 0 r
     first_opening = record {
       closable = record {
@@ -96,6 +109,9 @@ module _ {D : Type 0} (state : D → State) (config : Config) (b : BayState) (sp
       pools = λ k i l lock. holder_is state config spindles pools said r ready.first k i l lock;
       said_count = ready.said_count;
       unheld = ready.first.set_up.held;
+      since = λ v k i p here has.
+          let lock = pool_there state config spindles pools said r ready.first v k p here in
+          owned_place v k i (sym (new_holds state config spindles pools said r ready.first v k i lock.0 p lock.1 here) ∙ has);
       owners = record {
         closed = λ k i w own image p says owned is here has. nothing_in w (subst (λ (l : List (Station D)). Contains (map (λ (s : Station D). s.id) l) w) none has);
         says = λ k i w own image p says owned is here tells c image_of. says_owner (length (shapes_of config)) w c (ready.heads k image own is says i p (Owned w) here owned c image_of);

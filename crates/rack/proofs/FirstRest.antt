@@ -54,7 +54,7 @@ from_map f (x ∷ xs) (suc k) y is = from_map f xs k y is
 pub nothing_in : {X : Type 0} (x : X) → Contains [] x → ⊥
 nothing_in x has = absurd (let lt = has.1 in omega (arith, lt))
 
-held_owner : (o : Option SegHead) (v : ℕ) → is_held_by v (of_head o) ≡ true → o ≡ Some (Owned v)
+pub held_owner : (o : Option SegHead) (v : ℕ) → is_held_by v (of_head o) ≡ true → o ≡ Some (Owned v)
 held_owner None v is = absurd (false≢true is)
 held_owner (Some Free) v is = absurd (false≢true is)
 held_owner (Some (Owned w)) v is = ap (λ (n : ℕ). Some (Owned n)) (eqb-true w v is)
@@ -209,7 +209,7 @@ module _ {D : Type 0} (state : D → State) (config : Config) (spindles : List (
     holder_is k i l lock = (let at = pool_at k l lock in subst (λ (x : TurnLock (Pool (FreeSegment D)) PoolBase). holder (lock_id x).base.holders i ≡ holder_by (saying k) i) at.2 (at.3.2.holders i))
 
     -- what a new pass holds
-    new_holds : (v k i : ℕ) (l : TurnLock (Pool (FreeSegment D)) PoolBase) (p : PassOf (Pool (FreeSegment D)) PoolBase) → slice_get r.shared.pools.items k ≡ Some l → pool_pass r.rest v k ≡ Some p
+    pub new_holds : (v k i : ℕ) (l : TurnLock (Pool (FreeSegment D)) PoolBase) (p : PassOf (Pool (FreeSegment D)) PoolBase) → slice_get r.shared.pools.items k ≡ Some l → pool_pass r.rest v k ≡ Some p
         → holds (pass_lock p).base (pass_number p) (pass_mine p) i ≡ is_held_by v (holder_by (saying k) i)
     new_holds v k i l p lock here =
         let new = pool_new v k l p lock here in
