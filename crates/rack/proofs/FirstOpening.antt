@@ -45,7 +45,7 @@ pub says_owner : (volumes w : ℕ) (c : List Block) → HasHead volumes c (segme
 says_owner volumes w [] head = absurd (none-some head.block head.first)
 says_owner volumes w (b ∷ bs) head = inl (same_Some b head.block head.first ∙ head.spelled.bytes)
 
-some_of : {X : Type 0} (o : Option X) → IsSome o → (x : X) × (o ≡ Some x)
+pub some_of : {X : Type 0} (o : Option X) → IsSome o → (x : X) × (o ≡ Some x)
 some_of None some = absurd (false≢true some)
 some_of (Some x) some = (x, refl)
 

@@ -43,14 +43,25 @@ module _ {D : Type 0} (tells : Bool) (state : D → State) (config : Config) (sa
           let found = of_map (λ (s : Station D). s.id) r.stations.items k has in
           let at = place_of r.stations.items found.0 found.1 in
           let lt : found.0.id < n = subst (λ (s : Station D). s.id < n) (get_or_from_slice_get r.stations.items at.0 found.0 found.0 at.1) (o.tried.below at.0 found.0 (slice_get_within r.stations.items at.0 found.0 at.1)) in
-          omega (arith, lt, found.2.1)
+          let e = found.2 in omega (arith, lt, e)
 
       -- such a volume is passed over
       pub passed : IsOpeningRack state config b said (n + 1) r
-      passed = record o {
+      passed = record {
+        closable = o.closable;
+        fresh = o.fresh;
+        says = o.says;
+        silent = o.silent;
+        pools = o.pools;
+        said_count = o.said_count;
+        unheld = o.unheld;
+        since = o.since;
+        owners = o.owners;
         station_room = let h = o.station_room in omega (arith, h);
         manager_room = let h = o.manager_room in omega (arith, h);
-        tried = record o.tried {
+        tried = record {
+          count = o.tried.count;
+          known = o.tried.known;
           below = λ k s lt. let h = o.tried.below k s lt in omega (arith, h);
           tried = λ k lt.
               ⊎_elim

@@ -1,5 +1,3 @@
-use Rattle.rack.proofs.TakenBegun.{begun_first}
-use Rattle.rack.proofs.OpeningSteps.{passed, whole, begun_passed, all_refused, refused_passed}
 use Rattle.std.proofs.Common.{◌≡◌, Bool, true, is_some, sym, subst, ◌∙◌}
 use Rattle.rack.specs.Rests.{image_here}
 use Rattle.rack.specs.Parts.{TakesOneLane}
