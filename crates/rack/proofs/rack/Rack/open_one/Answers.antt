@@ -8,29 +8,26 @@ use Rattle.rack.proofs.rack.Rack.open_one.Goals as goal
 pub take_opening-requires-clause-ready : goal.take_opening-requires-clause-ready
 take_opening-requires-clause-ready g c =
     let config = c.args.config.now in
-    let all = c.requires.1.1 in
-    let said = all.1.1.1 in
-    let within = all.1.0 in
+    let said = c.requires.said in
+    let within = c.requires.within in
     let long = length-map config.volumes.items (shape_in config) in
-    can_take g.D.Disk.state config all.0 all.1.1.0.0 c.args.said.now c.args.id c.args.self.now said.0 all.1.1.0.1 (omega (arith, within, long)) said.1 c.args.view said.2
+    can_take g.D.Disk.state config c.requires.config c.requires.rack.0 c.args.said.now c.args.id c.args.self.now said.0 c.requires.rack.1 (omega (arith, within, long)) said.1 c.args.view said.2
 
 pub open_locked-requires : goal.open_locked-requires
 open_locked-requires g c = λ κs within_κ.
     let config = c.args.config.now in
-    let all = c.requires.1.1 in
-    let said = all.1.1.1 in
-    let within = all.1.0 in
+    let said = c.requires.said in
+    let within = c.requires.within in
     let long = length-map config.volumes.items (shape_in config) in
-    (within_κ.0, (within_κ.1, (refl, can_open g.D.Disk.state config all.0 all.1.1.0.0 c.args.said.now c.args.id c.args.self.now said.0 all.1.1.0.1 (omega (arith, within, long)) said.1 c.args.view c.take_opening.new.self c.in_ok-opening.opening c.in_ok-opening.ensures.taken)))
+    (within_κ.0, (within_κ.1, (refl, can_open g.D.Disk.state config c.requires.config c.requires.rack.0 c.args.said.now c.args.id c.args.self.now said.0 c.requires.rack.1 (omega (arith, within, long)) said.1 c.args.view c.take_opening.new.self c.in_ok-opening.opening c.in_ok-opening.ensures.taken)))
 
 pub put_opening-requires-clause-home : goal.put_opening-requires-clause-home
 put_opening-requires-clause-home g c =
     let config = c.args.config.now in
-    let all = c.requires.1.1 in
-    let said = all.1.1.1 in
-    let within = all.1.0 in
+    let said = c.requires.said in
+    let within = c.requires.within in
     let long = length-map config.volumes.items (shape_in config) in
-    home_away g.D.Disk.state config all.0 all.1.1.0.0 c.args.said.now c.args.id c.args.self.now said.0 all.1.1.0.1 (omega (arith, within, long)) said.1 c.args.view c.take_opening.new.self c.in_ok-opening.opening c.in_ok-opening.ensures.taken
+    home_away g.D.Disk.state config c.requires.config c.requires.rack.0 c.args.said.now c.args.id c.args.self.now said.0 c.requires.rack.1 (omega (arith, within, long)) said.1 c.args.view c.take_opening.new.self c.in_ok-opening.opening c.in_ok-opening.ensures.taken
 
 pub put_opening-requires-clause-lanes : goal.put_opening-requires-clause-lanes
 put_opening-requires-clause-lanes g c = ?
@@ -65,11 +62,10 @@ returns-in-Err-Refused-clause-refused g c = ?
 pub put_manager-requires-clause-home : goal.put_manager-requires-clause-home
 put_manager-requires-clause-home g c =
     let config = c.args.config.now in
-    let all = c.requires.1.1 in
-    let said = all.1.1.1 in
-    let within = all.1.0 in
+    let said = c.requires.said in
+    let within = c.requires.within in
     let long = length-map config.volumes.items (shape_in config) in
-    home_away g.D.Disk.state config all.0 all.1.1.0.0 c.args.said.now c.args.id c.args.self.now said.0 all.1.1.0.1 (omega (arith, within, long)) said.1 c.args.view c.take_opening.new.self c.in_ok-opening.opening c.in_ok-opening.ensures.taken
+    home_away g.D.Disk.state config c.requires.config c.requires.rack.0 c.args.said.now c.args.id c.args.self.now said.0 c.requires.rack.1 (omega (arith, within, long)) said.1 c.args.view c.take_opening.new.self c.in_ok-opening.opening c.in_ok-opening.ensures.taken
 
 pub put_manager-requires-clause-lanes : goal.put_manager-requires-clause-lanes
 put_manager-requires-clause-lanes g c = ?
