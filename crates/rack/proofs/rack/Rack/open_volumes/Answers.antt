@@ -1,22 +1,28 @@
-use Rattle.std.proofs.Common.{◌≡◌, ◌<◌, ◌+◌, ℕ, List, Option, None, Some, length, refl, sym, ap, ◌∙◌, subst, arith}
+use Rattle.std.proofs.Common.{◌≡◌, ◌<◌, ◌+◌, ℕ, List, Option, None, Some, length, get_or, refl, sym, ap, ◌∙◌, subst, arith}
 use Rattle.std.specs.Prelude.{IsTrue, slice_get, slice_index_or}
-use Rattle.std.proofs.lemmas.List.{length-map}
+use Rattle.std.proofs.lemmas.List.{length-map, get_or_default}
 use Rattle.std.proofs.lemmas.Option.{slice_get-get_or}
 use Rattle.wol_bay.specs.Bay.{BayState, Told}
 use Rattle.volume_images.specs.Left.{AreNamedApart}
 use Rattle.volume_images.specs.Volumes.{shape_in, shapes_of}
 use Rattle.rack.specs.Opening.{said_at, IsOpeningRack, HasBegun, AreRefusedBelow, AreSameOut}
+use Rattle.rack.specs.declared.heads_said.Said.{Said}
 use Rattle.rack.specs.declared.rack.Rack.{Rack}
+use Rattle.manager.proofs.ReadThrough.{never_some}
 use Rattle.rack.proofs.Issues.{on_err}
 use Rattle.rack.proofs.OpeningSteps.{passed, whole, begun_passed, refused_passed, all_refused}
 use Rattle.rack.proofs.rack.Rack.open_volumes.Goals.{in-Some+in_ok-open_one, in_default}
 use Rattle.rack.proofs.rack.Rack.open_volumes.Goals as goal
 
+-- an element that is None
+said_none : (said : List (Option Said)) (k : ℕ) (x : Option Said) → k < length said → x ≡ get_or said k x → x ≡ None → said_at said k ≡ None
+said_none said k x lt is none = get_or_default said k None x lt ∙ sym is ∙ none
+
 pub open_one-requires-clause-said : goal.open_one-requires-clause-said
 open_one-requires-clause-said g c =
     let t = c.loop-id-test.true in
     let lt : c.loop-id.id < length c.args.said.now = omega (arith, t) in
-    (c.in-Some.own, (slice_get-get_or c.args.said.now c.loop-id.id c.index-said-id.result lt ∙ ap Some (sym c.index-said-id.is ∙ c.in-Some.is), refl))
+    (c.in-Some.own, slice_get-get_or c.args.said.now c.loop-id.id c.index-said-id.result lt ∙ ap Some (sym c.index-said-id.is ∙ c.in-Some.is), refl)
 
 pub returns-in_err-open_one-clause-fresh : goal.returns-in_err-open_one-clause-fresh
 returns-in_err-open_one-clause-fresh g c = let there = c.loop-id.invariant.there in (c.in_err-open_one.ensures.stopped there.0 there.1).fresh
@@ -49,7 +55,7 @@ loop-id-preserved g c = elim c.match-own.branch [
         let count = c.requires.count in
         let long = length-map c.args.config.now.volumes.items (shape_in c.args.config.now) in
         let within : c.loop-id.id < length (shapes_of c.args.config.now) = omega (arith, t, count, long) in
-        let none : said_at c.args.said.now c.loop-id.id ≡ None = ? in
+        let none : said_at c.args.said.now c.loop-id.id ≡ None = said_none c.args.said.now c.loop-id.id c.index-said-id.result (omega (arith, t)) c.index-said-id.is (never_some c.index-said-id.result w.in_default.not-Some) in
         record {
           there = subst (λ (x : Rack g.row.D.Denot). (b : BayState) × IsOpeningRack g.D.Disk.state c.args.config.now b c.args.said.now (c.loop-id.id + 1) x) is
               (inv.there.0, passed g.D.Disk.tells g.D.Disk.state c.args.config.now c.args.said.now c.loop-id.self inv.there.0 c.loop-id.id inv.there.1 within none);
