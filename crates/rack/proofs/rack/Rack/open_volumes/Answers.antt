@@ -35,40 +35,40 @@ returns-in_err-open_one-clause-stopped g c = λ b o.
 
 pub loop-id-preserved : goal.loop-id-preserved
 loop-id-preserved g c = elim c.match-own.branch [
-    in-Some+in_ok-open_one w ↦
-        let inv = c.loop-id.invariant in
-        let ok = w.in_ok-open_one.ensures in
-        let is = sym w.self-is in
-        record {
-          there = subst (λ (x : Rack g.row.D.Denot). (b : BayState) × IsOpeningRack g.D.Disk.state c.args.config.now b c.args.said.now (c.loop-id.id + 1) x) is (inv.there.0, ok.rack inv.there.0 inv.there.1);
-          rack = λ b o. subst (λ (x : Rack g.row.D.Denot). IsOpeningRack g.D.Disk.state c.args.config.now b c.args.said.now (c.loop-id.id + 1) x) is (ok.rack b (inv.rack b o));
-          keepers = ap (λ (x : Rack g.row.D.Denot). x.keepers) w.self-is ∙ ok.keepers ∙ inv.keepers;
-          same_out = subst (λ (x : Rack g.row.D.Denot). AreSameOut c.args.self.now x) is (ok.same_out ∙ inv.same_out);
-          begun = λ telling t h. subst (λ (x : Rack g.row.D.Denot). HasBegun g.D.Disk.state c.args.config.now t c.args.said.now (c.loop-id.id + 1) x) is (ok.begun telling t (inv.begun telling t h));
-          refused = λ b b' premise first. subst (λ (x : Rack g.row.D.Denot). AreRefusedBelow g.D.Disk.tells g.D.Disk.state c.args.config.now b b' (c.loop-id.id + 1) x) is
-              (ok.refused b b' (λ telling t is_t apart. inv.begun telling t (premise telling t is_t apart)) (inv.refused b b' premise first));
-        }
+  | in-Some+in_ok-open_one w ↦
+      let inv = c.loop-id.invariant in
+      let ok = w.in_ok-open_one.ensures in
+      let is = sym w.self-is in
+      record {
+        there = subst (λ (x : Rack g.row.D.Denot). (b : BayState) × IsOpeningRack g.D.Disk.state c.args.config.now b c.args.said.now (c.loop-id.id + 1) x) is (inv.there.0, ok.rack inv.there.0 inv.there.1);
+        rack = λ b o. subst (λ (x : Rack g.row.D.Denot). IsOpeningRack g.D.Disk.state c.args.config.now b c.args.said.now (c.loop-id.id + 1) x) is (ok.rack b (inv.rack b o));
+        keepers = ap (λ (x : Rack g.row.D.Denot). x.keepers) w.self-is ∙ ok.keepers ∙ inv.keepers;
+        same_out = subst (λ (x : Rack g.row.D.Denot). AreSameOut c.args.self.now x) is (ok.same_out ∙ inv.same_out);
+        begun = λ telling t h. subst (λ (x : Rack g.row.D.Denot). HasBegun g.D.Disk.state c.args.config.now t c.args.said.now (c.loop-id.id + 1) x) is (ok.begun telling t (inv.begun telling t h));
+        refused = λ b b' premise first. subst (λ (x : Rack g.row.D.Denot). AreRefusedBelow g.D.Disk.tells g.D.Disk.state c.args.config.now b b' (c.loop-id.id + 1) x) is
+            (ok.refused b b' (λ telling t is_t apart. inv.begun telling t (premise telling t is_t apart)) (inv.refused b b' premise first));
+      }
   | in_default w ↦
-        let inv = c.loop-id.invariant in
-        let is = sym w.self-is in
-        let t = c.loop-id-test.true in
-        let count = c.requires.count in
-        let long = length-map c.args.config.now.volumes.items (shape_in c.args.config.now) in
-        let within : c.loop-id.id < length (shapes_of c.args.config.now) = omega (arith, t, count, long) in
-        let none : said_at c.args.said.now c.loop-id.id ≡ None = said_none c.args.said.now c.loop-id.id c.index-said-id.result (omega (arith, t)) c.index-said-id.is (never_some c.index-said-id.result w.in_default.not-Some) in
-        record {
-          there = subst (λ (x : Rack g.row.D.Denot). (b : BayState) × IsOpeningRack g.D.Disk.state c.args.config.now b c.args.said.now (c.loop-id.id + 1) x) is
-              (inv.there.0, passed g.D.Disk.tells g.D.Disk.state c.args.config.now c.args.said.now c.loop-id.self inv.there.0 c.loop-id.id inv.there.1 within none);
-          rack = λ b o. subst (λ (x : Rack g.row.D.Denot). IsOpeningRack g.D.Disk.state c.args.config.now b c.args.said.now (c.loop-id.id + 1) x) is
-              (passed g.D.Disk.tells g.D.Disk.state c.args.config.now c.args.said.now c.loop-id.self b c.loop-id.id (inv.rack b o) within none);
-          keepers = ap (λ (x : Rack g.row.D.Denot). x.keepers) w.self-is ∙ inv.keepers;
-          same_out = subst (λ (x : Rack g.row.D.Denot). AreSameOut c.args.self.now x) is inv.same_out;
-          begun = λ telling t' h. subst (λ (x : Rack g.row.D.Denot). HasBegun g.D.Disk.state c.args.config.now t' c.args.said.now (c.loop-id.id + 1) x) is
-              (begun_passed g.D.Disk.tells g.D.Disk.state c.args.config.now c.args.said.now c.loop-id.self t' c.loop-id.id (inv.begun telling t' h));
-          refused = λ b b' premise first. subst (λ (x : Rack g.row.D.Denot). AreRefusedBelow g.D.Disk.tells g.D.Disk.state c.args.config.now b b' (c.loop-id.id + 1) x) is
-              (refused_passed g.D.Disk.tells g.D.Disk.state c.args.config.now c.args.said.now c.loop-id.self inv.there.0 c.loop-id.id inv.there.1 within none b b' (inv.refused b b' premise first));
-        }
-  ]
+      let inv = c.loop-id.invariant in
+      let is = sym w.self-is in
+      let t = c.loop-id-test.true in
+      let count = c.requires.count in
+      let long = length-map c.args.config.now.volumes.items (shape_in c.args.config.now) in
+      let within : c.loop-id.id < length (shapes_of c.args.config.now) = omega (arith, t, count, long) in
+      let none : said_at c.args.said.now c.loop-id.id ≡ None = said_none c.args.said.now c.loop-id.id c.index-said-id.result (omega (arith, t)) c.index-said-id.is (never_some c.index-said-id.result w.in_default.not-Some) in
+      record {
+        there = subst (λ (x : Rack g.row.D.Denot). (b : BayState) × IsOpeningRack g.D.Disk.state c.args.config.now b c.args.said.now (c.loop-id.id + 1) x) is
+            (inv.there.0, passed g.D.Disk.tells g.D.Disk.state c.args.config.now c.args.said.now c.loop-id.self inv.there.0 c.loop-id.id inv.there.1 within none);
+        rack = λ b o. subst (λ (x : Rack g.row.D.Denot). IsOpeningRack g.D.Disk.state c.args.config.now b c.args.said.now (c.loop-id.id + 1) x) is
+            (passed g.D.Disk.tells g.D.Disk.state c.args.config.now c.args.said.now c.loop-id.self b c.loop-id.id (inv.rack b o) within none);
+        keepers = ap (λ (x : Rack g.row.D.Denot). x.keepers) w.self-is ∙ inv.keepers;
+        same_out = subst (λ (x : Rack g.row.D.Denot). AreSameOut c.args.self.now x) is inv.same_out;
+        begun = λ telling t' h. subst (λ (x : Rack g.row.D.Denot). HasBegun g.D.Disk.state c.args.config.now t' c.args.said.now (c.loop-id.id + 1) x) is
+            (begun_passed g.D.Disk.tells g.D.Disk.state c.args.config.now c.args.said.now c.loop-id.self t' c.loop-id.id (inv.begun telling t' h));
+        refused = λ b b' premise first. subst (λ (x : Rack g.row.D.Denot). AreRefusedBelow g.D.Disk.tells g.D.Disk.state c.args.config.now b b' (c.loop-id.id + 1) x) is
+            (refused_passed g.D.Disk.tells g.D.Disk.state c.args.config.now c.args.said.now c.loop-id.self inv.there.0 c.loop-id.id inv.there.1 within none b b' (inv.refused b b' premise first));
+      }
+]
 
 pub returns-clause-rack : goal.returns-clause-rack
 returns-clause-rack g c = λ b o.
