@@ -237,7 +237,7 @@ fn gather_spindles<D: Disk>(
     room
 }
 
-/// Closes a rack that `open_all` opened over this bay with this configuration. Each part goes back to its image, and each image
+/// Closes a rack of images of this bay, opened with this configuration. Each part goes back to its image, and each image
 /// that is out to the bay. The spindles come in order. It takes no memory.
 pub fn close_all<B: Bay>(rack: Rack<B::Part>, bay: &mut B, config: &Config) -> Vec<Spindle>
     requires config { IsValid config.now }
