@@ -5,21 +5,24 @@ use Rattle.std.specs.List.{AllByRecursion}
 use Rattle.std.proofs.lemmas.Grind.{flat_map-append}
 use Rattle.wol_disk.specs.Disk.{Block}
 use Rattle.wol_model.specs.Blocks.{Write}
-use Rattle.wol_model.specs.Extents.{Extent, IsValid, KeepsAll, write_of}
+use Rattle.wol_model.specs.Extents.{Extent, IsValid, KeepsAll, write_of, AreDistinct, covers_of}
 use Rattle.wol_model.specs.History.{Wrote, Broke, worker, writes, flight_of}
 use Rattle.wol_model.specs.Holding.{Holds}
 use Rattle.wol_model.specs.Log.{Record, IsLog, IsIdle, extent_of}
 use Rattle.wol_model.proofs.Images.{kept, idle_none}
+use Rattle.wol_model.proofs.Steps.{distinct_more}
 use Rattle.wol_promise.specs.Ruled.{Noted, entries_of, IsStep, last_look}
 use Rattle.wol_promise.specs.Manager.{Parts, SegmentPart, Held, ManagerSeen, Base, look_of, extents_held, is_homed_in, WasWritten}
-use Rattle.wol_promise.specs.Stands.{AreKnown, IsHeldBy, place_in, AreApartPlaces, HasPlaces, LiesIn, IsPlaced, IsCalm, Upholds, StandsFor}
+use Rattle.wol_promise.specs.Stands.{AreKnown, LieInHome, IsHeldBy, place_in, AreApartPlaces, HasPlaces, LiesIn, IsPlaced, IsCalm, Upholds, StandsFor}
 use Rattle.wol_promise.proofs.Broke.{broke_more}
 use Rattle.wol_promise.proofs.ClaimBreaks.{broken_segment}
 use Rattle.wol_promise.proofs.Claims.{empty_segment, with_empty, empty_more, places_insert}
 use Rattle.wol_promise.proofs.HomeWrites.{lie_flying, known_flying}
 use Rattle.wol_promise.proofs.Index.{grown, indexed_with}
-use Rattle.wol_promise.proofs.Lists.{all_map, all_swap, all_front, all_back, all_insert, member_mid}
-use Rattle.wol_promise.proofs.LogWrites.{places_with_segment, placed_with_segment, log_more}
+use Rattle.wol_promise.proofs.Known.{all_below}
+use Rattle.wol_promise.proofs.Lists.{all_map, all_swap, all_parts, all_front, all_back, all_insert, member_mid}
+use Rattle.wol_promise.proofs.LogWrites.{places_with_segment, placed_with_segment, log_more, low_extents}
+use Rattle.wol_promise.proofs.SoundSegments.{AreApartBetween, sound_log, sound_idle, one_sound}
 use Rattle.wol_promise.proofs.Stops.{log_stops}
 
 -- ---- Where content isn't told
@@ -45,6 +48,7 @@ module _ {P : Type 0} (parts : Parts P) (base : Base) (m : ManagerSeen P) (notes
       placed = all_map (IsPlaced parts (front ++ s ∷ back)) (IsPlaced parts (front ++ record s { records = rs } ∷ back)) (placed_with_segment parts front s (record s { records = rs }) back refl refl refl) m.indexed c.placed;
       whole = λ told. absurd (untold told);
     };
+    sound = λ told some. absurd (untold told);
     cut = λ told fl is. absurd (untold told);
   }
     where
@@ -100,6 +104,7 @@ module _ {P : Type 0} (parts : Parts P) (base : Base) (m : ManagerSeen P) (home_
     known told = let k = known_flying base m.next ws (w ∷ []) m.held (u.known told) in record {
       written = insert (λ (v : Held P). AllByRecursion (λ q. IsValid (extent_of q).cover → WasWritten (base.records ++ (ws ++ w ∷ [])) q) v.records) tt k.written;
       below = insert (λ (v : Held P). AllByRecursion (λ q. (IsValid (extent_of q).cover → ⊥) → q.head.version < m.next) v.records) tt k.below;
+      within = insert (LieInHome base.home_blocks) tt k.within;
     }
 
     places : HasPlaces parts base m.home (front ++ t ∷ back) ups
@@ -114,12 +119,25 @@ module _ {P : Type 0} (parts : Parts P) (base : Base) (m : ManagerSeen P) (home_
       apart = places_insert front t back new_place (subst (λ (l : List (Held P)). AreApartPlaces (map place_in l)) held p.apart);
     }
 
+    -- no record of the others is a twin of it
+    apart : parts.told → AreApartBetween base.owner base.home_blocks front back []
+    apart told = subst (λ (l : List Extent). AreDistinct (covers_of l)) (sym same_extents) ((u.calm refl).whole told).distinct
+
+    apart_with : parts.told → AreApartBetween base.owner base.home_blocks front back (r ∷ [])
+    apart_with told = distinct_more (extents_held front) (extents_held back) (extent_of r) (apart told)
+        (subst (AllByRecursion (λ (x : Extent). x.cover.version < r.head.version)) (sym same_extents) (subst (λ (v : ℕ). AllByRecursion (λ (x : Extent). x.cover.version < v) (extents_held m.held)) (sym is_next)
+        (low_extents m.next m.held (all_below base m.next ws m.held u.versioned (u.known told)))))
+
     abbrev Logs : Held P → Type 0
     Logs v = (bs : List Block) → parts.may_be v.part bs → IsLog bs base.owner v.records
 
     pub claimed_breaks : StandsFor parts base claimed_failed (notes ++ n ∷ [])
     claimed_breaks = broke_more parts base m claimed_failed notes n ws (w ∷ []) (SegmentPart logger index) u refl none broke (λ other. absurd (other client)) unruled
         (lie_flying base.home_blocks base.records ws (w ∷ []) u.lie (lies, tt)) refl refl known places (part, (t, member_mid front t back, named, refl, refl), rose)
+        (λ told. let whole = (u.calm refl).whole told in let logs = subst (AllByRecursion Logs) held whole.logs in let within = all_parts (LieInHome base.home_blocks) front t back (known told).within in
+        one_sound (λ v. parts.may_be v.part) base.owner base.home_blocks front back t (all_front Logs front back logs) (all_back Logs front back logs) within.0 within.1
+        (λ bs is. ⊎_elim (λ idle. sound_idle base.owner base.home_blocks front back bs [] idle (apart told))
+        (⊎_elim (λ log. sound_log base.owner base.home_blocks front back bs [] log tt (apart told)) (λ log. sound_log base.owner base.home_blocks front back bs (r ∷ []) log (lies, tt) (apart_with told))) (images bs is)))
         (λ told. let whole = (u.calm refl).whole told in let logs = subst (AllByRecursion Logs) held whole.logs in
         log_stops (parts.may_be m.home) (λ v. parts.may_be v.part) base.owner base.array ws m.next (is_homed_in m.indexed) front back t (all_front Logs front back logs) (all_back Logs front back logs) [] (extent_of r) keeps is_next
         (λ home is. subst (λ (l : List Extent). Holds base.array ws m.next home l (is_homed_in m.indexed)) (sym same_extents) (whole.holds home is))

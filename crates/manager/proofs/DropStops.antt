@@ -9,7 +9,7 @@ use Rattle.std.proofs.lemmas.Option.{slice_get-map}
 use Rattle.wol_disk.specs.Disk.{State, Block, Values, IsDisk, IsImageOf, LeavesOnly, Rose}
 use Rattle.wol_disk.proofs.Calls.{now_leaves}
 use Rattle.wol_disk.proofs.Moments.{then_leaves, widened}
-use Rattle.wol_model.specs.Extents.{covers_of, may_go}
+use Rattle.wol_model.specs.Extents.{Extent, AreDistinct, covers_of, may_go}
 use Rattle.wol_model.specs.History.{Broke, writes, flight_of, IsCut}
 use Rattle.wol_model.specs.Holding.{Holds as HoldsArray}
 use Rattle.wol_model.specs.Index.{Indexed, listed_in, goes, keeping}
@@ -27,12 +27,13 @@ use Rattle.logger.specs.declared.lane.HeldSegment.{HeldSegment}
 use Rattle.logger.specs.declared.lane.Lane.{Lane}
 use Rattle.wol_promise.specs.Manager.{Held, ManagerSeen, Recovers, SegmentPart, SaysOwnerOrFree, extents_held, is_homed_in}
 use Rattle.wol_promise.specs.Ruled.{Noted, entries_of}
-use Rattle.wol_promise.specs.Stands.{Upholds, StandsFor, StopsSafely, IsWhole}
+use Rattle.wol_promise.specs.Stands.{LieInHome, Upholds, StandsFor, StopsSafely, IsWhole}
 use Rattle.wol_promise.proofs.Choices.{AreLogs}
 use Rattle.wol_promise.proofs.Covers.{goes_is_may_go}
-use Rattle.wol_promise.proofs.Lists.{all_parts, all_joined, member_of, member_behind}
-use Rattle.wol_promise.proofs.LogWrites.{says_owner}
+use Rattle.wol_promise.proofs.Lists.{all_parts, all_mid, all_joined, member_of, member_behind}
+use Rattle.wol_promise.proofs.LogWrites.{says_owner, around}
 use Rattle.wol_promise.proofs.Retires.{AreEmpty}
+use Rattle.wol_promise.proofs.SoundSegments.{IsSoundBetween, sound_log, sound_idle, sound_trimmed}
 use Rattle.wol_promise.proofs.Stops.{still_stops}
 use Rattle.wol_promise.proofs.Trims.{trimmed}
 use Rattle.manager.specs.Reading.{IsReadThrough}
@@ -52,7 +53,7 @@ use Rattle.manager.proofs.Putting.{Pieces, untaken_set}
 use Rattle.manager.proofs.ReadContent.{unbroken, upholds_up}
 use Rattle.manager.proofs.ReadKeeps.{held_read, upholds_read}
 use Rattle.manager.proofs.ReadStops.{IsMoved, moved, logs as logs_read}
-use Rattle.manager.proofs.Vanishes.{holds_trimmed, holds_without, three_stops, segment_breaks}
+use Rattle.manager.proofs.Vanishes.{gives_up, holds_trimmed, holds_without, three_stops, segment_breaks}
 use Rattle.manager.proofs.WentHome.{risen}
 
 -- ---- the segment's images
@@ -156,6 +157,16 @@ module _ {D : Type 0} (tells : Bool) (state : D → State) (m : Manager D) (b : 
     less_stops of_home of_held home_image front back empty = still_stops of_home of_held b.volume.began.owner b.volume.began.array (writes (entries_of notes)) m.next (is_homed_in m.index.entries) (hf ++ hb) []
         (all_joined (λ (v : Held (Spun D)). (c : List Block) → of_held v c → IsLog c b.volume.began.owner v.records) hf hb front back) (λ home is. holds_less empty home (home_image home is))
 
+    -- whichever of them it is, the segment is sound
+    pub left_between : (c : List Block) → Left c → IsSoundBetween b.volume.began.owner b.volume.began.home_blocks hf hb c
+    left_between c is =
+        let own = all_mid (LieInHome b.volume.began.home_blocks) hf s hb (p.upheld.known told).within in
+        let apart = subst (λ (l : List Extent). AreDistinct (covers_of l)) (around hf s hb) w.distinct in
+        ⊎_elim (λ log. sound_log b.volume.began.owner b.volume.began.home_blocks hf hb c (p.fs ++ p.it ∷ p.gs) log own apart) (⊎_elim
+        (λ log. sound_trimmed b.volume.began.owner b.volume.began.home_blocks hf hb c p.fs p.it (trimmed p.it keep) p.gs (λ blk. goes (listed_in m.index.entries) e.listed blk)
+        (gives_up hf (part_of o.segment) k o.index hb p.fs p.it p.gs keep m.index.entries e p.its kept_) log own apart)
+        (λ idle. sound_idle b.volume.began.owner b.volume.began.home_blocks hf hb c (p.fs ++ p.it ∷ p.gs) idle.1 apart)) is
+
     -- the other segments are logs now
     pub sides : AreLogs (λ (v : Held (Spun D)). (parts_of tells state).may_be v.part) b.volume.began.owner hf × AreLogs (λ (v : Held (Spun D)). (parts_of tells state).may_be v.part) b.volume.began.owner hb
     sides = all_parts (λ (v : Held (Spun D)). (c : List Block) → (parts_of tells state).may_be v.part c → IsLog c b.volume.began.owner v.records) hf s hb w.logs
@@ -223,6 +234,8 @@ module _ {D : Type 0} (tells : Bool) (state : D → State) (sound : (d : D) → 
     fell = segment_breaks (parts_of tells state) b.volume.began (seen m kp.logs) m.home_up (slice_set m.ups.items k true) (length-set m.ups.items k true) notes nt (upholds_up tells state m b notes kp up) (unbroken tells state m b notes kp up)
         broke unruled split.front was split.back (part_of n.segment) split.is size same.volume (logger_of old) logger_is (risen (disk_of state o.segment).faults (disk_of state n.segment).faults rose)
         (λ c is. says c (left is.0 c is.1))
+        (λ told c is. left_between tells state m b notes kp.logs kp.ready (upholds_up tells state m b notes kp up) up k old lane i o there version e at lane_is index_is r rec split.front split.records split.back split.is split.here few given fits bits kp.locks.owner told c
+        (left told c is.1))
         (λ told. let both_sides = sides tells state m b notes kp.logs kp.ready (upholds_up tells state m b notes kp up) up k old lane i o there version e at lane_is index_is r rec split.front split.records split.back split.is split.here few given fits bits kp.locks.owner told in
         left_stops tells state m b notes kp.logs kp.ready (upholds_up tells state m b notes kp up) up k old lane i o there version e at lane_is index_is r rec split.front split.records split.back split.is split.here few given fits bits kp.locks.owner told
         ((parts_of tells state).may_be m.home) (λ v. (parts_of tells state).may_be v.part) now (λ home is. is.1) both_sides.0 both_sides.1 (λ c is. left told c is.1))

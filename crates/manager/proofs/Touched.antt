@@ -2,6 +2,7 @@
 use Rattle.std.proofs.Common.{◌≡◌, ◌<◌, ◌≤◌, ◌+◌, ℕ, zero, suc, Bool, false, List, [], ◌∷◌, ◌++◌, map, length, None, Some, refl, sym, ap, subst, ◌∙◌, arith}
 use Rattle.std.specs.Prelude.{Contains, slice_get}
 use Rattle.std.specs.List.{AllByRecursion, AllZip}
+use Rattle.std.proofs.lemmas.Bool.{false≢true}
 use Rattle.wol_disk.specs.Disk.{Block}
 use Rattle.wol_model.specs.Blocks.{Write}
 use Rattle.wol_model.specs.Extents.{Extent, IsValid, AreDistinct, covers_of}
@@ -11,10 +12,11 @@ use Rattle.wol_model.specs.Index.{Indexed}
 use Rattle.wol_model.specs.Log.{Record, IsLog, extent_of, position_of}
 use Rattle.wol_promise.specs.Ruled.{Noted, entries_of}
 use Rattle.wol_promise.specs.Manager.{Parts, PartName, Held, ManagerSeen, Base, IsPartOf, IsEntryOf, IsFound, IsBacked, IsIndexOf, AreInUse, extents_held, is_homed_in, WasWritten}
-use Rattle.wol_promise.specs.Stands.{AreKnown, IsHeldBy, place_in, AreApartPlaces, HasPlaces, IsPlaced, IsWhole, Upholds, StandsFor}
+use Rattle.wol_promise.specs.Stands.{AreKnown, LiesInHome, IsHeldBy, place_in, AreApartPlaces, HasPlaces, IsPlaced, IsWhole, Upholds, StandsFor}
 use Rattle.wol_promise.proofs.Broke.{broke_more}
 use Rattle.wol_promise.proofs.Lists.{member_behind}
 use Rattle.wol_promise.proofs.LogWrites.{says_owner}
+use Rattle.wol_promise.proofs.SoundSegments.{logs_sound}
 use Rattle.wol_promise.proofs.Stops.{still_stops}
 
 -- ---- lists of the same length
@@ -145,10 +147,14 @@ module _ {P : Type 0} (parts : Parts P) (base : Base) (m : ManagerSeen P) (part 
   known_touched ws k = record {
     written = of_records parts base.owner (AllByRecursion (λ q. IsValid (extent_of q).cover → WasWritten (base.records ++ (ws ++ [])) q)) m.held held zip k.written;
     below = of_records parts base.owner (AllByRecursion (λ q. (IsValid (extent_of q).cover → ⊥) → q.head.version < m.next)) m.held held zip k.below;
+    within = of_records parts base.owner (AllByRecursion (LiesInHome base.home_blocks)) m.held held zip k.within;
   }
 
   holds_touched : (ws : List Write) → IsWhole parts base ws m.next m.home m.held m.indexed → (bs : List Block) → parts.may_be part bs → Holds base.array ws m.next bs (extents_held held) (is_homed_in m.indexed)
   holds_touched ws w bs is = subst (λ (rs : List Extent). Holds base.array ws m.next bs rs (is_homed_in m.indexed)) (sym (same_extents parts base.owner m.held held zip)) (w.holds bs (same bs is))
+
+  distinct_touched : (ws : List Write) → IsWhole parts base ws m.next m.home m.held m.indexed → AreDistinct (covers_of (extents_held held))
+  distinct_touched ws w = subst (λ (l : List Extent). AreDistinct (covers_of l)) (sym (same_extents parts base.owner m.held held zip)) w.distinct
 
   abbrev pub touched_ : ManagerSeen P
   touched_ = record m { home = part; held = held; home_up = home_up; ups = ups }
@@ -172,11 +178,12 @@ module _ {P : Type 0} (parts : Parts P) (base : Base) (m : ManagerSeen P) (part 
       placed = same_placed parts base.owner m.held held zip m.indexed c.placed;
       whole = λ told. let w = c.whole told in record {
         logs = logs;
-        distinct = subst (λ (l : List Extent). AreDistinct (covers_of l)) (sym (same_extents parts base.owner m.held held zip)) w.distinct;
+        distinct = distinct_touched ws w;
         index = same_index parts base.owner m.indexed m.held held zip w.index;
         holds = holds_touched ws w;
       };
     };
+    sound = λ told some. absurd (false≢true some);
     cut = λ told fl is. absurd (let no : None ≡ Some fl = is in cc);
   }
 
@@ -185,5 +192,6 @@ module _ {P : Type 0} (parts : Parts P) (base : Base) (m : ManagerSeen P) (part 
       → (name : PartName) → (p : P) × IsPartOf base.view (record touched_ { down = Some name }) name p × (0 < parts.faults p) → StandsFor parts base (record touched_ { down = Some name }) (notes ++ n ∷ [])
   read_breaks notes n u none broke unruled name failed = broke_more parts base m (record touched_ { down = Some name }) notes n (writes (entries_of notes)) [] name u refl none broke (λ other. refl) unruled u.lie refl refl
       (λ told. known_touched (writes (entries_of notes)) (u.known told)) (places_touched u.places) failed
+      (λ told. let ws = writes (entries_of notes) in logs_sound (λ s. parts.may_be s.part) base.owner base.home_blocks held logs (known_touched ws (u.known told)).within (distinct_touched ws ((u.calm refl).whole told)))
       (λ told. let w = (u.calm refl).whole told in
       still_stops (parts.may_be part) (λ s. parts.may_be s.part) base.owner base.array (writes (entries_of notes)) m.next (is_homed_in m.indexed) held [] logs (holds_touched (writes (entries_of notes)) w))

@@ -2,6 +2,7 @@
 use Rattle.std.proofs.Common.{◌≡◌, ◌⊎◌, inl, ⊎_elim, ◌<◌, ℕ, Bool, true, false, not, ◌&&◌, ◌||◌, List, [], ◌∷◌, ◌++◌, map, length, None, Some, refl, sym, ap, subst, ◌∙◌, append_assoc}
 use Rattle.std.specs.Prelude.{slice_get}
 use Rattle.std.specs.List.{AllByRecursion, AllZip, list_any}
+use Rattle.std.proofs.lemmas.Bool.{false≢true}
 use Rattle.std.proofs.lemmas.Grind.{flat_map-append}
 use Rattle.std.proofs.lemmas.List.{map-append}
 use Rattle.wol_disk.specs.Disk.{Block}
@@ -15,15 +16,16 @@ use Rattle.wol_model.proofs.Marks.{remarked_is}
 use Rattle.wol_model.proofs.Steps.{giving_up_step, fewer_homed, empty_step}
 use Rattle.wol_promise.specs.Ruled.{Noted, entries_of}
 use Rattle.wol_promise.specs.Manager.{Parts, SegmentPart, Held, ManagerSeen, Base, IsEntryOf, IsIndexOf, extents_held, is_homed_in, Recovers, SaysOwnerOrFree, WasWritten}
-use Rattle.wol_promise.specs.Stands.{AreKnown, IsHeldBy, HasPlaces, IsPlaced, IsWhole, Upholds, StandsFor}
+use Rattle.wol_promise.specs.Stands.{AreKnown, LieInHome, IsHeldBy, HasPlaces, IsPlaced, IsWhole, Upholds, StandsFor}
 use Rattle.wol_promise.proofs.Broke.{broke_more}
 use Rattle.wol_promise.proofs.Choices.{AreLogs}
 use Rattle.wol_promise.proofs.Covers.{goes_is_may_go}
 use Rattle.wol_promise.proofs.GiveUps.{drops}
-use Rattle.wol_promise.proofs.Lists.{all_map, all_swap, all_front, all_back, all_joined, member_mid}
+use Rattle.wol_promise.proofs.Lists.{all_map, all_swap, all_parts, all_front, all_back, all_joined, member_mid}
 use Rattle.wol_promise.proofs.LogWrites.{places_with_segment, around}
 use Rattle.wol_promise.proofs.Retires.{AreEmpty, retires}
 use Rattle.wol_promise.proofs.SegmentBreaks.{IsQuiet, quiet_stops}
+use Rattle.wol_promise.proofs.SoundSegments.{IsSoundBetween, one_sound}
 use Rattle.wol_promise.proofs.Stops.{still_stops}
 use Rattle.wol_promise.proofs.Trims.{trimmed}
 
@@ -156,6 +158,9 @@ module _ {P : Type 0} (parts : Parts P) (base : Base) (m : ManagerSeen P) (home_
   abbrev Written : Held P → Type 0
   Written v = AllByRecursion (λ q. IsValid (extent_of q).cover → WasWritten (base.records ++ (writes (entries_of notes) ++ [])) q) v.records
 
+  abbrev Logs : Held P → Type 0
+  Logs v = (bs : List Block) → parts.may_be v.part bs → IsLog bs base.owner v.records
+
   abbrev Below : Held P → Type 0
   Below v = AllByRecursion (λ q. (IsValid (extent_of q).cover → ⊥) → q.head.version < m.next) v.records
 
@@ -163,12 +168,16 @@ module _ {P : Type 0} (parts : Parts P) (base : Base) (m : ManagerSeen P) (home_
   known told = let k = subst (AreKnown base m.next (writes (entries_of notes)) []) held (u.known told) in record {
     written = all_swap Written Written (λ v all. all) front s t back (λ all. all) k.written;
     below = all_swap Below Below (λ v all. all) front s t back (λ all. all) k.below;
+    within = all_swap (LieInHome base.home_blocks) (LieInHome base.home_blocks) (λ v all. all) front s t back (λ all. all) k.within;
   }
 
   pub segment_breaks : ((bs : List Block) → parts.may_be part bs → SaysOwnerOrFree base.owner bs)
+      → (parts.told → (bs : List Block) → parts.may_be part bs → IsSoundBetween base.owner base.home_blocks front back bs)
       → (parts.told → Recovers (parts.may_be m.home) (λ v. parts.may_be v.part) base.owner (front ++ record s { part = part; broken = true } ∷ back) (IsCut base.array (writes (entries_of notes)) [])) → StandsFor parts base failed_segment (notes ++ n ∷ [])
-  segment_breaks owned cut = broke_more parts base m failed_segment notes n (writes (entries_of notes)) [] (SegmentPart logger s.index) u refl none broke (λ other. refl) unruled u.lie refl refl known
-      (places_with_segment parts base m.home front s t back ups refl refl size volume owned places) (part, (t, member_mid front t back, named, refl, refl), rose) cut
+  segment_breaks owned between cut = broke_more parts base m failed_segment notes n (writes (entries_of notes)) [] (SegmentPart logger s.index) u refl none broke (λ other. refl) unruled u.lie refl refl known
+      (places_with_segment parts base m.home front s t back ups refl refl size volume owned places) (part, (t, member_mid front t back, named, refl, refl), rose)
+      (λ told. let sides = all_parts Logs front s back (subst (AllByRecursion Logs) held ((u.calm refl).whole told).logs) in let within = all_parts (LieInHome base.home_blocks) front t back (known told).within in
+      one_sound (λ v. parts.may_be v.part) base.owner base.home_blocks front back t sides.0 sides.1 within.0 within.1 (between told)) cut
 
 -- ---- a segment that is given back with its last record
 
@@ -221,6 +230,7 @@ module _ {P : Type 0} (parts : Parts P) (base : Base) (m : ManagerSeen P) (notes
         holds = λ image no. absurd no;
       };
     };
+    sound = λ told some. absurd (false≢true some);
     cut = λ told fl is. absurd (let no : None ≡ Some fl = is in cc);
   }
 
@@ -267,6 +277,7 @@ module _ {P : Type 0} (parts : Parts P) (base : Base) (m : ManagerSeen P) (notes
             (λ b homed. subst (λ (l : List Indexed). is_homed_in l b ≡ true) (sym indexed) (fewer_marks front e back b homed));
       };
     };
+    sound = λ told some. absurd (false≢true some);
     cut = λ told fl is. absurd (let no : None ≡ Some fl = is in cc);
   }
     where

@@ -5,18 +5,19 @@ use Rattle.std.specs.List.{AllByRecursion}
 use Rattle.std.proofs.lemmas.Grind.{flat_map-append}
 use Rattle.wol_disk.specs.Disk.{Block}
 use Rattle.wol_model.specs.Blocks.{Write}
-use Rattle.wol_model.specs.Extents.{Extent, IsValid}
+use Rattle.wol_model.specs.Extents.{Extent, IsValid, AreDistinct, covers_of}
 use Rattle.wol_model.specs.History.{Broke, worker, writes, flight_of}
 use Rattle.wol_model.specs.Holding.{Holds}
 use Rattle.wol_model.specs.Log.{IsLog, IsIdle, extent_of}
 use Rattle.wol_promise.specs.Ruled.{Noted, entries_of}
 use Rattle.wol_promise.specs.Manager.{Parts, SegmentPart, Held, ManagerSeen, Base, extents_held, is_homed_in, WasWritten}
-use Rattle.wol_promise.specs.Stands.{AreKnown, IsHeldBy, place_in, AreApartPlaces, HasPlaces, LiesIn, Upholds, StandsFor}
+use Rattle.wol_promise.specs.Stands.{AreKnown, LieInHome, IsHeldBy, place_in, AreApartPlaces, HasPlaces, LiesIn, Upholds, StandsFor}
 use Rattle.wol_promise.proofs.Broke.{broke_more}
 use Rattle.wol_promise.proofs.Claims.{places_insert}
 use Rattle.wol_promise.proofs.HomeWrites.{lie_flying, known_flying}
-use Rattle.wol_promise.proofs.Lists.{all_map, all_insert, member_mid}
+use Rattle.wol_promise.proofs.Lists.{all_map, all_insert, all_parts, all_front, all_back, member_mid}
 use Rattle.wol_promise.proofs.SegmentBreaks.{IsQuiet, quiet_stops}
+use Rattle.wol_promise.proofs.SoundSegments.{sound_log, sound_idle, one_sound}
 
 abbrev pub broken_segment : {P : Type 0} → P → (lane index : ℕ) → Held P
 broken_segment part lane index = record { part = part; lane = lane; index = index; broken = true; records = [] }
@@ -43,10 +44,14 @@ module _ {P : Type 0} (parts : Parts P) (base : Base) (m : ManagerSeen P) (home_
   same_extents : extents_held (front ++ t ∷ back) ≡ extents_held m.held
   same_extents = flat_map-append (λ (v : Held P). map extent_of v.records) front (t ∷ back) ∙ sym (flat_map-append (λ (v : Held P). map extent_of v.records) front back) ∙ ap extents_held (sym held)
 
+  abbrev Logs : Held P → Type 0
+  Logs v = (bs : List Block) → parts.may_be v.part bs → IsLog bs base.owner v.records
+
   known : parts.told → AreKnown base m.next ws fl (front ++ t ∷ back)
   known told = let k = known_flying base m.next ws fl m.held (u.known told) in record {
     written = insert (λ (v : Held P). AllByRecursion (λ q. IsValid (extent_of q).cover → WasWritten (base.records ++ (ws ++ fl)) q) v.records) tt k.written;
     below = insert (λ (v : Held P). AllByRecursion (λ q. (IsValid (extent_of q).cover → ⊥) → q.head.version < m.next) v.records) tt k.below;
+    within = insert (LieInHome base.home_blocks) tt k.within;
   }
 
   places : HasPlaces parts base m.home (front ++ t ∷ back) ups
@@ -64,6 +69,10 @@ module _ {P : Type 0} (parts : Parts P) (base : Base) (m : ManagerSeen P) (home_
   pub claim_breaks : StandsFor parts base claim_failed (notes ++ n ∷ [])
   claim_breaks = broke_more parts base m claim_failed notes n ws fl (SegmentPart logger index) u refl none broke (λ other. absurd (other client)) unruled
       (lie_flying base.home_blocks base.records ws fl u.lie lies) refl refl known places (part, (t, member_mid front t back, named, refl, refl), rose)
+      (λ told. let w = (u.calm refl).whole told in let within = all_parts (LieInHome base.home_blocks) front t back (known told).within in
+      let apart = subst (λ (l : List Extent). AreDistinct (covers_of l)) (ap extents_held held ∙ flat_map-append (λ (v : Held P). map extent_of v.records) front back) w.distinct in
+      one_sound (λ v. parts.may_be v.part) base.owner base.home_blocks front back t (all_front Logs front back (subst (AllByRecursion Logs) held w.logs)) (all_back Logs front back (subst (AllByRecursion Logs) held w.logs)) within.0 within.1
+      (λ bs is. ⊎_elim (λ log. sound_log base.owner base.home_blocks front back bs [] log tt apart) (λ idle. sound_idle base.owner base.home_blocks front back bs [] idle apart) (images bs is)))
       (λ told. let w = (u.calm refl).whole told in quiet_stops (parts.may_be m.home) (λ v. parts.may_be v.part) base.owner base.array ws fl m.next (is_homed_in m.indexed) (front ++ t ∷ back)
       (all_insert (IsQuiet (λ (v : Held P). parts.may_be v.part) base.owner) front t back (λ bs is. ⊎_elim (λ log. inl log) (λ idle. inr (tt, idle)) (images bs is))
       (subst (AllByRecursion (IsQuiet (λ (v : Held P). parts.may_be v.part) base.owner)) held

@@ -2,6 +2,7 @@
 use Rattle.std.proofs.Common.{◌≡◌, ◌≢◌, ◌<◌, ℕ, false, List, [], ◌∷◌, ◌++◌, map, None, Some, refl, sym, ap, subst, ◌∙◌}
 use Rattle.std.specs.Prelude.{Contains, slice_get}
 use Rattle.std.specs.List.{AllByRecursion}
+use Rattle.std.proofs.lemmas.Bool.{false≢true}
 use Rattle.std.proofs.lemmas.Grind.{flat_map-append}
 use Rattle.wol_disk.specs.Disk.{Block}
 use Rattle.wol_model.specs.Blocks.{Write}
@@ -10,7 +11,7 @@ use Rattle.wol_model.specs.Holding.{Holds}
 use Rattle.wol_model.specs.Log.{Record, IsLog, extent_of}
 use Rattle.wol_promise.specs.Ruled.{Noted}
 use Rattle.wol_promise.specs.Manager.{Parts, Held, ManagerSeen, Base, IsFound, IsBacked, extents_held, is_homed_in, WasWritten}
-use Rattle.wol_promise.specs.Stands.{IsHeldBy, place_in, ApartFrom, AreApartPlaces, IsPlaced, Upholds}
+use Rattle.wol_promise.specs.Stands.{LieInHome, IsHeldBy, place_in, ApartFrom, AreApartPlaces, IsPlaced, Upholds}
 use Rattle.wol_promise.proofs.Lists.{all_map, all_insert, member_insert}
 
 abbrev pub empty_segment : {P : Type 0} → P → (lane index : ℕ) → Held P
@@ -59,6 +60,7 @@ module _ {P : Type 0} (parts : Parts P) (base : Base) (m : ManagerSeen P) (notes
     known = λ told. let k = u.known told in record {
       written = insert (λ (v : Held P). AllByRecursion (λ q. IsValid (extent_of q).cover → WasWritten (base.records ++ (ws ++ [])) q) v.records) tt k.written;
       below = insert (λ (v : Held P). AllByRecursion (λ q. (IsValid (extent_of q).cover → ⊥) → q.head.version < m.next) v.records) tt k.below;
+      within = insert (LieInHome base.home_blocks) tt k.within;
     };
     places = let p = u.places in record {
       flags = p.flags;
@@ -88,5 +90,6 @@ module _ {P : Type 0} (parts : Parts P) (base : Base) (m : ManagerSeen P) (notes
         holds = λ home is. subst (λ (rs : List Extent). Holds base.array ws m.next home rs (is_homed_in m.indexed)) (sym same_extents) (w.holds home is);
       };
     };
+    sound = λ told some. absurd (false≢true some);
     cut = λ told fl is. absurd (let no : None ≡ Some fl = is in cc);
   }

@@ -2,6 +2,7 @@
 use Rattle.std.proofs.Common.{◌≡◌, ⊎_elim, ◌<◌, ◌+◌, ℕ, Bool, true, false, not, ◌&&◌, ◌||◌, List, [], ◌∷◌, ◌++◌, map, length, None, Some, refl, sym, ap, subst, ◌∙◌, append_assoc, ltb}
 use Rattle.std.specs.Prelude.{Contains}
 use Rattle.std.specs.List.{AllByRecursion, list_any}
+use Rattle.std.proofs.lemmas.Bool.{false≢true}
 use Rattle.std.proofs.lemmas.List.{map-append}
 use Rattle.wol_disk.specs.Disk.{Block}
 use Rattle.wol_model.specs.Blocks.{Write}
@@ -14,7 +15,7 @@ use Rattle.wol_model.proofs.Marks.{remarked_is}
 use Rattle.wol_model.proofs.Steps.{giving_up_step, fewer_homed, distinct_swap}
 use Rattle.wol_promise.specs.Ruled.{Noted}
 use Rattle.wol_promise.specs.Manager.{Parts, Held, ManagerSeen, Base, IsEntryOf, IsIndexOf, IsSorted, extents_held, is_homed_in, WasWritten}
-use Rattle.wol_promise.specs.Stands.{AreKnown, HasPlaces, IsPlaced, IsCalm, Upholds}
+use Rattle.wol_promise.specs.Stands.{AreKnown, LiesInHome, LieInHome, HasPlaces, IsPlaced, IsCalm, Upholds}
 use Rattle.wol_promise.proofs.Covers.{any_member, any_found, goes_is_may_go}
 use Rattle.wol_promise.proofs.Known.{all_below}
 use Rattle.wol_promise.proofs.Lists.{all_map, all_swap, all_front, all_back, all_joined, all_mid, member_mid, member_swap, member_insert}
@@ -176,6 +177,7 @@ module _ {P : Type 0} (parts : Parts P) (base : Base) (m : ManagerSeen P) (notes
         (λ all. all_swap Was Was (λ q was. was) fs r k gs (λ was v. let w = was (valid_before v) in (w.0, w.1, record { version = w.2.version; first = w.2.first; blocks = w.2.blocks })) all) (known told).written;
     below = all_swap (λ (v : Held P). AllByRecursion Low v.records) (λ (v : Held P). AllByRecursion Low v.records) (λ v all. all) hf s t hb
         (λ all. all_swap Low Low (λ q low. low) fs r k gs (λ low none. r_low) all) (known told).below;
+    within = all_swap (LieInHome base.home_blocks) (LieInHome base.home_blocks) (λ v all. all) hf s t hb (λ all. all_swap (LiesInHome base.home_blocks) (LiesInHome base.home_blocks) (λ q lies. lies) fs r k gs (λ lies. lies) all) (known told).within;
   }
     where
       r_low : r.head.version < m.next
@@ -221,6 +223,7 @@ module _ {P : Type 0} (parts : Parts P) (base : Base) (m : ManagerSeen P) (notes
               (homed_before (front ++ e ∷ back) new from));
         };
       };
+      sound = λ told some. absurd (false≢true some);
       cut = λ told fl is. absurd (let no : None ≡ Some fl = is in cc);
     }
       where

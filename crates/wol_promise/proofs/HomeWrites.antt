@@ -2,6 +2,7 @@
 use Rattle.std.proofs.Common.{◌≡◌, inl, ◌<◌, ℕ, Bool, true, false, List, [], ◌∷◌, ◌++◌, None, Some, refl, sym, ap, subst, ◌∙◌, arith, append_assoc}
 use Rattle.std.specs.Prelude.{IsTrue, is_some}
 use Rattle.std.specs.List.{AllByRecursion}
+use Rattle.std.proofs.lemmas.Bool.{false≢true}
 use Rattle.std.proofs.lemmas.List.{append-nil}
 use Rattle.wol_disk.specs.Disk.{Block, IsBlend}
 use Rattle.wol_model.specs.Blocks.{Write, after}
@@ -17,6 +18,7 @@ use Rattle.wol_promise.proofs.Lists.{all_map, all_joined}
 use Rattle.wol_promise.proofs.OneMore.{history_more, writes_then, flight_then, stands_then, or_none}
 use Rattle.wol_promise.proofs.Known.{versions_with_home, acknowledged, flying}
 use Rattle.wol_promise.proofs.Broke.{broke_more}
+use Rattle.wol_promise.proofs.SoundSegments.{logs_sound}
 use Rattle.wol_promise.proofs.Stops.{home_stops}
 
 -- all writes lie in the volume with one more
@@ -36,6 +38,7 @@ known_more {P} base next ws w held known = record {
   written = all_map (λ (t : Held P). AllByRecursion (λ q. IsValid (extent_of q).cover → WasWritten (base.records ++ (ws ++ [])) q) t.records) (λ (t : Held P). AllByRecursion (λ q. IsValid (extent_of q).cover → WasWritten (base.records ++ ((ws ++ w ∷ []) ++ [])) q) t.records)
       (λ t all. all_map (λ q. IsValid (extent_of q).cover → WasWritten (base.records ++ (ws ++ [])) q) (λ q. IsValid (extent_of q).cover → WasWritten (base.records ++ ((ws ++ w ∷ []) ++ [])) q) (λ q was v. acknowledged base.records ws w q (was v)) t.records all) held known.written;
   below = known.below;
+  within = known.within;
 }
 
 pub known_flying : {P : Type 0} (base : Base) (next : ℕ) (ws fl : List Write) (held : List (Held P)) → AreKnown base next ws [] held → AreKnown base next ws fl held
@@ -43,6 +46,7 @@ known_flying {P} base next ws fl held known = record {
   written = all_map (λ (t : Held P). AllByRecursion (λ q. IsValid (extent_of q).cover → WasWritten (base.records ++ (ws ++ [])) q) t.records) (λ (t : Held P). AllByRecursion (λ q. IsValid (extent_of q).cover → WasWritten (base.records ++ (ws ++ fl)) q) t.records)
       (λ t all. all_map (λ q. IsValid (extent_of q).cover → WasWritten (base.records ++ (ws ++ [])) q) (λ q. IsValid (extent_of q).cover → WasWritten (base.records ++ (ws ++ fl)) q) (λ q was v. flying base.records ws fl q (was v)) t.records all) held known.written;
   below = known.below;
+  within = known.within;
 }
 
 -- home's part is another one, of the same place
@@ -62,6 +66,7 @@ module _ {P : Type 0} (parts : Parts P) (base : Base) (m : ManagerSeen P) (part 
     is_down = u.is_down;
     failed = λ name is. absurd (let no : None ≡ Some name = sym up ∙ is in cc);
     calm = λ none. let c = u.calm none in record { unbroken = c.unbroken; untaken = c.untaken; sorted = c.sorted; below = c.below; placed = c.placed; whole = λ told. let w = c.whole told in record { logs = w.logs; distinct = w.distinct; index = w.index; holds = λ bs is. w.holds bs (same bs is) } };
+    sound = λ told some. absurd (false≢true some);
     cut = λ told fl is. absurd (let no : None ≡ Some fl = is in cc);
   }
 
@@ -104,6 +109,7 @@ module _ {P : Type 0} (parts : Parts P) (base : Base) (m : ManagerSeen P) (part 
                   (home_step base.array ws m.next from.0 (extents_held m.held) (is_homed_in m.indexed) w (whole.holds from.0 from.1) (uncovered told));
             };
           };
+          sound = λ told some. absurd (false≢true some);
           cut = λ told fl is. absurd (let no : None ≡ Some fl = is in cc);
         })
         (λ _. look)
@@ -116,6 +122,7 @@ module _ {P : Type 0} (parts : Parts P) (base : Base) (m : ManagerSeen P) (part 
         (λ told. known_flying base m.next ws (w ∷ []) m.held (u.known told))
         (places_with_home parts base m.home part m.held m.ups size volume u.places)
         (part, refl, rose)
+        (λ told. let whole = (u.calm refl).whole told in logs_sound (λ s. parts.may_be s.part) base.owner base.home_blocks m.held whole.logs (u.known told).within whole.distinct)
         (λ told. let whole = (u.calm refl).whole told in
         home_stops (parts.may_be part) (λ s. parts.may_be s.part) base.owner base.array ws m.next (is_homed_in m.indexed) m.held w whole.logs (uncovered told) to_home
         (λ x is. let from = blend x is in (from.0, whole.holds from.0 from.1, from.2)))

@@ -32,6 +32,7 @@ other_flags parts base m home_up ups notes ws fl u same = record {
   is_down = u.is_down;
   failed = u.failed;
   calm = u.calm;
+  sound = u.sound;
   cut = u.cut;
 }
 
@@ -48,6 +49,7 @@ module _ {P : Type 0} (parts : Parts P) (base : Base) (m : ManagerSeen P) (notes
     is_down = u.is_down;
     failed = u.failed;
     calm = u.calm;
+    sound = u.sound;
     cut = u.cut;
   }
 

@@ -124,7 +124,7 @@ version_among (x ∷ ws) next v w below (suc k, lt, same) is = version_among ws 
 -- so all records' versions are below the next while nothing broke
 pub all_below : {P : Type 0} (base : Base) (next : ℕ) (ws : List Write) (held : List (Held P)) → HasVersions base next ws None → AreKnown base next ws [] held → AllRecords (λ r. r.head.version < next) held
 all_below {P} base next ws [] versioned known = tt
-all_below {P} base next ws (s ∷ held) versioned known = (each s.records known.written.0 known.below.0, all_below base next ws held versioned (record { written = known.written.1; below = known.below.1 }))
+all_below {P} base next ws (s ∷ held) versioned known = (each s.records known.written.0 known.below.0, all_below base next ws held versioned (record { written = known.written.1; below = known.below.1; within = known.within.1 }))
   where
     known_below : AllByRecursion (λ v. v < next) (versions (base.records ++ (ws ++ [])))
     known_below = subst (AllByRecursion (λ v. v < next)) (sym (versions_joined base.records (ws ++ []) ∙ ap (λ (l : List Write). versions base.records ++ versions l) (append-nil ws))) versioned.below

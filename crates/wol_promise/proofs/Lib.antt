@@ -18,6 +18,7 @@ pub mod ClaimBreaks
 pub mod ReadBreaks
 pub mod Choices
 pub mod Stops
+pub mod SoundSegments
 pub mod ReadCode
 pub mod PlainAnswers
 pub mod Data

@@ -3,6 +3,7 @@ use Rattle.std.proofs.Common.{◌≡◌, ◌⊎◌, inl, inr, ⊎_elim, ◌<◌,
 use Rattle.std.specs.Prelude.{slice_get, IsTrue, is_some}
 use Rattle.std.specs.List.{AllByRecursion}
 use mathlib.Core.Path.{fun_ext}
+use Rattle.std.proofs.lemmas.Bool.{false≢true}
 use Rattle.std.proofs.lemmas.List.{map-append}
 use Rattle.std.proofs.lemmas.List.Folds.{list_any-append}
 use Rattle.std.proofs.lemmas.List.FromFn.{length-map-range_with_len}
@@ -19,13 +20,14 @@ use Rattle.wol_model.proofs.Marks.{remarked_is, none_marked}
 use Rattle.wol_model.proofs.Steps.{logging_step, distinct_more}
 use Rattle.wol_promise.specs.Ruled.{Noted, entries_of, IsStep, last_look}
 use Rattle.wol_promise.specs.Manager.{Parts, SegmentPart, Held, ManagerSeen, Base, look_of, extents_held, is_homed_in, WasWritten, AllRecords, SaysOwnerOrFree}
-use Rattle.wol_promise.specs.Stands.{AreKnown, IsHeldBy, place_in, AreApartPlaces, HasPlaces, IsPlaced, IsWhole, IsCalm, LiesIn, Upholds, StandsFor}
-use Rattle.wol_promise.proofs.Lists.{all_push, all_map, all_swap, all_parts, member_mid, member_swap}
+use Rattle.wol_promise.specs.Stands.{AreKnown, LiesInHome, LieInHome, IsHeldBy, place_in, AreApartPlaces, HasPlaces, IsPlaced, IsWhole, IsCalm, LiesIn, Upholds, StandsFor}
+use Rattle.wol_promise.proofs.Lists.{all_push, all_map, all_swap, all_parts, all_mid, member_mid, member_swap}
 use Rattle.wol_promise.proofs.OneMore.{history_more, writes_then, flight_then, stands_then, or_none}
 use Rattle.wol_promise.proofs.Known.{versions_with_log, acknowledged, is_new, all_below}
 use Rattle.wol_promise.proofs.Index.{cleared, grown, entry_of, indexed_with, index_grows, sorted_grows}
 use Rattle.wol_promise.proofs.Broke.{broke_more}
 use Rattle.wol_promise.proofs.HomeWrites.{lie_more, lie_flying, known_flying}
+use Rattle.wol_promise.proofs.SoundSegments.{sound_log, one_sound}
 use Rattle.wol_promise.proofs.Stops.{log_stops}
 
 -- ---- One segment of the held ones is another, at the same place
@@ -128,6 +130,19 @@ module _ {P : Type 0} (parts : Parts P) (base : Base) (m : ManagerSeen P) (home_
   low : parts.told → AllRecords (λ q. q.head.version < m.next) (front ++ s ∷ back)
   low told = all_below base m.next ws (front ++ s ∷ back) u.versioned (known told)
 
+  new_extents : extents_held (front ++ grown s part r ∷ back) ≡ (extents_held front ++ map extent_of s.records) ++ extent_of r ∷ extents_held back
+  new_extents = around front (grown s part r) back ∙ ap (λ (l : List Extent). extents_held front ++ (l ++ extents_held back)) (map-append extent_of s.records (r ∷ []))
+      ∙ ap (λ (l : List Extent). extents_held front ++ l) (append_assoc (map extent_of s.records) (extent_of r ∷ []) (extents_held back)) ∙ sym (append_assoc (extents_held front) (map extent_of s.records) (extent_of r ∷ extents_held back))
+
+  old_extents : extents_held (front ++ s ∷ back) ≡ (extents_held front ++ map extent_of s.records) ++ extents_held back
+  old_extents = around front s back ∙ sym (append_assoc (extents_held front) (map extent_of s.records) (extents_held back))
+
+  -- the records with the new one have no twins
+  grown_distinct : parts.told → AreDistinct (covers_of (extents_held (front ++ grown s part r ∷ back)))
+  grown_distinct told = subst (λ (l : List Extent). AreDistinct (covers_of l)) (sym new_extents)
+      (distinct_more (extents_held front ++ map extent_of s.records) (extents_held back) (extent_of r) (subst (λ (l : List Extent). AreDistinct (covers_of l)) old_extents (calm.whole told).distinct)
+      (subst (AllByRecursion (λ (x : Extent). x.cover.version < r.head.version)) old_extents (subst (λ (v : ℕ). AllByRecursion (λ (x : Extent). x.cover.version < v) (extents_held (front ++ s ∷ back))) (sym is_next) (low_extents m.next (front ++ s ∷ back) (low told)))))
+
   module _ (logs : (bs : List Block) → parts.may_be part bs → IsLog bs base.owner (s.records ++ r ∷ [])) (valid : IsValid (extent_of r).cover) (room : m.next < 2 ^ 63) (up : m.down ≡ None)
       (wrote : n.entry.operation ≡ Wrote (w ∷ [])) (fits : end_of s.records + r.head.count < parts.size part) where
     abbrev m' : ManagerSeen P
@@ -142,6 +157,7 @@ module _ {P : Type 0} (parts : Parts P) (base : Base) (m : ManagerSeen P) (home_
           (λ all. all_push New s.records r (all_map Old New more s.records all) (λ v. is_new base.records ws r)) (known told).written;
       below = all_swap (λ (t : Held P). AllByRecursion Low t.records) (λ (t : Held P). AllByRecursion Lower t.records) (λ t all. all_map Low Lower lower t.records all) front s (grown s part r) back
           (λ all. all_push Lower s.records r (all_map Low Lower lower s.records all) (λ not_valid. absurd (not_valid valid))) (known told).below;
+      within = all_swap (LieInHome base.home_blocks) (LieInHome base.home_blocks) (λ v all. all) front s (grown s part r) back (λ all. all_push (LiesInHome base.home_blocks) s.records r all lies) (known told).within;
     }
       where
         Old : Record → Type 0
@@ -168,19 +184,10 @@ module _ {P : Type 0} (parts : Parts P) (base : Base) (m : ManagerSeen P) (home_
         lower : (q : Record) → Low q → Lower q
         lower q was not_valid = let lt = was not_valid in omega arith
 
-    new_extents : extents_held (front ++ grown s part r ∷ back) ≡ (extents_held front ++ map extent_of s.records) ++ extent_of r ∷ extents_held back
-    new_extents = around front (grown s part r) back ∙ ap (λ (l : List Extent). extents_held front ++ (l ++ extents_held back)) (map-append extent_of s.records (r ∷ []))
-        ∙ ap (λ (l : List Extent). extents_held front ++ l) (append_assoc (map extent_of s.records) (extent_of r ∷ []) (extents_held back)) ∙ sym (append_assoc (extents_held front) (map extent_of s.records) (extent_of r ∷ extents_held back))
-
-    old_extents : extents_held (front ++ s ∷ back) ≡ (extents_held front ++ map extent_of s.records) ++ extents_held back
-    old_extents = around front s back ∙ sym (append_assoc (extents_held front) (map extent_of s.records) (extents_held back))
-
     whole' : parts.told → IsWhole parts base (ws ++ w ∷ []) (m.next + 1) m.home (front ++ grown s part r ∷ back) (indexed_with m.indexed s r)
     whole' told = let whole = calm.whole told in record {
       logs = all_swap (λ (t : Held P). (bs : List Block) → parts.may_be t.part bs → IsLog bs base.owner t.records) (λ (t : Held P). (bs : List Block) → parts.may_be t.part bs → IsLog bs base.owner t.records) (λ t log. log) front s (grown s part r) back (λ log. logs) whole.logs;
-      distinct = subst (λ (l : List Extent). AreDistinct (covers_of l)) (sym new_extents)
-          (distinct_more (extents_held front ++ map extent_of s.records) (extents_held back) (extent_of r) (subst (λ (l : List Extent). AreDistinct (covers_of l)) old_extents whole.distinct)
-          (subst (AllByRecursion (λ (x : Extent). x.cover.version < r.head.version)) old_extents (subst (λ (v : ℕ). AllByRecursion (λ (x : Extent). x.cover.version < v) (extents_held (front ++ s ∷ back))) (sym is_next) (low_extents m.next (front ++ s ∷ back) (low told)))));
+      distinct = grown_distinct told;
       index = index_grows front s back part r m.indexed valid whole.index;
       holds = λ home is. subst (Holds base.array (ws ++ w ∷ []) (m.next + 1) home (extents_held (front ++ grown s part r ∷ back))) (sym (homed_with m.indexed s r))
           (subst (λ (rs : List Extent). Holds base.array (ws ++ w ∷ []) (m.next + 1) home rs (λ b. is_homed_in m.indexed b && not ((extent_of r).cover.covers b))) (sym new_extents)
@@ -222,6 +229,7 @@ module _ {P : Type 0} (parts : Parts P) (base : Base) (m : ManagerSeen P) (home_
                 (record { segment = grown s part r; is_held = member_mid front (grown s part r) back; lane = refl; index = refl; behind = omega arith; within = subst (λ (k : ℕ). end_of s.records + k < parts.size part) (sym counted) fits });
             whole = whole';
           };
+          sound = λ told some. absurd (false≢true some);
           cut = λ told fl is. absurd (let no : None ≡ Some fl = is in cc);
         })
         (λ _. look)
@@ -239,6 +247,7 @@ module _ {P : Type 0} (parts : Parts P) (base : Base) (m : ManagerSeen P) (home_
     known_t told = let k = known_flying base m.next ws (w ∷ []) (front ++ s ∷ back) (known told) in record {
       written = all_swap (λ (v : Held P). AllByRecursion (λ q. IsValid (extent_of q).cover → WasWritten (base.records ++ (ws ++ w ∷ [])) q) v.records) (λ (v : Held P). AllByRecursion (λ q. IsValid (extent_of q).cover → WasWritten (base.records ++ (ws ++ w ∷ [])) q) v.records) (λ v all. all) front s t back (λ all. all) k.written;
       below = all_swap (λ (v : Held P). AllByRecursion (λ q. (IsValid (extent_of q).cover → ⊥) → q.head.version < m.next) v.records) (λ (v : Held P). AllByRecursion (λ q. (IsValid (extent_of q).cover → ⊥) → q.head.version < m.next) v.records) (λ v all. all) front s t back (λ all. all) k.below;
+      within = all_swap (LieInHome base.home_blocks) (LieInHome base.home_blocks) (λ v all. all) front s t back (λ all. all) k.within;
     }
 
     says : (bs : List Block) → parts.may_be part bs → SaysOwnerOrFree base.owner bs
@@ -249,6 +258,13 @@ module _ {P : Type 0} (parts : Parts P) (base : Base) (m : ManagerSeen P) (home_
         (lie_flying base.home_blocks base.records ws (w ∷ []) u.lie (lies, tt)) refl refl known_t
         (places_with_segment parts base m.home front s t back ups refl refl size volume says places)
         (part, (t, member_mid front t back, named, refl, refl), rose)
+        (λ told. let whole = calm.whole told in let sides = all_parts (λ (v : Held P). (bs : List Block) → parts.may_be v.part bs → IsLog bs base.owner v.records) front s back whole.logs in
+        let within = all_parts (LieInHome base.home_blocks) front s back (known told).within in let own = all_mid (LieInHome base.home_blocks) front s back (known told).within in
+        one_sound (λ v. parts.may_be v.part) base.owner base.home_blocks front back t sides.0 sides.1 within.0 within.1 (λ bs is. ⊎_elim
+        (λ log. sound_log base.owner base.home_blocks front back bs s.records log own (subst (λ (l : List Extent). AreDistinct (covers_of l)) (around front s back) whole.distinct))
+        (λ log. sound_log base.owner base.home_blocks front back bs (s.records ++ r ∷ []) log (all_push (LiesInHome base.home_blocks) s.records r own lies)
+        (subst (λ (l : List Extent). AreDistinct (covers_of l)) (around front (grown s part r) back) (grown_distinct told)))
+        (images bs is)))
         (λ told. let whole = calm.whole told in let sides = all_parts (λ (v : Held P). (bs : List Block) → parts.may_be v.part bs → IsLog bs base.owner v.records) front s back whole.logs in
         log_stops (parts.may_be m.home) (λ v. parts.may_be v.part) base.owner base.array ws m.next (is_homed_in m.indexed) front back t sides.0 sides.1 (map extent_of s.records) (extent_of r) keeps is_next
         (λ home is. subst (λ (rs : List Extent). Holds base.array ws m.next home rs (is_homed_in m.indexed)) (around front s back) (whole.holds home is))

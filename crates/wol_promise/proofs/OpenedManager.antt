@@ -1,6 +1,7 @@
 -- A manager that was opened with one record, of which it keeps a part, stands for its opening: so what it upholds can be met.
 use Rattle.std.proofs.Common.{◌≡◌, inl, ℕ, zero, suc, Bool, true, false, List, [], ◌∷◌, length, None, Some, refl, sym, subst, ◌∙◌, arith, leb, get_or, ◌&&◌, ◌||◌, ◌-◌}
 use Rattle.std.specs.Prelude.{slice_get}
+use Rattle.std.proofs.lemmas.Bool.{false≢true}
 use Rattle.std.proofs.lemmas.Option.{same_Some, none-some}
 use Rattle.wol_disk.specs.Disk.{Block}
 use Rattle.wol_model.specs.Blocks.{after}
@@ -90,7 +91,7 @@ stands = record {
       history = record { replies = λ told. tt; breaks = tt; helpers = tt; ruled = tt };
       lie = (omega arith, tt);
       versioned = record { apart = (tt, tt); below = (omega arith, tt); in_order = λ none. (refl, refl); least = omega arith; most = omega arith };
-      known = λ told. record { written = (((λ valid. (record { first = 1; blocks = cells (11 ∷ 12 ∷ []); version = Some 1 }, (0, omega arith, refl), record { version = refl; first = refl; blocks = refl })), tt), tt); below = (((λ invalid. omega arith), tt), tt) };
+      known = λ told. record { written = (((λ valid. (record { first = 1; blocks = cells (11 ∷ 12 ∷ []); version = Some 1 }, (0, omega arith, refl), record { version = refl; first = refl; blocks = refl })), tt), tt); below = (((λ invalid. omega arith), tt), tt); within = ((omega arith, tt), tt) };
       places = record { flags = refl; few = omega arith; home_blocks = (omega arith, omega arith); most = (omega arith, omega arith); home_size = refl; home_volume = refl; each = (record { logger = refl; room = omega arith; owned = λ bs is. subst (SaysOwnerOrFree 0) (sym is) (inl refl) }, tt); apart = (tt, tt) };
       is_down = refl;
       failed = λ name is. absurd (none-some name is);
@@ -108,6 +109,7 @@ stands = record {
               (record { stands = stands_for_array; is_home = λ b x y homed. absurd (let no : false ≡ true = sym (none_homed b) ∙ homed in cc); distinct = (tt, tt); below = (omega arith, tt) });
         };
       };
+      sound = λ told some. absurd (false≢true some);
       cut = λ told fl is. absurd (none-some fl is);
     };
     look = λ none. refl;

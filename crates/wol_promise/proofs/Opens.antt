@@ -2,6 +2,7 @@
 use Rattle.std.proofs.Common.{◌≡◌, ◌<◌, ℕ, zero, suc, Bool, true, false, ◌&&◌, ◌||◌, List, [], ◌∷◌, None, Some, refl, sym, ap, subst, ◌∙◌, leb, get_or, ◌-◌}
 use Rattle.std.specs.Prelude.{is_some}
 use Rattle.std.specs.List.{AllByRecursion}
+use Rattle.std.proofs.lemmas.Bool.{false≢true}
 use Rattle.std.proofs.lemmas.List.{append-nil}
 use Rattle.std.proofs.lemmas.Option.{none-some}
 use Rattle.wol_disk.specs.Disk.{Block}
@@ -66,6 +67,7 @@ module _ {P : Type 0} (parts : Parts P) (base : Base) (m : ManagerSeen P) (began
               (λ b homed. absurd (let no : false ≡ true = sym (none_homed base m.indexed opened b) ∙ homed in cc));
         };
       };
+      sound = λ told some. absurd (false≢true some);
       cut = λ told fl is. absurd (none-some fl is);
     };
     look = λ none. look;

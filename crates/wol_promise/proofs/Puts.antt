@@ -2,6 +2,7 @@
 use Rattle.std.proofs.Common.{◌≡◌, ⊎_elim, ◌<◌, ◌+◌, ℕ, Bool, true, false, not, ◌&&◌, ◌||◌, List, [], ◌∷◌, ◌++◌, map, length, None, Some, refl, sym, ap, subst, ◌∙◌}
 use Rattle.std.specs.Prelude.{is_some, slice_get}
 use Rattle.std.specs.List.{AllByRecursion}
+use Rattle.std.proofs.lemmas.Bool.{false≢true}
 use Rattle.std.proofs.lemmas.List.{map-append}
 use Rattle.std.proofs.lemmas.List.Folds.{list_any-append}
 use Rattle.wol_disk.specs.Disk.{Block, IsBlend}
@@ -19,6 +20,7 @@ use Rattle.wol_promise.specs.Stands.{HasPlaces, IsPlaced, Upholds, StandsFor}
 use Rattle.wol_promise.proofs.Lists.{all_map, all_swap, member_mid, member_swap}
 use Rattle.wol_promise.proofs.Broke.{broke_more}
 use Rattle.wol_promise.proofs.HomeWrites.{places_with_home}
+use Rattle.wol_promise.proofs.SoundSegments.{logs_sound}
 use Rattle.wol_promise.proofs.Stops.{putting_stops}
 
 -- ---- One entry of the index has other marks of home
@@ -145,6 +147,7 @@ module _ {P : Type 0} (parts : Parts P) (base : Base) (m : ManagerSeen P) (part 
             (either (is_homed_in (front ++ e ∷ back) b) (put b) (homed_then front e back put b homed)));
       };
     };
+    sound = λ told some. absurd (false≢true some);
     cut = λ told fl is. absurd (let no : None ≡ Some fl = is in cc);
   }
 
@@ -156,6 +159,7 @@ module _ {P : Type 0} (parts : Parts P) (base : Base) (m : ManagerSeen P) (part 
   put_breaks home_up ups notes n flags u none broke unruled data_of images rose =
       broke_more parts base m (record m { home = part; home_up = home_up; ups = ups; down = Some HomePart }) notes n (writes (entries_of notes)) [] HomePart u refl none broke (λ other. refl) unruled u.lie refl refl
       u.known (places_with_home parts base m.home part m.held ups size volume places) (part, refl, rose)
+      (λ told. let whole = (u.calm refl).whole told in logs_sound (λ s. parts.may_be s.part) base.owner base.home_blocks m.held whole.logs (u.known told).within whole.distinct)
       (λ told. let whole = (u.calm refl).whole told in
       putting_stops (parts.may_be part) (λ s. parts.may_be s.part) base.owner base.array (writes (entries_of notes)) m.next (is_homed_in m.indexed) m.held puts [] whole.logs (data_of told)
       (λ x is. let from = images x is in (from.0, whole.holds from.0 from.1, from.2)))

@@ -2,6 +2,7 @@
 use Rattle.std.proofs.Common.{◌≡◌, ◌⊎◌, inl, inr, ⊎_elim, ◌<◌, ℕ, Bool, true, false, List, [], ◌∷◌, ◌++◌, map, None, Some, refl, sym, subst, ◌∙◌, arith}
 use Rattle.std.specs.Prelude.{Contains, slice_get}
 use Rattle.std.specs.List.{AllByRecursion}
+use Rattle.std.proofs.lemmas.Bool.{false≢true}
 use Rattle.std.proofs.lemmas.Grind.{flat_map-append}
 use Rattle.wol_disk.specs.Disk.{Block}
 use Rattle.wol_model.specs.Blocks.{Write}
@@ -9,12 +10,13 @@ use Rattle.wol_model.specs.Extents.{Extent, IsValid, CoversNothing, covers_of, A
 use Rattle.wol_model.specs.Holding.{Holds}
 use Rattle.wol_model.specs.Index.{Indexed}
 use Rattle.wol_model.specs.Log.{Record, IsLog, extent_of}
-use Rattle.wol_model.proofs.Steps.{empty_step, distinct_less}
+use Rattle.wol_model.proofs.Steps.{empty_step}
 use Rattle.wol_promise.specs.Ruled.{Noted}
 use Rattle.wol_promise.specs.Manager.{Parts, Held, ManagerSeen, Base, IsFound, IsBacked, extents_held, is_homed_in, WasWritten}
-use Rattle.wol_promise.specs.Stands.{AreKnown, IsHeldBy, place_in, ApartFrom, AreApartPlaces, IsPlaced, IsCalm, Upholds}
+use Rattle.wol_promise.specs.Stands.{AreKnown, LieInHome, IsHeldBy, place_in, ApartFrom, AreApartPlaces, IsPlaced, IsCalm, Upholds}
 use Rattle.wol_promise.proofs.Lists.{all_map, all_front, all_back, all_joined, member_front, member_behind, all_member, member_of}
 use Rattle.wol_promise.proofs.LogWrites.{around}
+use Rattle.wol_promise.proofs.SoundSegments.{apart_without}
 
 -- no record of these keeps a block
 abbrev pub AreEmpty : List Record → Type 0
@@ -28,10 +30,6 @@ forgotten : (a : List Block) (ws : List Write) (next : ℕ) (home : List Block) 
     → Holds a ws next home (front ++ (map extent_of rs ++ back)) homed → Holds a ws next home (front ++ back) homed
 forgotten a ws next home front [] back homed none holds = holds
 forgotten a ws next home front (r ∷ rs) back homed none holds = forgotten a ws next home front rs back homed none.1 (empty_step a ws next home front (map extent_of rs ++ back) homed (extent_of r) holds none.0)
-
-apart_without : (front : List Extent) (rs : List Record) (back : List Extent) → AreDistinct (covers_of (front ++ (map extent_of rs ++ back))) → AreDistinct (covers_of (front ++ back))
-apart_without front [] back distinct = distinct
-apart_without front (r ∷ rs) back distinct = apart_without front rs back (distinct_less front (map extent_of rs ++ back) (extent_of r) distinct)
 
 places_without : {P : Type 0} (front : List (Held P)) (t : Held P) (back : List (Held P)) → AreApartPlaces (map place_in (front ++ t ∷ back)) → AreApartPlaces (map place_in (front ++ back))
 places_without [] t back apart = apart.1
@@ -73,6 +71,7 @@ module _ {P : Type 0} (parts : Parts P) (base : Base) (m : ManagerSeen P) (notes
     known = λ told. let k = subst (AreKnown base m.next ws []) held (u.known told) in record {
       written = less (λ (v : Held P). AllByRecursion (λ q. IsValid (extent_of q).cover → WasWritten (base.records ++ (ws ++ [])) q) v.records) k.written;
       below = less (λ (v : Held P). AllByRecursion (λ q. (IsValid (extent_of q).cover → ⊥) → q.head.version < m.next) v.records) k.below;
+      within = less (LieInHome base.home_blocks) k.within;
     };
     places = let p = u.places in record {
       flags = p.flags;
@@ -105,5 +104,6 @@ module _ {P : Type 0} (parts : Parts P) (base : Base) (m : ManagerSeen P) (notes
             (subst (λ (l : List Extent). Holds base.array ws m.next home l (is_homed_in m.indexed)) (around front t back) (w.holds home is)));
       };
     };
+    sound = λ told some. absurd (false≢true some);
     cut = λ told fl is. absurd (let no : None ≡ Some fl = is in cc);
   }

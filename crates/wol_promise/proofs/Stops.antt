@@ -19,22 +19,28 @@ as_before : (a : List Block) (ws flight : List Write) (x : List Block) → x ≡
 as_before a ws flight x is = whole 0 (omega arith) (is ∙ ap (after a) (sym (append-nil ws)))
 
 -- a choice for joined lists, in parts
-record Split {P : Type 0} (of_held : Held P → List Block → Type 0) (front : List (Held P)) (s : Held P) (back : List (Held P)) (images : List (List Block)) : Type 0 where
-  before : List (List Block)
-  here : List Block
-  later : List (List Block)
-  joined : images ≡ before ++ here ∷ later
-  of_front : AllZip of_held front before
-  of_here : of_held s here
-  of_back : AllZip of_held back later
+pub record Split {P : Type 0} (of_held : Held P → List Block → Type 0) (front : List (Held P)) (s : Held P) (back : List (Held P)) (images : List (List Block)) : Type 0 where
+  pub before : List (List Block)
+  pub here : List Block
+  pub later : List (List Block)
+  pub joined : images ≡ before ++ here ∷ later
+  pub of_front : AllZip of_held front before
+  pub of_here : of_held s here
+  pub of_back : AllZip of_held back later
 
-split_choice : {P : Type 0} (of_held : Held P → List Block → Type 0) (front : List (Held P)) (s : Held P) (back : List (Held P)) (images : List (List Block)) → AllZip of_held (front ++ s ∷ back) images → Split of_held front s back images
+pub split_choice : {P : Type 0} (of_held : Held P → List Block → Type 0) (front : List (Held P)) (s : Held P) (back : List (Held P)) (images : List (List Block)) → AllZip of_held (front ++ s ∷ back) images → Split of_held front s back images
 split_choice of_held [] s back [] choice = absurd choice
 split_choice of_held [] s back (bs ∷ images) choice = record { before = []; here = bs; later = images; joined = refl; of_front = tt; of_here = choice.0; of_back = choice.1 }
 split_choice of_held (t ∷ front) s back [] choice = absurd choice
 split_choice of_held (t ∷ front) s back (bs ∷ images) choice =
     let rest = split_choice of_held front s back images choice.1 in
     record { before = bs ∷ rest.before; here = rest.here; later = rest.later; joined = λ i. bs ∷ rest.joined i; of_front = (choice.0, rest.of_front); of_here = rest.of_here; of_back = rest.of_back }
+
+-- the records of a choice, where one segment's image has these
+pub choice_around : {P : Type 0} (of_held : Held P → List Block → Type 0) (owner : ℕ) (front back : List (Held P)) (s : Held P) → AreLogs of_held owner front → AreLogs of_held owner back
+    → (segments : List (List Block)) (split : Split of_held front s back segments) (ss : List Extent) → extents_in owner split.here ≡ ss → extents_of owner segments ≡ extents_held front ++ (ss ++ extents_held back)
+choice_around of_held owner front back s front_logs back_logs segments split ss same = ap (extents_of owner) split.joined ∙ flat_map-append (extents_in owner) split.before (split.here ∷ split.later)
+    ∙ (λ i. chosen_extents of_held owner front split.before front_logs split.of_front i ++ (same i ++ chosen_extents of_held owner back split.later back_logs split.of_back i))
 
 module _ {P : Type 0} (of_home : List Block → Type 0) (of_held : Held P → List Block → Type 0) (owner : ℕ) (a : List Block) (ws : List Write) (next : ℕ) (homed : ℕ → Bool) where
   -- nothing is written
@@ -60,11 +66,6 @@ module _ {P : Type 0} (of_home : List Block → Type 0) (of_held : Held P → Li
       as_before a ws flight (recovered owner x segments) (ap (with_extents x) (chosen_extents of_held owner held segments logs choice) ∙ putting_in_flight a ws next from.0 x (extents_held held) homed puts from.1 is_data from.2)
 
   module _ (front back : List (Held P)) (s : Held P) (front_logs : AreLogs of_held owner front) (back_logs : AreLogs of_held owner back) where
-    -- the records of a choice, where one segment's image has these
-    around : (segments : List (List Block)) (split : Split of_held front s back segments) (ss : List Extent) → extents_in owner split.here ≡ ss → extents_of owner segments ≡ extents_held front ++ (ss ++ extents_held back)
-    around segments split ss same = ap (extents_of owner) split.joined ∙ flat_map-append (extents_in owner) split.before (split.here ∷ split.later)
-        ∙ (λ i. chosen_extents of_held owner front split.before front_logs split.of_front i ++ (same i ++ chosen_extents of_held owner back split.later back_logs split.of_back i))
-
     in_parts : (segments : List (List Block)) → Choice of_held owner (front ++ s ∷ back) segments → Split of_held front s back segments
     in_parts segments choice = split_choice of_held front s back segments choice
 
@@ -74,8 +75,8 @@ module _ {P : Type 0} (of_home : List Block → Type 0) (of_held : Held P → Li
         → ((bs : List Block) → of_held s bs → (extents_in owner bs ≡ rs) ⊎ (extents_in owner bs ≡ rs ++ r ∷ [])) → Recovers of_home of_held owner (front ++ s ∷ back) (IsCut a ws (write_of r ∷ []))
     unfolding recovered with_extents
     log_stops rs r keeps is_next holds image home segments is choice = ⊎_elim
-        (λ old. as_before a ws (write_of r ∷ []) (recovered owner home segments) (ap (with_extents home) (around segments (in_parts segments choice) rs old) ∙ (holds home is).stands))
-        (λ new. whole 1 (omega arith) (ap (with_extents home) (around segments (in_parts segments choice) (rs ++ r ∷ []) new ∙ joined)
+        (λ old. as_before a ws (write_of r ∷ []) (recovered owner home segments) (ap (with_extents home) (choice_around of_held owner front back s front_logs back_logs segments (in_parts segments choice) rs old) ∙ (holds home is).stands))
+        (λ new. whole 1 (omega arith) (ap (with_extents home) (choice_around of_held owner front back s front_logs back_logs segments (in_parts segments choice) (rs ++ r ∷ []) new ∙ joined)
         ∙ logging_lem home (extents_held front ++ rs) (extents_held back) r keeps (all_front (λ t. t.cover.version < r.cover.version) (extents_held front ++ rs) (extents_held back) (low home is)) (all_back (λ t. t.cover.version < r.cover.version) (extents_held front ++ rs) (extents_held back) (low home is))
         ∙ ap (λ (l : List Extent). after (with_extents home l) (write_of r ∷ [])) (append_assoc (extents_held front) rs (extents_held back))
         ∙ ap (λ (l : List Block). after l (write_of r ∷ [])) (holds home is).stands ∙ sym (after_more a ws (write_of r ∷ []))))
@@ -94,8 +95,8 @@ module _ {P : Type 0} (of_home : List Block → Type 0) (of_held : Held P → Li
         → ((bs : List Block) → of_held s bs → (extents_in owner bs ≡ fs ++ r ∷ gs) ⊎ (extents_in owner bs ≡ fs ++ k ∷ gs)) → Recovers of_home of_held owner (front ++ s ∷ back) (IsCut a ws flight)
     unfolding recovered with_extents
     giving_up_stops fs gs r k given flight gives may holds image home segments is choice = as_before a ws flight (recovered owner home segments) (⊎_elim
-        (λ old. ap (with_extents home) (around segments (in_parts segments choice) (fs ++ r ∷ gs) old ∙ joined r) ∙ (holds home is).stands)
-        (λ new. ap (with_extents home) (around segments (in_parts segments choice) (fs ++ k ∷ gs) new ∙ joined k) ∙ (giving_up_step a ws next home (extents_held front ++ fs) (gs ++ extents_held back) homed given r k (holds home is) may gives).stands)
+        (λ old. ap (with_extents home) (choice_around of_held owner front back s front_logs back_logs segments (in_parts segments choice) (fs ++ r ∷ gs) old ∙ joined r) ∙ (holds home is).stands)
+        (λ new. ap (with_extents home) (choice_around of_held owner front back s front_logs back_logs segments (in_parts segments choice) (fs ++ k ∷ gs) new ∙ joined k) ∙ (giving_up_step a ws next home (extents_held front ++ fs) (gs ++ extents_held back) homed given r k (holds home is) may gives).stands)
         (image (in_parts segments choice).here (in_parts segments choice).of_here))
       where
         joined : (t : Extent) → extents_held front ++ ((fs ++ t ∷ gs) ++ extents_held back) ≡ (extents_held front ++ fs) ++ t ∷ (gs ++ extents_held back)

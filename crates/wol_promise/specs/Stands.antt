@@ -1,13 +1,14 @@
 -- What a manager stands for.
 use Rattle.std.specs.Prelude.{⊤, ◌≡◌, ◌≢◌, ◌<◌, ◌≤◌, ◌^◌, ℕ, ◌+◌, Bool, true, false, List, [], ◌∷◌, ◌++◌, map, Option, None, Some, is_some, unwrap_or, length, max, Contains, slice_get}
-use Rattle.std.specs.List.{AllByRecursion, range_with_len}
+use Rattle.std.specs.List.{AllByRecursion, AllZip, range_with_len}
 use Rattle.wol_disk.specs.Disk.{Block}
 use Rattle.wol_model.specs.Blocks.{Write, AreApart}
 use Rattle.wol_model.specs.Extents.{IsValid, AreDistinct, covers_of}
 use Rattle.wol_model.specs.History.{Entry, worker, writes, flight_of, AreLegalNext, BreaksOnce, IsHelp, IsCut}
 use Rattle.wol_model.specs.Holding.{Holds}
 use Rattle.wol_model.specs.Index.{Listed, AreRising, Indexed}
-use Rattle.wol_model.specs.Log.{Record, IsLog, extent_of}
+use Rattle.wol_model.specs.Log.{Record, IsIdle, IsLog, extent_of}
+use Rattle.wol_model.specs.Recovered.{extents_of}
 use Rattle.wol_promise.specs.Manager.{Parts, PartName, Held, ManagerSeen, Base, look_of, IsPartOf, extents_held, AllRecords, Recovers, IsIndexOf, IsSorted, AreInUse, is_homed_in, SaysOwnerOrFree, versions, WasWritten}
 use Rattle.wol_promise.specs.Ruled.{Noted, entries_of, AreRuled, last_look}
 
@@ -60,10 +61,36 @@ pub record HasVersions (base : Base) (next : ℕ) (ws : List Write) (in_flight :
   pub least : 1 ≤ next
   pub most : next ≤ 2 ^ 63
 
--- each valid record of a held segment is one at opening, a write since, or one in flight; the versions of the others are below the next
+-- a record lies in home
+abbrev pub LiesInHome : (home_blocks : ℕ) → Record → Type 0
+LiesInHome home_blocks r = r.head.first + length r.blocks ≤ home_blocks
+
+-- so do all of a held segment
+abbrev pub LieInHome : {P : Type 0} → (home_blocks : ℕ) → Held P → Type 0
+LieInHome home_blocks s = AllByRecursion (LiesInHome home_blocks) s.records
+
+-- Each valid record of a held segment is one at opening, a write since, or one in flight; the versions of the others are below the next.
+-- Each record, valid or not, lies in home.
 pub record AreKnown {P : Type 0} (base : Base) (next : ℕ) (ws in_flight : List Write) (held : List (Held P)) : Type 0 where
   pub written : AllRecords (λ r. IsValid (extent_of r).cover → WasWritten (base.records ++ (ws ++ in_flight)) r) held
   pub below : AllRecords (λ r. (IsValid (extent_of r).cover → ⊥) → r.head.version < next) held
+  pub within : AllByRecursion (LieInHome base.home_blocks) held
+
+-- ---- Sound segments
+
+-- a segment is idle, or a log of the owner with records that lie in home
+pub data IsSoundOf (owner home_blocks : ℕ) (bs : List Block) : Type 0 where
+  idle : IsIdle bs → IsSoundOf owner home_blocks bs
+  log : (rs : List Record) → IsLog bs owner rs → AllByRecursion (LiesInHome home_blocks) rs → IsSoundOf owner home_blocks bs
+
+-- each segment is sound, and no two valid records of them have one version
+pub record AreSoundOf (owner home_blocks : ℕ) (segments : List (List Block)) : Type 0 where
+  pub each : AllByRecursion (IsSoundOf owner home_blocks) segments
+  pub distinct : AreDistinct (covers_of (extents_of owner segments))
+
+-- whatever images these segments have, they are sound
+abbrev pub StaySound : {P : Type 0} → (of_held : Held P → List Block → Type 0) → (owner home_blocks : ℕ) → List (Held P) → Type 0
+StaySound of_held owner home_blocks held = (segments : List (List Block)) → AllZip of_held held segments → AreSoundOf owner home_blocks segments
 
 -- ---- Places
 
@@ -139,7 +166,8 @@ pub record Upholds {P : Type 0} (parts : Parts P) (base : Base) (m : ManagerSeen
   -- the part that is told as down is one of its parts, and had a fault
   pub failed : (name : PartName) → m.down ≡ Some name → (p : P) × IsPartOf base.view m name p × (0 < parts.faults p)
   pub calm : in_flight ≡ None → IsCalm parts base ws m.next m.home m.held m.indexed m.taken
-  -- after a failed call each choice of images recovers to a cut
+  -- after a failed call each choice of images is sound, and recovers to a cut
+  pub sound : parts.told → is_some in_flight ≡ true → StaySound (λ s. parts.may_be s.part) base.owner base.home_blocks m.held
   pub cut : parts.told → (flight : List Write) → in_flight ≡ Some flight → Recovers (parts.may_be m.home) (λ s. parts.may_be s.part) base.owner m.held (IsCut base.array ws flight)
 
 -- a manager stands for what it began with and the entries since; while nothing broke, the last of them left the look that it has
