@@ -1,6 +1,6 @@
 -- What an opening is whose segments were read back.
 use Rattle.std.proofs.Common.{◌≡◌, ◌<◌, ◌^◌, ℕ, Bool, true, List, map, None, sym, ap, subst, ◌∙◌}
-use Rattle.std.specs.Prelude.{IsTrue, option_map}
+use Rattle.std.specs.Prelude.{Contains, IsTrue, option_map}
 use Rattle.std.specs.List.{AllByRecursion, filter}
 use Rattle.wol_disk.specs.Disk.{State, TellsContent, settled}
 use Rattle.wol_model.specs.Index.{Indexed}
@@ -21,12 +21,14 @@ use Rattle.manager_recovery.specs.Recovery.{IsIndexOf, IsIndexRefusal, IsRecover
 use Rattle.manager_recovery.specs.Refused.{IsNamesAnswer, IsRecoverable, Refuses, head_at}
 use Rattle.manager_recovery.specs.Scanned.{IsReadBack, AreReadBack, IsScanned, IsSeenAgain, IsThinning, all_found, head_of, has_some, thinned, next_of}
 use Rattle.manager_recovery.specs.declared.opening.Opening.{Opening}
+use Rattle.manager_recovery.specs.declared.opening.OwnedPart.{OwnedPart}
 use Rattle.manager_recovery.specs.declared.refusal.OpenRefusal.{OpenRefusal}
 use Rattle.manager_recovery.specs.declared.refusal.OpenRefusal.TheVariants.{LabelDiffers, LoggerMissing, OutsideView, Damaged, Twins, DiskFault, NoMemory}
 use Rattle.manager_recovery.specs.declared.volume.Recovered.{Recovered}
 use Rattle.manager_recovery.proofs.FirstTwo.{rising_no_twins}
 use Rattle.manager_recovery.proofs.HeadsFound.{all_same, all_heads}
 use Rattle.manager_recovery.proofs.Indexing.{heads_inside, no_twins_back}
+use Rattle.manager_recovery.proofs.LogsNamed.{twins_on_logs, same_loggers}
 use Rattle.manager_recovery.proofs.Lists.{all_map, zip_map, zip_seconds}
 use Rattle.manager_recovery.proofs.Recovering.{all_filtered}
 
@@ -60,7 +62,15 @@ module _ {D : Type 0} (tells : Bool) (state : D → State) (told : IsTrue tells 
       version = why.0;
       twins = subst (λ (hs : List Head). AreFirstTwins hs (head_at why.0 first_volume first) (head_at why.0 second_volume second)) (heads_are t) why.1;
     },
+    subst (λ (vs : List ℕ). Contains vs first_volume) loggers logs.0,
+    subst (λ (vs : List ℕ). Contains vs second_volume) loggers logs.1,
   )
+    where
+      loggers : map (λ (p : OwnedPart D). p.logger) n.owned.items ≡ map (λ (p : OwnedPart D). p.logger) o.owned.items
+      loggers = same_loggers state o.owned.items n.owned.items parts.owned
+
+      logs : Contains (map (λ (p : OwnedPart D). p.logger) n.owned.items) first_volume × Contains (map (λ (p : OwnedPart D). p.logger) n.owned.items) second_volume
+      logs = twins_on_logs n.view n.owned.items scans (head_at why.0 first_volume first) (head_at why.0 second_volume second) why.1
   index_refuses named m (DiskFault part) why = absurd why
   index_refuses named m NoMemory why = named
 

@@ -4,6 +4,8 @@ use Rattle.std.specs.Prelude.{filter, replicate, IsTrue, unwrap_or}
 use Rattle.std.specs.List.{AllByRecursion, AllZip, flat_map}
 use Rattle.std.specs.declared.alloc.Global.{Global}
 use Rattle.std.specs.declared.vec.Vec.{Vec}
+use Rattle.std.proofs.lemmas.List.{length-map}
+use Rattle.std.proofs.lemmas.List.Sorted.{length_permutation}
 use Rattle.wol_disk.specs.Disk.{State, Block, Values, IsDisk, TellsContent, IsAmong, IsImageOf, IsImage, only, reads, settled}
 use Rattle.wol_disk.proofs.Images.{only_image}
 use Rattle.wol_model.specs.Blocks.{Write, AreApart}
@@ -18,7 +20,7 @@ use Rattle.log_layout.specs.Values.{record_head}
 use Rattle.log_scan.specs.declared.Found.{Found}
 use Rattle.log_scan.specs.declared.Scan.{Scan}
 use Rattle.wol_promise.specs.Manager.{versions}
-use Rattle.wol_promise.specs.Stands.{LiesIn, next_version}
+use Rattle.wol_promise.specs.Stands.{LiesIn, LiesInHome, next_version}
 use Rattle.spin_model.specs.Spun.{state_of}
 use Rattle.spin_model.specs.declared.spun.Spun.{Spun}
 use Rattle.turn_lock.specs.Passes.{pass_lock, pass_mine, pass_number}
@@ -209,15 +211,24 @@ module _ {D : Type 0} (tells : Bool) (state : D → State) (shared : Shared D) (
         head_facts (λ (h : RecordHead). h.version < r.next) (records_at state n.want.id g.part) g.scan.records.items (told_at g has).heads
         (all_from (λ (f : Found). f.head.version < r.next) g.scan.records.items (λ f there. below_entry tells state shared o n want view present label most r rec valid lanes.items held g f has there)))
 
+    -- each record lies in home, also one that keeps nothing
+    lies_at : (g : Seg D) → IsAmong all_gs g → (q : Record) → IsAmong (records_at state n.want.id g.part) q → LiesInHome n.want.home q
+    lies_at g has q there =
+        let k = among_get (records_at state n.want.id g.part) q there in
+        let named = named_at state n.lanes.items n.want.id n.want.home n.view all_gs c.all c.order c.view_ok.distinct r.index.entries c.same c.rising told_gs g k.0 q has k.1 in let counted = named.counted in
+        let within = all_among (λ (x : Record). x.head.first + x.head.count ≤ n.want.home) (records_at state n.want.id g.part) q
+        (head_facts (λ (h : RecordHead). h.first + h.count ≤ n.want.home) (records_at state n.want.id g.part) g.scan.records.items (told_at g has).heads (is_seg g has).scanned.within) there in
+        omega (arith, counted, within)
+
+    records_within : AllByRecursion (λ (g : Seg D). AllByRecursion (LiesInHome n.want.home) (recs_of state n r all_gs g)) all_gs
+    records_within = all_from (λ (g : Seg D). AllByRecursion (LiesInHome n.want.home) (recs_of state n r all_gs g)) all_gs (λ g has.
+        all_from (LiesInHome n.want.home) (recs_of state n r all_gs g) (lies_at g has))
+
     record_lies : (q : Record) → IsAmong kept q → LiesIn n.want.home (write_of_record q)
     record_lies q has =
         let f = among_filter keeps (flat_map (recs_of state n r all_gs) all_gs) q has in
         let g = flat_among (recs_of state n r all_gs) all_gs q f.0 in
-        let k = among_get (records_at state n.want.id g.0.part) q g.2 in
-        let named = named_at state n.lanes.items n.want.id n.want.home n.view all_gs c.all c.order c.view_ok.distinct r.index.entries c.same c.rising told_gs g.0 k.0 q g.1 k.1 in let counted = named.counted in
-        let within = all_among (λ (x : Record). x.head.first + x.head.count ≤ n.want.home) (records_at state n.want.id g.0.part) q
-        (head_facts (λ (h : RecordHead). h.first + h.count ≤ n.want.home) (records_at state n.want.id g.0.part) g.0.scan.records.items (told_at g.0 g.1).heads (is_seg g.0 g.1).scanned.within) g.2 in
-        omega (arith, counted, within)
+        lies_at g.0 g.1 q g.2
 
     is_known : (e : Indexed) → IsAmong r.index.entries e → IsKnown state n r all_gs first_writes e
     is_known e has =
@@ -244,11 +255,18 @@ module _ {D : Type 0} (tells : Bool) (state : D → State) (shared : Shared D) (
       lie = subst (AllByRecursion (LiesIn n.want.home)) (sym writes_are) (all_mapped (LiesIn n.want.home) write_of_record kept (all_from (λ (q : Record). LiesIn n.want.home (write_of_record q)) kept record_lies));
       known = is_known;
       sized = is_sized;
-      told = λ t. record { told = told_gs; versions_ = versions_are; records = writes_are; below = records_below; array_ = is_array };
+      told = λ t. record { told = told_gs; versions_ = versions_are; records = writes_are; below = records_below; within = records_within; array_ = is_array };
     }
 
     next_told : r.next ≡ next_version (records_in o.want.id (all_owned state o.owned.items))
     next_told = rec.next ∙ (next_is state o.want.id rec.read rec.scans told_read ∙ ap next_version (sym (records_before state o.want.id o.owned.items rec.read rec.settled_)))
+
+    -- as many are listed
+    many_told : length r.index.entries ≡ length first_writes
+    many_told =
+        length_permutation (flat_map (entries_at state n.view) all_gs) r.index.entries c.same
+        ∙ sym (length-map (flat_map (entries_at state n.view) all_gs) (λ (e : Indexed). e.listed.version)) ∙ ap (λ (l : List ℕ). length l) (sym versions_are)
+        ∙ length-map kept (λ (q : Record). q.head.version) ∙ sym (length-map kept write_of_record) ∙ ap (λ (l : List Write). length l) (sym writes_are)
 
   -- ---- The manager
 
@@ -299,11 +317,11 @@ module _ {D : Type 0} (tells : Bool) (state : D → State) (shared : Shared D) (
     }
 
     finish : (ws : List Write) (array : List Block) → (b : IsBeginning state n r all_gs tells ws array) → array ≡ arrays → ws ≡ records → (IsTrue tells → array ≡ recovered_of o.want.id (read_of (state_of state o.home)) (all_owned state o.owned.items)) → (IsTrue tells → ws ≡ writes_in o.want.id (all_owned state o.owned.items))
-        → (IsTrue tells → r.next ≡ next_version (records_in o.want.id (all_owned state o.owned.items))) → Opens tells state shared o (opened n.want.id n.home n.spindle lanes r.index r.next n.most)
-    finish ws array b array_is ws_is is_array is_writes is_next = record {
+        → (IsTrue tells → r.next ≡ next_version (records_in o.want.id (all_owned state o.owned.items))) → length r.index.entries ≡ length ws → Opens tells state shared o (opened n.want.id n.home n.spindle lanes r.index r.next n.most)
+    finish ws array b array_is ws_is is_array is_writes is_next many = record {
       base = opened_base tells state shared n r lanes all_gs c ws array b;
       is_base = same_base ws array b array_is ws_is;
-      begins = record { owner = ap (λ (w : _). w.id) want; home_blocks = ap (λ (w : _). w.home) want; most = most; view = view; array = is_array; records = is_writes; next = is_next };
+      begins = record { owner = ap (λ (w : _). w.id) want; home_blocks = ap (λ (w : _). w.home) want; most = most; view = view; array = is_array; records = is_writes; next = is_next; listed = length-map r.index.entries (λ (e : Indexed). e.listed) ∙ many };
       stands = opened_stands tells state shared n r lanes all_gs c ws array b;
       at = is_home state shared n r lanes all_gs c;
       spindle = back.spindle;
@@ -336,5 +354,5 @@ module _ {D : Type 0} (tells : Bool) (state : D → State) (shared : Shared D) (
     plain_writes is = sym (ap (λ (t : Bool). cond t (writes_in o.want.id (all_owned state o.owned.items)) (map untold_write r.index.entries)) is)
 
     pub opens_as : (t : Bool) → tells ≡ t → Opens tells state shared o (opened n.want.id n.home n.spindle lanes r.index r.next n.most)
-    opens_as true is = finish (first_writes sound (told is) home_size) (first_array sound (told is) home_size) (told_beginning sound (told is) home_size) (told_array is) (told_writes is) (λ t. refl) (λ t. refl) (λ t. next_told sound (told is) home_size)
-    opens_as false is = finish (map untold_write r.index.entries) (replicate n.want.home []) (plain_beginning is) (plain_array is) (plain_writes is) (λ t. absurd (let bad : false ≡ true = sym is ∙ t in cc)) (λ t. absurd (let bad : false ≡ true = sym is ∙ t in cc)) (λ t. absurd (let bad : false ≡ true = sym is ∙ t in cc))
+    opens_as true is = finish (first_writes sound (told is) home_size) (first_array sound (told is) home_size) (told_beginning sound (told is) home_size) (told_array is) (told_writes is) (λ t. refl) (λ t. refl) (λ t. next_told sound (told is) home_size) (many_told sound (told is) home_size)
+    opens_as false is = finish (map untold_write r.index.entries) (replicate n.want.home []) (plain_beginning is) (plain_array is) (plain_writes is) (λ t. absurd (let bad : false ≡ true = sym is ∙ t in cc)) (λ t. absurd (let bad : false ≡ true = sym is ∙ t in cc)) (λ t. absurd (let bad : false ≡ true = sym is ∙ t in cc)) (sym (length-map r.index.entries untold_write))

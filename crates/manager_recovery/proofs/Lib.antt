@@ -13,6 +13,7 @@ pub mod InLanes
 pub mod Indexing
 pub mod Leaves
 pub mod Lists
+pub mod LogsNamed
 pub mod OpenedIndex
 pub mod OpenedKeeps
 pub mod OpenedStands

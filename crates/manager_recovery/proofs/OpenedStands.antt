@@ -16,7 +16,7 @@ use Rattle.wol_model.specs.Log.{Record, IsLog, extent_of, has_bit}
 use Rattle.redirect_map.proofs.Bits.{has_bit-zero}
 use Rattle.redirect_map.proofs.Seen.{length-marks_of}
 use Rattle.wol_promise.specs.Manager.{Base, Held, ManagerSeen, AreInUse, WasWritten, SaysOwnerOrFree, extents_held, versions}
-use Rattle.wol_promise.specs.Stands.{IsOpening, IsOpened, LiesIn, HasVersions, AreKnown, HasPlaces, IsHeldBy, IsPlaced, Upholds}
+use Rattle.wol_promise.specs.Stands.{IsOpening, IsOpened, LiesIn, HasVersions, LiesInHome, LieInHome, AreKnown, HasPlaces, IsHeldBy, IsPlaced, Upholds}
 use Rattle.wol_promise.proofs.Opens.{opens}
 use Rattle.turn_lock.specs.Passes.{pass_lock, pass_number, pass_mine}
 use Rattle.spin_model.specs.Spun.{state_of, volume_of}
@@ -65,6 +65,7 @@ module _ {D : Type 0} (state : D → State) (n : Opening D) (r : Recovered) (gs 
     pub versions_ : map (λ (q : Record). q.head.version) kept_of_all ≡ map (λ (e : Indexed). e.listed.version) (flat_map (segs.entries_at state n.view) gs)
     pub records : ws ≡ map write_of_record kept_of_all
     pub below : AllByRecursion (λ (g : Seg D). AllByRecursion (λ (q : Record). q.head.version < r.next) (recs_of g)) gs
+    pub within : AllByRecursion (λ (g : Seg D). AllByRecursion (LiesInHome n.want.home) (recs_of g)) gs
     pub array_ : (image : List Block) → IsImageOf (state_of state n.home).values image → with_extents image (map extent_of kept_of_all) ≡ array
 
   -- a write of the beginning that an entry of the index is of
@@ -219,6 +220,7 @@ module _ {D : Type 0} (tells : Bool) (state : D → State) (shared : Shared D) (
     below = each (λ (s : Held (Spun D)). AllByRecursion (λ (q : Record). (IsValid (extent_of q).cover → ⊥) → q.head.version < r.next) s.records) (λ k g is has.
         all_from (λ (q : Record). (IsValid (extent_of q).cover → ⊥) → q.head.version < r.next) (recs g) (λ q there no_.
         all_among (λ (x : Record). x.head.version < r.next) (recs g) q (all_among (λ (x : Seg D). AllByRecursion (λ (y : Record). y.head.version < r.next) (recs x)) gs g (b.told t).below has) there));
+    within = each (LieInHome n.want.home) (λ k g is has. all_among (λ (x : Seg D). AllByRecursion (LiesInHome n.want.home) (recs x)) gs g (b.told t).within has);
   }
 
   -- ---- Parts and places

@@ -20,6 +20,7 @@ use Rattle.manager_recovery.specs.declared.opening.Opening.{Opening}
 use Rattle.manager_recovery.specs.declared.opening.OwnedPart.{OwnedPart}
 use Rattle.manager_recovery.specs.declared.refusal.OpenRefusal.{OpenRefusal}
 use Rattle.manager_recovery.specs.declared.refusal.OpenRefusal.TheVariants.{LabelDiffers, LoggerMissing, OutsideView, Damaged, Twins, DiskFault, NoMemory}
+use Rattle.manager_recovery.proofs.LogsNamed.{on_log}
 use Rattle.manager_recovery.proofs.Lists.{take_snoc, take_all, drop_here, drop_get, drop_set, drop_more, take_set, set_get, zip_push, zip_change, zip_self, zip_length, all_push, within}
 use Rattle.manager_recovery.proofs.ScanLoop.{used_self, used_then, seen_self, seen_then}
 
@@ -134,16 +135,16 @@ module _ {D : Type 0} (tells : Bool) (state : D → State) (sound : (d : D) → 
     refuses_at named (Damaged volume block) why = (
       named,
       λ t.
-          let w = why t in
           record {
             before = take k (all_owned state o.owned.items);
             segment = owned_of state at.before;
             after = drop (k + 1) (all_owned state o.owned.items);
             split = sym (take-append-drop k (all_owned state o.owned.items)) ∙ (λ i. take k (all_owned state o.owned.items) ++ drop_here (all_owned state o.owned.items) k (owned_of state at.before) owned_here i);
             intact = sofar.intact t;
-            where_ = w.0;
-            fault = w.1;
+            where_ = why.0;
+            fault = why.1 t;
           },
+      on_log o.owned.items k at.before volume here (sym why.0),
     )
     refuses_at named (Twins first_volume first second_volume second) why = absurd why
     refuses_at named (DiskFault (part.Home volume)) why = absurd why

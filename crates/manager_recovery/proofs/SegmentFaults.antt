@@ -41,13 +41,16 @@ pub err_refuses : {D : Type 0} (tells : Bool) (state : D → State) (id home : �
     → IsReadOf state o.part n.part (Err f) → SegmentRefuses tells state id home o n r
 err_refuses tells state id home o n (fault.Damaged block) r damaged failed none told sound last read =
     let w = damaged block refl in
-    subst (SegmentRefuses tells state id home o n) (sym w.1) (λ t.
-    let v = told t in
-    let found = read.damaged v.0 block v.1 refl in
-    let blocks = told_is (state_of state o.part) v.0 v.1 in
-    let inside = fault_inside (reads v.0) block found.1 in
-    let long : length (reads v.0) ≡ (state_of state o.part).size = length-map (λ (x : Values Block). x.now) v.0 ∙ sound.each_block v.0 v.1 in
-    (refl, segment.no_head block (subst IsDamaged (sym blocks) found.0) (subst (λ (bs : List Block). IsFirstFault bs block) (sym blocks) found.1) (w.2 (omega (arith, inside, long, last)))))
+    subst (SegmentRefuses tells state id home o n) (sym w.1) (
+      refl,
+      λ t.
+          let v = told t in
+          let found = read.damaged v.0 block v.1 refl in
+          let blocks = told_is (state_of state o.part) v.0 v.1 in
+          let inside = fault_inside (reads v.0) block found.1 in
+          let long : length (reads v.0) ≡ (state_of state o.part).size = length-map (λ (x : Values Block). x.now) v.0 ∙ sound.each_block v.0 v.1 in
+          segment.no_head block (subst IsDamaged (sym blocks) found.0) (subst (λ (bs : List Block). IsFirstFault bs block) (sym blocks) found.1) (w.2 (omega (arith, inside, long, last))),
+    )
 err_refuses tells state id home o n fault.Failed r damaged failed none told sound last read = subst (SegmentRefuses tells state id home o n) (sym (failed refl)) (refl, refl, read.cause refl)
 err_refuses tells state id home o n fault.NoMemory r damaged failed none told sound last read = subst (SegmentRefuses tells state id home o n) (sym (none refl)) tt
 

@@ -25,7 +25,7 @@ use Rattle.manager_recovery.specs.declared.opening.Opening.{Opening}
 use Rattle.manager_recovery.specs.declared.opening.OwnedPart.{OwnedPart}
 
 -- What a volume begins with: the array that home and its segments recover to as they read, the records in these that keep blocks,
--- and the version above all of theirs.
+-- and the version above all of theirs. As many records are listed.
 pub record Begins {D : Type 0} (tells : Bool) (state : D → State) (o : Opening D) (b : Base) : Type 0 where
   pub owner : b.owner ≡ o.want.id
   pub home_blocks : b.home_blocks ≡ o.want.home
@@ -34,6 +34,7 @@ pub record Begins {D : Type 0} (tells : Bool) (state : D → State) (o : Opening
   pub array : IsTrue tells → b.array ≡ recovered_of o.want.id (read_of (state_of state o.home)) (all_owned state o.owned.items)
   pub records : IsTrue tells → b.records ≡ writes_in o.want.id (all_owned state o.owned.items)
   pub next : IsTrue tells → b.next ≡ next_version (records_in o.want.id (all_owned state o.owned.items))
+  pub listed : length b.look.listed ≡ length b.records
 
 -- a write of which only the place and the version are told
 abbrev pub untold_write : Indexed → Write

@@ -1,5 +1,5 @@
 -- Why a volume is refused: the first cause that applies.
-use Rattle.std.specs.Prelude.{⊤, ◌≡◌, ◌≢◌, ◌==◌, ℕ, Bool, false, not, List, find, take, is_some, position, slice_get, slice_index_or, Contains, Option, Some, None, IsTrue}
+use Rattle.std.specs.Prelude.{⊤, ◌≡◌, ◌≢◌, ◌==◌, ℕ, Bool, false, not, List, map, find, take, is_some, position, slice_get, slice_index_or, Contains, Option, Some, None, IsTrue}
 use Rattle.std.specs.List.{AllZip}
 use Rattle.wol_disk.specs.Disk.{State, Rose}
 use Rattle.spin_model.specs.Spun.{state_of}
@@ -65,13 +65,18 @@ pub record SegmentRose {D : Type 0} (tells : Bool) (state : D → State) (o : Op
   pub rose : Rose (state_of state before.part).faults (state_of state after.part).faults
   pub intact : IsTrue tells → AreIntact o.want.id o.want.home (take k (all_owned state o.owned.items))
 
+-- an owned segment lies in the image of this volume
+abbrev pub IsOnLog : {D : Type 0} → List (OwnedPart D) → (volume : ℕ) → Type 0
+IsOnLog {D} os volume = Contains (map (λ (o : OwnedPart D). o.logger) os) volume
+
 -- the refusal is the first by the order of causes; of a failed call, that the part's count rose, and nothing refused the volume before
 abbrev pub Refuses : {D : Type 0} → (tells : Bool) → (D → State) → (o n : Opening D) → OpenRefusal → Type 0
 Refuses tells state o n LabelDiffers = IsNamesAnswer o (Some LabelDiffers)
 Refuses tells state o n (LoggerMissing id) = IsNamesAnswer o (Some (LoggerMissing id))
 Refuses tells state o n (OutsideView logger segment) = IsNamesAnswer o (Some (OutsideView logger segment))
-Refuses tells state o n (Damaged volume block) = IsNamesAnswer o None × (IsTrue tells → IsFirstDamage o.want.id o.want.home (all_owned state o.owned.items) volume block)
-Refuses tells state o n (Twins first_volume first second_volume second) = IsNamesAnswer o None × (IsTrue tells → IsTwins state o first_volume first second_volume second)
+Refuses tells state o n (Damaged volume block) = IsNamesAnswer o None × (IsTrue tells → IsFirstDamage o.want.id o.want.home (all_owned state o.owned.items) volume block) × IsOnLog o.owned.items volume
+Refuses tells state o n (Twins first_volume first second_volume second) =
+    IsNamesAnswer o None × (IsTrue tells → IsTwins state o first_volume first second_volume second) × IsOnLog o.owned.items first_volume × IsOnLog o.owned.items second_volume
 Refuses tells state o n (DiskFault (Home volume)) =
     IsNamesAnswer o None × (volume ≡ o.want.id) × Rose (state_of state o.home).faults (state_of state n.home).faults × (IsTrue tells → IsRecoverable state o)
 Refuses tells state o n (DiskFault (Segment volume index)) = IsNamesAnswer o None × SegmentRose tells state o n.owned.items volume index

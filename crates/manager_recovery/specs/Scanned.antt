@@ -63,7 +63,7 @@ abbrev pub SegmentRefuses : {D : Type 0} → (tells : Bool) → (D → State) �
 SegmentRefuses tells state id home o n LabelDiffers = ⊥
 SegmentRefuses tells state id home o n (LoggerMissing missing) = ⊥
 SegmentRefuses tells state id home o n (OutsideView logger segment) = ⊥
-SegmentRefuses tells state id home o n (Damaged volume block) = IsTrue tells → (volume ≡ o.logger) × IsFault id home (owned_of state o) block
+SegmentRefuses tells state id home o n (Damaged volume block) = (volume ≡ o.logger) × (IsTrue tells → IsFault id home (owned_of state o) block)
 SegmentRefuses tells state id home o n (Twins first_volume first second_volume second) = ⊥
 SegmentRefuses tells state id home o n (DiskFault (part.Home volume)) = ⊥
 SegmentRefuses tells state id home o n (DiskFault (part.Segment volume index)) = (volume ≡ o.logger) × (index ≡ o.index) × Rose (state_of state o.part).faults (state_of state n.part).faults

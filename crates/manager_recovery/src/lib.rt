@@ -10,8 +10,6 @@ mod opening;
 mod refusal;
 mod retiring;
 mod scanning;
-#[cfg(test)]
-mod tests;
 mod volume;
 
 pub use opening::{Opening, OwnedPart};

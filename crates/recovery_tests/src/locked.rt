@@ -1,5 +1,5 @@
 // Locks that have one pass each, and segments that lie under a spindle of their own.
-ghost use Rattle.std.specs.Prelude.{◌≡◌, ◌≤◌, ◌<◌, ◌^◌, [], IfSome};
+ghost use Rattle.std.specs.Prelude.{◌≡◌, ◌+◌, ◌≤◌, ◌^◌, [], IfSome};
 ghost use Rattle.turn_lock.specs.Passes.{pass_lock, pass_mine, pass_number};
 ghost use Rattle.wol_disk.specs.Memory.{mem_state};
 ghost use Rattle.log_segment.specs.Segment.{IsBlank};
@@ -8,7 +8,7 @@ ghost use Rattle.recovery_tests.specs.Rigs.{HasTwoHeld, IsFreshSegment, IsOwnedP
 
 use log_layout::{SegHead, write_seg};
 use log_scan::Adopted;
-use log_segment::{FreeSegment, Segment};
+use log_segment::{FreeSegment, Item, Segment};
 use log_tests::open_segment;
 use seg_pool::Pool;
 use spin_model::{Spindle, Spun};
@@ -133,36 +133,42 @@ fn owned_segment<R: Abort>(rt: &R, alloc: Global) -> Segment<MemDisk>
     }
 }
 
-// Its part with a record of blocks 1 and 2 of this version.
-fn with_record<R: Abort>(
+// Its part with records of blocks 1, 2 and 3, the first of this version.
+fn with_records<R: Abort>(
     rt: &R,
     alloc: Global,
     segment: Segment<MemDisk>,
     version: u64,
 ) -> Spun<MemDisk>
     requires fresh { IsFreshSegment segment }
-    requires version { (1 ≤ version) × (version < 2 ^ 63) }
+    requires version { (1 ≤ version) × (version + 3 ≤ 2 ^ 63) }
     ensures { IsOwnedPart result }
 {
     let mut segment = segment;
     let mut spindle = Spindle::new(alloc, 1, TIMEOUT);
     let token = spindle.need();
-    let added = segment.append(&token, version, 1, &[[7; 512], [8; 512]]);
+    let items = [
+        Item { lbn: 1, count: 1 },
+        Item { lbn: 2, count: 1 },
+        Item { lbn: 3, count: 1 },
+    ];
+    let added = segment.append_group(&token, version, &items, &[[7; 512], [8; 512], [9; 512]]);
     spindle.done(token);
     match added {
         Ok(_position) => segment.into_part(),
-        Err(_failed) => panic!(rt; "no record"),
+        Err(_failed) => panic!(rt; "no records"),
     }
 }
 
-/// The part of a segment of volume 0 in the image of volume 1, with a record of blocks 1 and 2 of this version, or without one.
+/// The part of a segment of volume 0 in the image of volume 1, with records of blocks 1, 2 and 3 of this version and the next ones,
+/// or without a record.
 pub fn owned_part<R: Abort>(rt: &R, alloc: Global, version: Option<u64>) -> Spun<MemDisk>
-    requires { IfSome version (λ v. (1 ≤ v) × (v < 2 ^ 63)) }
+    requires { IfSome version (λ v. (1 ≤ v) × (v + 3 ≤ 2 ^ 63)) }
     ensures { IsOwnedPart result }
 {
     let segment = owned_segment(rt, alloc);
     match version {
-        Some(version) => with_record(rt, alloc, segment, version),
+        Some(version) => with_records(rt, alloc, segment, version),
         None => segment.into_part(),
     }
 }

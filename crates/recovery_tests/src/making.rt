@@ -1,5 +1,5 @@
 // A volume that is about to be opened is made, and opened and taken apart.
-ghost use Rattle.std.specs.Prelude.{◌≡◌, ◌≤◌, ◌<◌, ◌^◌, ◌∷◌, [], false, length, IfSome};
+ghost use Rattle.std.specs.Prelude.{◌≡◌, ◌+◌, ◌≤◌, ◌^◌, ◌∷◌, [], false, length, IfSome};
 ghost use Rattle.turn_lock.specs.Passes.{pass_lock, pass_mine, IsFree};
 ghost use Rattle.spin_model.specs.Operations.{has_token};
 ghost use Rattle.logger.specs.Lanes.{AreAccesses};
@@ -65,7 +65,7 @@ fn lanes<R: Abort>(
     }
 }
 
-/// Home has so many blocks, and each of the segments a record of blocks 1 and 2 of its version, or none.
+/// Home has so many blocks, and each of the segments records of blocks 1, 2 and 3 of its version and the next ones, or none.
 pub fn new_rig<R: Abort>(
     rt: &R,
     alloc: Global,
@@ -74,8 +74,8 @@ pub fn new_rig<R: Abort>(
     second: Option<u64>,
 ) -> Rig
     requires home { (1 ≤ home) × (home ≤ 2 ^ 32) }
-    requires first { IfSome first (λ v. (1 ≤ v) × (v < 2 ^ 63)) }
-    requires second { IfSome second (λ v. (1 ≤ v) × (v < 2 ^ 63)) }
+    requires first { IfSome first (λ v. (1 ≤ v) × (v + 3 ≤ 2 ^ 63)) }
+    requires second { IfSome second (λ v. (1 ≤ v) × (v + 3 ≤ 2 ^ 63)) }
     ensures { IsRig result }
 {
     let (home_lock, home_pass) = spindle_of(rt, alloc, 0);

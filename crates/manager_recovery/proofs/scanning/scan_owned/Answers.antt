@@ -33,8 +33,11 @@ returns-in-None-clause-intact g c tells =
     (intact_from (reads v.0) o.logger o.index o.first_block c.args.id c.args.home c.in-Ok.scan (c.in-Ok.ensures.read.scanned v.0 v.1) c.in-None.ensures)
 
 pub returns-in-Some-clause-err : goal.returns-in-Some-clause-err
-returns-in-Some-clause-err g c tells =
-    let o = c.args.owned.now in
-    let v = g.met.D.Disk.told tells (disk_of o.part) in
-    let found = fault_from g.D.Disk.state c.args.id c.args.home o v.0 c.in-Ok.scan c.in-Some.pos c.ranges.id.fits v.1 c.requires.head (c.in-Ok.ensures.read.scanned v.0 v.1) c.in-Some.ensures in
-    (refl, subst (λ (p : ℕ). IsFault c.args.id c.args.home (owned_of g.D.Disk.state o) (o.first_block + p)) (sym c.from.ensures) found)
+returns-in-Some-clause-err g c = (
+  refl,
+  λ tells.
+      let o = c.args.owned.now in
+      let v = g.met.D.Disk.told tells (disk_of o.part) in
+      let found = fault_from g.D.Disk.state c.args.id c.args.home o v.0 c.in-Ok.scan c.in-Some.pos c.ranges.id.fits v.1 c.requires.head (c.in-Ok.ensures.read.scanned v.0 v.1) c.in-Some.ensures in
+      subst (λ (p : ℕ). IsFault c.args.id c.args.home (owned_of g.D.Disk.state o) (o.first_block + p)) (sym c.from.ensures) found,
+)
