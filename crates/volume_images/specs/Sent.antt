@@ -1,9 +1,10 @@
 -- An image that went out to be read. `state` is that of a part's disk.
 use Rattle.std.specs.Prelude.{◌≡◌, ◌≢◌, ◌≤◌, ◌+◌, ℕ, List, [], Option, option_map, vec_capacity}
-use Rattle.wol_disk.specs.Disk.{Block, Values, State, Rose}
+use Rattle.wol_disk.specs.Disk.{Block, Values, State, Rose, settled}
 use Rattle.wol_model.specs.Heads.{Shape}
 use Rattle.wol_bay.specs.Bay.{Name, BayState, came_back}
 use Rattle.wol_bay.specs.Parts.{AreCut, blocks_of, faulty_places}
+use Rattle.spin_model.specs.Spun.{state_of}
 use Rattle.volume_images.specs.declared.parts.ImageParts.{ImageParts}
 use Rattle.volume_images.specs.declared.attach.OutParts.{OutParts}
 use Rattle.volume_images.specs.declared.attach.OutImage.{OutImage}
@@ -25,7 +26,8 @@ pub record IsOpenable {D : Type 0} (state : D → State) (volumes own : ℕ) (s 
   pub read : IsReadImage state before o.parts.image
   pub calm : IsCalmImage state before o.parts.image
   pub may : MayOpen state volumes own s before o.view o.heads.items
-  -- each segment was synced before its head was read
+  -- label and view were synced, and each segment before its head was read
+  pub synced : (state_of state o.parts.image.label).values ≡ option_map settled (state_of state before.label).values
   pub always : AlwaysSay state volumes o.parts.image.segments.items o.heads.items
   pub of_volume : AreOfVolume own o.parts.image
   pub empty : o.parts.room.items ≡ []

@@ -12,8 +12,6 @@ mod opening;
 mod part;
 mod parts;
 mod reading;
-#[cfg(test)]
-mod tests;
 
 pub use attach::{OutImage, OutParts};
 pub use fault::{PartName, RackFault};

@@ -1,5 +1,6 @@
 // What one image says is read: its label, its view, and the heads of its segments.
-ghost use Rattle.std.specs.Prelude.{◌≡◌, ◌≤◌, ◌<◌, ◌^◌, [], ℕ, length, IfOk, IfErr, OnOk, IsErrOf, All, vec_capacity};
+ghost use Rattle.std.specs.Prelude.{◌≡◌, ◌≤◌, ◌<◌, ◌^◌, [], ℕ, length, option_map, IfOk, IfErr, OnOk, IsErrOf, All, vec_capacity};
+ghost use Rattle.wol_disk.specs.Disk.{settled};
 ghost use Rattle.wol_model.specs.Heads.{IsShape};
 ghost use Rattle.spin_model.specs.Spun.{volume_of, state_of, token_volume};
 ghost use Rattle.log_layout.specs.Values.{shape_of};
@@ -87,6 +88,7 @@ pub(crate) fn read_image<D: Disk>(
     requires room { want.now.segments ≤ vec_capacity heads.old }
     ensures ok { IfOk result (λ view. MayOpen D.state volumes want.now.id (shape_of want.now) parts.old view heads.new.items) }
     ensures always { OnOk result (AlwaysSay D.state volumes parts.new.segments.items heads.new.items) }
+    ensures synced { OnOk result ((state_of D.state parts.new.label).values ≡ option_map settled (state_of D.state parts.old.label).values) }
     ensures refused { IfErr result (MayNotOpen D.state volumes want.now.id (shape_of want.now) parts.old parts.new) }
     ensures calm { OnOk result (IsCalmImage D.state parts.old parts.new) }
     ensures read { IsReadImage D.state parts.old parts.new }

@@ -41,7 +41,7 @@ returns-in-Ok-clause-ok g c =
     let o = c.requires.out in
     let are = sent_parts state g.met.B.Part.Disk.sound c.args.want.now.id s o.0 c.args.out o.1 in
     let read = read_parts state c.args.want.now.id s c.args.out.image c.read_image.new.parts are c.read_image.ensures.read in
-    record { read = c.read_image.ensures.read; calm = c.in-Ok.ensures.calm; may = c.in-Ok.ensures.ok; always = c.in-Ok.ensures.always; of_volume = read.of_volume; empty = o.1.empty; room = o.1.room }
+    record { read = c.read_image.ensures.read; calm = c.in-Ok.ensures.calm; may = c.in-Ok.ensures.ok; synced = c.in-Ok.ensures.synced; always = c.in-Ok.ensures.always; of_volume = read.of_volume; empty = o.1.empty; room = o.1.room }
 
 pub returns-in-Err-clause-refused : goal.returns-in-Err-clause-refused
 returns-in-Err-clause-refused g c =
