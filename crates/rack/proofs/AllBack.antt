@@ -1,16 +1,15 @@
 -- Images that were only read and went back to their bay.
-use Rattle.std.proofs.Common.{◌≡◌, ◌≢◌, ◌⊎◌, inl, inr, ⊎_elim, ℕ, zero, suc, ◌+◌, ◌-◌, ◌*◌, ◌<◌, ◌≤◌, Bool, true, false, List, [], ◌∷◌, ◌++◌, length, map, take, drop, get_or, Option, None, Some, option_map, IfSome, refl, sym, ap, ◌∙◌, subst, arith}
-use Rattle.std.specs.Prelude.{slice_get, slice_range, IsSome, IsTrue, is_some, All}
-use Rattle.std.specs.List.{filter_map}
-use Rattle.std.specs.Option.{option_to_list}
+use Rattle.std.proofs.Common.{◌≡◌, ◌≢◌, ◌⊎◌, inl, inr, ⊎_elim, ℕ, zero, suc, ◌+◌, ◌-◌, ◌*◌, ◌<◌, ◌≤◌, Bool, List, [], ◌∷◌, ◌++◌, length, map, take, drop, get_or, Option, None, Some, option_map, refl, sym, ap, ◌∙◌, subst, arith}
+use Rattle.std.specs.Prelude.{slice_get, slice_range, IsTrue}
 use Rattle.std.proofs.Math.Nat.{suc-mul}
 use Rattle.std.proofs.lemmas.List.{drop-drop, take_all, length-map, get_or-map, get_or_past}
 use Rattle.std.proofs.lemmas.Bool.{cases_lt}
-use Rattle.std.proofs.lemmas.Option.{none-some, same_Some, slice_get_within, slice_get-map, get_or_from_slice_get}
+use Rattle.std.proofs.lemmas.Option.{none-some, same_Some, slice_get-map}
 use Rattle.wol_disk.specs.Disk.{Block, Values, State, TellsContent, IsImage, IsImageOf}
+use Rattle.wol_disk.proofs.Images.{image_reads}
 use Rattle.wol_model.specs.Heads.{Shape}
 use Rattle.wol_model.specs.Images.{image_size}
-use Rattle.wol_bay.specs.Bay.{Name, Image, Told, BayState, at_name, outs, IsHome}
+use Rattle.wol_bay.specs.Bay.{Name, Image, Told, BayState, at_name, outs}
 use Rattle.wol_bay.specs.Parts.{blocks_of}
 use Rattle.wol_bay.proofs.OneImage.{all_told}
 use Rattle.wol_config.specs.declared.config.Config.{Config}
@@ -23,12 +22,12 @@ use Rattle.volume_images.proofs.SettledParts.{cut_image}
 use Rattle.rack.specs.Rests.{image_here, IsImageOut}
 use Rattle.rack.specs.Closing.{IsComplete, GivesBack, LeavesNoneOut}
 use Rattle.rack.specs.Parts.{IsTogether}
-use Rattle.rack.specs.Opens.{out_names}
-use Rattle.rack.specs.Opening.{IsCutOf, AreCutOf, AreAsked, HasSentOut, HasAllBack, LeavesNoMore, StayedSo, said_at}
+use Rattle.rack.specs.Opening.{AreCutOf, AreAsked, HasSentOut, HasAllBack, LeavesNoMore, StayedSo}
 use Rattle.rack.specs.declared.images.Images.{Images}
 use Rattle.rack.specs.declared.rack.ImageRest.{ImageRest}
 use Rattle.rack.proofs.Asking.{some_at}
-use Rattle.rack.proofs.SentNames.{cases_name}
+use Rattle.rack.proofs.CutParts.{reads_range}
+use Rattle.rack.proofs.SentNames.{cases_name, none_named}
 
 image_both : (vs ws : List (Values Block)) (c d : List Block) → IsImage vs c → IsImage ws d → IsImage (vs ++ ws) (c ++ d)
 image_both [] ws [] d i j = j
@@ -41,14 +40,14 @@ take_join zero k ys = ap (λ (n : ℕ). take n ys) (let e : k ≡ 0 + k = omega 
 take_join (suc m) k [] = take_all k [] (omega arith) ∙ sym (take_all (suc m + k) [] (omega arith))
 take_join (suc m) k (y ∷ ys) = let e : suc (m + k) ≡ suc m + k = omega arith in ap (λ l. y ∷ l) (take_join m k ys) ∙ ap (λ (n : ℕ). take n (y ∷ ys)) e
 
-slice_join : {A : Type 0} (xs : List A) (a b c : ℕ) → a ≤ b → b ≤ c → slice_range xs a b ++ slice_range xs b c ≡ slice_range xs a c
+pub slice_join : {A : Type 0} (xs : List A) (a b c : ℕ) → a ≤ b → b ≤ c → slice_range xs a b ++ slice_range xs b c ≡ slice_range xs a c
 slice_join xs a b c le le' =
     let at : a + (b - a) ≡ b = omega (arith, le) in
     let long : b - a + (c - b) ≡ c - a = omega (arith, le, le') in
     ap (λ l. take (b - a) (drop a xs) ++ take (c - b) l) (sym (drop-drop (b - a) a xs ∙ ap (λ (n : ℕ). drop n xs) at)) ∙ take_join (b - a) (c - b) (drop a xs) ∙ ap (λ (n : ℕ). take n (drop a xs)) long
 
 -- the whole from its parts
-both_slices : (bs : List (Values Block)) (a b c : ℕ) (x y : List Block) → a ≤ b → b ≤ c → IsImage (slice_range bs a b) x → IsImage (slice_range bs b c) y → IsImage (slice_range bs a c) (x ++ y)
+pub both_slices : (bs : List (Values Block)) (a b c : ℕ) (x y : List Block) → a ≤ b → b ≤ c → IsImage (slice_range bs a b) x → IsImage (slice_range bs b c) y → IsImage (slice_range bs a c) (x ++ y)
 both_slices bs a b c x y le le' i j = subst (λ (vs : List (Values Block)). IsImage vs (x ++ y)) (slice_join bs a b c le le') (image_both (slice_range bs a b) (slice_range bs b c) x y i j)
 
 module _ {D : Type 0} (state : D → State) where
@@ -100,7 +99,7 @@ module _ {D : Type 0} (state : D → State) where
       let with_home : IsImage (slice_range i.blocks 2 (at + n * s.segment_blocks)) (home.first ++ home.rest) =
       both_slices i.blocks 2 at (at + n * s.segment_blocks) home.first home.rest (omega arith) (omega arith) ((cut.home all.home all.home_is).had home.first home.in_front) behind in
       let whole : IsImage (slice_range i.blocks 0 (at + n * s.segment_blocks)) (front.first ++ (home.first ++ home.rest)) =
-      both_slices i.blocks 0 2 (at + n * s.segment_blocks) front.first (home.first ++ home.rest) (omega arith) (omega arith) (cut.label front.first front.in_front) with_home in
+      both_slices i.blocks 0 2 (at + n * s.segment_blocks) front.first (home.first ++ home.rest) (omega arith) (omega arith) (subst (λ (c : List Block). IsImage (slice_range i.blocks 0 2) c) (reads_range i.blocks 0 2 ∙ sym (cut.label front.first front.in_front)) (image_reads (slice_range i.blocks 0 2))) with_home in
       let end : at + n * s.segment_blocks ≡ length i.blocks = ap (λ (m : ℕ). at + m * s.segment_blocks) long ∙ sym size in
       let is : x ≡ front.first ++ (home.first ++ home.rest) = front.is ∙ ap (λ (l : List Block). front.first ++ l) home.is in
       let full : slice_range i.blocks 0 (at + n * s.segment_blocks) ≡ i.blocks = ap (λ (m : ℕ). slice_range i.blocks 0 m) end ∙ take_all (length i.blocks - 0) i.blocks (omega arith) in
@@ -171,16 +170,11 @@ module _ {D : Type 0} (tells : Bool) (state : D → State) (told : IsTrue tells 
 
   pub all_back : NoneOut config b → LeavesNoneOut config i.out.items (outs b1) (outs b2) → b1.faults ≤ b2.faults → HasAllBack tells b b2
   all_back home none counts = record {
-    outs = none (outs b) (go_home b.told home) sent.outs;
+    outs = none (outs b) (none_named config b home) sent.outs;
     left = λ telling. go_left telling b.told b1.told b2.told refl sent.stayed back;
     counts = let c = sent.counts in omega (arith, c, counts);
   }
     where
-      go_home : (o : Option Told) → All (λ (v : VolumeConf). IfSome o (λ t. at_name v.name t.out ≡ None)) config.volumes.items
-          → IfSome (option_map (λ t. t.out) o) (λ os. All (λ (v : VolumeConf). at_name v.name os ≡ None) config.volumes.items)
-      go_home None all = tt
-      go_home (Some t) all = λ k d lt. all k d lt
-
       go_left : IsTrue tells → (o o1 o2 : Option Told) → b.told ≡ o → IsTold (StayedSo config i.out.items n) o o1 → IsTold (GivesBack state config i.out.items 0) o1 o2 → IsTold LeavesNoMore o o2
       go_left telling None None o2 is s g = g
       go_left telling None (Some t1) o2 is s g = absurd (cc s)

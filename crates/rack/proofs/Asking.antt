@@ -1,30 +1,24 @@
 -- The images of a configuration that are asked for one after the other.
-use Rattle.std.proofs.Common.{◌≡◌, ◌≢◌, ◌⊎◌, inl, inr, ⊎_elim, ℕ, zero, suc, ◌+◌, ◌-◌, ◌^◌, ◌<◌, ◌≤◌, Bool, true, false, List, [], ◌∷◌, ◌++◌, length, map, get_or, Option, None, Some, option_map, IfSome, Result, Ok, Err, IfOk, IfErr, refl, sym, ap, ◌∙◌, subst, arith, append_assoc}
-use Rattle.std.specs.Prelude.{slice_get, IsSome, IsTrue, is_some}
-use Rattle.std.specs.Str.{bytes_eq}
+use Rattle.std.proofs.Common.{◌≡◌, ◌⊎◌, inl, inr, ⊎_elim, ℕ, zero, suc, ◌+◌, ◌-◌, ◌^◌, ◌<◌, ◌≤◌, Bool, true, false, List, [], ◌∷◌, ◌++◌, length, get_or, Option, None, Some, option_map, IfSome, Result, Ok, Err, IfOk, IfErr, refl, sym, ap, ◌∙◌, subst, arith}
+use Rattle.std.specs.Prelude.{slice_get, IsSome, is_some}
 use Rattle.std.proofs.lemmas.Bool.{cases_lt}
-use Rattle.std.proofs.lemmas.List.{get_or_append_left, get_or_push, get_or_past, length_push, get_or_default}
-use Rattle.std.proofs.lemmas.Option.{none-some, same_Some, slice_get_within, slice_get-map, get_or_from_slice_get}
-use Rattle.std.proofs.lemmas.Slice.Eq.{bytes_eq-Decides}
-use Rattle.wol_disk.specs.Disk.{Block, State, Rose, reads}
+use Rattle.std.proofs.lemmas.List.{get_or_append_left, get_or_push, get_or_past, length_push}
+use Rattle.std.proofs.lemmas.Option.{none-some, same_Some, slice_get-map}
+use Rattle.wol_disk.specs.Disk.{State, Rose}
 use Rattle.wol_model.specs.Heads.{Shape}
-use Rattle.wol_bay.specs.Bay.{Name, Image, Told, BayState, at_name, without, outs, sent_out}
+use Rattle.wol_bay.specs.Bay.{Name, Told, BayState, at_name}
 use Rattle.wol_bay.specs.Refusals.{refusal, refusal_of}
 use Rattle.wol_bay.specs.declared.fault.BayFault.{BayFault}
-use Rattle.wol_bay.proofs.NameLists.{without_none}
-use Rattle.wol_config.specs.Configs.{IsValid}
 use Rattle.wol_config.specs.declared.config.Config.{Config}
 use Rattle.wol_config.specs.declared.config.VolumeConf.{VolumeConf}
 use Rattle.volume_images.specs.Formatted.{part_sizes}
 use Rattle.volume_images.specs.Left.{AreNamedApart, IsTold}
-use Rattle.volume_images.specs.Refusals.{IsCallFault}
-use Rattle.volume_images.specs.Volumes.{shape_in, shapes_of, MayLeave}
-use Rattle.volume_images.proofs.NamedApart.{other_gone, second_gone}
+use Rattle.volume_images.specs.Volumes.{shape_in, shapes_of}
 use Rattle.volume_images.proofs.Refused.{rose_since}
-use Rattle.rack.specs.Rests.{image_here, IsImageOut}
+use Rattle.rack.specs.Rests.{image_here}
 use Rattle.rack.specs.Making.{AreNewImages, PushesImage}
-use Rattle.rack.specs.Opens.{out_names, RefusesVolume, RefusesImage}
-use Rattle.rack.specs.Opening.{said_at, fault_at, IsRefused, IsOut, WasAtEntry, AreAsked, IsNextOpened, IsNextRefused, StayedAs, StayedSo, HasSentOut, LeavesNoMore}
+use Rattle.rack.specs.Opens.{RefusesVolume, RefusesImage}
+use Rattle.rack.specs.Opening.{said_at, fault_at, IsRefused, IsOut, WasAtEntry, AreAsked, IsNextOpened, IsNextRefused}
 use Rattle.rack.specs.declared.heads_said.Said.{Said}
 use Rattle.rack.specs.declared.images.Images.{Images}
 use Rattle.rack.specs.declared.rack.ImageRest.{ImageRest}

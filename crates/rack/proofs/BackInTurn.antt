@@ -1,20 +1,19 @@
 -- The images of a rack go back to their bay in turn, the last first.
-use Rattle.std.proofs.Common.{◌≡◌, ◌≢◌, ◌<◌, ◌≤◌, ◌+◌, ◌⊎◌, inl, inr, ℕ, suc, List, [], ◌∷◌, ◌++◌, length, take, get_or, map, Option, Some, None, option_map, is_some, refl, sym, ap, ◌∙◌, subst, arith}
-use Rattle.std.specs.Prelude.{Contains, All, AllPairs, IsSome, IfSome, slice_get, slice_index_or}
+use Rattle.std.proofs.Common.{◌≡◌, ◌≢◌, ◌<◌, ◌≤◌, ◌⊎◌, inl, inr, ℕ, suc, List, [], ◌∷◌, ◌++◌, length, take, map, Option, Some, None, option_map, refl, sym, ap, ◌∙◌, subst, arith}
+use Rattle.std.specs.Prelude.{All, IfSome, slice_get}
 use Rattle.std.proofs.lemmas.Bool.{cases_eq, cases_lt}
 use Rattle.std.proofs.lemmas.List.{take_all, get_or_default, length-map}
-use Rattle.std.proofs.lemmas.Option.{none-some, same_Some, slice_get-get_or, slice_get_within, get_or_from_slice_get, slice_get-map}
+use Rattle.std.proofs.lemmas.Option.{none-some, same_Some, slice_get_within, get_or_from_slice_get}
 use Rattle.std.proofs.lemmas.List.Elements.{All-contains}
 use Rattle.wol_disk.specs.Disk.{State, Rose}
-use Rattle.wol_bay.specs.Bay.{Name, Told, BayState, outs, at_name, without, came_back, IsHome, IsOut}
+use Rattle.wol_bay.specs.Bay.{Name, Told, BayState, outs, at_name, without, came_back, IsOut}
 use Rattle.wol_bay.specs.Parts.{blocks_of, faulty_places}
 use Rattle.wol_config.specs.Configs.{IsValid}
 use Rattle.wol_config.specs.declared.config.Config.{Config}
 use Rattle.wol_config.specs.declared.config.VolumeConf.{VolumeConf}
 use Rattle.volume_images.specs.Formatted.{part_sizes}
 use Rattle.volume_images.specs.Left.{AreNamedApart, IsTold}
-use Rattle.volume_images.specs.Volumes.{shape_in, shapes_of}
-use Rattle.volume_images.proofs.InOrder.{told_then}
+use Rattle.volume_images.specs.Volumes.{shape_in}
 use Rattle.volume_images.proofs.NamedApart.{other_gone}
 use Rattle.rack.specs.Rests.{image_here, IsImageOut}
 use Rattle.rack.specs.Opens.{out_names}

@@ -1,12 +1,11 @@
 -- Parts that were cut from an image and read.
-use Rattle.std.proofs.Common.{◌≡◌, ⊎_elim, ℕ, zero, suc, ◌+◌, ◌-◌, ◌*◌, ◌<◌, List, [], ◌∷◌, length, map, take, drop, replicate, get_or, Option, Some, option_map, refl, sym, ap, ◌∙◌, subst, arith}
+use Rattle.std.proofs.Common.{◌≡◌, ⊎_elim, ℕ, zero, suc, ◌+◌, ◌-◌, ◌*◌, ◌<◌, List, [], ◌∷◌, map, take, drop, replicate, get_or, Option, Some, option_map, refl, sym, ap, ◌∙◌, subst, arith}
 use Rattle.std.specs.Prelude.{slice_range, unwrap_or}
 use Rattle.std.proofs.Math.Nat.{suc-mul, add-mul}
 use Rattle.std.proofs.lemmas.List.{take-map, drop-map, drop-drop}
-use Rattle.wol_disk.specs.Disk.{Block, Values, State, IsImageOf, reads, settled}
-use Rattle.wol_disk.proofs.Images.{settled_image}
+use Rattle.wol_disk.specs.Disk.{Block, Values, State, IsImageOf, only, reads, settled}
+use Rattle.wol_disk.proofs.Images.{settled_image, only_image}
 use Rattle.wol_model.specs.Heads.{Shape}
-use Rattle.wol_bay.specs.Bay.{Image}
 use Rattle.wol_bay.specs.Parts.{AreCut}
 use Rattle.spin_model.specs.Spun.{state_of, disk_of}
 use Rattle.spin_model.specs.declared.spun.Spun.{Spun}
@@ -17,7 +16,7 @@ use Rattle.volume_images.specs.Formatted.{part_sizes}
 use Rattle.volume_images.specs.Reads.{IsOnlyRead}
 use Rattle.volume_images.specs.declared.parts.ImageParts.{ImageParts}
 
-reads_range : (vs : List (Values Block)) (a b : ℕ) → reads (slice_range vs a b) ≡ slice_range (reads vs) a b
+pub reads_range : (vs : List (Values Block)) (a b : ℕ) → reads (slice_range vs a b) ≡ slice_range (reads vs) a b
 reads_range vs a b = sym (take-map (λ (v : Values Block). v.now) (b - a) (drop a vs)) ∙ ap (take (b - a)) (sym (drop-map (λ (v : Values Block). v.now) a vs))
 
 reads_settled : (vs : List (Values Block)) → reads (settled vs) ≡ reads vs
@@ -41,6 +40,12 @@ module _ (old new : State) (vs : List (Values Block)) (a b : ℕ) (read : IsOnly
       (λ (e : new.values ≡ old.values). subst P (e ∙ told) i)
       (λ (e : new.values ≡ option_map settled old.values). settled_image (slice_range vs a b) c (subst P (e ∙ ap (option_map settled) told) i))
       read.values
+
+-- one that was synced has no image but what it reads
+pub cut_synced : (old new : State) (vs : List (Values Block)) (a b : ℕ) → new.values ≡ option_map settled old.values → old.values ≡ Some (slice_range vs a b) → (c : List Block) → IsImageOf new.values c → c ≡ slice_range (reads vs) a b
+cut_synced old new vs a b synced told c is =
+    let one : IsImageOf (Some (only (reads (slice_range vs a b)))) c = subst (λ (o : Option (List (Values Block))). IsImageOf o c) (synced ∙ ap (option_map settled) told) is in
+    only_image (reads (slice_range vs a b)) c one ∙ reads_range vs a b
 
 module _ {D : Type 0} (state : D → State) where
   cut_row : (vs : List (Values Block)) (n size : ℕ) (qs : List (Spun D)) (j : ℕ) (d : Spun D) → AreCut state (Some vs) (replicate n size) (map (λ (q : Spun D). disk_of q) qs) → j < n

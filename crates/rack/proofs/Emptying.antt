@@ -1,9 +1,9 @@
 -- A pool is emptied into what is here of its image.
-use Rattle.std.proofs.Common.{◌≡◌, ◌≢◌, ◌<◌, ◌⊎◌, ⊎_elim, inl, inr, ℕ, List, [], ◌∷◌, length, Option, None, Some, is_some, refl, sym, ap, subst, ◌∙◌, arith}
+use Rattle.std.proofs.Common.{◌≡◌, ◌≢◌, ◌<◌, ◌⊎◌, ⊎_elim, inl, inr, ℕ, List, length, Option, None, Some, is_some, refl, sym, ap, subst, ◌∙◌}
 use Rattle.std.specs.Prelude.{IsSome, IfSome, MatchOption, slice_index_or, slice_set}
 use Rattle.std.proofs.lemmas.Bool.{cases_eq, false≢true}
 use Rattle.std.proofs.lemmas.List.{length-set, get_or-set_same, get_or-set_other}
-use Rattle.std.proofs.lemmas.Option.{none-some, same_Some}
+use Rattle.std.proofs.lemmas.Option.{none-some}
 use Rattle.spin_model.specs.declared.spun.Spun.{Spun}
 use Rattle.seg_pool.specs.Pools.{IsEmptyPool, item_at, ChangesOnly}
 use Rattle.seg_pool.specs.declared.pool.Pool.{Pool}
@@ -11,7 +11,7 @@ use Rattle.log_segment.specs.Segment.{free_part}
 use Rattle.log_segment.specs.declared.free.FreeSegment.{FreeSegment}
 use Rattle.rack.specs.Rests.{segment_here}
 use Rattle.rack.specs.Making.{IsFilled}
-use Rattle.rack.specs.Parts.{HasPlaces, IsSameBut, IsRefilled, EmptiesInto, item_part, either_part}
+use Rattle.rack.specs.Parts.{HasPlaces, IsSameBut, EmptiesInto, item_part, either_part}
 use Rattle.rack.specs.declared.rack.ImageRest.{ImageRest}
 
 module _ {D : Type 0} where

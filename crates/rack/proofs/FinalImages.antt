@@ -1,14 +1,14 @@
 -- The images that a crash leaves of a rack that was closed, by its parts.
 use Rattle.std.proofs.Common.{◌≡◌, ◌≢◌, ◌<◌, ◌≤◌, ◌+◌, ◌^◌, ◌⊎◌, inl, inr, ℕ, zero, suc, Bool, true, false, cond, List, [], ◌∷◌, length, map, Option, Some, None, is_some, not, option_map, refl, sym, ap, ◌∙◌, subst, arith}
-use Rattle.std.specs.Prelude.{Contains, IsTrue, slice_get, slice_index_or, slice_range, unwrap_or}
+use Rattle.std.specs.Prelude.{Contains, IsTrue, slice_get, unwrap_or}
 use Rattle.std.specs.List.{AllByRecursion}
 use Rattle.std.proofs.lemmas.Bool.{cases_eq, cases_lt}
 use Rattle.std.proofs.lemmas.List.{length-map}
 use Rattle.std.proofs.lemmas.Option.{none-some, same_Some, slice_get_within, slice_get-map, get_or_from_slice_get}
 use Rattle.std.proofs.lemmas.List.Elements.{All-contains}
-use Rattle.wol_disk.specs.Disk.{Block, State, Values, IsDisk, TellsContent, IsImageOf}
+use Rattle.wol_disk.specs.Disk.{Block, State, IsDisk, TellsContent, IsImageOf}
 use Rattle.wol_model.specs.Heads.{Shape}
-use Rattle.wol_model.specs.Images.{Images, image_of, image_size, home_in, segment_of, accepted_from, accepted}
+use Rattle.wol_model.specs.Images.{Images, image_of, home_in, segment_of, accepted_from, accepted}
 use Rattle.wol_model.specs.Log.{Record}
 use Rattle.wol_model.specs.Blocks.{after}
 use Rattle.wol_model.specs.Extents.{AreDistinct, covers_of}
@@ -17,10 +17,9 @@ use Rattle.wol_model.specs.Recovered.{extents_in, extents_of}
 use Rattle.wol_promise.specs.Ruled.{entries_of}
 use Rattle.wol_model.proofs.Images.{idle_none}
 use Rattle.wol_promise.specs.Manager.{Held, SaysOwnerOrFree}
-use Rattle.wol_promise.specs.Stands.{IsHeldBy}
-use Rattle.wol_bay.specs.Bay.{Told, BayState, at_name}
+use Rattle.wol_promise.specs.Stands.{IsHeldBy, IsSoundOf}
+use Rattle.wol_bay.specs.Bay.{Told, BayState}
 use Rattle.wol_config.specs.declared.config.Config.{Config}
-use Rattle.wol_config.specs.declared.config.VolumeConf.{VolumeConf}
 use Rattle.turn_lock.specs.Passes.{lock_id}
 use Rattle.turn_lock.specs.declared.lock.TurnLock.{TurnLock}
 use Rattle.spin_model.specs.Spun.{state_of, volume_of}
@@ -37,7 +36,7 @@ use Rattle.manager.specs.Seen.{parts_of, all_held}
 use Rattle.manager.specs.Stands.{notes_of}
 use Rattle.manager.specs.declared.base.ManagerBase.{ManagerBase}
 use Rattle.manager.specs.declared.station.Station.{Station}
-use Rattle.volume_images.specs.Volumes.{shape_in, shapes_of, MayLeave, AreLeft}
+use Rattle.volume_images.specs.Volumes.{shapes_of, AreLeft}
 use Rattle.rack.specs.Foreign.{IsForeign}
 use Rattle.rack.specs.Closes.{segments_out, recovered_out}
 use Rattle.rack.specs.Rests.{image_here, segment_here, held_here, away_with, IsImageOut, IsSegmentHere, IsRest}
@@ -47,14 +46,14 @@ use Rattle.rack.specs.Closing.{Closing, IsClosing, ClosesStations, KeepsButHome,
 use Rattle.rack.specs.declared.rack.ImageRest.{ImageRest}
 use Rattle.rack.specs.declared.rack.Rack.{Rack}
 use Rattle.rack.specs.declared.rack.Rest.{Rest}
-use Rattle.rack.proofs.Members.{a_value, is_there, element_at, here_within, of_map, in_map, none_in}
+use Rattle.rack.proofs.Members.{a_value, is_there, here_within, of_map, in_map, none_in}
 use Rattle.rack.proofs.LanesAway.{is_lane_of}
-use Rattle.rack.proofs.LeftParts.{all_told, left_size, left_label, left_home, left_segment}
+pub use Rattle.rack.proofs.LeftImage.{volume_at, IsLeftNow, left_image}
 use Rattle.rack.proofs.Closable.{blocks_at, image_was, images_rest, images_whole}
 use Rattle.rack.proofs.RackClosed.{same_out}
 use Rattle.rack.proofs.StationParts.{zip_at, among, is_base, is_station, image_end, shape_of_image, home_there, lane_there}
 use Rattle.rack.proofs.HeldSegments.{no_log, not_of_other, each_held, of_held}
-use Rattle.rack.proofs.StationRecovers.{IsThereNow, AreLeftNow, cut_now, whole_now, distinct_now}
+use Rattle.rack.proofs.StationRecovers.{blocks_in, IsThereNow, AreLeftNow, cut_now, whole_now, distinct_now, sound_now}
 
 -- ---- Images without those that were refused
 
@@ -67,20 +66,6 @@ accepted_at n refused [] k = no_image (refused (n + k))
 accepted_at n refused (x ∷ images) zero = ap (λ (m : ℕ). cond (refused m) None x) (omega arith)
 accepted_at n refused (x ∷ images) (suc k) = accepted_at (n + 1) refused images k ∙ ap (λ (m : ℕ). cond (refused m) None (image_of images k)) (omega arith)
 
--- the image of a shape, by its volume
-pub volume_at : (config : Config) (k : ℕ) (z : Shape) → slice_get (shapes_of config) k ≡ Some z → (v : VolumeConf) × (slice_get config.volumes.items k ≡ Some v) × (shape_in config v ≡ z)
-volume_at config k z at =
-    let n = length-map config.volumes.items (shape_in config) in
-    let v = element_at config.volumes.items k (let w = slice_get_within (shapes_of config) k z at in omega (arith, n, w)) in
-    (v.0, v.1, same_Some (shape_in config v.0) z (sym (slice_get-map (shape_in config) config.volumes.items k ∙ ap (option_map (shape_in config)) v.1) ∙ at))
-
--- what is left of an image's parts
-pub record IsLeftNow {D : Type 0} (state : D → State) (z : Shape) (q : ImageRest D) (c : List Block) : Type 0 where
-  pub size : length c ≡ image_size z
-  pub label : IsImageOf (state_of state q.label).values (slice_range c 0 2)
-  pub home : (p : Spun D) → q.home ≡ Some p → IsImageOf (state_of state p).values (slice_range c 2 (2 + z.home))
-  pub segments : (i : ℕ) (p : Spun D) → segment_here q i ≡ Some p → IsImageOf (state_of state p).values (segment_of z c i)
-
 module _ {D : Type 0} (state : D → State) (tells : Bool) (told : IsTrue tells) (tell_all : (d : D) → TellsContent (state d)) (sound : (d : D) → IsDisk (state d)) (config : Config) (few_volumes : length (shapes_of config) ≤ 64)
     (b : BayState) (r : Rack D) (can : IsClosable state config b r) (first second : Rest D) (is : IsRest state config r.shared [] first)
     (closed : ClosesStations tells state r.stations.items r.rest first)
@@ -91,37 +76,7 @@ module _ {D : Type 0} (state : D → State) (tells : Bool) (told : IsTrue tells)
 
   -- the image of a volume whose parts went back
   pub left_now : (k : ℕ) (z : Shape) (q : ImageRest D) → slice_get (shapes_of config) k ≡ Some z → image_here second.images.items k ≡ Some q → (c : List Block) × (image_of images k ≡ Some c) × IsLeftNow state z q c
-  left_now k z q at here = go (image_of images k) refl may
-    where
-      v : (v : VolumeConf) × (slice_get config.volumes.items k ≡ Some v) × (shape_in config v ≡ z)
-      v = volume_at config k z at
-
-      back : Rattle.rack.specs.Closing.IsStoredAs state v.0.name q given.more new
-      back = given.back k v.0 q (omega arith) v.1 here
-
-      vs : (vs : List (Values Block)) × (Rattle.wol_bay.specs.Parts.blocks_of state back.disks ≡ Some vs)
-      vs = all_told state tell_all back.disks
-
-      may : MayLeave (Some (record { blocks = vs.0; rest = [] })) (image_of images k)
-      may =
-          let one = left.each k v.0 (slice_get_within config.volumes.items k v.0 v.1) in
-          let name : (slice_index_or config.volumes.items k v.0).name ≡ v.0.name = ap (λ (w : VolumeConf). w.name) (get_or_from_slice_get config.volumes.items k v.0 v.0 v.1) in
-          subst (λ o. MayLeave o (image_of images k)) (ap (λ n. at_name n new.images) name ∙ back.stored vs.0 vs.1) one
-
-      go : (o : Option (List Block)) → image_of images k ≡ o → MayLeave (Some (record { blocks = vs.0; rest = [] })) (image_of images k) → (c : List Block) × (image_of images k ≡ Some c) × IsLeftNow state z q c
-      go None e m = absurd ((subst (λ o. MayLeave (Some (record { blocks = vs.0; rest = [] })) o) e m) refl)
-      go (Some c) e m =
-          let image = (subst (λ o. MayLeave (Some (record { blocks = vs.0; rest = [] })) o) e m).1 in
-          let rest = (images_rest state config r.shared first can.locks is second kept.image_count filled).1 k z q at here in (
-            c,
-            e,
-            record {
-              size = left_size state sound k z q rest back.disks back.together vs.0 vs.1 c image;
-              label = left_label state sound k z q rest back.disks back.together vs.0 vs.1 c image;
-              home = left_home state sound k z q rest back.disks back.together vs.0 vs.1 c image;
-              segments = left_segment state sound k z q rest back.disks back.together vs.0 vs.1 c image;
-            },
-          )
+  left_now k z q at here = left_image state tell_all sound config new images left k z q at ((images_rest state config r.shared first can.locks is second kept.image_count filled).1 k z q at here) given.more (λ v of. given.back k v q (omega arith) of here)
 
   abbrev refused : ℕ → Bool
   refused k = not (is_some (image_here r.rest.images.items k))
@@ -340,19 +295,30 @@ module _ {D : Type 0} (state : D → State) (tells : Bool) (told : IsTrue tells)
     }
 
     -- what it recovers to
-    pub cut_left : AreDistinct (covers_of (extents_of s.id (segments_out config r.rest.images.items images)))
-        → IsCut base.volume.began.array (writes (entries_of notes)) (unwrap_or (flight_of (entries_of notes)) []) (recovered_out config r.rest.images.items images s.id)
-    cut_left distinct =
+    pub cut_left : IsCut base.volume.began.array (writes (entries_of notes)) (unwrap_or (flight_of (entries_of notes)) []) (recovered_out config r.rest.images.items images s.id)
+    cut_left =
         subst (λ (v : ℕ). IsCut base.volume.began.array (writes (entries_of notes)) (unwrap_or (flight_of (entries_of notes)) []) (recovered_out config r.rest.images.items images v)) owner_is
-        (cut_now tells state told c.manager base notes ic.stands.keeps open_base.apart (shapes_of config) taken home are_left
-        (subst (λ (v : ℕ). AreDistinct (covers_of (extents_of v (segments_out config r.rest.images.items images)))) (sym owner_is) distinct))
+        (cut_now tells state told c.manager base notes ic.stands.keeps open_base.apart (shapes_of config) taken home are_left)
 
     pub whole_left : flight_of (entries_of notes) ≡ None → recovered_out config r.rest.images.items images s.id ≡ after base.volume.began.array (writes (entries_of notes))
     whole_left up =
         subst (λ (v : ℕ). recovered_out config r.rest.images.items images v ≡ after base.volume.began.array (writes (entries_of notes))) owner_is
         (whole_now tells state told c.manager base notes ic.stands.keeps open_base.apart (shapes_of config) taken home are_left up)
 
-    pub distinct_left : flight_of (entries_of notes) ≡ None → AreDistinct (covers_of (extents_of s.id (segments_out config r.rest.images.items images)))
-    distinct_left up =
+    pub distinct_left : AreDistinct (covers_of (extents_of s.id (segments_out config r.rest.images.items images)))
+    distinct_left =
         subst (λ (v : ℕ). AreDistinct (covers_of (extents_of v (segments_out config r.rest.images.items images)))) owner_is
-        (distinct_now tells state told c.manager base notes ic.stands.keeps open_base.apart (shapes_of config) taken home are_left up)
+        (distinct_now tells state told c.manager base notes ic.stands.keeps open_base.apart (shapes_of config) taken home are_left)
+
+    -- each of its segments is sound
+    pub sound_left : (l : Lane D) (h : HeldSegment D) → Contains c.manager.lanes.items l → Contains (held_in l) h → (z : Shape) (bs : List Block) → slice_get (shapes_of config) (logger_of l) ≡ Some z → image_of images (logger_of l) ≡ Some bs
+        → IsSoundOf owner base.volume.began.home_blocks (segment_of z bs h.index)
+    sound_left l h in_lanes in_held z bs at image =
+        let t = lane_there state tells config b r can first second is closed filled kept n s c s_at ic l h in_lanes in_held in
+        let out = is_there (image_here second.images.items (logger_of l)) t.1 t.2 in
+        let same : (i : ℕ) (rs : List Record) (broken : Bool) → blocks_in (slice_get (shapes_of config) (volume_of (part_of h.segment))) (image_of taken (volume_of (part_of h.segment))) h.index ≡ segment_of z bs h.index
+        = λ i rs broken. ap (λ (k : ℕ). blocks_in (slice_get (shapes_of config) k) (image_of taken k) h.index) t.0 ∙ (λ j. blocks_in (at j) ((taken_out (logger_of l) out ∙ image) j) h.index) in
+        of_held (λ (g : Held (Spun D)). IsSoundOf owner base.volume.began.home_blocks (blocks_in (slice_get (shapes_of config) (volume_of g.part)) (image_of taken (volume_of g.part)) g.index)) (IsSoundOf owner base.volume.began.home_blocks (segment_of z bs h.index))
+        0 c.manager.lanes.items ic.stands.keeps.logs (λ g rs. IsTrue tells → c.manager.down ≡ None → Rattle.log_segment.specs.Segment.Holds state g.segment rs) ic.stands.keeps.held
+        (sound_now tells state told c.manager base notes ic.stands.keeps open_base.apart (shapes_of config) taken home are_left) l h in_lanes in_held
+        (λ i rs broken x. subst (IsSoundOf owner base.volume.began.home_blocks) (same i rs broken) x)

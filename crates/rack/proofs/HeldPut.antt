@@ -1,19 +1,17 @@
 -- The segments that came back with a lane go to their places.
-use Rattle.std.proofs.Common.{◌≡◌, ◌≢◌, ◌<◌, ◌+◌, ⊎_elim, ℕ, List, [], ◌∷◌, ◌++◌, suc, length, map, Option, None, Some, option_and_then, refl, sym, ap, subst, ◌∙◌, arith}
+use Rattle.std.proofs.Common.{◌≡◌, ◌≢◌, ◌<◌, ◌+◌, ℕ, List, [], ◌∷◌, ◌++◌, suc, length, map, Option, None, Some, option_and_then, refl, sym, ap, subst, ◌∙◌, arith}
 use Rattle.std.specs.Prelude.{All, Contains, slice_get, slice_set, slice_index_or}
 use Rattle.std.specs.List.{AllByRecursion}
 use Rattle.std.specs.declared.alloc.Global.{Global}
 use Rattle.std.specs.declared.vec.Vec.{Vec}
 use Rattle.std.specs.Vec.{with_item}
-use Rattle.std.proofs.lemmas.Bool.{cases_eq}
-use Rattle.std.proofs.lemmas.List.{append_assoc, append-nil, map-append, length-append, length-set, get_or-set_same, get_or-set_other}
+use Rattle.std.proofs.lemmas.List.{append_assoc, append-nil, map-append, length-append, length-set}
 use Rattle.std.proofs.lemmas.List.Elements.{All-nil, All-cons, All-head, All-tail, All-pop, All-from_recursion}
-use Rattle.std.proofs.lemmas.Option.{slice_get-get_or}
 use Rattle.wol_model.specs.Blocks.{AreApart}
 use Rattle.spin_model.specs.declared.spun.Spun.{Spun}
 use Rattle.manager.proofs.Lanes.{get_other, get_set}
 use Rattle.rack.specs.Rests.{IsRow, list_of, image_here, segment_here, pool_pass, spindle_pass, held_here, indexes_here}
-use Rattle.rack.specs.Parts.{HasPlace, KeepsRows, KeepsImage, segment_in, in_image, CanPutHeld, PutsHeld, PopsHeld}
+use Rattle.rack.specs.Parts.{KeepsRows, KeepsImage, segment_in, in_image, CanPutHeld, PutsHeld, PopsHeld}
 use Rattle.rack.specs.declared.rack.ImageRest.{ImageRest}
 use Rattle.rack.specs.declared.rack.Rest.{Rest}
 use Rattle.rack.specs.declared.rack.VolumePasses.{VolumePasses}

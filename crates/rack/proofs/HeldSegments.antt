@@ -3,8 +3,8 @@ use Rattle.std.proofs.Common.{◌≡◌, ◌≢◌, ◌<◌, ◌+◌, ◌^◌, �
 use Rattle.std.specs.Prelude.{Contains, unwrap_or}
 use Rattle.std.specs.List.{AllByRecursion}
 use Rattle.wol_disk.specs.Disk.{Block}
-use Rattle.wol_model.specs.Heads.{Owned, owned_block}
-use Rattle.wol_model.specs.Log.{Record, IsLog, extent_of}
+use Rattle.wol_model.specs.Heads.{Free, Owned, owned_block}
+use Rattle.wol_model.specs.Log.{Record, IsIdle, IsLog, extent_of}
 use Rattle.wol_model.specs.Recovered.{read_log, extents_in}
 use Rattle.wol_model.proofs.Images.{idle_none}
 use Rattle.wol_model.proofs.ReadLogs.{log_from}
@@ -39,6 +39,17 @@ not_of_other v w (b ∷ bs) small differs (inl owned) = no_log v (b ∷ bs) (λ 
   where
     first_same : (x : Block) (xs : List Block) (y : Block) (ys : List Block) → x ∷ xs ≡ y ∷ ys → x ≡ y
     first_same x xs y ys e = cc e
+
+-- a free segment is no log
+pub not_idle : (owner : ℕ) (bs : List Block) (rs : List Record) → IsIdle bs → IsLog bs owner rs → ⊥
+not_idle owner [] rs free log = absurd free
+not_idle owner (b ∷ bs) rs free log =
+    let first : b ≡ owned_block owner = first_block b bs (owned_block owner) _ log.joined in
+    let same : Free ≡ Owned owner = one_segment_head b Free (Owned owner) (record { in_range = tt; bytes = free }) (record { in_range = log.known; bytes = first }) in
+    absurd (cc same)
+  where
+    first_block : (x : Block) (xs : List Block) (y : Block) (ys : List Block) → x ∷ xs ≡ y ∷ ys → x ≡ y
+    first_block x xs y ys e = cc e
 
 -- ---- What is held
 

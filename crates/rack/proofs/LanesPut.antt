@@ -1,12 +1,11 @@
 -- Lanes come back one after another.
-use Rattle.std.proofs.Common.{◌≡◌, ◌≢◌, ◌<◌, ◌+◌, ℕ, List, [], ◌∷◌, ◌++◌, length, None, Some, refl, sym, ap, subst, ◌∙◌, arith}
+use Rattle.std.proofs.Common.{◌≡◌, ◌≢◌, ◌<◌, ℕ, List, [], ◌∷◌, ◌++◌, length, None, Some, refl, sym, subst, ◌∙◌, arith}
 use Rattle.std.specs.Prelude.{All, AllPairs, slice_index_or}
 use Rattle.std.proofs.lemmas.List.{append_assoc, append-nil, get_or_append_left, get_or_push, length_push}
-use Rattle.std.proofs.lemmas.List.Elements.{All-nil, All-cons, All-head, All-tail, All-pop, All-weaker}
+use Rattle.std.proofs.lemmas.List.Elements.{All-nil, All-cons, All-head, All-tail, All-pop}
 use Rattle.wol_disk.specs.Disk.{State}
 use Rattle.logger.specs.Lanes.{IsLane, logger_of, taken_in}
 use Rattle.logger.specs.declared.lane.Lane.{Lane}
-use Rattle.rack.specs.Rests.{IsRow}
 use Rattle.rack.specs.Parts.{KeepsPlace, KeepsRows, HasPlace, IsBarePlace, HasBack, PutsLane, PutsLanes, CanPutLanes}
 use Rattle.rack.specs.declared.rack.Rest.{Rest}
 

@@ -1,24 +1,22 @@
 -- The lanes of a volume go out one after another.
-use Rattle.std.proofs.Common.{◌≡◌, ◌≢◌, ◌<◌, ◌≤◌, ◌+◌, ◌⊎◌, ⊎_elim, inl, inr, ℕ, zero, suc, Bool, true, false, cond, List, [], ◌∷◌, ◌++◌, length, map, take, filter, Option, None, Some, is_some, refl, sym, ap, subst, ◌∙◌, arith}
+use Rattle.std.proofs.Common.{◌≡◌, ◌≢◌, ◌<◌, ◌≤◌, ◌+◌, ◌⊎◌, ⊎_elim, inl, inr, ℕ, zero, suc, Bool, true, false, cond, List, [], ◌∷◌, ◌++◌, length, map, take, Option, None, Some, is_some, refl, sym, ap, subst, ◌∙◌, arith}
 use Rattle.std.specs.Prelude.{All, AllPairs, Contains, slice_index_or}
 use Rattle.std.specs.List.{AllByRecursion}
 use Rattle.std.specs.declared.alloc.Global.{Global}
 use Rattle.std.specs.declared.vec.Vec.{Vec}
-use Rattle.std.proofs.lemmas.Bool.{cases_eq, cases_lt, cases_Bool, false≢true}
-use Rattle.std.proofs.lemmas.List.{map-append, append-nil, length_push, take_all, get_or_past, map_push}
-use Rattle.std.proofs.lemmas.List.Elements.{All-nil, All-cons, All-head, All-tail, All-push, All-append, All-map, All-weaker, filter_more, Contains-get_or, All-contains}
+use Rattle.std.proofs.lemmas.Bool.{cases_eq, cases_Bool}
+use Rattle.std.proofs.lemmas.List.{append-nil, length_push, get_or_default, map_push}
+use Rattle.std.proofs.lemmas.List.Elements.{All-nil, All-cons, All-head, All-tail, All-push, All-append, All-map, All-weaker, filter_more, All-contains}
 use Rattle.std.proofs.lemmas.List.Quantifiers.{all_pairs_push}
-use Rattle.std.proofs.lemmas.Option.{none-some}
 use Rattle.wol_disk.specs.Disk.{State}
 use Rattle.wol_model.specs.Blocks.{AreApart}
 use Rattle.wol_config.specs.declared.config.Config.{Config}
-use Rattle.spin_model.specs.declared.spun.Spun.{Spun}
-use Rattle.logger.specs.Lanes.{IsLane, logger_of, held_in, taken_in, pool_of, spindle_of}
+use Rattle.logger.specs.Lanes.{IsLane, logger_of, taken_in, pool_of, spindle_of}
 use Rattle.logger.specs.declared.lane.HeldSegment.{HeldSegment}
 use Rattle.logger.specs.declared.lane.Lane.{Lane}
 use Rattle.log_segment.specs.Segment.{part_of}
 use Rattle.rack.specs.Rests.{image_here, pool_pass, spindle_pass, held_here}
-use Rattle.rack.specs.Parts.{KeepsPlace, KeepsRows, HasPlace, IsBarePlace, HasBack, PutsLanes, CanPutLanes, held_parts, IsUsablePlace, IsNewLane, TakesPasses, TakesOneLane, IsSameRest, segments_of, loggers_out, TakesLanes}
+use Rattle.rack.specs.Parts.{KeepsPlace, KeepsRows, IsBarePlace, HasBack, PutsLanes, CanPutLanes, IsUsablePlace, IsNewLane, TakesPasses, TakesOneLane, IsSameRest, segments_of, loggers_out, TakesLanes}
 use Rattle.rack.specs.declared.rack.ImageRest.{ImageRest}
 use Rattle.rack.specs.declared.rack.Rest.{Rest}
 use Rattle.rack.proofs.LanesPut.{all_both, bare_then, keeps_same, keeps_then, rows_same, rows_then, place_then}
@@ -35,6 +33,12 @@ apart_at (x ∷ xs) zero (suc j) apart before within = at xs j apart.0 (omega (a
     at (y ∷ ys) (suc n) all lt = at ys n all.1 (omega (arith, lt))
 apart_at (x ∷ xs) (suc i) zero apart before within = absurd (omega (arith, before))
 apart_at (x ∷ xs) (suc i) (suc j) apart before within = apart_at xs i j apart.1 (omega (arith, before)) (omega (arith, within))
+
+pub pairs_apart : (xs : List ℕ) → AreApart xs → AllPairs (λ j k. j ≢ k) xs
+pairs_apart xs apart i j d before within =
+    let first = get_or_default xs i 0 d (omega (arith, before, within)) in
+    let second = get_or_default xs j 0 d within in
+    λ e. apart_at xs i j apart before within (first ∙ e ∙ sym second)
 
 module _ {D : Type 0} where
   usable_then : (a b : Rest D) (v k n : ℕ) → KeepsRows a b → KeepsPlace a b v k → IsUsablePlace a v k n → IsUsablePlace b v k n

@@ -11,6 +11,7 @@ pub mod Takes
 pub mod Openable
 pub mod Members
 pub mod LanesAway
+pub mod ManagerBack
 pub mod StationBack
 pub mod PoolBack
 pub mod ListsBack
@@ -52,6 +53,7 @@ pub mod Shapes
 pub mod StationRecovers
 pub mod RackClosed
 pub mod HeldSegments
+pub mod LeftImage
 pub mod FinalImages
 pub mod FaultyParts
 pub mod StationParts
@@ -60,5 +62,53 @@ pub mod PartsThrough
 pub mod Unbroken
 pub mod LeftOfParts
 pub mod QuietClosed
+pub mod FirstRest
+pub mod FirstOpening
+pub mod SameRecovered
+pub mod Assembled
+pub mod KeptImages
+pub mod SoundBefore
+pub mod FewerExtents
+pub mod SegmentsCame
+pub mod SoundClosed
+pub mod LeftSound
+mod TakenOut
+mod TakenBack
+mod TakenReady
+mod TakenBegun
+mod OpenedAll
+mod OpeningSteps
 pub mod OthersAccess
-pub mod TakenOut
+pub mod Without
+pub mod OpenAway
+pub mod OpenNamed
+pub mod OpenBase
+pub mod OneOpened
+pub mod OneClosable
+mod NewBase
+mod Fates
+mod SameRest
+mod Unlocked
+mod KeepsNothing
+mod Choices
+mod LeftVolumes
+pub mod SameOut
+pub mod OpeningOf
+pub mod LockedStation
+pub mod FatesOf
+pub mod MayReturn
+pub mod BackAgain
+pub mod RestAgain
+pub mod RefusedNames
+pub mod RefusedRack
+pub mod RefusedBegun
+pub mod RefusedFaults
+pub mod OpenedBegun
+pub mod FaultsKept
+pub mod SoundOwned
+pub mod SoundVolumes
+pub mod AgainOut
+pub mod SoundAgain
+pub mod SoundRefusals
+pub mod Complete
+mod Reopening

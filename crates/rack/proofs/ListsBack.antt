@@ -1,18 +1,18 @@
 -- The segments that came back with lanes go to their places, one volume's after another's.
-use Rattle.std.proofs.Common.{◌≡◌, ◌≢◌, ◌<◌, ◌≤◌, ◌+◌, ◌⊎◌, inl, inr, ℕ, List, [], ◌∷◌, length, map, Option, Some, None, refl, sym, ap, ◌∙◌, subst, arith}
-use Rattle.std.specs.Prelude.{Contains, All, IsSome, MatchOption, slice_get, option_and_then}
+use Rattle.std.proofs.Common.{◌≡◌, ◌≢◌, ◌<◌, ◌≤◌, ◌+◌, ◌⊎◌, inl, inr, ℕ, List, [], length, map, Option, Some, None, refl, sym, ap, ◌∙◌, subst, arith}
+use Rattle.std.specs.Prelude.{Contains, slice_get, option_and_then}
 use Rattle.std.proofs.lemmas.Bool.{cases_eq, cases_lt}
-use Rattle.std.proofs.lemmas.Option.{none-some, slice_get_past}
+use Rattle.std.proofs.lemmas.Option.{slice_get_past}
 use Rattle.std.proofs.lemmas.List.Elements.{All-contains}
 use Rattle.wol_model.specs.Blocks.{AreApart}
 use Rattle.spin_model.specs.declared.spun.Spun.{Spun}
-use Rattle.rack.specs.Rests.{image_here, segment_here, pool_pass, spindle_pass, held_here, indexes_here, list_of, IsImageOut, IsRow}
-use Rattle.rack.specs.Parts.{KeepsRows, KeepsImage, IsSameBut, CanPutHeld, PutsHeld, segment_in}
+use Rattle.rack.specs.Rests.{image_here, segment_here, pool_pass, spindle_pass, held_here, indexes_here, list_of, IsImageOut}
+use Rattle.rack.specs.Parts.{KeepsRows, KeepsImage, CanPutHeld, PutsHeld, segment_in}
 use Rattle.rack.specs.Closing.{CanPutAllHeld, PutsAllHeld}
 use Rattle.rack.specs.declared.rack.ImageRest.{ImageRest}
 use Rattle.rack.specs.declared.rack.Rest.{Rest}
 use Rattle.rack.specs.declared.rack.VolumePasses.{VolumePasses}
-use Rattle.rack.proofs.Members.{no_value, a_value, all_member, in_map, of_map, none_in, segment_in_image}
+use Rattle.rack.proofs.Members.{a_value, all_member, in_map, none_in, segment_in_image}
 
 keeps_itself : {D : Type 0} (o : Option (ImageRest D)) → KeepsImage o o
 keeps_itself None = refl

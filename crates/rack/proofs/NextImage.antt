@@ -1,6 +1,6 @@
 -- An image that was just taken out: its parts, and what they say.
-use Rattle.std.proofs.Common.{◌≡◌, ⊎_elim, ℕ, ◌+◌, ◌<◌, ◌≤◌, List, [], ◌∷◌, length, map, get_or, Option, None, Some, option_map, IfSome, refl, sym, ap, ◌∙◌, subst, arith, vec_capacity}
-use Rattle.std.specs.Prelude.{slice_get, slice_range, IsSome, IsTrue, is_some, Contains}
+use Rattle.std.proofs.Common.{◌≡◌, ⊎_elim, ℕ, ◌+◌, ◌<◌, ◌≤◌, List, [], ◌∷◌, length, map, get_or, Option, None, Some, option_map, IfSome, sym, ap, ◌∙◌, subst, arith, vec_capacity}
+use Rattle.std.specs.Prelude.{slice_get, slice_range, is_some, Contains}
 use Rattle.std.specs.declared.alloc.Global.{Global}
 use Rattle.std.specs.declared.vec.Vec.{Vec}
 use Rattle.std.proofs.lemmas.Bool.{cases_lt}
@@ -8,7 +8,7 @@ use Rattle.std.proofs.lemmas.List.{length-map, get_or-map, get_or_past}
 use Rattle.std.proofs.lemmas.Option.{none-some, same_Some}
 use Rattle.wol_disk.specs.Disk.{Block, Values, State, IsDisk, IsImageOf, reads}
 use Rattle.wol_model.specs.Heads.{Shape}
-use Rattle.wol_bay.specs.Bay.{Image, Told, BayState, at_name}
+use Rattle.wol_bay.specs.Bay.{Image, Told}
 use Rattle.wol_bay.specs.Parts.{AreCut}
 use Rattle.wol_bay.specs.Refusals.{blocks_at}
 use Rattle.wol_config.specs.declared.config.Config.{Config}
@@ -17,27 +17,25 @@ use Rattle.log_layout.specs.Values.{segment_head}
 use Rattle.log_layout.specs.declared.segment.SegHead.{SegHead}
 use Rattle.spin_model.specs.Spun.{state_of, volume_of}
 use Rattle.spin_model.specs.declared.spun.Spun.{Spun}
-use Rattle.manager_recovery.specs.Owned.{read_of}
 use Rattle.volume_images.specs.Accepted.{HasHead, IsAccepted, head_place}
-use Rattle.volume_images.specs.Disks.{disks_of, AreOfVolume}
+use Rattle.volume_images.specs.Disks.{disks_of}
 use Rattle.volume_images.specs.Formatted.{part_sizes}
 use Rattle.volume_images.specs.ImageParts.{ArePartsOf}
 use Rattle.volume_images.specs.Reads.{IsOnlyRead}
 use Rattle.volume_images.specs.Refusals.{IsCutOpenable, SaysSo}
 use Rattle.volume_images.specs.Volumes.{shape_in, shapes_of}
 use Rattle.volume_images.specs.declared.attach.OutImage.{OutImage}
-use Rattle.volume_images.specs.declared.parts.ImageParts.{ImageParts}
 use Rattle.volume_images.proofs.HeadSteps.{only_same}
 use Rattle.volume_images.proofs.ReadOut.{parts_of, read_parts}
 use Rattle.volume_images.proofs.SentOut.{cut_sizes}
 use Rattle.rack.specs.Rests.{segment_here, IsPart, IsImageRest}
 use Rattle.rack.specs.Closing.{IsComplete}
-use Rattle.rack.specs.Opens.{HadBefore}
-use Rattle.rack.specs.Opening.{IsSaidOf, HaveHeads, IsCutOf, SaysOf, AreCutOf, WasAtEntry}
+use Rattle.rack.specs.Opens.{IsAsRead}
+use Rattle.rack.specs.Opening.{IsSaidOf, HaveHeads, IsCutOf, AreCutOf, WasAtEntry}
 use Rattle.rack.specs.Parts.{IsLaidOut}
 use Rattle.rack.specs.declared.heads_said.Said.{Said}
 use Rattle.rack.specs.declared.rack.ImageRest.{ImageRest}
-use Rattle.rack.proofs.CutParts.{cut_reads, cut_had, cut_at}
+use Rattle.rack.proofs.CutParts.{cut_reads, cut_had, cut_synced, cut_at}
 
 module _ {D : Type 0} (state : D → State) (sound : (d : D) → IsDisk (state d)) (volumes k : ℕ) (s : Shape) (blocks : Option (List (Values Block))) (o : OutImage D) (cut : IsCutOpenable state volumes k s blocks o) where
   sized_before : ArePartsOf state k s cut.before
@@ -126,7 +124,7 @@ module _ {D : Type 0} (state : D → State) (sound : (d : D) → IsDisk (state d
         let at = cut_at state image.blocks s cut.before (subst (λ (bs : Option (List (Values Block))). AreCut state bs (part_sizes s) (disks_of cut.before)) blocks_are cut.cut) in
         let read = cut.openable.read in
         record {
-          label = subst (λ (q : Spun D). HadBefore state image 0 2 q) (sym laid.label) (at_entry 0 2 cut.before.label o.parts.image.label read.label at.label).had;
+          label = subst (λ (q : Spun D). IsAsRead state image 0 2 q) (sym laid.label) (cut_synced (state_of state cut.before.label) (state_of state o.parts.image.label) image.blocks 0 2 cut.openable.synced at.label);
           home = λ p here.
               let is : o.parts.image.home ≡ p = same_Some o.parts.image.home p (sym laid.home ∙ here) in
               subst (λ (q : Spun D). IsCutOf state image 2 (2 + s.home) q) (sym read.home ∙ is)

@@ -1,9 +1,9 @@
 -- An image that was refused, and is in its bay.
-use Rattle.std.proofs.Common.{◌≡◌, ◌≢◌, ◌⊎◌, inl, inr, ⊎_elim, ℕ, ◌≤◌, Bool, List, [], length, Option, None, Some, option_map, IfSome, Err, refl, sym, ap, ◌∙◌, subst}
+use Rattle.std.proofs.Common.{◌≡◌, inl, ℕ, Bool, List, [], length, Option, None, Some, IfSome, Err, refl, sym, ap, ◌∙◌, subst, append-nil}
 use Rattle.std.specs.Prelude.{IsErrOf}
 use Rattle.wol_disk.specs.Disk.{Block, State, Rose, IsImage, reads}
 use Rattle.wol_model.specs.Heads.{Shape}
-use Rattle.wol_bay.specs.Bay.{Name, Image, Told, BayState, at_name, outs}
+use Rattle.wol_bay.specs.Bay.{Image, Told, BayState, at_name, each_place}
 use Rattle.wol_bay.specs.Refusals.{refusal}
 use Rattle.wol_bay.specs.declared.fault.BayFault.{BayFault}
 use Rattle.wol_bay.specs.declared.fault.BayFault.TheVariants as bay
@@ -19,10 +19,13 @@ use Rattle.volume_images.specs.declared.opening.ImageRefusal.TheVariants as refu
 use Rattle.volume_images.specs.declared.reading.ImageFault.{ImageFault}
 use Rattle.volume_images.specs.declared.reading.ImageFault.TheVariants as fault
 use Rattle.rack.specs.Opens.{fault_in_image, fault_of_image, RefusesVolume, RefusesImage}
-use Rattle.rack.specs.Opening.{StayedAs, IsNextRefused}
-use Rattle.rack.specs.declared.rack.ImageRest.{ImageRest}
+use Rattle.rack.specs.Opening.{HasFaulty, StayedAs}
 use Rattle.rack.specs.declared.volume_fault.VolumeFault.{VolumeFault}
-use Rattle.rack.specs.declared.volume_fault.VolumeFault.TheVariants.{Absent, WrongLength, Refused, LabelFault, BayFailed}
+use Rattle.rack.specs.declared.volume_fault.VolumeFault.TheVariants.{Absent, WrongLength, BayFailed}
+
+-- no further part came back with a fault
+pub no_more : (t : Told) → HasFaulty t t
+no_more t = ([], sym (append-nil t.faulty))
 
 module _ {D : Type 0} (tells : Bool) (state : D → State) (config : Config) (b b' : BayState) (k : ℕ) (v : VolumeConf) where
   abbrev volumes : ℕ
@@ -83,17 +86,18 @@ module _ {D : Type 0} (tells : Bool) (state : D → State) (config : Config) (b 
   stayed refusal.Absent t t' h apart = all_stayed t t' h.1 apart
     where
       all_stayed : (t t' : Told) → t' ≡ t → AreNamedApart t → StayedAs v.name t t'
-      all_stayed t t' same apart = subst (λ (x : Told). StayedAs v.name t x) (sym same) (record { apart = apart; here = λ c may. may; others = λ other differs. refl })
-  stayed (refusal.WrongLength bytes) t t' h apart = subst (λ (x : Told). StayedAs v.name t x) (sym h.1) (record { apart = apart; here = λ c may. may; others = λ other differs. refl })
-  stayed refusal.BayFailed t t' h apart = subst (λ (x : Told). StayedAs v.name t x) (sym h.1) (record { apart = apart; here = λ c may. may; others = λ other differs. refl })
+      all_stayed t t' same apart = subst (λ (x : Told). StayedAs v.name t x) (sym same) (record { apart = apart; here = λ c may. may; others = λ other differs. refl; faulty = no_more t })
+  stayed (refusal.WrongLength bytes) t t' h apart = subst (λ (x : Told). StayedAs v.name t x) (sym h.1) (record { apart = apart; here = λ c may. may; others = λ other differs. refl; faulty = no_more t })
+  stayed refusal.BayFailed t t' h apart = subst (λ (x : Told). StayedAs v.name t x) (sym h.1) (record { apart = apart; here = λ c may. may; others = λ other differs. refl; faulty = no_more t })
   stayed (refusal.Fault f) t t' h apart = record {
     apart = h.back.apart;
     here = λ c may.
         let now : MayLeave (Some h.after) c = subst (λ (i : Option Image). MayLeave i c) h.back.here may in
         subst (λ (i : Option Image). MayLeave i c) (sym h.there) (may_less h.before h.after h.rest h.images c now);
     others = h.back.others;
+    faulty = (each_place v.name h.places, h.back.faulty);
   }
-  stayed refusal.NoMemory t t' h apart = subst (λ (x : Told). StayedAs v.name t x) (sym h) (record { apart = apart; here = λ c may. may; others = λ other differs. refl })
+  stayed refusal.NoMemory t t' h apart = subst (λ (x : Told). StayedAs v.name t x) (sym h) (record { apart = apart; here = λ c may. may; others = λ other differs. refl; faulty = no_more t })
 
   pub next_stayed : (r : ImageRefusal) (o o' : Option Told) → IsTold (Refuses volumes k shape v.name r) o o' → IsTold (StayedAs v.name) o o'
   next_stayed r None o' h = h

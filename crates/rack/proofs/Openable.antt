@@ -1,11 +1,11 @@
 -- The opening that was taken out may be opened.
-use Rattle.std.proofs.Common.{◌≡◌, ◌≢◌, ⊎_elim, ℕ, zero, suc, ◌+◌, ◌-◌, ◌*◌, ◌^◌, ◌<◌, ◌≤◌, min, Bool, true, false, eqb, List, [], ◌∷◌, length, map, filter, get_or, Option, None, Some, option_map, refl, sym, ap, ◌∙◌, subst, arith}
+use Rattle.std.proofs.Common.{◌≡◌, ⊎_elim, ℕ, zero, suc, ◌-◌, ◌*◌, ◌<◌, ◌≤◌, true, false, List, [], ◌∷◌, length, map, filter, get_or, Option, None, Some, refl, sym, ap, ◌∙◌, subst, arith}
 use Rattle.std.specs.Prelude.{slice_get, is_some, Contains, All}
 use Rattle.std.specs.List.{AllByRecursion}
 use Rattle.std.proofs.lemmas.Bool.{cases_lt, eq-eqb, eqb-true}
 use Rattle.std.proofs.lemmas.List.{length-map, get_or-map, get_or_past}
 use Rattle.std.proofs.lemmas.List.Elements.{recursion_from_All, Contains-get_or, filter_agree}
-use Rattle.std.proofs.lemmas.Option.{MatchOption-at_some, none-some, same_Some, slice_get-map, slice_get_within, slice_get-get_or, get_or_from_slice_get}
+use Rattle.std.proofs.lemmas.Option.{MatchOption-at_some, none-some, same_Some, slice_get_within, slice_get-get_or, get_or_from_slice_get}
 use Rattle.std.proofs.Math.Nat.{mul-le-mul}
 use Rattle.wol_disk.specs.Disk.{Block, Values, State, IsImageOf, reads}
 use Rattle.wol_disk.proofs.Images.{image_reads}
@@ -13,28 +13,24 @@ use Rattle.wol_model.specs.Heads.{Shape, IsShape, owned_block}
 use Rattle.wol_bay.specs.Bay.{BayState}
 use Rattle.wol_config.specs.Configs.{IsValid}
 use Rattle.wol_config.specs.declared.config.Config.{Config}
-use Rattle.wol_config.specs.declared.config.VolumeConf.{VolumeConf}
 use Rattle.turn_lock.specs.Passes.{lock_id, pass_lock, pass_number, pass_mine}
-use Rattle.turn_lock.specs.declared.lock.TurnLock.{TurnLock}
-use Rattle.turn_lock.specs.declared.pass.PassOf.{PassOf}
-use Rattle.log_layout.specs.Values.{shape_of, segment_head}
+use Rattle.log_layout.specs.Values.{shape_of}
 use Rattle.log_layout.specs.declared.segment.SegHead.TheVariants.{Free, Owned}
 use Rattle.log_layout.specs.declared.segment.SegHead.{SegHead}
 use Rattle.seg_pool.specs.Holders.{holder, is_held_by}
 use Rattle.seg_pool.specs.Operations.{holds}
 use Rattle.seg_pool.specs.declared.base.Holder.{Holder}
 use Rattle.seg_pool.specs.declared.base.Holder.TheVariants.{Elsewhere, HeldBy}
-use Rattle.spin_model.specs.Spun.{state_of, volume_of}
+use Rattle.spin_model.specs.Spun.{state_of}
 use Rattle.spin_model.specs.declared.spun.Spun.{Spun}
 use Rattle.logger.specs.Lanes.{IsAt, logger_of, pool_of, spindle_of, segments_in, pool_blocks}
 use Rattle.logger.specs.declared.lane.Lane.{Lane}
 use Rattle.manager_recovery.specs.Opening.{IsOpeningLane, IsHeldIn, IsOwned, SaysOwner, HoldsOwned, CanOpen}
 use Rattle.manager_recovery.specs.declared.opening.Opening.{Opening}
 use Rattle.manager_recovery.specs.declared.opening.OwnedPart.{OwnedPart}
-use Rattle.volume_images.specs.Accepted.{HasHead, head_place}
-use Rattle.volume_images.specs.Volumes.{shape_in, shapes_of}
-use Rattle.rack.specs.Owners.{most_of}
-use Rattle.rack.specs.Rests.{image_here, segment_here, pool_pass, spindle_pass, away_with, IsRestBut, IsPart, IsRow}
+use Rattle.volume_images.specs.Accepted.{head_place}
+use Rattle.volume_images.specs.Volumes.{shapes_of}
+use Rattle.rack.specs.Rests.{image_here, segment_here, away_with, IsRestBut, IsPart, IsRow}
 use Rattle.rack.specs.Racks.{base_of_station}
 use Rattle.manager.specs.declared.station.Station.{Station}
 use Rattle.rack.specs.Parts.{TakesOpening, IsNewLane, IsTakenOf, loggers_out, segments_of, segment_in, holder_by, holder_said, IsOwnedPlace, IsHomeAway, IsSameBut, with_home}
@@ -54,7 +50,7 @@ module _ {D : Type 0} (state : D → State) (config : Config) (valid : IsValid c
   here = parts state config valid b said id r own ready lt at
 
   -- a lane that was taken out
-  record IsTakenLane (l : Lane D) : Type 0 where
+  pub record IsTakenLane (l : Lane D) : Type 0 where
     pub within : logger_of l < length (shapes_of config)
     pub shape : Shape
     pub shape_is : slice_get (shapes_of config) (logger_of l) ≡ Some shape
@@ -62,6 +58,7 @@ module _ {D : Type 0} (state : D → State) (config : Config) (valid : IsValid c
     pub blocks : pool_blocks l ≡ shape.segment_blocks
     pub placed : IsAt r.shared l
     pub number : pass_number (pool_of l) ≡ id
+    pub spindle_number : pass_number (spindle_of l) ≡ id
     pub unused : pass_mine (pool_of l) ≡ []
     pub holders : (i : ℕ) → holder (pass_lock (pool_of l)).base.holders i ≡ holder_by (said_at said (logger_of l)) i
 
@@ -98,6 +95,7 @@ module _ {D : Type 0} (state : D → State) (config : Config) (valid : IsValid c
           spindle = λ d. spindle.own ∙ ap (λ x. lock_id x) (sym (get_or_from_slice_get r.shared.spindles.items k q.0 d q.1));
         };
         number = pass.number_is;
+        spindle_number = spindle.number_is;
         unused = ready.untouched.passes id k (pool_of l) (omega arith) is.pool;
         holders = λ i. ap (λ x. holder x.base.holders i) pass.own ∙ ready.pools k i p.0 p.1;
       }
@@ -106,14 +104,14 @@ module _ {D : Type 0} (state : D → State) (config : Config) (valid : IsValid c
       count_of None = 0
       count_of (Some s) = s.segments
 
-  lane_out : (j : ℕ) (d : Lane D) → j < length o.lanes.items → logger_of (get_or o.lanes.items j d) < length (shapes_of config)
+  pub lane_out : (j : ℕ) (d : Lane D) → j < length o.lanes.items → logger_of (get_or o.lanes.items j d) < length (shapes_of config)
   lane_out j d below =
       let loggers = takes.lanes.loggers_are in
       let long : length (loggers_out r.rest view) ≡ length o.lanes.items = sym (ap (λ (l : List ℕ). length l) loggers) ∙ length-map o.lanes.items logger_of in
       let same : get_or (loggers_out r.rest view) j 0 ≡ logger_of (get_or o.lanes.items j d) = sym (ap (λ (l : List ℕ). get_or l j 0) loggers) ∙ get_or-map logger_of o.lanes.items j d 0 below in
       subst (λ (k : ℕ). k < length (shapes_of config)) same (out_within (get_or (loggers_out r.rest view) j 0) (Rattle.std.proofs.lemmas.List.Elements.filter_passes (λ k. is_some (image_here r.rest.images.items k)) view j 0 (omega (arith, below, long))))
 
-  lanes_taken : All IsTakenLane o.lanes.items
+  pub lanes_taken : All IsTakenLane o.lanes.items
   lanes_taken = λ j d below. taken_lane (get_or o.lanes.items j d) (lane_out j d below) (takes.lanes.each j d below)
 
   most_fits : (o.most ≤ config.segment_blocks - 2) × ((1 ≤ o.most) × (o.most ≤ 128))
@@ -142,7 +140,7 @@ module _ {D : Type 0} (state : D → State) (config : Config) (valid : IsValid c
       at_some (x ∷ xs) (suc k) = at_some xs k
 
   -- an owned segment as it stood in its image
-  record IsInImage (p : OwnedPart D) : Type 0 where
+  pub record IsInImage (p : OwnedPart D) : Type 0 where
     pub image : ImageRest D
     pub out : image_here r.rest.images.items p.logger ≡ Some image
     pub there : segment_here image p.index ≡ Some p.part
@@ -189,7 +187,7 @@ module _ {D : Type 0} (state : D → State) (config : Config) (valid : IsValid c
             first = is.first shape.0 shape.1;
           }
 
-  parts_in_images : All IsInImage o.owned.items
+  pub parts_in_images : All IsInImage o.owned.items
   parts_in_images = λ j d below. in_image (get_or o.owned.items j d) (takes.owned.each j d below)
 
   held_in : (p : OwnedPart D) → IsInImage p → (l : Lane D) → IsTakenLane l → logger_of l ≡ p.logger → IsHeldIn state p l

@@ -1,22 +1,17 @@
 -- What a volume is opened of goes out.
-use Rattle.std.proofs.Common.{◌≡◌, ◌≢◌, ◌<◌, ℕ, Bool, true, false, cond, List, [], ◌∷◌, length, map, filter, Option, None, Some, option_and_then, suc, is_some, refl, sym, ap, subst, ◌∙◌, arith}
+use Rattle.std.proofs.Common.{◌≡◌, ◌≢◌, ◌<◌, ℕ, Bool, true, false, cond, List, [], ◌∷◌, length, Option, None, Some, option_and_then, suc, is_some, sym, ap, subst, ◌∙◌, arith}
 use Rattle.std.specs.Prelude.{All, Contains, IsSome, IfSome, slice_get, slice_index_or}
 use Rattle.std.specs.declared.alloc.Global.{Global}
 use Rattle.std.specs.declared.vec.Vec.{Vec}
-use Rattle.std.proofs.lemmas.Bool.{false≢true}
-use Rattle.std.proofs.lemmas.List.{length-map}
 use Rattle.std.proofs.lemmas.List.Elements.{All-nil, All-cons}
 use Rattle.std.proofs.lemmas.Option.{same_Some}
 use Rattle.wol_disk.specs.Disk.{State}
 use Rattle.wol_config.specs.declared.config.Config.{Config}
-use Rattle.turn_lock.specs.declared.pass.PassOf.{PassOf}
-use Rattle.spin_model.specs.declared.spindle.Spindle.{Spindle}
-use Rattle.spin_model.specs.declared.spindle.SpindleBase.{SpindleBase}
 use Rattle.spin_model.specs.declared.spun.Spun.{Spun}
 use Rattle.logger.specs.declared.lane.Lane.{Lane}
 use Rattle.manager_recovery.specs.declared.opening.OwnedPart.{OwnedPart}
 use Rattle.rack.specs.Rests.{IsRow, image_here, spindle_pass}
-use Rattle.rack.specs.Parts.{HasPlace, KeepsPlace, KeepsImage, AreOwnedHere, TakesPasses, TakesLanes, TakesOwned, CanTake, loggers_out, segment_in, in_image}
+use Rattle.rack.specs.Parts.{HasPlace, KeepsPlace, KeepsImage, AreOwnedHere, TakesLanes, TakesOwned, CanTake, loggers_out, in_image}
 use Rattle.rack.specs.declared.heads_said.Said.{Said}
 use Rattle.rack.specs.declared.rack.ImageRest.{ImageRest}
 use Rattle.rack.specs.declared.rack.Rest.{Rest}

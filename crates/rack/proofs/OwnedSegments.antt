@@ -1,7 +1,7 @@
 -- The segments that a volume owns give all of what it recovers to.
-use Rattle.std.proofs.Common.{◌≡◌, ◌≢◌, ◌⊎◌, inl, inr, ⊎_elim, ◌<◌, ◌≤◌, ◌+◌, ◌==◌, ◌^◌, ◌&&◌, ℕ, zero, suc, Bool, true, false, cond, ltb, eqb, List, [], ◌∷◌, ◌++◌, map, Option, None, Some, refl, sym, ap, subst, ◌∙◌, length, arith}
-use Rattle.std.specs.Prelude.{slice_get, slice_index_or, unwrap_or, Contains, All, ⊤}
-use Rattle.std.specs.List.{AllByRecursion, flat_map, range_with_len}
+use Rattle.std.proofs.Common.{◌≡◌, ◌⊎◌, inl, inr, ⊎_elim, ◌<◌, ◌≤◌, ◌+◌, ◌^◌, ◌&&◌, ℕ, zero, suc, Bool, true, false, cond, ltb, List, [], ◌∷◌, ◌++◌, map, Option, None, Some, refl, sym, ap, subst, ◌∙◌, length, arith}
+use Rattle.std.specs.Prelude.{slice_get, unwrap_or, All, ⊤}
+use Rattle.std.specs.List.{AllByRecursion, range_with_len}
 use Rattle.std.specs.Str.{bytes_eq}
 use Rattle.std.proofs.lemmas.Bool.{eq-eqb}
 use Rattle.std.proofs.lemmas.Option.{same_Some, none-some}
@@ -10,7 +10,7 @@ use Rattle.wol_disk.specs.Disk.{Block, IsAmong}
 use Rattle.wol_model.specs.Heads.{Shape, owned_block}
 use Rattle.wol_model.specs.Extents.{Extent, with_extents}
 use Rattle.wol_model.specs.Images.{Images, image_of, image_size, home_of, home_in, segment_of, segments_of, all_segments, recovered_from}
-use Rattle.wol_model.specs.Log.{Record, extent_of}
+use Rattle.wol_model.specs.Log.{extent_of}
 use Rattle.wol_model.specs.Recovered.{extents_in, extents_of, read_log, read_records, recovered}
 use Rattle.wol_model.proofs.ReadHeads.{same_bytes, same_from}
 use Rattle.manager_recovery.specs.Opening.{AreInOrder, IsBefore}

@@ -1,27 +1,25 @@
 -- The owned segments of a volume go out of all images.
-use Rattle.std.proofs.Common.{◌≡◌, ◌≢◌, ◌<◌, ◌≤◌, ◌+◌, ◌⊎◌, ⊎_elim, inl, inr, ℕ, zero, suc, List, [], ◌∷◌, ◌++◌, length, map, take, drop, Option, None, Some, is_some, refl, sym, ap, subst, ◌∙◌, arith}
-use Rattle.std.specs.Prelude.{All, Contains, IsSome, slice_get, slice_index_or, sum_by}
+use Rattle.std.proofs.Common.{◌≡◌, ◌<◌, ◌≤◌, ◌+◌, ⊎_elim, inl, ℕ, zero, suc, List, [], ◌∷◌, ◌++◌, length, map, take, drop, Option, None, Some, is_some, refl, sym, ap, subst, ◌∙◌, arith}
+use Rattle.std.specs.Prelude.{All, Contains, slice_get, slice_index_or}
 use Rattle.std.specs.List.{AllByRecursion}
-use Rattle.std.proofs.lemmas.Bool.{cases_eq, cases_lt}
-use Rattle.std.proofs.lemmas.List.{append_assoc, append-nil, map-append, length-append, take-append-drop, take_all, take_more}
-use Rattle.std.proofs.lemmas.List.Elements.{All-nil, All-cons, All-head, All-tail, All-append, All-weaker, All-contains, All-from_recursion, Contains-append_left, Contains-append_right, Contains-append_cases}
+use Rattle.std.proofs.lemmas.Bool.{cases_eq}
+use Rattle.std.proofs.lemmas.List.{append-nil, map-append, length-append, take-append-drop, take_more}
+use Rattle.std.proofs.lemmas.List.Elements.{All-nil, All-head, All-tail, All-append, All-contains, All-from_recursion, Contains-append_left, Contains-append_right, Contains-append_cases}
 use Rattle.std.proofs.lemmas.List.Sums.{sum_by-append, sum_by_push}
-use Rattle.std.proofs.lemmas.Option.{none-some, same_Some, slice_get-get_or, get_or_from_slice_get, slice_get_within}
+use Rattle.std.proofs.lemmas.Option.{none-some, same_Some, get_or_from_slice_get, slice_get_within}
 use Rattle.wol_model.specs.Heads.{Shape}
 use Rattle.wol_config.specs.declared.config.Config.{Config}
-use Rattle.spin_model.specs.declared.spun.Spun.{Spun}
-use Rattle.log_layout.specs.declared.segment.SegHead.{SegHead}
-use Rattle.log_layout.specs.declared.segment.SegHead.TheVariants.{Free, Owned}
+use Rattle.log_layout.specs.declared.segment.SegHead.TheVariants.{Owned}
 use Rattle.manager_recovery.specs.Opening.{AreInOrder, IsBefore, place_of}
 use Rattle.manager_recovery.specs.declared.opening.OwnedPart.{OwnedPart}
 use Rattle.volume_images.specs.Accepted.{head_place}
 use Rattle.volume_images.specs.Volumes.{shapes_of}
 use Rattle.rack.specs.Rests.{image_here, segment_here}
-use Rattle.rack.specs.Parts.{owned_in, owned_total, KeepsImage, IsSameBut, segment_in, in_image, IsOwnedPlace, IsTakenOf, TakesOwners, TakesOwnedIn, TakesOwnedOf, CanTakeOwnedOf, AreOwnedHere, TakesOwned}
+use Rattle.rack.specs.Parts.{owned_in, owned_total, KeepsImage, segment_in, in_image, IsOwnedPlace, IsTakenOf, TakesOwnedIn, TakesOwnedOf, CanTakeOwnedOf, AreOwnedHere, TakesOwned}
 use Rattle.rack.specs.declared.heads_said.Said.{Said}
 use Rattle.rack.specs.declared.rack.ImageRest.{ImageRest}
 use Rattle.rack.specs.declared.rack.Rest.{Rest}
-use Rattle.rack.proofs.Returned.{keeps_image_then, here_within}
+use Rattle.rack.proofs.Returned.{keeps_image_then}
 
 -- places of a later logger stand behind those of earlier ones
 pub in_order_append : (n : ℕ) (ps qs : List (ℕ × ℕ)) → AreInOrder ps → AreInOrder qs → AllByRecursion (λ (p : ℕ × ℕ). p.0 < n) ps → AllByRecursion (λ (q : ℕ × ℕ). q.0 ≡ n) qs → AreInOrder (ps ++ qs)

@@ -1,11 +1,11 @@
 -- The segments of a pool that is closed are all in their places again.
-use Rattle.std.proofs.Common.{◌≡◌, ◌≢◌, ◌<◌, ◌≤◌, ◌+◌, ◌⊎◌, inl, inr, ℕ, zero, suc, Bool, true, false, List, [], ◌∷◌, ◌++◌, length, get_or, set, map, Option, Some, None, is_some, refl, sym, ap, ◌∙◌, subst, arith}
+use Rattle.std.proofs.Common.{◌≡◌, ◌≢◌, ◌<◌, ◌≤◌, ◌⊎◌, inl, inr, ℕ, zero, suc, true, List, [], ◌∷◌, length, get_or, set, map, Option, Some, None, is_some, refl, sym, ap, ◌∙◌, subst, arith}
 use Rattle.std.specs.Prelude.{Contains, All, IsSome, slice_get, slice_index_or, option_and_then}
 use Rattle.std.proofs.lemmas.Bool.{cases_eq, cases_lt}
 use Rattle.std.proofs.lemmas.Bool.Decides.{nat_tests}
-use Rattle.std.proofs.lemmas.List.{get_or_past, get_or-set_same, get_or-set_other, length-set}
-use Rattle.std.proofs.lemmas.List.Elements.{All-contains, Contains-get_or}
-use Rattle.std.proofs.lemmas.Option.{none-some, same_Some, slice_get-get_or, slice_get_within, slice_get_past}
+use Rattle.std.proofs.lemmas.List.{get_or_past, get_or-set_same, get_or-set_other}
+use Rattle.std.proofs.lemmas.List.Elements.{All-contains}
+use Rattle.std.proofs.lemmas.Option.{none-some, same_Some, slice_get-get_or, slice_get_past}
 use Rattle.wol_disk.specs.Disk.{State}
 use Rattle.wol_model.specs.Heads.{Shape}
 use Rattle.turn_lock.specs.Histories.{Entry, own}
@@ -25,9 +25,9 @@ use Rattle.seg_pool.proofs.Holding.{holder_own, is_holder}
 use Rattle.seg_pool.proofs.Using.{has_index}
 use Rattle.log_segment.specs.Segment.{IsBlank, free_part}
 use Rattle.log_segment.specs.declared.free.FreeSegment.{FreeSegment}
-use Rattle.rack.specs.Rests.{image_here, segment_here, pool_pass, held_here, indexes_here, IsHolding, IsHeldHere, IsPassAt, IsRow}
+use Rattle.rack.specs.Rests.{image_here, segment_here, pool_pass, held_here, indexes_here, IsHolding, IsHeldHere, IsRow}
 use Rattle.rack.specs.Parts.{HasPlaces, EmptiesInto, IsRefilled, IsBlankPart, IsSameBut, KeepsImage, segment_in, item_part, either_part}
-use Rattle.rack.specs.Closing.{CanClosePool, CanPutAllHeld, PutsAllHeld, ArePoolsTaken, RefillsAll, IsRefilledAll, pool_in}
+use Rattle.rack.specs.Closing.{CanClosePool, CanPutAllHeld, PutsAllHeld, ArePoolsTaken, RefillsAll, IsRefilledAll}
 use Rattle.rack.specs.declared.rack.ImageRest.{ImageRest}
 use Rattle.rack.specs.declared.rack.Rest.{Rest}
 use Rattle.rack.specs.declared.rack.VolumePasses.{VolumePasses}

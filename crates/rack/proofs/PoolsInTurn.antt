@@ -1,6 +1,6 @@
 -- Pools are closed one after another, the last first.
-use Rattle.std.proofs.Common.{◌≡◌, ◌≢◌, ◌<◌, ◌≤◌, ◌+◌, ◌⊎◌, inl, inr, ℕ, List, [], ◌∷◌, ◌++◌, length, map, Option, Some, None, refl, sym, ap, ◌∙◌, subst, arith}
-use Rattle.std.specs.Prelude.{Contains, All, IsSome, slice_get}
+use Rattle.std.proofs.Common.{◌≡◌, ◌≢◌, ◌<◌, ◌≤◌, ◌+◌, ◌⊎◌, inl, inr, ℕ, List, [], length, map, Option, Some, None, refl, sym, ap, ◌∙◌, subst, arith}
+use Rattle.std.specs.Prelude.{Contains, All, slice_get}
 use Rattle.std.proofs.lemmas.Bool.{cases_eq}
 use Rattle.std.proofs.lemmas.Option.{same_Some, slice_get_within}
 use Rattle.wol_disk.specs.Disk.{State}
@@ -12,8 +12,8 @@ use Rattle.seg_pool.specs.declared.pool.Pool.{Pool}
 use Rattle.log_segment.specs.declared.free.FreeSegment.{FreeSegment}
 use Rattle.turn_lock.specs.Passes.{lock_id}
 use Rattle.turn_lock.specs.declared.lock.TurnLock.{TurnLock}
-use Rattle.rack.specs.Rests.{image_here, segment_here, pool_pass, held_here, indexes_here, IsHeldHere, IsHolding, IsPart}
-use Rattle.rack.specs.Closing.{CanClosePool, RefillsAll, IsRefilledAll, KeepsLogger, KeepsSpindles}
+use Rattle.rack.specs.Rests.{image_here, segment_here, held_here, indexes_here, IsHeldHere, IsPart}
+use Rattle.rack.specs.Closing.{CanClosePool, RefillsAll, KeepsLogger, KeepsSpindles}
 use Rattle.rack.specs.declared.rack.ImageRest.{ImageRest}
 use Rattle.rack.specs.declared.rack.Rest.{Rest}
 

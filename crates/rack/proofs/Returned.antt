@@ -1,12 +1,12 @@
 -- What a volume was opened with comes back.
-use Rattle.std.proofs.Common.{◌≡◌, ◌≢◌, ◌<◌, ◌≤◌, ⊎_elim, ℕ, List, [], ◌∷◌, ◌++◌, length, map, Option, None, Some, is_some, refl, sym, ap, subst, ◌∙◌, arith}
-use Rattle.std.specs.Prelude.{All, AllPairs, IsSome, IfSome, slice_get, slice_set, slice_index_or}
+use Rattle.std.proofs.Common.{◌≡◌, ◌≢◌, ◌<◌, ⊎_elim, ℕ, List, [], ◌∷◌, ◌++◌, length, Option, None, Some, is_some, refl, sym, ap, subst, ◌∙◌}
+use Rattle.std.specs.Prelude.{All, IsSome, IfSome, slice_set, slice_index_or}
 use Rattle.std.specs.declared.alloc.Global.{Global}
 use Rattle.std.specs.declared.vec.Vec.{Vec}
 use Rattle.std.proofs.lemmas.Bool.{cases_eq, cases_lt, false≢true}
 use Rattle.std.proofs.lemmas.List.{append_assoc, append-nil, length-set, get_or-set_same, get_or-set_other, get_or_past}
 use Rattle.std.proofs.lemmas.List.Elements.{All-nil, All-cons, All-head, All-tail, All-pop, All-weaker}
-use Rattle.std.proofs.lemmas.Option.{none-some, same_Some}
+use Rattle.std.proofs.lemmas.Option.{none-some}
 use Rattle.wol_disk.specs.Disk.{State}
 use Rattle.turn_lock.specs.declared.pass.PassOf.{PassOf}
 use Rattle.spin_model.specs.declared.spindle.Spindle.{Spindle}
@@ -17,9 +17,9 @@ use Rattle.logger.specs.declared.lane.Lane.{Lane}
 use Rattle.manager.specs.declared.manager.ManagerParts.{ManagerParts}
 use Rattle.manager_recovery.specs.Opening.{place_of}
 use Rattle.manager_recovery.specs.declared.opening.OwnedPart.{OwnedPart}
-use Rattle.rack.specs.Rests.{image_here, segment_here}
+use Rattle.rack.specs.Rests.{image_here}
 use Rattle.rack.specs.Making.{IsFilled}
-use Rattle.rack.specs.Parts.{KeepsPlace, IsBarePlace, HasBack, PutsLanes, CanPutLanes, ChangesHome, with_home, PutsManager, IsSameBut, KeepsImage, segment_in, in_image, IsOwedPlace, PutsOwned, CanPutOwned}
+use Rattle.rack.specs.Parts.{IsBarePlace, PutsLanes, CanPutLanes, ChangesHome, with_home, PutsManager, IsSameBut, KeepsImage, segment_in, in_image, IsOwedPlace, PutsOwned, CanPutOwned}
 use Rattle.rack.specs.declared.rack.ImageRest.{ImageRest}
 use Rattle.rack.specs.declared.rack.Rest.{Rest}
 use Rattle.rack.proofs.LanesPut.{all_both, pairs_last, pairs_front, rows_then, place_then}

@@ -1,13 +1,10 @@
 -- A row of passes is changed at one place.
-use Rattle.std.proofs.Common.{◌≡◌, ◌≢◌, ◌<◌, ℕ, List, [], ◌∷◌, length, map, Option, None, Some, option_and_then, ⊎_elim, refl, sym, ap, subst, ◌∙◌, arith}
+use Rattle.std.proofs.Common.{◌≡◌, ◌≢◌, ◌<◌, ℕ, List, length, Option, None, Some, option_and_then, ⊎_elim, sym, ap, subst, ◌∙◌}
 use Rattle.std.specs.Prelude.{All, slice_get, slice_set, slice_index_or}
-use Rattle.std.specs.declared.alloc.Global.{Global}
-use Rattle.std.specs.declared.vec.Vec.{Vec}
 use Rattle.std.proofs.lemmas.Bool.{cases_eq}
-use Rattle.std.proofs.lemmas.List.{length-set, get_or-set_same, get_or-set_other}
+use Rattle.std.proofs.lemmas.List.{length-set}
 use Rattle.std.proofs.lemmas.List.Elements.{All-set}
 use Rattle.std.proofs.lemmas.Option.{slice_get_within, get_or_from_slice_get}
-use Rattle.spin_model.specs.declared.spun.Spun.{Spun}
 use Rattle.manager.proofs.Lanes.{get_set, get_other}
 use Rattle.rack.specs.Rests.{IsRow, pool_pass, spindle_pass, held_here, list_of}
 use Rattle.rack.specs.Parts.{KeepsPlace, KeepsRows, HasPlace}

@@ -1,5 +1,5 @@
 -- The segments that a volume has, in any order, give the same extents as all segments in theirs.
-use Rattle.std.proofs.Common.{◌≡◌, ◌≢◌, ◌⊎◌, inl, inr, ⊎_elim, ◌<◌, ◌+◌, ℕ, zero, suc, Bool, true, false, List, [], ◌∷◌, ◌++◌, map, Some, refl, sym, ap, subst, ◌∙◌, length, cond, arith}
+use Rattle.std.proofs.Common.{◌≡◌, ◌≢◌, ◌⊎◌, inl, inr, ⊎_elim, ◌<◌, ◌+◌, ℕ, Bool, true, false, List, [], ◌∷◌, ◌++◌, map, Some, refl, sym, ap, subst, ◌∙◌, length, cond, arith}
 use Rattle.std.specs.Prelude.{slice_get, All, ⊤}
 use Rattle.std.specs.List.{AllByRecursion, flat_map}
 use Rattle.std.proofs.lemmas.Grind.{flat_map-append}
@@ -13,7 +13,7 @@ use Rattle.manager_recovery.specs.Opening.{AreInOrder, IsBefore}
 use Rattle.manager_recovery.specs.Owned.{Owned}
 use Rattle.manager_recovery.proofs.ByLogger.{contains_among}
 use Rattle.manager_recovery.proofs.SameNewest.{same_array}
-use Rattle.rack.proofs.OwnedSegments.{fits, found, listed, never_itself, ordered, same_all, segment_at, stands, Stands}
+use Rattle.rack.proofs.OwnedSegments.{fits, found, listed, never_itself, ordered, same_all, segment_at, stands}
 
 -- ---- The same elements in another order
 

@@ -1,6 +1,6 @@
 -- What a bay tells while images go out of it in order.
 use Rattle.std.proofs.Common.{◌≡◌, ◌≢◌, ⊎_elim, ℕ, zero, suc, ◌+◌, ◌<◌, ◌≤◌, Bool, true, false, cond, List, [], ◌∷◌, ◌++◌, length, get_or, Option, None, Some, option_map, IfSome, Result, Ok, Err, IfOk, IfErr, refl, sym, ap, ◌∙◌, subst, arith, append_assoc}
-use Rattle.std.specs.Prelude.{slice_get}
+use Rattle.std.specs.Prelude.{slice_get, is_some, All}
 use Rattle.std.specs.Str.{bytes_eq}
 use Rattle.std.proofs.lemmas.Bool.{cases_lt}
 use Rattle.std.proofs.lemmas.Option.{none-some, same_Some, slice_get_within, get_or_from_slice_get}
@@ -13,16 +13,17 @@ use Rattle.wol_config.specs.declared.config.Config.{Config}
 use Rattle.wol_config.specs.declared.config.VolumeConf.{VolumeConf}
 use Rattle.volume_images.specs.Formatted.{part_sizes}
 use Rattle.volume_images.specs.Left.{AreNamedApart, IsTold}
-use Rattle.volume_images.specs.Volumes.{shape_in, MayLeave}
+use Rattle.volume_images.specs.Volumes.{shape_in, MayLeave, NoneOut}
 use Rattle.volume_images.proofs.NamedApart.{other_gone, second_gone}
-use Rattle.rack.specs.Rests.{IsImageOut}
+use Rattle.rack.specs.Rests.{image_here, IsImageOut}
 use Rattle.rack.specs.Opens.{out_names}
 use Rattle.rack.specs.Opening.{StayedAs, StayedSo, HasSentOut, IsBackAtOnce, IsNextOpened, IsNextRefused}
 use Rattle.rack.specs.Making.{image_by}
 use Rattle.rack.specs.declared.heads_said.Said.{Said}
 use Rattle.rack.specs.declared.volume_fault.VolumeFault.{VolumeFault}
 use Rattle.rack.specs.declared.rack.ImageRest.{ImageRest}
-use Rattle.rack.proofs.Asking.{still_there, at_new, SameAt}
+use Rattle.rack.proofs.NextRefused.{no_more}
+use Rattle.rack.proofs.Asking.{still_there, at_less, at_new, SameAt}
 
 -- two names are the same or not
 pub cases_name : {P : Type 0} (x y : Name) → (x ≡ y → P) → (x ≢ y → P) → P
@@ -55,6 +56,19 @@ names_differ config valid j k v w at at' other = λ same.
 none_out : (D : Type 0) (config : Config) (vs : List VolumeConf) → out_names {D = D} config vs [] ≡ []
 none_out D config [] = refl
 none_out D config (v ∷ vs) = refl
+
+-- where the same images are out their names are the same
+pub names_alike : {D : Type 0} (config : Config) (vs : List VolumeConf) (xs ys : List (Option (ImageRest D))) → ((k : ℕ) → is_some (image_here xs k) ≡ is_some (image_here ys k)) → out_names config vs xs ≡ out_names config vs ys
+names_alike config [] xs ys same = refl
+names_alike config (v ∷ vs) [] [] same = refl
+names_alike {D} config (v ∷ vs) [] (None ∷ ys) same = sym (none_out D config vs) ∙ names_alike config vs [] ys (λ k. same (suc k))
+names_alike config (v ∷ vs) [] (Some y ∷ ys) same = absurd (let e = same 0 in cc (e))
+names_alike {D} config (v ∷ vs) (None ∷ xs) [] same = names_alike config vs xs [] (λ k. same (suc k)) ∙ none_out D config vs
+names_alike config (v ∷ vs) (Some x ∷ xs) [] same = absurd (let e = same 0 in cc (e))
+names_alike config (v ∷ vs) (None ∷ xs) (None ∷ ys) same = names_alike config vs xs ys (λ k. same (suc k))
+names_alike config (v ∷ vs) (None ∷ xs) (Some y ∷ ys) same = absurd (let e = same 0 in cc (e))
+names_alike config (v ∷ vs) (Some x ∷ xs) (None ∷ ys) same = absurd (let e = same 0 in cc (e))
+names_alike config (v ∷ vs) (Some x ∷ xs) (Some y ∷ ys) same = ap (λ (l : List (Name × List ℕ)). (v.name, part_sizes (shape_in config v)) ∷ l) (names_alike config vs xs ys (λ k. same (suc k)))
 
 outs_more : (names : List (Name × List ℕ)) (name : Name) (sizes : List ℕ) (o o1 o2 : Option Told) → option_map (λ t. t.out) o1 ≡ option_map (λ os. os ++ names) (option_map (λ t. t.out) o) → o2 ≡ option_map (sent_out name sizes) o1
     → option_map (λ t. t.out) o2 ≡ option_map (λ os. os ++ (names ++ (name, sizes) ∷ [])) (option_map (λ t. t.out) o)
@@ -109,10 +123,12 @@ module _ {D : Type 0} (config : Config) where
         record {
           apart = sent_apart v.name (part_sizes (shape_in config v)) t1 h.apart;
           stayed = λ name not c may.
-              let here : IsImageOut (out ++ Some r ∷ []) n = ap Rattle.std.specs.Prelude.is_some (at_new out (Some r) n count) in
+              let here : IsImageOut (out ++ Some r ∷ []) n = ap is_some (at_new out (Some r) n count) in
               let differs : name ≢ v.name = λ is. not n v here at (sym is) in
               h.stayed name (not_before (Some r) name not) c (subst (λ (i : Option Image). MayLeave i c) (other_gone v.name name differs t1.images) may);
           further = λ k w le found. other_gone v.name w.name (other_names k w le found) t1.images ∙ h.further k w (omega (arith, le)) found;
+          faulty = h.faulty;
+          unfaulty = λ all. h.unfaulty (λ k lt. ap is_some (sym (at_less out (Some r) n count k lt)) ∙ all k (omega (arith, lt)));
         })
 
     pub sent_more : (r : ImageRest D) (b b1 b2 : BayState) → HasSentOut config out n b b1 → b2.told ≡ option_map (sent_out v.name (part_sizes (shape_in config v))) b1.told → b1.faults ≤ b2.faults → HasSentOut config (out ++ Some r ∷ []) (n + 1) b b2
@@ -139,6 +155,8 @@ module _ {D : Type 0} (config : Config) where
               (λ same. before (subst (λ (m : Name). MayLeave (at_name m t1.images) c) (sym same) (l.here c (subst (λ (m : Name). MayLeave (at_name m t2.images) c) same may))))
               (λ other. before (subst (λ (i : Option Image). MayLeave i c) (l.others name other) may));
           further = λ k w le found. l.others w.name (other_names k w le found) ∙ h.further k w (omega (arith, le)) found;
+          faulty = (h.faulty.0 ++ l.faulty.0, l.faulty.1 ∙ ap (λ (fs : List (Name × ℕ)). fs ++ l.faulty.0) h.faulty.1 ∙ append_assoc t.faulty h.faulty.0 l.faulty.0);
+          unfaulty = λ all. absurd (let there = all n (omega arith) in let none = ap is_some (at_new out None n count) in cc (there, none));
         }
 
     pub refused_more : (b b1 b2 : BayState) → HasSentOut config out n b b1 → outs b2 ≡ outs b1 → IsTold (StayedAs v.name) b1.told b2.told → b1.faults ≤ b2.faults → HasSentOut config (out ++ None ∷ []) (n + 1) b b2
@@ -166,7 +184,16 @@ module _ {D : Type 0} (config : Config) where
 
       stays : (o : Option Told) → IsTold (StayedSo {D = D} config [] 0) o o
       stays None = refl
-      stays (Some t) = λ apart. record { apart = apart; stayed = λ name not c may. may; further = λ k w le found. refl }
+      stays (Some t) = λ apart. record { apart = apart; stayed = λ name not c may. may; further = λ k w le found. refl; faulty = no_more t; unfaulty = λ all. refl }
+
+-- no name of the configuration is among those that are out
+pub none_named : (config : Config) (b : BayState) → NoneOut config b → IfSome (outs b) (λ os. All (λ (v : VolumeConf). at_name v.name os ≡ None) config.volumes.items)
+none_named config b home = go b.told home
+  where
+    go : (o : Option Told) → All (λ (v : VolumeConf). IfSome o (λ t. at_name v.name t.out ≡ None)) config.volumes.items
+        → IfSome (option_map (λ t. t.out) o) (λ os. All (λ (v : VolumeConf). at_name v.name os ≡ None) config.volumes.items)
+    go None all = tt
+    go (Some t) all = λ k d lt. all k d lt
 
 -- ---- A name that isn't out
 

@@ -1,13 +1,11 @@
 -- The rack before a volume is opened.
-use Rattle.std.proofs.Common.{◌≡◌, ◌≢◌, ◌<◌, ◌≤◌, ◌+◌, ⊎_elim, ℕ, zero, suc, List, [], ◌∷◌, length, map, take, Option, None, Some, option_and_then, option_map, refl, sym, ap, subst, ◌∙◌, arith}
-use Rattle.std.specs.Prelude.{All, slice_get, slice_index_or, vec_len, vec_capacity}
-use Rattle.std.specs.List.{AllZip}
+use Rattle.std.proofs.Common.{◌≡◌, ◌<◌, ◌≤◌, ◌+◌, ℕ, zero, suc, List, [], ◌∷◌, length, map, take, Option, None, Some, option_and_then, option_map, refl, sym, ap, subst, ◌∙◌, arith}
+use Rattle.std.specs.Prelude.{All, slice_get, slice_index_or, vec_capacity}
 use Rattle.std.specs.declared.alloc.Global.{Global}
 use Rattle.std.specs.declared.vec.Vec.{Vec}
-use Rattle.std.proofs.lemmas.Bool.{cases_lt}
 use Rattle.std.proofs.lemmas.List.{length-map, length-take}
-use Rattle.std.proofs.lemmas.List.Elements.{All-nil, length_all_zip}
-use Rattle.std.proofs.lemmas.Option.{none-some, same_Some, slice_get-map, slice_get-get_or, slice_get_past, slice_get_within, get_or_from_slice_get}
+use Rattle.std.proofs.lemmas.List.Elements.{All-nil}
+use Rattle.std.proofs.lemmas.Option.{slice_get-map, slice_get_within, get_or_from_slice_get}
 use Rattle.turn_lock.specs.declared.lock.TurnLock.{TurnLock}
 use Rattle.turn_lock.specs.declared.pass.PassOf.{PassOf}
 use Rattle.spin_model.specs.declared.spindle.Spindle.{Spindle}
@@ -22,8 +20,8 @@ use Rattle.manager.specs.declared.manager.Manager.{Manager}
 use Rattle.manager.specs.declared.station.Station.{Station}
 use Rattle.manager_recovery.proofs.Lists.{zip_get, zip_length}
 use Rattle.rack.specs.Making.{AreLists, AreEmptyPasses}
-use Rattle.rack.specs.Rests.{IsRow, AreRooms, pool_pass, spindle_pass, held_here, list_of}
-use Rattle.rack.specs.Parts.{PutsSpindles, PutsPools, CanDeal, Deals, AreEmptied, IsSetUp}
+use Rattle.rack.specs.Rests.{IsRow, AreRooms, held_here, list_of}
+use Rattle.rack.specs.Parts.{PutsSpindles, PutsPools, CanDeal, Deals, IsSetUp}
 use Rattle.rack.specs.declared.lists.Lists.{Lists}
 use Rattle.rack.specs.declared.locks.Issued.{Issued}
 use Rattle.rack.specs.declared.rack.Rack.{Rack}

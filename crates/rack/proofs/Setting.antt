@@ -1,13 +1,13 @@
 -- The locks and their passes are set where they belong.
-use Rattle.std.proofs.Common.{◌≡◌, ◌≢◌, ◌<◌, ◌≤◌, ◌+◌, ◌-◌, ⊎_elim, ℕ, zero, suc, min, List, [], ◌∷◌, ◌++◌, length, map, take, reverse, Option, None, Some, option_and_then, option_map, refl, sym, ap, subst, ◌∙◌, arith}
+use Rattle.std.proofs.Common.{◌≡◌, ◌<◌, ◌≤◌, ◌+◌, ◌-◌, ⊎_elim, ℕ, zero, suc, List, [], ◌∷◌, ◌++◌, length, map, take, reverse, Option, None, Some, refl, sym, ap, subst, ◌∙◌, arith}
 use Rattle.std.specs.Prelude.{All, MatchOption, slice_get, slice_index_or, slice_set, vec_len, vec_capacity}
 use Rattle.std.specs.List.{AllZip}
 use Rattle.std.specs.declared.alloc.Global.{Global}
 use Rattle.std.specs.declared.vec.Vec.{Vec}
-use Rattle.std.proofs.lemmas.Bool.{cases_eq, cases_lt}
-use Rattle.std.proofs.lemmas.List.{append_assoc, append-nil, map-append, reverse-append, reverse-reverse, length-append, length-map, length-reverse, length-take, length-set, take-take, take_at, take_all, map_more, get_or_read, get_or-set_same, get_or-set_other, same_lists}
-use Rattle.std.proofs.lemmas.List.Elements.{All-nil, All-cons, All-pop}
-use Rattle.std.proofs.lemmas.Option.{none-some, same_Some, slice_get-map, slice_get-get_or, slice_get_past, slice_get_within, get_or_from_slice_get}
+use Rattle.std.proofs.lemmas.Bool.{cases_eq}
+use Rattle.std.proofs.lemmas.List.{append_assoc, append-nil, map-append, reverse-append, reverse-reverse, length-append, length-map, length-reverse, length-set, take_at, take_all, map_more, get_or_read, get_or-set_same, get_or-set_other}
+use Rattle.std.proofs.lemmas.List.Elements.{All-pop}
+use Rattle.std.proofs.lemmas.Option.{slice_get-get_or, slice_get_past}
 use Rattle.turn_lock.specs.declared.lock.TurnLock.{TurnLock}
 use Rattle.turn_lock.specs.declared.pass.PassOf.{PassOf}
 use Rattle.spin_model.specs.declared.spindle.Spindle.{Spindle}
@@ -15,11 +15,10 @@ use Rattle.spin_model.specs.declared.spindle.SpindleBase.{SpindleBase}
 use Rattle.seg_pool.specs.declared.base.PoolBase.{PoolBase}
 use Rattle.seg_pool.specs.declared.pool.Pool.{Pool}
 use Rattle.log_segment.specs.declared.free.FreeSegment.{FreeSegment}
-use Rattle.rack.specs.Making.{AreLists, AreEmptyPasses}
-use Rattle.rack.specs.Parts.{PutsSpindles, PutsPools, last_of, ArePopped, AreEmptied, CanDeal, Deals}
+use Rattle.rack.specs.Making.{AreLists}
+use Rattle.rack.specs.Parts.{PutsSpindles, PutsPools, last_of, ArePopped}
 use Rattle.rack.specs.declared.lists.Lists.{Lists}
 use Rattle.rack.specs.declared.locks.Issued.{Issued}
-use Rattle.rack.specs.declared.rack.VolumePasses.{VolumePasses}
 
 module _ {X Y : Type 0} where
   pub zip_push : (R : X → Y → Type 0) (xs : List X) (ys : List Y) (x : X) (y : Y) → AllZip R xs ys → R x y → AllZip R (xs ++ x ∷ []) (ys ++ y ∷ [])

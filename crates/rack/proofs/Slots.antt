@@ -1,5 +1,5 @@
 -- Slots of a pool that is filled and emptied.
-use Rattle.std.proofs.Common.{◌≡◌, ◌≢◌, ◌<◌, ◌+◌, ℕ, zero, suc, cond, List, [], ◌∷◌, length, map, Option, None, Some, is_some, refl, sym, ap, subst, ◌∙◌, arith}
+use Rattle.std.proofs.Common.{◌≡◌, ◌≢◌, ◌<◌, ◌+◌, ℕ, zero, suc, cond, List, [], ◌∷◌, length, map, Option, None, Some, is_some, refl, sym, ap, ◌∙◌, arith}
 use Rattle.std.specs.Prelude.{slice_index_or}
 use Rattle.std.proofs.lemmas.Option.{none-some, same_Some}
 use Rattle.spin_model.specs.declared.spun.Spun.{Spun}
@@ -12,7 +12,6 @@ use Rattle.seg_pool.specs.declared.pool.Slot.{Slot}
 use Rattle.seg_pool.specs.declared.pool.Slot.TheVariants.{Empty, Noted, Free}
 use Rattle.log_segment.specs.Segment.{free_part}
 use Rattle.log_segment.specs.declared.free.FreeSegment.{FreeSegment}
-use Rattle.log_layout.specs.declared.segment.SegHead.{SegHead}
 use Rattle.log_layout.specs.declared.segment.SegHead.TheVariants as head
 use Rattle.rack.specs.Parts.{FillsSlot}
 

@@ -3,11 +3,14 @@ use Rattle.std.proofs.Common.{◌≡◌, ◌≢◌, ◌<◌, ◌≤◌, ◌+◌,
 use Rattle.std.specs.Prelude.{Contains, IsTrue, slice_get}
 use Rattle.std.proofs.lemmas.Option.{slice_get-get_or}
 use Rattle.std.proofs.lemmas.List.Elements.{All-from_recursion}
-use Rattle.wol_disk.specs.Disk.{State, Rose, IsDisk, TellsContent}
+use Rattle.wol_disk.specs.Disk.{Block, State, Rose, IsDisk, TellsContent, IsImageOf}
 use Rattle.wol_model.specs.Blocks.{Write}
+use Rattle.wol_model.specs.Heads.{Shape}
 use Rattle.wol_model.specs.History.{flight_of}
-use Rattle.wol_promise.specs.Manager.{PartName, HomePart, SegmentPart, Held, IsPartOf}
+use Rattle.wol_model.specs.Images.{segment_of}
+use Rattle.wol_promise.specs.Manager.{PartName, HomePart, SegmentPart, Held, IsPartOf, SaysOwnerOrFree}
 use Rattle.wol_promise.specs.Ruled.{entries_of}
+use Rattle.wol_promise.specs.Stands.{IsHeldBy}
 use Rattle.wol_bay.specs.Bay.{Told, BayState}
 use Rattle.wol_bay.specs.Parts.{faulty_places}
 use Rattle.wol_config.specs.declared.config.Config.{Config}
@@ -22,25 +25,25 @@ use Rattle.log_segment.specs.declared.free.FreeSegment.{FreeSegment}
 use Rattle.logger.specs.Lanes.{logger_of, held_in}
 use Rattle.logger.specs.declared.lane.HeldSegment.{HeldSegment}
 use Rattle.logger.specs.declared.lane.Lane.{Lane}
-use Rattle.manager.specs.Seen.{all_held, seen, down_of}
+use Rattle.manager.specs.Seen.{parts_of, all_held, seen, down_of}
 use Rattle.manager.specs.Stands.{notes_of}
 use Rattle.manager.specs.declared.station.Station.{Station}
 use Rattle.volume_images.specs.Left.{IsTold}
 use Rattle.volume_images.specs.Volumes.{shapes_of}
-use Rattle.rack.specs.Rests.{image_here, IsRest}
+use Rattle.rack.specs.Rests.{image_here, segment_here, IsRest}
 use Rattle.rack.specs.Racks.{IsClosable, base_of_station}
 use Rattle.rack.specs.Parts.{IsTogether}
 use Rattle.rack.specs.Closing.{Closing, IsClosing, ClosesStations, RefillsAll, KeepsSpindles, GivesBack, HasFaultHere}
-use Rattle.rack.specs.Closes.{RecoversTo, IsClosedVolume, HasFaultyPart}
+use Rattle.rack.specs.Closes.{RecoversTo, IsClosedVolume, HasFaultyPart, SaysOwnerIn}
 use Rattle.rack.specs.declared.rack.ImageRest.{ImageRest}
 use Rattle.rack.specs.declared.rack.Rack.{Rack}
 use Rattle.rack.specs.declared.rack.Rest.{Rest}
 use Rattle.rack.proofs.Members.{a_value, in_map, of_recursion, none_in}
 use Rattle.rack.proofs.Closable.{images_whole}
-use Rattle.rack.proofs.HeldSegments.{each_held}
+use Rattle.rack.proofs.HeldSegments.{each_held, of_held}
 use Rattle.rack.proofs.FaultyParts.{together_of, home_fault, segment_fault}
 use Rattle.rack.proofs.StationParts.{zip_at, is_station, home_there, lane_there, shape_of_image}
-use Rattle.rack.proofs.FinalImages.{volume_at, cut_left, whole_left, distinct_left}
+use Rattle.rack.proofs.FinalImages.{volume_at, left_now, cut_left, whole_left, distinct_left}
 
 pub told_map : (P Q : Told → Told → Type 0) (a b : Option Told) → IsTold P a b → ((o n : Told) → P o n → Q o n) → IsTold Q a b
 told_map P Q None b is each = is
@@ -58,6 +61,15 @@ module _ {D : Type 0} (state : D → State) (tells : Bool) (config : Config) (b 
       record { volume = k; behind = omega arith; image = q; here = here; disks = disks.0; together = disks.1; fault = λ e. none_in place (subst (λ (xs : List ℕ). Contains xs place) e (among disks.0 disks.1)) }
 
   module _ (n : ℕ) (s : Station D) (c : Closing D) (s_at : slice_get r.stations.items n ≡ Some s) (c_at : slice_get closed.closings n ≡ Some c) (ic : IsClosing tells state first s c) where
+    -- a segment of a logger of the view, each image of which says the owner or free
+    pub record IsOfLane (volume : ℕ) (image : ImageRest D) (place : ℕ) : Type 0 where
+      pub in_view : Contains (base_of_station s).volume.began.view volume
+      pub index : ℕ
+      pub place_is : place ≡ 2 + index
+      pub part : Spun D
+      pub part_is : segment_here image index ≡ Some part
+      pub says : IsTrue tells → (bs : List Block) → IsImageOf (state_of state part).values bs → SaysOwnerOrFree s.id bs
+
     -- a part of the volume that had a fault, and its place in its image
     pub record IsFaulty : Type 0 where
       pub volume : ℕ
@@ -65,7 +77,15 @@ module _ {D : Type 0} (state : D → State) (tells : Bool) (config : Config) (b 
       pub here : image_here second.images.items volume ≡ Some image
       pub place : ℕ
       pub among : (disks : List D) → IsTogether image disks → Contains (faulty_places state disks) place
-      pub of_volume : ((volume ≡ s.id) × (place ≡ 1)) ⊎ (Contains (base_of_station s).volume.began.view volume × (2 ≤ place))
+      pub of_volume : ((volume ≡ s.id) × (place ≡ 1)) ⊎ IsOfLane volume image place
+
+    -- a segment of a lane says the owner or free
+    says_owner : IsTrue tells → (l : Lane D) (h : HeldSegment D) → Contains c.manager.lanes.items l → Contains (held_in l) h → (bs : List Block) → IsImageOf (state_of state (part_of h.segment)).values bs → SaysOwnerOrFree s.id bs
+    says_owner told l h in_lanes in_held bs is_image =
+        subst (λ (v : ℕ). SaysOwnerOrFree v bs) (is_station state tells config b r can first second is closed filled kept n s s_at).id
+        (of_held (IsHeldBy (parts_of tells state) (base_of_station s).volume.began) (SaysOwnerOrFree (base_of_station s).volume.began.owner bs) 0 c.manager.lanes.items ic.stands.keeps.logs
+        (λ g rs. IsTrue tells → c.manager.down ≡ None → Rattle.log_segment.specs.Segment.Holds state g.segment rs) ic.stands.keeps.held ic.stands.keeps.upholds.places.each l h in_lanes in_held
+        (λ i rs broken x. x.owned bs (told, is_image)))
 
     abbrev in_lane : Held (Spun D) → Type 0
     in_lane h = (l : Lane D) × (g : HeldSegment D) × Contains c.manager.lanes.items l × Contains (held_in l) g × (part_of g.segment ≡ h.part)
@@ -92,7 +112,14 @@ module _ {D : Type 0} (state : D → State) (tells : Bool) (config : Config) (b 
           here = t.2;
           place = 2 + x.1.index;
           among = λ disks together. segment_fault state t.1 disks together x.1.index (part_of x.1.segment) t.3 (subst (λ (y : Spun D). 0 < (state_of state y).faults) (sym part) fault);
-          of_volume = inr (subst (λ xs. Contains xs (logger_of x.0)) ic.stands.keeps.locks.view (in_map logger_of c.manager.lanes.items x.0 x.2), omega arith);
+          of_volume = inr (record {
+            in_view = subst (λ xs. Contains xs (logger_of x.0)) ic.stands.keeps.locks.view (in_map logger_of c.manager.lanes.items x.0 x.2);
+            index = x.1.index;
+            place_is = refl;
+            part = part_of x.1.segment;
+            part_is = t.3;
+            says = λ told. says_owner told x.0 x.1 x.2 x.3;
+          });
         }
 
     pub broken : (flight_of (entries_of (notes_of c.entries)) ≡ None → ⊥) → IsFaulty
@@ -106,19 +133,30 @@ module _ {D : Type 0} (state : D → State) (tells : Bool) (config : Config) (b 
         some None e = absurd (broke e)
         some (Some ws) e = ap is_some e
 
-    pub faulty_part : (old new : Told) → GivesBack state config second.images.items 0 old new → IsFaulty → HasFaultyPart config s old new
-    faulty_part old new given part =
+    pub faulty_part : ((told : IsTrue tells) → (d : D) → TellsContent (state d)) → ((d : D) → IsDisk (state d)) → length (shapes_of config) ≤ 64
+        → (old new : Told) → GivesBack state config second.images.items 0 old new → IsFaulty → HasFaultyPart tells config s.id (base_of_station s).volume.began.view old new
+    faulty_part tell_all sound few old new given part =
         let z = shape_of_image state tells config b r can first second is closed filled kept part.volume part.image part.here in
         let v = volume_at config part.volume z.0 z.1 in
         let back = given.back part.volume v.0 part.image (omega arith) v.1 part.here in
-        record { more = given.more; more_is = given.faulty; volume = part.volume; conf = v.0; conf_is = v.1; place = part.place; among = back.faulty part.place (part.among back.disks back.together); of_volume = part.of_volume }
+        record { more = given.more; more_is = given.faulty; volume = part.volume; conf = v.0; conf_is = v.1; place = part.place; among = back.faulty part.place (part.among back.disks back.together); of_volume = of part.of_volume z.0 z.1 v.2 }
+      where
+        left_of : (lane : IsOfLane part.volume part.image part.place) (z : Shape) → slice_get (shapes_of config) part.volume ≡ Some z → IsTrue tells → SaysOwnerIn config s.id new part.volume z lane.index
+        left_of lane z at told images left =
+            let x = left_now state tells told (tell_all told) sound config few b r can first second is closed filled kept old new given images left part.volume z part.image at part.here in
+            (x.0, x.1, lane.says told (segment_of z x.0 lane.index) (x.2.segments lane.index lane.part lane.part_is))
+
+        of : ((part.volume ≡ s.id) × (part.place ≡ 1)) ⊎ IsOfLane part.volume part.image part.place → (z : Shape) → slice_get (shapes_of config) part.volume ≡ Some z → {y : Shape} → y ≡ z
+            → ((part.volume ≡ s.id) × (part.place ≡ 1)) ⊎ (Contains (base_of_station s).volume.began.view part.volume × (index : ℕ) × (part.place ≡ 2 + index) × (IsTrue tells → SaysOwnerIn config s.id new part.volume y index))
+        of (inl home) z at same = inl home
+        of (inr lane) z at same = inr (lane.in_view, lane.index, lane.place_is, λ told. subst (λ (y : Shape). SaysOwnerIn config s.id new part.volume y lane.index) (sym same) (left_of lane z at told))
 
     pub recovers : (told : IsTrue tells) → ((d : D) → TellsContent (state d)) → ((d : D) → IsDisk (state d)) → length (shapes_of config) ≤ 64 → (old new : Told) → GivesBack state config second.images.items 0 old new
         → RecoversTo config r.rest.images.items s c.entries new
     recovers told tell_all sound few old new given = record {
-      cut = λ images left distinct. cut_left state tells told tell_all sound config few b r can first second is closed filled kept old new given images left n s c s_at c_at ic distinct;
+      cut = λ images left. cut_left state tells told tell_all sound config few b r can first second is closed filled kept old new given images left n s c s_at c_at ic;
       whole = λ images left up. whole_left state tells told tell_all sound config few b r can first second is closed filled kept old new given images left n s c s_at c_at ic up;
-      distinct = λ images left up. distinct_left state tells told tell_all sound config few b r can first second is closed filled kept old new given images left n s c s_at c_at ic up;
+      distinct = λ images left. distinct_left state tells told tell_all sound config few b r can first second is closed filled kept old new given images left n s c s_at c_at ic;
     }
 
   -- what is said of a volume
@@ -133,9 +171,10 @@ module _ {D : Type 0} (state : D → State) (tells : Bool) (config : Config) (b 
     no_more = λ m w h k. c.2.whole.no_more m
         (All-from_recursion (λ p. pass_number p ≢ m) (s.worker ∷ s.helper ∷ s.keeper ∷ [])
         (λ e. w (sym e ∙ station.worker_.number_is), (λ e. h (sym e ∙ station.helper_.number_is), (λ e. k (sym e ∙ station.keeper_.number_is), tt))));
+    opening = c.2.stands.keeps.upholds.began;
     history = c.2.stands.keeps.upholds.history;
     cause = λ broke. let part = broken has.0 s c.0 at c.1 c.2 broke in cause (fault_here part.volume part.place part.image part.here part.among);
-    faulty = λ broke. told_map (GivesBack state config second.images.items 0) (HasFaultyPart config s) x.told y.told given (λ old new back. faulty_part has.0 s c.0 at c.1 c.2 old new back (broken has.0 s c.0 at c.1 c.2 broke));
+    faulty = λ broke. told_map (GivesBack state config second.images.items 0) (HasFaultyPart tells config s.id (base_of_station s).volume.began.view) x.told y.told given (λ old new back. faulty_part has.0 s c.0 at c.1 c.2 tell_all sound few old new back (broken has.0 s c.0 at c.1 c.2 broke));
     recovers = λ told. told_map (GivesBack state config second.images.items 0) (λ o n. RecoversTo config r.rest.images.items s c.0.entries n) x.told y.told given (λ old new back. recovers has.0 s c.0 at c.1 c.2 told (tell_all told) sound few old new back);
   }
     where

@@ -1,21 +1,22 @@
 -- What images of a station's parts recover to, among all segments.
 use Rattle.std.proofs.Common.{◌≡◌, ◌≢◌, ◌<◌, ◌≤◌, ◌⊎◌, inl, inr, ℕ, Bool, List, [], ◌∷◌, length, map, Option, Some, None, refl, sym, ap, ◌∙◌, subst, arith}
-use Rattle.std.specs.Prelude.{All, AllPairs, IsTrue, slice_get, unwrap_or}
+use Rattle.std.specs.Prelude.{All, AllPairs, IsTrue, is_some, slice_get, unwrap_or}
 use Rattle.std.specs.List.{AllByRecursion, AllZip}
 use Rattle.std.proofs.lemmas.Bool.{cases_lt}
 use Rattle.std.proofs.lemmas.Option.{slice_get_within, get_or_from_slice_get}
 use Rattle.std.proofs.lemmas.List.Elements.{All-from_recursion}
 use Rattle.wol_disk.specs.Disk.{Block, State, IsImageOf}
 use Rattle.wol_model.specs.Blocks.{after}
-use Rattle.wol_model.specs.Extents.{Extent, AreDistinct, covers_of, with_extents}
+use Rattle.wol_model.specs.Extents.{AreDistinct, covers_of, with_extents}
 use Rattle.wol_model.specs.Heads.{Shape}
 use Rattle.wol_model.specs.History.{writes, flight_of, IsCut}
 use Rattle.wol_model.specs.Images.{Images, image_of, image_size, segment_of, all_segments}
 use Rattle.wol_model.specs.Recovered.{extents_in, extents_of, recovered}
-use Rattle.wol_promise.specs.Manager.{Held, extents_held}
+use Rattle.wol_promise.specs.Manager.{Held}
 use Rattle.wol_promise.specs.Ruled.{Noted, entries_of}
-use Rattle.wol_promise.specs.Stands.{place_in, ApartFrom, AreApartPlaces, IsHeldBy, IsWhole}
-use Rattle.wol_promise.proofs.Choices.{chosen_extents, recovers_from}
+use Rattle.wol_promise.specs.Stands.{place_in, ApartFrom, AreApartPlaces, IsHeldBy, IsWhole, IsSoundOf, AreSoundOf}
+use Rattle.wol_promise.proofs.Choices.{recovers_from}
+use Rattle.wol_promise.proofs.SoundSegments.{logs_sound}
 use Rattle.spin_model.specs.Spun.{state_of, volume_of}
 use Rattle.spin_model.specs.declared.spun.Spun.{Spun}
 use Rattle.manager.specs.Seen.{parts_of, all_held}
@@ -127,14 +128,33 @@ module _ {D : Type 0} (tells : Bool) (state : D → State) (told : IsTrue tells)
     shuffled : Shuffled (extents_of v chosen_segments) (extents_of v (all_segments shapes images))
     shuffled = same_extents shapes images v (map placed_held held) these
 
+    -- each of them is sound
+    sound_chosen : AreSoundOf v b.volume.began.home_blocks chosen_segments
+    sound_chosen = of_flight (flight_of (entries_of notes)) refl
+      where
+        of_flight : (o : Option (List Rattle.wol_model.specs.Blocks.Write)) → flight_of (entries_of notes) ≡ o → AreSoundOf v b.volume.began.home_blocks chosen_segments
+        of_flight (Some fl) e = kp.upholds.sound told (ap is_some e) chosen_segments (chosen held are.each)
+        of_flight None e =
+            let whole = (kp.upholds.calm e).whole told in
+            logs_sound (λ h bs. IsTrue tells × IsImageOf (state_of state h.part).values bs) v b.volume.began.home_blocks held whole.logs (kp.upholds.known told).within whole.distinct chosen_segments (chosen held are.each)
+
+    sound_mapped : (hs : List (Held (Spun D))) → AllByRecursion (IsSoundOf v b.volume.began.home_blocks) (map (λ (p : Placed). p.1) (map placed_held hs)) → AllByRecursion (λ (h : Held (Spun D)). IsSoundOf v b.volume.began.home_blocks (blocks_of_held h)) hs
+    sound_mapped [] all = tt
+    sound_mapped (h ∷ hs) all = (all.0, sound_mapped hs all.1)
+
+    pub sound_now : AllByRecursion (λ (h : Held (Spun D)). IsSoundOf v b.volume.began.home_blocks (blocks_of_held h)) held
+    sound_now = sound_mapped held sound_chosen.each
+
+    pub distinct_now : AreDistinct (covers_of (extents_of v (all_segments shapes images)))
+    distinct_now = shuffled_distinct (extents_of v chosen_segments) (extents_of v (all_segments shapes images)) shuffled sound_chosen.distinct
+
     -- a cut of the writes in flight
-    pub cut_now : AreDistinct (covers_of (extents_of v (all_segments shapes images)))
-        → IsCut b.volume.began.array (writes (entries_of notes)) (unwrap_or (flight_of (entries_of notes)) []) (recovered v home (all_segments shapes images))
-    cut_now distinct =
+    pub cut_now : IsCut b.volume.began.array (writes (entries_of notes)) (unwrap_or (flight_of (entries_of notes)) []) (recovered v home (all_segments shapes images))
+    cut_now =
         let same : recovered v home chosen_segments ≡ recovered v home (all_segments shapes images) =
         same_recovered v home chosen_segments (all_segments shapes images)
         (same_array (extents_of v chosen_segments) (extents_of v (all_segments shapes images)) (λ x has valid. shuffled_to (extents_of v chosen_segments) (extents_of v (all_segments shapes images)) shuffled x has)
-        (λ y has valid. shuffled_from (extents_of v chosen_segments) (extents_of v (all_segments shapes images)) shuffled y has) (once (extents_of v (all_segments shapes images)) distinct) home) in
+        (λ y has valid. shuffled_from (extents_of v chosen_segments) (extents_of v (all_segments shapes images)) shuffled y has) (once (extents_of v (all_segments shapes images)) distinct_now) home) in
         subst (λ (x : List Block). IsCut b.volume.began.array (writes (entries_of notes)) (unwrap_or (flight_of (entries_of notes)) []) x) same (of_flight (flight_of (entries_of notes)) refl)
       where
         of_flight : (o : Option (List Rattle.wol_model.specs.Blocks.Write)) → flight_of (entries_of notes) ≡ o → IsCut b.volume.began.array (writes (entries_of notes)) (unwrap_or (flight_of (entries_of notes)) []) (recovered v home chosen_segments)
@@ -156,17 +176,8 @@ module _ {D : Type 0} (tells : Bool) (state : D → State) (told : IsTrue tells)
       whole_is : IsWhole (parts_of tells state) b.volume.began (writes (entries_of notes)) m.next m.home held m.index.entries
       whole_is = (kp.upholds.calm up).whole told
 
-      chosen_are : extents_of v chosen_segments ≡ extents_held held
-      chosen_are = chosen_extents (λ h bs. IsTrue tells × IsImageOf (state_of state h.part).values bs) v held chosen_segments whole_is.logs (chosen held are.each)
-
-      chosen_distinct : AreDistinct (covers_of (extents_of v chosen_segments))
-      chosen_distinct = subst (λ (es : List Extent). AreDistinct (covers_of es)) (sym chosen_are) whole_is.distinct
-
-      pub distinct_now : AreDistinct (covers_of (extents_of v (all_segments shapes images)))
-      distinct_now = shuffled_distinct (extents_of v chosen_segments) (extents_of v (all_segments shapes images)) shuffled chosen_distinct
-
       pub whole_now : recovered v home (all_segments shapes images) ≡ after b.volume.began.array (writes (entries_of notes))
       whole_now =
-          sym (same_recovered v home chosen_segments (all_segments shapes images) (shuffled_same home (extents_of v chosen_segments) (extents_of v (all_segments shapes images)) shuffled chosen_distinct))
+          sym (same_recovered v home chosen_segments (all_segments shapes images) (shuffled_same home (extents_of v chosen_segments) (extents_of v (all_segments shapes images)) shuffled sound_chosen.distinct))
           ∙ recovers_from (λ h bs. IsTrue tells × IsImageOf (state_of state h.part).values bs) v (λ bs. IsTrue tells × IsImageOf (state_of state m.home).values bs) held (after b.volume.began.array (writes (entries_of notes)))
           whole_is.logs (λ image is. (whole_is.holds image is).stands) home chosen_segments (told, are.home_left) (chosen held are.each)

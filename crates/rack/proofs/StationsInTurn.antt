@@ -1,22 +1,19 @@
 -- Stations are closed one after another, the last first.
 use Rattle.std.proofs.Common.{◌≡◌, ◌≢◌, ◌<◌, ◌≤◌, ◌+◌, ◌-◌, ◌⊎◌, inl, inr, ℕ, Bool, List, [], ◌∷◌, ◌++◌, length, drop, map, Option, Some, None, refl, sym, ap, ◌∙◌, subst, arith}
-use Rattle.std.specs.Prelude.{Contains, All, slice_get, option_map, option_and_then}
+use Rattle.std.specs.Prelude.{Contains, slice_get, option_map}
 use Rattle.std.specs.List.{AllZip}
 use Rattle.std.proofs.lemmas.List.{append-nil, length-drop, get_or-drop, drop_more}
 use Rattle.std.proofs.lemmas.Option.{slice_get-get_or, slice_get-map, slice_get_within, get_or_from_slice_get}
 use Rattle.std.proofs.lemmas.List.Elements.{Contains-append_left, Contains-append_cases}
 use Rattle.wol_disk.specs.Disk.{State}
 use Rattle.logger.specs.Lanes.{logger_of}
-use Rattle.logger.specs.declared.lane.Lane.{Lane}
-use Rattle.manager.specs.declared.base.ManagerBase.{ManagerBase}
 use Rattle.manager.specs.declared.station.Station.{Station}
-use Rattle.rack.specs.Rests.{image_here, held_here, away_with}
+use Rattle.rack.specs.Rests.{image_here, away_with}
 use Rattle.rack.specs.Racks.{base_of_station}
-use Rattle.rack.specs.Parts.{HasBack, KeepsPlace}
-use Rattle.rack.specs.Closing.{Closing, IsClosing, KeepsButHome, ClosesStation, ClosesStations, home_here}
+use Rattle.rack.specs.Closing.{Closing, IsClosing, KeepsButHome, ClosesStation, ClosesStations}
 use Rattle.rack.specs.declared.rack.ImageRest.{ImageRest}
 use Rattle.rack.specs.declared.rack.Rest.{Rest}
-use Rattle.rack.proofs.Members.{first_in, later_in, in_cases, none_in}
+use Rattle.rack.proofs.Members.{first_in, later_in}
 
 keeps_all : {D : Type 0} (o : Option (ImageRest D)) → KeepsButHome o o
 keeps_all None = refl

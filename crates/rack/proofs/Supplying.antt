@@ -1,16 +1,12 @@
 -- A pool gets the free segments of an image.
-use Rattle.std.proofs.Common.{◌≡◌, ◌≢◌, ◌<◌, ◌⊎◌, ⊎_elim, inl, inr, ℕ, List, [], length, Option, None, Some, is_some, refl, sym, ap, subst, ◌∙◌, arith}
-use Rattle.std.specs.Prelude.{IsSome, MatchOption, slice_get, slice_index_or}
+use Rattle.std.proofs.Common.{◌≡◌, ◌<◌, ⊎_elim, ℕ, List, [], length, Option, None, Some, refl, sym, ap, subst, ◌∙◌, arith}
+use Rattle.std.specs.Prelude.{IsSome, slice_get, slice_index_or}
 use Rattle.std.proofs.lemmas.Bool.{cases_lt, false≢true}
 use Rattle.std.proofs.lemmas.List.{get_or_past}
-use Rattle.std.proofs.lemmas.Option.{none-some, same_Some, slice_get-get_or, slice_get_past, slice_get_within, get_or_from_slice_get}
+use Rattle.std.proofs.lemmas.Option.{none-some, slice_get-get_or, slice_get_past, slice_get_within}
 use Rattle.wol_disk.specs.Disk.{State}
 use Rattle.wol_model.specs.Heads.{Shape}
-use Rattle.spin_model.specs.Spun.{volume_of as part_volume}
-use Rattle.spin_model.specs.declared.spun.Spun.{Spun}
-use Rattle.seg_pool.specs.Holders.{holder}
 use Rattle.seg_pool.specs.Pools.{IsEmptyPool, IsSamePool, item_at, note_at, room_of, volume_of, blocks_of, base_of, StandsFor}
-use Rattle.seg_pool.specs.declared.base.Holder.{Holder}
 use Rattle.seg_pool.specs.declared.base.Holder.TheVariants.{Elsewhere, InPool, HeldBy}
 use Rattle.seg_pool.specs.declared.pool.Pool.{Pool}
 use Rattle.log_segment.specs.Segment.{IsBlank, free_part}
@@ -18,7 +14,7 @@ use Rattle.log_segment.specs.declared.free.FreeSegment.{FreeSegment}
 use Rattle.log_layout.specs.declared.segment.SegHead.{SegHead}
 use Rattle.log_layout.specs.declared.segment.SegHead.TheVariants.{Free, Owned}
 use Rattle.rack.specs.Rests.{segment_here}
-use Rattle.rack.specs.Parts.{of_head, holder_by, left_by, either_part, item_part, AreFillable, IsBlankPart, IsFilledPool, TakesFree, HasPlaces, IsSameBut, IsRefilled, EmptiesInto, CanFill, Supplies, IsRestored, Restores, MaySupply, IsSupplied}
+use Rattle.rack.specs.Parts.{of_head, either_part, item_part, IsBlankPart, IsFilledPool, TakesFree, IsSameBut, IsRefilled, CanFill, IsRestored, Restores, MaySupply, IsSupplied}
 use Rattle.rack.specs.declared.heads_said.Said.{Said}
 use Rattle.rack.specs.declared.rack.ImageRest.{ImageRest}
 use Rattle.rack.proofs.Slots.{holder_of, holder_at}

@@ -1,13 +1,13 @@
 -- What was taken out for a rack, from which it is set up.
-use Rattle.std.proofs.Common.{◌≡◌, ◌≢◌, ◌⊎◌, inl, inr, ⊎_elim, ℕ, zero, suc, ◌+◌, ◌<◌, ◌≤◌, Bool, true, false, List, [], ◌∷◌, ◌++◌, length, map, get_or, Option, None, Some, option_map, IfSome, refl, sym, ap, ◌∙◌, subst, arith}
+use Rattle.std.proofs.Common.{◌≡◌, ⊎_elim, ℕ, ◌+◌, ◌<◌, ◌≤◌, Bool, List, [], ◌∷◌, ◌++◌, length, Option, None, Some, option_map, IfSome, refl, sym, ap, ◌∙◌, subst, arith}
 use Rattle.std.specs.Prelude.{slice_get, slice_index_or, IsSome, is_some, All}
 use Rattle.std.proofs.lemmas.Bool.{cases_lt}
 use Rattle.std.proofs.lemmas.List.{length-map, get_or_past}
 use Rattle.std.proofs.lemmas.Option.{none-some, same_Some, slice_get_within, slice_get-map}
-use Rattle.wol_disk.specs.Disk.{Block, State, IsImageOf}
+use Rattle.wol_disk.specs.Disk.{Block, State}
 use Rattle.wol_model.specs.Heads.{Shape}
 use Rattle.wol_model.specs.Log.{IsIdle}
-use Rattle.wol_bay.specs.Bay.{Name, Told, BayState, at_name, outs}
+use Rattle.wol_bay.specs.Bay.{BayState, outs}
 use Rattle.wol_config.specs.declared.config.Config.{Config}
 use Rattle.wol_config.specs.declared.config.VolumeConf.{VolumeConf}
 use Rattle.log_layout.specs.Values.{segment_head}
@@ -20,11 +20,12 @@ use Rattle.rack.specs.Rests.{image_here, segment_here, IsImageOut, IsImageRest}
 use Rattle.rack.specs.Closing.{IsComplete, LeavesNoneOut}
 use Rattle.rack.specs.Opens.{out_names}
 use Rattle.rack.specs.Opening.{AreAsked, HasSentOut, said_at}
-use Rattle.rack.specs.Parts.{IsSameBut, CanIssue, IsRestored, Restores}
+use Rattle.rack.specs.Parts.{CanIssue, Restores}
 use Rattle.rack.specs.declared.heads_said.Said.{Said}
 use Rattle.rack.specs.declared.images.Images.{Images}
 use Rattle.rack.specs.declared.rack.ImageRest.{ImageRest}
 use Rattle.rack.proofs.Asking.{some_at}
+use Rattle.rack.proofs.SentNames.{names_alike, none_named}
 
 -- a segment with a free head is idle
 pub idle_of_free : (volumes : ℕ) (c : List Block) → HasHead volumes c (segment_head Free) → IsIdle c
@@ -153,33 +154,8 @@ module _ {D : Type 0} (tells : Bool) (state : D → State) (config : Config) (b 
 
     -- the names of those that are out are the same
     pub same_names : out_names config config.volumes.items out ≡ out_names config config.volumes.items i.out.items
-    same_names = go config.volumes.items out i.out.items same_here
-      where
-        go : (vs : List VolumeConf) (xs ys : List (Option (ImageRest D))) → ((k : ℕ) → is_some (image_here xs k) ≡ is_some (image_here ys k)) → out_names config vs xs ≡ out_names config vs ys
-        go [] xs ys same = refl
-        go (v ∷ vs) [] [] same = refl
-        go (v ∷ vs) [] (None ∷ ys) same = nothing vs [] ∙ go vs [] ys (λ k. same (suc k))
-          where
-            nothing : (ws : List VolumeConf) (zs : List (Option (ImageRest D))) → [] ≡ out_names {D = D} config ws []
-            nothing [] zs = refl
-            nothing (w ∷ ws) zs = refl
-        go (v ∷ vs) [] (Some y ∷ ys) same = absurd (let e = same 0 in cc (e))
-        go (v ∷ vs) (None ∷ xs) [] same = go vs xs [] (λ k. same (suc k)) ∙ nothing vs
-          where
-            nothing : (ws : List VolumeConf) → out_names {D = D} config ws [] ≡ []
-            nothing [] = refl
-            nothing (w ∷ ws) = refl
-        go (v ∷ vs) (Some x ∷ xs) [] same = absurd (let e = same 0 in cc (e))
-        go (v ∷ vs) (None ∷ xs) (None ∷ ys) same = go vs xs ys (λ k. same (suc k))
-        go (v ∷ vs) (None ∷ xs) (Some y ∷ ys) same = absurd (let e = same 0 in cc (e))
-        go (v ∷ vs) (Some x ∷ xs) (None ∷ ys) same = absurd (let e = same 0 in cc (e))
-        go (v ∷ vs) (Some x ∷ xs) (Some y ∷ ys) same = ap (λ l. (v.name, Rattle.volume_images.specs.Formatted.part_sizes (shape_in config v)) ∷ l) (go vs xs ys (λ k. same (suc k)))
+    same_names = names_alike config config.volumes.items out i.out.items same_here
 
     -- nothing of the configuration is out any more
     pub home_again : NoneOut config b → HasSentOut config i.out.items (length config.volumes.items) b b1 → (b2 : BayState) → LeavesNoneOut config out (outs b1) (outs b2) → outs b2 ≡ outs b
-    home_again home sent b2 none = none (outs b) (go b.told home) (sent.outs ∙ ap (λ names. option_map (λ os. os ++ names) (outs b)) (sym same_names))
-      where
-        go : (o : Option Told) → All (λ (v : VolumeConf). IfSome o (λ t. at_name v.name t.out ≡ None)) config.volumes.items
-            → IfSome (option_map (λ t. t.out) o) (λ os. All (λ (v : VolumeConf). at_name v.name os ≡ None) config.volumes.items)
-        go None all = tt
-        go (Some t) all = λ k d lt. all k d lt
+    home_again home sent b2 none = none (outs b) (none_named config b home) (sent.outs ∙ ap (λ names. option_map (λ os. os ++ names) (outs b)) (sym same_names))

@@ -1,34 +1,25 @@
 -- What a volume is opened of may be taken out.
-use Rattle.std.proofs.Common.{◌≡◌, ◌≢◌, ⊎_elim, ℕ, zero, suc, ◌+◌, ◌<◌, ◌≤◌, Bool, true, false, List, [], ◌∷◌, ◌++◌, length, map, filter, get_or, Option, None, Some, inl, inr, refl, sym, ap, ◌∙◌, subst, arith}
+use Rattle.std.proofs.Common.{◌≡◌, ◌≢◌, ⊎_elim, ℕ, zero, suc, ◌<◌, ◌≤◌, Bool, true, false, List, [], ◌∷◌, length, map, filter, get_or, Option, None, Some, refl, sym, ap, ◌∙◌, subst, arith}
 use Rattle.std.specs.Prelude.{slice_get, IsSome, is_some, Contains, All}
 use Rattle.std.specs.List.{flat_map}
 use Rattle.std.proofs.lemmas.Bool.{cases_lt}
 use Rattle.std.proofs.lemmas.List.{length-map, get_or-map, get_or_past}
 use Rattle.std.proofs.lemmas.List.Elements.{All-filter, filter_passes, Contains-append_cases}
-use Rattle.std.proofs.lemmas.Option.{none-some, same_Some, slice_get-map, slice_get_within, slice_get-get_or, get_or_from_slice_get}
+use Rattle.std.proofs.lemmas.Option.{none-some, same_Some, get_or_from_slice_get}
 use Rattle.wol_disk.specs.Disk.{State}
 use Rattle.wol_model.specs.Heads.{Shape}
 use Rattle.wol_bay.specs.Bay.{BayState}
 use Rattle.wol_config.specs.Configs.{IsValid}
 use Rattle.wol_config.specs.declared.config.Config.{Config}
-use Rattle.wol_config.specs.declared.config.VolumeConf.{VolumeConf}
-use Rattle.turn_lock.specs.Passes.{lock_id, pass_lock}
-use Rattle.turn_lock.specs.declared.lock.TurnLock.{TurnLock}
-use Rattle.turn_lock.specs.declared.pass.PassOf.{PassOf}
-use Rattle.log_segment.specs.declared.free.FreeSegment.{FreeSegment}
-use Rattle.log_layout.specs.declared.segment.SegHead.TheVariants.{Owned}
-use Rattle.seg_pool.specs.declared.base.PoolBase.{PoolBase}
-use Rattle.seg_pool.specs.declared.pool.Pool.{Pool}
-use Rattle.spin_model.specs.declared.spindle.Spindle.{Spindle}
-use Rattle.spin_model.specs.declared.spindle.SpindleBase.{SpindleBase}
+use Rattle.turn_lock.specs.Passes.{pass_lock}
 use Rattle.spin_model.specs.declared.spun.Spun.{Spun}
 use Rattle.manager.specs.declared.base.ManagerBase.{ManagerBase}
 use Rattle.manager.specs.declared.station.Station.{Station}
-use Rattle.volume_images.specs.Volumes.{shape_in, shapes_of}
-use Rattle.rack.specs.Rests.{image_here, segment_here, pool_pass, spindle_pass, away_with, IsRestBut, IsPoolLock, IsSpindleLock, IsPassAt}
+use Rattle.volume_images.specs.Volumes.{shapes_of}
+use Rattle.rack.specs.Rests.{image_here, segment_here, pool_pass, spindle_pass, away_with, IsRestBut}
 use Rattle.rack.specs.Racks.{base_of_station}
-use Rattle.rack.specs.Parts.{HasPlace, IsUsablePlace, CanTake, AreOwnedHere, IsOwnedPlace, loggers_out, segments_of, segment_in}
-use Rattle.rack.specs.Opening.{said_at, IsSaidOf, IsOpeningRack}
+use Rattle.rack.specs.Parts.{HasPlace, IsUsablePlace, CanTake, IsOwnedPlace, segments_of, segment_in}
+use Rattle.rack.specs.Opening.{said_at, IsOpeningRack}
 use Rattle.rack.proofs.Shapes.{valid_shape}
 use Rattle.rack.specs.declared.heads_said.Said.{Said}
 use Rattle.rack.specs.declared.rack.ImageRest.{ImageRest}
@@ -71,7 +62,7 @@ module _ {D : Type 0} (state : D → State) (config : Config) (valid : IsValid c
       go (Some image) e = (image, e)
 
   -- the volume has no manager yet
-  no_base : (m : ManagerBase) → Contains bases m → m.volume.began.owner ≢ id
+  pub no_base : (m : ManagerBase) → Contains bases m → m.volume.began.owner ≢ id
   no_base m c is =
       let s = contains_map (λ (s : Station D). base_of_station s) r.stations.items m c in
       let owner : m.volume.began.owner ≡ s.0.id = ap (λ (x : ManagerBase). x.volume.began.owner) (sym s.2) ∙ ap (λ (x : Station D). (base_of_station x).volume.began.owner) (sym s.1.2) ∙ (ready.closable.stations s.1.0 s.0 s.1.1).id ∙ ap (λ (x : Station D). x.id) s.1.2 in

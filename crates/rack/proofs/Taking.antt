@@ -1,12 +1,12 @@
 -- The owned segments of a volume go out of an image.
-use Rattle.std.proofs.Common.{◌≡◌, ◌≢◌, ◌<◌, ◌≤◌, ◌+◌, ⊎_elim, inl, inr, ℕ, zero, suc, Bool, true, false, List, [], ◌∷◌, ◌++◌, length, map, take, drop, cond, Option, None, Some, refl, sym, ap, subst, ◌∙◌, arith}
-use Rattle.std.specs.Prelude.{All, Contains, IsSome, slice_get, slice_index_or, slice_set, count_by}
+use Rattle.std.proofs.Common.{◌≡◌, ◌<◌, ◌≤◌, ◌+◌, ⊎_elim, inr, ℕ, Bool, true, false, List, [], ◌∷◌, ◌++◌, length, map, take, drop, cond, Option, None, Some, refl, sym, ap, subst, ◌∙◌, arith}
+use Rattle.std.specs.Prelude.{All, Contains, slice_get, slice_index_or, slice_set, count_by}
 use Rattle.std.specs.List.{AllByRecursion}
 use Rattle.std.proofs.lemmas.Bool.{cases_eq, cases_Bool, false≢true, eq-eqb, eqb-true}
-use Rattle.std.proofs.lemmas.List.{append_assoc, map-append, length-set, length_push, take-append-drop, take_all, get_or-set_same, get_or-set_other}
-use Rattle.std.proofs.lemmas.List.Elements.{All-nil, All-push, All-weaker, Contains-append_left, Contains-push}
+use Rattle.std.proofs.lemmas.List.{append_assoc, map-append, length_push, take-append-drop, take_all, get_or-set_same, get_or-set_other}
+use Rattle.std.proofs.lemmas.List.Elements.{All-nil, All-push, Contains-append_left, Contains-push}
 use Rattle.std.proofs.lemmas.List.Sums.{sum_by-append, count_by_more_yes, count_by_more_no}
-use Rattle.std.proofs.lemmas.Option.{none-some, same_Some, slice_get-get_or, get_or_from_slice_get, slice_get_within}
+use Rattle.std.proofs.lemmas.Option.{same_Some, get_or_from_slice_get, slice_get_within}
 use Rattle.wol_model.specs.Heads.{Shape}
 use Rattle.spin_model.specs.declared.spun.Spun.{Spun}
 use Rattle.log_layout.specs.declared.segment.SegHead.{SegHead}
@@ -15,7 +15,7 @@ use Rattle.manager_recovery.specs.Opening.{AreInOrder, IsBefore, place_of}
 use Rattle.manager_recovery.specs.declared.opening.OwnedPart.{OwnedPart}
 use Rattle.volume_images.specs.Accepted.{head_place}
 use Rattle.rack.specs.Rests.{segment_here}
-use Rattle.rack.specs.Parts.{is_owned_by, count_owners, IsSameBut, AreOwnersHere, TakesOwners, TakesOne}
+use Rattle.rack.specs.Parts.{is_owned_by, count_owners, IsSameBut, TakesOwners, TakesOne}
 use Rattle.rack.specs.declared.rack.ImageRest.{ImageRest}
 use Rattle.rack.proofs.Returned.{same_but_then}
 

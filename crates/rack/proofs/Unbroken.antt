@@ -1,5 +1,7 @@
--- A history in which no pass made a Broke has none, and one in which no pass wrote has no writes.
+-- A history in which no pass made a Broke has none; one whose passes had nothing in flight has nothing in flight; and one in which
+-- no pass wrote has no writes.
 use Rattle.std.proofs.Common.{◌≡◌, ◌≢◌, ◌⊎◌, ◌==◌, inl, inr, ℕ, Bool, true, false, cond, List, [], ◌∷◌, ◌++◌, Option, None, refl, sym, ap, ◌∙◌, subst, arith}
+use Rattle.std.specs.Prelude.{unwrap_or}
 use Rattle.std.proofs.lemmas.Bool.{cases_eq}
 use Rattle.std.proofs.lemmas.Bool.Decides.{nat_tests}
 use Rattle.std.proofs.lemmas.Option.{none-some}
@@ -9,7 +11,7 @@ use Rattle.wol_model.specs.History.{Operation, Broke, Wrote, Read, Kept, worker,
 use Rattle.wol_promise.specs.Code.{noted_of}
 use Rattle.wol_promise.specs.Ruled.{entries_of}
 use Rattle.turn_lock.specs.Histories.{Entry, own}
-use Rattle.turn_lock.specs.Passes.{pass_number, AreWhole}
+use Rattle.turn_lock.specs.Passes.{pass_number, pass_mine, AreWhole}
 use Rattle.manager.specs.Stands.{notes_of}
 use Rattle.manager.specs.declared.station.Station.{Station}
 use Rattle.rack.specs.Racks.{IsStation}
@@ -46,31 +48,56 @@ by_pass (e ∷ es) each = go (operation_of e) refl (λ quiet. by_pass es quiet)
     go (Read first reply) is later = passing (Read first reply) is (λ rest. refl) later
     go Kept is later = passing Kept is (λ rest. refl) later
 
-pub unbroken : {D : Type 0} (s : Station D) (es : List Entry) → IsStation s → AreWhole es (s.worker ∷ s.helper ∷ s.keeper ∷ []) → IsUnbroken s → flight_of (entries_of (notes_of es)) ≡ None
-unbroken {D} s es station whole quiet = by_pass es each
+-- what is so of the entries of each pass of a station is so of those of any number
+by_station : {D : Type 0} {X : Type 0} (f : List Entry → X) (none : X) → f [] ≡ none → (s : Station D) (es : List Entry) → IsStation s → AreWhole es (s.worker ∷ s.helper ∷ s.keeper ∷ [])
+    → f (pass_mine s.worker) ≡ none → f (pass_mine s.helper) ≡ none → f (pass_mine s.keeper) ≡ none → (n : ℕ) → f (own n es) ≡ none
+by_station {D} {X} f none nothing s es station whole worked helped kept n = one (cases_eq n worker) (cases_eq n helper) (cases_eq n keeper)
   where
-    at : (n m : ℕ) → n ≡ m → flight_in (own m es) ≡ None → flight_in (own n es) ≡ None
-    at n m e is = ap (λ (k : ℕ). flight_in (own k es)) e ∙ is
+    at : (m : ℕ) → n ≡ m → f (own m es) ≡ none → f (own n es) ≡ none
+    at m e is = ap (λ (k : ℕ). f (own k es)) e ∙ is
 
-    by_worker : flight_in (own worker es) ≡ None
-    by_worker = ap (λ (k : ℕ). flight_in (own k es)) (sym station.worker_.number_is) ∙ ap flight_in (whole.parts 0 s.worker (omega arith)).mine ∙ quiet.0
+    one : (n ≡ worker) ⊎ (n ≢ worker) → (n ≡ helper) ⊎ (n ≢ helper) → (n ≡ keeper) ⊎ (n ≢ keeper) → f (own n es) ≡ none
+    one (inl e) x y = at worker e (ap (λ (k : ℕ). f (own k es)) (sym station.worker_.number_is) ∙ ap f (whole.parts 0 s.worker (omega arith)).mine ∙ worked)
+    one (inr w) (inl e) y = at helper e (ap (λ (k : ℕ). f (own k es)) (sym station.helper_.number_is) ∙ ap f (whole.parts 1 s.worker (omega arith)).mine ∙ helped)
+    one (inr w) (inr h) (inl e) = at keeper e (ap (λ (k : ℕ). f (own k es)) (sym station.keeper_.number_is) ∙ ap f (whole.parts 2 s.worker (omega arith)).mine ∙ kept)
+    one (inr w) (inr h) (inr k) =
+        ap f (whole.no_more n (All-from_recursion (λ p. pass_number p ≢ n) (s.worker ∷ s.helper ∷ s.keeper ∷ [])
+        (λ e. w (sym e ∙ station.worker_.number_is), (λ e. h (sym e ∙ station.helper_.number_is), (λ e. k (sym e ∙ station.keeper_.number_is), tt))))) ∙ nothing
 
-    by_helper : flight_in (own helper es) ≡ None
-    by_helper = ap (λ (k : ℕ). flight_in (own k es)) (sym station.helper_.number_is) ∙ ap flight_in (whole.parts 1 s.worker (omega arith)).mine ∙ quiet.1
+pub unbroken : {D : Type 0} (s : Station D) (es : List Entry) → IsStation s → AreWhole es (s.worker ∷ s.helper ∷ s.keeper ∷ []) → IsUnbroken s → flight_of (entries_of (notes_of es)) ≡ None
+unbroken s es station whole quiet = by_pass es (by_station flight_in None refl s es station whole quiet.0 quiet.1 quiet.2)
 
-    by_keeper : flight_in (own keeper es) ≡ None
-    by_keeper = ap (λ (k : ℕ). flight_in (own k es)) (sym station.keeper_.number_is) ∙ ap flight_in (whole.parts 2 s.worker (omega arith)).mine ∙ quiet.2
+-- ---- One whose passes had nothing in flight has nothing in flight
 
-    each : (n : ℕ) → flight_in (own n es) ≡ None
-    each n = one (cases_eq n worker) (cases_eq n helper) (cases_eq n keeper)
-      where
-        one : (n ≡ worker) ⊎ (n ≢ worker) → (n ≡ helper) ⊎ (n ≢ helper) → (n ≡ keeper) ⊎ (n ≢ keeper) → flight_in (own n es) ≡ None
-        one (inl e) x y = at n worker e by_worker
-        one (inr w) (inl e) y = at n helper e by_helper
-        one (inr w) (inr h) (inl e) = at n keeper e by_keeper
-        one (inr w) (inr h) (inr k) =
-            ap flight_in (whole.no_more n (All-from_recursion (λ p. pass_number p ≢ n) (s.worker ∷ s.helper ∷ s.keeper ∷ [])
-            (λ e. w (sym e ∙ station.worker_.number_is), (λ e. h (sym e ∙ station.helper_.number_is), (λ e. k (sym e ∙ station.keeper_.number_is), tt)))))
+abbrev flown_in : List Entry → List Write
+flown_in es = unwrap_or (flight_in es) []
+
+rest_flown : (t : Bool) (e : Entry) (xs : List Entry) → flown_in (e ∷ xs) ≡ flown_in xs → flown_in (cond t (e ∷ xs) xs) ≡ [] → flown_in xs ≡ []
+rest_flown false e xs same quiet = quiet
+rest_flown true e xs same quiet = sym same ∙ quiet
+
+flown_by_pass : (es : List Entry) → ((n : ℕ) → flown_in (own n es) ≡ []) → flown_in es ≡ []
+flown_by_pass [] each = refl
+flown_by_pass (e ∷ es) each = go (operation_of e) refl (λ quiet. flown_by_pass es quiet)
+  where
+    passing : (o : Operation) → operation_of e ≡ o → ((rest : Option (List Write)) → flight_from o rest ≡ rest) → (((n : ℕ) → flown_in (own n es) ≡ []) → flown_in es ≡ []) → flown_in (e ∷ es) ≡ []
+    passing o is through later =
+        let same : (xs : List Entry) → flown_in (e ∷ xs) ≡ flown_in xs = λ xs. ap (λ (x : Option (List Write)). unwrap_or x []) (ap (λ (p : Operation). flight_from p (flight_in xs)) is ∙ through (flight_in xs)) in
+        same es ∙ later (λ n. rest_flown (e.0 == n) e (own n es) (same (own n es)) (each n))
+
+    broke : (ws : List Write) → operation_of e ≡ Broke ws → (xs : List Entry) → flown_in (e ∷ xs) ≡ ws
+    broke ws is xs = ap (λ (p : Operation). unwrap_or (flight_from p (flight_in xs)) []) is
+
+    go : (o : Operation) → operation_of e ≡ o → (((n : ℕ) → flown_in (own n es) ≡ []) → flown_in es ≡ []) → flown_in (e ∷ es) ≡ []
+    go (Broke ws) is later =
+        let made : flown_in (e ∷ own e.0 es) ≡ [] = subst (λ (t : Bool). flown_in (cond t (e ∷ own e.0 es) (own e.0 es)) ≡ []) (self_equal e.0) (each e.0) in
+        broke ws is es ∙ sym (broke ws is (own e.0 es)) ∙ made
+    go (Wrote ws) is later = passing (Wrote ws) is (λ rest. refl) later
+    go (Read first reply) is later = passing (Read first reply) is (λ rest. refl) later
+    go Kept is later = passing Kept is (λ rest. refl) later
+
+pub unflown : {D : Type 0} (s : Station D) (es : List Entry) → IsStation s → AreWhole es (s.worker ∷ s.helper ∷ s.keeper ∷ []) → IsQuiet s → unwrap_or (flight_of (entries_of (notes_of es))) [] ≡ []
+unflown s es station whole quiet = flown_by_pass es (by_station flown_in [] refl s es station whole quiet.0.0 quiet.0.1 quiet.0.2)
 
 -- ---- And one in which no pass wrote has no writes
 
@@ -98,24 +125,4 @@ none_by_pass (e ∷ es) each =
     made = subst (λ (t : Bool). written_in (cond t (e ∷ own e.0 es) (own e.0 es)) ≡ []) (self_equal e.0) (each e.0)
 
 pub unwritten : {D : Type 0} (s : Station D) (es : List Entry) → IsStation s → AreWhole es (s.worker ∷ s.helper ∷ s.keeper ∷ []) → IsQuiet s → writes (entries_of (notes_of es)) ≡ []
-unwritten {D} s es station whole quiet = none_by_pass es each
-  where
-    by_worker : written_in (own worker es) ≡ []
-    by_worker = ap (λ (k : ℕ). written_in (own k es)) (sym station.worker_.number_is) ∙ ap written_in (whole.parts 0 s.worker (omega arith)).mine ∙ quiet.1.0
-
-    by_helper : written_in (own helper es) ≡ []
-    by_helper = ap (λ (k : ℕ). written_in (own k es)) (sym station.helper_.number_is) ∙ ap written_in (whole.parts 1 s.worker (omega arith)).mine ∙ quiet.1.1
-
-    by_keeper : written_in (own keeper es) ≡ []
-    by_keeper = ap (λ (k : ℕ). written_in (own k es)) (sym station.keeper_.number_is) ∙ ap written_in (whole.parts 2 s.worker (omega arith)).mine ∙ quiet.1.2
-
-    each : (n : ℕ) → written_in (own n es) ≡ []
-    each n = one (cases_eq n worker) (cases_eq n helper) (cases_eq n keeper)
-      where
-        one : (n ≡ worker) ⊎ (n ≢ worker) → (n ≡ helper) ⊎ (n ≢ helper) → (n ≡ keeper) ⊎ (n ≢ keeper) → written_in (own n es) ≡ []
-        one (inl e) x y = ap (λ (k : ℕ). written_in (own k es)) e ∙ by_worker
-        one (inr w) (inl e) y = ap (λ (k : ℕ). written_in (own k es)) e ∙ by_helper
-        one (inr w) (inr h) (inl e) = ap (λ (k : ℕ). written_in (own k es)) e ∙ by_keeper
-        one (inr w) (inr h) (inr k) =
-            ap written_in (whole.no_more n (All-from_recursion (λ p. pass_number p ≢ n) (s.worker ∷ s.helper ∷ s.keeper ∷ [])
-            (λ e. w (sym e ∙ station.worker_.number_is), (λ e. h (sym e ∙ station.helper_.number_is), (λ e. k (sym e ∙ station.keeper_.number_is), tt)))))
+unwritten s es station whole quiet = none_by_pass es (by_station written_in [] refl s es station whole quiet.1.0 quiet.1.1 quiet.1.2)

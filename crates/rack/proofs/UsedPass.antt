@@ -1,21 +1,35 @@
 -- A pass of a spindle that was used among those of its lock.
-use Rattle.std.proofs.Common.{◌≡◌, ⊎_elim, ℕ, ◌<◌, Bool, false, List, length, get_or, set, refl, sym, ap, ◌∙◌, subst, arith}
+use Rattle.std.proofs.Common.{◌≡◌, ◌⊎◌, inl, inr, ⊎_elim, ℕ, ◌+◌, ◌<◌, [], ◌∷◌, ◌++◌, false, List, length, get_or, set, refl, sym, ap, ◌∙◌, subst, arith}
 use Rattle.std.specs.Vec.{with_item}
 use Rattle.std.proofs.lemmas.Bool.{cases_eq}
-use Rattle.std.proofs.lemmas.List.{length-set, get_or-set_same, get_or-set_other, get_or_default}
+use Rattle.std.proofs.lemmas.List.{length-set, get_or-set_same, get_or-set_other}
 use Rattle.std.proofs.lemmas.List.Elements.{All-set}
-use Rattle.turn_lock.specs.Passes.{lock_id, lock_passes, pass_lock, pass_number, pass_mine, IsPassOf, IsFree, IsSamePass}
+use Rattle.turn_lock.specs.Passes.{pass_lock, pass_number, pass_seen, pass_mine, IsPassOf, IsFree, IsSamePass}
 use Rattle.turn_lock.specs.declared.pass.PassOf.{PassOf}
-use Rattle.spin_model.specs.Operations.{has_token}
+use Rattle.turn_lock.specs.Histories.{Entry}
+use Rattle.spin_model.specs.Operations.{has_token, operation_of}
+use Rattle.wol_model.specs.Journal.{Needed, Done}
+use Rattle.logger.specs.Lanes.{AreAccesses}
 use Rattle.spin_model.specs.declared.spindle.Spindle.{Spindle}
 use Rattle.spin_model.specs.declared.spindle.SpindleBase.{SpindleBase}
 use Rattle.rack.specs.Making.{IsInOrder, AreSettled, AreSpindlesOf}
 use Rattle.rack.specs.Rests.{IsSpindleLock}
 use Rattle.rack.specs.declared.locks.Issued.{Issued}
 
+-- a pass made no turn, or two of an access
+abbrev pub Uses : (p q : PassOf Spindle SpindleBase) → Type 0
+Uses p q = (pass_mine q ≡ pass_mine p) ⊎ (pass_mine q ≡ pass_mine p ++ (pass_number p, operation_of Needed) ∷ (pass_number p, operation_of Done) ∷ [])
+
+more_accesses : (n : ℕ) (es : List Entry) → AreAccesses es → AreAccesses (es ++ (n, operation_of Needed) ∷ (n, operation_of Done) ∷ [])
+more_accesses n [] all = (inl refl, (inr refl, tt))
+more_accesses n (e ∷ es) all = (all.0, more_accesses n es all.1)
+
+still_accesses : (p q : PassOf Spindle SpindleBase) → AreAccesses (pass_mine p) → Uses p q → AreAccesses (pass_mine q)
+still_accesses p q all uses = ⊎_elim (λ (e : pass_mine q ≡ pass_mine p). subst AreAccesses (sym e) all) (λ (e : pass_mine q ≡ pass_mine p ++ (pass_number p, operation_of Needed) ∷ (pass_number p, operation_of Done) ∷ []). subst AreAccesses (sym e) (more_accesses (pass_number p) (pass_mine p) all)) uses
+
 pub used_pass : (i : Issued Spindle SpindleBase) (n : ℕ) (p q : PassOf Spindle SpindleBase) → n < length i.passes.items → p ≡ get_or i.passes.items n p → IsSamePass p q → IsFree q → has_token (pass_mine q) ≡ false
-    → IsInOrder i × AreSettled i → IsInOrder (record i { passes = with_item i.passes n q }) × AreSettled (record i { passes = with_item i.passes n q })
-used_pass i n p q lt is same free settled old = (
+    → n + 1 < length i.passes.items → Uses p q → IsInOrder i × AreSettled i → IsInOrder (record i { passes = with_item i.passes n q }) × AreSettled (record i { passes = with_item i.passes n q })
+used_pass i n p q lt is same free settled below uses old = (
   record {
     whole = record {
       count = length-set i.passes.items n q ∙ old.0.whole.count;
@@ -29,7 +43,13 @@ used_pass i n p q lt is same free settled old = (
         ap (λ x. pass_number x) (get_or-set_other i.passes.items n k q d other) ∙ old.0.numbered k d below)
         (cases_eq k n);
   },
-  All-set (λ x. has_token (pass_mine x) ≡ false) i.passes.items n q settled old.1,
+  record {
+    settled = All-set (λ x. has_token (pass_mine x) ≡ false) i.passes.items n q settled old.1.settled;
+    accesses = All-set (λ x. AreAccesses (pass_mine x)) i.passes.items n q (still_accesses p q (subst (λ x. AreAccesses (pass_mine x)) (sym is) (old.1.accesses n p lt)) uses) old.1.accesses;
+    last = λ k d count.
+        let size = length-set i.passes.items n q in
+        subst (λ x. (pass_seen x ≡ []) × (pass_mine x ≡ [])) (sym (get_or-set_other i.passes.items n k q d (λ e. omega (arith, e, below, count, size)))) (old.1.last k d (omega (arith, count, size)));
+  },
 )
 
 -- one of the spindles was used

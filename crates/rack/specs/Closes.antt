@@ -2,16 +2,16 @@
 use Rattle.std.specs.Prelude.{◌≡◌, ◌≢◌, ◌<◌, ◌≤◌, ◌+◌, ◌++◌, ◌⊎◌, ℕ, List, [], ◌∷◌, length, Option, None, Some, not, is_some, unwrap_or, slice_get, slice_range, All, Contains, IsTrue}
 use Rattle.std.specs.List.{AllByRecursion}
 use Rattle.wol_disk.specs.Disk.{Block, State, Rose, IsImageOf}
-use Rattle.wol_model.specs.Blocks.{after}
-use Rattle.wol_model.specs.Extents.{IsValid, AreDistinct, covers_of}
+use Rattle.wol_model.specs.Blocks.{Write, after}
+use Rattle.wol_model.specs.Extents.{AreDistinct, covers_of}
 use Rattle.wol_model.specs.Heads.{Shape}
 use Rattle.wol_model.specs.History.{worker, helper, keeper, writes, flight_of, IsCut}
 use Rattle.wol_model.specs.Images.{Images, image_of, accepted, all_segments, segment_of}
-use Rattle.wol_model.specs.Log.{Record, IsLog, IsIdle, extent_of}
+use Rattle.wol_model.specs.Log.{Record, IsLog, IsIdle}
 use Rattle.wol_model.specs.Recovered.{extents_of}
 use Rattle.wol_promise.specs.Manager.{SaysOwnerOrFree}
 use Rattle.wol_promise.specs.Ruled.{entries_of}
-use Rattle.wol_promise.specs.Stands.{HasHistory}
+use Rattle.wol_promise.specs.Stands.{HasHistory, IsOpening}
 use Rattle.wol_bay.specs.Bay.{Name, Told, BayState}
 use Rattle.wol_config.specs.declared.config.Config.{Config}
 use Rattle.wol_config.specs.declared.config.VolumeConf.{VolumeConf}
@@ -27,8 +27,8 @@ use Rattle.spin_model.specs.declared.spindle.SpindleBase.{SpindleBase}
 use Rattle.manager.specs.Stands.{notes_of}
 use Rattle.manager.specs.declared.station.Station.{Station}
 use Rattle.volume_images.specs.Left.{IsTold}
-use Rattle.volume_images.specs.Volumes.{shapes_of, images_read, AreLeft}
-use Rattle.rack.specs.Rests.{image_here, segment_here, held_here, IsImageOut, IsSegmentHere}
+use Rattle.volume_images.specs.Volumes.{shape_in, shapes_of, images_read, AreLeft}
+use Rattle.rack.specs.Rests.{image_here, IsSegmentHere}
 use Rattle.rack.specs.Racks.{base_of_station}
 use Rattle.rack.specs.Closing.{IsAccessBut}
 use Rattle.rack.specs.Owners.{recovered_but}
@@ -48,6 +48,10 @@ pub record IsClosedSpindle {D : Type 0} (r : Rack D) (k : ℕ) (s : SpindleView)
 
 -- ---- Volumes
 
+-- what was in flight when a call of a disk failed
+abbrev pub in_flight : List Entry → List Write
+in_flight entries = unwrap_or (flight_of (entries_of (notes_of entries))) []
+
 module _ {D : Type 0} where
   -- the image of volume k isn't out with these, so it gives no segments to what is recovered
   abbrev pub is_kept_home : List (Option (ImageRest D)) → (k : ℕ) → Rattle.std.specs.Prelude.Bool
@@ -66,30 +70,35 @@ module _ {D : Type 0} where
   IsUnbroken s =
       (flight_of (entries_of (notes_of (pass_mine s.worker))) ≡ None) × (flight_of (entries_of (notes_of (pass_mine s.helper))) ≡ None) × (flight_of (entries_of (notes_of (pass_mine s.keeper))) ≡ None)
 
-  -- and no pass wrote
+  -- no pass of a station wrote, and none had a write in flight
   abbrev pub IsQuiet : Station D → Type 0
   IsQuiet s =
-      IsUnbroken s × ((writes (entries_of (notes_of (pass_mine s.worker))) ≡ []) × (writes (entries_of (notes_of (pass_mine s.helper))) ≡ []) × (writes (entries_of (notes_of (pass_mine s.keeper))) ≡ []))
+      ((in_flight (pass_mine s.worker) ≡ []) × (in_flight (pass_mine s.helper) ≡ []) × (in_flight (pass_mine s.keeper) ≡ [])) × ((writes (entries_of (notes_of (pass_mine s.worker))) ≡ []) × (writes (entries_of (notes_of (pass_mine s.helper))) ≡ []) × (writes (entries_of (notes_of (pass_mine s.keeper))) ≡ []))
 
-  -- home of the volume, or a segment of a logger of its view, came back with a fault
-  pub record HasFaultyPart (config : Config) (s : Station D) (old new : Told) : Type 0 where
-    pub more : List (Name × ℕ)
-    pub more_is : new.faulty ≡ old.faulty ++ more
-    pub volume : ℕ
-    pub conf : VolumeConf
-    pub conf_is : slice_get config.volumes.items volume ≡ Some conf
-    pub place : ℕ
-    pub among : Contains more (conf.name, place)
-    pub of_volume : ((volume ≡ s.id) × (place ≡ 1)) ⊎ (Contains (base_of_station s).volume.began.view volume × (2 ≤ place))
+-- whatever images a crash leaves, segment `index` of that of the volume says this owner or free
+abbrev pub SaysOwnerIn : Config → (owner : ℕ) → Told → (volume : ℕ) → Shape → (index : ℕ) → Type 0
+SaysOwnerIn config owner new volume s index = (images : Images) → AreLeft config new images → (c : List Block) × (image_of images volume ≡ Some c) × SaysOwnerOrFree owner (segment_of s c index)
+
+-- Since these, the bay's list of parts that came back with a fault gained a part of volume `owner`: its home, or a segment of a logger
+-- of its view of which a crash leaves only blocks that say this owner or free.
+pub record HasFaultyPart (tells : Rattle.std.specs.Prelude.Bool) (config : Config) (owner : ℕ) (view : List ℕ) (old new : Told) : Type 0 where
+  pub more : List (Name × ℕ)
+  pub more_is : new.faulty ≡ old.faulty ++ more
+  pub volume : ℕ
+  pub conf : VolumeConf
+  pub conf_is : slice_get config.volumes.items volume ≡ Some conf
+  pub place : ℕ
+  pub among : Contains more (conf.name, place)
+  pub of_volume : ((volume ≡ owner) × (place ≡ 1)) ⊎ (Contains view volume × (index : ℕ) × (place ≡ 2 + index) × (IsTrue tells → SaysOwnerIn config owner new volume (shape_in config conf) index))
 
 -- What images a crash leaves of an open volume, by the entries of its passes: it recovers to what was written to the array at opening,
--- or to a cut of the writes in flight where a call of a disk had failed and no two of its records in these images have one version.
+-- or to a cut of the writes in flight where a call of a disk had failed; no two of its records in these images have one version.
 pub record RecoversTo {D : Type 0} (config : Config) (out : List (Option (ImageRest D))) (s : Station D) (entries : List Entry) (new : Told) : Type 0 where
-  pub cut : (images : Images) → AreLeft config new images → AreDistinct (covers_of (extents_of s.id (segments_out config out images)))
+  pub cut : (images : Images) → AreLeft config new images
       → IsCut (base_of_station s).volume.began.array (writes (entries_of (notes_of entries))) (unwrap_or (flight_of (entries_of (notes_of entries))) []) (recovered_out config out images s.id)
   pub whole : (images : Images) → AreLeft config new images → flight_of (entries_of (notes_of entries)) ≡ None
       → recovered_out config out images s.id ≡ after (base_of_station s).volume.began.array (writes (entries_of (notes_of entries)))
-  pub distinct : (images : Images) → AreLeft config new images → flight_of (entries_of (notes_of entries)) ≡ None → AreDistinct (covers_of (extents_of s.id (segments_out config out images)))
+  pub distinct : (images : Images) → AreLeft config new images → AreDistinct (covers_of (extents_of s.id (segments_out config out images)))
 
 -- the entries of a volume, which are those of its passes, and what they leave
 pub record IsClosedVolume {D : Type 0} (tells : Rattle.std.specs.Prelude.Bool) (config : Config) (out : List (Option (ImageRest D))) (old new : BayState) (s : Station D) : Type 0 where
@@ -98,10 +107,11 @@ pub record IsClosedVolume {D : Type 0} (tells : Rattle.std.specs.Prelude.Bool) (
   pub helper_part : IsPartOf entries s.helper
   pub keeper_part : IsPartOf entries s.keeper
   pub no_more : (n : ℕ) → n ≢ worker → n ≢ helper → n ≢ keeper → own n entries ≡ []
+  pub opening : IsOpening (base_of_station s).volume.began
   pub history : HasHistory (IsTrue tells) (base_of_station s).volume.began (notes_of entries)
   -- a failed call has its cause
   pub cause : (flight_of (entries_of (notes_of entries)) ≡ None → ⊥) → Rose old.faults new.faults
-  pub faulty : (flight_of (entries_of (notes_of entries)) ≡ None → ⊥) → IsTold (HasFaultyPart config s) old.told new.told
+  pub faulty : (flight_of (entries_of (notes_of entries)) ≡ None → ⊥) → IsTold (HasFaultyPart tells config s.id (base_of_station s).volume.began.view) old.told new.told
   pub recovers : IsTrue tells → IsTold (λ o n. RecoversTo config out s entries n) old.told new.told
 
 -- ---- The parts of images
@@ -118,17 +128,17 @@ module _ {D : Type 0} where
     pub here : IsPartHere r part
     pub fault : 0 < (state_of state part).faults
 
--- a log of an open volume, whose records that keep a block lie in it, on a logger of its view
+-- a log of an open volume, whose records lie in it, on a logger of its view
 pub record IsLogOfStation {D : Type 0} (s : Station D) (k : ℕ) (bs : List Block) : Type 0 where
   pub records : List Record
   pub log : IsLog bs s.id records
-  pub within : All (λ (r : Record). IsValid (extent_of r).cover → r.head.first + r.head.count ≤ (base_of_station s).volume.began.home_blocks) records
+  pub within : AllByRecursion (λ (r : Record). r.head.first + r.head.count ≤ (base_of_station s).volume.began.home_blocks) records
 
 -- Where an image of segment i of volume k comes from: the segment was here when the rack was closed; or it was in its pool; or a manager had it.
 pub data ComesFrom {D : Type 0} (state : D → State) (r : Rack D) (k i : ℕ) (bs : List Block) : Type 0 where
   from_here : (p : Spun D) → IsSegmentHere r.rest k i p → IsImageOf (state_of state p).values bs → ComesFrom state r k i bs
   from_pool : IsIdle bs → ComesFrom state r k i bs
-  from_manager : (s : Station D) → Contains r.stations.items s → Contains (base_of_station s).volume.began.view k → SaysOwnerOrFree s.id bs → (IsUnbroken s → IsLogOfStation s k bs) → ComesFrom state r k i bs
+  from_manager : (s : Station D) → Contains r.stations.items s → Contains (base_of_station s).volume.began.view k → IsIdle bs ⊎ IsLogOfStation s k bs → (IsUnbroken s → IsLogOfStation s k bs) → ComesFrom state r k i bs
 
 -- The image that is left of volume k, by its parts: those that were here have images that they had.
 pub record IsLeftOfParts {D : Type 0} (state : D → State) (s : Shape) (r : Rack D) (k : ℕ) (image : ImageRest D) (c : List Block) : Type 0 where
@@ -148,3 +158,8 @@ AreLeftOfParts {D} state config r new = (images : Images) → AreLeft config new
 abbrev pub LeavesOpen : {D : Type 0} → Config → Rack D → (entry new : Told) → Type 0
 LeavesOpen config r entry new = (images : Images) → AreLeft config new images
     → All (λ s. recovered_out config r.rest.images.items images s.id ≡ recovered_out config r.rest.images.items (images_read config entry) s.id) r.stations.items
+
+-- the same of every volume: it recovers to what images that a crash might have left at entry recover to
+abbrev pub LeavesVolumes : {D : Type 0} → Config → Rack D → (entry new : Told) → Type 0
+LeavesVolumes config r entry new = (images : Images) → AreLeft config new images → (v : ℕ)
+    → (before : Images) × AreLeft config entry before × (recovered_out config r.rest.images.items images v ≡ recovered_out config r.rest.images.items before v)

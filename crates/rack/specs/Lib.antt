@@ -9,3 +9,4 @@ pub mod Closing
 pub mod Closes
 pub mod Opening
 pub mod Locked
+pub mod Laws

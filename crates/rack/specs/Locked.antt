@@ -1,5 +1,5 @@
 -- A volume that was opened behind its lock, and what there is where it wasn't.
-use Rattle.std.specs.Prelude.{◌≡◌, Bool, ℕ, List, length}
+use Rattle.std.specs.Prelude.{◌≡◌, Bool, List, length}
 use Rattle.wol_disk.specs.Disk.{State}
 use Rattle.turn_lock.specs.Passes.{lock_id, lock_passes, AreNewPasses}
 use Rattle.turn_lock.specs.declared.lock.TurnLock.{TurnLock}

@@ -1,11 +1,12 @@
 -- What a rack is made of, before its volumes are opened.
 use Rattle.std.specs.Prelude.{◌≡◌, ◌≤◌, ◌<◌, ◌+◌, ◌∷◌, ◌++◌, ℕ, List, [], length, vec_capacity, Option, None, Some, Result, Ok, Err, slice_index_or, slice_set, false, All}
-use Rattle.turn_lock.specs.Passes.{lock_id, lock_passes, pass_mine, pass_number, IsPassOf, IsFree}
+use Rattle.turn_lock.specs.Passes.{lock_passes, pass_seen, pass_mine, pass_number, IsPassOf, IsFree}
 use Rattle.turn_lock.specs.declared.pass.PassOf.{PassOf}
 use Rattle.spin_model.specs.Operations.{has_token}
 use Rattle.spin_model.specs.declared.spindle.Spindle.{Spindle}
 use Rattle.spin_model.specs.declared.spindle.SpindleBase.{SpindleBase}
 use Rattle.spin_model.specs.declared.spun.Spun.{Spun}
+use Rattle.logger.specs.Lanes.{AreAccesses}
 use Rattle.logger.specs.declared.shared.Shared.{Shared}
 use Rattle.rack.specs.Rests.{IsSpindleLock}
 use Rattle.rack.specs.declared.heads_said.Said.{Said}
@@ -29,9 +30,11 @@ pub record IsInOrder {T B : Type 0} (i : Issued T B) : Type 0 where
   pub whole : IsWholeLock i
   pub numbered : (n : ℕ) (d : PassOf T B) → n < length i.passes.items → pass_number (slice_index_or i.passes.items n d) ≡ n
 
--- no token of them is out
-abbrev pub AreSettled : Issued Spindle SpindleBase → Type 0
-AreSettled i = All (λ p. has_token (pass_mine p) ≡ false) i.passes.items
+-- no token of them is out, they made accesses only, and the last of them wasn't used
+pub record AreSettled (i : Issued Spindle SpindleBase) : Type 0 where
+  pub settled : All (λ p. has_token (pass_mine p) ≡ false) i.passes.items
+  pub accesses : All (λ p. AreAccesses (pass_mine p)) i.passes.items
+  pub last : (n : ℕ) (d : PassOf Spindle SpindleBase) → length i.passes.items ≡ n + 1 → (pass_seen (slice_index_or i.passes.items n d) ≡ []) × (pass_mine (slice_index_or i.passes.items n d) ≡ [])
 
 -- the locks of the first spindles, without a token out
 pub record AreSpindlesOf (volumes timeout : ℕ) (made : List (Issued Spindle SpindleBase)) : Type 0 where

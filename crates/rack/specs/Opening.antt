@@ -1,5 +1,5 @@
 -- The images that were taken out, what they say, and how far their volumes are opened. `state` is that of a part's disk.
-use Rattle.std.specs.Prelude.{◌≡◌, ◌≢◌, ◌⊎◌, ◌≤◌, ◌<◌, ◌+◌, ◌++◌, ◌↔◌, ℕ, Bool, List, [], map, length, vec_capacity, Option, None, Some, is_some, option_map, slice_get, slice_index_or, slice_range, Contains, IsSome, IsTrue, All}
+use Rattle.std.specs.Prelude.{true, ◌≡◌, ◌≢◌, ◌⊎◌, ◌≤◌, ◌<◌, ◌+◌, ◌++◌, ◌↔◌, ℕ, Bool, List, [], map, length, vec_capacity, Option, None, Some, is_some, option_map, slice_get, slice_index_or, slice_range, Contains, IsTrue, All}
 use Rattle.wol_disk.specs.Disk.{Block, State, TellsContent, IsImageOf, reads}
 use Rattle.wol_model.specs.Heads.{Shape}
 use Rattle.wol_model.specs.Images.{image_size}
@@ -7,13 +7,14 @@ use Rattle.wol_promise.specs.Manager.{SaysOwnerOrFree}
 use Rattle.wol_bay.specs.Bay.{Name, Image, Told, BayState, at_name, outs, sent_out}
 use Rattle.wol_config.specs.declared.config.Config.{Config}
 use Rattle.wol_config.specs.declared.config.VolumeConf.{VolumeConf}
-use Rattle.turn_lock.specs.Passes.{lock_id, pass_mine}
+use Rattle.turn_lock.specs.Passes.{lock_id, pass_lock, pass_number, pass_mine}
 use Rattle.turn_lock.specs.declared.lock.TurnLock.{TurnLock}
 use Rattle.turn_lock.specs.declared.pass.PassOf.{PassOf}
 use Rattle.log_layout.specs.Values.{segment_head}
 use Rattle.log_layout.specs.declared.segment.SegHead.{SegHead}
 use Rattle.log_layout.specs.declared.segment.SegHead.TheVariants.{Free, Owned}
 use Rattle.log_segment.specs.declared.free.FreeSegment.{FreeSegment}
+use Rattle.seg_pool.specs.Operations.{holds}
 use Rattle.seg_pool.specs.Holders.{holder}
 use Rattle.seg_pool.specs.declared.base.PoolBase.{PoolBase}
 use Rattle.seg_pool.specs.declared.pool.Pool.{Pool}
@@ -25,12 +26,12 @@ use Rattle.volume_images.specs.Accepted.{HasHead, IsConfigured, IsAccepted, head
 use Rattle.volume_images.specs.Formatted.{part_sizes}
 use Rattle.volume_images.specs.Left.{IsTold, AreNamedApart}
 use Rattle.volume_images.specs.Volumes.{shape_in, shapes_of, MayLeave}
-use Rattle.rack.specs.Rests.{image_here, segment_here, pool_pass, spindle_pass, held_here, IsImageOut, IsImageRest}
+use Rattle.rack.specs.Rests.{image_here, segment_here, pool_pass, held_here, IsImageOut, IsImageRest}
 use Rattle.rack.specs.Making.{AreSpindlesOf}
-use Rattle.rack.specs.Parts.{holder_by, IsIssuedPool, Supplies}
-use Rattle.rack.specs.Racks.{IsClosable, NamesVolumes, IsUnused, AreUnused}
+use Rattle.rack.specs.Parts.{holder_by, IsIssuedPool, Supplies, IsOwnedPlace, segment_in}
+use Rattle.rack.specs.Racks.{IsClosable, NamesVolumes, AreUnused}
 use Rattle.rack.specs.Closing.{IsComplete}
-use Rattle.rack.specs.Opens.{HadBefore, out_names, BeganWith, RefusesVolume}
+use Rattle.rack.specs.Opens.{HadBefore, IsAsRead, out_names, BeganWith, RefusesVolume}
 use Rattle.rack.specs.declared.all.Taken.{Taken}
 use Rattle.rack.specs.declared.heads_said.Said.{Said}
 use Rattle.rack.specs.declared.images.Images.{Images}
@@ -38,7 +39,10 @@ use Rattle.rack.specs.declared.locks.Issued.{Issued}
 use Rattle.rack.specs.declared.rack.ImageRest.{ImageRest}
 use Rattle.rack.specs.declared.rack.Rack.{Rack}
 use Rattle.rack.specs.declared.rack.Rest.{Rest}
+use Rattle.manager.specs.declared.part.Part.{Part}
+use Rattle.manager_recovery.specs.declared.refusal.OpenRefusal.TheVariants.{DiskFault}
 use Rattle.rack.specs.declared.volume_fault.VolumeFault.{VolumeFault}
+use Rattle.rack.specs.declared.volume_fault.VolumeFault.TheVariants.{Refused}
 
 -- ---- One image that is out
 
@@ -69,7 +73,7 @@ pub record SaysOf (volumes k : ℕ) (s : Shape) (i : Image) (said : Said) : Type
 
 -- the parts that are here are cut from the image at entry
 pub record AreCutOf {D : Type 0} (state : D → State) (s : Shape) (i : Image) (r : ImageRest D) : Type 0 where
-  pub label : HadBefore state i 0 2 r.label
+  pub label : IsAsRead state i 0 2 r.label
   pub home : (p : Spun D) → r.home ≡ Some p → IsCutOf state i 2 (2 + s.home) p
   pub segments : (j : ℕ) (p : Spun D) → segment_here r j ≡ Some p → IsCutOf state i (head_place s j) (head_place s (j + 1)) p
 
@@ -118,11 +122,16 @@ pub record AreAsked {D : Type 0} (tells : Bool) (state : D → State) (config : 
 
 -- ---- The bay meanwhile
 
+-- further parts came back with a fault
+abbrev pub HasFaulty : (old new : Told) → Type 0
+HasFaulty old new = (more : List (Name × ℕ)) × (new.faulty ≡ old.faulty ++ more)
+
 -- the image of this name may be left only as before, and those of others are as they were
 pub record StayedAs (name : Name) (old new : Told) : Type 0 where
   pub apart : AreNamedApart new
   pub here : (c : Option (List Block)) → MayLeave (at_name name new.images) c → MayLeave (at_name name old.images) c
   pub others : (other : Name) → other ≢ name → at_name other new.images ≡ at_name other old.images
+  pub faulty : HasFaulty old new
 
 -- the next image went out, and all of it is here
 pub record IsNextOpened {D : Type 0} (tells : Bool) (state : D → State) (config : Config) (k : ℕ) (v : VolumeConf) (b b' : BayState) (said : Said) (r : ImageRest D) : Type 0 where
@@ -157,6 +166,8 @@ pub record StayedSo {D : Type 0} (config : Config) (out : List (Option (ImageRes
   pub stayed : (name : Name) → ((k : ℕ) (v : VolumeConf) → IsImageOut out k → slice_get config.volumes.items k ≡ Some v → v.name ≡ name → ⊥)
       → (c : Option (List Block)) → MayLeave (at_name name new.images) c → MayLeave (at_name name old.images) c
   pub further : (k : ℕ) (v : VolumeConf) → n ≤ k → slice_get config.volumes.items k ≡ Some v → at_name v.name new.images ≡ at_name v.name old.images
+  pub faulty : HasFaulty old new
+  pub unfaulty : ((k : ℕ) → k < n → IsImageOut out k) → new.faulty ≡ old.faulty
 
 -- the bay while the first n images were asked for
 pub record HasSentOut {D : Type 0} (config : Config) (out : List (Option (ImageRest D))) (n : ℕ) (b b' : BayState) : Type 0 where
@@ -235,6 +246,8 @@ pub record IsOpeningRack {D : Type 0} (state : D → State) (config : Config) (b
   pub pools : BeganAsSaid r.shared.pools.items said
   pub said_count : length said ≡ length (shapes_of config)
   pub unheld : (v k : ℕ) → held_here r.rest v k ≡ []
+  -- a pass that is here holds only what its volume owned at the beginning
+  pub since : (v k i : ℕ) (p : PassOf (Pool (FreeSegment D)) PoolBase) → pool_pass r.rest v k ≡ Some p → holds (pass_lock p).base (pass_number p) (pass_mine p) i ≡ true → IsOwnedPlace said v k i
   pub owners : AreOwnersHere state said r
   pub untouched : AreUntouched state (length (shapes_of config)) n said r.rest
 
@@ -247,6 +260,16 @@ pub record HasBegun {D : Type 0} (state : D → State) (config : Config) (t : To
 abbrev pub AreRefusedBelow : {D : Type 0} → (tells : Bool) → (D → State) → Config → (old new : BayState) → (n : ℕ) → Rack D → Type 0
 AreRefusedBelow tells state config old new n r = (k : ℕ) (v : VolumeConf) (f : VolumeFault) → (k < n) ⊎ (image_here r.rest.images.items k ≡ None) → slice_get config.volumes.items k ≡ Some v → fault_at r.faults.items k ≡ Some f
     → RefusesVolume tells state config r.rest.images.items old new k v f
+
+-- a part of volume k is here and had a fault: its home, or a segment whose head names it
+pub record HasFaultOf {D : Type 0} (state : D → State) (said : List (Option Said)) (k : ℕ) (r : Rest D) : Type 0 where
+  pub part : Spun D
+  pub here : ((image : ImageRest D) × (image_here r.images.items k ≡ Some image) × (image.home ≡ Some part)) ⊎ ((j : ℕ) × (i : ℕ) × IsOwnedPlace said k j i × (segment_in r j i ≡ Some part))
+  pub fault : 0 < (state_of state part).faults
+
+-- each of the first n volumes whose image is out and which is refused for a fault of a disk has such a part
+abbrev pub HaveFaults : {D : Type 0} → (D → State) → (said : List (Option Said)) → (n : ℕ) → Rack D → Type 0
+HaveFaults state said n r = (k : ℕ) (p : Part) → k < n → IsImageOut r.rest.images.items k → fault_at r.faults.items k ≡ Some (Refused (DiskFault p)) → HasFaultOf state said k r.rest
 
 -- the same images are out
 abbrev pub AreSameOut : {D : Type 0} → (old new : Rack D) → Type 0

@@ -1,5 +1,5 @@
 -- What opening all volumes answers: why a volume is refused, what the others begin with, and what is left of the images.
-use Rattle.std.specs.Prelude.{⊤, ◌≡◌, ◌⊎◌, ◌<◌, ◌+◌, ◌*◌, ℕ, List, [], ◌∷◌, ◌++◌, length, Contains, Bool, true, Option, None, Some, IfSome, slice_get, slice_range, All, IsTrue}
+use Rattle.std.specs.Prelude.{◌≡◌, ◌⊎◌, ◌<◌, ◌+◌, ℕ, List, [], ◌∷◌, length, Contains, Bool, true, Option, None, Some, IfSome, slice_get, slice_range, All, IsTrue}
 use Rattle.wol_disk.specs.Disk.{Block, State, Rose, IsImageOf, reads}
 use Rattle.wol_model.specs.Heads.{Shape, Free, Owned}
 use Rattle.wol_model.specs.Log.{Record}
@@ -20,11 +20,11 @@ use Rattle.manager_recovery.specs.declared.refusal.OpenRefusal.TheVariants as op
 use Rattle.volume_images.specs.Accepted.{HasHead, IsImageFault, head_place}
 use Rattle.volume_images.specs.Formatted.{part_sizes}
 use Rattle.volume_images.specs.Refusals.{IsCallFault}
-use Rattle.wol_model.specs.Images.{Images}
+use Rattle.wol_model.specs.Images.{Images, image_size}
 use Rattle.wol_promise.specs.Run.{IsThere, KeepsSound}
 use Rattle.volume_images.specs.Left.{AreNamedApart}
-use Rattle.volume_images.specs.Volumes.{shape_in, shapes_of, AreLeft}
-use Rattle.rack.specs.Rests.{image_here, segment_here, IsImageOut, IsSegmentHere}
+use Rattle.volume_images.specs.Volumes.{shape_in, shapes_of, MayLeave, AreLeft}
+use Rattle.rack.specs.Rests.{image_here, segment_here, held_here, IsImageOut, IsSegmentHere}
 use Rattle.rack.specs.Racks.{base_of_station}
 use Rattle.rack.specs.Owners.{images_taken, recovered_but, IsBegun, IsOpeningOf}
 use Rattle.volume_images.specs.declared.opening.ImageRefusal.{ImageRefusal}
@@ -95,13 +95,17 @@ RefusesVolume tells state config out old new k v (Refused r) = RefusesImage conf
 abbrev pub HadBefore : {D : Type 0} → (D → State) → Image → (first behind : ℕ) → Spun D → Type 0
 HadBefore state i first behind p = (c : List Block) → IsImageOf (state_of state p).values c → IsImageOf (Some (slice_range i.blocks first behind)) c
 
+-- each image of the part is what these blocks of the image at entry read
+abbrev pub IsAsRead : {D : Type 0} → (D → State) → Image → (first behind : ℕ) → Spun D → Type 0
+IsAsRead state i first behind p = (c : List Block) → IsImageOf (state_of state p).values c → c ≡ slice_range (reads i.blocks) first behind
+
 -- each image of a segment was one, or where one was a log of a volume that has nothing, is a log of the same records or free
 abbrev pub HadSegmentBefore : {D : Type 0} → (D → State) → Image → (first behind : ℕ) → Spun D → Type 0
 HadSegmentBefore state i first behind p = (c : List Block) → IsImageOf (state_of state p).values c → (owner : ℕ) × IsLeftOf owner (Some (slice_range i.blocks first behind)) c
 
--- the parts that are here of the image of a volume
+-- the parts that are here of the image of a volume; label and view are as they read, since they were synced
 pub record IsLeftHere {D : Type 0} (state : D → State) (s : Shape) (before : Image) (r : ImageRest D) : Type 0 where
-  pub label : HadBefore state before 0 2 r.label
+  pub label : IsAsRead state before 0 2 r.label
   pub home : (p : Spun D) → r.home ≡ Some p → HadBefore state before 2 (2 + s.home) p
   pub segments : (i : ℕ) (p : Spun D) → segment_here r i ≡ Some p → HadSegmentBefore state before (head_place s i) (head_place s (i + 1)) p
 
@@ -120,9 +124,17 @@ pub record BeganWith {D : Type 0} (state : D → State) (config : Config) (t : T
   pub stations : All (λ s. IsBegun config (images_taken config r.rest.images.items t) (base_of_station s).volume.began) r.stations.items
   pub left : (k : ℕ) (v : VolumeConf) (before : Image) (image : ImageRest D) → slice_get config.volumes.items k ≡ Some v → at_name v.name t.images ≡ Some before
       → image_here r.rest.images.items k ≡ Some image → IsLeftHere state (shape_in config v) before image
+  -- also those that came back with a lane
+  pub held : (w k i : ℕ) (v : VolumeConf) (before : Image) (p : Spun D) → slice_get config.volumes.items k ≡ Some v → at_name v.name t.images ≡ Some before
+      → Contains (held_here r.rest w k) (i, p) → HadSegmentBefore state before (head_place (shape_in config v) i) (head_place (shape_in config v) (i + 1)) p
   pub gone : (k i : ℕ) (v : VolumeConf) (before : Image) (image : ImageRest D) → slice_get config.volumes.items k ≡ Some v → at_name v.name t.images ≡ Some before
       → image_here r.rest.images.items k ≡ Some image → i < v.segments → ((p : Spun D) → IsSegmentHere r.rest k i p → ⊥)
       → IsGone (length (shapes_of config)) (shape_in config v) before r.stations.items i
+
+-- each image that is out was there with the blocks of its parts
+abbrev pub WereThere : {D : Type 0} → Config → List (Option (ImageRest D)) → Told → Type 0
+WereThere config out t = (k : ℕ) (v : VolumeConf) → slice_get config.volumes.items k ≡ Some v → IsImageOut out k
+    → (i : Image) × (at_name v.name t.images ≡ Some i) × (i.rest ≡ []) × (length i.blocks ≡ image_size (shape_in config v))
 
 -- each volume without a station is refused for its fault
 abbrev pub AreRefused : {D : Type 0} → (tells : Bool) → (D → State) → Config → (old new : BayState) → Rack D → Type 0
@@ -134,6 +146,8 @@ AreRefused tells state config old new r = (k : ℕ) (v : VolumeConf) (f : Volume
 pub record LeavesAll {D : Type 0} (tells : Bool) (state : D → State) (config : Config) (b b' : BayState) (old new : Told) : Type 0 where
   pub refused : ℕ → Bool
   pub cause : (k : ℕ) (v : VolumeConf) → slice_get config.volumes.items k ≡ Some v → refused k ≡ true → (f : VolumeFault) × RefusesVolume {D = D} tells state config [] b b' k v f
+  -- a refused image may be left only as before
+  pub kept : (k : ℕ) (v : VolumeConf) → slice_get config.volumes.items k ≡ Some v → refused k ≡ true → (c : Option (List Block)) → MayLeave (at_name v.name new.images) c → MayLeave (at_name v.name old.images) c
   pub left : (images : Images) → AreLeft config new images → (v : ℕ) → IsThere (shapes_of config) images v
       → (before : Images) × AreLeft config old before × (recovered_but (shapes_of config) refused images v ≡ recovered_but (shapes_of config) refused before v)
 

@@ -1,5 +1,5 @@
 -- What the images of a configuration say of one volume as they read: which segments it owns, and what it recovers to.
-use Rattle.std.specs.Prelude.{◌≡◌, ◌<◌, ◌-◌, ℕ, Bool, List, ◌∷◌, map, min, Option, None, Some, is_some, not, slice_get, Contains, All}
+use Rattle.std.specs.Prelude.{◌≡◌, ◌<◌, ◌-◌, ℕ, Bool, List, ◌∷◌, length, map, min, Option, None, Some, is_some, not, slice_get, Contains, All}
 use Rattle.wol_disk.specs.Disk.{Block, State}
 use Rattle.wol_model.specs.Heads.{Shape, owned_block}
 use Rattle.wol_model.specs.Images.{Images, image_of, home_of, home_in, segment_of, all_segments, accepted, recovered_from}
@@ -56,7 +56,7 @@ abbrev pub most_of : Config → ℕ
 most_of config = min 128 (config.segment_blocks - 2)
 
 -- What a volume begins with: the array that these images recover to, its records in them that keep blocks, and the version
--- above all of theirs. None of its segments is damaged, and no two of its records have one version.
+-- above all of theirs. None of its segments is damaged, and no two of its records have one version; as many are listed.
 pub record IsBegun (config : Config) (images : Images) (b : Base) : Type 0 where
   pub array : b.array ≡ recovered_from (shapes_of config) images b.owner
   pub owned : List Owned
@@ -65,6 +65,7 @@ pub record IsBegun (config : Config) (images : Images) (b : Base) : Type 0 where
   pub no_twins : HaveNoTwins (heads_in b.owner owned)
   pub records : b.records ≡ writes_in b.owner owned
   pub next : b.next ≡ next_version (records_in b.owner owned)
+  pub listed : length b.look.listed ≡ length b.records
   pub view : (image : List Block) → image_of images b.owner ≡ Some image → HasView image b.view
   pub most : b.most ≡ most_of config
 

@@ -661,6 +661,8 @@ module _ {D : Type 0} where
     pub shape : slice_get (shapes_of config) v ≡ Some (shape_of o.want)
     pub label : o.label ≡ o.want
     pub view_is : o.view ≡ view
+    -- which names each logger once
+    pub distinct : AllPairs (λ j k. j ≢ k) view
     pub present : o.present.items ≡ map (λ (i : Option (ImageRest D)). is_some i) old.images.items
     pub most : o.most ≡ most_of config
     pub without_lanes : Rest D

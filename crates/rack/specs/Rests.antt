@@ -1,5 +1,5 @@
 -- What the rest of a rack keeps: parts of images, and passes. `state` is that of a part's disk.
-use Rattle.std.specs.Prelude.{⊤, ◌≡◌, ◌≢◌, ◌↔◌, ◌⊎◌, ◌<◌, ◌≤◌, ◌+◌, ℕ, true, false, List, [], length, map, vec_capacity, Option, None, Some, IfSome, is_some, option_and_then, slice_get, slice_index_or, Contains, IsTrue, IsSome, All}
+use Rattle.std.specs.Prelude.{◌≡◌, ◌≢◌, ◌↔◌, ◌⊎◌, ◌<◌, ◌≤◌, ◌+◌, ℕ, true, false, List, [], length, map, vec_capacity, Option, None, Some, IfSome, option_and_then, slice_get, slice_index_or, Contains, IsSome, All}
 use Rattle.std.specs.List.{flat_map}
 use Rattle.std.specs.declared.alloc.Global.{Global}
 use Rattle.std.specs.declared.vec.Vec.{Vec}

@@ -1,13 +1,27 @@
-// What is taken out of a bay for a rack.
-ghost use Rattle.std.specs.Prelude.{◌≡◌, ◌<◌, ◌≤◌, IfOk, OnErr};
-ghost use Rattle.wol_bay.specs.Bay.{outs};
+// All volumes of a bay are opened.
+ghost use Rattle.std.specs.Prelude.{ℕ, ◌≡◌, ◌⊎◌, ◌<◌, ◌≤◌, List, length, All, ◌++◌, None, Some, slice_get, option_map, IfOk, OnErr, IfSome, IsTrue};
+ghost use Rattle.wol_bay.specs.Bay.{Name, outs};
 ghost use Rattle.wol_config.specs.Configs.{IsValid};
-ghost use Rattle.volume_images.specs.Volumes.{NoneOut};
+ghost use Rattle.volume_images.specs.Left.{IsTold, AreNamedApart};
+ghost use Rattle.volume_images.specs.Volumes.{NoneOut, images_read, shapes_of};
+ghost use Rattle.rack.specs.Racks.{IsRack, IsUnused, AreUnused};
+ghost use Rattle.rack.specs.Rests.{IsImageOut};
+ghost use Rattle.rack.specs.Owners.{HadRefused};
 ghost use Rattle.rack.specs.Opening.{IsTaken};
+ghost use Rattle.rack.specs.Opens.{out_names, BeganWith, WereThere, AreRefused, LeavesAll, KeepsAllSound};
+ghost use Rattle.wol_disk.specs.Disk.{Rose};
+ghost use Rattle.wol_model.specs.Images.{AreSound};
+ghost use Rattle.manager.specs.declared.part.Part.{Part};
+ghost use Rattle.manager_recovery.specs.declared.refusal.OpenRefusal.TheVariants.{DiskFault};
+ghost use Rattle.rack.specs.Closes.{HasFaultIn};
+ghost use Rattle.rack.specs.declared.volume_fault.VolumeFault.TheVariants.{Refused};
 
+use crate::closing::close_all;
 use crate::images::{Images, open_images};
+use crate::lists::Lists;
 use crate::locks::{Issued, IssuedPool, end_spindles, issue_spindles};
 use crate::pools::issue_pools;
+use crate::rack::Rack;
 use crate::rest::give_back;
 use spin_model::Spindle;
 use std::alloc::Global;
@@ -34,6 +48,8 @@ fn take_out<R: Wait, B: Bay>(
     requires home { NoneOut config.now (B.state bay.old) }
     ensures taken { IfOk result (IsTaken B.Part.tells B.Part.state config.now (B.state bay.old) (B.state bay.new)) }
     ensures home { OnErr result (outs (B.state bay.new) ≡ outs (B.state bay.old)) }
+    ensures left { OnErr result (IsTrue B.Part.tells → IsTold (LeavesAll B.Part.tells B.Part.state config.now (B.state bay.old) (B.state bay.new)) (B.state bay.old).told (B.state bay.new).told) }
+    ensures sound { OnErr result (IsTrue B.Part.tells → IsTold (KeepsAllSound config.now) (B.state bay.old).told (B.state bay.new).told) }
     ensures counts { (B.state bay.old).faults ≤ (B.state bay.new).faults }
 {
     let count = config.volumes.len() as u32;
@@ -58,6 +74,67 @@ fn take_out<R: Wait, B: Bay>(
         Err(NoMemory) => {
             give_back(bay, config, out);
             end_spindles(spindles);
+            Err(NoMemory)
+        }
+    }
+}
+
+/// Opens all volumes of the configuration. First the images are taken out of the bay in order, and each is refused or read;
+/// then the volumes whose images are out are opened in order. A volume that isn't opened has its fault.
+///
+/// After `NoMemory` every image is back in the bay.
+pub fn open_all<R: Wait, B: Bay>(
+    alloc: Global,
+    rt: &R,
+    bay: &mut B,
+    config: &Config,
+) -> Result<Rack<B::Part>, NoMemory>
+    requires config { IsValid config.now }
+    requires home { NoneOut config.now (B.state bay.old) }
+    ensures rack { IfOk result (IsRack B.Part.state config.now (B.state bay.new)) }
+    ensures out { IfOk result (λ r. outs (B.state bay.new) ≡ option_map (λ os. os ++ out_names config.now config.now.volumes.items r.rest.images.items) (outs (B.state bay.old))) }
+    ensures began { IfOk result (λ r. IsTrue B.Part.tells → IfSome (B.state bay.old).told (λ t. AreNamedApart t → BeganWith B.Part.state config.now t r)) }
+    ensures there { IfOk result (λ r. IsTrue B.Part.tells → IfSome (B.state bay.old).told (λ t. AreNamedApart t → WereThere config.now r.rest.images.items t)) }
+    ensures refused { IfOk result (AreRefused B.Part.tells B.Part.state config.now (B.state bay.old) (B.state bay.new)) }
+    // no pass of a station was used
+    ensures fresh { IfOk result (λ r. AreUnused r.stations.items) }
+    ensures fresh_keepers { IfOk result (λ r. All (λ p. IsUnused p) r.keepers.items) }
+    ensures apart { IfOk result (λ r. IsTrue B.Part.tells → IsTold (λ old new. AreNamedApart new) (B.state bay.old).told (B.state bay.new).told) }
+    // parts of images that came back; none where all images are out
+    ensures faulty { IfOk result (λ r. IsTold (λ old new. (more : List (Name × ℕ)) × (new.faulty ≡ old.faulty ++ more)) (B.state bay.old).told (B.state bay.new).told) }
+    ensures unfaulty { IfOk result (λ r. ((k : ℕ) → k < length (shapes_of config.now) → IsImageOut r.rest.images.items k)
+        → IsTold (λ old new. new.faulty ≡ old.faulty) (B.state bay.old).told (B.state bay.new).told) }
+    ensures kept { IfOk result (λ r. IsTrue B.Part.tells → IsTold (HadRefused config.now r.rest.images.items) (B.state bay.old).told (B.state bay.new).told) }
+    ensures failed { IfOk result (λ r. (k : ℕ) (p : Part) → slice_get r.faults.items k ≡ Some (Some (Refused (DiskFault p)))
+        → HasFaultIn B.Part.state r.rest ⊎ Rose (B.state bay.old).faults (B.state bay.new).faults) }
+    // where the images at entry are sound as they read, and no call failed, each volume is open
+    ensures complete { IfOk result (λ r. IsTrue B.Part.tells → IfSome (B.state bay.old).told (λ t. AreNamedApart t → AreSound (shapes_of config.now) (images_read config.now t)
+        → (HasFaultIn B.Part.state r.rest → ⊥) → (Rose (B.state bay.old).faults (B.state bay.new).faults → ⊥)
+        → (k : ℕ) → k < length (shapes_of config.now) → slice_get r.faults.items k ≡ Some None)) }
+    ensures home { OnErr result (outs (B.state bay.new) ≡ outs (B.state bay.old)) }
+    // each image left in the bay recovers to what one at entry did, also after a stop within
+    ensures left { OnErr result (IsTrue B.Part.tells → IsTold (LeavesAll B.Part.tells B.Part.state config.now (B.state bay.old) (B.state bay.new)) (B.state bay.old).told (B.state bay.new).told) }
+    ensures sound { OnErr result (IsTrue B.Part.tells → IsTold (KeepsAllSound config.now) (B.state bay.old).told (B.state bay.new).told) }
+    ensures counts { (B.state bay.old).faults ≤ (B.state bay.new).faults }
+{
+    let lists = Lists::new(alloc, config.volumes.len())?;
+    let Taken {
+        images,
+        spindles,
+        pools,
+    } = match take_out(alloc, rt, bay, config) {
+        Ok(taken) => taken,
+        Err(NoMemory) => {
+            lists.destroy();
+            return Err(NoMemory);
+        }
+    };
+    let Images { said, out, faults } = images;
+    let mut rack = lists.filled(spindles, pools, out, faults);
+    match rack.open_volumes(alloc, rt, config, said.as_slice()) {
+        Ok(()) => Ok(rack),
+        Err(NoMemory) => {
+            let _spindles = close_all(rack, bay, config);
             Err(NoMemory)
         }
     }

@@ -8,8 +8,9 @@ ghost use Rattle.volume_images.specs.Left.{IsTold};
 ghost use Rattle.volume_images.specs.Volumes.{shapes_of};
 ghost use Rattle.rack.specs.Foreign.{AreForeign};
 ghost use Rattle.rack.specs.Racks.{IsClosable};
-ghost use Rattle.rack.specs.Opens.{BeganWith};
-ghost use Rattle.rack.specs.Closes.{IsClosedSpindle, IsClosedVolume, IsQuiet, AreLeftOfParts, HasFaultIn, LeavesOpen};
+ghost use Rattle.rack.specs.Opens.{BeganWith, WereThere, KeepsAllSound};
+ghost use Rattle.rack.specs.Owners.{HadRefused};
+ghost use Rattle.rack.specs.Closes.{IsClosedSpindle, IsClosedVolume, IsQuiet, AreLeftOfParts, HasFaultIn, LeavesOpen, LeavesVolumes};
 ghost use Rattle.rack.specs.Closing.{pool_in, spindle_in, ArePoolsTaken, AreSpindlesTaken, LeavesNoneOut};
 ghost use Rattle.rack.specs.declared.rack.VolumePasses.{VolumePasses};
 
@@ -237,7 +238,7 @@ fn gather_spindles<D: Disk>(
     room
 }
 
-/// Closes a rack of images of this bay, opened with this configuration. Each part goes back to its image, and each image
+/// Closes a rack that `open_all` opened over this bay with this configuration. Each part goes back to its image, and each image
 /// that is out to the bay. The spindles come in order. It takes no memory.
 pub fn close_all<B: Bay>(rack: Rack<B::Part>, bay: &mut B, config: &Config) -> Vec<Spindle>
     requires config { IsValid config.now }
@@ -250,6 +251,14 @@ pub fn close_all<B: Bay>(rack: Rack<B::Part>, bay: &mut B, config: &Config) -> V
     // since the rack was opened, where nothing was written
     ensures left { (entry : Told) → IsTrue B.Part.tells → BeganWith B.Part.state config.now entry rack → All (λ s. IsQuiet s) rack.stations.items
         → IsTold (λ old new. LeavesOpen config.now rack entry new) (B.state bay.old).told (B.state bay.new).told }
+    // and of all volumes, where images that aren't out were as they are now
+    ensures volumes { (entry : Told) → IsTrue B.Part.tells → BeganWith B.Part.state config.now entry rack → WereThere config.now rack.rest.images.items entry → All (λ s. IsQuiet s) rack.stations.items
+        → IsTold (λ old new. HadRefused config.now rack.rest.images.items entry old → LeavesVolumes config.now rack entry new) (B.state bay.old).told (B.state bay.new).told }
+    // since then, whatever was written, and also where a call of a disk failed
+    ensures sound { (entry : Told) → IsTrue B.Part.tells → BeganWith B.Part.state config.now entry rack → WereThere config.now rack.rest.images.items entry
+        → IsTold (λ old new. HadRefused config.now rack.rest.images.items entry old → KeepsAllSound config.now entry new) (B.state bay.old).told (B.state bay.new).told }
+    // images that aren't out stay as they were
+    ensures kept { IsTrue B.Part.tells → IsTold (HadRefused config.now rack.rest.images.items) (B.state bay.old).told (B.state bay.new).told }
     ensures counts { (B.state bay.old).faults ≤ (B.state bay.new).faults }
     ensures cause { HasFaultIn B.Part.state rack.rest → Rose (B.state bay.old).faults (B.state bay.new).faults }
 {

@@ -1,10 +1,11 @@
-//! All volumes of a bay: what opening them takes, and how they are closed together.
+//! All volumes of a bay: they are opened and closed together.
 #![tactic(auto)]
 
 mod all;
 mod closing;
 mod heads_said;
 mod images;
+mod laws;
 mod lists;
 mod locks;
 mod pools;
@@ -13,7 +14,9 @@ mod rest;
 mod volume_fault;
 mod volumes;
 
+pub use all::open_all;
 pub use closing::close_all;
+pub use laws::reopening_laws;
 pub use rack::Rack;
 pub use volume_fault::VolumeFault;
 pub use volume_images::{PartName, RackFault, format};

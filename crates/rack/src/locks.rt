@@ -18,7 +18,6 @@ pub(crate) struct Issued<T: Object> {
 pub(crate) type IssuedPool<D> = Issued<Pool<FreeSegment<D>>>;
 
 /// A lock over each spindle: a pass for each volume by its number, and the keeper's behind them.
-#[tactic(auto, using(crate::proofs::Issuing::new_in_order, crate::proofs::Issuing::new_settled))]
 pub(crate) fn issue_spindles(
     alloc: Global,
     volumes: u32,

@@ -1,5 +1,6 @@
 // The volumes whose images are out are opened.
 ghost use Rattle.std.specs.Prelude.{true, ◌≡◌, ◌<◌, ◌≤◌, ◌+◌, ◌∷◌, [], ◌++◌, List, None, Some, length, map, All, IfOk, OnOk, OnErr, IfSome, IsSome, is_some, vec_len, vec_capacity};
+ghost use Rattle.wol_model.specs.Blocks.{AreApart};
 ghost use Rattle.wol_model.specs.Heads.{IsShape};
 ghost use Rattle.wol_config.specs.Configs.{IsValid};
 ghost use Rattle.log_layout.specs.Values.{shape_of};
@@ -14,12 +15,13 @@ ghost use Rattle.manager_recovery.specs.Opening.{CanOpen};
 ghost use Rattle.manager_recovery.specs.declared.opening.Opening.{Opening};
 ghost use Rattle.rack.specs.Locked.{IsLocked, IsUnopened};
 
+use crate::VolumeFault;
 use crate::heads_said::{Said, is_owned_by};
-use crate::rack::{ImageRest, Rest};
+use crate::rack::{ImageRest, Rack, Rest};
 use crate::rest::take_home;
 use log_layout::{Label, SegHead, View};
 use logger::{Lane, Shared};
-use manager::Manager;
+use manager::{Manager, Station};
 use manager_recovery::{OpenRefusal, Opening, OwnedPart, open_volume};
 use spin_model::{Spindle, Spun};
 use std::alloc::Global;
@@ -92,6 +94,7 @@ impl<D: Disk> Rest<D> {
     ) -> Result<Vec<Lane<D>>, NoMemory>
         requires config { length self.old.images.items ≡ vec_len config.now.volumes }
         requires places { All (λ k. IsUsablePlace self.old id k (segments_of config.now k)) (loggers_out self.old view.now) }
+        ensures distinct { AreApart view.now }
         ensures taken { IfOk result (λ lanes. TakesLanes D.state config.now self.old self.new id (loggers_out self.old view.now) lanes.items) }
         ensures back { IfOk result (λ lanes. CanPutLanes D.state self.new id lanes.items) }
         ensures restored { IfOk result (λ lanes. (last : Rest D) → PutsLanes self.new last id lanes.items → IsSameRest self.old last) }
@@ -364,5 +367,102 @@ fn open_locked<R: Wait, D: Disk>(
     match TurnLock::new(alloc, manager, 1, 2) {
         Ok(locked) => Ok(locked),
         Err((manager, _)) => Err(Unopened::NoRoom(manager)),
+    }
+}
+
+impl<D: Disk> Rack<D> {
+    ghost use Rattle.std.specs.Prelude.{◌≡◌, ◌<◌, ◌+◌, ℕ, Some, length, slice_get, OnOk, OnErr, IsTrue};
+    ghost use Rattle.wol_bay.specs.Bay.{BayState, Told};
+    ghost use Rattle.wol_config.specs.Configs.{IsValid};
+    ghost use Rattle.volume_images.specs.Left.{AreNamedApart};
+    ghost use Rattle.rack.specs.Racks.{IsRack, AreUnused};
+    ghost use Rattle.rack.specs.Opens.{BeganWith, AreRefused};
+    ghost use Rattle.rack.specs.Opening.{IsOpeningRack, HasBegun, AreRefusedBelow, HaveFaults, AreSameOut, IsStopped};
+    ghost use Rattle.rack.specs.declared.heads_said.Said.{Said};
+
+    // Opens one volume: it has a station then, or a fault. Where there is no memory all of it is in the rest.
+    fn open_one<R: Wait>(
+        &mut self,
+        alloc: Global,
+        rt: &R,
+        config: &Config,
+        id: u32,
+        view: View,
+        said: &[Option<Said>],
+    ) -> Result<(), NoMemory>
+        requires config { IsValid config.now }
+        requires within { id < length config.now.volumes.items }
+        requires rack { (b : BayState) × IsOpeningRack D.state config.now b said.now id self.old }
+        requires said { (own : Said) × (slice_get said.now id ≡ Some (Some own)) × (own.view ≡ view) }
+        ensures rack { (b : BayState) → IsOpeningRack D.state config.now b said.now id self.old → OnOk result (IsOpeningRack D.state config.now b said.now (id + 1) self.new) }
+        ensures keepers { self.new.keepers ≡ self.old.keepers }
+        ensures same_out { AreSameOut self.old self.new }
+        ensures begun { IsTrue D.tells → (t : Told) → HasBegun D.state config.now t said.now id self.old
+            → OnOk result (HasBegun D.state config.now t said.now (id + 1) self.new) }
+        ensures refused { (b b' : BayState) → (IsTrue D.tells → (t : Told) → b.told ≡ Some t → AreNamedApart t → HasBegun D.state config.now t said.now id self.old)
+            → AreRefusedBelow D.tells D.state config.now b b' id self.old
+            → OnOk result (AreRefusedBelow D.tells D.state config.now b b' (id + 1) self.new) }
+        ensures failed { HaveFaults D.state said.now id self.old → OnOk result (HaveFaults D.state said.now (id + 1) self.new) }
+        ensures stopped { (b : BayState) → IsOpeningRack D.state config.now b said.now id self.old → OnErr result (IsStopped D.state config.now b self.old self.new) }
+        ensures began { IsTrue D.tells → (t : Told) → HasBegun D.state config.now t said.now id self.old → OnErr result (BeganWith D.state config.now t self.new) }
+    {
+        let opening = self.rest.take_opening(alloc, config, id, view, said)?;
+        let (lock, mut passes) = match open_locked(alloc, rt, &self.shared, opening) {
+            Ok(locked) => locked,
+            Err(Unopened::Refused(refusal, opening)) => {
+                self.rest.put_opening(id, opening);
+                if refusal == OpenRefusal::NoMemory {
+                    return Err(NoMemory);
+                }
+                self.faults[id as usize] = Some(VolumeFault::Refused(refusal));
+                return Ok(());
+            }
+            Err(Unopened::NoRoom(manager)) => {
+                self.rest.put_manager(id, manager.release());
+                return Err(NoMemory);
+            }
+        };
+        let (Some(keeper), Some(helper), Some(worker)) = (passes.pop(), passes.pop(), passes.pop())
+        else {
+            unreachable!()
+        };
+        self.rest.rooms.managers.push_reserved(passes);
+        self.stations.push_reserved(Station {
+            id,
+            lock,
+            worker,
+            helper,
+            keeper,
+        });
+        Ok(())
+    }
+
+    /// Opens the volumes whose images are out, in order. After want of memory some are open, and all of the others is in the rest.
+    pub(crate) fn open_volumes<R: Wait>(
+        &mut self,
+        alloc: Global,
+        rt: &R,
+        config: &Config,
+        said: &[Option<Said>],
+    ) -> Result<(), NoMemory>
+        requires config { IsValid config.now }
+        requires count { length said.now ≡ length config.now.volumes.items }
+        requires rack { (b : BayState) × IsOpeningRack D.state config.now b said.now 0 self.old }
+        ensures rack { (b : BayState) → IsOpeningRack D.state config.now b said.now 0 self.old → OnOk result (IsRack D.state config.now b self.new) }
+        ensures keepers { self.new.keepers ≡ self.old.keepers }
+        ensures fresh { AreUnused self.new.stations.items }
+        ensures same_out { AreSameOut self.old self.new }
+        ensures refused { (b b' : BayState) → (IsTrue D.tells → (t : Told) → b.told ≡ Some t → AreNamedApart t → HasBegun D.state config.now t said.now 0 self.old)
+            → AreRefusedBelow D.tells D.state config.now b b' 0 self.old → OnOk result (AreRefused D.tells D.state config.now b b' self.new) }
+        ensures began { IsTrue D.tells → (t : Told) → HasBegun D.state config.now t said.now 0 self.old → BeganWith D.state config.now t self.new }
+        ensures failed { OnOk result (HaveFaults D.state said.now (length said.now) self.new) }
+        ensures stopped { (b : BayState) → IsOpeningRack D.state config.now b said.now 0 self.old → OnErr result (IsStopped D.state config.now b self.old self.new) }
+    {
+        for (id, own) in said.iter().enumerate() {
+            if let Some(own) = own {
+                self.open_one(alloc, rt, config, id as u32, own.view, said)?;
+            }
+        }
+        Ok(())
     }
 }

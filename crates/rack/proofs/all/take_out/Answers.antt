@@ -1,22 +1,22 @@
-use Rattle.std.proofs.Common.{◌≡◌, ◌<◌, ℕ, length, List, Option, None, Some, refl, sym, ap, ◌∙◌, subst, arith}
-use Rattle.std.specs.Prelude.{slice_get, slice_index_or, vec_len, is_some, All}
-use Rattle.std.specs.Vec.{with_items}
-use Rattle.std.proofs.lemmas.List.{with_items_is, length-map}
+use Rattle.std.proofs.Common.{◌≡◌, ℕ, length, List, Option, None, refl, sym, ap, ◌∙◌, subst, arith}
+use Rattle.std.specs.Prelude.{slice_index_or, vec_len, is_some, All}
+use Rattle.std.proofs.lemmas.List.{with_items_is}
 use Rattle.std.proofs.lemmas.Option.{slice_get_within, get_or_from_slice_get}
 use Rattle.spin_model.specs.declared.spindle.Spindle.{Spindle}
 use Rattle.spin_model.specs.declared.spindle.SpindleBase.{SpindleBase}
 use Rattle.wol_bay.specs.Bay.{IsHome, outs}
 use Rattle.wol_config.specs.declared.config.VolumeConf.{VolumeConf}
-use Rattle.volume_images.specs.Volumes.{shape_in, shapes_of}
-use Rattle.rack.specs.Closing.{LeavesNoneOut, IsComplete}
+use Rattle.volume_images.specs.Left.{IsTold}
+use Rattle.rack.specs.Closing.{GivesBack, LeavesNoneOut}
 use Rattle.rack.specs.Making.{IsWholeLock, AreSpindlesOf}
 use Rattle.rack.specs.Parts.{CanIssue, IsIssuedPool, Supplies, Restores}
-use Rattle.rack.specs.Rests.{image_here, IsImageOut, IsImageRest}
+use Rattle.rack.specs.Rests.{image_here}
 use Rattle.rack.specs.declared.heads_said.Said.{Said}
 use Rattle.rack.specs.declared.locks.Issued.{Issued}
 use Rattle.rack.specs.declared.rack.ImageRest.{ImageRest}
-use Rattle.rack.proofs.Asking.{some_at}
 use Rattle.rack.proofs.SentNames.{names_out}
+use Rattle.rack.proofs.Issues.{on_err}
+use Rattle.rack.proofs.TakenBack.{left_back, sound_back, nothing_done, left_again, sound_again}
 use Rattle.rack.proofs.TakenOut.{shape_here, may_issue, again, same_here, home_again}
 use Rattle.rack.proofs.all.take_out.Goals as goal
 
@@ -115,3 +115,44 @@ returns-in-Err-issue_pools-clause-home g c =
     (subst (λ (l : List (Option Said)). Restores state j c.args.config.now.segment_blocks (slice_index_or l j None) (slice_index_or c.as_mut_slice.result.now j None) (slice_index_or c.issue_pools.new.images j None)) c.as_slice.ensures.value (c.in-Err-issue_pools.ensures.restores j)) in
     home_again g.B.Part.Disk.tells state c.args.config.now b b1 c.in-Ok.images c.in-Ok.ensures.asked c.issue_pools.new.images count restores c.requires.home c.in-Ok.ensures.out b2
     (subst (λ (l : List (Option (ImageRest g.row.B-Part.Denot))). LeavesNoneOut c.args.config.now l (outs b1) (outs b2)) e c.give_back.ensures.home)
+
+pub returns-in_err-spindles-clause-left : goal.returns-in_err-spindles-clause-left
+returns-in_err-spindles-clause-left g c =
+    let b = g.B.Bay.state c.args.bay.now in
+    on_err c.from_residual.result _ (λ telling. left_back g.B.Part.Disk.tells g.B.Part.Disk.state c.args.config.now b b (nothing_done b.told))
+
+pub returns-in-Err-clause-left : goal.returns-in-Err-clause-left
+returns-in-Err-clause-left g c = λ telling. left_back g.B.Part.Disk.tells g.B.Part.Disk.state c.args.config.now (g.B.Bay.state c.args.bay.now) (g.B.Bay.state c.open_images.new.bay) (c.in-Err.ensures.err.left telling)
+
+pub returns-in-Err-clause-sound : goal.returns-in-Err-clause-sound
+returns-in-Err-clause-sound g c = λ telling. sound_back g.B.Part.Disk.tells g.B.Part.Disk.state c.args.config.now (g.B.Bay.state c.args.bay.now) (g.B.Bay.state c.open_images.new.bay) (c.in-Err.ensures.err.left telling)
+
+pub returns-in-Err-issue_pools-clause-left : goal.returns-in-Err-issue_pools-clause-left
+returns-in-Err-issue_pools-clause-left g c =
+    let state = g.B.Part.Disk.state in
+    let b = g.B.Bay.state c.args.bay.now in
+    let b1 = g.B.Bay.state c.open_images.new.bay in
+    let b2 = g.B.Bay.state c.give_back.new.bay in
+    let v = c.in-Ok.images.out.ok.0 in
+    let count : length c.issue_pools.new.images ≡ length c.in-Ok.images.out.items = c.issue_pools.ensures.images ∙ ap length c.as_mut_slice.ensures.value in
+    let e = with_items_is c.in-Ok.images.out c.issue_pools.new.images (omega (arith, count, v)) in
+    let restores = λ (j : ℕ). subst (λ (l : List (Option (ImageRest g.row.B-Part.Denot))). Restores state j c.args.config.now.segment_blocks (slice_index_or c.in-Ok.images.said.items j None) (slice_index_or l j None) (slice_index_or c.issue_pools.new.images j None)) c.as_mut_slice.ensures.value
+    (subst (λ (l : List (Option Said)). Restores state j c.args.config.now.segment_blocks (slice_index_or l j None) (slice_index_or c.as_mut_slice.result.now j None) (slice_index_or c.issue_pools.new.images j None)) c.as_slice.ensures.value (c.in-Err-issue_pools.ensures.restores j)) in
+    left_again g.B.Part.Disk.tells state c.args.config.now c.requires.config b b1 b2 c.in-Ok.images c.in-Ok.ensures.asked c.in-Ok.ensures.out c.issue_pools.new.images count restores
+    (subst (λ (l : List (Option (ImageRest g.row.B-Part.Denot))). IsTold (GivesBack state c.args.config.now l 0) b1.told b2.told) e c.give_back.ensures.back) c.give_back.ensures.counts
+    (λ telling d. g.met.B.Part.Disk.told telling d) g.met.B.Part.Disk.sound
+
+pub returns-in-Err-issue_pools-clause-sound : goal.returns-in-Err-issue_pools-clause-sound
+returns-in-Err-issue_pools-clause-sound g c =
+    let state = g.B.Part.Disk.state in
+    let b = g.B.Bay.state c.args.bay.now in
+    let b1 = g.B.Bay.state c.open_images.new.bay in
+    let b2 = g.B.Bay.state c.give_back.new.bay in
+    let v = c.in-Ok.images.out.ok.0 in
+    let count : length c.issue_pools.new.images ≡ length c.in-Ok.images.out.items = c.issue_pools.ensures.images ∙ ap length c.as_mut_slice.ensures.value in
+    let e = with_items_is c.in-Ok.images.out c.issue_pools.new.images (omega (arith, count, v)) in
+    let restores = λ (j : ℕ). subst (λ (l : List (Option (ImageRest g.row.B-Part.Denot))). Restores state j c.args.config.now.segment_blocks (slice_index_or c.in-Ok.images.said.items j None) (slice_index_or l j None) (slice_index_or c.issue_pools.new.images j None)) c.as_mut_slice.ensures.value
+    (subst (λ (l : List (Option Said)). Restores state j c.args.config.now.segment_blocks (slice_index_or l j None) (slice_index_or c.as_mut_slice.result.now j None) (slice_index_or c.issue_pools.new.images j None)) c.as_slice.ensures.value (c.in-Err-issue_pools.ensures.restores j)) in
+    sound_again g.B.Part.Disk.tells state c.args.config.now c.requires.config b b1 b2 c.in-Ok.images c.in-Ok.ensures.asked c.in-Ok.ensures.out c.issue_pools.new.images count restores
+    (subst (λ (l : List (Option (ImageRest g.row.B-Part.Denot))). IsTold (GivesBack state c.args.config.now l 0) b1.told b2.told) e c.give_back.ensures.back) c.give_back.ensures.counts
+    (λ telling d. g.met.B.Part.Disk.told telling d) g.met.B.Part.Disk.sound

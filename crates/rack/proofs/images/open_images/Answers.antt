@@ -1,10 +1,9 @@
-use Rattle.std.proofs.Common.{◌≡◌, ◌<◌, ◌≤◌, ◌+◌, ℕ, length, get_or, Some, sym, ap, ◌∙◌, subst, arith, rules}
-use Rattle.std.specs.Prelude.{slice_get}
+use Rattle.std.proofs.Common.{◌≡◌, ◌<◌, length, sym, ◌∙◌, subst, arith, rules}
 use Rattle.std.proofs.lemmas.List.{length-map, length-set}
-use Rattle.std.proofs.lemmas.Option.{slice_get-get_or, slice_get_within, same_Some, get_or_from_slice_get}
+use Rattle.std.proofs.lemmas.Option.{slice_get_within, get_or_from_slice_get}
 use Rattle.wol_bay.specs.Bay.{IsHome}
 use Rattle.wol_config.specs.declared.config.VolumeConf.{VolumeConf}
-use Rattle.volume_images.specs.Volumes.{shape_in, shapes_of}
+use Rattle.volume_images.specs.Volumes.{shape_in}
 use Rattle.rack.specs.Opening.{HasSentOut, AreAsked}
 use Rattle.rack.proofs.Asking.{some_at, asked_more, asked_later, none_asked}
 use Rattle.rack.proofs.SentNames.{same_until, sent_on, none_sent, next_home, names_out, sent_same}

@@ -1,9 +1,8 @@
-use Rattle.std.proofs.Common.{◌≡◌, ◌<◌, ◌≤◌, ℕ, length, map, get_or, Some, Option, option_map, IfSome, sym, ap, ◌∙◌, subst, arith}
-use Rattle.std.specs.Prelude.{slice_get}
+use Rattle.std.proofs.Common.{◌≡◌, ℕ, length, option_map, IfSome, sym, ap, ◌∙◌, subst, arith}
 use Rattle.std.proofs.lemmas.List.{length-map}
 use Rattle.std.proofs.lemmas.Option.{get_or_from_slice_get}
 use Rattle.wol_model.specs.Heads.{Shape}
-use Rattle.wol_bay.specs.Bay.{Name, Told, sent_out, outs}
+use Rattle.wol_bay.specs.Bay.{Name, sent_out}
 use Rattle.wol_bay.specs.Refusals.{blocks_at}
 use Rattle.wol_config.specs.declared.config.VolumeConf.{VolumeConf}
 use Rattle.log_layout.specs.Values.{shape_of}
@@ -67,7 +66,8 @@ returns-in-Ok-open_image-clause-passes g c =
     let i = c.args.spindle.now in
     used_pass i c.args.id c.index_mut-pass.result.now c.open_image.new.pass
     (let n = c.requires.within in let p = c.requires.passes.0.whole.count in let s = c.requires.spindle.passes in omega (arith, n, p, s))
-    c.index_mut-pass.ensures.value c.open_image.ensures.same c.open_image.ensures.free c.open_image.ensures.settled c.requires.passes
+    c.index_mut-pass.ensures.value c.open_image.ensures.same c.open_image.ensures.free c.open_image.ensures.settled
+    (let n = c.requires.within in let p = c.requires.passes.0.whole.count in let s = c.requires.spindle.passes in omega (arith, n, p, s)) c.open_image.ensures.uses c.requires.passes
 
 pub returns-in-Some-clause-refused : goal.returns-in-Some-clause-refused
 returns-in-Some-clause-refused g c = λ v found.
@@ -98,11 +98,13 @@ returns-in-Some-clause-passes g c =
     let i = c.args.spindle.now in
     used_pass i c.args.id c.index_mut-pass.result.now c.open_image.new.pass
     (let n = c.requires.within in let p = c.requires.passes.0.whole.count in let s = c.requires.spindle.passes in omega (arith, n, p, s))
-    c.index_mut-pass.ensures.value c.open_image.ensures.same c.open_image.ensures.free c.open_image.ensures.settled c.requires.passes
+    c.index_mut-pass.ensures.value c.open_image.ensures.same c.open_image.ensures.free c.open_image.ensures.settled
+    (let n = c.requires.within in let p = c.requires.passes.0.whole.count in let s = c.requires.spindle.passes in omega (arith, n, p, s)) c.open_image.ensures.uses c.requires.passes
 
 pub returns-in-None-clause-passes : goal.returns-in-None-clause-passes
 returns-in-None-clause-passes g c =
     let i = c.args.spindle.now in
     used_pass i c.args.id c.index_mut-pass.result.now c.open_image.new.pass
     (let n = c.requires.within in let p = c.requires.passes.0.whole.count in let s = c.requires.spindle.passes in omega (arith, n, p, s))
-    c.index_mut-pass.ensures.value c.open_image.ensures.same c.open_image.ensures.free c.open_image.ensures.settled c.requires.passes
+    c.index_mut-pass.ensures.value c.open_image.ensures.same c.open_image.ensures.free c.open_image.ensures.settled
+    (let n = c.requires.within in let p = c.requires.passes.0.whole.count in let s = c.requires.spindle.passes in omega (arith, n, p, s)) c.open_image.ensures.uses c.requires.passes

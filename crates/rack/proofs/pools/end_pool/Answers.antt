@@ -1,5 +1,4 @@
 use Rattle.std.proofs.Common.{◌∙◌}
-use Rattle.turn_lock.specs.Passes.{lock_id}
 use Rattle.rack.proofs.Ended.{no_entries, own_and_free, may_empty, ends_into}
 use Rattle.rack.proofs.pools.end_pool.Goals as goal
 

@@ -1,12 +1,11 @@
-use Rattle.std.proofs.Common.{◌≡◌, ◌≤◌, List, [], length, refl, sym, ap, subst, ◌∙◌, arith}
+use Rattle.std.proofs.Common.{◌≡◌, [], length, ap, subst, ◌∙◌, arith}
 use Rattle.std.proofs.lemmas.List.{nil_from_length}
 use Rattle.rack.specs.declared.rack.ImageRest.{ImageRest}
 use Rattle.std.proofs.Common.{Option, None}
-use Rattle.std.specs.Prelude.{slice_index_or}
 use Rattle.std.proofs.lemmas.List.{get_or_default}
 use Rattle.turn_lock.specs.Passes.{lock_id}
-use Rattle.rack.specs.Parts.{CanEnd, EndsInto}
-use Rattle.rack.proofs.AllEnded.{LockOf, AreEndedTo, ended_none, end_within, next_can_end, ended_next}
+use Rattle.rack.specs.Parts.{EndsInto}
+use Rattle.rack.proofs.AllEnded.{AreEndedTo, ended_none, end_within, ended_next}
 use Rattle.rack.proofs.pools.end_pools.Goals as goal
 
 pub loop-issued-init : goal.loop-issued-init

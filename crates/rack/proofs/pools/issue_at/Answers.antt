@@ -1,11 +1,8 @@
-use Rattle.std.proofs.Common.{◌≡◌, ◌<◌, ℕ, List, None, Some, Option, length, sym, ap, subst, ◌∙◌}
-use Rattle.std.specs.Prelude.{Result, Ok, Err, OnOk, OnErr, IfOk, slice_get, slice_index_or, slice_set}
-use Rattle.std.proofs.lemmas.List.{get_or_read, get_or_default, get_or-set_same}
-use Rattle.wol_model.specs.Heads.{Shape}
-use Rattle.volume_images.specs.Volumes.{shapes_of}
-use Rattle.rack.specs.Parts.{CanIssue, IsIssuedPool, Supplies, Restores}
+use Rattle.std.proofs.Common.{None, Option, sym, subst}
+use Rattle.std.specs.Prelude.{slice_index_or}
+use Rattle.std.proofs.lemmas.List.{get_or_read, get_or_default}
+use Rattle.rack.specs.Parts.{CanIssue}
 use Rattle.rack.specs.declared.heads_said.Said.{Said}
-use Rattle.rack.specs.declared.rack.ImageRest.{ImageRest}
 use Rattle.rack.proofs.pools.issue_at.Goals as goal
 
 pub issue_pool-requires-clause-image : goal.issue_pool-requires-clause-image

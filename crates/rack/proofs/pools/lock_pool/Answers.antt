@@ -1,4 +1,4 @@
-use Rattle.std.proofs.Common.{◌≤◌, ℕ, List, [], ◌++◌, arith}
+use Rattle.std.proofs.Common.{ℕ, [], arith}
 use mathlib.Core.List.{Mem, not-mem-nil}
 use base.Meet.{within_both}
 use Rattle.rack.proofs.pools.lock_pool.Goals as goal

@@ -1,4 +1,4 @@
-use Rattle.std.proofs.Common.{◌≡◌, List, Some, Option, sym, subst}
+use Rattle.std.proofs.Common.{List, Some, Option, sym, subst}
 use Rattle.log_layout.specs.declared.segment.SegHead.{SegHead}
 use Rattle.rack.specs.Parts.{CanIssue, IsSupplied, IsFilledPool, TakesFree}
 use Rattle.rack.specs.declared.heads_said.Said.{Said}

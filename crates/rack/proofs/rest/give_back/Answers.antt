@@ -1,11 +1,9 @@
-use Rattle.std.proofs.Common.{◌≡◌, ◌≤◌, ◌+◌, ℕ, suc, List, [], length, take, Some, None, sym, ap, ◌∙◌, subst, arith}
+use Rattle.std.proofs.Common.{◌≡◌, ◌+◌, ℕ, suc, length, Some, None, sym, ap, ◌∙◌, subst, arith}
 use Rattle.std.specs.Prelude.{slice_get, option_map}
 use Rattle.std.proofs.lemmas.List.{take_all, length_push}
-use Rattle.std.proofs.lemmas.Option.{get_or_from_slice_get, slice_get-map, slice_get_within}
-use Rattle.wol_config.specs.declared.config.VolumeConf.{VolumeConf}
+use Rattle.std.proofs.lemmas.Option.{get_or_from_slice_get, slice_get-map}
 use Rattle.volume_images.specs.Volumes.{shape_in}
 use Rattle.rack.specs.Rests.{image_here}
-use Rattle.rack.specs.Closing.{IsImageBack}
 use Rattle.rack.proofs.Members.{element_at, front_less, front_last, is_there}
 use Rattle.rack.proofs.BackInTurn.{IsBackFrom, none_so_far, one_more_back, all_are_back}
 use Rattle.rack.proofs.rest.give_back.Goals as goal

@@ -1,4 +1,4 @@
-use Rattle.std.proofs.Common.{◌≡◌, [], length, sym, ap, ◌∙◌, subst, arith}
+use Rattle.std.proofs.Common.{[], sym, ap, ◌∙◌, subst, arith}
 use contract.BorrowLft.{⊑_meet, ⊑_static}
 use Rattle.manager.specs.Stands.{Stands}
 use Rattle.manager_recovery.specs.Opened.{Opens, base_at_opening}

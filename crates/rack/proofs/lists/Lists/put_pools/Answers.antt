@@ -1,4 +1,4 @@
-use Rattle.std.proofs.Common.{◌≡◌, List, refl, subst}
+use Rattle.std.proofs.Common.{List, refl, subst}
 use Rattle.rack.proofs.Setting.{PoolLock, ArePoolsPut, pools_none, pools_next}
 use Rattle.rack.proofs.lists.Lists.put_pools.Goals as goal
 

@@ -1,7 +1,7 @@
-use Rattle.std.proofs.Common.{◌≡◌, ◌+◌, ◌≤◌, ℕ, List, [], ◌∷◌, ◌++◌, length, map, reverse, Option, None, Some, is_some, refl, sym, ap, subst, ◌∙◌, arith}
+use Rattle.std.proofs.Common.{◌≡◌, List, [], ◌++◌, length, map, reverse, Option, None, Some, is_some, sym, ap, subst, ◌∙◌, arith}
 use Rattle.std.specs.Prelude.{All, IsSome}
 use Rattle.std.proofs.lemmas.Bool.{false≢true}
-use Rattle.std.proofs.lemmas.List.{append-nil, length-reverse, reverse-reverse, nil_from_length}
+use Rattle.std.proofs.lemmas.List.{append-nil, reverse-reverse, nil_from_length}
 use Rattle.std.proofs.lemmas.List.Elements.{All-from_get_or, All-pop}
 use Rattle.spin_model.specs.declared.spun.Spun.{Spun}
 use Rattle.rack.proofs.Together.{all_reverse, together_next}

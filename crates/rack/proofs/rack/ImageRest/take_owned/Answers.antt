@@ -1,10 +1,9 @@
-use Rattle.std.proofs.Common.{◌≡◌, ◌<◌, ◌++◌, ℕ, List, [], Some, length, is_some, refl, sym, ap, subst, ◌∙◌, arith}
+use Rattle.std.proofs.Common.{◌≡◌, [], Some, length, is_some, refl, sym, ap, ◌∙◌, arith}
 use Rattle.std.specs.Prelude.{slice_get, slice_index_or}
 use Rattle.std.proofs.lemmas.List.{append-nil, length-append}
 use Rattle.std.proofs.lemmas.Option.{slice_get-get_or}
 use Rattle.log_layout.specs.Values.{shape_of}
 use Rattle.log_layout.specs.declared.segment.SegHead.TheVariants.{Free}
-use Rattle.manager_recovery.specs.declared.opening.OwnedPart.{OwnedPart}
 use Rattle.rack.proofs.Taking.{owner_of_true, taken_none, still_here, fewer_taken, taken_next, taken_all}
 use Rattle.rack.proofs.rack.ImageRest.take_owned.Goals as goal
 

@@ -1,4 +1,4 @@
-use Rattle.std.proofs.Common.{◌≡◌, ◌++◌, List, length, vec_capacity}
+use Rattle.std.proofs.Common.{◌≡◌, ◌++◌, List, vec_capacity}
 use Rattle.log_layout.specs.Values.{shape_of}
 use Rattle.manager_recovery.specs.declared.opening.OwnedPart.{OwnedPart}
 use Rattle.rack.proofs.Taking.{AreTakenTo}

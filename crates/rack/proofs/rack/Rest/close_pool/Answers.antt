@@ -1,11 +1,11 @@
-use Rattle.std.proofs.Common.{◌≡◌, ◌<◌, ℕ, List, length, get_or, Option, Some, None, refl, sym, ap, ◌∙◌, subst, arith}
-use Rattle.std.specs.Prelude.{IsSome, All, MatchOption}
+use Rattle.std.proofs.Common.{◌<◌, List, length, get_or, Option, None, refl, sym, ap, ◌∙◌, subst, arith}
+use Rattle.std.specs.Prelude.{MatchOption}
 use Rattle.std.proofs.lemmas.List.{with_items_is, get_or_read, get_or-set_same, get_or-set_other, length-set}
 use Rattle.turn_lock.specs.Passes.{lock_id}
 use Rattle.seg_pool.specs.Pools.{IsEmptyPool}
 use Rattle.rack.specs.Rests.{image_here}
 use Rattle.rack.specs.Parts.{HasPlaces, EmptiesInto}
-use Rattle.rack.specs.Closing.{pool_in, ArePoolsTaken, CanClosePool, RefillsAll}
+use Rattle.rack.specs.Closing.{pool_in, ArePoolsTaken, RefillsAll}
 use Rattle.rack.specs.declared.rack.ImageRest.{ImageRest}
 use Rattle.rack.specs.declared.rack.VolumePasses.{VolumePasses}
 use Rattle.rack.proofs.Gathering.{pool_at_row, pools_gathered, pools_kept, spindles_stay, lists_stay, rows_stay}

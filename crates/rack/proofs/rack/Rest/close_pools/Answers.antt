@@ -1,13 +1,12 @@
-use Rattle.std.proofs.Common.{◌≡◌, ◌<◌, ◌≤◌, ◌+◌, ℕ, List, [], ◌∷◌, ◌++◌, length, take, Some, refl, sym, ap, ◌∙◌, subst, arith}
+use Rattle.std.proofs.Common.{◌≡◌, ◌≤◌, ◌+◌, ℕ, [], length, take, Some, refl, sym, ap, ◌∙◌, subst, arith}
 use Rattle.std.specs.Prelude.{All, slice_get, vec_capacity}
 use Rattle.std.proofs.lemmas.List.{length_push, length-take-le, take_all}
 use Rattle.std.proofs.lemmas.List.Elements.{All-take}
-use Rattle.std.proofs.lemmas.Option.{slice_get_within}
 use Rattle.turn_lock.specs.Passes.{lock_id}
 use Rattle.volume_images.specs.Volumes.{shapes_of}
 use Rattle.rack.specs.Rests.{image_here}
 use Rattle.rack.specs.declared.rack.Rooms.{Rooms}
-use Rattle.rack.specs.Closing.{CanClosePool, RefillsAll, KeepsLogger, KeepsSpindles}
+use Rattle.rack.specs.Closing.{CanClosePool}
 use Rattle.rack.proofs.Members.{element_at, all_last, front_less, front_last}
 use Rattle.rack.proofs.PoolsInTurn.{ArePoolsClosed, still_may, refills_same, no_pool_closed, one_pool_more}
 use Rattle.rack.proofs.rack.Rest.close_pools.Goals as goal

@@ -1,6 +1,6 @@
-use Rattle.std.proofs.Common.{◌≡◌, ◌<◌, ℕ, List, [], ◌∷◌, ◌++◌, length, get_or, Option, Some, None, ap, ◌∙◌, sym, subst, refl, arith}
-use Rattle.std.specs.Prelude.{IsSome, All, slice_get, slice_index_or, option_and_then}
-use Rattle.std.proofs.lemmas.List.{with_items_is, get_or_default}
+use Rattle.std.proofs.Common.{List, length, get_or, ap, ◌∙◌, sym, subst, arith}
+use Rattle.std.specs.Prelude.{All}
+use Rattle.std.proofs.lemmas.List.{with_items_is}
 use Rattle.std.proofs.lemmas.List.Elements.{All-push, All-contains, Contains-push}
 use Rattle.turn_lock.specs.Passes.{pass_mine, IsPassOf, IsFree, IsPartOf, AreWhole}
 use Rattle.turn_lock.specs.declared.pass.PassOf.{PassOf}
@@ -9,7 +9,7 @@ use Rattle.spin_model.specs.declared.spindle.SpindleBase.{SpindleBase}
 use Rattle.logger.specs.Lanes.{AreAccesses}
 use Rattle.rack.specs.Closing.{spindle_in, AreSpindlesTaken}
 use Rattle.rack.specs.declared.rack.VolumePasses.{VolumePasses}
-use Rattle.rack.proofs.Gathering.{spindle_of_row, spindle_at_row, spindles_gathered, spindles_all, spindles_kept, some_element}
+use Rattle.rack.proofs.Gathering.{spindle_at_row, spindles_gathered, spindles_all, spindles_kept, some_element}
 use Rattle.rack.proofs.Members.{is_there}
 use Rattle.rack.proofs.OthersAccess.{others_access}
 use Rattle.rack.proofs.rack.Rest.close_spindle.Goals as goal

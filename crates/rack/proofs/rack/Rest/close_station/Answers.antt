@@ -1,4 +1,4 @@
-use Rattle.std.proofs.Common.{◌≡◌, ◌≤◌, ℕ, List, [], ◌∷◌, ◌++◌, length, map, refl, sym, ap, ◌∙◌, subst, arith}
+use Rattle.std.proofs.Common.{◌≡◌, ◌≤◌, List, [], ◌∷◌, ◌++◌, length, map, sym, ap, ◌∙◌, subst, arith}
 use Rattle.std.specs.Prelude.{All, vec_capacity}
 use Rattle.std.proofs.lemmas.List.Elements.{All-cons, All-nil}
 use Rattle.turn_lock.specs.Passes.{AreWhole, IsPassOf, IsFree}
@@ -14,8 +14,6 @@ use Rattle.rack.specs.Racks.{IsStation, base_of_station}
 use Rattle.rack.specs.Parts.{CanPutLanes}
 use Rattle.rack.proofs.Members.{all_last}
 use Rattle.rack.proofs.StationBack.{home_away, lanes_away, lanes_of_others, stations_back, station_closed, rooms_less}
-use Rattle.rack.proofs.StationsInTurn.{one_closed}
-use Rattle.rack.proofs.Closable.{pools_may}
 use Rattle.rack.proofs.rack.Rest.close_station.Goals as goal
 
 -- the three passes in the row

@@ -1,4 +1,4 @@
-use Rattle.std.proofs.Common.{◌≡◌, List, map, Option, is_some, ap, ◌∙◌, arith}
+use Rattle.std.proofs.Common.{map, Option, is_some, ap, ◌∙◌, arith}
 use Rattle.std.proofs.lemmas.List.{take_all}
 use Rattle.rack.specs.declared.rack.ImageRest.{ImageRest}
 use Rattle.rack.proofs.rack.Rest.present.Goals as goal

@@ -1,7 +1,7 @@
-use Rattle.std.proofs.Common.{◌≡◌, ◌≤◌, ℕ, length, Option, Some, None, is_some, true, false, sym, ap, ◌∙◌, arith}
+use Rattle.std.proofs.Common.{None, is_some, sym, ap, ◌∙◌, arith}
 use Rattle.std.proofs.lemmas.List.{get_or_read}
 use Rattle.rack.proofs.rack.Rest.put_all_held.Goals as goal
-use Rattle.rack.proofs.ListsBack.{none_yet, next_may, one_more, all_went, none_went}
+use Rattle.rack.proofs.ListsBack.{none_yet, next_may, one_more, all_went}
 
 pub loop-volume-init : goal.loop-volume-init
 loop-volume-init g c = record { back = none_yet c.args.id c.args.self.now }

@@ -1,6 +1,5 @@
-use Rattle.std.proofs.Common.{◌≡◌, ℕ, List, [], subst, arith}
+use Rattle.std.proofs.Common.{◌≡◌, [], subst, arith}
 use Rattle.std.proofs.lemmas.List.{nil_from_length}
-use Rattle.logger.specs.declared.lane.Lane.{Lane}
 use Rattle.rack.proofs.LanesPut.{ArePutSoFar, put_none, last_whole, last_bare, put_next, put_all}
 use Rattle.rack.proofs.rack.Rest.put_lanes.Goals as goal
 

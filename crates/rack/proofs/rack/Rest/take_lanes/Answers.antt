@@ -1,8 +1,7 @@
-use Rattle.std.proofs.Common.{◌≡◌, ◌<◌, ◌≤◌, ℕ, List, [], length, is_some, refl, sym, ap, subst, ◌∙◌, arith}
+use Rattle.std.proofs.Common.{◌<◌, ℕ, List, length, is_some, sym, ap, subst, ◌∙◌, arith}
 use Rattle.std.specs.Prelude.{slice_index_or}
-use Rattle.std.proofs.lemmas.List.{take_all}
 use Rattle.logger.specs.declared.lane.Lane.{Lane}
-use Rattle.rack.specs.Parts.{TakesLanes, CanPutLanes, PutsLanes, loggers_out}
+use Rattle.rack.specs.Parts.{CanPutLanes, PutsLanes}
 use Rattle.rack.proofs.LanesTaken.{AreLanesTaken, lanes_none, next_usable, same_out, lanes_step, may_put_back, all_back, can_after_same, puts_after_same}
 use Rattle.rack.proofs.rack.Rest.take_lanes.Goals as goal
 

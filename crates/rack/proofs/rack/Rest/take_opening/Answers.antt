@@ -1,7 +1,8 @@
-use Rattle.std.proofs.Common.{◌≡◌, ◌<◌, ℕ, Some, length, is_some, refl, sym, ap, ◌∙◌, arith}
+use Rattle.std.proofs.Common.{◌<◌, length, is_some, refl, sym, ap, ◌∙◌, arith}
 use Rattle.std.proofs.lemmas.List.{length-map}
 use Rattle.log_layout.specs.Values.{shape_of}
 use Rattle.volume_images.specs.Volumes.{shape_in}
+use Rattle.rack.proofs.LanesTaken.{pairs_apart}
 use Rattle.rack.proofs.OpeningTaken.{owned_here_then, home_place, spindle_same, image_there, home_there, home_same}
 use Rattle.rack.proofs.OwnedOf.{shape_at}
 use Rattle.rack.proofs.Returned.{here_within}
@@ -47,6 +48,7 @@ returns-clause-taken g c =
       shape = shape_at config v (shape_of want) (omega (arith, lt, shapes, c.requires.ready.images)) c.label_of-want.ensures.shape;
       label = refl;
       view_is = refl;
+      distinct = pairs_apart c.args.view c.take_lanes.ensures.distinct;
       present = c.in_ok-present.ensures;
       most = c.most.ensures;
       without_lanes = c.take_lanes.new.self;

@@ -1,4 +1,4 @@
-use Rattle.std.proofs.Common.{◌≡◌, ◌<◌, ◌++◌, ℕ, List, Some, None, Option, is_some, length, sym, ap, subst, ◌∙◌, arith}
+use Rattle.std.proofs.Common.{◌≡◌, ◌<◌, ◌++◌, ℕ, List, None, Option, is_some, length, sym, ap, subst, ◌∙◌, arith}
 use Rattle.std.specs.Prelude.{IfSome}
 use Rattle.std.specs.Vec.{with_item}
 use Rattle.std.proofs.lemmas.List.{get_or_read}
@@ -8,7 +8,6 @@ use Rattle.manager_recovery.specs.declared.opening.OwnedPart.{OwnedPart}
 use Rattle.rack.specs.Parts.{owned_in, TakesOwnedOf, CanTakeOwnedOf}
 use Rattle.rack.specs.declared.heads_said.Said.{Said}
 use Rattle.rack.specs.declared.rack.ImageRest.{ImageRest}
-use Rattle.rack.specs.declared.rack.Rest.{Rest}
 use Rattle.rack.proofs.OwnedOf.{Gave, shape_at, took_of}
 use Rattle.rack.proofs.rack.Rest.take_owned_of.Goals as goal
 

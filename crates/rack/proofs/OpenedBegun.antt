@@ -1,0 +1,267 @@
+-- What a rack began with once one volume more is open.
+use Rattle.std.proofs.Common.{◌≡◌, ◌≢◌, ◌⊎◌, inl, inr, ⊎_elim, ℕ, ◌+◌, ◌<◌, ◌≤◌, Bool, List, [], ◌∷◌, ◌++◌, length, map, Option, None, Some, option_map, refl, sym, ap, ◌∙◌, subst, arith}
+use Rattle.std.specs.Prelude.{slice_get, slice_range, is_some, IsTrue, All, Contains}
+use Rattle.std.specs.declared.alloc.Global.{Global}
+use Rattle.std.specs.declared.vec.Vec.{Vec}
+use Rattle.std.proofs.lemmas.Bool.{cases_lt, cases_eq}
+use Rattle.std.proofs.lemmas.List.Elements.{All-push, Contains-append_left, Contains-push}
+use Rattle.std.proofs.lemmas.Option.{none-some, same_Some, slice_get-map}
+use Rattle.wol_disk.specs.Disk.{Block, State, IsImageOf, reads}
+use Rattle.wol_disk.proofs.Images.{image_reads}
+use Rattle.wol_model.specs.Heads.{Shape}
+use Rattle.wol_model.specs.Heads as head
+use Rattle.wol_model.specs.Images.{Images, image_of, recovered_from}
+use Rattle.wol_bay.specs.Bay.{Image, Told, BayState, at_name}
+use Rattle.wol_config.specs.Configs.{IsValid}
+use Rattle.wol_config.specs.declared.config.Config.{Config}
+use Rattle.wol_config.specs.declared.config.VolumeConf.{VolumeConf}
+use Rattle.wol_promise.specs.Manager.{Base}
+use Rattle.wol_promise.specs.Stands.{next_version}
+use Rattle.turn_lock.specs.declared.lock.TurnLock.{TurnLock}
+use Rattle.turn_lock.specs.declared.pass.PassOf.{PassOf}
+use Rattle.log_layout.specs.Values.{shape_of, segment_head}
+use Rattle.log_layout.specs.declared.segment.SegHead.TheVariants.{Owned}
+use Rattle.logger_view.specs.Stored.{HasView}
+use Rattle.spin_model.specs.Spun.{state_of}
+use Rattle.spin_model.specs.declared.spun.Spun.{Spun}
+use Rattle.manager.specs.declared.base.ManagerBase.{ManagerBase}
+use Rattle.manager.specs.declared.manager.Manager.{Manager}
+use Rattle.manager.specs.declared.station.Station.{Station}
+use Rattle.manager_recovery.specs.Opened.{Begins}
+use Rattle.manager_recovery.specs.Opening.{place_of}
+use Rattle.manager_recovery.specs.Owned.{read_of, all_owned, records_in, writes_in, heads_in, recovered_of, AreIntact, HaveNoTwins}
+use Rattle.manager_recovery.specs.Refused.{IsRecoverable}
+use Rattle.manager_recovery.specs.declared.opening.Opening.{Opening}
+use Rattle.volume_images.specs.Accepted.{head_place}
+use Rattle.volume_images.specs.Volumes.{shape_in, shapes_of}
+use Rattle.rack.specs.Locked.{IsLocked}
+use Rattle.rack.specs.Opening.{HasBegun, IsOpeningRack, said_at, fault_at}
+use Rattle.rack.specs.Opens.{IsLeftHere, IsGone}
+use Rattle.rack.specs.Owners.{images_taken, AreOwnedIn, IsBegun, IsOpeningOf}
+use Rattle.rack.specs.Parts.{TakesOpening, loggers_out, segment_in}
+use Rattle.rack.specs.Racks.{base_of_station}
+use Rattle.rack.specs.Rests.{image_here, segment_here, held_here, IsSegmentHere}
+use Rattle.rack.specs.declared.heads_said.Said.{Said}
+use Rattle.rack.specs.declared.rack.ImageRest.{ImageRest}
+use Rattle.rack.specs.declared.rack.Rack.{Rack}
+use Rattle.rack.specs.declared.rack.Rest.{Rest}
+use Rattle.rack.specs.declared.rack.Rooms.{Rooms}
+use Rattle.rack.specs.declared.volume_fault.VolumeFault.{VolumeFault}
+use Rattle.rack.proofs.CutParts.{reads_range}
+use Rattle.rack.proofs.Members.{segment_in_image, none_in, of_map, is_member}
+use Rattle.rack.proofs.OpenAway.{is_pair}
+use Rattle.rack.proofs.Openable.{IsInImage, parts_in_images}
+use Rattle.rack.proofs.OpeningOf.{sized, opening_of, read_at}
+use Rattle.rack.proofs.OwnedSegments.{recovered_owned}
+use Rattle.rack.proofs.SameOut.{same_out, taken_same}
+use Rattle.rack.proofs.Takes.{image_id}
+use Rattle.rack.proofs.Without as without
+
+-- what a volume begins with that was opened of what the images say
+pub begun_of : {D : Type 0} (tells : Bool) (state : D → State) (telling : IsTrue tells) (config : Config) (out : List (Option (ImageRest D))) (images : Images) (id : ℕ) (o : Opening D) (b : Base)
+    → ((k : ℕ) (s : Shape) (image : List Block) → slice_get (shapes_of config) k ≡ Some s → image_of images k ≡ Some image → length image ≡ Rattle.wol_model.specs.Images.image_size s)
+    → (image : List Block) → image_of images id ≡ Some image → IsOpeningOf state config out images id o → Begins tells state o b → IsRecoverable state o → IsBegun config images b
+begun_of {D} tells state telling config out images id o b each image there of begins recoverable =
+    let segments = all_owned state o.owned.items in
+    let owner : b.owner ≡ id = begins.owner ∙ of.id in
+    record {
+      array =
+          begins.array telling
+          ∙ ap (λ (v : ℕ). recovered_of v (read_of (state_of state o.home)) segments) of.id
+          ∙ ap (λ (home : List Block). recovered_of id home segments) (of.home image there)
+          ∙ sym (recovered_owned (shapes_of config) images id (shape_of o.want) image segments each of.shape there of.owned)
+          ∙ ap (λ (v : ℕ). recovered_from (shapes_of config) images v) (sym owner);
+      owned = segments;
+      are_owned = subst (λ (v : ℕ). AreOwnedIn (shapes_of config) images v segments) (sym owner) of.owned;
+      intact = subst (λ (v : ℕ). AreIntact v b.home_blocks segments) (sym begins.owner) (subst (λ (n : ℕ). AreIntact o.want.id n segments) (sym begins.home_blocks) recoverable.0);
+      no_twins = subst (λ (v : ℕ). HaveNoTwins (heads_in v segments)) (sym begins.owner) recoverable.1;
+      records = begins.records telling ∙ ap (λ (v : ℕ). writes_in v segments) (sym begins.owner);
+      listed = begins.listed;
+      next = begins.next telling ∙ ap (λ (v : ℕ). next_version (records_in v segments)) (sym begins.owner);
+      view = λ i is. subst (HasView i) (sym begins.view) (of.view i (sym (ap (image_of images) owner) ∙ is));
+      most = begins.most ∙ of.most;
+    }
+
+-- a fault of a volume that was tried is none of the one at hand
+pub tried_before : {D : Type 0} (state : D → State) (config : Config) (valid : IsValid config) (b : BayState) (said : List (Option Said)) (id : ℕ) (r : Rack D) (own : Said)
+    → (ready : IsOpeningRack state config b said id r) (lt : id < length (shapes_of config)) (at : slice_get said id ≡ Some (Some own)) (k : ℕ) (f : VolumeFault) → fault_at r.faults.items k ≡ Some f
+    → (k < id + 1) ⊎ (image_here r.rest.images.items k ≡ None) → (k < id) ⊎ (image_here r.rest.images.items k ≡ None)
+tried_before state config valid b said id r own ready lt at k f is or =
+    ⊎_elim
+    (λ (less : k < id + 1).
+    ⊎_elim
+    (λ (before : k < id). inl before)
+    (λ (past : id ≤ k).
+    let e : k ≡ id = omega (arith, less, past) in
+    let none = (ready.tried.further id (omega arith) lt).1 (ap is_some (image_id state config valid b said id r own ready lt at).1) in
+    absurd (none-some f (sym none ∙ sym (ap (λ (n : ℕ). fault_at r.faults.items n) e) ∙ is)))
+    (cases_lt k id))
+    (λ none. inr none)
+    or
+
+module _ {D : Type 0} (tells : Bool) (state : D → State) (config : Config) (valid : IsValid config) (b : BayState) (said : List (Option Said)) (id : ℕ) (r : Rack D) (own : Said)
+    (ready : IsOpeningRack state config b said id r) (lt : id < length (shapes_of config)) (at : slice_get said id ≡ Some (Some own)) (view : List ℕ) (own_view : own.view ≡ view)
+    (new : Rest D) (o : Opening D) (takes : TakesOpening state config r.rest new said id view o)
+    (l : TurnLock (Manager D) ManagerBase) (ps : List (PassOf (Manager D) ManagerBase)) (locked : IsLocked tells state r.shared o l ps) (worker helper keeper : PassOf (Manager D) ManagerBase)
+    (telling : IsTrue tells) (t : Told) (begun : HasBegun state config t said id r) where
+  abbrev station : Station D
+  station = record { id = id; lock = l; worker = worker; helper = helper; keeper = keeper }
+
+  abbrev images : Images
+  images = images_taken config r.rest.images.items t
+
+  same_images : images_taken config new.images.items t ≡ images
+  same_images = taken_same new.images.items r.rest.images.items
+      (same_out new.images.items r.rest.images.items (without.count_without state config said id view r.rest new o takes) (without.out_without state config said id view r.rest new o takes)) config t
+
+  station_begun : IsBegun config images (base_of_station station).volume.began
+  station_begun =
+      let x = image_id state config valid b said id r own ready lt at in
+      let read = read_at state config valid b said id r own ready lt at view own_view new o takes t begun.cut id x.0 x.1 in
+      subst (λ (m : ManagerBase). IsBegun config images m.volume.began) (sym locked.base)
+      (begun_of tells state telling config r.rest.images.items images id o locked.opens.base.volume.began
+      (sized state config valid b said id r own ready lt at view own_view new o takes t begun.cut) (reads read.entry.blocks) read.read
+      (opening_of state config valid b said id r own ready lt at view own_view new o takes t begun.cut) locked.opens.begins (locked.opens.recoverable telling))
+
+  -- ---- What is left here
+
+  abbrev others : Contains view id → ⊥
+  others = (Rattle.rack.proofs.Takes.can_take state config valid b said id r own ready lt at view own_view).others
+
+  -- what is here of an image, against what was
+  record IsLess (k : ℕ) (y : ImageRest D) : Type 0 where
+    pub was : ImageRest D
+    pub here : image_here r.rest.images.items k ≡ Some was
+    pub is : without.IsImageWithout state config said id view r.rest new o takes k was y
+    pub segments : (i : ℕ) (p : Spun D) → segment_here y i ≡ Some p → segment_here was i ≡ Some p
+
+  less : (k : ℕ) (y : ImageRest D) → image_here new.images.items k ≡ Some y → IsLess k y
+  less k y now = go (image_here r.rest.images.items k) refl
+    where
+      go : (x : Option (ImageRest D)) → image_here r.rest.images.items k ≡ x → IsLess k y
+      go None e = absurd (none-some y (sym (without.none_without state config said id view r.rest new o takes k e) ∙ now))
+      go (Some x) e =
+          let w = without.image_without state config said id view r.rest new o takes k x e in
+          let same : w.0 ≡ y = same_Some w.0 y (sym w.1 ∙ now) in
+          record {
+            was = x;
+            here = e;
+            is = subst (λ (z : ImageRest D). without.IsImageWithout state config said id view r.rest new o takes k x z) same w.2;
+            segments = λ i p here.
+                let now_in : segment_in new k i ≡ Some p = segment_in_image new k y now i ∙ here in
+                ⊎_elim
+                (λ taken. absurd (none-some p (sym (without.segment_gone state config said id view r.rest new o takes k i taken) ∙ now_in)))
+                (λ never. sym (segment_in_image r.rest k x e i) ∙ sym (without.segment_kept state config said id view r.rest new o takes k i never) ∙ now_in)
+                (is_pair (map place_of o.owned.items) k i);
+          }
+
+  -- a home that is here is another volume's
+  home_was : (k : ℕ) (y : ImageRest D) (w : IsLess k y) (p : Spun D) → y.home ≡ Some p → (k ≢ id) × (w.was.home ≡ Some p)
+  home_was k y w p home =
+      ⊎_elim
+      (λ (e : k ≡ id). absurd (none-some p (sym (w.is.own e) ∙ home)))
+      (λ (other : k ≡ id → ⊥). (other, sym (w.is.others other) ∙ home))
+      (cases_eq k id)
+
+  still_left : (k : ℕ) (v : VolumeConf) (before : Image) (y : ImageRest D) → slice_get config.volumes.items k ≡ Some v → at_name v.name t.images ≡ Some before → image_here new.images.items k ≡ Some y → IsLeftHere state (shape_in config v) before y
+  still_left k v before y conf there now =
+      let w = less k y now in
+      let old = begun.began.left k v before w.was conf there w.here in
+      record {
+        label = λ c is. old.label c (subst (λ (p : Spun D). IsImageOf (state_of state p).values c) w.is.label is);
+        home = λ p home. old.home p (home_was k y w p home).1;
+        segments = λ i p here. old.segments i p (w.segments i p here);
+      }
+
+  -- ---- What is gone
+
+  more_stations : (stations : Vec (Station D) Global) → stations.items ≡ r.stations.items ++ station ∷ [] → (s : Station D) → Contains r.stations.items s → Contains stations.items s
+  more_stations stations are s has = subst (λ (l : List (Station D)). Contains l s) (sym are) (Contains-append_left r.stations.items (station ∷ []) s has)
+
+  -- a segment of the opening was owned by its volume
+  taken_gone : (stations : Vec (Station D) Global) → stations.items ≡ r.stations.items ++ station ∷ [] → (k i : ℕ) (v : VolumeConf) (before : Image) → slice_get config.volumes.items k ≡ Some v → at_name v.name t.images ≡ Some before
+      → Contains (map place_of o.owned.items) (k, i) → IsGone (length (shapes_of config)) (shape_in config v) before stations.items i
+  taken_gone stations are k i v before conf there taken =
+      let from = of_map place_of o.owned.items (k, i) taken in
+      let part = Rattle.std.proofs.lemmas.List.Elements.All-contains (λ (q : _). IsInImage state config valid b said id r own ready lt at view new o takes q) o.owned.items from.0
+      (parts_in_images state config valid b said id r own ready lt at view new o takes) from.1 in
+      let logger : from.0.logger ≡ k = ap (λ (p : ℕ × ℕ). p.0) from.2 in
+      let index : from.0.index ≡ i = ap (λ (p : ℕ × ℕ). p.1) from.2 in
+      let said_k : said_at said k ≡ Some part.saying = ap (said_at said) (sym logger) ∙ part.said_is in
+      let head_i : slice_get part.saying.heads.items i ≡ Some (Owned id) = ap (slice_get part.saying.heads.items) (sym index) ∙ part.head in
+      let entry = begun.cut.says k v part.saying conf said_k in
+      let same : entry.0 ≡ before = same_Some entry.0 before (sym entry.1 ∙ there) in
+      let first = head_place (shape_in config v) i in
+      let behind = head_place (shape_in config v) (i + 1) in
+      subst (λ (image : Image). IsGone (length (shapes_of config)) (shape_in config v) image stations.items i) same
+      (record {
+        was = slice_range (reads entry.0.blocks) first behind;
+        had = subst (λ (c : List Block). IsImageOf (Some (slice_range entry.0.blocks first behind)) c) (reads_range entry.0.blocks first behind) (image_reads (slice_range entry.0.blocks first behind));
+        said = inr (inl (
+          station,
+          subst (λ (xs : List (Station D)). Contains xs station) (sym are) (Contains-push r.stations.items station),
+          entry.2.accepted.each i (head.Owned id) (slice_get-map segment_head part.saying.heads.items i ∙ ap (option_map segment_head) head_i),
+        ));
+      })
+
+  kept_gone : (stations : Vec (Station D) Global) → stations.items ≡ r.stations.items ++ station ∷ [] → (s : Shape) (before : Image) (i : ℕ) → IsGone (length (shapes_of config)) s before r.stations.items i
+      → IsGone (length (shapes_of config)) s before stations.items i
+  kept_gone stations are s before i old = record {
+    was = old.was;
+    had = old.had;
+    said = ⊎_elim (λ free. inl free) (⊎_elim (λ owned. inr (inl (owned.0, more_stations stations are owned.0 owned.1, owned.2))) (λ nothing. inr (inr nothing))) old.said;
+  }
+
+  no_segment : (k i : ℕ) (y : ImageRest D) → image_here new.images.items k ≡ Some y → (Contains (map place_of o.owned.items) (k, i) → ⊥) → ((p : Spun D) → segment_here y i ≡ Some p → ⊥) → (p : Spun D) → IsSegmentHere r.rest k i p → ⊥
+  no_segment k i y now never none p here =
+      ⊎_elim
+      (λ place.
+      let in_old : segment_in r.rest k i ≡ Some p = segment_in_image r.rest k place.0 place.1 i ∙ place.2 in
+      none p (sym (segment_in_image new k y now i) ∙ without.segment_kept state config said id view r.rest new o takes k i never ∙ in_old))
+      (λ held. none_in (i, p) (subst (λ (xs : List (ℕ × Spun D)). Contains xs (i, p)) (ready.unheld held.0 k) held.1))
+      here
+
+  still_gone : (stations : Vec (Station D) Global) → stations.items ≡ r.stations.items ++ station ∷ [] → (k i : ℕ) (v : VolumeConf) (before : Image) (y : ImageRest D) → slice_get config.volumes.items k ≡ Some v
+      → at_name v.name t.images ≡ Some before → image_here new.images.items k ≡ Some y → i < v.segments → ((p : Spun D) → segment_here y i ≡ Some p → ⊥) → IsGone (length (shapes_of config)) (shape_in config v) before stations.items i
+  still_gone stations are k i v before y conf there now within none =
+      let w = less k y now in
+      ⊎_elim
+      (λ taken. taken_gone stations are k i v before conf there taken)
+      (λ never. kept_gone stations are (shape_in config v) before i (begun.began.gone k i v before w.was conf there w.here within (no_segment k i y now never none)))
+      (is_pair (map place_of o.owned.items) k i)
+
+  -- ---- The whole
+
+  -- no lane came back
+  none_held : (w k : ℕ) → held_here new w k ≡ []
+  none_held w k =
+      ⊎_elim
+      (λ (same : w ≡ id).
+      ⊎_elim
+      (λ taken. ap (λ (n : ℕ). held_here new n k) same ∙ without.held_gone state config said id view r.rest new o takes k taken)
+      (λ never. without.held_kept state config said id view r.rest new o takes w k (λ e. never) ∙ ready.unheld w k)
+      (is_member (loggers_out r.rest view) k))
+      (λ (other : w ≡ id → ⊥). without.held_kept state config said id view r.rest new o takes w k (λ e. absurd (other e)) ∙ ready.unheld w k)
+      (cases_eq w id)
+
+  pub opened_begun : (stations : Vec (Station D) Global) → stations.items ≡ r.stations.items ++ station ∷ [] → (rooms : Rooms D)
+      → HasBegun state config t said (id + 1) (record r { stations = stations; rest = record new { rooms = rooms } })
+  opened_begun stations are rooms = record {
+    began = record {
+      stations = subst (λ (xs : List (Station D)). All (λ s. IsBegun config (images_taken config new.images.items t) (base_of_station s).volume.began) xs) (sym are)
+          (subst (λ (is : Images). All (λ s. IsBegun config is (base_of_station s).volume.began) (r.stations.items ++ station ∷ [])) (sym same_images)
+          (All-push (λ (s : Station D). IsBegun config images (base_of_station s).volume.began) r.stations.items station begun.began.stations station_begun));
+      left = still_left;
+      held = λ w k i v before p conf there has. absurd (none_in (i, p) (subst (λ (xs : List (ℕ × Spun D)). Contains xs (i, p)) (none_held w k) has));
+      gone = λ k i v before y conf there now within none. still_gone stations are k i v before y conf there now within (λ p here. none p (inl (y, now, here)));
+    };
+    cut = record {
+      says = begun.cut.says;
+      homes = λ k v i y p le conf there now home.
+          let w = less k y now in
+          begun.cut.homes k v i w.was p (omega (arith, le)) conf there w.here (home_was k y w p home).1;
+      segments = λ owner k j v i own_k y p le conf there said_is head now here.
+          let w = less k y now in
+          begun.cut.segments owner k j v i own_k w.was p (omega (arith, le)) conf there said_is head w.here (w.segments j p here);
+    };
+  }

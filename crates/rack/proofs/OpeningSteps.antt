@@ -1,0 +1,130 @@
+-- The volumes of a rack that are opened in order.
+use Rattle.std.proofs.Common.{◌≡◌, ◌≢◌, inl, inr, ⊎_elim, ℕ, suc, ◌+◌, ◌<◌, ◌≤◌, Bool, List, [], ◌∷◌, length, map, Option, None, Some, refl, sym, ap, ◌∙◌, subst, arith}
+use Rattle.std.specs.Prelude.{slice_get, is_some, Contains}
+use Rattle.std.proofs.lemmas.Bool.{cases_lt}
+use Rattle.std.proofs.lemmas.Option.{none-some, slice_get_within, get_or_from_slice_get}
+use Rattle.wol_disk.specs.Disk.{State}
+use Rattle.wol_bay.specs.Bay.{BayState, Told}
+use Rattle.wol_config.specs.declared.config.Config.{Config}
+use Rattle.manager.specs.declared.station.Station.{Station}
+use Rattle.volume_images.specs.Volumes.{shapes_of}
+use Rattle.rack.specs.Opening.{said_at, fault_at, IsOpeningRack, HasBegun, AreRefusedBelow, HaveFaults}
+use Rattle.rack.specs.Opens.{AreRefused}
+use Rattle.rack.specs.Racks.{IsRack}
+use Rattle.rack.specs.Rests.{image_here}
+use Rattle.rack.specs.declared.heads_said.Said.{Said}
+use Rattle.rack.specs.declared.rack.ImageRest.{ImageRest}
+use Rattle.rack.specs.declared.rack.Rack.{Rack}
+use Rattle.rack.proofs.Asking.{some_at}
+use Rattle.rack.proofs.Members.{of_map, none_in, in_cases}
+
+-- a member has a place
+place_of : {X : Type 0} (xs : List X) (x : X) → Contains xs x → (k : ℕ) × (slice_get xs k ≡ Some x)
+place_of [] x has = absurd (none_in x has)
+place_of (y ∷ xs) x has = ⊎_elim (λ (e : y ≡ x). (0, ap Some e)) (λ (h : Contains xs x). let more = place_of xs x h in (suc more.0, more.1)) (in_cases y x xs has)
+
+module _ {D : Type 0} (tells : Bool) (state : D → State) (config : Config) (said : List (Option Said)) (r : Rack D) where
+  module _ (b : BayState) (n : ℕ) (o : IsOpeningRack state config b said n r) where
+    module _ (within : n < length (shapes_of config)) (none : said_at said n ≡ None) where
+      -- a volume that says nothing has no image that is out
+      pub not_out : image_here r.rest.images.items n ≡ None
+      not_out = go (image_here r.rest.images.items n) refl
+        where
+          go : (i : Option (ImageRest D)) → image_here r.rest.images.items n ≡ i → image_here r.rest.images.items n ≡ None
+          go None e = e
+          go (Some image) e = let s = some_at (shapes_of config) n within in let own = o.says n s.0 s.1 (ap is_some e) in absurd (none-some own.0 (sym none ∙ own.1))
+
+      faulty : fault_at r.faults.items n ≢ None
+      faulty e = let there = (o.tried.further n (omega arith) within).0 e in let f = ap is_some not_out in cc (there, f)
+
+      above : (k : ℕ) → Contains (map (λ (s : Station D). s.id) r.stations.items) k → k < n
+      above k has =
+          let found = of_map (λ (s : Station D). s.id) r.stations.items k has in
+          let at = place_of r.stations.items found.0 found.1 in
+          let lt : found.0.id < n = subst (λ (s : Station D). s.id < n) (get_or_from_slice_get r.stations.items at.0 found.0 found.0 at.1) (o.tried.below at.0 found.0 (slice_get_within r.stations.items at.0 found.0 at.1)) in
+          let e = found.2 in omega (arith, lt, e)
+
+      -- such a volume is passed over
+      pub passed : IsOpeningRack state config b said (n + 1) r
+      passed = record {
+        closable = o.closable;
+        fresh = o.fresh;
+        says = o.says;
+        silent = o.silent;
+        pools = o.pools;
+        said_count = o.said_count;
+        unheld = o.unheld;
+        since = o.since;
+        owners = o.owners;
+        station_room = let h = o.station_room in omega (arith, h);
+        manager_room = let h = o.manager_room in omega (arith, h);
+        tried = record {
+          count = o.tried.count;
+          known = o.tried.known;
+          below = λ k s lt. let h = o.tried.below k s lt in omega (arith, h);
+          tried = λ k lt.
+              ⊎_elim
+              (λ (less : k < n). o.tried.tried k less)
+              (λ (more : n ≤ k).
+              let e : n ≡ k = omega (arith, lt, more) in
+              (λ fine. absurd (faulty (ap (λ (j : ℕ). fault_at r.faults.items j) e ∙ fine)), λ has. let h = above k has in absurd (omega (arith, h, more))))
+              (cases_lt k n);
+          further = λ k le lt. o.tried.further k (omega (arith, le)) lt;
+        };
+        untouched = record {
+          passes = λ v k p le here. o.untouched.passes v k p (omega (arith, le)) here;
+          here = λ v k i own image le says owned here. o.untouched.here v k i own image (omega (arith, le)) says owned here;
+        };
+      }
+
+      pub refused_passed : (b0 b1 : BayState) → AreRefusedBelow tells state config b0 b1 n r → AreRefusedBelow tells state config b0 b1 (n + 1) r
+      refused_passed b0 b1 below k v f or at is =
+          ⊎_elim
+          (λ (lt : k < n + 1).
+          ⊎_elim
+          (λ (less : k < n). below k v f (inl less) at is)
+          (λ (more : n ≤ k). let e : n ≡ k = omega (arith, lt, more) in below k v f (inr (ap (λ (j : ℕ). image_here r.rest.images.items j) (sym e) ∙ not_out)) at is)
+          (cases_lt k n))
+          (λ none'. below k v f (inr none') at is)
+          or
+
+      pub failed_passed : HaveFaults state said n r → HaveFaults state said (n + 1) r
+      failed_passed have k p lt out is =
+          ⊎_elim
+          (λ (less : k < n). have k p less out is)
+          (λ (more : n ≤ k). let e : n ≡ k = omega (arith, lt, more) in let none = ap is_some (ap (λ (j : ℕ). image_here r.rest.images.items j) (sym e) ∙ not_out) in absurd (cc (none, out)))
+          (cases_lt k n)
+
+    -- when all were tried the rack is whole
+    pub whole : n ≡ length (shapes_of config) → IsRack state config b r
+    whole all = record {
+      out = o.closable.out;
+      locks = o.closable.locks;
+      keepers = o.closable.keepers;
+      stations = o.closable.stations;
+      rising = o.closable.rising;
+      bases = o.closable.bases;
+      fault_count = o.tried.count;
+      faults = λ k lt. o.tried.tried k (omega (arith, lt, all));
+      known = o.tried.known;
+      rest = o.closable.rest;
+      foreign = o.closable.foreign;
+      accesses = o.closable.accesses;
+    }
+
+  pub begun_passed : (t : Told) (n : ℕ) → HasBegun state config t said n r → HasBegun state config t said (n + 1) r
+  begun_passed t n h = record {
+    began = h.began;
+    cut = record {
+      says = h.cut.says;
+      homes = λ k v i image p le. h.cut.homes k v i image p (omega (arith, le));
+      segments = λ owner k j v i own image p le. h.cut.segments owner k j v i own image p (omega (arith, le));
+    };
+  }
+
+  pub all_refused : (b0 b1 : BayState) (n : ℕ) → length r.faults.items ≡ n → AreRefusedBelow tells state config b0 b1 n r → AreRefused tells state config b0 b1 r
+  all_refused b0 b1 n count below k v f at is = below k v f (inl (let w = slice_get_within r.faults.items k (Some f) is in omega (arith, w, count))) at (get_or_from_slice_get r.faults.items k (Some f) None is)
+
+-- no volume was tried
+pub none_failed : {D : Type 0} (state : D → State) (said : List (Option Said)) (r : Rack D) → HaveFaults state said 0 r
+none_failed state said r k p lt out is = absurd (omega (arith, lt))

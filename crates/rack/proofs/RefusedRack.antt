@@ -1,0 +1,270 @@
+-- The rack once the opening of one volume was refused and came back.
+use Rattle.std.proofs.Common.{◌≡◌, ◌≢◌, ◌⊎◌, inl, inr, ⊎_elim, ℕ, ◌+◌, ◌<◌, ◌≤◌, ◌^◌, Bool, true, false, List, [], ◌∷◌, length, map, set, get_or, Option, None, Some, refl, sym, ap, ◌∙◌, subst, arith}
+use Rattle.std.specs.Prelude.{slice_get, is_some, Contains}
+use Rattle.std.specs.List.{AllZip}
+use Rattle.std.specs.declared.alloc.Global.{Global}
+use Rattle.std.specs.declared.vec.Vec.{Vec}
+use Rattle.std.proofs.lemmas.Bool.{cases_eq, cases_lt}
+use Rattle.std.proofs.lemmas.List.{length-map, length-set, get_or-set_same, get_or-set_other}
+use Rattle.std.proofs.lemmas.List.Elements.{length_all_zip}
+use Rattle.std.proofs.lemmas.Option.{none-some, same_Some, slice_get-get_or, get_or_from_slice_get, slice_get_within}
+use Rattle.wol_disk.specs.Disk.{Block, State, IsDisk, TellsContent, IsImageOf}
+use Rattle.wol_promise.specs.Manager.{SaysOwnerOrFree}
+use Rattle.wol_bay.specs.Bay.{BayState}
+use Rattle.wol_config.specs.Configs.{IsValid}
+use Rattle.wol_config.specs.declared.config.Config.{Config}
+use Rattle.log_layout.specs.declared.segment.SegHead.TheVariants.{Free, Owned}
+use Rattle.seg_pool.specs.declared.base.PoolBase.{PoolBase}
+use Rattle.seg_pool.specs.declared.pool.Pool.{Pool}
+use Rattle.spin_model.specs.Spun.{state_of}
+use Rattle.spin_model.specs.declared.spun.Spun.{Spun}
+use Rattle.turn_lock.specs.Passes.{pass_mine}
+use Rattle.turn_lock.specs.declared.pass.PassOf.{PassOf}
+use Rattle.log_segment.specs.declared.free.FreeSegment.{FreeSegment}
+use Rattle.manager.specs.declared.base.ManagerBase.{ManagerBase}
+use Rattle.manager.specs.declared.part.Part.TheVariants.{Home, Segment}
+use Rattle.manager.specs.declared.station.Station.{Station}
+use Rattle.manager_recovery.specs.Left.{IsHandedBack, IsFateOf, IsSameOwned, Kept, freed_on}
+use Rattle.manager_recovery.specs.Opening.{place_of}
+use Rattle.manager_recovery.specs.Refused.{Refuses, HandsBackAll}
+use Rattle.manager_recovery.specs.declared.opening.Opening.{Opening}
+use Rattle.manager_recovery.specs.declared.opening.OwnedPart.{OwnedPart}
+use Rattle.manager_recovery.specs.declared.refusal.OpenRefusal.{OpenRefusal}
+use Rattle.manager_recovery.specs.declared.refusal.OpenRefusal.TheVariants.{LabelDiffers, LoggerMissing, OutsideView, Damaged, Twins, DiskFault, NoMemory}
+use Rattle.volume_images.specs.Volumes.{shape_in, shapes_of}
+use Rattle.rack.specs.Foreign.{IsForeign}
+use Rattle.rack.specs.Opening.{said_at, fault_at, AreOwnersHere, AreTried, IsOpeningRack, IsStopped}
+use Rattle.rack.specs.Parts.{TakesOpening, PutsOpening, IsOwnedPlace, loggers_out}
+use Rattle.rack.specs.Racks.{base_of_station, NamesVolumes, IsClosable}
+use Rattle.rack.specs.Rests.{image_here, segment_here, held_here, IsImageOut, AreRooms}
+use Rattle.rack.specs.declared.heads_said.Said.{Said}
+use Rattle.rack.specs.declared.rack.ImageRest.{ImageRest}
+use Rattle.rack.specs.declared.rack.Rack.{Rack}
+use Rattle.rack.specs.declared.rack.Rest.{Rest}
+use Rattle.rack.specs.declared.volume_fault.VolumeFault.{VolumeFault}
+use Rattle.rack.specs.declared.volume_fault.VolumeFault.TheVariants as volume_fault
+use Rattle.rack.proofs.BackAgain as back_again
+use Rattle.rack.proofs.BackAgain.{as_it_was, of_a_lane, still_here, handed_on}
+use Rattle.rack.proofs.Fates.{kept_says}
+use Rattle.rack.proofs.FatesOf.{none_freed, freed_owned}
+use Rattle.rack.proofs.Members.{a_value, no_value, none_in, of_map, segment_in_image, here_within}
+use Rattle.rack.proofs.OneClosable.{one_owner}
+use Rattle.rack.proofs.OneOpened.{base_stays, out_stays}
+use Rattle.rack.proofs.Openable.{can_open}
+use Rattle.rack.proofs.OpenNamed.{all_out, all_inside}
+use Rattle.rack.proofs.RestAgain.{rest_again, only_accesses, held_was, owner_is}
+use Rattle.rack.proofs.SameOut.{out_too}
+use Rattle.rack.proofs.Takes.{no_base}
+
+module _ {D : Type 0} (state : D → State) (sound : (d : D) → IsDisk (state d)) (tells : Bool) (config : Config) (valid : IsValid config) (b : BayState) (said : List (Option Said)) (id : ℕ) (r : Rack D) (own : Said)
+    (ready : IsOpeningRack state config b said id r) (lt : id < length (shapes_of config)) (at : slice_get said id ≡ Some (Some own)) (view : List ℕ) (own_view : own.view ≡ view)
+    (away : Rest D) (o : Opening D) (takes : TakesOpening state config r.rest away said id view o) (refusal : OpenRefusal) (n : Opening D)
+    (refuses : Refuses tells state o n refusal) (back : IsHandedBack tells state r.shared o n) (all : HandsBackAll state o n refusal) (last : Rest D) (puts : PutsOpening away last id n) where
+  -- ---- What was freed lies on a logger of the view
+
+  none_gone : AllZip (IsSameOwned state) o.owned.items n.owned.items → (k i : ℕ) → Contains (freed_on k o.owned.items back.fates) i → ⊥
+  none_gone same k i freed = none_freed state o.want.id o.owned.items n.owned.items back.fates k i back.parts.each back.owned (length_all_zip (IsSameOwned state) o.owned.items n.owned.items same) freed
+
+  pub named : (k i : ℕ) → Contains (freed_on k o.owned.items back.fates) i → Contains (loggers_out r.rest view) k
+  named k i freed = by refusal refuses all
+    where
+      by : (why : OpenRefusal) → Refuses tells state o n why → HandsBackAll state o n why → Contains (loggers_out r.rest view) k
+      by LabelDiffers refuses all = absurd (none_gone all k i freed)
+      by (LoggerMissing missing) refuses all = absurd (none_gone all k i freed)
+      by (OutsideView logger segment) refuses all = absurd (none_gone all k i freed)
+      by (Damaged volume block) refuses all = absurd (none_gone all k i freed)
+      by (Twins first_volume first second_volume second) refuses all = absurd (none_gone all k i freed)
+      by (DiskFault (Home volume)) refuses all = absurd (none_gone all k i freed)
+      by (DiskFault (Segment volume index)) refuses all =
+          let can = can_open state config valid b said id r own ready lt at view away o takes in
+          subst (λ (l : List ℕ). Contains l k) (sym (all_out state config r.shared said id view r.rest away o takes can refuses.0))
+          (all_inside state config r.shared said id view r.rest away o takes can refuses.0 k i (freed_owned state o.want.id o.owned.items back.fates k i freed))
+      by NoMemory refuses all = absurd (none_gone all k i freed)
+
+  -- ---- What the segments say
+
+  -- a volume that was tried has no station
+  pub no_station : Contains (map (λ (s : Station D). s.id) r.stations.items) id → ⊥
+  no_station has =
+      let found = of_map (λ (s : Station D). s.id) r.stations.items id has in
+      let below : (get_or r.stations.items found.1.0 found.0).id < id = ready.tried.below found.1.0 found.0 found.1.1 in
+      let same : (get_or r.stations.items found.1.0 found.0).id ≡ found.0.id = ap (λ (s : Station D). s.id) found.1.2 in
+      let e = found.2 in
+      omega (arith, below, same, e)
+
+  known_id : id < 2 ^ 32
+  known_id = let c = valid.count in let l = length-map config.volumes.items (shape_in config) in omega (arith, lt, c, l)
+
+  pub place_at : (k i w : ℕ) (own_k : Said) → said_at said k ≡ Some own_k → slice_get own_k.heads.items i ≡ Some (Owned w) → IsOwnedPlace said w k i
+  place_at k i w own_k is head = (own_k, slice_get-get_or said k None (here_within said k own_k is) ∙ ap Some is, head)
+
+  -- a segment that was handed on says the volume or is free
+  says_still : (part new : OwnedPart D) → back_again.WasIn state tells config valid b said id r own ready lt at view own_view away o takes n back last puts part → IsFateOf state o.want.id part (Kept new) → ((d : D) → TellsContent (state d))
+      → (c : List Block) → IsImageOf (state_of state new.part).values c → SaysOwnerOrFree id c
+  says_still part new was fate told c im =
+      subst (λ (w : ℕ). SaysOwnerOrFree w c) takes.id
+      (kept_says state sound o.want.id told part new fate
+      (λ d before. subst (λ (w : ℕ). SaysOwnerOrFree w d) (sym takes.id) (ready.owners.says part.logger part.index id was.saying was.image part.part was.said_is was.head was.out was.there told d before)) c im)
+
+  -- what is here of an image
+  pub segment_now : (k i : ℕ) (y : ImageRest D) (p : Spun D) → image_here last.images.items k ≡ Some y → segment_here y i ≡ Some p → back_again.SegmentBack state tells config valid b said id r own ready lt at view own_view away o takes n back last puts k i p
+  segment_now = back_again.segment_back state tells config valid b said id r own ready lt at view own_view away o takes n back last puts
+
+  pub image_before : (k : ℕ) (y : ImageRest D) → image_here last.images.items k ≡ Some y → (x : ImageRest D) × (image_here r.rest.images.items k ≡ Some x) × back_again.IsImageBack state tells config valid b said id r own ready lt at view own_view away o takes n back last puts k x y
+  image_before = back_again.image_was state tells config valid b said id r own ready lt at view own_view away o takes n back last puts
+
+  abbrev bases : List ManagerBase
+  bases = map (λ (s : Station D). base_of_station s) r.stations.items
+
+  foreign_place : (k i : ℕ) (y : ImageRest D) (p : Spun D) → image_here last.images.items k ≡ Some y → segment_here y i ≡ Some p → IsForeign state bases p
+  foreign_place k i y p now here = go (segment_now k i y p now here)
+    where
+      w : (x : ImageRest D) × (image_here r.rest.images.items k ≡ Some x) × back_again.IsImageBack state tells config valid b said id r own ready lt at view own_view away o takes n back last puts k x y
+      w = image_before k y now
+
+      go : back_again.SegmentBack state tells config valid b said id r own ready lt at view own_view away o takes n back last puts k i p → IsForeign state bases p
+      go (still_here was never) = ready.closable.foreign.places k i w.0 p w.1 (sym (segment_in_image r.rest k w.0 w.1 i) ∙ was)
+      go (handed_on part new was e f has fate same never) = λ told c base rs im among log.
+          let says = says_still part new was fate told c (subst (λ (q : Spun D). IsImageOf (state_of state q).values c) (sym same) im) in
+          no_base state config valid b said id r own ready lt at base among (sym (one_owner id base.volume.began.owner c rs known_id says log))
+
+  -- ---- The rack
+
+  same_out : map (λ (i : Option (ImageRest D)). is_some i) last.images.items ≡ map (λ (i : Option (ImageRest D)). is_some i) r.rest.images.items
+  same_out = back_again.out_back state tells config valid b said id r own ready lt at view own_view away o takes n back last puts
+
+  out_was : (k : ℕ) → IsImageOut last.images.items k → IsImageOut r.rest.images.items k
+  out_was = out_too last.images.items r.rest.images.items same_out
+
+  out_now : (k : ℕ) → IsImageOut r.rest.images.items k → IsImageOut last.images.items k
+  out_now = out_too r.rest.images.items last.images.items (sym same_out)
+
+  held_nothing : (v k : ℕ) → held_here last v k ≡ []
+  held_nothing = back_again.held_none state tells config valid b said id r own ready lt at view own_view away o takes n back last puts
+
+  module _ (faults : Vec (Option VolumeFault) Global) where
+    abbrev pub next : Rack D
+    next = record r { rest = last; faults = faults }
+
+    pub closable_again : IsClosable state config b next
+    closable_again =
+        let old = ready.closable in
+        record {
+          out = out_stays config r.rest.images.items last.images.items b out_was (back_again.none_was state tells config valid b said id r own ready lt at view own_view away o takes n back last puts) old.out;
+          locks = old.locks;
+          keepers = old.keepers;
+          stations = old.stations;
+          rising = old.rising;
+          bases = λ j d within. base_stays config r.shared r.rest.images.items last.images.items (base_of_station (get_or r.stations.items j d)) out_now (old.bases j d within);
+          rest = record {
+            parts = rest_again state tells config valid b said id r own ready lt at view own_view away o takes n back last puts named;
+            rooms = subst (AreRooms (length (shapes_of config)) (length bases)) (sym (back_again.rooms_back state tells config valid b said id r own ready lt at view own_view away o takes n back last puts)) old.rest.rooms;
+          };
+          foreign = record {
+            places = foreign_place;
+            held = λ v k i p has. absurd (none_in (i, p) (subst (λ (l : List (ℕ × Spun D)). Contains l (i, p)) (held_nothing v k) has));
+          };
+          accesses = only_accesses state tells config valid b said id r own ready lt at view own_view away o takes n back last puts named;
+        }
+
+    pub stopped_again : IsStopped state config b r next
+    stopped_again = record { closable = closable_again; fresh = ready.fresh; same_out = same_out }
+
+    -- ---- It goes on being opened
+
+    module _ (faults_are : faults.items ≡ set r.faults.items id (Some (volume_fault.Refused refusal))) (names : NamesVolumes (length (shapes_of config)) (volume_fault.Refused refusal)) where
+      fault_within : id < length r.faults.items
+      fault_within = let c = ready.tried.count in omega (arith, c, lt)
+
+      pub fault_own : fault_at faults.items id ≡ Some (volume_fault.Refused refusal)
+      fault_own = ap (λ (l : List (Option VolumeFault)). fault_at l id) faults_are ∙ get_or-set_same r.faults.items id (Some (volume_fault.Refused refusal)) None fault_within
+
+      pub fault_other : (k : ℕ) → k ≢ id → fault_at faults.items k ≡ fault_at r.faults.items k
+      fault_other k other = ap (λ (l : List (Option VolumeFault)). fault_at l k) faults_are ∙ get_or-set_other r.faults.items id k (Some (volume_fault.Refused refusal)) None other
+
+      long : length faults.items ≡ length r.faults.items
+      long = ap (λ (l : List (Option VolumeFault)). length l) faults_are ∙ length-set r.faults.items id (Some (volume_fault.Refused refusal))
+
+      tried : AreTried config (id + 1) next
+      tried = record {
+        count = long ∙ ready.tried.count;
+        known = λ k f is.
+            let found : fault_at faults.items k ≡ Some f = get_or_from_slice_get faults.items k (Some f) None is in
+            ⊎_elim
+            (λ (e : k ≡ id). subst (NamesVolumes (length (shapes_of config))) (same_Some (volume_fault.Refused refusal) f (sym fault_own ∙ sym (ap (fault_at faults.items) e) ∙ found)) names)
+            (λ (other : k ≡ id → ⊥).
+            let within : k < length r.faults.items = let w = slice_get_within faults.items k (Some f) is in let l = long in omega (arith, w, l) in
+            ready.tried.known k f (slice_get-get_or r.faults.items k None within ∙ ap Some (sym (fault_other k other) ∙ found)))
+            (cases_eq k id);
+        below = λ j d within. let one = ready.tried.below j d within in omega (arith, one);
+        tried = λ k less. ⊎_elim
+            (λ (e : k ≡ id). (
+              λ none. absurd (none-some (volume_fault.Refused refusal) (sym none ∙ ap (fault_at faults.items) e ∙ fault_own)),
+              λ c. absurd (no_station (subst (λ (j : ℕ). Contains (map (λ (s : Station D). s.id) r.stations.items) j) e c)),
+            ))
+            (λ (other : k ≡ id → ⊥).
+            let old = ready.tried.tried k (⊎_elim (λ (before : k < id). before) (λ (past : id ≤ k). absurd (other (omega (arith, past, less)))) (cases_lt k id)) in
+            (λ none. old.0 (sym (fault_other k other) ∙ none), λ c. fault_other k other ∙ old.1 c))
+            (cases_eq k id);
+        further = λ k le within.
+            let other : k ≢ id = λ e. omega (arith, le, e) in
+            let old = ready.tried.further k (omega (arith, le)) within in
+            (λ none. out_now k (old.0 (sym (fault_other k other) ∙ none)), λ out. fault_other k other ∙ old.1 (out_was k out));
+      }
+
+      owners : AreOwnersHere state said next
+      owners = record {
+        closed = λ k i w own_k y p is head now here has. by_closed k i w own_k y p is head (image_before k y now) (segment_now k i y p now here) has;
+        says = λ k i w own_k y p is head now here told c im. by_says k i w own_k y p is head (image_before k y now) (segment_now k i y p now here) told c im;
+        free = λ k i own_k y is head now. no_value (segment_here y i) (λ there. let p = a_value (segment_here y i) there in by_free k i own_k y p.0 is head (image_before k y now) (segment_now k i y p.0 now p.1));
+      }
+        where
+          by_closed : (k i w : ℕ) (own_k : Said) (y : ImageRest D) (p : Spun D) → said_at said k ≡ Some own_k → slice_get own_k.heads.items i ≡ Some (Owned w)
+              → (x : ImageRest D) × (image_here r.rest.images.items k ≡ Some x) × back_again.IsImageBack state tells config valid b said id r own ready lt at view own_view away o takes n back last puts k x y → back_again.SegmentBack state tells config valid b said id r own ready lt at view own_view away o takes n back last puts k i p → Contains (map (λ (s : Station D). s.id) r.stations.items) w → ⊥
+          by_closed k i w own_k y p is head z (still_here was never) has = ready.owners.closed k i w own_k z.0 p is head z.1 (sym (segment_in_image r.rest k z.0 z.1 i) ∙ was) has
+          by_closed k i w own_k y p is head z (handed_on part new was e f in_owned fate same never) has =
+              no_station (subst (λ (j : ℕ). Contains (map (λ (s : Station D). s.id) r.stations.items) j) (owner_is state tells config valid b said id r own ready lt at view own_view away o takes n back last puts named w k i (place_at k i w own_k is head) in_owned) has)
+
+          by_says : (k i w : ℕ) (own_k : Said) (y : ImageRest D) (p : Spun D) → said_at said k ≡ Some own_k → slice_get own_k.heads.items i ≡ Some (Owned w)
+              → (x : ImageRest D) × (image_here r.rest.images.items k ≡ Some x) × back_again.IsImageBack state tells config valid b said id r own ready lt at view own_view away o takes n back last puts k x y → back_again.SegmentBack state tells config valid b said id r own ready lt at view own_view away o takes n back last puts k i p → ((d : D) → TellsContent (state d))
+              → (c : List Block) → IsImageOf (state_of state p).values c → SaysOwnerOrFree w c
+          by_says k i w own_k y p is head z (still_here was never) told c im = ready.owners.says k i w own_k z.0 p is head z.1 (sym (segment_in_image r.rest k z.0 z.1 i) ∙ was) told c im
+          by_says k i w own_k y p is head z (handed_on part new was e f in_owned fate same never) told c im =
+              subst (λ (j : ℕ). SaysOwnerOrFree j c) (sym (owner_is state tells config valid b said id r own ready lt at view own_view away o takes n back last puts named w k i (place_at k i w own_k is head) in_owned))
+              (says_still part new was fate told c (subst (λ (q : Spun D). IsImageOf (state_of state q).values c) (sym same) im))
+
+          by_free : (k i : ℕ) (own_k : Said) (y : ImageRest D) (p : Spun D) → said_at said k ≡ Some own_k → slice_get own_k.heads.items i ≡ Some Free
+              → (x : ImageRest D) × (image_here r.rest.images.items k ≡ Some x) × back_again.IsImageBack state tells config valid b said id r own ready lt at view own_view away o takes n back last puts k x y → back_again.SegmentBack state tells config valid b said id r own ready lt at view own_view away o takes n back last puts k i p → ⊥
+          by_free k i own_k y p is head z (still_here was never) = none-some p (sym (ready.owners.free k i own_k z.0 is head z.1) ∙ sym (segment_in_image r.rest k z.0 z.1 i) ∙ was)
+          by_free k i own_k y p is head z (handed_on part new was e f in_owned fate same never) =
+              let saying : was.saying ≡ own_k = same_Some was.saying own_k (sym was.said_is ∙ ap (said_at said) e ∙ is) in
+              let heads : Some (Owned id) ≡ Some Free = sym was.head ∙ ap (λ (s : Said). slice_get s.heads.items part.index) saying ∙ ap (λ (j : ℕ). slice_get own_k.heads.items j) f ∙ head in
+              cc heads
+
+      pub opening_again : IsOpeningRack state config b said (id + 1) next
+      opening_again = record {
+        closable = closable_again;
+        fresh = ready.fresh;
+        station_room = let h = ready.station_room in omega (arith, h);
+        manager_room = let h = ready.manager_room in let e = ap (λ x. Rattle.std.proofs.Common.vec_capacity x.managers) (back_again.rooms_back state tells config valid b said id r own ready lt at view own_view away o takes n back last puts) in omega (arith, h, e);
+        tried = tried;
+        says = λ k s shape out. ready.says k s shape (out_was k out);
+        silent = λ k none. ready.silent k (back_again.none_was state tells config valid b said id r own ready lt at view own_view away o takes n back last puts k none);
+        pools = ready.pools;
+        said_count = ready.said_count;
+        unheld = held_nothing;
+        since = λ v k i p here holding. let w = held_was state tells config valid b said id r own ready lt at view own_view away o takes n back last puts named v k i p here holding in ready.since v k i w.before w.here w.held;
+        owners = owners;
+        untouched = record {
+          passes = λ v k p le here. by_pass v k p le (back_again.pool_back state tells config valid b said id r own ready lt at view own_view away o takes n back last puts v k p here);
+          here = λ v k i own_k y le is head now.
+              let z = image_before k y now in
+              let before = ready.untouched.here v k i own_k z.0 (omega (arith, le)) is head z.1 in
+              let never : Contains (map place_of o.owned.items) (k, i) → ⊥ = λ has. let e = owner_is state tells config valid b said id r own ready lt at view own_view away o takes n back last puts named v k i (place_at k i v own_k is head) has in omega (arith, le, e) in
+              (before.0, sym (segment_in_image last k y now i) ∙ back_again.segment_other state tells config valid b said id r own ready lt at view own_view away o takes n back last puts k i never ∙ segment_in_image r.rest k z.0 z.1 i ∙ before.1, before.2);
+        };
+      }
+        where
+          by_pass : (v k : ℕ) (p : PassOf (Pool (FreeSegment D)) PoolBase) → id + 1 ≤ v → back_again.PoolBack state tells config valid b said id r own ready lt at view own_view away o takes n back last puts v k p → pass_mine p ≡ []
+          by_pass v k p le (as_it_was before never) = ready.untouched.passes v k p (omega (arith, le)) before
+          by_pass v k p le (of_a_lane l m is e f g before same) = absurd (omega (arith, le, e))

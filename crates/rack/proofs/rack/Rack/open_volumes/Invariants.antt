@@ -1,0 +1,19 @@
+use Rattle.std.proofs.Common.{◌≡◌, Some}
+use Rattle.std.specs.Prelude.{IsTrue}
+use Rattle.wol_bay.specs.Bay.{BayState, Told}
+use Rattle.volume_images.specs.Left.{AreNamedApart}
+use Rattle.rack.specs.Opening.{IsOpeningRack, HasBegun, AreRefusedBelow, HaveFaults, AreSameOut}
+use Rattle.rack.proofs.rack.Rack.open_volumes.Given as goal
+
+-- the volumes before the one at hand were tried
+abbrev pub invariant-loop-id : goal.invariant-loop-id
+invariant-loop-id g l = record {
+  there : (b : BayState) × IsOpeningRack g.D.Disk.state l.config b l.said l.id l.self;
+  rack : (b : BayState) → IsOpeningRack g.D.Disk.state l.config b l.said 0 l.fn.self → IsOpeningRack g.D.Disk.state l.config b l.said l.id l.self;
+  keepers : l.self.keepers ≡ l.fn.self.keepers;
+  same_out : AreSameOut l.fn.self l.self;
+  begun : IsTrue g.D.Disk.tells → (t : Told) → HasBegun g.D.Disk.state l.config t l.said 0 l.fn.self → HasBegun g.D.Disk.state l.config t l.said l.id l.self;
+  refused : (b b' : BayState) → (IsTrue g.D.Disk.tells → (t : Told) → b.told ≡ Some t → AreNamedApart t → HasBegun g.D.Disk.state l.config t l.said 0 l.fn.self)
+      → AreRefusedBelow g.D.Disk.tells g.D.Disk.state l.config b b' 0 l.fn.self → AreRefusedBelow g.D.Disk.tells g.D.Disk.state l.config b b' l.id l.self;
+  failed : HaveFaults g.D.Disk.state l.said l.id l.self;
+}

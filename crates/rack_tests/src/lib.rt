@@ -1,0 +1,5 @@
+//! Tests of racks over small bays in memory.
+#![tactic(auto)]
+
+#[cfg(test)]
+mod opening;
