@@ -8,6 +8,3 @@ mod values;
 
 pub use command::{Command, Generated, Mode, Options, WordsFault, command_of};
 pub use laws::words_laws;
-
-#[cfg(test)]
-mod tests;

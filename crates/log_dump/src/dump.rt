@@ -108,9 +108,9 @@ fn put_record<D: Disk>(
     append_record(&record, logger.name.as_bytes(), &live, &home, out)
 }
 
-/// Appends the line of a record, with the name of its logger and the digits of its masks.
+/// Appends the line of a record, with the name of its logger and the digits of its live blocks and of those that are home.
 #[tactic(auto, unfolding(crate::specs::Texts::record_line))]
-pub(crate) fn append_record<'a>(
+pub fn append_record<'a>(
     record: &Rec,
     logger: &'a [u8],
     live: &'a [u8],
@@ -142,7 +142,7 @@ pub(crate) fn append_record<'a>(
 }
 
 /// A mask of blocks in hexadecimal digits.
-pub(crate) fn mask_digits(mask: u128) -> [u8; 32]
+pub fn mask_digits(mask: u128) -> [u8; 32]
     ensures { result ≡ mask_text mask }
 {
     let mut digits = [0; 32];

@@ -8,8 +8,5 @@ mod fault;
 mod segments;
 
 pub use check::check_line;
-pub use dump::dump_lines;
+pub use dump::{append_record, dump_lines, mask_digits};
 pub use fault::DumpFault;
-
-#[cfg(test)]
-mod tests;

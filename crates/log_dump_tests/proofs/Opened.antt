@@ -1,13 +1,13 @@
 -- A manager without loggers that was just made, and what calls leave of it.
-use Rattle.std.proofs.Common.{◌≡◌, ◌<◌, ◌≤◌, ◌+◌, ◌-◌, ℕ, ◌^◌, List, [], ◌∷◌, length, Some, refl, sym, ap, subst, ◌∙◌, arith}
+use Rattle.std.proofs.Common.{◌≡◌, ◌≤◌, ◌-◌, ℕ, ◌^◌, List, [], ◌∷◌, length, Some, refl, sym, ap, subst, ◌∙◌, arith}
 use Rattle.std.specs.Prelude.{min, slice_get, slice_index_or}
-use Rattle.std.specs.List.{AllByRecursion, AllZip}
+use Rattle.std.specs.List.{AllZip}
 use Rattle.std.specs.declared.alloc.Global.{Global}
 use Rattle.std.specs.declared.vec.Vec.{Vec}
 use Rattle.std.proofs.lemmas.Option.{get_or_from_slice_get, slice_get_within}
 use Rattle.wol_disk.specs.Memory.{mem_state}
 use Rattle.wol_disk.specs.declared.memory.MemDisk.{MemDisk}
-use Rattle.turn_lock.specs.Passes.{lock_id, lock_passes, pass_lock}
+use Rattle.turn_lock.specs.Passes.{lock_id, lock_passes}
 use Rattle.turn_lock.specs.declared.lock.TurnLock.{TurnLock}
 use Rattle.turn_lock.specs.declared.pass.PassOf.{PassOf}
 use Rattle.spin_model.specs.Spun.{state_of, volume_of}
@@ -18,14 +18,11 @@ use Rattle.wol_config.specs.declared.config.Config.{Config}
 use Rattle.wol_config.specs.declared.config.VolumeConf.{VolumeConf}
 use Rattle.wol_config.specs.Configs.{IsValid}
 use Rattle.redirect_map.specs.Index.{Contents}
-use Rattle.wol_model.specs.Index.{Indexed}
-use Rattle.logger.specs.Lanes.{IsAt, logger_of}
 use Rattle.logger.specs.declared.lane.Lane.{Lane}
 use Rattle.logger.specs.declared.shared.Shared.{Shared}
 use Rattle.manager.specs.Reading.{HasOnlyRead, LaneRead}
-use Rattle.manager.specs.Stands.{IsHome, IsInVolume, IsPlacedIn, IsReady, opened}
+use Rattle.manager.specs.Stands.{IsHome, IsReady, opened}
 use Rattle.manager.specs.declared.manager.Manager.{Manager}
-use Rattle.log_dump.specs.Volumes.{IsVolumeOf}
 use Rattle.log_dump.proofs.Noting.{there_is}
 use Rattle.log_dump_tests.specs.Rigs.{HasOnePass, HasSpindle, IsRig}
 use Rattle.log_dump_tests.specs.declared.rig.Rig.{Rig}

@@ -1,5 +1,5 @@
 -- A manager without loggers, with the one lock that it uses.
-use Rattle.std.specs.Prelude.{◌≡◌, ℕ, false, List, [], ◌∷◌}
+use Rattle.std.specs.Prelude.{◌≡◌, false, [], ◌∷◌}
 use Rattle.wol_disk.specs.Memory.{mem_state}
 use Rattle.turn_lock.specs.Passes.{lock_passes, pass_lock, pass_mine, IsPassOf, IsFree}
 use Rattle.turn_lock.specs.declared.lock.TurnLock.{TurnLock}

@@ -1,8 +1,9 @@
 // The format's own examples: what is refused and in which order, where lines are cut, pieces, texts and payloads.
 use msr_trace::{BadLine, HostName, Kind, Line, Lines, Piece, TraceFault, fill, mark, write_line};
 use std::alloc::Global;
+use std::process::Abort;
 use std::test::Fail;
-use wol_io::MemSource;
+use wol_io::{MemSource, Source};
 
 // The first refusal of a trace, read in cuts of so many bytes.
 fn first_fault(alloc: Global, text: &[u8], cut: usize) -> Result<Option<TraceFault>, Fail> {
@@ -101,32 +102,48 @@ fn a_line_has_at_most_4096_bytes(rt: HostRuntime) -> Result<(), Fail> {
     Ok(())
 }
 
+// Takes the next line and writes it behind the others. It answers its number.
+fn copy_next<S: Source>(
+    lines: &mut Lines<S>,
+    out: &mut Vec<u8>,
+) -> Result<Option<u64>, TraceFault> {
+    if !lines.is_live() {
+        return Err(TraceFault::Source);
+    }
+    let Some((number, line)) = lines.next()? else {
+        return Ok(None);
+    };
+    if let Some(line) = line {
+        write_line(&line, out).map_err(|_| TraceFault::NoMemory)?;
+    }
+    Ok(Some(number))
+}
+
+// A blank line and two others are to have these numbers, and to be written as this text.
+fn copies<S: Source + Drop, R: Abort>(rt: &R, alloc: Global, lines: Lines<S>, text: &[u8]) {
+    let mut lines = lines;
+    let mut out = Vec::new(alloc);
+    let blank = copy_next(&mut lines, &mut out);
+    assert!(rt; out.is_empty());
+    let first = copy_next(&mut lines, &mut out);
+    let second = copy_next(&mut lines, &mut out);
+    let end = copy_next(&mut lines, &mut out);
+    assert_eq!(rt;
+        [blank, first, second, end],
+        [Ok(Some(1)), Ok(Some(2)), Ok(Some(3)), Ok(None)]
+    );
+    assert_eq!(rt; out.as_slice(), text);
+    let _source = lines.into_source();
+}
+
 #[test]
 fn lines_are_numbered_and_written_again(rt: HostRuntime) -> Result<(), Fail> {
     let text = b"\n128166372000147231,web,0,Write,227328,6144,1000\r\n07,usr,4294967295,Read,0,0,1";
     let written = b"128166372000147231,web,0,Write,227328,6144,1000\n7,usr,4294967295,Read,0,0,1\n";
     for cut in [1, 48, 49, 50, 8192] {
         let cuts = vec![in rt.alloc(); cut; 100]?;
-        let mut lines = Lines::new(
-            rt.alloc(),
-            MemSource::new(text.to_vec(rt.alloc())?, cuts, None),
-        );
-        let mut out = Vec::new(rt.alloc());
-        for number in 1..=3 {
-            assert!(rt; lines.is_live());
-            let Some((found, line)) = lines.next()? else {
-                return Err("no line")?;
-            };
-            assert_eq!(rt; found, number);
-            match line {
-                Some(line) => write_line(&line, &mut out).map_err(|_| "memory")?,
-                None => assert_eq!(rt; number, 1),
-            }
-        }
-        assert!(rt; lines.is_live());
-        assert_eq!(rt; out.as_slice(), written.as_slice(), "in cuts of {cut}");
-        assert!(rt; lines.next()?.is_none());
-        let _source = lines.into_source();
+        let source = MemSource::new(text.to_vec(rt.alloc())?, cuts, None);
+        copies(&rt, rt.alloc(), Lines::new(rt.alloc(), source), written);
     }
     Ok(())
 }

@@ -1,8 +1,8 @@
 // What ended a run, and the line that says so.
-ghost use Rattle.std.specs.Prelude.{◌≡◌, ◌≢◌, ◌++◌, length, OnOk, OnErr};
+ghost use Rattle.std.specs.Prelude.{◌≡◌, ◌≢◌, ◌++◌, OnOk, OnErr};
 ghost use Rattle.std.specs.Io.{StartsWith};
 ghost use Rattle.report.specs.Names.{printed_names};
-ghost use Rattle.report.specs.Faults.{NamesAmong, bad_line_text, cause_text, config_text, fault_text, status_of};
+ghost use Rattle.report.specs.Faults.{bad_line_text, cause_text, config_text, fault_text, status_of};
 
 use crate::names::name_at;
 use crate::trouble::{Trouble, trouble_text};
@@ -60,7 +60,6 @@ impl Fault {
 /// No volumes stand for `solo`, whose one volume has the number 0 and the name `solo`. A configuration that was refused for
 /// want of memory has no line of its own: that fault is `Memory`.
 pub fn fault_text(volumes: &[VolumeConf], fault: &Fault, out: &mut Vec<u8>) -> Result<(), NoMemory>
-    requires names { NamesAmong (length (printed_names volumes.now)) fault.now }
     requires told { fault.now ≢ Fault.Config ConfigFault.NoMemory }
     ensures ok { OnOk result (out.new.items ≡ out.old.items ++ fault_text (printed_names volumes.now) fault.now) }
     ensures err { OnErr result (out.new.items ≡ out.old.items) }
@@ -78,7 +77,6 @@ pub fn fault_text(volumes: &[VolumeConf], fault: &Fault, out: &mut Vec<u8>) -> R
 // The same, but a front of the line may be left behind.
 #[tactic(auto, unfolding(crate::specs::Faults::fault_text))]
 fn put_fault(volumes: &[VolumeConf], fault: &Fault, out: &mut Vec<u8>) -> Result<(), NoMemory>
-    requires names { NamesAmong (length (printed_names volumes.now)) fault.now }
     requires told { fault.now ≢ Fault.Config ConfigFault.NoMemory }
     ensures ok { OnOk result (out.new.items ≡ out.old.items ++ fault_text (printed_names volumes.now) fault.now) }
     ensures starts { StartsWith out.new.items out.old.items }
@@ -93,7 +91,6 @@ fn put_fault(volumes: &[VolumeConf], fault: &Fault, out: &mut Vec<u8>) -> Result
 // What stands behind the status.
 #[tactic(auto, unfolding(crate::specs::Faults::cause_text))]
 fn put_cause(volumes: &[VolumeConf], fault: &Fault, out: &mut Vec<u8>) -> Result<(), NoMemory>
-    requires names { NamesAmong (length (printed_names volumes.now)) fault.now }
     requires told { fault.now ≢ Fault.Config ConfigFault.NoMemory }
     ensures ok { OnOk result (out.new.items ≡ out.old.items ++ cause_text (printed_names volumes.now) fault.now) }
     ensures starts { StartsWith out.new.items out.old.items }

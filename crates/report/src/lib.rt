@@ -16,6 +16,3 @@ pub use reads::read_line_text;
 pub use totals::{Totals, solo_line, summary};
 pub use trouble::{Trouble, trouble_text};
 pub use words::{Word, append_line, append_words};
-
-#[cfg(test)]
-mod tests;

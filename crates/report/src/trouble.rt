@@ -1,7 +1,7 @@
 // What is wrong with a volume, and the text that says so.
-ghost use Rattle.std.specs.Prelude.{◌≡◌, ◌++◌, length, OnOk, OnErr};
+ghost use Rattle.std.specs.Prelude.{◌≡◌, ◌++◌, OnOk, OnErr};
 ghost use Rattle.report.specs.Names.{printed_names};
-ghost use Rattle.report.specs.Troubles.{IsAmong, place_text, trouble_status, trouble_text, twins_text};
+ghost use Rattle.report.specs.Troubles.{place_text, trouble_status, trouble_text, twins_text};
 
 use crate::names::name_at;
 use crate::words::Word::{Number, Text};
@@ -84,7 +84,6 @@ pub fn trouble_text(
     trouble: &Trouble,
     out: &mut Vec<u8>,
 ) -> Result<(), NoMemory>
-    requires { IsAmong (length (printed_names volumes.now)) trouble.now }
     ensures ok { OnOk result (out.new.items ≡ out.old.items ++ trouble_text (printed_names volumes.now) trouble.now) }
     ensures err { OnErr result (out.new.items ≡ out.old.items) }
 {

@@ -17,6 +17,3 @@ pub use bays::Bay;
 pub use fault::BayFault;
 pub use files::{FileBay, FilePart};
 pub use memory::MemBay;
-
-#[cfg(test)]
-mod tests;

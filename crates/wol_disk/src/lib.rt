@@ -15,6 +15,3 @@ pub use disk::{Block, Disk, Failed, NoMemory};
 pub use memory::MemDisk;
 pub use stop::{Fuse, StopDisk};
 pub use values::BlockValues;
-
-#[cfg(test)]
-mod tests;

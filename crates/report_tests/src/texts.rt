@@ -1,7 +1,10 @@
 // Texts that were worked out by hand from the formats.
-use super::*;
 use energy::Amounts;
 use msr_trace::BadLine;
+use report::{
+    Fault, Totals, Trouble, fault_text, format_line, read_line_text, solo_line, summary,
+    trouble_text,
+};
 use std::test::Fail;
 use wol_config::{ConfigFault, Key, read_config};
 

@@ -1,5 +1,5 @@
 // Command lines, and the commands that they ask for.
-use crate::{Command, Mode, WordsFault, command_of};
+use command_words::{Command, Mode, WordsFault, command_of};
 use std::alloc::{AllocError, Global};
 use std::test::Fail;
 

@@ -1,0 +1,2 @@
+mod AllHome
+mod Cut
