@@ -2,6 +2,12 @@ pub mod Serving
 pub mod Looking
 pub mod SameRacks
 pub mod Printing
-pub mod Places
+pub mod Unhelped
+pub mod Telling
+pub mod Opened
+pub mod Whole
 pub mod Placing
 pub mod Judging
+pub mod Quiet
+pub mod Leaving
+pub mod Completing

@@ -17,7 +17,7 @@ use Rattle.inspection.specs.Racks.{numbers_of, IsSameStation, IsSameRack, IsStat
 use Rattle.inspection.specs.Lines.{LooksAtVolume}
 use Rattle.inspection.specs.declared.asked.Asked.{Asked}
 use Rattle.inspection.proofs.SameRacks.{rack_set}
-use Rattle.inspection.proofs.Places.{there_is}
+use Rattle.inspection.proofs.Unhelped.{there_is}
 
 module _ {D : Type 0} (stations : List (Station D)) (volume : ℕ) where
   -- none of the first so many is the volume's

@@ -1,3 +1,4 @@
 pub mod Looks
 pub mod Racks
 pub mod Lines
+pub mod Runs

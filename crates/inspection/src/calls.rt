@@ -1,16 +1,23 @@
-// All volumes of a rack are looked at.
-ghost use Rattle.std.specs.Prelude.{◌≡◌, ◌≤◌, ◌<◌};
+// All volumes of a bay are looked at.
+ghost use Rattle.std.specs.Prelude.{◌≡◌, ◌≤◌, ◌<◌, Err, IsTrue};
+ghost use Rattle.wol_disk.specs.Disk.{Rose};
+ghost use Rattle.wol_bay.specs.Bay.{outs};
 ghost use Rattle.wol_config.specs.Configs.{IsValid};
+ghost use Rattle.volume_images.specs.Left.{IsTold};
+ghost use Rattle.volume_images.specs.Volumes.{NoneOut};
+ghost use Rattle.rack.specs.Opens.{KeepsAllSound, LeavesAll};
 ghost use Rattle.inspection.specs.Racks.{CanLook, IsSameRack};
 ghost use Rattle.inspection.specs.Lines.{PrintsVolumes, first_of};
+ghost use Rattle.inspection.specs.Runs.{Completes, Inspects, MayComplete};
 ghost use Rattle.inspection.specs.declared.calls.Stop.TheVariants.{Sink as sink_failed, Memory as no_memory};
 
 use crate::asked::Asked;
 use crate::lines::append_volume;
-use rack::Rack;
+use rack::{Rack, close_all, open_all};
 use report::Trouble;
 use std::alloc::Global;
 use std::sync::Wait;
+use wol_bay::Bay;
 use wol_config::Config;
 use wol_disk::{Disk, Failed, NoMemory};
 use wol_io::Sink;
@@ -50,11 +57,8 @@ fn first_of(first: Option<Trouble>, other: Option<Trouble>) -> Option<Trouble>
     }
 }
 
-/// Prints the lines of each volume of a rack in order, and answers what is wrong with the first that isn't in order. A volume is
-/// in order where it was opened and no call of a disk failed until its turn was over.
-///
-/// `Sink`: the sink failed. `Memory`: there was no memory, and the lines of some first volumes were printed.
-pub fn print_volumes<D: Disk, R: Wait, K: Sink>(
+// Prints the lines of each volume in order, and answers what is wrong with the first that isn't in order.
+fn print_volumes<D: Disk, R: Wait, K: Sink>(
     rt: &R,
     alloc: Global,
     asked: Asked,
@@ -77,4 +81,36 @@ pub fn print_volumes<D: Disk, R: Wait, K: Sink>(
         first = first_of(first, trouble);
     }
     Ok(first)
+}
+
+/// Opens all volumes of the configuration, prints the lines of each in order, and closes them. It answers what is wrong
+/// with the first volume that isn't in order, or nothing where all are. A volume is in order where it was opened and no
+/// call of a disk failed while it was looked at.
+///
+/// `Sink`: the sink failed. `Memory`: there was no memory, and the lines of some first volumes were printed. At each exit
+/// every image is back in the bay.
+pub fn inspect<R: Wait, K: Sink, B: Bay>(
+    rt: &R,
+    alloc: Global,
+    asked: Asked,
+    config: &Config,
+    bay: &mut B,
+    out: &mut K,
+) -> Result<Option<Trouble>, Stop>
+    requires config { IsValid config.now }
+    requires home { NoneOut config.now (B.state bay.old) }
+    ensures none_out { NoneOut config.now (B.state bay.new) }
+    ensures home { outs (B.state bay.new) ≡ outs (B.state bay.old) }
+    ensures content { Inspects B.Part.tells B.Part.state config.now asked (B.state bay.old) (B.state bay.new) result (K.faults out.old) (K.faults out.new) (K.taken out.old) (K.taken out.new) }
+    ensures later { K.faults out.old ≤ K.faults out.new }
+    ensures counts { (B.state bay.old).faults ≤ (B.state bay.new).faults }
+    // each image left in the bay recovers to what one at entry did, also after a stop within, and where a call of a disk failed
+    ensures left { IsTrue B.Part.tells → IsTold (LeavesAll B.Part.tells B.Part.state config.now (B.state bay.old) (B.state bay.new)) (B.state bay.old).told (B.state bay.new).told }
+    ensures sound { IsTrue B.Part.tells → IsTold (KeepsAllSound config.now) (B.state bay.old).told (B.state bay.new).told }
+    ensures complete { MayComplete B.Part.tells config.now (B.state bay.old) (B.state bay.new) (K.faults out.old) (K.faults out.new) → Completes result }
+{
+    let mut rack = open_all(alloc, rt, bay, config)?;
+    let answer = print_volumes(rt, alloc, asked, &mut rack, config, out);
+    let _spindles = close_all(rack, bay, config);
+    answer
 }

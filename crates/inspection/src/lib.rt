@@ -1,5 +1,4 @@
-//! What is printed of the volumes of a rack: what each volume's array is, or its records; and what is wrong with a volume that isn't
-//! in order.
+//! The commands that look at all volumes of a bay: `check` prints what each volume's array is, `dump` its records.
 #![tactic(auto)]
 
 mod asked;
@@ -8,5 +7,4 @@ mod lines;
 mod turn;
 
 pub use asked::Asked;
-pub use calls::{Stop, print_volumes};
-pub use lines::append_volume;
+pub use calls::{Stop, inspect};

@@ -1,12 +1,12 @@
 // The lines of one volume.
-ghost use Rattle.std.specs.Prelude.{◌≡◌, ◌⊎◌, ◌<◌, ◌++◌, ℕ, [], length, Some, Err, Ok, Contains, IfOk, OnOk, OnErr, slice_get};
+ghost use Rattle.std.specs.Prelude.{◌≡◌, ◌⊎◌, ◌<◌, ◌++◌, ℕ, [], length, Some, Err, Ok, Contains, IfOk, OnOk, OnErr, slice_get, slice_set};
 ghost use Rattle.wol_config.specs.Configs.{IsValid};
 ghost use Rattle.manager.specs.declared.part.Part.{Part};
 ghost use Rattle.manager.specs.declared.station.Station.{Station};
 ghost use Rattle.report.specs.Names.{printed_names};
 ghost use Rattle.report.specs.Troubles.{IsAmong};
 ghost use Rattle.troubles.specs.Troubles.{trouble_of_part};
-ghost use Rattle.rack.specs.Racks.{IsStation, base_of_station};
+ghost use Rattle.rack.specs.Racks.{IsStation, AreUnused, base_of_station};
 ghost use Rattle.inspection.specs.Looks.{IsConfiguredBase, LooksAt};
 ghost use Rattle.inspection.specs.Racks.{numbers_of, CanLook, IsSameStation, IsSameRack, IsStationAt};
 ghost use Rattle.inspection.specs.Lines.{IsTelling, LooksAtVolume, trouble_line, trouble_told};
@@ -163,7 +163,7 @@ fn append_open<D: Disk, R: Wait>(
 }
 
 /// Appends the lines of a volume, and answers what is wrong with it. `NoMemory` appends nothing.
-pub fn append_volume<D: Disk, R: Wait>(
+pub(crate) fn append_volume<D: Disk, R: Wait>(
     rt: &R,
     alloc: Global,
     asked: Asked,

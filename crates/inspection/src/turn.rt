@@ -1,5 +1,5 @@
 // A volume is looked at in one turn.
-ghost use Rattle.std.specs.Prelude.{◌≡◌, ◌⊎◌, ◌++◌, ◌∷◌, List, [], length, Some, Err, IsTrue, IsSome, OnOk, OnErr};
+ghost use Rattle.std.specs.Prelude.{◌≡◌, ◌⊎◌, ◌++◌, ◌∷◌, ℕ, List, [], length, Some, Err, IsTrue, IsSome, OnOk, OnErr};
 ghost use Rattle.turn_lock.specs.Passes.{pass_lock, pass_number, IsPassOf, IsFree, IsInTurn};
 ghost use Rattle.wol_config.specs.Configs.{IsValid};
 ghost use Rattle.wol_model.specs.History.{worker};

@@ -1,0 +1,111 @@
+-- What looking at all volumes of a bay comes to.
+use Rattle.std.specs.Prelude.{◌≡◌, ◌≢◌, ◌⊎◌, ◌≤◌, ℕ, Bool, List, [], length, Option, None, Some, Result, Ok, Err, IfSome, slice_get, IsTrue}
+use Rattle.std.specs.List.{AllByRecursion}
+use Rattle.wol_disk.specs.Disk.{State, Rose}
+use Rattle.wol_model.specs.Images.{AreSound, recovered_from}
+use Rattle.wol_bay.specs.Bay.{Told, BayState}
+use Rattle.wol_promise.specs.Manager.{Base}
+use Rattle.wol_config.specs.Documents.{names_of}
+use Rattle.wol_config.specs.declared.config.Config.{Config}
+use Rattle.wol_config.specs.declared.config.VolumeConf.{VolumeConf}
+use Rattle.manager.specs.Stands.{Stands}
+use Rattle.manager.specs.declared.base.ManagerBase.{ManagerBase}
+use Rattle.manager.specs.declared.manager.Manager.{Manager}
+use Rattle.manager.specs.declared.part.Part.{Part}
+use Rattle.log_dump.specs.Texts.{check_text}
+use Rattle.log_dump.specs.Volumes.{IsDump, held_segments}
+use Rattle.report.specs.Names.{name_at}
+use Rattle.report.specs.Troubles.{trouble_status}
+use Rattle.report.specs.declared.trouble.Trouble.{Trouble}
+use Rattle.troubles.specs.Troubles.{trouble_of, trouble_of_part}
+use Rattle.volume_images.specs.Left.{AreNamedApart, IsTold}
+use Rattle.volume_images.specs.Volumes.{images_read, shapes_of}
+use Rattle.rack.specs.Closes.{HasFaultyPart}
+use Rattle.rack.specs.Opens.{RefusesVolume}
+use Rattle.rack.specs.Owners.{images_taken, IsBegun}
+use Rattle.rack.specs.Racks.{NamesVolumes}
+use Rattle.rack.specs.Rests.{IsImageOut, image_here}
+use Rattle.rack.specs.declared.rack.ImageRest.{ImageRest}
+use Rattle.rack.specs.declared.volume_fault.VolumeFault.{VolumeFault}
+use Rattle.inspection.specs.Lines.{Telling, PrintsBy, trouble_line}
+use Rattle.inspection.specs.declared.asked.Asked.{Asked}
+use Rattle.inspection.specs.declared.asked.Asked.TheVariants.{Check, Dump}
+use Rattle.inspection.specs.declared.calls.Stop.{Stop}
+use Rattle.inspection.specs.declared.calls.Stop.TheVariants.{Memory}
+
+-- The lines of a volume in order. `check`: that of the array that the images recover to, of so many records as keep blocks in them, and so
+-- many segments as its manager holds. `dump`: those of the manager's records.
+abbrev pub AreLinesOf : {D : Type 0} → Config → Asked → (out : List (Option (ImageRest D))) → Told → (number : ℕ) → Base → Manager D → (text : List ℕ) → Type 0
+AreLinesOf config Check out t number b m text =
+    text ≡ check_text (name_at (names_of config.volumes.items) number) (recovered_from (shapes_of config) (images_taken config out t) number) (length b.records) (held_segments m)
+AreLinesOf config Dump out t number b m text = IsDump config number m [] text
+
+-- a volume in order: a manager that stands for what the images as they read recover to, where an image that was refused gives no segments, and its lines
+pub record IsInOrder {D : Type 0} (tells : Bool) (state : D → State) (config : Config) (asked : Asked) (out : List (Option (ImageRest D))) (t : Told) (number : ℕ) (text : List ℕ) : Type 0 where
+  pub base : ManagerBase
+  pub manager : Manager D
+  pub owner : base.volume.began.owner ≡ number
+  pub began : IsBegun config (images_taken config out t) base.volume.began
+  pub loggers_out : AllByRecursion (λ l. IsImageOut out l) base.volume.began.view
+  pub stands : Stands tells state manager base []
+  pub lines_ : AreLinesOf config asked out t number base.volume.began manager text
+
+-- a volume that wasn't opened, with the line of its fault, which is the first cause
+pub record TellsRefusal {D : Type 0} (tells : Bool) (state : D → State) (config : Config) (out : List (Option (ImageRest D))) (old new : BayState) (number : ℕ) (t : Telling) : Type 0 where
+  pub conf : VolumeConf
+  pub is_conf : slice_get config.volumes.items number ≡ Some conf
+  pub fault : VolumeFault
+  pub refuses : RefusesVolume tells state config out old new number conf fault
+  -- the volumes that it names are configured
+  pub names : NamesVolumes (length config.volumes.items) fault
+  -- that of a disk is counted
+  pub rose : trouble_status (trouble_of fault) ≡ 4 → Rose old.faults new.faults
+  pub trouble : t.trouble ≡ Some (trouble_of fault)
+  pub text : t.text ≡ trouble_line config number (trouble_of fault)
+
+-- A volume a call of whose disks failed, with the line of a part: it had been opened, and a part of it came back with a fault.
+pub record TellsPart {D : Type 0} (tells : Bool) (config : Config) (out : List (Option (ImageRest D))) (old new : BayState) (number : ℕ) (t : Telling) : Type 0 where
+  pub part : Part
+  pub base : Base
+  pub owner : base.owner ≡ number
+  pub began : IsTrue tells → IfSome old.told (λ images. AreNamedApart images → IsBegun config (images_taken config out images) base)
+  pub loggers_out : AllByRecursion (λ l. IsImageOut out l) base.view
+  pub faulty : IsTrue tells → IsTold (HasFaultyPart tells config base.owner base.view) old.told new.told
+  pub rose : Rose old.faults new.faults
+  pub trouble : t.trouble ≡ Some (trouble_of_part part)
+  pub text : t.text ≡ trouble_line config number (trouble_of_part part)
+
+-- a volume in order, with its lines where the bay told its images
+pub record TellsLines {D : Type 0} (tells : Bool) (state : D → State) (config : Config) (asked : Asked) (out : List (Option (ImageRest D))) (old : BayState) (number : ℕ) (t : Telling) : Type 0 where
+  pub lines_ : IsTrue tells → IfSome old.told (λ images. AreNamedApart images → IsInOrder tells state config asked out images number t.text)
+  pub trouble : t.trouble ≡ None
+
+-- what is told of a volume
+abbrev pub IsToldOf : {D : Type 0} → (tells : Bool) → (D → State) → Config → Asked → (out : List (Option (ImageRest D))) → (old new : BayState) → (number : ℕ) → Telling → Type 0
+IsToldOf tells state config asked out old new number t =
+    TellsRefusal tells state config out old new number t ⊎ TellsLines tells state config asked out old number t ⊎ TellsPart tells config out old new number t
+
+-- Looking at all volumes: what was told of the first of them, or of all, and how it was printed.
+pub record Inspects {D : Type 0} (tells : Bool) (state : D → State) (config : Config) (asked : Asked) (old new : BayState) (result : Result (Option Trouble) Stop) (faults faults' : ℕ) (printed printed' : Option (List ℕ)) : Type 0 where
+  pub out : List (Option (ImageRest D))
+  pub told : List Telling
+  pub count : told ≢ [] → length out ≡ length config.volumes.items
+  -- where any volume was told, an image that isn't out was refused
+  pub missing : told ≢ [] → (k : ℕ) (v : VolumeConf) → slice_get config.volumes.items k ≡ Some v → image_here out k ≡ None → (f : VolumeFault) × RefusesVolume tells state config out old new k v f
+  pub few : length told ≤ length config.volumes.items
+  pub each : (k : ℕ) (t : Telling) → slice_get told k ≡ Some t → IsToldOf tells state config asked out old new k t
+  pub prints : PrintsBy result config told faults faults' printed printed'
+
+-- Nothing stands in the way of a look: the images at entry are sound as they read, and no call failed.
+pub record MayComplete (tells : Bool) (config : Config) (old new : BayState) (sink sink' : ℕ) : Type 0 where
+  pub telling : IsTrue tells
+  pub entry : Told
+  pub entry_is : old.told ≡ Some entry
+  pub apart : AreNamedApart entry
+  pub sound : AreSound (shapes_of config) (images_read config entry)
+  pub bay_calm : Rose old.faults new.faults → ⊥
+  pub sink_calm : Rose sink sink' → ⊥
+
+-- all volumes are in order, or there was no memory
+abbrev pub Completes : Result (Option Trouble) Stop → Type 0
+Completes result = (result ≡ Ok None) ⊎ (result ≡ Err Memory)
