@@ -27,7 +27,7 @@ use Rattle.request_workers.specs.declared.floor.Floor.{Floor}
 use Rattle.replay.specs.Counts.{no_totals}
 use Rattle.replay.specs.Givens.{HasGiven, HasGivenAll, Refuses}
 use Rattle.replay.specs.Served.{AreTotals, ServedFromStart, ServedWindow, WasNotRun, is_none_served}
-use Rattle.replay.specs.Sessions.{AreServedOf, Closes, EndsIn, GoesOn, HasServed, ServesSome, StopsAfter, StopsAtLine, TakesOn, ServesWhole, WentWell, lines_of_window, lines_of_windows}
+use Rattle.replay.specs.Sessions.{AreServedOf, Closes, EndsIn, EndsWithWindow, GoesOn, HasServed, ServesSome, StopsAfter, StopsAtLine, TakesOn, ServesWhole, WentWell, lines_of_window, lines_of_windows, opens}
 use Rattle.replay.specs.Stops.{fault_of_trace}
 use Rattle.replay.specs.declared.counting.Counted.{Counted}
 use Rattle.replay.specs.declared.given.Given.{Given}
@@ -50,6 +50,10 @@ last_same (a ∷ xs) (b ∷ ys) x y same =
     let others : xs ++ x ∷ [] ≡ ys ++ y ∷ [] = cc in
     let rest : xs ≡ ys = last_same xs ys x y others in
     cc
+
+not_empty : {X : Type 0} (xs : List X) (x : X) → xs ++ x ∷ [] ≡ [] → ⊥
+not_empty [] x is = absurd (cc is)
+not_empty (y ∷ xs) x is = absurd (cc is)
 
 module _ (most : ℕ) (targets : List Target) (ls : List (Option TraceLine)) where
   -- the windows of the lines before the one that closed one
@@ -239,6 +243,7 @@ module _ {D S : Type 0} (tells : Bool) (left : S → Option (List ℕ)) (config 
       earlier = so.ss;
       last = [];
       are = rw (append-nil so.ss, so.whole) so.are;
+      whole = λ some. absurd (some refl);
       well = so.well;
       middle = s.floor;
       between = s.keepers.items;
@@ -250,16 +255,17 @@ module _ {D S : Type 0} (tells : Bool) (left : S → Option (List ℕ)) (config 
 
     -- behind a window
     stops_behind : (w : Window) (b : Batched) (next : Given S) (more : List (Option TraceLine)) (e : Stop) (n : Session D) (faults'' : ℕ) (then : Option (List ℕ)) → IsBatchOf (most_of config) (targets_of config) (next_number (most_of config) (targets_of config) so.ws) w b
-        → windows (most_of config) (targets_of config) (so.run ++ so.more) ≡ so.ws ++ w ∷ [] → HasGiven left (targets_of config) start next ((so.run ++ so.more) ++ more)
+        → windows (most_of config) (targets_of config) (so.run ++ so.more) ≡ so.ws ++ w ∷ [] → EndsWithWindow left config start next (so.run ++ so.more) more → HasGiven left (targets_of config) start next ((so.run ++ so.more) ++ more)
         → (h : HasServed tells options b s n) → StopsAfter e config options (record { batch = b; answer = h.answer }) faults' faults'' new then
         → ServesSome tells left config options start e next f ps n.floor n.keepers.items faults faults'' printed then
-    stops_behind w b next more e n faults'' then of whole has h stops = record {
+    stops_behind w b next more e n faults'' then of whole last has h stops = record {
       run = so.run ++ so.more;
       more = more;
       given = has;
       earlier = so.ss;
       last = record { batch = b; answer = h.answer } ∷ [];
       are = rw whole (are_more w b of n h);
+      whole = λ some. last;
       well = so.well;
       middle = n.floor;
       between = n.keepers.items;
@@ -271,27 +277,31 @@ module _ {D S : Type 0} (tells : Bool) (left : S → Option (List ℕ)) (config 
 
     -- in a window that is whole with these lines, or for want of memory before it
     ends_in_window : (w : Window) (b : Batched) (next : Given S) (more : List (Option TraceLine)) (e : Stop) (n : Session D) (faults'' : ℕ) (then : Option (List ℕ)) → IsBatchOf (most_of config) (targets_of config) (next_number (most_of config) (targets_of config) so.ws) w b
-        → windows (most_of config) (targets_of config) (so.run ++ so.more) ≡ so.ws ++ w ∷ [] → HasGiven left (targets_of config) start next ((so.run ++ so.more) ++ more)
+        → windows (most_of config) (targets_of config) (so.run ++ so.more) ≡ so.ws ++ w ∷ [] → EndsWithWindow left config start next (so.run ++ so.more) more → HasGiven left (targets_of config) start next ((so.run ++ so.more) ++ more)
         → EndsIn e tells config options b s n faults' faults'' new then → ServesSome tells left config options start e next f ps n.floor n.keepers.items faults faults'' printed then
-    ends_in_window w b next more e n faults'' then of whole has (inl (memory, not_run, calm, keeps)) =
+    ends_in_window w b next more e n faults'' then of whole last has (inl (memory, not_run, calm, keeps)) =
         rw memory (lacks_memory next (so.more ++ more) n.floor n.keepers.items faults'' then (subst (λ (ls : List (Option TraceLine)). HasGiven left (targets_of config) start next ls) (append_assoc so.run so.more more) has) not_run calm keeps)
-    ends_in_window w b next more e n faults'' then of whole has (inr (h, stops)) = stops_behind w b next more e n faults'' then of whole has h stops
+    ends_in_window w b next more e n faults'' then of whole last has (inr (h, stops)) = stops_behind w b next more e n faults'' then of whole last has h stops
 
     pub stops_at_line : (next : Given S) (l : Option TraceLine) (c' : Cutting) (e : Stop) (n : Session D) (faults'' : ℕ) (then : Option (List ℕ)) → StopsAtLine e tells config options (so.run ++ so.more) so.ws l c' s n faults' faults'' new then
         → HasGiven left (targets_of config) start next ((so.run ++ so.more) ++ l ∷ []) → ServesSome tells left config options start e next f ps n.floor n.keepers.items faults faults'' printed then
     stops_at_line next l c' e n faults'' then (inl (memory, same, calm, keeps)) has =
         rw (memory, same) (lacks_memory next (so.more ++ l ∷ []) s.floor s.keepers.items faults'' then (longer next l has) (not_run_same tells s.floor) calm keeps)
     stops_at_line next l c' e n faults'' then (inr (w, b, (of, cut), ends)) has =
-        ends_in_window w b next (l ∷ []) e n faults'' then of (closed (most_of config) (targets_of config) (so.run ++ so.more) so.ws w l c c' so.cut cut) has ends
+        ends_in_window w b next (l ∷ []) e n faults'' then of (closed (most_of config) (targets_of config) (so.run ++ so.more) so.ws w l c c' so.cut cut) (at cut.last cut.windows) has ends
+      where
+        at : (further : Option Window) → AreWindows (most_of config) (targets_of config) (windows (most_of config) (targets_of config) ((so.run ++ so.more) ++ l ∷ [])) (so.ws ++ w ∷ []) further c'.current → EndsWithWindow left config start next (so.run ++ so.more) (l ∷ [])
+        at None (none, given, blank) = absurd (not_empty so.ws w given)
+        at (Some v) (is, further_of) = opens l v refl (is ∙ ap (λ (vs : List Window). vs ++ v ∷ []) (sym (closed (most_of config) (targets_of config) (so.run ++ so.more) so.ws w l c c' so.cut cut)))
 
     -- in the last window
-    pub stops_last : (next : Given S) (e : Stop) (n : Session D) (faults'' : ℕ) (then : Option (List ℕ)) → 0 < c.current.lines → EndsIn e tells config options c.current s n faults' faults'' new then
+    pub stops_last : (next : Given S) (e : Stop) (n : Session D) (faults'' : ℕ) (then : Option (List ℕ)) → EndsWithWindow left config start next (so.run ++ so.more) [] → 0 < c.current.lines → EndsIn e tells config options c.current s n faults' faults'' new then
         → HasGiven left (targets_of config) start next (so.run ++ so.more) → ServesSome tells left config options start e next f ps n.floor n.keepers.items faults faults'' printed then
-    stops_last next e n faults'' then some ends has = at so.cut.last so.cut.windows
+    stops_last next e n faults'' then last some ends has = at so.cut.last so.cut.windows
       where
         at : (last : Option Window) → AreWindows (most_of config) (targets_of config) (windows (most_of config) (targets_of config) (so.run ++ so.more)) so.ws last c.current → ServesSome tells left config options start e next f ps n.floor n.keepers.items faults faults'' printed then
         at None (none, no_given, here) = absurd (omega (arith, some, ap (λ (x : Batched). x.lines) here))
-        at (Some w) (is, of) = ends_in_window w c.current next [] e n faults'' then of is (rw (append-nil (so.run ++ so.more)) has) ends
+        at (Some w) (is, of) = ends_in_window w c.current next [] e n faults'' then of is last (rw (append-nil (so.run ++ so.more)) has) ends
 
     -- ---- All lines were run
 
@@ -353,6 +363,7 @@ module _ {D S : Type 0} (tells : Bool) (left : S → Option (List ℕ)) (config 
           earlier = a.all;
           last = [];
           are = rw (append-nil a.all) a.are_all;
+          whole = λ some. absurd (some refl);
           well = a.all_well;
           middle = n.floor;
           between = n.keepers.items;

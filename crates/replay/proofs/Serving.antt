@@ -1,14 +1,13 @@
 -- Windows that are served one after another.
-use Rattle.std.proofs.Common.{◌≡◌, ◌≤◌, ◌<◌, ◌+◌, ◌^◌, ℕ, zero, suc, Bool, true, not, List, [], ◌∷◌, ◌++◌, length, min, refl, sym, ap, subst, zero-add, ◌∙◌, append-nil, Option, Result, Ok, Err, inl, inr, arith}
+use Rattle.std.proofs.Common.{◌≡◌, ◌≤◌, ◌<◌, ◌+◌, ◌^◌, ℕ, zero, suc, Bool, true, not, List, [], ◌∷◌, ◌++◌, length, length-append, map, min, refl, sym, ap, subst, zero-add, ◌∙◌, append-nil, Option, Result, Ok, Err, inl, inr, arith}
 use Rattle.std.specs.Prelude.{count_by, sum_by, slice_index_or, slice_set}
 use Rattle.std.specs.Prelude.{All, OnOk, IfErr}
 use Rattle.std.specs.List.{flat_map, AllByRecursion}
 use Rattle.std.proofs.lemmas.List.Elements.{All-from_recursion}
 use Rattle.std.proofs.lemmas.Bool.{cases_eq}
-use Rattle.std.proofs.lemmas.List.{map-append, length-map, get_or-set_same, get_or-set_other}
+use Rattle.std.proofs.lemmas.List.{length-map, get_or-set_same, get_or-set_other}
 use Rattle.std.proofs.lemmas.List.Concat.{flat_map-append}
 use Rattle.std.proofs.lemmas.List.Sums.{sum_by-append}
-use Rattle.wol_model.specs.Trace as trace
 use Rattle.wol_model.specs.Trace.{Window}
 use Rattle.wol_promise.specs.Run.{joined_lines}
 use Rattle.wol_config.specs.declared.config.Config.{Config}
@@ -18,7 +17,7 @@ use Rattle.trace_windows.specs.Batches.{Batched, IsBatchOf}
 use Rattle.trace_windows.specs.Cutting.{next_number}
 use Rattle.trace_windows.specs.Requests.{IsInside, most_of, numbered, requests_in, requests_in_all}
 use Rattle.trace_windows.specs.declared.request.Request.{Request}
-use Rattle.trace_windows.proofs.Numbering.{numbered_both}
+use Rattle.trace_windows.proofs.Numbering.{length-numbered, numbered_both}
 use Rattle.report.specs.declared.totals.Totals.{Totals}
 use Rattle.request_turns.specs.declared.outcome.Outcome.{Outcome}
 use Rattle.request_turns.specs.Helped.{ManagerLock}
@@ -30,7 +29,7 @@ use Rattle.request_workers.specs.declared.request.Reclaim.{Reclaim}
 use Rattle.request_workers.specs.declared.request.Window.{Window as Answer}
 use Rattle.replay.specs.Counts.{CountsWindow, most_count, was_read, was_written, was_logged, went_home, was_drained}
 use Rattle.replay.specs.Served.{AreSamePasses, AreTotals, HaveStarted, ServedFromStart, ServedWindow, StartsOnce, WasServed, WereServed, is_none_served, outcomes_in}
-use Rattle.replay.specs.Sessions.{AreServedOf, AreVolumes, EndsIn, Finishes, GoesOn, HasBegunWindow, HasServed, lines_of_window, lines_of_windows}
+use Rattle.replay.specs.Sessions.{AreServedFrom, AreServedOf, AreVolumes, EndsIn, Finishes, GoesOn, HasBegunWindow, HasServed, lines_of_window, lines_of_windows}
 use Rattle.replay.specs.declared.session.Options.{Options}
 use Rattle.replay.specs.declared.session.Session.{Session}
 use Rattle.replay.specs.declared.stop.Stop.{Stop}
@@ -119,23 +118,46 @@ totals_more ss s t u are counts = record {
 -- ---- Windows
 
 pub served_none : (config : Config) → AreServedOf config [] []
-served_none config = record { moments = refl; requests = refl }
+served_none config = tt
 
-pub served_of_more : (config : Config) (ws : List Window) (w : Window) (ss : List ServedWindow) (s : ServedWindow) → AreServedOf config ws ss
-    → IsBatchOf (most_of config) (targets_of config) (next_number (most_of config) (targets_of config) ws) w s.batch → AreServedOf config (ws ++ w ∷ []) (ss ++ s ∷ [])
-served_of_more config ws w ss s are of =
-    let most = most_of config in
-    let targets = targets_of config in
-    let before = requests_in_all most targets ws in
-    let one : requests_in_all most targets (w ∷ []) ≡ requests_in most targets w = append-nil (requests_in most targets w) in
-    let all : requests_in_all most targets (ws ++ w ∷ []) ≡ before ++ requests_in most targets w = flat_map-append (requests_in most targets) ws (w ∷ []) ∙ ap (λ (x : List trace.Request). before ++ x) one in
-    let here : s.batch.requests ≡ numbered (0 + length before) (requests_in most targets w) = of.requests ∙ ap (λ (n : ℕ). numbered n (requests_in most targets w)) (sym (zero-add (length before))) in
-    record {
-      moments = map-append (λ (x : ServedWindow). x.batch.moment) ss (s ∷ []) ∙ rw (are.moments, of.moment) (sym (map-append (λ (x : Window). x.moment) ws (w ∷ [])));
-      requests = flat_map-append (λ (x : ServedWindow). x.batch.requests) ss (s ∷ [])
-          ∙ ap (λ (x : List Request). flat_map (λ (y : ServedWindow). y.batch.requests) ss ++ x) (append-nil s.batch.requests)
-          ∙ rw (are.requests, here, all) (sym (numbered_both 0 before (requests_in most targets w)));
-    }
+module _ (config : Config) where
+  -- one window more
+  from_more : (next : ℕ) (ws : List Window) (w : Window) (ss : List ServedWindow) (s : ServedWindow) → AreServedFrom config next ws ss
+      → IsBatchOf (most_of config) (targets_of config) (next + next_number (most_of config) (targets_of config) ws) w s.batch → AreServedFrom config next (ws ++ w ∷ []) (ss ++ s ∷ [])
+  from_more next [] w [] s are of = (subst (λ (n : ℕ). IsBatchOf (most_of config) (targets_of config) n w s.batch) (omega arith) of, tt)
+  from_more next [] w (t ∷ ss) s are of = absurd are
+  from_more next (v ∷ ws) w [] s are of = absurd are
+  from_more next (v ∷ ws) w (t ∷ ss) s (first, others) of =
+      let here : length t.batch.requests ≡ length (requests_in (most_of config) (targets_of config) v) = ap length first.requests ∙ length-numbered next (requests_in (most_of config) (targets_of config) v) in
+      let both = length-append (requests_in (most_of config) (targets_of config) v) (requests_in_all (most_of config) (targets_of config) ws) in
+      (first, from_more (next + length t.batch.requests) ws w ss s others (subst (λ (n : ℕ). IsBatchOf (most_of config) (targets_of config) n w s.batch) (omega (arith, here, both)) of))
+
+  from_moments : (next : ℕ) (ws : List Window) (ss : List ServedWindow) → AreServedFrom config next ws ss → map (λ (s : ServedWindow). s.batch.moment) ss ≡ map (λ (w : Window). w.moment) ws
+  from_moments next [] [] are = refl
+  from_moments next [] (s ∷ ss) are = absurd are
+  from_moments next (w ∷ ws) [] are = absurd are
+  from_moments next (w ∷ ws) (s ∷ ss) (first, others) = λ i. first.moment i ∷ from_moments (next + length s.batch.requests) ws ss others i
+
+  from_requests : (next : ℕ) (ws : List Window) (ss : List ServedWindow) → AreServedFrom config next ws ss
+      → flat_map (λ (s : ServedWindow). s.batch.requests) ss ≡ numbered next (requests_in_all (most_of config) (targets_of config) ws)
+  from_requests next [] [] are = refl
+  from_requests next [] (s ∷ ss) are = absurd are
+  from_requests next (w ∷ ws) [] are = absurd are
+  from_requests next (w ∷ ws) (s ∷ ss) (first, others) =
+      let here : length s.batch.requests ≡ length (requests_in (most_of config) (targets_of config) w) = ap length first.requests ∙ length-numbered next (requests_in (most_of config) (targets_of config) w) in
+      (λ i. first.requests i ++ from_requests (next + length s.batch.requests) ws ss others i)
+      ∙ ap (λ (n : ℕ). numbered next (requests_in (most_of config) (targets_of config) w) ++ numbered (next + n) (requests_in_all (most_of config) (targets_of config) ws)) here
+      ∙ sym (numbered_both next (requests_in (most_of config) (targets_of config) w) (requests_in_all (most_of config) (targets_of config) ws))
+
+  pub served_of_more : (ws : List Window) (w : Window) (ss : List ServedWindow) (s : ServedWindow) → AreServedOf config ws ss
+      → IsBatchOf (most_of config) (targets_of config) (next_number (most_of config) (targets_of config) ws) w s.batch → AreServedOf config (ws ++ w ∷ []) (ss ++ s ∷ [])
+  served_of_more ws w ss s are of = from_more 0 ws w ss s are (subst (λ (n : ℕ). IsBatchOf (most_of config) (targets_of config) n w s.batch) (omega arith) of)
+
+  pub served_moments : (ws : List Window) (ss : List ServedWindow) → AreServedOf config ws ss → map (λ (s : ServedWindow). s.batch.moment) ss ≡ map (λ (w : Window). w.moment) ws
+  served_moments ws ss are = from_moments 0 ws ss are
+
+  pub served_requests : (ws : List Window) (ss : List ServedWindow) → AreServedOf config ws ss → flat_map (λ (s : ServedWindow). s.batch.requests) ss ≡ numbered 0 (requests_in_all (most_of config) (targets_of config) ws)
+  served_requests ws ss are = from_requests 0 ws ss are
 
 -- ---- Lines
 

@@ -22,6 +22,11 @@ abbrev pub IsLive : {S : Type 0} → Given S → Type 0
 IsLive (Trace r) = r.live ≡ true
 IsLive (Generated g lines) = (g.given ≤ lines) × (lines ≤ 2 ^ 31)
 
+-- no more generated lines came than are asked for
+abbrev pub IsWithin : {S : Type 0} → Given S → Type 0
+IsWithin (Trace r) = ⊤
+IsWithin (Generated g lines) = g.given ≤ lines
+
 -- no line came yet
 abbrev pub IsNew : {S : Type 0} → Given S → Type 0
 IsNew g = IsLive g × (given_count g ≡ 0)

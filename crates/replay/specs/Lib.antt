@@ -5,3 +5,12 @@ pub mod Endings
 pub mod Prints
 pub mod Served
 pub mod Sessions
+pub mod Runs
+pub mod Histories
+pub mod Ended
+pub mod Leaves
+pub mod Summed
+pub mod NotOpened
+pub mod Replays
+pub mod Completes
+pub mod Placed

@@ -1,5 +1,5 @@
 -- What a session is between windows, and what it makes of a trace.
-use Rattle.std.specs.Prelude.{◌≡◌, ◌≢◌, ◌⊎◌, ◌≤◌, ◌<◌, ◌++◌, ◌-◌, ℕ, Bool, true, is_none, count_by, List, [], ◌∷◌, length, map, Option, None, Some, Result, MatchResult, slice_index_or}
+use Rattle.std.specs.Prelude.{⊤, ◌≡◌, ◌≢◌, ◌⊎◌, ◌≤◌, ◌<◌, ◌++◌, ◌+◌, ◌-◌, ℕ, Bool, true, is_none, count_by, List, [], ◌∷◌, length, Option, None, Some, Result, MatchResult, slice_index_or}
 use Rattle.std.specs.List.{flat_map, AllByRecursion}
 use Rattle.std.specs.Io.KnownBytes.{Appends, Keeps}
 use Rattle.wol_promise.specs.Run.{joined_lines}
@@ -20,7 +20,7 @@ use Rattle.request_workers.specs.declared.floor.Floor.{Floor}
 use Rattle.request_workers.specs.declared.request.Window.{Window as Answer}
 use Rattle.trace_windows.specs.Batches.{Batched, IsBatchOf}
 use Rattle.trace_windows.specs.Cutting.{Cutting, HasCut, next_number}
-use Rattle.trace_windows.specs.Requests.{most_of, numbered, requests_in_all, is_skipped}
+use Rattle.trace_windows.specs.Requests.{most_of, is_skipped}
 use Rattle.trace_windows.specs.declared.request.Request.{Request}
 use Rattle.report.specs.Names.{printed_names}
 use Rattle.replay.specs.Counts.{CountsWindow}
@@ -91,14 +91,25 @@ lines_of_windows config options ss = flat_map (lines_of_window config options) s
 
 -- ---- Windows of a trace
 
--- these were served of these windows, with the requests numbered in order
-pub record AreServedOf (config : Config) (ws : List Window) (ss : List ServedWindow) : Type 0 where
-  pub moments : map (λ (s : ServedWindow). s.batch.moment) ss ≡ map (λ (w : Window). w.moment) ws
-  pub requests : flat_map (λ (s : ServedWindow). s.batch.requests) ss ≡ numbered 0 (requests_in_all (most_of config) (targets_of config) ws)
+-- these were served of these windows, one after another, with the requests numbered in order from `next` on
+abbrev pub AreServedFrom : Config → (next : ℕ) → List Window → List ServedWindow → Type 0
+AreServedFrom config next [] [] = ⊤
+AreServedFrom config next [] (s ∷ ss) = ⊥
+AreServedFrom config next (w ∷ ws) [] = ⊥
+AreServedFrom config next (w ∷ ws) (s ∷ ss) = IsBatchOf (most_of config) (targets_of config) next w s.batch × AreServedFrom config (next + length s.batch.requests) ws ss
+
+abbrev pub AreServedOf : Config → List Window → List ServedWindow → Type 0
+AreServedOf config ws ss = AreServedFrom config 0 ws ss
 
 -- .. of all windows of these lines
 abbrev pub AreWindowsOf : Config → (run : List (Option TraceLine)) → List ServedWindow → Type 0
 AreWindowsOf config run ss = AreServedOf config (windows (most_of config) (targets_of config) run) ss
+
+-- The last window of the lines `run` has all of its lines: the next line opens a further one, or no line comes any more.
+pub data EndsWithWindow {S : Type 0} (left : S → Option (List ℕ)) (config : Config) (start now : Given S) (run more : List (Option TraceLine)) : Type 0 where
+  opens : (line : Option TraceLine) (w : Window) → more ≡ line ∷ [] → windows (most_of config) (targets_of config) (run ++ line ∷ []) ≡ windows (most_of config) (targets_of config) run ++ w ∷ [] → EndsWithWindow left config start now run more
+  at_end : HasGivenAll left (targets_of config) start now run → EndsWithWindow left config start now run more
+  at_refusal : (refusal : TraceFault) → refusal ≢ trace.NoMemory → Refuses left refusal start now run → EndsWithWindow left config start now run more
 
 -- all requests of a window were answered, and no step of reclaim was refused
 abbrev pub WentWell : ServedWindow → Type 0
@@ -197,6 +208,8 @@ module _ {D S : Type 0} (tells : Bool) (left : S → Option (List ℕ)) (config 
     pub earlier : List ServedWindow
     pub last : List ServedWindow
     pub are : AreWindowsOf config run (earlier ++ last)
+    -- the window behind which the run ended is whole
+    pub whole : last ≢ [] → EndsWithWindow left config start now run more
     pub well : AllByRecursion WentWell earlier
     pub middle : Floor D
     pub between : List SpindlePass

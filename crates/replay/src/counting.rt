@@ -23,7 +23,7 @@ pub(crate) const NOTHING: Totals = Totals {
 
 /// What is counted of a trace that was read to its end, with the time of its first line and that of its last, in units of 100 ns.
 #[derive(Clone, Copy)]
-pub struct Counted {
+pub(crate) struct Counted {
     pub totals: Totals,
     pub started: u64,
     pub ended: u64,

@@ -8,7 +8,7 @@ ghost use Rattle.wol_model.specs.Trace.{TraceLine};
 ghost use Rattle.msr_trace.specs.Lines.{Fits, trace_line};
 ghost use Rattle.msr_trace.specs.Reading.{is_no_memory};
 ghost use Rattle.trace_gen.specs.Generated.{line, targets_of};
-ghost use Rattle.replay.specs.Givens.{given_count, IsLive, faults_of, borrow_of, HasGiven, HasGivenAll, Refuses};
+ghost use Rattle.replay.specs.Givens.{given_count, IsLive, IsWithin, faults_of, borrow_of, HasGiven, HasGivenAll, Refuses};
 
 use msr_trace::{Line, Lines, TraceFault};
 use std::alloc::Global;
@@ -41,6 +41,7 @@ impl<S: Source> Given<S> {
         ensures live { OnOk result (IsLive self.new) }
         ensures count { IfOk result (λ o. IfSome o (λ l. given_count self.new ≡ given_count self.old + 1)) }
         ensures most { given_count self.new ≤ 2 ^ 32 }
+        ensures within { IsWithin self.new }
         // whatever lines came before, this is the next one
         ensures line { IfOk result (λ o. IfSome o (λ l. (start : _) (ls : List _) → HasGiven S.left (targets_of config.now) start self.old ls
             → HasGiven S.left (targets_of config.now) start self.new (ls ++ option_map trace_line l ∷ []))) }

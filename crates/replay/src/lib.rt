@@ -1,16 +1,16 @@
-//! A trace, read or generated, is served on a floor of open volumes: its lines are cut into windows, each window is run, its reads
-//! are printed, and at the end a summary says what was done and what the disks used.
+//! A trace, read or generated, is replayed on the volumes of a bay: its lines are cut into windows, each window is served, and
+//! at the end a summary says what was done and what the disks used.
 #![tactic(auto)]
 
 mod counting;
 mod ending;
 mod given;
 mod printing;
+mod run;
 mod session;
 mod stop;
 
-pub use counting::Counted;
 pub use given::Given;
-pub use printing::print_summary;
-pub use session::{Options, Session};
+pub use run::replay;
+pub use session::Options;
 pub use stop::Stop;

@@ -113,7 +113,7 @@ fn amounts_of(
 }
 
 /// Prints the summary of a run that was read to its end, whose spindles were closed with these journals.
-pub fn print_summary<K: Sink>(
+pub(crate) fn print_summary<K: Sink>(
     alloc: Global,
     config: &Config,
     counted: &Counted,

@@ -9,7 +9,7 @@ ghost use Rattle.trace_windows.specs.Cutting.{HasCut};
 ghost use Rattle.trace_windows.specs.Requests.{most_of, IsInside};
 ghost use Rattle.request_workers.specs.Begun.{AreKeepers};
 ghost use Rattle.replay.specs.Counts.{AddsAtMost, HasRoomFor, no_totals};
-ghost use Rattle.replay.specs.Givens.{IsNew, faults_of, borrow_of};
+ghost use Rattle.replay.specs.Givens.{IsNew, IsWithin, faults_of, borrow_of};
 ghost use Rattle.replay.specs.Served.{HaveStarted, AreSamePasses, StartsOnce};
 ghost use Rattle.replay.specs.Sessions.{AreOptions, EndsIn, Finishes, GoesOn, HasBegunWindow, HasTaken, StopsAtLine, TakesOn, IsReady, IsSession, ServesSome, ServesWhole};
 
@@ -43,7 +43,7 @@ pub struct Options {
 }
 
 /// What windows are served on, and what was counted of those that were.
-pub struct Session<D: Disk> {
+pub(crate) struct Session<D: Disk> {
     pub floor: Floor<D>,
     pub keepers: Vec<Pass<Spindle>>,
     pub totals: Totals,
@@ -93,7 +93,7 @@ fn finish<K: Sink>(
 }
 
 impl<D: Disk> Session<D> {
-    pub fn new(floor: Floor<D>, keepers: Vec<Pass<Spindle>>) -> Session<D>
+    pub(crate) fn new(floor: Floor<D>, keepers: Vec<Pass<Spindle>>) -> Session<D>
         ensures { result ≡ record { floor = floor; keepers = keepers; totals = no_totals; started = false } }
     {
         Session {
@@ -288,7 +288,7 @@ impl<D: Disk> Session<D> {
 
     /// Serves the windows of the lines that are given, each as soon as it is whole. Where no further line is given the last one
     /// is served too, but not where there is no memory for a line.
-    pub fn serve_all<R: Threads + Wait + Sync, S: Source, K: Sink, G: Gate + Sync>(
+    pub(crate) fn serve_all<R: Threads + Wait + Sync, S: Source, K: Sink, G: Gate + Sync>(
         &mut self,
         rt: &R,
         alloc: Global,
@@ -318,6 +318,7 @@ impl<D: Disk> Session<D> {
         ensures source_later { faults_of S.faults given.old ≤ faults_of S.faults given.new }
         ensures source { result ≡ Err (Stop.Fault Fault.TraceSource) → Rose (faults_of S.faults given.old) (faults_of S.faults given.new) }
         ensures same_borrow { borrow_of S.borrow given.new ≡ borrow_of S.borrow given.old }
+        ensures within { IsWithin given.new }
     {
         let mut cutter = Cutter::new(alloc);
         for _ in 0..u64::MAX {

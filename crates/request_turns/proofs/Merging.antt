@@ -91,6 +91,7 @@ module _ (notes : List Noted) (n1 n2 n : Noted) (kept : n1.entry.operation ≡ K
     is_down = u.is_down;
     failed = u.failed;
     calm = u.calm;
+    sound = u.sound;
     cut = u.cut;
   }
 

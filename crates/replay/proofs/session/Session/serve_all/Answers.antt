@@ -3,6 +3,7 @@ use Rattle.std.proofs.lemmas.Result.{err_from_is_err_and}
 use Rattle.wol_io.proofs.Appending.{keeps_same}
 use Rattle.msr_trace.specs.Reading.{is_no_memory}
 use Rattle.msr_trace.specs.declared.format.TraceFault.TheVariants as refusal
+use Rattle.replay.specs.Sessions.{at_end, at_refusal}
 use Rattle.replay.proofs.LinesServed.{copied_line, current_lies, lacks_memory, last_ok, no_line, not_run_same, nothing_served, serves_whole, stops_at_line, stops_last, takes_on}
 use Rattle.replay.proofs.Outcomes.{few_more, few_none}
 use Rattle.replay.proofs.Serving.{same_both, same_passes}
@@ -48,7 +49,8 @@ returns-in_err-serve_last-in-Ok-None-clause-some g c =
     let end = rw c.in-Ok-None.field-0-is at c.in-Ok-None.ensures.end in
     let stops = rw c.current-batch.ensures at c.in_err-serve_last-in-Ok-None.ensures.err in
     rw (p.1, p.2) (stops_last g.D.Disk.tells g.S.Source.left c.args.config.now c.args.options c.args.given.now c.args.self.now.floor c.args.self.now.keepers.items (g.K.Sink.faults c.args.out.now) (g.K.Sink.taken c.args.out.now)
-    c.loop.given c.loop.cutter c.loop.self (g.K.Sink.faults c.loop.out) (g.K.Sink.taken c.loop.out) so c.next.new.self _ c.serve_last.new.self (g.K.Sink.faults c.serve_last.new.out) (g.K.Sink.taken c.serve_last.new.out) stops.0 stops.1 (end c.args.given.now (so.run ++ so.more) so.given).0)
+    c.loop.given c.loop.cutter c.loop.self (g.K.Sink.faults c.loop.out) (g.K.Sink.taken c.loop.out) so c.next.new.self _ c.serve_last.new.self (g.K.Sink.faults c.serve_last.new.out) (g.K.Sink.taken c.serve_last.new.out)
+    (at_end (end c.args.given.now (so.run ++ so.more) so.given).1) stops.0 stops.1 (end c.args.given.now (so.run ++ so.more) so.given).0)
 
 pub returns-in-Ok-None-clause-whole : goal.returns-in-Ok-None-clause-whole
 returns-in-Ok-None-clause-whole g c =
@@ -107,7 +109,8 @@ returns-in_err-serve_last-in-Err-clause-some g c =
     let has = c.in-Err.ensures.refused c.args.given.now (so.run ++ so.more) so.given in
     let stops = rw c.current-batch-in-Err.ensures at c.in_err-serve_last-in-Err.ensures.err in
     rw (p.1, p.2) (stops_last g.D.Disk.tells g.S.Source.left c.args.config.now c.args.options c.args.given.now c.args.self.now.floor c.args.self.now.keepers.items (g.K.Sink.faults c.args.out.now) (g.K.Sink.taken c.args.out.now)
-    c.loop.given c.loop.cutter c.loop.self (g.K.Sink.faults c.loop.out) (g.K.Sink.taken c.loop.out) so c.next.new.self _ c.serve_last-in-Err.new.self (g.K.Sink.faults c.serve_last-in-Err.new.out) (g.K.Sink.taken c.serve_last-in-Err.new.out) stops.0 stops.1 has.0)
+    c.loop.given c.loop.cutter c.loop.self (g.K.Sink.faults c.loop.out) (g.K.Sink.taken c.loop.out) so c.next.new.self _ c.serve_last-in-Err.new.self (g.K.Sink.faults c.serve_last-in-Err.new.out) (g.K.Sink.taken c.serve_last-in-Err.new.out)
+    (at_refusal c.in-Err.fault (λ is. let none : false ≡ is_no_memory c.in-Err.fault = c.if-is_memory.ensures in let some : is_no_memory c.in-Err.fault ≡ true = ap is_no_memory is in cc) has.1) stops.0 stops.1 has.0)
 
 pub returns-in-Err-clause-some : goal.returns-in-Err-clause-some
 returns-in-Err-clause-some g c =

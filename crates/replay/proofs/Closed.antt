@@ -1,0 +1,125 @@
+-- The rack of a replay is closed.
+use Rattle.std.proofs.Common.{◌≡◌, ◌++◌, ℕ, Bool, List, [], map, sym, ap, subst, ◌∙◌, Option, None, Some, Result, Ok, Err, ◌∷◌, arith}
+use Rattle.std.specs.Prelude.{All, IfSome, MatchResult, option_map, slice_get, slice_index_or, length, ◌<◌, ◌≤◌}
+use Rattle.std.specs.List.{AllByRecursion}
+use Rattle.wol_model.specs.Trace.{TraceLine, Window, ended, pieces_of, started, timed, windows}
+use Rattle.wol_model.specs.Journal.{IsJournal, Use}
+use Rattle.wol_promise.specs.Spindle.{keeper_uses}
+use Rattle.turn_lock.specs.Histories.{Entry, own}
+use Rattle.turn_lock.specs.Passes.{lock_id, pass_mine, pass_number}
+use Rattle.spin_model.specs.Operations.{operation_of}
+use Rattle.spin_model.specs.declared.spindle.SpindleBase.{SpindleBase}
+use Rattle.trace_gen.specs.Generated.{targets_of}
+use Rattle.trace_windows.specs.Requests.{most_of}
+use Rattle.trace_windows.proofs.Rising.{moments_rise}
+use Rattle.rack.specs.Closes.{IsClosedSpindle}
+use Rattle.replay.specs.Served.{ServedFromStart, ServedWindow}
+use Rattle.replay.proofs.Accounts.{AreOthers, account_journal, empty_journal, first_start, moments_of, moments_within, no_start, served_used}
+use Rattle.spin_model.specs.Spindles.{SpindleView, StandsFor}
+use Rattle.request_workers.specs.Begun.{SpindlePass}
+use Rattle.request_workers.specs.declared.floor.Floor.{Floor}
+use Rattle.replay.specs.Sessions.{ServesSome, ServesWhole}
+use Rattle.wol_disk.specs.Disk.{State}
+use Rattle.wol_bay.specs.Bay.{BayState, Told, at_name, outs}
+use Rattle.wol_config.specs.declared.config.Config.{Config}
+use Rattle.wol_config.specs.declared.config.VolumeConf.{VolumeConf}
+use Rattle.volume_images.specs.Volumes.{NoneOut, shapes_of}
+use Rattle.rack.specs.Closing.{LeavesNoneOut}
+use Rattle.rack.specs.Opens.{out_names}
+use Rattle.rack.specs.Racks.{IsClosable, IsRack, IsUnused}
+use Rattle.rack.specs.declared.rack.Rack.{Rack}
+use Rattle.rack.specs.declared.rack.Rest.{Rest}
+use Rattle.replay.specs.Runs.{RunsIn, closed, no_memory, served}
+use Rattle.replay.specs.declared.counting.Counted.{Counted}
+use Rattle.replay.specs.declared.given.Given.{Given}
+use Rattle.replay.specs.declared.session.Options.{Options}
+use Rattle.replay.specs.declared.stop.Stop.{Stop}
+use Rattle.replay.proofs.RacksServed.{a_member, at_place, closable_after, rack_closable, there_at}
+use Rattle.replay.proofs.Serving.{served_moments}
+
+-- a bay tells the same of what is out
+outs_home : (config : Config) (b : BayState) → NoneOut config b → IfSome (outs b) (λ os. All (λ (v : VolumeConf). at_name v.name os ≡ None) config.volumes.items)
+outs_home config b home = at b.told home
+  where
+    at : (t : Option Told) → All (λ (v : VolumeConf). IfSome t (λ x. at_name v.name x.out ≡ None)) config.volumes.items → IfSome (option_map (λ (x : Told). x.out) t) (λ os. All (λ (v : VolumeConf). at_name v.name os ≡ None) config.volumes.items)
+    at None all = tt
+    at (Some t) all = all
+
+pub home_outs : (config : Config) (b c : BayState) → NoneOut config b → outs c ≡ outs b → NoneOut config c
+home_outs config b c home same = at b.told c.told home same
+  where
+    at : (t u : Option Told) → All (λ (v : VolumeConf). IfSome t (λ x. at_name v.name x.out ≡ None)) config.volumes.items → option_map (λ (x : Told). x.out) u ≡ option_map (λ (x : Told). x.out) t
+        → All (λ (v : VolumeConf). IfSome u (λ x. at_name v.name x.out ≡ None)) config.volumes.items
+    at t None all same k d lt = tt
+    at None (Some u) all same k d lt = absurd (cc same)
+    at (Some t) (Some u) all same k d lt = let out : u.out ≡ t.out = cc same in subst (λ os. at_name (slice_index_or config.volumes.items k d).name os ≡ None) (sym out) (all k d lt)
+
+module _ {D S : Type 0} (state : D → State) (tells : Bool) (left : S → Option (List ℕ)) (config : Config) (options : Options) (start now : Given S) (b : BayState) (old new : Rack D) (faults faults' : ℕ) (printed printed' : Option (List ℕ))
+    (is : IsRack state config b old) where
+  pub closable_now : (result : Result Counted Stop) → RunsIn tells left config options start now old new faults faults' printed printed' result → IsClosable state config b new
+  closable_now result (closed f first none) = subst (λ (r : Rack D). IsClosable state config b r) (sym none.same) (rack_closable state config b old is)
+  closable_now result (no_memory first none) = subst (λ (r : Rack D). IsClosable state config b r) (sym none.same) (rack_closable state config b old is)
+  closable_now result (served done first before moved from) =
+      closable_after state config b old new (rack_closable state config b old is) from.only from.can (from.locks ∙ moved.locks) from.same
+
+  pub same_rest : (result : Result Counted Stop) → RunsIn tells left config options start now old new faults faults' printed printed' result → new.rest ≡ old.rest
+  same_rest result (closed f first none) = ap (λ (r : Rack D). r.rest) none.same
+  same_rest result (no_memory first none) = ap (λ (r : Rack D). r.rest) none.same
+  same_rest result (served done first before moved from) = ap (λ (r : Rack D). r.rest) from.only
+
+  -- what is out before opening is out after closing
+  pub outs_same : (result : Result Counted Stop) → RunsIn tells left config options start now old new faults faults' printed printed' result → (entry last : BayState) → NoneOut config entry
+      → outs b ≡ option_map (λ os. os ++ out_names config config.volumes.items old.rest.images.items) (outs entry)
+      → LeavesNoneOut config new.rest.images.items (outs b) (outs last) → outs last ≡ outs entry
+  outs_same result runs entry last home opened leaves =
+      leaves (outs entry) (outs_home config entry home)
+      (subst (λ (r : Rest D). outs b ≡ option_map (λ os. os ++ out_names config config.volumes.items r.images.items) (outs entry)) (sym (same_rest result runs)) opened)
+
+-- ---- Journals
+
+module _ {D S : Type 0} (state : D → State) (tells : Bool) (left : S → Option (List ℕ)) (config : Config) (options : Options) (start now : Given S) (b : BayState) (old new : Rack D) (faults faults' : ℕ) (printed printed' : Option (List ℕ))
+    (is : IsRack state config b old) (unused : All (λ (p : SpindlePass). IsUnused p) old.keepers.items) where
+  spindle_journal : (lines : List (Option TraceLine)) (ss : List ServedWindow) (f g : Floor D) → ServedFromStart tells options.reclaim ss f old.keepers.items g new.keepers.items
+      → moments_of ss ≡ map (λ (w : Window). w.moment) (windows (most_of config) (targets_of config) lines) → (k : ℕ) (s : SpindleView) (base : SpindleBase) (entries : List Entry) (p : SpindlePass)
+      → k < length old.keepers.items → slice_get new.keepers.items k ≡ Some p → StandsFor s base entries → AreOthers (pass_number p) entries → own (pass_number p) entries ≡ pass_mine p
+      → IsJournal (started (timed lines)) s.journal (ended (timed lines))
+  unfolding windows
+  spindle_journal lines [] f g (floor, passes) moments k s base entries p lt there stands others mine =
+      let was : slice_index_or old.keepers.items k p ≡ p = ap (λ (x : List SpindlePass). slice_index_or x k p) (sym passes) ∙ (at_place new.keepers.items k p there).1 p in
+      let none : pass_mine p ≡ [] = ap (λ (x : SpindlePass). pass_mine x) (sym was) ∙ (unused k p lt).mine in
+      let zero_start : started (timed lines) ≡ 0 = no_start (pieces_of (most_of config) (targets_of config)) (timed lines) moments in
+      subst (λ (t : ℕ). IsJournal t s.journal (ended (timed lines))) (sym zero_start) (empty_journal s base entries (pass_number p) (ended (timed lines)) stands others (mine ∙ none))
+  spindle_journal lines (w ∷ ss) f g served_ moments k s base entries p lt there stands others mine =
+      let used = served_used tells options.reclaim k w ss f old.keepers.items g new.keepers.items p served_ lt in
+      let at = (at_place new.keepers.items k p there).1 p in
+      let same : pass_number (slice_index_or old.keepers.items k p) ≡ pass_number p = sym used.number ∙ ap (λ (x : SpindlePass). pass_number x) at in
+      let uses = keeper_uses w.batch.moment (moments_of (w ∷ ss)) in
+      let all : pass_mine p ≡ map (λ (u : Use). (pass_number p, operation_of u)) uses =
+      ap (λ (x : SpindlePass). pass_mine x) (sym at) ∙ used.mine ∙ (λ i. (unused k p lt).mine i ++ map (λ (u : Use). (same i, operation_of u)) uses) in
+      let first : w.batch.moment ≡ started (timed lines) = first_start (pieces_of (most_of config) (targets_of config)) (timed lines) w.batch.moment (moments_of ss) moments in
+      let (within, le) = moments_within (started (timed lines)) (windows (most_of config) (targets_of config) lines) (ended (timed lines)) (moments_rise (most_of config) (targets_of config) lines) in
+      subst (λ (t : ℕ). IsJournal t s.journal (ended (timed lines))) first
+      (account_journal s base entries (pass_number p) w.batch.moment (ended (timed lines)) (moments_of (w ∷ ss)) stands others (mine ∙ all) (omega (arith, first, le))
+      (subst (λ (ms : List ℕ). AllByRecursion (λ (m : ℕ). m ≤ ended (timed lines)) ms) (sym moments) within))
+
+  pub journals_now : (result : Result Counted Stop) → RunsIn tells left config options start now old new faults faults' printed printed' result → (counted : Counted) → result ≡ Ok counted
+      → (spindles : List SpindleView) → length spindles ≡ length (shapes_of config) → ((k : ℕ) (s : SpindleView) → slice_get spindles k ≡ Some s → IsClosedSpindle new k s)
+      → All (λ (s : SpindleView). IsJournal counted.started s.journal counted.ended) spindles
+  journals_now result (closed f first none) counted ok spindles count each = absurd (cc ok)
+  journals_now result (no_memory first none) counted ok spindles count each = absurd (cc ok)
+  journals_now result (served done first before moved from) counted ok spindles count each = at done from.served ok
+    where
+      at : (r : Result Counted Stop) → MatchResult r (λ c. ServesWhole tells left config options start now before old.keepers.items from.after new.keepers.items c faults faults' printed printed')
+          (λ e. ServesSome tells left config options start e now before old.keepers.items from.after new.keepers.items faults faults' printed printed') → r ≡ Ok counted
+          → All (λ (s : SpindleView). IsJournal counted.started s.journal counted.ended) spindles
+      at (Err e) w ok k d lt = absurd (cc ok)
+      at (Ok c) w ok k d lt =
+          let same : c ≡ counted = cc ok in
+          let cs = each k (slice_index_or spindles k d) (there_at spindles k d lt) in
+          let closable = closable_now state tells left config options start now b old new faults faults' printed printed' is result (served done first before moved from) in
+          let (p, keeper) = a_member new.keepers.items k (omega (arith, lt, count, closable.keepers.0)) in
+          let (l, lock) = a_member new.shared.spindles.items k (omega (arith, lt, count, closable.locks.spindle_count)) in
+          let journal = spindle_journal w.lines w.served before from.after w.from_start (served_moments config (windows (most_of config) (targets_of config) w.lines) w.served w.are) k (slice_index_or spindles k d) (lock_id l).base cs.entries p (omega (arith, lt, count, is.keepers.0)) keeper
+          (cs.stands l lock) (cs.accesses p keeper) (cs.keeper_part p keeper).mine in
+          subst (λ (x : Counted). IsJournal x.started (slice_index_or spindles k d).journal x.ended) same
+          (subst (λ (t : ℕ). IsJournal t (slice_index_or spindles k d).journal c.ended) (sym w.started_) (subst (λ (t : ℕ). IsJournal (started (timed w.lines)) (slice_index_or spindles k d).journal t) (sym w.ended_) journal))

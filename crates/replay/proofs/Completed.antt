@@ -1,0 +1,148 @@
+-- A run over open volumes in whose way nothing stands comes to its end.
+use Rattle.std.proofs.Common.{◌≡◌, ◌≢◌, ◌≤◌, ◌⊎◌, ◌+◌, ◌++◌, ◌^◌, ℕ, Bool, true, false, List, [], ◌∷◌, length, refl, sym, ap, subst, ◌∙◌, Option, None, Some, Result, Ok, Err, inl, inr, arith}
+use Rattle.std.specs.Prelude.{IsTrue, if◌then◌else◌, slice_get}
+use Rattle.std.specs.List.{count_by, list_any}
+use Rattle.std.specs.Option.{option_map_or, option_or}
+use Rattle.std.proofs.lemmas.Bool.{cases_lt}
+use Rattle.wol_disk.specs.Disk.{Rose}
+use Rattle.wol_bay.specs.Bay.{BayState, Told}
+use Rattle.wol_model.specs.Trace.{Request, requests}
+use Rattle.wol_promise.specs.Outcomes.{Answered, answered_in, of_volume}
+use Rattle.wol_promise.specs.Ruled.{entries_of}
+use Rattle.run_laws.specs.Answers.{answers_of, requests_in}
+use Rattle.run_laws.proofs.ReadLines.{length_mapped, volume_requests}
+use Rattle.wol_config.specs.declared.config.Config.{Config}
+use Rattle.manager.specs.declared.part.ReadRefusal.TheVariants as read
+use Rattle.manager.specs.declared.part.StepFault.{StepFault}
+use Rattle.manager.specs.declared.part.StepFault.TheVariants as step
+use Rattle.manager.specs.declared.part.WriteRefusal.TheVariants as write
+use Rattle.msr_trace.specs.declared.format.TraceFault.{TraceFault}
+use Rattle.msr_trace.specs.declared.format.TraceFault.TheVariants as trace
+use Rattle.report.specs.declared.fault.Fault.{Fault}
+use Rattle.report.specs.declared.fault.Fault.TheVariants.{Memory, TraceSource, Versions}
+use Rattle.troubles.specs.Troubles.{trouble_of_part}
+use Rattle.trace_gen.specs.Generated.{targets_of}
+use Rattle.trace_windows.specs.Requests.{most_of}
+use Rattle.trace_windows.specs.declared.request.Request as program
+use Rattle.volume_images.specs.Left.{AreNamedApart, IsTold}
+use Rattle.request_turns.specs.declared.outcome.Outcome.{Outcome}
+use Rattle.request_turns.specs.declared.outcome.Outcome.TheVariants as outcome
+use Rattle.request_workers.specs.declared.request.Window.{Window}
+use Rattle.replay.specs.Completes.{Completes, MayComplete, is_write, writes_to}
+use Rattle.replay.specs.Ended.{EndsFor, HasRefusedWrite, IsPartFault, memory, no_line, refused, sink_failed}
+use Rattle.replay.specs.Endings.{fault_of_outcome, fault_of_reclaim, fault_of_window, first_refused, lacked_memory}
+use Rattle.replay.specs.Givens.{Refuses}
+use Rattle.replay.specs.Histories.{History, answers_in, is_broken_at, next_after, next_at}
+use Rattle.replay.specs.Replays.{Replays, status_in}
+use Rattle.replay.specs.Served.{ServedWindow}
+use Rattle.replay.specs.Stops.{fault_of_trace}
+use Rattle.replay.specs.declared.given.Given.{Given}
+use Rattle.replay.specs.declared.session.Options.{Options}
+use Rattle.replay.specs.declared.stop.Stop.{Stop}
+use Rattle.replay.specs.declared.stop.Stop.TheVariants as stop
+use Rattle.replay.proofs.CountsLeft.{answers_joined}
+use Rattle.replay.proofs.WritesAnswered.{Among, among_left, among_of, among_right, among_volume, asked_writes, asks_write, logged_answered, one_less, writes_in}
+
+-- ---- What a window may end a run with
+
+-- a part, want of memory, or an end of versions
+abbrev IsOfWindow : Fault → Type 0
+IsOfWindow f = IsPartFault f ⊎ (f ≡ Memory) ⊎ ((v : ℕ) × (f ≡ Versions v))
+
+outcome_kind : (o : Outcome) (v : ℕ) (f : Fault) → fault_of_outcome v o ≡ Some f → IsOfWindow f
+outcome_kind (outcome.Read mark sources) v f is = absurd (cc is)
+outcome_kind (outcome.Wrote place drained) v f is = absurd (cc is)
+outcome_kind (outcome.NoRead (read.DiskFault p)) v f is = inl (v, trouble_of_part p, sym (cc is))
+outcome_kind (outcome.NoRead (read.Down p)) v f is = inl (v, trouble_of_part p, sym (cc is))
+outcome_kind (outcome.NoWrite write.Full) v f is = absurd (cc is)
+outcome_kind (outcome.NoWrite (write.DiskFault p)) v f is = inl (v, trouble_of_part p, sym (cc is))
+outcome_kind (outcome.NoWrite (write.Down p)) v f is = inl (v, trouble_of_part p, sym (cc is))
+outcome_kind (outcome.NoWrite write.VersionsSpent) v f is = inr (inr (v, sym (cc is)))
+outcome_kind (outcome.NoWrite write.NoMemory) v f is = inr (inl (sym (cc is)))
+outcome_kind outcome.NotRun v f is = absurd (cc is)
+
+first_kind : (rs : List program.Request) (os : List Outcome) (f : Fault) → first_refused rs os ≡ Some f → IsOfWindow f
+first_kind [] os f is = absurd (cc is)
+first_kind (r ∷ rs) [] f is = absurd (cc is)
+first_kind (r ∷ rs) (o ∷ os) f is = at (fault_of_outcome r.volume o) refl is (λ rest. first_kind rs os f rest)
+  where
+    at : (x : Option Fault) → fault_of_outcome r.volume o ≡ x → option_or x (first_refused rs os) ≡ Some f → (first_refused rs os ≡ Some f → IsOfWindow f) → IsOfWindow f
+    at None none rest others = others rest
+    at (Some g) some here others = outcome_kind o r.volume f (some ∙ here)
+
+reclaim_kind : (x : Option (ℕ × StepFault)) (f : Fault) → fault_of_reclaim x ≡ Some f → IsOfWindow f
+reclaim_kind None f is = absurd (cc is)
+reclaim_kind (Some (k, step.DiskFault p)) f is = inl (k, trouble_of_part p, sym (cc is))
+reclaim_kind (Some (k, step.Down p)) f is = inl (k, trouble_of_part p, sym (cc is))
+
+window_kind : (rs : List program.Request) (w : Window) (f : Fault) → fault_of_window rs w ≡ Some f → IsOfWindow f
+window_kind rs w f is = at (list_any lacked_memory w.outcomes.items) is
+  where
+    next : (x : Option Fault) → first_refused rs w.outcomes.items ≡ x → option_or x (fault_of_reclaim w.fault) ≡ Some f → IsOfWindow f
+    next None none rest = reclaim_kind w.fault f rest
+    next (Some g) some here = first_kind rs w.outcomes.items f (some ∙ here)
+
+    at : (b : Bool) → (if b then Some Memory else option_or (first_refused rs w.outcomes.items) (fault_of_reclaim w.fault)) ≡ Some f → IsOfWindow f
+    at true so = inr (inl (sym (cc so)))
+    at false so = next (first_refused rs w.outcomes.items) refl so
+
+-- ---- Versions
+
+told_there : (P : Told → Told → Type 0) (a b : Option Told) (e : Told) → IsTold P a b → a ≡ Some e → AreNamedApart e → (n : Told) × P e n
+told_there P None b e told is apart = absurd (cc is)
+told_there P (Some x) None e told is apart = absurd told
+told_there P (Some x) (Some n) e told is apart = let same : x ≡ e = cc is in (n, subst (λ (y : Told). P y n) same (told (subst AreNamedApart (sym same) apart)))
+
+module _ {S T : Type 0} (tells : Bool) (left : S → Option (List ℕ)) (config : Config) (options : Options) (start now : Given S) (old new : BayState) (result : Result T Stop) (sink sink' source source' : ℕ) (printed printed' : Option (List ℕ))
+    (r : Replays tells left config options start now old new result sink sink' printed printed') (m : MayComplete tells left config start now old new sink sink' source source') where
+  abbrev answers : List Answered
+  answers = answers_in (r.earlier ++ r.last)
+
+  -- no volume's versions end
+  versions_left : (v : ℕ) (s : ServedWindow) → r.last ≡ s ∷ [] → HasRefusedWrite v s → status_in result ≡ 11 → ⊥
+  versions_left v s only write_ status =
+      let a : Answered = write_.answer in
+      let here : Among (answers_in (s ∷ [])) a = among_left _ [] a (among_of _ a write_.among) in
+      let last : Among (answers_in r.last) a = subst (λ (l : List ServedWindow). Among (answers_in l) a) (sym only) here in
+      let all : Among answers a = subst (λ (l : List Answered). Among l a) (sym (answers_joined r.earlier r.last)) (among_right (answers_in r.earlier) (answers_in r.last) a last) in
+      let asks : asks_write a ≡ true = ap is_write write_.kind_is in
+      let (short, few) = one_less (answers_of v answers) a write_.refused asks (among_volume v answers a write_.volume all) in
+      let sized : length (of_volume v (requests_in answers)) ≡ length (answers_of v answers) = ap length (sym (volume_requests v answers)) ∙ length_mapped (λ (x : Answered). x.request) (answers_of v answers) in
+      let intact : IsTrue (is_broken_at r.histories v) → ⊥ = λ broken. m.bay_calm (r.cause v broken) in
+      elim (cases_lt (next_at r.histories v) (2 ^ 63)) [
+        | inl less ↦
+            let every = r.counts.unless v (λ is. (let no : 11 ≡ 7 = sym status ∙ is in absurd (omega (arith, no)))) (λ is. (let no : 11 ≡ 9 = sym status ∙ is in absurd (omega (arith, no)))) intact less in
+            absurd (omega (arith, every, sized, short))
+        | inr more ↦ spent (slice_get r.histories v) refl more few
+      ]
+    where
+      spent : (o : Option History) → slice_get r.histories v ≡ o → 2 ^ 63 ≤ option_map_or next_after o 0 → writes_in (answered_in (answers_of v answers)) + 1 ≤ writes_in (answers_of v answers) → ⊥
+      spent None none more few = absurd (omega (arith, more))
+      spent (Some h) here more few =
+          let one = r.are.each v h here in
+          let (n, begun) = told_there _ old.told new.told m.entry (r.begun m.telling) m.entry_is m.apart in
+          let room = m.versions h.base (begun v h here) r.run r.more r.given in
+          let asked : writes_to h.base.owner (requests (most_of config) (targets_of config) r.run) ≡ writes_in (answers_of v answers)
+          = (λ i. writes_to (one.owner i) (sym r.asked i)) ∙ ap (λ (l : List Request). count_by (λ (x : Request). is_write x.kind) l) (sym (volume_requests v answers)) ∙ sym (asked_writes (answers_of v answers)) in
+          let logged = logged_answered (answered_in (answers_of v answers)) (entries_of h.notes) one.answered in
+          absurd (omega (arith, more, room, asked, logged, few))
+
+  pub completes_ran : (result ≡ Err (stop.Fault TraceSource) → Rose source source') → Completes result
+  completes_ran source_is = by result r.ends refl
+    where
+      line : (refusal : TraceFault) → refusal ≢ trace.NoMemory → Refuses left refusal start now r.run → Err (stop.Fault (fault_of_trace refusal)) ≡ result → ⊥
+      line trace.Source other refuses is = m.source_calm (source_is (sym is))
+      line (trace.Bad number why) other refuses is = m.spelled number why r.run refuses
+      line trace.Spent other refuses is = m.few r.run refuses
+      line trace.NoMemory other refuses is = other refl
+
+      by : (x : Result T Stop) → EndsFor left config start now r.run r.last old.faults new.faults sink sink' x → x ≡ result → Completes x
+      by (Ok x) ends is = inl refl
+      by (Err (stop.Fault _)) (no_line refusal other only refuses) is = absurd (line refusal other refuses is)
+      by (Err (stop.Fault _)) (refused f s only told rose spent) is = elim (window_kind s.batch.requests s.answer f told) [
+        | inl part ↦ absurd (m.bay_calm (rose part))
+        | inr (inl lacks) ↦ inr (ap (λ (g : Fault). Err (stop.Fault g)) lacks)
+        | inr (inr (v, versions)) ↦ absurd (versions_left v s only (spent v versions) (ap (λ (y : Result T Stop). status_in y) (sym is) ∙ ap (λ (g : Fault). status_in {T = T} (Err (stop.Fault g))) versions))
+      ]
+      by (Err (stop.Fault _)) memory is = inr refl
+      by (Err stop.Sink) (sink_failed rose) is = absurd (m.sink_calm rose)

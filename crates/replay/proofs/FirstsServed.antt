@@ -1,0 +1,165 @@
+-- The answered requests of a volume are its first ones: all of the windows that went well, and the first ones of the window behind them.
+use Rattle.std.proofs.Common.{◌≡◌, ◌==◌, ◌<◌, ◌≤◌, ℕ, Bool, true, false, cond, List, [], ◌∷◌, ◌++◌, length, take, refl, sym, ap, subst, append-nil, Option, None, Some, arith}
+use Rattle.std.specs.Prelude.{slice_index_or, if◌then◌else◌}
+use Rattle.std.specs.List.{list_any, AllByRecursion}
+use Rattle.std.specs.Option.{option_or}
+use Rattle.wol_promise.specs.Outcomes.{Answered, answered_in, is_answered}
+use Rattle.wol_promise.specs.Ruled.{Noted}
+use Rattle.run_laws.specs.Answers.{answers_of, AreFirst}
+use Rattle.run_laws.specs.Laws.{AreAllAnswered}
+use Rattle.run_laws.proofs.Joins.{firsts_join}
+use Rattle.run_laws.proofs.ReadLines.{volume_joined}
+use Rattle.manager.specs.declared.part.WriteRefusal.TheVariants as write
+use Rattle.report.specs.declared.fault.Fault.{Fault}
+use Rattle.report.specs.declared.fault.Fault.TheVariants.{Memory}
+use Rattle.trace_windows.specs.Requests.{asked}
+use Rattle.trace_windows.specs.declared.request.Request.{Request}
+use Rattle.request_turns.specs.Entries.{AreMade}
+use Rattle.request_turns.specs.declared.outcome.Outcome.{Outcome}
+use Rattle.request_turns.specs.declared.outcome.Outcome.TheVariants as outcome
+use Rattle.request_workers.specs.Requests.{answers_to, own_requests, outcomes_of, StopsAtRefusal, told}
+use Rattle.request_workers.specs.Worked.{HasWorked}
+use Rattle.request_workers.specs.declared.desk.Desk.{Desk}
+use Rattle.request_workers.specs.declared.floor.Floor.{Floor}
+use Rattle.request_workers.specs.declared.request.Reclaim.{Reclaim}
+use Rattle.request_workers.specs.declared.request.Window.{Window}
+use Rattle.replay.specs.Endings.{fault_of_outcome, fault_of_window, fault_of_reclaim, first_refused, lacked_memory}
+use Rattle.replay.specs.Histories.{answers_in}
+use Rattle.replay.specs.Served.{ServedWindow, ServedFromStart, WasServed, WereServed}
+use Rattle.replay.specs.Sessions.{WentWell}
+use Rattle.replay.proofs.AnswersServed.{own_answers, all_both, desk_there}
+
+-- ---- One window
+
+-- nothing is answered behind a refused request
+pub none_behind : (rs : List Request) (os : List Outcome) → StopsAtRefusal false os → answered_in (answers_to rs os) ≡ []
+none_behind [] os stops = refl
+none_behind (r ∷ rs) [] stops = refl
+none_behind (r ∷ rs) (outcome.Read mark sources ∷ os) stops = absurd (cc (stops.0))
+none_behind (r ∷ rs) (outcome.Wrote place drained ∷ os) stops = absurd (cc (stops.0))
+none_behind (r ∷ rs) (outcome.NoRead refusal ∷ os) stops = none_behind rs os stops.1
+none_behind (r ∷ rs) (outcome.NoWrite refusal ∷ os) stops = none_behind rs os stops.1
+none_behind (r ∷ rs) (outcome.NotRun ∷ os) stops = none_behind rs os stops.1
+
+pub first_answered : (rs : List Request) (os : List Outcome) → StopsAtRefusal true os → answered_in (answers_to rs os) ≡ take (length (answered_in (answers_to rs os))) (answers_to rs os)
+first_answered [] os stops = refl
+first_answered (r ∷ rs) [] stops = refl
+first_answered (r ∷ rs) (outcome.Read mark sources ∷ os) stops = ap (λ (l : List Answered). record { request = asked r; outcome = told (outcome.Read mark sources) } ∷ l) (first_answered rs os stops.1)
+first_answered (r ∷ rs) (outcome.Wrote place drained ∷ os) stops = ap (λ (l : List Answered). record { request = asked r; outcome = told (outcome.Wrote place drained) } ∷ l) (first_answered rs os stops.1)
+first_answered (r ∷ rs) (outcome.NoRead refusal ∷ os) stops = rw (none_behind rs os stops.1) refl
+first_answered (r ∷ rs) (outcome.NoWrite refusal ∷ os) stops = rw (none_behind rs os stops.1) refl
+first_answered (r ∷ rs) (outcome.NotRun ∷ os) stops = rw (none_behind rs os stops.1) refl
+
+-- where nothing was refused, all requests were answered
+pub all_answered : (view : List ℕ) (rs : List Request) (os : List Outcome) (notes : List Noted) → AreMade view rs os notes → StopsAtRefusal true os → first_refused rs os ≡ None → AreAllAnswered (answers_to rs os)
+all_answered view [] os notes made stops none = tt
+all_answered view (r ∷ rs) [] notes made stops none = tt
+all_answered view (r ∷ rs) (outcome.Read mark sources ∷ os) notes (first, rest, same, entries, others) stops none = (refl, all_answered view rs os rest others stops.1 none)
+all_answered view (r ∷ rs) (outcome.Wrote place drained ∷ os) notes (first, rest, same, entries, others) stops none = (refl, all_answered view rs os rest others stops.1 none)
+all_answered view (r ∷ rs) (outcome.NoRead refusal ∷ os) notes made stops none = absurd (cc none)
+all_answered view (r ∷ rs) (outcome.NoWrite write.Full ∷ os) notes (first, rest, same, (n, one, full), others) stops none = absurd full.1
+all_answered view (r ∷ rs) (outcome.NoWrite (write.DiskFault p) ∷ os) notes made stops none = absurd (cc none)
+all_answered view (r ∷ rs) (outcome.NoWrite (write.Down p) ∷ os) notes made stops none = absurd (cc none)
+all_answered view (r ∷ rs) (outcome.NoWrite write.VersionsSpent ∷ os) notes made stops none = absurd (cc none)
+all_answered view (r ∷ rs) (outcome.NoWrite write.NoMemory ∷ os) notes made stops none = absurd (cc none)
+all_answered view (r ∷ rs) (outcome.NotRun ∷ os) notes made stops none = absurd (cc (stops.0))
+
+no_own_outcomes : (v : ℕ) (rs : List Request) → outcomes_of v rs [] ≡ []
+no_own_outcomes v [] = refl
+no_own_outcomes v (r ∷ rs) = refl
+
+no_refused : (rs : List Request) → first_refused rs [] ≡ None
+no_refused [] = refl
+no_refused (r ∷ rs) = refl
+
+or_none : (x y : Option Fault) → option_or x y ≡ None → (x ≡ None) × (y ≡ None)
+or_none None y none = (refl, none)
+or_none (Some f) y none = absurd (cc none)
+
+-- none of a volume was refused
+pub own_refused : (v : ℕ) (rs : List Request) (os : List Outcome) → first_refused rs os ≡ None → first_refused (own_requests v rs) (outcomes_of v rs os) ≡ None
+own_refused v [] os none = refl
+own_refused v (r ∷ rs) [] none = no_refused (own_requests v (r ∷ rs))
+own_refused v (r ∷ rs) (o ∷ os) none = let (here, rest) = or_none (fault_of_outcome r.volume o) (first_refused rs os) none in at (r.volume == v) here (own_refused v rs os rest)
+  where
+    at : (t : Bool) → fault_of_outcome r.volume o ≡ None → first_refused (own_requests v rs) (outcomes_of v rs os) ≡ None
+        → first_refused (cond t (r ∷ own_requests v rs) (own_requests v rs)) (cond t (o ∷ outcomes_of v rs os) (outcomes_of v rs os)) ≡ None
+    at true here rest = rw (here, rest) refl
+    at false here rest = rest
+
+-- where a window went well no request was refused
+pub well_refused : (rs : List Request) (w : Window) → fault_of_window rs w ≡ None → first_refused rs w.outcomes.items ≡ None
+well_refused rs w well = at (list_any lacked_memory w.outcomes.items) well
+  where
+    at : (t : Bool) → (if t then Some Memory else option_or (first_refused rs w.outcomes.items) (fault_of_reclaim w.fault)) ≡ None → first_refused rs w.outcomes.items ≡ None
+    at true none = absurd (cc none)
+    at false none = (or_none (first_refused rs w.outcomes.items) (fault_of_reclaim w.fault) none).0
+
+module _ {D : Type 0} (tells : Bool) (mode : Reclaim) (k : ℕ) (rs : List Request) (w : Window) (d e : Desk D) (worked : HasWorked tells rs w.outcomes.items mode k d e) where
+  -- those of one volume
+  pub window_answered : fault_of_window rs w ≡ None → AreAllAnswered (answers_of k (answers_to rs w.outcomes.items))
+  window_answered well = rw (own_answers k rs w.outcomes.items)
+      (all_answered _ (own_requests k rs) (outcomes_of k rs w.outcomes.items) worked.notes worked.made worked.stops (own_refused k rs w.outcomes.items (well_refused rs w well)))
+
+  pub window_first : AreFirst k (answers_to rs w.outcomes.items)
+  window_first =
+      subst (λ (l : List Answered). answered_in l ≡ take (length (answered_in l)) l) (sym (own_answers k rs w.outcomes.items)) (first_answered (own_requests k rs) (outcomes_of k rs w.outcomes.items) worked.stops)
+
+-- ---- Windows in a row
+
+-- all windows before the last went well
+pub data EndsWell : List ServedWindow → Type 0 where
+  never : EndsWell []
+  here : (s : ServedWindow) → EndsWell (s ∷ [])
+  later : (s : ServedWindow) (ss : List ServedWindow) → WentWell s → EndsWell ss → EndsWell (s ∷ ss)
+
+pub ends_well : (earlier last : List ServedWindow) → AllByRecursion WentWell earlier → length last ≤ 1 → EndsWell (earlier ++ last)
+ends_well [] [] well one = never
+ends_well [] (s ∷ []) well one = here s
+ends_well [] (s ∷ t ∷ last) well one = absurd (omega (arith, one))
+ends_well (s ∷ earlier) last (first, others) one = later s (earlier ++ last) first (ends_well earlier last others one)
+
+pub answers_more : (v : ℕ) (s : ServedWindow) (ss : List ServedWindow) → answers_of v (answers_in (s ∷ ss)) ≡ answers_of v (answers_to s.batch.requests s.answer.outcomes.items) ++ answers_of v (answers_in ss)
+answers_more v s ss = volume_joined v (answers_to s.batch.requests s.answer.outcomes.items) (answers_in ss)
+
+module _ {D : Type 0} (tells : Bool) (mode : Reclaim) (k : ℕ) (d : Desk D) where
+  pub was_worked : (s : ServedWindow) (f : Floor D) (ps : List _) (g : Floor D) (qs : List _) (was : WasServed tells mode s f ps g qs) → k < length f.desks.items
+      → HasWorked tells s.batch.requests s.answer.outcomes.items mode k (slice_index_or was.begun.desks.items k d) (slice_index_or g.desks.items k d) × (k < length g.desks.items)
+  was_worked s f ps g qs was lt =
+      let desks : was.begun.desks ≡ f.desks = ap (λ (x : Floor D). x.desks) was.only in
+      let less : k < length was.begun.desks.items = rw desks lt in
+      let each = λ (x : Desk D). was.run.worked k x less in
+      (each d, desk_there tells s.batch.requests s.answer.outcomes.items mode was.begun.desks.items g.desks.items k d each less)
+
+  -- all requests of windows that went well were answered
+  pub were_answered : (ss : List ServedWindow) (f : Floor D) (ps : List _) (g : Floor D) (qs : List _) → WereServed tells mode ss f ps g qs → AllByRecursion WentWell ss → k < length f.desks.items
+      → AreAllAnswered (answers_of k (answers_in ss))
+  were_answered [] f ps g qs were well lt = tt
+  were_answered (s ∷ ss) f ps g qs (h, rs, was, others) (first, rest) lt =
+      let (worked, less) = was_worked s f ps h rs was lt in
+      rw (answers_more k s ss)
+      (all_both (λ (a : Answered). is_answered a.outcome ≡ true) (answers_of k (answers_to s.batch.requests s.answer.outcomes.items)) (answers_of k (answers_in ss))
+      (window_answered tells mode k s.batch.requests s.answer (slice_index_or was.begun.desks.items k d) (slice_index_or h.desks.items k d) worked first)
+      (were_answered ss h rs g qs others rest less))
+
+  -- the answered ones of windows all but the last of which went well are the first ones
+  pub were_first : (ss : List ServedWindow) (f : Floor D) (ps : List _) (g : Floor D) (qs : List _) → WereServed tells mode ss f ps g qs → EndsWell ss → k < length f.desks.items → AreFirst k (answers_in ss)
+  were_first [] f ps g qs were never lt = refl
+  were_first (s ∷ []) f ps g qs (h, rs, was, others) (here _) lt =
+      let (worked, less) = was_worked s f ps h rs was lt in
+      subst (λ (l : List Answered). AreFirst k l) (sym (append-nil (answers_to s.batch.requests s.answer.outcomes.items)))
+      (window_first tells mode k s.batch.requests s.answer (slice_index_or was.begun.desks.items k d) (slice_index_or h.desks.items k d) worked)
+  were_first (s ∷ ss) f ps g qs (h, rs, was, others) (later _ _ first rest) lt =
+      let (worked, less) = was_worked s f ps h rs was lt in
+      firsts_join k (answers_to s.batch.requests s.answer.outcomes.items) (answers_in ss)
+      (window_answered tells mode k s.batch.requests s.answer (slice_index_or was.begun.desks.items k d) (slice_index_or h.desks.items k d) worked first)
+      (were_first ss h rs g qs others rest less)
+
+  pub served_first : (ss : List ServedWindow) (f : Floor D) (ps : List _) (g : Floor D) (qs : List _) → ServedFromStart tells mode ss f ps g qs → EndsWell ss → k < length f.desks.items → AreFirst k (answers_in ss)
+  served_first [] f ps g qs served well lt = refl
+  served_first (s ∷ ss) f ps g qs (rs, started, were) well lt = were_first (s ∷ ss) f rs g qs were well lt
+
+  pub served_answered : (ss : List ServedWindow) (f : Floor D) (ps : List _) (g : Floor D) (qs : List _) → ServedFromStart tells mode ss f ps g qs → AllByRecursion WentWell ss → k < length f.desks.items
+      → AreAllAnswered (answers_of k (answers_in ss))
+  served_answered [] f ps g qs served well lt = tt
+  served_answered (s ∷ ss) f ps g qs (rs, started, were) well lt = were_answered (s ∷ ss) f rs g qs were well lt

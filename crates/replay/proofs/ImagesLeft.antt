@@ -1,0 +1,194 @@
+-- What images a run leaves: each volume recovers to what its answered requests wrote, or to a cut of the next one.
+use Rattle.std.proofs.Common.{◌≡◌, ◌<◌, ◌⊎◌, ◌++◌, ℕ, zero, suc, Bool, true, false, cond, List, [], ◌∷◌, length, map, take, drop, refl, sym, ap, subst, ◌∙◌, Option, None, Some, is_some, inl, inr, append-nil, arith}
+use Rattle.std.specs.Prelude.{IsTrue, slice_get, unwrap_or}
+use Rattle.std.specs.List.{AllByRecursion, cons_option}
+use Rattle.std.specs.Option.{option_map_or}
+use Rattle.std.proofs.lemmas.Bool.{cases_lt, eq-eqb}
+use Rattle.wol_disk.specs.Disk.{Block}
+use Rattle.wol_bay.specs.Bay.{BayState, Told}
+use Rattle.wol_model.specs.ArrayLaws.{unversioned}
+use Rattle.wol_model.specs.Blocks.{Write, after}
+use Rattle.wol_model.specs.History as history
+use Rattle.wol_model.specs.History.{IsCut, flight_of, torn, whole, worker, writes}
+use Rattle.wol_model.specs.Images.{Images, recovered_from}
+use Rattle.wol_model.specs.Trace.{Request, payload, payloads, write_to}
+use Rattle.wol_model.specs.declared.trace.Kind.TheVariants as kind
+use Rattle.wol_promise.specs.Outcomes.{Answered, of_volume}
+use Rattle.wol_promise.specs.Ruled.{entries_of}
+use Rattle.wol_promise.specs.Run.{KeepsSound}
+use Rattle.run_laws.specs.Answers.{answered_count, answers_of, requests_in}
+use Rattle.run_laws.specs.Laws.{AreAnsweredBy}
+use Rattle.run_laws.proofs.Cuts.{cuts_are_plain}
+use Rattle.run_laws.proofs.ReadLines.{all_of, volume_requests}
+use Rattle.wol_config.specs.declared.config.Config.{Config}
+use Rattle.manager.specs.Stands.{notes_of}
+use Rattle.manager.specs.declared.station.Station.{Station}
+use Rattle.volume_images.specs.Volumes.{AreLeft, images_read, shapes_of}
+use Rattle.rack.specs.Closes.{HasFaultyPart, IsClosedVolume, RecoversTo, recovered_out}
+use Rattle.rack.specs.Racks.{base_of_station}
+use Rattle.rack.specs.Rests.{IsImageOut}
+use Rattle.rack.specs.declared.rack.ImageRest.{ImageRest}
+use Rattle.replay.specs.Histories.{AreHistories, BeginAsRead, History, is_broken, is_broken_at}
+use Rattle.replay.specs.Leaves.{LeavesImages, written_array}
+use Rattle.replay.proofs.AllOut.{recovered_all}
+use Rattle.replay.proofs.FlightServed.{HasFlight, IsInFlight, next_write, no_write}
+use Rattle.replay.proofs.HistoriesLeft.{IsHistoryAt}
+use Rattle.replay.proofs.RacksServed.{a_member}
+
+-- ---- The next request
+
+next_in : {X : Type 0} (xs : List X) (k : ℕ) (x : X) → slice_get xs k ≡ Some x → x ∷ [] ≡ take 1 (drop k xs)
+next_in [] k x here = absurd (cc here)
+next_in (y ∷ ys) zero x here = let same : y ≡ x = cc here in ap (λ z. z ∷ []) (sym same)
+next_in (y ∷ ys) (suc k) x here = next_in ys k x here
+
+of_its_volume : (v : ℕ) (xs : List Answered) (k : ℕ) (r : Request) → AllByRecursion (λ (a : Answered). a.request.volume ≡ v) xs → slice_get (requests_in xs) k ≡ Some r → r.volume ≡ v
+of_its_volume v [] k r all here = absurd (cc here)
+of_its_volume v (x ∷ xs) zero r (first, others) here = let same : x.request ≡ r = cc here in ap (λ (y : Request). y.volume) (sym same) ∙ first
+of_its_volume v (x ∷ xs) (suc k) r (first, others) here = of_its_volume v xs k r others here
+
+one_payload : (v : ℕ) (r : Request) → r.volume ≡ v → r.kind ≡ kind.Write → payloads v (r ∷ []) ≡ payload r ∷ []
+one_payload v r volume is = ap (λ k. cons_option (write_to v r k) []) is ∙ ap (λ (t : Bool). cons_option (cond t (Some (payload r)) None) []) (eq-eqb r.volume v volume)
+
+-- a cut of no writes in flight is the array
+no_cut : (a : List Block) (ws : List Write) (x : List Block) → IsCut a ws [] x → x ≡ after a ws
+no_cut a ws x (whole zero le same) = same ∙ ap (after a) (append-nil ws)
+no_cut a ws x (whole (suc k) le same) = absurd (omega (arith, le))
+no_cut a ws x (torn w one home blend) = absurd (cc one)
+
+none_or : {X : Type 0} (x : Option X) → (IsTrue (is_some x) → ⊥) → x ≡ None
+none_or None never = refl
+none_or (Some y) never = absurd (never refl)
+
+-- ---- One volume
+
+-- the requests that may have been in flight
+pub record FlightOf (config : Config) (answers : List Answered) (v : ℕ) (broken : Type 0) (entry new : Told) : Type 0 where
+  pub requests : List Request
+  pub follow : requests ≡ take (length requests) (drop (answered_count answers v) (of_volume v (requests_in answers)))
+  pub are_writes : AllByRecursion (λ (r : Request). r.kind ≡ kind.Write) requests
+  pub unless : (broken → ⊥) → requests ≡ []
+  pub cuts : v < length (shapes_of config) → (images : Images) → AreLeft config new images
+      → IsCut (recovered_from (shapes_of config) (images_read config entry) v) (payloads v (take (answered_count answers v) (of_volume v (requests_in answers)))) (payloads v requests) (recovered_from (shapes_of config) images v)
+
+module _ {D : Type 0} (tells : Bool) (config : Config) (out : List (Option (ImageRest D))) (all_out : (k : ℕ) → k < length (shapes_of config) → IsImageOut out k) (old new : BayState) (ss : List (Station D))
+    (ids : (v : ℕ) (s : Station D) → slice_get ss v ≡ Some s → s.id ≡ v) (answers : List Answered) (hs : List History) (are : AreHistories (IsTrue tells) config answers hs)
+    (at : (v : ℕ) (h : History) → slice_get hs v ≡ Some h → IsHistoryAt tells config out old new ss v h)
+    (flew : (v : ℕ) (s : Station D) (c : IsClosedVolume tells config out old new s) → slice_get ss v ≡ Some s → HasFlight (answers_of v answers) (notes_of c.entries))
+    (entry opened left_ : Told) (begun : BeginAsRead config entry hs) (same_faulty : opened.faulty ≡ entry.faulty)
+    (faulty : (s : Station D) (c : IsClosedVolume tells config out old new s) → (flight_of (entries_of (notes_of c.entries)) ≡ None → ⊥) → HasFaultyPart tells config s.id (base_of_station s).volume.began.view opened left_)
+    (recovers : (s : Station D) (c : IsClosedVolume tells config out old new s) → RecoversTo config out s c.entries left_) where
+  module _ (v : ℕ) (h : History) (here : slice_get hs v ≡ Some h) where
+    abbrev hist : IsHistoryAt tells config out old new ss v h
+    hist = at v h here
+
+    abbrev station : Station D
+    station = hist.station
+
+    abbrev entries : List history.Entry
+    entries = entries_of (notes_of hist.closed.entries)
+
+    abbrev array : List Block
+    array = recovered_from (shapes_of config) (images_read config entry) v
+
+    abbrev asked_writes : List Write
+    asked_writes = payloads v (take (answered_count answers v) (of_volume v (requests_in answers)))
+
+    id : station.id ≡ v
+    id = ids v station hist.there
+
+    array_is : (base_of_station station).volume.began.array ≡ array
+    array_is = ap (λ (x : History). x.base.array) (sym hist.is) ∙ (begun v h here).array ∙ ap (recovered_from (shapes_of config) (images_read config entry)) (are.each v h here).owner
+
+    answered : AreAnsweredBy v answers entries
+    answered = subst (λ (x : History). AreAnsweredBy v answers (entries_of x.notes)) hist.is (are.each v h here).answered
+
+    broken_is : is_broken_at hs v ≡ is_some (flight_of entries)
+    broken_is = ap (λ (o : Option History). option_map_or is_broken o false) here ∙ ap is_broken hist.is
+
+    recovered_is : (images : Images) → AreLeft config left_ images → recovered_out config out images station.id ≡ recovered_from (shapes_of config) images v
+    recovered_is images left = recovered_all config out all_out images left.count station.id ∙ ap (recovered_from (shapes_of config) images) id
+
+    cut_is : (ws : List Write) → flight_of entries ≡ Some ws ⊎ ((flight_of entries ≡ None) × (ws ≡ [])) → v < length (shapes_of config) → (images : Images) → AreLeft config left_ images
+        → IsCut array asked_writes (map unversioned ws) (recovered_from (shapes_of config) images v)
+    cut_is ws flight lt images left =
+        let fs : unwrap_or (flight_of entries) [] ≡ ws = elim flight [
+          | inl some ↦ ap (λ (o : Option (List Write)). unwrap_or o []) some
+          | inr (none, empty) ↦ ap (λ (o : Option (List Write)). unwrap_or o []) none ∙ sym empty
+        ] in
+        let raw = (recovers station hist.closed).cut images left in
+        let with_flight = subst (λ (l : List Write). IsCut (base_of_station station).volume.began.array (writes entries) l (recovered_out config out images station.id)) fs raw in
+        let with_array = subst (λ (a : List Block). IsCut a (writes entries) ws (recovered_out config out images station.id)) array_is with_flight in
+        let all = subst (λ (x : List Block). IsCut array (writes entries) ws x) (recovered_is images left) with_array in
+        cuts_are_plain v array (recovered_from (shapes_of config) images v) answers entries ws (are.first v) answered all
+
+    whole_is : flight_of entries ≡ None → (images : Images) → AreLeft config left_ images → recovered_from (shapes_of config) images v ≡ written_array config answers entry v
+    whole_is none images left =
+        let raw : recovered_from (shapes_of config) images v ≡ after array (writes entries)
+        = sym (recovered_is images left) ∙ (recovers station hist.closed).whole images left none ∙ ap (λ (a : List Block). after a (writes entries)) array_is in
+        let cut : IsCut array (writes entries) [] (recovered_from (shapes_of config) images v) = whole 0 (omega arith) (raw ∙ ap (after array) (sym (append-nil (writes entries)))) in
+        no_cut array asked_writes (recovered_from (shapes_of config) images v) (cuts_are_plain v array (recovered_from (shapes_of config) images v) answers entries [] (are.first v) answered cut)
+
+    flying : (ws : List Write) → flight_of entries ≡ Some ws → IsInFlight (answers_of v answers) ws → FlightOf config answers v (IsTrue (is_broken_at hs v)) entry left_
+    flying [] some no_write = record { requests = []; follow = refl; are_writes = tt; unless = λ whole. refl; cuts = cut_is [] (inl some) }
+    flying (w ∷ (u ∷ ws)) some flight = elim flight [ ]
+    flying (w ∷ []) some (next_write _ r is) =
+        let next : slice_get (of_volume v (requests_in answers)) (answered_count answers v) ≡ Some r = ap (λ (l : List Request). slice_get l (answered_count answers v)) (sym (volume_requests v answers)) ∙ is.next in
+        let volume : r.volume ≡ v = of_its_volume v (answers_of v answers) (answered_count answers v) r (all_of v answers) is.next in
+        let written : map unversioned (w ∷ []) ≡ payloads v (r ∷ []) = ap (λ (x : Write). x ∷ []) is.same ∙ sym (one_payload v r volume is.kind_is) in
+        record {
+          requests = r ∷ [];
+          follow = next_in (of_volume v (requests_in answers)) (answered_count answers v) r next;
+          are_writes = (is.kind_is, tt);
+          unless = λ whole. absurd (whole (broken_is ∙ ap is_some some));
+          cuts = λ lt images left. subst (λ (l : List Write). IsCut array asked_writes l (recovered_from (shapes_of config) images v)) written (cut_is (w ∷ []) (inl some) lt images left);
+        }
+
+    flight_here : FlightOf config answers v (IsTrue (is_broken_at hs v)) entry left_
+    flight_here = by (flight_of entries) refl
+      where
+        by : (o : Option (List Write)) → flight_of entries ≡ o → FlightOf config answers v (IsTrue (is_broken_at hs v)) entry left_
+        by None none = record { requests = []; follow = refl; are_writes = tt; unless = λ whole. refl; cuts = cut_is [] (inr (none, refl)) }
+        by (Some ws) some = flying ws some (flew v station hist.closed hist.there ws some)
+
+    faulty_here : IsTrue (is_broken h) → HasFaultyPart tells config v h.base.view entry left_
+    faulty_here broken =
+        let some : is_some (flight_of entries) ≡ true = sym (ap is_broken hist.is) ∙ broken in
+        let part = faulty station hist.closed (λ none. (let no : true ≡ false = sym some ∙ ap is_some none in absurd (cc no))) in
+        let here = subst (λ (x : History). HasFaultyPart tells config v x.base.view opened left_) (sym hist.is) (subst (λ (n : ℕ). HasFaultyPart tells config n (base_of_station station).volume.began.view opened left_) id part) in
+        record {
+          more = here.more;
+          more_is = here.more_is ∙ ap (λ l. l ++ here.more) same_faulty;
+          volume = here.volume;
+          conf = here.conf;
+          conf_is = here.conf_is;
+          place = here.place;
+          among = here.among;
+          of_volume = here.of_volume;
+        }
+
+  -- ---- All of them
+
+  a_history : (v : ℕ) → v < length (shapes_of config) → (h : History) × (slice_get hs v ≡ Some h)
+  a_history v lt = a_member hs v (omega (arith, lt, are.count))
+
+  flights : (v : ℕ) → FlightOf config answers v (IsTrue (is_broken_at hs v)) entry left_
+  flights v = elim (cases_lt v (length (shapes_of config))) [
+    | inl lt ↦ let (h, here) = a_history v lt in flight_here v h here
+    | inr beyond ↦ record { requests = []; follow = refl; are_writes = tt; unless = λ whole. refl; cuts = λ lt. absurd (omega (arith, lt, beyond)) }
+  ]
+
+  pub images_left : KeepsSound (shapes_of config) (AreLeft config entry) (AreLeft config left_) → LeavesImages tells config answers hs entry left_
+  images_left sound = record {
+    faulty = faulty_here;
+    whole = λ v lt intact images left. (let (h, here) = a_history v lt in
+        whole_is v h here (none_or (flight_of (entries v h here)) (λ some. intact (broken_is v h here ∙ some))) images left);
+    cuts = record {
+      flight = λ v. (flights v).requests;
+      follow = λ v. (flights v).follow;
+      are_writes = λ v. (flights v).are_writes;
+      unless = λ v. (flights v).unless;
+      cuts = λ images left v lt. (flights v).cuts lt images left;
+    };
+    sound = sound;
+  }

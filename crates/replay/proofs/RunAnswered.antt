@@ -1,0 +1,154 @@
+-- What replaying a trace over a bay comes to, by what opening, serving and closing its rack say.
+use Rattle.std.proofs.Common.{◌≡◌, ◌<◌, ◌≤◌, ◌⊎◌, ℕ, Bool, List, length, Option, None, Some, Result, Ok, Err, sym, ap, subst, ◌∙◌, arith}
+use Rattle.std.specs.Prelude.{All, IfSome, IsTrue, MatchResult, slice_get}
+use Rattle.wol_bay.specs.Bay.{BayState, Told}
+use Rattle.wol_disk.specs.Disk.{Rose, State}
+use Rattle.wol_config.specs.declared.config.Config.{Config}
+use Rattle.volume_images.specs.Left.{AreNamedApart, IsTold}
+use Rattle.std.proofs.lemmas.List.{length-map}
+use Rattle.volume_images.specs.Volumes.{shape_in, shapes_of}
+use Rattle.manager.specs.declared.part.Part.{Part}
+use Rattle.manager.specs.declared.station.Station.{Station}
+use Rattle.manager_recovery.specs.declared.refusal.OpenRefusal.TheVariants as refusal
+use Rattle.report.specs.Names.{printed_names}
+use Rattle.report.specs.Summaries.{summary_text}
+use Rattle.report.specs.declared.fault.Fault.TheVariants.{Memory}
+use Rattle.rack.specs.Closes.{HasFaultIn, IsClosedSpindle, IsClosedVolume, IsQuiet, LeavesVolumes}
+use Rattle.rack.specs.Opens.{AreRefused, BeganWith, KeepsAllSound, WereThere}
+use Rattle.rack.specs.Owners.{HadRefused}
+use Rattle.rack.specs.Racks.{AreUnused, IsRack, IsUnused}
+use Rattle.rack.specs.Rests.{IsImageOut}
+use Rattle.rack.specs.declared.rack.Rack.{Rack}
+use Rattle.rack.specs.declared.rack.Rest.{Rest}
+use Rattle.rack.specs.declared.volume_fault.VolumeFault.TheVariants as fault
+use Rattle.spin_model.specs.Spindles.{SpindleView}
+use Rattle.request_workers.specs.Begun.{SpindlePass}
+use Rattle.request_workers.specs.Stations.{AreStations}
+use Rattle.replay.specs.NotOpened.{LeavesBay}
+use Rattle.replay.specs.Prints.{PrintsText, all_amounts}
+use Rattle.replay.specs.Replays.{Replayed, Replays, ran}
+use Rattle.replay.specs.Runs.{RunsIn, closed, first_closed, locks_of, no_memory, served}
+use Rattle.replay.specs.Sessions.{ServesSome, ServesWhole}
+use Rattle.replay.specs.declared.counting.Counted.{Counted}
+use Rattle.replay.specs.declared.given.Given.{Given}
+use Rattle.replay.specs.declared.session.Options.{Options}
+use Rattle.replay.specs.declared.stop.Stop.{Stop}
+use Rattle.replay.specs.declared.stop.Stop.TheVariants as stop
+use Rattle.replay.proofs.FirstClosed.{opened_out}
+use Rattle.replay.proofs.RacksServed.{each_station, none_closed, station_count}
+use Rattle.replay.proofs.RunClosed.{leaves_bay, runs_closed}
+use Rattle.replay.proofs.RunFlown.{began_still, run_sound}
+use Rattle.replay.proofs.RunReplayed.{replays_none, replays_some, replays_whole}
+
+-- what opening says of a rack
+pub record HasOpened {D : Type 0} (state : D → State) (tells : Bool) (config : Config) (entry opened : BayState) (r : Rack D) : Type 0 where
+  pub some : 1 ≤ length config.volumes.items
+  pub is : IsRack state config opened r
+  pub began : IsTrue tells → IfSome entry.told (λ t. AreNamedApart t → BeganWith state config t r)
+  pub there : IsTrue tells → IfSome entry.told (λ t. AreNamedApart t → WereThere config r.rest.images.items t)
+  pub refused : AreRefused tells state config entry opened r
+  pub fresh : AreUnused r.stations.items
+  pub fresh_keepers : All (λ (p : SpindlePass). IsUnused p) r.keepers.items
+  pub apart : IsTrue tells → IsTold (λ x y. AreNamedApart y) entry.told opened.told
+  pub unfaulty : ((k : ℕ) → k < length (shapes_of config) → IsImageOut r.rest.images.items k) → IsTold (λ x y. y.faulty ≡ x.faulty) entry.told opened.told
+  pub kept : IsTrue tells → IsTold (HadRefused config r.rest.images.items) entry.told opened.told
+  pub failed : (k : ℕ) (p : Part) → slice_get r.faults.items k ≡ Some (Some (fault.Refused (refusal.DiskFault p))) → HasFaultIn state r.rest ⊎ Rose entry.faults opened.faults
+  pub counts : entry.faults ≤ opened.faults
+
+-- what closing says of one
+pub record HasClosedRack {D : Type 0} (state : D → State) (tells : Bool) (config : Config) (opened left_ : BayState) (q : Rack D) (Q : Told → Told → Type 0) : Type 0 where
+  pub stations : All (IsClosedVolume tells config q.rest.images.items opened left_) q.stations.items
+  pub told : IsTrue tells → IsTold Q opened.told left_.told
+  pub kept : IsTrue tells → IsTold (HadRefused config q.rest.images.items) opened.told left_.told
+  pub volumes : (t : Told) → IsTrue tells → BeganWith state config t q → WereThere config q.rest.images.items t → All (λ (s : Station D). IsQuiet s) q.stations.items
+      → IsTold (λ old new. HadRefused config q.rest.images.items t old → LeavesVolumes config q t new) opened.told left_.told
+  pub sound : (t : Told) → IsTrue tells → BeganWith state config t q → WereThere config q.rest.images.items t → IsTold (λ old new. HadRefused config q.rest.images.items t old → KeepsAllSound config t new) opened.told left_.told
+  pub cause : HasFaultIn state q.rest → Rose opened.faults left_.faults
+  pub counts : opened.faults ≤ left_.faults
+
+module _ {D S : Type 0} (T : Type 0) (state : D → State) (tells : Bool) (left : S → Option (List ℕ)) (config : Config) (options : Options) (start now : Given S) (entry opened left_ : BayState) (r q : Rack D) (Q : Told → Told → Type 0)
+    (o : HasOpened state tells config entry opened r) (c : HasClosedRack state tells config opened left_ q Q) (faults faults' : ℕ) (printed printed' : Option (List ℕ)) where
+  abbrev Comes : Result T Stop → (faults'' : ℕ) → (printed'' : Option (List ℕ)) → Type 0
+  Comes done faults'' printed'' = Replayed tells state left config options start now entry left_ faults faults'' printed printed'' done
+
+  module _ (none : first_closed 0 r.faults.items ≡ None) where
+    all_out : (k : ℕ) → k < length (shapes_of config) → IsImageOut r.rest.images.items k
+    all_out k lt = opened_out state config opened r o.is k lt (none_closed 0 r.faults.items none k)
+
+    stations : AreStations r.stations.items
+    stations = each_station state config opened r o.is none
+
+    count : length r.stations.items ≡ length (shapes_of config)
+    count = station_count state config opened r o.is none
+
+    some : 1 ≤ length r.stations.items
+    some = let n = count in let m = length-map config.volumes.items (shape_in config) in let at = o.some in omega (arith, n, m, at)
+
+    -- sound images stay sound, over a rack with the same rest and locks
+    sound_still : q.rest ≡ r.rest → locks_of q.stations.items ≡ locks_of r.stations.items → AreStations q.stations.items → IsTrue tells → IsTold (KeepsAllSound config) entry.told left_.told
+    sound_still rest locks news telling =
+        run_sound state config q Q entry opened left_ (still entry.told (o.began telling)) (subst (λ (x : Rest D). IfSome entry.told (λ t. AreNamedApart t → WereThere config x.images.items t)) (sym rest) (o.there telling))
+        (subst (λ (x : Rest D). IsTold (HadRefused config x.images.items) entry.told opened.told) (sym rest) (o.kept telling)) (o.apart telling) (c.told telling) (λ t with was. c.sound t telling with was)
+      where
+        still : (told : Option Told) → IfSome told (λ t. AreNamedApart t → BeganWith state config t r) → IfSome told (λ t. AreNamedApart t → BeganWith state config t q)
+        still None began = tt
+        still (Some t) began = λ apart. began_still state config r q rest locks stations news t (began apart)
+
+  bay_left : q ≡ r → LeavesBay tells state config entry left_
+  bay_left same =
+      let closing = subst (λ (x : Rack D). HasClosedRack state tells config opened left_ x Q) same c in
+      leaves_bay tells state config entry opened left_ r o.is o.refused c.counts o.began o.there o.kept o.apart o.fresh closing.kept closing.volumes closing.sound
+
+  abbrev Ran : Result T Stop → (faults'' : ℕ) → (printed'' : Option (List ℕ)) → Type 0
+  Ran done faults'' printed'' = Replays tells left config options start now entry left_ done faults faults'' printed printed''
+
+  -- it wasn't served to its end, and all volumes were open
+  pub served_err : (result : Result Counted Stop) → RunsIn tells left config options start now r q faults faults' printed printed' result → (e : Stop) → result ≡ Err e → first_closed 0 r.faults.items ≡ None → Ran (Err e) faults' printed'
+  served_err result (closed f first none) e is open_ = let no : Some f ≡ None = sym first ∙ open_ in absurd (cc no)
+  served_err result (no_memory first none) e is open_ =
+      let same : stop.Fault Memory ≡ e = cc is in
+      let rest : q.rest ≡ r.rest = ap (λ (x : Rack D). x.rest) none.same in
+      let news : AreStations q.stations.items = subst (λ (x : Rack D). AreStations x.stations.items) (sym none.same) (stations first) in
+      subst (λ (x : Stop). Ran (Err x) faults' printed') same
+      (replays_none T state tells left config options start now entry opened left_ r q o.is (count first) (some first) (all_out first) o.began o.apart Q c.told o.counts c.stations o.fresh (o.unfaulty (all_out first))
+      (sound_still first rest (ap (λ (x : Rack D). locks_of x.stations.items) none.same) news) faults faults' printed printed' none news)
+  served_err result (served done first before moved from) e is open_ = at done from.served is
+    where
+      at : (x : Result Counted Stop) → MatchResult x (λ d. ServesWhole tells left config options start now before r.keepers.items from.after q.keepers.items d faults faults' printed printed')
+          (λ y. ServesSome tells left config options start y now before r.keepers.items from.after q.keepers.items faults faults' printed printed') → x ≡ Err e → Ran (Err e) faults' printed'
+      at (Ok d) w is = absurd (cc is)
+      at (Err y) w is =
+          let same : y ≡ e = cc is in
+          subst (λ (x : Stop). Ran (Err x) faults' printed') same
+          (replays_some T state tells left config options start now entry opened left_ r q o.is (count first) (some first) (all_out first) o.began o.apart Q c.told o.counts c.stations o.fresh (o.unfaulty (all_out first))
+          (sound_still first (ap (λ (x : Rack D). x.rest) from.only) (from.locks ∙ moved.locks) from.can.each) faults faults' printed printed' before moved done from y w)
+
+  pub replayed_err : (result : Result Counted Stop) → RunsIn tells left config options start now r q faults faults' printed printed' result → (e : Stop) → result ≡ Err e → Comes (Err e) faults' printed'
+  replayed_err result (closed f first none) e is =
+      let same : stop.Fault f ≡ e = cc is in
+      subst (λ (x : Stop). Comes (Err x) faults' printed') same
+      (runs_closed {T = T} tells state left config options start now entry opened left_ r q faults faults' printed printed' f o.is o.refused o.failed c.cause o.counts c.counts o.began first none (bay_left none.same))
+  replayed_err result (no_memory first none) e is = ran (Err e) (served_err result (no_memory first none) e is first)
+  replayed_err result (served done first before moved from) e is = ran (Err e) (served_err result (served done first before moved from) e is first)
+
+  -- it was, and the summary was printed or not
+  pub served_ok : (result : Result Counted Stop) → RunsIn tells left config options start now r q faults faults' printed printed' result → (counted : Counted) → result ≡ Ok counted → (spindles : List SpindleView)
+      → length spindles ≡ length (shapes_of config) → length spindles ≡ length config.volumes.items → ((k : ℕ) (s : SpindleView) → slice_get spindles k ≡ Some s → IsClosedSpindle q k s) → (done : Result T Stop) (faults'' : ℕ) (printed'' : Option (List ℕ))
+      → PrintsText done (summary_text counted.totals (printed_names config.volumes.items) (all_amounts config.powers counted.started counted.ended spindles)) faults' faults'' printed' printed'' → Ran done faults'' printed''
+  served_ok result (closed f first none) counted is spindles sized each closed_ done faults'' printed'' prints = absurd (cc is)
+  served_ok result (no_memory first none) counted is spindles sized each closed_ done faults'' printed'' prints = absurd (cc is)
+  served_ok result (served whole first before moved from) counted is spindles sized each closed_ done faults'' printed'' prints = at whole from.served is
+    where
+      at : (x : Result Counted Stop) → MatchResult x (λ d. ServesWhole tells left config options start now before r.keepers.items from.after q.keepers.items d faults faults' printed printed')
+          (λ y. ServesSome tells left config options start y now before r.keepers.items from.after q.keepers.items faults faults' printed printed') → x ≡ Ok counted → Ran done faults'' printed''
+      at (Err y) w is = absurd (cc is)
+      at (Ok d) w is =
+          let same : d ≡ counted = cc is in
+          let here = subst (λ (x : Counted). ServesWhole tells left config options start now before r.keepers.items from.after q.keepers.items x faults faults' printed printed') same w in
+          replays_whole T state tells left config options start now entry opened left_ r q o.is (count first) (some first) (all_out first) o.began o.apart Q c.told o.counts c.stations o.fresh (o.unfaulty (all_out first))
+          (sound_still first (ap (λ (x : Rack D). x.rest) from.only) (from.locks ∙ moved.locks) from.can.each) faults faults' printed printed' before moved whole from counted here spindles sized each closed_ o.fresh_keepers done faults'' printed'' prints
+
+  pub replayed_ok : (result : Result Counted Stop) → RunsIn tells left config options start now r q faults faults' printed printed' result → (counted : Counted) → result ≡ Ok counted → (spindles : List SpindleView)
+      → length spindles ≡ length (shapes_of config) → length spindles ≡ length config.volumes.items → ((k : ℕ) (s : SpindleView) → slice_get spindles k ≡ Some s → IsClosedSpindle q k s) → (done : Result T Stop) (faults'' : ℕ) (printed'' : Option (List ℕ))
+      → PrintsText done (summary_text counted.totals (printed_names config.volumes.items) (all_amounts config.powers counted.started counted.ended spindles)) faults' faults'' printed' printed'' → Comes done faults'' printed''
+  replayed_ok result runs counted is spindles sized each closed_ done faults'' printed'' prints = ran done (served_ok result runs counted is spindles sized each closed_ done faults'' printed'' prints)

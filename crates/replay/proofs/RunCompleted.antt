@@ -1,0 +1,66 @@
+-- A run over a bay in whose way nothing stands comes to its end.
+use Rattle.std.proofs.Common.{◌≡◌, ◌<◌, ◌+◌, ℕ, suc, Bool, List, [], ◌∷◌, length, refl, sym, subst, ◌∙◌, Option, None, Some, Result, Ok, Err, arith}
+use Rattle.std.specs.Prelude.{IfSome, IsTrue, slice_get}
+use Rattle.wol_disk.specs.Disk.{Rose, State}
+use Rattle.wol_bay.specs.Bay.{BayState, Told}
+use Rattle.wol_model.specs.Images.{AreSound}
+use Rattle.wol_config.specs.declared.config.Config.{Config}
+use Rattle.report.specs.Names.{printed_names}
+use Rattle.report.specs.Summaries.{summary_text}
+use Rattle.report.specs.declared.fault.Fault.TheVariants.{Memory, TraceSource}
+use Rattle.spin_model.specs.Spindles.{SpindleView}
+use Rattle.volume_images.specs.Left.{AreNamedApart}
+use Rattle.volume_images.specs.Volumes.{images_read, shapes_of}
+use Rattle.rack.specs.Closes.{HasFaultIn, IsClosedSpindle}
+use Rattle.rack.specs.declared.rack.Rack.{Rack}
+use Rattle.rack.specs.declared.volume_fault.VolumeFault.{VolumeFault}
+use Rattle.replay.specs.Completes.{Completes, MayComplete}
+use Rattle.replay.specs.Prints.{PrintsText, all_amounts}
+use Rattle.replay.specs.Runs.{RunsIn, first_closed}
+use Rattle.replay.specs.declared.counting.Counted.{Counted}
+use Rattle.replay.specs.declared.given.Given.{Given}
+use Rattle.replay.specs.declared.session.Options.{Options}
+use Rattle.replay.specs.declared.stop.Stop.{Stop}
+use Rattle.replay.specs.declared.stop.Stop.TheVariants as stop
+use Rattle.replay.proofs.CauseServed.{rose_from}
+use Rattle.replay.proofs.Completed.{completes_ran}
+use Rattle.replay.proofs.FirstClosed.{rose_to}
+use Rattle.replay.proofs.RunAnswered.{HasClosedRack, HasOpened, served_err, served_ok}
+
+all_open : (n : ℕ) (faults : List (Option VolumeFault)) → ((k : ℕ) → k < length faults → slice_get faults k ≡ Some None) → first_closed n faults ≡ None
+all_open n [] each = refl
+all_open n (f ∷ faults) each =
+    let first : f ≡ None = cc (each 0 (omega arith)) in
+    subst (λ (x : Option VolumeFault). first_closed n (x ∷ faults) ≡ None) (sym first) (all_open (n + 1) faults (λ k lt. each (suc k) (omega (arith, lt))))
+
+-- a summary that couldn't be printed is no fault of the source
+pub not_source : {T : Type 0} (done : Result T Stop) (text : List ℕ) (faults faults' : ℕ) (printed new : Option (List ℕ)) → PrintsText done text faults faults' printed new → done ≡ Err (stop.Fault TraceSource) → ⊥
+not_source (Ok x) text faults faults' printed new prints is = absurd (cc is)
+not_source (Err stop.Sink) text faults faults' printed new prints is = absurd (cc is)
+not_source (Err (stop.Fault f)) text faults faults' printed new (memory_is, calm, keeps) is = let source : f ≡ TraceSource = cc is in let no : Memory ≡ TraceSource = sym memory_is ∙ source in absurd (cc no)
+
+module _ {D S : Type 0} (T : Type 0) (state : D → State) (tells : Bool) (left : S → Option (List ℕ)) (config : Config) (options : Options) (start now : Given S) (entry opened left_ : BayState) (r q : Rack D) (Q : Told → Told → Type 0)
+    (o : HasOpened state tells config entry opened r) (c : HasClosedRack state tells config opened left_ q Q) (same_rest : q.rest ≡ r.rest) (faults faults' : ℕ) (printed printed' : Option (List ℕ)) (source source' : ℕ)
+    (complete : IsTrue tells → IfSome entry.told (λ t. AreNamedApart t → AreSound (shapes_of config) (images_read config t) → (HasFaultIn state r.rest → ⊥) → (Rose entry.faults opened.faults → ⊥)
+    → (k : ℕ) → k < length (shapes_of config) → slice_get r.faults.items k ≡ Some None)) where
+  each_open : {sink sink' : ℕ} → MayComplete tells left config start now entry left_ sink sink' source source' → first_closed 0 r.faults.items ≡ None
+  each_open m =
+      let each = subst (λ (x : Option Told). IfSome x (λ t. AreNamedApart t → AreSound (shapes_of config) (images_read config t) → (HasFaultIn state r.rest → ⊥) → (Rose entry.faults opened.faults → ⊥)
+      → (k : ℕ) → k < length (shapes_of config) → slice_get r.faults.items k ≡ Some None)) m.entry_is (complete m.telling) in
+      all_open 0 r.faults.items (λ k lt. each m.apart m.sound
+      (λ part. m.bay_calm (rose_from entry.faults opened.faults left_.faults o.counts (c.cause (subst (λ x. HasFaultIn state x) (sym same_rest) part))))
+      (λ rose. m.bay_calm (rose_to entry.faults opened.faults left_.faults rose c.counts)) k (omega (arith, lt, o.is.fault_count)))
+
+  pub complete_err : (result : Result Counted Stop) → RunsIn tells left config options start now r q faults faults' printed printed' result → (e : Stop) → result ≡ Err e
+      → (e ≡ stop.Fault TraceSource → Rose source source') → MayComplete tells left config start now entry left_ faults faults' source source' → Completes {T = T} (Err e)
+  complete_err result runs e is source_is m =
+      completes_ran tells left config options start now entry left_ (Err e) faults faults' source source' printed printed'
+      (served_err T state tells left config options start now entry opened left_ r q Q o c faults faults' printed printed' result runs e is (each_open m)) m (λ same. source_is (cc same))
+
+  pub complete_ok : (result : Result Counted Stop) → RunsIn tells left config options start now r q faults faults' printed printed' result → (counted : Counted) → result ≡ Ok counted → (spindles : List SpindleView)
+      → length spindles ≡ length (shapes_of config) → length spindles ≡ length config.volumes.items → ((k : ℕ) (s : SpindleView) → slice_get spindles k ≡ Some s → IsClosedSpindle q k s) → (done : Result T Stop) (faults'' : ℕ) (printed'' : Option (List ℕ))
+      → PrintsText done (summary_text counted.totals (printed_names config.volumes.items) (all_amounts config.powers counted.started counted.ended spindles)) faults' faults'' printed' printed''
+      → (done ≡ Err (stop.Fault TraceSource) → Rose source source') → MayComplete tells left config start now entry left_ faults faults'' source source' → Completes done
+  complete_ok result runs counted is spindles sized each closed_ done faults'' printed'' prints source_is m =
+      completes_ran tells left config options start now entry left_ done faults faults'' source source' printed printed''
+      (served_ok T state tells left config options start now entry opened left_ r q Q o c faults faults' printed printed' result runs counted is spindles sized each closed_ done faults'' printed'' prints) m source_is

@@ -1,0 +1,95 @@
+-- Why not all requests of the last window were answered: a part of the volume failed, or its versions ended.
+use Rattle.std.proofs.Common.{◌≡◌, ◌≢◌, ◌<◌, ◌^◌, ℕ, Bool, true, List, [], ◌∷◌, Option, None, Some, refl, sym, ap, subst, ◌∙◌, append-nil}
+use Rattle.std.specs.Prelude.{IsTrue, is_some, slice_get}
+use Rattle.std.specs.List.{AllByRecursion}
+use Rattle.std.specs.Option.{option_map_or}
+use Rattle.turn_lock.specs.Histories.{Begins, own}
+use Rattle.turn_lock.specs.Passes.{pass_mine, pass_number, pass_seen}
+use Rattle.wol_bay.specs.Bay.{BayState}
+use Rattle.wol_model.specs.Blocks.{Write}
+use Rattle.wol_model.specs.History.{flight_of, worker}
+use Rattle.wol_promise.specs.Outcomes.{Answered}
+use Rattle.wol_promise.specs.Ruled.{entries_of}
+use Rattle.run_laws.specs.Answers.{answers_of}
+use Rattle.run_laws.specs.Laws.{AreAllAnswered}
+use Rattle.wol_config.specs.declared.config.Config.{Config}
+use Rattle.manager.specs.declared.station.Station.{Station}
+use Rattle.report.specs.Faults.{status_of}
+use Rattle.report.specs.declared.fault.Fault.{Fault}
+use Rattle.report.specs.declared.fault.Fault.TheVariants as fault
+use Rattle.report.specs.declared.trouble.Trouble.{Trouble}
+use Rattle.report.specs.declared.trouble.Trouble.TheVariants as trouble
+use Rattle.wol_config.specs.declared.config.ConfigFault.{ConfigFault}
+use Rattle.wol_config.specs.declared.config.ConfigFault.TheVariants as config_fault
+use Rattle.report.specs.Troubles.{trouble_status}
+use Rattle.rack.specs.declared.rack.ImageRest.{ImageRest}
+use Rattle.request_turns.specs.Turns.{IsBroken, ManagerPass}
+use Rattle.request_workers.specs.Requests.{answers_to}
+use Rattle.request_workers.specs.declared.request.Reclaim.{Reclaim}
+use Rattle.replay.specs.Endings.{fault_of_window}
+use Rattle.replay.specs.Histories.{History, answers_in, is_broken_at, next_after, next_at}
+use Rattle.replay.specs.Served.{ServedWindow}
+use Rattle.replay.proofs.HistoriesLeft.{IsHistoryAt}
+use Rattle.replay.proofs.LastWindow.{IsBelow, last_answered}
+use Rattle.replay.proofs.TracesLeft.{LastServed}
+
+-- ---- Statuses
+
+trouble_some : (t : Trouble) → trouble_status t ≢ 0
+trouble_some trouble.Absent is = absurd (cc is)
+trouble_some (trouble.Length bytes) is = absurd (cc is)
+trouble_some trouble.LabelDiffers is = absurd (cc is)
+trouble_some (trouble.Damaged volume block) is = absurd (cc is)
+trouble_some (trouble.Twins v first w second) is = absurd (cc is)
+trouble_some (trouble.OutsideView logger segment) is = absurd (cc is)
+trouble_some (trouble.LoggerMissing id) is = absurd (cc is)
+trouble_some trouble.Bay is = absurd (cc is)
+trouble_some trouble.Label is = absurd (cc is)
+trouble_some trouble.Home is = absurd (cc is)
+trouble_some (trouble.Segment logger index) is = absurd (cc is)
+
+config_some : (why : ConfigFault) → status_of (fault.Config why) ≢ 0
+config_some config_fault.NoMemory is = absurd (cc is)
+config_some why is = absurd (cc is)
+
+-- the status of a fault isn't that of success
+pub status_some : (f : Fault) → status_of f ≢ 0
+status_some fault.Words is = absurd (cc is)
+status_some (fault.Config why) is = config_some why is
+status_some (fault.Line line why) is = absurd (cc is)
+status_some (fault.Volume volume t) is = trouble_some t is
+status_some fault.ConfigSource is = absurd (cc is)
+status_some fault.TraceSource is = absurd (cc is)
+status_some fault.Memory is = absurd (cc is)
+status_some fault.Lines is = absurd (cc is)
+status_some (fault.Versions volume) is = absurd (cc is)
+
+-- ---- The last window
+
+none_flew : (o : Option (List Write)) → (is_some o ≡ true → ⊥) → o ≡ None
+none_flew None whole = refl
+none_flew (Some ws) whole = absurd (whole refl)
+
+module _ {D : Type 0} (tells : Bool) (mode : Reclaim) (config : Config) (out : List (Option (ImageRest D))) (old new : BayState) (ss : List (Station D)) (histories : List History) (v : ℕ) (h : History) (here : slice_get histories v ≡ Some h)
+    (at : IsHistoryAt tells config out old new ss v h) (numbered : pass_number at.station.worker ≡ worker) (below : flight_of (entries_of h.notes) ≡ None → AllByRecursion (IsBelow (next_after h)) h.notes)
+    (s : ServedWindow) (served : LastServed tells mode v s at.station) where
+  -- all requests of the volume were answered, where none of its parts failed and it had versions left
+  pub answered_last : (f : Fault) → fault_of_window s.batch.requests s.answer ≡ Some f → f ≢ fault.Memory → (IsTrue (is_broken_at histories v) → ⊥) → next_at histories v < 2 ^ 63
+      → AreAllAnswered (answers_of v (answers_in (s ∷ [])))
+  answered_last f is other whole few =
+      subst (λ (l : List Answered). AreAllAnswered (answers_of v l)) (sym (append-nil (answers_to s.batch.requests s.answer.outcomes.items)))
+      (last_answered tells mode v s.batch.requests s.answer served.before served.after served.worked at.closed.entries seen mine f (next_after h) is other
+      (λ broken. unbroken (subst (λ (x : History). IsBroken x.notes) (sym at.is) broken)) low
+      (subst (λ (x : History). AllByRecursion (IsBelow (next_after h)) x.notes) at.is (below (none_flew (flight_of (entries_of h.notes)) unbroken))))
+    where
+      seen : Begins (pass_seen served.after.worker) at.closed.entries
+      seen = subst (λ (p : ManagerPass D). Begins (pass_seen p) at.closed.entries) served.same at.closed.worker_part.seen
+
+      mine : own worker at.closed.entries ≡ pass_mine served.after.worker
+      mine = ap (λ n. own n at.closed.entries) (sym numbered) ∙ at.closed.worker_part.mine ∙ ap (λ (p : ManagerPass D). pass_mine p) served.same
+
+      unbroken : IsBroken h.notes → ⊥
+      unbroken broken = whole (rw here broken)
+
+      low : next_after h < 2 ^ 63
+      low = subst (λ (o : Option History). option_map_or next_after o 0 < 2 ^ 63) here few

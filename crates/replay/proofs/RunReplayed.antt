@@ -1,0 +1,321 @@
+-- Replaying a trace on a rack all of whose volumes are open.
+use Rattle.std.proofs.Common.{◌≡◌, ◌<◌, ◌≤◌, ℕ, Bool, List, [], ◌∷◌, ◌++◌, length, Option, Some, Result, Ok, Err, refl, sym, ap, subst, ◌∙◌, append-nil, inl, inr, arith}
+use Rattle.std.specs.List.{AllByRecursion}
+use Rattle.std.specs.Prelude.{All, IfSome, IsTrue, slice_get}
+use Rattle.std.proofs.lemmas.List.{length-map}
+use Rattle.wol_io.proofs.Appending.{appends_none}
+use Rattle.wol_bay.specs.Bay.{BayState, Told}
+use Rattle.wol_disk.specs.Disk.{State}
+use Rattle.wol_model.specs.Trace.{Target, TraceLine, requests, windows}
+use Rattle.wol_config.specs.declared.config.Config.{Config}
+use Rattle.volume_images.specs.Left.{AreNamedApart, IsTold}
+use Rattle.volume_images.specs.Volumes.{shape_in, shapes_of}
+use Rattle.trace_gen.specs.Generated.{target_of, targets_of}
+use Rattle.trace_windows.specs.Requests.{most_of}
+use Rattle.manager.specs.declared.station.Station.{Station}
+use Rattle.report.specs.Faults.{status_of}
+use Rattle.report.specs.Names.{printed_names}
+use Rattle.report.specs.Summaries.{summary_text}
+use Rattle.report.specs.declared.fault.Fault.{Fault}
+use Rattle.report.specs.declared.fault.Fault.TheVariants.{Memory, Volume}
+use Rattle.report.specs.declared.trouble.Trouble.{Trouble}
+use Rattle.msr_trace.specs.declared.format.TraceFault.{TraceFault}
+use Rattle.msr_trace.specs.declared.format.TraceFault.TheVariants as trace
+use Rattle.replay.specs.Stops.{fault_of_trace}
+use Rattle.replay.specs.Endings.{fault_of_window}
+use Rattle.replay.proofs.HistoriesLeft.{histories_of}
+use Rattle.rack.specs.Closes.{IsClosedSpindle, IsClosedVolume}
+use Rattle.rack.specs.Opens.{BeganWith, KeepsAllSound}
+use Rattle.rack.specs.Racks.{AreUnused, IsRack, IsUnused, base_of_station}
+use Rattle.rack.specs.Rests.{IsImageOut}
+use Rattle.rack.specs.declared.rack.Rack.{Rack}
+use Rattle.spin_model.specs.Spindles.{SpindleView}
+use Rattle.request_workers.specs.Begun.{SpindlePass}
+use Rattle.request_workers.specs.Stations.{AreStations, IsMoved}
+use Rattle.request_workers.specs.declared.floor.Floor.{Floor}
+use Rattle.replay.specs.Ended.{memory}
+use Rattle.replay.specs.Givens.{HasGiven}
+use Rattle.replay.specs.Histories.{CountAnswered, History, answers_in, is_broken_at}
+use Rattle.replay.specs.Prints.{CutsLines, PrintsText, all_amounts}
+use Rattle.replay.specs.Replays.{Replays, status_in}
+use Rattle.replay.specs.Runs.{RunsNone, ServesFrom}
+use Rattle.replay.specs.Served.{ServedFromStart, ServedWindow}
+use Rattle.replay.specs.Sessions.{AreWindowsOf, EndsBy, ServesSome, ServesWhole, lines_of_window}
+use Rattle.replay.specs.Summed.{PrintsRun, lines_asked, of_all, of_none}
+use Rattle.replay.specs.declared.counting.Counted.{Counted}
+use Rattle.replay.specs.declared.given.Given.{Given}
+use Rattle.replay.specs.declared.session.Options.{Options}
+use Rattle.replay.specs.declared.stop.Stop.{Stop}
+use Rattle.replay.specs.declared.stop.Stop.TheVariants as stop
+use Rattle.replay.proofs.CauseServed.{named_breaks, rises, rose_from}
+use Rattle.replay.proofs.CountsLeft.{counts_cut, counts_refused, counts_whole}
+use Rattle.replay.proofs.Giving.{none_given}
+use Rattle.replay.proofs.RacksServed.{at_place, closable_after, rack_closable}
+use Rattle.replay.proofs.RunCounts.{status_some}
+use Rattle.replay.proofs.RunEnded.{TellsRise, ends_stopped, ends_summed, prints_stopped, prints_summed}
+use Rattle.replay.proofs.RunKept.{RunKept, kept_is, kept_none, kept_served, none_is}
+use Rattle.replay.proofs.PassesRuled.{IsRuled}
+use Rattle.replay.proofs.ReclaimPlaced.{counts_reclaimed, none_reclaimed}
+use Rattle.replay.proofs.RunLeft.{base_same}
+use Rattle.replay.specs.Placed.{CountsReclaimed}
+use Rattle.request_turns.specs.Turns.{began as pass_began}
+use Rattle.turn_lock.specs.Passes.{IsFree, lock_id, pass_lock}
+use Rattle.wol_promise.specs.Stands.{HasHistory}
+use Rattle.replay.proofs.StationsRan.{AreNumbered, EndsOn}
+use Rattle.replay.proofs.SummaryKept.{summary_now}
+
+-- ---- Without a line
+
+no_requests : (most : ℕ) (targets : List Target) → requests most targets [] ≡ []
+unfolding requests
+no_requests most targets = refl
+
+no_windows : (config : Config) → AreWindowsOf config [] []
+unfolding windows
+no_windows config = tt
+
+-- ---- How a window ended a run
+
+module _ {D S : Type 0} (T : Type 0) (tells : Bool) (left : S → Option (List ℕ)) (config : Config) (options : Options) (start now : Given S) (entry opened left_ : BayState) (run more : List (Option TraceLine)) (earlier : List ServedWindow)
+    (h : Floor D) (ms : List SpindlePass) (g : Floor D) (qs : List SpindlePass) (faults faults' : ℕ) (printed new : Option (List ℕ)) where
+  ends_on : (e : Stop) (last : List ServedWindow) → EndsBy tells left config options start e now run more last h ms g qs faults faults' printed new → EndsOn tells h g
+  ends_on e [] (calm, keeps, inl (refusal, other, is, none_more, refuses, floor, passes)) = inl floor
+  ends_on e [] (calm, keeps, inr (is, not_run)) = inr not_run
+  ends_on e (s ∷ []) (floor, passes, stops) = inl floor
+  ends_on e (s ∷ t ∷ rest) ends = absurd ends
+
+  one_last : (e : Stop) (last : List ServedWindow) → EndsBy tells left config options start e now run more last h ms g qs faults faults' printed new → length last ≤ 1
+  one_last e [] ends = omega arith
+  one_last e (s ∷ []) ends = omega arith
+  one_last e (s ∷ t ∷ rest) ends = absurd ends
+
+  counts_some : (e : Stop) (last : List ServedWindow) → EndsBy tells left config options start e now run more last h ms g qs faults faults' printed new → (kept : RunKept tells config options.reclaim entry opened left_ run earlier last)
+      → CountAnswered (answers_in earlier) (answers_in (earlier ++ last)) (status_in {T = T} (Err e)) kept.kept
+  counts_some e [] ends kept = counts_whole earlier [] kept.kept kept.well (status_in {T = T} (Err e)) (λ v. tt)
+  counts_some e (s ∷ []) (floor, passes, inl (f, told, is, calm, prints)) kept =
+      subst (λ (x : Stop). CountAnswered (answers_in earlier) (answers_in (earlier ++ s ∷ [])) (status_in {T = T} (Err x)) kept.kept) (sym is)
+      (counts_refused earlier (s ∷ []) kept.kept kept.well (status_of f) (status_some f) (λ v not_9 whole few. kept.unless s refl f told (λ lacked. not_9 (ap status_of lacked)) v whole few))
+  counts_some e (s ∷ []) (floor, passes, inr cuts) kept = at e cuts
+    where
+      at : (x : Stop) → CutsLines x (lines_of_window config options s) faults faults' printed new → CountAnswered (answers_in earlier) (answers_in (earlier ++ s ∷ [])) (status_in {T = T} (Err x)) kept.kept
+      at stop.Sink cut = counts_cut earlier (s ∷ []) kept.kept kept.well 7 (λ is. absurd (cc is)) (λ not_7 not_9. not_7 refl)
+      at (stop.Fault f) cut = counts_cut earlier (s ∷ []) kept.kept kept.well (status_of f) (status_some f) (λ not_7 not_9. not_9 (ap status_of cut.0))
+  counts_some e (s ∷ t ∷ rest) ends kept = absurd ends
+
+-- ---- Faults that name no part
+
+trace_other : (refusal : TraceFault) (v : ℕ) (t : Trouble) → stop.Fault (fault_of_trace refusal) ≡ stop.Fault (Volume v t) → ⊥
+trace_other trace.Source v t is = absurd (cc is)
+trace_other (trace.Bad line why) v t is = absurd (cc is)
+trace_other trace.Spent v t is = absurd (cc is)
+trace_other trace.NoMemory v t is = absurd (cc is)
+
+cut_other : (e : Stop) (lines : List (List ℕ)) (faults faults' : ℕ) (printed new : Option (List ℕ)) (v : ℕ) (t : Trouble) → CutsLines e lines faults faults' printed new → e ≡ stop.Fault (Volume v t) → ⊥
+cut_other stop.Sink lines faults faults' printed new v t cuts is = absurd (cc is)
+cut_other (stop.Fault f) lines faults faults' printed new v t (memory_is, calm, some) is = let no : stop.Fault Memory ≡ stop.Fault (Volume v t) = ap (λ (x : Fault). stop.Fault x) (sym memory_is) ∙ is in absurd (cc no)
+
+text_other : {T : Type 0} (done : Result T Stop) (text : List ℕ) (faults faults' : ℕ) (printed new : Option (List ℕ)) (v : ℕ) (t : Trouble) → PrintsText done text faults faults' printed new → done ≡ Err (stop.Fault (Volume v t)) → ⊥
+text_other (Ok x) text faults faults' printed new v t prints is = absurd (cc is)
+text_other (Err stop.Sink) text faults faults' printed new v t prints is = absurd (cc is)
+text_other (Err (stop.Fault f)) text faults faults' printed new v t (memory_is, calm, keeps) is =
+    let same : f ≡ Volume v t = cc is in let no : Memory ≡ Volume v t = sym memory_is ∙ same in absurd (cc no)
+
+-- ---- The whole
+
+numbered_all : {D : Type 0} (ss : List (Station D)) → AreStations ss → (v : ℕ) (s : Station D) → slice_get ss v ≡ Some s → AreNumbered s
+numbered_all ss all v s there =
+    let (less, at) = at_place ss v s there in
+    let one = all v s less in
+    subst (λ (x : Station _). AreNumbered x) (at s) (one.worker_.number_is, one.helper_.number_is, one.keeper_.number_is)
+
+module _ {D S : Type 0} (T : Type 0) (state : D → State) (tells : Bool) (left : S → Option (List ℕ)) (config : Config) (options : Options) (start now : Given S) (entry opened left_ : BayState) (r q : Rack D)
+    (is : IsRack state config opened r) (counted_stations : length r.stations.items ≡ length (shapes_of config)) (some : 1 ≤ length r.stations.items) (all_out : (k : ℕ) → k < length (shapes_of config) → IsImageOut r.rest.images.items k)
+    (began : IsTrue tells → IfSome entry.told (λ t. AreNamedApart t → BeganWith state config t r)) (told_open : IsTrue tells → IsTold (λ old new. AreNamedApart new) entry.told opened.told)
+    (Q : Told → Told → Type 0) (told_left : IsTrue tells → IsTold Q opened.told left_.told) (opening : entry.faults ≤ opened.faults)
+    (closed : All (IsClosedVolume tells config q.rest.images.items opened left_) q.stations.items) (fresh : AreUnused r.stations.items)
+    (unfaulty : IsTold (λ x y. y.faulty ≡ x.faulty) entry.told opened.told) (sound : IsTrue tells → IsTold (KeepsAllSound config) entry.told left_.told) (faults faults' : ℕ) (printed printed' : Option (List ℕ)) where
+  -- there was no memory to serve
+  pub replays_none : RunsNone tells left config options start now r q faults faults' printed printed' → AreStations q.stations.items → Replays {T = T} tells left config options start now entry left_ (Err (stop.Fault Memory)) faults faults' printed printed'
+  replays_none runs stations =
+      let kept = kept_none state tells config entry opened left_ r q (ap (λ (x : Rack D). x.rest) runs.same) counted_stations all_out began told_open Q told_left closed stations fresh unfaulty sound (ap (λ (x : Rack D). x.stations.items) runs.same)
+      (no_requests (most_of config) (targets_of config)) options.reclaim in
+      let is_none = none_is state tells config entry opened left_ r q (ap (λ (x : Rack D). x.rest) runs.same) counted_stations all_out began told_open Q told_left closed stations fresh unfaulty sound (ap (λ (x : Rack D). x.stations.items) runs.same) (no_requests (most_of config) (targets_of config)) options.reclaim in
+      record {
+        run = [];
+        more = [];
+        given = subst (λ (g : Given S). HasGiven left (targets_of config) start g []) (sym runs.unread) (none_given left (targets_of config) start);
+        earlier = [];
+        last = [];
+        windows_ = no_windows config;
+        one = omega arith;
+        whole = λ some. absurd (some refl);
+        well = tt;
+        asked = kept.asked;
+        ends = memory;
+        histories = kept.kept;
+        are = kept.are;
+        cause = λ v broken. rose_from entry.faults opened.faults left_.faults opening (kept.cause v broken);
+        part = λ v t is. (let no : stop.Fault Memory ≡ stop.Fault (Volume v t) = cc is in absurd (cc no));
+        begun = kept.begun;
+        counts = counts_whole [] [] kept.kept kept.well 9 (λ v. tt);
+        placed = kept.placed;
+        reclaimed = subst (λ (hs : List History). CountsReclaimed [] hs) (sym is_none) (none_reclaimed tells config q.rest.images.items opened left_ q.stations.items closed (numbered_all q.stations.items stations)
+            (subst (λ (x : Rack D). AreUnused x.stations.items) (sym runs.same) fresh) (subst (λ (hs : List History). (v : ℕ) (h : History) → slice_get hs v ≡ Some h → HasHistory (IsTrue tells) h.base h.notes × AllByRecursion IsRuled h.notes) (is_none) (λ v h here. ((kept.are.each v h here).legal, kept.ruled v h here))));
+        reclaims = kept.reclaims;
+        marks = kept.marks;
+        images = kept.images;
+        summary = [];
+        summary_is = of_none (stop.Fault Memory);
+        prints = (runs.calm, inr (refl, 0, appends_none printed printed' runs.kept));
+      }
+
+  numbers : (v : ℕ) (s : Station D) → slice_get r.stations.items v ≡ Some s → AreNumbered s
+  numbers v s there =
+      let (less, at) = at_place r.stations.items v s there in
+      let one = is.stations v s less in
+      subst (λ (x : Station D). AreNumbered x) (at s) (one.worker_.number_is, one.helper_.number_is, one.keeper_.number_is)
+
+  module _ (before : Floor D) (moved : IsMoved r.stations.items before) (result : Result Counted Stop) (from : ServesFrom tells left config options start now r q faults faults' printed printed' before result) where
+    rest_same : q.rest ≡ r.rest
+    rest_same = ap (λ (x : Rack D). x.rest) from.only
+
+    targets_same : length r.stations.items ≡ length (targets_of config)
+    targets_same = counted_stations ∙ length-map config.volumes.items (shape_in config) ∙ sym (length-map config.volumes.items target_of)
+
+    stations_same : length q.stations.items ≡ length r.stations.items
+    stations_same = sym (length-map q.stations.items (λ (s : Station D). s.lock)) ∙ ap length from.locks ∙ ap length moved.locks ∙ length-map r.stations.items (λ (s : Station D). s.lock)
+
+    rise_by : (e : Stop) (run more : List (Option TraceLine)) (earlier last : List ServedWindow) (h : Floor D) (ms : List SpindlePass) (then_ : Option (List ℕ))
+        → EndsBy tells left config options start e now run more last h ms from.after q.keepers.items faults faults' then_ printed' → ServedFromStart tells options.reclaim (earlier ++ last) before r.keepers.items h ms
+        → AreWindowsOf config run (earlier ++ last) → TellsRise last entry.faults left_.faults
+    rise_by e run more earlier [] h ms then_ ends served are = λ f s only. absurd (cc only)
+    rise_by e run more earlier (s ∷ []) h ms then_ (floor, passes, stops) served are =
+        rises tells options.reclaim config q.rest.images.items opened left_ r.stations.items q.stations.items closed before from.after moved from.moved_back targets_same stations_same run earlier (s ∷ []) r.keepers.items ms are
+        (subst (λ (f : Floor D). ServedFromStart tells options.reclaim (earlier ++ s ∷ []) before r.keepers.items f ms) (sym floor) served) entry.faults opening
+    rise_by e run more earlier (s ∷ t ∷ others) h ms then_ ends served are = absurd ends
+
+    new_numbers : (v : ℕ) (s : Station D) → slice_get q.stations.items v ≡ Some s → AreNumbered s
+    new_numbers = numbered_all q.stations.items from.can.each
+
+    free : (v : ℕ) (s : Station D) → slice_get r.stations.items v ≡ Some s → IsFree s.worker × IsFree s.helper
+    free v s there =
+        let (less, at) = at_place r.stations.items v s there in
+        let one = is.stations v s less in
+        subst (λ (x : Station D). IsFree x.worker × IsFree x.helper) (at s) (one.worker_.free, one.helper_.free)
+
+    looks : (v : ℕ) (old new : Station D) → slice_get r.stations.items v ≡ Some old → slice_get q.stations.items v ≡ Some new
+        → (pass_began old.worker ≡ (base_of_station new).volume.began) × (pass_began old.helper ≡ (base_of_station new).volume.began) × (pass_began new.keeper ≡ (base_of_station new).volume.began)
+    looks v old new was now =
+        let (less, at) = at_place r.stations.items v old was in
+        let one = is.stations v old less in
+        let (within, place) = at_place q.stations.items v new now in
+        let two = from.can.each v new within in
+        let base : base_of_station new ≡ base_of_station old = base_same r.stations.items q.stations.items (from.locks ∙ moved.locks) v old new was now in
+        let own = subst (λ (x : Station D). (pass_lock x.worker ≡ lock_id x.lock) × (pass_lock x.helper ≡ lock_id x.lock)) (at old) (one.worker_.own, one.helper_.own) in
+        let keeps = subst (λ (x : Station D). pass_lock x.keeper ≡ lock_id x.lock) (place new) two.keeper_.own in
+        (ap (λ x. x.base.volume.began) own.0 ∙ sym (ap (λ b. b.volume.began) base), ap (λ x. x.base.volume.began) own.1 ∙ sym (ap (λ b. b.volume.began) base), ap (λ x. x.base.volume.began) keeps)
+
+    -- what is counted of reclaim
+    reclaimed_by : (ss : List ServedWindow) (middle : Floor D) (ms : List SpindlePass) → ServedFromStart tells options.reclaim ss before r.keepers.items middle ms → EndsOn tells middle from.after
+        → ((v : ℕ) (h : History) → slice_get (histories_of tells config q.rest.images.items opened left_ q.stations.items closed) v ≡ Some h → HasHistory (IsTrue tells) h.base h.notes × AllByRecursion IsRuled h.notes)
+        → CountsReclaimed ss (histories_of tells config q.rest.images.items opened left_ q.stations.items closed)
+    reclaimed_by ss middle ms served ends rules =
+        counts_reclaimed tells options.reclaim config q.rest.images.items opened left_ r.stations.items q.stations.items closed before middle from.after r.keepers.items ms moved from.moved_back ss served ends fresh numbers new_numbers free looks stations_same some rules
+
+    -- where a part is at fault, the history of the named volume broke
+    part_by : (e : Stop) (run more : List (Option TraceLine)) (earlier last : List ServedWindow) (h : Floor D) (ms : List SpindlePass) (then_ : Option (List ℕ))
+        → EndsBy tells left config options start e now run more last h ms from.after q.keepers.items faults faults' then_ printed' → ServedFromStart tells options.reclaim (earlier ++ last) before r.keepers.items h ms
+        → AreWindowsOf config run (earlier ++ last) → (v : ℕ) (t : Trouble) → e ≡ stop.Fault (Volume v t) → IsTrue (is_broken_at (histories_of tells config q.rest.images.items opened left_ q.stations.items closed) v)
+    part_by e run more earlier [] h ms then_ (calm, keeps, inl (refusal, other, is, none_more, refuses, floor, passes)) served are v t named = absurd (trace_other refusal v t (sym is ∙ named))
+    part_by e run more earlier [] h ms then_ (calm, keeps, inr (is, not_run)) served are v t named = let no : stop.Fault Memory ≡ stop.Fault (Volume v t) = sym is ∙ named in absurd (cc no)
+    part_by e run more earlier (s ∷ []) h ms then_ (floor, passes, inl (f, told, is, calm, prints)) served are v t named =
+        let same : f ≡ Volume v t = cc (sym is ∙ named) in
+        named_breaks tells options.reclaim config q.rest.images.items opened left_ r.stations.items q.stations.items closed before from.after moved from.moved_back targets_same stations_same run earlier s r.keepers.items ms are
+        (subst (λ (x : Floor D). ServedFromStart tells options.reclaim (earlier ++ s ∷ []) before r.keepers.items x ms) (sym floor) served) v t (subst (λ (x : Fault). fault_of_window s.batch.requests s.answer ≡ Some x) same told)
+    part_by e run more earlier (s ∷ []) h ms then_ (floor, passes, inr cuts) served are v t named = absurd (cut_other e _ faults faults' then_ printed' v t cuts named)
+    part_by e run more earlier (s ∷ u ∷ rest) h ms then_ ends served are v t named = absurd ends
+
+    -- the trace wasn't served to its end
+    pub replays_some : (e : Stop) → ServesSome tells left config options start e now before r.keepers.items from.after q.keepers.items faults faults' printed printed'
+        → Replays {T = T} tells left config options start now entry left_ (Err e) faults faults' printed printed'
+    replays_some e w =
+        let one = one_last T tells left config options start now entry opened left_ w.run w.more w.earlier w.middle w.between from.after q.keepers.items faults faults' w.then printed' e w.last w.ends in
+        let on = ends_on T tells left config options start now entry opened left_ w.run w.more w.earlier w.middle w.between from.after q.keepers.items faults faults' w.then printed' e w.last w.ends in
+        let kept = kept_served state tells config entry opened left_ r q rest_same counted_stations all_out began told_open Q told_left closed from.can.each fresh unfaulty sound options.reclaim before w.middle from.after r.keepers.items w.between moved from.moved_back from.locks numbers
+        w.run w.earlier w.last w.are w.well one w.from_start on in
+        let is_kept = kept_is state tells config entry opened left_ r q rest_same counted_stations all_out began told_open Q told_left closed from.can.each fresh unfaulty sound options.reclaim before w.middle from.after r.keepers.items w.between moved from.moved_back from.locks numbers
+        w.run w.earlier w.last w.are w.well one w.from_start on in
+        record {
+          run = w.run;
+          more = w.more;
+          given = w.given;
+          earlier = w.earlier;
+          last = w.last;
+          windows_ = w.are;
+          one = one;
+          whole = w.whole;
+          well = w.well;
+          asked = kept.asked;
+          ends = ends_stopped T tells left config options start now e w.run w.more w.last w.middle w.between from.after q.keepers.items faults faults' w.then printed' entry.faults left_.faults w.ends
+              (rise_by e w.run w.more w.earlier w.last w.middle w.between w.then w.ends w.from_start w.are);
+          histories = kept.kept;
+          are = kept.are;
+          cause = λ v broken. rose_from entry.faults opened.faults left_.faults opening (kept.cause v broken);
+          part = λ v t is. (subst (λ (hs : List History). IsTrue (is_broken_at hs v)) (sym is_kept) (part_by e w.run w.more w.earlier w.last w.middle w.between w.then w.ends w.from_start w.are v t (cc is)));
+          begun = kept.begun;
+          counts = counts_some T tells left config options start now entry opened left_ w.run w.more w.earlier w.middle w.between from.after q.keepers.items faults faults' w.then printed' e w.last w.ends kept;
+          placed = kept.placed;
+          reclaimed = subst (λ (hs : List History). CountsReclaimed (w.earlier ++ w.last) hs) (sym is_kept) (reclaimed_by (w.earlier ++ w.last) w.middle w.between w.from_start on (subst (λ (hs : List History). (v : ℕ) (h : History) → slice_get hs v ≡ Some h → HasHistory (IsTrue tells) h.base h.notes × AllByRecursion IsRuled h.notes) (is_kept) (λ v h here. ((kept.are.each v h here).legal, kept.ruled v h here))));
+          reclaims = kept.reclaims;
+          marks = kept.marks;
+          images = kept.images;
+          summary = [];
+          summary_is = of_none e;
+          prints = prints_stopped T tells left config options start now e w.run w.more w.earlier w.last w.middle w.between from.after q.keepers.items faults faults' printed w.then printed' w.printed_before w.ends;
+        }
+
+    -- it was served to its end, and the summary was printed or not
+    pub replays_whole : (counted : Counted) (w : ServesWhole tells left config options start now before r.keepers.items from.after q.keepers.items counted faults faults' printed printed') (spindles : List SpindleView)
+        → length spindles ≡ length (shapes_of config) → length spindles ≡ length config.volumes.items → ((k : ℕ) (s : SpindleView) → slice_get spindles k ≡ Some s → IsClosedSpindle q k s) → All (λ (p : SpindlePass). IsUnused p) r.keepers.items
+        → (done : Result T Stop) (faults'' : ℕ) (printed'' : Option (List ℕ))
+        → PrintsText done (summary_text counted.totals (printed_names config.volumes.items) (all_amounts config.powers counted.started counted.ended spindles)) faults' faults'' printed' printed''
+        → Replays tells left config options start now entry left_ done faults faults'' printed printed''
+    replays_whole counted w spindles count sized each unused done faults'' printed'' prints =
+        let text = summary_text counted.totals (printed_names config.volumes.items) (all_amounts config.powers counted.started counted.ended spindles) in
+        let all_windows : w.served ++ [] ≡ w.served = append-nil w.served in
+        let are = subst (λ (ss : List ServedWindow). AreWindowsOf config w.lines ss) (sym all_windows) w.are in
+        let from_start = subst (λ (ss : List ServedWindow). ServedFromStart tells options.reclaim ss before r.keepers.items from.after q.keepers.items) (sym all_windows) w.from_start in
+        let kept = kept_served state tells config entry opened left_ r q rest_same counted_stations all_out began told_open Q told_left closed from.can.each fresh unfaulty sound options.reclaim before from.after from.after r.keepers.items q.keepers.items moved from.moved_back from.locks numbers
+        w.lines w.served [] are w.well (omega arith) from_start (inl refl) in
+        let is_kept = kept_is state tells config entry opened left_ r q rest_same counted_stations all_out began told_open Q told_left closed from.can.each fresh unfaulty sound options.reclaim before from.after from.after r.keepers.items q.keepers.items moved from.moved_back from.locks numbers
+        w.lines w.served [] are w.well (omega arith) from_start (inl refl) in
+        let summary = summary_now state tells left config options start now opened r q faults faults' printed printed' is unused before from.after counted w
+        (closable_after state config opened r q (rack_closable state config opened r is) from.only from.can (from.locks ∙ moved.locks) from.same) spindles count each sized in
+        record {
+          run = w.lines;
+          more = [];
+          given = subst (λ (ls : List (Option TraceLine)). HasGiven left (targets_of config) start now ls) (sym (append-nil w.lines)) w.given;
+          earlier = w.served;
+          last = [];
+          windows_ = are;
+          one = omega arith;
+          whole = λ some. absurd (some refl);
+          well = w.well;
+          asked = kept.asked;
+          ends = ends_summed left config start now w.lines [] entry.faults left_.faults text done faults faults' faults'' printed' printed'' w.all w.calm prints;
+          histories = kept.kept;
+          are = kept.are;
+          cause = λ v broken. rose_from entry.faults opened.faults left_.faults opening (kept.cause v broken);
+          part = λ v t is. absurd (text_other done text faults' faults'' printed' printed'' v t prints is);
+          begun = kept.begun;
+          counts = counts_whole w.served [] kept.kept kept.well (status_in done) (λ v. tt);
+          placed = kept.placed;
+          reclaimed = subst (λ (hs : List History). CountsReclaimed (w.served ++ []) hs) (sym is_kept) (reclaimed_by (w.served ++ []) from.after q.keepers.items from_start (inl refl) (subst (λ (hs : List History). (v : ℕ) (h : History) → slice_get hs v ≡ Some h → HasHistory (IsTrue tells) h.base h.notes × AllByRecursion IsRuled h.notes) (is_kept) (λ v h here. ((kept.are.each v h here).legal, kept.ruled v h here))));
+          reclaims = kept.reclaims;
+          marks = kept.marks;
+          images = kept.images;
+          summary = text;
+          summary_is = of_all done text w.all summary;
+          prints = subst (λ (ss : List ServedWindow). PrintsRun done (lines_asked config options.each (answers_in ss)) text faults faults'' printed printed'') (sym all_windows)
+              (prints_summed config options w.served text done faults faults' faults'' printed printed' printed'' w.prints w.calm prints);
+        }

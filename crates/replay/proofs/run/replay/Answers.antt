@@ -1,0 +1,179 @@
+use Rattle.std.proofs.Common.{◌∙◌, Err, ap, inr, length, refl}
+use Rattle.wol_io.proofs.Appending.{keeps_same}
+use Rattle.std.proofs.lemmas.List.{length-map}
+use Rattle.volume_images.specs.Volumes.{shape_in}
+use Rattle.replay.proofs.Closed.{closable_now, home_outs, journals_now, outs_same, same_rest}
+use Rattle.replay.proofs.RacksServed.{can_serve}
+use Rattle.replay.specs.Completes.{Completes}
+use Rattle.replay.specs.Givens.{faults_of}
+use Rattle.replay.specs.Replays as replays
+use Rattle.replay.specs.declared.stop.Stop.{Stop}
+use Rattle.replay.proofs.RunAnswered.{replayed_err, replayed_ok}
+use Rattle.replay.proofs.RunCompleted.{complete_err, complete_ok, not_source}
+use Rattle.replay.proofs.Stopped.{same_stop}
+use Rattle.replay.proofs.run.replay.Goals as goal
+
+pub returns-in_default-clause-home : goal.returns-in_default-clause-home
+returns-in_default-clause-home g c = home_outs c.args.config.now (g.B.Bay.state c.args.bay.now) (g.B.Bay.state c.open_all.new.bay) c.requires.home c.in_default.ensures.home
+
+pub replay_in-served-requires-clause-can_serve : goal.replay_in-served-requires-clause-can_serve
+replay_in-served-requires-clause-can_serve g c κs within = λ every. can_serve g.B.Part.Disk.state c.args.config.now (g.B.Bay.state c.open_all.new.bay) c.in-Ok.rack c.in-Ok.ensures.rack every
+
+pub close_all-spindles-requires-clause-rack : goal.close_all-spindles-requires-clause-rack
+close_all-spindles-requires-clause-rack g c =
+    let run = c.replay_in-served in
+    closable_now g.B.Part.Disk.state g.B.Part.Disk.tells g.S.Source.left c.args.config.now c.args.options c.args.given.now run.new.given (g.B.Bay.state c.open_all.new.bay) c.in-Ok.rack run.new.rack
+    (g.K.Sink.faults c.args.out.now) (g.K.Sink.faults run.new.out) (g.K.Sink.taken c.args.out.now) (g.K.Sink.taken run.new.out) c.in-Ok.ensures.rack run.result run.ensures.runs
+
+pub returns-in_err-counted-clause-outs : goal.returns-in_err-counted-clause-outs
+returns-in_err-counted-clause-outs g c =
+    let run = c.replay_in-served in
+    outs_same g.B.Part.Disk.state g.B.Part.Disk.tells g.S.Source.left c.args.config.now c.args.options c.args.given.now run.new.given (g.B.Bay.state c.open_all.new.bay) c.in-Ok.rack run.new.rack
+    (g.K.Sink.faults c.args.out.now) (g.K.Sink.faults run.new.out) (g.K.Sink.taken c.args.out.now) (g.K.Sink.taken run.new.out) c.in-Ok.ensures.rack run.result run.ensures.runs
+    (g.B.Bay.state c.args.bay.now) (g.B.Bay.state c.close_all-spindles.new.bay) c.requires.home c.in-Ok.ensures.out c.close_all-spindles.ensures.home
+
+pub returns-in_err-counted-clause-home : goal.returns-in_err-counted-clause-home
+returns-in_err-counted-clause-home g c =
+    let run = c.replay_in-served in
+    home_outs c.args.config.now (g.B.Bay.state c.args.bay.now) (g.B.Bay.state c.close_all-spindles.new.bay) c.requires.home
+    (outs_same g.B.Part.Disk.state g.B.Part.Disk.tells g.S.Source.left c.args.config.now c.args.options c.args.given.now run.new.given (g.B.Bay.state c.open_all.new.bay) c.in-Ok.rack run.new.rack
+    (g.K.Sink.faults c.args.out.now) (g.K.Sink.faults run.new.out) (g.K.Sink.taken c.args.out.now) (g.K.Sink.taken run.new.out) c.in-Ok.ensures.rack run.result run.ensures.runs
+    (g.B.Bay.state c.args.bay.now) (g.B.Bay.state c.close_all-spindles.new.bay) c.requires.home c.in-Ok.ensures.out c.close_all-spindles.ensures.home)
+
+pub returns-clause-outs : goal.returns-clause-outs
+returns-clause-outs g c =
+    let run = c.replay_in-served in
+    outs_same g.B.Part.Disk.state g.B.Part.Disk.tells g.S.Source.left c.args.config.now c.args.options c.args.given.now run.new.given (g.B.Bay.state c.open_all.new.bay) c.in-Ok.rack run.new.rack
+    (g.K.Sink.faults c.args.out.now) (g.K.Sink.faults run.new.out) (g.K.Sink.taken c.args.out.now) (g.K.Sink.taken run.new.out) c.in-Ok.ensures.rack run.result run.ensures.runs
+    (g.B.Bay.state c.args.bay.now) (g.B.Bay.state c.close_all-spindles.new.bay) c.requires.home c.in-Ok.ensures.out c.close_all-spindles.ensures.home
+
+pub returns-clause-home : goal.returns-clause-home
+returns-clause-home g c =
+    let run = c.replay_in-served in
+    home_outs c.args.config.now (g.B.Bay.state c.args.bay.now) (g.B.Bay.state c.close_all-spindles.new.bay) c.requires.home
+    (outs_same g.B.Part.Disk.state g.B.Part.Disk.tells g.S.Source.left c.args.config.now c.args.options c.args.given.now run.new.given (g.B.Bay.state c.open_all.new.bay) c.in-Ok.rack run.new.rack
+    (g.K.Sink.faults c.args.out.now) (g.K.Sink.faults run.new.out) (g.K.Sink.taken c.args.out.now) (g.K.Sink.taken run.new.out) c.in-Ok.ensures.rack run.result run.ensures.runs
+    (g.B.Bay.state c.args.bay.now) (g.B.Bay.state c.close_all-spindles.new.bay) c.requires.home c.in-Ok.ensures.out c.close_all-spindles.ensures.home)
+
+pub print_summary-requires-clause-journals : goal.print_summary-requires-clause-journals
+print_summary-requires-clause-journals g c =
+    let run = c.replay_in-served in
+    rw c.deref.ensures.value
+    (journals_now g.B.Part.Disk.state g.B.Part.Disk.tells g.S.Source.left c.args.config.now c.args.options c.args.given.now run.new.given (g.B.Bay.state c.open_all.new.bay) c.in-Ok.rack run.new.rack
+    (g.K.Sink.faults c.args.out.now) (g.K.Sink.faults run.new.out) (g.K.Sink.taken c.args.out.now) (g.K.Sink.taken run.new.out) c.in-Ok.ensures.rack c.in-Ok.ensures.fresh_keepers run.result run.ensures.runs
+    c.in_ok-counted.counted c.in_ok-counted.was c.close_all-spindles.result.items c.close_all-spindles.ensures.count c.close_all-spindles.ensures.spindles)
+
+pub returns-in_default-clause-replays : goal.returns-in_default-clause-replays
+returns-in_default-clause-replays g c = replays.no_memory (record { unread = refl; calm = refl; kept = keeps_same (g.K.Sink.taken c.args.out.now) }) (record { left = c.in_default.ensures.left; sound = c.in_default.ensures.sound })
+
+pub returns-in_err-counted-clause-replays : goal.returns-in_err-counted-clause-replays
+returns-in_err-counted-clause-replays g c =
+    let run = c.replay_in-served in
+    let opened = c.in-Ok.ensures in
+    let closed = c.close_all-spindles.ensures in
+    same_stop (λ done. replays.Replayed g.B.Part.Disk.tells g.B.Part.Disk.state g.S.Source.left c.args.config.now c.args.options c.args.given.now run.new.given (g.B.Bay.state c.args.bay.now) (g.B.Bay.state c.close_all-spindles.new.bay)
+    (g.K.Sink.faults c.args.out.now) (g.K.Sink.faults run.new.out) (g.K.Sink.taken c.args.out.now) (g.K.Sink.taken run.new.out) done) c.from_residual.result (λ e is. replayed_err _ g.B.Part.Disk.state g.B.Part.Disk.tells g.S.Source.left c.args.config.now c.args.options c.args.given.now run.new.given
+    (g.B.Bay.state c.args.bay.now) (g.B.Bay.state c.open_all.new.bay) (g.B.Bay.state c.close_all-spindles.new.bay) c.in-Ok.rack run.new.rack _
+    (record {
+      some = c.requires.valid.count.0;
+      is = opened.rack;
+      began = opened.began;
+      there = opened.there;
+      refused = opened.refused;
+      fresh = opened.fresh;
+      fresh_keepers = opened.fresh_keepers;
+      apart = opened.apart;
+      unfaulty = opened.unfaulty;
+      kept = opened.kept;
+      failed = opened.failed;
+      counts = opened.counts;
+    })
+    (record { stations = closed.stations; told = closed.parts; kept = closed.kept; volumes = closed.volumes; sound = closed.sound; cause = closed.cause; counts = closed.counts })
+    (g.K.Sink.faults c.args.out.now) (g.K.Sink.faults run.new.out) (g.K.Sink.taken c.args.out.now) (g.K.Sink.taken run.new.out) run.result run.ensures.runs e is) c.in_err-counted.was c.from_residual.ensures.1
+
+pub returns-clause-replays : goal.returns-clause-replays
+returns-clause-replays g c =
+    let run = c.replay_in-served in
+    let opened = c.in-Ok.ensures in
+    let closed = c.close_all-spindles.ensures in
+    replayed_ok _ g.B.Part.Disk.state g.B.Part.Disk.tells g.S.Source.left c.args.config.now c.args.options c.args.given.now run.new.given
+    (g.B.Bay.state c.args.bay.now) (g.B.Bay.state c.open_all.new.bay) (g.B.Bay.state c.close_all-spindles.new.bay) c.in-Ok.rack run.new.rack _
+    (record {
+      some = c.requires.valid.count.0;
+      is = opened.rack;
+      began = opened.began;
+      there = opened.there;
+      refused = opened.refused;
+      fresh = opened.fresh;
+      fresh_keepers = opened.fresh_keepers;
+      apart = opened.apart;
+      unfaulty = opened.unfaulty;
+      kept = opened.kept;
+      failed = opened.failed;
+      counts = opened.counts;
+    })
+    (record { stations = closed.stations; told = closed.parts; kept = closed.kept; volumes = closed.volumes; sound = closed.sound; cause = closed.cause; counts = closed.counts })
+    (g.K.Sink.faults c.args.out.now) (g.K.Sink.faults run.new.out) (g.K.Sink.taken c.args.out.now) (g.K.Sink.taken run.new.out) run.result run.ensures.runs c.in_ok-counted.counted c.in_ok-counted.was c.deref.result.now
+    (ap length c.deref.ensures.value ∙ closed.count) (ap length c.deref.ensures.value ∙ closed.count ∙ length-map c.args.config.now.volumes.items (shape_in c.args.config.now))
+    (rw c.deref.ensures.value closed.spindles) c.print_summary.result (g.K.Sink.faults c.print_summary.new.out) (g.K.Sink.taken c.print_summary.new.out) c.print_summary.ensures.prints
+
+pub returns-in_default-clause-complete : goal.returns-in_default-clause-complete
+returns-in_default-clause-complete g c = λ may. inr refl
+
+pub returns-in_err-counted-clause-complete : goal.returns-in_err-counted-clause-complete
+returns-in_err-counted-clause-complete g c = λ may.
+    let run = c.replay_in-served in
+    let opened = c.in-Ok.ensures in
+    let closed = c.close_all-spindles.ensures in
+    same_stop (λ done. Completes done) c.from_residual.result (λ e is. complete_err _ g.B.Part.Disk.state g.B.Part.Disk.tells g.S.Source.left c.args.config.now c.args.options c.args.given.now run.new.given
+    (g.B.Bay.state c.args.bay.now) (g.B.Bay.state c.open_all.new.bay) (g.B.Bay.state c.close_all-spindles.new.bay) c.in-Ok.rack run.new.rack _
+    (record {
+      some = c.requires.valid.count.0;
+      is = opened.rack;
+      began = opened.began;
+      there = opened.there;
+      refused = opened.refused;
+      fresh = opened.fresh;
+      fresh_keepers = opened.fresh_keepers;
+      apart = opened.apart;
+      unfaulty = opened.unfaulty;
+      kept = opened.kept;
+      failed = opened.failed;
+      counts = opened.counts;
+    })
+    (record { stations = closed.stations; told = closed.parts; kept = closed.kept; volumes = closed.volumes; sound = closed.sound; cause = closed.cause; counts = closed.counts })
+    (same_rest g.B.Part.Disk.state g.B.Part.Disk.tells g.S.Source.left c.args.config.now c.args.options c.args.given.now run.new.given (g.B.Bay.state c.open_all.new.bay) c.in-Ok.rack run.new.rack
+    (g.K.Sink.faults c.args.out.now) (g.K.Sink.faults run.new.out) (g.K.Sink.taken c.args.out.now) (g.K.Sink.taken run.new.out) opened.rack run.result run.ensures.runs)
+    (g.K.Sink.faults c.args.out.now) (g.K.Sink.faults run.new.out) (g.K.Sink.taken c.args.out.now) (g.K.Sink.taken run.new.out)
+    (faults_of g.S.Source.faults c.args.given.now) (faults_of g.S.Source.faults run.new.given) opened.complete run.result run.ensures.runs e is
+    (λ same. run.ensures.source (is ∙ ap (λ (x : Stop). Err x) same)) may) c.in_err-counted.was c.from_residual.ensures.1
+
+pub returns-clause-complete : goal.returns-clause-complete
+returns-clause-complete g c = λ may.
+    let run = c.replay_in-served in
+    let opened = c.in-Ok.ensures in
+    let closed = c.close_all-spindles.ensures in
+    complete_ok _ g.B.Part.Disk.state g.B.Part.Disk.tells g.S.Source.left c.args.config.now c.args.options c.args.given.now run.new.given
+    (g.B.Bay.state c.args.bay.now) (g.B.Bay.state c.open_all.new.bay) (g.B.Bay.state c.close_all-spindles.new.bay) c.in-Ok.rack run.new.rack _
+    (record {
+      some = c.requires.valid.count.0;
+      is = opened.rack;
+      began = opened.began;
+      there = opened.there;
+      refused = opened.refused;
+      fresh = opened.fresh;
+      fresh_keepers = opened.fresh_keepers;
+      apart = opened.apart;
+      unfaulty = opened.unfaulty;
+      kept = opened.kept;
+      failed = opened.failed;
+      counts = opened.counts;
+    })
+    (record { stations = closed.stations; told = closed.parts; kept = closed.kept; volumes = closed.volumes; sound = closed.sound; cause = closed.cause; counts = closed.counts })
+    (same_rest g.B.Part.Disk.state g.B.Part.Disk.tells g.S.Source.left c.args.config.now c.args.options c.args.given.now run.new.given (g.B.Bay.state c.open_all.new.bay) c.in-Ok.rack run.new.rack
+    (g.K.Sink.faults c.args.out.now) (g.K.Sink.faults run.new.out) (g.K.Sink.taken c.args.out.now) (g.K.Sink.taken run.new.out) opened.rack run.result run.ensures.runs)
+    (g.K.Sink.faults c.args.out.now) (g.K.Sink.faults run.new.out) (g.K.Sink.taken c.args.out.now) (g.K.Sink.taken run.new.out)
+    (faults_of g.S.Source.faults c.args.given.now) (faults_of g.S.Source.faults run.new.given) opened.complete run.result run.ensures.runs c.in_ok-counted.counted c.in_ok-counted.was c.deref.result.now
+    (ap length c.deref.ensures.value ∙ closed.count) (ap length c.deref.ensures.value ∙ closed.count ∙ length-map c.args.config.now.volumes.items (shape_in c.args.config.now))
+    (rw c.deref.ensures.value closed.spindles) c.print_summary.result (g.K.Sink.faults c.print_summary.new.out) (g.K.Sink.taken c.print_summary.new.out) c.print_summary.ensures.prints
+    (λ same. absurd (not_source c.print_summary.result _ (g.K.Sink.faults run.new.out) (g.K.Sink.faults c.print_summary.new.out) (g.K.Sink.taken run.new.out) (g.K.Sink.taken c.print_summary.new.out) c.print_summary.ensures.prints same)) may

@@ -1,0 +1,53 @@
+-- When a run has to come to its end.
+use Rattle.std.specs.Prelude.{◌≡◌, ◌⊎◌, ◌≤◌, ◌^◌, ◌+◌, ◌++◌, ℕ, Bool, true, false, List, Option, Some, Result, Err, IsOk, IsTrue}
+use Rattle.std.specs.List.{count_by}
+use Rattle.wol_disk.specs.Disk.{Rose}
+use Rattle.wol_bay.specs.Bay.{BayState, Told}
+use Rattle.wol_model.specs.Images.{AreSound}
+use Rattle.wol_model.specs.Trace.{Request, TraceLine, requests}
+use Rattle.wol_model.specs.declared.trace.Kind.{Kind}
+use Rattle.wol_model.specs.declared.trace.Kind.TheVariants as kind
+use Rattle.wol_promise.specs.Manager.{Base}
+use Rattle.wol_promise.specs.Outcomes.{of_volume}
+use Rattle.wol_config.specs.declared.config.Config.{Config}
+use Rattle.volume_images.specs.Left.{AreNamedApart}
+use Rattle.volume_images.specs.Volumes.{images_read, shapes_of}
+use Rattle.rack.specs.Owners.{IsBegun}
+use Rattle.report.specs.declared.fault.Fault.TheVariants.{Memory}
+use Rattle.msr_trace.specs.declared.format.BadLine.{BadLine}
+use Rattle.msr_trace.specs.declared.format.TraceFault.TheVariants as trace
+use Rattle.trace_gen.specs.Generated.{targets_of}
+use Rattle.trace_windows.specs.Requests.{most_of}
+use Rattle.replay.specs.Givens.{HasGiven, Refuses}
+use Rattle.replay.specs.declared.given.Given.{Given}
+use Rattle.replay.specs.declared.stop.Stop.{Stop}
+use Rattle.replay.specs.declared.stop.Stop.TheVariants as stop
+
+-- it is a write
+abbrev pub is_write : Kind → Bool
+is_write kind.Read = false
+is_write kind.Write = true
+
+-- how many of these requests are writes to volume v
+abbrev pub writes_to : (v : ℕ) → List Request → ℕ
+writes_to v rs = count_by (λ (r : Request). is_write r.kind) (of_volume v rs)
+
+-- Nothing stands in the way of a run: the images at entry are sound as they read; no call failed; no line is bad or one too many;
+-- and each volume has versions for its writes.
+pub record MayComplete {S : Type 0} (tells : Bool) (left : S → Option (List ℕ)) (config : Config) (start now : Given S) (old new : BayState) (sink sink' source source' : ℕ) : Type 0 where
+  pub telling : IsTrue tells
+  pub entry : Told
+  pub entry_is : old.told ≡ Some entry
+  pub apart : AreNamedApart entry
+  pub sound : AreSound (shapes_of config) (images_read config entry)
+  pub bay_calm : Rose old.faults new.faults → ⊥
+  pub sink_calm : Rose sink sink' → ⊥
+  pub source_calm : Rose source source' → ⊥
+  pub spelled : (line : ℕ) (why : BadLine) (ls : List (Option TraceLine)) → Refuses left (trace.Bad line why) start now ls → ⊥
+  pub few : (ls : List (Option TraceLine)) → Refuses left trace.Spent start now ls → ⊥
+  pub versions : (b : Base) → IsBegun config (images_read config entry) b → (run more : List (Option TraceLine)) → HasGiven left (targets_of config) start now (run ++ more)
+      → b.next + writes_to b.owner (requests (most_of config) (targets_of config) run) ≤ 2 ^ 63
+
+-- it came to its end, or there was no memory
+abbrev pub Completes : {T : Type 0} → Result T Stop → Type 0
+Completes result = IsOk result ⊎ (result ≡ Err (stop.Fault Memory))

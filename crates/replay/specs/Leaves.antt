@@ -1,0 +1,30 @@
+-- What images a run over open volumes leaves in a bay, where it tells them.
+use Rattle.std.specs.Prelude.{◌≡◌, ◌<◌, ℕ, Bool, List, length, take, Some, slice_get, IsTrue}
+use Rattle.wol_disk.specs.Disk.{Block}
+use Rattle.wol_bay.specs.Bay.{Told}
+use Rattle.wol_model.specs.Blocks.{after}
+use Rattle.wol_model.specs.Images.{Images, recovered_from}
+use Rattle.wol_model.specs.Trace.{payloads}
+use Rattle.wol_promise.specs.Outcomes.{Answered, of_volume}
+use Rattle.wol_promise.specs.Run.{KeepsSound, LeavesCuts}
+use Rattle.run_laws.specs.Answers.{answered_count, requests_in}
+use Rattle.wol_config.specs.declared.config.Config.{Config}
+use Rattle.rack.specs.Closes.{HasFaultyPart}
+use Rattle.volume_images.specs.Volumes.{AreLeft, images_read, shapes_of}
+use Rattle.replay.specs.Histories.{History, is_broken, is_broken_at}
+
+-- what volume v recovers to of the images at entry as they read, behind what its answered requests wrote
+abbrev pub written_array : Config → List Answered → (entry : Told) → (v : ℕ) → List Block
+written_array config answers entry v = after (recovered_from (shapes_of config) (images_read config entry) v) (payloads v (take (answered_count answers v) (of_volume v (requests_in answers))))
+
+-- What a crash may leave of the volumes, by their histories and the answers to the requests.
+pub record LeavesImages (tells : Bool) (config : Config) (answers : List Answered) (histories : List History) (entry new : Told) : Type 0 where
+  -- where a call of a disk of a volume failed, a part of it had a fault
+  pub faulty : (v : ℕ) (h : History) → slice_get histories v ≡ Some h → IsTrue (is_broken h) → HasFaultyPart tells config v h.base.view entry new
+  -- whatever images a crash leaves, a volume recovers to what its answered requests wrote
+  pub whole : (v : ℕ) → v < length (shapes_of config) → (IsTrue (is_broken_at histories v) → ⊥) → (images : Images) → AreLeft config new images
+      → recovered_from (shapes_of config) images v ≡ written_array config answers entry v
+  -- .. or, where a call failed, to a cut of the writes that were in flight
+  pub cuts : LeavesCuts (shapes_of config) (AreLeft config new) (images_read config entry) (requests_in answers) (answered_count answers) (λ v. IsTrue (is_broken_at histories v))
+  -- sound images stay sound
+  pub sound : KeepsSound (shapes_of config) (AreLeft config entry) (AreLeft config new)

@@ -1,0 +1,80 @@
+-- What replaying a trace on all volumes of a bay comes to, where all of them are open.
+use Rattle.std.specs.Prelude.{◌≡◌, ◌≢◌, ◌≤◌, ◌++◌, ℕ, Bool, List, [], length, Option, Result, Ok, Err, IsTrue}
+use Rattle.std.specs.List.{AllByRecursion}
+use Rattle.wol_disk.specs.Disk.{Rose, State}
+use Rattle.wol_bay.specs.Bay.{BayState}
+use Rattle.wol_model.specs.Trace.{TraceLine, requests}
+use Rattle.run_laws.specs.Answers.{requests_in}
+use Rattle.wol_config.specs.declared.config.Config.{Config}
+use Rattle.volume_images.specs.Left.{IsTold}
+use Rattle.report.specs.Faults.{status_of}
+use Rattle.report.specs.declared.fault.Fault.TheVariants.{Memory, Volume}
+use Rattle.report.specs.declared.trouble.Trouble.{Trouble}
+use Rattle.trace_gen.specs.Generated.{targets_of}
+use Rattle.trace_windows.specs.Requests.{most_of}
+use Rattle.troubles.specs.Troubles.{trouble_of}
+use Rattle.rack.specs.declared.volume_fault.VolumeFault.{VolumeFault}
+use Rattle.replay.specs.Ended.{EndsFor}
+use Rattle.replay.specs.Givens.{HasGiven}
+use Rattle.replay.specs.Histories.{History, AreHistories, ArePlainMarks, BeginAsRead, CountAnswered, LeavesReclaimed, answers_in, is_broken_at}
+use Rattle.replay.specs.Leaves.{LeavesImages}
+use Rattle.replay.specs.NotOpened.{AsksNone, IsFirstClosed, LeavesBay}
+use Rattle.replay.specs.Placed.{CountsPlaced, CountsReclaimed}
+use Rattle.replay.specs.Served.{ServedWindow}
+use Rattle.replay.specs.Sessions.{AreWindowsOf, EndsWithWindow, WentWell}
+use Rattle.replay.specs.Summed.{IsSummaryOf, PrintsRun, lines_asked}
+use Rattle.replay.specs.declared.given.Given.{Given}
+use Rattle.replay.specs.declared.session.Options.{Options}
+use Rattle.replay.specs.declared.stop.Stop.{Stop}
+use Rattle.replay.specs.declared.stop.Stop.TheVariants as stop
+
+-- the status that a run ends with
+abbrev pub status_in : {T : Type 0} → Result T Stop → ℕ
+status_in (Ok _) = 0
+status_in (Err stop.Sink) = 7
+status_in (Err (stop.Fault f)) = status_of f
+
+-- ---- The whole
+
+-- The lines `run` were run on the volumes of a bay, all of which were open, window by window: `earlier` those after which the run went
+-- on, since nothing was refused in them, `last` the one in which it ended, if it ended in one.
+pub record Replays {S T : Type 0} (tells : Bool) (left : S → Option (List ℕ)) (config : Config) (options : Options) (start now : Given S) (old new : BayState) (result : Result T Stop) (sink sink' : ℕ)
+    (printed printed' : Option (List ℕ)) : Type 0 where
+  pub run : List (Option TraceLine)
+  pub more : List (Option TraceLine)
+  pub given : HasGiven left (targets_of config) start now (run ++ more)
+  pub earlier : List ServedWindow
+  pub last : List ServedWindow
+  pub windows_ : AreWindowsOf config run (earlier ++ last)
+  pub one : length last ≤ 1
+  -- the window in which it ended is whole
+  pub whole : last ≢ [] → EndsWithWindow left config start now run more
+  pub well : AllByRecursion WentWell earlier
+  -- the requests of the windows are those of the lines
+  pub asked : requests_in (answers_in (earlier ++ last)) ≡ requests (most_of config) (targets_of config) run
+  pub ends : EndsFor left config start now run last old.faults new.faults sink sink' result
+  pub histories : List History
+  pub are : AreHistories (IsTrue tells) config (answers_in (earlier ++ last)) histories
+  -- where a call of a disk of a volume failed, the bay's count rose
+  pub cause : (v : ℕ) → IsTrue (is_broken_at histories v) → Rose old.faults new.faults
+  -- where a part of a volume is at fault, a call of that very volume failed
+  pub part : (v : ℕ) (t : Trouble) → result ≡ Err (stop.Fault (Volume v t)) → IsTrue (is_broken_at histories v)
+  pub begun : IsTrue tells → IsTold (λ entry left_. BeginAsRead config entry histories) old.told new.told
+  pub counts : CountAnswered (answers_in earlier) (answers_in (earlier ++ last)) (status_in result) histories
+  -- the writes that are counted are those of the histories
+  pub placed : CountsPlaced (earlier ++ last) histories
+  -- .. and so is what is counted of reclaim
+  pub reclaimed : CountsReclaimed (earlier ++ last) histories
+  pub reclaims : LeavesReclaimed options.reclaim (earlier ++ last) histories
+  pub marks : IsTrue tells → IsTold (λ entry left_. ArePlainMarks config (answers_in (earlier ++ last)) entry) old.told new.told
+  pub images : IsTrue tells → IsTold (LeavesImages tells config (answers_in (earlier ++ last)) histories) old.told new.told
+  pub summary : List ℕ
+  pub summary_is : IsSummaryOf left config start now run (earlier ++ last) result summary
+  pub prints : PrintsRun result (lines_asked config options.each (answers_in (earlier ++ last))) summary sink sink' printed printed'
+
+-- A run over a bay: there was no memory to open its volumes; or one of them couldn't be opened; or all were open.
+pub data Replayed {D S T : Type 0} (tells : Bool) (state : D → State) (left : S → Option (List ℕ)) (config : Config) (options : Options) (start now : Given S) (old new : BayState) (sink sink' : ℕ) (printed printed' : Option (List ℕ)) : Result T Stop → Type 0 where
+  no_memory : AsksNone start now sink sink' printed printed' → LeavesBay tells state config old new → Replayed tells state left config options start now old new sink sink' printed printed' (Err (stop.Fault Memory))
+  closed : (k : ℕ) (f : VolumeFault) → AsksNone start now sink sink' printed printed' → IsFirstClosed tells state config old new k f → LeavesBay tells state config old new
+      → Replayed tells state left config options start now old new sink sink' printed printed' (Err (stop.Fault (Volume k (trouble_of f))))
+  ran : (result : Result T Stop) → Replays tells left config options start now old new result sink sink' printed printed' → Replayed tells state left config options start now old new sink sink' printed printed' result

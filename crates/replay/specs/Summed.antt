@@ -1,0 +1,73 @@
+-- What a run over open volumes prints: the lines of the answered reads, and the summary with the account of each disk.
+use Rattle.std.specs.Prelude.{◌≡◌, ◌≢◌, ◌⊎◌, ◌++◌, ◌-◌, ℕ, Bool, true, false, is_none, count_by, List, [], length, map, take, Option, Result, Ok, Err, All}
+use Rattle.std.specs.Io.KnownBytes.{Appends}
+use Rattle.wol_disk.specs.Disk.{Rose}
+use Rattle.wol_io.specs.Streams.{AppendsFront}
+use Rattle.wol_model.specs.Journal.{Use, AreUses, new_spindle, spindle_after}
+use Rattle.wol_model.specs.Trace.{TraceLine, ended, started, timed}
+use Rattle.wol_promise.specs.Outcomes.{Answered}
+use Rattle.wol_promise.specs.Run.{joined_lines}
+use Rattle.wol_promise.specs.Spindle.{keeper_uses}
+use Rattle.run_laws.specs.Answers.{told_lines}
+use Rattle.run_laws.specs.Journals.{OthersAccess, uses_by}
+use Rattle.wol_config.specs.declared.config.Config.{Config}
+use Rattle.report.specs.Names.{printed_names}
+use Rattle.report.specs.Summaries.{summary_text}
+use Rattle.report.specs.declared.fault.Fault.TheVariants.{Memory}
+use Rattle.report.specs.declared.totals.Totals.{Totals}
+use Rattle.spin_model.specs.Spindles.{SpindleView}
+use Rattle.trace_gen.specs.Generated.{targets_of}
+use Rattle.trace_windows.specs.Requests.{is_skipped}
+use Rattle.replay.specs.Givens.{HasGivenAll}
+use Rattle.replay.specs.Histories.{line_of_read}
+use Rattle.replay.specs.Prints.{all_amounts}
+use Rattle.replay.specs.Served.{AreTotals, ServedWindow}
+use Rattle.replay.specs.declared.given.Given.{Given}
+use Rattle.replay.specs.declared.stop.Stop.{Stop}
+use Rattle.replay.specs.declared.stop.Stop.TheVariants as stop
+
+-- ---- The account
+
+-- A spindle's journal is that of its uses: the keeper began the account and each window, and all other passes made accesses alone.
+-- Without a window the keeper did nothing.
+pub record IsAccount (start : ℕ) (moments : List ℕ) (s : SpindleView) : Type 0 where
+  pub uses : List (ℕ × Use)
+  pub legal : AreUses s.timeout new_spindle uses
+  pub journal : s.journal ≡ (spindle_after s.timeout new_spindle uses).journal
+  pub keeper : ℕ
+  pub kept : ((moments ≢ []) × (uses_by keeper uses ≡ keeper_uses start moments)) ⊎ ((moments ≡ []) × (uses_by keeper uses ≡ []))
+  pub others : OthersAccess keeper uses
+
+-- The summary of these lines and the windows that were served of them: what is counted, and what each disk used from the start of the
+-- account to its end.
+pub record IsSummary (config : Config) (lines : List (Option TraceLine)) (windows : List ServedWindow) (text : List ℕ) : Type 0 where
+  pub totals : Totals
+  pub spindles : List SpindleView
+  pub line_count : totals.lines ≡ length lines
+  pub blank : totals.blank ≡ count_by is_none lines
+  pub skipped : totals.skipped ≡ count_by (is_skipped (targets_of config)) lines
+  pub span : totals.span ≡ ended (timed lines) - started (timed lines)
+  pub counted : AreTotals windows totals
+  pub each : length spindles ≡ length config.volumes.items
+  pub accounts : All (IsAccount (started (timed lines)) (map (λ (s : ServedWindow). s.batch.moment) windows)) spindles
+  pub text_is : text ≡ summary_text totals (printed_names config.volumes.items) (all_amounts config.powers (started (timed lines)) (ended (timed lines)) spindles)
+
+-- the summary of a trace that was run to its end; else nothing, and then the run ended with a fault
+pub data IsSummaryOf {S T : Type 0} (left : S → Option (List ℕ)) (config : Config) (start now : Given S) (lines : List (Option TraceLine)) (windows : List ServedWindow) : Result T Stop → (text : List ℕ) → Type 0 where
+  of_all : (result : Result T Stop) (text : List ℕ) → HasGivenAll left (targets_of config) start now lines → IsSummary config lines windows text → IsSummaryOf left config start now lines windows result text
+  of_none : (e : Stop) → IsSummaryOf left config start now lines windows (Err e) []
+
+-- ---- Texts
+
+-- the lines that are asked for: those of the answered reads, or none
+abbrev pub lines_asked : Config → (each : Bool) → List Answered → List (List ℕ)
+lines_asked config true answers = told_lines (line_of_read config) answers
+lines_asked config false answers = []
+
+-- What the sink took: at the end of the trace the lines and the summary; at a fault the lines; for want of memory some first lines, each
+-- of them whole; where it failed, a front of the lines and the summary.
+abbrev pub PrintsRun : {T : Type 0} → Result T Stop → (lines : List (List ℕ)) → (summary : List ℕ) → (faults faults' : ℕ) → (printed new : Option (List ℕ)) → Type 0
+PrintsRun (Ok _) lines summary faults faults' printed new = (faults' ≡ faults) × Appends printed new (joined_lines lines ++ summary)
+PrintsRun (Err stop.Sink) lines summary faults faults' printed new = Rose faults faults' × AppendsFront printed new (joined_lines lines ++ summary)
+PrintsRun (Err (stop.Fault f)) lines summary faults faults' printed new =
+    (faults' ≡ faults) × (((f ≢ Memory) × Appends printed new (joined_lines lines)) ⊎ ((f ≡ Memory) × (k : ℕ) × Appends printed new (joined_lines (take k lines))))

@@ -1,0 +1,172 @@
+// A trace is replayed on all volumes of a bay.
+ghost use Rattle.std.specs.Prelude.{◌≡◌, ◌≤◌, ◌^◌, [], length, None, Err};
+ghost use Rattle.wol_bay.specs.Bay.{outs};
+ghost use Rattle.wol_disk.specs.Disk.{Rose};
+ghost use Rattle.wol_config.specs.Configs.{IsValid};
+ghost use Rattle.volume_images.specs.Volumes.{NoneOut};
+ghost use Rattle.replay.specs.Givens.{IsNew, IsWithin, faults_of, borrow_of};
+ghost use Rattle.replay.specs.Sessions.{AreOptions, IsSession};
+ghost use Rattle.replay.specs.Completes.{Completes, MayComplete};
+ghost use Rattle.replay.specs.Replays.{Replayed};
+ghost use Rattle.replay.specs.Runs.{first_closed, new_session, CanServe, ServesFrom, RunsIn};
+
+use crate::counting::Counted;
+use crate::given::Given;
+use crate::printing::print_summary;
+use crate::session::{Options, Session};
+use crate::stop::Stop;
+use rack::{Rack, VolumeFault, close_all, open_all};
+use report::Fault;
+use request_workers::{Floor, Station, set_up, take_down};
+use std::alloc::Global;
+use std::mem;
+use std::sync::Wait;
+use std::thread::Threads;
+use troubles::trouble_of;
+use wol_bay::Bay;
+use wol_config::Config;
+use wol_disk::{Disk, NoMemory};
+use wol_io::{Gate, Sink, Source};
+
+// What is told of the first volume that isn't open.
+fn first_closed(faults: &[Option<VolumeFault>]) -> Option<Fault>
+    requires few { length faults.now ≤ 2 ^ 32 }
+    ensures { result ≡ first_closed 0 faults.now }
+{
+    for (volume, fault) in faults.iter().enumerate() {
+        if let Some(fault) = fault {
+            return Some(Fault::Volume {
+                volume: volume as u32,
+                trouble: trouble_of(*fault),
+            });
+        }
+    }
+    None
+}
+
+// The stations come back to their rack, which has none.
+fn put_stations<D: Disk>(rack: &mut Rack<D>, stations: Vec<Station<D>>)
+    requires none { rack.old.stations.items ≡ [] }
+    ensures { rack.new ≡ record rack.old { stations = stations } }
+{
+    let none = mem::replace(&mut rack.stations, stations);
+    none.destroy_empty();
+}
+
+// Serves a trace on a floor, and puts its stations back.
+fn replay_on<D: Disk + Send, R: Threads + Wait + Sync, S: Source, K: Sink, G: Gate + Sync>(
+    rt: &R,
+    alloc: Global,
+    config: &Config,
+    given: &mut Given<S>,
+    options: Options,
+    rack: &mut Rack<D>,
+    floor: Floor<D>,
+    out: &mut K,
+    gate: &G,
+) -> Result<Counted, Stop>
+    requires valid { IsValid config.now }
+    requires options { AreOptions options }
+    requires new { IsNew given.old }
+    requires session { IsSession config.now rack.old.shared (new_session floor rack.old.keepers) }
+    requires none { rack.old.stations.items ≡ [] }
+    ensures served { ServesFrom D.tells S.left config.now options given.old given.new rack.old rack.new (K.faults out.old) (K.faults out.new) (K.taken out.old) (K.taken out.new) floor result }
+    ensures later { K.faults out.old ≤ K.faults out.new }
+    ensures source_later { faults_of S.faults given.old ≤ faults_of S.faults given.new }
+    ensures source { result ≡ Err (Stop.Fault Fault.TraceSource) → Rose (faults_of S.faults given.old) (faults_of S.faults given.new) }
+    ensures same_borrow { borrow_of S.borrow given.new ≡ borrow_of S.borrow given.old }
+    ensures within { IsWithin given.new }
+{
+    let keepers = mem::replace(&mut rack.keepers, Vec::new(alloc));
+    let mut session = Session::new(floor, keepers);
+    let served = session.serve_all(rt, alloc, config, given, options, &rack.shared, out, gate);
+    let Session {
+        floor,
+        keepers,
+        totals: _,
+        started: _,
+    } = session;
+    rack.keepers = keepers;
+    put_stations(rack, take_down(floor));
+    served
+}
+
+// Serves a trace on the volumes of a rack, if all of them are open.
+fn replay_in<D: Disk + Send, R: Threads + Wait + Sync, S: Source, K: Sink, G: Gate + Sync>(
+    rt: &R,
+    alloc: Global,
+    config: &Config,
+    given: &mut Given<S>,
+    options: Options,
+    rack: &mut Rack<D>,
+    out: &mut K,
+    gate: &G,
+) -> Result<Counted, Stop>
+    requires valid { IsValid config.now }
+    requires options { AreOptions options }
+    requires new { IsNew given.old }
+    requires few { length rack.old.faults.items ≤ 2 ^ 32 }
+    requires can_serve { first_closed 0 rack.old.faults.items ≡ None → CanServe config.now rack.old.shared rack.old.stations.items rack.old.keepers.items }
+    ensures runs { RunsIn D.tells S.left config.now options given.old given.new rack.old rack.new (K.faults out.old) (K.faults out.new) (K.taken out.old) (K.taken out.new) result }
+    ensures later { K.faults out.old ≤ K.faults out.new }
+    ensures source_later { faults_of S.faults given.old ≤ faults_of S.faults given.new }
+    ensures source { result ≡ Err (Stop.Fault Fault.TraceSource) → Rose (faults_of S.faults given.old) (faults_of S.faults given.new) }
+    ensures same_borrow { borrow_of S.borrow given.new ≡ borrow_of S.borrow given.old }
+    ensures within { IsWithin given.new }
+{
+    if let Some(fault) = first_closed(rack.faults.as_slice()) {
+        return Err(Stop::Fault(fault));
+    }
+    let stations = mem::replace(&mut rack.stations, Vec::new(alloc));
+    match set_up(alloc, stations) {
+        Ok(floor) => replay_on(rt, alloc, config, given, options, rack, floor, out, gate),
+        Err((stations, NoMemory)) => {
+            put_stations(rack, stations);
+            Err(Stop::Fault(Fault::Memory))
+        }
+    }
+}
+
+/// Replays the lines that are given on the volumes of a bay, and prints a line for each read, where that is asked for, and the
+/// summary.
+///
+/// The first volume, in order, that isn't open ends the run before its first line. A refused request ends it after its window:
+/// want of memory comes first, else the first refused request in the order of the trace, else the first refused step of
+/// reclaim. All lines before a bad one, before the end of a failed source and before the end of 2^32 lines are run. At each
+/// exit every image is back in the bay.
+pub fn replay<R: Threads + Wait + Sync, S: Source, K: Sink, B: Bay, G: Gate + Sync>(
+    rt: &R,
+    alloc: Global,
+    config: &Config,
+    given: &mut Given<S>,
+    options: Options,
+    out: &mut K,
+    bay: &mut B,
+    gate: &G,
+) -> Result<(), Stop>
+where
+    B::Part: Send,
+    requires valid { IsValid config.now }
+    requires options { AreOptions options }
+    requires new { IsNew given.old }
+    requires home { NoneOut config.now (B.state bay.old) }
+    // each exit
+    ensures home { NoneOut config.now (B.state bay.new) }
+    ensures outs { outs (B.state bay.new) ≡ outs (B.state bay.old) }
+    ensures counts { (B.state bay.old).faults ≤ (B.state bay.new).faults }
+    ensures replays { Replayed B.Part.tells B.Part.state S.left config.now options given.old given.new (B.state bay.old) (B.state bay.new) (K.faults out.old) (K.faults out.new) (K.taken out.old) (K.taken out.new) result }
+    ensures later { K.faults out.old ≤ K.faults out.new }
+    ensures source_later { faults_of S.faults given.old ≤ faults_of S.faults given.new }
+    ensures source { result ≡ Err (Stop.Fault Fault.TraceSource) → Rose (faults_of S.faults given.old) (faults_of S.faults given.new) }
+    ensures same_borrow { borrow_of S.borrow given.new ≡ borrow_of S.borrow given.old }
+    ensures within { IsWithin given.new }
+    ensures complete { MayComplete B.Part.tells S.left config.now given.old given.new (B.state bay.old) (B.state bay.new) (K.faults out.old) (K.faults out.new) (faults_of S.faults given.old) (faults_of S.faults given.new) → Completes result }
+{
+    let Ok(mut rack) = open_all(alloc, rt, bay, config) else {
+        return Err(Stop::Fault(Fault::Memory));
+    };
+    let served = replay_in(rt, alloc, config, given, options, &mut rack, out, gate);
+    let spindles = close_all(rack, bay, config);
+    let counted = served?;
+    print_summary(alloc, config, &counted, &spindles, out)
+}

@@ -1,0 +1,94 @@
+// What is the same in all tests: volumes, a run on them, and its status.
+ghost use Rattle.std.specs.Prelude.{◌≡◌, [], Some};
+ghost use Rattle.wol_bay.specs.Bay.{outs};
+ghost use Rattle.wol_bay.specs.MemBay.{mem_bay_state};
+ghost use Rattle.wol_config.specs.Configs.{IsValid};
+ghost use Rattle.replay.specs.Sessions.{AreOptions};
+
+use msr_trace::Lines;
+use rack::format;
+use replay::{Given, Options, Stop, replay};
+use std::alloc::Global;
+use std::process::Abort;
+use std::sync::Wait;
+use std::test::Fail;
+use std::thread::Threads;
+use wol_bay::MemBay;
+use wol_config::Config;
+use wol_io::{Gate, MemSink, MemSource};
+
+/// Three volumes; the first and the last log on the second.
+pub const THREE: &[u8] = b"segment_blocks = 16
+timeout_ms = 60000
+awake_mw = 8000
+standby_mw = 1000
+wake_mj = 50000
+volume = [
+  { name = \"usr0\", host = \"usr\", disk = 0, home_blocks = 1000, segments = 4, view = [\"web0\"] },
+  { name = \"web0\", host = \"web\", disk = 0, home_blocks = 1000, segments = 4, view = [] },
+  { name = \"src0\", host = \"src\", disk = 0, home_blocks = 1000, segments = 4, view = [\"web0\", \"usr0\"] },
+]
+";
+
+/// Two volumes; the first logs on the one segment of the second.
+pub const TWO: &[u8] = b"segment_blocks = 4
+timeout_ms = 60000
+awake_mw = 8000
+standby_mw = 1000
+wake_mj = 50000
+volume = [
+  { name = \"a\", host = \"a\", disk = 0, home_blocks = 100, segments = 0, view = [\"b\"] },
+  { name = \"b\", host = \"b\", disk = 0, home_blocks = 100, segments = 1, view = [] },
+]
+";
+
+/// A trace on two volumes whose second write finds the log full, which is drained then.
+pub const DRAINS: &[u8] = b"128166372000000000,b,0,Read,0,512,100
+128166372500000000,b,0,Read,0,512,100
+128166373000000000,a,0,Write,0,512,100
+128166373000000000,a,0,Write,0,512,100
+128166373000000000,a,0,Read,0,512,100
+";
+
+/// The bay of volumes that were formatted.
+pub fn formatted<R: Abort>(rt: &R, alloc: Global, config: &Config) -> MemBay
+    requires { IsValid config.now }
+    ensures { outs (mem_bay_state result) ≡ Some [] }
+{
+    let mut bay = MemBay::new(alloc);
+    assert!(rt; format(alloc, &mut bay, config).is_ok());
+    bay
+}
+
+/// The status of a run over the volumes of a bay, and what it prints. The bytes of the trace come one by one.
+pub fn run<R: Abort + Threads + Wait + Sync, G: Gate + Sync>(
+    rt: &R,
+    alloc: Global,
+    config: &Config,
+    bay: &mut MemBay,
+    trace: &[u8],
+    options: Options,
+    gate: &G,
+) -> Result<(u8, MemSink), Fail>
+    requires valid { IsValid config.now }
+    requires options { AreOptions options }
+    requires none { outs (mem_bay_state bay.old) ≡ Some [] }
+    ensures none { outs (mem_bay_state bay.new) ≡ Some [] }
+{
+    let mut out = MemSink::new(alloc, None);
+    let mut cuts = Vec::new(alloc);
+    cuts.resize(trace.len(), 1)?;
+    let source = MemSource::new(Vec::from_slice(alloc, trace)?, cuts, None);
+    let mut given = Given::Trace(Lines::new(alloc, source));
+    let status = status_of(replay(rt, alloc, config, &mut given, options, &mut out, bay, gate));
+    Ok((status, out))
+}
+
+/// The status that a run ends with.
+pub fn status_of(answer: Result<(), Stop>) -> u8 {
+    match answer {
+        Ok(()) => 0,
+        Err(Stop::Fault(fault)) => fault.status(),
+        Err(Stop::Sink) => 7,
+    }
+}
