@@ -7,7 +7,8 @@ use Rattle.command_words.specs.Commands.{IsCommand}
 use Rattle.command_words.specs.declared.command.Command.{Command}
 use Rattle.command_words.specs.declared.command.Command.TheVariants.{Solo, Format, Replay, Check, Dump, Gen, Soak}
 use Rattle.command_words.specs.declared.command.Generated.{Generated}
-use Rattle.wol.specs.Commands.{AskForNone, IsInRange, IsPending}
+use Rattle.command_words.specs.declared.command.Options.{Options}
+use Rattle.wol.specs.Commands.{IsCount, IsInRange}
 use Rattle.command_words.proofs.Unique.{commands_are_one, equal_or_alike}
 
 abbrev is_solo : Command → Bool
@@ -44,27 +45,40 @@ same_asked command a b is so = ap (gen_in a) (sym is ∙ so)
 pub same_target : (command : Command) (v w : Volume) → command ≡ Solo v → command ≡ Solo w → target_of v ≡ target_of w
 same_target command v w is so = ap (target_in (target_of v)) (sym is ∙ so)
 
--- ---- What isn't built
-
-pub pending_alone : (words : List (List ℕ)) (read : Command) → IsCommand words read → IsPending read → AskForNone words
-pending_alone words read is pending command so = elim (equal_or_alike read command (commands_are_one words read command is so)) [
-  | inl same ↦ subst IsPending same pending
-  | inr alike ↦ absurd (subst IsPending alike.first_is pending)
-]
-
 -- ---- Numbers in range
 
 pub in_range : (words : List (List ℕ)) (command : Command) → IsCommand words command → IsInRange command
 in_range words (Solo volume) is = record { some = is.asks.values.some; small = is.asks.values.most }
 in_range words Format is = tt
-in_range words (Replay options) is = tt
+in_range words (Replay options) is = (is.asks.values.workers.some, is.asks.values.workers.most)
 in_range words Check is = tt
 in_range words Dump is = tt
 in_range words (Gen asked) is = omega (arith, is.asks.values.most)
-in_range words (Soak asked options) is = tt
+in_range words (Soak asked options) is = (omega (arith, is.asks.values.0.most), (is.asks.values.1.workers.some, is.asks.values.1.workers.most))
 
 pub range_of_solo : (command : Command) (volume : Volume) → command ≡ Solo volume → IsInRange command → IsVolume (target_of volume)
 range_of_solo command volume is h = subst IsInRange is h
 
 pub range_of_gen : (command : Command) (asked : Generated) → command ≡ Gen asked → IsInRange command → asked.lines ≤ 2 ^ 31
 range_of_gen command asked is h = subst IsInRange is h
+
+pub range_of_replay : (command : Command) (options : Options) → command ≡ Replay options → IsInRange command → IsCount options.workers
+range_of_replay command options is h = subst IsInRange is h
+
+pub range_of_soak : (command : Command) (asked : Generated) (options : Options) → command ≡ Soak asked options → IsInRange command → (asked.lines ≤ 2 ^ 31) × IsCount options.workers
+range_of_soak command asked options is h = subst IsInRange is h
+
+abbrev options_in : Options → Command → Options
+options_in other (Replay options) = options
+options_in other (Soak asked options) = options
+options_in other command = other
+
+abbrev asked_in : Generated → Command → Generated
+asked_in other (Soak asked options) = asked
+asked_in other command = other
+
+pub same_options : (command : Command) (a b : Options) → command ≡ Replay a → command ≡ Replay b → a ≡ b
+same_options command a b is so = ap (options_in a) (sym is ∙ so)
+
+pub same_soak : (command : Command) (p q : Generated) (a b : Options) → command ≡ Soak p a → command ≡ Soak q b → (p ≡ q) × (a ≡ b)
+same_soak command p q a b is so = (ap (asked_in p) (sym is ∙ so), ap (options_in a) (sym is ∙ so))

@@ -16,7 +16,7 @@ use Rattle.wol.proofs.FormatEndings.{ends_format}
 use Rattle.wol.proofs.GenEndings.{ends_gen}
 
 -- no bytes are a configuration and none
-no_both : (left : Option (List ℕ)) → IsConfigured left → HasNoConfig left → ⊥
+pub no_both : (left : Option (List ℕ)) → IsConfigured left → HasNoConfig left → ⊥
 no_both left is none = by none.why none.fault (subst (λ (o : Option (List ℕ)). IsRefusedFor o none.why) is.told none.refused)
   where
     other : (document : Members) → IsDocument is.bytes document → (e : ConfigFault) → document_fault document ≡ Some e → ⊥

@@ -1,8 +1,14 @@
 mod Asked
 mod Complete
+mod Completing
 mod Endings
 mod FormatEndings
 mod GenEndings
+mod LookEndings
 mod Pending
+mod ReplayEndings
+mod ReplayEnds
+mod ReplayFaults
+mod SeenLines
 mod Taken
 mod Unread

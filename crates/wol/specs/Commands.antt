@@ -1,45 +1,38 @@
--- What commands use, and which are run.
+-- What commands use, and their numbers.
 use Rattle.std.specs.Prelude.{◌≡◌, Bool, true, false, ⊤, ℕ, ◌≤◌, ◌^◌, List}
 use Rattle.solo.specs.Volume.{IsVolume, target_of}
 use Rattle.command_words.specs.Commands.{IsCommand}
 use Rattle.command_words.specs.declared.command.Command.{Command}
-use Rattle.command_words.specs.declared.command.Command.TheVariants.{Solo, Format, Replay, Check, Dump, Gen, Soak}
+use Rattle.command_words.specs.declared.command.Command.TheVariants.{Solo, Replay, Gen, Soak}
 
 -- whether a command uses the bay
 abbrev pub uses_bay : Command → Bool
-uses_bay (Solo volume) = true
-uses_bay Format = true
-uses_bay command = false
+uses_bay (Gen asked) = false
+uses_bay command = true
 
 -- whether it uses the trace that it is given
 abbrev pub uses_trace : Command → Bool
 uses_trace (Solo volume) = true
+uses_trace (Replay options) = true
 uses_trace command = false
 
 -- whether it uses the configuration
 abbrev pub uses_config : Command → Bool
-uses_config Format = true
-uses_config (Gen asked) = true
-uses_config command = false
+uses_config (Solo volume) = false
+uses_config command = true
 
 -- the words ask for no command that passes the test
 abbrev pub NoneOf : (Command → Bool) → List (List ℕ) → Type 0
 NoneOf test words = (command : Command) → IsCommand words command → test command ≡ false
 
--- a command that isn't built yet
-abbrev pub IsPending : Command → Type 0
-IsPending (Replay options) = ⊤
-IsPending Check = ⊤
-IsPending Dump = ⊤
-IsPending (Soak asked options) = ⊤
-IsPending command = ⊥
-
--- the words ask for no command that is built
-abbrev pub AskForNone : List (List ℕ) → Type 0
-AskForNone words = (command : Command) → IsCommand words command → IsPending command
+-- so many workers serve a run
+abbrev pub IsCount : (workers : ℕ) → Type 0
+IsCount workers = (1 ≤ workers) × (workers ≤ 64)
 
 -- a command whose numbers are in range
 abbrev pub IsInRange : Command → Type 0
 IsInRange (Solo volume) = IsVolume (target_of volume)
+IsInRange (Replay options) = IsCount options.workers
 IsInRange (Gen asked) = asked.lines ≤ 2 ^ 31
+IsInRange (Soak asked options) = (asked.lines ≤ 2 ^ 31) × IsCount options.workers
 IsInRange command = ⊤

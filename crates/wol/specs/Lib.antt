@@ -4,3 +4,6 @@ pub mod Tops
 pub mod Settings
 pub mod Generating
 pub mod Formatting
+pub mod Inspecting
+pub mod Replaying
+pub mod Completing

@@ -17,7 +17,7 @@ status_of fault.Spent = 10
 
 -- the statuses that the program ends with
 abbrev pub IsStatus : ℕ → Type 0
-IsStatus status = list_any (λ s. s == status) (0 ∷ 1 ∷ 2 ∷ 3 ∷ 4 ∷ 7 ∷ 8 ∷ 9 ∷ 10 ∷ []) ≡ true
+IsStatus status = list_any (λ s. s == status) (0 ∷ 1 ∷ 2 ∷ 3 ∷ 4 ∷ 5 ∷ 6 ∷ 7 ∷ 8 ∷ 9 ∷ 10 ∷ 11 ∷ 12 ∷ []) ≡ true
 
 -- why a line is bad, and the end of the line that says so
 abbrev pub why_text : BadLine → List ℕ

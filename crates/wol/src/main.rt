@@ -2,7 +2,9 @@
 #![tactic(auto)]
 
 mod formatting;
+mod inspecting;
 mod listing;
+mod replaying;
 mod settings;
 mod status;
 mod telling;

@@ -1,7 +1,7 @@
 // The last text of a run, and its status.
-ghost use Rattle.std.specs.Prelude.{◌≡◌, ◌≢◌, ◌≤◌, ◌<◌, ◌⊎◌, length, codes};
+ghost use Rattle.std.specs.Prelude.{◌≡◌, ◌≢◌, ◌≤◌, ◌<◌, ◌⊎◌, codes};
 ghost use Rattle.wol_disk.specs.Disk.{Rose};
-ghost use Rattle.report.specs.Faults.{NamesAmong, fault_text, status_of as status_of_report};
+ghost use Rattle.report.specs.Faults.{fault_text, status_of as status_of_report};
 ghost use Rattle.report.specs.Names.{printed_names};
 ghost use Rattle.wol.specs.Tops.{EndsWith, TellsFault, TellsStatus};
 
@@ -68,7 +68,6 @@ pub fn tell_fault<K: Sink>(
     volumes: &[VolumeConf],
     fault: &ReportFault,
 ) -> u8
-    requires names { NamesAmong (length (printed_names volumes.now)) fault.now }
     requires told { fault.now ≢ ReportFault.Config ConfigFault.NoMemory }
     ensures content { EndsWith (fault_text (printed_names volumes.now) fault.now) (status_of_report fault.now) result (K.taken out.old) (K.taken out.new)
         ⊎ EndsWith (codes "fault 9 memory\n") 9 result (K.taken out.old) (K.taken out.new) }

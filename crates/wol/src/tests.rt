@@ -51,6 +51,15 @@ volume = [
 ]
 ";
 
+const NO_HOME: &[u8] = b"segment_blocks = 16
+awake_mw = 8000
+standby_mw = 1000
+wake_mj = 50000
+volume = [
+  { name = \"usr0\", host = \"usr\", disk = 0, home_blocks = 0, segments = 4, view = [] },
+]
+";
+
 fn words_of(alloc: Global, text: &str) -> Result<Vec<String>, AllocError> {
     let mut words = Vec::new(alloc);
     for word in text.split_whitespace() {
@@ -124,6 +133,24 @@ where
     );
     assert_eq!(rt; status, row.status, "{}", row.words);
     assert_eq!(rt; out.bytes(), row.text, "{}", row.words);
+    Ok(())
+}
+
+// Tries rows one after another in one bay.
+fn try_all<R: Abort + Threads + Wait + Sync, B: Bay>(
+    rt: &R,
+    alloc: Global,
+    rows: &[Row<'_>],
+    bay: &mut B,
+) -> Result<(), Fail>
+where
+    B::Part: Send,
+    requires { NoneOut (B.state bay.old) }
+    ensures { NoneOut (B.state bay.new) }
+{
+    for row in rows {
+        try_in(rt, alloc, row, bay)?;
+    }
     Ok(())
 }
 
@@ -283,6 +310,13 @@ fn formats_volumes(rt: HostRuntime) -> Result<(), Fail> {
             2,
             b"fault 2 config out of range segment_blocks\n",
         ),
+        configured("format", b"", 2, b"fault 2 config missing segment_blocks\n"),
+        configured(
+            "format",
+            NO_HOME,
+            2,
+            b"fault 2 config out of range home_blocks\n",
+        ),
         Row {
             part: fails_at("a", 3, 0),
             ..configured("format", TWO_VOLUMES, 4, b"fault 4 a disk segment 1 of a\n")
@@ -315,5 +349,164 @@ fn makes_images_anew(rt: HostRuntime) -> Result<(), Fail> {
     try_in(&rt, rt.alloc(), &row, &mut bay)?;
     try_in(&rt, rt.alloc(), &row, &mut bay)?;
     bay.attach("a", &[2, 1, 4, 4])?;
+    Ok(())
+}
+
+const OFFLOADS: &[u8] = b"128166372000000000,usr,0,Write,0,4096,100
+128166372000000000,web,0,Write,8192,1024,100
+128166372500000000,web,0,Read,8192,1024,100
+128166373000000000,web,0,Write,0,512,100
+128166373005000000,usr,0,Write,0,1024,100
+128166373200000000,usr,0,Read,0,1024,100
+128166373500000000,src,0,Write,5120,512,100
+128166374000000000,usr,0,Read,1024,1024,100
+128166374300000000,usr,0,Write,0,512,100
+128166375000000000,web,0,Read,0,512,100
+128166375200000000,src,0,Read,5120,512,100
+128166376000000000,src,0,Read,5120,1024,100
+";
+
+const OFFLOADED: &[u8] = b"read 3 web0 16 2 4
+read 6 usr0 0 2 10
+read 8 usr0 2 2 2
+read 10 web0 0 1 4
+read 11 src0 10 1 7
+read 12 src0 10 2 7
+lines 12 blank 0 skipped 0
+reads 6 writes 6
+placed home 4 log 2 drains 0
+reclaimed blocks 3 records 2
+span 4000000000
+volume usr0 wakes 1 sleeps 2 awake 1500000000 standby 2500000000 energy 1500000
+volume web0 wakes 2 sleeps 2 awake 3400000000 standby 600000000 energy 2880000
+volume src0 wakes 1 sleeps 1 awake 600000000 standby 3400000000 energy 870000
+total wakes 4 sleeps 5 energy 5250000
+";
+
+const NOTHING: &[u8] = b"lines 0 blank 0 skipped 0
+reads 0 writes 0
+placed home 0 log 0 drains 0
+reclaimed blocks 0 records 0
+span 0
+volume usr0 wakes 0 sleeps 0 awake 0 standby 0 energy 0
+volume web0 wakes 0 sleeps 0 awake 0 standby 0 energy 0
+volume src0 wakes 0 sleeps 0 awake 0 standby 0 energy 0
+total wakes 0 sleeps 0 energy 0
+";
+
+const DRAINING: &[u8] = b"segment_blocks = 4
+timeout_ms = 60000
+awake_mw = 8000
+standby_mw = 1000
+wake_mj = 50000
+volume = [
+  { name = \"a\", host = \"a\", disk = 0, home_blocks = 100, segments = 0, view = [\"b\"] },
+  { name = \"b\", host = \"b\", disk = 0, home_blocks = 100, segments = 1, view = [] },
+]
+";
+
+const DRAINS: &[u8] = b"128166372000000000,b,0,Read,0,512,100
+128166372500000000,b,0,Read,0,512,100
+128166373000000000,a,0,Write,0,512,100
+128166373000000000,a,0,Write,0,512,100
+128166373000000000,a,0,Read,0,512,100
+";
+
+const DRAINED: &[u8] = b"read 1 b 0 1 0
+read 2 b 0 1 0
+read 5 a 0 1 4
+lines 5 blank 0 skipped 0
+reads 3 writes 2
+placed home 1 log 1 drains 1
+reclaimed blocks 1 records 1
+span 1000000000
+volume a wakes 1 sleeps 1 awake 600000000 standby 400000000 energy 570000
+volume b wakes 0 sleeps 0 awake 1000000000 standby 0 energy 800000
+total wakes 1 sleeps 1 energy 1370000
+";
+
+fn replayed<'a>(
+    words: &'a str,
+    config: &'a [u8],
+    trace: &'a [u8],
+    status: u8,
+    text: &'a [u8],
+) -> Row<'a> {
+    Row {
+        config,
+        ..plain(words, trace, status, text)
+    }
+}
+
+#[test]
+fn replays_traces(rt: HostRuntime) -> Result<(), Fail> {
+    let three = THREE_VOLUMES.as_bytes();
+    let mut bay = MemBay::new(rt.alloc());
+    let formatted = b"format usr0 blocks 1066\nformat web0 blocks 1066\nformat src0 blocks 1066\n";
+    let absent = b"fault 12 usr0 absent\n";
+    let none = b"usr0 records 0\nweb0 records 0\nsrc0 records 0\n";
+    let rows = [
+        replayed("replay", three, OFFLOADS, 12, absent),
+        replayed("format", three, b"", 0, formatted),
+        replayed("replay", three, b"", 0, NOTHING),
+        replayed("replay --each", three, OFFLOADS, 0, OFFLOADED),
+        replayed("dump", three, b"", 0, none),
+        replayed("format", three, b"", 0, formatted),
+        replayed("replay --each --workers 8", three, OFFLOADS, 0, OFFLOADED),
+        replayed(
+            "replay --each",
+            three,
+            b"128166377000000000,usr,0,Read,0,512,100\n1,usr,0,Read,0,512",
+            3,
+            b"read 1 usr0 0 1 9\nfault 3 line 2 fields\n",
+        ),
+        replayed("replay", b"=", b"", 2, b"fault 2 config not toml\n"),
+        Row {
+            source: Some(0),
+            ..replayed("replay", three, OFFLOADS, 8, b"fault 8 trace\n")
+        },
+        Row {
+            sink: Some(0),
+            ..replayed("replay", three, OFFLOADS, 7, b"")
+        },
+        replayed("soak 7 0 --reclaim off", three, b"x", 0, NOTHING),
+    ];
+    try_all(&rt, rt.alloc(), &rows, &mut bay)?;
+    bay.put("usr0", &[0; 1000])?;
+    try_in(
+        &rt,
+        rt.alloc(),
+        &replayed("replay", three, OFFLOADS, 5, b"fault 5 usr0 length 1000\n"),
+        &mut bay,
+    )?;
+    try_in(
+        &rt,
+        rt.alloc(),
+        &replayed(
+            "soak 7 1",
+            three,
+            OFFLOADS,
+            5,
+            b"fault 5 usr0 length 1000\n",
+        ),
+        &mut bay,
+    )?;
+    Ok(())
+}
+
+#[test]
+fn drains_a_full_log(rt: HostRuntime) -> Result<(), Fail> {
+    let mut bay = MemBay::new(rt.alloc());
+    let rows = [
+        replayed(
+            "format",
+            DRAINING,
+            b"",
+            0,
+            b"format a blocks 102\nformat b blocks 106\n",
+        ),
+        replayed("replay --each", DRAINING, DRAINS, 0, DRAINED),
+    ];
+    try_all(&rt, rt.alloc(), &rows, &mut bay)?;
     Ok(())
 }

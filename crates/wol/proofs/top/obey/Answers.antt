@@ -1,10 +1,12 @@
-use Rattle.std.proofs.Common.{Err, ap}
+use Rattle.std.proofs.Common.{Err, None, ap}
 use Rattle.solo.specs.Volume.{target_of}
-use Rattle.wol.proofs.Asked.{range_of_gen, range_of_solo, same_asked, same_target}
+use Rattle.wol.proofs.Asked.{range_of_gen, range_of_solo, same_asked, same_soak, same_target}
 use Rattle.wol.proofs.Complete.{complete_format, complete_gen}
 use Rattle.wol.proofs.Endings.{comes_of_bad_line, comes_of_lines, done_for, fault_for, has_cause}
 use Rattle.wol.proofs.FormatEndings.{format_comes_of_config}
 use Rattle.wol.proofs.GenEndings.{comes_of_config}
+use Rattle.wol.proofs.LookEndings.{look_comes_of_config}
+use Rattle.wol.proofs.ReplayEndings.{replay_bad_line, replay_comes_of_config, replay_more_lines, replay_not_one, replay_rose, replay_status, soak_not_ten, soak_not_three}
 use Rattle.wol.proofs.top.obey.Goals as goal
 
 pub returns-in-Gen-clause-generated : goal.returns-in-Gen-clause-generated
@@ -37,6 +39,60 @@ returns-in-Gen-clause-complete_gen g c asked is configured calm sink = complete_
 
 pub returns-in-Format-clause-complete_format : goal.returns-in-Format-clause-complete_format
 returns-in-Format-clause-complete_format g c is configured bay calm sink = complete_format _ _ _ _ _ c.format.result _ _ configured calm bay (λ seven. sink (c.format.ensures.cause seven)) c.format.ensures.content
+
+pub returns-in-Check-clause-config : goal.returns-in-Check-clause-config
+returns-in-Check-clause-config g c two = look_comes_of_config _ _ _ _ _ _ _ _ _ _ _ c.inspect.ensures.content two
+
+pub returns-in-Dump-clause-config : goal.returns-in-Dump-clause-config
+returns-in-Dump-clause-config g c two = look_comes_of_config _ _ _ _ _ _ _ _ _ _ _ c.inspect-in-Dump.ensures.content two
+
+pub returns-in-Replay-clause-status : goal.returns-in-Replay-clause-status
+returns-in-Replay-clause-status g c = replay_status _ _ _ _ _ _ _ _ _ _ _ _ _ _ c.replay.ensures.content
+
+pub returns-in-Replay-clause-words : goal.returns-in-Replay-clause-words
+returns-in-Replay-clause-words g c one = replay_not_one _ _ _ _ _ _ _ _ _ _ _ _ _ _ c.replay.ensures.content one
+
+pub returns-in-Replay-clause-config : goal.returns-in-Replay-clause-config
+returns-in-Replay-clause-config g c two = replay_comes_of_config _ _ _ _ _ _ _ _ _ _ _ _ _ _ c.replay.ensures.content two
+
+pub returns-in-Replay-clause-bad_line : goal.returns-in-Replay-clause-bad_line
+returns-in-Replay-clause-bad_line g c three = replay_bad_line _ _ _ _ _ _ _ _ _ _ _ _ _ _ c.replay.ensures.content three
+
+pub returns-in-Replay-clause-spent : goal.returns-in-Replay-clause-spent
+returns-in-Replay-clause-spent g c ten = replay_more_lines _ _ _ _ _ _ _ _ _ _ _ _ _ _ c.replay.ensures.content ten
+
+pub returns-in-Replay-clause-bay : goal.returns-in-Replay-clause-bay
+returns-in-Replay-clause-bay g c four = replay_rose _ _ _ _ _ _ _ _ _ _ _ _ _ _ c.replay.ensures.content four
+
+pub returns-in-Soak-clause-status : goal.returns-in-Soak-clause-status
+returns-in-Soak-clause-status g c = replay_status _ _ _ _ _ _ _ _ _ _ _ _ _ _ (c.soak.ensures.content None)
+
+pub returns-in-Soak-clause-words : goal.returns-in-Soak-clause-words
+returns-in-Soak-clause-words g c one = replay_not_one _ _ _ _ _ _ _ _ _ _ _ _ _ _ (c.soak.ensures.content None) one
+
+pub returns-in-Soak-clause-config : goal.returns-in-Soak-clause-config
+returns-in-Soak-clause-config g c two = replay_comes_of_config _ _ _ _ _ _ _ _ _ _ _ _ _ _ (c.soak.ensures.content None) two
+
+pub returns-in-Soak-clause-bad_line : goal.returns-in-Soak-clause-bad_line
+returns-in-Soak-clause-bad_line g c three = absurd (soak_not_three _ _ _ _ _ _ _ _ _ _ _ _ _ _ (c.soak.ensures.content None) three)
+
+pub returns-in-Soak-clause-spent : goal.returns-in-Soak-clause-spent
+returns-in-Soak-clause-spent g c ten = absurd (soak_not_ten _ _ _ _ _ _ _ _ _ _ _ _ _ _ (c.soak.ensures.content None) ten)
+
+pub returns-in-Soak-clause-bay : goal.returns-in-Soak-clause-bay
+returns-in-Soak-clause-bay g c four = replay_rose _ _ _ _ _ _ _ _ _ _ _ _ _ _ (c.soak.ensures.content None) four
+
+pub returns-in-Replay-clause-complete_replay : goal.returns-in-Replay-clause-complete_replay
+returns-in-Replay-clause-complete_replay g c options lines is = c.replay.ensures.complete lines
+
+pub returns-in-Soak-clause-complete_soak : goal.returns-in-Soak-clause-complete_soak
+returns-in-Soak-clause-complete_soak g c asked options is images versions = c.soak.ensures.complete images (rw (same_soak c.args.command c.in-Soak.asked asked c.in-Soak.options options c.in-Soak.is is).0 versions)
+
+pub returns-in-Check-clause-complete_look : goal.returns-in-Check-clause-complete_look
+returns-in-Check-clause-complete_look g c is = c.inspect.ensures.complete
+
+pub returns-in-Dump-clause-complete_look : goal.returns-in-Dump-clause-complete_look
+returns-in-Dump-clause-complete_look g c is = c.inspect-in-Dump.ensures.complete
 
 pub generate-requires : goal.generate-requires
 generate-requires g c = record { few = range_of_gen c.args.command c.in-Gen.asked c.in-Gen.is c.requires.range }
