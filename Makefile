@@ -12,25 +12,27 @@ build:
 
 demo: build
 	rm -rf demo
-	mkdir -p demo
-	@echo "A trace of five lines, one of them of another volume:"
-	@cat samples/small.csv
+	mkdir -p demo/off-loading demo/plain
+	@cp samples/wol.toml demo/off-loading/wol.toml
+	@sed 's/^view = .*/view = []/' samples/wol.toml >demo/plain/wol.toml
+	@echo "wol format, on the three volumes of samples/wol.toml, in the new folder demo/off-loading:"
+	@cd demo/off-loading && ../../build/wol format
 	@echo
-	@echo "wol solo usr 0 100 < samples/small.csv, in the new folder demo:"
-	@cd demo && ../build/wol solo usr 0 100 <../samples/small.csv
+	@echo "wol replay < samples/offload.csv: half an hour in which web0 is read every 40 seconds, and usr0 and src0 are written now and then:"
+	@cd demo/off-loading && ../../build/wol replay <../../samples/offload.csv
 	@echo
-	@echo "The image that it made:"
-	@ls -ls demo
+	@echo "The same where no volume logs for another (demo/plain): each write wakes its disk."
+	@cd demo/plain && ../../build/wol format >/dev/null && ../../build/wol replay <../../samples/offload.csv
+	@echo
+	@echo "wol check, in both folders: what is stored is the same."
+	@cd demo/off-loading && ../../build/wol check
+	@cd demo/plain && ../../build/wol check
+	@echo
+	@echo "wol dump, in demo/off-loading: records that are still in logs."
+	@cd demo/off-loading && ../../build/wol dump
 	@echo
 	@echo "A line that is no line of a trace ends the run, and the lines before it were run:"
-	@cd demo && { ../build/wol solo usr 0 100 <../samples/bad.csv; echo "exit status $$?"; }
-	@echo
-	@echo "wol format, on the three volumes of samples/wol.toml, and the images that it made:"
-	@cp samples/wol.toml demo/wol.toml
-	@cd demo && ../build/wol format && ls -ls usr0.vol web0.vol src0.vol
-	@echo
-	@echo "The first five lines of the generated trace of seed 7:"
-	@cd demo && ../build/wol gen 7 5
+	@cd demo/off-loading && { ../../build/wol replay --each <../../samples/bad.csv; echo "exit status $$?"; }
 
 test:
 	rt ci
