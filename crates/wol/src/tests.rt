@@ -8,6 +8,7 @@ use std::sync::Wait;
 use std::test::Fail;
 use std::thread::Threads;
 use wol_bay::{Bay, MemBay};
+use wol_disk::Block;
 use wol_io::{MemSink, MemSource, NoGate};
 
 const WRITE_AND_READ: &[u8] =
@@ -508,5 +509,37 @@ fn drains_a_full_log(rt: HostRuntime) -> Result<(), Fail> {
         replayed("replay --each", DRAINING, DRAINS, 0, DRAINED),
     ];
     try_all(&rt, rt.alloc(), &rows, &mut bay)?;
+    Ok(())
+}
+
+// The image of the second of three volumes, with a record of the first of the last version. It has 2 blocks of label, 1000 of
+// home and 4 segments of 16 blocks.
+fn last_version() -> [Block; 1066] {
+    let mut blocks = [[0; 512]; 1066];
+    blocks[0][..25].copy_from_slice(
+        b"WOLVOL01\x01\x00\x00\x00\xe8\x03\x00\x00\x00\x00\x00\x00\x04\x00\x00\x00\x10",
+    );
+    blocks[1][..8].copy_from_slice(b"WOLVIEW1");
+    blocks[1002][..8].copy_from_slice(b"WOLSEGO1");
+    blocks[1003][..36].copy_from_slice(
+        b"WOLREC01\x01\x00\x00\x00\x00\x00\x00\x00\xff\xff\xff\xff\xff\xff\xff\x7f\x07\x00\x00\x00\x00\x00\x00\x00\x01\x00\x00\x00",
+    );
+    blocks[1018][..8].copy_from_slice(b"WOLSEGF1");
+    blocks[1034][..8].copy_from_slice(b"WOLSEGF1");
+    blocks[1050][..8].copy_from_slice(b"WOLSEGF1");
+    blocks
+}
+
+#[test]
+fn no_version_comes_after_the_last(rt: HostRuntime) -> Result<(), Fail> {
+    let three = THREE_VOLUMES.as_bytes();
+    let mut bay = MemBay::new(rt.alloc());
+    let formatted = b"format usr0 blocks 1066\nformat web0 blocks 1066\nformat src0 blocks 1066\n";
+    let format = replayed("format", three, b"", 0, formatted);
+    try_in(&rt, rt.alloc(), &format, &mut bay)?;
+    bay.put("web0", last_version().as_flattened())?;
+    let write = b"128166372000000000,usr,0,Write,0,512,100\n";
+    let spent = replayed("replay", three, write, 11, b"fault 11 versions usr0\n");
+    try_in(&rt, rt.alloc(), &spent, &mut bay)?;
     Ok(())
 }
