@@ -7,7 +7,7 @@ use wol_io::Gate;
 /// How often the held request looks at most.
 const TURNS: u32 = 5_000_000;
 
-/// Holds request 0 until request 2 came.
+/// Holds the first request back until the third came.
 #[derive(Drop)]
 pub struct Holding {
     came: AtomicBool,
@@ -22,7 +22,7 @@ impl Holding {
         }
     }
 
-    /// Whether request 2 came too late.
+    /// Whether the third request came too late.
     pub fn is_late(&self) -> bool {
         self.late.load(Ordering::SeqCst)
     }
