@@ -29,7 +29,7 @@ fn first_bytes<D: Disk>(disk: &mut D) -> Result<(u8, u8, u8), Failed>
 }
 
 /// Makes an image of four blocks, writes to it, and puts it back. It answers how the disk fared.
-pub fn write_image<B: Bay>(
+pub(crate) fn write_image<B: Bay>(
     bay: &mut B,
     name: &str,
     byte: u8,
@@ -49,7 +49,7 @@ pub fn write_image<B: Bay>(
 }
 
 /// Takes an image out in parts of these sizes, reads the last one, and puts them back. It answers how the disk fared.
-pub fn read_image<B: Bay>(
+pub(crate) fn read_image<B: Bay>(
     bay: &mut B,
     name: &str,
     sizes: &[u64],
@@ -70,7 +70,7 @@ pub fn read_image<B: Bay>(
 }
 
 /// An image is to be made so.
-pub fn writes<B: Bay, R: Abort>(
+pub(crate) fn writes<B: Bay, R: Abort>(
     rt: &R,
     bay: &mut B,
     name: &str,
@@ -85,7 +85,7 @@ pub fn writes<B: Bay, R: Abort>(
 }
 
 /// An image is to go out in parts of these sizes, or not to, and to have these bytes.
-pub fn reads<B: Bay, R: Abort>(
+pub(crate) fn reads<B: Bay, R: Abort>(
     rt: &R,
     bay: &mut B,
     name: &str,
