@@ -15,7 +15,7 @@ pub struct Holding {
 }
 
 impl Holding {
-    pub fn new() -> Holding {
+    pub(crate) fn new() -> Holding {
         Holding {
             came: AtomicBool::new(false),
             late: AtomicBool::new(false),
@@ -23,7 +23,7 @@ impl Holding {
     }
 
     /// Whether the third request came too late.
-    pub fn is_late(&self) -> bool {
+    pub(crate) fn is_late(&self) -> bool {
         self.late.load(Ordering::SeqCst)
     }
 }
@@ -55,7 +55,7 @@ pub struct Awaiting<'a> {
 }
 
 impl<'a> Awaiting<'a> {
-    pub fn new(fuse: &'a Fuse) -> Awaiting<'a> {
+    pub(crate) fn new(fuse: &'a Fuse) -> Awaiting<'a> {
         Awaiting {
             fuse,
             passed: fuse.passed(),
@@ -64,7 +64,7 @@ impl<'a> Awaiting<'a> {
     }
 
     /// Whether no disk was called in time.
-    pub fn is_late(&self) -> bool {
+    pub(crate) fn is_late(&self) -> bool {
         self.late.load(Ordering::SeqCst)
     }
 }

@@ -51,7 +51,7 @@ pub const DRAINS: &[u8] = b"128166372000000000,b,0,Read,0,512,100
 ";
 
 /// The bay of volumes that were formatted.
-pub fn formatted<R: Abort>(rt: &R, alloc: Global, config: &Config) -> MemBay
+pub(crate) fn formatted<R: Abort>(rt: &R, alloc: Global, config: &Config) -> MemBay
     requires { IsValid config.now }
     ensures { outs (mem_bay_state result) ≡ Some [] }
 {
@@ -61,7 +61,7 @@ pub fn formatted<R: Abort>(rt: &R, alloc: Global, config: &Config) -> MemBay
 }
 
 /// The status of a run over the volumes of a bay, and what it prints. The bytes of the trace come one by one.
-pub fn run<R: Abort + Threads + Wait + Sync, G: Gate + Sync>(
+pub(crate) fn run<R: Abort + Threads + Wait + Sync, G: Gate + Sync>(
     rt: &R,
     alloc: Global,
     config: &Config,
@@ -85,7 +85,7 @@ pub fn run<R: Abort + Threads + Wait + Sync, G: Gate + Sync>(
 }
 
 /// The status that a run ends with.
-pub fn status_of(answer: Result<(), Stop>) -> u8 {
+pub(crate) fn status_of(answer: Result<(), Stop>) -> u8 {
     match answer {
         Ok(()) => 0,
         Err(Stop::Fault(fault)) => fault.status(),

@@ -76,7 +76,7 @@ const READ_AND_WRITE: &[u8] = b"128166372000000000,usr,0,Read,0,512,100
 ";
 
 /// Reclaim after the requests of each window.
-pub fn between(workers: u32) -> Options
+pub(crate) fn between(workers: u32) -> Options
     ensures { result.workers ≡ workers }
 {
     Options {
