@@ -1,4 +1,8 @@
 //! The command that the words of a command line ask for. `clap` reads the words; whether the values are a host, numbers and a mode is tested here.
+//!
+//! `command_words` reads the words: `application.rt` is the command that `clap` is told of (`specs/Application`),
+//! `values.rt` what its values say, `command.rt` the command; `specs/Table` has the documented spellings, and
+//! `laws.rt` says that each of them asks for its command.
 #![tactic(auto)]
 
 mod application;

@@ -12,7 +12,7 @@ use Rattle.wol_model.specs.Index.{listed_in, Listed, Indexed, cover_of, listed_c
 use Rattle.redirect_map.specs.declared.record.Rec.{Rec}
 use Rattle.redirect_map.specs.Masks.{IsMask}
 use Rattle.redirect_map.specs.Index.{entry_at, IsRecordOf, IsAnswer}
-use Rattle.redirect_map.proofs.Bits.{has_bit-or, has_bit-without, has_bit-zero, some_bit}
+use Rattle.redirect_map.proofs.Bits.{has_bit-and, has_bit-or, has_bit-without, has_bit-zero, some_bit}
 use Rattle.redirect_map.proofs.Meeting.{any_in_range, none_in_range}
 use Rattle.redirect_map.proofs.Seen.{marked-marks_of, in_mask-bit}
 
@@ -26,28 +26,23 @@ pub kept_is : (o : Option Indexed) (r : Rec) → IsAnswer o (Some r) → IfSome 
 kept_is None r is = tt
 kept_is (Some e) r is = keep_is e r is
 
-going : (c n h o : Bool) → (h ≡ true → (c && not n) ≡ true) → ((c && not (c && not n)) || (h && not (c && o))) ≡ (c && (n || (h && not o)))
-going true true true true live = refl
-going true true true false live = refl
-going true true false o live = refl
-going true false true true live = refl
-going true false true false live = refl
-going true false false o live = refl
-going false n true o live = absurd (false≢true (live refl))
-going false n false o live = refl
+going : (c n h o : Bool) → ((c && not (c && not n)) || (h && ((c && not n) && not (c && o)))) ≡ (c && (n || (h && not o)))
+going true true h o = refl
+going true false h o = refl
+going false n true o = refl
+going false n false o = refl
 
-pub may_go_is : (es : List Indexed) (o : Option Indexed) (keep live homed older : ℕ) → keep < 2 ^ 128 → live < 2 ^ 128 → homed < 2 ^ 128 → older < 2 ^ 128
+pub may_go_is : (es : List Indexed) (o : Option Indexed) (keep live homed alone : ℕ) → keep < 2 ^ 128 → live < 2 ^ 128
     → IfSome o (λ e. IsMask e.listed.first (cover_of e.listed).covers keep) → IfSome o (λ e. IsMask e.listed.first (is_live (listed_in es) e.listed) live)
     → IfSome o (λ e. IsMask e.listed.first (is_homed e.listed) homed)
-    → IfSome o (λ e. (i : ℕ) → has_bit homed i ≡ true → is_live (listed_in es) e.listed (e.listed.first + i) ≡ true)
-    → IfSome o (λ e. IsMask e.listed.first (is_older (listed_in es) e.listed) older)
-    → IfSome o (λ e. IsMask e.listed.first (goes (listed_in es) e.listed) (bit_or (bit_and keep (bit_not w128 live)) (bit_and homed (bit_not w128 older))))
-may_go_is es None keep live homed older k l h o keeps lives homes on olders = tt
-may_go_is es (Some e) keep live homed older k l h o keeps lives homes on olders = λ i.
-    has_bit-or (bit_and keep (bit_not w128 live)) (bit_and homed (bit_not w128 older)) i
-    ∙ (λ j. (has_bit-without keep live i k l ∙ (λ m. keeps i m && not (lives i m))) j || (has_bit-without homed older i h o ∙ (λ m. homes i m && not (olders i m))) j)
+    → IfSome o (λ e. IsMask e.listed.first (λ b. is_live (listed_in es) e.listed b && not (is_older (listed_in es) e.listed b)) alone)
+    → IfSome o (λ e. IsMask e.listed.first (goes (listed_in es) e.listed) (bit_or (bit_and keep (bit_not w128 live)) (bit_and homed alone)))
+may_go_is es None keep live homed alone k l keeps lives homes alones = tt
+may_go_is es (Some e) keep live homed alone k l keeps lives homes alones = λ i.
+    has_bit-or (bit_and keep (bit_not w128 live)) (bit_and homed alone) i
+    ∙ (λ j. (has_bit-without keep live i k l ∙ (λ m. keeps i m && not (lives i m))) j || (has_bit-and homed alone i ∙ (λ m. homes i m && alones i m)) j)
     ∙ going ((cover_of e.listed).covers (e.listed.first + i)) (has_newer (listed_covers (listed_in es)) e.listed.version (e.listed.first + i)) (is_homed e.listed (e.listed.first + i))
-    (has_older (listed_covers (listed_in es)) e.listed.version (e.listed.first + i)) (λ there. on i (homes i ∙ there))
+    (has_older (listed_covers (listed_in es)) e.listed.version (e.listed.first + i))
 
 pub due_is : (es : List Indexed) (o : Option Indexed) (live homed : ℕ) → live < 2 ^ 128 → homed < 2 ^ 128
     → IfSome o (λ e. IsMask e.listed.first (is_live (listed_in es) e.listed) live) → IfSome o (λ e. IsMask e.listed.first (is_homed e.listed) homed)

@@ -1,4 +1,6 @@
 //! What of the records in logs may be given up, and what has to be put home first.
+//!
+//! `garbage_list` says what reclaim may do next: `masks.rt` the masks of one record, `find.rt` the least version.
 #![tactic(auto)]
 
 mod find;

@@ -40,7 +40,7 @@ pub fn may_go(index: &Index, version: u64) -> u128
         ⊎ (is_due (listed_in index.now.entries) e.listed b ≡ true)) }
 {
     let covered = kept(index, version) & !index.live(version);
-    let home = index.homed(version) & !index.older(version);
+    let home = index.homed(version) & index.alone(version);
     covered | home
 }
 

@@ -1,4 +1,13 @@
 //! The commands that look at all volumes of a bay: `check` prints what each volume's array is, `dump` its records.
+//!
+//! What is printed of the volumes of a rack: `calls.rt` has `inspect`, which opens them, prints and closes.
+//! `turn.rt` looks at one volume in one turn of its worker: enter, append what is asked, leave with an entry that
+//! changes no content; `lines.rt` finds a volume's station (`look_at`) or tells its fault, and `append_volume`
+//! appends the lines of one volume; `calls.rt` prints volume after volume (`print_volumes`). Of `specs/`: `Looks`
+//! is what one turn adds and prints, and what a manager must serve (`IsConfiguredBase`); `Racks` what a rack needs
+//! to be looked at (`CanLook`), and what a look leaves of it (`IsSameRack`: only the workers' passes are others);
+//! `Lines` what is told of each volume, and how it was printed. In `proofs/`: `Serving` and `Looking` for a turn,
+//! `Placing` for a station among all, `Judging` for what is told, `Printing` for the loop, `SameRacks`.
 #![tactic(auto)]
 
 mod asked;

@@ -1,5 +1,9 @@
 //! How values stand in the blocks of an image: the label and the view of a volume, the heads of
 //! segments and of records, and the gate behind the last record.
+//!
+//! `log_layout` reads and writes the blocks that say what an image is: `label.rt`, `view.rt`, `segment.rt` (heads
+//! and gates), `record.rt` (both forms), over `bytes.rt`, which puts numbers in front of zeros by `byteorder`. Each
+//! reader takes the fields from their places, tests their ranges, writes the value anew and compares.
 #![tactic(auto)]
 
 mod bytes;

@@ -1,4 +1,7 @@
 //! Reading a segment back: who owns it and where the heads of its records stand, or the first block that is damaged.
+//!
+//! `log_scan` reads them back: `calls.rt` the scan, `reading.rt` its loop over heads, `adopted.rt` a part as the
+//! segment that it is.
 #![tactic(auto)]
 
 use log_layout::RecHead;

@@ -1,5 +1,23 @@
 //! The manager of a volume: it reads and writes over the volume's home and its segments on the logs of other
 //! volumes, decides where each write goes, and tells after a failed disk call which part it was.
+//!
+//! A request's way: `read.rt` cuts the range into runs of blocks with one source (`run_from`), home or the newest
+//! record, and reads each (`read_home` by `fetch.rt`, `read_log` by the lane); `write.rt` has the order of refusals
+//! and the loop over the rule of placing, `log.rt` the one call `offer` in which a lane is asked for room and,
+//! where it has it, written to, `home.rt` what is written home and synced. `manager.rt` is the manager itself,
+//! `part.rt` its answers, `base.rt` what it began with, as its lock's base, `object.rt` its history under the lock.
+//! Of `specs/`: `Seen` leads from the struct to what `wol_promise` speaks of, `Stands` has what it keeps up
+//! (`Keeps`), what it stands for at the end of a turn (`Stands`), what holds of it between calls (`IsReady`) and
+//! which locks it uses (`IsHome`, `HasLocks`); `Answers`, `Offers`, `Reading`, `Causes` and `Writing` say what the
+//! answers mean, `Stops` what a stop leaves. In `proofs/`: `Lanes` (one segment of one lane is another), `Touched`
+//! (all parts that reads touched at once), `Putting`, `PutHeld`, `PutNew` (a record more), `WentHome`, `Placing`,
+//! `Moments`. The steps on the model's side are lemmas of `wol_promise`. To add a call: state it from `Keeps` to
+//! `Stands` with its entry (`Leaves`), or, where it leaves no entry, from `Keeps` to `Keeps`. The steps of reclaim
+//! do the latter: `reclaim.rt` has `fetch_rec` (over `record.rt`), `store_home` (over `put.rt`, which writes the
+//! runs of a mask and syncs) and `drop_rec`; `specs/Reclaim` says what each leaves. In `proofs/`: `StoreHome`,
+//! `PutBlocks` and `LiveData` for blocks that go home, `DropCall`, `DropKeeps`, `DropPiece`, `DropStops`,
+//! `Vanishes` and `GivenUp` for blocks that are given up, `Counted` for the number of records in a segment against
+//! the index.
 #![tactic(auto)]
 
 mod base;

@@ -55,7 +55,7 @@ impl Fields {
         if read_row(&mut self.reader, &mut self.row) && is_split(&self.row, line) {
             return Ok(());
         }
-        self.reader = None;
+        let_go(&mut self.reader);
         match split_alone(self.alloc, line) {
             Ok(row) => {
                 self.row = row;
@@ -71,6 +71,13 @@ impl Fields {
     {
         &self.row
     }
+}
+
+// Lets a reader go. It stands apart so that no line pays for the room of a whole reader, which few lines need.
+#[cold]
+#[inline(never)]
+fn let_go(reader: &mut Option<Reader<Chunk>>) {
+    *reader = None;
 }
 
 // The next row of a reader, if there is one.

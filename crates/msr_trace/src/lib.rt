@@ -1,5 +1,15 @@
 //! Block traces in the format of MSR Cambridge: lines read from a stream and written, the pieces of a request, and what a
 //! replayed write stores.
+//!
+//! Block traces as lines. `format.rt` has what a line is and why bytes are none; `parse.rt` reads one line, with
+//! the order of refusals; `decimal.rt` numbers; `fields.rt` splits by `csv`; `intake.rt` takes bytes from a source
+//! and finds the end of a line; `reading.rt` gives the lines of a source; `cutting.rt` the pieces
+//! (`calls::pieces`); `payload.rt` payloads and marks; `write.rt` a line as text; `laws.rt` the laws of spellings.
+//! `specs/Lines.antt` is the format: where lines end, what a line has, which refusal comes first;
+//! `specs/Spelling.antt` says the same by what is written, and the laws tie the two; `specs/Reading.antt` says what
+//! `Lines` does. Making a reader of `csv` costs as much as reading about a hundred lines with one, so one reader
+//! serves a chunk of up to 8,192 bytes; a row of it is used only where it is compared equal to what the line splits
+//! into, else the line is read by a reader of its own.
 #![tactic(auto)]
 
 pub mod calls;

@@ -1,5 +1,10 @@
 //! Reclaim: the blocks of a volume's records go home, and what may go of the records is given up, step by step. Each step
 //! leaves what readers see as it was; several steps can stand in one turn of a manager.
+//!
+//! `reading.rt` has `fetch`, `put.rt` `put_home`, `give_up.rt` `invalidate_one`, `drain.rt` `drain_step`, `room.rt`
+//! the `Fetch`, `answers.rt` what they answer. `specs/Fetches` says which record is next and which of its blocks
+//! still go home, `Steps` and `Drains` what each answer means. A turn may have any number of steps: whoever ends it
+//! adds the one entry.
 #![tactic(auto)]
 
 mod answers;

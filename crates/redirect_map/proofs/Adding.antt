@@ -1,8 +1,8 @@
 -- What changes in an index where a record is added.
-use Rattle.std.proofs.Common.{◌≡◌, ◌<◌, ◌≤◌, ◌+◌, ◌^◌, ℕ, suc, Bool, true, false, not, ◌&&◌, ◌||◌, List, [], ◌∷◌, ◌++◌, map, length, take, refl, sym, ap, ◌∙◌, subst, ⊎_elim, arith}
+use Rattle.std.proofs.Common.{◌≡◌, ◌<◌, ◌≤◌, ◌+◌, ◌^◌, ℕ, suc, Bool, true, false, not, ◌&&◌, ◌||◌, List, [], ◌∷◌, ◌++◌, map, length, refl, sym, ap, ◌∙◌, subst, ⊎_elim, arith}
 use Rattle.std.specs.List.{AllByRecursion, AllZip, list_any}
 use Rattle.std.proofs.lemmas.Nat.{pow_pos}
-use Rattle.std.proofs.lemmas.List.{map-append, take_at}
+use Rattle.std.proofs.lemmas.List.{map-append}
 use Rattle.std.proofs.lemmas.List.Folds.{list_any-append, list_any_at}
 use Rattle.std.proofs.lemmas.Bool.{cases_lt, and_parts, or_from, false≢true, false_from_ne_true, not-true}
 use Rattle.wol_model.specs.Log.{has_bit, marks_of}
@@ -154,12 +154,8 @@ pub seen_added : (r : Rec) (old new : List Entry) → IsNew r → AllZip (IsUnho
 unfolding new_entry
 seen_added r old new fresh all = map-append seen new (new_entry r ∷ []) ∙ ap (λ (es : List Indexed). es ++ entry_of r 0 ∷ []) (all_unhomed r old new fresh all)
 
-zip_length : (r : Rec) (old new : List Entry) → AllZip (IsUnhomed r) old new → length new ≡ length old
+pub zip_length : (r : Rec) (old new : List Entry) → AllZip (IsUnhomed r) old new → length new ≡ length old
 zip_length r [] [] all = refl
 zip_length r [] (n ∷ ns) all = absurd all
 zip_length r (o ∷ os) [] all = absurd all
 zip_length r (o ∷ os) (n ∷ ns) all = ap suc (zip_length r os ns all.1)
-
--- the entries that the program has after it wrote the old ones and pushed the new one
-pub pushed : (r : Rec) (old new behind all : List Entry) (size : ℕ) → AllZip (IsUnhomed r) old new → length old ≡ size → all ≡ take size (new ++ behind) ++ new_entry r ∷ [] → all ≡ new ++ new_entry r ∷ []
-pushed r old new behind all size zipped sized is = is ∙ ap (λ (es : List Entry). es ++ new_entry r ∷ []) (take_at new behind size (zip_length r old new zipped ∙ sized))

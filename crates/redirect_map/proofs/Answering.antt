@@ -9,7 +9,6 @@ use Rattle.std.proofs.lemmas.Bool.{cases_lt, lt-ltb, leb-true, and_parts, false�
 use Rattle.std.proofs.lemmas.List.{reverse-append, length-map}
 use Rattle.std.proofs.lemmas.Option.{slice_get-map, slice_get-get_or}
 use Rattle.std.proofs.lemmas.List.Folds.{find-append}
-use Rattle.std.proofs.lemmas.Grind.{common_steps}
 use Rattle.wol_model.specs.Log.{has_bit}
 use Rattle.wol_model.specs.Extents.{newest, newer_of, has_newer}
 use Rattle.wol_model.specs.Index.{listed_in, Indexed, AreRising, cover_of, listed_covers, is_homed, is_live, is_older, is_covered, keeps_a_block}
@@ -146,7 +145,7 @@ last-cons : (b : ℕ) (x : Entry) (xs : List Entry) → last b (x ∷ xs) ≡ op
 unfolding last
 last-cons b x xs = ap (find (λ e. keeps e b)) (reverse-append (x ∷ []) xs) ∙ find-append (λ e. keeps e b) (reverse xs) (x ∷ [])
 
-last_above : (v b : ℕ) (items : List Entry) → AllByRecursion (λ w. v < w) (map (λ (d : Entry). d.record.version) items) → IfSome (last b items) (λ e. v < e.record.version)
+pub last_above : (v b : ℕ) (items : List Entry) → AllByRecursion (λ w. v < w) (map (λ (d : Entry). d.record.version) items) → IfSome (last b items) (λ e. v < e.record.version)
 unfolding last
 last_above v b [] above = tt
 last_above v b (x ∷ xs) above = rw (last-cons b x xs) (at (last b xs) (keeps x b) (last_above v b xs above.1))
@@ -209,7 +208,7 @@ either_any p q (b ∷ bs) = four (p b) (list_any p bs) (q b) (list_any q bs) ∙
     four false false true z = refl
     four false false false z = refl
 
-any_block : (p q : ℕ → Bool) → ((b : ℕ) → p b ≡ q b) → (bs : List ℕ) → list_any p bs ≡ list_any q bs
+pub any_block : (p q : ℕ → Bool) → ((b : ℕ) → p b ≡ q b) → (bs : List ℕ) → list_any p bs ≡ list_any q bs
 any_block p q same [] = refl
 any_block p q same (b ∷ bs) = λ i. same b i || any_block p q same bs i
 
@@ -228,7 +227,7 @@ keeps_some e r =
     rw (length-marks_of e.record.count e.record.keep) (any_in_range (cover_of (seen e).listed).covers e.record.lbn e.record.count (e.record.lbn + one.0) (omega arith) (omega arith)
     (covers_seen e (e.record.lbn + one.0) r ∙ in_mask-bit e.record.lbn e.record.keep one.0 ∙ one.1))
 
-same_version : (items : List Entry) (k : ℕ) (e : Entry) → AreRising (map (λ (d : Entry). d.record.version) items) → slice_get items k ≡ Some e → find (is_version e.record.version) items ≡ Some e
+pub same_version : (items : List Entry) (k : ℕ) (e : Entry) → AreRising (map (λ (d : Entry). d.record.version) items) → slice_get items k ≡ Some e → find (is_version e.record.version) items ≡ Some e
 same_version [] k e rising at = absurd (cc)
 same_version (x ∷ xs) zero e rising at =
     let f : x ≡ e = cc in
@@ -288,15 +287,8 @@ place_is items now version k e same found within is =
     let facts = subst P same (found, within) in
     at_place items version k e facts.0 facts.1 is
 
--- the entries behind a place, and before it, as slices
-pub behind_is : (items now : List Entry) (lbn k mask : ℕ) → now ≡ items → IsKept lbn (take (length now - (k + 1)) (drop (k + 1) now)) mask → IsKept lbn (drop (suc k) items) mask
-behind_is items now lbn k mask same kept =
-    let all : take (length now - (k + 1)) (drop (k + 1) now) ≡ drop (k + 1) now = grind (arith, common_steps) in
-    let next : k + 1 ≡ suc k = omega arith in
-    let P : List Entry → Type 0 = λ xs. IsKept lbn xs mask in
-    subst P (all ∙ (λ i. drop (next i) (same i))) kept
-
-pub before_is : (items now : List Entry) (lbn k mask : ℕ) → now ≡ items → IsKept lbn (take k now) mask → IsKept lbn (take k items) mask
-before_is items now lbn k mask same kept =
-    let P : List Entry → Type 0 = λ xs. IsKept lbn (take k xs) mask in
-    subst P same kept
+-- the entries before a place
+pub before_is : (items : List Entry) (lbn k mask : ℕ) → IsKept lbn (take (k - 0) (drop 0 items)) mask → IsKept lbn (take k items) mask
+before_is items lbn k mask kept =
+    let all : k - 0 ≡ k = omega arith in
+    subst (λ (n : ℕ). IsKept lbn (take n items) mask) all kept

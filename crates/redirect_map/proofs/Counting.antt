@@ -11,7 +11,7 @@ one_more true false marks = omega arith
 one_more false true marks = omega arith
 one_more false false marks = omega arith
 
-at_bit : (keep i : ℕ) → eqb (bit_and (keep / 2 ^ i) 1) 1 ≡ has_bit keep i
+pub at_bit : (keep i : ℕ) → eqb (bit_and (keep / 2 ^ i) 1) 1 ≡ has_bit keep i
 at_bit keep i = ap (λ (k : ℕ). eqb k 1) (shr_and_one keep i)
 
 first_left : (keep i n : ℕ) (before : Bool) → 0 < n → cond (has_bit keep i && not before) 1 0 + runs_after (has_bit keep i) (map (has_bit keep) (range_with_len (i + 1) (n - 1))) ≡ runs_after before (map (has_bit keep) (range_with_len i n))

@@ -8,3 +8,9 @@ pub mod Answering
 pub mod Versions
 pub mod Changing
 pub mod Adding
+pub mod Search
+pub mod Celled
+pub mod Without
+pub mod Stepping
+pub mod Newest
+pub mod Tabling

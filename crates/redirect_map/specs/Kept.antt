@@ -50,3 +50,8 @@ pub record AreEntries (es : List Entry) : Type 0 where
 pub record IsUnhomed (r : Rec) (old new : Entry) : Type 0 where
   pub same : new.record ≡ old.record
   pub homed : (i : ℕ) → has_bit new.homed i ≡ (has_bit old.homed i && not (in_mask r.lbn r.keep (old.record.lbn + i)))
+
+-- the same entry, where blocks of a set are homed no more
+pub record IsWithout (S : ℕ → Bool) (old new : Entry) : Type 0 where
+  pub same : new.record ≡ old.record
+  pub homed : (i : ℕ) → has_bit new.homed i ≡ (has_bit old.homed i && not (S (old.record.lbn + i)))

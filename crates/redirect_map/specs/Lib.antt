@@ -2,3 +2,4 @@ pub mod Masks
 pub mod Runs
 pub mod Index
 pub mod Kept
+pub mod Cells

@@ -1,10 +1,17 @@
 // A record of the index with its homed blocks, and lists of these.
-ghost use Rattle.std.specs.Prelude.{◌≡◌, ◌<◌, IsSome, find, slice_get, length, position, reverse};
-ghost use Rattle.std.specs.List.{AllZip, AllByRecursion, list_any, range_with_len};
-ghost use Rattle.redirect_map.specs.Kept.{is_version, keeps, IsKept, IsUnhomed, IsInRange};
+ghost use Rattle.std.specs.Prelude.{◌≡◌, ◌<◌, ◌≤◌, ◌^◌, ◌+◌, ◌-◌, take, drop, ◌==◌, ◌&&◌, true, false, nat_lt, IfSome, IfNone, IsSome, None, find, slice_get, length, map};
+ghost use Rattle.std.specs.VecDeque.{deque_capacity};
+ghost use Rattle.std.specs.List.{AllZip, list_any, range_with_len};
+ghost use Rattle.std.specs.List.Sorted.{IsPartitionPoint};
+ghost use Rattle.wol_model.specs.Log.{has_bit};
+ghost use Rattle.wol_model.specs.Index.{AreRising};
+ghost use Rattle.redirect_map.specs.Kept.{is_version, keeps, IsKept, IsUnhomed, IsWithout, AreEntries};
+ghost use Rattle.redirect_map.specs.Cells.{AreTabled};
 
+use crate::blocks::{Cell, newest_of};
 use crate::mask::moved;
 use crate::record::Rec;
+use std::collections::{HashMap, VecDeque};
 
 #[derive(Clone, Copy)]
 pub struct Entry {
@@ -13,68 +20,108 @@ pub struct Entry {
     pub homed: u128,
 }
 
-// The place of this version, if it is there.
-fn position_of(entries: &[Entry], version: u64) -> Option<usize>
-    ensures { result ≡ position (is_version version) entries.now }
+// How many entries have lesser versions.
+fn below(entries: &VecDeque<Entry>, version: u64) -> usize
+    requires { AreRising (map (λ e. e.record.version) entries.now.items) }
+    ensures within { result ≤ length entries.now.items }
+    ensures parted { IsPartitionPoint (λ e. nat_lt e.record.version version ≡ true) (λ e. nat_lt e.record.version version ≡ false) entries.now.items result }
 {
-    entries
-        .iter()
-        .position(|entry| entry.record.version == version)
+    entries.partition_point(|entry| entry.record.version < version)
+}
+
+// The place of this version, if it is there.
+fn position_of(entries: &VecDeque<Entry>, version: u64) -> Option<usize>
+    requires { AreRising (map (λ e. e.record.version) entries.now.items) }
+    ensures found { IfSome result (λ k. (k < length entries.now.items) × (find (is_version version) entries.now.items ≡ slice_get entries.now.items k)) }
+    ensures none { IfNone result (find (is_version version) entries.now.items ≡ None) }
+{
+    let place = below(entries, version);
+    if place < entries.len() && entries[place].record.version == version {
+        Some(place)
+    } else {
+        None
+    }
 }
 
 // The place of this version.
-pub fn place_of(entries: &[Entry], version: u64) -> usize
-    requires { IsSome (find (is_version version) entries.now) }
-    ensures within { result < length entries.now }
-    ensures found { find (is_version version) entries.now ≡ slice_get entries.now result }
+pub fn place_of(entries: &VecDeque<Entry>, version: u64) -> usize
+    requires rising { AreRising (map (λ e. e.record.version) entries.now.items) }
+    requires there { IsSome (find (is_version version) entries.now.items) }
+    ensures within { result < length entries.now.items }
+    ensures found { find (is_version version) entries.now.items ≡ slice_get entries.now.items result }
 {
     position_of(entries, version).unwrap()
 }
 
 // The entry of this version, if it is there.
-pub fn with_version(entries: &[Entry], version: u64) -> Option<Entry>
-    ensures { result ≡ find (is_version version) entries.now }
+pub fn with_version(entries: &VecDeque<Entry>, version: u64) -> Option<Entry>
+    requires { AreRising (map (λ e. e.record.version) entries.now.items) }
+    ensures { result ≡ find (is_version version) entries.now.items }
 {
-    entries
-        .iter()
-        .find(|entry| entry.record.version == version)
-        .copied()
-}
-
-// The last entry that keeps the block.
-pub fn last_with(entries: &[Entry], lbn: u64) -> Option<Entry>
-    ensures { result ≡ find (λ e. keeps e lbn) (reverse entries.now) }
-{
-    entries
-        .iter()
-        .rev()
-        .find(|entry| entry.record.keeps(lbn))
-        .copied()
+    let place = position_of(entries, version)?;
+    Some(entries[place])
 }
 
 // Whether an entry keeps a block of the range.
-pub fn any_meets(entries: &[Entry], lbn: u64, count: u32) -> bool
-    ensures { result ≡ list_any (λ e. list_any (keeps e) (range_with_len lbn count)) entries.now }
+pub fn any_meets(entries: &VecDeque<Entry>, lbn: u64, count: u32) -> bool
+    ensures { result ≡ list_any (λ e. list_any (keeps e) (range_with_len lbn count)) entries.now.items }
 {
     entries.iter().any(|entry| entry.record.meets(lbn, count))
 }
 
-// Blocks that the record keeps are homed no more.
-pub fn unhome(entries: &mut [Entry], newer: &Rec)
-    requires { AllByRecursion IsInRange entries.old }
-    ensures { AllZip (IsUnhomed newer.now) entries.old entries.new }
+// Where the newest entry that keeps the block has it homed, it is homed no more.
+fn unhome_block(entries: &mut VecDeque<Entry>, blocks: &HashMap<u64, Cell>, lbn: u64)
+    requires entries { AreEntries entries.old.items }
+    requires cells { AreTabled entries.old.items blocks.now }
+    ensures zip { AllZip (IsWithout (λ b. b == lbn)) entries.old.items entries.new.items }
+    ensures room { deque_capacity entries.new ≡ deque_capacity entries.old }
 {
-    for older in entries.iter_mut() {
-        older.homed &= !moved(newer.keep, newer.lbn, older.record.lbn);
+    let Some(cell) = newest_of(blocks, lbn) else {
+        return;
+    };
+    let place = place_of(entries, cell.version);
+    let bit = lbn - entries[place].record.lbn;
+    entries[place].homed &= !(1 << bit);
+}
+
+// Bit i of the record, if the record keeps it.
+fn unhome_bit(entries: &mut VecDeque<Entry>, blocks: &HashMap<u64, Cell>, newer: &Rec, i: u32)
+    requires entries { AreEntries entries.old.items }
+    requires cells { AreTabled entries.old.items blocks.now }
+    requires bit { i < 128 }
+    requires within { newer.now.lbn + i < 2 ^ 32 }
+    ensures zip { AllZip (IsWithout (λ b. has_bit newer.now.keep i && (b == newer.now.lbn + i))) entries.old.items entries.new.items }
+    ensures room { deque_capacity entries.new ≡ deque_capacity entries.old }
+{
+    if newer.keep >> i & 1 == 1 {
+        unhome_block(entries, blocks, newer.lbn + u64::from(i));
     }
 }
 
-// The blocks that these entries keep, as a mask that begins at `lbn`.
-pub fn kept_from(entries: &[Entry], lbn: u64) -> u128
-    ensures { IsKept lbn entries.now result }
+// Blocks that the record keeps are homed no more.
+pub fn unhome(entries: &mut VecDeque<Entry>, blocks: &HashMap<u64, Cell>, newer: &Rec)
+    requires entries { AreEntries entries.old.items }
+    requires cells { AreTabled entries.old.items blocks.now }
+    requires count { newer.now.count ≤ 128 }
+    requires within { newer.now.lbn + newer.now.count ≤ 2 ^ 32 }
+    requires keep_within { newer.now.keep < 2 ^ newer.now.count }
+    ensures zip { AllZip (IsUnhomed newer.now) entries.old.items entries.new.items }
+    ensures room { deque_capacity entries.new ≡ deque_capacity entries.old }
+{
+    for i in 0..newer.count {
+        unhome_bit(entries, blocks, newer, i);
+    }
+}
+
+// The blocks that the entries from one place on, before another, keep, as a mask that begins at `lbn`.
+pub fn kept_from(entries: &VecDeque<Entry>, from: usize, to: usize, lbn: u64) -> u128
+    requires order { from ≤ to }
+    requires within { to ≤ length entries.now.items }
+    ensures { IsKept lbn (take (to - from) (drop from entries.now.items)) result }
 {
     let mut kept = 0;
-    for entry in entries {
+    for place in from..to {
+        let entry = entries[place];
         kept |= moved(entry.record.keep, entry.record.lbn, lbn);
     }
     kept

@@ -1,5 +1,5 @@
 // The index of a volume's records.
-ghost use Rattle.std.specs.Prelude.{◌≡◌, ◌<◌, ◌≤◌, ◌^◌, ◌+◌, ◌==◌, ℕ, true, length, map, filter, slice_get, ◌++◌, ◌∷◌, [], OnOk, OnErr, IfSome};
+ghost use Rattle.std.specs.Prelude.{◌≡◌, ◌<◌, ◌≤◌, ◌^◌, ◌+◌, ◌==◌, ℕ, true, not, ◌&&◌, length, map, filter, slice_get, ◌++◌, ◌∷◌, [], OnOk, OnErr, IfSome};
 ghost use Rattle.std.specs.Option.{ForSome};
 ghost use Rattle.std.specs.List.{list_any, range_with_len, AllByRecursion};
 ghost use Rattle.wol_model.specs.Log.{has_bit, marks_of};
@@ -9,9 +9,11 @@ ghost use Rattle.redirect_map.specs.Masks.{IsMask};
 ghost use Rattle.redirect_map.specs.Runs.{runs_of};
 ghost use Rattle.redirect_map.specs.Index.{cover_at, entry_at, HasVersion, entry_of, IsRecordOf, IsAnswer, changed, unhomed, with_homed, given_up, IsIndex};
 
-use crate::entry::{Entry, any_meets, kept_from, last_with, place_of, unhome, with_version};
+use crate::blocks::{Cell, any_covered, cover, held, newest_of, uncover};
+use crate::entry::{Entry, any_meets, kept_from, place_of, unhome, with_version};
 use crate::record::Rec;
 use std::alloc::Global;
+use std::collections::{HashMap, VecDeque};
 use std::marker::Model;
 use wol_disk::NoMemory;
 
@@ -21,19 +23,24 @@ use wol_disk::NoMemory;
 /// A block of a record is live where the record keeps it and no newer record does. Only live blocks are homed.
 #[derive(Drop)]
 pub struct Index {
-    entries: Vec<Entry>,
+    entries: VecDeque<Entry>,
+    // For each block that a record keeps, the newest one that does, and how many do.
+    blocks: HashMap<u64, Cell>,
 }
 
 impl Model for Index {
-    ghost use Rattle.std.specs.Prelude.{◌-◌, map, vec_len, vec_capacity};
+    ghost use Rattle.std.specs.Prelude.{◌-◌, ◌/◌, min, map};
+    ghost use Rattle.std.specs.VecDeque.{deque_len, deque_capacity};
+    ghost use Rattle.std.specs.HashMap.{spare};
     ghost use Rattle.redirect_map.specs.Index.{Contents};
     ghost use Rattle.redirect_map.specs.Kept.{seen, AreEntries};
+    ghost use Rattle.redirect_map.specs.Cells.{AreTabled};
 
     ghost Value = { Contents };
 
-    ghost view = { λ a. record { entries = map seen a.entries.items; reserved = vec_capacity a.entries - vec_len a.entries } };
+    ghost view = { λ a. record { entries = map seen a.entries.items; reserved = min (deque_capacity a.entries - deque_len a.entries) (spare a.blocks / 128) } };
 
-    ghost invariant = { λ a. AreEntries a.entries.items };
+    ghost invariant = { λ a. AreEntries a.entries.items × AreTabled a.entries.items a.blocks };
 }
 
 impl Index {
@@ -42,7 +49,8 @@ impl Index {
         ensures { result.entries ≡ [] }
     {
         Index {
-            entries: Vec::new(alloc),
+            entries: VecDeque::new(alloc),
+            blocks: HashMap::new(alloc),
         }
     }
 
@@ -55,6 +63,7 @@ impl Index {
         ensures unchanged { self.new.entries ≡ self.old.entries }
     {
         self.entries.reserve(more as usize)?;
+        self.blocks.reserve(more as usize * 128)?;
         Ok(())
     }
 
@@ -73,8 +82,9 @@ impl Index {
             ≡ map (unhomed (cover_at (entry_of entry 0))) self.old.entries ++ entry_of entry 0 ∷ [] }
         ensures room { self.old.reserved ≤ self.new.reserved + runs_of (marks_of entry.count entry.keep) }
     {
-        unhome(&mut self.entries, &entry);
-        self.entries.push_reserved(Entry {
+        unhome(&mut self.entries, &self.blocks, &entry);
+        cover(&mut self.blocks, &entry);
+        self.entries.push_back_reserved(Entry {
             record: entry,
             homed: 0,
         });
@@ -84,7 +94,8 @@ impl Index {
     pub fn newest(&self, lbn: u64) -> Option<Rec>
         ensures { IsAnswer (newest cover_at self.now.entries lbn) result }
     {
-        let entry = last_with(&self.entries, lbn)?;
+        let cell = newest_of(&self.blocks, lbn)?;
+        let entry = with_version(&self.entries, cell.version)?;
         Some(entry.record)
     }
 
@@ -92,7 +103,11 @@ impl Index {
     pub fn covered(&self, lbn: u64, count: u32) -> bool
         ensures { result ≡ list_any (is_covered (listed_in self.now.entries)) (range_with_len lbn count) }
     {
-        any_meets(&self.entries, lbn, count)
+        if lbn <= 1 << 32 && count as usize <= self.entries.len() {
+            any_covered(&self.blocks, lbn, count)
+        } else {
+            any_meets(&self.entries, lbn, count)
+        }
     }
 
     /// The record of this version, and none where there is none.
@@ -112,7 +127,18 @@ impl Index {
     {
         let place = place_of(&self.entries, version);
         let record = self.entries[place].record;
-        record.keep & !kept_from(&self.entries[place + 1..], record.lbn)
+        held(&self.blocks, &record, false)
+    }
+
+    /// The live blocks of this version's record that no older record keeps.
+    pub fn alone(&self, version: u64) -> u128
+        requires { HasVersion self.now.entries version }
+        ensures { IfSome (entry_at self.now.entries version)
+            (λ e. IsMask e.listed.first (λ b. is_live (listed_in self.now.entries) e.listed b && not (is_older (listed_in self.now.entries) e.listed b)) result) }
+    {
+        let place = place_of(&self.entries, version);
+        let record = self.entries[place].record;
+        held(&self.blocks, &record, true)
     }
 
     /// The kept blocks of this version's record that an older record keeps too.
@@ -123,7 +149,7 @@ impl Index {
     {
         let place = place_of(&self.entries, version);
         let record = self.entries[place].record;
-        record.keep & kept_from(&self.entries[..place], record.lbn)
+        record.keep & kept_from(&self.entries, 0, place, record.lbn)
     }
 
     /// The homed blocks of this version's record: those of its live blocks that are noted to be home.
@@ -169,10 +195,11 @@ impl Index {
     {
         let place = place_of(&self.entries, version);
         let mut entry = self.entries[place];
+        uncover(&mut self.blocks, entry.record.lbn, entry.record.count, mask);
         entry.record.keep &= !mask;
         entry.homed &= !mask;
         if entry.record.keep == 0 {
-            self.entries.remove(place);
+            let _ = self.entries.remove(place);
         } else {
             self.entries[place] = entry;
         }

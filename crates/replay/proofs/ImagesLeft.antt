@@ -28,6 +28,7 @@ use Rattle.rack.specs.Closes.{HasFaultyPart, IsClosedVolume, RecoversTo, recover
 use Rattle.rack.specs.Racks.{base_of_station}
 use Rattle.rack.specs.Rests.{IsImageOut}
 use Rattle.rack.specs.declared.rack.ImageRest.{ImageRest}
+use Rattle.replay.specs.Headline.{IsOneAction, in_flight}
 use Rattle.replay.specs.Histories.{AreHistories, BeginAsRead, History, is_broken, is_broken_at}
 use Rattle.replay.specs.Leaves.{LeavesImages, written_array}
 use Rattle.replay.proofs.AllOut.{recovered_all}
@@ -51,12 +52,12 @@ one_payload : (v : ℕ) (r : Request) → r.volume ≡ v → r.kind ≡ kind.Wri
 one_payload v r volume is = ap (λ k. cons_option (write_to v r k) []) is ∙ ap (λ (t : Bool). cons_option (cond t (Some (payload r)) None) []) (eq-eqb r.volume v volume)
 
 -- a cut of no writes in flight is the array
-no_cut : (a : List Block) (ws : List Write) (x : List Block) → IsCut a ws [] x → x ≡ after a ws
+pub no_cut : (a : List Block) (ws : List Write) (x : List Block) → IsCut a ws [] x → x ≡ after a ws
 no_cut a ws x (whole zero le same) = same ∙ ap (after a) (append-nil ws)
 no_cut a ws x (whole (suc k) le same) = absurd (omega (arith, le))
 no_cut a ws x (torn w one home blend) = absurd (cc one)
 
-none_or : {X : Type 0} (x : Option X) → (IsTrue (is_some x) → ⊥) → x ≡ None
+pub none_or : {X : Type 0} (x : Option X) → (IsTrue (is_some x) → ⊥) → x ≡ None
 none_or None never = refl
 none_or (Some y) never = absurd (never refl)
 
@@ -121,6 +122,28 @@ module _ {D : Type 0} (tells : Bool) (config : Config) (out : List (Option (Imag
         let with_array = subst (λ (a : List Block). IsCut a (writes entries) ws (recovered_out config out images station.id)) array_is with_flight in
         let all = subst (λ (x : List Block). IsCut array (writes entries) ws x) (recovered_is images left) with_array in
         cuts_are_plain v array (recovered_from (shapes_of config) images v) answers entries ws (are.first v) answered all
+
+    -- the cut, by the history
+    stopped_here : (images : Images) → AreLeft config left_ images → IsCut h.base.array (writes (entries_of h.notes)) (in_flight (entries_of h.notes)) (recovered_from (shapes_of config) images v)
+    stopped_here images left =
+        let raw = subst (λ (x : List Block). IsCut (base_of_station station).volume.began.array (writes entries) (in_flight entries) x) (recovered_is images left) ((recovers station hist.closed).cut images left) in
+        subst (λ (x : History). IsCut x.base.array (writes (entries_of x.notes)) (in_flight (entries_of x.notes)) (recovered_from (shapes_of config) images v)) (sym hist.is) raw
+
+    -- .. and what was in flight is one action
+    action_here : IsOneAction v (drop (answered_count answers v) (requests_in (answers_of v answers))) (in_flight (entries_of h.notes))
+    action_here = subst (λ (x : History). IsOneAction v (drop (answered_count answers v) (requests_in (answers_of v answers))) (in_flight (entries_of x.notes))) (sym hist.is) (by (flight_of entries) refl)
+      where
+        of_flight : (ws : List Write) → IsInFlight (answers_of v answers) ws → IsOneAction v (drop (answered_count answers v) (requests_in (answers_of v answers))) ws
+        of_flight [] no_write = inl refl
+        of_flight (w ∷ (u ∷ ws)) flight = elim flight [ ]
+        of_flight (w ∷ []) (next_write _ r is) = inr (ap (λ (x : Write). x ∷ []) is.same
+            ∙ sym (one_payload v r (of_its_volume v (answers_of v answers) (answered_count answers v) r (all_of v answers) is.next) is.kind_is)
+            ∙ ap (payloads v) (next_in (requests_in (answers_of v answers)) (answered_count answers v) r is.next))
+
+        by : (o : Option (List Write)) → flight_of entries ≡ o → IsOneAction v (drop (answered_count answers v) (requests_in (answers_of v answers))) (in_flight entries)
+        by None none = inl (ap (λ (o : Option (List Write)). unwrap_or o []) none)
+        by (Some ws) some = subst (λ (l : List Write). IsOneAction v (drop (answered_count answers v) (requests_in (answers_of v answers))) l) (sym (ap (λ (o : Option (List Write)). unwrap_or o []) some))
+            (of_flight ws (flew v station hist.closed hist.there ws some))
 
     whole_is : flight_of entries ≡ None → (images : Images) → AreLeft config left_ images → recovered_from (shapes_of config) images v ≡ written_array config answers entry v
     whole_is none images left =
@@ -190,5 +213,7 @@ module _ {D : Type 0} (tells : Bool) (config : Config) (out : List (Option (Imag
       unless = λ v. (flights v).unless;
       cuts = λ images left v lt. (flights v).cuts lt images left;
     };
+    action = action_here;
+    stopped = stopped_here;
     sound = sound;
   }

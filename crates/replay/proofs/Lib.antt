@@ -50,3 +50,4 @@ pub mod ReclaimCounted
 pub mod KeeperIdle
 pub mod ReclaimPlaced
 pub mod ReclaimedLeft
+pub mod HeadlineKept

@@ -53,12 +53,12 @@ module _ {D S : Type 0} (T : Type 0) (tells : Bool) (left : S → Option (List �
 
 -- the summary was printed or not, behind all lines
 pub ends_summed : {S T : Type 0} (left : S → Option (List ℕ)) (config : Config) (start now : Given S) (run : List (Option TraceLine)) (last : List ServedWindow) (bay bay' : ℕ) (text : List ℕ) (done : Result T Stop)
-    (faults faults' faults'' : ℕ) (printed' printed'' : Option (List ℕ)) → HasGivenAll left (targets_of config) start now run → faults' ≡ faults → PrintsText done text faults' faults'' printed' printed''
+    (faults faults' faults'' : ℕ) (printed' printed'' : Option (List ℕ)) → last ≡ [] → HasGivenAll left (targets_of config) start now run → faults' ≡ faults → PrintsText done text faults' faults'' printed' printed''
     → EndsFor left config start now run last bay bay' faults faults'' done
-ends_summed left config start now run last bay bay' text (Ok x) faults faults' faults'' printed' printed'' all calm prints = whole x all
-ends_summed {S} {T} left config start now run last bay bay' text (Err (stop.Fault f)) faults faults' faults'' printed' printed'' all calm (is, same, keeps) =
+ends_summed left config start now run last bay bay' text (Ok x) faults faults' faults'' printed' printed'' none all calm prints = whole x none all
+ends_summed {S} {T} left config start now run last bay bay' text (Err (stop.Fault f)) faults faults' faults'' printed' printed'' none all calm (is, same, keeps) =
     subst (λ (x : Fault). EndsFor left config start now run last bay bay' faults faults'' {T = T} (Err (stop.Fault x))) (sym is) memory
-ends_summed left config start now run last bay bay' text (Err stop.Sink) faults faults' faults'' printed' printed'' all calm (rose, front) = sink_failed (subst (λ (n : ℕ). Rose n faults'') calm rose)
+ends_summed left config start now run last bay bay' text (Err stop.Sink) faults faults' faults'' printed' printed'' none all calm (rose, front) = sink_failed (subst (λ (n : ℕ). Rose n faults'') calm rose)
 
 -- ---- What was printed
 

@@ -302,7 +302,7 @@ module _ {D S : Type 0} (T : Type 0) (state : D → State) (tells : Bool) (left 
           whole = λ some. absurd (some refl);
           well = w.well;
           asked = kept.asked;
-          ends = ends_summed left config start now w.lines [] entry.faults left_.faults text done faults faults' faults'' printed' printed'' w.all w.calm prints;
+          ends = ends_summed left config start now w.lines [] entry.faults left_.faults text done faults faults' faults'' printed' printed'' refl w.all w.calm prints;
           histories = kept.kept;
           are = kept.are;
           cause = λ v broken. rose_from entry.faults opened.faults left_.faults opening (kept.cause v broken);

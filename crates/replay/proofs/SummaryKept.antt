@@ -93,6 +93,14 @@ module _ {D S : Type 0} (state : D → State) (tells : Bool) (left : S → Optio
         spindle_account w.lines w.served f g w.from_start (served_moments config (windows (most_of config) (targets_of config) w.lines) w.served w.are) k (slice_index_or spindles k d) (lock_id l).base cs.entries p (omega (arith, lt, count, is.keepers.0)) keeper
         (cs.stands l lock) (cs.accesses p keeper) (cs.keeper_part p keeper).mine
 
+    own_now : (k : ℕ) (s : SpindleView) → slice_get spindles k ≡ Some s → (s.volume ≡ k) × (s.timeout ≡ config.timeout)
+    own_now k s there =
+        let lt = (at_place spindles k s there).0 in
+        let (l, lock) = a_member new.shared.spindles.items k (omega (arith, lt, count, closable.locks.spindle_count)) in
+        let is_lock = closable.locks.spindles k l lock in
+        let stands = (each k s there).stands l lock in
+        (stands.volume ∙ is_lock.volume, stands.timeout ∙ is_lock.timeout_is)
+
     pub summary_now : length spindles ≡ length config.volumes.items
         → IsSummary config w.lines (w.served ++ []) (summary_text counted.totals (printed_names config.volumes.items) (all_amounts config.powers counted.started counted.ended spindles))
     summary_now sized = subst (λ (ss : List ServedWindow). IsSummary config w.lines ss (summary_text counted.totals (printed_names config.volumes.items) (all_amounts config.powers counted.started counted.ended spindles))) (sym (append-nil w.served)) (record {
@@ -104,6 +112,7 @@ module _ {D S : Type 0} (state : D → State) (tells : Bool) (left : S → Optio
       span = w.span ∙ (λ i. w.ended_ i - w.started_ i);
       counted = w.totals_;
       each = sized;
+      own = own_now;
       accounts = accounts_now;
       text_is = λ i. summary_text counted.totals (printed_names config.volumes.items) (all_amounts config.powers (w.started_ i) (w.ended_ i) spindles);
     })

@@ -1,16 +1,19 @@
 -- What images a run over open volumes leaves in a bay, where it tells them.
-use Rattle.std.specs.Prelude.{◌≡◌, ◌<◌, ℕ, Bool, List, length, take, Some, slice_get, IsTrue}
+use Rattle.std.specs.Prelude.{◌≡◌, ◌<◌, ℕ, Bool, List, length, take, drop, Some, slice_get, IsTrue}
 use Rattle.wol_disk.specs.Disk.{Block}
 use Rattle.wol_bay.specs.Bay.{Told}
 use Rattle.wol_model.specs.Blocks.{after}
+use Rattle.wol_model.specs.History.{IsCut, writes}
 use Rattle.wol_model.specs.Images.{Images, recovered_from}
 use Rattle.wol_model.specs.Trace.{payloads}
-use Rattle.wol_promise.specs.Outcomes.{Answered, of_volume}
+use Rattle.wol_promise.specs.Outcomes.{Answered, answered_in, of_volume}
+use Rattle.wol_promise.specs.Ruled.{entries_of}
 use Rattle.wol_promise.specs.Run.{KeepsSound, LeavesCuts}
-use Rattle.run_laws.specs.Answers.{answered_count, requests_in}
+use Rattle.run_laws.specs.Answers.{answered_count, answers_of, requests_in}
 use Rattle.wol_config.specs.declared.config.Config.{Config}
 use Rattle.rack.specs.Closes.{HasFaultyPart}
 use Rattle.volume_images.specs.Volumes.{AreLeft, images_read, shapes_of}
+use Rattle.replay.specs.Headline.{IsOneAction, in_flight}
 use Rattle.replay.specs.Histories.{History, is_broken, is_broken_at}
 
 -- what volume v recovers to of the images at entry as they read, behind what its answered requests wrote
@@ -26,5 +29,9 @@ pub record LeavesImages (tells : Bool) (config : Config) (answers : List Answere
       → recovered_from (shapes_of config) images v ≡ written_array config answers entry v
   -- .. or, where a call failed, to a cut of the writes that were in flight
   pub cuts : LeavesCuts (shapes_of config) (AreLeft config new) (images_read config entry) (requests_in answers) (answered_count answers) (λ v. IsTrue (is_broken_at histories v))
+  -- the same of its history: what was in flight is one action, and what a volume recovers to is a cut of it
+  pub action : (v : ℕ) (h : History) → slice_get histories v ≡ Some h → IsOneAction v (drop (length (answered_in (answers_of v answers))) (requests_in (answers_of v answers))) (in_flight (entries_of h.notes))
+  pub stopped : (v : ℕ) (h : History) → slice_get histories v ≡ Some h → (images : Images) → AreLeft config new images
+      → IsCut h.base.array (writes (entries_of h.notes)) (in_flight (entries_of h.notes)) (recovered_from (shapes_of config) images v)
   -- sound images stay sound
   pub sound : KeepsSound (shapes_of config) (AreLeft config entry) (AreLeft config new)

@@ -8,6 +8,7 @@ pub mod Sessions
 pub mod Runs
 pub mod Histories
 pub mod Ended
+pub mod Headline
 pub mod Leaves
 pub mod Summed
 pub mod NotOpened

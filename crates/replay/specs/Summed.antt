@@ -1,5 +1,5 @@
 -- What a run over open volumes prints: the lines of the answered reads, and the summary with the account of each disk.
-use Rattle.std.specs.Prelude.{◌≡◌, ◌≢◌, ◌⊎◌, ◌++◌, ◌-◌, ℕ, Bool, true, false, is_none, count_by, List, [], length, map, take, Option, Result, Ok, Err, All}
+use Rattle.std.specs.Prelude.{◌≡◌, ◌≢◌, ◌⊎◌, ◌++◌, ◌-◌, ℕ, Bool, true, false, is_none, count_by, List, [], length, map, take, Option, Some, slice_get, Result, Ok, Err, All}
 use Rattle.std.specs.Io.KnownBytes.{Appends}
 use Rattle.wol_disk.specs.Disk.{Rose}
 use Rattle.wol_io.specs.Streams.{AppendsFront}
@@ -49,6 +49,8 @@ pub record IsSummary (config : Config) (lines : List (Option TraceLine)) (window
   pub span : totals.span ≡ ended (timed lines) - started (timed lines)
   pub counted : AreTotals windows totals
   pub each : length spindles ≡ length config.volumes.items
+  -- in order, each with the configured timeout
+  pub own : (k : ℕ) (s : SpindleView) → slice_get spindles k ≡ Some s → (s.volume ≡ k) × (s.timeout ≡ config.timeout)
   pub accounts : All (IsAccount (started (timed lines)) (map (λ (s : ServedWindow). s.batch.moment) windows)) spindles
   pub text_is : text ≡ summary_text totals (printed_names config.volumes.items) (all_amounts config.powers (started (timed lines)) (ended (timed lines)) spindles)
 

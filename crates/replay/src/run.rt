@@ -4,10 +4,11 @@ ghost use Rattle.wol_bay.specs.Bay.{outs};
 ghost use Rattle.wol_disk.specs.Disk.{Rose};
 ghost use Rattle.wol_config.specs.Configs.{IsValid};
 ghost use Rattle.volume_images.specs.Volumes.{NoneOut};
+ghost use Rattle.replay.specs.Headline.{KeepsHeadline};
 ghost use Rattle.replay.specs.Givens.{IsNew, IsWithin, faults_of, borrow_of};
 ghost use Rattle.replay.specs.Sessions.{AreOptions, IsSession};
 ghost use Rattle.replay.specs.Completes.{Completes, MayComplete};
-ghost use Rattle.replay.specs.Replays.{Replayed};
+ghost use Rattle.replay.specs.Replays.{Replayed, status_in};
 ghost use Rattle.replay.specs.Runs.{first_closed, new_session, CanServe, ServesFrom, RunsIn};
 
 use crate::counting::Counted;
@@ -150,6 +151,8 @@ where
     requires options { AreOptions options }
     requires new { IsNew given.old }
     requires home { NoneOut config.now (B.state bay.old) }
+    // The headline, at each exit.
+    ensures headline { KeepsHeadline B.Part.tells B.Part.state S.left config.now options.each given.old given.new (B.state bay.old) (B.state bay.new) (status_in result) (K.taken out.old) (K.taken out.new) }
     // each exit
     ensures home { NoneOut config.now (B.state bay.new) }
     ensures outs { outs (B.state bay.new) ≡ outs (B.state bay.old) }

@@ -1,5 +1,12 @@
 //! What is done in one turn of a manager's lock, and the entry that the turn leaves: a request, a helper's step, a reclaim
 //! turn, the beginning of a window.
+//!
+//! What is done in one turn of a manager's lock, and the entry that the turn leaves: `read.rt`, `write.rt` and
+//! `drain.rt` are the turns of a request, `reclaim.rt` the reclaim turn, `help.rt` the steps of a helper,
+//! `begin.rt` the beginning of a window; `noted.rt` ends a turn with the entry that the proof names. Of `specs/`:
+//! `Turns` has what a pass gains, `Entries` the entry of each outcome, `Answered`, `Closed`, `Helped` and `Begun`
+//! what becomes of a pass, `Counts` what its own entries put home and dropped. `proofs/CountLaws` has the laws of
+//! these counts for callers.
 #![tactic(auto)]
 
 mod answer;

@@ -1,4 +1,9 @@
 //! The images of volumes in a bay: they are formatted, and taken out one by one.
+//!
+//! `formatting.rt` formats all images in order, `image.rt` one, `content.rt` and `part.rt` one of its parts;
+//! `specs/Formatted` is a formatted image, `Left` what is left of one after a stop, `Formats` what is left of all.
+//! `attach.rt`, `parts.rt`, `reading.rt` and `heads.rt` read what an image says, or give it back with the first
+//! fault.
 #![tactic(auto)]
 
 mod attach;

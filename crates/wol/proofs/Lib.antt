@@ -12,3 +12,4 @@ mod ReplayFaults
 mod SeenLines
 mod Taken
 mod Unread
+mod HeadlineTold

@@ -82,7 +82,7 @@ line_not_four trace.NoMemory is = omega (arith, is)
 
 module _ {D S T : Type 0} (tells : Bool) (state : D → State) (options : Options) (left : S → Option (List ℕ)) (config : Config) (start now : Given S) (old new : BayState) (sink sink' : ℕ) (printed printed' : Option (List ℕ)) where
   ends_rose : (r : Result T Stop) (run : List (Option TraceLine)) (last : List ServedWindow) → EndsFor left config start now run last old.faults new.faults sink sink' r → (g : Fault) → r ≡ Err (stop.Fault g) → status_of g ≡ 4 → Rose old.faults new.faults
-  ends_rose r run last (whole done all) g is four = absurd (let no : Ok done ≡ Err (stop.Fault g) = is in cc)
+  ends_rose r run last (whole done none all) g is four = absurd (let no : Ok done ≡ Err (stop.Fault g) = is in cc)
   ends_rose r run last (no_line refusal other empty refuses) g is four = absurd (line_not_four refusal (ap status_of (same_fault _ _ (fault_of_trace refusal) g is refl refl) ∙ four))
   ends_rose r run last (refused f s one same rose versions) g is four =
       rose (of_part f (of_window s.batch.requests s.answer f same) (ap status_of (same_fault _ _ f g is refl refl) ∙ four))

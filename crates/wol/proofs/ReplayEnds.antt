@@ -45,7 +45,7 @@ same_fault a b f g same is so = ap (fault_in f) (sym is ∙ same ∙ so)
 
 module _ {D S T : Type 0} (tells : Bool) (state : D → State) (options : Options) (left : S → Option (List ℕ)) (config : Config) (start now : Given S) (old new : BayState) (sink sink' : ℕ) (printed printed' : Option (List ℕ)) where
   ends_for : (r : Result T Stop) (run : List (Option TraceLine)) (last : List ServedWindow) → EndsFor left config start now run last old.faults new.faults sink sink' r → (g : Fault) → r ≡ Err (stop.Fault g) → IsOfWindow g ⊎ NoLine left start now g
-  ends_for r run last (whole done all) g is = absurd (let no : Ok done ≡ Err (stop.Fault g) = is in cc)
+  ends_for r run last (whole done none all) g is = absurd (let no : Ok done ≡ Err (stop.Fault g) = is in cc)
   ends_for r run last (no_line refusal other empty refuses) g is = inr (refusal, other, same_fault _ _ (fault_of_trace refusal) g is refl refl, run, refuses)
   ends_for r run last (refused f s one same rose versions) g is = inl (subst IsOfWindow (same_fault _ _ f g is refl refl) (of_window s.batch.requests s.answer f same))
   ends_for r run last memory g is = inl (subst IsOfWindow (same_fault _ _ fault.Memory g is refl refl) tt)

@@ -51,7 +51,7 @@ asks_seen left start now sink sink' printed printed' is = record { unread = ap (
 module _ {S T : Type 0} (tells : Bool) (left : S → Option (List ℕ)) (config : Config) (start now : Given S) (old new : BayState) (sink sink' : ℕ) where
   ends_seen : (run : List (Option TraceLine)) (last : List ServedWindow) (result : Result T Stop) → EndsFor left config start now run last old.faults new.faults sink sink' result
       → EndsFor (λ bytes. bytes) config (seen left start) (seen left now) run last old.faults new.faults sink sink' result
-  ends_seen run last result (whole done all) = whole done (all_seen left (targets_of config) start now run all)
+  ends_seen run last result (whole done none all) = whole done none (all_seen left (targets_of config) start now run all)
   ends_seen run last result (no_line refusal other empty refuses) = no_line refusal other empty (refuses_seen left refusal start now run refuses)
   ends_seen run last result (refused f s one is rose versions) = refused f s one is rose versions
   ends_seen run last result memory = memory

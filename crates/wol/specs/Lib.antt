@@ -7,3 +7,7 @@ pub mod Formatting
 pub mod Inspecting
 pub mod Replaying
 pub mod Completing
+pub mod Headlined
+pub mod Outside
+pub mod Causes
+pub mod Run

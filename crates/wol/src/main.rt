@@ -1,4 +1,9 @@
-// Write off-loading for disk volumes: the command line.
+//! Write off-loading for disk volumes: the command line.
+//!
+//! `wol` is the program: `settings.rt` the configuration from its source, `listing.rt` the command `gen`,
+//! `formatting.rt` `format`, `inspecting.rt` `check` and `dump`, `replaying.rt` `replay` and `soak`, `telling.rt`
+//! the last line of a run, `status.rt` `solo`'s statuses and lines of faults, `top.rt` the top call, `main.rt`. A
+//! further command joins as a further arm of `top::run`; `IsCommand`, `NoCommand` and `IsStatus` then name it.
 #![tactic(auto)]
 
 mod formatting;

@@ -13,6 +13,7 @@ ghost use Rattle.wol.specs.Generating.{RunsGen};
 ghost use Rattle.wol.specs.Formatting.{RunsFormat};
 ghost use Rattle.wol.specs.Inspecting.{RunsLook};
 ghost use Rattle.wol.specs.Completing.{HasSoundImages, HaveVersions, IsGoodTrace, seed_lines};
+ghost use Rattle.wol.specs.Headlined.{RunsHeadline};
 ghost use Rattle.wol.specs.Replaying.{RunsReplay, lines_of, options_as, trace_of};
 
 use crate::formatting::format;
@@ -63,6 +64,12 @@ where
     // No name is out of the bay at any exit.
     ensures home { NoneOut (B.state bay.new) }
     ensures status { IsStatus result }
+    // The headline: each answered read gives every block's last acknowledged write in its volume's one legal history, and wherever
+    // the disks stop, reopening gives what that acknowledged.
+    ensures headline { (options : Options) → IsCommand (map string_bytes words.now) (Command.Replay options) → RunsHeadline B.Part.tells B.Part.state options.each (trace_of (S.left trace.old)) (C.left config.old)
+        (C.faults config.old) (C.faults config.new) (S.left trace.new) (B.state bay.old) (B.state bay.new) result (K.taken out.old) (K.taken out.new) }
+    ensures soak_headline { (asked : Generated) (options : Options) → IsCommand (map string_bytes words.now) (Command.Soak asked options) → RunsHeadline B.Part.tells B.Part.state options.each (lines_of asked) (C.left config.old)
+        (C.faults config.old) (C.faults config.new) (S.left trace.new) (B.state bay.old) (B.state bay.new) result (K.taken out.old) (K.taken out.new) }
     // What the sink took, by the status, and what is left of the image. Each mark is that of the plain array where the
     // bay tells, and each line is the trace's where the trace tells.
     ensures content { (volume : Volume) → IsCommand (map string_bytes words.now) (Command.Solo volume) → RunsSolo (target_of volume) (S.left trace.old) (S.left trace.new)

@@ -1,5 +1,12 @@
 //! Streams of bytes and the gate of requests: where a run's input comes from, where its output goes to, and what it
 //! passes before each request. Sources and sinks in memory, over std's readers and writers, and over a file.
+//!
+//! Where a run's input comes from and its output goes to. `streams.rt` has the traits `Source` and `Sink` and their
+//! borrowed forms; `gate.rt` the gate that is passed before each request, and the program's, which holds nobody
+//! back; `memory.rt` and `plan.rt` streams in memory that cut and fail as planned; `adapters.rt` std's readers and
+//! writers; `files.rt` a file that is opened at its first read. What a call does to a sink's bytes is said in
+//! `specs/Streams.antt`; the lemmas for callers (pieces, fronts of pieces and reads, one after another) stand in
+//! `proofs/Appending` and `proofs/Consuming`. A new kind of stream is a new file with an `impl` of the trait.
 #![tactic(auto)]
 
 mod adapters;

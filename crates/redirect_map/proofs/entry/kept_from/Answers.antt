@@ -1,5 +1,6 @@
-use Rattle.redirect_map.proofs.Keeping.{kept_more}
+use Rattle.std.proofs.Common.{arith}
+use Rattle.redirect_map.proofs.Keeping.{kept_further}
 use Rattle.redirect_map.proofs.entry.kept_from.Goals as goal
 
-pub loop-entry-preserved : goal.loop-entry-preserved
-loop-entry-preserved c = kept_more c.args.lbn c.loop-entry.kept c.moved-kept.result c.loop-entry.entry-index c.args.entries.now _ c.loop-entry-test.true c.loop-entry.invariant c.moved-kept.ensures
+pub loop-place-preserved : goal.loop-place-preserved
+loop-place-preserved c = kept_further c.args.lbn c.loop-place.kept c.moved-kept.result c.args.from c.loop-place.place c.args.entries.now.items c.index-entry.result.now c.loop-place.auto.place (omega (arith, c.loop-place-test.true, c.requires.within)) c.index-entry.ensures c.loop-place.invariant c.moved-kept.ensures

@@ -1,8 +1,11 @@
-use Rattle.std.proofs.Common.{◌≡◌, take, drop}
+use Rattle.std.proofs.Common.{deque_capacity, ◌≡◌, ◌+◌, ◌&&◌, nat_lt}
 use Rattle.std.specs.List.{AllZip}
-use Rattle.redirect_map.specs.Kept.{IsUnhomed}
+use Rattle.redirect_map.specs.Masks.{in_mask}
+use Rattle.redirect_map.specs.Kept.{IsWithout}
 use Rattle.redirect_map.proofs.entry.unhome.Given as goal
 
--- the entries so far are changed, and the others are as they were
-abbrev pub invariant-loop-older : goal.invariant-loop-older
-invariant-loop-older l = AllZip (IsUnhomed l.newer) (take l.older-index l.initial.entries) (take l.older-index l.entries) × (drop l.older-index l.entries ≡ drop l.older-index l.initial.entries)
+-- the blocks so far are homed no more
+abbrev pub invariant-loop-i : goal.invariant-loop-i
+invariant-loop-i l =
+    AllZip (IsWithout (λ b. in_mask l.newer.lbn l.newer.keep b && nat_lt b (l.newer.lbn + l.i))) l.initial.entries.items l.entries.items
+    × (deque_capacity l.entries ≡ deque_capacity l.initial.entries)

@@ -8,6 +8,7 @@ use Rattle.replay.specs.Completes.{Completes}
 use Rattle.replay.specs.Givens.{faults_of}
 use Rattle.replay.specs.Replays as replays
 use Rattle.replay.specs.declared.stop.Stop.{Stop}
+use Rattle.replay.proofs.HeadlineKept.{keeps_headline}
 use Rattle.replay.proofs.RunAnswered.{replayed_err, replayed_ok}
 use Rattle.replay.proofs.RunCompleted.{complete_err, complete_ok, not_source}
 use Rattle.replay.proofs.Stopped.{same_stop}
@@ -177,3 +178,12 @@ returns-clause-complete g c = λ may.
     (ap length c.deref.ensures.value ∙ closed.count) (ap length c.deref.ensures.value ∙ closed.count ∙ length-map c.args.config.now.volumes.items (shape_in c.args.config.now))
     (rw c.deref.ensures.value closed.spindles) c.print_summary.result (g.K.Sink.faults c.print_summary.new.out) (g.K.Sink.taken c.print_summary.new.out) c.print_summary.ensures.prints
     (λ same. absurd (not_source c.print_summary.result _ (g.K.Sink.faults run.new.out) (g.K.Sink.faults c.print_summary.new.out) (g.K.Sink.taken run.new.out) (g.K.Sink.taken c.print_summary.new.out) c.print_summary.ensures.prints same)) may
+
+pub returns-in_default-clause-headline : goal.returns-in_default-clause-headline
+returns-in_default-clause-headline g c = keeps_headline _ _ _ _ _ _ _ _ _ _ _ _ _ _ (returns-in_default-clause-replays g c)
+
+pub returns-in_err-counted-clause-headline : goal.returns-in_err-counted-clause-headline
+returns-in_err-counted-clause-headline g c = keeps_headline _ _ _ _ _ _ _ _ _ _ _ _ _ _ (returns-in_err-counted-clause-replays g c)
+
+pub returns-clause-headline : goal.returns-clause-headline
+returns-clause-headline g c = keeps_headline _ _ _ _ _ _ _ _ _ _ _ _ _ _ (returns-clause-replays g c)

@@ -10,9 +10,11 @@ use Rattle.command_words.specs.declared.command.Command.TheVariants.{Format, Rep
 use Rattle.wol.proofs.Asked.{in_range, one_command, one_volume}
 use Rattle.wol.proofs.Endings.{told_fault}
 use Rattle.wol.proofs.FormatEndings.{told_untouched}
+use Rattle.wol.proofs.HeadlineTold.{runs_headline}
 use Rattle.wol.proofs.GenEndings.{told_unread}
 use Rattle.wol.proofs.LookEndings.{look_untouched}
 use Rattle.wol.proofs.ReplayEndings.{unreplayed}
+use Rattle.wol.specs.Replaying.{options_as}
 use Rattle.wol.proofs.top.run.Goals as goal
 
 -- ---- The words are a command
@@ -162,3 +164,23 @@ returns-in-Err-NotACommand-clause-complete_look g c (inr is) = absurd (c.in-Err-
 
 pub returns-in-Err-NotACommand-clause-complete_soak : goal.returns-in-Err-NotACommand-clause-complete_soak
 returns-in-Err-NotACommand-clause-complete_soak g c asked options is = absurd (c.in-Err-NotACommand.ensures.refused (ap Err c.in-Err-NotACommand.field-0-is) (Soak asked options) is)
+
+-- ---- The headline
+
+pub returns-in-Ok-clause-headline : goal.returns-in-Ok-clause-headline
+returns-in-Ok-clause-headline g c options is = runs_headline _ _ (options_as options) _ _ _ _ _ _ _ _ _ _ _ (returns-in-Ok-clause-replayed g c options is)
+
+pub returns-in-Ok-clause-soak_headline : goal.returns-in-Ok-clause-soak_headline
+returns-in-Ok-clause-soak_headline g c asked options is = runs_headline _ _ (options_as options) _ _ _ _ _ _ _ _ _ _ _ (returns-in-Ok-clause-soaked g c asked options is)
+
+pub returns-in-Err-NoMemory-clause-headline : goal.returns-in-Err-NoMemory-clause-headline
+returns-in-Err-NoMemory-clause-headline g c options is = runs_headline _ _ (options_as options) _ _ _ _ _ _ _ _ _ _ _ (returns-in-Err-NoMemory-clause-replayed g c options is)
+
+pub returns-in-Err-NoMemory-clause-soak_headline : goal.returns-in-Err-NoMemory-clause-soak_headline
+returns-in-Err-NoMemory-clause-soak_headline g c asked options is = runs_headline _ _ (options_as options) _ _ _ _ _ _ _ _ _ _ _ (returns-in-Err-NoMemory-clause-soaked g c asked options is)
+
+pub returns-in-Err-NotACommand-clause-headline : goal.returns-in-Err-NotACommand-clause-headline
+returns-in-Err-NotACommand-clause-headline g c options is = runs_headline _ _ (options_as options) _ _ _ _ _ _ _ _ _ _ _ (returns-in-Err-NotACommand-clause-replayed g c options is)
+
+pub returns-in-Err-NotACommand-clause-soak_headline : goal.returns-in-Err-NotACommand-clause-soak_headline
+returns-in-Err-NotACommand-clause-soak_headline g c asked options is = runs_headline _ _ (options_as options) _ _ _ _ _ _ _ _ _ _ _ (returns-in-Err-NotACommand-clause-soaked g c asked options is)

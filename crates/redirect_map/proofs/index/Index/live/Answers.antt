@@ -1,10 +1,15 @@
-use Rattle.std.proofs.Common.{sym, subst}
+use Rattle.std.proofs.Common.{refl, sym, subst, nat_eq}
+use Rattle.std.specs.HashMap.{get}
 use Rattle.redirect_map.specs.Index.{Contents, HasVersion}
-use Rattle.redirect_map.proofs.Answering.{is_there, place_is, behind_is, live_is}
+use Rattle.redirect_map.proofs.Answering.{is_there, place_is}
+use Rattle.redirect_map.proofs.Newest.{live_held}
 use Rattle.redirect_map.proofs.index.Index.live.Goals as goal
 
-pub place_of-place-requires : goal.place_of-place-requires
-place_of-place-requires c = rw c.deref.ensures.value (is_there c.self.inside.entries.items c.args.version (subst (λ (v : Contents). HasVersion v.entries c.args.version) (sym c.self.view_is) c.requires))
+pub place_of-place-requires-clause-rising : goal.place_of-place-requires-clause-rising
+place_of-place-requires-clause-rising c = c.self.invariant.0.rising
+
+pub place_of-place-requires-clause-there : goal.place_of-place-requires-clause-there
+place_of-place-requires-clause-there c = (is_there c.self.inside.entries.items c.args.version (subst (λ (v : Contents). HasVersion v.entries c.args.version) (sym c.self.view_is) c.requires))
 
 pub returns : goal.returns
-returns c = rw (← c.self.view_is) (live_is c.self.inside.entries.items c.args.version c.place_of-place.result c.index.result.now c.kept_from.result c.self.invariant (place_is c.self.inside.entries.items c.deref.result.now c.args.version c.place_of-place.result c.index.result.now c.deref.ensures.value c.place_of-place.ensures.found c.place_of-place.ensures.within c.index.ensures) c.kept_from.type_inv (behind_is c.self.inside.entries.items c.deref-2.result.now c.index.result.now.record.lbn c.place_of-place.result c.kept_from.result c.deref-2.ensures.value c.kept_from.ensures))
+returns c = rw (← c.self.view_is) (live_held c.self.inside.entries.items c.args.version c.place_of-place.result c.index.result.now c.held.result (get nat_eq c.self.inside.blocks) c.self.invariant.0 (place_is c.self.inside.entries.items c.self.inside.entries.items c.args.version c.place_of-place.result c.index.result.now refl c.place_of-place.ensures.found c.place_of-place.ensures.within c.index.ensures) c.self.invariant.1 c.held.ensures)

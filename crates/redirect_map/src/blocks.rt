@@ -1,0 +1,176 @@
+// Which record has each block: for every block that a record keeps, the version of the newest one that keeps
+// it, and how many keep it.
+ghost use Rattle.std.specs.Prelude.{◌≡◌, ◌<◌, ◌≤◌, ◌^◌, ◌+◌, ◌==◌, ◌&&◌, ◌||◌, nat_eq, nat_lt, ℕ, is_some, if◌then◌else◌};
+ghost use Rattle.std.specs.List.{list_any, range_with_len};
+ghost use Rattle.std.specs.HashMap.{get, spare};
+ghost use Rattle.wol_model.specs.Log.{has_bit};
+ghost use Rattle.redirect_map.specs.Masks.{in_mask};
+ghost use Rattle.redirect_map.specs.Cells.{is_held, keepers_of, one_covers, covering, take_one};
+
+use crate::record::Rec;
+use std::collections::HashMap;
+
+#[derive(Clone, Copy)]
+pub struct Cell {
+    // The newest record that keeps the block.
+    pub version: u64,
+    // How many records keep it, at least one.
+    pub keepers: u64,
+}
+
+// The mask, with bit i where `on`.
+fn with_bit(mask: u128, i: u32, on: bool) -> u128
+    requires { i < 128 }
+    ensures { (j : ℕ) → has_bit result j ≡ (has_bit mask j || (on && j == i)) }
+{
+    if on { mask | 1 << i } else { mask }
+}
+
+// The version of the newest record that keeps the block.
+pub fn newest_of(blocks: &HashMap<u64, Cell>, lbn: u64) -> Option<Cell>
+    ensures { result ≡ get nat_eq blocks.now lbn }
+{
+    blocks.get(&lbn).copied()
+}
+
+// Whether the newest record of the block is that of this version, and the only one if `alone`.
+fn holds(blocks: &HashMap<u64, Cell>, lbn: u64, version: u64, alone: bool) -> bool
+    ensures { result ≡ is_held version alone (get nat_eq blocks.now lbn) }
+{
+    match newest_of(blocks, lbn) {
+        Some(cell) => cell.version == version && (!alone || cell.keepers == 1),
+        None => false,
+    }
+}
+
+// The blocks of which the record of this version is the newest, and the only one if `alone`.
+pub fn held(blocks: &HashMap<u64, Cell>, one: &Rec, alone: bool) -> u128
+    requires count { one.now.count ≤ 128 }
+    requires within { one.now.lbn + one.now.count ≤ 2 ^ 32 }
+    ensures { (i : ℕ) → has_bit result i
+        ≡ (nat_lt i one.now.count && is_held one.now.version alone (get nat_eq blocks.now (one.now.lbn + i))) }
+{
+    let mut mask = 0;
+    for i in 0..one.count {
+        let on = holds(blocks, one.lbn + u64::from(i), one.version, alone);
+        mask = with_bit(mask, i, on);
+    }
+    mask
+}
+
+// Whether a record keeps a block of the range.
+pub fn any_covered(blocks: &HashMap<u64, Cell>, lbn: u64, count: u32) -> bool
+    requires { lbn ≤ 2 ^ 32 }
+    ensures { result ≡ list_any (λ b. is_some (get nat_eq blocks.now b)) (range_with_len lbn count) }
+{
+    for i in 0..count {
+        if newest_of(blocks, lbn + u64::from(i)).is_some() {
+            return true;
+        }
+    }
+    false
+}
+
+// How many records keep the block.
+fn keepers_at(blocks: &HashMap<u64, Cell>, lbn: u64) -> u64
+    ensures { result ≡ keepers_of (get nat_eq blocks.now lbn) }
+{
+    match newest_of(blocks, lbn) {
+        Some(cell) => cell.keepers,
+        None => 0,
+    }
+}
+
+// A record of this version, which is above all others, keeps the block too.
+fn cover_one(blocks: &mut HashMap<u64, Cell>, lbn: u64, version: u64)
+    requires spare { 0 < spare blocks.old }
+    requires few { keepers_of (get nat_eq blocks.old lbn) + 1 < 2 ^ 64 }
+    ensures cells { (b : ℕ) → get nat_eq blocks.new b
+        ≡ (if b == lbn then one_covers version (get nat_eq blocks.old b) else get nat_eq blocks.old b) }
+    ensures spare { spare blocks.old ≤ spare blocks.new + 1 }
+{
+    let keepers = keepers_at(blocks, lbn) + 1;
+    let _ = blocks.insert(lbn, Cell { version, keepers });
+}
+
+// Block i of a record, if the record keeps it.
+fn cover_bit(blocks: &mut HashMap<u64, Cell>, one: &Rec, i: u32)
+    requires spare { 0 < spare blocks.old }
+    requires few { keepers_of (get nat_eq blocks.old (one.now.lbn + i)) + 1 < 2 ^ 64 }
+    requires within { one.now.lbn + i < 2 ^ 32 }
+    requires bit { i < 128 }
+    ensures cells { (b : ℕ) → get nat_eq blocks.new b
+        ≡ (if has_bit one.now.keep i && (b == one.now.lbn + i) then one_covers one.now.version (get nat_eq blocks.old b) else get nat_eq blocks.old b) }
+    ensures spare { spare blocks.old ≤ spare blocks.new + 1 }
+{
+    if one.keep >> i & 1 == 1 {
+        cover_one(blocks, one.lbn + u64::from(i), one.version);
+    }
+}
+
+// A record, which is newer than all others, keeps blocks.
+pub fn cover(blocks: &mut HashMap<u64, Cell>, one: &Rec)
+    requires spare { one.now.count ≤ spare blocks.old }
+    requires few { (b : ℕ) → keepers_of (get nat_eq blocks.old b) + 1 < 2 ^ 64 }
+    requires count { one.now.count ≤ 128 }
+    requires within { one.now.lbn + one.now.count ≤ 2 ^ 32 }
+    requires keep_within { one.now.keep < 2 ^ one.now.count }
+    ensures cells { (b : ℕ) → get nat_eq blocks.new b ≡ covering one.now b (get nat_eq blocks.old b) }
+    ensures spare { spare blocks.old ≤ spare blocks.new + one.now.count }
+{
+    for i in 0..one.count {
+        cover_bit(blocks, one, i);
+    }
+}
+
+// A record keeps the block no more, one of several.
+fn lower_one(blocks: &mut HashMap<u64, Cell>, lbn: u64)
+    requires many { 1 < keepers_of (get nat_eq blocks.old lbn) }
+    ensures cells { (b : ℕ) → get nat_eq blocks.new b
+        ≡ (if b == lbn then take_one (get nat_eq blocks.old b) else get nat_eq blocks.old b) }
+    ensures spare { spare blocks.old ≤ spare blocks.new }
+{
+    if let Some(cell) = blocks.get_mut(&lbn) {
+        cell.keepers -= 1;
+    }
+}
+
+// A record keeps the block no more.
+fn uncover_one(blocks: &mut HashMap<u64, Cell>, lbn: u64)
+    ensures cells { (b : ℕ) → get nat_eq blocks.new b
+        ≡ (if b == lbn then take_one (get nat_eq blocks.old b) else get nat_eq blocks.old b) }
+    ensures spare { spare blocks.old ≤ spare blocks.new }
+{
+    if keepers_at(blocks, lbn) > 1 {
+        lower_one(blocks, lbn);
+    } else {
+        blocks.remove(&lbn);
+    }
+}
+
+// Bit i of a mask of blocks that a record keeps no more.
+fn uncover_bit(blocks: &mut HashMap<u64, Cell>, first: u64, mask: u128, i: u32)
+    requires within { first + i < 2 ^ 64 }
+    requires bit { i < 128 }
+    ensures cells { (b : ℕ) → get nat_eq blocks.new b
+        ≡ (if has_bit mask i && (b == first + i) then take_one (get nat_eq blocks.old b) else get nat_eq blocks.old b) }
+    ensures spare { spare blocks.old ≤ spare blocks.new }
+{
+    if mask >> i & 1 == 1 {
+        uncover_one(blocks, first + u64::from(i));
+    }
+}
+
+// A record keeps the blocks of the mask no more.
+pub fn uncover(blocks: &mut HashMap<u64, Cell>, first: u64, count: u32, mask: u128)
+    requires count { count ≤ 128 }
+    requires within { first + count ≤ 2 ^ 32 }
+    requires mask { mask < 2 ^ count }
+    ensures cells { (b : ℕ) → get nat_eq blocks.new b
+        ≡ (if in_mask first mask b then take_one (get nat_eq blocks.old b) else get nat_eq blocks.old b) }
+    ensures spare { spare blocks.old ≤ spare blocks.new }
+{
+    for i in 0..count {
+        uncover_bit(blocks, first, mask, i);
+    }
+}

@@ -1,0 +1,165 @@
+-- The headline holds of each run.
+use Rattle.std.proofs.Common.{◌≡◌, ◌<◌, ◌++◌, ℕ, Bool, true, false, List, [], ◌∷◌, length, map, take, refl, sym, ap, subst, ◌∙◌, Option, None, Some, is_some, unwrap_or, Result, Ok, Err, inl, inr, append-nil, arith}
+use Rattle.std.specs.Prelude.{IsTrue}
+use Rattle.std.specs.List.{AllByRecursion}
+use Rattle.std.specs.Option.{option_map_or}
+use Rattle.std.specs.Io.KnownBytes.{Appends}
+use Rattle.wol_io.specs.Streams.{AppendsFront}
+use Rattle.wol_io.proofs.Appending.{appends_none, front_whole}
+use Rattle.wol_bay.specs.Bay.{BayState, Told}
+use Rattle.wol_disk.specs.Disk.{Block, State}
+use Rattle.wol_model.specs.Blocks.{Write, after}
+use Rattle.wol_model.specs.History.{AreLegalNext, BreaksOnce, Broke, Entry, IsCut, Kept, Operation, Read, Wrote, flight_from, flight_of, written_by, writes}
+use Rattle.wol_model.specs.Images.{recovered_from}
+use Rattle.wol_model.specs.Trace.{TraceLine}
+use Rattle.wol_model.proofs.Overlay.{after_more, after_none}
+use Rattle.wol_promise.specs.Outcomes.{Answered}
+use Rattle.wol_promise.specs.Ruled.{entries_of}
+use Rattle.wol_promise.specs.Run.{joined_lines}
+use Rattle.run_laws.specs.Answers.{answers_of}
+use Rattle.wol_config.specs.declared.config.Config.{Config}
+use Rattle.volume_images.specs.Left.{IsTold}
+use Rattle.volume_images.specs.Volumes.{images_read, shapes_of}
+use Rattle.report.specs.Faults.{status_of}
+use Rattle.report.specs.declared.fault.Fault.TheVariants.{Volume}
+use Rattle.trace_gen.specs.Generated.{targets_of}
+use Rattle.replay.specs.Ended as ended
+use Rattle.replay.specs.Givens.{HasGivenAll}
+use Rattle.replay.specs.Headline.{ArePrinted, HasOneHistory, Headline, HistoriesGoOn, KeepsHeadline, in_flight, opened_array, plain_lines}
+use Rattle.replay.specs.Histories.{ArePlainMarks, BeginAsRead, History, answers_in, is_broken, is_broken_at}
+use Rattle.replay.specs.Leaves.{LeavesImages}
+use Rattle.replay.specs.Replays as replays
+use Rattle.replay.specs.Replays.{Replayed, Replays, status_in}
+use Rattle.replay.specs.Served.{ServedWindow}
+use Rattle.replay.specs.Summed.{PrintsRun, lines_asked}
+use Rattle.replay.specs.declared.given.Given.{Given}
+use Rattle.replay.specs.declared.session.Options.{Options}
+use Rattle.replay.specs.declared.stop.Stop.{Stop}
+use Rattle.replay.specs.declared.stop.Stop.TheVariants as stop
+use Rattle.replay.proofs.ImagesLeft.{no_cut, none_or}
+use Rattle.replay.proofs.RacksServed.{a_member}
+use Rattle.replay.proofs.RunCounts.{status_some}
+
+-- ---- What is printed
+
+all_taken : {X : Type 0} (xs : List X) → take (length xs) xs ≡ xs
+all_taken [] = refl
+all_taken (x ∷ xs) = ap (λ l. x ∷ l) (all_taken xs)
+
+-- all of the lines were printed, and then this
+abbrev printed_all : (lines : List (List ℕ)) (ending : List ℕ) (status : ℕ) (taken taken' : Option (List ℕ)) → Appends taken taken' (joined_lines lines ++ ending) → ArePrinted lines status taken taken'
+printed_all lines ending status taken taken' is =
+    let here = subst (λ (l : List (List ℕ)). Appends taken taken' (joined_lines l ++ ending)) (sym (all_taken lines)) is in
+    record { count = length lines; ending = ending; all = λ not_7 not_9. all_taken lines; whole = λ not_7. here; front = front_whole taken taken' _ here }
+
+printed_kept : {T : Type 0} (result : Result T Stop) (lines : List (List ℕ)) (summary : List ℕ) (faults faults' : ℕ) (taken taken' : Option (List ℕ)) → PrintsRun result lines summary faults faults' taken taken'
+    → ArePrinted lines (status_in result) taken taken'
+printed_kept (Ok done) lines summary faults faults' taken taken' (calm, is) = printed_all lines summary 0 taken taken' is
+printed_kept (Err stop.Sink) lines summary faults faults' taken taken' (rose, is) =
+    record { count = length lines; ending = summary; all = λ not_7 not_9. all_taken lines; whole = λ not_7. absurd (not_7 refl); front = subst (λ (l : List (List ℕ)). AppendsFront taken taken' (joined_lines l ++ summary)) (sym (all_taken lines)) is }
+printed_kept (Err (stop.Fault f)) lines summary faults faults' taken taken' (calm, inl (other, is)) =
+    printed_all lines [] (status_of f) taken taken' (subst (λ (l : List ℕ). Appends taken taken' l) (sym (append-nil (joined_lines lines))) is)
+printed_kept (Err (stop.Fault f)) lines summary faults faults' taken taken' (calm, inr (lacked, k, is)) =
+    let here = subst (λ (l : List ℕ). Appends taken taken' l) (sym (append-nil (joined_lines (take k lines)))) is in
+    record { count = k; ending = []; all = λ not_7 not_9. absurd (not_9 (ap status_of lacked)); whole = λ not_7. here; front = front_whole taken taken' _ here }
+
+lines_plain : (config : Config) (each : Bool) (answers : List Answered) (entry : Told) → ArePlainMarks config answers entry → lines_asked config each answers ≡ plain_lines config each entry answers
+lines_plain config true answers entry plain = plain
+lines_plain config false answers entry plain = refl
+
+-- ---- Runs over open volumes
+
+-- what holds of what was told at both ends, three times
+told_thrice : (P Q R X : Told → Told → Type 0) (a b : Option Told) → IsTold P a b → IsTold Q a b → IsTold R a b → ((o n : Told) → P o n → Q o n → R o n → X o n) → IsTold X a b
+told_thrice P Q R X None b p q r all = p
+told_thrice P Q R X (Some o) None p q r all = p
+told_thrice P Q R X (Some o) (Some n) p q r all = λ apart. all o n (p apart) (q apart) (r apart)
+
+-- at status 0 the trace was run to its end
+to_the_end : {S T : Type 0} (left : S → Option (List ℕ)) (config : Config) (start now : Given S) (run : List (Option TraceLine)) (last : List ServedWindow) (bay bay' sink sink' : ℕ) (result : Result T Stop)
+    → ended.EndsFor left config start now run last bay bay' sink sink' result → status_in result ≡ 0 → HasGivenAll left (targets_of config) start now run
+to_the_end left config start now run last bay bay' sink sink' (Ok done) (ended.whole _ _ all) is = all
+to_the_end left config start now run last bay bay' sink sink' (Err stop.Sink) ends is = absurd (cc is)
+to_the_end left config start now run last bay bay' sink sink' (Err (stop.Fault f)) ends is = absurd (status_some f is)
+
+module _ {S T : Type 0} (tells : Bool) (left : S → Option (List ℕ)) (config : Config) (options : Options) (start now : Given S) (old new : BayState) (result : Result T Stop) (sink sink' : ℕ) (taken taken' : Option (List ℕ))
+    (r : Replays tells left config options start now old new result sink sink' taken taken') (telling : IsTrue tells) where
+  abbrev answers : List Answered
+  answers = answers_in (r.earlier ++ r.last)
+
+  -- a volume that was open
+  one_history : (entry exit : Told) → BeginAsRead config entry r.histories → LeavesImages tells config answers r.histories entry exit → (v : ℕ) → v < length (shapes_of config)
+      → HasOneHistory config entry exit old.faults new.faults v (answers_of v answers)
+  one_history entry exit begun images v lt =
+      let (h, here) = a_member r.histories v (omega (arith, lt, r.are.count)) in
+      let one = r.are.each v h here in
+      let array : h.base.array ≡ opened_array config (images_read config entry) v = (begun v h here).array ∙ ap (recovered_from (shapes_of config) (images_read config entry)) one.owner in
+      let broken : is_broken_at r.histories v ≡ is_some (flight_of (entries_of h.notes)) = ap (λ (o : Option History). option_map_or is_broken o false) here in
+      record {
+        history = entries_of h.notes;
+        legal = record { replies = subst (λ (a : List Block). AreLegalNext a (entries_of h.notes)) array (one.legal.replies telling); breaks = one.legal.breaks; helpers = one.legal.helpers };
+        first = r.are.first v;
+        served = one.answered;
+        reopens = λ left_ is_left. subst (λ (a : List Block). IsCut a (writes (entries_of h.notes)) (in_flight (entries_of h.notes)) (opened_array config left_ v)) array (images.stopped v h here left_ is_left);
+        one_action = images.action v h here;
+        calm = λ none. none_or (flight_of (entries_of h.notes)) (λ some. none (r.cause v (broken ∙ some)));
+      }
+
+  pub headline_kept : IsTold (λ entry exit. Headline left config options.each start now entry exit old.faults new.faults (status_in result) taken taken') old.told new.told
+  headline_kept = told_thrice (λ entry exit. BeginAsRead config entry r.histories) (λ entry exit. ArePlainMarks config answers entry) (LeavesImages tells config answers r.histories)
+      (λ entry exit. Headline left config options.each start now entry exit old.faults new.faults (status_in result) taken taken') old.told new.told (r.begun telling) (r.marks telling) (r.images telling)
+      (λ entry exit begun marks images. record {
+        lines = r.run;
+        given = (r.more, r.given);
+        answers = answers;
+        asked = r.asked;
+        done = λ is. (to_the_end left config start now r.run r.last old.faults new.faults sink sink' result r.ends is, λ v. r.counts.at_0 v is);
+        printed = subst (λ (l : List (List ℕ)). ArePrinted l (status_in result) taken taken') (lines_plain config options.each answers entry marks)
+            (printed_kept result (lines_asked config options.each answers) r.summary sink sink' taken taken' r.prints);
+        each_volume = one_history entry exit begun images;
+        sound = images.sound;
+      })
+
+-- ---- All runs
+
+pub keeps_headline : {D S T : Type 0} (tells : Bool) (state : D → State) (left : S → Option (List ℕ)) (config : Config) (options : Options) (start now : Given S) (old new : BayState) (sink sink' : ℕ) (taken taken' : Option (List ℕ)) (result : Result T Stop)
+    → Replayed tells state left config options start now old new sink sink' taken taken' result → KeepsHeadline tells state left config options.each start now old new (status_in result) taken taken'
+keeps_headline tells state left config options start now old new sink sink' taken taken' _ (replays.no_memory asks bay) =
+    inl (record { refused = λ is. absurd (cc is); unread = asks.unread; none = printed_all [] [] 9 taken taken' (appends_none taken taken' asks.kept); left = bay })
+keeps_headline tells state left config options start now old new sink sink' taken taken' _ (replays.closed k f asks first bay) =
+    inl (record { refused = status_some (Volume k _); unread = asks.unread; none = printed_all [] [] (status_of (Volume k _)) taken taken' (appends_none taken taken' asks.kept); left = bay })
+keeps_headline tells state left config options start now old new sink sink' taken taken' result (replays.ran _ r) = inr (λ telling. headline_kept tells left config options start now old new result sink sink' taken taken' r telling)
+
+-- ---- One run after the other
+
+abbrev operations : List Entry → List Operation
+operations es = map (λ (e : Entry). e.operation) es
+
+legal_on : (a : List Block) (es fs : List Entry) → AreLegalNext a es → AreLegalNext (after a (writes es)) fs → AreLegalNext a (es ++ fs)
+legal_on a [] fs legal next = subst (λ (x : List Block). AreLegalNext x fs) (after_none a) next
+legal_on a (e ∷ es) fs (first, rest) next = (first, legal_on (after a (written_by e.operation)) es fs rest (subst (λ (x : List Block). AreLegalNext x fs) (after_more a (written_by e.operation) (writes es)) next))
+
+breaks_on : (es fs : List Entry) → flight_of es ≡ None → BreaksOnce (operations fs) → BreaksOnce (operations (es ++ fs))
+breaks_on [] fs none breaks = breaks
+breaks_on (e ∷ es) fs none breaks = at e.operation none (λ rest. breaks_on es fs rest breaks)
+  where
+    at : (o : Operation) → flight_from o (flight_of es) ≡ None → (flight_of es ≡ None → BreaksOnce (operations (es ++ fs))) → BreaksOnce (o ∷ operations (es ++ fs))
+    at (Wrote ws) is further = further is
+    at (Read first reply) is further = further is
+    at Kept is further = further is
+    at (Broke ws) is further = absurd (cc is)
+
+all_on : {X : Type 0} (P : X → Type 0) (xs ys : List X) → AllByRecursion P xs → AllByRecursion P ys → AllByRecursion P (xs ++ ys)
+all_on P [] ys first next = next
+all_on P (x ∷ xs) ys (one, first) next = (one, all_on P xs ys first next)
+
+pub histories_go_on : HistoriesGoOn
+histories_go_on config entry exit again last faults faults' more more' v _ _ one is_left next none =
+    let began : List Block = opened_array config (images_read config entry) v in
+    let cut = subst (λ (ws : List Write). IsCut began (writes one.history) ws (opened_array config (images_read config again) v)) (ap (λ (o : Option (List Write)). unwrap_or o []) none) (one.reopens (images_read config again) is_left) in
+    let array : opened_array config (images_read config again) v ≡ after began (writes one.history) = no_cut began (writes one.history) (opened_array config (images_read config again) v) cut in
+    record {
+      replies = legal_on began one.history next.history one.legal.replies (subst (λ (a : List Block). AreLegalNext a next.history) array next.legal.replies);
+      breaks = breaks_on one.history next.history none next.legal.breaks;
+      helpers = all_on _ one.history next.history one.legal.helpers next.legal.helpers;
+    }
