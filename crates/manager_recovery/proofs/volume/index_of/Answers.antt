@@ -1,9 +1,11 @@
+use Rattle.std.specs.Prelude.{IsPermutation}
 use Rattle.std.proofs.Common.{◌≡◌, ℕ, ◌<◌, ◌+◌, ◌^◌, true, List, length, map, sym, subst, ◌∙◌, ap}
 use Rattle.std.specs.List.{AllByRecursion, AllZip}
 use Rattle.spin_model.specs.Spun.{state_of}
 use Rattle.log_scan.specs.declared.Found.{Found}
 use Rattle.manager_recovery.specs.Refused.{is_named, head_at}
-use Rattle.manager_recovery.specs.Scanned.{IsScanned, IsEntryInRange, IsStableByVersion, lane_of, all_found, head_of}
+use Rattle.wol_model.specs.Index.{AreRising}
+use Rattle.manager_recovery.specs.Scanned.{IsScanned, entries_from, IsEntryInRange, IsStableByVersion, lane_of, all_found, head_of}
 use Rattle.manager_recovery.specs.declared.listing.FoundRecord.{FoundRecord}
 use Rattle.manager_recovery.specs.Owned.{AreFirstTwins}
 use Rattle.std.proofs.lemmas.List.Sorted.{length_permutation}
@@ -55,3 +57,24 @@ fill_index-requires-clause-ranges g c =
     let all : AllByRecursion IsEntryInRange c.deref_mut.result.now =
     subst (AllByRecursion IsEntryInRange) (sym (c.deref_mut.ensures.value ∙ found)) (found_in_range g.D.Disk.state o.want.id o.want.home o.view o.owned.items c.args.scans.now c.requires.scanned) in
     subst (AllByRecursion IsEntryInRange) (sym sorted) (all_moved IsEntryInRange _ _ c.sort_by_version.ensures.same all)
+
+pub returns-in-Ok-fill_index-clause-ok : goal.returns-in-Ok-fill_index-clause-ok
+returns-in-Ok-fill_index-clause-ok g c =
+    let o = c.args.opening.now in
+    let listed = c.in-Ok.listed in
+    let found : listed.items ≡ all_found o.view o.owned.items c.args.scans.now = c.in-Ok.ensures ∙ (λ i. all_found o.view (c.deref.ensures.value i) c.args.scans.now) in
+    let same : length c.sort_by_version.new.listed ≡ length listed.items = length_permutation _ _ c.sort_by_version.ensures.same ∙ ap length c.deref_mut.ensures.value in
+    let back = written_back listed.items c.sort_by_version.new.listed listed.len same listed.ok.0 in
+    let twinless : c.deref-2.result.now ≡ c.sort_by_version.new.listed = c.deref-2.ensures.value ∙ back in
+    let sorted : c.deref-3.result.now ≡ c.sort_by_version.new.listed = c.deref-3.ensures.value ∙ back in
+    let moved : IsPermutation (all_found o.view o.owned.items c.args.scans.now) c.sort_by_version.new.listed =
+    subst (λ (l : List FoundRecord). IsPermutation l c.sort_by_version.new.listed) (c.deref_mut.ensures.value ∙ found) c.sort_by_version.ensures.same in
+    let stable : IsStableByVersion (all_found o.view o.owned.items c.args.scans.now) c.sort_by_version.new.listed =
+    subst (λ (l : List FoundRecord). IsStableByVersion l c.sort_by_version.new.listed) (c.deref_mut.ensures.value ∙ found) c.sort_by_version.ensures.stable in
+    let rising : AreRising (map (λ (r : FoundRecord). r.entry.version) c.sort_by_version.new.listed) =
+    subst (λ (l : List FoundRecord). AreRising (map (λ (r : FoundRecord). r.entry.version) l)) twinless c.in_default-first_twins.ensures in
+    record {
+      sorted = c.sort_by_version.new.listed;
+      are_sorted = record { same = moved; stable = stable; rising = rising };
+      is = c.in-Ok-fill_index.ensures ∙ ap entries_from sorted;
+    }
