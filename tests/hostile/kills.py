@@ -1,0 +1,116 @@
+"""Kills replays at random moments and looks at what they left.
+
+usage: kills.py WOL [--kills N] [--seed S] [--folder F]
+
+Each round replays a random trace over small volumes with `--each`, kills the program with SIGKILL at a random moment, and then asks:
+are the lines that it printed those of the plain arrays, in order; is what each volume's images stand for (by a reader of its own, and
+by `wol check`) what the acknowledged writes left, with at most the writes in flight; the next round goes on with these images. N counts
+the kills that found some of the writes done. It prints its counts, and ends with 1 and the folder of the first round that went wrong.
+"""
+
+import argparse
+import hashlib
+import random
+import shutil
+import subprocess
+import sys
+import tempfile
+import time
+from pathlib import Path
+
+from images import Config, read_config, recovered
+from model import Request, is_cut, random_trace, read_lines
+
+MODES = ("off", "between", "beside")
+
+
+def random_config(rng: random.Random) -> str:
+    names = ["a", "b", "c", "d"][: rng.randint(2, 4)]
+    rows = [f"segment_blocks = {rng.choice((4, 8, 16))}\nawake_mw = 8000\nstandby_mw = 1000\nwake_mj = 50000\n"]
+    for name in names:
+        others = [it for it in names if it != name]
+        view = ", ".join(f'"{it}"' for it in rng.sample(others, rng.randint(0, len(others))))
+        rows.append(f'[[volume]]\nname = "{name}"\nhost = "{name}"\ndisk = 0\n')
+        rows.append(f"home_blocks = {rng.choice((40, 100, 300))}\nsegments = {rng.randint(1, 6)}\nview = [{view}]\n")
+    return "".join(rows)
+
+
+def call(wol: str, folder: Path, *words: str) -> subprocess.CompletedProcess:
+    return subprocess.run([wol, *words], cwd=folder, stdin=subprocess.DEVNULL, capture_output=True, text=True, timeout=120)
+
+
+def killed(wol: str, folder: Path, words: list[str], delay: float) -> tuple[bool, list[str]]:
+    """Whether the program was still at work when it was killed, and the whole lines that it had printed."""
+    with open(folder / "trace.csv", "rb") as trace, open(folder / "out.txt", "wb") as out:
+        run = subprocess.Popen([wol, "replay", "--each", *words], cwd=folder, stdin=trace, stdout=out, stderr=subprocess.DEVNULL)
+        try:
+            run.wait(delay)
+        except subprocess.TimeoutExpired:
+            run.kill()
+        run.wait()
+    if run.returncode not in (0, -9):
+        raise AssertionError(f"status {run.returncode}")
+    text = (folder / "out.txt").read_text()
+    return run.returncode == -9, text[: text.rfind("\n") + 1].splitlines()
+
+
+def look(wol: str, folder: Path, config: Config, before: list, asked: list[Request], lines: list[str], stopped: bool) -> list:
+    """Compares what a replay printed and left with what it may; answers the arrays that the next round begins with."""
+    printed = [it for it in lines if it.startswith("read ")]
+    expected = read_lines(config, before, asked)
+    assert printed == expected[: len(printed)], "a read line isn't that of the plain array"
+    assert stopped or len(printed) == len(expected), "a read line is missing"
+    # the lines of a window are printed once the whole window was answered
+    through = (int(printed[-1].split()[1]) if printed else 0) if stopped else asked[-1].line if asked else 0
+    after = recovered(folder, config)
+    for number, volume in enumerate(config.volumes):
+        writes = [it for it in asked if it.volume == number and it.write]
+        acknowledged = sum(it.line <= through for it in writes)
+        assert is_cut(before[number], writes, acknowledged, after[number]), f"{volume.name} lost or gained something"
+    told = call(wol, folder, "check")
+    assert told.returncode == 0, f"check ends with {told.returncode}: {told.stdout}"
+    for volume, array, line in zip(config.volumes, after, told.stdout.splitlines()):
+        digest = hashlib.sha256(b"".join(array)).hexdigest()
+        assert line.startswith(f"{volume.name} ok sha256 {digest} "), f"check says {line}"
+    assert recovered(folder, config) == after, "check changed what the images stand for"
+    return after
+
+
+def main() -> int:
+    words = argparse.ArgumentParser()
+    words.add_argument("wol")
+    words.add_argument("--kills", type=int, default=50)
+    words.add_argument("--seed", type=int, default=1)
+    words.add_argument("--folder", help="where images are made; a memory file system and a disk show different stops")
+    asked_for = words.parse_args()
+    wol, rng = str(Path(asked_for.wol).resolve()), random.Random(asked_for.seed)
+    rounds = stops = within = 0
+    lasts = 0.05
+    while within < asked_for.kills:
+        folder = Path(tempfile.mkdtemp(prefix="wol-kills-", dir=asked_for.folder))
+        text = random_config(rng)
+        config = read_config(text)
+        (folder / "wol.toml").write_text(text)
+        assert call(wol, folder, "format").returncode == 0
+        arrays = recovered(folder, config)
+        for _ in range(8):
+            trace, asked = random_trace(rng, config, rng.choice((20, 200, 1500)))
+            (folder / "trace.csv").write_bytes(trace)
+            options = ["--workers", rng.choice("14"), "--reclaim", rng.choice(MODES)]
+            start = time.monotonic()
+            try:
+                stopped, lines = killed(wol, folder, options, rng.uniform(0, 1.3 * lasts))
+                lasts = 1.2 * lasts if stopped else time.monotonic() - start
+                before, arrays = arrays, look(wol, folder, config, arrays, asked, lines, stopped)
+            except (AssertionError, subprocess.TimeoutExpired) as wrong:
+                print(f"round {rounds + 1} of seed {asked_for.seed} went wrong: {wrong}; its folder is {folder}", file=sys.stderr)
+                return 1
+            rounds, stops = rounds + 1, stops + stopped
+            within += stopped and arrays != before
+        shutil.rmtree(folder)
+    print(f"{rounds} replays, {stops} killed, {within} of them among writes: each printed line and each array is as it may be")
+    return 0
+
+
+if __name__ == "__main__":
+    sys.exit(main())
