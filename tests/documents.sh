@@ -100,11 +100,11 @@ check_commands() {
 
 check_crates() {
     local crate
-    for crate in $(sed -n 's/^\([a-z_]*\)[ :].*/\1/p' crates.txt | grep -v '_tests$'); do
+    while read -r crate; do
         grep -q "\b$crate\b" docs/ARCHITECTURE.md || echo "docs/ARCHITECTURE.md has no floor for $crate"
         grep -q "\b$crate\b" docs/PROOF.md || echo "docs/PROOF.md doesn't have $crate"
         grep -q "^| $crate |" CONTRIBUTING.md || echo "CONTRIBUTING.md has no row for $crate"
-    done
+    done < <(sed -n 's/^\([a-z_]*\)[ :].*/\1/p' crates.txt | grep -v '_tests$')
 }
 
 check_versions() {
