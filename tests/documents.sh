@@ -144,14 +144,13 @@ check_clauses() {
 }
 
 # print_example FOLDER LINE: what the program prints on a line as `wol replay <samples/offload.csv`
-print_example() {
-    local input=/dev/null
-    local -a words
+print_example() (
+    input=/dev/null
     read -ra words <<<"${2%%<*}"
     case $2 in *'<'*) input=${2##*<} ;; esac
     cd "$1"
     "$top/build/wol" "${words[@]:1}" <"$input" || true
-}
+)
 
 # each example of docs/USAGE.md, one after the other in one folder, and those of README.md
 check_outputs() {
