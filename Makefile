@@ -1,24 +1,41 @@
-# What a user runs: `make build` leaves the proved program at build/wol, `make demo` shows it on a sample trace,
-# and `make test` proves and tests everything.
+# What a user runs. 'make look' shows the program at once, unproved; 'make build' leaves the proved program at build/wol,
+# and 'make demo' shows it on a sample trace. 'make test' proves and tests everything.
 
-.PHONY: build demo test clean
+PREFIX ?= /usr/local
+DESTDIR ?=
 
-# The command proves the program, builds it and runs it; on words that are no command it touches no file and ends with 1.
+.PHONY: look build demo test bench install clean
+
+# The program on a small trace, compiled by `rt try` with no proof. It runs in an empty folder, which is removed.
+look:
+	@echo "make look: this run is UNPROVED ('rt try'); 'make demo' shows the proved program. It compiles for 1 to 3 minutes."
+	@mkdir -p build
+	@cd crates/wol && rt try -- solo usr 0 100 <../../samples/small.csv >../../build/look.out 2>../../build/look.log \
+	|| { cat ../../build/look.log >&2; exit 1; }
+	@echo "wol solo usr 0 100 <samples/small.csv: what was read back; the last number is the sum of the lines that wrote the blocks."
+	@cat build/look.out
+
+# The words `none` are no command, on which the proved and built program touches no file and ends with 1.
 build:
-	rm -f crates/wol/out/wol
-	cd crates/wol && { rt run -- none </dev/null >/dev/null || test -x out/wol; }
-	mkdir -p build
-	cp crates/wol/out/wol build/wol
+	@echo "make build: proves the program's crates one after another, compiles it by LLVM, and leaves it at build/wol."
+	@echo "The first time that takes about 45 minutes on 4 processors; later only what changed is proved. All messages: build/build.log"
+	@mkdir -p build
+	@rm -f crates/wol/out/wol
+	@cd crates/wol && rt run -- none </dev/null 2>&1 >/dev/null | tee ../../build/build.log | awk -v all="$$(grep '^[a-z]' ../../crates.txt | grep -vc '_tests\>')" \
+	'/^crate /{ name = $$2; sub(":", "", name) } /^logic=proved/{ printf "  %d of at most %d crates: %s is proved\n", ++done, all, name; fflush() }'
+	@test -x crates/wol/out/wol || { tail -n 40 build/build.log >&2; echo "make build: the program was not built" >&2; exit 1; }
+	@cp crates/wol/out/wol build/wol
+	@echo "build/wol is the proved program."
 
 demo: build
-	rm -rf demo
-	mkdir -p demo/off-loading demo/plain
+	@rm -rf demo
+	@mkdir -p demo/off-loading demo/plain
 	@cp samples/wol.toml demo/off-loading/wol.toml
 	@sed 's/^view = .*/view = []/' samples/wol.toml >demo/plain/wol.toml
 	@echo "wol format, on the three volumes of samples/wol.toml, in the new folder demo/off-loading:"
 	@cd demo/off-loading && ../../build/wol format
 	@echo
-	@echo "wol replay < samples/offload.csv: half an hour in which web0 is read every 40 seconds, and usr0 and src0 are written now and then:"
+	@echo "wol replay <samples/offload.csv: half an hour in which web0 is read every 40 seconds, and usr0 and src0 are written now and then:"
 	@cd demo/off-loading && ../../build/wol replay <../../samples/offload.csv
 	@echo
 	@echo "The same where no volume logs for another (demo/plain): each write wakes its disk."
@@ -34,8 +51,25 @@ demo: build
 	@echo "A line that is no line of a trace ends the run, and the lines before it were run:"
 	@cd demo/off-loading && { ../../build/wol replay --each <../../samples/bad.csv; echo "exit status $$?"; }
 
+# The gate, and the documents against the program.
 test:
 	rt ci
+	@for script in tests/*.sh; do echo "$$script"; "$$script" || exit 1; done
+
+bench: build
+	bench/replay.sh
+	bench/check.sh
+	bench/lines.sh
+	bench/turns.sh
+
+# The program, its man page, its completions and the documents. It builds nothing, so it can run as another user.
+install:
+	@test -x build/wol || { echo "make install: no build/wol: run 'make build' first" >&2; exit 1; }
+	install -D -m 755 build/wol "$(DESTDIR)$(PREFIX)/bin/wol"
+	install -D -m 644 docs/wol.1 "$(DESTDIR)$(PREFIX)/share/man/man1/wol.1"
+	install -D -m 644 completions/wol.bash "$(DESTDIR)$(PREFIX)/share/bash-completion/completions/wol"
+	install -D -m 644 completions/_wol "$(DESTDIR)$(PREFIX)/share/zsh/site-functions/_wol"
+	install -D -m 644 -t "$(DESTDIR)$(PREFIX)/share/doc/wol" README.md docs/USAGE.md docs/FORMATS.md docs/GLOSSARY.md samples/wol.toml
 
 clean:
 	rm -rf build demo

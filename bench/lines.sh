@@ -6,6 +6,7 @@ cd "$(dirname "$0")/.."
 lines=${1:-1000000}
 program=$PWD/build/wol
 [ -x "$program" ] || { echo "bench/lines.sh: no build/wol: run 'make build' first" >&2; exit 1; }
+echo "$(date -u +%F), $(nproc) processors: $(sed -n 's/^model name.*: //p' /proc/cpuinfo | head -n 1)"
 folder=$(mktemp -d)
 trap 'rm -r "$folder"' EXIT
 awk -v lines="$lines" 'BEGIN {

@@ -10,6 +10,7 @@ workers=${2:-1}
 command=${3:-replay}
 program=$PWD/build/wol
 [ -x "$program" ] || { echo "bench/replay.sh: no build/wol: run 'make build' first" >&2; exit 1; }
+echo "$(date -u +%F), $(nproc) processors: $(sed -n 's/^model name.*: //p' /proc/cpuinfo | head -n 1)"
 folder=$(mktemp -d /dev/shm/wol-bench.XXXXXX)
 trap 'rm -r "$folder"' EXIT
 cd "$folder"

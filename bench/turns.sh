@@ -5,6 +5,7 @@
 set -eu
 top=$(cd "$(dirname "$0")/.." && pwd)
 turns=${1:-1000000}
+echo "$(date -u +%F), $(nproc) processors: $(sed -n 's/^model name.*: //p' /proc/cpuinfo | head -n 1)"
 folder=$(mktemp -d)
 trap 'rm -rf "$folder"' EXIT
 bench=$folder/crates/turn_bench

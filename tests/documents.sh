@@ -1,0 +1,192 @@
+#!/usr/bin/env bash
+# Compares the documents with the sources and, where build/wol is there, with what the program prints.
+# usage: tests/documents.sh     it prints each thing that is wrong, and ends with 1 where there is one
+set -eu
+cd "$(dirname "$0")/.."
+export LC_ALL=C.UTF-8
+top=$PWD
+documents=(README.md CONTRIBUTING.md CHANGELOG.md docs/*.md)
+folder=$(mktemp -d)
+trap 'rm -r "$folder"' EXIT
+
+# ---- What the sources say
+
+# commands: the program's commands, as the command line is told of them
+commands() {
+    cat crates/*/src/application.rt | sed -n 's/.*Command::new(alloc, "\([a-z-]*\)").*/\1/p' | grep -vx wol
+}
+
+# statuses: the exit statuses of the program
+statuses() {
+    grep list_any crates/wol/specs/Statuses.antt | grep -o '\b[0-9]\+ ∷' | tr -d ' ∷'
+}
+
+# labels CRATE FUNCTION: the labels of the clauses of a public function; of one whose clause is the record `Run`, the fields of that
+labels() {
+    local clauses
+    clauses=$(awk -v name="$2" '
+        $0 ~ "pub fn " name "[<(]" { inside = 1 }
+        inside && /^ *[{]$/ { inside = 0 }
+        inside && /^ *(requires|ensures) / { print }
+    ' crates/"$1"/src/*.rt)
+    sed -n '/{ Run /d; s/^ *\(requires\|ensures\) \([a-z_]\{1,\}\) {.*/\2/p' <<<"$clauses"
+    if grep -q '{ Run ' <<<"$clauses"; then
+        awk '/^pub record Run / { inside = 1 } inside && /^  pub [a-z_]+ :/ { print $2 }' crates/"$1"/specs/Run.antt
+    fi
+}
+
+# ---- What the documents say
+
+# section FILE HEADING: the lines below a heading that begins so, up to the next one
+section() {
+    awk -v heading="$2" '/^#/ { inside = (index($0, heading) == 1); next } inside' "$1"
+}
+
+# told: the words in backquotes in the second column of the tables that come in
+told() {
+    awk -F '|' '/^[|]/ { n = split($3, words, "\140"); for (k = 2; k <= n; k += 2) print words[k] }' | grep -x '[a-z_]*' | sort -u
+}
+
+# ---- The checks: each prints what is wrong
+
+check_sizes() {
+    local document
+    [ "$(wc -c <README.md)" -lt 8000 ] || echo "README.md has 8,000 bytes or more"
+    for document in "${documents[@]}"; do
+        [ "$(wc -L <"$document")" -le 200 ] || echo "$document has a line over 200 columns"
+        awk -v document="$document" '
+            function end_paragraph() { if (words > 120) print document ":" start ": a paragraph of " words " words"; words = 0 }
+            /^```/ { code = !code; end_paragraph(); next }
+            code || /^$/ || /^#/ || /^    [^ ]/ { end_paragraph(); next }
+            /^[|]/ || /^[-*] / || /^[0-9]+[.] / { end_paragraph() }
+            { if (words == 0) start = NR; words += NF }
+            END { end_paragraph() }
+        ' "$document"
+    done
+}
+
+check_files() {
+    local document file sample
+    for document in "${documents[@]}"; do
+        {
+            sed -n 's/[^]]*](\([^):]*\))/\1\n/gp' "$document" | sed -n '/^[A-Za-z0-9_./-]*$/p'
+            grep -o '\b\(crates\|docs\|samples\|bench\|tests\|completions\)/[A-Za-z0-9_./-]*' "$document" || true
+        } | sort -u | while read -r file; do
+            file=${file%.}
+            case $file in '' | *NAME*) continue ;; esac
+            [ -e "$file" ] || [ -e "$(dirname "$document")/$file" ] || echo "$document names $file, which isn't there"
+        done
+    done
+    for sample in samples/*; do
+        grep -q "$sample" README.md Makefile docs/*.md || echo "$sample is used by nothing"
+    done
+}
+
+check_commands() {
+    local command file status
+    for command in $(commands); do
+        section README.md '## Commands' | grep -q "^| .wol $command\b" || echo "README.md has no row for wol $command"
+        grep -q "^## wol $command\$" docs/USAGE.md || echo "docs/USAGE.md has no part for wol $command"
+        for file in docs/wol.1 completions/wol.bash completions/_wol; do
+            grep -q "\b$command\b" "$file" || echo "$file doesn't have $command"
+        done
+    done
+    for status in $(statuses); do
+        section README.md '## When something is wrong' | grep -q "^| $status |" || echo "README.md has no row for status $status"
+        section docs/USAGE.md '## Exit statuses' | grep -q "^| $status |" || echo "docs/USAGE.md has no row for status $status"
+        grep -qx ".B $status" docs/wol.1 || echo "docs/wol.1 doesn't have status $status"
+    done
+}
+
+check_crates() {
+    local crate
+    while read -r crate; do
+        grep -q "\b$crate\b" docs/ARCHITECTURE.md || echo "docs/ARCHITECTURE.md has no floor for $crate"
+        grep -q "\b$crate\b" docs/PROOF.md || echo "docs/PROOF.md doesn't have $crate"
+        grep -q "^| $crate |" CONTRIBUTING.md || echo "CONTRIBUTING.md has no row for $crate"
+    done < <(sed -n 's/^\([a-z_]*\)[ :].*/\1/p' crates.txt | grep -v '_tests$')
+}
+
+check_versions() {
+    local document kit version
+    version=$(sed -n 's/^## \([0-9.]*\).*/\1/p' CHANGELOG.md | head -n 1)
+    grep -q "Version $version\." README.md || echo "README.md isn't of version $version"
+    grep -q "\"wol $version\"" docs/wol.1 || echo "docs/wol.1 isn't of version $version"
+    command -v rt >/dev/null || return 0
+    kit=$(rt version | cut -d ' ' -f 1)
+    for document in README.md CONTRIBUTING.md docs/PROOF.md; do
+        grep -q "$kit\b" "$document" || echo "$document doesn't name the kit $kit"
+    done
+}
+
+check_clauses() {
+    local crate function have label rows
+    for function in wol::run replay::replay inspection::inspect rack::open_all rack::close_all request_workers::window \
+        $(sed -n 's/^    pub fn \([a-z_]*\).*/manager::Manager::\1/p' crates/manager/src/*.rt); do
+        crate=${function%%::*}
+        have=$(labels "$crate" "${function##*::}" | sort -u)
+        [ -n "$have" ] || continue
+        rows=$(section docs/PROOF.md "### \`$function\`" | told)
+        for label in $have; do
+            grep -qx "$label" <<<"$rows" || echo "docs/PROOF.md has no row for the clause $label of $function"
+        done
+        # behind the table of clauses there may be one of the fields of a record that a clause names
+        for label in $rows; do
+            grep -qx "$label" <<<"$have" || grep -qh "^  pub $label :" crates/"$crate"/specs/*.antt \
+                || echo "docs/PROOF.md has a row for $label of $function, which has no such clause"
+        done
+    done
+    while read -r crate; do
+        for label in $(section docs/PROOF.md "### Crate \`$crate\`" | told); do
+            grep -qw "$label" crates/"$crate"/src/*.rt || echo "docs/PROOF.md names $label of $crate, which isn't there"
+        done
+    done < <(awk '/^### Crate / { gsub(/[^a-z_]/, "", $3); print $3 }' docs/PROOF.md)
+}
+
+# print_example FOLDER LINE: what the program prints on a line as `wol replay <samples/offload.csv`
+print_example() (
+    input=/dev/null
+    read -ra words <<<"${2%%<*}"
+    case $2 in *'<'*) input=${2##*<} ;; esac
+    cd "$1"
+    "$top/build/wol" "${words[@]:1}" <"$input" || true
+)
+
+# each example of docs/USAGE.md, one after the other in one folder, and those of README.md
+check_outputs() {
+    local joules line printed shown total
+    mkdir "$folder/plain"
+    cp -r samples samples/wol.toml "$folder"
+    sed 's/^view = .*/view = []/' samples/wol.toml >"$folder/plain/wol.toml"
+    while read -r line; do
+        shown=$(awk -v line="    \$ $line" '$0 == line { inside = 1; next } inside && !/^    / { exit } inside { print substr($0, 5) }' docs/USAGE.md)
+        printed=$(print_example "$folder" "$line")
+        [ "$shown" = "$printed" ] || echo "docs/USAGE.md shows another output of: $line"
+        case $line in 'wol replay'*)
+            shown=$(sed -n '/^    lines/,/^    total/s/^    //p' README.md)
+            [ "$shown" = "$printed" ] || echo "README.md shows another output of: $line"
+            ;;
+        esac
+    done < <(sed -n 's/^    \$ \(wol.*\)/\1/p' docs/USAGE.md)
+    print_example "$folder/plain" "wol format" >/dev/null
+    total=$(print_example "$folder/plain" "wol replay <$top/samples/offload.csv" | tail -n 1)
+    joules=$(cut -d ' ' -f 7 <<<"$total" | sed 's/...$//; s/\(...\)$/,\1/')
+    grep -q "$(cut -d ' ' -f 3 <<<"$total") spin-ups and takes $joules J" README.md \
+        || echo "README.md has other figures without off-loading: $total"
+}
+
+{
+    check_sizes
+    check_files
+    check_commands
+    check_crates
+    check_versions
+    check_clauses
+    if [ -x build/wol ]; then
+        check_outputs
+    else
+        echo "tests/documents.sh: no build/wol, so outputs weren't compared" >&2
+    fi
+} >"$folder/complaints"
+sed 's/^/tests\/documents.sh: /' "$folder/complaints"
+[ ! -s "$folder/complaints" ]
