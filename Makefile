@@ -1,5 +1,5 @@
 # What a user runs: `make build` leaves the proved program at build/wol, `make demo` shows it on a sample trace,
-# and `make test` proves and tests everything.
+# and `make test` proves and tests everything, at last the built program by the scripts in tests/.
 
 .PHONY: build demo test clean
 
@@ -36,6 +36,8 @@ demo: build
 
 test:
 	rt ci
+	$(MAKE) build
+	@for script in tests/*.sh; do echo "$$script"; "$$script" || exit 1; done
 
 clean:
 	rm -rf build demo
