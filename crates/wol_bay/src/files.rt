@@ -59,7 +59,7 @@ impl<'a, R: Files<File = File>> FileBay<'a, R> {
 
     /// The same bay, none of whose calls makes a file longer than so many bytes.
     pub fn within(self, most_bytes: u64) -> FileBay<'a, R>
-        ensures { file_bay_state result ≡ file_bay_state self }
+        ensures { file_bay_state result ≡ file_bay_state self.entry }
     {
         FileBay { most_bytes, ..self }
     }
@@ -159,8 +159,10 @@ impl<'a, R: Files<File = File>> Bay for FileBay<'a, R> {
         let Some(bytes) = bytes_of_parts(sizes) else {
             return Err(self.failed());
         };
-        let Ok(file) = self.make(name, path.as_str(), bytes) else {
-            return Err(self.failed());
+        let file = match self.make(name, path.as_str(), bytes) {
+            Ok(file) => file,
+            Err(e) if e.kind() == ErrorKind::OutOfMemory => return Err(BayFault::NoMemory),
+            Err(_) => return Err(self.failed()),
         };
         match parts_of(self.alloc, file, sizes, self.most_bytes) {
             Ok(parts) => Ok(parts),
