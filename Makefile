@@ -4,7 +4,7 @@
 PREFIX ?= /usr/local
 DESTDIR ?=
 
-.PHONY: look build demo test bench install clean
+.PHONY: look build demo test hostile bench install clean
 
 # The program on a small trace, compiled by `rt try` with no proof. It runs in an empty folder, which is removed.
 look:
@@ -51,10 +51,17 @@ demo: build
 	@echo "A line that is no line of a trace ends the run, and the lines before it were run:"
 	@cd demo/off-loading && { ../../build/wol replay --each <../../samples/bad.csv; echo "exit status $$?"; }
 
-# The gate, and the documents against the program.
+# The gate, then the program that it built on closed streams, limits and odd files, and the documents against it.
 test:
 	rt ci
+	@mkdir -p build
+	@cp crates/wol/out/wol build/wol
 	@for script in tests/*.sh; do echo "$$script"; "$$script" || exit 1; done
+
+# Kills among writes and spoiled input, in their long form: under an hour.
+hostile: build
+	python3 tests/hostile/kills.py build/wol --kills 1000
+	python3 tests/hostile/mutations.py build/wol --rounds 25000
 
 bench: build
 	bench/replay.sh

@@ -1,5 +1,5 @@
 // Images in a folder, each in a file of its own.
-ghost use Rattle.std.specs.Prelude.{◌≡◌, ◌≢◌, ◌+◌, ◌≤◌, [], None, OnOk, OnErr, IfOk, MatchBool, length, option_map, ◌<◌, ◌^◌};
+ghost use Rattle.std.specs.Prelude.{◌≡◌, ◌≢◌, ◌+◌, ◌≤◌, [], None, OnOk, OnErr, IfOk, MatchBool, length, option_map, ◌<◌, ◌^◌, ◌*◌, IsErr};
 ghost use Rattle.wol_bay.specs.Parts.{AreBlank, AreCut, blocks_of, faulty_places};
 ghost use Rattle.wol_bay.specs.Bay.{came_back};
 ghost use Rattle.wol_disk.specs.Disk.{Rose};
@@ -8,20 +8,24 @@ use crate::bays::Bay;
 use crate::fault::BayFault;
 use crate::lengths::{BLOCK_BYTES, bytes_of_parts, is_length};
 use std::alloc::Global;
-use std::fs::{File, OpenOptions};
+use std::fs::{self, File, Metadata, OpenOptions};
 use std::io::{self, ErrorKind};
-use std::os::unix::fs::FileExt;
+use std::os::unix::fs::{FileExt, MetadataExt};
+use std::path::Path;
 use std::rt::Files;
 use std::sync::Arc;
 use wol_disk::{Block, Disk, Failed, NoMemory};
 
 /// A folder of images, which tells nothing of them. The image NAME is the file `NAME.vol`. The file is locked while
-/// the image is out, so another bay that would hand out the same image fails.
+/// the image is out, so another bay that would hand out the same image fails. An image is made only where no other image
+/// of the folder is the same file, as by a link. No call makes or writes a file beyond a bound on its bytes: such a call
+/// has failed, and the system, which might end the process for it, isn't asked.
 #[derive(Drop)]
 pub struct FileBay<'a, R: Files<File = File>> {
     rt: R,
     alloc: Global,
     folder: &'a str,
+    most_bytes: u64,
     faults: u64,
 }
 
@@ -31,6 +35,7 @@ pub struct FilePart {
     file: Arc<File, Global>,
     first: u64,
     blocks: u64,
+    most_bytes: u64,
     faults: u64,
     ghost small: { blocks < 2 ^ 64 },
 }
@@ -39,7 +44,7 @@ impl<'a, R: Files<File = File>> FileBay<'a, R> {
     ghost use Rattle.wol_bay.specs.FileBay.{file_bay_state};
     ghost use Rattle.wol_bay.specs.Bay.{BayState};
 
-    /// The bay of this folder.
+    /// The bay of this folder, without a bound on files.
     pub fn new(rt: R, alloc: Global, folder: &'a str) -> FileBay<'a, R>
         ensures { file_bay_state result ≡ record { told = None; faults = 0 } }
     {
@@ -47,8 +52,16 @@ impl<'a, R: Files<File = File>> FileBay<'a, R> {
             rt,
             alloc,
             folder,
+            most_bytes: u64::MAX,
             faults: 0,
         }
+    }
+
+    /// The same bay, none of whose calls makes a file longer than so many bytes.
+    pub fn within(self, most_bytes: u64) -> FileBay<'a, R>
+        ensures { file_bay_state result ≡ file_bay_state self.entry }
+    {
+        FileBay { most_bytes, ..self }
     }
 
     fn path_of(&self, name: &str) -> Result<String, NoMemory> {
@@ -57,19 +70,53 @@ impl<'a, R: Files<File = File>> FileBay<'a, R> {
     }
 
     // Makes the file anew, of so many zero bytes. It is emptied only once it is locked, since another bay may have
-    // it out, and its entry in the folder is synced with it.
-    fn make(&self, path: &str, bytes: u64) -> io::Result<File> {
+    // it out, and is known to be no other image. Its entry in the folder is synced with it.
+    fn make(&self, name: &str, path: &str, bytes: u64) -> io::Result<File> {
+        if bytes > self.most_bytes {
+            return Err(io::Error::from(ErrorKind::FileTooLarge));
+        }
         let file = OpenOptions::new()
             .read(true)
             .write(true)
             .create(true)
             .open(&self.rt, path)?;
         file.try_lock()?;
+        if self.has_another(name, &file.metadata()?)? {
+            return Err(io::Error::from(ErrorKind::AlreadyExists));
+        }
         file.set_len(0)?;
         file.set_len(bytes)?;
         file.sync_all()?;
         File::open(&self.rt, self.folder)?.sync_all()?;
         Ok(file)
+    }
+
+    // Whether another image of the folder than that of this name is this file. An entry whose name is no text is no image.
+    fn has_another(&self, name: &str, file: &Metadata) -> io::Result<bool> {
+        let rt = (&self.rt, self.alloc);
+        for entry in fs::read_dir(&rt, self.folder)? {
+            let entry = match entry {
+                Ok(entry) => entry,
+                Err(e) if e.kind() == ErrorKind::InvalidFilename => continue,
+                Err(e) => return Err(e),
+            };
+            let is_other = match entry.file_name().strip_suffix(".vol") {
+                Some(other) => other != name,
+                None => false,
+            };
+            if is_other && self.is_same(entry.path(), file) {
+                return Ok(true);
+            }
+        }
+        Ok(false)
+    }
+
+    // Whether this file is at the end of the path. A link that leads nowhere leads to no file.
+    fn is_same(&self, path: Path<'_>, file: &Metadata) -> bool {
+        match fs::metadata(&self.rt, path) {
+            Ok(found) => found.dev() == file.dev() && found.ino() == file.ino(),
+            Err(_) => false,
+        }
     }
 
     // Opens the file, locks it, and tells its length. `None` is std's answer that there is no such file.
@@ -112,10 +159,12 @@ impl<'a, R: Files<File = File>> Bay for FileBay<'a, R> {
         let Some(bytes) = bytes_of_parts(sizes) else {
             return Err(self.failed());
         };
-        let Ok(file) = self.make(path.as_str(), bytes) else {
-            return Err(self.failed());
+        let file = match self.make(name, path.as_str(), bytes) {
+            Ok(file) => file,
+            Err(e) if e.kind() == ErrorKind::OutOfMemory => return Err(BayFault::NoMemory),
+            Err(_) => return Err(self.failed()),
         };
-        match parts_of(self.alloc, file, sizes) {
+        match parts_of(self.alloc, file, sizes, self.most_bytes) {
             Ok(parts) => Ok(parts),
             Err(_) => Err(BayFault::NoMemory),
         }
@@ -134,7 +183,7 @@ impl<'a, R: Files<File = File>> Bay for FileBay<'a, R> {
         if !is_length(bytes, sizes) {
             return Err(BayFault::WrongLength { bytes });
         }
-        match parts_of(self.alloc, file, sizes) {
+        match parts_of(self.alloc, file, sizes, self.most_bytes) {
             Ok(parts) => Ok(parts),
             Err(_) => Err(BayFault::NoMemory),
         }
@@ -153,7 +202,12 @@ impl<'a, R: Files<File = File>> Bay for FileBay<'a, R> {
 }
 
 // The parts of a file.
-fn parts_of(alloc: Global, file: File, sizes: &[u64]) -> Result<Vec<FilePart>, NoMemory>
+fn parts_of(
+    alloc: Global,
+    file: File,
+    sizes: &[u64],
+    most_bytes: u64,
+) -> Result<Vec<FilePart>, NoMemory>
     ensures blank { IfOk result (λ parts. AreBlank ⟦<FilePart as Disk>⟧.state None sizes.now parts.items) }
     ensures cut { IfOk result (λ parts. AreCut ⟦<FilePart as Disk>⟧.state None sizes.now parts.items) }
 {
@@ -166,6 +220,7 @@ fn parts_of(alloc: Global, file: File, sizes: &[u64]) -> Result<Vec<FilePart>, N
             file,
             first,
             blocks: *size,
+            most_bytes,
             faults: 0,
         })?;
         first = first.saturating_add(*size);
@@ -186,7 +241,9 @@ fn has_fault(parts: &[FilePart]) -> bool
 
 impl FilePart {
     // Where a block begins in the file.
-    fn offset_of(&self, at: u64) -> Result<u64, Failed> {
+    fn offset_of(&self, at: u64) -> Result<u64, Failed>
+        ensures { IfOk result (λ offset. offset ≡ 512 * (self.now.first + at)) }
+    {
         self.first
             .checked_add(at)
             .and_then(|block| block.checked_mul(BLOCK_BYTES))
@@ -203,9 +260,17 @@ impl FilePart {
         }
     }
 
-    fn write_blocks(&self, at: u64, from: &[Block]) -> Result<(), Failed> {
+    // Writes the blocks, unless they end behind the bound.
+    fn write_blocks(&self, at: u64, from: &[Block]) -> Result<(), Failed>
+        ensures within { self.now.most_bytes < 512 * (self.now.first + at + length from.now) → IsErr result }
+    {
         let offset = self.offset_of(at)?;
-        match self.file.write_all_at(from.as_flattened(), offset) {
+        let bytes = from.as_flattened();
+        let end = offset.checked_add(bytes.len() as u64).ok_or(Failed)?;
+        if end > self.most_bytes {
+            return Err(Failed);
+        }
+        match self.file.write_all_at(bytes, offset) {
             Ok(()) => Ok(()),
             Err(_) => Err(Failed),
         }

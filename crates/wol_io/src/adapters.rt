@@ -1,5 +1,5 @@
 // Readers and writers of std as sources and sinks.
-ghost use Rattle.std.specs.Prelude.{◌≡◌, ◌≤◌};
+ghost use Rattle.std.specs.Prelude.{◌≡◌, ◌≤◌, ◌<◌, ◌+◌, length, IsErr, OnOk};
 ghost use Rattle.wol_disk.specs.Disk.{Rose};
 ghost use Rattle.wol_io.specs.Streams.{SinkTakes};
 
@@ -36,10 +36,12 @@ impl<R: Read> Source for StdSource<R> {
     }
 }
 
-/// A writer of std as a sink. Each piece of which the writer refuses a part, or takes nothing, is a fault.
+/// A writer of std as a sink. Each piece of which the writer refuses a part, or takes nothing, is a fault. It may have room
+/// for so many bytes alone: then a piece that is longer than the room that is left is a fault, and the writer isn't asked.
 #[derive(Drop)]
 pub struct StdSink<W> {
     inner: W,
+    room: u64,
     faults: u64,
 }
 
@@ -48,7 +50,34 @@ impl<W: Write> StdSink<W> {
         ensures content { result.inner ≡ inner }
         ensures calm { result.faults ≡ 0 }
     {
-        StdSink { inner, faults: 0 }
+        StdSink::with_room(inner, u64::MAX)
+    }
+
+    /// A sink with room for so many bytes.
+    pub fn with_room(inner: W, room: u64) -> StdSink<W>
+        ensures content { result.inner ≡ inner }
+        ensures room { result.room ≡ room }
+        ensures calm { result.faults ≡ 0 }
+    {
+        StdSink {
+            inner,
+            room,
+            faults: 0,
+        }
+    }
+
+    // Writes the whole piece, if there is room for it.
+    fn write_within(&mut self, piece: &[u8]) -> Result<(), Failed>
+        ensures content { SinkTakes (W.contents self.old.inner) (W.contents self.new.inner) result piece.now }
+        ensures full { self.old.room < length piece.now → IsErr result × (self.new ≡ self.old) }
+        ensures room { OnOk result (self.new.room + length piece.now ≡ self.old.room) }
+        ensures same { self.new.faults ≡ self.old.faults }
+    {
+        let Some(room) = self.room.checked_sub(piece.len() as u64) else {
+            return Err(Failed);
+        };
+        self.room = room;
+        write_whole(&mut self.inner, piece)
     }
 }
 
@@ -58,7 +87,7 @@ impl<W: Write> Sink for StdSink<W> {
     ghost faults = { λ s. s.faults };
 
     fn write(&mut self, piece: &[u8]) -> Result<(), Failed> {
-        match write_whole(&mut self.inner, piece) {
+        match self.write_within(piece) {
             Ok(()) => Ok(()),
             Err(Failed) => Err(fault(&mut self.faults)),
         }

@@ -1,5 +1,8 @@
 // The streams, each called once: the adapters' edges are only tested.
-use crate::{FileSource, Gate, MemSink, MemSource, NoGate, Sink, Source, StdSink, StdSource};
+use crate::{
+    FileSource, Gate, MemSink, MemSource, NoGate, Sink, Source, StdSink, StdSource, Watch,
+    WatchedSource,
+};
 use std::test::Fail;
 use wol_disk::Failed;
 
@@ -35,11 +38,44 @@ fn adapters_pass_bytes_and_faults_on(rt: HostRuntime) -> Result<(), Fail> {
     let mut sink = StdSink::new(&mut held);
     assert_eq!(rt; sink.write(b"xyz"), Ok(()));
     assert_eq!(rt; held.as_slice(), b"xyz".as_slice());
+    let mut narrow = StdSink::with_room(&mut held, 3);
+    for (piece, want) in [("ab", Ok(())), ("cd", Err(Failed)), ("e", Ok(()))] {
+        assert_eq!(rt; narrow.write(piece.as_bytes()), want);
+    }
+    assert_eq!(rt; held.as_slice(), b"xyzabe".as_slice());
+    Ok(())
+}
 
-    let mut zeros = FileSource::new(&rt, "/dev/zero");
-    assert_eq!(rt; zeros.read(&mut out), Ok(4));
-    assert_eq!(rt; out, [0; 4]);
-    let mut missing = FileSource::new(&rt, "/dev/null/missing");
-    assert_eq!(rt; missing.read(&mut out), Err(Failed));
+// Counts what it sees.
+#[derive(Drop)]
+struct Counter(usize);
+
+impl Watch for Counter {
+    fn see(&mut self, bytes: &[u8]) {
+        self.0 = self.0.saturating_add(bytes.len());
+    }
+}
+
+#[test]
+fn a_watch_sees_what_is_taken(rt: HostRuntime) -> Result<(), Fail> {
+    let mut out = [0u8; 2];
+    let mut source = WatchedSource::new(StdSource::new(b"abc".as_slice()), Counter(0));
+    for want in [Ok(2), Ok(1), Ok(0)] {
+        assert_eq!(rt; source.read(&mut out), want);
+    }
+    assert_eq!(rt; source.watch().0, 3);
+    Ok(())
+}
+
+#[test]
+fn regular_files_alone_are_sources(rt: HostRuntime) -> Result<(), Fail> {
+    let mut out = [0u8; 4];
+    let mut status = FileSource::new(&rt, "/proc/self/status");
+    assert_eq!(rt; status.read(&mut out), Ok(4));
+    assert_eq!(rt; out, *b"Name");
+    for path in ["/dev/zero", "/", "/dev/null/missing"] {
+        let mut other = FileSource::new(&rt, path);
+        assert_eq!(rt; other.read(&mut out), Err(Failed));
+    }
     Ok(())
 }
