@@ -51,9 +51,10 @@ demo: build
 	@echo "A line that is no line of a trace ends the run, and the lines before it were run:"
 	@cd demo/off-loading && { ../../build/wol replay --each <../../samples/bad.csv; echo "exit status $$?"; }
 
-# The gate, and the documents against the program.
+# The gate, and then the built program by the scripts of tests/: documents, streams, limits, help.
 test:
 	rt ci
+	$(MAKE) build
 	@for script in tests/*.sh; do echo "$$script"; "$$script" || exit 1; done
 
 bench: build
