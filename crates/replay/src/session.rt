@@ -21,7 +21,7 @@ use crate::stop::{Stop, fault_of_trace, is_memory};
 use logger::Shared;
 use msr_trace::Line;
 use report::{Fault, Totals};
-use request_workers::{Floor, Reclaim, Request, Window, begin_window, calls};
+use request_workers::{Floor, Reclaim, Request, Sharing, Window, Workers, begin_window, calls};
 use spin_model::{Spindle, start_turn};
 use std::alloc::Global;
 use std::sync::Wait;
@@ -37,6 +37,8 @@ use wol_io::{Gate, Sink, Source};
 pub struct Options {
     /// 1 to 64 of them.
     pub workers: u32,
+    /// Which windows they serve.
+    pub sharing: Sharing,
     pub reclaim: Reclaim,
     /// Whether a line is printed for each read.
     pub each: bool,
@@ -176,13 +178,17 @@ impl<D: Disk> Session<D> {
         ensures later { K.faults out.old ≤ K.faults out.new }
     {
         self.begin(rt, alloc, shared, batch.moment())?;
+        let workers = Workers {
+            count: options.workers,
+            sharing: options.sharing,
+        };
         let window = calls::window(
             rt,
             alloc,
             &mut self.floor,
             shared,
             batch.requests(),
-            options.workers,
+            workers,
             options.reclaim,
             gate,
         )?;

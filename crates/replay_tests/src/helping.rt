@@ -14,7 +14,9 @@ use crate::rows::{THREE, formatted};
 use logger::Shared;
 use manager::Station;
 use rack::{Rack, VolumeFault, close_all, open_all};
-use request_workers::{Floor, Reclaim, Request, begin_window, calls, set_up, take_down};
+use request_workers::{
+    Floor, Reclaim, Request, Sharing, Workers, begin_window, calls, set_up, take_down,
+};
 use spin_model::{Spindle, start_turn};
 use std::alloc::Global;
 use std::mem;
@@ -105,7 +107,11 @@ fn serve<D: Disk + Send, R: Abort + Threads + Wait + Sync, G: Gate + Sync>(
     let moment = second as u64 * 10_000_000;
     assert!(rt; begin_window(rt, alloc, floor, shared, keepers, moment).is_ok());
     let requests = [request];
-    match calls::window(rt, alloc, floor, shared, &requests, 3, reclaim, gate) {
+    let workers = Workers {
+        count: 3,
+        sharing: Sharing::Always,
+    };
+    match calls::window(rt, alloc, floor, shared, &requests, workers, reclaim, gate) {
         Ok(window) => {
             assert!(rt; window.fault.is_none());
             (window.blocks, window.records)

@@ -7,7 +7,7 @@ use crate::gates::Holding;
 use crate::rows::{DRAINS, THREE, TWO, formatted, run, status_of};
 use msr_trace::{Lines, write_line};
 use replay::{Given, Options, replay};
-use request_workers::Reclaim;
+use request_workers::{Reclaim, Sharing};
 use std::alloc::Global;
 use std::process::Abort;
 use std::sync::Wait;
@@ -75,12 +75,13 @@ const READ_AND_WRITE: &[u8] = b"128166372000000000,usr,0,Read,0,512,100
 128166372200000000,usr,0,Read,0,512,100
 ";
 
-/// Reclaim after the requests of each window.
+/// Reclaim after the requests of each window, and workers for each window, however few its requests are.
 pub(crate) fn between(workers: u32) -> Options
     ensures { result.workers ≡ workers }
 {
     Options {
         workers,
+        sharing: Sharing::Always,
         reclaim: Reclaim::Between,
         each: true,
     }
@@ -220,6 +221,7 @@ fn soaked<R: Abort + Threads + Wait + Sync>(
     rt: &R,
     alloc: Global,
     workers: u32,
+    sharing: Sharing,
     reclaim: Reclaim,
     given: Given<MemSource>,
 ) -> Result<MemSink, Fail>
@@ -232,6 +234,7 @@ fn soaked<R: Abort + Threads + Wait + Sync>(
     let mut given = given;
     let options = Options {
         workers,
+        sharing,
         reclaim,
         each: false,
     };
@@ -247,15 +250,18 @@ fn soaked<R: Abort + Threads + Wait + Sync>(
 #[test]
 fn generated_lines(rt: HostRuntime) -> Result<(), Fail> {
     let alloc = rt.alloc();
-    let one = soaked(&rt, alloc, 1, Reclaim::Between, generated())?;
-    let again = soaked(&rt, alloc, 1, Reclaim::Between, generated())?;
+    let pays = Sharing::WherePays;
+    let one = soaked(&rt, alloc, 1, pays, Reclaim::Between, generated())?;
+    let always = Sharing::Always;
+    let again = soaked(&rt, alloc, 1, always, Reclaim::Between, generated())?;
     assert_eq!(rt; one.bytes(), again.bytes());
     let config = read_config(alloc, THREE)?;
     let source = MemSource::new(written(alloc, &config)?, Vec::new(alloc), None);
     let trace = Given::Trace(Lines::new(alloc, source));
-    let replayed = soaked(&rt, alloc, 1, Reclaim::Between, trace)?;
+    let replayed = soaked(&rt, alloc, 1, pays, Reclaim::Between, trace)?;
     assert_eq!(rt; one.bytes(), replayed.bytes());
-    soaked(&rt, alloc, 4, Reclaim::Between, generated())?;
-    soaked(&rt, alloc, 4, Reclaim::Beside, generated())?;
+    soaked(&rt, alloc, 4, pays, Reclaim::Beside, generated())?;
+    soaked(&rt, alloc, 4, always, Reclaim::Between, generated())?;
+    soaked(&rt, alloc, 4, always, Reclaim::Beside, generated())?;
     Ok(())
 }

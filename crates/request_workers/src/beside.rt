@@ -1,4 +1,4 @@
-// The workers and the helper, side by side.
+// The workers and the helper, side by side where threads serve.
 ghost use Rattle.std.specs.Prelude.{◌≡◌, ◌^◌, ◌≤◌, ◌<◌, ◌+◌, ℕ, length, slice_index_or};
 ghost use Rattle.wol_model.specs.History.{helper};
 ghost use Rattle.request_workers.specs.Counted.{HaveCounted};
@@ -7,7 +7,7 @@ ghost use Rattle.request_workers.specs.Helped.{ArePassesAt, AreSharing, AreHelpe
 
 use crate::desk::Desk;
 use crate::helper::{HelperRoom, help};
-use crate::run::serve_all;
+use crate::run::{Hands, serve_all};
 use logger::Shared;
 use manager::Manager;
 use std::sync::Wait;
@@ -17,7 +17,7 @@ use turn_lock::{Pass, TurnLock};
 use wol_disk::Disk;
 use wol_io::Gate;
 
-/// Serves all desks, and makes rounds of reclaim beside them.
+/// Serves all desks, and makes rounds of reclaim beside them, or after them where the caller is alone.
 pub(crate) fn serve_beside<'a, D: Disk + Send, G: Gate + Sync, R: Threads + Wait + Sync>(
     rt: &'a R,
     locks: &'a [TurnLock<Manager<D>>],
@@ -25,12 +25,11 @@ pub(crate) fn serve_beside<'a, D: Disk + Send, G: Gate + Sync, R: Threads + Wait
     desks: &'a mut [Desk<D>],
     helpers: &'a mut [Pass<Manager<D>>],
     room: &'a mut HelperRoom,
-    size: usize,
+    hands: Hands,
     rounds: usize,
     requests: &'a [Request],
     gate: &'a G,
 )
-    requires size { 0 < size }
     requires count { length desks.old ≡ length locks.now }
     requires ready { AreReady locks.now shared.now 0 requests.now desks.old }
     requires helpers { length helpers.old ≡ length locks.now }
@@ -44,12 +43,17 @@ pub(crate) fn serve_beside<'a, D: Disk + Send, G: Gate + Sync, R: Threads + Wait
     ensures all_kept { AreAllKept room.new.fault helpers.old helpers.new }
     ensures cause { IsCause helpers.new room.new.fault }
 {
+    if hands == Hands::One {
+        serve_all(rt, locks, shared, hands, requests, gate, desks);
+        help(rt, locks, shared, rounds, helpers, room);
+        return;
+    }
     join_mut(
         rt,
         &mut ||
-            requires { (0 < size) × (length desks.now ≡ length locks.now) × AreReady locks.now shared.now 0 requests.now desks.now }
+            requires { (length desks.now ≡ length locks.now) × AreReady locks.now shared.now 0 requests.now desks.now }
             ensures { AreServed D.tells requests.entry.now desks.entry.now desks.exit.now }
-        { serve_all(rt, locks, shared, size, requests, gate, desks) },
+        { serve_all(rt, locks, shared, hands, requests, gate, desks) },
         &mut ||
             requires { (length helpers.now ≡ length locks.now) × (length helpers.now ≤ 2 ^ 32) × ArePassesAt locks.now helper helpers.now × AreSharing shared.now helpers.now × IsCause helpers.now room.now.fault }
             ensures { AreHelped D.tells helpers.entry.now helpers.exit.now × IsCause helpers.exit.now room.exit.now.fault × HaveCounted D.tells room.entry.now.tally room.exit.now.tally helpers.entry.now helpers.exit.now × AreAllKept room.exit.now.fault helpers.entry.now helpers.exit.now }

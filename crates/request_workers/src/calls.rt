@@ -10,7 +10,8 @@ ghost use Rattle.request_workers.specs.declared.desk.Desk.{Desk};
 use crate::desk::Desk;
 use crate::floor::Floor;
 use crate::helper::HelperRoom;
-use crate::request::{Reclaim, Window};
+use crate::request::{Reclaim, Window, Workers};
+use crate::run::hands_for;
 use crate::slices::run_window;
 use logger::Shared;
 use manager::StepFault;
@@ -76,8 +77,9 @@ fn refused_turn<D: Disk>(desks: &[Desk<D>]) -> Option<(u32, StepFault)>
 }
 
 /// Runs one window of requests: each volume's in order, the volumes cut in order into runs of as many as their number
-/// divided by `workers`, rounded up, and each run by a worker of its own. After the first request of a volume that isn't
-/// answered its later ones are not run. The gate is passed before each request that is run, in no turn.
+/// divided by the workers' count, rounded up, and each run by a worker of its own, or all by the caller alone, as
+/// `Sharing` says. After the first request of a volume that isn't answered its later ones are not run. The gate is passed
+/// before each request that is run, in no turn.
 ///
 /// In mode `Between` each volume in order has one reclaim turn after the requests. In mode `Beside` a helper reclaims beside
 /// the workers too, a step on each volume at a time, until a round of steps did nothing, and at most in as many rounds as
@@ -88,13 +90,13 @@ pub fn window<D: Disk + Send, G: Gate + Sync, R: Threads + Wait + Sync>(
     floor: &mut Floor<D>,
     shared: &Shared<D>,
     requests: &[Request],
-    workers: u32,
+    workers: Workers,
     reclaim: Reclaim,
     gate: &G,
 ) -> Result<Window, NoMemory>
     requires floor { IsFloor floor.old }
     requires shared { IsOn shared.now floor.old.locks.items }
-    requires workers { (1 ≤ workers) × (workers ≤ 64) }
+    requires workers { (1 ≤ workers.count) × (workers.count ≤ 64) }
     requires volumes { AreOfVolumes (vec_len floor.old.locks) requests.now }
     requires within { AreInside floor.old.locks.items requests.now }
     requires few { vec_len floor.old.locks ≤ 2 ^ 32 }
@@ -106,7 +108,7 @@ pub fn window<D: Disk + Send, G: Gate + Sync, R: Threads + Wait + Sync>(
     make_room(floor.desks.as_mut_slice(), requests)?;
     floor.help.tally = Tally::new();
     floor.help.fault = None;
-    let size = floor.desks.len().div_ceil(workers as usize).max(1);
+    let hands = hands_for(workers, floor.desks.len(), requests);
     run_window(
         rt,
         floor.locks.as_slice(),
@@ -114,7 +116,7 @@ pub fn window<D: Disk + Send, G: Gate + Sync, R: Threads + Wait + Sync>(
         floor.desks.as_mut_slice(),
         floor.helpers.as_mut_slice(),
         &mut floor.help,
-        size,
+        hands,
         requests,
         reclaim,
         gate,

@@ -2,7 +2,7 @@
 //! reclaimed after the requests or beside them.
 //!
 //! A window from the outside in: `calls.rt` (`window`) makes room and adds up, `slices.rt` runs a window over
-//! lists, `run.rt` cuts the volumes into runs, one for each worker, `serve.rt` serves the requests of one desk in
+//! lists, `run.rt` cuts the volumes into runs, one for each worker, or has the caller serve all, `serve.rt` serves the requests of one desk in
 //! order; `gather.rt` puts the outcomes into the order of the trace. `closing.rt` takes the reclaim turns,
 //! `helper.rt` and `beside.rt` are the helper beside the workers, `begin.rt` the beginning of a window,
 //! `setting.rt` how stations become a floor and back. Of `specs/`: `Served`, `Closed`, `Helped` and `Worked` have
@@ -28,7 +28,7 @@ pub use begin::begin_window;
 pub use desk::Desk;
 pub use floor::Floor;
 pub use manager::Station;
-pub use request::{Reclaim, Window};
+pub use request::{Reclaim, Sharing, Window, Workers};
 pub use request_turns::Outcome;
 pub use setting::{set_up, take_down};
 pub use trace_windows::Request;

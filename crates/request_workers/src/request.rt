@@ -1,4 +1,4 @@
-// When a window reclaims, and what it gives.
+// Who serves a window, when it reclaims, and what it gives.
 use manager::StepFault;
 use request_turns::Outcome;
 
@@ -10,6 +10,24 @@ pub enum Reclaim {
     Between,
     /// Beside the requests, and after them.
     Beside,
+}
+
+/// Which windows are served by workers.
+#[derive(Clone, Copy, Debug, PartialEq, Eq)]
+pub enum Sharing {
+    /// Those that have enough requests, of more than one volume, for threads to pay. The caller alone serves the others, and
+    /// in mode `Beside` makes the helper's rounds after their requests.
+    WherePays,
+    /// All of them.
+    Always,
+}
+
+/// Who serves a window.
+#[derive(Clone, Copy, Debug, PartialEq, Eq)]
+pub struct Workers {
+    /// 1 to 64 of them.
+    pub count: u32,
+    pub sharing: Sharing,
 }
 
 /// What a window gives.

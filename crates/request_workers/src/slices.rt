@@ -15,7 +15,7 @@ use crate::desk::Desk;
 use crate::gather::collect;
 use crate::helper::HelperRoom;
 use crate::request::Reclaim;
-use crate::run::serve_all;
+use crate::run::{Hands, serve_all};
 use logger::Shared;
 use manager::Manager;
 use request_turns::Outcome;
@@ -34,12 +34,11 @@ fn serve_mode<'a, D: Disk + Send, G: Gate + Sync, R: Threads + Wait + Sync>(
     desks: &'a mut [Desk<D>],
     helpers: &'a mut [Pass<Manager<D>>],
     room: &'a mut HelperRoom,
-    size: usize,
+    hands: Hands,
     requests: &'a [Request],
     reclaim: Reclaim,
     gate: &'a G,
 )
-    requires size { 0 < size }
     requires count { length desks.old ≡ length locks.now }
     requires ready { AreReady locks.now shared.now 0 requests.now desks.old }
     requires helpers { length helpers.old ≡ length locks.now }
@@ -54,12 +53,12 @@ fn serve_mode<'a, D: Disk + Send, G: Gate + Sync, R: Threads + Wait + Sync>(
     ensures cause { IsCause helpers.new room.new.fault }
 {
     match reclaim {
-        Reclaim::Off => serve_all(rt, locks, shared, size, requests, gate, desks),
-        Reclaim::Between => serve_all(rt, locks, shared, size, requests, gate, desks),
+        Reclaim::Off => serve_all(rt, locks, shared, hands, requests, gate, desks),
+        Reclaim::Between => serve_all(rt, locks, shared, hands, requests, gate, desks),
         Reclaim::Beside => {
             let rounds = requests.len().saturating_add(1);
             serve_beside(
-                rt, locks, shared, desks, helpers, room, size, rounds, requests, gate,
+                rt, locks, shared, desks, helpers, room, hands, rounds, requests, gate,
             )
         }
     }
@@ -73,13 +72,12 @@ pub(crate) fn run_window<'a, D: Disk + Send, G: Gate + Sync, R: Threads + Wait +
     desks: &'a mut [Desk<D>],
     helpers: &'a mut [Pass<Manager<D>>],
     room: &'a mut HelperRoom,
-    size: usize,
+    hands: Hands,
     requests: &'a [Request],
     reclaim: Reclaim,
     gate: &'a G,
     out: &'a mut Vec<Outcome>,
 )
-    requires size { 0 < size }
     requires count { length desks.old ≡ length locks.now }
     requires ids { AreNumbered desks.old }
     requires ready { AreReady locks.now shared.now 0 requests.now desks.old }
@@ -101,7 +99,7 @@ pub(crate) fn run_window<'a, D: Disk + Send, G: Gate + Sync, R: Threads + Wait +
     ensures cause { IsCause helpers.new room.new.fault }
 {
     serve_mode(
-        rt, locks, shared, desks, helpers, room, size, requests, reclaim, gate,
+        rt, locks, shared, desks, helpers, room, hands, requests, reclaim, gate,
     );
     close_all(rt, locks, shared, desks, reclaim);
     collect(desks, requests, out);

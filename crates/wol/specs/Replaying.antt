@@ -17,6 +17,7 @@ use Rattle.command_words.specs.declared.command.Mode.{Mode}
 use Rattle.command_words.specs.declared.command.Mode.TheVariants as mode
 use Rattle.request_workers.specs.declared.request.Reclaim.{Reclaim}
 use Rattle.request_workers.specs.declared.request.Reclaim.TheVariants as reclaim
+use Rattle.request_workers.specs.declared.request.Sharing.TheVariants.{WherePays}
 use Rattle.wol.specs.Formatting.{IsUntouched}
 use Rattle.wol.specs.Settings.{HasConfig}
 use Rattle.wol.specs.Tops.{EndsWith}
@@ -56,7 +57,7 @@ reclaim_of mode.Beside = reclaim.Beside
 
 -- the options of a replay, as they are asked for
 abbrev pub options_as : Options → Serving
-options_as options = record { workers = options.workers; reclaim = reclaim_of options.reclaim; each = options.each }
+options_as options = record { workers = options.workers; sharing = WherePays; reclaim = reclaim_of options.reclaim; each = options.each }
 
 -- Behind what a replay printed nothing more is written at its end and where the sink failed; else the line of its fault, or, where there
 -- was no memory for that, the line of want of memory.

@@ -16,7 +16,7 @@ use crate::telling::tell_fault;
 use command_words::{Generated, Mode, Options};
 use msr_trace::Lines;
 use replay::{Given, Stop};
-use request_workers::Reclaim;
+use request_workers::{Reclaim, Sharing};
 use std::alloc::Global;
 use std::sync::Wait;
 use std::thread::Threads;
@@ -191,6 +191,7 @@ fn options_of(options: Options) -> replay::Options
 {
     replay::Options {
         workers: options.workers,
+        sharing: Sharing::WherePays,
         reclaim: reclaim_of(options.reclaim),
         each: options.each,
     }

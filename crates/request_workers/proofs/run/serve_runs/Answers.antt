@@ -1,5 +1,5 @@
 use Rattle.std.proofs.Common.{◌≡◌, ◌+◌, arith}
-use Rattle.request_workers.proofs.run.serve_all.Goals as goal
+use Rattle.request_workers.proofs.run.serve_runs.Goals as goal
 
 pub for_each_chunk_mut-requires-clause-accepts : goal.for_each_chunk_mut-requires-clause-accepts
 for_each_chunk_mut-requires-clause-accepts g c κs in_scope start run chunk = (
