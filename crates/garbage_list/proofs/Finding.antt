@@ -3,7 +3,6 @@ use Rattle.std.proofs.Common.{◌≡◌, ◌<◌, ◌≤◌, ℕ, zero, suc, Boo
 use Rattle.std.specs.Prelude.{slice_get, option_map, IfSome, IsSomeAnd}
 use Rattle.std.specs.List.{AllByRecursion, find}
 use Rattle.std.proofs.lemmas.Bool.{false≢true}
-use Rattle.std.proofs.lemmas.List.{take_all}
 use Rattle.wol_model.specs.Index.{Indexed, AreRising}
 use Rattle.redirect_map.specs.Index.{entry_at}
 use Rattle.redirect_map.proofs.Seen.{all_more, all_before_map}
@@ -37,9 +36,6 @@ none_more test (x ∷ xs) (suc k) none is = at (test x) none (none_more test xs 
     at : (t : Bool) → cond t (Some x) (find test (take k xs)) ≡ None → (find test (take k xs) ≡ None → Answers test xs k None → find test (take (suc k) xs) ≡ None) → cond t (Some x) (find test (take (suc k) xs)) ≡ None
     at true miss rest = absurd (cc)
     at false left rest = rest left is
-
-pub none_at_end : (test : Indexed → Bool) (es : List Indexed) (k : ℕ) → length es ≤ k → find test (take k es) ≡ None → find test es ≡ None
-none_at_end test es k past none = ap (find test) (sym (take_all k es past)) ∙ none
 
 -- a place where it passes, behind others where it fails
 pub found_at : (test : Indexed → Bool) (es : List Indexed) (k v : ℕ) → find test (take k es) ≡ None → k < length es → Answers test es k (Some v)

@@ -1,22 +1,19 @@
 -- The answers of an index, in the words of contracts.
-use Rattle.std.proofs.Common.{◌≡◌, ⊎_elim, ◌<◌, ◌≤◌, ◌+◌, ◌-◌, ◌^◌, ℕ, zero, suc, Bool, true, false, cond, not, ◌&&◌, ◌||◌, List, [], ◌∷◌, map, length, take, drop, reverse, get_or, Option, None, Some, refl, sym, ap, ◌∙◌, subst, arith, eqb, ltb, leb, bit_and}
+use Rattle.std.proofs.Common.{◌≡◌, ⊎_elim, ◌<◌, ◌≤◌, ◌+◌, ◌-◌, ◌^◌, ℕ, zero, suc, Bool, true, false, cond, not, ◌&&◌, ◌||◌, List, [], ◌∷◌, map, length, take, drop, get_or, Option, None, Some, refl, sym, ap, ◌∙◌, subst, arith, eqb, ltb, leb, bit_and}
 use Rattle.std.specs.Prelude.{slice_get, option_map, IfSome, IsSome}
-use Rattle.std.specs.Option.{option_or}
-use Rattle.std.specs.Int.{bit_not, w128}
 use Rattle.std.specs.List.{AllByRecursion, list_any, find}
 use Rattle.std.proofs.Math.Nat.{pow-le-pow_right}
 use Rattle.std.proofs.lemmas.Bool.{cases_lt, lt-ltb, leb-true, and_parts, false≢true, eq-eqb, ne_eqb}
-use Rattle.std.proofs.lemmas.List.{reverse-append, length-map}
+use Rattle.std.proofs.lemmas.List.{length-map}
 use Rattle.std.proofs.lemmas.Option.{slice_get-map, slice_get-get_or}
-use Rattle.std.proofs.lemmas.List.Folds.{find-append}
 use Rattle.wol_model.specs.Log.{has_bit}
-use Rattle.wol_model.specs.Extents.{newest, newer_of, has_newer}
+use Rattle.wol_model.specs.Extents.{has_newer}
 use Rattle.wol_model.specs.Index.{listed_in, Indexed, AreRising, cover_of, listed_covers, is_homed, is_live, is_older, is_covered, keeps_a_block}
 use Rattle.redirect_map.specs.declared.entry.Entry.{Entry}
 use Rattle.redirect_map.specs.Masks.{IsMask}
-use Rattle.redirect_map.specs.Index.{cover_at, has_version, entry_at, HasVersion, IsRecordOf, IsAnswer, IsEntry, IsIndex}
+use Rattle.redirect_map.specs.Index.{has_version, entry_at, HasVersion, IsRecordOf, IsAnswer, IsEntry, IsIndex}
 use Rattle.redirect_map.specs.Kept.{seen, keeps, one_keeps, IsKept, is_version, IsInRange, AreLive, AreEntries}
-use Rattle.redirect_map.proofs.Bits.{has_bit-above, has_bit-and, has_bit-without, some_bit}
+use Rattle.redirect_map.proofs.Bits.{has_bit-above, has_bit-and, some_bit}
 use Rattle.redirect_map.proofs.Found.{find-map}
 use Rattle.redirect_map.proofs.Meeting.{any_in_range}
 use Rattle.redirect_map.proofs.Seen.{IsAt, all_at, all_from_places, all_of_map, all_before_map, covers_seen, homed_seen, in_mask-bit, length-marks_of, newer_at, older_at, at_place}
@@ -78,15 +75,6 @@ in_128 keep i b f fits = ⊎_elim
     (λ high. rw (has_bit-above keep 128 i fits high) refl)
     (cases_lt i 128)
 
-pub live_is : (items : List Entry) (version k : ℕ) (e : Entry) (newer : ℕ) → AreEntries items → IsAt items version k e → newer < 2 ^ 128 → IsKept e.record.lbn (drop (suc k) items) newer
-    → IfSome (entry_at (map seen items) version) (λ d. IsMask d.listed.first (is_live (listed_in (map seen items)) d.listed) (bit_and e.record.keep (bit_not w128 newer)))
-live_is items version k e newer es at fits bits =
-    let range = range_at items k e es at.at in
-    let keep_fits : e.record.keep < 2 ^ 128 = wide e.record.keep e.record.count range.keep_within range.count in
-    of_entry items version k e (λ d. IsMask d.listed.first (is_live (listed_in (map seen items)) d.listed) (bit_and e.record.keep (bit_not w128 newer))) at
-    (λ i. has_bit-without e.record.keep newer i keep_fits fits ∙ ap (λ (t : Bool). has_bit e.record.keep i && not t) (bits i)
-    ∙ in_128 e.record.keep i (one_keeps (drop (suc k) items) (e.record.lbn + i)) not keep_fits ∙ sym (live_there items version k e i es at))
-
 pub older_is : (items : List Entry) (version k : ℕ) (e : Entry) (older : ℕ) → AreEntries items → IsAt items version k e → IsKept e.record.lbn (take k items) older
     → IfSome (entry_at (map seen items) version) (λ d. IsMask d.listed.first (is_older (listed_in (map seen items)) d.listed) (bit_and e.record.keep older))
 older_is items version k e older es at bits =
@@ -136,57 +124,6 @@ find_range p (x ∷ xs) e ranges found = at (p x) found (find_range p xs e range
 
 pub find_some : (items : List Entry) (version : ℕ) (e : Entry) → AreEntries items → find (is_version version) items ≡ Some e → IsAnswer (entry_at (map seen items) version) (Some e.record)
 find_some items version e es found = rw (find-map (has_version version) seen items, found) (record_seen e (find_range (is_version version) items e es.ranges found))
-
--- the last entry that keeps the block is the newest
-pub last : ℕ → List Entry → Option Entry
-last b items = find (λ e. keeps e b) (reverse items)
-
-last-cons : (b : ℕ) (x : Entry) (xs : List Entry) → last b (x ∷ xs) ≡ option_or (last b xs) (cond (keeps x b) (Some x) None)
-unfolding last
-last-cons b x xs = ap (find (λ e. keeps e b)) (reverse-append (x ∷ []) xs) ∙ find-append (λ e. keeps e b) (reverse xs) (x ∷ [])
-
-pub last_above : (v b : ℕ) (items : List Entry) → AllByRecursion (λ w. v < w) (map (λ (d : Entry). d.record.version) items) → IfSome (last b items) (λ e. v < e.record.version)
-unfolding last
-last_above v b [] above = tt
-last_above v b (x ∷ xs) above = rw (last-cons b x xs) (at (last b xs) (keeps x b) (last_above v b xs above.1))
-  where
-    at : (o : Option Entry) (t : Bool) → IfSome o (λ e. v < e.record.version) → IfSome (option_or o (cond t (Some x) None)) (λ e. v < e.record.version)
-    at None true rest = above.0
-    at None false rest = tt
-    at (Some y) t rest = rest
-
-last_range : (b : ℕ) (items : List Entry) → AllByRecursion IsInRange items → IfSome (last b items) IsInRange
-unfolding last
-last_range b [] ranges = tt
-last_range b (x ∷ xs) ranges = rw (last-cons b x xs) (at (last b xs) (keeps x b) (last_range b xs ranges.1))
-  where
-    at : (o : Option Entry) (t : Bool) → IfSome o IsInRange → IfSome (option_or o (cond t (Some x) None)) IsInRange
-    at None true rest = ranges.0
-    at None false rest = tt
-    at (Some y) t rest = rest
-
-pub newest_is : (b : ℕ) (items : List Entry) → AreRising (map (λ (d : Entry). d.record.version) items) → AllByRecursion IsInRange items → newest cover_at (map seen items) b ≡ option_map seen (last b items)
-unfolding last
-newest_is b [] rising ranges = refl
-newest_is b (x ∷ xs) rising ranges =
-    rw (newest_is b xs rising.1 ranges.1, covers_seen x b ranges.0, last-cons b x xs) (at (last b xs) (keeps x b) (last_above x.record.version b xs rising.0))
-  where
-    at : (o : Option Entry) (t : Bool) → IfSome o (λ e. x.record.version < e.record.version)
-        → cond t (newer_of cover_at (seen x) (option_map seen o)) (option_map seen o) ≡ option_map seen (option_or o (cond t (Some x) None))
-    at None true above = refl
-    at None false above = refl
-    at (Some y) true above = ap (λ (t : Bool). cond t (Some (seen y)) (Some (seen x))) (lt-ltb x.record.version y.record.version above)
-    at (Some y) false above = refl
-
-pub newest_none : (items : List Entry) (b : ℕ) → AreEntries items → find (λ e. keeps e b) (reverse items) ≡ None → IsAnswer (newest cover_at (map seen items) b) None
-unfolding last
-newest_none items b es none = rw (newest_is b items es.rising es.ranges, none) tt
-
-pub newest_some : (items : List Entry) (b : ℕ) (e : Entry) → AreEntries items → find (λ e. keeps e b) (reverse items) ≡ Some e → IsAnswer (newest cover_at (map seen items) b) (Some e.record)
-unfolding last
-newest_some items b e es found =
-    let range : IsInRange e = subst (λ (o : Option Entry). IfSome o IsInRange) found (last_range b items es.ranges) in
-    rw (newest_is b items es.rising es.ranges, found) (record_seen e range)
 
 -- which blocks are covered
 pub covered_seen : (items : List Entry) (b : ℕ) → AllByRecursion IsInRange items → is_covered (listed_in (map seen items)) b ≡ one_keeps items b

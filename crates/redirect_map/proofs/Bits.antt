@@ -120,10 +120,6 @@ small_from_bits m n none =
     (λ more. no_bit (bit_at m i) (bit_at-lt m i) (none i more) ∙ sym (bit_at_above (m % 2 ^ n) n i rest more)) (cases_lt i n)) in
     omega arith
 
--- a mask without bits is 0
-pub zero_from_bits : (m : ℕ) → ((i : ℕ) → has_bit m i ≡ false) → m ≡ 0
-zero_from_bits m none = same_from_bits m 0 (λ i. no_bit (bit_at m i) (bit_at-lt m i) (none i) ∙ sym (bit_at-zero i))
-
 -- and another one has a bit
 pub some_bit : (m : ℕ) → 0 < m → m < 2 ^ 128 → (i : ℕ) × (has_bit m i ≡ true)
 some_bit m some fits = (trailing_zeros w128 m, eq-eqb (bit_at m (trailing_zeros w128 m)) 1 (bit_at-trailing_zeros w128 m some fits).1)
