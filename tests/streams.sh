@@ -19,7 +19,7 @@ passed=0
 failed=0
 
 # The commands, each as its words.
-commands=("format" "check" "dump" "replay" "gen 7 40" "soak 7 40" "solo web 0 4096")
+commands=("format" "check" "dump" "replay" "gen 7 40" "soak 7 40" "solo web 0 64")
 
 wol() { timeout 60 "${program[@]}" "$@"; }
 
@@ -50,7 +50,7 @@ run_with_closed() { # CLOSED COMMAND: runs it with these of 0, 1 and 2 closed; t
     local words
     read -ra words <<<"$2"
     (
-        case $1 in *0*) exec <&- ;; *) exec <"$top/samples/offload.csv" ;; esac
+        case $1 in *0*) exec <&- ;; *) exec <"$room/trace" ;; esac
         case $1 in *1*) exec >&- ;; *) exec >"$room/out" ;; esac
         case $1 in *2*) exec 2>&- ;; *) exec 2>"$room/errors" ;; esac
         wol "${words[@]}"
@@ -121,7 +121,7 @@ closed_streams() {
 limited() { # UNITS COMMAND
     local words
     read -ra words <<<"$2"
-    (ulimit -f "$1" && wol "${words[@]}" <"$top/samples/offload.csv" 2>/dev/null)
+    (ulimit -f "$1" && wol "${words[@]}" <"$room/trace" 2>/dev/null)
 }
 
 file_size_limits() {
@@ -132,7 +132,7 @@ file_size_limits() {
     expect "[format] of old images under a limit: output" "fault 4 usr0 disk bay" "$out"
     expect "[format] of old images under a limit: images" "$(images "$room/model")" "$(images .)"
     rm ./*.vol
-    out=$(limited 1000 format)
+    out=$(limited 10 format)
     expect "[format] of new images under a limit: status" 4 $?
     expect "[format] of new images under a limit: images" "" "$(images .)"
     fresh
@@ -140,9 +140,9 @@ file_size_limits() {
     status=$?
     expect "[replay] under a limit: status" 4 "$status"
     expect "[replay] under a limit: last line" "fault 4" "$(tail -n 1 <<<"$out" | cut -c 1-7)"
-    wol check >/dev/null
+    wol check >/dev/null 2>&1
     expect "[check] after it: status" 0 $?
-    (ulimit -f 1 && wol gen 7 1000 >"$room/out")
+    (ulimit -f 1 && wol gen 7 1000 >"$room/out" 2>/dev/null)
     expect "[gen] to a file under a limit: status" 7 $?
     expect "[gen] to a file under a limit: whole lines that fit" 0 "$(($(stat -c %s "$room/out") / 1025))"
     (ulimit -f 0 && wol nonsense >/dev/null 2>"$room/errors")
@@ -185,10 +185,19 @@ no_regular_configuration() {
     expect "[check] with a link to the configuration: status" 0 $?
 }
 
+# Small volumes, so that a check of them takes no time. In the trace web0 is read every 40 seconds, and usr0 and src0, whose disks
+# sleep meanwhile, are written now and then.
 mkdir "$room/model"
-cp samples/wol.toml "$room/model"
+sed 's/^segment_blocks = .*/segment_blocks = 32/; s/^home_blocks = .*/home_blocks = 64/; s/^segments = .*/segments = 2/' \
+    samples/wol.toml >"$room/model/wol.toml"
 cd "$room/model" || exit 1
-for command in "format" "replay" "solo web 0 4096"; do
+for i in {0..19}; do
+    time=$((128166372000000000 + i * 400000000))
+    echo "$time,web,0,Read,0,4096,1000"
+    [ $((i % 4)) -ne 3 ] || echo "$((time + 1)),usr,0,Write,$((i * 512)),2048,1000"
+    [ $((i % 8)) -ne 6 ] || echo "$((time + 2)),src,0,Write,$((i * 512)),1024,1000"
+done >"$room/trace"
+for command in "format" "replay" "solo web 0 64"; do
     if ! run_with_closed "" "$command"; then
         echo "FAIL the program does not run: ${program[*]} $command"
         exit 1

@@ -2,18 +2,22 @@
 //!
 //! `wol` is the program: `settings.rt` the configuration from its source, `listing.rt` the command `gen`,
 //! `formatting.rt` `format`, `inspecting.rt` `check` and `dump`, `replaying.rt` `replay` and `soak`, `telling.rt`
-//! the last line of a run, `status.rt` `solo`'s statuses and lines of faults, `top.rt` the top call, `main.rt`. What
-//! the process was started with is looked at by `streams.rt` (the standard streams) and `limits.rt` (the limit on the
-//! length of files), for `main.rt` alone. A further command joins as a further arm of `top::run`; `IsCommand`,
+//! the last line of a run, `status.rt` `solo`'s statuses and lines of faults, `top.rt` the top call, `main.rt`.
+//! For `main.rt` alone are `start.rt` (the words, and whether the streams that they need can be used), `streams.rt` (the
+//! standard streams), `limits.rt` (the limit on the length of files), and what goes to standard error: `advice.rt` on
+//! a status, `progress.rt` on how far a trace is. A further command joins as a further arm of `top::run`; `IsCommand`,
 //! `NoCommand` and `IsStatus` then name it.
 #![tactic(auto)]
 
+mod advice;
 mod formatting;
 mod inspecting;
 mod limits;
 mod listing;
+mod progress;
 mod replaying;
 mod settings;
+mod start;
 mod status;
 mod streams;
 mod telling;
@@ -21,84 +25,59 @@ mod telling;
 mod tests;
 mod top;
 
-use crate::streams::OUTPUT;
-use crate::telling::{NO_MEMORY, end_with, tell};
-use command_words::{Command, command_of};
-use solo::Fault;
-use std::alloc::Global;
-use std::io::ErrorKind;
+use crate::advice::{VERSION, advice};
+use crate::progress::Progress;
+use crate::start::begin;
+use crate::streams::{ERRORS, OUTPUT};
+use std::io;
 use std::process::ExitCode;
-use std::rt::Env;
-use std::{env, io};
 use wol_bay::FileBay;
-use wol_disk::NoMemory;
-use wol_io::{FileSource, NoGate, Sink, StdSink, StdSource};
+use wol_io::{FileSource, NoGate, StdSink, StdSource, WatchedSource};
 
-// The words after the program's name. Words that aren't all text are none.
-fn words(rt: &(impl Env + AllocGlobal), alloc: Global) -> Result<Vec<String>, NoMemory> {
-    let mut words = Vec::new(alloc);
-    match env::args(rt) {
-        Ok(args) => {
-            for word in args.skip(1) {
-                words.push(word)?;
-            }
-        }
-        Err(e) if e.kind() == ErrorKind::OutOfMemory => return Err(NoMemory),
-        Err(_) => {}
-    }
-    Ok(words)
-}
-
-// Whether the words are a command that reads a trace.
-fn reads_trace(alloc: Global, words: &[String]) -> bool {
-    matches!(
-        command_of(alloc, words),
-        Ok(Command::Solo(_) | Command::Replay(_))
-    )
-}
-
-// The words, where the streams that they need can be used; else the status, whose line was written. It opens no file.
-fn begin<R: Env + AllocGlobal + Print + Input, K: Sink>(
-    rt: &R,
-    alloc: Global,
-    out: &mut K,
-) -> Result<Vec<String>, u8> {
-    if !streams::takes_output(rt) {
-        return Err(7);
-    }
-    let Ok(words) = words(rt, alloc) else {
-        return Err(end_with(out, NO_MEMORY, 9));
+// Says on standard error what the status means, where it isn't 0 and there is room.
+fn advise(rt: &impl Eprint, words: &[String], status: u8, room: u64) {
+    let text = match words {
+        [word] if status == 1 && word.as_str() == "--version" => VERSION,
+        _ => advice(status).unwrap_or(""),
     };
-    if reads_trace(alloc, &words) && !streams::gives_input(rt) {
-        return Err(tell(alloc, out, Fault::Source));
+    if text.len() as u64 <= room {
+        let _ = rt.eprint(text);
     }
-    Ok(words)
 }
 
 fn main(rt: HostRuntime) -> ExitCode {
     let alloc = rt.alloc();
+    // Before any file is opened.
     let Ok(_stand_ins) = streams::take_closed(&rt) else {
         return ExitCode::from(7);
     };
     let most_bytes = limits::most_file_bytes(&rt);
     let room = limits::room(&rt, OUTPUT, most_bytes);
     let mut out = StdSink::with_room(io::writer(&rt), room);
-    let words = match begin(&rt, alloc, &mut out) {
-        Ok(words) => words,
-        Err(status) => return ExitCode::from(status),
+    let (words, status) = match begin(&rt, alloc, &mut out) {
+        Ok(words) => {
+            let room = limits::room(&rt, ERRORS, most_bytes);
+            let is_wanted = progress::is_wanted(&rt, &rt.stderr(), room);
+            let mut config = FileSource::new(rt, "wol.toml");
+            let input = StdSource::new(rt.reader());
+            let mut trace = WatchedSource::new(input, Progress::new(rt, is_wanted));
+            let mut bay = FileBay::new(rt, alloc, ".").within(most_bytes);
+            let status = top::run(
+                &rt,
+                alloc,
+                &words,
+                &mut config,
+                &mut trace,
+                &mut out,
+                &mut bay,
+                &NoGate,
+            );
+            trace.watch().end();
+            (words, status)
+        }
+        Err(status) => (Vec::new(alloc), status),
     };
-    let mut config = FileSource::new(rt, "wol.toml");
-    let mut trace = StdSource::new(rt.reader());
-    let mut bay = FileBay::new(rt, alloc, ".").within(most_bytes);
-    let status = top::run(
-        &rt,
-        alloc,
-        &words,
-        &mut config,
-        &mut trace,
-        &mut out,
-        &mut bay,
-        &NoGate,
-    );
+    let room = limits::room(&rt, ERRORS, most_bytes);
+    advise(&rt, &words, status, room);
     ExitCode::from(status)
 }

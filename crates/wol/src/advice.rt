@@ -1,0 +1,58 @@
+// What standard error says beside an exit status: how the program is called, or what the status means and what to do next.
+ghost use Rattle.std.specs.Prelude.{◌≡◌, ◌≢◌, ◌≤◌, [], IfSome, IsSome};
+
+/// The program's name and version.
+pub const VERSION: &str = "wol 0.2.0\n";
+
+/// How the program is called.
+pub const USAGE: &str = "\
+usage: wol COMMAND, in the folder that has wol.toml and the images (NAME.vol)
+  wol format                          make all images anew; this erases every volume
+  wol replay [OPTION..] < TRACE       serve a block trace on the images and print a report
+  wol check                           print each volume's state and the SHA-256 of its content
+  wol dump                            print the records that are in logs
+  wol gen SEED LINES                  print a generated trace
+  wol soak SEED LINES [OPTION..]      replay a generated trace without printing it
+  wol solo HOST DISK BLOCKS < TRACE   run one disk's lines on a new image, without wol.toml
+OPTION: --each | --workers N (1 to 64) | --reclaim off|between|beside
+Numbers have no sign and no leading zero. README.md and docs/USAGE.md say more.
+";
+
+/// What is said at a status, in whole lines; nothing where the command was done.
+pub fn advice(status: u8) -> Option<&'static str>
+    ensures done { status ≡ 0 → result ≡ None }
+    ensures told { 1 ≤ status → status ≤ 12 → IsSome result }
+{
+    Some(match status {
+        1 => USAGE,
+        2 => {
+            "wol: wol.toml is not a valid configuration; no image was touched. Mend the key or name in the last line.\n"
+        }
+        3 => {
+            "wol: a line of the trace was refused; all lines before it were run. Mend that line and replay from there.\n"
+        }
+        4 => {
+            "wol: a call on the folder or an image failed. Look for a second wol, linked images, rights, space and ulimit -f.\n"
+        }
+        5 => {
+            "wol: an image is damaged or not the one in wol.toml. Put back the right images or the right wol.toml.\n"
+        }
+        6 => {
+            "wol: a volume logs on one that is missing or was refused. wol check tells which; mend that one first.\n"
+        }
+        7 => {
+            "wol: standard output failed: closed, full, or a pipe that nobody reads. wol check shows the images' state.\n"
+        }
+        8 => {
+            "wol: wol.toml or the trace can't be read; lines before were run. Look for the file, its kind and its rights.\n"
+        }
+        9 => "wol: out of memory. Give it more and start again; the images can be opened.\n",
+        10 =>
+            "wol: the trace has more than 4294967296 lines; those were run. Split it and replay the rest.\n",
+        11 =>
+            "wol: a volume has no version left for a write. wol format begins anew, and erases every volume.\n",
+        12 =>
+            "wol: an image is missing. Put it back; for new volumes wol format makes all images, and erases every volume.\n",
+        _ => return None,
+    })
+}

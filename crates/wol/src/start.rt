@@ -1,0 +1,69 @@
+// What a run begins with: its words, and the streams that they need.
+ghost use Rattle.std.specs.Prelude.{◌≡◌, map, string_bytes, false};
+ghost use Rattle.wol.specs.Commands.{NoneOf, uses_trace};
+
+use crate::streams::{gives_input, takes_output};
+use crate::telling::{NO_MEMORY, end_with, tell};
+use command_words::{Command, command_of};
+use solo::Fault;
+use std::alloc::Global;
+use std::env;
+use std::io::ErrorKind;
+use std::rt::Env;
+use wol_disk::NoMemory;
+use wol_io::Sink;
+
+// The words after the program's name. Words that aren't all text are none.
+fn words(rt: &(impl Env + AllocGlobal), alloc: Global) -> Result<Vec<String>, NoMemory> {
+    let mut words = Vec::new(alloc);
+    match env::args(rt) {
+        Ok(args) => {
+            for word in args.skip(1) {
+                words.push(word)?;
+            }
+        }
+        Err(e) if e.kind() == ErrorKind::OutOfMemory => return Err(NoMemory),
+        Err(_) => {}
+    }
+    Ok(words)
+}
+
+// Whether a command reads the trace that it is given.
+fn uses_trace(command: &Command<'_>) -> bool
+    ensures { result ≡ uses_trace command.now }
+{
+    match command {
+        Command::Solo(_) | Command::Replay(_) => true,
+        Command::Gen(_) | Command::Format | Command::Check | Command::Dump | Command::Soak(..) => {
+            false
+        }
+    }
+}
+
+// Whether the words are a command that reads the trace that it is given.
+fn are_of_trace(alloc: Global, words: &[String]) -> bool
+    ensures { NoneOf uses_trace (map string_bytes words.now) → result ≡ false }
+{
+    match command_of(alloc, words) {
+        Ok(command) => uses_trace(&command),
+        Err(_) => false,
+    }
+}
+
+/// The words, where the streams that they need can be used; else the status, whose line was written. It opens no file.
+pub fn begin<R: Env + AllocGlobal + Print + Input, K: Sink>(
+    rt: &R,
+    alloc: Global,
+    out: &mut K,
+) -> Result<Vec<String>, u8> {
+    if !takes_output(rt) {
+        return Err(7);
+    }
+    let Ok(words) = words(rt, alloc) else {
+        return Err(end_with(out, NO_MEMORY, 9));
+    };
+    if are_of_trace(alloc, &words) && !gives_input(rt) {
+        return Err(tell(alloc, out, Fault::Source));
+    }
+    Ok(words)
+}
