@@ -64,9 +64,7 @@ hostile: build
 	python3 tests/hostile/mutations.py build/wol --rounds 25000
 
 bench: build
-	bench/replay.sh
-	bench/check.sh
-	bench/lines.sh
+	bench/all.sh
 	bench/turns.sh
 
 # The program, its man page, its completions and the documents. It builds nothing, so it can run as another user.
