@@ -136,9 +136,8 @@ fn eight_workers_print_what_one_prints(rt: HostRuntime) -> Result<(), Fail> {
 #[test]
 fn records_are_kept_where_nothing_is_reclaimed(rt: HostRuntime) -> Result<(), Fail> {
     let off = Options {
-        workers: 2,
         reclaim: Reclaim::Off,
-        each: true,
+        ..between(2)
     };
     try_trace(&rt, rt.alloc(), THREE, OFFLOADS, off, KEPT)
 }
