@@ -1,5 +1,5 @@
 -- What is told at the end of a run.
-use Rattle.std.proofs.Common.{◌≡◌, inl, inr, ℕ, List, [], ◌∷◌, Option, Ok, Err, refl, sym, subst, append-nil, arith}
+use Rattle.std.proofs.Common.{◌≡◌, inl, inr, ℕ, List, [], ◌∷◌, Option, Ok, Err, refl, sym, append-nil, arith}
 use Rattle.msr_trace.specs.declared.format.BadLine.{BadLine}
 use Rattle.wol_disk.specs.Disk.{Block, Rose, Values}
 use Rattle.wol_bay.specs.Bay.{Told}
@@ -43,14 +43,6 @@ module _ (target : Target) (trace left : Option (List ℕ)) (told told' : Option
 
 pub told_done : {T : Type 0} (x : T) (target : Target) (trace left : Option (List ℕ)) (told told' : Option Told) (bay bay' source source' : ℕ) (old new : Option (List ℕ)) → RunsInBay target trace left told told' (Ok x) old new → RunsSolo target trace left told told' bay bay' source source' 0 old new
 told_done x target trace left told told' bay bay' source source' old new (array, begins, values, images, ends) = (array, begins, values, inl (refl, images, ends))
-
--- .. of the volume that is named, wherever its name lies
-module _ (own target : Target) (same : own ≡ target) (trace left : Option (List ℕ)) (told told' : Option Told) (bay bay' source source' status : ℕ) (old mid new : Option (List ℕ)) where
-  pub fault_for : (T : Type 0) (e : Fault) → HasCause e bay bay' source source' → TellsFault e status mid new → RunsInBay {T = T} own trace left told told' (Err e) old mid → RunsSolo target trace left told told' bay bay' source source' status old new
-  fault_for T e cause tells runs = subst (λ (t : Target). RunsSolo t trace left told told' bay bay' source source' status old new) same (told_fault own trace left told told' bay bay' source source' status old mid new T e cause tells runs)
-
-  pub done_for : {T : Type 0} (x : T) → RunsInBay own trace left told told' (Ok x) old new → RunsSolo target trace left told told' bay bay' source source' 0 old new
-  done_for x runs = subst (λ (t : Target). RunsSolo t trace left told told' bay bay' source source' 0 old new) same (told_done x own trace left told told' bay bay' source source' old new runs)
 
 -- ---- What the statuses of the trace come of
 

@@ -1,5 +1,5 @@
 -- What is told at the end of a run of `format`.
-use Rattle.std.proofs.Common.{◌≡◌, ◌⊎◌, inl, inr, ℕ, ◌<◌, List, length, Option, Result, Ok, Err, refl, ◌∙◌, arith}
+use Rattle.std.proofs.Common.{◌≡◌, ◌⊎◌, inl, inr, ℕ, ◌<◌, List, length, Option, Result, Ok, Err, refl, ◌∙◌}
 use Rattle.std.specs.Prelude.{codes}
 use Rattle.wol_disk.specs.Disk.{Rose}
 use Rattle.wol_bay.specs.Bay.{BayState}
@@ -107,14 +107,3 @@ module _ (left : Option (List ℕ)) (faults faults' : ℕ) (old new : BayState) 
         | inr (inl (eight, rose)) ↦ inr (inr (inr (inr (inl (is ∙ eight, rose)))))
         | inr (inr nine) ↦ inr (inr (inr (inr (inr (is ∙ nine)))))
       ]
-
-  -- what status 2 comes of
-  pub format_comes_of_config : RunsFormat left faults faults' old new status printed now → status ≡ 2 → HasNoConfig left
-  format_comes_of_config run two = elim (ends_format run) [
-    | inl is ↦ absurd (omega (arith, is, two))
-    | inr (inl (is, none)) ↦ none
-    | inr (inr (inl (is, rose))) ↦ absurd (omega (arith, is, two))
-    | inr (inr (inr (inl is))) ↦ absurd (omega (arith, is, two))
-    | inr (inr (inr (inr (inl (is, rose))))) ↦ absurd (omega (arith, is, two))
-    | inr (inr (inr (inr (inr is)))) ↦ absurd (omega (arith, is, two))
-  ]

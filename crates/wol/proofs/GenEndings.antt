@@ -1,5 +1,5 @@
 -- What is told at the end of a run of `gen`.
-use Rattle.std.proofs.Common.{◌≡◌, ◌⊎◌, inl, inr, ℕ, ◌≤◌, List, ◌++◌, Option, refl, ◌∙◌, arith}
+use Rattle.std.proofs.Common.{◌≡◌, ◌⊎◌, inl, inr, ℕ, ◌≤◌, List, ◌++◌, Option, refl, ◌∙◌}
 use Rattle.std.specs.Prelude.{codes}
 use Rattle.std.specs.Io.KnownBytes.{Appends}
 use Rattle.wol_io.specs.Streams.{AppendsFront}
@@ -85,13 +85,3 @@ module _ (asked : Generated) (left : Option (List ℕ)) (faults faults' status :
         | inr (inl (eight, rose)) ↦ inr (inr (inr (inl (is ∙ eight, rose))))
         | inr (inr nine) ↦ inr (inr (inr (inr (is ∙ nine))))
       ]
-
-  -- what status 2 comes of
-  pub comes_of_config : RunsGen asked left faults faults' status printed new → status ≡ 2 → HasNoConfig left
-  comes_of_config run two = elim (ends_gen run) [
-    | inl is ↦ absurd (omega (arith, is, two))
-    | inr (inl (is, none)) ↦ none
-    | inr (inr (inl is)) ↦ absurd (omega (arith, is, two))
-    | inr (inr (inr (inl (is, rose)))) ↦ absurd (omega (arith, is, two))
-    | inr (inr (inr (inr is))) ↦ absurd (omega (arith, is, two))
-  ]

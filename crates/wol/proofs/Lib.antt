@@ -13,3 +13,9 @@ mod SeenLines
 mod Taken
 mod Unread
 mod HeadlineTold
+mod WindowFaults
+mod Spent
+mod CausesTold
+mod Promised
+mod SoloTold
+mod CommandsTold

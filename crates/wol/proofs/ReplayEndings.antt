@@ -9,19 +9,15 @@ use Rattle.msr_trace.specs.declared.format.TraceFault.{TraceFault}
 use Rattle.msr_trace.specs.declared.format.TraceFault.TheVariants as trace
 use Rattle.report.specs.Faults.{fault_text, status_of}
 use Rattle.report.specs.declared.fault.Fault.{Fault}
-use Rattle.report.specs.declared.fault.Fault.TheVariants as fault
 use Rattle.manager_recovery.specs.declared.refusal.OpenRefusal.TheVariants as refusal
 use Rattle.rack.specs.declared.volume_fault.VolumeFault.{VolumeFault}
 use Rattle.rack.specs.declared.volume_fault.VolumeFault.TheVariants as closed_for
 use Rattle.rack.specs.Racks.{NamesVolumes}
 use Rattle.report.specs.Troubles.{trouble_status}
-use Rattle.replay.specs.Ended.{EndsFor, IsPartFault, whole, no_line, refused, memory, sink_failed}
+use Rattle.replay.specs.Ended.{memory}
 use Rattle.replay.specs.Givens.{Refuses}
 use Rattle.replay.specs.NotOpened.{IsOfCall}
-use Rattle.replay.specs.Replays.{Replayed, closed, no_memory, ran}
-use Rattle.replay.specs.Served.{ServedWindow}
 use Rattle.replay.specs.Stops.{fault_of_trace}
-use Rattle.replay.specs.declared.given.Given.{Given}
 use Rattle.replay.specs.declared.given.Given.TheVariants as given
 use Rattle.replay.specs.declared.session.Options.{Options}
 use Rattle.replay.specs.declared.stop.Stop.{Stop}
@@ -30,11 +26,10 @@ use Rattle.troubles.specs.Troubles.{trouble_of}
 use Rattle.command_words.specs.declared.command.Generated.{Generated}
 use Rattle.wol.specs.Replaying.{EndsReplay, GivenLines, HasLeft, IsReplay, IsUnreplayed, RunsReplay, lines_of, trace_of}
 use Rattle.wol.specs.Settings.{HasNoConfig, IsUnread, line_of_fault}
-use Rattle.wol.specs.Statuses.{IsStatus}
 use Rattle.wol.specs.Tops.{EndsWith, HasBadLine, HasMoreLines}
-use Rattle.wol.proofs.ReplayFaults.{CanEnd, IsOfWindow, can_not_one, can_not_two, can_status, not_ten, not_three, of_window}
+use Rattle.wol.proofs.ReplayFaults.{CanEnd, IsOfWindow, not_ten, not_three}
 use Rattle.wol.proofs.Unread.{ends_unread, line_of_memory, line_unread, wanted_or_sink}
-use Rattle.wol.proofs.ReplayEnds.{NoLine, can_end, ended_by, same_fault}
+use Rattle.wol.proofs.ReplayEnds.{NoLine, can_end, ended_by}
 
 -- the line of a fault has its status, or 7, or 9
 pub told_status : (names : List (List ℕ)) (f : Fault) (status k : ℕ) (printed new : Option (List ℕ)) → k ≢ 7 → k ≢ 9
@@ -49,7 +44,7 @@ told_status names f status k printed new no_seven no_nine (inr ends) is_k = elim
 ]
 
 -- a call failed where the status of what a volume isn't open for is 4
-of_call : (f : VolumeFault) (count : ℕ) → NamesVolumes count f → trouble_status (trouble_of f) ≡ 4 → IsOfCall f
+pub of_call : (f : VolumeFault) (count : ℕ) → NamesVolumes count f → trouble_status (trouble_of f) ≡ 4 → IsOfCall f
 of_call closed_for.Absent count names four = absurd (omega (arith, four))
 of_call (closed_for.WrongLength bytes) count names four = absurd (omega (arith, four))
 of_call closed_for.LabelFault count names four = tt
@@ -61,40 +56,6 @@ of_call (closed_for.Refused (refusal.OutsideView logger segment)) count names fo
 of_call (closed_for.Refused (refusal.Damaged volume block)) count names four = absurd (omega (arith, four))
 of_call (closed_for.Refused (refusal.Twins v first w second)) count names four = absurd (omega (arith, four))
 of_call (closed_for.Refused refusal.NoMemory) count names four = absurd names
-
--- a part of a volume is at fault where a window ended a run with status 4
-of_part : (f : Fault) → IsOfWindow f → status_of f ≡ 4 → IsPartFault f
-of_part fault.Words h four = absurd h
-of_part (fault.Config why) h four = absurd h
-of_part (fault.Line line why) h four = absurd h
-of_part (fault.Volume volume t) h four = (volume, t, refl)
-of_part fault.ConfigSource h four = absurd h
-of_part fault.TraceSource h four = absurd h
-of_part fault.Memory h four = absurd (omega (arith, four))
-of_part fault.Lines h four = absurd h
-of_part (fault.Versions volume) h four = absurd (omega (arith, four))
-
-line_not_four : (refusal : TraceFault) → status_of (fault_of_trace refusal) ≢ 4
-line_not_four trace.Source is = omega (arith, is)
-line_not_four (trace.Bad line why) is = omega (arith, is)
-line_not_four trace.Spent is = omega (arith, is)
-line_not_four trace.NoMemory is = omega (arith, is)
-
-module _ {D S T : Type 0} (tells : Bool) (state : D → State) (options : Options) (left : S → Option (List ℕ)) (config : Config) (start now : Given S) (old new : BayState) (sink sink' : ℕ) (printed printed' : Option (List ℕ)) where
-  ends_rose : (r : Result T Stop) (run : List (Option TraceLine)) (last : List ServedWindow) → EndsFor left config start now run last old.faults new.faults sink sink' r → (g : Fault) → r ≡ Err (stop.Fault g) → status_of g ≡ 4 → Rose old.faults new.faults
-  ends_rose r run last (whole done none all) g is four = absurd (let no : Ok done ≡ Err (stop.Fault g) = is in cc)
-  ends_rose r run last (no_line refusal other empty refuses) g is four = absurd (line_not_four refusal (ap status_of (same_fault _ _ (fault_of_trace refusal) g is refl refl) ∙ four))
-  ends_rose r run last (refused f s one same rose versions) g is four =
-      rose (of_part f (of_window s.batch.requests s.answer f same) (ap status_of (same_fault _ _ f g is refl refl) ∙ four))
-  ends_rose r run last memory g is four = absurd (let nine : status_of fault.Memory ≡ 4 = ap status_of (same_fault _ _ fault.Memory g is refl refl) ∙ four in omega (arith, nine))
-  ends_rose r run last (sink_failed rose) g is four = absurd (let no : Err stop.Sink ≡ Err (stop.Fault g) = is in cc)
-
-  -- status 4 comes only where the bay's count rose
-  rose_of : (r : Result T Stop) → Replayed tells state left config options start now old new sink sink' printed printed' r → (g : Fault) → r ≡ Err (stop.Fault g) → status_of g ≡ 4 → Rose old.faults new.faults
-  rose_of r (no_memory asks leaves) g is four = absurd (let nine : status_of fault.Memory ≡ 4 = ap status_of (same_fault _ _ fault.Memory g is refl refl) ∙ four in omega (arith, nine))
-  rose_of r (closed k f asks first leaves) g is four =
-      first.cause (of_call f _ first.names (ap status_of (same_fault _ _ (fault.Volume k (trouble_of f)) g is refl refl) ∙ four))
-  rose_of r (ran r2 replays) g is four = ends_rose r2 replays.run replays.last replays.ends g is four
 
 -- the status of a replay: that of its end, or 7, or 9
 ends_status : {T : Type 0} (config : Config) (result : Result T Stop) (status : ℕ) (printed new : Option (List ℕ)) → EndsReplay config result status printed new
@@ -159,22 +120,6 @@ module _ {D : Type 0} (tells : Bool) (state : D → State) (options : Options) (
       )))
     ]
 
-    begun_status : IsStatus status
-    begun_status = elim ended [
-      | inl is_zero ↦ rw is_zero refl
-      | inr (inl seven) ↦ rw seven refl
-      | inr (inr (inl nine)) ↦ rw nine refl
-      | inr (inr (inr (f, same, by, can))) ↦ rw same (can_status f can)
-    ]
-
-    begun_not : (k : ℕ) → k ≢ 0 → k ≢ 7 → k ≢ 9 → ((f : Fault) → CanEnd f → status_of f ≢ k) → status ≢ k
-    begun_not k no_zero no_seven no_nine no_fault is_k = elim ended [
-      | inl same ↦ no_zero (sym is_k ∙ same)
-      | inr (inl same) ↦ no_seven (sym is_k ∙ same)
-      | inr (inr (inl same)) ↦ no_nine (sym is_k ∙ same)
-      | inr (inr (inr (f, same, by, can))) ↦ no_fault f can (sym same ∙ is_k)
-    ]
-
     -- no further line came, where that alone has this status
     begun_by : (k : ℕ) → k ≢ 0 → k ≢ 7 → k ≢ 9 → ((f : Fault) → IsOfWindow f → status_of f ≢ k) → status ≡ k
         → (refusal : TraceFault) × (refusal ≢ trace.NoMemory) × (status_of (fault_of_trace refusal) ≡ k) × (now : GivenLines) × (run : List (Option TraceLine)) × Refuses (λ bytes. bytes) refusal start now run
@@ -185,47 +130,6 @@ module _ {D : Type 0} (tells : Bool) (state : D → State) (options : Options) (
       | inr (inr (inr (f, same, inl window, can))) ↦ absurd (no_window f window (sym same ∙ is_k))
       | inr (inr (inr (f, same, inr (refusal, other, is_f, run, refuses), can))) ↦ (refusal, other, ap status_of is_f ∙ sym same ∙ is_k, is.now, run, refuses)
     ]
-
-  pub replay_status : RunsReplay tells state options start left faults faults' rest old new sink status printed printed' → IsStatus status
-  replay_status (inl is) = begun_status is
-  replay_status (inr is) = elim (unreplayed_status is) [
-    | inl (two, none_had) ↦ rw two refl
-    | inr (inl seven) ↦ rw seven refl
-    | inr (inr (inl (eight, rose))) ↦ rw eight refl
-    | inr (inr (inr nine)) ↦ rw nine refl
-  ]
-
-  pub replay_not_one : RunsReplay tells state options start left faults faults' rest old new sink status printed printed' → status ≢ 1
-  replay_not_one (inl is) one = begun_not is 1 (λ e. omega (arith, e)) (λ e. omega (arith, e)) (λ e. omega (arith, e)) can_not_one one
-  replay_not_one (inr is) one = elim (unreplayed_status is) [
-    | inl (two, none_had) ↦ omega (arith, two, one)
-    | inr (inl seven) ↦ omega (arith, seven, one)
-    | inr (inr (inl (eight, rose))) ↦ omega (arith, eight, one)
-    | inr (inr (inr nine)) ↦ omega (arith, nine, one)
-  ]
-
-  pub replay_comes_of_config : RunsReplay tells state options start left faults faults' rest old new sink status printed printed' → status ≡ 2 → HasNoConfig left
-  replay_comes_of_config (inl is) two = absurd (begun_not is 2 (λ e. omega (arith, e)) (λ e. omega (arith, e)) (λ e. omega (arith, e)) can_not_two two)
-  replay_comes_of_config (inr is) two = elim (unreplayed_status is) [
-    | inl (same, none_had) ↦ none_had
-    | inr (inl seven) ↦ absurd (omega (arith, seven, two))
-    | inr (inr (inl (eight, rose))) ↦ absurd (omega (arith, eight, two))
-    | inr (inr (inr nine)) ↦ absurd (omega (arith, nine, two))
-  ]
-
-  pub replay_rose : RunsReplay tells state options start left faults faults' rest old new sink status printed printed' → status ≡ 4 → Rose old.faults new.faults
-  replay_rose (inl is) four = elim (ends_status is.config is.result status is.printed_then printed' is.ends) [
-    | inl none_done ↦ absurd (omega (arith, none_done, four))
-    | inr (inl seven) ↦ absurd (omega (arith, seven, four))
-    | inr (inr (inl nine)) ↦ absurd (omega (arith, nine, four))
-    | inr (inr (inr (f, err, same))) ↦ rose_of tells state options _ is.config start is.now old new sink is.sink_then printed is.printed_then is.result is.replayed f err (sym same ∙ four)
-  ]
-  replay_rose (inr is) four = elim (unreplayed_status is) [
-    | inl (two, none_had) ↦ absurd (omega (arith, two, four))
-    | inr (inl seven) ↦ absurd (omega (arith, seven, four))
-    | inr (inr (inl (eight, rose))) ↦ absurd (omega (arith, eight, four))
-    | inr (inr (inr nine)) ↦ absurd (omega (arith, nine, four))
-  ]
 
   -- why no further line came at status 3 or 10
   stopped_at : (k : ℕ) → k ≢ 0 → k ≢ 2 → k ≢ 7 → k ≢ 8 → k ≢ 9 → ((f : Fault) → IsOfWindow f → status_of f ≢ k) → RunsReplay tells state options start left faults faults' rest old new sink status printed printed' → status ≡ k

@@ -22,7 +22,6 @@ use Rattle.request_turns.specs.declared.outcome.Outcome.TheVariants.{Read, Wrote
 use Rattle.request_workers.specs.declared.request.Window.{Window}
 use Rattle.replay.specs.Endings.{fault_of_outcome, fault_of_reclaim, fault_of_window, first_refused, lacked_memory}
 use Rattle.replay.specs.Stops.{fault_of_trace}
-use Rattle.wol.specs.Statuses.{IsStatus}
 
 -- ---- Faults of windows
 
@@ -147,50 +146,6 @@ not_ten fault.TraceSource h is = h
 not_ten fault.Memory h is = omega (arith, is)
 not_ten fault.Lines h is = h
 not_ten (fault.Versions volume) h is = omega (arith, is)
-
--- no run ends with status 1 or 2, each ends with one of the program's
-pub can_status : (f : Fault) → CanEnd f → IsStatus (status_of f)
-can_status fault.Words h = absurd h
-can_status (fault.Config why) h = absurd h
-can_status (fault.Line line why) h = refl
-can_status (fault.Volume volume trouble.Absent) h = refl
-can_status (fault.Volume volume (trouble.Length bytes)) h = refl
-can_status (fault.Volume volume trouble.LabelDiffers) h = refl
-can_status (fault.Volume volume (trouble.Damaged w block)) h = refl
-can_status (fault.Volume volume (trouble.Twins v first w second)) h = refl
-can_status (fault.Volume volume (trouble.OutsideView logger segment)) h = refl
-can_status (fault.Volume volume (trouble.LoggerMissing id)) h = refl
-can_status (fault.Volume volume trouble.Bay) h = refl
-can_status (fault.Volume volume trouble.Label) h = refl
-can_status (fault.Volume volume trouble.Home) h = refl
-can_status (fault.Volume volume (trouble.Segment logger index)) h = refl
-can_status fault.ConfigSource h = absurd h
-can_status fault.TraceSource h = refl
-can_status fault.Memory h = refl
-can_status fault.Lines h = refl
-can_status (fault.Versions volume) h = refl
-
-pub can_not_one : (f : Fault) → CanEnd f → status_of f ≢ 1
-can_not_one fault.Words h is = h
-can_not_one (fault.Config why) h is = h
-can_not_one (fault.Line line why) h is = omega (arith, is)
-can_not_one (fault.Volume volume t) h is = other_status t 1 (λ e. omega (arith, e)) (λ e. omega (arith, e)) (λ e. omega (arith, e)) (λ e. omega (arith, e)) is
-can_not_one fault.ConfigSource h is = h
-can_not_one fault.TraceSource h is = omega (arith, is)
-can_not_one fault.Memory h is = omega (arith, is)
-can_not_one fault.Lines h is = omega (arith, is)
-can_not_one (fault.Versions volume) h is = omega (arith, is)
-
-pub can_not_two : (f : Fault) → CanEnd f → status_of f ≢ 2
-can_not_two fault.Words h is = h
-can_not_two (fault.Config why) h is = h
-can_not_two (fault.Line line why) h is = omega (arith, is)
-can_not_two (fault.Volume volume t) h is = other_status t 2 (λ e. omega (arith, e)) (λ e. omega (arith, e)) (λ e. omega (arith, e)) (λ e. omega (arith, e)) is
-can_not_two fault.ConfigSource h is = h
-can_not_two fault.TraceSource h is = omega (arith, is)
-can_not_two fault.Memory h is = omega (arith, is)
-can_not_two fault.Lines h is = omega (arith, is)
-can_not_two (fault.Versions volume) h is = omega (arith, is)
 
 -- a run that ends with status 8 ends by the source of its trace
 pub is_source : (f : Fault) → CanEnd f → status_of f ≡ 8 → f ≡ fault.TraceSource

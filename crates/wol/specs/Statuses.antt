@@ -1,6 +1,5 @@
 -- Exit statuses and the lines of faults.
-use Rattle.std.specs.Prelude.{◌≡◌, ℕ, ⊤, List, [], ◌∷◌, ◌++◌, codes, decimal, ◌==◌, true}
-use Rattle.std.specs.List.{list_any}
+use Rattle.std.specs.Prelude.{ℕ, ⊤, List, [], ◌++◌, codes, decimal}
 use Rattle.msr_trace.specs.declared.format.BadLine.{BadLine}
 use Rattle.msr_trace.specs.declared.format.BadLine.TheVariants as bad
 use Rattle.solo.specs.declared.fault.Fault.{Fault}
@@ -14,10 +13,6 @@ status_of fault.Sink = 7
 status_of fault.Source = 8
 status_of fault.NoMemory = 9
 status_of fault.Spent = 10
-
--- the statuses that the program ends with
-abbrev pub IsStatus : ℕ → Type 0
-IsStatus status = list_any (λ s. s == status) (0 ∷ 1 ∷ 2 ∷ 3 ∷ 4 ∷ 5 ∷ 6 ∷ 7 ∷ 8 ∷ 9 ∷ 10 ∷ 11 ∷ 12 ∷ []) ≡ true
 
 -- why a line is bad, and the end of the line that says so
 abbrev pub why_text : BadLine → List ℕ

@@ -2,7 +2,6 @@
 ghost use Rattle.std.specs.Prelude.{◌≡◌, ◌≤◌, ◌<◌};
 ghost use Rattle.wol_disk.specs.Disk.{Rose};
 ghost use Rattle.solo.specs.Images.{NoneOut};
-ghost use Rattle.wol.specs.Statuses.{IsStatus};
 ghost use Rattle.wol.specs.Tops.{IsDoneOrMemory};
 ghost use Rattle.wol.specs.Settings.{IsConfigured};
 ghost use Rattle.wol.specs.Completing.{HasSoundImages};
@@ -33,10 +32,8 @@ pub fn inspect<R: Wait, C: Source, K: Sink, B: Bay>(
     requires home { NoneOut (B.state bay.old) }
     ensures home { NoneOut (B.state bay.new) }
     ensures content { RunsLook B.Part.tells B.Part.state asked (C.left source.old) (C.faults source.old) (C.faults source.new) (B.state bay.old) (B.state bay.new) result (K.taken out.old) (K.taken out.new) }
-    ensures status { IsStatus result }
     ensures complete { HasSoundImages B.Part.tells (C.left source.old) (B.state bay.old) → IsConfigured (C.left source.old) → ¬ Rose (B.state bay.old).faults (B.state bay.new).faults
         → ¬ Rose (C.faults source.old) (C.faults source.new) → ¬ Rose (K.faults out.old) (K.faults out.new) → IsDoneOrMemory result }
-    ensures failed { result ≡ 4 → Rose (B.state bay.old).faults (B.state bay.new).faults }
     ensures cause { result ≡ 7 → Rose (K.faults out.old) (K.faults out.new) }
     ensures later { K.faults out.old ≤ K.faults out.new }
     ensures calm { K.faults out.old < K.faults out.new → result ≡ 7 }

@@ -1,6 +1,6 @@
-use Rattle.std.proofs.Common.{arith, inl, inr, refl, sym, ◌∙◌}
+use Rattle.std.proofs.Common.{arith, inl, inr, refl, ◌∙◌}
 use Rattle.wol.proofs.Completing.{complete_unread, look_not_sink, look_whole_done, may_look, rose_from}
-use Rattle.wol.proofs.LookEndings.{look_cut, look_failed, look_rose, look_untouched, look_whole}
+use Rattle.wol.proofs.LookEndings.{look_cut, look_failed, look_untouched, look_whole}
 use Rattle.wol.proofs.inspecting.inspect.Goals as goal
 
 pub returns-in-Err-clause-content : goal.returns-in-Err-clause-content
@@ -8,9 +8,6 @@ returns-in-Err-clause-content g c = look_untouched _ _ _ _ _ _ _ _ _ _ _ c.in-Er
 
 pub returns-in-Ok-inspect-clause-content : goal.returns-in-Ok-inspect-clause-content
 returns-in-Ok-inspect-clause-content g c = look_whole _ _ _ _ _ _ _ _ _ _ _ c.in-Ok.config c.in-Ok.ensures.ok (record { left = c.in-Ok-inspect.ensures.left; sound = c.in-Ok-inspect.ensures.sound }) c.in-Ok-inspect.first _ _ c.in-Ok-inspect.ensures.content c.status_of_first.ensures
-
-pub returns-in-Ok-inspect-clause-failed : goal.returns-in-Ok-inspect-clause-failed
-returns-in-Ok-inspect-clause-failed g c four = look_rose _ _ _ _ _ _ c.in-Ok-inspect.first _ _ _ _ c.in-Ok-inspect.ensures.content (sym c.status_of_first.ensures ∙ four)
 
 pub returns-in-Err-Sink-clause-content : goal.returns-in-Err-Sink-clause-content
 returns-in-Err-Sink-clause-content g c = look_failed _ _ _ _ _ _ _ _ _ _ _ c.in-Ok.config c.in-Ok.ensures.ok (record { left = c.in-Err-Sink.ensures.left; sound = c.in-Err-Sink.ensures.sound }) _ _ (rw c.in-Err-Sink.field-0-is at c.in-Err-Sink.ensures.content) refl

@@ -1,186 +1,78 @@
-use Rattle.std.proofs.Common.{Err, map, inl, inr, refl, ap}
-use Rattle.std.specs.Prelude.{string_bytes}
-use Rattle.solo.specs.Volume.{target_of}
-use Rattle.solo.proofs.Imaging.{not_made}
-use Rattle.solo.specs.declared.fault.Fault.TheVariants as solo_fault
-use Rattle.wol_bay.specs.declared.fault.BayFault.TheVariants as bay_fault
-use Rattle.report.specs.declared.fault.Fault.TheVariants as fault
-use Rattle.inspection.specs.declared.asked.Asked.TheVariants as asked
-use Rattle.command_words.specs.declared.command.Command.TheVariants.{Format, Replay, Check, Dump, Gen, Soak, Solo}
-use Rattle.wol.proofs.Asked.{in_range, one_command, one_volume}
-use Rattle.wol.proofs.Endings.{told_fault}
-use Rattle.wol.proofs.FormatEndings.{told_untouched}
-use Rattle.wol.proofs.HeadlineTold.{runs_headline}
-use Rattle.wol.proofs.GenEndings.{told_unread}
-use Rattle.wol.proofs.LookEndings.{look_untouched}
-use Rattle.wol.proofs.ReplayEndings.{unreplayed}
-use Rattle.wol.specs.Replaying.{options_as}
+use Rattle.std.proofs.Common.{Err, inl, inr, refl, ap, subst, arith}
+use Rattle.command_words.specs.Commands.{IsCommand}
+use Rattle.wol.proofs.Asked.{in_range, range_of_gen, range_of_solo}
+use Rattle.wol.proofs.CommandsTold.{check_promise, dump_promise, format_promise, gen_promise, memory_promise, replay_promise, soak_promise, solo_done_promise, solo_fault_promise}
+use Rattle.wol.proofs.Completing.{rose_from, rose_later}
+use Rattle.wol.proofs.Endings.{has_cause}
+use Rattle.wol.proofs.Promised.{of_none}
+use Rattle.wol.proofs.SoloTold.{solo_calm}
 use Rattle.wol.proofs.top.run.Goals as goal
 
 -- ---- The words are a command
 
-pub returns-in-Ok-clause-content : goal.returns-in-Ok-clause-content
-returns-in-Ok-clause-content g c volume is =
-    let own = one_volume (map (string_bytes {Z = Rattle.std.proofs.Common.Global}) c.args.words.now) c.in-Ok.command volume c.in-Ok.ensures.ok is in
-    rw own.2 at (c.obey.ensures.content own.0 own.1)
+pub generate-requires : goal.generate-requires
+generate-requires g c = record { few = range_of_gen c.in-Ok.command c.in-Gen.asked c.in-Gen.is (in_range _ c.in-Ok.command c.in-Ok.ensures.ok) }
 
-pub returns-in-Ok-clause-generated : goal.returns-in-Ok-clause-generated
-returns-in-Ok-clause-generated g c asked is = c.obey.ensures.generated asked (one_command (map (string_bytes {Z = Rattle.std.proofs.Common.Global}) c.args.words.now) c.in-Ok.command (Gen asked) refl c.in-Ok.ensures.ok is)
+pub run-requires-clause-volume : goal.run-requires-clause-volume
+run-requires-clause-volume g c = range_of_solo c.in-Ok.command c.in-Solo.volume c.in-Solo.is (in_range _ c.in-Ok.command c.in-Ok.ensures.ok)
 
-pub returns-in-Ok-clause-formatted : goal.returns-in-Ok-clause-formatted
-returns-in-Ok-clause-formatted g c is = c.obey.ensures.formatted (one_command (map (string_bytes {Z = Rattle.std.proofs.Common.Global}) c.args.words.now) c.in-Ok.command Format refl c.in-Ok.ensures.ok is)
+pub returns-in-Gen-clause-promise : goal.returns-in-Gen-clause-promise
+returns-in-Gen-clause-promise g c = gen_promise _ _ _ _ _ _ c.generate.ensures.cause c.generate.ensures.calm c.in-Gen.asked (subst (IsCommand _) c.in-Gen.is c.in-Ok.ensures.ok) c.generate.ensures.content refl refl
 
-pub returns-in-Ok-clause-checked : goal.returns-in-Ok-clause-checked
-returns-in-Ok-clause-checked g c is = c.obey.ensures.checked (one_command (map (string_bytes {Z = Rattle.std.proofs.Common.Global}) c.args.words.now) c.in-Ok.command Check refl c.in-Ok.ensures.ok is)
+pub returns-in-Format-clause-promise : goal.returns-in-Format-clause-promise
+returns-in-Format-clause-promise g c = format_promise _ _ _ _ _ _ c.format.ensures.cause c.format.ensures.calm (subst (IsCommand _) c.in-Format.is c.in-Ok.ensures.ok) c.format.ensures.content refl
 
-pub returns-in-Ok-clause-dumped : goal.returns-in-Ok-clause-dumped
-returns-in-Ok-clause-dumped g c is = c.obey.ensures.dumped (one_command (map (string_bytes {Z = Rattle.std.proofs.Common.Global}) c.args.words.now) c.in-Ok.command Dump refl c.in-Ok.ensures.ok is)
+pub returns-in-Check-clause-promise : goal.returns-in-Check-clause-promise
+returns-in-Check-clause-promise g c = check_promise _ _ _ _ _ _ c.inspect.ensures.cause c.inspect.ensures.calm c.inspect.ensures.complete refl (subst (IsCommand _) c.in-Check.is c.in-Ok.ensures.ok) c.inspect.ensures.content
 
-pub returns-in-Ok-clause-replayed : goal.returns-in-Ok-clause-replayed
-returns-in-Ok-clause-replayed g c options is = c.obey.ensures.replayed options (one_command (map (string_bytes {Z = Rattle.std.proofs.Common.Global}) c.args.words.now) c.in-Ok.command (Replay options) refl c.in-Ok.ensures.ok is)
+pub returns-in-Dump-clause-promise : goal.returns-in-Dump-clause-promise
+returns-in-Dump-clause-promise g c =
+    dump_promise _ _ _ _ _ _ c.inspect-in-Dump.ensures.cause c.inspect-in-Dump.ensures.calm c.inspect-in-Dump.ensures.complete refl (subst (IsCommand _) c.in-Dump.is c.in-Ok.ensures.ok) c.inspect-in-Dump.ensures.content
 
-pub returns-in-Ok-clause-soaked : goal.returns-in-Ok-clause-soaked
-returns-in-Ok-clause-soaked g c asked options is = c.obey.ensures.soaked asked options (one_command (map (string_bytes {Z = Rattle.std.proofs.Common.Global}) c.args.words.now) c.in-Ok.command (Soak asked options) refl c.in-Ok.ensures.ok is)
+pub returns-in-Replay-clause-promise : goal.returns-in-Replay-clause-promise
+returns-in-Replay-clause-promise g c =
+    replay_promise _ _ _ _ _ _ c.replay.ensures.cause c.replay.ensures.calm c.in-Replay.options (subst (IsCommand _) c.in-Replay.is c.in-Ok.ensures.ok) c.replay.ensures.content c.replay.ensures.source c.replay.ensures.complete
 
-pub returns-in-Ok-clause-refused : goal.returns-in-Ok-clause-refused
-returns-in-Ok-clause-refused g c none = absurd (none c.in-Ok.command c.in-Ok.ensures.ok)
+pub returns-in-Soak-clause-promise : goal.returns-in-Soak-clause-promise
+returns-in-Soak-clause-promise g c =
+    soak_promise _ _ _ _ _ _ c.soak.ensures.cause c.soak.ensures.calm c.in-Soak.asked c.in-Soak.options (subst (IsCommand _) c.in-Soak.is c.in-Ok.ensures.ok) (c.soak.ensures.content _) c.soak.ensures.source c.soak.ensures.complete refl
 
-pub returns-in-Ok-clause-words : goal.returns-in-Ok-clause-words
-returns-in-Ok-clause-words g c one = absurd (c.obey.ensures.words one)
+-- the lines of one volume were run to their end
+pub returns-in-Ok-run-clause-promise : goal.returns-in-Ok-run-clause-promise
+returns-in-Ok-run-clause-promise g c = solo_done_promise _ _ _ _ _ (λ less. absurd (let same = c.in-Ok-run.ensures.calm in omega (arith, same, less))) c.in-Solo.volume (subst (IsCommand _) c.in-Solo.is c.in-Ok.ensures.ok) refl c.in-Ok-run.ensures.end (tt {0}) c.in-Ok-run.ensures.content
 
-pub returns-in-Ok-clause-unchanged : goal.returns-in-Ok-clause-unchanged
-returns-in-Ok-clause-unchanged g c none = c.obey.ensures.unchanged (none c.in-Ok.command c.in-Ok.ensures.ok)
-
-pub returns-in-Ok-clause-untaken : goal.returns-in-Ok-clause-untaken
-returns-in-Ok-clause-untaken g c none = c.obey.ensures.untaken (none c.in-Ok.command c.in-Ok.ensures.ok)
-
-pub returns-in-Ok-clause-unread : goal.returns-in-Ok-clause-unread
-returns-in-Ok-clause-unread g c none = c.obey.ensures.unread (none c.in-Ok.command c.in-Ok.ensures.ok)
-
-pub returns-in-Ok-clause-end : goal.returns-in-Ok-clause-end
-returns-in-Ok-clause-end g c volume is =
-    let own = one_volume (map (string_bytes {Z = Rattle.std.proofs.Common.Global}) c.args.words.now) c.in-Ok.command volume c.in-Ok.ensures.ok is in
-    c.obey.ensures.end own.0 own.1
-
-pub returns-in-Ok-clause-complete_solo : goal.returns-in-Ok-clause-complete_solo
-returns-in-Ok-clause-complete_solo g c volume is =
-    let own = one_volume (map (string_bytes {Z = Rattle.std.proofs.Common.Global}) c.args.words.now) c.in-Ok.command volume c.in-Ok.ensures.ok is in
-    c.obey.ensures.complete_solo own.0 own.1
-
-pub returns-in-Ok-clause-complete_gen : goal.returns-in-Ok-clause-complete_gen
-returns-in-Ok-clause-complete_gen g c asked is = c.obey.ensures.complete_gen asked (one_command (map (string_bytes {Z = Rattle.std.proofs.Common.Global}) c.args.words.now) c.in-Ok.command (Gen asked) refl c.in-Ok.ensures.ok is)
-
-pub returns-in-Ok-clause-complete_format : goal.returns-in-Ok-clause-complete_format
-returns-in-Ok-clause-complete_format g c is = c.obey.ensures.complete_format (one_command (map (string_bytes {Z = Rattle.std.proofs.Common.Global}) c.args.words.now) c.in-Ok.command Format refl c.in-Ok.ensures.ok is)
-
-pub returns-in-Ok-clause-complete_replay : goal.returns-in-Ok-clause-complete_replay
-returns-in-Ok-clause-complete_replay g c options lines is = c.obey.ensures.complete_replay options lines (one_command (map (string_bytes {Z = Rattle.std.proofs.Common.Global}) c.args.words.now) c.in-Ok.command (Replay options) refl c.in-Ok.ensures.ok is)
-
-pub returns-in-Ok-clause-complete_soak : goal.returns-in-Ok-clause-complete_soak
-returns-in-Ok-clause-complete_soak g c asked options is = c.obey.ensures.complete_soak asked options (one_command (map (string_bytes {Z = Rattle.std.proofs.Common.Global}) c.args.words.now) c.in-Ok.command (Soak asked options) refl c.in-Ok.ensures.ok is)
-
-pub returns-in-Ok-clause-complete_look : goal.returns-in-Ok-clause-complete_look
-returns-in-Ok-clause-complete_look g c (inl is) = c.obey.ensures.complete_look (inl (one_command (map (string_bytes {Z = Rattle.std.proofs.Common.Global}) c.args.words.now) c.in-Ok.command Check refl c.in-Ok.ensures.ok is))
-returns-in-Ok-clause-complete_look g c (inr is) = c.obey.ensures.complete_look (inr (one_command (map (string_bytes {Z = Rattle.std.proofs.Common.Global}) c.args.words.now) c.in-Ok.command Dump refl c.in-Ok.ensures.ok is))
-
--- ---- There was no memory to read them
-
-pub returns-in-Err-NoMemory-clause-content : goal.returns-in-Err-NoMemory-clause-content
-returns-in-Err-NoMemory-clause-content g c volume is =
+-- .. or a fault ended them
+pub returns-in-Err-clause-promise : goal.returns-in-Err-clause-promise
+returns-in-Err-clause-promise g c =
+    let e = c.in-Err.fault in
     let bay = g.B.Bay.state c.args.bay.now in
-    let trace = g.S.Source.left c.args.trace.now in
-    let source = g.S.Source.faults c.args.trace.now in
-    told_fault (target_of volume) trace trace bay.told bay.told bay.faults bay.faults source source c.end_with-in-Err-NoMemory.result _ _ _ (Unit {0}) solo_fault.NoMemory tt c.end_with-in-Err-NoMemory.ensures.content
-    (not_made (Unit {0}) bay_fault.NoMemory (target_of volume) trace trace bay.told bay.told (g.K.Sink.taken c.args.out.now) refl)
-
-pub returns-in-Err-NoMemory-clause-generated : goal.returns-in-Err-NoMemory-clause-generated
-returns-in-Err-NoMemory-clause-generated g c asked is = told_unread asked _ _ _ c.end_with-in-Err-NoMemory.result _ _ fault.Memory tt (inr c.end_with-in-Err-NoMemory.ensures.content)
-
-pub returns-in-Err-NoMemory-clause-formatted : goal.returns-in-Err-NoMemory-clause-formatted
-returns-in-Err-NoMemory-clause-formatted g c is = told_untouched _ _ _ _ _ c.end_with-in-Err-NoMemory.result _ _ fault.Memory tt refl (inr c.end_with-in-Err-NoMemory.ensures.content)
-
-pub returns-in-Err-NoMemory-clause-checked : goal.returns-in-Err-NoMemory-clause-checked
-returns-in-Err-NoMemory-clause-checked g c is = look_untouched _ _ asked.Check _ _ _ _ _ c.end_with-in-Err-NoMemory.result _ _ fault.Memory tt refl (inr c.end_with-in-Err-NoMemory.ensures.content)
-
-pub returns-in-Err-NoMemory-clause-dumped : goal.returns-in-Err-NoMemory-clause-dumped
-returns-in-Err-NoMemory-clause-dumped g c is = look_untouched _ _ asked.Dump _ _ _ _ _ c.end_with-in-Err-NoMemory.result _ _ fault.Memory tt refl (inr c.end_with-in-Err-NoMemory.ensures.content)
-
-pub returns-in-Err-NoMemory-clause-replayed : goal.returns-in-Err-NoMemory-clause-replayed
-returns-in-Err-NoMemory-clause-replayed g c options is = unreplayed _ _ _ _ _ _ _ _ _ _ _ _ _ fault.Memory tt refl (inr c.end_with-in-Err-NoMemory.ensures.content)
-
-pub returns-in-Err-NoMemory-clause-soaked : goal.returns-in-Err-NoMemory-clause-soaked
-returns-in-Err-NoMemory-clause-soaked g c asked options is = unreplayed _ _ _ _ _ _ _ _ _ _ _ _ _ fault.Memory tt tt (inr c.end_with-in-Err-NoMemory.ensures.content)
-
-pub obey-requires-clause-range : goal.obey-requires-clause-range
-obey-requires-clause-range g c = λ κs within. in_range (map (string_bytes {Z = Rattle.std.proofs.Common.Global}) c.args.words.now) c.in-Ok.command c.in-Ok.ensures.ok
-
-pub returns-in-Err-NoMemory-clause-refused : goal.returns-in-Err-NoMemory-clause-refused
-returns-in-Err-NoMemory-clause-refused g c none = inr c.end_with-in-Err-NoMemory.ensures.content
+    let cause = has_cause e bay.faults (g.B.Bay.state c.run.new.bay).faults (g.S.Source.faults c.args.trace.now) (g.S.Source.faults c.run.new.trace) (λ is. c.in-Err.ensures.disk (ap Err is)) (λ is. c.in-Err.ensures.bay (ap Err is)) (λ is. c.in-Err.ensures.source (ap Err is)) in
+    solo_fault_promise _ _ _ _ _ _
+    (λ seven. elim (c.tell.ensures.cause seven) [
+      | inl is ↦ rose_later _ _ _ (c.in-Err.ensures.cause (ap Err is)) c.tell.ensures.later
+      | inr rose ↦ rose_from _ _ _ c.in-Err.ensures.later rose
+    ])
+    (solo_calm e _ _ _ c.tell.result _ _ c.in-Err.ensures.calm c.tell.ensures.content c.tell.ensures.calm)
+    c.in-Solo.volume (subst (IsCommand _) c.in-Solo.is c.in-Ok.ensures.ok) refl (Unit {0}) e _ c.tell.ensures.status c.tell.ensures.content cause c.in-Err.ensures.content
 
 -- ---- They are none
 
-pub returns-in-Err-NotACommand-clause-content : goal.returns-in-Err-NotACommand-clause-content
-returns-in-Err-NotACommand-clause-content g c volume is = absurd (c.in-Err-NotACommand.ensures.refused (ap Err c.in-Err-NotACommand.field-0-is) (Solo volume) is)
+pub returns-in-Err-NotACommand-clause-promise : goal.returns-in-Err-NotACommand-clause-promise
+returns-in-Err-NotACommand-clause-promise g c =
+    of_none _ _ _ _ _ _ (c.in-Err-NotACommand.ensures.refused (ap Err c.in-Err-NotACommand.field-0-is)) c.end_with.ensures.content
+    (λ seven. elim (c.end_with.ensures.cause seven) [
+      | inl other ↦ absurd (omega (arith, other))
+      | inr rose ↦ rose
+    ])
+    c.end_with.ensures.calm (record { config = λ none. refl; trace = λ none. refl; bay = λ none. refl })
 
-pub returns-in-Err-NotACommand-clause-generated : goal.returns-in-Err-NotACommand-clause-generated
-returns-in-Err-NotACommand-clause-generated g c asked is = absurd (c.in-Err-NotACommand.ensures.refused (ap Err c.in-Err-NotACommand.field-0-is) (Gen asked) is)
+-- ---- There was no memory to read them
 
-pub returns-in-Err-NotACommand-clause-formatted : goal.returns-in-Err-NotACommand-clause-formatted
-returns-in-Err-NotACommand-clause-formatted g c is = absurd (c.in-Err-NotACommand.ensures.refused (ap Err c.in-Err-NotACommand.field-0-is) Format is)
-
-pub returns-in-Err-NotACommand-clause-checked : goal.returns-in-Err-NotACommand-clause-checked
-returns-in-Err-NotACommand-clause-checked g c is = absurd (c.in-Err-NotACommand.ensures.refused (ap Err c.in-Err-NotACommand.field-0-is) Check is)
-
-pub returns-in-Err-NotACommand-clause-dumped : goal.returns-in-Err-NotACommand-clause-dumped
-returns-in-Err-NotACommand-clause-dumped g c is = absurd (c.in-Err-NotACommand.ensures.refused (ap Err c.in-Err-NotACommand.field-0-is) Dump is)
-
-pub returns-in-Err-NotACommand-clause-replayed : goal.returns-in-Err-NotACommand-clause-replayed
-returns-in-Err-NotACommand-clause-replayed g c options is = absurd (c.in-Err-NotACommand.ensures.refused (ap Err c.in-Err-NotACommand.field-0-is) (Replay options) is)
-
-pub returns-in-Err-NotACommand-clause-soaked : goal.returns-in-Err-NotACommand-clause-soaked
-returns-in-Err-NotACommand-clause-soaked g c asked options is = absurd (c.in-Err-NotACommand.ensures.refused (ap Err c.in-Err-NotACommand.field-0-is) (Soak asked options) is)
-
-pub returns-in-Err-NotACommand-clause-refused : goal.returns-in-Err-NotACommand-clause-refused
-returns-in-Err-NotACommand-clause-refused g c none = inl c.end_with.ensures.content
-
-pub returns-in-Err-NotACommand-clause-words : goal.returns-in-Err-NotACommand-clause-words
-returns-in-Err-NotACommand-clause-words g c one command is = absurd (c.in-Err-NotACommand.ensures.refused (ap Err c.in-Err-NotACommand.field-0-is) command is)
-
-pub returns-in-Err-NotACommand-clause-complete_solo : goal.returns-in-Err-NotACommand-clause-complete_solo
-returns-in-Err-NotACommand-clause-complete_solo g c volume is = absurd (c.in-Err-NotACommand.ensures.refused (ap Err c.in-Err-NotACommand.field-0-is) (Solo volume) is)
-
-pub returns-in-Err-NotACommand-clause-complete_gen : goal.returns-in-Err-NotACommand-clause-complete_gen
-returns-in-Err-NotACommand-clause-complete_gen g c asked is = absurd (c.in-Err-NotACommand.ensures.refused (ap Err c.in-Err-NotACommand.field-0-is) (Gen asked) is)
-
-pub returns-in-Err-NotACommand-clause-complete_format : goal.returns-in-Err-NotACommand-clause-complete_format
-returns-in-Err-NotACommand-clause-complete_format g c is = absurd (c.in-Err-NotACommand.ensures.refused (ap Err c.in-Err-NotACommand.field-0-is) Format is)
-
-pub returns-in-Err-NotACommand-clause-complete_replay : goal.returns-in-Err-NotACommand-clause-complete_replay
-returns-in-Err-NotACommand-clause-complete_replay g c options lines is = absurd (c.in-Err-NotACommand.ensures.refused (ap Err c.in-Err-NotACommand.field-0-is) (Replay options) is)
-
-pub returns-in-Err-NotACommand-clause-complete_look : goal.returns-in-Err-NotACommand-clause-complete_look
-returns-in-Err-NotACommand-clause-complete_look g c (inl is) = absurd (c.in-Err-NotACommand.ensures.refused (ap Err c.in-Err-NotACommand.field-0-is) Check is)
-returns-in-Err-NotACommand-clause-complete_look g c (inr is) = absurd (c.in-Err-NotACommand.ensures.refused (ap Err c.in-Err-NotACommand.field-0-is) Dump is)
-
-pub returns-in-Err-NotACommand-clause-complete_soak : goal.returns-in-Err-NotACommand-clause-complete_soak
-returns-in-Err-NotACommand-clause-complete_soak g c asked options is = absurd (c.in-Err-NotACommand.ensures.refused (ap Err c.in-Err-NotACommand.field-0-is) (Soak asked options) is)
-
--- ---- The headline
-
-pub returns-in-Ok-clause-headline : goal.returns-in-Ok-clause-headline
-returns-in-Ok-clause-headline g c options is = runs_headline _ _ (options_as options) _ _ _ _ _ _ _ _ _ _ _ (returns-in-Ok-clause-replayed g c options is)
-
-pub returns-in-Ok-clause-soak_headline : goal.returns-in-Ok-clause-soak_headline
-returns-in-Ok-clause-soak_headline g c asked options is = runs_headline _ _ (options_as options) _ _ _ _ _ _ _ _ _ _ _ (returns-in-Ok-clause-soaked g c asked options is)
-
-pub returns-in-Err-NoMemory-clause-headline : goal.returns-in-Err-NoMemory-clause-headline
-returns-in-Err-NoMemory-clause-headline g c options is = runs_headline _ _ (options_as options) _ _ _ _ _ _ _ _ _ _ _ (returns-in-Err-NoMemory-clause-replayed g c options is)
-
-pub returns-in-Err-NoMemory-clause-soak_headline : goal.returns-in-Err-NoMemory-clause-soak_headline
-returns-in-Err-NoMemory-clause-soak_headline g c asked options is = runs_headline _ _ (options_as options) _ _ _ _ _ _ _ _ _ _ _ (returns-in-Err-NoMemory-clause-soaked g c asked options is)
-
-pub returns-in-Err-NotACommand-clause-headline : goal.returns-in-Err-NotACommand-clause-headline
-returns-in-Err-NotACommand-clause-headline g c options is = runs_headline _ _ (options_as options) _ _ _ _ _ _ _ _ _ _ _ (returns-in-Err-NotACommand-clause-replayed g c options is)
-
-pub returns-in-Err-NotACommand-clause-soak_headline : goal.returns-in-Err-NotACommand-clause-soak_headline
-returns-in-Err-NotACommand-clause-soak_headline g c asked options is = runs_headline _ _ (options_as options) _ _ _ _ _ _ _ _ _ _ _ (returns-in-Err-NotACommand-clause-soaked g c asked options is)
+pub returns-in-Err-NoMemory-clause-promise : goal.returns-in-Err-NoMemory-clause-promise
+returns-in-Err-NoMemory-clause-promise g c =
+    memory_promise _ _ _ _ _ _ c.end_with-in-Err-NoMemory.ensures.content
+    (λ seven. elim (c.end_with-in-Err-NoMemory.ensures.cause seven) [
+      | inl other ↦ absurd (omega (arith, other))
+      | inr rose ↦ rose
+    ])
+    c.end_with-in-Err-NoMemory.ensures.calm
