@@ -18,7 +18,7 @@ commands() {
 
 # statuses: the exit statuses of the program
 statuses() {
-    grep list_any crates/wol/specs/Statuses.antt | grep -o '\b[0-9]\+ ∷' | tr -d ' ∷'
+    sed -n 's/.*IsCause \([0-9]\{1,2\}\)$/\1/p' crates/wol/specs/Causes.antt
 }
 
 # labels CRATE FUNCTION: the labels of the clauses of a public function; of one whose clause is the record `Run`, the fields of that
