@@ -6,7 +6,7 @@
 //! For `main.rt` alone are `start.rt` (the words, and whether the streams that they need can be used), `streams.rt` (the
 //! standard streams), `limits.rt` (the limit on the length of files), and what goes to standard error: `advice.rt` on
 //! a status, `progress.rt` on how far a trace is. A further command joins as a further arm of `top::run`; `IsCommand`,
-//! `NoCommand` and `IsStatus` then name it.
+//! `NoCommand` and `IsCause` then name it.
 #![tactic(auto)]
 
 mod advice;
