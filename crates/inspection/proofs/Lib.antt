@@ -9,5 +9,4 @@ pub mod Whole
 pub mod Placing
 pub mod Judging
 pub mod Quiet
-pub mod Leaving
 pub mod Completing

@@ -5,17 +5,18 @@ use Rattle.std.specs.List.{AllZip}
 use Rattle.std.specs.declared.alloc.Global.{Global}
 use Rattle.std.specs.declared.vec.Vec.{Vec}
 use Rattle.std.proofs.lemmas.List.Elements.{All-from_recursion, recursion_from_All}
-use Rattle.wol_disk.specs.Disk.{State}
-use Rattle.wol_bay.specs.Bay.{BayState}
 use Rattle.wol_config.specs.declared.config.Config.{Config}
+use Rattle.spin_model.specs.declared.spindle.Spindle.{Spindle}
+use Rattle.spin_model.specs.declared.spindle.SpindleBase.{SpindleBase}
+use Rattle.turn_lock.specs.declared.pass.PassOf.{PassOf}
 use Rattle.manager.specs.declared.base.ManagerBase.{ManagerBase}
 use Rattle.manager.specs.declared.station.Station.{Station}
 use Rattle.manager.proofs.Touched.{zip_all}
 use Rattle.manager.proofs.ReadThrough.{zip_self, zip_set, zip_then}
-use Rattle.rack.specs.Foreign.{AreForeign}
-use Rattle.rack.specs.Racks.{IsStation, IsOpenBase, IsRack, IsClosable, AreRising, base_of_station}
-use Rattle.rack.specs.Rests.{IsRest}
+use Rattle.rack.specs.Racks.{IsStation, base_of_station}
 use Rattle.rack.specs.declared.rack.Rack.{Rack}
+use Rattle.open_rack.specs.Again.{IsPassAgain, IsRackAgain, IsStationAgain}
+use Rattle.open_rack.proofs.RacksAgain.{zip_weaker}
 use Rattle.inspection.specs.Looks.{IsConfiguredBase}
 use Rattle.inspection.specs.Racks.{numbers_of, CanLook, IsSameStation, IsSameRack}
 
@@ -50,9 +51,6 @@ module _ {D : Type 0} where
   pub numbers_same : (ss ts : List (Station D)) → AllZip IsSameStation ss ts → numbers_of ts ≡ numbers_of ss
   numbers_same = map_same (λ (s : Station D). s.id) (λ s t is. ap (λ (w : Station D). w.id) is.same)
 
-  bases_same : (ss ts : List (Station D)) → AllZip IsSameStation ss ts → map (λ (s : Station D). base_of_station s) ts ≡ map (λ (s : Station D). base_of_station s) ss
-  bases_same = map_same (λ (s : Station D). base_of_station s) (λ s t is. ap (λ (w : Station D). base_of_station w) is.same)
-
   is_station : (s t : Station D) → IsSameStation s t → IsStation s → IsStation t
   is_station s t is was = subst IsStation (sym is.same) (record {
     id = was.id;
@@ -77,23 +75,18 @@ module _ {D : Type 0} where
   pub can_look_still : (config : Config) (r q : Rack D) → IsSameRack r q → CanLook config r → CanLook config q
   can_look_still config r q is can = subst (CanLook config) (sym is.same) (can_look_with config r q.stations is.each can)
 
-  closable_with : (state : D → State) (config : Config) (b : BayState) (r : Rack D) (ts : Vec (Station D) Global) → AllZip IsSameStation r.stations.items ts.items → IsRack state config b r → IsClosable state config b (record r { stations = ts })
-  closable_with state config b r ts zip is = record {
-    out = is.out;
-    locks = is.locks;
-    keepers = is.keepers;
-    stations = each_all IsStation IsStation is_station r.stations.items ts.items zip is.stations;
-    rising = subst AreRising (sym (numbers_same r.stations.items ts.items zip)) is.rising;
-    bases = each_all (λ (s : Station D). IsOpenBase config r.shared r.rest.images.items (base_of_station s)) (λ (s : Station D). IsOpenBase config r.shared r.rest.images.items (base_of_station s))
-        (λ s t same. subst (λ (w : ManagerBase). IsOpenBase config r.shared r.rest.images.items w) (ap (λ (w : Station D). base_of_station w) (sym same.same))) r.stations.items ts.items zip is.bases;
-    rest = subst (λ (bs : List ManagerBase). IsRest state config r.shared bs r.rest) (sym (bases_same r.stations.items ts.items zip)) is.rest;
-    foreign = subst (λ (bs : List ManagerBase). AreForeign state bs r.rest) (sym (bases_same r.stations.items ts.items zip)) is.foreign;
-    accesses = is.accesses;
-  }
-
-  -- it can still be closed
-  pub closable_still : (state : D → State) (config : Config) (b : BayState) (r q : Rack D) → IsSameRack r q → IsRack state config b r → IsClosable state config b q
-  closable_still state config b r q same is = subst (IsClosable state config b) (sym same.same) (closable_with state config b r q.stations same.each is)
+  -- the rack has again all that it came with
+  pub again_same : (r q : Rack D) → IsSameRack r q → IsRackAgain r q
+  again_same r q is =
+      let keepers : q.keepers ≡ r.keepers = ap (λ (w : Rack D). w.keepers) is.same in record {
+        only = is.same ∙ ap (λ (ks : Vec (PassOf Spindle SpindleBase) Global). record r { keepers = ks; stations = q.stations }) (sym keepers);
+        keepers = subst (λ (ks : Vec (PassOf Spindle SpindleBase) Global). AllZip IsPassAgain r.keepers.items ks.items) (sym keepers) (zip_self IsPassAgain (λ p. record { same = (refl, refl); free = λ f. f }) r.keepers.items);
+        stations = zip_weaker IsSameStation IsStationAgain (λ s t same. record {
+          id = ap (λ (w : Station D). w.id) same.same;
+          lock = ap (λ (w : Station D). w.lock) same.same;
+          passes = is_station s t same;
+        }) r.stations.items q.stations.items is.each;
+      }
 
   -- one station was looked at
   pub rack_set : (r : Rack D) (ts : Vec (Station D) Global) (place : ℕ) (s t : Station D) → slice_get r.stations.items place ≡ Some s → IsSameStation s t → ts.items ≡ slice_set r.stations.items place t

@@ -1,6 +1,6 @@
 -- What was told of a rack's volumes is told of its bay's.
 use Rattle.std.proofs.Common.{◌≡◌, ◌≢◌, ◌⊎◌, inl, inr, ◌<◌, ◌≤◌, ℕ, Bool, List, [], ◌∷◌, ◌++◌, length, Option, None, Some, Result, Ok, Err, refl, sym, ap, subst, ◌∙◌, arith}
-use Rattle.std.specs.Prelude.{slice_get, All, IfSome, IsTrue}
+use Rattle.std.specs.Prelude.{slice_get, IfSome, IsTrue}
 use Rattle.std.proofs.lemmas.List.{length-map}
 use Rattle.std.proofs.lemmas.List.Elements.{Contains-append_right}
 use Rattle.turn_lock.specs.Histories.{Entry, own}
@@ -30,53 +30,21 @@ use Rattle.request_turns.specs.Turns.{IsBroken, coded}
 use Rattle.volume_images.specs.Left.{AreNamedApart, IsTold}
 use Rattle.volume_images.specs.Volumes.{shape_in, shapes_of}
 use Rattle.rack.specs.Closes.{HasFaultyPart, IsClosedVolume}
-use Rattle.rack.specs.Opens.{AreRefused, BeganWith, RefusesVolume, RefusesImage}
+use Rattle.rack.specs.Opens.{BeganWith}
 use Rattle.rack.specs.Owners.{IsBegun, images_taken}
-use Rattle.rack.specs.Racks.{AreUnused, IsOpenBase, IsRack, IsStation, IsUnused, NamesVolumes, base_of_station}
-use Rattle.rack.specs.declared.rack.ImageRest.{ImageRest}
+use Rattle.rack.specs.Racks.{IsOpenBase, IsStation, IsUnused, NamesVolumes, base_of_station}
 use Rattle.rack.specs.declared.rack.Rack.{Rack}
 use Rattle.rack.specs.declared.volume_fault.VolumeFault.{VolumeFault}
-use Rattle.rack.specs.declared.volume_fault.VolumeFault.TheVariants.{Absent, WrongLength, Refused, LabelFault, BayFailed}
+use Rattle.open_rack.specs.Sessions.{OpensAndCloses}
+use Rattle.open_rack.proofs.Since.{rose_before}
+use Rattle.spin_model.specs.Spindles.{SpindleView}
 use Rattle.inspection.specs.Looks.{AppendsAsked, BreaksIn}
 use Rattle.inspection.specs.Lines.{Telling, TellsFailed, IsTelling, LooksAtVolume}
 use Rattle.inspection.specs.Runs.{AreLinesOf, IsInOrder, IsToldOf}
 use Rattle.inspection.specs.declared.asked.Asked.{Asked}
 use Rattle.inspection.specs.declared.asked.Asked.TheVariants.{Check, Dump}
+use Rattle.inspection.proofs.Opened.{rose_of}
 use Rattle.inspection.proofs.Unhelped.{all_at, broken_still, none_before, there_is}
-
--- a count that rose, and then didn't fall
-pub rose_then : (a b d : ℕ) → Rose a b → b ≤ d → Rose a d
-rose_then a b d (inl less) more = inl (omega (arith, less, more))
-rose_then a b d (inr last) more = inr (omega (arith, last, more))
-
-pub rose_before : (a b d : ℕ) → a ≤ b → Rose b d → Rose a d
-rose_before a b d less (inl more) = inl (omega (arith, less, more))
-rose_before a b d less (inr last) = inr last
-
-module _ {D : Type 0} (tells : Bool) (state : D → State) (config : Config) (out : List (Option (ImageRest D))) (old mid new : BayState) (more : mid.faults ≤ new.faults) where
-  refuses_image : (k : ℕ) (v : VolumeConf) (f : VolumeFault) → RefusesImage config out old mid k v f → RefusesImage config out old new k v f
-  refuses_image k v f is = record { not_out = is.not_out; image_fault = is.image_fault; is_fault = is.is_fault; said = is.said; cause = λ failed. rose_then old.faults mid.faults new.faults (is.cause failed) more }
-
-  pub refuses_later : (k : ℕ) (v : VolumeConf) (f : VolumeFault) → RefusesVolume tells state config out old mid k v f → RefusesVolume tells state config out old new k v f
-  refuses_later k v Absent is = is
-  refuses_later k v (WrongLength bytes) is = is
-  refuses_later k v BayFailed is = (is.0, rose_then old.faults mid.faults new.faults is.1 more)
-  refuses_later k v LabelFault is = refuses_image k v LabelFault is
-  refuses_later k v (Refused r) (inl is) = inl (refuses_image k v (Refused r) is)
-  refuses_later k v (Refused r) (inr is) = inr is
-
--- what opening a rack says, and closing it once it was looked at
-pub record IsAround {D : Type 0} (tells : Bool) (state : D → State) (config : Config) (old mid new : BayState) (r q : Rack D) : Type 0 where
-  pub opened : IsRack state config mid r
-  pub fresh : AreUnused r.stations.items
-  pub began : IsTrue tells → IfSome old.told (λ t. AreNamedApart t → BeganWith state config t r)
-  pub refused : AreRefused tells state config old mid r
-  pub rose : (k : ℕ) (v : VolumeConf) (f : VolumeFault) → slice_get config.volumes.items k ≡ Some v → slice_get r.faults.items k ≡ Some (Some f) → trouble_status (trouble_of f) ≡ 4 → Rose old.faults new.faults
-  pub apart : IsTrue tells → IsTold (λ x y. AreNamedApart y) old.told mid.told
-  pub gained : IsTold (λ x y. (more : List (Name × ℕ)) × (y.faulty ≡ x.faulty ++ more)) old.told mid.told
-  pub closed : All (IsClosedVolume tells config q.rest.images.items mid new) q.stations.items
-  pub sooner : old.faults ≤ mid.faults
-  pub later : mid.faults ≤ new.faults
 
 -- a part that came back with a fault since opening did so since entry
 faulty_since : (tells : Bool) (config : Config) (owner : ℕ) (view : List ℕ) (o m n : Option Told) → IsTold (λ x y. AreNamedApart y) o m → IsTold (λ x y. (more : List (Name × ℕ)) × (y.faulty ≡ x.faulty ++ more)) o m
@@ -98,24 +66,37 @@ faulty_since tells config owner view (Some o) (Some m) (Some n) apart gained fau
       of_volume = then.of_volume;
     }
 
-module _ {D : Type 0} (tells : Bool) (state : D → State) (config : Config) (asked : Asked) (old mid new : BayState) (r q : Rack D) (around : IsAround tells state config old mid new r q) where
-  module _ (k : ℕ) (answer : Result (Unit {0}) DumpFault) (text : List ℕ) (look : LooksAtVolume tells state config asked r q k answer text) where
+module _ {D : Type 0} (tells : Bool) (state : D → State) (config : Config) (asked : Asked) (did : Rack D → Rack D → Type 0) (old new : BayState) (spindles : List SpindleView) (session : OpensAndCloses tells state config did old new spindles) where
+  -- the rack as it was opened, and as it was closed
+  abbrev pub before : Rack D
+  before = session.before
+
+  abbrev pub after : Rack D
+  after = session.after
+
+  -- a fault of a disk that is told is counted
+  counted : (k : ℕ) (v : VolumeConf) (f : VolumeFault) → slice_get config.volumes.items k ≡ Some v → slice_get before.faults.items k ≡ Some (Some f) → trouble_status (trouble_of f) ≡ 4 → Rose old.faults new.faults
+  counted k v f conf at =
+      rose_of tells state config before.rest.images.items old new k v f (length (shapes_of config)) (session.opened.rack.known k f at) (session.refused k v f conf at)
+      (λ p disk. session.failed k p (at ∙ ap (λ (g : VolumeFault). Some (Some g)) disk))
+
+  module _ (k : ℕ) (answer : Result (Unit {0}) DumpFault) (text : List ℕ) (look : LooksAtVolume tells state config asked before after k answer text) where
     abbrev s : Station D
     s = look.station
 
     abbrev is_closed : Type 0
-    is_closed = IsClosedVolume tells config q.rest.images.items mid new (record s { worker = look.pass })
+    is_closed = IsClosedVolume tells config after.rest.images.items session.bay new (record s { worker = look.pass })
 
     ends : is_closed
-    ends = all_at (IsClosedVolume tells config q.rest.images.items mid new) q.stations.items look.place (record s { worker = look.pass }) around.closed look.now
+    ends = all_at (IsClosedVolume tells config after.rest.images.items session.bay new) after.stations.items look.place (record s { worker = look.pass }) session.closed.stations look.now
 
     station : IsStation s
-    station = all_at IsStation r.stations.items look.place s around.opened.stations look.is_station.there
+    station = all_at IsStation before.stations.items look.place s session.opened.rack.stations look.is_station.there
 
     -- nobody had looked at it, or done anything else, before
     nothing : look.looks.before ≡ []
     nothing =
-        let unused = all_at (λ (u : Station D). IsUnused u.worker × IsUnused u.helper × IsUnused u.keeper) r.stations.items look.place s around.fresh look.is_station.there in
+        let unused = all_at (λ (u : Station D). IsUnused u.worker × IsUnused u.helper × IsUnused u.keeper) before.stations.items look.place s session.opened.fresh look.is_station.there in
         none_before look.looks.before ends.entries
         (let b = ends.worker_part.seen in let e = look.looks.added.seen in (coded look.looks.note ∷ b.0, sym (Rattle.std.proofs.Common.append_assoc look.looks.before (coded look.looks.note ∷ []) b.0) ∙ ap (λ (es : List Entry). es ++ b.0) (sym e) ∙ b.1))
         (subst (λ (n : ℕ). own n look.looks.before ≡ []) station.worker_.number_is (look.looks.added.others ∙ unused.0.mine))
@@ -130,43 +111,43 @@ module _ {D : Type 0} (tells : Bool) (state : D → State) (config : Config) (as
     based = ap (λ (l : LockId ManagerBase). l.base) station.worker_.own
 
     -- it began with what the images at entry recover to
-    base_began : IsTrue tells → IfSome old.told (λ t. AreNamedApart t → IsBegun config (images_taken config r.rest.images.items t) (base_of_station s).volume.began)
-    base_began told = began_at old.told (around.began told)
+    base_began : IsTrue tells → IfSome old.told (λ t. AreNamedApart t → IsBegun config (images_taken config before.rest.images.items t) (base_of_station s).volume.began)
+    base_began told = began_at old.told (session.opened.began told)
       where
-        began_at : (o : Option Told) → IfSome o (λ t. AreNamedApart t → BeganWith state config t r) → IfSome o (λ t. AreNamedApart t → IsBegun config (images_taken config r.rest.images.items t) (base_of_station s).volume.began)
+        began_at : (o : Option Told) → IfSome o (λ t. AreNamedApart t → BeganWith state config t before) → IfSome o (λ t. AreNamedApart t → IsBegun config (images_taken config before.rest.images.items t) (base_of_station s).volume.began)
         began_at None is = tt
-        began_at (Some t) is = λ apart. all_at (λ (w : Station D). IsBegun config (images_taken config r.rest.images.items t) (base_of_station w).volume.began) r.stations.items look.place s (is apart).stations look.is_station.there
+        began_at (Some t) is = λ apart. all_at (λ (w : Station D). IsBegun config (images_taken config before.rest.images.items t) (base_of_station w).volume.began) before.stations.items look.place s (is apart).stations look.is_station.there
 
-    base_is : IsOpenBase config r.shared r.rest.images.items (base_of_station s)
-    base_is = all_at (λ (w : Station D). IsOpenBase config r.shared r.rest.images.items (base_of_station w)) r.stations.items look.place s around.opened.bases look.is_station.there
+    base_is : IsOpenBase config before.shared before.rest.images.items (base_of_station s)
+    base_is = all_at (λ (w : Station D). IsOpenBase config before.shared before.rest.images.items (base_of_station w)) before.stations.items look.place s session.opened.rack.bases look.is_station.there
 
     -- and a part of it came back with a fault
     faulty : IsBroken (notes_of (pass_seen look.pass)) → IsTrue tells → IsTold (HasFaultyPart tells config (base_of_station s).volume.began.owner (base_of_station s).volume.began.view) old.told new.told
     faulty broken told =
         subst (λ (n : ℕ). IsTold (HasFaultyPart tells config n (base_of_station s).volume.began.view) old.told new.told) (sym station.id)
-        (faulty_since tells config s.id (base_of_station s).volume.began.view old.told mid.told new.told (around.apart told) around.gained (ends.faulty (broken_still (pass_seen look.pass) ends.entries ends.worker_part.seen broken)))
+        (faulty_since tells config s.id (base_of_station s).volume.began.view old.told session.bay.told new.told (session.opened.apart told) session.opened.faulty (ends.faulty (broken_still (pass_seen look.pass) ends.entries ends.worker_part.seen broken)))
 
     -- after its turn a call of its disks had failed
     failed : IsBroken (notes_of (pass_seen look.pass)) → Rose old.faults new.faults
-    failed broken = rose_before old.faults mid.faults new.faults around.sooner (ends.cause (broken_still (pass_seen look.pass) ends.entries ends.worker_part.seen broken))
+    failed broken = rose_before old.faults session.bay.faults new.faults session.sooner (ends.cause (broken_still (pass_seen look.pass) ends.entries ends.worker_part.seen broken))
 
   -- a manager that stands for no entries lists the records that keep blocks
-  listed_is : (t : Told) (m : Manager D) (b : ManagerBase) → IsBegun config (images_taken config r.rest.images.items t) b.volume.began → Stands tells state m b [] → length m.index.entries ≡ length b.volume.began.records
+  listed_is : (t : Told) (m : Manager D) (b : ManagerBase) → IsBegun config (images_taken config before.rest.images.items t) b.volume.began → Stands tells state m b [] → length m.index.entries ≡ length b.volume.began.records
   listed_is t m b begun stands = sym (length-map m.index.entries (λ e. e.listed)) ∙ ap (λ (l : Look). length l.listed) (sym stands.look) ∙ begun.listed
 
-  lines_of : (asked' : Asked) (t : Told) (k : ℕ) (m : Manager D) (b : ManagerBase) (text : List ℕ) → b.volume.began.owner ≡ k → IsBegun config (images_taken config r.rest.images.items t) b.volume.began → Stands tells state m b []
-      → AppendsAsked config asked' k m b [] [] text → AreLinesOf config asked' r.rest.images.items t k b.volume.began m text
+  lines_of : (asked' : Asked) (t : Told) (k : ℕ) (m : Manager D) (b : ManagerBase) (text : List ℕ) → b.volume.began.owner ≡ k → IsBegun config (images_taken config before.rest.images.items t) b.volume.began → Stands tells state m b []
+      → AppendsAsked config asked' k m b [] [] text → AreLinesOf config asked' before.rest.images.items t k b.volume.began m text
   lines_of Check t k m b text is is_begun stands lines =
       lines
       ∙ ap (λ (a : List Block). check_text (name_at (names_of config.volumes.items) k) a (length m.index.entries) (held_segments m))
-      (after_none b.volume.began.array ∙ is_begun.array ∙ ap (λ (v : ℕ). recovered_from (shapes_of config) (images_taken config r.rest.images.items t) v) is)
-      ∙ ap (λ (n : ℕ). check_text (name_at (names_of config.volumes.items) k) (recovered_from (shapes_of config) (images_taken config r.rest.images.items t) k) n (held_segments m)) (listed_is t m b is_begun stands)
+      (after_none b.volume.began.array ∙ is_begun.array ∙ ap (λ (v : ℕ). recovered_from (shapes_of config) (images_taken config before.rest.images.items t) v) is)
+      ∙ ap (λ (n : ℕ). check_text (name_at (names_of config.volumes.items) k) (recovered_from (shapes_of config) (images_taken config before.rest.images.items t) k) n (held_segments m)) (listed_is t m b is_begun stands)
   lines_of Dump t k m b text is is_begun stands lines = lines
 
-  in_order : (k : ℕ) (text : List ℕ) (look : LooksAtVolume tells state config asked r q k (Ok tt) text) (t : Told) → IsTrue tells → BeganWith state config t r
-      → IsInOrder tells state config asked r.rest.images.items t k text
+  in_order : (k : ℕ) (text : List ℕ) (look : LooksAtVolume tells state config asked before after k (Ok tt) text) (t : Told) → IsTrue tells → BeganWith state config t before
+      → IsInOrder tells state config asked before.rest.images.items t k text
   in_order k text look t told is =
-      let begun = all_at (λ (s : Station D). IsBegun config (images_taken config r.rest.images.items t) (base_of_station s).volume.began) r.stations.items look.place look.station is.stations look.is_station.there in
+      let begun = all_at (λ (s : Station D). IsBegun config (images_taken config before.rest.images.items t) (base_of_station s).volume.began) before.stations.items look.place look.station is.stations look.is_station.there in
       let stands : Stands tells state look.looks.manager (base_of_station look.station) [] = subst (λ (b : ManagerBase). Stands tells state look.looks.manager b []) (based k (Ok tt) text look)
       (subst (λ (es : List Entry). Stands tells state look.looks.manager (pass_lock look.station.worker).base (notes_of es)) (nothing k (Ok tt) text look) look.looks.stands) in record {
         base = base_of_station look.station;
@@ -180,8 +161,8 @@ module _ {D : Type 0} (tells : Bool) (state : D → State) (config : Config) (as
             (subst (λ (es : List Entry). AppendsAsked config asked k look.looks.manager (pass_lock look.station.worker).base (notes_of es) [] text) (nothing k (Ok tt) text look) (look.looks.content told)));
       }
 
-  if_told : (o : Option Told) (k : ℕ) (text : List ℕ) (look : LooksAtVolume tells state config asked r q k (Ok tt) text) → IsTrue tells → IfSome o (λ t. AreNamedApart t → BeganWith state config t r)
-      → IfSome o (λ t. AreNamedApart t → IsInOrder tells state config asked r.rest.images.items t k text)
+  if_told : (o : Option Told) (k : ℕ) (text : List ℕ) (look : LooksAtVolume tells state config asked before after k (Ok tt) text) → IsTrue tells → IfSome o (λ t. AreNamedApart t → BeganWith state config t before)
+      → IfSome o (λ t. AreNamedApart t → IsInOrder tells state config asked before.rest.images.items t k text)
   if_told None k text look told is = tt
   if_told (Some t) k text look told is = λ apart. in_order k text look t told (is apart)
 
@@ -190,24 +171,24 @@ module _ {D : Type 0} (tells : Bool) (state : D → State) (config : Config) (as
   broke k answer part (inr is) notes b = subst (λ (a : Result (Unit {0}) DumpFault). BreaksIn a notes) is b
 
   -- a volume a call of whose disks failed
-  pub part_rose : (k : ℕ) (t : Telling) → TellsFailed tells state config asked r q k t → Rose old.faults new.faults
+  pub part_rose : (k : ℕ) (t : Telling) → TellsFailed tells state config asked before after k t → Rose old.faults new.faults
   part_rose k t is = failed k is.answer [] is.looked (broke k is.answer is.part is.is_answer _ is.looked.looks.broken)
 
   -- what was told of a volume
-  pub told_of : (k : ℕ) (t : Telling) → k < length config.volumes.items → IsTelling tells state config asked r q k t → IsToldOf tells state config asked r.rest.images.items old new k t
+  pub told_of : (k : ℕ) (t : Telling) → k < length config.volumes.items → IsTelling tells state config asked before after k t → IsToldOf tells state config asked before.rest.images.items old new k t
   told_of k t within (inl fault) =
       let v = there_is config.volumes.items k within in inl (record {
         conf = v.0;
         is_conf = v.1;
         fault = fault.fault;
-        names = subst (λ (n : ℕ). NamesVolumes n fault.fault) (length-map config.volumes.items (shape_in config)) (around.opened.known k fault.fault fault.is_fault);
-        rose = around.rose k v.0 fault.fault v.1 fault.is_fault;
-        refuses = refuses_later tells state config r.rest.images.items old mid new around.later k v.0 fault.fault (around.refused k v.0 fault.fault v.1 fault.is_fault);
+        names = subst (λ (n : ℕ). NamesVolumes n fault.fault) (length-map config.volumes.items (shape_in config)) (session.opened.rack.known k fault.fault fault.is_fault);
+        rose = counted k v.0 fault.fault v.1 fault.is_fault;
+        refuses = session.refused k v.0 fault.fault v.1 fault.is_fault;
         trouble = fault.trouble;
         text = fault.text;
       })
   told_of k t within (inr (inl order)) = inr (inl (record {
-    lines_ = λ told. if_told old.told k t.text order.looked told (around.began told);
+    lines_ = λ told. if_told old.told k t.text order.looked told (session.opened.began told);
     trouble = order.trouble;
   }))
   told_of k t within (inr (inr is)) = inr (inr (record {

@@ -13,7 +13,8 @@ ghost use Rattle.inspection.specs.declared.calls.Stop.TheVariants.{Sink as sink_
 
 use crate::asked::Asked;
 use crate::lines::append_volume;
-use rack::{Rack, close_all, open_all};
+use open_rack::{Work, with_open};
+use rack::Rack;
 use report::Trouble;
 use std::alloc::Global;
 use std::sync::Wait;
@@ -83,6 +84,38 @@ fn print_volumes<D: Disk, R: Wait, K: Sink>(
     Ok(first)
 }
 
+// Prints the lines of all volumes of a rack.
+#[derive(Drop)]
+struct Inspecting {
+    asked: Asked,
+}
+
+impl<R: Wait, D: Disk, K: Sink> Work<R, D, (), K> for Inspecting {
+    ghost use Rattle.std.specs.Prelude.{◌≤◌};
+    ghost use Rattle.inspection.specs.Racks.{IsSameRack};
+    ghost use Rattle.inspection.specs.Lines.{PrintsVolumes};
+
+    type Answer = Result<Option<Trouble>, Stop>;
+
+    ghost Ready = { λ work config given out. Unit {0} };
+
+    ghost Did = { λ work config before after given rest out now answer.
+        IsSameRack before after × (K.faults out ≤ K.faults now)
+        × PrintsVolumes D.tells D.state config work.asked before after answer (K.faults out) (K.faults now) (K.taken out) (K.taken now) };
+
+    fn run(
+        self,
+        rt: &R,
+        alloc: Global,
+        config: &Config,
+        rack: &mut Rack<D>,
+        _given: &mut (),
+        out: &mut K,
+    ) -> Result<Option<Trouble>, Stop> {
+        print_volumes(rt, alloc, self.asked, rack, config, out)
+    }
+}
+
 /// Opens all volumes of the configuration, prints the lines of each in order, and closes them. It answers what is wrong
 /// with the first volume that isn't in order, or nothing where all are. A volume is in order where it was opened and no
 /// call of a disk failed while it was looked at.
@@ -109,8 +142,7 @@ pub fn inspect<R: Wait, K: Sink, B: Bay>(
     ensures sound { IsTrue B.Part.tells → IsTold (KeepsAllSound config.now) (B.state bay.old).told (B.state bay.new).told }
     ensures complete { MayComplete B.Part.tells config.now (B.state bay.old) (B.state bay.new) (K.faults out.old) (K.faults out.new) → Completes result }
 {
-    let mut rack = open_all(alloc, rt, bay, config)?;
-    let answer = print_volumes(rt, alloc, asked, &mut rack, config, out);
-    let _spindles = close_all(rack, bay, config);
-    answer
+    let work = Inspecting { asked };
+    let closed = with_open(rt, alloc, config, bay, work, &mut (), out)?;
+    closed.answer
 }

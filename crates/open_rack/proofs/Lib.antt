@@ -1,0 +1,2 @@
+pub mod RacksAgain
+pub mod Since

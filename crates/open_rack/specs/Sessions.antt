@@ -1,0 +1,69 @@
+-- All volumes of a bay are opened, something is done with them, and they are closed. `old` is the bay before, `bay` the bay while
+-- they are open, `new` the bay behind.
+use Rattle.std.specs.Prelude.{◌≡◌, ◌<◌, ◌≤◌, ◌++◌, ℕ, Bool, List, length, None, Some, All, IfSome, IsTrue, slice_get}
+use Rattle.wol_disk.specs.Disk.{State, Rose}
+use Rattle.wol_model.specs.Images.{AreSound}
+use Rattle.wol_bay.specs.Bay.{BayState, Name}
+use Rattle.wol_config.specs.declared.config.Config.{Config}
+use Rattle.wol_config.specs.declared.config.VolumeConf.{VolumeConf}
+use Rattle.spin_model.specs.Spindles.{SpindleView}
+use Rattle.manager.specs.declared.part.Part.{Part}
+use Rattle.manager_recovery.specs.declared.refusal.OpenRefusal.TheVariants.{DiskFault}
+use Rattle.volume_images.specs.Left.{AreNamedApart, IsTold}
+use Rattle.volume_images.specs.Volumes.{images_read, shapes_of}
+use Rattle.rack.specs.Closes.{AreLeftOfParts, IsClosedSpindle, IsClosedVolume, IsQuiet, LeavesOpen}
+use Rattle.rack.specs.Opens.{AreRefused, BeganWith, LeavesAll, RefusesVolume, WereThere}
+use Rattle.rack.specs.Owners.{HadRefused}
+use Rattle.rack.specs.Racks.{AreUnused, IsRack, IsUnused}
+use Rattle.rack.specs.Rests.{IsImageOut, image_here}
+use Rattle.rack.specs.declared.rack.Rack.{Rack}
+use Rattle.rack.specs.declared.volume_fault.VolumeFault.{VolumeFault}
+use Rattle.rack.specs.declared.volume_fault.VolumeFault.TheVariants.{Refused}
+use Rattle.open_rack.specs.Again.{IsRackAgain}
+
+-- what a rack is that was opened, and what it began with
+pub record IsOpened {D : Type 0} (tells : Bool) (state : D → State) (config : Config) (old bay : BayState) (r : Rack D) : Type 0 where
+  pub rack : IsRack state config bay r
+  -- no pass was used
+  pub fresh : AreUnused r.stations.items
+  pub fresh_keepers : All (λ p. IsUnused p) r.keepers.items
+  -- it began with the images as they read before
+  pub began : IsTrue tells → IfSome old.told (λ t. AreNamedApart t → BeganWith state config t r)
+  pub there : IsTrue tells → IfSome old.told (λ t. AreNamedApart t → WereThere config r.rest.images.items t)
+  pub apart : IsTrue tells → IsTold (λ x y. AreNamedApart y) old.told bay.told
+  pub kept : IsTrue tells → IsTold (HadRefused config r.rest.images.items) old.told bay.told
+  -- parts of images came back with a fault; none where all images are out
+  pub faulty : IsTold (λ x y. (more : List (Name × ℕ)) × (y.faulty ≡ x.faulty ++ more)) old.told bay.told
+  pub unfaulty : ((k : ℕ) → k < length (shapes_of config) → IsImageOut r.rest.images.items k) → IsTold (λ x y. y.faulty ≡ x.faulty) old.told bay.told
+
+-- what closing leaves of a rack, whatever was done with it
+pub record IsClosed {D : Type 0} (tells : Bool) (state : D → State) (config : Config) (bay new : BayState) (r : Rack D) (spindles : List SpindleView) : Type 0 where
+  pub count : length spindles ≡ length (shapes_of config)
+  pub each : (k : ℕ) (s : SpindleView) → slice_get spindles k ≡ Some s → IsClosedSpindle r k s
+  pub stations : All (IsClosedVolume tells config r.rest.images.items bay new) r.stations.items
+  pub parts : IsTrue tells → IsTold (λ x y. AreLeftOfParts state config r y) bay.told new.told
+
+-- A rack was opened, this was done with it, and it was closed.
+pub record OpensAndCloses {D : Type 0} (tells : Bool) (state : D → State) (config : Config) (did : (before after : Rack D) → Type 0) (old new : BayState) (spindles : List SpindleView) : Type 0 where
+  pub bay : BayState
+  pub before : Rack D
+  pub after : Rack D
+  pub opened : IsOpened tells state config old bay before
+  pub done : did before after
+  pub again : IsRackAgain before after
+  pub closed : IsClosed tells state config bay new after spindles
+  pub sooner : old.faults ≤ bay.faults
+  pub later : bay.faults ≤ new.faults
+  -- a volume without a station was refused for its fault, and that of a disk is counted
+  pub refused : AreRefused tells state config old new before
+  pub failed : (k : ℕ) (p : Part) → slice_get before.faults.items k ≡ Some (Some (Refused (DiskFault p))) → Rose old.faults new.faults
+  -- an image that isn't out was refused, and is left only as it might have been left before
+  pub missing : (k : ℕ) (v : VolumeConf) → slice_get config.volumes.items k ≡ Some v → image_here before.rest.images.items k ≡ None
+      → (f : VolumeFault) × RefusesVolume tells state config before.rest.images.items old new k v f
+  pub kept : IsTrue tells → IsTold (HadRefused config before.rest.images.items) old.told new.told
+  -- where the images are sound as they read, and no call failed, each volume was open
+  pub complete : IsTrue tells → IfSome old.told (λ t. AreNamedApart t → AreSound (shapes_of config) (images_read config t) → (Rose old.faults new.faults → ⊥)
+      → (k : ℕ) → k < length (shapes_of config) → slice_get before.faults.items k ≡ Some None)
+  -- where nothing was written, each open volume recovers to what the images before recovered to, and each volume to what it might have
+  pub left_open : IsTrue tells → All (λ s. IsQuiet s) after.stations.items → IsTold (LeavesOpen config after) old.told new.told
+  pub left : IsTrue tells → All (λ s. IsQuiet s) after.stations.items → IsTold (LeavesAll tells state config old new) old.told new.told
