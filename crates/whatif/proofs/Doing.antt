@@ -1,5 +1,5 @@
 -- Actions one after another: uses of disks, and steps of reclaim.
-use Rattle.std.proofs.Common.{◌≡◌, ◌<◌, ◌≤◌, ◌+◌, ℕ, zero, suc, Bool, true, false, List, [], ◌∷◌, ◌++◌, map, length, Option, None, Some, refl, sym, ap, subst, ◌∙◌, arith, append_assoc}
+use Rattle.std.proofs.Common.{◌≡◌, ◌<◌, ◌≤◌, ◌+◌, ℕ, zero, suc, Bool, true, false, List, [], ◌∷◌, ◌++◌, map, length, Option, None, Some, refl, sym, ap, subst, ◌∙◌, arith, length-map}
 use Rattle.std.proofs.lemmas.Option.{none-some, same_Some}
 use Rattle.std.specs.Prelude.{slice_index_or}
 use Rattle.std.specs.List.{AllByRecursion, range_with_len}
@@ -12,7 +12,7 @@ use Rattle.wol_model.specs.Journal.{SpindleState}
 use Rattle.wol_promise.specs.Policy.{Look}
 use Rattle.whatif.specs.declared.disk.Disk.{Disk}
 use Rattle.whatif.specs.declared.volume.Volume.{Volume}
-use Rattle.whatif.specs.Disks.{AreDisks}
+use Rattle.whatif.specs.Disks.{AreDisks, moments_of}
 use Rattle.whatif.specs.Machine.{Reach, Action, accessed, all_accessed, changed_at, followed, give_step, give_up, logger_at, put_home, put_step, reclaiming, repeated, source_of, step_at, still}
 use Rattle.whatif.specs.Volumes.{HasDone, IsSettled, IsWithin, look_in, reach_in}
 
@@ -115,3 +115,11 @@ source_within n r es b within = at (newest cover_of es b)
 
 pub place_within : (n : ℕ) (r : Reach) (lane : ℕ) → IsWithin n r → logger_at r lane < n
 place_within n r lane within = index_all r.loggers lane r.own n within.loggers within.own
+
+-- ---- lengths
+
+pub same_within : (n m : ℕ) (r : Reach) → n ≡ m → IsWithin n r → IsWithin m r
+same_within n m r same within = subst (λ (k : ℕ). IsWithin k r) same within
+
+pub same_length : (ds es : List Disk) → moments_of es ≡ moments_of ds → length ds ≡ length es
+same_length ds es moments = sym (length-map (λ (d : Disk). d.moment) ds) ∙ sym (ap length moments) ∙ length-map (λ (d : Disk). d.moment) es

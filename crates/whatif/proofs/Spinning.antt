@@ -9,7 +9,7 @@ use Rattle.wol_model.specs.declared.journal.Turned.{Turned}
 use Rattle.wol_model.specs.declared.journal.Turned.TheVariants.{Down, Up}
 use Rattle.wol_model.specs.Journal.{SpindleState, Began, used, is_empty, standby, wakes, sleeps, next_up, turns_up}
 use Rattle.whatif.specs.declared.disk.Disk.{Disk}
-use Rattle.whatif.specs.Disks.{AreDisks, IsDisk, standby_of}
+use Rattle.whatif.specs.Disks.{AreDisks, IsDisk, moments_of, standby_of}
 use Rattle.whatif.specs.Machine.{accessed, changed_at}
 
 next_up_joined : (j k : List Turned) (to : ℕ) → next_up (j ++ k) to ≡ next_up j (next_up k to)
@@ -44,11 +44,17 @@ pub sleeps_up : (j : List Turned) (at : ℕ) → sleeps (j ++ Up at ∷ []) ≡ 
 sleeps_up j at = let a = sum_by-append (λ (t : Turned). cond (not (turns_up t)) 1 0) j (Up at ∷ []) in omega (arith, a)
 
 -- one disk is used
-pub disk_changed : (t : ℕ) (ds : List Disk) (ss : List SpindleState) (k : ℕ) (d e : Disk) → slice_get ds k ≡ Some d → ((s : SpindleState) → IsDisk d s → IsDisk e (accessed t s)) → AreDisks ds ss → AreDisks (slice_set ds k e) (changed_at k (accessed t) ss)
-disk_changed t [] ss k d e is so zip = absurd (none-some d is)
-disk_changed t (x ∷ ds) [] k d e is so zip = zip
-disk_changed t (x ∷ ds) (s ∷ ss) zero d e is so zip = (so s (subst (λ (y : Disk). IsDisk y s) (same_Some x d is) zip.0), zip.1)
-disk_changed t (x ∷ ds) (s ∷ ss) (suc k) d e is so zip = (zip.0, disk_changed t ds ss k d e is so zip.1)
+pub disk_changed : (t : ℕ) (ds : List Disk) (ss : List SpindleState) (k : ℕ) (d e : Disk) → ((s : SpindleState) → IsDisk d s → IsDisk e (accessed t s)) → slice_get ds k ≡ Some d → AreDisks ds ss → AreDisks (slice_set ds k e) (changed_at k (accessed t) ss)
+disk_changed t [] ss k d e so is zip = absurd (none-some d is)
+disk_changed t (x ∷ ds) [] k d e so is zip = zip
+disk_changed t (x ∷ ds) (s ∷ ss) zero d e so is zip = (so s (subst (λ (y : Disk). IsDisk y s) (same_Some x d is) zip.0), zip.1)
+disk_changed t (x ∷ ds) (s ∷ ss) (suc k) d e so is zip = (zip.0, disk_changed t ds ss k d e so is zip.1)
+
+-- no moment came
+pub moments_kept : (ds : List Disk) (k : ℕ) (d e : Disk) → e.moment ≡ d.moment → slice_get ds k ≡ Some d → moments_of (slice_set ds k e) ≡ moments_of ds
+moments_kept [] k d e same is = refl
+moments_kept (x ∷ ds) zero d e same is = λ i. (same ∙ ap (λ (y : Disk). y.moment) (sym (same_Some x d is))) i ∷ moments_of ds
+moments_kept (x ∷ ds) (suc k) d e same is = λ i. x.moment ∷ moments_kept ds k d e same is i
 
 -- ---- a moment comes
 

@@ -1,6 +1,6 @@
 -- The first entry that passes a test, in an index whose versions rise, and what the steps of reclaim make of an index.
 use Rattle.std.proofs.Common.{◌≡◌, ⊎_elim, ◌<◌, ◌≤◌, ◌+◌, ◌-◌, ◌^◌, ℕ, zero, suc, Bool, true, false, cond, not, ◌&&◌, ◌||◌, List, [], ◌∷◌, ◌++◌, map, length, get_or, Option, None, Some, refl, sym, ap, subst, ◌∙◌, arith, leb, bit_or}
-use Rattle.std.specs.Prelude.{find, position, nat_lt, Contains, IfSome, slice_get, slice_set, slice_index_or}
+use Rattle.std.specs.Prelude.{find, position, nat_lt, Contains, IfSome, is_none, slice_get, slice_set, slice_index_or}
 use Rattle.std.specs.List.{AllByRecursion, filter, prefix_len, range_with_len}
 use Rattle.std.specs.Option.{option_map}
 use Rattle.std.proofs.lemmas.Bool.{false≢true, eq-eqb, ne_eqb, eqb-true, lt-ltb, le-leb, and_parts}
@@ -386,3 +386,13 @@ no_give v is = no_place (λ (d : Listed). slice_index_or v.ups.items d.lane fals
 
 pub step_none : (f : Look → ℕ → Listed → Action) (l : Look) (o : Option ℕ) → o ≡ None → step_at f l o ≡ None
 step_none f l o is = ap (step_at f l) is
+
+-- whether there is a record to put home
+pub same_none : (v : Volume) → v.home_up ≡ true → is_none (first_version (can_go_home v.ups.items v.index.entries) v.index.entries) ≡ is_none (next_due (look_in v))
+same_none v up = at (first_version (can_go_home v.ups.items v.index.entries) v.index.entries) (position (λ (d : Listed). slice_index_or v.ups.items d.lane false && has_due (listed_in v.index.entries) d) (listed_in v.index.entries)) refl refl
+    ∙ ap (λ (h : Bool). is_none (cond h (position (λ (d : Listed). slice_index_or v.ups.items d.lane false && has_due (listed_in v.index.entries) d) (listed_in v.index.entries)) None)) (sym up)
+  where
+    at : (o q : Option ℕ) → first_version (can_go_home v.ups.items v.index.entries) v.index.entries ≡ o → position (λ (d : Listed). slice_index_or v.ups.items d.lane false && has_due (listed_in v.index.entries) d) (listed_in v.index.entries) ≡ q → is_none (first_version (can_go_home v.ups.items v.index.entries) v.index.entries) ≡ is_none (position (λ (d : Listed). slice_index_or v.ups.items d.lane false && has_due (listed_in v.index.entries) d) (listed_in v.index.entries))
+    at None q none place = ap is_none none ∙ sym (ap is_none (no_place (λ (d : Listed). slice_index_or v.ups.items d.lane false && has_due (listed_in v.index.entries) d) v.index.entries none))
+    at (Some version) None some place = absurd (none-some version (sym (some_place (λ (d : Listed). slice_index_or v.ups.items d.lane false && has_due (listed_in v.index.entries) d) v.index.entries place) ∙ some))
+    at (Some version) (Some k) some place = ap is_none some ∙ sym (ap is_none place)

@@ -4,7 +4,7 @@ use Rattle.wol_model.specs.Journal.{SpindleState}
 use Rattle.whatif.specs.Machine.{Reach, Action, give_up, give_step, next_to_go}
 use Rattle.whatif.specs.declared.volume.Volume.{Volume}
 use Rattle.whatif.specs.Volumes.{IsWithin, look_in, reach_in}
-use Rattle.whatif.proofs.Doing.{goes_first, goes_on, goes_last}
+use Rattle.whatif.proofs.Doing.{goes_first, goes_on, goes_last, same_length, same_within}
 use Rattle.whatif.proofs.Steps.{step_none}
 use Rattle.whatif.proofs.volume.Volume.give_all_up.Goals as goal
 
@@ -30,7 +30,7 @@ steps-preserved c =
       settled = e.settled;
       reach = e.reach ∙ i.reach;
       next = e.next ∙ i.next;
-      within = subst (IsWithin (length c.steps.disks)) (sym e.reach) i.within;
+      within = same_within (length c.steps.disks) (length c.access_at.new.disks) (reach_in is) (same_length c.steps.disks c.access_at.new.disks (c.access_at.ensures.moments)) (subst (IsWithin (length c.steps.disks)) (sym e.reach) i.within);
       kept = c.access_at.ensures.kept;
       moments = c.access_at.ensures.moments ∙ i.moments;
       goes = goes_on (give_step (reach_in start)) (look_in start) (look_in was) c.args.disks.now c.steps.disks c.access_at.new.disks a i.goes some e.lowers

@@ -25,25 +25,25 @@ returns-in_err-version-clause-none c =
 pub trim-requires-clause-goes : goal.trim-requires-clause-goes
 trim-requires-clause-goes c e is i set =
     let es = c.args.self.now.index.entries in
-    sym (some_of (λ (d : Indexed). IsMask d.listed.first (goes (listed_in es) d.listed) c.may_go.result) (entry_at es c.in_ok-version.version) e c.may_go.ensures.value is i) ∙ set
+    sym (some_of (λ (d : Indexed). IsMask d.listed.first (goes (listed_in es) d.listed) c.may_go-given.result) (entry_at es c.in_ok-version.version) e c.may_go-given.ensures.value is i) ∙ set
 
 pub returns-clause-volume : goal.returns-clause-volume
 returns-clause-volume c =
     let v = c.args.self.now in
-    with_index v c.trim.new.self c.requires.volume c.requires.settled (subst (λ (l : List Indexed). AllByRecursion (IsLogged (length v.ups.items) v.next) l) (sym c.trim.ensures.entries) (given_logged _ v.next c.in_ok-version.version c.may_go.result v.index.entries c.requires.volume.logged))
+    with_index v c.trim.new.self c.requires.volume c.requires.settled (subst (λ (l : List Indexed). AllByRecursion (IsLogged (length v.ups.items) v.next) l) (sym c.trim.ensures.entries) (given_logged _ v.next c.in_ok-version.version c.may_go-given.result v.index.entries c.requires.volume.logged))
 
 pub returns-clause-step : goal.returns-clause-step
 returns-clause-step c =
     let v = c.args.self.now in
     let there : IsAnswer (entry_at v.index.entries c.in_ok-version.version) (Some c.in_ok-record.record) = subst (IsAnswer (entry_at v.index.entries c.in_ok-version.version)) c.in_ok-record.was c.find.ensures.value in
-    give_answered v c.in_ok-version.version c.in_ok-record.record c.may_go.result c.index.result.now c.trim.new.self c.requires.volume c.find.ensures.index there
-    (subst (λ (us : List Bool). first_version (can_go us v.index.entries) v.index.entries ≡ Some c.in_ok-version.version) c.as_slice.ensures.value (sym c.in_ok-version.ensures.value)) c.may_go.ensures.value c.trim.ensures.entries c.index.ensures
+    give_answered v c.in_ok-version.version c.in_ok-record.record c.may_go-given.result c.index.result.now c.trim.new.self c.requires.volume c.find.ensures.index there
+    (subst (λ (us : List Bool). first_version (can_go us v.index.entries) v.index.entries ≡ Some c.in_ok-version.version) c.as_slice.ensures.value (sym c.in_ok-version.ensures.value)) c.may_go-given.ensures.value c.trim.ensures.entries c.index.ensures
 
 pub returns-clause-lowers : goal.returns-clause-lowers
 returns-clause-lowers c =
     let v = c.args.self.now in
     let there : IsAnswer (entry_at v.index.entries c.in_ok-version.version) (Some c.in_ok-record.record) = subst (IsAnswer (entry_at v.index.entries c.in_ok-version.version)) c.in_ok-record.was c.find.ensures.value in
     let less = give_less (reach_in v) v.ups.items v.next v.index.entries c.find.ensures.index c.in_ok-version.version c.in_ok-record.record there
-    (subst (λ (us : List Bool). first_version (can_go us v.index.entries) v.index.entries ≡ Some c.in_ok-version.version) c.as_slice.ensures.value (sym c.in_ok-version.ensures.value)) v.home_up c.may_go.result c.may_go.ensures.value in
+    (subst (λ (us : List Bool). first_version (can_go us v.index.entries) v.index.entries ≡ Some c.in_ok-version.version) c.as_slice.ensures.value (sym c.in_ok-version.ensures.value)) v.home_up c.may_go-given.result c.may_go-given.ensures.value in
     let same = ap (λ (l : List Indexed). left (listed_in l)) c.trim.ensures.entries in
     omega (arith, less, same)

@@ -4,7 +4,7 @@ use Rattle.wol_model.specs.Journal.{SpindleState}
 use Rattle.whatif.specs.Machine.{Reach, Action, put_home, put_step, next_due}
 use Rattle.whatif.specs.declared.volume.Volume.{Volume}
 use Rattle.whatif.specs.Volumes.{IsWithin, look_in, reach_in}
-use Rattle.whatif.proofs.Doing.{goes_first, goes_on, goes_last}
+use Rattle.whatif.proofs.Doing.{goes_first, goes_on, goes_last, same_length, same_within}
 use Rattle.whatif.proofs.Steps.{step_none}
 use Rattle.whatif.proofs.volume.Volume.put_all_home.Goals as goal
 
@@ -30,11 +30,11 @@ steps-preserved c =
       settled = e.settled;
       reach = e.reach ∙ i.reach;
       next = e.next ∙ i.next;
-      within = subst (IsWithin (length c.steps.disks)) (sym e.reach) i.within;
-      kept = c.access_at-2.ensures.kept;
-      moments = c.access_at-2.ensures.moments ∙ c.access_at.ensures.moments ∙ i.moments;
-      goes = goes_on (put_step (reach_in start)) (look_in start) (look_in was) c.args.disks.now c.steps.disks c.access_at-2.new.disks a i.goes some e.lowers
-          (λ t ss are. c.access_at-2.ensures.stands t _ (c.access_at.ensures.stands t ss are));
+      within = same_within (length c.steps.disks) (length c.access_at-in-Some.new.disks) (reach_in is) (same_length c.steps.disks c.access_at-in-Some.new.disks (c.access_at-in-Some.ensures.moments ∙ c.access_at.ensures.moments)) (subst (IsWithin (length c.steps.disks)) (sym e.reach) i.within);
+      kept = c.access_at-in-Some.ensures.kept;
+      moments = c.access_at-in-Some.ensures.moments ∙ c.access_at.ensures.moments ∙ i.moments;
+      goes = goes_on (put_step (reach_in start)) (look_in start) (look_in was) c.args.disks.now c.steps.disks c.access_at-in-Some.new.disks a i.goes some e.lowers
+          (λ t ss are. c.access_at-in-Some.ensures.stands t _ (c.access_at.ensures.stands t ss are));
     }
 
 pub returns-in-None-clause-none : goal.returns-in-None-clause-none
