@@ -1,5 +1,5 @@
 -- The sums of a disk are those of its journal, and stay so.
-use Rattle.std.proofs.Common.{◌≡◌, ◌<◌, ◌≤◌, ◌+◌, ◌-◌, ℕ, zero, suc, Bool, true, false, cond, List, [], ◌∷◌, ◌++◌, map, length, Option, None, Some, refl, sym, ap, subst, ◌∙◌, arith, max, eqb}
+use Rattle.std.proofs.Common.{◌≡◌, ◌<◌, ◌≤◌, ◌+◌, ◌-◌, ℕ, zero, suc, Bool, true, false, cond, List, [], ◌∷◌, ◌++◌, map, length, Option, None, Some, refl, sym, ap, subst, ◌∙◌, arith, max, eqb, get_or}
 use Rattle.std.specs.Prelude.{slice_get, slice_set, is_none, nat_le, not, ◌&&◌}
 use Rattle.std.specs.List.{AllByRecursion, AllZip, count_by, filter}
 use Rattle.std.proofs.lemmas.Option.{none-some, same_Some}
@@ -46,7 +46,7 @@ sleeps_up j at = let a = sum_by-append (λ (t : Turned). cond (not (turns_up t))
 -- one disk is used
 pub disk_changed : (t : ℕ) (ds : List Disk) (ss : List SpindleState) (k : ℕ) (d e : Disk) → ((s : SpindleState) → IsDisk d s → IsDisk e (accessed t s)) → slice_get ds k ≡ Some d → AreDisks ds ss → AreDisks (slice_set ds k e) (changed_at k (accessed t) ss)
 disk_changed t [] ss k d e so is zip = absurd (none-some d is)
-disk_changed t (x ∷ ds) [] k d e so is zip = zip
+disk_changed t (x ∷ ds) [] k d e so is zip = absurd zip
 disk_changed t (x ∷ ds) (s ∷ ss) zero d e so is zip = (so s (subst (λ (y : Disk). IsDisk y s) (same_Some x d is) zip.0), zip.1)
 disk_changed t (x ∷ ds) (s ∷ ss) (suc k) d e so is zip = (zip.0, disk_changed t ds ss k d e so is zip.1)
 
@@ -145,3 +145,9 @@ is_used d e timeout s same awake is = subst (λ (x : Disk). IsDisk x (accessed t
   sleeps = (λ i. sleeps (cond (up i) s.journal (s.journal ++ Up s.now ∷ []))) ∙ is.sleeps;
   standby = λ to. (λ i. standby (cond (up i) s.journal (s.journal ++ Up s.now ∷ [])) to) ∙ is.standby to ∙ (λ i. standby_of d (awake i) to) ∙ sym (λ i. standby_of (record d { since = d.moment }) (awake i) to);
 })
+
+-- the disk at a place
+pub got : (ds : List Disk) (k : ℕ) (d : Disk) → k < length ds → slice_get ds k ≡ Some (get_or ds k d)
+got [] k d lt = absurd (omega arith)
+got (x ∷ ds) zero d lt = refl
+got (x ∷ ds) (suc k) d lt = got ds k d (omega arith)
