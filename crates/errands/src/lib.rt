@@ -1,0 +1,20 @@
+//! Things are handed to a worker that lives as long as the run, and come back served: what comes back is what was
+//! handed over, though no thread is joined in between.
+//!
+//! There is a place (`Errands`) with two ends. The one (`Sender`) hands something over and later takes it back, the
+//! other (`Worker`) waits for it, serves it and leaves it there. `errand.rt` says what may be handed over, `ends.rt`
+//! has the place and its ends, `handing.rt` each way; `rule.rt` is what the two ends know of one another, and what
+//! each atomic step tells. Of `specs/`, callers need `Ends`; `Rule` is the inside.
+//!
+//! Nothing says that the other end comes, or how long it takes: where no thread could be had for a worker, what is
+//! handed over stays where it is. `has_worker` tells whether one is there. No clause says either that a worker is told
+//! of the end only once it came; a worker that leaves early leaves the other end waiting.
+#![tactic(auto)]
+
+mod ends;
+mod errand;
+mod handing;
+mod rule;
+
+pub use ends::{Errands, NoMemory, Sender, Worker};
+pub use errand::Errand;
