@@ -19,7 +19,7 @@ shorter (x ∷ xs) = at (is_answered x.outcome) (shorter xs)
     at true le = omega (arith, le)
     at false le = omega (arith, le)
 
-all_there : (xs : List Answered) → AreAllAnswered xs → answered_in xs ≡ xs
+pub all_there : (xs : List Answered) → AreAllAnswered xs → answered_in xs ≡ xs
 all_there [] all = refl
 all_there (x ∷ xs) (first, others) = at (is_answered x.outcome) first (all_there xs others)
   where

@@ -23,11 +23,14 @@ use Rattle.volume_images.specs.Volumes.{images_read, shapes_of}
 use Rattle.report.specs.Faults.{status_of}
 use Rattle.report.specs.declared.fault.Fault.TheVariants.{Volume}
 use Rattle.trace_gen.specs.Generated.{targets_of}
+use Rattle.troubles.specs.Troubles.{trouble_of}
+use Rattle.rack.specs.declared.volume_fault.VolumeFault.{VolumeFault}
 use Rattle.replay.specs.Ended as ended
 use Rattle.replay.specs.Givens.{HasGivenAll}
-use Rattle.replay.specs.Headline.{ArePrinted, HasOneHistory, Headline, HistoriesGoOn, KeepsHeadline, in_flight, opened_array, plain_lines}
+use Rattle.replay.specs.Headline.{ArePrinted, HasNotBegun, HasOneHistory, Headline, HistoriesGoOn, KeepsHeadline, in_flight, opened_array, plain_lines}
 use Rattle.replay.specs.Histories.{ArePlainMarks, BeginAsRead, History, answers_in, is_broken, is_broken_at}
 use Rattle.replay.specs.Leaves.{LeavesImages}
+use Rattle.replay.specs.NotOpened.{AsksNone, LeavesBay}
 use Rattle.replay.specs.Replays as replays
 use Rattle.replay.specs.Replays.{Replayed, Replays, status_in}
 use Rattle.replay.specs.Served.{ServedWindow}
@@ -122,12 +125,21 @@ module _ {S T : Type 0} (tells : Bool) (left : S → Option (List ℕ)) (config 
 
 -- ---- All runs
 
+-- a run that ended before all volumes were open: there was no memory
+pub no_memory_yet : {D S : Type 0} (tells : Bool) (state : D → State) (config : Config) (start now : Given S) (old new : BayState) (sink sink' : ℕ) (taken taken' : Option (List ℕ)) → AsksNone start now sink sink' taken taken'
+    → LeavesBay tells state config old new → HasNotBegun tells state config start now old new 9 taken taken'
+no_memory_yet tells state config start now old new sink sink' taken taken' asks bay = record { refused = λ is. absurd (cc is); unread = asks.unread; none = printed_all [] [] 9 taken taken' (appends_none taken taken' asks.kept); left = bay }
+
+-- .. or a volume isn't open
+pub closed_yet : {D S : Type 0} (tells : Bool) (state : D → State) (config : Config) (start now : Given S) (old new : BayState) (sink sink' : ℕ) (taken taken' : Option (List ℕ)) (k : ℕ) (f : VolumeFault) → AsksNone start now sink sink' taken taken'
+    → LeavesBay tells state config old new → HasNotBegun tells state config start now old new (status_of (Volume k (trouble_of f))) taken taken'
+closed_yet tells state config start now old new sink sink' taken taken' k f asks bay =
+    record { refused = status_some (Volume k (trouble_of f)); unread = asks.unread; none = printed_all [] [] (status_of (Volume k (trouble_of f))) taken taken' (appends_none taken taken' asks.kept); left = bay }
+
 pub keeps_headline : {D S T : Type 0} (tells : Bool) (state : D → State) (left : S → Option (List ℕ)) (config : Config) (options : Options) (start now : Given S) (old new : BayState) (sink sink' : ℕ) (taken taken' : Option (List ℕ)) (result : Result T Stop)
     → Replayed tells state left config options start now old new sink sink' taken taken' result → KeepsHeadline tells state left config options.each start now old new (status_in result) taken taken'
-keeps_headline tells state left config options start now old new sink sink' taken taken' _ (replays.no_memory asks bay) =
-    inl (record { refused = λ is. absurd (cc is); unread = asks.unread; none = printed_all [] [] 9 taken taken' (appends_none taken taken' asks.kept); left = bay })
-keeps_headline tells state left config options start now old new sink sink' taken taken' _ (replays.closed k f asks first bay) =
-    inl (record { refused = status_some (Volume k _); unread = asks.unread; none = printed_all [] [] (status_of (Volume k _)) taken taken' (appends_none taken taken' asks.kept); left = bay })
+keeps_headline tells state left config options start now old new sink sink' taken taken' _ (replays.no_memory asks bay) = inl (no_memory_yet tells state config start now old new sink sink' taken taken' asks bay)
+keeps_headline tells state left config options start now old new sink sink' taken taken' _ (replays.closed k f asks first bay) = inl (closed_yet tells state config start now old new sink sink' taken taken' k f asks bay)
 keeps_headline tells state left config options start now old new sink sink' taken taken' result (replays.ran _ r) = inr (λ telling. headline_kept tells left config options start now old new result sink sink' taken taken' r telling)
 
 -- ---- One run after the other

@@ -51,3 +51,9 @@ pub mod KeeperIdle
 pub mod ReclaimPlaced
 pub mod ReclaimedLeft
 pub mod HeadlineKept
+pub mod WorksServed
+pub mod RunWorked
+pub mod UnbrokenServed
+pub mod DrainsCounted
+pub mod AllAsked
+pub mod AccountKept

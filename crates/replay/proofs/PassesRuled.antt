@@ -125,7 +125,7 @@ module _ {D : Type 0} (tells : Bool) (mode : Reclaim) (k : ℕ) (d : Desk D) (p 
         pass_there ps qs k p (other_than keeper (pass_number (slice_index_or ps k p)) number (λ is. cc is)) one.turned.same,
       )
 
-  was_ruled : (s : ServedWindow) (f : Floor D) (ps : List SpindlePass) (g : Floor D) (qs : List SpindlePass) → WasServed tells mode s f ps g qs → AreThere f → AllRuled f g
+  pub was_ruled : (s : ServedWindow) (f : Floor D) (ps : List SpindlePass) (g : Floor D) (qs : List SpindlePass) → WasServed tells mode s f ps g qs → AreThere f → AllRuled f g
   was_ruled s f ps g qs was there =
       let desks : was.begun.desks ≡ f.desks = ap (λ (x : Floor D). x.desks) was.only in
       let helpers : was.begun.helpers ≡ f.helpers = ap (λ (x : Floor D). x.helpers) was.only in

@@ -70,7 +70,7 @@ both_sums f g e (h ∷ hs) each =
 
 -- ---- Passes
 
-honest_unused : {D : Type 0} (tells : Bool) (p : ManagerPass D) → IsUnused p → IsHonest tells p
+pub honest_unused : {D : Type 0} (tells : Bool) (p : ManagerPass D) → IsUnused p → IsHonest tells p
 honest_unused tells p unused = record {
   history = subst (λ (es : List Entry). HasHistory (IsTrue tells) (began p) (notes_of es)) (sym unused.seen) (record { replies = λ told. tt; breaks = tt; helpers = tt; ruled = tt });
   mine = ap (own (pass_number p)) unused.seen ∙ sym unused.mine;
@@ -281,6 +281,10 @@ module _ {D : Type 0} (tells : Bool) (mode : Reclaim) (config : Config) (out : L
         subst (λ (l : Look). AreOthersIdle l h.notes) (sym look_is) (subst (λ (ns : List Noted). AreOthersIdle (base_of_station new).volume.began.look ns) (sym notes_are)
         (all_others_idle (base_of_station new).volume.began.look es at_.closed.no_more kept))
 
+  pub others_idle : (k : ℕ) (h : History) → slice_get (histories_of tells config out opened left_ news closed) k ≡ Some h → AreOthersIdle h.base.look h.notes
+  unfolding hs
+  others_idle k h here = others_idle_here k h here
+
   -- ---- All volumes
 
   sum_of : (worth : Bool → Look → Look → ℕ) (total : History → ℕ) → ((k : ℕ) (h : History) → slice_get hs k ≡ Some h → total h ≡ added_up worth worker h.base.look h.notes + added_up worth helper h.base.look h.notes)
@@ -318,7 +322,22 @@ no_entries : (es : List Entry) → AllByRecursion (λ (e : Entry). ⊥) es → e
 no_entries [] none = refl
 no_entries (e ∷ rest) none = absurd none.0
 
--- passes that weren't used leave nothing
+-- passes that weren't used made no entries
+pub none_noted : {D : Type 0} (tells : Bool) (config : Config) (out : List (Option (ImageRest D))) (opened left_ : BayState) (ss : List (Station D)) (closed : All (IsClosedVolume tells config out opened left_) ss)
+    → ((v : ℕ) (s : Station D) → slice_get ss v ≡ Some s → AreNumbered s) → AreUnused ss → (k : ℕ) (h : History) → slice_get (histories_of tells config out opened left_ ss closed) k ≡ Some h → h.notes ≡ []
+none_noted {D} tells config out opened left_ ss closed numbers unused k h here =
+    let at = history_at tells config out opened left_ ss closed k h here in
+    let (less, is) = at_place ss k at.station at.there in
+    let free = subst (λ (x : Station D). IsUnused x.worker × IsUnused x.helper × IsUnused x.keeper) (is at.station) (unused k at.station less) in
+    let number = numbers k at.station at.there in
+    let c = at.closed in
+    let by = λ (n : ℕ) (p : ManagerPass D) (is_ : pass_number p ≡ n) (mine : own (pass_number p) c.entries ≡ pass_mine p) (u : IsUnused p). ap (λ (x : ℕ). own x c.entries) (sym is_) ∙ mine ∙ u.mine in
+    let gone = λ (n : ℕ) (e : own n c.entries ≡ []). subst (λ (l : List Entry). AllByRecursion (λ (x : Entry). ⊥) l) (sym e) tt in
+    let empty = no_entries c.entries (all_of_three (λ (e : Entry). ⊥) c.entries c.no_more (gone worker (by worker at.station.worker number.0 c.worker_part.mine free.0)) (gone helper (by helper at.station.helper number.1 c.helper_part.mine free.1))
+    (gone keeper (by keeper at.station.keeper number.2 c.keeper_part.mine free.2))) in
+    ap (λ (x : History). x.notes) at.is ∙ ap notes_of empty
+
+-- .. and leave nothing
 pub none_reclaimed : {D : Type 0} (tells : Bool) (config : Config) (out : List (Option (ImageRest D))) (opened left_ : BayState) (ss : List (Station D)) (closed : All (IsClosedVolume tells config out opened left_) ss)
     → ((v : ℕ) (s : Station D) → slice_get ss v ≡ Some s → AreNumbered s) → AreUnused ss
     → ((v : ℕ) (h : History) → slice_get (histories_of tells config out opened left_ ss closed) v ≡ Some h → HasHistory (IsTrue tells) h.base h.notes × AllByRecursion IsRuled h.notes)
@@ -333,14 +352,4 @@ none_reclaimed {D} tells config out opened left_ ss closed numbers unused rules 
     hs = histories_of tells config out opened left_ ss closed
 
     none : (k : ℕ) (h : History) → slice_get (histories_of tells config out opened left_ ss closed) k ≡ Some h → h.notes ≡ []
-    none k h here =
-        let at = history_at tells config out opened left_ ss closed k h here in
-        let (less, is) = at_place ss k at.station at.there in
-        let free = subst (λ (x : Station D). IsUnused x.worker × IsUnused x.helper × IsUnused x.keeper) (is at.station) (unused k at.station less) in
-        let number = numbers k at.station at.there in
-        let c = at.closed in
-        let by = λ (n : ℕ) (p : ManagerPass D) (is_ : pass_number p ≡ n) (mine : own (pass_number p) c.entries ≡ pass_mine p) (u : IsUnused p). ap (λ (x : ℕ). own x c.entries) (sym is_) ∙ mine ∙ u.mine in
-        let gone = λ (n : ℕ) (e : own n c.entries ≡ []). subst (λ (l : List Entry). AllByRecursion (λ (x : Entry). ⊥) l) (sym e) tt in
-        let empty = no_entries c.entries (all_of_three (λ (e : Entry). ⊥) c.entries c.no_more (gone worker (by worker at.station.worker number.0 c.worker_part.mine free.0)) (gone helper (by helper at.station.helper number.1 c.helper_part.mine free.1))
-        (gone keeper (by keeper at.station.keeper number.2 c.keeper_part.mine free.2))) in
-        ap (λ (x : History). x.notes) at.is ∙ ap notes_of empty
+    none k h here = none_noted tells config out opened left_ ss closed numbers unused k h here

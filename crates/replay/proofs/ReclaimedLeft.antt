@@ -25,7 +25,7 @@ use Rattle.replay.specs.Served.{ServedFromStart, ServedWindow, WasServed, WereSe
 -- ---- The worker
 
 -- the notes of one pass among all
-own_noted : (n : ℕ) (es : List Entry) → filter (λ (m : Noted). m.entry.pass == n) (notes_of es) ≡ notes_of (own n es)
+pub own_noted : (n : ℕ) (es : List Entry) → filter (λ (m : Noted). m.entry.pass == n) (notes_of es) ≡ notes_of (own n es)
 own_noted n [] = refl
 own_noted n (e ∷ es) =
     let rest : List Noted = filter (λ (m : Noted). m.entry.pass == n) (notes_of es) in

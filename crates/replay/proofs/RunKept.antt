@@ -48,9 +48,8 @@ use Rattle.replay.proofs.RunCauses.{run_cause}
 use Rattle.replay.proofs.RunLeft.{at_volume, histories, its_history, run_begun, run_below, run_histories, run_marks, run_ruled}
 use Rattle.replay.proofs.PassesRuled.{IsRuled}
 use Rattle.replay.proofs.StationsRan.{AreNumbered, EndsOn, StationRan, station_unused}
-use Rattle.replay.specs.Placed.{CountsPlaced}
 use Rattle.replay.proofs.RequestsServed.{requests_of_volumes, served_counted}
-use Rattle.replay.proofs.WritesPlaced.{counts_placed}
+use Rattle.replay.proofs.WritesPlaced.{ArePlaced, counts_placed}
 use Rattle.replay.proofs.TracesLeft.{last_beyond, none_beyond, run_alone, run_asked, run_final, run_first, run_last, run_stations, run_well}
 
 each_within : (n : ℕ) (xs : List Answered) → AllByRecursion (λ (r : Request). r.volume < n) (requests_in xs) → AllByRecursion (λ (a : Answered). a.request.volume < n) xs
@@ -63,7 +62,9 @@ pub record RunKept (tells : Bool) (config : Config) (mode : Reclaim) (entry open
   pub are : AreHistories (IsTrue tells) config (answers_in (earlier ++ last)) kept
   pub cause : (v : ℕ) → IsTrue (is_broken_at kept v) → Rose opened.faults left_.faults
   pub begun : IsTrue tells → IsTold (λ t left_. BeginAsRead config t kept) entry.told left_.told
-  pub placed : CountsPlaced (earlier ++ last) kept
+  pub sized : AllByRecursion (λ (s : ServedWindow). length s.answer.outcomes.items ≡ length s.batch.requests) (earlier ++ last)
+  pub within : AllByRecursion (λ (a : Answered). a.request.volume < length kept) (answers_in (earlier ++ last))
+  pub placed : ArePlaced (earlier ++ last) kept
   pub ruled : (v : ℕ) (h : History) → slice_get kept v ≡ Some h → AllByRecursion IsRuled h.notes
   pub reclaims : LeavesReclaimed mode (earlier ++ last) kept
   pub marks : IsTrue tells → IsTold (λ t left_. ArePlainMarks config (answers_in (earlier ++ last)) t) entry.told left_.told
@@ -135,8 +136,8 @@ module _ {D : Type 0} (state : D → State) (tells : Bool) (config : Config) (en
     all_asked : requests_in (answers_in (earlier ++ last)) ≡ requests (most_of config) (targets_of config) run
     all_asked = run_asked tells mode config r.stations.items q.stations.items before middle after ps qs moved back locks sized numbers fresh run earlier last are well one served ends
 
-    within : AllByRecursion (λ (a : Answered). a.request.volume < length hs) (answers_in (earlier ++ last))
-    within = each_within (length hs) (answers_in (earlier ++ last)) (subst (λ (n : ℕ). AllByRecursion (λ (x : Request). x.volume < n) (requests_in (answers_in (earlier ++ last)))) (sym (are_here.count ∙ target_count))
+    within_here : AllByRecursion (λ (a : Answered). a.request.volume < length hs) (answers_in (earlier ++ last))
+    within_here = each_within (length hs) (answers_in (earlier ++ last)) (subst (λ (n : ℕ). AllByRecursion (λ (x : Request). x.volume < n) (requests_in (answers_in (earlier ++ last)))) (sym (are_here.count ∙ target_count))
         (subst (λ (rs : List Request). AllByRecursion (λ (x : Request). x.volume < length (targets_of config)) rs) (sym all_asked) (requests_of_volumes (most_of config) (targets_of config) run)))
 
     reclaims_here : LeavesReclaimed mode (earlier ++ last) hs
@@ -167,7 +168,9 @@ module _ {D : Type 0} (state : D → State) (tells : Bool) (config : Config) (en
       cause = run_cause tells config q.rest.images.items opened left_ q.stations.items closed;
       begun = run_begun state tells config entry opened left_ r q rest locks_same count all_out began told_open Q told_left closed stations (answers_in (earlier ++ last)) ran first others;
       ruled = run_ruled state tells config entry opened left_ r q rest locks_same count all_out began told_open Q told_left closed stations (answers_in (earlier ++ last)) ran first others;
-      placed = counts_placed (earlier ++ last) hs (served_counted tells mode (earlier ++ last) before ps middle qs served) within (λ v h here. (are_here.each v h here).answered);
+      sized = served_counted tells mode (earlier ++ last) before ps middle qs served;
+      within = within_here;
+      placed = counts_placed (earlier ++ last) hs (served_counted tells mode (earlier ++ last) before ps middle qs served) within_here (λ v h here. (are_here.each v h here).answered);
       reclaims = reclaims_here;
       marks = run_marks state tells config entry opened left_ r q rest locks_same count all_out began told_open Q told_left closed stations (answers_in (earlier ++ last)) ran first others;
       images = λ told. run_images tells told config q.rest.images.items out_still opened left_ q.stations.items stations closed (answers_in (earlier ++ last))
@@ -219,6 +222,8 @@ module _ {D : Type 0} (state : D → State) (tells : Bool) (config : Config) (en
       cause = run_cause tells config q.rest.images.items opened left_ q.stations.items closed;
       begun = run_begun state tells config entry opened left_ r q rest (ap locks_of same) (ap length same ∙ counted) all_out began told_open Q told_left closed stations [] none_ran (λ v. refl) (λ v beyond. refl);
       ruled = run_ruled state tells config entry opened left_ r q rest (ap locks_of same) (ap length same ∙ counted) all_out began told_open Q told_left closed stations [] none_ran (λ v. refl) (λ v beyond. refl);
+      sized = tt;
+      within = tt;
       placed = counts_placed [] none_histories tt tt (λ v h here. (none_are.each v h here).answered);
       reclaims = record { idle = λ some nonempty. absurd (nonempty refl); alone = λ other v h here. none_alone v h here };
       marks = run_marks state tells config entry opened left_ r q rest (ap locks_of same) (ap length same ∙ counted) all_out began told_open Q told_left closed stations [] none_ran (λ v. refl) (λ v beyond. refl);

@@ -1,5 +1,5 @@
 -- Replaying a trace on a rack all of whose volumes are open.
-use Rattle.std.proofs.Common.{◌≡◌, ◌<◌, ◌≤◌, ℕ, Bool, List, [], ◌∷◌, ◌++◌, length, Option, Some, Result, Ok, Err, refl, sym, ap, subst, ◌∙◌, append-nil, inl, inr, arith}
+use Rattle.std.proofs.Common.{◌≡◌, ◌≢◌, ◌<◌, ◌≤◌, ℕ, Bool, false, List, [], ◌∷◌, ◌++◌, length, Option, Some, Result, Ok, Err, refl, sym, ap, subst, ◌∙◌, append-nil, inl, inr, arith}
 use Rattle.std.specs.List.{AllByRecursion}
 use Rattle.std.specs.Prelude.{All, IfSome, IsTrue, slice_get}
 use Rattle.std.proofs.lemmas.List.{length-map}
@@ -33,6 +33,8 @@ use Rattle.spin_model.specs.Spindles.{SpindleView}
 use Rattle.request_workers.specs.Begun.{SpindlePass}
 use Rattle.request_workers.specs.Stations.{AreStations, IsMoved}
 use Rattle.request_workers.specs.declared.floor.Floor.{Floor}
+use Rattle.request_workers.specs.declared.request.Reclaim.{Reclaim}
+use Rattle.request_workers.specs.declared.request.Reclaim.TheVariants as reclaim
 use Rattle.replay.specs.Ended.{memory}
 use Rattle.replay.specs.Givens.{HasGiven}
 use Rattle.replay.specs.Histories.{CountAnswered, History, answers_in, is_broken_at}
@@ -40,27 +42,34 @@ use Rattle.replay.specs.Prints.{CutsLines, PrintsText, all_amounts}
 use Rattle.replay.specs.Replays.{Replays, status_in}
 use Rattle.replay.specs.Runs.{RunsNone, ServesFrom}
 use Rattle.replay.specs.Served.{ServedFromStart, ServedWindow}
-use Rattle.replay.specs.Sessions.{AreWindowsOf, EndsBy, ServesSome, ServesWhole, lines_of_window}
+use Rattle.replay.specs.Sessions.{AreWindowsOf, EndsBy, ServesSome, ServesWhole, WentWell, lines_of_window}
 use Rattle.replay.specs.Summed.{PrintsRun, lines_asked, of_all, of_none}
 use Rattle.replay.specs.declared.counting.Counted.{Counted}
 use Rattle.replay.specs.declared.given.Given.{Given}
 use Rattle.replay.specs.declared.session.Options.{Options}
 use Rattle.replay.specs.declared.stop.Stop.{Stop}
 use Rattle.replay.specs.declared.stop.Stop.TheVariants as stop
+use Rattle.replay.proofs.AllAsked.{AreAllCounted, all_counted_asked}
 use Rattle.replay.proofs.CauseServed.{named_breaks, rises, rose_from}
 use Rattle.replay.proofs.CountsLeft.{counts_cut, counts_refused, counts_whole}
+use Rattle.replay.proofs.DrainsCounted.{counts_drained}
 use Rattle.replay.proofs.Giving.{none_given}
 use Rattle.replay.proofs.RacksServed.{at_place, closable_after, rack_closable}
 use Rattle.replay.proofs.RunCounts.{status_some}
 use Rattle.replay.proofs.RunEnded.{TellsRise, ends_stopped, ends_summed, prints_stopped, prints_summed}
+use Rattle.replay.proofs.RunWorked.{none_worked, run_unbroken, run_worked, told_awake}
 use Rattle.replay.proofs.RunKept.{RunKept, kept_is, kept_none, kept_served, none_is}
 use Rattle.replay.proofs.PassesRuled.{IsRuled}
 use Rattle.replay.proofs.ReclaimPlaced.{counts_reclaimed, none_reclaimed}
 use Rattle.replay.proofs.RunLeft.{base_same}
-use Rattle.replay.specs.Placed.{CountsReclaimed}
+use Rattle.replay.specs.Placed.{CountsPlaced, CountsReclaimed}
+use Rattle.replay.specs.Works.{AreWorked}
 use Rattle.request_turns.specs.Turns.{began as pass_began}
 use Rattle.turn_lock.specs.Passes.{IsFree, lock_id, pass_lock}
+use Rattle.wol_promise.specs.Report.{HasNoHelp}
 use Rattle.wol_promise.specs.Stands.{HasHistory}
+use Rattle.run_laws.specs.Answers.{answers_of}
+use Rattle.run_laws.specs.Laws.{AreAllAnswered}
 use Rattle.replay.proofs.StationsRan.{AreNumbered, EndsOn}
 use Rattle.replay.proofs.SummaryKept.{summary_now}
 
@@ -120,6 +129,27 @@ text_other (Err stop.Sink) text faults faults' printed new v t prints is = absur
 text_other (Err (stop.Fault f)) text faults faults' printed new v t (memory_is, calm, keeps) is =
     let same : f ≡ Volume v t = cc is in let no : Memory ≡ Volume v t = sym memory_is ∙ same in absurd (cc no)
 
+stop_some : (T : Type 0) (e : Stop) → status_in {T = T} (Err e) ≡ 0 → ⊥
+stop_some T stop.Sink is = absurd (cc is)
+stop_some T (stop.Fault f) is = status_some f is
+
+-- ---- Histories
+
+-- each is that of the volume at its place, and has no entry of a helper but beside the requests
+abbrev AreOwned : Reclaim → List History → Type 0
+AreOwned mode hs = (v : ℕ) (h : History) → slice_get hs v ≡ Some h → (h.base.owner ≡ v) × (mode ≢ reclaim.Beside → HasNoHelp h.notes)
+
+module _ (tells : Bool) (config : Config) (mode : Reclaim) (entry opened left_ : BayState) (run : List (Option TraceLine)) (earlier last : List ServedWindow) (kept : RunKept tells config mode entry opened left_ run earlier last) where
+  owned_by : (hs : List History) → kept.kept ≡ hs → AreOwned mode hs
+  owned_by hs same = subst (λ (x : List History). AreOwned mode x) same (λ v h here. ((kept.are.each v h here).owner, λ other. kept.reclaims.alone other v h here))
+
+  placed_by : (awake : List (List Bool)) → AreWorked mode (earlier ++ last) awake kept.kept → CountsPlaced (earlier ++ last) kept.kept
+  placed_by awake worked = record {
+    log = kept.placed.log;
+    home = kept.placed.home;
+    drained = counts_drained mode (earlier ++ last) awake kept.kept worked kept.sized kept.within (λ v h here. (kept.are.each v h here).legal.helpers);
+  }
+
 -- ---- The whole
 
 numbered_all : {D : Type 0} (ss : List (Station D)) → AreStations ss → (v : ℕ) (s : Station D) → slice_get ss v ≡ Some s → AreNumbered s
@@ -158,16 +188,24 @@ module _ {D S : Type 0} (T : Type 0) (state : D → State) (tells : Bool) (left 
         part = λ v t is. (let no : stop.Fault Memory ≡ stop.Fault (Volume v t) = cc is in absurd (cc no));
         begun = kept.begun;
         counts = counts_whole [] [] kept.kept kept.well 9 (λ v. tt);
-        placed = kept.placed;
+        placed = placed_by tells config options.reclaim entry opened left_ [] [] [] kept [] (worked is_none runs stations);
         reclaimed = subst (λ (hs : List History). CountsReclaimed [] hs) (sym is_none) (none_reclaimed tells config q.rest.images.items opened left_ q.stations.items closed (numbered_all q.stations.items stations)
             (subst (λ (x : Rack D). AreUnused x.stations.items) (sym runs.same) fresh) (subst (λ (hs : List History). (v : ℕ) (h : History) → slice_get hs v ≡ Some h → HasHistory (IsTrue tells) h.base h.notes × AllByRecursion IsRuled h.notes) (is_none) (λ v h here. ((kept.are.each v h here).legal, kept.ruled v h here))));
         reclaims = kept.reclaims;
+        awake = [];
+        worked = worked is_none runs stations;
+        unbroken = λ is. absurd (cc is);
         marks = kept.marks;
         images = kept.images;
         summary = [];
         summary_is = of_none (stop.Fault Memory);
         prints = (runs.calm, inr (refl, 0, appends_none printed printed' runs.kept));
       }
+    where
+      worked : {hs : List History} → hs ≡ histories_of tells config q.rest.images.items opened left_ q.stations.items closed → RunsNone tells left config options start now r q faults faults' printed printed' → AreStations q.stations.items
+          → AreWorked options.reclaim [] [] hs
+      worked is_none none all = subst (λ (hs : List History). AreWorked options.reclaim [] [] hs) (sym is_none)
+          (none_worked tells options.reclaim config q.rest.images.items opened left_ q.stations.items closed (numbered_all q.stations.items all) (subst (λ (x : Rack D). AreUnused x.stations.items) (sym none.same) fresh))
 
   numbers : (v : ℕ) (s : Station D) → slice_get r.stations.items v ≡ Some s → AreNumbered s
   numbers v s there =
@@ -222,6 +260,23 @@ module _ {D S : Type 0} (T : Type 0) (state : D → State) (tells : Bool) (left 
     reclaimed_by ss middle ms served ends rules =
         counts_reclaimed tells options.reclaim config q.rest.images.items opened left_ r.stations.items q.stations.items closed before middle from.after r.keepers.items ms moved from.moved_back ss served ends fresh numbers new_numbers free looks stations_same some rules
 
+    -- what the spindles answered, and what the worker and the keeper of each volume did
+    told_by : (ss : List ServedWindow) (middle : Floor D) (ms : List SpindlePass) → ServedFromStart tells options.reclaim ss before r.keepers.items middle ms → EndsOn tells middle from.after → List (List Bool)
+    told_by ss middle ms served ends =
+        told_awake tells options.reclaim config q.rest.images.items opened left_ r.stations.items q.stations.items closed before middle from.after r.keepers.items ms moved from.moved_back ss served ends fresh numbers new_numbers free looks stations_same some
+
+    worked_by : (ss : List ServedWindow) (middle : Floor D) (ms : List SpindlePass) (served : ServedFromStart tells options.reclaim ss before r.keepers.items middle ms) (ends : EndsOn tells middle from.after)
+        → AreOwned options.reclaim (histories_of tells config q.rest.images.items opened left_ q.stations.items closed)
+        → AreWorked options.reclaim ss (told_by ss middle ms served ends) (histories_of tells config q.rest.images.items opened left_ q.stations.items closed)
+    unfolding told_by
+    worked_by ss middle ms served ends owned =
+        run_worked tells options.reclaim config q.rest.images.items opened left_ r.stations.items q.stations.items closed before middle from.after r.keepers.items ms moved from.moved_back ss served ends fresh numbers new_numbers free looks stations_same some owned
+
+    unbroken_by : (ss : List ServedWindow) (ms : List SpindlePass) → ServedFromStart tells options.reclaim ss before r.keepers.items from.after ms → AreOwned options.reclaim (histories_of tells config q.rest.images.items opened left_ q.stations.items closed)
+        → AllByRecursion WentWell ss → (v : ℕ) → is_broken_at (histories_of tells config q.rest.images.items opened left_ q.stations.items closed) v ≡ false
+    unbroken_by ss ms served owned well =
+        run_unbroken tells options.reclaim config q.rest.images.items opened left_ r.stations.items q.stations.items closed before from.after from.after r.keepers.items ms moved from.moved_back ss served (inl refl) fresh numbers new_numbers free looks stations_same some owned well refl
+
     -- where a part is at fault, the history of the named volume broke
     part_by : (e : Stop) (run more : List (Option TraceLine)) (earlier last : List ServedWindow) (h : Floor D) (ms : List SpindlePass) (then_ : Option (List ℕ))
         → EndsBy tells left config options start e now run more last h ms from.after q.keepers.items faults faults' then_ printed' → ServedFromStart tells options.reclaim (earlier ++ last) before r.keepers.items h ms
@@ -245,6 +300,9 @@ module _ {D S : Type 0} (T : Type 0) (state : D → State) (tells : Bool) (left 
         w.run w.earlier w.last w.are w.well one w.from_start on in
         let is_kept = kept_is state tells config entry opened left_ r q rest_same counted_stations all_out began told_open Q told_left closed from.can.each fresh unfaulty sound options.reclaim before w.middle from.after r.keepers.items w.between moved from.moved_back from.locks numbers
         w.run w.earlier w.last w.are w.well one w.from_start on in
+        let awake = told_by (w.earlier ++ w.last) w.middle w.between w.from_start on in
+        let worked = subst (λ (hs : List History). AreWorked options.reclaim (w.earlier ++ w.last) awake hs) (sym is_kept)
+        (worked_by (w.earlier ++ w.last) w.middle w.between w.from_start on (owned_by tells config options.reclaim entry opened left_ w.run w.earlier w.last kept _ is_kept)) in
         record {
           run = w.run;
           more = w.more;
@@ -264,9 +322,12 @@ module _ {D S : Type 0} (T : Type 0) (state : D → State) (tells : Bool) (left 
           part = λ v t is. (subst (λ (hs : List History). IsTrue (is_broken_at hs v)) (sym is_kept) (part_by e w.run w.more w.earlier w.last w.middle w.between w.then w.ends w.from_start w.are v t (cc is)));
           begun = kept.begun;
           counts = counts_some T tells left config options start now entry opened left_ w.run w.more w.earlier w.middle w.between from.after q.keepers.items faults faults' w.then printed' e w.last w.ends kept;
-          placed = kept.placed;
+          placed = placed_by tells config options.reclaim entry opened left_ w.run w.earlier w.last kept awake worked;
           reclaimed = subst (λ (hs : List History). CountsReclaimed (w.earlier ++ w.last) hs) (sym is_kept) (reclaimed_by (w.earlier ++ w.last) w.middle w.between w.from_start on (subst (λ (hs : List History). (v : ℕ) (h : History) → slice_get hs v ≡ Some h → HasHistory (IsTrue tells) h.base h.notes × AllByRecursion IsRuled h.notes) (is_kept) (λ v h here. ((kept.are.each v h here).legal, kept.ruled v h here))));
           reclaims = kept.reclaims;
+          awake = awake;
+          worked = worked;
+          unbroken = λ is. absurd (stop_some T e is);
           marks = kept.marks;
           images = kept.images;
           summary = [];
@@ -289,8 +350,14 @@ module _ {D S : Type 0} (T : Type 0) (state : D → State) (tells : Bool) (left 
         w.lines w.served [] are w.well (omega arith) from_start (inl refl) in
         let is_kept = kept_is state tells config entry opened left_ r q rest_same counted_stations all_out began told_open Q told_left closed from.can.each fresh unfaulty sound options.reclaim before from.after from.after r.keepers.items q.keepers.items moved from.moved_back from.locks numbers
         w.lines w.served [] are w.well (omega arith) from_start (inl refl) in
+        let owned = owned_by tells config options.reclaim entry opened left_ w.lines w.served [] kept _ is_kept in
+        let awake = told_by (w.served ++ []) from.after q.keepers.items from_start (inl refl) in
+        let worked = subst (λ (hs : List History). AreWorked options.reclaim (w.served ++ []) awake hs) (sym is_kept) (worked_by (w.served ++ []) from.after q.keepers.items from_start (inl refl) owned) in
+        let all_asked = subst (λ (ss : List ServedWindow). AreAllCounted (requests (most_of config) (targets_of config) w.lines) ss) all_windows
+        (all_counted_asked (requests (most_of config) (targets_of config) w.lines) (w.served ++ []) kept.kept kept.sized kept.within kept.asked (λ v h here. (kept.are.each v h here).answered)
+        (λ v. subst (λ (ss : List ServedWindow). AreAllAnswered (answers_of v (answers_in ss))) (sym all_windows) (kept.well v))) in
         let summary = summary_now state tells left config options start now opened r q faults faults' printed printed' is unused before from.after counted w
-        (closable_after state config opened r q (rack_closable state config opened r is) from.only from.can (from.locks ∙ moved.locks) from.same) spindles count each sized in
+        (closable_after state config opened r q (rack_closable state config opened r is) from.only from.can (from.locks ∙ moved.locks) from.same) spindles count each all_asked sized in
         record {
           run = w.lines;
           more = [];
@@ -309,9 +376,13 @@ module _ {D S : Type 0} (T : Type 0) (state : D → State) (tells : Bool) (left 
           part = λ v t is. absurd (text_other done text faults' faults'' printed' printed'' v t prints is);
           begun = kept.begun;
           counts = counts_whole w.served [] kept.kept kept.well (status_in done) (λ v. tt);
-          placed = kept.placed;
+          placed = placed_by tells config options.reclaim entry opened left_ w.lines w.served [] kept awake worked;
           reclaimed = subst (λ (hs : List History). CountsReclaimed (w.served ++ []) hs) (sym is_kept) (reclaimed_by (w.served ++ []) from.after q.keepers.items from_start (inl refl) (subst (λ (hs : List History). (v : ℕ) (h : History) → slice_get hs v ≡ Some h → HasHistory (IsTrue tells) h.base h.notes × AllByRecursion IsRuled h.notes) (is_kept) (λ v h here. ((kept.are.each v h here).legal, kept.ruled v h here))));
           reclaims = kept.reclaims;
+          awake = awake;
+          worked = worked;
+          unbroken = λ is v. subst (λ (hs : List History). is_broken_at hs v ≡ false) (sym is_kept)
+              (unbroken_by (w.served ++ []) q.keepers.items from_start owned (subst (λ (ss : List ServedWindow). AllByRecursion WentWell ss) (sym all_windows) w.well) v);
           marks = kept.marks;
           images = kept.images;
           summary = text;

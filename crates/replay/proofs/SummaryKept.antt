@@ -2,7 +2,7 @@
 use Rattle.std.proofs.Common.{◌≡◌, ◌++◌, ◌<◌, ◌-◌, ℕ, Bool, List, [], ◌∷◌, length, map, refl, sym, ap, subst, ◌∙◌, Option, Some, inl, inr, append-nil, arith}
 use Rattle.std.specs.Prelude.{All, slice_get, slice_index_or}
 use Rattle.wol_model.specs.Journal.{Started, Use}
-use Rattle.wol_model.specs.Trace.{TraceLine, Window, pieces_of, started, timed, windows}
+use Rattle.wol_model.specs.Trace.{TraceLine, Window, pieces_of, requests, started, timed, windows}
 use Rattle.wol_promise.specs.Spindle.{keeper_uses}
 use Rattle.turn_lock.specs.Histories.{Entry, own}
 use Rattle.turn_lock.specs.Passes.{lock_id, pass_mine, pass_number}
@@ -30,6 +30,7 @@ use Rattle.replay.specs.declared.counting.Counted.{Counted}
 use Rattle.replay.specs.declared.given.Given.{Given}
 use Rattle.replay.specs.declared.session.Options.{Options}
 use Rattle.replay.proofs.Accounts.{AreOthers, first_start, moments_of, others_access, own_uses, served_used, used_back}
+use Rattle.replay.proofs.AllAsked.{AreAllCounted}
 use Rattle.replay.proofs.RacksServed.{a_member, at_place, there_at}
 use Rattle.replay.proofs.Serving.{served_moments}
 
@@ -101,9 +102,9 @@ module _ {D S : Type 0} (state : D → State) (tells : Bool) (left : S → Optio
         let stands = (each k s there).stands l lock in
         (stands.volume ∙ is_lock.volume, stands.timeout ∙ is_lock.timeout_is)
 
-    pub summary_now : length spindles ≡ length config.volumes.items
+    pub summary_now : AreAllCounted (requests (most_of config) (targets_of config) w.lines) w.served → length spindles ≡ length config.volumes.items
         → IsSummary config w.lines (w.served ++ []) (summary_text counted.totals (printed_names config.volumes.items) (all_amounts config.powers counted.started counted.ended spindles))
-    summary_now sized = subst (λ (ss : List ServedWindow). IsSummary config w.lines ss (summary_text counted.totals (printed_names config.volumes.items) (all_amounts config.powers counted.started counted.ended spindles))) (sym (append-nil w.served)) (record {
+    summary_now all sized = subst (λ (ss : List ServedWindow). IsSummary config w.lines ss (summary_text counted.totals (printed_names config.volumes.items) (all_amounts config.powers counted.started counted.ended spindles))) (sym (append-nil w.served)) (record {
       totals = counted.totals;
       spindles = spindles;
       line_count = w.line_count;
@@ -111,6 +112,8 @@ module _ {D S : Type 0} (state : D → State) (tells : Bool) (left : S → Optio
       skipped = w.skipped;
       span = w.span ∙ (λ i. w.ended_ i - w.started_ i);
       counted = w.totals_;
+      reads = w.totals_.reads ∙ all.reads;
+      writes = w.totals_.writes ∙ all.writes;
       each = sized;
       own = own_now;
       accounts = accounts_now;

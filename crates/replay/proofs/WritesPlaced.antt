@@ -9,6 +9,7 @@ use Rattle.wol_model.specs.Blocks.{Write}
 use Rattle.wol_model.specs.History as history
 use Rattle.wol_model.specs.History.{Broke, Kept, Operation, Read, Wrote, written_by, writes}
 use Rattle.wol_promise.specs.Outcomes.{Answered, AreOutcomes, AreWritten, IsWriteOf, Outcome, Unanswered, WasRead, WasWritten, answered_in, is_answered}
+use Rattle.wol_promise.specs.Report.{home_writes, logged_writes}
 use Rattle.wol_promise.specs.Ruled.{entries_of}
 use Rattle.run_laws.specs.Answers.{answers_of}
 use Rattle.trace_windows.specs.Requests.{asked}
@@ -19,88 +20,19 @@ use Rattle.request_turns.specs.declared.outcome.Outcome.TheVariants as outcome
 use Rattle.request_workers.specs.Requests.{answers_to, told}
 use Rattle.replay.specs.Counts.{was_logged, went_home}
 use Rattle.replay.specs.Histories.{History, answers_in}
-use Rattle.replay.specs.Placed.{CountsPlaced}
 use Rattle.replay.specs.Served.{ServedWindow, outcomes_in}
 
--- ---- Writes by where they went
+-- ---- Outcomes that pass a test
 
--- a test of whether a write went to a log
-module _ (goes : Bool → Bool) where
-  -- an answered write that passes
-  abbrev passes : Outcome → Bool
-  passes (WasRead mark) = false
-  passes (WasWritten logged drained) = goes logged
-  passes Unanswered = false
-
-  abbrev does : Answered → Bool
+module _ (passes : Outcome → Bool) where
+  abbrev pub does : Answered → Bool
   does a = passes a.outcome
 
-  abbrev goes_write : Write → Bool
-  goes_write w = goes (is_some w.version)
-
-  counted_more : (x : Answered) (xs : List Answered) → count_by does (x ∷ xs) ≡ cond (does x) 1 0 + count_by does xs
+  pub counted_more : (x : Answered) (xs : List Answered) → count_by does (x ∷ xs) ≡ cond (does x) 1 0 + count_by does xs
   counted_more x xs = sum_by-cons (λ (y : Answered). cond (does y) 1 0) x xs
 
-  written_more : (w : Write) (ws : List Write) → count_by goes_write (w ∷ ws) ≡ cond (goes_write w) 1 0 + count_by goes_write ws
-  written_more w ws = sum_by-cons (λ (y : Write). cond (goes_write y) 1 0) w ws
-
-  -- ---- Against a history
-
-  same_place : (o : Outcome) (r : _) (w : Write) → IsWriteOf o r w → goes_write w ≡ passes o
-  same_place (WasWritten logged drained) r w (is, payload) = ap goes payload.place
-  same_place (WasRead mark) r w is = absurd is
-  same_place Unanswered r w is = absurd is
-
-  all_placed : (xs : List Answered) (ws : List Write) → AreWritten xs ws → count_by goes_write ws ≡ count_by does xs
-  all_placed [] [] written = refl
-  all_placed [] (w ∷ ws) written = absurd written
-  all_placed (x ∷ xs) [] written = absurd written
-  all_placed (x ∷ xs) (w ∷ ws) (first, others) =
-      let here : cond (goes_write w) 1 0 ≡ cond {A = ℕ} (does x) 1 0 = ap (λ (t : Bool). cond {A = ℕ} t 1 0) (same_place x.outcome x.request w first) in
-      let rest = all_placed xs ws others in
-      let a = written_more w ws in
-      let b = counted_more x xs in
-      omega (arith, a, b, here, rest)
-
-  joined : (xs ys : List Answered) → count_by does (xs ++ ys) ≡ count_by does xs + count_by does ys
+  pub joined : (xs ys : List Answered) → count_by does (xs ++ ys) ≡ count_by does xs + count_by does ys
   joined xs ys = sum_by-append (λ (y : Answered). cond (does y) 1 0) xs ys
-
-  placed_in : (xs : List Answered) (entries : List history.Entry) → AreOutcomes xs (map (λ (e : history.Entry). e.operation) entries) → count_by goes_write (writes entries) ≡ count_by does xs
-  placed_in xs [] outs = ap (λ (l : List Answered). count_by does l) (sym outs)
-  placed_in xs (e ∷ entries) outs = at e.operation xs outs (λ ys more. placed_in ys entries more)
-    where
-      at : (o : Operation) (ys : List Answered) → AreOutcomes ys (o ∷ map (λ (d : history.Entry). d.operation) entries) → ((zs : List Answered) → AreOutcomes zs (map (λ (d : history.Entry). d.operation) entries) → count_by goes_write (writes entries) ≡ count_by does zs)
-          → count_by goes_write (written_by o ++ writes entries) ≡ count_by does ys
-      at Kept ys all rest = rest ys all
-      at (Broke ws) ys all rest = rest ys all
-      at (Read first reply) [] all rest = absurd all
-      at (Read first reply) (y ∷ ys) all rest =
-          let none : cond {A = ℕ} (does y) 1 0 ≡ 0 = ap (λ (o : Outcome). cond {A = ℕ} (passes o) 1 0) all.0.marked in
-          let more = rest ys all.1 in
-          let here = counted_more y ys in
-          omega (arith, more, here, none)
-      at (Wrote ws) ys all rest =
-          let n = length ws in
-          let split : count_by does ys ≡ count_by does (take n ys) + count_by does (drop n ys) = ap (λ (l : List Answered). count_by does l) (sym (take-append-drop n ys)) ∙ joined (take n ys) (drop n ys) in
-          let both : count_by goes_write (ws ++ writes entries) ≡ count_by goes_write ws + count_by goes_write (writes entries) = sum_by-append (λ (w : Write). cond (goes_write w) 1 0) ws (writes entries) in
-          let here = all_placed (take n ys) ws all.0 in
-          let more = rest (drop n ys) all.1 in
-          omega (arith, split, both, here, more)
-
-  -- the others weren't answered
-  only_answered : (xs : List Answered) → count_by does (answered_in xs) ≡ count_by does xs
-  only_answered [] = refl
-  only_answered (x ∷ xs) = at x.outcome refl (only_answered xs)
-    where
-      more : cond {A = ℕ} (does x) 1 0 + count_by does xs ≡ count_by does (x ∷ xs)
-      more = sym (counted_more x xs)
-
-      at : (o : Outcome) → x.outcome ≡ o → count_by does (answered_in xs) ≡ count_by does xs → count_by does (answered_in (x ∷ xs)) ≡ count_by does (x ∷ xs)
-      at (WasRead mark) is rest = ap (λ (t : Bool). count_by does (cond t (x ∷ answered_in xs) (answered_in xs))) (ap is_answered is) ∙ (let a = counted_more x (answered_in xs) in let b = counted_more x xs in omega (arith, a, b, rest))
-      at (WasWritten logged drained) is rest = ap (λ (t : Bool). count_by does (cond t (x ∷ answered_in xs) (answered_in xs))) (ap is_answered is) ∙ (let a = counted_more x (answered_in xs) in let b = counted_more x xs in omega (arith, a, b, rest))
-      at Unanswered is rest =
-          let none : cond {A = ℕ} (does x) 1 0 ≡ 0 = ap (λ (o : Outcome). cond {A = ℕ} (passes o) 1 0) is in
-          ap (λ (t : Bool). count_by does (cond t (x ∷ answered_in xs) (answered_in xs))) (ap is_answered is) ∙ (let b = counted_more x xs in omega (arith, b, rest, none))
 
   -- ---- Volume by volume
 
@@ -170,7 +102,7 @@ module _ (goes : Bool → Bool) where
         let b = counted_more (record { request = asked r; outcome = told o }) (answers_to rs os) in
         omega (arith, here, rest, a, b)
 
-    of_windows : (ss : List ServedWindow) → AllByRecursion (λ (s : ServedWindow). length s.answer.outcomes.items ≡ length s.batch.requests) ss → count_by test (outcomes_in ss) ≡ count_by does (answers_in ss)
+    pub of_windows : (ss : List ServedWindow) → AllByRecursion (λ (s : ServedWindow). length s.answer.outcomes.items ≡ length s.batch.requests) ss → count_by test (outcomes_in ss) ≡ count_by does (answers_in ss)
     of_windows [] all = refl
     of_windows (s ∷ ss) (first, others) =
         let a = sum_by-append (λ (x : turns.Outcome). cond (test x) 1 0) s.answer.outcomes.items (outcomes_in ss) in
@@ -179,23 +111,97 @@ module _ (goes : Bool → Bool) where
         let rest = of_windows ss others in
         omega (arith, a, b, here, rest)
 
+    -- what is counted of windows is the sum of what each volume's history is worth
     pub all_counted : (ss : List ServedWindow) (hs : List History) → AllByRecursion (λ (s : ServedWindow). length s.answer.outcomes.items ≡ length s.batch.requests) ss
         → AllByRecursion (λ (a : Answered). a.request.volume < length hs) (answers_in ss)
-        → ((v : ℕ) (h : History) → slice_get hs v ≡ Some h → AreOutcomes (answered_in (answers_of v (answers_in ss))) (map (λ (e : history.Entry). e.operation) (entries_of h.notes)))
-        → count_by test (outcomes_in ss) ≡ sum_by (λ (h : History). count_by goes_write (writes (entries_of h.notes))) hs
-    all_counted ss hs sized within answered =
+        → (worth : History → ℕ) → ((v : ℕ) (h : History) → slice_get hs v ≡ Some h → worth h ≡ count_by does (answers_of v (answers_in ss))) → count_by test (outcomes_in ss) ≡ sum_by worth hs
+    all_counted ss hs sized within worth is =
         let xs = answers_in ss in
-        let each : (k : ℕ) (h : History) → slice_get hs k ≡ Some h → count_by goes_write (writes (entries_of h.notes)) ≡ just (0 + k) xs
-        = λ k h there. placed_in (answered_in (answers_of k xs)) (entries_of h.notes) (answered k h there) ∙ only_answered (answers_of k xs) ∙ of_one k xs ∙ ap (λ (n : ℕ). just n xs) (omega arith) in
-        let sum = by_volume hs (λ (h : History). count_by goes_write (writes (entries_of h.notes))) 0 xs each in
+        let each : (k : ℕ) (h : History) → slice_get hs k ≡ Some h → worth h ≡ just (0 + k) xs = λ k h there. is k h there ∙ of_one k xs ∙ ap (λ (n : ℕ). just n xs) (omega arith) in
+        let sum = by_volume hs worth 0 xs each in
         let none = below_none xs in
         let whole = below_all (0 + length hs) xs (subst (λ (n : ℕ). AllByRecursion (λ (a : Answered). a.request.volume < n) xs) (let e : length hs ≡ 0 + length hs = omega arith in e) within) in
         let out = of_windows ss sized in
         omega (arith, sum, none, whole, out)
 
+-- ---- Writes by where they went
+
+-- an answered write that passes a test of whether it went to a log
+abbrev pub writes_that : (goes : Bool → Bool) → Outcome → Bool
+writes_that goes (WasRead mark) = false
+writes_that goes (WasWritten logged drained) = goes logged
+writes_that goes Unanswered = false
+
+module _ (goes : Bool → Bool) where
+  abbrev goes_write : Write → Bool
+  goes_write w = goes (is_some w.version)
+
+  written_more : (w : Write) (ws : List Write) → count_by goes_write (w ∷ ws) ≡ cond (goes_write w) 1 0 + count_by goes_write ws
+  written_more w ws = sum_by-cons (λ (y : Write). cond (goes_write y) 1 0) w ws
+
+  -- ---- Against a history
+
+  same_place : (o : Outcome) (r : _) (w : Write) → IsWriteOf o r w → goes_write w ≡ writes_that goes o
+  same_place (WasWritten logged drained) r w (is, payload) = ap goes payload.place
+  same_place (WasRead mark) r w is = absurd is
+  same_place Unanswered r w is = absurd is
+
+  all_placed : (xs : List Answered) (ws : List Write) → AreWritten xs ws → count_by goes_write ws ≡ count_by (does (writes_that goes)) xs
+  all_placed [] [] written = refl
+  all_placed [] (w ∷ ws) written = absurd written
+  all_placed (x ∷ xs) [] written = absurd written
+  all_placed (x ∷ xs) (w ∷ ws) (first, others) =
+      let here : cond (goes_write w) 1 0 ≡ cond {A = ℕ} (does (writes_that goes) x) 1 0 = ap (λ (t : Bool). cond {A = ℕ} t 1 0) (same_place x.outcome x.request w first) in
+      let rest = all_placed xs ws others in
+      let a = written_more w ws in
+      let b = counted_more (writes_that goes) x xs in
+      omega (arith, a, b, here, rest)
+
+  placed_in : (xs : List Answered) (entries : List history.Entry) → AreOutcomes xs (map (λ (e : history.Entry). e.operation) entries) → count_by goes_write (writes entries) ≡ count_by (does (writes_that goes)) xs
+  placed_in xs [] outs = ap (λ (l : List Answered). count_by (does (writes_that goes)) l) (sym outs)
+  placed_in xs (e ∷ entries) outs = at e.operation xs outs (λ ys more. placed_in ys entries more)
+    where
+      at : (o : Operation) (ys : List Answered) → AreOutcomes ys (o ∷ map (λ (d : history.Entry). d.operation) entries) → ((zs : List Answered) → AreOutcomes zs (map (λ (d : history.Entry). d.operation) entries) → count_by goes_write (writes entries) ≡ count_by (does (writes_that goes)) zs)
+          → count_by goes_write (written_by o ++ writes entries) ≡ count_by (does (writes_that goes)) ys
+      at Kept ys all rest = rest ys all
+      at (Broke ws) ys all rest = rest ys all
+      at (Read first reply) [] all rest = absurd all
+      at (Read first reply) (y ∷ ys) all rest =
+          let none : cond {A = ℕ} (does (writes_that goes) y) 1 0 ≡ 0 = ap (λ (o : Outcome). cond {A = ℕ} (writes_that goes o) 1 0) all.0.marked in
+          let more = rest ys all.1 in
+          let here = counted_more (writes_that goes) y ys in
+          omega (arith, more, here, none)
+      at (Wrote ws) ys all rest =
+          let n = length ws in
+          let split : count_by (does (writes_that goes)) ys ≡ count_by (does (writes_that goes)) (take n ys) + count_by (does (writes_that goes)) (drop n ys) = ap (λ (l : List Answered). count_by (does (writes_that goes)) l) (sym (take-append-drop n ys)) ∙ joined (writes_that goes) (take n ys) (drop n ys) in
+          let both : count_by goes_write (ws ++ writes entries) ≡ count_by goes_write ws + count_by goes_write (writes entries) = sum_by-append (λ (w : Write). cond (goes_write w) 1 0) ws (writes entries) in
+          let here = all_placed (take n ys) ws all.0 in
+          let more = rest (drop n ys) all.1 in
+          omega (arith, split, both, here, more)
+
+  -- the others weren't answered
+  only_answered : (xs : List Answered) → count_by (does (writes_that goes)) (answered_in xs) ≡ count_by (does (writes_that goes)) xs
+  only_answered [] = refl
+  only_answered (x ∷ xs) = at x.outcome refl (only_answered xs)
+    where
+      more : cond {A = ℕ} (does (writes_that goes) x) 1 0 + count_by (does (writes_that goes)) xs ≡ count_by (does (writes_that goes)) (x ∷ xs)
+      more = sym (counted_more (writes_that goes) x xs)
+
+      at : (o : Outcome) → x.outcome ≡ o → count_by (does (writes_that goes)) (answered_in xs) ≡ count_by (does (writes_that goes)) xs → count_by (does (writes_that goes)) (answered_in (x ∷ xs)) ≡ count_by (does (writes_that goes)) (x ∷ xs)
+      at (WasRead mark) is rest = ap (λ (t : Bool). count_by (does (writes_that goes)) (cond t (x ∷ answered_in xs) (answered_in xs))) (ap is_answered is) ∙ (let a = counted_more (writes_that goes) x (answered_in xs) in let b = counted_more (writes_that goes) x xs in omega (arith, a, b, rest))
+      at (WasWritten logged drained) is rest = ap (λ (t : Bool). count_by (does (writes_that goes)) (cond t (x ∷ answered_in xs) (answered_in xs))) (ap is_answered is) ∙ (let a = counted_more (writes_that goes) x (answered_in xs) in let b = counted_more (writes_that goes) x xs in omega (arith, a, b, rest))
+      at Unanswered is rest =
+          let none : cond {A = ℕ} (does (writes_that goes) x) 1 0 ≡ 0 = ap (λ (o : Outcome). cond {A = ℕ} (writes_that goes o) 1 0) is in
+          ap (λ (t : Bool). count_by (does (writes_that goes)) (cond t (x ∷ answered_in xs) (answered_in xs))) (ap is_answered is) ∙ (let b = counted_more (writes_that goes) x xs in omega (arith, b, rest, none))
+
+  -- the writes of a volume's history
+  placed_of : (v : ℕ) (answers : List Answered) (entries : List history.Entry) → AreOutcomes (answered_in (answers_of v answers)) (map (λ (e : history.Entry). e.operation) entries)
+      → count_by goes_write (writes entries) ≡ count_by (does (writes_that goes)) (answers_of v answers)
+  placed_of v answers entries outs = placed_in (answered_in (answers_of v answers)) entries outs ∙ only_answered (answers_of v answers)
+
 -- ---- The whole
 
-logged_same : (o : turns.Outcome) → was_logged o ≡ passes (λ t. t) (told o)
+logged_same : (o : turns.Outcome) → was_logged o ≡ writes_that (λ t. t) (told o)
 logged_same (outcome.Read mark sources) = refl
 logged_same (outcome.Wrote place.Home drained) = refl
 logged_same (outcome.Wrote (place.Log logger) drained) = refl
@@ -203,7 +209,7 @@ logged_same (outcome.NoRead refusal) = refl
 logged_same (outcome.NoWrite refusal) = refl
 logged_same outcome.NotRun = refl
 
-home_same : (o : turns.Outcome) → went_home o ≡ passes not (told o)
+home_same : (o : turns.Outcome) → went_home o ≡ writes_that not (told o)
 home_same (outcome.Read mark sources) = refl
 home_same (outcome.Wrote place.Home drained) = refl
 home_same (outcome.Wrote (place.Log logger) drained) = refl
@@ -211,10 +217,15 @@ home_same (outcome.NoRead refusal) = refl
 home_same (outcome.NoWrite refusal) = refl
 home_same outcome.NotRun = refl
 
+-- the writes to logs and those home that are counted are those of the histories
+pub record ArePlaced (ss : List ServedWindow) (hs : List History) : Type 0 where
+  pub log : count_by was_logged (outcomes_in ss) ≡ sum_by (λ (h : History). logged_writes h.notes) hs
+  pub home : count_by went_home (outcomes_in ss) ≡ sum_by (λ (h : History). home_writes h.notes) hs
+
 pub counts_placed : (ss : List ServedWindow) (hs : List History) → AllByRecursion (λ (s : ServedWindow). length s.answer.outcomes.items ≡ length s.batch.requests) ss
     → AllByRecursion (λ (a : Answered). a.request.volume < length hs) (answers_in ss)
-    → ((v : ℕ) (h : History) → slice_get hs v ≡ Some h → AreOutcomes (answered_in (answers_of v (answers_in ss))) (map (λ (e : history.Entry). e.operation) (entries_of h.notes))) → CountsPlaced ss hs
+    → ((v : ℕ) (h : History) → slice_get hs v ≡ Some h → AreOutcomes (answered_in (answers_of v (answers_in ss))) (map (λ (e : history.Entry). e.operation) (entries_of h.notes))) → ArePlaced ss hs
 counts_placed ss hs sized within answered = record {
-  log = all_counted (λ t. t) was_logged logged_same ss hs sized within answered;
-  home = all_counted not went_home home_same ss hs sized within answered;
+  log = all_counted (writes_that (λ t. t)) was_logged logged_same ss hs sized within (λ (h : History). logged_writes h.notes) (λ v h here. placed_of (λ t. t) v (answers_in ss) (entries_of h.notes) (answered v h here));
+  home = all_counted (writes_that not) went_home home_same ss hs sized within (λ (h : History). home_writes h.notes) (λ v h here. placed_of not v (answers_in ss) (entries_of h.notes) (answered v h here));
 }

@@ -4,6 +4,10 @@
 -- acknowledged write in its volume's one legal history, beginning with all its caller had seen; wherever the disks stop, within a
 -- write too, reopening gives that history's acknowledged writes, followed at most by a prefix of the writes in flight, or by some
 -- blocks of a single one.
+--
+-- `config` is the configuration; `start` and `now` are where the lines come from, before and after the run; `entry` and `exit` what the
+-- bay told of its images then, `faults` and `faults'` how many of its calls had failed, `taken` and `taken'` the bytes that the sink had
+-- taken; `status` is what the run ended with. Read `Headline` first, then `HasOneHistory`.
 use Rattle.std.specs.Prelude.{◌≡◌, ◌≢◌, ◌<◌, ◌⊎◌, ◌++◌, ℕ, Bool, true, false, List, [], length, map, take, drop, Option, None, unwrap_or, IsTrue}
 use Rattle.std.specs.Io.KnownBytes.{Appends}
 use Rattle.wol_disk.specs.Disk.{Block, Rose, State}
@@ -41,7 +45,8 @@ in_flight history = unwrap_or (flight_of history) []
 abbrev pub IsOneAction : (v : ℕ) → (next : List Request) → List Write → Type 0
 IsOneAction v next flight = (flight ≡ []) ⊎ (map unversioned flight ≡ payloads v (take 1 next))
 
--- Volume v, with the outcomes of its requests, has one legal history, and is reopened with what that acknowledged.
+-- Volume v, whose requests had these outcomes, in the order of the trace, has one legal history, and is reopened with what that
+-- acknowledged.
 pub record HasOneHistory (config : Config) (entry exit : Told) (faults faults' : ℕ) (v : ℕ) (answers : List Answered) : Type 0 where
   -- the entries of its lock, of each pass, in their order
   pub history : List Entry
@@ -51,8 +56,9 @@ pub record HasOneHistory (config : Config) (entry exit : Told) (faults faults' :
   pub first : answered_in answers ≡ take (length (answered_in answers)) answers
   pub served : AreOutcomes (answered_in answers) (map (λ (e : Entry). e.operation) history)
   -- wherever the disks stop, reopening gives the acknowledged writes, then at most a prefix of those in flight, or some blocks of a
-  -- single one that goes home
+  -- single one that was to go home: a write to a log has a version, and is there whole or not at all
   pub reopens : (images : Images) → AreLeft config exit images → IsCut (opened_array config (images_read config entry) v) (writes history) (in_flight history) (opened_array config images v)
+  -- the writes in flight are those of one action, that of the next request
   pub one_action : IsOneAction v (drop (length (answered_in answers)) (requests_in answers)) (in_flight history)
   -- where no call failed nothing was in flight
   pub calm : (Rose faults faults' → ⊥) → flight_of history ≡ None
@@ -99,7 +105,8 @@ pub record HasNotBegun {D S : Type 0} (tells : Bool) (state : D → State) (conf
   pub none : ArePrinted [] status taken taken'
   pub left : LeavesBay tells state config old new
 
--- The headline holds of each run over open volumes, where the bay and its disks tell their content.
+-- The headline holds of each run over open volumes, at each status, where the bay and its disks tell their content and no two images
+-- that the bay tells had one name.
 abbrev pub KeepsHeadline : {D S : Type 0} → (tells : Bool) → (D → State) → (S → Option (List ℕ)) → Config → (each : Bool) → (start now : Given S) → (old new : BayState) → (status : ℕ) → (taken taken' : Option (List ℕ)) → Type 0
 KeepsHeadline tells state left config each start now old new status taken taken' =
     HasNotBegun tells state config start now old new status taken taken' ⊎ (IsTrue tells → IsTold (λ entry exit. Headline left config each start now entry exit old.faults new.faults status taken taken') old.told new.told)

@@ -15,3 +15,5 @@ pub mod NotOpened
 pub mod Replays
 pub mod Completes
 pub mod Placed
+pub mod Works
+pub mod Account

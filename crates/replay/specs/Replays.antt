@@ -1,5 +1,5 @@
 -- What replaying a trace on all volumes of a bay comes to, where all of them are open.
-use Rattle.std.specs.Prelude.{◌≡◌, ◌≢◌, ◌≤◌, ◌++◌, ℕ, Bool, List, [], length, Option, Result, Ok, Err, IsTrue}
+use Rattle.std.specs.Prelude.{◌≡◌, ◌≢◌, ◌≤◌, ◌++◌, ℕ, Bool, false, List, [], length, Option, Result, Ok, Err, IsTrue}
 use Rattle.std.specs.List.{AllByRecursion}
 use Rattle.wol_disk.specs.Disk.{Rose, State}
 use Rattle.wol_bay.specs.Bay.{BayState}
@@ -23,6 +23,7 @@ use Rattle.replay.specs.Placed.{CountsPlaced, CountsReclaimed}
 use Rattle.replay.specs.Served.{ServedWindow}
 use Rattle.replay.specs.Sessions.{AreWindowsOf, EndsWithWindow, WentWell}
 use Rattle.replay.specs.Summed.{IsSummaryOf, PrintsRun, lines_asked}
+use Rattle.replay.specs.Works.{AreWorked}
 use Rattle.replay.specs.declared.given.Given.{Given}
 use Rattle.replay.specs.declared.session.Options.{Options}
 use Rattle.replay.specs.declared.stop.Stop.{Stop}
@@ -66,6 +67,11 @@ pub record Replays {S T : Type 0} (tells : Bool) (left : S → Option (List ℕ)
   -- .. and so is what is counted of reclaim
   pub reclaimed : CountsReclaimed (earlier ++ last) histories
   pub reclaims : LeavesReclaimed options.reclaim (earlier ++ last) histories
+  -- what the worker and the keeper of each volume did, window by window; `awake` has what the spindles answered
+  pub awake : List (List Bool)
+  pub worked : AreWorked options.reclaim (earlier ++ last) awake histories
+  -- at the end of the trace no call of a disk of a volume had failed
+  pub unbroken : status_in result ≡ 0 → (v : ℕ) → is_broken_at histories v ≡ false
   pub marks : IsTrue tells → IsTold (λ entry left_. ArePlainMarks config (answers_in (earlier ++ last)) entry) old.told new.told
   pub images : IsTrue tells → IsTold (LeavesImages tells config (answers_in (earlier ++ last)) histories) old.told new.told
   pub summary : List ℕ

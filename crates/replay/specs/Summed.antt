@@ -1,10 +1,10 @@
 -- What a run over open volumes prints: the lines of the answered reads, and the summary with the account of each disk.
-use Rattle.std.specs.Prelude.{◌≡◌, ◌≢◌, ◌⊎◌, ◌++◌, ◌-◌, ℕ, Bool, true, false, is_none, count_by, List, [], length, map, take, Option, Some, slice_get, Result, Ok, Err, All}
+use Rattle.std.specs.Prelude.{◌≡◌, ◌≢◌, ◌⊎◌, ◌++◌, ◌-◌, ℕ, Bool, true, false, is_none, count_by, List, [], length, map, not, take, Option, Some, slice_get, Result, Ok, Err, All}
 use Rattle.std.specs.Io.KnownBytes.{Appends}
 use Rattle.wol_disk.specs.Disk.{Rose}
 use Rattle.wol_io.specs.Streams.{AppendsFront}
 use Rattle.wol_model.specs.Journal.{Use, AreUses, new_spindle, spindle_after}
-use Rattle.wol_model.specs.Trace.{TraceLine, ended, started, timed}
+use Rattle.wol_model.specs.Trace.{Request, TraceLine, ended, requests, started, timed}
 use Rattle.wol_promise.specs.Outcomes.{Answered}
 use Rattle.wol_promise.specs.Run.{joined_lines}
 use Rattle.wol_promise.specs.Spindle.{keeper_uses}
@@ -17,7 +17,8 @@ use Rattle.report.specs.declared.fault.Fault.TheVariants.{Memory}
 use Rattle.report.specs.declared.totals.Totals.{Totals}
 use Rattle.spin_model.specs.Spindles.{SpindleView}
 use Rattle.trace_gen.specs.Generated.{targets_of}
-use Rattle.trace_windows.specs.Requests.{is_skipped}
+use Rattle.trace_windows.specs.Requests.{is_skipped, most_of}
+use Rattle.replay.specs.Completes.{is_write}
 use Rattle.replay.specs.Givens.{HasGivenAll}
 use Rattle.replay.specs.Histories.{line_of_read}
 use Rattle.replay.specs.Prints.{all_amounts}
@@ -48,6 +49,9 @@ pub record IsSummary (config : Config) (lines : List (Option TraceLine)) (window
   pub skipped : totals.skipped ≡ count_by (is_skipped (targets_of config)) lines
   pub span : totals.span ≡ ended (timed lines) - started (timed lines)
   pub counted : AreTotals windows totals
+  -- all requests of the lines were answered
+  pub reads : totals.reads ≡ count_by (λ (r : Request). not (is_write r.kind)) (requests (most_of config) (targets_of config) lines)
+  pub writes : totals.writes ≡ count_by (λ (r : Request). is_write r.kind) (requests (most_of config) (targets_of config) lines)
   pub each : length spindles ≡ length config.volumes.items
   -- in order, each with the configured timeout
   pub own : (k : ℕ) (s : SpindleView) → slice_get spindles k ≡ Some s → (s.volume ≡ k) × (s.timeout ≡ config.timeout)

@@ -3,11 +3,14 @@
 //!
 //! From the outside in: `run.rt` has the call: open, serve, close, print. `session.rt` serves the windows of a
 //! trace on a floor, `given.rt` gives the lines of a trace or of a seed, `counting.rt` and `ending.rt` say what a
-//! window counts and ends a run with, `printing.rt` prints the lines of reads and the summary. Of `specs/`, read
-//! `Replays` first, then what it is made of: `Histories` (what each volume's entries are, and how many of its
-//! requests were answered), `Leaves` (images), `Ended` (why a run ended), `Summed` (the summary and the account),
-//! `NotOpened` (a rack of which a volume isn't open), `Completes` (when a run comes to its end); `Sessions`,
-//! `Served` and `Runs` are the chain of windows on a floor, from which they are had.
+//! window counts and ends a run with, `printing.rt` prints the lines of reads and the summary.
+//!
+//! Of `specs/`, read `Headline` first (what is read back and what is reopened) and then `Account` (placing, reclaim and
+//! the disks' time): a page each. `Replays` has all that a run over open volumes comes to, of which both are had:
+//! `Histories` (what each volume's entries are, and how many of its requests were answered), `Works` (what each pass
+//! of a volume did, window by window), `Leaves` (images), `Placed` (what is counted), `Ended` (why a run ended),
+//! `Summed` (the summary and the disks' journals), `NotOpened` (a rack of which a volume isn't open), `Completes`
+//! (when a run comes to its end); `Sessions`, `Served` and `Runs` are the chain of windows on a floor.
 #![tactic(auto)]
 
 mod counting;

@@ -4,6 +4,7 @@ ghost use Rattle.wol_bay.specs.Bay.{outs};
 ghost use Rattle.wol_disk.specs.Disk.{Rose};
 ghost use Rattle.wol_config.specs.Configs.{IsValid};
 ghost use Rattle.volume_images.specs.Volumes.{NoneOut};
+ghost use Rattle.replay.specs.Account.{KeepsAccount};
 ghost use Rattle.replay.specs.Headline.{KeepsHeadline};
 ghost use Rattle.replay.specs.Givens.{IsNew, IsWithin, faults_of, borrow_of};
 ghost use Rattle.replay.specs.Sessions.{AreOptions, IsSession};
@@ -153,6 +154,8 @@ where
     requires home { NoneOut config.now (B.state bay.old) }
     // The headline, at each exit.
     ensures headline { KeepsHeadline B.Part.tells B.Part.state S.left config.now options.each given.old given.new (B.state bay.old) (B.state bay.new) (status_in result) (K.taken out.old) (K.taken out.new) }
+    // The account of placing, reclaim and the disks' time, at each exit.
+    ensures account { KeepsAccount B.Part.tells B.Part.state S.left config.now options.reclaim given.old given.new (B.state bay.old) (B.state bay.new) (status_in result) (K.taken out.old) (K.taken out.new) }
     // each exit
     ensures home { NoneOut config.now (B.state bay.new) }
     ensures outs { outs (B.state bay.new) ≡ outs (B.state bay.old) }

@@ -2,6 +2,7 @@
 ghost use Rattle.std.specs.Prelude.{◌≡◌, ◌≤◌};
 ghost use Rattle.wol_config.specs.Configs.{IsValid};
 ghost use Rattle.replay.specs.Givens.{IsNew};
+ghost use Rattle.replay.specs.Sessions.{AreOptions};
 
 use crate::gates::Holding;
 use crate::rows::{DRAINS, THREE, TWO, formatted, run, status_of};
@@ -49,6 +50,24 @@ volume src0 wakes 1 sleeps 1 awake 600000000 standby 3400000000 energy 870000
 total wakes 4 sleeps 5 energy 5250000
 ";
 
+// The same lines where nothing is reclaimed: the second write of `usr` to a block that it logged is logged too, which wakes `web`.
+const KEPT: &[u8] = b"read 3 web0 16 2 4
+read 6 usr0 0 2 10
+read 8 usr0 2 2 2
+read 10 web0 0 1 4
+read 11 src0 10 1 7
+read 12 src0 10 2 7
+lines 12 blank 0 skipped 0
+reads 6 writes 6
+placed home 3 log 3 drains 0
+reclaimed blocks 0 records 0
+span 4000000000
+volume usr0 wakes 1 sleeps 2 awake 1200000000 standby 2800000000 energy 1290000
+volume web0 wakes 3 sleeps 3 awake 3500000000 standby 500000000 energy 3000000
+volume src0 wakes 1 sleeps 1 awake 600000000 standby 3400000000 energy 870000
+total wakes 5 sleeps 6 energy 5160000
+";
+
 const DRAINED: &[u8] = b"read 1 b 0 1 0
 read 2 b 0 1 0
 read 5 a 0 1 4
@@ -86,28 +105,20 @@ pub(crate) fn between(workers: u32) -> Options
     }
 }
 
-// A trace on formatted volumes is to print this with so many workers.
+// A trace on formatted volumes is to print this with these options.
 fn try_trace<R: Abort + Threads + Wait + Sync>(
     rt: &R,
     alloc: Global,
     config: &[u8],
     trace: &[u8],
-    workers: u32,
+    options: Options,
     text: &[u8],
 ) -> Result<(), Fail>
-    requires { (1 ≤ workers) × (workers ≤ 64) }
+    requires { AreOptions options }
 {
     let config = read_config(alloc, config)?;
     let mut bay = formatted(rt, alloc, &config);
-    let (status, out) = run(
-        rt,
-        alloc,
-        &config,
-        &mut bay,
-        trace,
-        between(workers),
-        &NoGate,
-    )?;
+    let (status, out) = run(rt, alloc, &config, &mut bay, trace, options, &NoGate)?;
     assert_eq!(rt; out.bytes(), text);
     assert_eq!(rt; status, 0);
     Ok(())
@@ -116,9 +127,19 @@ fn try_trace<R: Abort + Threads + Wait + Sync>(
 #[test]
 fn eight_workers_print_what_one_prints(rt: HostRuntime) -> Result<(), Fail> {
     let alloc = rt.alloc();
-    try_trace(&rt, alloc, THREE, OFFLOADS, 1, OFFLOADED)?;
-    try_trace(&rt, alloc, THREE, OFFLOADS, 8, OFFLOADED)?;
-    try_trace(&rt, alloc, TWO, DRAINS, 2, DRAINED)
+    try_trace(&rt, alloc, THREE, OFFLOADS, between(1), OFFLOADED)?;
+    try_trace(&rt, alloc, THREE, OFFLOADS, between(8), OFFLOADED)?;
+    try_trace(&rt, alloc, TWO, DRAINS, between(2), DRAINED)
+}
+
+#[test]
+fn records_are_kept_where_nothing_is_reclaimed(rt: HostRuntime) -> Result<(), Fail> {
+    let off = Options {
+        workers: 2,
+        reclaim: Reclaim::Off,
+        each: true,
+    };
+    try_trace(&rt, rt.alloc(), THREE, OFFLOADS, off, KEPT)
 }
 
 #[test]

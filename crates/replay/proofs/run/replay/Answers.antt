@@ -8,6 +8,7 @@ use Rattle.replay.specs.Completes.{Completes}
 use Rattle.replay.specs.Givens.{faults_of}
 use Rattle.replay.specs.Replays as replays
 use Rattle.replay.specs.declared.stop.Stop.{Stop}
+use Rattle.replay.proofs.AccountKept.{keeps_account}
 use Rattle.replay.proofs.HeadlineKept.{keeps_headline}
 use Rattle.replay.proofs.RunAnswered.{replayed_err, replayed_ok}
 use Rattle.replay.proofs.RunCompleted.{complete_err, complete_ok, not_source}
@@ -187,3 +188,12 @@ returns-in_err-counted-clause-headline g c = keeps_headline _ _ _ _ _ _ _ _ _ _ 
 
 pub returns-clause-headline : goal.returns-clause-headline
 returns-clause-headline g c = keeps_headline _ _ _ _ _ _ _ _ _ _ _ _ _ _ (returns-clause-replays g c)
+
+pub returns-in_default-clause-account : goal.returns-in_default-clause-account
+returns-in_default-clause-account g c = keeps_account _ _ _ _ _ _ _ _ _ _ _ _ _ _ (returns-in_default-clause-replays g c)
+
+pub returns-in_err-counted-clause-account : goal.returns-in_err-counted-clause-account
+returns-in_err-counted-clause-account g c = keeps_account _ _ _ _ _ _ _ _ _ _ _ _ _ _ (returns-in_err-counted-clause-replays g c)
+
+pub returns-clause-account : goal.returns-clause-account
+returns-clause-account g c = keeps_account _ _ _ _ _ _ _ _ _ _ _ _ _ _ (returns-clause-replays g c)

@@ -1,0 +1,75 @@
+-- The account holds of each run.
+use Rattle.std.proofs.Common.{◌≡◌, ◌++◌, ℕ, Bool, List, Option, None, Some, Result, Ok, Err, refl, subst, ap, inl, inr}
+use Rattle.std.specs.Prelude.{⊤, IsTrue, slice_get}
+use Rattle.wol_disk.specs.Disk.{State}
+use Rattle.wol_bay.specs.Bay.{BayState, Told}
+use Rattle.wol_model.specs.Trace.{TraceLine}
+use Rattle.wol_promise.specs.Run.{joined_lines}
+use Rattle.wol_config.specs.declared.config.Config.{Config}
+use Rattle.volume_images.specs.Left.{IsTold}
+use Rattle.request_workers.specs.declared.request.Reclaim.{Reclaim}
+use Rattle.replay.specs.Account.{Account, EndsWithSummary, FollowsPolicy, KeepsAccount}
+use Rattle.replay.specs.Histories.{BeginAsRead, History, IsHistory, answers_in}
+use Rattle.replay.specs.Replays as replays
+use Rattle.replay.specs.Replays.{Replayed, Replays, status_in}
+use Rattle.replay.specs.Served.{ServedWindow}
+use Rattle.replay.specs.Summed as summed
+use Rattle.replay.specs.Summed.{IsSummaryOf, PrintsRun}
+use Rattle.replay.specs.declared.given.Given.{Given}
+use Rattle.replay.specs.declared.session.Options.{Options}
+use Rattle.replay.specs.declared.stop.Stop.{Stop}
+use Rattle.replay.specs.declared.stop.Stop.TheVariants as stop
+use Rattle.replay.proofs.HeadlineKept.{closed_yet, no_memory_yet}
+use Rattle.replay.proofs.RunCounts.{status_some}
+
+-- a run that came to the end of its trace printed the summary
+summary_printed : {S T : Type 0} (left : S → Option (List ℕ)) (config : Config) (start now : Given S) (lines : List (Option TraceLine)) (windows : List ServedWindow) (result : Result T Stop) (text : List ℕ) (told : List (List ℕ))
+    (faults faults' : ℕ) (taken taken' : Option (List ℕ)) → IsSummaryOf left config start now lines windows result text → PrintsRun result told text faults faults' taken taken' → status_in result ≡ 0
+    → EndsWithSummary config lines windows taken taken'
+summary_printed left config start now lines windows (Ok done) text told faults faults' taken taken' (summed.of_all _ _ all summary) (calm, is) at_end = (joined_lines told, text, summary, is)
+summary_printed left config start now lines windows (Err stop.Sink) text told faults faults' taken taken' summary prints at_end = absurd (cc at_end)
+summary_printed left config start now lines windows (Err (stop.Fault f)) text told faults faults' taken taken' summary prints at_end = absurd (status_some f at_end)
+
+told_once : (P X : Told → Told → Type 0) (a b : Option Told) → IsTold P a b → ((o n : Told) → P o n → X o n) → IsTold X a b
+told_once P X None b p all = p
+told_once P X (Some o) None p all = p
+told_once P X (Some o) (Some n) p all = λ apart. all o n (p apart)
+
+module _ {S T : Type 0} (tells : Bool) (left : S → Option (List ℕ)) (config : Config) (options : Options) (start now : Given S) (old new : BayState) (result : Result T Stop) (sink sink' : ℕ) (taken taken' : Option (List ℕ))
+    (r : Replays tells left config options start now old new result sink sink' taken taken') (telling : IsTrue tells) where
+  history_told : (v : ℕ) (h : History) → IsHistory (IsTrue tells) (answers_in (r.earlier ++ r.last)) v h → IsHistory ⊤ (answers_in (r.earlier ++ r.last)) v h
+  history_told v h is = record {
+    owner = is.owner;
+    opening = is.opening;
+    legal = record { replies = λ told. is.legal.replies telling; breaks = is.legal.breaks; helpers = is.legal.helpers; ruled = is.legal.ruled };
+    ruled = is.ruled;
+    answered = is.answered;
+  }
+
+  account_kept : IsTold (λ entry exit. Account left config options.reclaim start now entry (status_in result) taken taken') old.told new.told
+  account_kept = told_once (λ entry exit. BeginAsRead config entry r.histories) (λ entry exit. Account left config options.reclaim start now entry (status_in result) taken taken') old.told new.told (r.begun telling)
+      (λ entry exit begun. record {
+        lines = r.run;
+        given = (r.more, r.given);
+        windows = r.earlier ++ r.last;
+        are = r.windows_;
+        awake = r.awake;
+        histories = r.histories;
+        count = r.are.count;
+        each_volume = λ v h here. record {
+          begun = begun v h here;
+          history = history_told v h (r.are.each v h here);
+          works = r.worked.each v h here;
+          alone = λ other. r.reclaims.alone other v h here;
+        };
+        unbroken = r.unbroken;
+        printed = summary_printed left config start now r.run (r.earlier ++ r.last) result r.summary _ sink sink' taken taken' r.summary_is r.prints;
+        placed = r.placed;
+        reclaimed = r.reclaimed;
+      })
+
+pub keeps_account : {D S T : Type 0} (tells : Bool) (state : D → State) (left : S → Option (List ℕ)) (config : Config) (options : Options) (start now : Given S) (old new : BayState) (sink sink' : ℕ) (taken taken' : Option (List ℕ)) (result : Result T Stop)
+    → Replayed tells state left config options start now old new sink sink' taken taken' result → KeepsAccount tells state left config options.reclaim start now old new (status_in result) taken taken'
+keeps_account tells state left config options start now old new sink sink' taken taken' _ (replays.no_memory asks bay) = inl (no_memory_yet tells state config start now old new sink sink' taken taken' asks bay)
+keeps_account tells state left config options start now old new sink sink' taken taken' _ (replays.closed k f asks first bay) = inl (closed_yet tells state config start now old new sink sink' taken taken' k f asks bay)
+keeps_account tells state left config options start now old new sink sink' taken taken' result (replays.ran _ r) = inr (λ telling. account_kept tells left config options start now old new result sink sink' taken taken' r telling)

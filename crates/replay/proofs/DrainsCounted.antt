@@ -1,0 +1,147 @@
+-- The writes after a drain that are counted of windows are those of the volumes' histories.
+use Rattle.std.proofs.Common.{◌≡◌, ◌≢◌, ◌==◌, ◌<◌, ◌+◌, ◌++◌, ℕ, Bool, true, false, cond, List, [], ◌∷◌, length, refl, sym, ap, subst, ◌∙◌, Some, arith}
+use Rattle.std.specs.Prelude.{count_by, slice_get, sum_by}
+use Rattle.std.specs.List.{AllByRecursion}
+use Rattle.std.proofs.lemmas.Bool.{eqb-false}
+use Rattle.std.proofs.lemmas.List.Sums.{sum_by-append, sum_by-cons}
+use Rattle.wol_model.specs.History as history
+use Rattle.wol_model.specs.History.{Broke, IsHelp, Kept, Operation, Read, Wrote, worker}
+use Rattle.wol_promise.specs.Outcomes.{Answered, Outcome, Unanswered, WasRead, WasWritten}
+use Rattle.wol_promise.specs.Report.{by_worker, drains, is_drained_write}
+use Rattle.wol_promise.specs.Ruled.{Noted, entries_of}
+use Rattle.run_laws.specs.Answers.{answers_of}
+use Rattle.run_laws.proofs.ReadLines.{volume_joined}
+use Rattle.manager.specs.declared.part.ReadRefusal.TheVariants as read
+use Rattle.manager.specs.declared.part.WriteRefusal.TheVariants as write
+use Rattle.trace_windows.specs.Requests.{asked}
+use Rattle.trace_windows.specs.declared.request.Request.{Request}
+use Rattle.request_turns.specs.Entries.{AreMade}
+use Rattle.request_turns.specs.declared.outcome.Outcome as turns
+use Rattle.request_turns.specs.declared.outcome.Outcome.TheVariants as outcome
+use Rattle.request_workers.specs.Requests.{answers_to, outcomes_of, own_requests, told}
+use Rattle.request_workers.specs.declared.request.Reclaim.{Reclaim}
+use Rattle.request_workers.specs.declared.request.Reclaim.TheVariants as reclaim
+use Rattle.replay.specs.Counts.{was_drained}
+use Rattle.replay.specs.Histories.{History, answers_in}
+use Rattle.replay.specs.Served.{ServedWindow, outcomes_in}
+use Rattle.replay.specs.Works.{AreClosings, AreWorked, AreWorks, IsWork}
+use Rattle.replay.proofs.AnswersServed.{own_answers}
+use Rattle.replay.proofs.WritesPlaced.{all_counted, counted_more, does, joined}
+
+-- a write that was answered after a drain
+abbrev drained_in : Outcome → Bool
+drained_in (WasRead mark) = false
+drained_in (WasWritten logged drained) = drained
+drained_in Unanswered = false
+
+-- ---- Entries
+
+drains_more : (n : Noted) (notes : List Noted) → drains (n ∷ notes) ≡ cond (is_drained_write n.after_drain n.entry.operation) 1 0 + drains notes
+drains_more n notes = sum_by-cons (λ (m : Noted). cond (is_drained_write m.after_drain m.entry.operation) 1 0) n notes
+
+drains_joined : (xs ys : List Noted) → drains (xs ++ ys) ≡ drains xs + drains ys
+drains_joined xs ys = sum_by-append (λ (m : Noted). cond (is_drained_write m.after_drain m.entry.operation) 1 0) xs ys
+
+-- an entry that changes no content is no write
+help_drains : (after_drain : Bool) (o : Operation) → IsHelp o → is_drained_write after_drain o ≡ false
+help_drains after_drain Kept help = refl
+help_drains after_drain (Broke ws) help = refl
+help_drains after_drain (Wrote ws) help = absurd help
+help_drains after_drain (Read first reply) help = absurd help
+
+-- ---- The requests of a window
+
+one_drain : (r : Request) (rs : List Request) (o : turns.Outcome) (os : List turns.Outcome) (notes first rest : List Noted) (n : Noted) → notes ≡ first ++ rest → first ≡ n ∷ []
+    → is_drained_write n.after_drain n.entry.operation ≡ drained_in (told o) → drains rest ≡ count_by (does drained_in) (answers_to rs os) → drains notes ≡ count_by (does drained_in) (answers_to (r ∷ rs) (o ∷ os))
+one_drain r rs o os notes first rest n same one is others =
+    let all : drains notes ≡ drains (n ∷ rest) = ap drains (same ∙ ap (λ (l : List Noted). l ++ rest) one) in
+    let here : cond {A = ℕ} (is_drained_write n.after_drain n.entry.operation) 1 0 ≡ cond {A = ℕ} (drained_in (told o)) 1 0 = ap (λ (t : Bool). cond {A = ℕ} t 1 0) is in
+    let a = drains_more n rest in
+    let b = counted_more drained_in (record { request = asked r; outcome = told o }) (answers_to rs os) in
+    omega (arith, all, here, a, b, others)
+
+made_drains : (view : List ℕ) (rs : List Request) (os : List turns.Outcome) (notes : List Noted) → AreMade view rs os notes → drains notes ≡ count_by (does drained_in) (answers_to rs os)
+made_drains view [] [] notes made = ap drains made
+made_drains view [] (o ∷ os) notes made = absurd made
+made_drains view (r ∷ rs) [] notes made = absurd made
+made_drains view (r ∷ rs) (outcome.Read mark sources ∷ os) notes (first, rest, same, (n, one, entry), others) =
+    one_drain r rs (outcome.Read mark sources) os notes first rest n same one (ap (is_drained_write n.after_drain) entry.operation) (made_drains view rs os rest others)
+made_drains view (r ∷ rs) (outcome.Wrote place drained ∷ os) notes (first, rest, same, (n, one, (is_write, entry)), others) =
+    one_drain r rs (outcome.Wrote place drained) os notes first rest n same one (ap (is_drained_write n.after_drain) entry.operation ∙ entry.drain) (made_drains view rs os rest others)
+made_drains view (r ∷ rs) (outcome.NoRead (read.DiskFault p) ∷ os) notes (first, rest, same, (n, one, (is_read, broke)), others) =
+    one_drain r rs (outcome.NoRead (read.DiskFault p)) os notes first rest n same one (ap (is_drained_write n.after_drain) broke) (made_drains view rs os rest others)
+made_drains view (r ∷ rs) (outcome.NoRead (read.Down p) ∷ os) notes (first, rest, same, (n, one, (is_read, kept)), others) =
+    one_drain r rs (outcome.NoRead (read.Down p)) os notes first rest n same one (ap (is_drained_write n.after_drain) kept) (made_drains view rs os rest others)
+made_drains view (r ∷ rs) (outcome.NoWrite write.Full ∷ os) notes (first, rest, same, (n, one, (is_write, full)), others) = absurd full
+made_drains view (r ∷ rs) (outcome.NoWrite (write.DiskFault p) ∷ os) notes (first, rest, same, (n, one, (is_write, (ws, broke, flight))), others) =
+    one_drain r rs (outcome.NoWrite (write.DiskFault p)) os notes first rest n same one (ap (is_drained_write n.after_drain) broke) (made_drains view rs os rest others)
+made_drains view (r ∷ rs) (outcome.NoWrite (write.Down p) ∷ os) notes (first, rest, same, (n, one, (is_write, kept)), others) =
+    one_drain r rs (outcome.NoWrite (write.Down p)) os notes first rest n same one (ap (is_drained_write n.after_drain) kept) (made_drains view rs os rest others)
+made_drains view (r ∷ rs) (outcome.NoWrite write.VersionsSpent ∷ os) notes (first, rest, same, (n, one, (is_write, (kept, spent))), others) =
+    one_drain r rs (outcome.NoWrite write.VersionsSpent) os notes first rest n same one (ap (is_drained_write n.after_drain) kept) (made_drains view rs os rest others)
+made_drains view (r ∷ rs) (outcome.NoWrite write.NoMemory ∷ os) notes (first, rest, same, (n, one, (is_write, kept)), others) =
+    one_drain r rs (outcome.NoWrite write.NoMemory) os notes first rest n same one (ap (is_drained_write n.after_drain) kept) (made_drains view rs os rest others)
+made_drains view (r ∷ rs) (outcome.NotRun ∷ os) notes (first, rest, same, none, others) =
+    let all : drains notes ≡ drains rest = ap drains (same ∙ ap (λ (l : List Noted). l ++ rest) none) in
+    let b = counted_more drained_in (record { request = asked r; outcome = told outcome.NotRun }) (answers_to rs os) in
+    let more = made_drains view rs os rest others in
+    omega (arith, all, b, more)
+
+-- ---- Windows
+
+turn_drains : (whole : Type 0) (notes : List Noted) (n : Noted) → notes ≡ n ∷ [] → IsHelp n.entry.operation → drains notes ≡ 0
+turn_drains whole notes n one help =
+    let none : cond {A = ℕ} (is_drained_write n.after_drain n.entry.operation) 1 0 ≡ 0 = ap (λ (t : Bool). cond {A = ℕ} t 1 0) (help_drains n.after_drain n.entry.operation help) in
+    let a = drains_more n [] in
+    let b : drains notes ≡ drains (n ∷ []) = ap drains one in
+    omega (arith, none, a, b)
+
+closing_drains : (mode : Reclaim) (whole : Type 0) (notes : List Noted) → AreClosings mode whole notes → drains notes ≡ 0
+closing_drains reclaim.Off whole notes none = ap drains none
+closing_drains reclaim.Between whole notes (n, one, is) = turn_drains whole notes n one is.help
+closing_drains reclaim.Beside whole notes (n, one, is) = turn_drains whole notes n one is.help
+
+works_drains : (mode : Reclaim) (view : List ℕ) (v : ℕ) (whole : Type 0) (ss : List ServedWindow) (notes : List Noted) → AreWorks mode view v whole ss notes → drains notes ≡ count_by (does drained_in) (answers_of v (answers_in ss))
+works_drains mode view v whole [] notes none = ap drains none
+works_drains mode view v whole (s ∷ ss) notes (first, rest, same, work, others) =
+    let rs = s.batch.requests in
+    let os = s.answer.outcomes.items in
+    let all : drains notes ≡ drains (first ++ rest) = ap drains same in
+    let both = drains_joined first rest in
+    let split : drains first ≡ drains (work.served ++ work.closing) = ap drains work.split in
+    let parts = drains_joined work.served work.closing in
+    let made = made_drains view (own_requests v rs) (outcomes_of v rs os) work.served work.made in
+    let none = closing_drains mode whole work.closing work.closes in
+    let own : count_by (does drained_in) (answers_of v (answers_to rs os)) ≡ count_by (does drained_in) (answers_to (own_requests v rs) (outcomes_of v rs os)) = ap (λ (l : List Answered). count_by (does drained_in) l) (own_answers v rs os) in
+    let more = works_drains mode view v whole ss rest others in
+    let here : count_by (does drained_in) (answers_of v (answers_in (s ∷ ss))) ≡ count_by (does drained_in) (answers_of v (answers_to rs os)) + count_by (does drained_in) (answers_of v (answers_in ss))
+    = ap (λ (l : List Answered). count_by (does drained_in) l) (volume_joined v (answers_to rs os) (answers_in ss)) ∙ joined drained_in (answers_of v (answers_to rs os)) (answers_of v (answers_in ss)) in
+    omega (arith, all, both, split, parts, made, none, own, more, here)
+
+-- ---- Histories
+
+-- the writes are the worker's
+own_drains : (notes : List Noted) → AllByRecursion (λ (e : history.Entry). e.pass ≢ worker → IsHelp e.operation) (entries_of notes) → drains notes ≡ drains (by_worker notes)
+own_drains [] help = refl
+own_drains (n ∷ notes) (help, others) = at (n.entry.pass == worker) refl (own_drains notes others)
+  where
+    at : (t : Bool) → (n.entry.pass == worker) ≡ t → drains notes ≡ drains (by_worker notes) → drains (n ∷ notes) ≡ drains (cond t (n ∷ by_worker notes) (by_worker notes))
+    at true is rest = let a = drains_more n notes in let b = drains_more n (by_worker notes) in omega (arith, a, b, rest)
+    at false is rest =
+        let none : cond {A = ℕ} (is_drained_write n.after_drain n.entry.operation) 1 0 ≡ 0 = ap (λ (t : Bool). cond {A = ℕ} t 1 0) (help_drains n.after_drain n.entry.operation (help (eqb-false n.entry.pass worker is))) in
+        let a = drains_more n notes in
+        omega (arith, none, a, rest)
+
+drained_same : (o : turns.Outcome) → was_drained o ≡ drained_in (told o)
+drained_same (outcome.Read mark sources) = refl
+drained_same (outcome.Wrote place drained) = refl
+drained_same (outcome.NoRead refusal) = refl
+drained_same (outcome.NoWrite refusal) = refl
+drained_same outcome.NotRun = refl
+
+pub counts_drained : (mode : Reclaim) (ss : List ServedWindow) (awake : List (List Bool)) (hs : List History) → AreWorked mode ss awake hs
+    → AllByRecursion (λ (s : ServedWindow). length s.answer.outcomes.items ≡ length s.batch.requests) ss → AllByRecursion (λ (a : Answered). a.request.volume < length hs) (answers_in ss)
+    → ((v : ℕ) (h : History) → slice_get hs v ≡ Some h → AllByRecursion (λ (e : history.Entry). e.pass ≢ worker → IsHelp e.operation) (entries_of h.notes))
+    → count_by was_drained (outcomes_in ss) ≡ sum_by (λ (h : History). drains h.notes) hs
+counts_drained mode ss awake hs worked sized within help =
+    all_counted drained_in was_drained drained_same ss hs sized within (λ (h : History). drains h.notes) (λ v h here. own_drains h.notes (help v h here) ∙ works_drains mode h.base.view v _ ss (by_worker h.notes) (worked.each v h here).worker_)

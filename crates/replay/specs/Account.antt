@@ -1,0 +1,73 @@
+-- The account: what a run of a trace on volumes that are all open promises of placing, of reclaim and of the disks' time, in the order
+-- of its sentence.
+--
+-- For every trace, number of workers and interleaving, each entry of a volume's one history follows the rules of placing and reclaim
+-- from the records that the volume was opened with; window by window the keeper says which disks were awake, and the worker serves the
+-- requests and then reclaims what is within reach; each disk's journal is that of its uses in these windows; and what is printed at the
+-- end of the trace is counted of these entries and journals.
+--
+-- The parameters are those of the headline; `mode` is when records are reclaimed. Read `Account` first, then `FollowsPolicy`; a disk's
+-- journal is `IsAccount` in `Summed`, what the passes did `WorksAs` in `Works`.
+use Rattle.std.specs.Prelude.{⊤, ◌≡◌, ◌≢◌, ◌⊎◌, ◌++◌, ℕ, Bool, false, List, length, Option, IsTrue, Some, slice_get}
+use Rattle.std.specs.Io.KnownBytes.{Appends}
+use Rattle.wol_disk.specs.Disk.{State}
+use Rattle.wol_bay.specs.Bay.{BayState, Told}
+use Rattle.wol_model.specs.Trace.{TraceLine}
+use Rattle.wol_promise.specs.Report.{HasNoHelp}
+use Rattle.wol_config.specs.declared.config.Config.{Config}
+use Rattle.volume_images.specs.Left.{IsTold}
+use Rattle.volume_images.specs.Volumes.{images_read, shapes_of}
+use Rattle.rack.specs.Owners.{IsBegun}
+use Rattle.trace_gen.specs.Generated.{targets_of}
+use Rattle.request_workers.specs.declared.request.Reclaim.{Reclaim}
+use Rattle.request_workers.specs.declared.request.Reclaim.TheVariants as reclaim
+use Rattle.replay.specs.Givens.{HasGiven}
+use Rattle.replay.specs.Headline.{HasNotBegun}
+use Rattle.replay.specs.Histories.{History, IsHistory, answers_in, is_broken_at}
+use Rattle.replay.specs.Placed.{CountsPlaced, CountsReclaimed}
+use Rattle.replay.specs.Served.{ServedWindow}
+use Rattle.replay.specs.Sessions.{AreWindowsOf}
+use Rattle.replay.specs.Summed.{IsSummary}
+use Rattle.replay.specs.Works.{WorksAs}
+use Rattle.replay.specs.declared.given.Given.{Given}
+
+-- Volume v, by its entries with the looks that they left.
+pub record FollowsPolicy (config : Config) (entry : Told) (mode : Reclaim) (windows : List ServedWindow) (awake : List (List Bool)) (v : ℕ) (h : History) : Type 0 where
+  -- it was opened with the records that the images have
+  pub begun : IsBegun config (images_read config entry) h.base
+  -- its entries are one legal history, in which the answered requests were read and written; each follows the rules
+  pub history : IsHistory ⊤ (answers_in windows) v h
+  -- window by window: what the keeper was told, what became of the requests, and one reclaim turn, which leaves nothing within reach;
+  -- none where nothing is reclaimed behind requests, and then no other entry reclaims
+  pub works : WorksAs mode windows awake v h
+  -- a helper works beside the requests or not at all
+  pub alone : mode ≢ reclaim.Beside → HasNoHelp h.notes
+
+-- the output ended with the summary of these lines and windows: the counts, and the time and energy of each disk
+abbrev pub EndsWithSummary : Config → List (Option TraceLine) → List ServedWindow → (taken taken' : Option (List ℕ)) → Type 0
+EndsWithSummary config lines windows taken taken' = (before : List ℕ) × (summary : List ℕ) × IsSummary config lines windows summary × Appends taken taken' (before ++ summary)
+
+pub record Account {S : Type 0} (left : S → Option (List ℕ)) (config : Config) (mode : Reclaim) (start now : Given S) (entry : Told) (status : ℕ) (taken taken' : Option (List ℕ)) : Type 0 where
+  -- for every trace: some first lines of it were run, in these windows
+  pub lines : List (Option TraceLine)
+  pub given : (more : List (Option TraceLine)) × HasGiven left (targets_of config) start now (lines ++ more)
+  pub windows : List ServedWindow
+  pub are : AreWindowsOf config lines windows
+  -- which disks were awake as each window began
+  pub awake : List (List Bool)
+  -- each volume's one history follows the rules
+  pub histories : List History
+  pub count : length histories ≡ length (shapes_of config)
+  pub each_volume : (v : ℕ) (h : History) → slice_get histories v ≡ Some h → FollowsPolicy config entry mode windows awake v h
+  -- at the end of the trace no call of a disk had failed, and the summary was printed
+  pub unbroken : status ≡ 0 → (v : ℕ) → is_broken_at histories v ≡ false
+  pub printed : status ≡ 0 → EndsWithSummary config lines windows taken taken'
+  -- its counts are those of the histories: of writes by where they went, and of reclaim
+  pub placed : CountsPlaced windows histories
+  pub reclaimed : CountsReclaimed windows histories
+
+-- The account holds of each run over open volumes, at each status, where the bay and its disks tell their content and no two images
+-- that the bay tells had one name.
+abbrev pub KeepsAccount : {D S : Type 0} → (tells : Bool) → (D → State) → (S → Option (List ℕ)) → Config → Reclaim → (start now : Given S) → (old new : BayState) → (status : ℕ) → (taken taken' : Option (List ℕ)) → Type 0
+KeepsAccount tells state left config mode start now old new status taken taken' =
+    HasNotBegun tells state config start now old new status taken taken' ⊎ (IsTrue tells → IsTold (λ entry exit. Account left config mode start now entry status taken taken') old.told new.told)
