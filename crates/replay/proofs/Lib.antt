@@ -57,3 +57,4 @@ pub mod UnbrokenServed
 pub mod DrainsCounted
 pub mod AllAsked
 pub mod AccountKept
+pub mod ToldAwake
