@@ -6,13 +6,13 @@ DESTDIR ?=
 
 .PHONY: look build demo test hostile bench install clean
 
-# The program on a small trace, compiled by `rt try` with no proof. It runs in an empty folder, which is removed.
+# Four policies on a sample trace, compiled by `rt try` with no proof. It runs in an empty folder, which is removed.
 look:
 	@echo "make look: this run is UNPROVED ('rt try'); 'make demo' shows the proved program. It compiles for 1 to 3 minutes."
 	@mkdir -p build
-	@cd crates/wol && rt try -- solo usr 0 100 <../../samples/small.csv >../../build/look.out 2>../../build/look.log \
+	@cd crates/wol && rt try --data wol.toml=../../samples/wol.toml -- whatif <../../samples/offload.csv >../../build/look.out 2>../../build/look.log \
 	|| { cat ../../build/look.log >&2; exit 1; }
-	@echo "wol solo usr 0 100 <samples/small.csv: what was read back; the last number is the sum of the lines that wrote the blocks."
+	@echo "wol whatif <samples/offload.csv: what the disks of samples/wol.toml would use by four policies (energy in mJ)."
 	@cat build/look.out
 
 # The words `none` are no command, on which the proved and built program touches no file and ends with 1.
