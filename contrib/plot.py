@@ -363,7 +363,11 @@ def lines_of(path):
 
 def are_told(machines, cutter, config, told):
     """Whether whatif's lines are those of the machines; standard error tells each."""
-    same = True
+    # disks that are always on
+    awake = len(config["volume"]) * (cutter.end - cutter.start) * config["awake_mw"] // UNITS
+    same = told["always"] == (0, 0, awake)
+    if not same:
+        print("always wakes 0 sleeps 0 energy %d (whatif differs)" % awake, file=sys.stderr)
     for policy, machine in machines.items():
         units = 0
         for disk in machine.disks:
