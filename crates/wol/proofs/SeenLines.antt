@@ -88,6 +88,9 @@ module _ {S T : Type 0} (tells : Bool) (left : S → Option (List ℕ)) (config 
       placed = is.placed;
       reclaimed = is.reclaimed;
       reclaims = is.reclaims;
+      awake = is.awake;
+      worked = is.worked;
+      unbroken = is.unbroken;
       marks = is.marks;
       images = is.images;
       summary = is.summary;
