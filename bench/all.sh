@@ -23,7 +23,7 @@ configure() {
     printf 'segment_blocks = 128\ntimeout_ms = 60000\nawake_mw = 8000\nstandby_mw = 1000\nwake_mj = 50000\n'
     for k in $(seq 0 $(($1 - 1))); do
         printf '[[volume]]\nname = "v%d"\nhost = "h%d"\ndisk = 0\nhome_blocks = 100000\nsegments = 64\nview = ["v%d", "v%d"]\n' \
-            "$k" "$k" $((($k + 1) % $1)) $((($k + 2) % $1))
+            "$k" "$k" $(((k + 1) % $1)) $(((k + 2) % $1))
     done
 }
 
@@ -123,6 +123,7 @@ configure 4 >wol.toml
 compare "check of 4 volumes, a byte" $((4 * 100000 * 512)) "'$program' check" "head -q -c $((100000 * 512)) ./*.vol | sha256sum"
 cd "$disk"
 replays disk "$synced"
+# shellcheck disable=SC2016  # back quotes are text here
 {
     printf '# Figures\n\nMade by `bench/all.sh %s %s` on %s, on a machine with %s processors (%s) and %s of memory, under %s; ' \
         "$lines" "$synced" "$(date -u '+%Y-%m-%d %H:%M UTC')" "$(nproc)" "$(sed -n 's/^model name[^:]*: //p' /proc/cpuinfo | head -n 1)" \
