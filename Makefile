@@ -18,7 +18,7 @@ look:
 # The words `none` are no command, on which the proved and built program touches no file and ends with 1.
 build:
 	@echo "make build: proves the program's crates one after another, compiles it by LLVM, and leaves it at build/wol."
-	@echo "The first time that takes about 45 minutes on 4 processors; later only what changed is proved. All messages: build/build.log"
+	@echo "The first time that takes about an hour on 4 processors; later only what changed is proved. All messages: build/build.log"
 	@mkdir -p build
 	@rm -f crates/wol/out/wol
 	@cd crates/wol && rt run -- none </dev/null 2>&1 >/dev/null | tee ../../build/build.log | awk -v all="$$(grep '^[a-z]' ../../crates.txt | grep -vc '_tests\>')" \
