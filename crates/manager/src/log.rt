@@ -9,7 +9,7 @@ ghost use Rattle.wol_promise.specs.Ruled.{Noted, HasPassed, last_look};
 ghost use Rattle.log_segment.specs.Records.{new_record};
 ghost use Rattle.logger.specs.Lanes.{IsLane, HoldsAll, IsAt, AreWhole, logger_of, lane_owner, held_in, taken_in, pool_blocks};
 ghost use Rattle.manager.specs.Answers.{log_write};
-ghost use Rattle.manager.specs.Causes.{PartRoseOrClaimed};
+ghost use Rattle.manager.specs.Causes.{PartRoseOrClaimed, NoneRose};
 ghost use Rattle.manager.specs.Offers.{IsTurnedAway, HasTakenWrite, ChangesLane, IsOn, offered};
 ghost use Rattle.manager.specs.Puts.{PutIn};
 ghost use Rattle.manager.specs.Seen.{look_of_manager};
@@ -105,6 +105,7 @@ impl<D: Disk> Manager<D> {
         ensures down { (p : Part) → result ≡ Offered.Failed p → self.new.down ≡ Some p }
         ensures named { (p : Part) → result ≡ Offered.Failed p → IsOn (map logger_of self.old.lanes.items) lane p }
         ensures cause { (p : Part) → result ≡ Offered.Failed p → PartRoseOrClaimed D.state self.old self.new p }
+        ensures calm { result ≡ Offered.Written → NoneRose D.state self.old self.new }
         ensures any_moment { IsTrue D.tells → (claimed : Option (Spun _)) × ((b : ManagerBase) (notes : List Noted) → Keeps D.tells D.state self.old b notes
             → Stops D.state self.old self.new claimed b notes (log_write self.old.next lbn from.now ∷ [])) }
     {

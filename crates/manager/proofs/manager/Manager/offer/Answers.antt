@@ -1,5 +1,5 @@
 use Rattle.std.proofs.Common.{◌≡◌, ◌≤◌, ◌+◌, ◌^◌, ℕ, true, [], ◌∷◌, ◌++◌, map, length, Some, None, refl, sym, ap, subst, ◌∙◌, arith}
-use Rattle.std.specs.Prelude.{slice_get, Result, Err}
+use Rattle.std.specs.Prelude.{slice_get, Result, Ok, Err}
 use Rattle.std.proofs.Math.Pow.{pow_mono}
 use Rattle.manager.specs.Causes.{PartRoseOrClaimed}
 use Rattle.manager.specs.Offers.{IsOn}
@@ -16,6 +16,7 @@ use Rattle.wol_model.specs.Log.{marks_of}
 use Rattle.logger.specs.Lanes.{logger_of, lane_owner}
 use Rattle.redirect_map.specs.Runs.{runs_of}
 use Rattle.manager.specs.declared.part.Part.TheVariants as part
+use Rattle.manager.proofs.Calm.{calm_put, lane_at, none_lane}
 use Rattle.manager.proofs.Copies.{refill_set}
 use Rattle.manager.proofs.NewRecord.{one_run, look_so}
 use Rattle.manager.proofs.Offering.{away_more, ready_away, keeps_away, ready_written, ready_failed, stands_written, stands_failed, stops_put, cause_put}
@@ -140,3 +141,11 @@ returns-in-Some-Err-clause-any_moment g c =
     let m = c.args.self.now in let e = c.in-Some-Err.ensures in let old = c.index_mut-reached.result.now in let new = c.put.new.lane in
     stops_put g.D.Disk.state m c.args.lane old new (slice_get_read m.lanes.items (length m.lanes.items) c.args.lane old refl c.requires.lane c.index_mut-reached.ensures.value) e.lane e.turn.same e.all e.none c.args.lbn c.args.from.now c.requires.count c.requires.ready c.requires.up
     g.D.Disk.tells g.met.D.Disk.told g.met.D.Disk.sound e.put (record m { lanes = with_item m.lanes c.args.lane c.put.new.lane }) refl refl
+
+pub returns-in-Some-Ok-clause-calm : goal.returns-in-Some-Ok-clause-calm
+returns-in-Some-Ok-clause-calm g c _ =
+    let m = c.args.self.now in let e = c.in-Some-Ok.ensures in let old = c.index_mut-reached.result.now in let new = c.put.new.lane in let spot = c.in-Some-Ok.spot in
+    let lane : slice_get m.lanes.items c.args.lane ≡ Some old = slice_get_read m.lanes.items (length m.lanes.items) c.args.lane old refl c.requires.lane c.index_mut-reached.ensures.value in
+    let put : PutIn g.D.Disk.state old new (length c.args.from.now) (new_record (lane_owner old) m.next c.args.lbn c.args.from.now ∷ []) (Ok spot) =
+    subst (λ (q : Result Spot (ℕ × Failed)). PutIn g.D.Disk.state old new (length c.args.from.now) (new_record (lane_owner old) m.next c.args.lbn c.args.from.now ∷ []) q) c.in-Some-Ok.field-0-is e.put in
+    none_lane g.D.Disk.state m _ c.requires.ready refl c.args.lane old new lane refl (calm_put g.D.Disk.state old new _ _ spot (lane_at g.D.Disk.state m c.requires.ready c.args.lane old lane) e.lane put)

@@ -3,7 +3,7 @@ use Rattle.std.specs.Prelude.{replicate}
 use Rattle.offload_policy.specs.declared.Room.TheVariants.{Unknown}
 use Rattle.manager.specs.Writing.{ruled_place}
 use Rattle.manager.proofs.Answered.{none_asked}
-use Rattle.manager.proofs.Refused.{needs_logs, stops_at_rest, keeps_then, stands_refused, untouched, look_then, answered_then, fault_then}
+use Rattle.manager.proofs.Refused.{needs_logs, stops_at_rest, keeps_then, stands_refused, untouched, look_then, answered_then, fault_then, calm_then}
 use Rattle.manager.proofs.manager.Manager.write.Goals as goal
 
 pub returns-in-Some-clause-stands : goal.returns-in-Some-clause-stands
@@ -62,3 +62,6 @@ pub returns-clause-any_moment : goal.returns-clause-any_moment
 returns-clause-any_moment g c told =
     let m = c.write_placed.ensures.any_moment told in
     (m.0, λ b notes k. m.1 b notes (keeps_then g.D.Disk.tells g.D.Disk.state c.args.self.now c.unasked-self.result.items (c.unasked-self.ensures ∙ (λ i. replicate ((c.len.ensures ∙ c.args.self.now.lanes.ok.0) i) Unknown)) c.reserve.new.self c.reserve.ensures.unchanged b notes k))
+
+pub returns-clause-calm : goal.returns-clause-calm
+returns-clause-calm g c = calm_then g.D.Disk.tells g.D.Disk.state c.args.self.now c.unasked-self.result.items (c.unasked-self.ensures ∙ (λ i. replicate ((c.len.ensures ∙ c.args.self.now.lanes.ok.0) i) Unknown)) c.reserve.new.self c.reserve.ensures.unchanged c.write_placed.new.self c.write_placed.result c.write_placed.ensures.calm

@@ -15,7 +15,7 @@ use Rattle.manager.specs.Writing.{in_flight}
 use Rattle.manager.specs.declared.manager.Manager.{Manager}
 use Rattle.manager.proofs.Asking.{asking_none, asking_more}
 use Rattle.manager.proofs.Frames.{stands_kept}
-use Rattle.manager.proofs.Placed.{home_only, log_only, place_led, stops_before, stops_unplaced, passed_unplaced, fault_before, placed_home, look_home, answered_home, waking_home, placed_log, look_log, answered_log, waking_log, passed_log}
+use Rattle.manager.proofs.Placed.{home_only, log_only, place_led, stops_before, stops_unplaced, passed_unplaced, fault_before, calm_before, placed_home, look_home, answered_home, waking_home, placed_log, look_log, answered_log, waking_log, passed_log}
 use Rattle.manager.proofs.Placing.{led_by, open_in, fewer_open, ask_unknown, home_is_bare, woken_home_is_bare, no_log, no_woken_log}
 use Rattle.manager.proofs.manager.Manager.write_placed.Goals as goal
 
@@ -174,3 +174,11 @@ unreachable-requires g c =
     let unsure = subst (AllByRecursion (λ (r : Room). r ≡ Yes → ⊥)) (sym c.deref-in-asking.ensures.0) c.asking.invariant.unsure in
     ⊎_elim (λ e. no_log now.home_up c.args.covered c.deref.result.now c.deref-in-asking.result.now unsure e.0 (sym c.place.ensures.value ∙ e.1))
     (λ e. no_woken_log now.home_up c.args.covered c.deref.result.now c.deref-in-asking.result.now unsure e.0 (sym c.place.ensures.value ∙ e.1)) c.in-Log.is
+
+-- ---- No call failed where it is answered
+
+pub returns-in-Some-clause-calm : goal.returns-in-Some-clause-calm
+returns-in-Some-clause-calm g c = calm_before g.D.Disk.tells g.D.Disk.state c.args.shared.now c.args.lbn c.args.from.now c.args.self.now c.asking.self c.asking.invariant c.try_lane.new.self c.in-Some.answer c.in-Some.ensures.calm
+
+pub returns-in-Home-clause-calm : goal.returns-in-Home-clause-calm
+returns-in-Home-clause-calm g c = calm_before g.D.Disk.tells g.D.Disk.state c.args.shared.now c.args.lbn c.args.from.now c.args.self.now c.asking.self c.asking.invariant c.write_home.new.self c.write_home.result c.write_home.ensures.calm
