@@ -36,7 +36,7 @@ use Rattle.manager.specs.Causes.{PartRoseOrClaimed, NoneRose}
 use Rattle.manager.specs.Offers.{HasTakenWrite, ChangesLane}
 use Rattle.manager.specs.Seen.{Logs, AllHold, AllLanesHold, held_with, all_held, look_of_manager}
 use Rattle.manager.specs.Stands.{Keeps, nones_at, passed_in}
-use Rattle.manager.specs.Stops.{ImageSince, HeldSince, Stops}
+use Rattle.manager.specs.Stops.{ImageSince, HeldSince, Stops, TellsClaim}
 use Rattle.manager.specs.Writing.{HaveAnswered, HasLook, NeedsHome, TellsFault, IsHomeAnswer, IsLogAnswer, IsPlacedAnswer, ruled_place, takes_at, was_tried, is_at_home, is_in_log}
 use Rattle.manager.specs.declared.base.ManagerBase.{ManagerBase}
 use Rattle.manager.specs.declared.manager.Manager.{Manager}
@@ -49,6 +49,7 @@ use Rattle.manager.specs.declared.part.WriteRefusal.TheVariants.{Full, DiskFault
 use Rattle.manager.proofs.Answered.{loggers_same, held_same, one_takes, passed_more}
 use Rattle.manager.proofs.Asking.{Asking}
 use Rattle.manager.proofs.Calm.{none_asked_before}
+use Rattle.manager.proofs.Claims.{claim_before}
 use Rattle.manager.proofs.Moments.{still_logs, home_holds, stops_so}
 use Rattle.manager.proofs.Placing.{led_by, place_is, rooms_are}
 
@@ -215,6 +216,9 @@ module _ {D : Type 0} (tells : Bool) (state : D → State) (shared : Shared D) (
   fault_before new (Err (Down p)) is = is ∙ ap (λ (m : Manager D). m.down) a.rest
   fault_before new (Err VersionsSpent) is = is ∙ ap (λ (m : Manager D). m.down) a.rest
   fault_before new (Err NoMemory) is = is ∙ ap (λ (m : Manager D). m.down) a.rest
+
+  pub claimed_before : (done : Type 0) (new : Manager D) (claimed : Option (Spun D)) → TellsClaim tells state done now.lanes.items new.lanes.items claimed → TellsClaim tells state done old.lanes.items new.lanes.items claimed
+  claimed_before done new claimed c = claim_before tells state done old.lanes.items now.lanes.items new.lanes.items claimed segments_as c
 
   pub calm_before : (new : Manager D) (r : Result Place WriteRefusal) → OnOk r (NoneRose state now new) → OnOk r (NoneRose state old new)
   calm_before new (Ok p) none = none_asked_before state old now new (ap (λ (m : Manager D). m.home) a.rest) segments_as none

@@ -14,7 +14,7 @@ ghost use Rattle.manager.specs.Offers.{IsTurnedAway, HasTakenWrite, ChangesLane,
 ghost use Rattle.manager.specs.Puts.{PutIn};
 ghost use Rattle.manager.specs.Seen.{look_of_manager};
 ghost use Rattle.manager.specs.Stands.{Keeps, Stands, IsReady, IsHome, IsNote, nones_at};
-ghost use Rattle.manager.specs.Stops.{Stops};
+ghost use Rattle.manager.specs.Stops.{Stops, TellsClaim};
 ghost use Rattle.manager.specs.declared.base.ManagerBase.{ManagerBase};
 ghost use Rattle.manager.specs.declared.part.Part.{Part};
 
@@ -106,7 +106,8 @@ impl<D: Disk> Manager<D> {
         ensures named { (p : Part) → result ≡ Offered.Failed p → IsOn (map logger_of self.old.lanes.items) lane p }
         ensures cause { (p : Part) → result ≡ Offered.Failed p → PartRoseOrClaimed D.state self.old self.new p }
         ensures calm { result ≡ Offered.Written → NoneRose D.state self.old self.new }
-        ensures any_moment { IsTrue D.tells → (claimed : Option (Spun _)) × ((b : ManagerBase) (notes : List Noted) → Keeps D.tells D.state self.old b notes
+        ensures any_moment { (claimed : Option (Spun _)) × TellsClaim D.tells D.state (result ≡ Offered.Written) self.old.lanes.items self.new.lanes.items claimed
+            × (IsTrue D.tells → (b : ManagerBase) (notes : List Noted) → Keeps D.tells D.state self.old b notes
             → Stops D.state self.old self.new claimed b notes (log_write self.old.next lbn from.now ∷ [])) }
     {
         let reached = &mut self.lanes[lane];
