@@ -82,12 +82,13 @@ module _ {D : Type 0} (tells : Bool) (state : D → State) (told : IsTrue tells 
 
   -- the whole
   pub is_recovered : (m : Opening D) (r : Recovered) (home : Spun D) (spindle : PassOf Spindle SpindleBase) → IsNamesAnswer o None → IsIndexOf (all_found n.view n.owned.items scans) r.index.entries → r.next ≡ next_of 1 scans
-      → (state_of state home).values ≡ option_map settled (state_of state n.home).values → IsThinning state shared (record n { home = home; spindle = spindle }) m
+      → (state_of state home).values ≡ option_map settled (state_of state n.home).values → (state_of state home).faults ≡ (state_of state n.home).faults → IsThinning state shared (record n { home = home; spindle = spindle }) m
       → CanOpen state shared m → m.owned.items ≡ thinned n.owned.items scans → r.scans.items ≡ filter has_some scans → IsRecovered tells state shared o m r
-  is_recovered m r home spindle named index next synced thinned_ can left left_scans = record {
+  is_recovered m r home spindle named index next synced calm thinned_ can left left_scans = record {
     named = named;
     recoverable = recoverable r.index.entries index;
     home = ap (λ (h : Spun D). (state_of state h).values) (ap (λ (x : Opening D). x.home) thinned_.same) ∙ synced ∙ ap (λ (h : Spun D). option_map settled (state_of state h).values) (ap (λ (x : Opening D). x.home) parts.same);
+    home_calm = ap (λ (h : Spun D). (state_of state h).faults) (ap (λ (x : Opening D). x.home) thinned_.same) ∙ calm ∙ ap (λ (h : Spun D). (state_of state h).faults) (ap (λ (x : Opening D). x.home) parts.same);
     read = n.owned.items;
     scans = scans;
     same = zip_map (IsSeenAgain state) (IsSameOwned state) (λ x y seen. seen.same) o.owned.items n.owned.items parts.owned;

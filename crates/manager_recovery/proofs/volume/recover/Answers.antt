@@ -79,7 +79,7 @@ returns-in-Ok-retire_bare-clause-ok g c =
     let n = c.scan_all.new.opening in
     is_recovered g.D.Disk.tells g.D.Disk.state g.met.D.Disk.told c.args.shared.now c.args.opening.now c.scan_all.new.opening c.in-Ok.scans.items c.scan_all.ensures.parts c.in-Ok.ensures.ok c.retire_bare.new.opening _ c.sync_part-synced.new.part c.sync_part-synced.new.spindle c.in_default.ensures
     (subst (λ (l : List Scan). IsIndexOf (all_found n.view n.owned.items l) c.in-Ok-index_of.index.entries) c.deref-2.ensures.value c.in-Ok-index_of.ensures.ok)
-    (c.next_version-next.ensures.value ∙ ap (next_of 1) c.deref.ensures.value) c.in-Ok-synced.ensures.values c.retire_bare.ensures.parts
+    (c.next_version-next.ensures.value ∙ ap (next_of 1) c.deref.ensures.value) c.in-Ok-synced.ensures.values c.in-Ok-synced.ensures.calm c.retire_bare.ensures.parts
     c.in-Ok-retire_bare.ensures.ok.0 c.in-Ok-retire_bare.ensures.ok.1 c.in-Ok-retire_bare.ensures.ok.2
 
 pub returns-in-Ok-retire_bare-clause-parts : goal.returns-in-Ok-retire_bare-clause-parts
