@@ -49,6 +49,7 @@ use Rattle.manager.specs.declared.manager.Manager.{Manager}
 use Rattle.manager.specs.declared.part.Part.{Part}
 use Rattle.manager.specs.declared.part.Part.TheVariants as part
 use Rattle.logger.proofs.Indexes.{same_place}
+use Rattle.manager.proofs.Claims.{put_claimed}
 use Rattle.manager.proofs.Counted.{counted_same, counted_set, held_set, none_there, lies_there, lies_elsewhere}
 use Rattle.manager.proofs.Lanes.{all_at, all_set, get_set, quiet_held, quiet_all}
 use Rattle.manager.proofs.NewRecord.{rec_at, entered}
@@ -328,10 +329,10 @@ module _ {D : Type 0} (state : D → State) (m : Manager D) (k : ℕ) (old new :
 
   -- ---- Stopped at any moment, and why it failed
 
-  pub stops_put : {res : Result Spot (ℕ × Failed)} (tells : Bool) (told : IsTrue tells → (d : D) → TellsContent (state d)) (sound : (d : D) → IsDisk (state d)) → PutIn state old new (length from) (r ∷ []) res → (m' : Manager D) → m'.lanes.items ≡ slice_set m.lanes.items k new → m'.home ≡ m.home
-      → IsTrue tells → (claimed : Option (Spun D)) × ((b : ManagerBase) (notes : List Noted) → Keeps tells state m b notes → Stops state m m' claimed b notes (log_write m.next lbn from ∷ []))
-  stops_put tells told sound (to_held i o n at space held grown is) m' lanes home t = (None, λ b notes kp. held_stops tells state sound t m b notes kp up k old new lane m' lanes home is_lane same lbn from i o n at held grown.index grown.any_moment)
-  stops_put tells told sound (to_new f n blank held claimed is) m' lanes home t = (Some (free_part f), λ b notes kp. claim_stops tells state sound t m b notes kp up k old new lane m' lanes home is_lane same lbn from untaken f n held (claimed.any_moment (told t f.part.inner).0 (told t f.part.inner).1))
+  pub stops_put : {res : Result Spot (ℕ × Failed)} (tells : Bool) (told : IsTrue tells → (d : D) → TellsContent (state d)) (sound : (d : D) → IsDisk (state d)) → (put : PutIn state old new (length from) (r ∷ []) res) → (m' : Manager D) → m'.lanes.items ≡ slice_set m.lanes.items k new → m'.home ≡ m.home
+      → IsTrue tells → (b : ManagerBase) (notes : List Noted) → Keeps tells state m b notes → Stops state m m' (put_claimed put) b notes (log_write m.next lbn from ∷ [])
+  stops_put tells told sound (to_held i o n at space held grown is) m' lanes home t b notes kp = held_stops tells state sound t m b notes kp up k old new lane m' lanes home is_lane same lbn from i o n at held grown.index grown.any_moment
+  stops_put tells told sound (to_new f n blank held claimed is) m' lanes home t b notes kp = claim_stops tells state sound t m b notes kp up k old new lane m' lanes home is_lane same lbn from untaken f n held (claimed.any_moment (told t f.part.inner).0 (told t f.part.inner).1)
 
   pub cause_put : (refusal : ℕ × Failed) → PutIn state old new (length from) (r ∷ []) (Err refusal) → (m' : Manager D) → m'.lanes.items ≡ slice_set m.lanes.items k new → PartRoseOrClaimed state m m' (part.Segment (logger_of old) refusal.0)
   cause_put refusal (to_held i o n at space held grown is) m' lanes = inl (record {

@@ -1,6 +1,6 @@
 -- How a write ends that was placed: its answer, its look, its lanes and its entry.
 use Rattle.std.proofs.Common.{◌≡◌, inl, inr, ⊎_elim, ◌+◌, ℕ, zero, suc, Bool, true, false, ◌&&◌, List, [], ◌∷◌, ◌++◌, map, length, Option, None, Some, Result, Ok, Err, refl, sym, ap, subst, ◌∙◌}
-use Rattle.std.specs.Prelude.{⊤, slice_get, ◌==◌, IsTrue, MatchBool}
+use Rattle.std.specs.Prelude.{⊤, slice_get, ◌==◌, IsTrue, OnOk, MatchBool}
 use Rattle.std.specs.List.{AllByRecursion, AllZip, list_any, range_with_len}
 use Rattle.std.specs.Option.{option_map}
 use Rattle.std.proofs.lemmas.Option.{none-some, same_Some, slice_get-map}
@@ -32,11 +32,11 @@ use Rattle.logger.specs.declared.lane.Lane.{Lane}
 use Rattle.logger.specs.declared.shared.Shared.{Shared}
 use Rattle.manager.specs.Accesses.{HasUsedOnce}
 use Rattle.manager.specs.Answers.{home_write, IsPlaceOf}
-use Rattle.manager.specs.Causes.{PartRoseOrClaimed}
+use Rattle.manager.specs.Causes.{PartRoseOrClaimed, NoneRose}
 use Rattle.manager.specs.Offers.{HasTakenWrite, ChangesLane}
 use Rattle.manager.specs.Seen.{Logs, AllHold, AllLanesHold, held_with, all_held, look_of_manager}
 use Rattle.manager.specs.Stands.{Keeps, nones_at, passed_in}
-use Rattle.manager.specs.Stops.{ImageSince, HeldSince, Stops}
+use Rattle.manager.specs.Stops.{ImageSince, HeldSince, Stops, TellsClaim}
 use Rattle.manager.specs.Writing.{HaveAnswered, HasLook, NeedsHome, TellsFault, IsHomeAnswer, IsLogAnswer, IsPlacedAnswer, ruled_place, takes_at, was_tried, is_at_home, is_in_log}
 use Rattle.manager.specs.declared.base.ManagerBase.{ManagerBase}
 use Rattle.manager.specs.declared.manager.Manager.{Manager}
@@ -48,6 +48,8 @@ use Rattle.manager.specs.declared.part.WriteRefusal.{WriteRefusal}
 use Rattle.manager.specs.declared.part.WriteRefusal.TheVariants.{Full, DiskFault, Down, VersionsSpent, NoMemory}
 use Rattle.manager.proofs.Answered.{loggers_same, held_same, one_takes, passed_more}
 use Rattle.manager.proofs.Asking.{Asking}
+use Rattle.manager.proofs.Calm.{none_asked_before}
+use Rattle.manager.proofs.Claims.{claim_before}
 use Rattle.manager.proofs.Moments.{still_logs, home_holds, stops_so}
 use Rattle.manager.proofs.Placing.{led_by, place_is, rooms_are}
 
@@ -214,6 +216,13 @@ module _ {D : Type 0} (tells : Bool) (state : D → State) (shared : Shared D) (
   fault_before new (Err (Down p)) is = is ∙ ap (λ (m : Manager D). m.down) a.rest
   fault_before new (Err VersionsSpent) is = is ∙ ap (λ (m : Manager D). m.down) a.rest
   fault_before new (Err NoMemory) is = is ∙ ap (λ (m : Manager D). m.down) a.rest
+
+  pub claimed_before : (done : Type 0) (new : Manager D) (claimed : Option (Spun D)) → TellsClaim tells state done now.lanes.items new.lanes.items claimed → TellsClaim tells state done old.lanes.items new.lanes.items claimed
+  claimed_before done new claimed c = claim_before tells state done old.lanes.items now.lanes.items new.lanes.items claimed segments_as c
+
+  pub calm_before : (new : Manager D) (r : Result Place WriteRefusal) → OnOk r (NoneRose state now new) → OnOk r (NoneRose state old new)
+  calm_before new (Ok p) none = none_asked_before state old now new (ap (λ (m : Manager D). m.home) a.rest) segments_as none
+  calm_before new (Err e) none = tt
 
   module _ (new : Manager D) (r : Result Place WriteRefusal) (rooms : new.rooms.items ≡ now.rooms.items) where
     rule_same : ruled_place old new first blocks ≡ ruled_place old now first blocks

@@ -13,12 +13,14 @@ use Rattle.wol_model.specs.Index.{listed_in, is_covered}
 use Rattle.wol_promise.specs.Policy.{Look, woken}
 use Rattle.wol_promise.specs.Ruled.{Noted, entries_of}
 use Rattle.logger.specs.declared.shared.Shared.{Shared}
+use Rattle.manager.specs.Causes.{NoneRose}
 use Rattle.manager.specs.Reading.{IsReadThrough, NeedsSources}
 use Rattle.manager.specs.Seen.{look_of_manager}
 use Rattle.manager.specs.Stands.{Keeps, IsReady, IsHome}
 use Rattle.manager.specs.declared.base.ManagerBase.{ManagerBase}
 use Rattle.manager.specs.declared.manager.Manager.{Manager}
 use Rattle.manager.specs.declared.part.Sources.{Sources}
+use Rattle.manager.proofs.Calm.{none_home, none_then}
 use Rattle.manager.proofs.ReadKeeps.{keeps_read}
 use Rattle.manager.proofs.ReadThrough.{through_self, through_then}
 use Rattle.manager.proofs.RunSources.{needs_nothing, needs_more}
@@ -30,6 +32,7 @@ pub record HasRead {D : Type 0} (tells : Bool) (state : D → State) (shared : S
   pub at_home : IsHome shared now
   pub within : done ≤ total
   pub read : IsReadThrough state old now
+  pub calm : NoneRose state old now
   pub look : look_of_manager now ≡ woken (look_of_manager old) first done
   pub needs : NeedsSources old now first done
   pub content : IsTrue tells → (b : ManagerBase) (notes : List Noted) → Keeps tells state old b notes
@@ -49,6 +52,7 @@ module _ {D : Type 0} (tells : Bool) (state : D → State) (sound : (d : D) → 
     at_home = at_home;
     within = omega arith;
     read = through_self state sound old;
+    calm = none_home state old old ready refl refl;
     look = sym (woken_none (look_of_manager old) first);
     needs = needs_nothing old first;
     content = λ told b notes keeps. let e : first + 0 - first ≡ 0 = omega arith in rw e refl;
@@ -68,13 +72,14 @@ module _ {D : Type 0} (tells : Bool) (state : D → State) (sound : (d : D) → 
 
     module _ (content : IsTrue tells → (b : ManagerBase) (notes : List Noted) → Keeps tells state mid b notes → run ≡ slice_range (after b.volume.began.array (writes (entries_of notes))) (first + done) (first + done + n))
         (logged : more.logged ≡ count_by (is_covered (listed_in mid.index.entries)) (range_with_len (first + done) n)) (all : more.home + more.logged ≡ n)
-        (within : done + count ≤ total) (inside : total ≡ length out) (same_length : length run ≡ n) where
+        (calm : NoneRose state mid new) (within : done + count ≤ total) (inside : total ≡ length out) (same_length : length run ≡ n) where
       pub run_read : HasRead tells state shared old new first total (done + count) (put_mid done (done + count - done) out run) (record { home = sources.home + more.home; logged = sources.logged + more.logged })
       run_read = record {
         ready = ready;
         at_home = at_home;
         within = within;
         read = still_read;
+        calm = none_then state old mid new so_far.read so_far.calm calm;
         look = look ∙ ap (λ (l : Look). woken l (first + done) n) so_far.look ∙ woken_more (look_of_manager old) first done n ∙ ap (λ (k : ℕ). woken (look_of_manager old) first (done + k)) long;
         needs = needs_too;
         content = λ told b notes keeps.

@@ -1,6 +1,6 @@
 -- A write before a pool is asked: the notes of rooms and the room of the index are all that may have changed.
 use Rattle.std.proofs.Common.{◌≡◌, inl, inr, ⊎_elim, ℕ, zero, suc, Bool, true, false, List, [], ◌∷◌, ◌++◌, length, Option, None, Some, Result, Ok, Err, refl, sym, ap, subst, ◌∙◌, arith}
-use Rattle.std.specs.Prelude.{IsTrue, replicate, MatchBool}
+use Rattle.std.specs.Prelude.{IsTrue, OnOk, replicate, MatchBool}
 use Rattle.std.specs.List.{AllByRecursion}
 use Rattle.std.proofs.lemmas.Option.{slice_get_within}
 use Rattle.wol_disk.specs.Disk.{State, Block, IsDisk}
@@ -19,7 +19,7 @@ use Rattle.redirect_map.specs.Index.{Contents}
 use Rattle.logger.specs.Lanes.{HasUsed, spindle_of}
 use Rattle.logger.specs.declared.lane.Lane.{Lane}
 use Rattle.manager.specs.Answers.{home_write}
-use Rattle.manager.specs.Causes.{PartRoseOrClaimed}
+use Rattle.manager.specs.Causes.{PartRoseOrClaimed, NoneRose}
 use Rattle.manager.specs.Seen.{all_held, look_of_manager}
 use Rattle.manager.specs.Stands.{Keeps, Stands, IsReady, IsNote, passed_in}
 use Rattle.manager.specs.Stops.{ImageSince, HeldSince, Stops}
@@ -109,3 +109,7 @@ module _ {D : Type 0} (tells : Bool) (state : D → State) (old : Manager D) (ro
   fault_then new (Err (Down p)) is_down = is_down
   fault_then new (Err VersionsSpent) is_down = is_down
   fault_then new (Err NoMemory) is_down = is_down
+
+  pub calm_then : (new : Manager D) (r : Result Place WriteRefusal) → OnOk r (NoneRose state (record old { rooms = record { items = rooms }; index = index }) new) → OnOk r (NoneRose state old new)
+  calm_then new (Ok p) none = record { home = none.home; held = none.held }
+  calm_then new (Err e) none = tt

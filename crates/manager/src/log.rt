@@ -9,12 +9,12 @@ ghost use Rattle.wol_promise.specs.Ruled.{Noted, HasPassed, last_look};
 ghost use Rattle.log_segment.specs.Records.{new_record};
 ghost use Rattle.logger.specs.Lanes.{IsLane, HoldsAll, IsAt, AreWhole, logger_of, lane_owner, held_in, taken_in, pool_blocks};
 ghost use Rattle.manager.specs.Answers.{log_write};
-ghost use Rattle.manager.specs.Causes.{PartRoseOrClaimed};
+ghost use Rattle.manager.specs.Causes.{PartRoseOrClaimed, NoneRose};
 ghost use Rattle.manager.specs.Offers.{IsTurnedAway, HasTakenWrite, ChangesLane, IsOn, offered};
 ghost use Rattle.manager.specs.Puts.{PutIn};
 ghost use Rattle.manager.specs.Seen.{look_of_manager};
 ghost use Rattle.manager.specs.Stands.{Keeps, Stands, IsReady, IsHome, IsNote, nones_at};
-ghost use Rattle.manager.specs.Stops.{Stops};
+ghost use Rattle.manager.specs.Stops.{Stops, TellsClaim};
 ghost use Rattle.manager.specs.declared.base.ManagerBase.{ManagerBase};
 ghost use Rattle.manager.specs.declared.part.Part.{Part};
 
@@ -105,7 +105,9 @@ impl<D: Disk> Manager<D> {
         ensures down { (p : Part) → result ≡ Offered.Failed p → self.new.down ≡ Some p }
         ensures named { (p : Part) → result ≡ Offered.Failed p → IsOn (map logger_of self.old.lanes.items) lane p }
         ensures cause { (p : Part) → result ≡ Offered.Failed p → PartRoseOrClaimed D.state self.old self.new p }
-        ensures any_moment { IsTrue D.tells → (claimed : Option (Spun _)) × ((b : ManagerBase) (notes : List Noted) → Keeps D.tells D.state self.old b notes
+        ensures calm { result ≡ Offered.Written → NoneRose D.state self.old self.new }
+        ensures any_moment { (claimed : Option (Spun _)) × TellsClaim D.tells D.state (result ≡ Offered.Written) self.old.lanes.items self.new.lanes.items claimed
+            × (IsTrue D.tells → (b : ManagerBase) (notes : List Noted) → Keeps D.tells D.state self.old b notes
             → Stops D.state self.old self.new claimed b notes (log_write self.old.next lbn from.now ∷ [])) }
     {
         let reached = &mut self.lanes[lane];

@@ -8,7 +8,7 @@ ghost use Rattle.wol_model.specs.Index.{listed_in, is_covered};
 ghost use Rattle.wol_promise.specs.Policy.{woken};
 ghost use Rattle.wol_promise.specs.Ruled.{Noted, entries_of};
 ghost use Rattle.manager.specs.Answers.{was_read};
-ghost use Rattle.manager.specs.Causes.{PartRose};
+ghost use Rattle.manager.specs.Causes.{PartRose, NoneRose};
 ghost use Rattle.manager.specs.Reading.{IsSource, IsReadThrough, HasOnlyRead, NeedsSources, NeedsFirstOf};
 ghost use Rattle.manager.specs.Seen.{look_of_manager};
 ghost use Rattle.manager.specs.Stands.{Keeps, IsReady, IsHome, IsSameManager, Leaves};
@@ -67,6 +67,10 @@ impl<D: Disk> Manager<D> {
         ensures read { HasOnlyRead D.state self.old self.new }
         ensures cause { (p : Part) → result ≡ Err (ReadRefusal.DiskFault p) → (self.new.down ≡ Some p) × PartRose D.state self.old self.new p }
         ensures up { OnOk result (self.new.down ≡ None) }
+
+        // Where it is answered no disk call failed in it.
+        ensures calm { OnOk result (NoneRose D.state self.old self.new) }
+
         ensures any_moment { IsTrue D.tells → (b : ManagerBase) (notes : List Noted) → Keeps D.tells D.state self.old b notes → Stops D.state self.old self.new None b notes [] }
     {
         if let Some(part) = self.down {
@@ -120,6 +124,7 @@ impl<D: Disk> Manager<D> {
         ensures content { IsTrue D.tells → (b : ManagerBase) (notes : List Noted) → Keeps D.tells D.state self.old b notes
             → OnOk result (out.new ≡ slice_range (after b.volume.began.array (writes (entries_of notes))) lbn (lbn + length out.old)) }
         ensures cause { IfErr result (PartRose D.state self.old self.new) }
+        ensures calm { OnOk result (NoneRose D.state self.old self.new) }
     {
         self.home_up = true;
         let home = Part::Home { volume: self.id };
@@ -151,6 +156,7 @@ impl<D: Disk> Manager<D> {
         ensures content { IsTrue D.tells → (b : ManagerBase) (notes : List Noted) → Keeps D.tells D.state self.old b notes
             → OnOk result (out.new ≡ slice_range (after b.volume.began.array (writes (entries_of notes))) lbn (lbn + length out.old)) }
         ensures cause { IfErr result (PartRose D.state self.old self.new) }
+        ensures calm { OnOk result (NoneRose D.state self.old self.new) }
     {
         let place = record.lane as usize;
         self.ups[place] = true;
@@ -193,6 +199,7 @@ impl<D: Disk> Manager<D> {
         ensures logged { IfOk result (λ s. s.logged ≡ count_by (is_covered (listed_in self.old.index.entries)) (range_with_len lbn (length out.old))) }
         ensures all { IfOk result (λ s. s.home + s.logged ≡ length out.old) }
         ensures cause { IfErr result (PartRose D.state self.old self.new) }
+        ensures calm { OnOk result (NoneRose D.state self.old self.new) }
     {
         let count = out.len() as u32;
         match source {
@@ -237,6 +244,7 @@ impl<D: Disk> Manager<D> {
         ensures logged { IfOk result (λ s. s.logged ≡ count_by (is_covered (listed_in self.old.index.entries)) (range_with_len lbn (length out.old))) }
         ensures all { IfOk result (λ s. s.home + s.logged ≡ length out.old) }
         ensures cause { IfErr result (PartRose D.state self.old self.new) }
+        ensures calm { OnOk result (NoneRose D.state self.old self.new) }
     {
         let mut sources = Sources { home: 0, logged: 0 };
         let mut done = 0;

@@ -6,6 +6,7 @@ ghost use Rattle.wol_model.specs.Log.{has_bit};
 ghost use Rattle.wol_model.specs.Index.{listed_in, is_due, has_going};
 ghost use Rattle.log_layout.specs.Values.{record_head};
 ghost use Rattle.redirect_map.specs.Index.{entry_at, HasVersion};
+ghost use Rattle.manager.specs.Causes.{NoneRose};
 ghost use Rattle.manager.specs.Reading.{IsReadThrough};
 ghost use Rattle.manager.specs.Reclaim.{OnTried, OnKept, OnFailed, TellsStep, KeepsOn, BreaksOff, StopsSince, Always, AreOf, HasFetched, HasStored, HasDropped};
 ghost use Rattle.manager.specs.Stands.{Keeps, IsReady, IsHome};
@@ -57,6 +58,7 @@ impl<D: Disk> Manager<D> {
         ensures ready { IsReady D.state self.new }
         ensures at { IsHome shared.now self.new }
         ensures fault { TellsStep D.state result self.old self.new }
+        ensures calm { OnOk result (NoneRose D.state self.old self.new) }
         ensures fetched { OnTried result (ForSome (entry_at self.old.index.entries version) (λ e. HasFetched e.listed.lane self.old self.new)) }
         ensures read { OnOk result (IsReadThrough D.state self.old self.new) }
         ensures content { (b : ManagerBase) (notes : List Noted) → Keeps D.tells D.state self.old b notes → OnOk result (AreOf D.tells self.old.index.entries version out.new b notes) }
@@ -99,6 +101,7 @@ impl<D: Disk> Manager<D> {
         ensures ready { IsReady D.state self.new }
         ensures at { IsHome shared.now self.new }
         ensures fault { TellsStep D.state result self.old self.new }
+        ensures calm { OnOk result (NoneRose D.state self.old self.new) }
         ensures stored { OnTried result (HasStored D.state version mask from.now self.old self.new result) }
         ensures keeps { OnKept result (KeepsOn D.tells D.state self.old self.new (AreOf D.tells self.old.index.entries version from.now)) }
         ensures broke { OnFailed result (BreaksOff D.tells D.state self.old self.new (AreOf D.tells self.old.index.entries version from.now)) }
@@ -151,6 +154,7 @@ impl<D: Disk> Manager<D> {
         ensures ready { IsReady D.state self.new }
         ensures at { IsHome shared.now self.new }
         ensures fault { TellsStep D.state result self.old self.new }
+        ensures calm { OnOk result (NoneRose D.state self.old self.new) }
         ensures gone { IfOk result (λ gone. gone ≡ is_none (entry_at self.new.index.entries version)) }
         ensures dropped { OnTried result (ForSome (entry_at self.old.index.entries version) (λ e. HasDropped version e self.old self.new result)) }
         ensures keeps { OnKept result (KeepsOn D.tells D.state self.old self.new Always) }

@@ -2,7 +2,7 @@
 ghost use Rattle.std.specs.Prelude.{◌≡◌, List, None, Some, IfErr, OnOk, length};
 ghost use Rattle.wol_promise.specs.Ruled.{Noted};
 ghost use Rattle.redirect_map.specs.Index.{entry_at, IsAnswer, IsIndex};
-ghost use Rattle.manager.specs.Causes.{PartRose};
+ghost use Rattle.manager.specs.Causes.{PartRose, NoneRose};
 ghost use Rattle.manager.specs.Reading.{IsReadThrough};
 ghost use Rattle.manager.specs.Reclaim.{AreOf, HasFetched};
 ghost use Rattle.manager.specs.Stands.{Keeps, IsReady, IsHome};
@@ -36,6 +36,7 @@ impl<D: Disk> Manager<D> {
         ensures fetched { HasFetched «record».now.lane self.old self.new }
         ensures content { (b : ManagerBase) (notes : List Noted) → Keeps D.tells D.state self.old b notes → OnOk result (AreOf D.tells self.old.index.entries «record».now.version out.new b notes) }
         ensures cause { IfErr result (PartRose D.state self.old self.new) }
+        ensures calm { OnOk result (NoneRose D.state self.old self.new) }
     {
         let place = record.lane as usize;
         self.ups[place] = true;

@@ -1,5 +1,5 @@
 // Writes: where the blocks go, and those that go home.
-ghost use Rattle.std.specs.Prelude.{◌≡◌, ◌≢◌, ◌↔◌, ◌+◌, ◌≤◌, ◌<◌, ◌^◌, ◌∷◌, [], ◌++◌, ℕ, Bool, List, Option, true, false, None, Some, Err, IsNone, IsSome, IfSome, IsTrue, length, map, slice_get, slice_set, replicate};
+ghost use Rattle.std.specs.Prelude.{◌≡◌, ◌≢◌, ◌↔◌, ◌+◌, ◌≤◌, ◌<◌, ◌^◌, ◌∷◌, [], ◌++◌, ℕ, Bool, List, Option, true, false, None, Some, Err, IsNone, IsSome, IsOk, IfSome, IsTrue, OnOk, length, map, slice_get, slice_set, replicate};
 ghost use Rattle.std.specs.List.{list_any, range_with_len};
 ghost use Rattle.spin_model.specs.Spun.{state_of};
 ghost use Rattle.spin_model.specs.declared.spun.Spun.{Spun};
@@ -9,11 +9,12 @@ ghost use Rattle.wol_model.specs.Placing.{Log as InLog};
 ghost use Rattle.wol_promise.specs.Ruled.{Noted, HasPassed, last_look};
 ghost use Rattle.logger.specs.Lanes.{logger_of};
 ghost use Rattle.manager.specs.Accesses.{HasUsedOnce};
+ghost use Rattle.manager.specs.Causes.{NoneRose};
 ghost use Rattle.manager.specs.Answers.{home_write, written, IsPlaceOf};
 ghost use Rattle.manager.specs.Offers.{IsTurnedAway, HasTakenWrite, ChangesLane};
 ghost use Rattle.manager.specs.Seen.{look_of_manager};
 ghost use Rattle.manager.specs.Stands.{Keeps, Stands, IsReady, IsHome, IsNote, IsSameManager, Leaves, nones_at, passed_in};
-ghost use Rattle.manager.specs.Stops.{Stops};
+ghost use Rattle.manager.specs.Stops.{Stops, TellsClaim};
 ghost use Rattle.manager.specs.Writing.{HaveAnswered, HasLook, NeedsHome, NeedsLogs, TellsFault, IsAsBefore, IsHomeAnswer, IsLogAnswer, IsPlacedAnswer, ruled_place, takes_at, in_flight};
 ghost use Rattle.manager.specs.declared.base.ManagerBase.{ManagerBase};
 ghost use Rattle.manager.specs.declared.part.Part.{Part};
@@ -54,6 +55,7 @@ impl<D: Disk> Manager<D> {
             → Keeps D.tells D.state self.old b notes → Stands D.tells D.state self.new b (notes ++ n ∷ []) }
         ensures waking { HasUsedOnce self.old.spindle self.new.spindle }
         ensures fault { TellsFault D.state result self.old self.new }
+        ensures calm { OnOk result (NoneRose D.state self.old self.new) }
         ensures any_moment { IsTrue D.tells → (b : ManagerBase) (notes : List Noted) → Keeps D.tells D.state self.old b notes
             → Stops D.state self.old self.new None b notes (in_flight self.old.next lbn from.now result) }
     {
@@ -100,7 +102,9 @@ impl<D: Disk> Manager<D> {
             → Keeps D.tells D.state self.old b notes → Stands D.tells D.state self.new b (notes ++ n ∷ [])) }
         ensures look { IfSome result (λ r. HasLook (InLog lane) (home_write lbn from.now) r (look_of_manager self.old) (look_of_manager self.new)) }
         ensures fault { IfSome result (λ r. TellsFault D.state r self.old self.new) }
-        ensures any_moment { IfSome result (λ r. IsTrue D.tells → (claimed : Option (Spun _)) × ((b : ManagerBase) (notes : List Noted) → Keeps D.tells D.state self.old b notes
+        ensures calm { IfSome result (λ r. OnOk r (NoneRose D.state self.old self.new)) }
+        ensures any_moment { IfSome result (λ r. (claimed : Option (Spun _)) × TellsClaim D.tells D.state (IsOk r) self.old.lanes.items self.new.lanes.items claimed
+            × (IsTrue D.tells → (b : ManagerBase) (notes : List Noted) → Keeps D.tells D.state self.old b notes
             → Stops D.state self.old self.new claimed b notes (in_flight self.old.next lbn from.now r))) }
     {
         match self.offer(rt, shared, lane as usize, lbn, from) {
@@ -143,8 +147,10 @@ impl<D: Disk> Manager<D> {
         ensures answered { HaveAnswered (length from.now) (takes_at (ruled_place self.old self.new lbn from.now) result) self.new.rooms.items self.old.lanes.items self.new.lanes.items }
         ensures waking { NeedsHome (ruled_place self.old self.new lbn from.now) result self.old self.new }
         ensures fault { TellsFault D.state result self.old self.new }
+        ensures calm { OnOk result (NoneRose D.state self.old self.new) }
         ensures unchanged { IsAsBefore result self.old self.new }
-        ensures any_moment { IsTrue D.tells → (claimed : Option (Spun _)) × ((b : ManagerBase) (notes : List Noted) → Keeps D.tells D.state self.old b notes
+        ensures any_moment { (claimed : Option (Spun _)) × TellsClaim D.tells D.state (IsOk result) self.old.lanes.items self.new.lanes.items claimed
+            × (IsTrue D.tells → (b : ManagerBase) (notes : List Noted) → Keeps D.tells D.state self.old b notes
             → Stops D.state self.old self.new claimed b notes (in_flight self.old.next lbn from.now result)) }
     {
         'asking: loop {
@@ -198,10 +204,13 @@ impl<D: Disk> Manager<D> {
         ensures versions { (result ≡ Err WriteRefusal.VersionsSpent) ↔ ((self.old.down ≡ None) × (self.old.next ≡ 2 ^ 63)) }
         ensures memory { result ≡ Err WriteRefusal.NoMemory → (self.old.down ≡ None) × (self.old.next < 2 ^ 63) × (self.old.index.reserved < 1) }
         ensures fault { TellsFault D.state result self.old self.new }
+        ensures calm { OnOk result (NoneRose D.state self.old self.new) }
         ensures unchanged { IsAsBefore result self.old self.new }
 
-        // Wherever the call is stopped, each choice of images recovers to a cut by this call's write.
-        ensures any_moment { IsTrue D.tells → (claimed : Option (Spun _)) × ((b : ManagerBase) (notes : List Noted) → Keeps D.tells D.state self.old b notes
+        // Wherever the call is stopped, each choice of images recovers to a cut by this call's write; of a segment that it claimed, the images
+        // since it was free.
+        ensures any_moment { (claimed : Option (Spun _)) × TellsClaim D.tells D.state (IsOk result) self.old.lanes.items self.new.lanes.items claimed
+            × (IsTrue D.tells → (b : ManagerBase) (notes : List Noted) → Keeps D.tells D.state self.old b notes
             → Stops D.state self.old self.new claimed b notes (in_flight self.old.next lbn from.now result)) }
     {
         self.rooms = unasked(self.lanes.len());

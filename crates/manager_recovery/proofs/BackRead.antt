@@ -16,7 +16,7 @@ use Rattle.logger.specs.declared.shared.Shared.{Shared}
 use Rattle.manager_recovery.specs.Left.{IsSameOwned}
 use Rattle.manager_recovery.specs.Opening.{CanOpen}
 use Rattle.log_layout.specs.declared.label.Label.{Label}
-use Rattle.manager_recovery.specs.Owned.{AreIntact, Head, all_owned, heads_in, HaveNoTwins, AreFirstTwins}
+use Rattle.manager_recovery.specs.Owned.{AreIntact, Head, Owned, all_owned, heads_in, HaveNoTwins, AreFirstTwins}
 use Rattle.manager_recovery.specs.Recovery.{IsIndexOf, IsIndexRefusal, IsRecovered}
 use Rattle.manager_recovery.specs.Refused.{IsNamesAnswer, IsRecoverable, Refuses, head_at}
 use Rattle.manager_recovery.specs.Scanned.{IsReadBack, AreReadBack, IsScanned, IsSeenAgain, IsThinning, all_found, head_of, has_some, thinned, next_of}
@@ -50,6 +50,12 @@ module _ {D : Type 0} (tells : Bool) (state : D → State) (told : IsTrue tells 
   recoverable entries index t =
       (all.intact t, subst HaveNoTwins (heads_are t) (no_twins_back (all_found n.view n.owned.items scans) index.sorted index.are_sorted.stable (rising_no_twins index.sorted index.are_sorted.rising)))
 
+  -- so it is of what was read back
+  pub recoverable_again : (home : Spun D) (spindle : PassOf Spindle SpindleBase) (entries : List Indexed) → IsIndexOf (all_found n.view n.owned.items scans) entries → IsTrue tells → IsRecoverable state (record n { home = home; spindle = spindle })
+  recoverable_again home spindle entries index t =
+      subst (λ (w : Label). AreIntact w.id w.home (all_owned state n.owned.items) × HaveNoTwins (heads_in w.id (all_owned state n.owned.items))) (sym (ap (λ (x : Opening D). x.want) parts.same))
+      (subst (λ (l : List Owned). AreIntact o.want.id o.want.home l × HaveNoTwins (heads_in o.want.id l)) (sym (all_same state o.owned.items n.owned.items parts.owned all.settled_)) (recoverable entries index t))
+
   pub index_refuses : IsNamesAnswer o None → (m : Opening D) (r : OpenRefusal) → IsIndexRefusal (all_found n.view n.owned.items scans) r → Refuses tells state o m r
   index_refuses named m LabelDiffers why = absurd why
   index_refuses named m (LoggerMissing id) why = absurd why
@@ -74,18 +80,15 @@ module _ {D : Type 0} (tells : Bool) (state : D → State) (told : IsTrue tells 
   index_refuses named m (DiskFault part) why = absurd why
   index_refuses named m NoMemory why = named
 
-  pub intact_again : IsTrue tells → AreIntact n.want.id n.want.home (all_owned state n.owned.items)
-  intact_again t = subst (λ (w : Label). AreIntact w.id w.home (all_owned state n.owned.items)) (sym (ap (λ (x : Opening D). x.want) parts.same))
-      (subst (AreIntact o.want.id o.want.home) (sym (all_same state o.owned.items n.owned.items parts.owned all.settled_)) (all.intact t))
-
   -- the whole
   pub is_recovered : (m : Opening D) (r : Recovered) (home : Spun D) (spindle : PassOf Spindle SpindleBase) → IsNamesAnswer o None → IsIndexOf (all_found n.view n.owned.items scans) r.index.entries → r.next ≡ next_of 1 scans
-      → (state_of state home).values ≡ option_map settled (state_of state n.home).values → IsThinning state shared (record n { home = home; spindle = spindle }) m
+      → (state_of state home).values ≡ option_map settled (state_of state n.home).values → (state_of state home).faults ≡ (state_of state n.home).faults → IsThinning state shared (record n { home = home; spindle = spindle }) m
       → CanOpen state shared m → m.owned.items ≡ thinned n.owned.items scans → r.scans.items ≡ filter has_some scans → IsRecovered tells state shared o m r
-  is_recovered m r home spindle named index next synced thinned_ can left left_scans = record {
+  is_recovered m r home spindle named index next synced calm thinned_ can left left_scans = record {
     named = named;
     recoverable = recoverable r.index.entries index;
     home = ap (λ (h : Spun D). (state_of state h).values) (ap (λ (x : Opening D). x.home) thinned_.same) ∙ synced ∙ ap (λ (h : Spun D). option_map settled (state_of state h).values) (ap (λ (x : Opening D). x.home) parts.same);
+    home_calm = ap (λ (h : Spun D). (state_of state h).faults) (ap (λ (x : Opening D). x.home) thinned_.same) ∙ calm ∙ ap (λ (h : Spun D). (state_of state h).faults) (ap (λ (x : Opening D). x.home) parts.same);
     read = n.owned.items;
     scans = scans;
     same = zip_map (IsSeenAgain state) (IsSameOwned state) (λ x y seen. seen.same) o.owned.items n.owned.items parts.owned;

@@ -1,6 +1,7 @@
 pub mod BackRead
 pub mod Beginning
 pub mod ByLogger
+pub mod CalmOpening
 pub mod Filled
 pub mod FirstTwo
 pub mod FoundMore

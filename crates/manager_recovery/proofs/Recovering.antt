@@ -20,11 +20,11 @@ use Rattle.log_layout.specs.declared.label.Label.{Label}
 use Rattle.log_scan.specs.declared.Scan.{Scan}
 use Rattle.logger.specs.declared.shared.Shared.{Shared}
 use Rattle.manager_recovery.specs.Left.{IsSameOwned, IsAsBefore, HasNothing, IsLeftOf, Fate, Kept, Freed, kept_of, AreFates, IsFateOf, IsSameOrFree, IsUsedLane, IsHandedBack}
-use Rattle.manager_recovery.specs.Owned.{AreIntact, IsIntact, all_owned}
+use Rattle.manager_recovery.specs.Owned.{IsIntact, all_owned}
 use Rattle.manager.specs.declared.part.Part.TheVariants as part
 use Rattle.manager_recovery.specs.declared.refusal.OpenRefusal.{OpenRefusal}
 use Rattle.manager_recovery.specs.declared.refusal.OpenRefusal.TheVariants.{LabelDiffers, LoggerMissing, OutsideView, Damaged, Twins, DiskFault, NoMemory}
-use Rattle.manager_recovery.specs.Refused.{HandsBackAll, SegmentRose}
+use Rattle.manager_recovery.specs.Refused.{HandsBackAll, IsRecoverable, SegmentRose}
 use Rattle.manager_recovery.specs.Scanned.{IsSeenAgain, IsReadBack, IsSettledPart, IsThinning, has_some}
 use Rattle.manager_recovery.specs.declared.opening.Opening.{Opening}
 use Rattle.manager_recovery.specs.declared.opening.OwnedPart.{OwnedPart}
@@ -135,8 +135,8 @@ module _ {D : Type 0} (tells : Bool) (state : D → State) (sound : (d : D) → 
 
   -- a fault of a segment as it was read back is one of the segment as it was
   pub rose_back : (o n : Opening D) (home : Spun D) (spindle : PassOf Spindle SpindleBase) (now : List (OwnedPart D)) (logger index : ℕ) → AllZip (IsSeenAgain state) o.owned.items n.owned.items → AllZip (IsSettledPart state) o.owned.items n.owned.items
-      → (IsTrue tells → AreIntact o.want.id o.want.home (all_owned state o.owned.items)) → SegmentRose tells state (record n { home = home; spindle = spindle }) now logger index → SegmentRose tells state o now logger index
-  rose_back o n home spindle now logger index seen settled_ intact rose =
+      → (IsTrue tells → IsRecoverable state o) → SegmentRose tells state (record n { home = home; spindle = spindle }) now logger index → SegmentRose tells state o now logger index
+  rose_back o n home spindle now logger index seen settled_ recoverable rose =
       let inside : rose.k < length o.owned.items = (let lt = within n.owned.items rose.k rose.before rose.was_there in let same = zip_length (IsSeenAgain state) o.owned.items n.owned.items seen in omega (arith, lt, same)) in
       let p = there_is o.owned.items rose.k inside in
       let again = zip_get (IsSeenAgain state) o.owned.items n.owned.items rose.k p.0 rose.before p.1 rose.was_there seen in
@@ -149,7 +149,8 @@ module _ {D : Type 0} (tells : Bool) (state : D → State) (sound : (d : D) → 
         is_there = rose.is_there;
         named = (rose.named.0 ∙ ap (λ (x : OwnedPart D). x.logger) again.same.0, rose.named.1 ∙ ap (λ (x : OwnedPart D). x.index) again.same.0, rose.named.2, rose.named.3);
         rose = subst (λ (c : ℕ). Rose c (state_of state rose.after.part).faults) calm rose.rose;
-        intact = λ t. all_take (IsIntact o.want.id o.want.home) rose.k (all_owned state o.owned.items) (intact t);
+        intact = λ t. all_take (IsIntact o.want.id o.want.home) rose.k (all_owned state o.owned.items) (recoverable t).0;
+        read_or_last = inr recoverable;
       }
 
 pub all_filtered : (ss : List Scan) → AllByRecursion (λ s. has_some s ≡ true) (filter has_some ss)

@@ -1,5 +1,5 @@
 -- The segments up to a place were read back, and what one more does.
-use Rattle.std.proofs.Common.{◌≡◌, ◌+◌, ◌≤◌, ℕ, Bool, true, false, not, cond, List, [], ◌∷◌, ◌++◌, length, take, drop, None, Some, refl, sym, ap, subst, ◌∙◌, arith}
+use Rattle.std.proofs.Common.{◌≡◌, inl, ◌+◌, ◌≤◌, ℕ, Bool, true, false, not, cond, List, [], ◌∷◌, ◌++◌, length, take, drop, None, Some, refl, sym, ap, subst, ◌∙◌, arith}
 use Rattle.std.specs.Prelude.{Result, Ok, Err, IfOk, IfErr, option_map, slice_get, IsTrue, Contains}
 use Rattle.logger.proofs.Held.{length-map}
 use Rattle.std.specs.List.{AllByRecursion, AllZip}
@@ -159,6 +159,7 @@ module _ {D : Type 0} (tells : Bool) (state : D → State) (sound : (d : D) → 
         named = (why.0, why.1, why.0 ∙ sym (ap (λ (x : OwnedPart D). x.logger) at.seen.same.0), why.1 ∙ sym (ap (λ (x : OwnedPart D). x.index) at.seen.same.0));
         rose = why.2;
         intact = sofar.intact;
+        read_or_last = inl parts_more.owned;
       },
     )
     refuses_at named NoMemory why = named

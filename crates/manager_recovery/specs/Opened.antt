@@ -4,7 +4,7 @@ use Rattle.std.specs.List.{AllByRecursion, AllZip}
 use Rattle.wol_disk.specs.Disk.{State}
 use Rattle.turn_lock.specs.Passes.{IsSamePass, pass_lock, pass_mine, pass_number}
 use Rattle.spin_model.specs.Spun.{state_of}
-use Rattle.log_segment.specs.Segment.{part_of}
+use Rattle.log_segment.specs.Segment.{disk_of, part_of}
 use Rattle.wol_model.specs.Blocks.{Write}
 use Rattle.wol_model.specs.Index.{Indexed}
 use Rattle.logger.specs.Lanes.{IsSameLane, logger_of, held_in, pool_of, spindle_of}
@@ -101,3 +101,9 @@ pub record Opens {D : Type 0} (tells : Bool) (state : D → State) (shared : Sha
   -- and their passes gave the others to the pools
   pub pools : AllZip (HasGiven o.owned.items fates) o.lanes.items m.lanes.items
   pub parts : LeavesParts tells state o.want.id o.home m.home o.owned.items fates
+
+-- No disk call failed: home's count of faults is as before, and so is that of each owned segment that a lane holds now.
+pub record NoneRoseAtOpening {D : Type 0} (state : D → State) (o : Opening D) (m : Manager D) : Type 0 where
+  pub home : (state_of state m.home).faults ≡ (state_of state o.home).faults
+  pub held : (p : OwnedPart D) (l : Lane D) (h : HeldSegment D) → Contains o.owned.items p → Contains m.lanes.items l → Contains (held_in l) h → logger_of l ≡ p.logger → h.index ≡ p.index
+      → (disk_of state h.segment).faults ≡ (state_of state p.part).faults

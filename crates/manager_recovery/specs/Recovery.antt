@@ -40,6 +40,7 @@ pub record IsRecovered {D : Type 0} (tells : Bool) (state : D → State) (shared
   pub named : IsNamesAnswer o None
   pub recoverable : IsTrue tells → IsRecoverable state o
   pub home : (state_of state n.home).values ≡ option_map settled (state_of state o.home).values
+  pub home_calm : (state_of state n.home).faults ≡ (state_of state o.home).faults
   -- the segments as they were read, with their scans
   pub read : List (OwnedPart D)
   pub scans : List Scan

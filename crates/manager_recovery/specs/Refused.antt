@@ -1,11 +1,12 @@
 -- Why a volume is refused: the first cause that applies.
-use Rattle.std.specs.Prelude.{⊤, ◌≡◌, ◌≢◌, ◌==◌, ℕ, Bool, false, not, List, map, find, take, is_some, position, slice_get, slice_index_or, Contains, Option, Some, None, IsTrue}
+use Rattle.std.specs.Prelude.{⊤, ◌≡◌, ◌≢◌, ◌⊎◌, ◌==◌, ℕ, Bool, false, not, List, map, find, take, is_some, position, slice_get, slice_index_or, Contains, Option, Some, None, IsTrue}
 use Rattle.std.specs.List.{AllZip}
 use Rattle.wol_disk.specs.Disk.{State, Rose}
 use Rattle.spin_model.specs.Spun.{state_of}
 use Rattle.manager.specs.declared.part.Part.TheVariants.{Home, Segment}
 use Rattle.manager_recovery.specs.Left.{IsSameOwned}
 use Rattle.manager_recovery.specs.Owned.{Head, all_owned, heads_in, AreIntact, IsFirstDamage, HaveNoTwins, AreFirstTwins}
+use Rattle.manager_recovery.specs.Scanned.{IsSeenAgain}
 use Rattle.manager_recovery.specs.declared.opening.Opening.{Opening}
 use Rattle.manager_recovery.specs.declared.opening.OwnedPart.{OwnedPart}
 use Rattle.manager_recovery.specs.declared.refusal.OpenRefusal.{OpenRefusal}
@@ -54,7 +55,8 @@ pub record IsTwins {D : Type 0} (state : D → State) (o : Opening D) (first_vol
   pub version : ℕ
   pub twins : AreFirstTwins (heads_in o.want.id (all_owned state o.owned.items)) (head_at version first_volume first) (head_at version second_volume second)
 
--- the count of an owned segment rose, and none before it is damaged
+-- The count of an owned segment rose, and none before it is damaged. While segments are read none is written; they are freed only
+-- once all were read and nothing in them refuses the volume.
 pub record SegmentRose {D : Type 0} (tells : Bool) (state : D → State) (o : Opening D) (new : List (OwnedPart D)) (logger index : ℕ) : Type 0 where
   pub k : ℕ
   pub before : OwnedPart D
@@ -64,6 +66,7 @@ pub record SegmentRose {D : Type 0} (tells : Bool) (state : D → State) (o : Op
   pub named : (logger ≡ before.logger) × (index ≡ before.index) × (logger ≡ after.logger) × (index ≡ after.index)
   pub rose : Rose (state_of state before.part).faults (state_of state after.part).faults
   pub intact : IsTrue tells → AreIntact o.want.id o.want.home (take k (all_owned state o.owned.items))
+  pub read_or_last : AllZip (IsSeenAgain state) o.owned.items new ⊎ (IsTrue tells → IsRecoverable state o)
 
 -- an owned segment lies in the image of this volume
 abbrev pub IsOnLog : {D : Type 0} → List (OwnedPart D) → (volume : ℕ) → Type 0

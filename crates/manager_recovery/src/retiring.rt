@@ -11,10 +11,9 @@ ghost use Rattle.log_segment.specs.Segment.{IsSegment, IsWhole, segment_volume, 
 ghost use Rattle.logger.specs.Lanes.{IsLane, AreAccesses, IsAt, IsSameLane, logger_of, held_in, pool_of, pool_blocks};
 ghost use Rattle.log_scan.specs.declared.Found.{Found};
 ghost use Rattle.log_segment.specs.declared.free.FreeSegment.{FreeSegment};
-ghost use Rattle.manager_recovery.specs.Owned.{all_owned, AreIntact};
 ghost use Rattle.manager_recovery.specs.Opening.{CanOpen, IsHeldIn};
 ghost use Rattle.manager_recovery.specs.Left.{IsAsBefore, IsFateOf, Kept, Freed};
-ghost use Rattle.manager_recovery.specs.Refused.{IsNamesAnswer, SegmentRose};
+ghost use Rattle.manager_recovery.specs.Refused.{IsNamesAnswer, IsRecoverable, SegmentRose};
 ghost use Rattle.manager_recovery.specs.Scanned.{HasGivenNone, IsScanned, IsFreedOf, IsUnfreed, IsThinning, has_some, keeps_some, thinned};
 ghost use Rattle.manager_recovery.specs.declared.opening.OwnedPart.{OwnedPart};
 
@@ -186,7 +185,7 @@ pub fn retire_bare<R: Wait, D: Disk>(
     requires ready { CanOpen D.state shared.now opening.old }
     requires named { IsNamesAnswer opening.old None }
     requires scanned { AllZip (IsScanned D.state opening.old.want.id opening.old.want.home) opening.old.owned.items scans.old.items }
-    requires intact { IsTrue D.tells → AreIntact opening.old.want.id opening.old.want.home (all_owned D.state opening.old.owned.items) }
+    requires recoverable { IsTrue D.tells → IsRecoverable D.state opening.old }
     ensures parts { IsThinning D.state shared.now opening.old opening.new }
     ensures ok { OnOk result (CanOpen D.state shared.now opening.new × (opening.new.owned.items ≡ thinned opening.old.owned.items scans.old.items)
         × (scans.new.items ≡ filter has_some scans.old.items)) }

@@ -5,7 +5,7 @@ ghost use Rattle.spin_model.specs.Spun.{state_of};
 ghost use Rattle.log_scan.specs.declared.Scan.{Scan};
 ghost use Rattle.manager_recovery.specs.Opening.{CanOpen};
 ghost use Rattle.manager_recovery.specs.Left.{IsHandedBack};
-ghost use Rattle.manager_recovery.specs.Opened.{Opens};
+ghost use Rattle.manager_recovery.specs.Opened.{Opens, NoneRoseAtOpening};
 ghost use Rattle.manager_recovery.specs.Recovery.{IsIndexOf, IsRecovered, IsIndexRefusal};
 ghost use Rattle.manager_recovery.specs.Refused.{IsNamesAnswer, Refuses, HandsBackAll};
 ghost use Rattle.manager_recovery.specs.Scanned.{IsScanned, all_found, has_some};
@@ -106,7 +106,8 @@ fn recover<R: Wait, D: Disk>(
 // The manager of a volume that was read back.
 fn manager_of<D: Disk>(shared: &Shared<D>, opening: Opening<D>, recovered: Recovered) -> Manager<D>
     requires ready { (o : Opening D) × IsRecovered D.tells D.state shared.now o opening recovered × IsHandedBack D.tells D.state shared.now o opening }
-    ensures { (o : Opening D) → IsRecovered D.tells D.state shared.now o opening recovered → IsHandedBack D.tells D.state shared.now o opening → Opens D.tells D.state shared.now o result }
+    ensures opens { (o : Opening D) → IsRecovered D.tells D.state shared.now o opening recovered → IsHandedBack D.tells D.state shared.now o opening → Opens D.tells D.state shared.now o result }
+    ensures calm { (o : Opening D) → CanOpen D.state shared.now o → IsRecovered D.tells D.state shared.now o opening recovered → NoneRoseAtOpening D.state o result }
 {
     let mut opening = opening;
     // a view names at most sixteen loggers, none of them twice
@@ -140,6 +141,7 @@ pub fn open_volume<R: Wait, D: Disk>(
 ) -> Result<Manager<D>, (OpenRefusal, Opening<D>)>
     requires ready { CanOpen D.state shared.now opening }
     ensures ok { IfOk result (Opens D.tells D.state shared.now opening) }
+    ensures calm { IfOk result (NoneRoseAtOpening D.state opening) }
     ensures err { IfErr result (λ r. Refuses D.tells D.state opening r.1 r.0) }
     ensures handed_back { IfErr result (λ r. IsHandedBack D.tells D.state shared.now opening r.1) }
     ensures whole { IfErr result (λ r. HandsBackAll D.state opening r.1 r.0) }

@@ -1,11 +1,12 @@
 -- A step of a drain: home is woken, and then the step is made.
 use Rattle.std.proofs.Common.{◌≡◌, ◌+◌, ℕ, suc, Bool, true, false, ◌||◌, List, [], ◌∷◌, map, length, None, Result, Ok, Err, refl, sym, ap, subst, ◌∙◌, arith, eqb}
-use Rattle.std.specs.Prelude.{IsTrue, IsErr, slice_index_or}
+use Rattle.std.specs.Prelude.{IsTrue, IsErr, OnOk, slice_index_or}
 use Rattle.std.specs.List.{list_any, range_with_len}
 use Rattle.std.proofs.lemmas.Option.{none-some}
 use Rattle.wol_disk.specs.Disk.{State, IsDisk}
 use Rattle.wol_model.specs.Index.{Listed, listed_in}
 use Rattle.wol_promise.specs.Policy.{drained}
+use Rattle.manager.specs.Causes.{NoneRose}
 use Rattle.manager.specs.Reading.{IsReadThrough}
 use Rattle.manager.specs.Reclaim.{OnTried, OnKept, OnFailed, TellsStep, KeepsOn, BreaksOff, StopsSince, Always}
 use Rattle.manager.specs.Seen.{look_of_manager}
@@ -45,6 +46,11 @@ bare_step state old new answer (nothing_left empty same is) bare = (empty, same)
 bare_step state old new answer (gave_up e first dropped told) bare = absurd (moved_nothing _ _ answer bare told)
 bare_step state old new answer (put_home e none first (put read mask blocks fetched is stored told)) bare = absurd (moved_nothing _ _ answer bare told)
 bare_step state old new answer (put_home e none first (not_read failed fetched)) bare = absurd (let wrong : false ≡ true = subst (λ (a : Result Drain StepFault). IsErr a) bare failed in cc)
+
+-- no count rose where none rose once home was woken
+pub step_calm : {D : Type 0} (state : D → State) (m w n : Manager D) → w ≡ record m { home_up = true; spindle = w.spindle } → (answer : Result Drain StepFault) → OnOk answer (NoneRose state w n) → OnOk answer (NoneRose state m n)
+step_calm {D} state m w n rest (Ok moved) none = let since : NoneRose state (record m { home_up = true; spindle = w.spindle }) n = subst (λ (x : Manager D). NoneRose state x n) rest none in record { home = since.home; held = since.held }
+step_calm state m w n rest (Err fault) none = tt
 
 module _ {D : Type 0} (tells : Bool) (state : D → State) (sound : (d : D) → IsDisk (state d)) (m w n : Manager D) (ready : IsReady state m) (up : m.down ≡ None) (through : IsReadThrough state m w) (ready_w : IsReady state w) where
   pub up_still : w.down ≡ None

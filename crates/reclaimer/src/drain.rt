@@ -1,8 +1,9 @@
 // A drain: step by step all records of a volume are put home and given up, whatever sleeps.
-ghost use Rattle.std.specs.Prelude.{◌≡◌, ◌↔◌, ◌≤◌, ℕ, List, [], true, None, Ok, IsTrue, IsSomeAnd, length};
+ghost use Rattle.std.specs.Prelude.{◌≡◌, ◌↔◌, ◌≤◌, ℕ, List, [], true, None, Ok, IsTrue, IsSomeAnd, length, OnOk};
 ghost use Rattle.wol_model.specs.Index.{listed_in, has_due};
 ghost use Rattle.wol_promise.specs.Policy.{drained};
 ghost use Rattle.redirect_map.specs.Index.{IsIndex, entry_at};
+ghost use Rattle.manager.specs.Causes.{NoneRose};
 ghost use Rattle.manager.specs.Reclaim.{OnTried, OnKept, OnFailed, TellsStep, KeepsOn, BreaksOff, StopsSince, Always};
 ghost use Rattle.manager.specs.Seen.{look_of_manager};
 ghost use Rattle.manager.specs.Stands.{IsReady, IsHome, nones_at};
@@ -37,6 +38,7 @@ fn move_home<R: Wait, D: Disk>(
     ensures ready { IsReady D.state m.new }
     ensures at { IsHome shared.now m.new }
     ensures fault { TellsStep D.state result m.old m.new }
+    ensures calm { OnOk result (NoneRose D.state m.old m.new) }
     ensures moved { OnTried result (IsSomeAnd (entry_at m.old.index.entries version) (λ e. HasMoved D.state e m.old m.new result)) }
     ensures keeps { OnKept result (KeepsOn D.tells D.state m.old m.new Always) }
     ensures broke { OnFailed result (BreaksOff D.tells D.state m.old m.new Always) }
@@ -68,6 +70,7 @@ fn drain_awake<R: Wait, D: Disk>(
     ensures ready { IsReady D.state m.new }
     ensures at { IsHome shared.now m.new }
     ensures fault { TellsStep D.state result m.old m.new }
+    ensures calm { OnOk result (NoneRose D.state m.old m.new) }
     ensures drains { Drains D.state m.old m.new result }
     ensures index { IsIndex m.old.index.entries }
     ensures lowers { Lowers result m.old m.new }
@@ -110,6 +113,7 @@ pub fn drain_step<R: Wait, D: Disk>(
     ensures ready { IsReady D.state m.new }
     ensures at { IsHome shared.now m.new }
     ensures fault { TellsStep D.state result m.old m.new }
+    ensures calm { OnOk result (NoneRose D.state m.old m.new) }
     ensures empty { into.new ≡ None }
     ensures bare { (result ≡ Ok Drain.Bare) ↔ ((m.old.down ≡ None) × (m.old.index.entries ≡ [])) }
     ensures drained { OnTried result (HasDrained D.state m.old m.new result) }

@@ -1,5 +1,6 @@
 // What may go of a record is given up.
-ghost use Rattle.std.specs.Prelude.{◌≡◌, ◌↔◌, None, Ok, IsTrue};
+ghost use Rattle.std.specs.Prelude.{◌≡◌, ◌↔◌, None, Ok, IsTrue, OnOk};
+ghost use Rattle.manager.specs.Causes.{NoneRose};
 ghost use Rattle.manager.specs.Reclaim.{OnKept, OnFailed, TellsStep, KeepsOn, BreaksOff, Always};
 ghost use Rattle.manager.specs.Seen.{look_of_manager};
 ghost use Rattle.manager.specs.Stands.{IsReady, IsHome};
@@ -28,6 +29,7 @@ pub fn invalidate_one<R: Wait, D: Disk>(
     ensures ready { IsReady D.state m.new }
     ensures at { IsHome shared.now m.new }
     ensures fault { TellsStep D.state result m.old m.new }
+    ensures calm { OnOk result (NoneRose D.state m.old m.new) }
     ensures nothing { (result ≡ Ok Gone.Nothing) ↔ ((m.old.down ≡ None) × (going_entry m.old ≡ None)) }
     ensures gone { HasGivenUp result m.old m.new }
     ensures look { LooksGone result m.old m.new }

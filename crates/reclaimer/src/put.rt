@@ -1,11 +1,12 @@
 // Due blocks that were fetched go home.
-ghost use Rattle.std.specs.Prelude.{◌≡◌, ◌↔◌, ◌<◌, ◌+◌, ℕ, false, None, Some, Ok, IfOk, IsTrue, length, count_by};
+ghost use Rattle.std.specs.Prelude.{◌≡◌, ◌↔◌, ◌<◌, ◌+◌, ℕ, false, None, Some, Ok, IfOk, IsTrue, length, count_by, OnOk};
 ghost use Rattle.std.specs.Option.{ForSome};
 ghost use Rattle.std.specs.List.{range_with_len};
 ghost use Rattle.wol_model.specs.Log.{has_bit};
 ghost use Rattle.wol_model.specs.Index.{listed_in, is_due, left};
 ghost use Rattle.redirect_map.specs.Masks.{IsMask};
 ghost use Rattle.redirect_map.specs.Index.{entry_at, HasVersion, IsIndex};
+ghost use Rattle.manager.specs.Causes.{NoneRose};
 ghost use Rattle.manager.specs.Reclaim.{OnKept, OnFailed, TellsStep, KeepsOn, BreaksOff};
 ghost use Rattle.manager.specs.Seen.{look_of_manager};
 ghost use Rattle.manager.specs.Stands.{IsReady, IsHome};
@@ -52,6 +53,7 @@ pub fn put_home<R: Wait, D: Disk>(
     ensures ready { IsReady D.state m.new }
     ensures at { IsHome shared.now m.new }
     ensures fault { TellsStep D.state result m.old m.new }
+    ensures calm { OnOk result (NoneRose D.state m.old m.new) }
     ensures count { IfOk result (λ count. count ≡ home_count m.old from.now) }
     ensures none { (result ≡ Ok 0) ↔ ((m.old.down ≡ None) × ((b : ℕ) → goes_home m.old from.now b ≡ false)) }
     ensures put { HasPutHome D.state result m.old m.new from.now }

@@ -1,6 +1,7 @@
 // The next record with due blocks is read.
-ghost use Rattle.std.specs.Prelude.{◌≡◌, ◌↔◌, List, None, Ok, IsTrue};
+ghost use Rattle.std.specs.Prelude.{◌≡◌, ◌↔◌, List, None, Ok, IsTrue, OnOk};
 ghost use Rattle.wol_promise.specs.Ruled.{Noted};
+ghost use Rattle.manager.specs.Causes.{NoneRose};
 ghost use Rattle.manager.specs.Reclaim.{OnKept, OnFailed, TellsStep, KeepsOn, BreaksOff, Always};
 ghost use Rattle.manager.specs.Seen.{look_of_manager};
 ghost use Rattle.manager.specs.Stands.{Keeps, IsReady, IsHome};
@@ -31,6 +32,7 @@ pub fn fetch<R: Wait, D: Disk>(
     ensures ready { IsReady D.state m.new }
     ensures at { IsHome shared.now m.new }
     ensures fault { TellsStep D.state result m.old m.new }
+    ensures calm { OnOk result (NoneRose D.state m.old m.new) }
     ensures nothing { (result ≡ Ok Fetched.Nothing) ↔ ((m.old.down ≡ None) × (due_entry m.old ≡ None)) }
     ensures fetched { HasFetchedNext result m.old m.new into.new }
 

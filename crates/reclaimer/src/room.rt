@@ -4,6 +4,7 @@ ghost use Rattle.std.specs.Option.{ForSome};
 ghost use Rattle.wol_model.specs.Index.{listed_in};
 ghost use Rattle.wol_promise.specs.Ruled.{Noted};
 ghost use Rattle.redirect_map.specs.Index.{entry_at, HasVersion};
+ghost use Rattle.manager.specs.Causes.{NoneRose};
 ghost use Rattle.manager.specs.Reading.{IsReadThrough};
 ghost use Rattle.manager.specs.Reclaim.{OnTried, OnKept, OnFailed, TellsStep, KeepsOn, BreaksOff, StopsSince, Always, HasFetched};
 ghost use Rattle.manager.specs.Stands.{Keeps, IsReady, IsHome};
@@ -85,6 +86,7 @@ pub(crate) fn read_record<R: Wait, D: Disk>(
     ensures ready { IsReady D.state m.new }
     ensures at { IsHome shared.now m.new }
     ensures fault { TellsStep D.state result m.old m.new }
+    ensures calm { OnOk result (NoneRose D.state m.old m.new) }
     ensures fetched { OnTried result (ForSome (entry_at m.old.index.entries version) (λ e. HasFetched e.listed.lane m.old m.new)) }
     ensures read { OnOk result (IsReadThrough D.state m.old m.new) }
     ensures few { IfOk result (λ f. (f.count ≤ 128) × (f.due < 2 ^ 128)) }

@@ -136,10 +136,10 @@ module _ {D : Type 0} (state : D → State) where
       let rose : 0 < (state (disk_of new.label)).faults = rose_above (state_of state old.label).faults (state_of state new.label).faults may in
       fault_found state 0 (disks_of new) 0 (omega arith) (λ d. rose)
   fault_at volumes own s old new (fault.SegmentFault index) read may =
-      let below : index < length new.segments.items = omega (arith, may.0, read.segments.count) in
+      let below : index < length new.segments.items = omega (arith, may.rose.0, read.segments.count) in
       let long = length_disks new.segments.items in
       let at : 2 + index ≡ suc (suc index) = omega arith in
-      let rose : 0 < (state_of state (get_or new.segments.items index new.label)).faults = rose_above (state_of state (get_or old.segments.items index new.label)).faults (state_of state (get_or new.segments.items index new.label)).faults (may.1 new.label) in
+      let rose : 0 < (state_of state (get_or new.segments.items index new.label)).faults = rose_above (state_of state (get_or old.segments.items index new.label)).faults (state_of state (get_or new.segments.items index new.label)).faults (may.rose.1 new.label) in
       let none : 0 + (2 + index) ≡ 2 + index = omega arith in
       subst (λ (x : ℕ). Contains (faulty_places state (disks_of new)) x) none
       (fault_found state 0 (disks_of new) (2 + index) (omega (arith, below, long))

@@ -9,11 +9,12 @@ use Rattle.wol_model.specs.Heads.{Shape}
 use Rattle.logger_view.specs.Stored.{HasLabel, HasView}
 use Rattle.log_layout.specs.Values.{shape_of}
 use Rattle.log_layout.specs.declared.label.Label.{Label}
+use Rattle.log_layout.specs.declared.segment.SegHead.{SegHead}
 use Rattle.volume_images.specs.declared.parts.ImageParts.{ImageParts}
 use Rattle.volume_images.specs.declared.reading.ImageFault.{ImageFault}
 use Rattle.volume_images.specs.declared.reading.ImageFault.TheVariants as fault
 use Rattle.volume_images.specs.Accepted.{HasOwnLabel}
-use Rattle.volume_images.specs.Heads.{IsDamagedSegment, RoseAt}
+use Rattle.volume_images.specs.Heads.{SayHeads, IsDamagedSegment, RoseAt}
 use Rattle.volume_images.specs.ImageParts.{SaysLabel, MayNotOpen}
 
 -- a list that was lent whole is what came back
@@ -49,8 +50,9 @@ module _ {D : Type 0} (state : D → State) (volumes own : ℕ) (s : Shape) (old
   -- a segment refuses the image
   pub segment_refuses : {T : Type 0} (r : Result T ImageFault) (e : ImageFault) → r ≡ Err e → SaysLabel state old (λ bs. (ids : List ℕ) × HasOwnLabel own s bs ids)
       → ((block : ℕ) → IsErrOf r (fault.Damaged block) → IsDamagedSegment state volumes s old.segments.items block) → (IsErrOf r fault.LabelDiffers → ⊥) → (IsErrOf r fault.LabelFault → ⊥)
-      → ((index : ℕ) → IsErrOf r (fault.SegmentFault index) → RoseAt state index old.segments.items new.segments.items) → MayNotOpen state volumes own s old new e
-  segment_refuses r (fault.Damaged block) is label damaged differs failed cause = inr (record { label = label; segment = damaged block is })
-  segment_refuses r fault.LabelDiffers is label damaged differs failed cause = absurd (differs is)
-  segment_refuses r fault.LabelFault is label damaged differs failed cause = absurd (failed is)
-  segment_refuses r (fault.SegmentFault index) is label damaged differs failed cause = cause index is
+      → ((index : ℕ) → IsErrOf r (fault.SegmentFault index) → RoseAt state index old.segments.items new.segments.items)
+      → ((index : ℕ) → IsErrOf r (fault.SegmentFault index) → (heads : List SegHead) × SayHeads state volumes old.segments.items index heads) → MayNotOpen state volumes own s old new e
+  segment_refuses r (fault.Damaged block) is label damaged differs failed cause before = inr (record { label = label; segment = damaged block is })
+  segment_refuses r fault.LabelDiffers is label damaged differs failed cause before = absurd (differs is)
+  segment_refuses r fault.LabelFault is label damaged differs failed cause before = absurd (failed is)
+  segment_refuses r (fault.SegmentFault index) is label damaged differs failed cause before = let found = before index is in record { label = label; rose = cause index is; heads = found.0; before = found.1 }

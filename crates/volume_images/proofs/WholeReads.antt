@@ -174,6 +174,18 @@ module _ {D : Type 0} (state : D → State) (sound : (d : D) → IsDisk (state d
         let one = segment_part i p.label (omega (arith, lt, few)) in
         subst (λ (bs : List Block). HasHead volumes bs (segment_head g)) (sym one.is) (say.each i p.label one.values g lt one.told at)
 
+    -- the segments before one of them have heads in the whole
+    heads_before : (volumes index : ℕ) (heads : List SegHead) → index < s.segments → SayHeads state volumes p.segments.items index heads
+        → (i : ℕ) → i < index → (h : SegmentHead) × HasHead volumes (segment_of s (reads vs) i) h
+    heads_before volumes index heads index_in say i lt =
+        let here : i < length heads = omega (arith, lt, say.count) in
+        let g = get_or heads i (nothing heads here) in
+        (segment_head g, head_of_whole volumes i heads index g lt (omega (arith, index_in)) say (slice_get-get_or heads i (nothing heads here) here))
+      where
+        nothing : {i : ℕ} (heads : List SegHead) → i < length heads → SegHead
+        nothing [] lt = absurd (omega arith)
+        nothing (g ∷ heads) lt = g
+
     pub accepted : (volumes own : ℕ) (ids : List ℕ) (heads : List SegHead) → MayOpen state volumes own s p ids heads → IsAccepted volumes own s (reads vs) ids (map segment_head heads)
     accepted volumes own ids heads may = record {
       named = subst (λ (bs : List Block). HasOwnLabel own s bs ids) (sym whole_is) (own_in_front (reads cut.front) (reads cut.back) two own s ids (may.label cut.front cut.first));
@@ -204,19 +216,20 @@ module _ {D : Type 0} (state : D → State) (sound : (d : D) → IsDisk (state d
             ids = label.0;
             named = subst (λ (bs : List Block). HasOwnLabel own s bs label.0) (sym whole_is) (own_in_front (reads cut.front) (reads cut.back) two own s label.0 label.1);
             within = index_in;
-            before = λ i lt.
-                let here : i < length d.heads = omega (arith, lt, d.before.count) in
-                let g = get_or d.heads i (nothing d.heads here) in
-                (segment_head g, head_of_whole volumes i d.heads d.index g lt (omega (arith, index_in)) d.before (slice_get-get_or d.heads i (nothing d.heads here) here));
+            before = heads_before volumes d.index d.heads index_in d.before;
             headless = λ h has. d.headless p.label at.values at.told h (subst (λ (bs : List Block). HasHead volumes bs h) at.is has);
           },
         ))
         may
-      where
-        nothing : {i : ℕ} (heads : List SegHead) → i < length heads → SegHead
-        nothing [] lt = absurd (omega arith)
-        nothing (g ∷ heads) lt = g
     refused volumes own new fault.LabelDiffers may =
         subst (λ (bs : List Block). HasOtherLabel own s bs) (sym whole_is) (other_in_front (reads cut.front) (reads cut.back) two own s (may cut.front cut.first))
     refused volumes own new fault.LabelFault may = tt
-    refused volumes own new (fault.SegmentFault index) may = tt
+    refused volumes own new (fault.SegmentFault index) may =
+        let label = may.label cut.front cut.first in
+        let index_in : index < s.segments = omega (arith, may.rose.0, are.count) in
+        record {
+          ids = label.0;
+          named = subst (λ (bs : List Block). HasOwnLabel own s bs label.0) (sym whole_is) (own_in_front (reads cut.front) (reads cut.back) two own s label.0 label.1);
+          within = index_in;
+          before = heads_before volumes index may.heads index_in may.before;
+        }

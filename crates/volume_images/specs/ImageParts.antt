@@ -50,9 +50,16 @@ pub record IsDamagedBehind {D : Type 0} (state : D → State) (volumes own : ℕ
   pub label : SaysLabel state p (λ bs. (ids : List ℕ) × HasOwnLabel own s bs ids)
   pub segment : IsDamagedSegment state volumes s p.segments.items block
 
+-- the label is the volume's, the segments before this one have heads, and the count of this one rose
+pub record HasFailedBehind {D : Type 0} (state : D → State) (volumes own : ℕ) (s : Shape) (old new : ImageParts D) (index : ℕ) : Type 0 where
+  pub label : SaysLabel state old (λ bs. (ids : List ℕ) × HasOwnLabel own s bs ids)
+  pub rose : RoseAt state index old.segments.items new.segments.items
+  pub heads : List SegHead
+  pub before : SayHeads state volumes old.segments.items index heads
+
 -- why it may not be opened
 abbrev pub MayNotOpen : {D : Type 0} → (D → State) → (volumes own : ℕ) → Shape → (old new : ImageParts D) → ImageFault → Type 0
 MayNotOpen state volumes own s old new (fault.Damaged block) = SaysLabel state old (λ bs. IsFirstFault own bs block) ⊎ IsDamagedBehind state volumes own s old block
 MayNotOpen state volumes own s old new fault.LabelDiffers = SaysLabel state old (HasOtherLabel own s)
 MayNotOpen state volumes own s old new fault.LabelFault = Rose (state_of state old.label).faults (state_of state new.label).faults
-MayNotOpen state volumes own s old new (fault.SegmentFault index) = RoseAt state index old.segments.items new.segments.items
+MayNotOpen state volumes own s old new (fault.SegmentFault index) = HasFailedBehind state volumes own s old new index

@@ -1,5 +1,5 @@
 // What one image says is read: its label, its view, and the heads of its segments.
-ghost use Rattle.std.specs.Prelude.{◌≡◌, ◌≤◌, ◌<◌, ◌^◌, [], ℕ, length, option_map, IfOk, IfErr, OnOk, IsErrOf, All, vec_capacity};
+ghost use Rattle.std.specs.Prelude.{◌≡◌, ◌≤◌, ◌<◌, ◌^◌, [], ℕ, List, length, option_map, IfOk, IfErr, OnOk, IsErrOf, All, vec_capacity};
 ghost use Rattle.wol_disk.specs.Disk.{settled};
 ghost use Rattle.wol_model.specs.Heads.{IsShape};
 ghost use Rattle.spin_model.specs.Spun.{volume_of, state_of, token_volume};
@@ -57,6 +57,7 @@ fn read_heads<D: Disk>(
     ensures label { IsErrOf result ImageFault.LabelDiffers → ⊥ }
     ensures label_part { IsErrOf result ImageFault.LabelFault → ⊥ }
     ensures cause { (index : ℕ) → IsErrOf result (ImageFault.SegmentFault index) → RoseAt D.state index segments.old segments.new }
+    ensures before { (index : ℕ) → IsErrOf result (ImageFault.SegmentFault index) → (before : List SegHead) × SayHeads D.state volumes segments.old index before }
     ensures calm { ((index : ℕ) → IsErrOf result (ImageFault.SegmentFault index) → ⊥) → AreCalm D.state segments.old segments.new }
     ensures read { AreOnlyRead D.state segments.old segments.new }
 {

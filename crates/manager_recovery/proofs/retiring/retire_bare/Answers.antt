@@ -1,4 +1,4 @@
-use Rattle.std.proofs.Common.{◌≡◌, ◌-◌, ℕ, suc, List, false, true, Some, slice_set, arith, refl, sym, ap, subst, ◌∙◌, eqb}
+use Rattle.std.proofs.Common.{◌≡◌, inr, ◌-◌, ℕ, suc, List, false, true, Some, slice_set, arith, refl, sym, ap, subst, ◌∙◌, eqb}
 use Rattle.std.specs.Prelude.{Contains, position}
 use Rattle.std.specs.List.{list_any}
 use Rattle.std.proofs.lemmas.Option.{same_Some, none-some, slice_get_within}
@@ -226,6 +226,7 @@ returns-in-Err-clause-err g c =
         is_there = subst (λ (l : List (OwnedPart g.row.D.Denot)). Contains l after) (sym w.1) (member_of (slice_set n.owned.items (k - 1) after) after (k - 1) (get_set n.owned.items (k - 1) at.part after at.part_at));
         named = (refl, refl, sym (ap (λ (q : OwnedPart g.row.D.Denot). q.logger) same), sym (ap (λ (q : OwnedPart g.row.D.Denot). q.index) same));
         rose = w.4;
-        intact = λ told. all_take (IsIntact o.want.id o.want.home) (k - 1) (all_owned state o.owned.items) (c.requires.intact told);
+        intact = λ told. all_take (IsIntact o.want.id o.want.home) (k - 1) (all_owned state o.owned.items) (c.requires.recoverable told).0;
+        read_or_last = inr c.requires.recoverable;
       },
     )

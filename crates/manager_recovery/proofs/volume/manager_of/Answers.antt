@@ -3,10 +3,11 @@ use Rattle.std.specs.List.{AllZip}
 use Rattle.spin_model.specs.Spun.{disk_of}
 use Rattle.log_scan.specs.declared.Scan.{Scan}
 use Rattle.manager.specs.Stands.{IsReady, opened}
-use Rattle.manager_recovery.specs.Opened.{Opens}
+use Rattle.manager_recovery.specs.Opened.{Opens, NoneRoseAtOpening}
 use Rattle.manager_recovery.specs.declared.opening.Opening.{Opening}
 use Rattle.manager_recovery.specs.Scanned.{IsScanned, AreHeld}
 use Rattle.manager_recovery.proofs.Beginning.{opens_as}
+use Rattle.manager_recovery.proofs.CalmOpening.{held_calm}
 use Rattle.manager_recovery.proofs.Gathered.{gs, gathered, names_still, scanned_still}
 use Rattle.manager_recovery.proofs.OpenedKeeps.{is_ready}
 use Rattle.manager_recovery.proofs.volume.manager_of.Goals as goal
@@ -46,8 +47,8 @@ new-requires-clause-few g c =
     let ready = is_ready state shared n r lanes all gathered_ in
     ready.ready.few
 
-pub returns : goal.returns
-returns g c o rec back =
+pub returns-clause-opens : goal.returns-clause-opens
+returns-clause-opens g c o rec back =
     let tells = g.D.Disk.tells in let state = g.D.Disk.state in let shared = c.args.shared.now in let n = c.args.opening in let r = c.args.recovered in
     let same = back.same in let lanes = c.hold_all.new.opening.lanes in
     let held : AreHeld state shared n.want.id n.most n.owned.items r.scans.items n.lanes.items lanes.items = subst (λ (l : List Scan). AreHeld state shared n.want.id n.most n.owned.items l n.lanes.items lanes.items) c.deref.ensures.value c.hold_all.ensures.held in
@@ -56,3 +57,12 @@ returns g c o rec back =
     let value : c.new.result ≡ opened n.want.id n.home n.spindle lanes r.index r.next n.most =
     c.new.ensures.value ∙ ap (λ (q : Opening g.row.D.Denot). opened q.want.id q.home q.spindle lanes r.index r.next q.most) c.hold_all.ensures.same in
     subst (Opens tells state shared o) (sym value) stands
+
+pub returns-clause-calm : goal.returns-clause-calm
+returns-clause-calm g c o can rec =
+    let state = g.D.Disk.state in let n = c.args.opening in let r = c.args.recovered in let lanes = c.hold_all.new.opening.lanes in
+    let held : AreHeld state c.args.shared.now n.want.id n.most n.owned.items r.scans.items n.lanes.items lanes.items = subst (λ (l : List Scan). AreHeld state c.args.shared.now n.want.id n.most n.owned.items l n.lanes.items lanes.items) c.deref.ensures.value c.hold_all.ensures.held in
+    let value : c.new.result ≡ opened n.want.id n.home n.spindle lanes r.index r.next n.most =
+    c.new.ensures.value ∙ ap (λ (q : Opening g.row.D.Denot). opened q.want.id q.home q.spindle lanes r.index r.next q.most) c.hold_all.ensures.same in
+    subst (NoneRoseAtOpening state o) (sym value)
+    (record { home = rec.home_calm; held = held_calm state c.args.shared.now o n.want.id n.most n.owned.items rec.read rec.scans r.scans.items n.lanes.items lanes.items can.in_order rec.left rec.same rec.settled_ held })

@@ -3,7 +3,7 @@ use Rattle.spin_model.specs.declared.spun.Spun.{Spun}
 use Rattle.manager_recovery.specs.Recovery.{IsIndexOf, IsIndexRefusal}
 use Rattle.manager_recovery.specs.Refused.{Refuses, HandsBackAll}
 use Rattle.manager_recovery.specs.Scanned.{IsSeenAgain, all_found, next_of}
-use Rattle.manager_recovery.proofs.BackRead.{versions_below, recoverable, index_refuses, intact_again, is_recovered}
+use Rattle.manager_recovery.proofs.BackRead.{versions_below, recoverable, recoverable_again, index_refuses, is_recovered}
 use Rattle.std.proofs.Common.{◌≡◌, ◌+◌, ◌-◌, ◌<◌, ◌≤◌, ◌^◌, List, refl, sym, ap, subst, ◌∙◌, arith}
 use Rattle.std.specs.List.{AllByRecursion}
 use Rattle.spin_model.specs.Spun.{state_of}
@@ -68,15 +68,18 @@ returns-in_default-synced-clause-err g c =
 pub retire_bare-requires-clause-named : goal.retire_bare-requires-clause-named
 retire_bare-requires-clause-named g c = names_after g.D.Disk.state c.args.shared.now c.args.opening.now c.scan_all.new.opening c.scan_all.ensures.parts c.in_default.ensures
 
-pub retire_bare-requires-clause-intact : goal.retire_bare-requires-clause-intact
-retire_bare-requires-clause-intact g c = intact_again g.D.Disk.tells g.D.Disk.state g.met.D.Disk.told c.args.shared.now c.args.opening.now c.scan_all.new.opening c.in-Ok.scans.items c.scan_all.ensures.parts c.in-Ok.ensures.ok
+pub retire_bare-requires-clause-recoverable : goal.retire_bare-requires-clause-recoverable
+retire_bare-requires-clause-recoverable g c =
+    let n = c.scan_all.new.opening in
+    recoverable_again g.D.Disk.tells g.D.Disk.state g.met.D.Disk.told c.args.shared.now c.args.opening.now n c.in-Ok.scans.items c.scan_all.ensures.parts c.in-Ok.ensures.ok c.sync_part-synced.new.part c.sync_part-synced.new.spindle c.in-Ok-index_of.index.entries
+    (subst (λ (l : List Scan). IsIndexOf (all_found n.view n.owned.items l) c.in-Ok-index_of.index.entries) c.deref-2.ensures.value c.in-Ok-index_of.ensures.ok)
 
 pub returns-in-Ok-retire_bare-clause-ok : goal.returns-in-Ok-retire_bare-clause-ok
 returns-in-Ok-retire_bare-clause-ok g c =
     let n = c.scan_all.new.opening in
     is_recovered g.D.Disk.tells g.D.Disk.state g.met.D.Disk.told c.args.shared.now c.args.opening.now c.scan_all.new.opening c.in-Ok.scans.items c.scan_all.ensures.parts c.in-Ok.ensures.ok c.retire_bare.new.opening _ c.sync_part-synced.new.part c.sync_part-synced.new.spindle c.in_default.ensures
     (subst (λ (l : List Scan). IsIndexOf (all_found n.view n.owned.items l) c.in-Ok-index_of.index.entries) c.deref-2.ensures.value c.in-Ok-index_of.ensures.ok)
-    (c.next_version-next.ensures.value ∙ ap (next_of 1) c.deref.ensures.value) c.in-Ok-synced.ensures.values c.retire_bare.ensures.parts
+    (c.next_version-next.ensures.value ∙ ap (next_of 1) c.deref.ensures.value) c.in-Ok-synced.ensures.values c.in-Ok-synced.ensures.calm c.retire_bare.ensures.parts
     c.in-Ok-retire_bare.ensures.ok.0 c.in-Ok-retire_bare.ensures.ok.1 c.in-Ok-retire_bare.ensures.ok.2
 
 pub returns-in-Ok-retire_bare-clause-parts : goal.returns-in-Ok-retire_bare-clause-parts
@@ -95,7 +98,9 @@ returns-in-Err-retire_bare-clause-err g c =
     subst (Refuses g.D.Disk.tells g.D.Disk.state c.args.opening.now c.retire_bare.new.opening) (sym w.2) (
       c.in_default.ensures,
       rose_back g.D.Disk.tells g.D.Disk.state g.met.D.Disk.sound g.met.D.Disk.told c.args.shared.now c.args.opening.now c.scan_all.new.opening c.sync_part-synced.new.part c.sync_part-synced.new.spindle c.retire_bare.new.opening.owned.items w.0 w.1
-          c.scan_all.ensures.parts.owned c.in-Ok.ensures.ok.settled_ c.in-Ok.ensures.ok.intact w.3,
+          c.scan_all.ensures.parts.owned c.in-Ok.ensures.ok.settled_
+          (recoverable g.D.Disk.tells g.D.Disk.state g.met.D.Disk.told c.args.shared.now c.args.opening.now c.scan_all.new.opening c.in-Ok.scans.items c.scan_all.ensures.parts c.in-Ok.ensures.ok c.in-Ok-index_of.index.entries
+          (subst (λ (l : List Scan). IsIndexOf (all_found c.scan_all.new.opening.view c.scan_all.new.opening.owned.items l) c.in-Ok-index_of.index.entries) c.deref-2.ensures.value c.in-Ok-index_of.ensures.ok)) w.3,
     )
 
 pub returns-in-Some-clause-whole : goal.returns-in-Some-clause-whole

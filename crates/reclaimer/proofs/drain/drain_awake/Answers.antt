@@ -4,6 +4,7 @@ use Rattle.std.specs.Prelude.{if◌then◌else◌}
 use Rattle.std.specs.List.{AllByRecursion}
 use Rattle.wol_model.specs.Index.{listed_in, has_due, has_going}
 use Rattle.redirect_map.specs.Index.{entry_at, IsIndex}
+use Rattle.manager.proofs.Calm.{none_home}
 use Rattle.manager.proofs.ReadStops.{stops_read}
 use Rattle.reclaimer.proofs.Draining.{none_left}
 use Rattle.reclaimer.proofs.DrainStep.{awake_answer, byte_is, first_awake, first_there, first_passes, given_drains, given_less, given_look, drop_refused, moved_drains}
@@ -109,3 +110,6 @@ returns-clause-look g c =
     let none = unanswered _ (awake_answer state m rd c.requires.up awake set rd.ready.few (λ es. has_going (listed_in es)) c.index-2.result.now c.index-2.ensures None c.in_default.ensures.answer) in
     let r = c.in-Some-due_next.record in let f = first_awake (has_due (listed_in m.index.entries)) m.index.entries r sound (awake_answer state m rd c.requires.up awake set rd.ready.few (λ es. has_due (listed_in es)) c.index-3.result.now c.index-3.ensures (Some r) c.in-Some-due_next.ensures.answer) in
     (moved_drains state m c.move_home.new.m r sound rd none f c.move_home.result c.requires.up c.move_home.ensures.fault c.move_home.ensures.moved).2
+
+pub returns-then-len-eq0-clause-calm : goal.returns-then-len-eq0-clause-calm
+returns-then-len-eq0-clause-calm g c = none_home g.D.Disk.state c.args.m.now c.args.m.now c.requires.ready refl refl

@@ -6,7 +6,7 @@ use Rattle.manager.specs.Seen.{look_of_manager}
 use Rattle.reclaimer.proofs.CountedDrain.{counts_since, listed_woken, drain_counts}
 use Rattle.reclaimer.proofs.Moments.{at_rest}
 use Rattle.reclaimer.proofs.TakenOff.{nothing_taken}
-use Rattle.reclaimer.proofs.Woken.{step_fault, step_drained, step_bare, step_keeps, step_broke, step_stops}
+use Rattle.reclaimer.proofs.Woken.{step_calm, step_fault, step_drained, step_bare, step_keeps, step_broke, step_stops}
 use Rattle.manager.specs.Stands.{nones_at}
 use Rattle.reclaimer.proofs.Pools.{no_fewer}
 use Rattle.reclaimer.proofs.drain.drain_step.Goals as goal
@@ -56,3 +56,6 @@ returns-clause-counted g c =
     let w = c.wake_home in let d = c.drain_awake in
     counts_since d.result (look_of_manager c.args.m.now) (look_of_manager w.new.self) (look_of_manager d.new.m) (listed_woken c.args.m.now w.new.self w.ensures.unchanged)
     (drain_counts g.D.Disk.state w.new.self d.new.m d.ensures.index d.result d.ensures.drains)
+
+pub returns-clause-calm : goal.returns-clause-calm
+returns-clause-calm g c = step_calm g.D.Disk.state c.args.m.now c.wake_home.new.self c.drain_awake.new.m c.wake_home.ensures.unchanged c.drain_awake.result c.drain_awake.ensures.calm

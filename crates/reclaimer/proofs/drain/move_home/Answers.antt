@@ -1,5 +1,6 @@
 -- The due blocks of a record are read and put home.
 use Rattle.std.proofs.Common.{Ok, refl, ◌∙◌}
+use Rattle.manager.proofs.Calm.{none_then}
 use Rattle.redirect_map.specs.Index.{entry_at}
 use Rattle.reclaimer.specs.declared.answers.Drain.{Drain}
 use Rattle.reclaimer.proofs.GiveUp.{some_and}
@@ -47,3 +48,6 @@ returns-in-Err-clause-any_moment g c =
     let m = c.args.m.now in let m1 = c.read_record.new.m in let r = c.in_ok-filled.ensures in let t = entry_there m.index.entries c.args.version _ c.requires.due in
     let long = c.read_record.auto.blocks ∙ c.requires.room in
     stops_fault g.D.Disk.tells g.D.Disk.state g.met.D.Disk.sound m m1 c.store_home.new.self _ c.requires.ready r.fault.0 r.read c.read_record.ensures.ready (λ b notes k. data_here m m1 c.args.version t.0 t.1 c.in_ok-filled.filled c.read_record.new.blocks long r.few r.filled r.fetched g.D.Disk.tells b notes (r.content b notes k)) (Unit {0}) Drain c.in-Err.fault c.in-Err.ensures.any_moment
+
+pub returns-in-Ok-clause-calm : goal.returns-in-Ok-clause-calm
+returns-in-Ok-clause-calm g c = none_then g.D.Disk.state c.args.m.now c.read_record.new.m c.store_home.new.self c.in_ok-filled.ensures.read c.in_ok-filled.ensures.calm c.in-Ok.ensures.calm

@@ -1,6 +1,7 @@
 -- A step in which blocks are given up, or none may go.
 use Rattle.std.proofs.Common.{◌≡◌, Bool, true, false, rules, length, refl, sym, ap, subst, arith, ◌∙◌}
 use Rattle.redirect_map.specs.Index.{IsIndex}
+use Rattle.manager.proofs.Calm.{none_home}
 use Rattle.manager.specs.Reclaim.{Always}
 use Rattle.manager.specs.Seen.{look_of_manager}
 use Rattle.manager.proofs.ReadThrough.{never_some}
@@ -93,3 +94,6 @@ pub returns-in-Err-clause-counted : goal.returns-in-Err-clause-counted
 returns-in-Err-clause-counted g c =
     let r = c.in-Some-going.record in let e = c.in-Err.ensures in
     fails_counts g.D.Disk.state c.args.m.now c.drop_rec.new.self r (going_of c.args.m.now r c.index.result.now c.ups.result.now c.index.ensures c.ups.ensures c.in-Some-going.ensures.index c.in-Some-going.ensures.answer) c.in-Err.fault e.fault e.dropped
+
+pub returns-in_default-going-clause-calm : goal.returns-in_default-going-clause-calm
+returns-in_default-going-clause-calm g c = none_home g.D.Disk.state c.args.m.now c.args.m.now c.requires.ready refl refl

@@ -2,6 +2,7 @@
 use Rattle.std.proofs.Common.{◌≡◌, ◌<◌, ◌≤◌, true, Ok, Err, refl, sym, ap, rules, ◌∙◌}
 use Rattle.std.specs.Int.RustNames.{count_ones}
 use Rattle.std.proofs.lemmas.Nat.{zero_from_ones}
+use Rattle.manager.proofs.Calm.{none_home}
 use Rattle.manager.proofs.ReadThrough.{never_some}
 use Rattle.manager.specs.Seen.{look_of_manager}
 use Rattle.reclaimer.specs.Fetches.{HasData}
@@ -148,3 +149,12 @@ returns-in-Ok-clause-lowers g c =
 
 pub returns-in-Err-clause-counted : goal.returns-in-Err-clause-counted
 returns-in-Err-clause-counted g c = refused_counted (Unit {0}) g.D.Disk.state c.in-Some-filled.filled.version c.still_due-put.result _ c.args.m.now c.store_home.new.self c.in-Err.fault c.in-Err.ensures.fault c.in-Err.ensures.stored
+
+pub returns-then-not-home_up-clause-calm : goal.returns-then-not-home_up-clause-calm
+returns-then-not-home_up-clause-calm g c = none_home g.D.Disk.state c.args.m.now c.args.m.now c.requires.ready refl refl
+
+pub returns-in_default-filled-clause-calm : goal.returns-in_default-filled-clause-calm
+returns-in_default-filled-clause-calm g c = none_home g.D.Disk.state c.args.m.now c.args.m.now c.requires.ready refl refl
+
+pub returns-then-put-eq0-clause-calm : goal.returns-then-put-eq0-clause-calm
+returns-then-put-eq0-clause-calm g c = none_home g.D.Disk.state c.args.m.now c.args.m.now c.requires.ready refl refl

@@ -1,6 +1,7 @@
 -- The next record with due blocks is read, or there is none.
-use Rattle.std.proofs.Common.{◌≡◌, true, rules, length, Some, sym, ap, arith, ◌∙◌}
+use Rattle.std.proofs.Common.{refl, ◌≡◌, true, rules, length, Some, sym, ap, arith, ◌∙◌}
 use Rattle.manager.specs.Reclaim.{Always}
+use Rattle.manager.proofs.Calm.{none_home}
 use Rattle.manager.proofs.ReadThrough.{never_some}
 use Rattle.reclaimer.specs.Records.{record_of}
 use Rattle.reclaimer.specs.declared.room.Filled.{Filled}
@@ -68,3 +69,9 @@ returns-in-Err-clause-look g c =
 pub returns-in-Err-clause-any_moment : goal.returns-in-Err-clause-any_moment
 returns-in-Err-clause-any_moment g c told =
     tried_within g.D.Disk.tells g.D.Disk.state g.met.D.Disk.sound Always Filled told c.args.m.now c.read_record.new.m c.in-Err.fault c.in-Err.ensures.fault c.in-Err.ensures.any_moment
+
+pub returns-then-not-home_up-clause-calm : goal.returns-then-not-home_up-clause-calm
+returns-then-not-home_up-clause-calm g c = none_home g.D.Disk.state c.args.m.now c.args.m.now c.requires.ready refl refl
+
+pub returns-in_default-due_next-clause-calm : goal.returns-in_default-due_next-clause-calm
+returns-in_default-due_next-clause-calm g c = none_home g.D.Disk.state c.args.m.now c.args.m.now c.requires.ready refl refl

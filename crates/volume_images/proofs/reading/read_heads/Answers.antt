@@ -72,3 +72,8 @@ pub returns-clause-ok : goal.returns-clause-ok
 returns-clause-ok g c =
     let e : c.loop-index.index ≡ length c.args.segments.now = omega arith in
     subst (λ n. SayHeads g.D.Disk.state c.args.volumes c.args.segments.now n c.loop-index.heads.items) e c.loop-index.invariant.heads
+
+pub returns-in-Err-Failed-clause-before : goal.returns-in-Err-Failed-clause-before
+returns-in-Err-Failed-clause-before g c = λ index e.
+    let same : c.loop-index.index ≡ index = cc in
+    (c.loop-index.heads.items, subst (λ n. SayHeads g.D.Disk.state c.args.volumes c.args.segments.now n c.loop-index.heads.items) same c.loop-index.invariant.heads)

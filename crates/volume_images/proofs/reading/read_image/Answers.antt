@@ -2,6 +2,7 @@ use Rattle.std.proofs.Common.{◌≡◌, ℕ, List, length, inl, Err, refl, sym,
 use Rattle.std.proofs.lemmas.Result.{err_from_is_err_and}
 use Rattle.logger_view.specs.Stored.{IsFirstFault}
 use Rattle.log_layout.specs.Values.{shape_of}
+use Rattle.log_layout.specs.declared.segment.SegHead.{SegHead}
 use Rattle.wol_disk.specs.Disk.{reads}
 use Rattle.volume_images.specs.Reads.{AreOnlyRead}
 use Rattle.std.specs.Vec.{with_items}
@@ -33,7 +34,8 @@ returns-in_err-read_heads-clause-refused g c =
     let whole : new.segments.items ≡ c.read_heads.new.segments = came_back_whole old.segments.len old.segments.items c.read_heads.new.segments (omega arith) read.count in
     rw answer (segment_refuses state c.args.volumes own s old new c.read_heads.result e c.in_err-read_heads.was label
     (λ block is. subst (λ segments. IsDamagedSegment state c.args.volumes s segments block) c.deref_mut.ensures.value (c.read_heads.ensures.damaged block is)) c.read_heads.ensures.label c.read_heads.ensures.label_part
-    (λ index is. subst (λ segments. RoseAt state index old.segments.items segments) (sym whole) (subst (λ segments. RoseAt state index segments c.read_heads.new.segments) c.deref_mut.ensures.value (c.read_heads.ensures.cause index is))))
+    (λ index is. subst (λ segments. RoseAt state index old.segments.items segments) (sym whole) (subst (λ segments. RoseAt state index segments c.read_heads.new.segments) c.deref_mut.ensures.value (c.read_heads.ensures.cause index is)))
+    (λ index is. subst (λ segments. (heads : List SegHead) × SayHeads state c.args.volumes segments index heads) c.deref_mut.ensures.value (c.read_heads.ensures.before index is)))
 
 pub returns-in_err-read_heads-clause-read : goal.returns-in_err-read_heads-clause-read
 returns-in_err-read_heads-clause-read g c =

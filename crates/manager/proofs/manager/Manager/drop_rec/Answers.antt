@@ -5,6 +5,7 @@ use Rattle.std.proofs.lemmas.Option.{slice_get_within}
 use Rattle.redirect_map.specs.Index.{entry_at}
 use Rattle.wol_model.specs.Index.{Indexed, listed_in, has_going}
 use Rattle.logger.specs.Lanes.{IsAt}
+use Rattle.manager.proofs.Calm.{calm_trim, none_lane}
 use Rattle.manager.proofs.Copies.{refill_set}
 use Rattle.manager.proofs.DropCall.{there_is, lane_of, old_lane, spot_ready, version_ready, count_ready, range_ready, its_head, its_owner, proper_keep, given_entries, gone_is, ready_then, ready_broke, dropped_then, keeps_then, stops_then, dropped_broke, cause_broke, stands_broke, stops_broke}
 use Rattle.manager.proofs.Entries.{found_of, some_of}
@@ -203,3 +204,12 @@ returns-in-Err-clause-any_moment g c told =
     let head_is = its_head state m c.requires.ready up c.args.version r f index given fits mask c.head_of-head.result c.head_of-head.ensures.value in
     let flags = refill_set m.ups.items c.deref_mut.result.now r.lane true c.deref_mut.ensures.value in
     stops_broke state m c.requires.ready up c.args.version r f index given fits mask l lane l' t.lane t.same t.all t.taken t.used c.in-Err.field-0 _ head_is c.in-Err.ensures.moved c.logger.result c.logger.ensures _ flags g.D.Disk.tells g.met.D.Disk.sound told
+
+pub returns-in-Ok-clause-calm : goal.returns-in-Ok-clause-calm
+returns-in-Ok-clause-calm g c =
+    let m = c.args.self.now in let state = g.D.Disk.state in let r = c.in-Some-find.record in let given = c.may_go-given.result in
+    let up = never_some m.down c.in_default.not-Some in let f = found_of m.index.entries c.args.version r c.in-Some-find.ensures.value in let index = c.in-Some-find.ensures.index in
+    let fits : given < 2 ^ 128 = omega arith in let mask = c.may_go-given.ensures.value in
+    let l = c.index_mut-lane.result.now in let lane = lane_of state m c.requires.ready up c.args.version r f index given fits mask l c.index_mut-lane.ensures.value in
+    none_lane state m _ c.requires.ready refl r.lane l c.trim.new.self lane refl
+    (calm_trim state l c.trim.new.self _ _ _ c.in-Ok.field-0 (old_lane state m c.requires.ready up c.args.version r f index given fits mask l lane).lane c.in-Ok.ensures.moved)

@@ -1,5 +1,5 @@
 use Rattle.std.proofs.Common.{◌≡◌, ◌≤◌, ◌+◌, ◌^◌, ℕ, true, [], ◌∷◌, ◌++◌, map, length, Some, None, refl, sym, ap, subst, ◌∙◌, arith}
-use Rattle.std.specs.Prelude.{slice_get, Result, Err}
+use Rattle.std.specs.Prelude.{slice_get, slice_set, Result, Ok, Err, IsOk}
 use Rattle.std.proofs.Math.Pow.{pow_mono}
 use Rattle.manager.specs.Causes.{PartRoseOrClaimed}
 use Rattle.manager.specs.Offers.{IsOn}
@@ -16,6 +16,8 @@ use Rattle.wol_model.specs.Log.{marks_of}
 use Rattle.logger.specs.Lanes.{logger_of, lane_owner}
 use Rattle.redirect_map.specs.Runs.{runs_of}
 use Rattle.manager.specs.declared.part.Part.TheVariants as part
+use Rattle.manager.proofs.Calm.{calm_put, lane_at, none_lane}
+use Rattle.manager.proofs.Claims.{no_more_set, claim_like, put_claimed, put_tells}
 use Rattle.manager.proofs.Copies.{refill_set}
 use Rattle.manager.proofs.NewRecord.{one_run, look_so}
 use Rattle.manager.proofs.Offering.{away_more, ready_away, keeps_away, ready_written, ready_failed, stands_written, stands_failed, stops_put, cause_put}
@@ -48,10 +50,12 @@ returns-in-None-clause-keeps g c _ b notes kp =
     g.D.Disk.tells b notes (away_more (length c.args.from.now) old c.put.new.lane t) kp
 
 pub returns-in-None-clause-any_moment : goal.returns-in-None-clause-any_moment
-returns-in-None-clause-any_moment g c told =
-    let m = c.args.self.now in let e = c.in-None.ensures in let t = e.turn in let old = c.index_mut-reached.result.now in (
+returns-in-None-clause-any_moment g c =
+    let m = c.args.self.now in let e = c.in-None.ensures in let t = e.turn in let old = c.index_mut-reached.result.now in
+    let lane : slice_get m.lanes.items c.args.lane ≡ Some old = slice_get_read m.lanes.items (length m.lanes.items) c.args.lane old refl c.requires.lane c.index_mut-reached.ensures.value in (
       None,
-      λ b notes kp. quiet_stops g.D.Disk.tells g.D.Disk.state g.met.D.Disk.sound told m b notes kp c.requires.up c.args.lane old c.put.new.lane
+      no_more_set m.lanes.items c.args.lane old c.put.new.lane _ lane refl (ap (map (λ h. h.index)) t.held),
+      λ told b notes kp. quiet_stops g.D.Disk.tells g.D.Disk.state g.met.D.Disk.sound told m b notes kp c.requires.up c.args.lane old c.put.new.lane
           (slice_get_read m.lanes.items (length m.lanes.items) c.args.lane old refl c.requires.lane c.index_mut-reached.ensures.value) (record m { lanes = with_item m.lanes c.args.lane c.put.new.lane }) refl refl _ t.held,
     )
 
@@ -91,9 +95,16 @@ returns-in-Some-Ok-clause-look g c _ =
 
 pub returns-in-Some-Ok-clause-any_moment : goal.returns-in-Some-Ok-clause-any_moment
 returns-in-Some-Ok-clause-any_moment g c =
+    let tells = g.D.Disk.tells in let state = g.D.Disk.state in
     let m = c.args.self.now in let e = c.in-Some-Ok.ensures in let old = c.index_mut-reached.result.now in let new = c.put.new.lane in
-    stops_put g.D.Disk.state m c.args.lane old new (slice_get_read m.lanes.items (length m.lanes.items) c.args.lane old refl c.requires.lane c.index_mut-reached.ensures.value) e.lane e.turn.same e.all e.none c.args.lbn c.args.from.now c.requires.count c.requires.ready c.requires.up
-    g.D.Disk.tells g.met.D.Disk.told g.met.D.Disk.sound e.put (record m { lanes = with_item m.lanes c.args.lane c.put.new.lane }) refl refl
+    let lane : slice_get m.lanes.items c.args.lane ≡ Some old = slice_get_read m.lanes.items (length m.lanes.items) c.args.lane old refl c.requires.lane c.index_mut-reached.ensures.value in
+    let put : PutIn state old new (length c.args.from.now) (new_record (lane_owner old) m.next c.args.lbn c.args.from.now ∷ []) (Ok c.in-Some-Ok.spot) =
+    subst (λ (q : Result Spot (ℕ × Failed)). PutIn state old new (length c.args.from.now) (new_record (lane_owner old) m.next c.args.lbn c.args.from.now ∷ []) q) c.in-Some-Ok.field-0-is e.put in (
+      put_claimed put,
+      claim_like tells state (IsOk {T = Spot} {E = ℕ × Failed} (Ok c.in-Some-Ok.spot)) _ m.lanes.items (slice_set m.lanes.items c.args.lane new) (put_claimed put) (λ w. refl) (put_tells tells state g.met.D.Disk.told m.lanes.items c.args.lane old new lane _ _ _ put (slice_set m.lanes.items c.args.lane new) refl),
+      stops_put state m c.args.lane old new lane e.lane e.turn.same e.all e.none c.args.lbn c.args.from.now c.requires.count c.requires.ready c.requires.up
+          tells g.met.D.Disk.told g.met.D.Disk.sound put (record m { lanes = with_item m.lanes c.args.lane c.put.new.lane }) refl refl,
+    )
 
 pub returns-in-Some-Err-clause-ready : goal.returns-in-Some-Err-clause-ready
 returns-in-Some-Err-clause-ready g c =
@@ -137,6 +148,21 @@ returns-in-Some-Err-clause-cause g c p is =
 
 pub returns-in-Some-Err-clause-any_moment : goal.returns-in-Some-Err-clause-any_moment
 returns-in-Some-Err-clause-any_moment g c =
+    let tells = g.D.Disk.tells in let state = g.D.Disk.state in
     let m = c.args.self.now in let e = c.in-Some-Err.ensures in let old = c.index_mut-reached.result.now in let new = c.put.new.lane in
-    stops_put g.D.Disk.state m c.args.lane old new (slice_get_read m.lanes.items (length m.lanes.items) c.args.lane old refl c.requires.lane c.index_mut-reached.ensures.value) e.lane e.turn.same e.all e.none c.args.lbn c.args.from.now c.requires.count c.requires.ready c.requires.up
-    g.D.Disk.tells g.met.D.Disk.told g.met.D.Disk.sound e.put (record m { lanes = with_item m.lanes c.args.lane c.put.new.lane }) refl refl
+    let lane : slice_get m.lanes.items c.args.lane ≡ Some old = slice_get_read m.lanes.items (length m.lanes.items) c.args.lane old refl c.requires.lane c.index_mut-reached.ensures.value in
+    let put : PutIn state old new (length c.args.from.now) (new_record (lane_owner old) m.next c.args.lbn c.args.from.now ∷ []) (Err (c.in-Some-Err.index, c.in-Some-Err.field-0-0-1)) =
+    subst (λ (q : Result Spot (ℕ × Failed)). PutIn state old new (length c.args.from.now) (new_record (lane_owner old) m.next c.args.lbn c.args.from.now ∷ []) q) c.in-Some-Err.field-0-is e.put in (
+      put_claimed put,
+      claim_like tells state (IsOk {T = Spot} {E = ℕ × Failed} (Err (c.in-Some-Err.index, c.in-Some-Err.field-0-0-1))) _ m.lanes.items (slice_set m.lanes.items c.args.lane new) (put_claimed put) (λ w. absurd (cc w)) (put_tells tells state g.met.D.Disk.told m.lanes.items c.args.lane old new lane _ _ _ put (slice_set m.lanes.items c.args.lane new) refl),
+      stops_put state m c.args.lane old new lane e.lane e.turn.same e.all e.none c.args.lbn c.args.from.now c.requires.count c.requires.ready c.requires.up
+          tells g.met.D.Disk.told g.met.D.Disk.sound put (record m { lanes = with_item m.lanes c.args.lane c.put.new.lane }) refl refl,
+    )
+
+pub returns-in-Some-Ok-clause-calm : goal.returns-in-Some-Ok-clause-calm
+returns-in-Some-Ok-clause-calm g c _ =
+    let m = c.args.self.now in let e = c.in-Some-Ok.ensures in let old = c.index_mut-reached.result.now in let new = c.put.new.lane in let spot = c.in-Some-Ok.spot in
+    let lane : slice_get m.lanes.items c.args.lane ≡ Some old = slice_get_read m.lanes.items (length m.lanes.items) c.args.lane old refl c.requires.lane c.index_mut-reached.ensures.value in
+    let put : PutIn g.D.Disk.state old new (length c.args.from.now) (new_record (lane_owner old) m.next c.args.lbn c.args.from.now ∷ []) (Ok spot) =
+    subst (λ (q : Result Spot (ℕ × Failed)). PutIn g.D.Disk.state old new (length c.args.from.now) (new_record (lane_owner old) m.next c.args.lbn c.args.from.now ∷ []) q) c.in-Some-Ok.field-0-is e.put in
+    none_lane g.D.Disk.state m _ c.requires.ready refl c.args.lane old new lane refl (calm_put g.D.Disk.state old new _ _ spot (lane_at g.D.Disk.state m c.requires.ready c.args.lane old lane) e.lane put)

@@ -5,6 +5,7 @@ use Rattle.wol_disk.specs.Disk.{Block, Values, reads}
 use Rattle.wol_model.specs.Index.{listed_in}
 use Rattle.logger.specs.Lanes.{spindle_of}
 use Rattle.manager.specs.Seen.{look_of_manager}
+use Rattle.manager.proofs.Calm.{none_home}
 use Rattle.manager.proofs.Frames.{ready_homed}
 use Rattle.manager.proofs.ReadContent.{home_content}
 use Rattle.manager.proofs.ReadThrough.{lanes_self, counted_of, same_lane_spindle, on_ok_like}
@@ -45,3 +46,6 @@ returns-clause-content g c told b notes keeps =
 pub returns-clause-ready : goal.returns-clause-ready
 returns-clause-ready g c = let e = c.fetch_at-answer.ensures in let m = c.args.self.now in
     ready_homed g.D.Disk.state m c.fetch_at-answer.new.part c.fetch_at-answer.new.spindle m.down e.volume e.size e.same e.free e.settled e.used c.requires.up c.requires.ready
+
+pub returns-clause-calm : goal.returns-clause-calm
+returns-clause-calm g c = on_ok_like c.fetch_at-answer.result c.at_part.result c.at_part.ensures.like (λ same. none_home g.D.Disk.state c.args.self.now _ c.requires.ready same refl) c.fetch_at-answer.ensures.calm

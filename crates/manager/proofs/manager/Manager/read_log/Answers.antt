@@ -8,6 +8,7 @@ use Rattle.wol_model.specs.Index.{listed_in}
 use Rattle.logger.specs.Lanes.{IsAt, held_in}
 use Rattle.manager.specs.Seen.{look_of_manager}
 use Rattle.manager.specs.Stands.{IsReady, IsReadyLane}
+use Rattle.manager.proofs.Calm.{calm_read, none_lane}
 use Rattle.manager.proofs.Copies.{refill_set}
 use Rattle.manager.proofs.Lanes.{all_at, get_set}
 use Rattle.manager.proofs.ReadContent.{log_content}
@@ -124,3 +125,10 @@ returns-clause-cause g c =
       named = (c.logger.ensures, sym moved.named);
       rose = rose;
     })
+
+pub returns-clause-calm : goal.returns-clause-calm
+returns-clause-calm g c =
+    let m = c.args.self.now in let state = g.D.Disk.state in let k = c.args.record.now.lane in let l = c.index_mut-lane.result.now in let l' = c.read-answer.new.self in let moved = c.read-answer.ensures.moved in
+    let s = spotted_in state m c.requires.ready c.requires.up c.args.record.now c.args.lbn (length c.args.out.now) c.requires.some c.requires.source l c.index_mut-lane.ensures.value in
+    let was = all_at (IsReadyLane state m.id m.most) m.lanes.items k l s.lane_is c.requires.ready.ready.each in
+    on_ok_like c.read-answer.result c.at_part.result c.at_part.ensures.like (λ same. none_lane state m _ c.requires.ready refl k l l' s.lane_is refl (calm_read state l l' _ _ _ _ c.read-answer.result was.lane moved same)) moved.calm

@@ -7,6 +7,7 @@ use Rattle.std.proofs.lemmas.Option.{slice_get_within, same_Some}
 use Rattle.logger.specs.Lanes.{IsAt, held_in}
 use Rattle.wol_promise.specs.Stands.{IsDataOf}
 use Rattle.manager.specs.Stands.{IsReady, IsReadyLane}
+use Rattle.manager.proofs.Calm.{calm_read, none_lane}
 use Rattle.manager.proofs.Copies.{refill_set}
 use Rattle.manager.proofs.Entries.{found_of}
 use Rattle.manager.proofs.FetchRec.{spot_of, spot_in, data_blocks}
@@ -108,3 +109,10 @@ returns-clause-cause g c =
       named = (c.logger.ensures, sym moved.named);
       rose = rose;
     })
+
+pub returns-clause-calm : goal.returns-clause-calm
+returns-clause-calm g c =
+    let m = c.args.self.now in let state = g.D.Disk.state in let r = c.args.record.now in let k = r.lane in let l = c.index_mut-lane.result.now in let l' = c.read-answer.new.self in let moved = c.read-answer.ensures.moved in
+    let s = spot_in state m c.requires.ready c.requires.up r.version r c.requires.index (found_of m.index.entries r.version r c.requires.there) l c.index_mut-lane.ensures.value in
+    let was = all_at (IsReadyLane state m.id m.most) m.lanes.items k l s.lane_is c.requires.ready.ready.each in
+    on_ok_like c.read-answer.result c.at_part.result c.at_part.ensures.like (λ same. none_lane state m _ c.requires.ready refl k l l' s.lane_is refl (calm_read state l l' _ _ _ _ c.read-answer.result was.lane moved same)) moved.calm

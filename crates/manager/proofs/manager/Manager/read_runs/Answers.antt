@@ -34,5 +34,5 @@ runs-preserved g c =
     let within : c.runs.done + count ≤ length c.args.out.now = omega (arith, c.run_from-source.ensures.most) in
     let long = part_length c.runs.done count c.runs.out (omega arith) in
     run_read g.D.Disk.tells g.D.Disk.state g.met.D.Disk.sound c.args.shared.now c.args.self.now c.args.lbn (length c.args.out.now) c.runs.self c.read_run.new.self c.runs.done count _ long c.runs.out c.read_run.new.out c.runs.sources c.in_ok-run.run'
-    c.runs.invariant c.requires.up c.read_run.ensures.ready c.read_run.ensures.at c.read_run.ensures.read c.read_run.ensures.look c.read_run.ensures.needs c.in_ok-run.ensures.content c.in_ok-run.ensures.logged c.in_ok-run.ensures.all
+    c.runs.invariant c.requires.up c.read_run.ensures.ready c.read_run.ensures.at c.read_run.ensures.read c.read_run.ensures.look c.read_run.ensures.needs c.in_ok-run.ensures.content c.in_ok-run.ensures.logged c.in_ok-run.ensures.all c.in_ok-run.ensures.calm
     within (sym c.runs.auto.out) c.read_run.auto.out

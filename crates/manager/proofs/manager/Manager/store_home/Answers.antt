@@ -11,6 +11,7 @@ use Rattle.redirect_map.proofs.Bits.{has_bit-or}
 use Rattle.manager.specs.Reclaim.{put_block}
 use Rattle.manager.specs.Stands.{IsInVolume}
 use Rattle.manager.specs.declared.part.Part.TheVariants.{Home}
+use Rattle.manager.proofs.Calm.{none_home}
 use Rattle.manager.proofs.Entries.{some_of, found_of, entry_of_version, among, entry_in, noted_home}
 use Rattle.manager.proofs.Frames.{ready_homed}
 use Rattle.manager.proofs.PutBlocks.{put_same, put_like}
@@ -97,3 +98,6 @@ returns-in-Err-clause-any_moment g c told was read b notes known keeps =
     (ap (λ (n : ℕ). put_block n c.args.mask c.args.from.now) f.record_.first) p.put in
     put_stops g.D.Disk.tells g.D.Disk.state g.met.D.Disk.sound told was m read c.requires.ready (sym read.down ∙ never_some m.down c.in_default.not-Some) b notes keeps c.args.version c.args.mask c.args.from.now f.entry at
     (c.requires.count f.entry f.is) (c.requires.due f.entry f.is) (λ t. known t f.entry f.is) c.put_at.new.part put.any_moment
+
+pub returns-in-Ok-clause-calm : goal.returns-in-Ok-clause-calm
+returns-in-Ok-clause-calm g c = none_home g.D.Disk.state c.args.self.now _ c.requires.ready c.in-Ok.ensures.put.calm refl

@@ -1,5 +1,6 @@
 use Rattle.std.proofs.Common.{◌≡◌, [], ◌∷◌, refl, sym, ap, subst, ◌∙◌}
 use Rattle.std.specs.Prelude.{slice_set}
+use Rattle.std.proofs.lemmas.Bool.{false≢true}
 use Rattle.wol_model.specs.Blocks.{Write}
 use Rattle.wol_model.specs.History.{Broke}
 use Rattle.wol_promise.specs.Ruled.{last_look}
@@ -8,6 +9,7 @@ use Rattle.manager.specs.Seen.{look_of_manager}
 use Rattle.manager.specs.Stands.{IsNote}
 use Rattle.manager.specs.Stops.{Stops}
 use Rattle.manager.specs.declared.manager.Manager.{Manager}
+use Rattle.manager.proofs.Claims.{claim_like}
 use Rattle.manager.proofs.Copies.{refill_set}
 use Rattle.manager.proofs.Tried.{logger_at, failed_in_log}
 use Rattle.manager.proofs.manager.Manager.try_lane.Goals as goal
@@ -38,7 +40,15 @@ returns-in-Failed-clause-stands g c b notes passed n client note has k =
     (subst (λ (w : Write). IsNote (last_look b.volume.began.look notes) (Broke (w ∷ [])) passed (look_of_manager c.offer.new.self) n) same note) has k
 
 pub returns-in-Failed-clause-any_moment : goal.returns-in-Failed-clause-any_moment
-returns-in-Failed-clause-any_moment g c told =
+returns-in-Failed-clause-any_moment g c =
     let same = failed_in_log _ c.args.lane c.args.self.now.next c.args.lbn c.args.from.now c.in-Failed.part (c.in-Failed.ensures.named c.in-Failed.part refl) in
-    let moments = c.in-Failed.ensures.any_moment told in
-    (moments.0, λ b notes k. subst (λ (w : Write). Stops g.D.Disk.state c.args.self.now c.offer.new.self moments.0 b notes (w ∷ [])) (sym same) (moments.1 b notes k))
+    let moments = c.in-Failed.ensures.any_moment in (
+      moments.0,
+      claim_like g.D.Disk.tells g.D.Disk.state _ _ c.args.self.now.lanes.items c.offer.new.self.lanes.items moments.0 (λ done. absurd (false≢true done)) moments.1,
+      λ told b notes k. subst (λ (w : Write). Stops g.D.Disk.state c.args.self.now c.offer.new.self moments.0 b notes (w ∷ [])) (sym same) (moments.2 told b notes k),
+    )
+
+pub returns-in-Written-clause-any_moment : goal.returns-in-Written-clause-any_moment
+returns-in-Written-clause-any_moment g c =
+    let moments = c.in-Written.ensures.any_moment in
+    (moments.0, claim_like g.D.Disk.tells g.D.Disk.state _ _ c.args.self.now.lanes.items c.offer.new.self.lanes.items moments.0 (λ done. refl) moments.1, moments.2)

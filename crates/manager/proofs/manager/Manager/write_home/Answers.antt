@@ -1,5 +1,6 @@
-use Rattle.std.proofs.Common.{Some}
+use Rattle.std.proofs.Common.{Some, refl}
 use Rattle.manager.specs.declared.part.Part.TheVariants as part
+use Rattle.manager.proofs.Calm.{none_home}
 use Rattle.manager.proofs.Frames.{ready_homed}
 use Rattle.manager.proofs.WentHome.{home_stands, home_fails, home_stopped}
 use Rattle.manager.proofs.manager.Manager.write_home.Goals as goal
@@ -29,3 +30,6 @@ returns-in-Ok-clause-any_moment g c told b notes k =
 pub returns-in-Err-clause-any_moment : goal.returns-in-Err-clause-any_moment
 returns-in-Err-clause-any_moment g c told b notes k =
     home_stopped g.D.Disk.tells g.D.Disk.state c.args.self.now b notes k c.requires.up c.args.lbn c.args.from.now c.requires.bare c.requires.fits g.met.D.Disk.sound told c.store_at.new.part c.in-Err.ensures.stored.any_moment
+
+pub returns-in-Ok-clause-calm : goal.returns-in-Ok-clause-calm
+returns-in-Ok-clause-calm g c = none_home g.D.Disk.state c.args.self.now _ c.requires.ready c.in-Ok.ensures.stored.calm refl

@@ -14,8 +14,9 @@ use Rattle.manager.specs.Stops.{Stops}
 use Rattle.manager.specs.Writing.{in_flight}
 use Rattle.manager.specs.declared.manager.Manager.{Manager}
 use Rattle.manager.proofs.Asking.{asking_none, asking_more}
+use Rattle.manager.proofs.Claims.{no_more_same}
 use Rattle.manager.proofs.Frames.{stands_kept}
-use Rattle.manager.proofs.Placed.{home_only, log_only, place_led, stops_before, stops_unplaced, passed_unplaced, fault_before, placed_home, look_home, answered_home, waking_home, placed_log, look_log, answered_log, waking_log, passed_log}
+use Rattle.manager.proofs.Placed.{home_only, log_only, place_led, stops_before, stops_unplaced, passed_unplaced, fault_before, calm_before, claimed_before, placed_home, look_home, answered_home, waking_home, placed_log, look_log, answered_log, waking_log, passed_log}
 use Rattle.manager.proofs.Placing.{led_by, open_in, fewer_open, ask_unknown, home_is_bare, woken_home_is_bare, no_log, no_woken_log}
 use Rattle.manager.proofs.manager.Manager.write_placed.Goals as goal
 
@@ -87,11 +88,12 @@ pub returns-in-Some-clause-fault : goal.returns-in-Some-clause-fault
 returns-in-Some-clause-fault g c = fault_before g.D.Disk.tells g.D.Disk.state c.args.shared.now c.args.lbn c.args.from.now c.args.self.now c.asking.self c.asking.invariant c.try_lane.new.self c.in-Some.answer c.in-Some.ensures.fault
 
 pub returns-in-Some-clause-any_moment : goal.returns-in-Some-clause-any_moment
-returns-in-Some-clause-any_moment g c told =
-    let a = c.asking.invariant in let new = c.try_lane.new.self in let m = c.in-Some.ensures.any_moment told in (
+returns-in-Some-clause-any_moment g c =
+    let a = c.asking.invariant in let new = c.try_lane.new.self in let m = c.in-Some.ensures.any_moment in (
       m.0,
-      λ b notes k. subst (λ (v : ℕ). Stops g.D.Disk.state c.args.self.now new m.0 b notes (in_flight v c.args.lbn c.args.from.now c.in-Some.answer)) (ap (λ (o : Manager g.row.D.Denot). o.next) a.rest)
-          (stops_before g.D.Disk.tells g.D.Disk.state c.args.shared.now c.args.lbn c.args.from.now c.args.self.now c.asking.self a new m.0 b notes (in_flight c.asking.self.next c.args.lbn c.args.from.now c.in-Some.answer) (m.1 b notes (a.keeps b notes k))),
+      claimed_before g.D.Disk.tells g.D.Disk.state c.args.shared.now c.args.lbn c.args.from.now c.args.self.now c.asking.self a _ new m.0 m.1,
+      λ told b notes k. subst (λ (v : ℕ). Stops g.D.Disk.state c.args.self.now new m.0 b notes (in_flight v c.args.lbn c.args.from.now c.in-Some.answer)) (ap (λ (o : Manager g.row.D.Denot). o.next) a.rest)
+          (stops_before g.D.Disk.tells g.D.Disk.state c.args.shared.now c.args.lbn c.args.from.now c.args.self.now c.asking.self a new m.0 b notes (in_flight c.asking.self.next c.args.lbn c.args.from.now c.in-Some.answer) (m.2 told b notes (a.keeps b notes k))),
     )
 
 -- ---- It went home
@@ -145,10 +147,12 @@ pub returns-in-Home-clause-fault : goal.returns-in-Home-clause-fault
 returns-in-Home-clause-fault g c = fault_before g.D.Disk.tells g.D.Disk.state c.args.shared.now c.args.lbn c.args.from.now c.args.self.now c.asking.self c.asking.invariant c.write_home.new.self c.write_home.result c.write_home.ensures.fault
 
 pub returns-in-Home-clause-any_moment : goal.returns-in-Home-clause-any_moment
-returns-in-Home-clause-any_moment g c told =
+returns-in-Home-clause-any_moment g c =
     let a = c.asking.invariant in let new = c.write_home.new.self in (
       None,
-      λ b notes k. subst (λ (v : ℕ). Stops g.D.Disk.state c.args.self.now new None b notes (in_flight v c.args.lbn c.args.from.now c.write_home.result)) (ap (λ (o : Manager g.row.D.Denot). o.next) a.rest)
+      claimed_before g.D.Disk.tells g.D.Disk.state c.args.shared.now c.args.lbn c.args.from.now c.args.self.now c.asking.self a Unit new None
+          (no_more_same c.asking.self.lanes.items new.lanes.items (ap (λ (m : Manager g.row.D.Denot). m.lanes.items) c.write_home.ensures.unchanged)),
+      λ told b notes k. subst (λ (v : ℕ). Stops g.D.Disk.state c.args.self.now new None b notes (in_flight v c.args.lbn c.args.from.now c.write_home.result)) (ap (λ (o : Manager g.row.D.Denot). o.next) a.rest)
           (stops_before g.D.Disk.tells g.D.Disk.state c.args.shared.now c.args.lbn c.args.from.now c.args.self.now c.asking.self a new None b notes (in_flight c.asking.self.next c.args.lbn c.args.from.now c.write_home.result) (c.write_home.ensures.any_moment told b notes (a.keeps b notes k))),
     )
 
@@ -165,8 +169,11 @@ returns-in-Full-clause-placed g c =
     place_led g.D.Disk.tells g.D.Disk.state c.args.shared.now c.args.lbn c.args.from.now c.args.self.now now a Full c.args.covered c.deref.result.now c.deref-in-asking.result.now (sym c.in-Full.is ∙ c.place.ensures.value) c.deref.ensures.0 c.deref-in-asking.ensures.0 c.requires.covered
 
 pub returns-in-Full-clause-any_moment : goal.returns-in-Full-clause-any_moment
-returns-in-Full-clause-any_moment g c told =
-    (None, λ b notes k. stops_unplaced g.D.Disk.tells g.D.Disk.state c.args.shared.now c.args.lbn c.args.from.now c.args.self.now c.asking.self c.asking.invariant g.met.D.Disk.sound told b notes c.requires.up k)
+returns-in-Full-clause-any_moment g c = (
+  None,
+  claimed_before g.D.Disk.tells g.D.Disk.state c.args.shared.now c.args.lbn c.args.from.now c.args.self.now c.asking.self c.asking.invariant Unit c.asking.self None (no_more_same c.asking.self.lanes.items c.asking.self.lanes.items refl),
+  λ told b notes k. stops_unplaced g.D.Disk.tells g.D.Disk.state c.args.shared.now c.args.lbn c.args.from.now c.args.self.now c.asking.self c.asking.invariant g.met.D.Disk.sound told b notes c.requires.up k,
+)
 
 pub unreachable-requires : goal.unreachable-requires
 unreachable-requires g c =
@@ -174,3 +181,11 @@ unreachable-requires g c =
     let unsure = subst (AllByRecursion (λ (r : Room). r ≡ Yes → ⊥)) (sym c.deref-in-asking.ensures.0) c.asking.invariant.unsure in
     ⊎_elim (λ e. no_log now.home_up c.args.covered c.deref.result.now c.deref-in-asking.result.now unsure e.0 (sym c.place.ensures.value ∙ e.1))
     (λ e. no_woken_log now.home_up c.args.covered c.deref.result.now c.deref-in-asking.result.now unsure e.0 (sym c.place.ensures.value ∙ e.1)) c.in-Log.is
+
+-- ---- No call failed where it is answered
+
+pub returns-in-Some-clause-calm : goal.returns-in-Some-clause-calm
+returns-in-Some-clause-calm g c = calm_before g.D.Disk.tells g.D.Disk.state c.args.shared.now c.args.lbn c.args.from.now c.args.self.now c.asking.self c.asking.invariant c.try_lane.new.self c.in-Some.answer c.in-Some.ensures.calm
+
+pub returns-in-Home-clause-calm : goal.returns-in-Home-clause-calm
+returns-in-Home-clause-calm g c = calm_before g.D.Disk.tells g.D.Disk.state c.args.shared.now c.args.lbn c.args.from.now c.args.self.now c.asking.self c.asking.invariant c.write_home.new.self c.write_home.result c.write_home.ensures.calm
