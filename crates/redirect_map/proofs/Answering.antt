@@ -130,7 +130,7 @@ pub covered_seen : (items : List Entry) (b : ℕ) → AllByRecursion IsInRange i
 covered_seen [] b ranges = refl
 covered_seen (x ∷ xs) b ranges = λ i. covers_seen x b ranges.0 i || covered_seen xs b ranges.1 i
 
-no_any : (bs : List ℕ) → list_any (λ b. false) bs ≡ false
+pub no_any : (bs : List ℕ) → list_any (λ b. false) bs ≡ false
 no_any [] = refl
 no_any (b ∷ bs) = no_any bs
 

@@ -1,5 +1,5 @@
 -- Blocks that entries keep, as a mask.
-use Rattle.std.proofs.Common.{◌-◌, length-drop, get_or-drop, ◌≡◌, ◌<◌, ◌≤◌, ◌+◌, ◌^◌, ℕ, Bool, true, false, ◌&&◌, ◌||◌, List, take, drop, length, refl, sym, ap, ◌∙◌, subst, arith, get_or, ltb, bit_or}
+use Rattle.std.proofs.Common.{◌-◌, length-drop, get_or-drop, ◌≡◌, ◌<◌, ◌≤◌, ◌+◌, ℕ, Bool, true, false, ◌&&◌, ◌||◌, List, take, drop, length, refl, sym, ap, ◌∙◌, subst, arith, get_or, ltb, bit_or}
 use Rattle.std.proofs.lemmas.List.Folds.{list_any_more}
 use Rattle.wol_model.specs.Log.{has_bit}
 use Rattle.redirect_map.specs.declared.entry.Entry.{Entry}

@@ -14,3 +14,4 @@ pub mod Without
 pub mod Stepping
 pub mod Newest
 pub mod Tabling
+pub mod Marked

@@ -3,3 +3,4 @@ pub mod Runs
 pub mod Index
 pub mod Kept
 pub mod Cells
+pub mod Marked

@@ -19,7 +19,7 @@ pub struct Cell {
 }
 
 // The mask, with bit i where `on`.
-fn with_bit(mask: u128, i: u32, on: bool) -> u128
+pub fn with_bit(mask: u128, i: u32, on: bool) -> u128
     requires { i < 128 }
     ensures { (j : ℕ) → has_bit result j ≡ (has_bit mask j || (on && j == i)) }
 {

@@ -1,20 +1,22 @@
 // The index of a volume's records.
-ghost use Rattle.std.specs.Prelude.{◌≡◌, ◌<◌, ◌≤◌, ◌^◌, ◌+◌, ◌==◌, ℕ, true, not, ◌&&◌, length, map, filter, slice_get, ◌++◌, ◌∷◌, [], OnOk, OnErr, IfSome};
+ghost use Rattle.std.specs.Prelude.{◌≡◌, ◌<◌, ◌≤◌, ◌^◌, ◌+◌, ◌==◌, ℕ, true, not, ◌&&◌, length, map, filter, slice_get, ◌++◌, ◌∷◌, [], OnOk, OnErr, IfSome, IfNone, false, slice_index_or};
 ghost use Rattle.std.specs.Option.{ForSome};
 ghost use Rattle.std.specs.List.{list_any, range_with_len, AllByRecursion};
 ghost use Rattle.wol_model.specs.Log.{has_bit, marks_of};
 ghost use Rattle.wol_model.specs.Extents.{newest};
-ghost use Rattle.wol_model.specs.Index.{listed_in, is_covered, is_live, is_older, is_homed, goes, keeps_a_block};
+ghost use Rattle.wol_model.specs.Index.{listed_in, is_covered, is_live, is_older, is_homed, goes, has_due, has_going, keeps_a_block};
 ghost use Rattle.redirect_map.specs.Masks.{IsMask};
 ghost use Rattle.redirect_map.specs.Runs.{runs_of};
 ghost use Rattle.redirect_map.specs.Index.{cover_at, entry_at, HasVersion, entry_of, IsRecordOf, IsAnswer, changed, unhomed, with_homed, given_up, IsIndex};
 
 use crate::blocks::{Cell, any_covered, cover, held, newest_of, uncover};
 use crate::entry::{Entry, any_meets, kept_from, place_of, unhome, with_version};
+use crate::marking::{exact_mask, lanes_mask, mark_blocks, new_mask};
 use crate::record::Rec;
 use std::alloc::Global;
 use std::collections::{HashMap, VecDeque};
 use std::marker::Model;
+use version_marks::VersionMarks;
 use wol_disk::NoMemory;
 
 /// The records of a volume by rising version, each with the blocks that it keeps and those of them that are
@@ -26,21 +28,26 @@ pub struct Index {
     entries: VecDeque<Entry>,
     // For each block that a record keeps, the newest one that does, and how many do.
     blocks: HashMap<u64, Cell>,
+    // The versions of which something may be due or may go.
+    marks: VersionMarks,
 }
 
 impl Model for Index {
-    ghost use Rattle.std.specs.Prelude.{◌-◌, ◌/◌, min, map};
+    ghost use Rattle.std.specs.Prelude.{◌-◌, ◌/◌, min, map, nat_eq};
     ghost use Rattle.std.specs.VecDeque.{deque_len, deque_capacity};
-    ghost use Rattle.std.specs.HashMap.{spare};
+    ghost use Rattle.std.specs.HashMap.{get, spare};
+    ghost use Rattle.version_marks.specs.Marks.{mask_in};
     ghost use Rattle.redirect_map.specs.Index.{Contents};
     ghost use Rattle.redirect_map.specs.Kept.{seen, AreEntries};
     ghost use Rattle.redirect_map.specs.Cells.{AreTabled};
+    ghost use Rattle.redirect_map.specs.Marked.{AreMarked};
 
     ghost Value = { Contents };
 
-    ghost view = { λ a. record { entries = map seen a.entries.items; reserved = min (deque_capacity a.entries - deque_len a.entries) (spare a.blocks / 128) } };
+    ghost view = { λ a. record { entries = map seen a.entries.items; reserved = min (min (deque_capacity a.entries - deque_len a.entries) (spare a.blocks / 128)) a.marks.room } };
 
-    ghost invariant = { λ a. AreEntries a.entries.items × AreTabled a.entries.items a.blocks };
+    ghost invariant = { λ a. AreEntries a.entries.items × AreTabled a.entries.items a.blocks
+        × AreMarked a.entries.items (get nat_eq a.blocks) (mask_in a.marks.versions a.marks.masks) };
 }
 
 impl Index {
@@ -51,6 +58,7 @@ impl Index {
         Index {
             entries: VecDeque::new(alloc),
             blocks: HashMap::new(alloc),
+            marks: VersionMarks::new(alloc),
         }
     }
 
@@ -64,6 +72,7 @@ impl Index {
     {
         self.entries.reserve(more as usize)?;
         self.blocks.reserve(more as usize * 128)?;
+        self.marks.reserve(more)?;
         Ok(())
     }
 
@@ -82,6 +91,16 @@ impl Index {
             ≡ map (unhomed (cover_at (entry_of entry 0))) self.old.entries ++ entry_of entry 0 ∷ [] }
         ensures room { self.old.reserved ≤ self.new.reserved + runs_of (marks_of entry.count entry.keep) }
     {
+        mark_blocks(
+            &mut self.marks,
+            &self.entries,
+            &self.blocks,
+            entry.lbn,
+            entry.count,
+            entry.keep,
+            true,
+        );
+        self.marks.push(entry.version, new_mask(entry.lane));
         unhome(&mut self.entries, &self.blocks, &entry);
         cover(&mut self.blocks, &entry);
         self.entries.push_back_reserved(Entry {
@@ -177,7 +196,10 @@ impl Index {
         ensures room { self.new.reserved ≡ self.old.reserved }
     {
         let place = place_of(&self.entries, version);
-        self.entries[place].homed = mask;
+        let mut entry = self.entries[place];
+        entry.homed = mask;
+        self.marks.set(version, exact_mask(&self.blocks, &entry));
+        self.entries[place] = entry;
     }
 
     /// Gives up the blocks of the mask, which may go, of this version's record. A record that keeps nothing
@@ -195,14 +217,52 @@ impl Index {
     {
         let place = place_of(&self.entries, version);
         let mut entry = self.entries[place];
+        mark_blocks(
+            &mut self.marks,
+            &self.entries,
+            &self.blocks,
+            entry.record.lbn,
+            entry.record.count,
+            mask,
+            false,
+        );
         uncover(&mut self.blocks, entry.record.lbn, entry.record.count, mask);
         entry.record.keep &= !mask;
         entry.homed &= !mask;
         if entry.record.keep == 0 {
+            self.marks.set(version, 0);
             let _ = self.entries.remove(place);
         } else {
+            self.marks.set(version, exact_mask(&self.blocks, &entry));
             self.entries[place] = entry;
         }
+    }
+
+    /// A version from which on a due block may be looked for: no record of this version or above, but below
+    /// the answer, whose lane is true in the list has one; and none where no record from `from` on has one.
+    pub fn first_due(&self, from: u64, lanes: &[bool]) -> Option<u64>
+        ensures from { IfSome result (λ v. from ≤ v) }
+        ensures least { IfSome result (λ v. AllByRecursion
+            (λ e. from ≤ e.listed.version → e.listed.version < v → slice_index_or lanes.now e.listed.lane false ≡ true
+            → has_due (listed_in self.now.entries) e.listed ≡ false) self.now.entries) }
+        ensures none { IfNone result (AllByRecursion
+            (λ e. from ≤ e.listed.version → slice_index_or lanes.now e.listed.lane false ≡ true
+            → has_due (listed_in self.now.entries) e.listed ≡ false) self.now.entries) }
+    {
+        self.marks.first(from, lanes_mask(lanes, false))
+    }
+
+    /// The same for a block that goes.
+    pub fn first_going(&self, from: u64, lanes: &[bool]) -> Option<u64>
+        ensures from { IfSome result (λ v. from ≤ v) }
+        ensures least { IfSome result (λ v. AllByRecursion
+            (λ e. from ≤ e.listed.version → e.listed.version < v → slice_index_or lanes.now e.listed.lane false ≡ true
+            → has_going (listed_in self.now.entries) e.listed ≡ false) self.now.entries) }
+        ensures none { IfNone result (AllByRecursion
+            (λ e. from ≤ e.listed.version → slice_index_or lanes.now e.listed.lane false ≡ true
+            → has_going (listed_in self.now.entries) e.listed ≡ false) self.now.entries) }
+    {
+        self.marks.first(from, lanes_mask(lanes, true))
     }
 
     /// How many records there are.

@@ -9,6 +9,7 @@
 mod blocks;
 mod entry;
 mod index;
+mod marking;
 mod mask;
 mod record;
 #[cfg(test)]

@@ -9,6 +9,8 @@ use Rattle.redirect_map.specs.Kept.{seen, AreEntries, IsUnhomed}
 use Rattle.redirect_map.proofs.Adding.{IsNew, new_entry, some_run, entries_added, seen_added, zip_length}
 use Rattle.redirect_map.proofs.Tabling.{all_added}
 use Rattle.redirect_map.proofs.Celled.{keepers_few}
+use Rattle.version_marks.specs.Marks.{mask_in}
+use Rattle.redirect_map.proofs.Marked.{marks_added}
 use Rattle.redirect_map.proofs.index.Index.add.Goals as goal
 
 -- the record is one that may be added
@@ -35,7 +37,18 @@ invariant_of-self c = (
   subst AreEntries (sym (items_are c)) (entries_added c.args.entry c.self.inside.entries.items c.unhome.new.entries.items c.self.invariant.0 (zipped c) (fresh c)
       (subst (λ (v : Contents). AllByRecursion (λ (d : Indexed). d.listed.version < c.args.entry.version) v.entries) (sym c.self.view_is) c.requires.newest)),
   all_added c.args.entry c.self.inside.entries.items c.unhome.new.entries.items c.push_back_reserved.new.self.items (get nat_eq c.self.inside.blocks) (get nat_eq c.cover.new.blocks) (zipped c) (items_are c) c.self.invariant.1 c.cover.ensures.cells,
+  marks_added c.args.entry c.self.inside.entries.items c.unhome.new.entries.items c.push_back_reserved.new.self.items (get nat_eq c.self.inside.blocks) (get nat_eq c.cover.new.blocks)
+      (mask_in c.self.inside.marks.versions c.self.inside.marks.masks) (mask_in c.mark_blocks.new.marks.versions c.mark_blocks.new.marks.masks) (mask_in c.push.new.self.versions c.push.new.self.masks) c.new_mask.result (zipped c) (items_are c)
+      (subst (λ (v : Contents). AllByRecursion (λ (d : Indexed). d.listed.version < c.args.entry.version) v.entries) (sym c.self.view_is) c.requires.newest)
+      c.self.invariant.2 c.mark_blocks.ensures.more c.mark_blocks.ensures.begun c.cover.ensures.cells c.push.ensures.masks c.new_mask.ensures.there c.new_mask.ensures.due,
 )
+
+pub push-requires : goal.push-requires
+push-requires c =
+    let new : IsNew c.args.entry = record { some = c.requires.some; count = c.requires.count; within = c.requires.within; keeps = c.requires.keeps; keep_within = c.requires.keep_within } in
+    let room = subst (λ (v : Contents). runs_of (marks_of c.args.entry.count c.args.entry.keep) ≤ v.reserved) (sym c.self.view_is) c.requires.reserved in
+    let one = some_run c.args.entry new in
+    omega (arith, room, one, c.mark_blocks.ensures.room)
 
 pub returns-clause-entries : goal.returns-clause-entries
 returns-clause-entries c = rw (← c.self.view_is) (ap (map seen) (items_are c) ∙ seen_added c.args.entry c.self.inside.entries.items c.unhome.new.entries.items (fresh c) (zipped c))
@@ -43,7 +56,7 @@ returns-clause-entries c = rw (← c.self.view_is) (ap (map seen) (items_are c) 
 pub returns-clause-room : goal.returns-clause-room
 returns-clause-room c =
     let one = some_run c.args.entry (fresh c) in
-    rw (← c.self.view_is, c.push_back_reserved.ensures.capacity, c.push_back_reserved.ensures.len) (omega (arith, one, c.unhome.ensures.room, c.unhome.new.entries.ok.0, c.self.inside.entries.ok.0, zip_length c.args.entry c.self.inside.entries.items c.unhome.new.entries.items c.unhome.ensures.zip, c.cover.ensures.spare, c.requires.count))
+    rw (← c.self.view_is, c.push_back_reserved.ensures.capacity, c.push_back_reserved.ensures.len) (omega (arith, one, c.unhome.ensures.room, c.unhome.new.entries.ok.0, c.self.inside.entries.ok.0, zip_length c.args.entry c.self.inside.entries.items c.unhome.new.entries.items c.unhome.ensures.zip, c.cover.ensures.spare, c.requires.count, c.push.ensures.room, c.mark_blocks.ensures.room))
 
 pub cover-requires-clause-spare : goal.cover-requires-clause-spare
 cover-requires-clause-spare c =

@@ -1,4 +1,4 @@
-use Rattle.std.proofs.Common.{◌≡◌, ◌+◌, ℕ, true, sym, subst, refl, ◌∙◌}
+use Rattle.std.proofs.Common.{◌≡◌, ◌+◌, ℕ, true, sym, ap, subst, refl, ◌∙◌, set, nat_eq}
 use Rattle.std.specs.Option.{ForSome}
 use Rattle.wol_model.specs.Log.{has_bit}
 use Rattle.wol_model.specs.Index.{listed_in, is_live}
@@ -6,6 +6,11 @@ use Rattle.redirect_map.specs.Index.{Contents, HasVersion, entry_at}
 use Rattle.redirect_map.proofs.Answering.{is_there, place_is}
 use Rattle.redirect_map.proofs.Changing.{homed_entry, entries_homed, changed_homed}
 use Rattle.redirect_map.proofs.Celled.{cell_set_same}
+use Rattle.std.specs.HashMap.{get}
+use Rattle.version_marks.specs.Marks.{mask_in}
+use Rattle.redirect_map.specs.Marked.{there_bit}
+use Rattle.redirect_map.proofs.Answering.{range_at}
+use Rattle.redirect_map.proofs.Marked.{get_set_here, marks_set}
 use Rattle.redirect_map.proofs.index.Index.set_homed.Goals as goal
 
 pub place_of-place-requires-clause-rising : goal.place_of-place-requires-clause-rising
@@ -14,14 +19,25 @@ place_of-place-requires-clause-rising c = c.self.invariant.0.rising
 pub place_of-place-requires-clause-there : goal.place_of-place-requires-clause-there
 place_of-place-requires-clause-there c = (is_there c.self.inside.entries.items c.args.version (subst (λ (v : Contents). HasVersion v.entries c.args.version) (sym c.self.view_is) c.requires.there))
 
+pub exact_mask-requires : goal.exact_mask-requires
+unfolding homed_entry
+exact_mask-requires c =
+    let at = (place_is c.self.inside.entries.items c.self.inside.entries.items c.args.version c.place_of-place.result c.index.result.now refl c.place_of-place.ensures.found c.place_of-place.ensures.within c.index.ensures) in
+    range_at (set c.self.inside.entries.items c.place_of-place.result (homed_entry c.index.result.now c.args.mask)) c.place_of-place.result (homed_entry c.index.result.now c.args.mask)
+    (entries_homed c.self.inside.entries.items c.args.version c.place_of-place.result c.index.result.now c.args.mask c.self.invariant.0 at (subst (λ (v : Contents). ForSome (entry_at v.entries c.args.version) (λ e. (i : ℕ) → has_bit c.args.mask i ≡ true → is_live (listed_in v.entries) e.listed (e.listed.first + i) ≡ true)) (sym c.self.view_is) c.requires.live))
+    (get_set_here c.self.inside.entries.items c.place_of-place.result (homed_entry c.index.result.now c.args.mask) c.index.result.now at.at)
+
 pub invariant_of-self : goal.invariant_of-self
 unfolding homed_entry
-invariant_of-self c = (
-  entries_homed c.self.inside.entries.items c.args.version c.place_of-place.result c.index_mut.result.now c.args.mask c.self.invariant.0 (place_is c.self.inside.entries.items c.self.inside.entries.items c.args.version c.place_of-place.result c.index_mut.result.now refl c.place_of-place.ensures.found c.place_of-place.ensures.within c.index_mut.ensures.value)
-      (subst (λ (v : Contents). ForSome (entry_at v.entries c.args.version) (λ e. (i : ℕ) → has_bit c.args.mask i ≡ true → is_live (listed_in v.entries) e.listed (e.listed.first + i) ≡ true)) (sym c.self.view_is) c.requires.live),
-  λ b. c.self.invariant.1 b ∙ sym (cell_set_same c.self.inside.entries.items c.place_of-place.result c.index_mut.result.now (homed_entry c.index_mut.result.now c.args.mask) b (place_is c.self.inside.entries.items c.self.inside.entries.items c.args.version c.place_of-place.result c.index_mut.result.now refl c.place_of-place.ensures.found c.place_of-place.ensures.within c.index_mut.ensures.value).at refl refl),
-)
+invariant_of-self c =
+    let at = (place_is c.self.inside.entries.items c.self.inside.entries.items c.args.version c.place_of-place.result c.index.result.now refl c.place_of-place.ensures.found c.place_of-place.ensures.within c.index.ensures) in (
+      entries_homed c.self.inside.entries.items c.args.version c.place_of-place.result c.index.result.now c.args.mask c.self.invariant.0 at (subst (λ (v : Contents). ForSome (entry_at v.entries c.args.version) (λ e. (i : ℕ) → has_bit c.args.mask i ≡ true → is_live (listed_in v.entries) e.listed (e.listed.first + i) ≡ true)) (sym c.self.view_is) c.requires.live),
+      (λ b. c.self.invariant.1 b ∙ sym (cell_set_same c.self.inside.entries.items c.place_of-place.result c.index.result.now (homed_entry c.index.result.now c.args.mask) b at.at refl refl)),
+      marks_set c.self.inside.entries.items (get nat_eq c.self.inside.blocks) (mask_in c.self.inside.marks.versions c.self.inside.marks.masks) (mask_in c.set.new.self.versions c.set.new.self.masks) c.place_of-place.result c.args.version c.exact_mask.result c.index.result.now (homed_entry c.index.result.now c.args.mask)
+          c.self.invariant.0.rising at.at at.version_is at.version_is (ap (λ (v : ℕ). has_bit (mask_in c.self.inside.marks.versions c.self.inside.marks.masks v) there_bit) (sym at.version_is) ∙ (c.self.invariant.2 c.place_of-place.result c.index.result.now at.at).there)
+          c.set.ensures.masks c.exact_mask.ensures (λ j d found there. c.self.invariant.2 j d there),
+    )
 
 pub returns-clause-entries : goal.returns-clause-entries
 unfolding homed_entry
-returns-clause-entries c = rw (← c.self.view_is) (changed_homed c.self.inside.entries.items c.args.version c.place_of-place.result c.index_mut.result.now c.args.mask c.self.invariant.0 (place_is c.self.inside.entries.items c.self.inside.entries.items c.args.version c.place_of-place.result c.index_mut.result.now refl c.place_of-place.ensures.found c.place_of-place.ensures.within c.index_mut.ensures.value))
+returns-clause-entries c = rw (← c.self.view_is) (changed_homed c.self.inside.entries.items c.args.version c.place_of-place.result c.index.result.now c.args.mask c.self.invariant.0 (place_is c.self.inside.entries.items c.self.inside.entries.items c.args.version c.place_of-place.result c.index.result.now refl c.place_of-place.ensures.found c.place_of-place.ensures.within c.index.ensures))

@@ -11,6 +11,9 @@ use Rattle.redirect_map.specs.Kept.{seen, AreEntries}
 use Rattle.redirect_map.proofs.Answering.{is_there, place_is}
 use Rattle.redirect_map.proofs.Changing.{trimmed, entries_trimmed, changed_trimmed, entries_removed, changed_removed}
 use Rattle.redirect_map.proofs.Tabling.{all_less, cell_emptied, cell_trimmed, mask_fits}
+use Rattle.version_marks.specs.Marks.{mask_in}
+use Rattle.redirect_map.specs.Marked.{there_bit, AreMarked}
+use Rattle.redirect_map.proofs.Marked.{marks_set, marks_removed, others_less}
 use Rattle.redirect_map.proofs.index.Index.trim.Goals as goal
 
 pub place_of-place-requires-clause-rising : goal.place_of-place-requires-clause-rising
@@ -24,28 +27,45 @@ taken_out : {X : Type 0} (o : Option X) (x : X) (P : Type 0) → o ≡ Some x �
 taken_out None x P is all = absurd (cc)
 taken_out (Some y) x P is all = all
 
+table_removed : (c : goal.After-remove) → (b : ℕ) → get nat_eq c.uncover.new.blocks b ≡ cell_of (remove c.self.inside.entries.items c.place_of-place.result) b
+table_removed c = all_less (get nat_eq c.self.inside.blocks) (get nat_eq c.uncover.new.blocks) c.self.inside.entries.items (remove c.self.inside.entries.items c.place_of-place.result) c.index.result.now.record.lbn c.args.mask c.self.invariant.1 c.uncover.ensures.cells
+    (λ b. cell_emptied c.self.inside.entries.items c.args.version c.place_of-place.result c.index.result.now c.args.mask b c.self.invariant.0 (place_is c.self.inside.entries.items c.self.inside.entries.items c.args.version c.place_of-place.result c.index.result.now refl c.place_of-place.ensures.found c.place_of-place.ensures.within c.index.ensures) (subst (λ (v : Contents). ForSome (entry_at v.entries c.args.version) (λ e. (i : ℕ) → has_bit c.args.mask i ≡ true → goes (listed_in v.entries) e.listed (e.listed.first + i) ≡ true)) (sym c.self.view_is) c.requires.goes) (omega arith) c.if-entry-eq0.true)
+
 pub invariant_of-self : goal.invariant_of-self
-invariant_of-self c = (
-  subst AreEntries (sym (taken_out c.remove.result _ _ (c.remove.ensures.succeeds c.index-entry.result.now (omega (arith, c.place_of-place.ensures.within, c.self.inside.entries.ok.0))) c.remove.ensures.items)) (entries_removed c.self.inside.entries.items c.place_of-place.result c.self.invariant.0),
-  subst (λ (es : List Entry). (b : ℕ) → get nat_eq c.uncover.new.blocks b ≡ cell_of es b) (sym (taken_out c.remove.result _ _ (c.remove.ensures.succeeds c.index-entry.result.now (omega (arith, c.place_of-place.ensures.within, c.self.inside.entries.ok.0))) c.remove.ensures.items))
-      (all_less (get nat_eq c.self.inside.blocks) (get nat_eq c.uncover.new.blocks) c.self.inside.entries.items (remove c.self.inside.entries.items c.place_of-place.result) c.index-entry.result.now.record.lbn c.args.mask c.self.invariant.1 c.uncover.ensures.cells
-      (λ b. cell_emptied c.self.inside.entries.items c.args.version c.place_of-place.result c.index-entry.result.now c.args.mask b c.self.invariant.0 (place_is c.self.inside.entries.items c.self.inside.entries.items c.args.version c.place_of-place.result c.index-entry.result.now refl c.place_of-place.ensures.found c.place_of-place.ensures.within c.index-entry.ensures) (subst (λ (v : Contents). ForSome (entry_at v.entries c.args.version) (λ e. (i : ℕ) → has_bit c.args.mask i ≡ true → goes (listed_in v.entries) e.listed (e.listed.first + i) ≡ true)) (sym c.self.view_is) c.requires.goes) (omega arith) c.if-entry-eq0.true)),
-)
+invariant_of-self c =
+    let at = (place_is c.self.inside.entries.items c.self.inside.entries.items c.args.version c.place_of-place.result c.index.result.now refl c.place_of-place.ensures.found c.place_of-place.ensures.within c.index.ensures) in
+    let same = (taken_out c.remove.result _ _ (c.remove.ensures.succeeds c.index.result.now (omega (arith, c.place_of-place.ensures.within, c.self.inside.entries.ok.0))) c.remove.ensures.items) in (
+      subst AreEntries (sym same) (entries_removed c.self.inside.entries.items c.place_of-place.result c.self.invariant.0),
+      subst (λ (es : List Entry). (b : ℕ) → get nat_eq c.uncover.new.blocks b ≡ cell_of es b) (sym same) (table_removed c),
+      subst (λ (es : List Entry). AreMarked es (get nat_eq c.uncover.new.blocks) (mask_in c.set.new.self.versions c.set.new.self.masks)) (sym same)
+          (marks_removed c.self.inside.entries.items (get nat_eq c.uncover.new.blocks) (mask_in c.mark_blocks.new.marks.versions c.mark_blocks.new.marks.masks) (mask_in c.set.new.self.versions c.set.new.self.masks) c.place_of-place.result c.args.version 0 c.index.result.now
+          c.self.invariant.0.rising at.at at.version_is c.set.ensures.masks
+          (λ j d i found there. others_less c.self.inside.entries.items (remove c.self.inside.entries.items c.place_of-place.result) (get nat_eq c.self.inside.blocks) (get nat_eq c.uncover.new.blocks) (mask_in c.self.inside.marks.versions c.self.inside.marks.masks) (mask_in c.mark_blocks.new.marks.versions c.mark_blocks.new.marks.masks) c.index.result.now.record.lbn c.args.mask j i d c.self.invariant.2 c.mark_blocks.ensures.more c.mark_blocks.ensures.begun c.uncover.ensures.cells (table_removed c) found there)),
+    )
 
 pub invariant_of-self-else-entry-eq0 : goal.invariant_of-self-else-entry-eq0
 unfolding trimmed
-invariant_of-self-else-entry-eq0 c = (
-  entries_trimmed c.self.inside.entries.items c.place_of-place.result c.index-entry.result.now c.args.mask c.self.invariant.0 (place_is c.self.inside.entries.items c.self.inside.entries.items c.args.version c.place_of-place.result c.index-entry.result.now refl c.place_of-place.ensures.found c.place_of-place.ensures.within c.index-entry.ensures).at (omega arith) (omega arith),
-  all_less (get nat_eq c.self.inside.blocks) (get nat_eq c.uncover.new.blocks) c.self.inside.entries.items (set c.self.inside.entries.items c.place_of-place.result (trimmed c.index-entry.result.now c.args.mask)) c.index-entry.result.now.record.lbn c.args.mask c.self.invariant.1 c.uncover.ensures.cells
-      (λ b. cell_trimmed c.self.inside.entries.items c.args.version c.place_of-place.result c.index-entry.result.now c.args.mask b c.self.invariant.0 (place_is c.self.inside.entries.items c.self.inside.entries.items c.args.version c.place_of-place.result c.index-entry.result.now refl c.place_of-place.ensures.found c.place_of-place.ensures.within c.index-entry.ensures) (subst (λ (v : Contents). ForSome (entry_at v.entries c.args.version) (λ e. (i : ℕ) → has_bit c.args.mask i ≡ true → goes (listed_in v.entries) e.listed (e.listed.first + i) ≡ true)) (sym c.self.view_is) c.requires.goes) (omega arith)),
-)
+invariant_of-self-else-entry-eq0 c =
+    let at = (place_is c.self.inside.entries.items c.self.inside.entries.items c.args.version c.place_of-place.result c.index.result.now refl c.place_of-place.ensures.found c.place_of-place.ensures.within c.index.ensures) in
+    let table = all_less (get nat_eq c.self.inside.blocks) (get nat_eq c.uncover.new.blocks) c.self.inside.entries.items (set c.self.inside.entries.items c.place_of-place.result (trimmed c.index.result.now c.args.mask)) c.index.result.now.record.lbn c.args.mask c.self.invariant.1 c.uncover.ensures.cells
+    (λ b. cell_trimmed c.self.inside.entries.items c.args.version c.place_of-place.result c.index.result.now c.args.mask b c.self.invariant.0 at (subst (λ (v : Contents). ForSome (entry_at v.entries c.args.version) (λ e. (i : ℕ) → has_bit c.args.mask i ≡ true → goes (listed_in v.entries) e.listed (e.listed.first + i) ≡ true)) (sym c.self.view_is) c.requires.goes) (omega arith)) in (
+      entries_trimmed c.self.inside.entries.items c.place_of-place.result c.index.result.now c.args.mask c.self.invariant.0 at.at (omega arith) (omega arith),
+      table,
+      marks_set c.self.inside.entries.items (get nat_eq c.uncover.new.blocks) (mask_in c.mark_blocks.new.marks.versions c.mark_blocks.new.marks.masks) (mask_in c.set-else-entry-eq0.new.self.versions c.set-else-entry-eq0.new.self.masks) c.place_of-place.result c.args.version c.exact_mask.result c.index.result.now (trimmed c.index.result.now c.args.mask)
+          c.self.invariant.0.rising at.at at.version_is at.version_is (ap (λ (v : ℕ). has_bit (mask_in c.mark_blocks.new.marks.versions c.mark_blocks.new.marks.masks v) there_bit) (sym at.version_is) ∙ c.mark_blocks.ensures.more c.index.result.now.record.version there_bit (c.self.invariant.2 c.place_of-place.result c.index.result.now at.at).there)
+          c.set-else-entry-eq0.ensures.masks c.exact_mask.ensures
+          (λ j d found there. others_less c.self.inside.entries.items (set c.self.inside.entries.items c.place_of-place.result (trimmed c.index.result.now c.args.mask)) (get nat_eq c.self.inside.blocks) (get nat_eq c.uncover.new.blocks) (mask_in c.self.inside.marks.versions c.self.inside.marks.masks) (mask_in c.mark_blocks.new.marks.versions c.mark_blocks.new.marks.masks) c.index.result.now.record.lbn c.args.mask j j d c.self.invariant.2 c.mark_blocks.ensures.more c.mark_blocks.ensures.begun c.uncover.ensures.cells table found there),
+    )
+
+pub mark_blocks-requires-clause-mask : goal.mark_blocks-requires-clause-mask
+mark_blocks-requires-clause-mask c = mask_fits c.self.inside.entries.items c.args.version c.place_of-place.result c.index.result.now c.args.mask c.self.invariant.0 (place_is c.self.inside.entries.items c.self.inside.entries.items c.args.version c.place_of-place.result c.index.result.now refl c.place_of-place.ensures.found c.place_of-place.ensures.within c.index.ensures) (subst (λ (v : Contents). ForSome (entry_at v.entries c.args.version) (λ e. (i : ℕ) → has_bit c.args.mask i ≡ true → goes (listed_in v.entries) e.listed (e.listed.first + i) ≡ true)) (sym c.self.view_is) c.requires.goes)
 
 pub returns-then-entry-eq0-clause-entries : goal.returns-then-entry-eq0-clause-entries
-returns-then-entry-eq0-clause-entries c = rw (← c.self.view_is) (ap (map seen) (taken_out c.remove.result _ _ (c.remove.ensures.succeeds c.index-entry.result.now (omega (arith, c.place_of-place.ensures.within, c.self.inside.entries.ok.0))) c.remove.ensures.items) ∙ changed_removed c.self.inside.entries.items c.args.version c.place_of-place.result c.index-entry.result.now c.args.mask c.self.invariant.0 (place_is c.self.inside.entries.items c.self.inside.entries.items c.args.version c.place_of-place.result c.index-entry.result.now refl c.place_of-place.ensures.found c.place_of-place.ensures.within c.index-entry.ensures) (omega arith) c.if-entry-eq0.true)
+returns-then-entry-eq0-clause-entries c = rw (← c.self.view_is) (ap (map seen) (taken_out c.remove.result _ _ (c.remove.ensures.succeeds c.index.result.now (omega (arith, c.place_of-place.ensures.within, c.self.inside.entries.ok.0))) c.remove.ensures.items) ∙ changed_removed c.self.inside.entries.items c.args.version c.place_of-place.result c.index.result.now c.args.mask c.self.invariant.0 (place_is c.self.inside.entries.items c.self.inside.entries.items c.args.version c.place_of-place.result c.index.result.now refl c.place_of-place.ensures.found c.place_of-place.ensures.within c.index.ensures) (omega arith) c.if-entry-eq0.true)
 
 pub returns-else-entry-eq0-clause-entries : goal.returns-else-entry-eq0-clause-entries
 unfolding trimmed
-returns-else-entry-eq0-clause-entries c = rw (← c.self.view_is) (changed_trimmed c.self.inside.entries.items c.args.version c.place_of-place.result c.index-entry.result.now c.args.mask c.self.invariant.0 (place_is c.self.inside.entries.items c.self.inside.entries.items c.args.version c.place_of-place.result c.index-entry.result.now refl c.place_of-place.ensures.found c.place_of-place.ensures.within c.index-entry.ensures) (omega arith) (omega arith))
+returns-else-entry-eq0-clause-entries c = rw (← c.self.view_is) (changed_trimmed c.self.inside.entries.items c.args.version c.place_of-place.result c.index.result.now c.args.mask c.self.invariant.0 (place_is c.self.inside.entries.items c.self.inside.entries.items c.args.version c.place_of-place.result c.index.result.now refl c.place_of-place.ensures.found c.place_of-place.ensures.within c.index.ensures) (omega arith) (omega arith))
 
 pub uncover-requires-clause-mask : goal.uncover-requires-clause-mask
-uncover-requires-clause-mask c = mask_fits c.self.inside.entries.items c.args.version c.place_of-place.result c.index-entry.result.now c.args.mask c.self.invariant.0 (place_is c.self.inside.entries.items c.self.inside.entries.items c.args.version c.place_of-place.result c.index-entry.result.now refl c.place_of-place.ensures.found c.place_of-place.ensures.within c.index-entry.ensures) (subst (λ (v : Contents). ForSome (entry_at v.entries c.args.version) (λ e. (i : ℕ) → has_bit c.args.mask i ≡ true → goes (listed_in v.entries) e.listed (e.listed.first + i) ≡ true)) (sym c.self.view_is) c.requires.goes)
+uncover-requires-clause-mask c = mask_fits c.self.inside.entries.items c.args.version c.place_of-place.result c.index.result.now c.args.mask c.self.invariant.0 (place_is c.self.inside.entries.items c.self.inside.entries.items c.args.version c.place_of-place.result c.index.result.now refl c.place_of-place.ensures.found c.place_of-place.ensures.within c.index.ensures) (subst (λ (v : Contents). ForSome (entry_at v.entries c.args.version) (λ e. (i : ℕ) → has_bit c.args.mask i ≡ true → goes (listed_in v.entries) e.listed (e.listed.first + i) ≡ true)) (sym c.self.view_is) c.requires.goes)

@@ -1,0 +1,170 @@
+// Marks of records that may have a due block, or one that goes, by version.
+ghost use Rattle.std.specs.Prelude.{◌≡◌, ◌<◌, ◌≤◌, ◌^◌, ◌+◌, ℕ, Bool, true, false, nat_eq, slice_index_or, ◌==◌, ◌&&◌, ◌||◌};
+ghost use Rattle.std.specs.HashMap.{get};
+ghost use Rattle.wol_model.specs.Log.{has_bit};
+ghost use Rattle.version_marks.specs.Marks.{mask_in, IsWithin};
+ghost use Rattle.redirect_map.specs.Masks.{in_mask};
+ghost use Rattle.redirect_map.specs.Kept.{IsInRange, AreEntries};
+ghost use Rattle.redirect_map.specs.Cells.{AreTabled};
+ghost use Rattle.redirect_map.specs.Marked.{there_bit, lane_bit, is_home, begins, IsMarked, AreThere, AreBegun};
+
+use crate::blocks::{Cell, held, newest_of, with_bit};
+use crate::entry::{Entry, with_version};
+use crate::mask::moved;
+use std::collections::{HashMap, VecDeque};
+use version_marks::VersionMarks;
+
+// How many lanes have bits of their own.
+const LANES: usize = 63;
+// The bit of a record that is there.
+const THERE: u32 = 126;
+
+// The bit of a lane's records that may have a block that goes, or a due one.
+fn lane_bit(going: bool, lane: usize) -> u32
+    ensures value { result ≡ lane_bit going lane }
+    ensures low { result < 126 }
+{
+    let rest = (lane % LANES) as u32;
+    if going { 63 + rest } else { rest }
+}
+
+// The mask of a record that is there.
+fn mask_of(lane: u32, due: bool, going: bool) -> u128
+    ensures there { has_bit result there_bit ≡ true }
+    ensures due { due ≡ true → has_bit result (lane_bit false lane) ≡ true }
+    ensures going { going ≡ true → has_bit result (lane_bit true lane) ≡ true }
+{
+    let there = with_bit(0, THERE, true);
+    let mask = with_bit(there, lane_bit(false, lane as usize), due);
+    with_bit(mask, lane_bit(true, lane as usize), going)
+}
+
+// The mask of a record that was added just now: all its blocks are due.
+pub fn new_mask(lane: u32) -> u128
+    ensures there { has_bit result there_bit ≡ true }
+    ensures due { has_bit result (lane_bit false lane) ≡ true }
+{
+    mask_of(lane, true, false)
+}
+
+// The mask of a record, by its blocks.
+pub fn exact_mask(blocks: &HashMap<u64, Cell>, entry: &Entry) -> u128
+    requires { IsInRange entry.now }
+    ensures { IsMarked (get nat_eq blocks.now) result entry.now }
+{
+    let live = held(blocks, &entry.record, false);
+    let alone = held(blocks, &entry.record, true);
+    let due = live & !entry.homed != 0;
+    let going = (entry.record.keep & !live) | (entry.homed & alone) != 0;
+    mask_of(entry.record.lane, due, going)
+}
+
+// Whether the block is home in this record.
+fn has_home(entry: &Entry, lbn: u64) -> bool
+    ensures { result ≡ is_home entry.now lbn }
+{
+    moved(entry.homed, entry.record.lbn, lbn) & 1 == 1
+}
+
+// Marks the record of this version, of this lane, as one that may have a block that goes.
+fn mark_going(marks: &mut VersionMarks, version: u64, lane: u32)
+    ensures more { (v : ℕ) → IsWithin (mask_in marks.old.versions marks.old.masks v) (mask_in marks.new.versions marks.new.masks v) }
+    ensures going { has_bit (mask_in marks.old.versions marks.old.masks version) there_bit ≡ true
+        → has_bit (mask_in marks.new.versions marks.new.masks version) (lane_bit true lane) ≡ true }
+    ensures room { marks.new.room ≡ marks.old.room }
+{
+    let mask = with_bit(marks.get(version), lane_bit(true, lane as usize), true);
+    marks.set(version, mask);
+}
+
+// Whether the block begins to go of its newest record.
+fn starts(entry: &Entry, cell: Cell, lbn: u64, covered: bool) -> bool
+    ensures { result ≡ (covered || (cell.keepers == 2 && is_home entry.now lbn)) }
+{
+    covered || (cell.keepers == 2 && has_home(entry, lbn))
+}
+
+// Marks the newest record of the block if the block begins to go of it, as a newer record covers it or as the
+// one other record that keeps it gives it up.
+fn mark_newest(
+    marks: &mut VersionMarks,
+    entries: &VecDeque<Entry>,
+    blocks: &HashMap<u64, Cell>,
+    lbn: u64,
+    covered: bool,
+)
+    requires entries { AreEntries entries.now.items }
+    requires there { AreThere entries.now.items (mask_in marks.old.versions marks.old.masks) }
+    ensures more { (v : ℕ) → IsWithin (mask_in marks.old.versions marks.old.masks v) (mask_in marks.new.versions marks.new.masks v) }
+    ensures begun { AreBegun covered entries.now.items (get nat_eq blocks.now) (mask_in marks.new.versions marks.new.masks) lbn }
+    ensures room { marks.new.room ≡ marks.old.room }
+{
+    let Some(cell) = newest_of(blocks, lbn) else {
+        return;
+    };
+    let Some(entry) = with_version(entries, cell.version) else {
+        return;
+    };
+    if !starts(&entry, cell, lbn, covered) {
+        return;
+    }
+    mark_going(marks, cell.version, entry.record.lane);
+}
+
+// The same of bit i of a mask of blocks.
+fn mark_bit(
+    marks: &mut VersionMarks,
+    entries: &VecDeque<Entry>,
+    blocks: &HashMap<u64, Cell>,
+    first: u64,
+    mask: u128,
+    i: u32,
+    covered: bool,
+)
+    requires entries { AreEntries entries.now.items }
+    requires there { AreThere entries.now.items (mask_in marks.old.versions marks.old.masks) }
+    requires within { first + i < 2 ^ 64 }
+    requires bit { i < 128 }
+    ensures more { (v : ℕ) → IsWithin (mask_in marks.old.versions marks.old.masks v) (mask_in marks.new.versions marks.new.masks v) }
+    ensures begun { has_bit mask i ≡ true → AreBegun covered entries.now.items (get nat_eq blocks.now) (mask_in marks.new.versions marks.new.masks) (first + i) }
+    ensures room { marks.new.room ≡ marks.old.room }
+{
+    if mask >> i & 1 == 1 {
+        mark_newest(marks, entries, blocks, first + u64::from(i), covered);
+    }
+}
+
+// The same of all blocks of a mask.
+pub fn mark_blocks(
+    marks: &mut VersionMarks,
+    entries: &VecDeque<Entry>,
+    blocks: &HashMap<u64, Cell>,
+    first: u64,
+    count: u32,
+    mask: u128,
+    covered: bool,
+)
+    requires entries { AreEntries entries.now.items }
+    requires there { AreThere entries.now.items (mask_in marks.old.versions marks.old.masks) }
+    requires count { count ≤ 128 }
+    requires within { first + count ≤ 2 ^ 32 }
+    requires mask { mask < 2 ^ count }
+    ensures more { (v : ℕ) → IsWithin (mask_in marks.old.versions marks.old.masks v) (mask_in marks.new.versions marks.new.masks v) }
+    ensures begun { (b : ℕ) → in_mask first mask b ≡ true → AreBegun covered entries.now.items (get nat_eq blocks.now) (mask_in marks.new.versions marks.new.masks) b }
+    ensures room { marks.new.room ≡ marks.old.room }
+{
+    for i in 0..count {
+        mark_bit(marks, entries, blocks, first, mask, i, covered);
+    }
+}
+
+// The bits of the lanes that are true in the list.
+pub fn lanes_mask(lanes: &[bool], going: bool) -> u128
+    ensures { (lane : ℕ) → slice_index_or lanes.now lane false ≡ true → has_bit result (lane_bit going lane) ≡ true }
+{
+    let mut mask = 0;
+    for (lane, on) in lanes.iter().enumerate() {
+        mask = with_bit(mask, lane_bit(going, lane), *on);
+    }
+    mask
+}

@@ -1,0 +1,3 @@
+pub mod Bits
+pub mod Summed
+pub mod Masks
