@@ -1,56 +1,16 @@
 -- The first record of a list that passes a test is the one of least version.
-use Rattle.std.proofs.Common.{◌≡◌, ◌<◌, ◌≤◌, ℕ, zero, suc, Bool, true, false, cond, List, [], ◌∷◌, map, length, take, Option, None, Some, refl, sym, ap, ◌∙◌, subst, arith}
-use Rattle.std.specs.Prelude.{slice_get, option_map, IfSome, IsSomeAnd}
-use Rattle.std.specs.List.{AllByRecursion, find}
-use Rattle.std.proofs.lemmas.Bool.{false≢true}
-use Rattle.wol_model.specs.Index.{Indexed, AreRising}
-use Rattle.redirect_map.specs.Index.{entry_at}
-use Rattle.redirect_map.proofs.Seen.{all_more, all_before_map}
+use Rattle.std.proofs.Common.{◌≡◌, ⊎_elim, ◌<◌, ◌≤◌, ◌+◌, ◌^◌, ℕ, zero, suc, Bool, true, false, cond, not, ◌&&◌, List, [], ◌∷◌, map, length, Option, None, Some, refl, sym, ap, ◌∙◌, subst, arith, eqb, IsSome}
+use Rattle.std.specs.Prelude.{slice_get, option_map, IfSome, IsSomeAnd, slice_index_or}
+use Rattle.std.specs.List.{AllByRecursion, find, list_any}
+use Rattle.std.proofs.lemmas.Bool.{false≢true, cases_lt, cases_eq, eqb-true}
+use Rattle.wol_model.specs.Index.{Listed, Indexed, AreRising, cover_of, block_numbers}
+use Rattle.redirect_map.specs.declared.record.Rec.{Rec}
+use Rattle.redirect_map.specs.Masks.{IsMask}
+use Rattle.redirect_map.specs.Index.{has_version, entry_at, HasVersion, IsRecordOf, IsAnswer, IsIndex}
+use Rattle.redirect_map.proofs.Seen.{all_more, all_before_map, all_at, all_from_places}
 use Rattle.redirect_map.proofs.Versions.{entry_at-own}
-use Rattle.garbage_list.specs.Least.{first_version}
-
--- what one place answers: its version where the test passes
-abbrev pub Answers : (Indexed → Bool) → List Indexed → ℕ → Option ℕ → Type 0
-Answers test es k r = IfSome (slice_get es k) (λ e. r ≡ cond (test e) (Some e.listed.version) None)
-
-failed : (test : Indexed → Bool) (e : Indexed) → None ≡ cond (test e) (Some e.listed.version) None → test e ≡ false
-failed test e is = at (test e) refl is
-  where
-    at : (t : Bool) → test e ≡ t → None ≡ cond t (Some e.listed.version) None → test e ≡ false
-    at true here miss = absurd (cc)
-    at false here miss = here
-
-passed : (test : Indexed → Bool) (e : Indexed) (v : ℕ) → Some v ≡ cond (test e) (Some e.listed.version) None → (test e ≡ true) × (v ≡ e.listed.version)
-passed test e v is = at (test e) refl is
-  where
-    at : (t : Bool) → test e ≡ t → Some v ≡ cond t (Some e.listed.version) None → (test e ≡ true) × (v ≡ e.listed.version)
-    at true here same = (here, cc)
-    at false here miss = absurd (cc)
-
--- a place where the test fails
-pub none_more : (test : Indexed → Bool) (es : List Indexed) (k : ℕ) → find test (take k es) ≡ None → Answers test es k None → find test (take (suc k) es) ≡ None
-none_more test [] k none is = refl
-none_more test (x ∷ xs) zero none is = ap (λ (t : Bool). cond t (Some x) None) (failed test x is)
-none_more test (x ∷ xs) (suc k) none is = at (test x) none (none_more test xs k)
-  where
-    at : (t : Bool) → cond t (Some x) (find test (take k xs)) ≡ None → (find test (take k xs) ≡ None → Answers test xs k None → find test (take (suc k) xs) ≡ None) → cond t (Some x) (find test (take (suc k) xs)) ≡ None
-    at true miss rest = absurd (cc)
-    at false left rest = rest left is
-
--- a place where it passes, behind others where it fails
-pub found_at : (test : Indexed → Bool) (es : List Indexed) (k v : ℕ) → find test (take k es) ≡ None → k < length es → Answers test es k (Some v)
-    → (e : Indexed) × (find test es ≡ Some e) × (slice_get es k ≡ Some e) × (test e ≡ true) × (v ≡ e.listed.version)
-found_at test [] k v none within is = absurd (omega arith)
-found_at test (x ∷ xs) zero v none within is =
-    let facts = passed test x v is in
-    (x, ap (λ (t : Bool). cond t (Some x) (find test xs)) facts.0, refl, facts.0, facts.1)
-found_at test (x ∷ xs) (suc k) v none within is = at (test x) none (found_at test xs k v)
-  where
-    at : (t : Bool) → cond t (Some x) (find test (take k xs)) ≡ None
-        → (find test (take k xs) ≡ None → k < length xs → Answers test xs k (Some v) → (e : Indexed) × (find test xs ≡ Some e) × (slice_get xs k ≡ Some e) × (test e ≡ true) × (v ≡ e.listed.version))
-        → (e : Indexed) × (cond t (Some x) (find test xs) ≡ Some e) × (slice_get xs k ≡ Some e) × (test e ≡ true) × (v ≡ e.listed.version)
-    at true miss rest = absurd (cc)
-    at false left rest = rest left (omega arith) is
+use Rattle.garbage_list.specs.Least.{first_version, told_of, is_awake, HasLane}
+use Rattle.garbage_list.proofs.Going.{some_block}
 
 -- none before the first that passes does
 least_of : (test : Indexed → Bool) (es : List Indexed) (e : Indexed) → AreRising (map (λ (d : Indexed). d.listed.version) es) → find test es ≡ Some e → AllByRecursion (λ d. test d ≡ true → e.listed.version ≤ d.listed.version) es
@@ -70,13 +30,165 @@ pub record First (test : Indexed → Bool) (es : List Indexed) (v : ℕ) : Type 
   pub stated : IsSomeAnd (entry_at es v) (λ e. test e ≡ true)
   pub least : AllByRecursion (λ d. test d ≡ true → v ≤ d.listed.version) es
 
--- the answer at the first place where the test passes
-pub first_at : (test : Indexed → Bool) (es : List Indexed) (k v : ℕ) → AreRising (map (λ (d : Indexed). d.listed.version) es) → find test (take k es) ≡ None → k < length es → Answers test es k (Some v) → First test es v
-first_at test es k v rising none within is =
-    let hit = found_at test es k v none within is in
-    subst (First test es) (sym hit.4)
+-- ---- What is told of one version
+
+found_told : (test : Indexed → Bool) (v w : ℕ) (o : Option Indexed) → Some w ≡ told_of test v o → (e : Indexed) × (o ≡ Some e) × (test e ≡ true) × (w ≡ v)
+found_told test v w None is = absurd (cc)
+found_told test v w (Some e) is = at (test e) refl is
+  where
+    at : (t : Bool) → test e ≡ t → Some w ≡ cond t (Some v) None → (d : Indexed) × (Some e ≡ Some d) × (test d ≡ true) × (w ≡ v)
+    at true here same = (e, refl, here, cc)
+    at false here miss = absurd (cc)
+
+missed_told : (test : Indexed → Bool) (v : ℕ) (e : Indexed) → None ≡ told_of test v (Some e) → test e ≡ false
+missed_told test v e is = at (test e) refl is
+  where
+    at : (t : Bool) → test e ≡ t → None ≡ cond t (Some v) None → test e ≡ false
+    at true here miss = absurd (cc)
+    at false here miss = here
+
+pub none_at : (test : Indexed → Bool) (es : List Indexed) (v : ℕ) → AreRising (map (λ (d : Indexed). d.listed.version) es) → None ≡ told_of test v (entry_at es v) → AllByRecursion (λ d. d.listed.version ≡ v → test d ≡ false) es
+none_at test es v rising told = all_from_places (λ (d : Indexed). d.listed.version ≡ v → test d ≡ false) es
+    (λ k d at same. missed_told test v d (told ∙ ap (told_of test v) (ap (entry_at es) (sym same) ∙ entry_at-own es k d rising at)))
+
+-- ---- Versions so far
+
+pub none_through : (test : Indexed → Bool) (v : ℕ) (es : List Indexed) → AllByRecursion (λ d. d.listed.version < v → test d ≡ false) es → AllByRecursion (λ d. d.listed.version ≡ v → test d ≡ false) es → AllByRecursion (λ d. d.listed.version < v + 1 → test d ≡ false) es
+none_through test v [] below here = tt
+none_through test v (x ∷ xs) below here =
+    ((λ less. ⊎_elim below.0 (λ more. here.0 (omega arith)) (cases_lt x.listed.version v)), none_through test v xs below.1 here.1)
+
+asleep_or_none : (lanes : List Bool) (q : Indexed → Bool) (x : Indexed) → (is_awake lanes x ≡ true → q x ≡ false) → (is_awake lanes x && q x) ≡ false
+asleep_or_none lanes q x none = at (is_awake lanes x) none
+  where
+    at : (t : Bool) → (t ≡ true → q x ≡ false) → (t && q x) ≡ false
+    at true off = off refl
+    at false off = refl
+
+pub none_below : (lanes : List Bool) (q : Indexed → Bool) (from v : ℕ) (es : List Indexed) → AllByRecursion (λ d. d.listed.version < from → (is_awake lanes d && q d) ≡ false) es
+    → AllByRecursion (λ d. from ≤ d.listed.version → d.listed.version < v → is_awake lanes d ≡ true → q d ≡ false) es → AllByRecursion (λ d. d.listed.version < v → (is_awake lanes d && q d) ≡ false) es
+none_below lanes q from v [] before more = tt
+none_below lanes q from v (x ∷ xs) before more =
+    ((λ less. ⊎_elim before.0 (λ start. asleep_or_none lanes q x (λ on. more.0 start less on)) (cases_lt x.listed.version from)), none_below lanes q from v xs before.1 more.1)
+
+pub none_left : (lanes : List Bool) (q : Indexed → Bool) (from : ℕ) (es : List Indexed) → AllByRecursion (λ d. d.listed.version < from → (is_awake lanes d && q d) ≡ false) es
+    → AllByRecursion (λ d. from ≤ d.listed.version → is_awake lanes d ≡ true → q d ≡ false) es → find (λ d. is_awake lanes d && q d) es ≡ None
+none_left lanes q from [] before more = refl
+none_left lanes q from (x ∷ xs) before more =
+    ap (λ (t : Bool). cond t (Some x) (find (λ d. is_awake lanes d && q d) xs)) (⊎_elim before.0 (λ start. asleep_or_none lanes q x (λ on. more.0 start on)) (cases_lt x.listed.version from))
+    ∙ none_left lanes q from xs before.1 more.1
+
+pub none_last : (test : Indexed → Bool) (v last : ℕ) (es : List Indexed) → last ≤ v → AllByRecursion (λ d. d.listed.version ≤ last) es → AllByRecursion (λ d. d.listed.version < v → test d ≡ false) es → AllByRecursion (λ d. d.listed.version ≡ v → test d ≡ false) es
+    → find test es ≡ None
+none_last test v last [] order all below here = refl
+none_last test v last (x ∷ xs) order all below here =
+    let low : x.listed.version ≤ last = all.0 in
+    ap (λ (t : Bool). cond t (Some x) (find test xs)) (⊎_elim below.0 (λ more. here.0 (omega arith)) (cases_lt x.listed.version v)) ∙ none_last test v last xs order all.1 below.1 here.1
+
+-- ---- The least version
+
+above_found : (n v : ℕ) (es : List Indexed) (e : Indexed) → AllByRecursion (λ w. n < w) (map (λ (d : Indexed). d.listed.version) es) → find (has_version v) es ≡ Some e → n < v
+above_found n v [] e above found = absurd (cc)
+above_found n v (x ∷ xs) e above found = at (eqb x.listed.version v) refl found (above_found n v xs e above.1)
+  where
+    at : (t : Bool) → eqb x.listed.version v ≡ t → cond t (Some x) (find (has_version v) xs) ≡ Some e → (find (has_version v) xs ≡ Some e → n < v) → n < v
+    at true is same rest = let e : x.listed.version ≡ v = eqb-true x.listed.version v is in let h : n < x.listed.version = above.0 in omega arith
+    at false is same rest = rest same
+
+find_least : (test : Indexed → Bool) (v : ℕ) (es : List Indexed) (e : Indexed) → AreRising (map (λ (d : Indexed). d.listed.version) es) → find (has_version v) es ≡ Some e → test e ≡ true → AllByRecursion (λ d. d.listed.version < v → test d ≡ false) es
+    → find test es ≡ Some e
+find_least test v [] e rising found on below = absurd (cc)
+find_least test v (x ∷ xs) e rising found on below = at (eqb x.listed.version v) found (λ left. find_least test v xs e rising.1 left on below.1)
+  where
+    at : (t : Bool) → cond t (Some x) (find (has_version v) xs) ≡ Some e → (find (has_version v) xs ≡ Some e → find test xs ≡ Some e) → cond (test x) (Some x) (find test xs) ≡ Some e
+    at true same rest = let f : x ≡ e = cc in ap (λ (t : Bool). cond t (Some x) (find test xs)) (ap test f ∙ on) ∙ ap Some f
+    at false left rest = ap (λ (t : Bool). cond t (Some x) (find test xs)) (below.0 (above_found x.listed.version v xs e rising.0 left)) ∙ rest left
+
+own_version : (v : ℕ) (es : List Indexed) (e : Indexed) → find (has_version v) es ≡ Some e → e.listed.version ≡ v
+own_version v [] e found = absurd (cc)
+own_version v (x ∷ xs) e found = at (eqb x.listed.version v) refl found (own_version v xs e)
+  where
+    at : (t : Bool) → eqb x.listed.version v ≡ t → cond t (Some x) (find (has_version v) xs) ≡ Some e → (find (has_version v) xs ≡ Some e → e.listed.version ≡ v) → e.listed.version ≡ v
+    at true is same rest = let f : x ≡ e = cc in ap (λ (d : Indexed). d.listed.version) (sym f) ∙ eqb-true x.listed.version v is
+    at false is same rest = rest same
+
+-- the version of which it is told, where none before passes
+pub first_told : (test : Indexed → Bool) (es : List Indexed) (v w : ℕ) → AreRising (map (λ (d : Indexed). d.listed.version) es) → Some w ≡ told_of test v (entry_at es v) → AllByRecursion (λ d. d.listed.version < v → test d ≡ false) es → First test es w
+first_told test es v w rising told below =
+    let hit = found_told test v w (entry_at es v) told in
+    let found : find test es ≡ Some hit.0 = find_least test v es hit.0 rising hit.1 hit.2 below in
+    let own : hit.0.listed.version ≡ w = own_version v es hit.0 hit.1 ∙ sym hit.3 in
+    subst (First test es) own
     (record {
-      value = ap (option_map (λ (e : Indexed). e.listed.version)) (sym hit.1);
-      stated = rw (entry_at-own es k hit.0 rising hit.2) hit.3;
-      least = least_of test es hit.0 rising hit.1;
+      value = ap (option_map (λ (e : Indexed). e.listed.version)) (sym found);
+      stated = subst (λ (n : ℕ). IsSomeAnd (entry_at es n) (λ e. test e ≡ true)) (sym (own_version v es hit.0 hit.1)) (rw hit.1 hit.2);
+      least = least_of test es hit.0 rising found;
     })
+
+-- ---- The record of one version
+
+answered : (o : Option Indexed) (r : Rec) → IsAnswer o (Some r) → (e : Indexed) × (o ≡ Some e) × IsRecordOf e r
+answered None r is = absurd is
+answered (Some e) r is = (e, refl, is)
+
+pub answer_there : (es : List Indexed) (v : ℕ) (r : Rec) → IsAnswer (entry_at es v) (Some r) → HasVersion es v
+answer_there es v r is = let hit = answered (entry_at es v) r is in rw hit.1 refl
+
+find_all : (P : Indexed → Type 0) (p : Indexed → Bool) (es : List Indexed) (e : Indexed) → AllByRecursion P es → find p es ≡ Some e → P e
+find_all P p [] e all found = absurd (cc)
+find_all P p (x ∷ xs) e all found = at (p x) found (find_all P p xs e all.1)
+  where
+    at : (t : Bool) → cond t (Some x) (find p xs) ≡ Some e → (find p xs ≡ Some e → P e) → P e
+    at true same rest = let f : x ≡ e = cc in subst P f all.0
+    at false left rest = rest left
+
+pub lane_there : (lanes : List Bool) (es : List Indexed) (v : ℕ) (r : Rec) → AllByRecursion (HasLane lanes) es → IsAnswer (entry_at es v) (Some r) → r.lane < length lanes
+lane_there lanes es v r all is =
+    let hit = answered (entry_at es v) r is in
+    subst (λ (n : ℕ). n < length lanes) (sym hit.2.lane) (find_all (HasLane lanes) (has_version v) es hit.0 all hit.1)
+
+pub told_none : (test : Indexed → Bool) (v : ℕ) (o : Option Indexed) → IsAnswer o None → None ≡ told_of test v o
+told_none test v None is = refl
+told_none test v (Some e) is = absurd is
+
+pub told_asleep : (lanes : List Bool) (q : Indexed → Bool) (v : ℕ) (o : Option Indexed) (r : Rec) → IsAnswer o (Some r) → slice_index_or lanes r.lane false ≡ false → None ≡ told_of (λ e. is_awake lanes e && q e) v o
+told_asleep lanes q v o r is off =
+    let hit = answered o r is in
+    rw (hit.1, sym (ap (λ (n : ℕ). slice_index_or lanes n false) hit.2.lane) ∙ off) refl
+
+-- the version where its logger is awake and the mask isn't empty
+pub told_is : (lanes : List Bool) (v : ℕ) (o : Option Indexed) (r : Rec) (p : Listed → ℕ → Bool) (mask : ℕ) (t : Bool) → IsAnswer o (Some r) → ((e : Listed) (b : ℕ) → p e b ≡ true → (cover_of e).covers b ≡ true)
+    → mask < 2 ^ 128 → IfSome o (λ e. IsMask e.listed.first (p e.listed) mask) → (slice_index_or lanes r.lane false && not (eqb mask 0)) ≡ t
+    → cond t (Some v) None ≡ told_of (λ e. is_awake lanes e && list_any (p e.listed) (block_numbers e.listed)) v o
+told_is lanes v o r p mask t is covered fits bits test =
+    let hit = answered o r is in
+    let mine : IsMask hit.0.listed.first (p hit.0.listed) mask = subst (λ (x : Option Indexed). IfSome x (λ e. IsMask e.listed.first (p e.listed) mask)) hit.1 bits in
+    let same : (is_awake lanes hit.0 && list_any (p hit.0.listed) (block_numbers hit.0.listed)) ≡ t =
+    (λ i. slice_index_or lanes (sym hit.2.lane i) false && sym (some_block hit.0.listed (p hit.0.listed) mask fits mine (covered hit.0.listed)) i) ∙ test in
+    rw (hit.1, same) refl
+
+-- ---- The last version
+
+pub last_at : (es : List Indexed) (k : ℕ) (e : Indexed) → AreRising (map (λ (d : Indexed). d.listed.version) es) → slice_get es k ≡ Some e → length es ≤ k + 1 → AllByRecursion (λ d. d.listed.version ≤ e.listed.version) es
+last_at [] k e rising at end = tt
+last_at (x ∷ []) zero e rising at end = let f : x ≡ e = cc in subst (λ (d : Indexed). (x.listed.version ≤ d.listed.version) × Unit) f (omega arith, tt)
+last_at (x ∷ y ∷ ys) zero e rising at end = absurd (omega arith)
+last_at (x ∷ xs) (suc k) e rising at end =
+    let less : x.listed.version < e.listed.version = all_at (λ (d : Indexed). x.listed.version < d.listed.version) xs k e (all_before_map (λ w. x.listed.version < w) (λ (d : Indexed). d.listed.version) xs rising.0) at in
+    (omega arith, last_at xs k e rising.1 at (omega arith))
+
+pub last_is : (es : List Indexed) (k : ℕ) (r : Rec) → IsIndex es → k < length es → length es ≤ k + 1 → IfSome (slice_get es k) (λ e. IsRecordOf e r) → AllByRecursion (λ d. d.listed.version ≤ r.version) es
+last_is es k r index within end is = at (slice_get es k) refl (inside es k within) is
+  where
+    inside : (xs : List Indexed) (i : ℕ) → i < length xs → slice_get xs i ≡ None → ⊥
+    inside [] i less none = absurd (omega arith)
+    inside (x ∷ xs) zero less none = cc
+    inside (x ∷ xs) (suc i) less none = inside xs i (omega arith) none
+
+    at : (o : Option Indexed) → slice_get es k ≡ o → (slice_get es k ≡ None → ⊥) → IfSome o (λ e. IsRecordOf e r) → AllByRecursion (λ d. d.listed.version ≤ r.version) es
+    at None none some of = absurd (some none)
+    at (Some e) there some of = subst (λ (n : ℕ). AllByRecursion (λ d. d.listed.version ≤ n) es) (sym of.version) (last_at es k e index.rising there end)
+
+pub none_listed : (es : List Indexed) → length es ≡ 0 → AllByRecursion (λ d. d.listed.version ≤ 0) es
+none_listed [] none = tt
+none_listed (x ∷ xs) none = absurd (omega arith)

@@ -1,4 +1,3 @@
 pub mod Going
 pub mod Finding
-pub mod Places
 pub mod Lanes

@@ -1,5 +1,6 @@
 -- The records within reach that have something to give up, or to put home.
-use Rattle.std.specs.Prelude.{◌<◌, ℕ, Bool, false, ◌&&◌, List, length, find, Option, option_map, slice_index_or}
+use Rattle.std.specs.Prelude.{◌≡◌, None, Some, if◌then◌else◌, ◌<◌, ℕ, Bool, false, ◌&&◌, List, length, find, Option, option_map, slice_index_or}
+use Rattle.redirect_map.specs.Index.{entry_at}
 use Rattle.wol_model.specs.Index.{listed_in, Indexed, has_due, has_going}
 
 -- there is a flag for the record's lane
@@ -21,3 +22,12 @@ can_go_home lanes es e = is_awake lanes e && has_due (listed_in es) e.listed
 -- the version of the first record that passes
 abbrev pub first_version : (Indexed → Bool) → List Indexed → Option ℕ
 first_version test es = option_map (λ e. e.listed.version) (find test es)
+
+-- what is told of one version: the version itself where its record passes, and none where it doesn't or there is no
+-- such record
+abbrev pub told_of : (Indexed → Bool) → ℕ → Option Indexed → Option ℕ
+told_of test version None = None
+told_of test version (Some e) = if test e then Some version else None
+
+abbrev pub IsTold : (Indexed → Bool) → List Indexed → ℕ → Option ℕ → Type 0
+IsTold test es version answer = answer ≡ told_of test version (entry_at es version)

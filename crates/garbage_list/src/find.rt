@@ -1,46 +1,52 @@
 // The least version of which something may go, or is due.
-ghost use Rattle.std.specs.Prelude.{◌≡◌, ◌<◌, ◌≤◌, true, Option, None, Some, length, slice_get, option_map, IfSome, IsSomeAnd, if◌then◌else◌};
+ghost use Rattle.std.specs.Prelude.{◌≡◌, ◌≤◌, true, IfSome, IsSomeAnd};
 ghost use Rattle.std.specs.List.{AllByRecursion};
 ghost use Rattle.redirect_map.specs.Index.{entry_at, IsIndex};
-ghost use Rattle.garbage_list.specs.Least.{HasLane, can_go, can_go_home, first_version};
+ghost use Rattle.garbage_list.specs.Least.{HasLane, can_go, can_go_home, first_version, IsTold};
 
 use crate::masks::{due, may_go};
 use redirect_map::Index;
 
-// The version at this place, if a block of its record may go.
-fn going_at(index: &Index, lanes: &[bool], place: u64) -> Option<u64>
-    requires there { place < length index.now.entries }
-    requires index { IsIndex index.now.entries }
-    requires lanes { AllByRecursion (HasLane lanes.now) index.now.entries }
-    ensures { IfSome (slice_get index.now.entries place)
-        (λ e. result ≡ (if can_go lanes.now index.now.entries e then Some e.listed.version else None)) }
+// This version, if a block of its record may go and its lane is true.
+fn going(index: &Index, lanes: &[bool], version: u64) -> Option<u64>
+    requires { AllByRecursion (HasLane lanes.now) index.now.entries }
+    ensures { IsTold (can_go lanes.now index.now.entries) index.now.entries version result }
 {
-    let record = index.at(place);
+    let record = index.find(version)?;
     if !lanes[record.lane as usize] {
         return None;
     }
-    if may_go(index, record.version) == 0 {
+    if may_go(index, version) == 0 {
         return None;
     }
-    Some(record.version)
+    Some(version)
 }
 
-// The version at this place, if a block of its record is due.
-fn due_at(index: &Index, lanes: &[bool], place: u64) -> Option<u64>
-    requires there { place < length index.now.entries }
-    requires index { IsIndex index.now.entries }
-    requires lanes { AllByRecursion (HasLane lanes.now) index.now.entries }
-    ensures { IfSome (slice_get index.now.entries place)
-        (λ e. result ≡ (if can_go_home lanes.now index.now.entries e then Some e.listed.version else None)) }
+// This version, if a block of its record is due and its lane is true.
+fn due_one(index: &Index, lanes: &[bool], version: u64) -> Option<u64>
+    requires { AllByRecursion (HasLane lanes.now) index.now.entries }
+    ensures { IsTold (can_go_home lanes.now index.now.entries) index.now.entries version result }
 {
-    let record = index.at(place);
+    let record = index.find(version)?;
     if !lanes[record.lane as usize] {
         return None;
     }
-    if due(index, record.version) == 0 {
+    if due(index, version) == 0 {
         return None;
     }
-    Some(record.version)
+    Some(version)
+}
+
+// The greatest version, or 0 where there is no record.
+fn last_version(index: &Index) -> u64
+    ensures least { AllByRecursion (λ e. e.listed.version ≤ result) index.now.entries }
+    ensures index { IsIndex index.now.entries }
+{
+    let count = index.len();
+    if count == 0 {
+        return 0;
+    }
+    index.at(count - 1).version
 }
 
 /// The least version of which a block may go and whose lane is true in the list, that is whose logger is
@@ -58,10 +64,16 @@ pub fn next_to_go(index: &Index, lanes: &[bool]) -> Option<u64>
         (λ e. can_go lanes.now index.now.entries e ≡ true → v ≤ e.listed.version)
         index.now.entries) }
 {
-    for place in 0..index.len() {
-        if let Some(version) = going_at(index, lanes, place) {
-            return Some(version);
+    let last = last_version(index);
+    let mut from = 0;
+    while let Some(version) = index.first_going(from, lanes) {
+        if let Some(found) = going(index, lanes, version) {
+            return Some(found);
         }
+        if version >= last {
+            return None;
+        }
+        from = version + 1;
     }
     None
 }
@@ -80,10 +92,16 @@ pub fn next_due(index: &Index, lanes: &[bool]) -> Option<u64>
         (λ e. can_go_home lanes.now index.now.entries e ≡ true → v ≤ e.listed.version)
         index.now.entries) }
 {
-    for place in 0..index.len() {
-        if let Some(version) = due_at(index, lanes, place) {
-            return Some(version);
+    let last = last_version(index);
+    let mut from = 0;
+    while let Some(version) = index.first_due(from, lanes) {
+        if let Some(found) = due_one(index, lanes, version) {
+            return Some(found);
         }
+        if version >= last {
+            return None;
+        }
+        from = version + 1;
     }
     None
 }

@@ -1,6 +1,7 @@
 -- Marks of records that may have something due, or something that goes. A mark may be set where it needn't.
 use Rattle.std.specs.Prelude.{◌≡◌, ◌+◌, ◌%◌, ℕ, Bool, true, false, not, ◌&&◌, ◌||◌, List, Option, Some, slice_get}
 use Rattle.wol_model.specs.Log.{has_bit}
+use Rattle.version_marks.specs.Marks.{Contents, IsWithin, mask_of}
 use Rattle.redirect_map.specs.declared.blocks.Cell.{Cell}
 use Rattle.redirect_map.specs.declared.entry.Entry.{Entry}
 use Rattle.redirect_map.specs.Masks.{in_mask}
@@ -50,3 +51,7 @@ begins false e b c = is_home e b && is_held e.record.version true (take_one c)
 -- a record of which the block begins to go is marked
 abbrev pub AreBegun : Bool → List Entry → (ℕ → Option Cell) → (ℕ → ℕ) → ℕ → Type 0
 AreBegun covered es known masks b = (k : ℕ) (e : Entry) → slice_get es k ≡ Some e → begins covered e b (known b) ≡ true → has_bit (masks e.record.version) (lane_bit true e.record.lane) ≡ true
+
+-- no mask loses a bit
+abbrev pub KeepsBits : Contents → Contents → Type 0
+KeepsBits old new = (v : ℕ) → IsWithin (mask_of old v) (mask_of new v)

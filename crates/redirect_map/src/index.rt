@@ -36,7 +36,7 @@ impl Model for Index {
     ghost use Rattle.std.specs.Prelude.{◌-◌, ◌/◌, min, map, nat_eq};
     ghost use Rattle.std.specs.VecDeque.{deque_len, deque_capacity};
     ghost use Rattle.std.specs.HashMap.{get, spare};
-    ghost use Rattle.version_marks.specs.Marks.{mask_in};
+    ghost use Rattle.version_marks.specs.Marks.{mask_of};
     ghost use Rattle.redirect_map.specs.Index.{Contents};
     ghost use Rattle.redirect_map.specs.Kept.{seen, AreEntries};
     ghost use Rattle.redirect_map.specs.Cells.{AreTabled};
@@ -47,7 +47,7 @@ impl Model for Index {
     ghost view = { λ a. record { entries = map seen a.entries.items; reserved = min (min (deque_capacity a.entries - deque_len a.entries) (spare a.blocks / 128)) a.marks.room } };
 
     ghost invariant = { λ a. AreEntries a.entries.items × AreTabled a.entries.items a.blocks
-        × AreMarked a.entries.items (get nat_eq a.blocks) (mask_in a.marks.versions a.marks.masks) };
+        × AreMarked a.entries.items (get nat_eq a.blocks) (mask_of a.marks) };
 }
 
 impl Index {
@@ -238,8 +238,9 @@ impl Index {
         }
     }
 
-    /// A version from which on a due block may be looked for: no record of this version or above, but below
-    /// the answer, whose lane is true in the list has one; and none where no record from `from` on has one.
+    /// The least version from `from` on that is marked as one that may have a due block, on a lane that is
+    /// true in the list: none of these records with a lesser version has one, and where the answer is none no
+    /// record from `from` on has one. Whether the record of the answer has one is for the caller to see.
     pub fn first_due(&self, from: u64, lanes: &[bool]) -> Option<u64>
         ensures from { IfSome result (λ v. from ≤ v) }
         ensures least { IfSome result (λ v. AllByRecursion
@@ -252,7 +253,7 @@ impl Index {
         self.marks.first(from, lanes_mask(lanes, false))
     }
 
-    /// The same for a block that goes.
+    /// The same for blocks that may be given up.
     pub fn first_going(&self, from: u64, lanes: &[bool]) -> Option<u64>
         ensures from { IfSome result (λ v. from ≤ v) }
         ensures least { IfSome result (λ v. AllByRecursion

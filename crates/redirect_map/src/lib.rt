@@ -1,9 +1,11 @@
 //! The index of a volume's records: which blocks are off-loaded, where the newest of each lies, and which
 //! blocks of old records are home. Kept as a list of records by rising version, with one mask of homed blocks
-//! each, and a table that names for each kept block its newest record and how many records keep it.
+//! each, a table that names for each kept block its newest record and how many records keep it, and marks of
+//! the versions of which a block may be due or may go, so that the next of these is found without a walk.
 //!
 //! `record.rt` has a record and its place, `entry.rt` a record with its homed blocks, `mask.rt` masks of 128
-//! blocks, `blocks.rt` the table of kept blocks, `index.rt` `Index`, where the contracts stand.
+//! blocks, `blocks.rt` the table of kept blocks, `marking.rt` the marks, `index.rt` `Index`, where the contracts
+//! stand.
 #![tactic(auto)]
 
 mod blocks;

@@ -2,11 +2,11 @@
 ghost use Rattle.std.specs.Prelude.{◌≡◌, ◌<◌, ◌≤◌, ◌^◌, ◌+◌, ℕ, Bool, true, false, nat_eq, slice_index_or, ◌==◌, ◌&&◌, ◌||◌};
 ghost use Rattle.std.specs.HashMap.{get};
 ghost use Rattle.wol_model.specs.Log.{has_bit};
-ghost use Rattle.version_marks.specs.Marks.{mask_in, IsWithin};
+ghost use Rattle.version_marks.specs.Marks.{mask_of};
 ghost use Rattle.redirect_map.specs.Masks.{in_mask};
 ghost use Rattle.redirect_map.specs.Kept.{IsInRange, AreEntries};
 ghost use Rattle.redirect_map.specs.Cells.{AreTabled};
-ghost use Rattle.redirect_map.specs.Marked.{there_bit, lane_bit, is_home, begins, IsMarked, AreThere, AreBegun};
+ghost use Rattle.redirect_map.specs.Marked.{there_bit, lane_bit, is_home, begins, IsMarked, AreThere, AreBegun, KeepsBits};
 
 use crate::blocks::{Cell, held, newest_of, with_bit};
 use crate::entry::{Entry, with_version};
@@ -29,7 +29,7 @@ fn lane_bit(going: bool, lane: usize) -> u32
 }
 
 // The mask of a record that is there.
-fn mask_of(lane: u32, due: bool, going: bool) -> u128
+fn record_mask(lane: u32, due: bool, going: bool) -> u128
     ensures there { has_bit result there_bit ≡ true }
     ensures due { due ≡ true → has_bit result (lane_bit false lane) ≡ true }
     ensures going { going ≡ true → has_bit result (lane_bit true lane) ≡ true }
@@ -44,7 +44,7 @@ pub fn new_mask(lane: u32) -> u128
     ensures there { has_bit result there_bit ≡ true }
     ensures due { has_bit result (lane_bit false lane) ≡ true }
 {
-    mask_of(lane, true, false)
+    record_mask(lane, true, false)
 }
 
 // The mask of a record, by its blocks.
@@ -56,7 +56,7 @@ pub fn exact_mask(blocks: &HashMap<u64, Cell>, entry: &Entry) -> u128
     let alone = held(blocks, &entry.record, true);
     let due = live & !entry.homed != 0;
     let going = (entry.record.keep & !live) | (entry.homed & alone) != 0;
-    mask_of(entry.record.lane, due, going)
+    record_mask(entry.record.lane, due, going)
 }
 
 // Whether the block is home in this record.
@@ -68,9 +68,9 @@ fn has_home(entry: &Entry, lbn: u64) -> bool
 
 // Marks the record of this version, of this lane, as one that may have a block that goes.
 fn mark_going(marks: &mut VersionMarks, version: u64, lane: u32)
-    ensures more { (v : ℕ) → IsWithin (mask_in marks.old.versions marks.old.masks v) (mask_in marks.new.versions marks.new.masks v) }
-    ensures going { has_bit (mask_in marks.old.versions marks.old.masks version) there_bit ≡ true
-        → has_bit (mask_in marks.new.versions marks.new.masks version) (lane_bit true lane) ≡ true }
+    ensures more { KeepsBits marks.old marks.new }
+    ensures going { has_bit (mask_of marks.old version) there_bit ≡ true
+        → has_bit (mask_of marks.new version) (lane_bit true lane) ≡ true }
     ensures room { marks.new.room ≡ marks.old.room }
 {
     let mask = with_bit(marks.get(version), lane_bit(true, lane as usize), true);
@@ -94,9 +94,9 @@ fn mark_newest(
     covered: bool,
 )
     requires entries { AreEntries entries.now.items }
-    requires there { AreThere entries.now.items (mask_in marks.old.versions marks.old.masks) }
-    ensures more { (v : ℕ) → IsWithin (mask_in marks.old.versions marks.old.masks v) (mask_in marks.new.versions marks.new.masks v) }
-    ensures begun { AreBegun covered entries.now.items (get nat_eq blocks.now) (mask_in marks.new.versions marks.new.masks) lbn }
+    requires there { AreThere entries.now.items (mask_of marks.old) }
+    ensures more { KeepsBits marks.old marks.new }
+    ensures begun { AreBegun covered entries.now.items (get nat_eq blocks.now) (mask_of marks.new) lbn }
     ensures room { marks.new.room ≡ marks.old.room }
 {
     let Some(cell) = newest_of(blocks, lbn) else {
@@ -122,11 +122,12 @@ fn mark_bit(
     covered: bool,
 )
     requires entries { AreEntries entries.now.items }
-    requires there { AreThere entries.now.items (mask_in marks.old.versions marks.old.masks) }
+    requires there { AreThere entries.now.items (mask_of marks.old) }
     requires within { first + i < 2 ^ 64 }
     requires bit { i < 128 }
-    ensures more { (v : ℕ) → IsWithin (mask_in marks.old.versions marks.old.masks v) (mask_in marks.new.versions marks.new.masks v) }
-    ensures begun { has_bit mask i ≡ true → AreBegun covered entries.now.items (get nat_eq blocks.now) (mask_in marks.new.versions marks.new.masks) (first + i) }
+    ensures more { KeepsBits marks.old marks.new }
+    ensures begun { has_bit mask i ≡ true
+        → AreBegun covered entries.now.items (get nat_eq blocks.now) (mask_of marks.new) (first + i) }
     ensures room { marks.new.room ≡ marks.old.room }
 {
     if mask >> i & 1 == 1 {
@@ -145,12 +146,13 @@ pub fn mark_blocks(
     covered: bool,
 )
     requires entries { AreEntries entries.now.items }
-    requires there { AreThere entries.now.items (mask_in marks.old.versions marks.old.masks) }
+    requires there { AreThere entries.now.items (mask_of marks.old) }
     requires count { count ≤ 128 }
     requires within { first + count ≤ 2 ^ 32 }
     requires mask { mask < 2 ^ count }
-    ensures more { (v : ℕ) → IsWithin (mask_in marks.old.versions marks.old.masks v) (mask_in marks.new.versions marks.new.masks v) }
-    ensures begun { (b : ℕ) → in_mask first mask b ≡ true → AreBegun covered entries.now.items (get nat_eq blocks.now) (mask_in marks.new.versions marks.new.masks) b }
+    ensures more { KeepsBits marks.old marks.new }
+    ensures begun { (b : ℕ) → in_mask first mask b ≡ true
+        → AreBegun covered entries.now.items (get nat_eq blocks.now) (mask_of marks.new) b }
     ensures room { marks.new.room ≡ marks.old.room }
 {
     for i in 0..count {
@@ -160,7 +162,8 @@ pub fn mark_blocks(
 
 // The bits of the lanes that are true in the list.
 pub fn lanes_mask(lanes: &[bool], going: bool) -> u128
-    ensures { (lane : ℕ) → slice_index_or lanes.now lane false ≡ true → has_bit result (lane_bit going lane) ≡ true }
+    ensures { (lane : ℕ) → slice_index_or lanes.now lane false ≡ true
+        → has_bit result (lane_bit going lane) ≡ true }
 {
     let mut mask = 0;
     for (lane, on) in lanes.iter().enumerate() {

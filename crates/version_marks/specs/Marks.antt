@@ -15,6 +15,9 @@ mask_in [] ms v = 0
 mask_in (w ∷ ws) [] v = 0
 mask_in (w ∷ ws) (m ∷ ms) v = if w == v then m else mask_in ws ms v
 
+abbrev pub mask_of : Contents → ℕ → ℕ
+mask_of marks v = mask_in marks.versions marks.masks v
+
 -- no bit is in both
 abbrev pub AreApart : ℕ → ℕ → Type 0
 AreApart a b = (i : ℕ) → (has_bit a i && has_bit b i) ≡ false

@@ -2,7 +2,7 @@
 ghost use Rattle.std.specs.Prelude.{◌≡◌, ◌<◌, ◌≤◌, ◌+◌, ◌==◌, ◌&&◌, ℕ, length, not, nat_lt, slice_index, bit_and, OnOk, OnErr, IfOk, ◌^◌, IfSome, IfNone, if◌then◌else◌};
 ghost use Rattle.std.specs.List.{count_by};
 ghost use Rattle.wol_model.specs.Index.{AreRising};
-ghost use Rattle.version_marks.specs.Marks.{mask_in, AreApart};
+ghost use Rattle.version_marks.specs.Marks.{mask_in, AreApart, mask_of};
 
 use crate::tree::{first_leaf, set_leaf};
 use std::alloc::Global;
@@ -68,9 +68,9 @@ fn place_of(versions: &[u64], version: u64) -> Option<usize>
 fn mark_all(marks: &mut VersionMarks, versions: &[u64], masks: &[u128])
     requires rising { AreRising versions.now }
     requires masks { length masks.now ≡ length versions.now }
-    requires none { (v : ℕ) → mask_in marks.old.versions marks.old.masks v ≡ 0 }
+    requires none { (v : ℕ) → mask_of marks.old v ≡ 0 }
     requires room { count_by (λ m. not (m == 0)) masks.now ≤ marks.old.room }
-    ensures masks { (v : ℕ) → mask_in marks.new.versions marks.new.masks v ≡ mask_in versions.now masks.now v }
+    ensures masks { (v : ℕ) → mask_of marks.new v ≡ mask_in versions.now masks.now v }
     ensures room { marks.old.room ≤ marks.new.room + count_by (λ m. not (m == 0)) masks.now }
 {
     for place in 0..versions.len() {
@@ -91,7 +91,7 @@ impl VersionMarks {
     // No version is marked, and there is room for so many.
     fn with_room(alloc: Global, size: usize) -> Result<VersionMarks, NoMemory>
         requires { size < 2 ^ 42 }
-        ensures none { IfOk result (λ marks. (v : ℕ) → mask_in marks.versions marks.masks v ≡ 0) }
+        ensures none { IfOk result (λ marks. (v : ℕ) → mask_of marks v ≡ 0) }
         ensures room { IfOk result (λ marks. marks.room ≡ size) }
     {
         Ok(VersionMarks {
@@ -103,7 +103,7 @@ impl VersionMarks {
 
     /// No version is marked, and there is room for none.
     pub fn new(alloc: Global) -> VersionMarks
-        ensures { (v : ℕ) → mask_in result.versions result.masks v ≡ 0 }
+        ensures { (v : ℕ) → mask_of result v ≡ 0 }
     {
         VersionMarks {
             versions: Vec::new(alloc),
@@ -118,7 +118,7 @@ impl VersionMarks {
         ensures ok { OnOk result (more ≤ self.new.room) }
         ensures err { OnErr result (self.old.room < more) }
         ensures room { self.old.room ≤ self.new.room }
-        ensures masks { (v : ℕ) → mask_in self.new.versions self.new.masks v ≡ mask_in self.old.versions self.old.masks v }
+        ensures masks { (v : ℕ) → mask_of self.new v ≡ mask_of self.old v }
     {
         let size = self.nodes.len() / 2;
         let count = self.versions.len();
@@ -139,7 +139,7 @@ impl VersionMarks {
 
     /// The mask of a version, 0 where it isn't there.
     pub fn get(&self, version: u64) -> u128
-        ensures { result ≡ mask_in self.now.versions self.now.masks version }
+        ensures { result ≡ mask_of self.now version }
     {
         match place_of(&self.versions, version) {
             Some(place) => self.nodes[self.nodes.len() / 2 + place],
@@ -149,8 +149,8 @@ impl VersionMarks {
 
     /// Gives a version that is there this mask. With 0 it is there no more.
     pub fn set(&mut self, version: u64, mask: u128)
-        ensures masks { (v : ℕ) → mask_in self.new.versions self.new.masks v
-            ≡ (if v == version && not (mask_in self.old.versions self.old.masks v == 0) then mask else mask_in self.old.versions self.old.masks v) }
+        ensures masks { (v : ℕ) → mask_of self.new v
+            ≡ (if v == version && not (mask_of self.old v == 0) then mask else mask_of self.old v) }
         ensures room { self.new.room ≡ self.old.room }
     {
         if self.get(version) == 0 {
@@ -164,8 +164,8 @@ impl VersionMarks {
     /// Marks a further version, above which none is there then.
     pub fn push(&mut self, version: u64, mask: u128)
         requires { 0 < self.old.room }
-        ensures masks { (v : ℕ) → mask_in self.new.versions self.new.masks v
-            ≡ (if v == version then mask else if nat_lt v version then mask_in self.old.versions self.old.masks v else 0) }
+        ensures masks { (v : ℕ) → mask_of self.new v
+            ≡ (if v == version then mask else if nat_lt v version then mask_of self.old v else 0) }
         ensures room { self.old.room ≤ self.new.room + 1 }
     {
         let place = below(&self.versions, version);
@@ -176,9 +176,9 @@ impl VersionMarks {
 
     /// The least version from `from` on whose mask has a bit of `wanted`, and none where there is none.
     pub fn first(&self, from: u64, wanted: u128) -> Option<u64>
-        ensures found { IfSome result (λ v. (from ≤ v) × (bit_and (mask_in self.now.versions self.now.masks v) wanted ≡ 0 → ⊥)) }
-        ensures least { IfSome result (λ v. (w : ℕ) → from ≤ w → w < v → AreApart (mask_in self.now.versions self.now.masks w) wanted) }
-        ensures none { IfNone result ((w : ℕ) → from ≤ w → AreApart (mask_in self.now.versions self.now.masks w) wanted) }
+        ensures found { IfSome result (λ v. (from ≤ v) × (bit_and (mask_of self.now v) wanted ≡ 0 → ⊥)) }
+        ensures least { IfSome result (λ v. (w : ℕ) → from ≤ w → w < v → AreApart (mask_of self.now w) wanted) }
+        ensures none { IfNone result ((w : ℕ) → from ≤ w → AreApart (mask_of self.now w) wanted) }
     {
         let size = self.nodes.len() / 2;
         let leaf = first_leaf(&self.nodes, size + below(&self.versions, from), wanted);

@@ -1,8 +1,11 @@
-use Rattle.std.proofs.Common.{◌≡◌, take, None}
-use Rattle.std.specs.List.{find}
+use Rattle.std.proofs.Common.{◌≡◌, ◌<◌, ◌-◌, ◌^◌, false}
+use Rattle.std.specs.List.{AllByRecursion}
 use Rattle.garbage_list.specs.Least.{can_go}
 use Rattle.garbage_list.proofs.find.next_to_go.Given as goal
 
--- none of the places so far
-abbrev pub invariant-loop-place : goal.invariant-loop-place
-invariant-loop-place l = find (can_go l.lanes l.index.entries) (take l.place l.index.entries) ≡ None
+-- none of the versions so far
+abbrev pub invariant-loop-version : goal.invariant-loop-version
+invariant-loop-version l = AllByRecursion (λ e. e.listed.version < l.from → can_go l.lanes l.index.entries e ≡ false) l.index.entries
+
+abbrev pub decreases-loop-version : goal.decreases-loop-version
+decreases-loop-version l = 2 ^ 64 - l.from

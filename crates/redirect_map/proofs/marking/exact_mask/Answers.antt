@@ -6,7 +6,7 @@ use Rattle.redirect_map.proofs.marking.exact_mask.Goals as goal
 
 pub returns : goal.returns
 returns c = record {
-  there = c.mask_of.ensures.there;
-  due = λ b on. c.mask_of.ensures.due (ap not (ne_eqb _ 0 (some_due c.args.entry.now c.held-live.result b (get nat_eq c.args.blocks.now) c.requires (omega arith) c.held-live.ensures on)));
-  going = λ b on. c.mask_of.ensures.going (ap not (ne_eqb _ 0 (some_going c.args.entry.now c.held-live.result c.held-alone.result b (get nat_eq c.args.blocks.now) c.requires (omega arith) c.held-live.ensures c.held-alone.ensures on)));
+  there = c.record_mask.ensures.there;
+  due = λ b on. c.record_mask.ensures.due (ap not (ne_eqb _ 0 (some_due c.args.entry.now c.held-live.result b (get nat_eq c.args.blocks.now) c.requires (omega arith) c.held-live.ensures on)));
+  going = λ b on. c.record_mask.ensures.going (ap not (ne_eqb _ 0 (some_going c.args.entry.now c.held-live.result c.held-alone.result b (get nat_eq c.args.blocks.now) c.requires (omega arith) c.held-live.ensures c.held-alone.ensures on)));
 }

@@ -1,6 +1,6 @@
 use Rattle.std.proofs.Common.{◌≡◌, ◌+◌, ℕ, true, ◌&&◌, nat_lt, nat_eq}
 use Rattle.std.specs.HashMap.{get}
-use Rattle.version_marks.specs.Marks.{mask_in, IsWithin}
+use Rattle.version_marks.specs.Marks.{IsWithin, mask_of}
 use Rattle.redirect_map.specs.Masks.{in_mask}
 use Rattle.redirect_map.specs.Marked.{AreBegun}
 use Rattle.redirect_map.proofs.marking.mark_blocks.Given as goal
@@ -8,7 +8,7 @@ use Rattle.redirect_map.proofs.marking.mark_blocks.Given as goal
 -- the blocks so far
 abbrev pub invariant-loop-i : goal.invariant-loop-i
 invariant-loop-i l = record {
-  more : (v : ℕ) → IsWithin (mask_in l.initial.marks.versions l.initial.marks.masks v) (mask_in l.marks.versions l.marks.masks v);
-  begun : (b : ℕ) → (in_mask l.first l.mask b && nat_lt b (l.first + l.i)) ≡ true → AreBegun l.covered l.entries.items (get nat_eq l.blocks) (mask_in l.marks.versions l.marks.masks) b;
+  more : (v : ℕ) → IsWithin (mask_of l.initial.marks v) (mask_of l.marks v);
+  begun : (b : ℕ) → (in_mask l.first l.mask b && nat_lt b (l.first + l.i)) ≡ true → AreBegun l.covered l.entries.items (get nat_eq l.blocks) (mask_of l.marks) b;
   room : l.marks.room ≡ l.initial.marks.room;
 }

@@ -9,7 +9,7 @@ use Rattle.redirect_map.specs.Kept.{seen, AreEntries, IsUnhomed}
 use Rattle.redirect_map.proofs.Adding.{IsNew, new_entry, some_run, entries_added, seen_added, zip_length}
 use Rattle.redirect_map.proofs.Tabling.{all_added}
 use Rattle.redirect_map.proofs.Celled.{keepers_few}
-use Rattle.version_marks.specs.Marks.{mask_in}
+use Rattle.version_marks.specs.Marks.{mask_of}
 use Rattle.redirect_map.proofs.Marked.{marks_added}
 use Rattle.redirect_map.proofs.index.Index.add.Goals as goal
 
@@ -38,7 +38,7 @@ invariant_of-self c = (
       (subst (λ (v : Contents). AllByRecursion (λ (d : Indexed). d.listed.version < c.args.entry.version) v.entries) (sym c.self.view_is) c.requires.newest)),
   all_added c.args.entry c.self.inside.entries.items c.unhome.new.entries.items c.push_back_reserved.new.self.items (get nat_eq c.self.inside.blocks) (get nat_eq c.cover.new.blocks) (zipped c) (items_are c) c.self.invariant.1 c.cover.ensures.cells,
   marks_added c.args.entry c.self.inside.entries.items c.unhome.new.entries.items c.push_back_reserved.new.self.items (get nat_eq c.self.inside.blocks) (get nat_eq c.cover.new.blocks)
-      (mask_in c.self.inside.marks.versions c.self.inside.marks.masks) (mask_in c.mark_blocks.new.marks.versions c.mark_blocks.new.marks.masks) (mask_in c.push.new.self.versions c.push.new.self.masks) c.new_mask.result (zipped c) (items_are c)
+      (mask_of c.self.inside.marks) (mask_of c.mark_blocks.new.marks) (mask_of c.push.new.self) c.new_mask.result (zipped c) (items_are c)
       (subst (λ (v : Contents). AllByRecursion (λ (d : Indexed). d.listed.version < c.args.entry.version) v.entries) (sym c.self.view_is) c.requires.newest)
       c.self.invariant.2 c.mark_blocks.ensures.more c.mark_blocks.ensures.begun c.cover.ensures.cells c.push.ensures.masks c.new_mask.ensures.there c.new_mask.ensures.due,
 )

@@ -7,7 +7,7 @@ use Rattle.redirect_map.proofs.Answering.{is_there, place_is}
 use Rattle.redirect_map.proofs.Changing.{homed_entry, entries_homed, changed_homed}
 use Rattle.redirect_map.proofs.Celled.{cell_set_same}
 use Rattle.std.specs.HashMap.{get}
-use Rattle.version_marks.specs.Marks.{mask_in}
+use Rattle.version_marks.specs.Marks.{mask_of}
 use Rattle.redirect_map.specs.Marked.{there_bit}
 use Rattle.redirect_map.proofs.Answering.{range_at}
 use Rattle.redirect_map.proofs.Marked.{get_set_here, marks_set}
@@ -33,8 +33,8 @@ invariant_of-self c =
     let at = (place_is c.self.inside.entries.items c.self.inside.entries.items c.args.version c.place_of-place.result c.index.result.now refl c.place_of-place.ensures.found c.place_of-place.ensures.within c.index.ensures) in (
       entries_homed c.self.inside.entries.items c.args.version c.place_of-place.result c.index.result.now c.args.mask c.self.invariant.0 at (subst (λ (v : Contents). ForSome (entry_at v.entries c.args.version) (λ e. (i : ℕ) → has_bit c.args.mask i ≡ true → is_live (listed_in v.entries) e.listed (e.listed.first + i) ≡ true)) (sym c.self.view_is) c.requires.live),
       (λ b. c.self.invariant.1 b ∙ sym (cell_set_same c.self.inside.entries.items c.place_of-place.result c.index.result.now (homed_entry c.index.result.now c.args.mask) b at.at refl refl)),
-      marks_set c.self.inside.entries.items (get nat_eq c.self.inside.blocks) (mask_in c.self.inside.marks.versions c.self.inside.marks.masks) (mask_in c.set.new.self.versions c.set.new.self.masks) c.place_of-place.result c.args.version c.exact_mask.result c.index.result.now (homed_entry c.index.result.now c.args.mask)
-          c.self.invariant.0.rising at.at at.version_is at.version_is (ap (λ (v : ℕ). has_bit (mask_in c.self.inside.marks.versions c.self.inside.marks.masks v) there_bit) (sym at.version_is) ∙ (c.self.invariant.2 c.place_of-place.result c.index.result.now at.at).there)
+      marks_set c.self.inside.entries.items (get nat_eq c.self.inside.blocks) (mask_of c.self.inside.marks) (mask_of c.set.new.self) c.place_of-place.result c.args.version c.exact_mask.result c.index.result.now (homed_entry c.index.result.now c.args.mask)
+          c.self.invariant.0.rising at.at at.version_is at.version_is (ap (λ (v : ℕ). has_bit (mask_of c.self.inside.marks v) there_bit) (sym at.version_is) ∙ (c.self.invariant.2 c.place_of-place.result c.index.result.now at.at).there)
           c.set.ensures.masks c.exact_mask.ensures (λ j d found there. c.self.invariant.2 j d there),
     )
 

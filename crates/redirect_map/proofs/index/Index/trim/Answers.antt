@@ -11,7 +11,7 @@ use Rattle.redirect_map.specs.Kept.{seen, AreEntries}
 use Rattle.redirect_map.proofs.Answering.{is_there, place_is}
 use Rattle.redirect_map.proofs.Changing.{trimmed, entries_trimmed, changed_trimmed, entries_removed, changed_removed}
 use Rattle.redirect_map.proofs.Tabling.{all_less, cell_emptied, cell_trimmed, mask_fits}
-use Rattle.version_marks.specs.Marks.{mask_in}
+use Rattle.version_marks.specs.Marks.{mask_of}
 use Rattle.redirect_map.specs.Marked.{there_bit, AreMarked}
 use Rattle.redirect_map.proofs.Marked.{marks_set, marks_removed, others_less}
 use Rattle.redirect_map.proofs.index.Index.trim.Goals as goal
@@ -37,10 +37,10 @@ invariant_of-self c =
     let same = (taken_out c.remove.result _ _ (c.remove.ensures.succeeds c.index.result.now (omega (arith, c.place_of-place.ensures.within, c.self.inside.entries.ok.0))) c.remove.ensures.items) in (
       subst AreEntries (sym same) (entries_removed c.self.inside.entries.items c.place_of-place.result c.self.invariant.0),
       subst (λ (es : List Entry). (b : ℕ) → get nat_eq c.uncover.new.blocks b ≡ cell_of es b) (sym same) (table_removed c),
-      subst (λ (es : List Entry). AreMarked es (get nat_eq c.uncover.new.blocks) (mask_in c.set.new.self.versions c.set.new.self.masks)) (sym same)
-          (marks_removed c.self.inside.entries.items (get nat_eq c.uncover.new.blocks) (mask_in c.mark_blocks.new.marks.versions c.mark_blocks.new.marks.masks) (mask_in c.set.new.self.versions c.set.new.self.masks) c.place_of-place.result c.args.version 0 c.index.result.now
+      subst (λ (es : List Entry). AreMarked es (get nat_eq c.uncover.new.blocks) (mask_of c.set.new.self)) (sym same)
+          (marks_removed c.self.inside.entries.items (get nat_eq c.uncover.new.blocks) (mask_of c.mark_blocks.new.marks) (mask_of c.set.new.self) c.place_of-place.result c.args.version 0 c.index.result.now
           c.self.invariant.0.rising at.at at.version_is c.set.ensures.masks
-          (λ j d i found there. others_less c.self.inside.entries.items (remove c.self.inside.entries.items c.place_of-place.result) (get nat_eq c.self.inside.blocks) (get nat_eq c.uncover.new.blocks) (mask_in c.self.inside.marks.versions c.self.inside.marks.masks) (mask_in c.mark_blocks.new.marks.versions c.mark_blocks.new.marks.masks) c.index.result.now.record.lbn c.args.mask j i d c.self.invariant.2 c.mark_blocks.ensures.more c.mark_blocks.ensures.begun c.uncover.ensures.cells (table_removed c) found there)),
+          (λ j d i found there. others_less c.self.inside.entries.items (remove c.self.inside.entries.items c.place_of-place.result) (get nat_eq c.self.inside.blocks) (get nat_eq c.uncover.new.blocks) (mask_of c.self.inside.marks) (mask_of c.mark_blocks.new.marks) c.index.result.now.record.lbn c.args.mask j i d c.self.invariant.2 c.mark_blocks.ensures.more c.mark_blocks.ensures.begun c.uncover.ensures.cells (table_removed c) found there)),
     )
 
 pub invariant_of-self-else-entry-eq0 : goal.invariant_of-self-else-entry-eq0
@@ -51,10 +51,10 @@ invariant_of-self-else-entry-eq0 c =
     (λ b. cell_trimmed c.self.inside.entries.items c.args.version c.place_of-place.result c.index.result.now c.args.mask b c.self.invariant.0 at (subst (λ (v : Contents). ForSome (entry_at v.entries c.args.version) (λ e. (i : ℕ) → has_bit c.args.mask i ≡ true → goes (listed_in v.entries) e.listed (e.listed.first + i) ≡ true)) (sym c.self.view_is) c.requires.goes) (omega arith)) in (
       entries_trimmed c.self.inside.entries.items c.place_of-place.result c.index.result.now c.args.mask c.self.invariant.0 at.at (omega arith) (omega arith),
       table,
-      marks_set c.self.inside.entries.items (get nat_eq c.uncover.new.blocks) (mask_in c.mark_blocks.new.marks.versions c.mark_blocks.new.marks.masks) (mask_in c.set-else-entry-eq0.new.self.versions c.set-else-entry-eq0.new.self.masks) c.place_of-place.result c.args.version c.exact_mask.result c.index.result.now (trimmed c.index.result.now c.args.mask)
-          c.self.invariant.0.rising at.at at.version_is at.version_is (ap (λ (v : ℕ). has_bit (mask_in c.mark_blocks.new.marks.versions c.mark_blocks.new.marks.masks v) there_bit) (sym at.version_is) ∙ c.mark_blocks.ensures.more c.index.result.now.record.version there_bit (c.self.invariant.2 c.place_of-place.result c.index.result.now at.at).there)
+      marks_set c.self.inside.entries.items (get nat_eq c.uncover.new.blocks) (mask_of c.mark_blocks.new.marks) (mask_of c.set-else-entry-eq0.new.self) c.place_of-place.result c.args.version c.exact_mask.result c.index.result.now (trimmed c.index.result.now c.args.mask)
+          c.self.invariant.0.rising at.at at.version_is at.version_is (ap (λ (v : ℕ). has_bit (mask_of c.mark_blocks.new.marks v) there_bit) (sym at.version_is) ∙ c.mark_blocks.ensures.more c.index.result.now.record.version there_bit (c.self.invariant.2 c.place_of-place.result c.index.result.now at.at).there)
           c.set-else-entry-eq0.ensures.masks c.exact_mask.ensures
-          (λ j d found there. others_less c.self.inside.entries.items (set c.self.inside.entries.items c.place_of-place.result (trimmed c.index.result.now c.args.mask)) (get nat_eq c.self.inside.blocks) (get nat_eq c.uncover.new.blocks) (mask_in c.self.inside.marks.versions c.self.inside.marks.masks) (mask_in c.mark_blocks.new.marks.versions c.mark_blocks.new.marks.masks) c.index.result.now.record.lbn c.args.mask j j d c.self.invariant.2 c.mark_blocks.ensures.more c.mark_blocks.ensures.begun c.uncover.ensures.cells table found there),
+          (λ j d found there. others_less c.self.inside.entries.items (set c.self.inside.entries.items c.place_of-place.result (trimmed c.index.result.now c.args.mask)) (get nat_eq c.self.inside.blocks) (get nat_eq c.uncover.new.blocks) (mask_of c.self.inside.marks) (mask_of c.mark_blocks.new.marks) c.index.result.now.record.lbn c.args.mask j j d c.self.invariant.2 c.mark_blocks.ensures.more c.mark_blocks.ensures.begun c.uncover.ensures.cells table found there),
     )
 
 pub mark_blocks-requires-clause-mask : goal.mark_blocks-requires-clause-mask
