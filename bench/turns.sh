@@ -10,8 +10,8 @@ folder=$(mktemp -d)
 trap 'rm -rf "$folder"' EXIT
 bench=$folder/crates/turn_bench
 mkdir -p "$bench/src" "$bench/proofs/lock_turns" "$bench/proofs/time_lock"
-cp -r "$top/crates/turn_lock" "$top/crates/turn_lock_tests" "$folder/crates/"
-grep '^turn_lock' "$top/crates.txt" > "$folder/crates.txt"
+cp -r "$top/crates/turn_lock" "$top/crates/errands" "$top/crates/turn_lock_tests" "$folder/crates/"
+grep '^turn_lock\|^errands' "$top/crates.txt" > "$folder/crates.txt"
 echo 'turn_bench: turn_lock turn_lock_tests' >> "$folder/crates.txt"
 cp "$top/HANDLES" "$folder/"
 cat > "$bench/proofs/lock_turns/Invariants.antt" <<'PROOF'

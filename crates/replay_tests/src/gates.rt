@@ -1,5 +1,5 @@
 // Gates that hold one request back until something else was done.
-use std::sync::atomic::{AtomicBool, Ordering};
+use std::sync::atomic::{AtomicBool, AtomicU64, Ordering};
 use std::thread::yield_now;
 use wol_disk::Fuse;
 use wol_io::Gate;
@@ -46,11 +46,11 @@ impl Gate for Holding {
     }
 }
 
-/// Holds each request until a disk was called more often than so many times.
+/// Holds the fifth request until disks were called more often than for the fourth, which reads once.
 #[derive(Drop)]
 pub struct Awaiting<'a> {
     fuse: &'a Fuse,
-    passed: u64,
+    before: AtomicU64,
     late: AtomicBool,
 }
 
@@ -58,7 +58,7 @@ impl<'a> Awaiting<'a> {
     pub(crate) fn new(fuse: &'a Fuse) -> Awaiting<'a> {
         Awaiting {
             fuse,
-            passed: fuse.passed(),
+            before: AtomicU64::new(0),
             late: AtomicBool::new(false),
         }
     }
@@ -70,9 +70,16 @@ impl<'a> Awaiting<'a> {
 }
 
 impl<'a> Gate for Awaiting<'a> {
-    fn pass(&self, _request: u64) {
+    fn pass(&self, request: u64) {
+        if request == 3 {
+            self.before.store(self.fuse.passed(), Ordering::SeqCst);
+        }
+        if request != 4 {
+            return;
+        }
+        let before = self.before.load(Ordering::SeqCst);
         for _turn in 0..TURNS {
-            if self.fuse.passed() > self.passed {
+            if self.fuse.passed().saturating_sub(before) > 1 {
                 return;
             }
             yield_now();

@@ -17,39 +17,6 @@ use wol_bay::MemBay;
 use wol_config::Config;
 use wol_io::{Gate, MemSink, MemSource};
 
-/// Three volumes; the first and the last log on the second.
-pub const THREE: &[u8] = b"segment_blocks = 16
-timeout_ms = 60000
-awake_mw = 8000
-standby_mw = 1000
-wake_mj = 50000
-volume = [
-  { name = \"usr0\", host = \"usr\", disk = 0, home_blocks = 1000, segments = 4, view = [\"web0\"] },
-  { name = \"web0\", host = \"web\", disk = 0, home_blocks = 1000, segments = 4, view = [] },
-  { name = \"src0\", host = \"src\", disk = 0, home_blocks = 1000, segments = 4, view = [\"web0\", \"usr0\"] },
-]
-";
-
-/// Two volumes; the first logs on the one segment of the second.
-pub const TWO: &[u8] = b"segment_blocks = 4
-timeout_ms = 60000
-awake_mw = 8000
-standby_mw = 1000
-wake_mj = 50000
-volume = [
-  { name = \"a\", host = \"a\", disk = 0, home_blocks = 100, segments = 0, view = [\"b\"] },
-  { name = \"b\", host = \"b\", disk = 0, home_blocks = 100, segments = 1, view = [] },
-]
-";
-
-/// A trace on two volumes whose second write finds the log full, which is drained then.
-pub const DRAINS: &[u8] = b"128166372000000000,b,0,Read,0,512,100
-128166372500000000,b,0,Read,0,512,100
-128166373000000000,a,0,Write,0,512,100
-128166373000000000,a,0,Write,0,512,100
-128166373000000000,a,0,Read,0,512,100
-";
-
 /// The bay of volumes that were formatted.
 pub(crate) fn formatted<R: Abort>(rt: &R, alloc: Global, config: &Config) -> MemBay
     requires { IsValid config.now }

@@ -4,8 +4,9 @@ ghost use Rattle.wol_bay.specs.Bay.{Holds, IsHome, outs};
 ghost use Rattle.wol_bay.specs.MemBay.{mem_bay_state};
 ghost use Rattle.wol_config.specs.Configs.{IsValid};
 
-use crate::rows::{DRAINS, TWO, formatted, run};
+use crate::rows::{formatted, run};
 use crate::several::between;
+use fixtures::{DRAINING, DRAINS};
 use std::alloc::Global;
 use std::process::Abort;
 use std::sync::{Arc, Wait};
@@ -86,7 +87,7 @@ fn try_choice<R: Abort + Threads + Wait + Sync>(
     alloc: Global,
     choice: &[u32],
 ) -> Result<(), Fail> {
-    let config = read_config(alloc, TWO)?;
+    let config = read_config(alloc, DRAINING.as_bytes())?;
     let (_, opened, _) = stopped(rt, alloc, &config, b"", u64::MAX, choice)?;
     let (whole, all, written) = stopped(rt, alloc, &config, DRAINS, u64::MAX, choice)?;
     assert_eq!(rt; (whole, written), (0, 2));

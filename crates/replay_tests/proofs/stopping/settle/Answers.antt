@@ -1,5 +1,5 @@
 use Rattle.wol_bay.proofs.OneImage.{goes_out, comes_home, is_back}
-use Rattle.replay_tests.proofs.Cut.{cut_sizes}
+use Rattle.fixtures.proofs.Cut.{cut_sizes}
 use Rattle.replay_tests.proofs.stopping.settle.Goals as goal
 
 pub detach-requires : goal.detach-requires

@@ -1,0 +1,382 @@
+// Volumes that are looked at. The images and the expected lines were worked out by hand from the formats.
+ghost use Rattle.std.specs.Prelude.{◌≡◌, [], Some};
+ghost use Rattle.wol_bay.specs.Bay.{outs};
+ghost use Rattle.wol_bay.specs.MemBay.{mem_bay_state};
+
+use fixtures::{Change, Formatted, ONE_BLOCK_EACH, SRC0, THREE, USR0, WEB0, put};
+use inspection::{Asked, inspect};
+use std::alloc::Global;
+use std::process::Abort;
+use std::sync::Wait;
+use std::test::Fail;
+use wol_bay::MemBay;
+use wol_config::read_config;
+use wol_io::MemSink;
+
+// Three volumes with changes, the exit status that they are to have, and their lines.
+type Row<'a> = (&'a [Change<'a>], u8, [&'a [u8]; 3]);
+
+const A: Formatted<'_> = Formatted {
+    name: "a",
+    blocks: 19,
+    label: b"WOLVOL01\x00\x00\x00\x00\x01\x00\x00\x00\x00\x00\x00\x00\x01\x00\x00\x00\x10",
+    view: b"WOLVIEW1\x01\x00\x00\x00\x01",
+    segments: &[3],
+};
+
+const C: Formatted<'_> = Formatted {
+    name: "c",
+    blocks: 19,
+    label: b"WOLVOL01\x02\x00\x00\x00\x01\x00\x00\x00\x00\x00\x00\x00\x01\x00\x00\x00\x10",
+    view: b"WOLVIEW1",
+    segments: &[3],
+};
+
+// The exit status is that of the first trouble.
+fn tries<R: Abort + Wait>(
+    rt: &R,
+    alloc: Global,
+    asked: Asked,
+    config: &str,
+    bay: &mut MemBay,
+    status: u8,
+    text: &[u8],
+) -> Result<(), Fail>
+    requires { outs (mem_bay_state bay.old) ≡ Some [] }
+    ensures { outs (mem_bay_state bay.new) ≡ Some [] }
+{
+    let config = read_config(alloc, config.as_bytes())?;
+    let mut out = MemSink::new(alloc, None);
+    let found = match inspect(rt, alloc, asked, &config, bay, &mut out) {
+        Ok(None) => 0,
+        Ok(Some(trouble)) => trouble.status(),
+        Err(_) => 9,
+    };
+    let said = String::from_utf8_lossy(alloc, out.bytes())?;
+    assert_eq!(rt; found, status, "{}", said);
+    assert_eq!(rt; out.bytes(), text, "{}", said);
+    Ok(())
+}
+
+fn tries_rows<R: Abort + Wait>(
+    rt: &R,
+    alloc: Global,
+    asked: Asked,
+    rows: &[Row<'_>],
+) -> Result<(), Fail> {
+    for (changes, status, lines) in rows {
+        let mut bay = MemBay::new(alloc);
+        put(alloc, &mut bay, &USR0, changes)?;
+        put(alloc, &mut bay, &WEB0, changes)?;
+        put(alloc, &mut bay, &SRC0, changes)?;
+        let mut text = Vec::new(alloc);
+        for line in lines.iter() {
+            text.extend_from_slice(line)?;
+        }
+        tries(rt, alloc, asked, THREE, &mut bay, *status, text.as_slice())?;
+    }
+    Ok(())
+}
+
+#[test]
+fn an_image_that_is_not_there(rt: HostRuntime) -> Result<(), Fail> {
+    let alloc = rt.alloc();
+    let mut bay = MemBay::new(alloc);
+    put(alloc, &mut bay, &A, &[])?;
+    put(alloc, &mut bay, &C, &[])?;
+    let text =
+        b"a logger 1 missing\nb absent\nc ok sha256 076a27c79e5ace2a3d47f9dd2e83e4ff6ea8872b3c2218f66c92b89b55f36560 records 0 segments 0\n";
+    tries(&rt, alloc, Asked::Check, ONE_BLOCK_EACH, &mut bay, 6, text)?;
+    let text = b"a logger 1 missing\nb absent\nc records 0\n";
+    tries(&rt, alloc, Asked::Dump, ONE_BLOCK_EACH, &mut bay, 6, text)?;
+    bay.put("c", &[0; 1000])?;
+    let text = b"a logger 1 missing\nb absent\nc length 1000\n";
+    tries(&rt, alloc, Asked::Dump, ONE_BLOCK_EACH, &mut bay, 6, text)
+}
+
+const USR: &[u8] =
+    b"usr0 ok sha256 2d4da04b861bb9dbe77c871415931785a18138d6db035f1bbcd0cf8277c6fc23 records 0 segments 0\n";
+
+const USR_WITH_ONE: &[u8] =
+    b"usr0 ok sha256 2d4da04b861bb9dbe77c871415931785a18138d6db035f1bbcd0cf8277c6fc23 records 1 segments 1\n";
+
+// Its first block is that of the record, and not home's.
+const USR_LOGGED: &[u8] =
+    b"usr0 ok sha256 5ef40227a73804d49bd8760062b641442dbc95423fc85b10c73fcbdfdfb367b3 records 1 segments 1\n";
+
+const WEB: &[u8] =
+    b"web0 ok sha256 2d4da04b861bb9dbe77c871415931785a18138d6db035f1bbcd0cf8277c6fc23 records 0 segments 0\n";
+
+const SRC: &[u8] =
+    b"src0 ok sha256 2d4da04b861bb9dbe77c871415931785a18138d6db035f1bbcd0cf8277c6fc23 records 0 segments 0\n";
+
+const USR_LOST: &[u8] = b"usr0 logger 1 missing\n";
+
+const SRC_LOST: &[u8] = b"src0 logger 1 missing\n";
+
+const SRC_WITHOUT_USR: &[u8] = b"src0 logger 0 missing\n";
+
+const BEHIND: &[u8] = b"usr0 damaged 1003 of web0\n";
+
+// The first or the second segment of web0, or the first of src0, is owned by usr0.
+const OWNED: Change<'_> = ("web0", 1002, b"WOLSEGO1\x00\x00\x00\x00");
+
+const OWNED_TOO: Change<'_> = ("web0", 1018, b"WOLSEGO1\x00\x00\x00\x00");
+
+const ELSEWHERE: Change<'_> = ("src0", 1002, b"WOLSEGO1\x00\x00\x00\x00");
+
+// Heads of one block in both forms, of version 5 and of the last version.
+const FIVE: &[u8] =
+    b"WOLREC01\x01\x00\x00\x00\x00\x00\x00\x00\x05\x00\x00\x00\x00\x00\x00\x00\x00\x00\x00\x00\x00\x00\x00\x00\x01";
+
+const OTHER_FIVE: &[u8] =
+    b"WOLREC02\x00\x00\x00\x00\x00\x00\x00\x00\x05\x00\x00\x00\x00\x00\x00\x00\x00\x00\x00\x00\x00\x00\x00\x00\x01\x00\x00\x00\x01";
+
+const LAST: &[u8] =
+    b"WOLREC01\x01\x00\x00\x00\x00\x00\x00\x00\xff\xff\xff\xff\xff\xff\xff\x7f\x00\x00\x00\x00\x00\x00\x00\x00\x01";
+
+const OTHER_LAST: &[u8] =
+    b"WOLREC02\x00\x00\x00\x00\x00\x00\x00\x00\xff\xff\xff\xff\xff\xff\xff\x7f\x00\x00\x00\x00\x00\x00\x00\x00\x01\x00\x00\x00\x01";
+
+// Heads of 129 blocks, of blocks 999 and 1000, and of 15 blocks.
+const MANY: &[u8] =
+    b"WOLREC01\x01\x00\x00\x00\x00\x00\x00\x00\x05\x00\x00\x00\x00\x00\x00\x00\x00\x00\x00\x00\x00\x00\x00\x00\x81";
+
+const OTHER_MANY: &[u8] =
+    b"WOLREC02\x00\x00\x00\x00\x00\x00\x00\x00\x05\x00\x00\x00\x00\x00\x00\x00\x00\x00\x00\x00\x00\x00\x00\x00\x81\x00\x00\x00\x01";
+
+const PAST: &[u8] =
+    b"WOLREC01\x01\x00\x00\x00\x00\x00\x00\x00\x05\x00\x00\x00\x00\x00\x00\x00\xe7\x03\x00\x00\x00\x00\x00\x00\x02";
+
+const OTHER_PAST: &[u8] =
+    b"WOLREC02\x00\x00\x00\x00\x00\x00\x00\x00\x05\x00\x00\x00\x00\x00\x00\x00\xe7\x03\x00\x00\x00\x00\x00\x00\x02\x00\x00\x00\x03";
+
+const LONG: &[u8] =
+    b"WOLREC01\x01\x00\x00\x00\x00\x00\x00\x00\x05\x00\x00\x00\x00\x00\x00\x00\x00\x00\x00\x00\x00\x00\x00\x00\x0f";
+
+const OTHER_LONG: &[u8] =
+    b"WOLREC02\x00\x00\x00\x00\x00\x00\x00\x00\x05\x00\x00\x00\x00\x00\x00\x00\x00\x00\x00\x00\x00\x00\x00\x00\x0f\x00\x00\x00\xff\x7f";
+
+// Heads that keep no block, and one that keeps a block that its record hasn't.
+const NONE_KEPT: &[u8] =
+    b"WOLREC01\x02\x00\x00\x00\x00\x00\x00\x00\x05\x00\x00\x00\x00\x00\x00\x00\x00\x00\x00\x00\x00\x00\x00\x00\x01";
+
+const OTHER_NONE_KEPT: &[u8] =
+    b"WOLREC02\x00\x00\x00\x00\x00\x00\x00\x00\x05\x00\x00\x00\x00\x00\x00\x00\x00\x00\x00\x00\x00\x00\x00\x00\x01";
+
+const KEEPS_BEHIND: &[u8] =
+    b"WOLREC02\x00\x00\x00\x00\x00\x00\x00\x00\x05\x00\x00\x00\x00\x00\x00\x00\x00\x00\x00\x00\x00\x00\x00\x00\x04\x00\x00\x00\x10";
+
+// Heads of blocks 1 to 3 with versions from 4 and from 5 on, and of blocks 998 to 1000.
+const FOUR_1: &[u8] =
+    b"WOLREC01\x01\x00\x00\x00\x00\x00\x00\x00\x04\x00\x00\x00\x00\x00\x00\x00\x01\x00\x00\x00\x00\x00\x00\x00\x01";
+
+const FIVE_2: &[u8] =
+    b"WOLREC01\x01\x00\x00\x00\x00\x00\x00\x00\x05\x00\x00\x00\x00\x00\x00\x00\x02\x00\x00\x00\x00\x00\x00\x00\x01";
+
+const SIX_3: &[u8] =
+    b"WOLREC01\x01\x00\x00\x00\x00\x00\x00\x00\x06\x00\x00\x00\x00\x00\x00\x00\x03\x00\x00\x00\x00\x00\x00\x00\x01";
+
+const FIVE_1: &[u8] =
+    b"WOLREC01\x01\x00\x00\x00\x00\x00\x00\x00\x05\x00\x00\x00\x00\x00\x00\x00\x01\x00\x00\x00\x00\x00\x00\x00\x01";
+
+const SIX_2: &[u8] =
+    b"WOLREC01\x01\x00\x00\x00\x00\x00\x00\x00\x06\x00\x00\x00\x00\x00\x00\x00\x02\x00\x00\x00\x00\x00\x00\x00\x01";
+
+const SEVEN_3: &[u8] =
+    b"WOLREC01\x01\x00\x00\x00\x00\x00\x00\x00\x07\x00\x00\x00\x00\x00\x00\x00\x03\x00\x00\x00\x00\x00\x00\x00\x01";
+
+const FIVE_998: &[u8] =
+    b"WOLREC01\x01\x00\x00\x00\x00\x00\x00\x00\x05\x00\x00\x00\x00\x00\x00\x00\xe6\x03\x00\x00\x00\x00\x00\x00\x01";
+
+const SIX_999: &[u8] =
+    b"WOLREC01\x01\x00\x00\x00\x00\x00\x00\x00\x06\x00\x00\x00\x00\x00\x00\x00\xe7\x03\x00\x00\x00\x00\x00\x00\x01";
+
+const SEVEN_1000: &[u8] =
+    b"WOLREC01\x01\x00\x00\x00\x00\x00\x00\x00\x07\x00\x00\x00\x00\x00\x00\x00\xe8\x03\x00\x00\x00\x00\x00\x00\x01";
+
+const USR_WITH_THREE: &[u8] =
+    b"usr0 ok sha256 2d4da04b861bb9dbe77c871415931785a18138d6db035f1bbcd0cf8277c6fc23 records 3 segments 1\n";
+
+// Both segments have records of blocks 1 to 3, the first with versions from 4 on and the second from 5 on.
+const TWICE: Row<'_> = (
+    &[
+        OWNED,
+        ("web0", 1003, FOUR_1),
+        ("web0", 1005, FIVE_2),
+        ("web0", 1007, SIX_3),
+        OWNED_TOO,
+        ("web0", 1019, FIVE_1),
+        ("web0", 1021, SIX_2),
+        ("web0", 1023, SEVEN_3),
+    ],
+    5,
+    [b"usr0 twins 1005 of web0 and 1019 of web0\n", WEB, SRC],
+);
+
+// The first segment has no record, and the third record of the second passes the end.
+const PASSES: Row<'_> = (
+    &[
+        OWNED,
+        OWNED_TOO,
+        ("web0", 1019, FIVE_998),
+        ("web0", 1021, SIX_999),
+        ("web0", 1023, SEVEN_1000),
+    ],
+    5,
+    [b"usr0 damaged 1023 of web0\n", WEB, SRC],
+);
+
+// The first segment has three records, and the second none.
+const HOLDS_NOTHING: Row<'_> = (
+    &[
+        OWNED,
+        ("web0", 1003, FOUR_1),
+        ("web0", 1005, FIVE_2),
+        ("web0", 1007, SIX_3),
+        OWNED_TOO,
+    ],
+    0,
+    [USR_WITH_THREE, WEB, SRC],
+);
+
+const IMAGES: &[Row<'_>] = &[
+    (&[], 0, [USR, WEB, SRC]),
+    (
+        &[("web0", 0, b"")],
+        6,
+        [USR_LOST, b"web0 damaged 0 of web0\n", SRC_LOST],
+    ),
+    (
+        &[(
+            "usr0",
+            0,
+            b"XOLVOL01\x00\x00\x00\x00\xe8\x03\x00\x00\x00\x00\x00\x00\x04\x00\x00\x00\x10",
+        )],
+        5,
+        [b"usr0 damaged 0 of usr0\n", WEB, SRC_WITHOUT_USR],
+    ),
+    (
+        &[(
+            "web0",
+            0,
+            b"WOLVOL01\x01\x00\x00\x00\xe7\x03\x00\x00\x00\x00\x00\x00\x04\x00\x00\x00\x10",
+        )],
+        6,
+        [USR_LOST, b"web0 label differs\n", SRC_LOST],
+    ),
+    (
+        &[("usr0", 1, b"WOLVIEW1\x01\x00\x00\x00\x00")],
+        5,
+        [b"usr0 damaged 1 of usr0\n", WEB, SRC_WITHOUT_USR],
+    ),
+    (
+        &[("usr0", 1, b"WOLVIEW1\x01\x00\x00\x00\x09")],
+        6,
+        [b"usr0 logger 9 missing\n", WEB, SRC],
+    ),
+    (
+        &[ELSEWHERE],
+        5,
+        [b"usr0 outside view segment 0 of src0\n", WEB, SRC],
+    ),
+    (
+        &[("web0", 1002, b"WOLSEGO1\x07")],
+        6,
+        [USR_LOST, b"web0 damaged 1002 of web0\n", SRC_LOST],
+    ),
+];
+
+const REFUSED: &[Row<'_>] = &[
+    (&[OWNED, ("web0", 1003, MANY)], 5, [BEHIND, WEB, SRC]),
+    (&[OWNED, ("web0", 1003, OTHER_MANY)], 5, [BEHIND, WEB, SRC]),
+    (&[OWNED, ("web0", 1003, PAST)], 5, [BEHIND, WEB, SRC]),
+    (&[OWNED, ("web0", 1003, OTHER_PAST)], 5, [BEHIND, WEB, SRC]),
+    (&[OWNED, ("web0", 1003, LONG)], 5, [BEHIND, WEB, SRC]),
+    (&[OWNED, ("web0", 1003, OTHER_LONG)], 5, [BEHIND, WEB, SRC]),
+    (
+        &[OWNED, ("web0", 1003, KEEPS_BEHIND)],
+        5,
+        [BEHIND, WEB, SRC],
+    ),
+    // two heads of one version, one of each form
+    (
+        &[OWNED, ("web0", 1003, FIVE), ("web0", 1005, OTHER_FIVE)],
+        5,
+        [b"usr0 twins 1003 of web0 and 1005 of web0\n", WEB, SRC],
+    ),
+    (
+        &[OWNED, ("web0", 1003, OTHER_FIVE), ("web0", 1005, FIVE)],
+        5,
+        [b"usr0 twins 1003 of web0 and 1005 of web0\n", WEB, SRC],
+    ),
+];
+
+const ACCEPTED: &[Row<'_>] = &[
+    (
+        &[OWNED, ("web0", 1003, FIVE), ("web0", 1004, b"logged")],
+        0,
+        [USR_LOGGED, WEB, SRC],
+    ),
+    (
+        &[OWNED, ("web0", 1003, OTHER_FIVE), ("web0", 1004, b"logged")],
+        0,
+        [USR_LOGGED, WEB, SRC],
+    ),
+    (&[OWNED, ("web0", 1003, LAST)], 0, [USR_WITH_ONE, WEB, SRC]),
+    (
+        &[OWNED, ("web0", 1003, OTHER_LAST)],
+        0,
+        [USR_WITH_ONE, WEB, SRC],
+    ),
+    (&[OWNED, ("web0", 1003, NONE_KEPT)], 0, [USR, WEB, SRC]),
+    (
+        &[OWNED, ("web0", 1003, OTHER_NONE_KEPT)],
+        0,
+        [USR, WEB, SRC],
+    ),
+];
+
+const DUMPED_LAST: [&[u8]; 3] = [
+    b"usr0 records 1\nrecord 9223372036854775807 0 1 on web0 segment 0 block 1 live 00000000000000000000000000000001 home 00000000000000000000000000000000\n",
+    b"web0 records 0\n",
+    b"src0 records 0\n",
+];
+
+const DUMPED: &[Row<'_>] = &[
+    (&[OWNED, ("web0", 1003, LAST)], 0, DUMPED_LAST),
+    (&[OWNED, ("web0", 1003, OTHER_LAST)], 0, DUMPED_LAST),
+];
+
+#[test]
+fn forged_images(rt: HostRuntime) -> Result<(), Fail> {
+    tries_rows(&rt, rt.alloc(), Asked::Check, IMAGES)
+}
+
+#[test]
+fn refused_records_of_either_form(rt: HostRuntime) -> Result<(), Fail> {
+    tries_rows(&rt, rt.alloc(), Asked::Check, REFUSED)
+}
+
+#[test]
+fn accepted_records_of_either_form(rt: HostRuntime) -> Result<(), Fail> {
+    tries_rows(&rt, rt.alloc(), Asked::Check, ACCEPTED)?;
+    tries_rows(&rt, rt.alloc(), Asked::Dump, DUMPED)
+}
+
+#[test]
+fn the_first_two_records_of_the_least_version_are_told_with_both_places(
+    rt: HostRuntime,
+) -> Result<(), Fail> {
+    tries_rows(&rt, rt.alloc(), Asked::Check, &[TWICE])
+}
+
+#[test]
+fn a_record_that_passes_the_end_is_told_with_its_block(rt: HostRuntime) -> Result<(), Fail> {
+    tries_rows(&rt, rt.alloc(), Asked::Check, &[PASSES])
+}
+
+#[test]
+fn a_segment_without_a_record_is_not_held(rt: HostRuntime) -> Result<(), Fail> {
+    tries_rows(&rt, rt.alloc(), Asked::Check, &[HOLDS_NOTHING])
+}

@@ -1,5 +1,0 @@
-//! Tests of racks over small bays in memory.
-#![tactic(auto)]
-
-#[cfg(test)]
-mod opening;

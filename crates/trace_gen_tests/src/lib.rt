@@ -1,5 +1,0 @@
-//! Tests of generated traces over a whole configuration.
-#![tactic(auto)]
-
-#[cfg(test)]
-mod lines;

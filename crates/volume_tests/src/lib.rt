@@ -1,0 +1,28 @@
+//! Tests of the log and of the manager of one volume, over disks in memory.
+//!
+//! `life.rt` and `opening.rt` have callers of segments over any disk, proved from the contracts of segments alone, and
+//! `segments.rt` tests of segments that are stopped and read back. `rig.rt` is a manager of volume 0 that logs on volume 1, with
+//! all that it shares, and `calls.rt` has a method for each call; what holds of a rig (`IsRig`) is that the manager keeps up
+//! some base and entries, so a test calls what it likes. `making.rt` makes and takes apart rigs, `locked.rt` has locks of one
+//! pass. `offload.rt` and `reclaim.rt` are the tests of it.
+#![tactic(auto)]
+
+#[cfg(test)]
+mod calls;
+#[cfg(test)]
+mod life;
+#[cfg(test)]
+mod locked;
+#[cfg(test)]
+mod making;
+#[cfg(test)]
+mod offload;
+#[cfg(test)]
+mod opening;
+#[cfg(test)]
+mod reclaim;
+mod rig;
+#[cfg(test)]
+mod segments;
+
+pub use rig::Rig;

@@ -1,2 +1,0 @@
-mod AllHome
-mod Cut
