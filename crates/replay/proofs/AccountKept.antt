@@ -19,15 +19,15 @@ use Rattle.replay.specs.declared.session.Options.{Options}
 use Rattle.replay.specs.declared.stop.Stop.{Stop}
 use Rattle.replay.specs.declared.stop.Stop.TheVariants as stop
 use Rattle.replay.proofs.HeadlineKept.{closed_yet, no_memory_yet}
-use Rattle.replay.proofs.RunCounts.{status_some}
+use Rattle.replay.proofs.Statuses.{not_success}
 
 -- a run that came to the end of its trace printed the summary
-summary_printed : {S T : Type 0} (left : S → Option (List ℕ)) (config : Config) (start now : Given S) (lines : List (Option TraceLine)) (windows : List ServedWindow) (result : Result T Stop) (text : List ℕ) (told : List (List ℕ))
-    (faults faults' : ℕ) (taken taken' : Option (List ℕ)) → IsSummaryOf left config start now lines windows result text → PrintsRun result told text faults faults' taken taken' → status_in result ≡ 0
-    → EndsWithSummary config lines windows taken taken'
-summary_printed left config start now lines windows (Ok done) text told faults faults' taken taken' (summed.of_all _ _ all summary) (calm, is) at_end = (joined_lines told, text, summary, is)
-summary_printed left config start now lines windows (Err stop.Sink) text told faults faults' taken taken' summary prints at_end = absurd (cc at_end)
-summary_printed left config start now lines windows (Err (stop.Fault f)) text told faults faults' taken taken' summary prints at_end = absurd (status_some f at_end)
+summary_printed : {S T : Type 0} (left : S → Option (List ℕ)) (config : Config) (start now : Given S) (lines : List (Option TraceLine)) (windows : List ServedWindow) (awake : List (List Bool)) (result : Result T Stop) (text : List ℕ) (told : List (List ℕ))
+    (faults faults' : ℕ) (taken taken' : Option (List ℕ)) → IsSummaryOf left config start now lines windows awake result text → PrintsRun result told text faults faults' taken taken' → status_in result ≡ 0
+    → EndsWithSummary config lines windows awake taken taken'
+summary_printed left config start now lines windows awake (Ok done) text told faults faults' taken taken' (summed.of_all _ _ all summary) (calm, is) at_end = (joined_lines told, text, summary, is)
+summary_printed left config start now lines windows awake (Err stop.Sink) text told faults faults' taken taken' summary prints at_end = absurd (cc at_end)
+summary_printed left config start now lines windows awake (Err (stop.Fault f)) text told faults faults' taken taken' summary prints at_end = absurd (not_success f at_end)
 
 told_once : (P X : Told → Told → Type 0) (a b : Option Told) → IsTold P a b → ((o n : Told) → P o n → X o n) → IsTold X a b
 told_once P X None b p all = p
@@ -62,7 +62,7 @@ module _ {S T : Type 0} (tells : Bool) (left : S → Option (List ℕ)) (config 
           alone = λ other. r.reclaims.alone other v h here;
         };
         unbroken = r.unbroken;
-        printed = summary_printed left config start now r.run (r.earlier ++ r.last) result r.summary _ sink sink' taken taken' r.summary_is r.prints;
+        printed = summary_printed left config start now r.run (r.earlier ++ r.last) r.awake result r.summary _ sink sink' taken taken' r.summary_is r.prints;
         placed = r.placed;
         reclaimed = r.reclaimed;
       })

@@ -46,7 +46,7 @@ short_or_long (x ∷ xs) (suc k) = elim (short_or_long xs k) [
 ]
 
 -- a pass that used something is there
-there_after : (ps qs : List SpindlePass) (k : ℕ) (d : SpindlePass) (u : Use) → k < length ps → ((x : SpindlePass) → HasUsed (u ∷ []) (slice_index_or ps k x) (slice_index_or qs k x)) → k < length qs
+pub there_after : (ps qs : List SpindlePass) (k : ℕ) (d : SpindlePass) (u : Use) → k < length ps → ((x : SpindlePass) → HasUsed (u ∷ []) (slice_index_or ps k x) (slice_index_or qs k x)) → k < length qs
 there_after ps qs k d u lt used = elim (short_or_long qs k) [
   | inl less ↦ less
   | inr short ↦

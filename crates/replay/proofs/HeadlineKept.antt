@@ -41,7 +41,7 @@ use Rattle.replay.specs.declared.stop.Stop.{Stop}
 use Rattle.replay.specs.declared.stop.Stop.TheVariants as stop
 use Rattle.replay.proofs.ImagesLeft.{no_cut, none_or}
 use Rattle.replay.proofs.RacksServed.{a_member}
-use Rattle.replay.proofs.RunCounts.{status_some}
+use Rattle.replay.proofs.Statuses.{not_success}
 
 -- ---- What is printed
 
@@ -83,7 +83,7 @@ to_the_end : {S T : Type 0} (left : S → Option (List ℕ)) (config : Config) (
     → ended.EndsFor left config start now run last bay bay' sink sink' result → status_in result ≡ 0 → HasGivenAll left (targets_of config) start now run
 to_the_end left config start now run last bay bay' sink sink' (Ok done) (ended.whole _ _ all) is = all
 to_the_end left config start now run last bay bay' sink sink' (Err stop.Sink) ends is = absurd (cc is)
-to_the_end left config start now run last bay bay' sink sink' (Err (stop.Fault f)) ends is = absurd (status_some f is)
+to_the_end left config start now run last bay bay' sink sink' (Err (stop.Fault f)) ends is = absurd (not_success f is)
 
 module _ {S T : Type 0} (tells : Bool) (left : S → Option (List ℕ)) (config : Config) (options : Options) (start now : Given S) (old new : BayState) (result : Result T Stop) (sink sink' : ℕ) (taken taken' : Option (List ℕ))
     (r : Replays tells left config options start now old new result sink sink' taken taken') (telling : IsTrue tells) where
@@ -134,7 +134,7 @@ no_memory_yet tells state config start now old new sink sink' taken taken' asks 
 pub closed_yet : {D S : Type 0} (tells : Bool) (state : D → State) (config : Config) (start now : Given S) (old new : BayState) (sink sink' : ℕ) (taken taken' : Option (List ℕ)) (k : ℕ) (f : VolumeFault) → AsksNone start now sink sink' taken taken'
     → LeavesBay tells state config old new → HasNotBegun tells state config start now old new (status_of (Volume k (trouble_of f))) taken taken'
 closed_yet tells state config start now old new sink sink' taken taken' k f asks bay =
-    record { refused = status_some (Volume k (trouble_of f)); unread = asks.unread; none = printed_all [] [] (status_of (Volume k (trouble_of f))) taken taken' (appends_none taken taken' asks.kept); left = bay }
+    record { refused = not_success (Volume k (trouble_of f)); unread = asks.unread; none = printed_all [] [] (status_of (Volume k (trouble_of f))) taken taken' (appends_none taken taken' asks.kept); left = bay }
 
 pub keeps_headline : {D S T : Type 0} (tells : Bool) (state : D → State) (left : S → Option (List ℕ)) (config : Config) (options : Options) (start now : Given S) (old new : BayState) (sink sink' : ℕ) (taken taken' : Option (List ℕ)) (result : Result T Stop)
     → Replayed tells state left config options start now old new sink sink' taken taken' result → KeepsHeadline tells state left config options.each start now old new (status_in result) taken taken'

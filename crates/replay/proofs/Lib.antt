@@ -17,6 +17,7 @@ pub mod WindowBroken
 pub mod RunEnded
 pub mod SummaryKept
 pub mod FlightServed
+pub mod Makes
 pub mod PassesRuled
 pub mod EntriesOwn
 pub mod StationsRan
@@ -33,6 +34,7 @@ pub mod FlightEnded
 pub mod ImagesLeft
 pub mod FirstClosed
 pub mod RunLeft
+pub mod Statuses
 pub mod RunCounts
 pub mod RunKept
 pub mod RunReplayed
@@ -57,3 +59,4 @@ pub mod UnbrokenServed
 pub mod DrainsCounted
 pub mod AllAsked
 pub mod AccountKept
+pub mod ToldAwake

@@ -1,12 +1,10 @@
 -- The entries that the passes of a floor made while windows were served follow the rules.
-use Rattle.std.proofs.Common.{◌≡◌, ◌≢◌, ◌<◌, ℕ, zero, suc, Bool, List, [], ◌∷◌, ◌++◌, length, map, refl, sym, ap, subst, ◌∙◌, append_assoc, append-nil, arith, inl, inr}
+use Rattle.std.proofs.Common.{◌≡◌, ◌≢◌, ◌<◌, ℕ, zero, suc, Bool, List, [], ◌∷◌, length, sym, ap, subst, ◌∙◌, arith, inl, inr}
 use Rattle.std.specs.Prelude.{IsTrue, slice_index_or}
-use Rattle.std.specs.List.{AllByRecursion}
-use Rattle.std.proofs.lemmas.List.{map-append}
-use Rattle.turn_lock.specs.Passes.{pass_number, pass_mine, IsSamePass}
+use Rattle.turn_lock.specs.Passes.{pass_number, IsSamePass}
 use Rattle.wol_model.specs.History.{helper, keeper, worker}
 use Rattle.wol_promise.specs.Ruled.{Noted}
-use Rattle.request_turns.specs.Turns.{ManagerPass, Gains, HasTurned, coded}
+use Rattle.request_turns.specs.Turns.{ManagerPass, Gains, HasTurned}
 use Rattle.request_turns.proofs.Gaining.{gains_turn}
 use Rattle.request_workers.specs.Begun.{HaveBegunVolumes, SpindlePass}
 use Rattle.request_workers.specs.Closed.{IsClosed}
@@ -16,7 +14,8 @@ use Rattle.request_workers.specs.declared.floor.Floor.{Floor}
 use Rattle.request_workers.specs.declared.request.Reclaim.{Reclaim}
 use Rattle.request_workers.specs.declared.request.Reclaim.TheVariants as reclaim
 use Rattle.replay.specs.Served.{ServedWindow, ServedFromStart, WasNotRun, WasServed, WereServed}
-use Rattle.replay.proofs.AnswersServed.{all_both, desk_there}
+use Rattle.replay.proofs.AnswersServed.{desk_there}
+use Rattle.replay.proofs.Makes.{Makes, makes_both, makes_none, makes_same}
 
 -- ---- One pass
 
@@ -24,41 +23,24 @@ abbrev pub IsRuled : Noted → Type 0
 IsRuled n = IsTrue n.ruled
 
 -- what a pass added since follows the rules
-pub record MakesRuled {D : Type 0} (p q : ManagerPass D) : Type 0 where
-  pub same : IsSamePass p q
-  pub notes : List Noted
-  pub mine : pass_mine q ≡ pass_mine p ++ map coded notes
-  pub ruled : AllByRecursion IsRuled notes
+abbrev pub MakesRuled : {D : Type 0} → (p q : ManagerPass D) → Type 0
+MakesRuled p q = Makes IsRuled p q
 
 module _ {D : Type 0} where
-  ruled_none : (p : ManagerPass D) → MakesRuled p p
-  ruled_none p = record { same = (refl, refl); notes = []; mine = sym (append-nil (pass_mine p)); ruled = tt }
-
-  ruled_both : (p q r : ManagerPass D) → MakesRuled p q → MakesRuled q r → MakesRuled p r
-  ruled_both p q r a b = record {
-    same = (b.same.0 ∙ a.same.0, b.same.1 ∙ a.same.1);
-    notes = a.notes ++ b.notes;
-    mine = rw (b.mine, a.mine, map-append coded a.notes b.notes) (append_assoc (pass_mine p) (map coded a.notes) (map coded b.notes));
-    ruled = all_both IsRuled a.notes b.notes a.ruled b.ruled;
-  }
-
-  ruled_same : (p q : ManagerPass D) → q ≡ p → MakesRuled p q
-  ruled_same p q same = subst (λ x. MakesRuled p x) (sym same) (ruled_none p)
-
   module _ (tells : Bool) where
     ruled_gains : (p q : ManagerPass D) (more : List _) (notes : List Noted) → Gains tells p q more notes → MakesRuled p q
-    ruled_gains p q more notes g = record { same = g.same; notes = notes; mine = g.mine; ruled = g.ruled }
+    ruled_gains p q more notes g = record { same = g.same; notes = notes; mine = g.mine; all = g.ruled }
 
     ruled_turn : (p q : ManagerPass D) (before : List _) (n : Noted) → HasTurned tells p q before n → MakesRuled p q
     ruled_turn p q before n t = ruled_gains p q _ (n ∷ []) (gains_turn tells p q before n t)
 
     ruled_closed : (mode : Reclaim) (fault : _) (p q : ManagerPass D) → IsClosed tells mode fault p q → MakesRuled p q
-    ruled_closed reclaim.Off fault p q c = ruled_same p q c.0
+    ruled_closed reclaim.Off fault p q c = makes_same IsRuled p q c.0
     ruled_closed reclaim.Between fault p q c = ruled_turn p q c.before c.note c.turned
     ruled_closed reclaim.Beside fault p q c = ruled_turn p q c.before c.note c.turned
 
     ruled_worked : (rs : List _) (os : List _) (mode : Reclaim) (k : ℕ) (d e : Desk D) → HasWorked tells rs os mode k d e → MakesRuled d.worker e.worker
-    ruled_worked rs os mode k d e w = ruled_both d.worker w.middle e.worker (ruled_gains d.worker w.middle w.more w.notes w.gains) (ruled_closed mode e.fault w.middle e.worker w.closed)
+    ruled_worked rs os mode k d e w = makes_both IsRuled d.worker w.middle e.worker (ruled_gains d.worker w.middle w.more w.notes w.gains) (ruled_closed mode e.fault w.middle e.worker w.closed)
 
   -- a pass is there after others, since a pass with another number can't stand for it
   pub pass_there : (ps qs : List (ManagerPass D)) (k : ℕ) (p : ManagerPass D) → pass_number p ≢ pass_number (slice_index_or ps k p) → IsSamePass (slice_index_or ps k p) (slice_index_or qs k p) → k < length qs
@@ -96,13 +78,13 @@ module _ {D : Type 0} (tells : Bool) (mode : Reclaim) (k : ℕ) (d : Desk D) (p 
     pub there : AreThere g
 
   all_none : (f : Floor D) → AreThere f → AllRuled f f
-  all_none f there = record { worker_ = ruled_none (worker_on f); helper_ = ruled_none (helper_on f); keeper_ = ruled_none (keeper_on f); there = there }
+  all_none f there = record { worker_ = makes_none IsRuled (worker_on f); helper_ = makes_none IsRuled (helper_on f); keeper_ = makes_none IsRuled (keeper_on f); there = there }
 
   all_then : (f g h : Floor D) → AllRuled f g → AllRuled g h → AllRuled f h
   all_then f g h a b = record {
-    worker_ = ruled_both (worker_on f) (worker_on g) (worker_on h) a.worker_ b.worker_;
-    helper_ = ruled_both (helper_on f) (helper_on g) (helper_on h) a.helper_ b.helper_;
-    keeper_ = ruled_both (keeper_on f) (keeper_on g) (keeper_on h) a.keeper_ b.keeper_;
+    worker_ = makes_both IsRuled (worker_on f) (worker_on g) (worker_on h) a.worker_ b.worker_;
+    helper_ = makes_both IsRuled (helper_on f) (helper_on g) (helper_on h) a.helper_ b.helper_;
+    keeper_ = makes_both IsRuled (keeper_on f) (keeper_on g) (keeper_on h) a.keeper_ b.keeper_;
     there = b.there;
   }
 
@@ -110,8 +92,8 @@ module _ {D : Type 0} (tells : Bool) (mode : Reclaim) (k : ℕ) (d : Desk D) (p 
   other_than n m is other same = other (sym client ∙ same ∙ is)
 
   helped : (m : Reclaim) (ps qs : List (ManagerPass D)) → HelpedIn tells m ps qs → k < length ps → pass_number (slice_index_or ps k p) ≡ helper → MakesRuled (slice_index_or ps k p) (slice_index_or qs k p) × (k < length qs)
-  helped reclaim.Off ps qs same lt number = (ruled_same (slice_index_or ps k p) (slice_index_or qs k p) (ap (λ (x : List (ManagerPass D)). slice_index_or x k p) same), rw same lt)
-  helped reclaim.Between ps qs same lt number = (ruled_same (slice_index_or ps k p) (slice_index_or qs k p) (ap (λ (x : List (ManagerPass D)). slice_index_or x k p) same), rw same lt)
+  helped reclaim.Off ps qs same lt number = (makes_same IsRuled (slice_index_or ps k p) (slice_index_or qs k p) (ap (λ (x : List (ManagerPass D)). slice_index_or x k p) same), rw same lt)
+  helped reclaim.Between ps qs same lt number = (makes_same IsRuled (slice_index_or ps k p) (slice_index_or qs k p) (ap (λ (x : List (ManagerPass D)). slice_index_or x k p) same), rw same lt)
   helped reclaim.Beside ps qs all lt number =
       let one = all k p lt in (
         ruled_gains tells (slice_index_or ps k p) (slice_index_or qs k p) one.more one.notes one.gains,
@@ -160,8 +142,8 @@ module _ {D : Type 0} (tells : Bool) (mode : Reclaim) (k : ℕ) (d : Desk D) (p 
   -- nothing was run, though a window may have begun
   pub not_run_ruled : (f g h : Floor D) → AllRuled f g → WasNotRun tells g h → k < length h.desks.items → AllRuled f h
   not_run_ruled f g h a w more = all_then f g h a (record {
-    worker_ = ruled_same (worker_on g) (worker_on h) (w.desks k d a.there.desks).worker_is;
-    helper_ = ruled_same (helper_on g) (helper_on h) (ap (λ x. slice_index_or x.items k p) w.helpers);
+    worker_ = makes_same IsRuled (worker_on g) (worker_on h) (w.desks k d a.there.desks).worker_is;
+    helper_ = makes_same IsRuled (helper_on g) (helper_on h) (ap (λ x. slice_index_or x.items k p) w.helpers);
     keeper_ = keep.0;
     there = record {
       desks = more;
@@ -174,6 +156,6 @@ module _ {D : Type 0} (tells : Bool) (mode : Reclaim) (k : ℕ) (d : Desk D) (p 
     where
       keep : MakesRuled (keeper_on g) (keeper_on h) × (k < length h.keepers.items)
       keep = elim w.keepers [
-        | inl same ↦ (ruled_same (keeper_on g) (keeper_on h) (ap (λ x. slice_index_or x.items k p) same), rw same a.there.keepers)
+        | inl same ↦ (makes_same IsRuled (keeper_on g) (keeper_on h) (ap (λ x. slice_index_or x.items k p) same), rw same a.there.keepers)
         | inr (awake, begun) ↦ begun_ruled awake g.keepers.items h.keepers.items begun a.there.keepers a.there.keeper_is
       ]

@@ -14,14 +14,8 @@ use Rattle.run_laws.specs.Answers.{answers_of}
 use Rattle.run_laws.specs.Laws.{AreAllAnswered}
 use Rattle.wol_config.specs.declared.config.Config.{Config}
 use Rattle.manager.specs.declared.station.Station.{Station}
-use Rattle.report.specs.Faults.{status_of}
 use Rattle.report.specs.declared.fault.Fault.{Fault}
 use Rattle.report.specs.declared.fault.Fault.TheVariants as fault
-use Rattle.report.specs.declared.trouble.Trouble.{Trouble}
-use Rattle.report.specs.declared.trouble.Trouble.TheVariants as trouble
-use Rattle.wol_config.specs.declared.config.ConfigFault.{ConfigFault}
-use Rattle.wol_config.specs.declared.config.ConfigFault.TheVariants as config_fault
-use Rattle.report.specs.Troubles.{trouble_status}
 use Rattle.rack.specs.declared.rack.ImageRest.{ImageRest}
 use Rattle.request_turns.specs.Turns.{IsBroken, ManagerPass}
 use Rattle.request_workers.specs.Requests.{answers_to}
@@ -32,37 +26,6 @@ use Rattle.replay.specs.Served.{ServedWindow}
 use Rattle.replay.proofs.HistoriesLeft.{IsHistoryAt}
 use Rattle.replay.proofs.LastWindow.{IsBelow, last_answered}
 use Rattle.replay.proofs.TracesLeft.{LastServed}
-
--- ---- Statuses
-
-trouble_some : (t : Trouble) → trouble_status t ≢ 0
-trouble_some trouble.Absent is = absurd (cc is)
-trouble_some (trouble.Length bytes) is = absurd (cc is)
-trouble_some trouble.LabelDiffers is = absurd (cc is)
-trouble_some (trouble.Damaged volume block) is = absurd (cc is)
-trouble_some (trouble.Twins v first w second) is = absurd (cc is)
-trouble_some (trouble.OutsideView logger segment) is = absurd (cc is)
-trouble_some (trouble.LoggerMissing id) is = absurd (cc is)
-trouble_some trouble.Bay is = absurd (cc is)
-trouble_some trouble.Label is = absurd (cc is)
-trouble_some trouble.Home is = absurd (cc is)
-trouble_some (trouble.Segment logger index) is = absurd (cc is)
-
-config_some : (why : ConfigFault) → status_of (fault.Config why) ≢ 0
-config_some config_fault.NoMemory is = absurd (cc is)
-config_some why is = absurd (cc is)
-
--- the status of a fault isn't that of success
-pub status_some : (f : Fault) → status_of f ≢ 0
-status_some fault.Words is = absurd (cc is)
-status_some (fault.Config why) is = config_some why is
-status_some (fault.Line line why) is = absurd (cc is)
-status_some (fault.Volume volume t) is = trouble_some t is
-status_some fault.ConfigSource is = absurd (cc is)
-status_some fault.TraceSource is = absurd (cc is)
-status_some fault.Memory is = absurd (cc is)
-status_some fault.Lines is = absurd (cc is)
-status_some (fault.Versions volume) is = absurd (cc is)
 
 -- ---- The last window
 

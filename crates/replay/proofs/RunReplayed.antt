@@ -1,7 +1,7 @@
 -- Replaying a trace on a rack all of whose volumes are open.
 use Rattle.std.proofs.Common.{◌≡◌, ◌≢◌, ◌<◌, ◌≤◌, ℕ, Bool, false, List, [], ◌∷◌, ◌++◌, length, Option, Some, Result, Ok, Err, refl, sym, ap, subst, ◌∙◌, append-nil, inl, inr, arith}
 use Rattle.std.specs.List.{AllByRecursion}
-use Rattle.std.specs.Prelude.{All, IfSome, IsTrue, slice_get}
+use Rattle.std.specs.Prelude.{All, IfSome, IsTrue, slice_get, slice_index_or}
 use Rattle.std.proofs.lemmas.List.{length-map}
 use Rattle.wol_io.proofs.Appending.{appends_none}
 use Rattle.wol_bay.specs.Bay.{BayState, Told}
@@ -55,9 +55,11 @@ use Rattle.replay.proofs.CountsLeft.{counts_cut, counts_refused, counts_whole}
 use Rattle.replay.proofs.DrainsCounted.{counts_drained}
 use Rattle.replay.proofs.Giving.{none_given}
 use Rattle.replay.proofs.RacksServed.{at_place, closable_after, rack_closable}
-use Rattle.replay.proofs.RunCounts.{status_some}
+use Rattle.replay.proofs.Statuses.{not_success}
 use Rattle.replay.proofs.RunEnded.{TellsRise, ends_stopped, ends_summed, prints_stopped, prints_summed}
-use Rattle.replay.proofs.RunWorked.{none_worked, run_unbroken, run_worked, told_awake}
+use Rattle.replay.proofs.RunWorked.{none_worked, run_unbroken, run_worked, told_awake, told_is}
+use Rattle.replay.proofs.ToldAwake.{WasTold, all_told, column, served_told}
+use Rattle.replay.proofs.WorksServed.{awake_in}
 use Rattle.replay.proofs.RunKept.{RunKept, kept_is, kept_none, kept_served, none_is}
 use Rattle.replay.proofs.PassesRuled.{IsRuled}
 use Rattle.replay.proofs.ReclaimPlaced.{counts_reclaimed, none_reclaimed}
@@ -65,7 +67,8 @@ use Rattle.replay.proofs.RunLeft.{base_same}
 use Rattle.replay.specs.Placed.{CountsPlaced, CountsReclaimed}
 use Rattle.replay.specs.Works.{AreWorked}
 use Rattle.request_turns.specs.Turns.{began as pass_began}
-use Rattle.turn_lock.specs.Passes.{IsFree, lock_id, pass_lock}
+use Rattle.turn_lock.specs.Histories.{Entry}
+use Rattle.turn_lock.specs.Passes.{IsFree, IsPartOf, lock_id, pass_lock}
 use Rattle.wol_promise.specs.Report.{HasNoHelp}
 use Rattle.wol_promise.specs.Stands.{HasHistory}
 use Rattle.run_laws.specs.Answers.{answers_of}
@@ -103,12 +106,12 @@ module _ {D S : Type 0} (T : Type 0) (tells : Bool) (left : S → Option (List �
   counts_some e [] ends kept = counts_whole earlier [] kept.kept kept.well (status_in {T = T} (Err e)) (λ v. tt)
   counts_some e (s ∷ []) (floor, passes, inl (f, told, is, calm, prints)) kept =
       subst (λ (x : Stop). CountAnswered (answers_in earlier) (answers_in (earlier ++ s ∷ [])) (status_in {T = T} (Err x)) kept.kept) (sym is)
-      (counts_refused earlier (s ∷ []) kept.kept kept.well (status_of f) (status_some f) (λ v not_9 whole few. kept.unless s refl f told (λ lacked. not_9 (ap status_of lacked)) v whole few))
+      (counts_refused earlier (s ∷ []) kept.kept kept.well (status_of f) (not_success f) (λ v not_9 whole few. kept.unless s refl f told (λ lacked. not_9 (ap status_of lacked)) v whole few))
   counts_some e (s ∷ []) (floor, passes, inr cuts) kept = at e cuts
     where
       at : (x : Stop) → CutsLines x (lines_of_window config options s) faults faults' printed new → CountAnswered (answers_in earlier) (answers_in (earlier ++ s ∷ [])) (status_in {T = T} (Err x)) kept.kept
       at stop.Sink cut = counts_cut earlier (s ∷ []) kept.kept kept.well 7 (λ is. absurd (cc is)) (λ not_7 not_9. not_7 refl)
-      at (stop.Fault f) cut = counts_cut earlier (s ∷ []) kept.kept kept.well (status_of f) (status_some f) (λ not_7 not_9. not_9 (ap status_of cut.0))
+      at (stop.Fault f) cut = counts_cut earlier (s ∷ []) kept.kept kept.well (status_of f) (not_success f) (λ not_7 not_9. not_9 (ap status_of cut.0))
   counts_some e (s ∷ t ∷ rest) ends kept = absurd ends
 
 -- ---- Faults that name no part
@@ -131,7 +134,7 @@ text_other (Err (stop.Fault f)) text faults faults' printed new v t (memory_is, 
 
 stop_some : (T : Type 0) (e : Stop) → status_in {T = T} (Err e) ≡ 0 → ⊥
 stop_some T stop.Sink is = absurd (cc is)
-stop_some T (stop.Fault f) is = status_some f is
+stop_some T (stop.Fault f) is = not_success f is
 
 -- ---- Histories
 
@@ -272,6 +275,12 @@ module _ {D S : Type 0} (T : Type 0) (state : D → State) (tells : Bool) (left 
     worked_by ss middle ms served ends owned =
         run_worked tells options.reclaim config q.rest.images.items opened left_ r.stations.items q.stations.items closed before middle from.after r.keepers.items ms moved from.moved_back ss served ends fresh numbers new_numbers free looks stations_same some owned
 
+    awake_by : (ss : List ServedWindow) (ms : List SpindlePass) (served : ServedFromStart tells options.reclaim ss before r.keepers.items from.after ms)
+        → told_by ss from.after ms served (inl refl) ≡ awake_in tells options.reclaim ss before r.keepers.items from.after ms served
+    unfolding told_by
+    awake_by ss ms served =
+        told_is tells options.reclaim config q.rest.images.items opened left_ r.stations.items q.stations.items closed before from.after from.after r.keepers.items ms moved from.moved_back ss served (inl refl) fresh numbers new_numbers free looks stations_same some refl refl
+
     unbroken_by : (ss : List ServedWindow) (ms : List SpindlePass) → ServedFromStart tells options.reclaim ss before r.keepers.items from.after ms → AreOwned options.reclaim (histories_of tells config q.rest.images.items opened left_ q.stations.items closed)
         → AllByRecursion WentWell ss → (v : ℕ) → is_broken_at (histories_of tells config q.rest.images.items opened left_ q.stations.items closed) v ≡ false
     unbroken_by ss ms served owned well =
@@ -356,8 +365,13 @@ module _ {D S : Type 0} (T : Type 0) (state : D → State) (tells : Bool) (left 
         let all_asked = subst (λ (ss : List ServedWindow). AreAllCounted (requests (most_of config) (targets_of config) w.lines) ss) all_windows
         (all_counted_asked (requests (most_of config) (targets_of config) w.lines) (w.served ++ []) kept.kept kept.sized kept.within kept.asked (λ v h here. (kept.are.each v h here).answered)
         (λ v. subst (λ (ss : List ServedWindow). AreAllAnswered (answers_of v (answers_in ss))) (sym all_windows) (kept.well v))) in
-        let summary = summary_now state tells left config options start now opened r q faults faults' printed printed' is unused before from.after counted w
-        (closable_after state config opened r q (rack_closable state config opened r is) from.only from.can (from.locks ∙ moved.locks) from.same) spindles count each all_asked sized in
+        let answers = λ (k : ℕ) (p : SpindlePass) (entries : List Entry) (lt : k < length r.keepers.items) (there : slice_get q.keepers.items k ≡ Some p) (part : IsPartOf entries p).
+        all_told (column k awake) (slice_index_or r.keepers.items k p) p entries (unused k p lt)
+        (subst (λ (l : List (List Bool)). WasTold (column k l) (slice_index_or r.keepers.items k p) p) (sym (awake_by (w.served ++ []) q.keepers.items from_start))
+        (subst (λ (x : SpindlePass). WasTold (column k (awake_in tells options.reclaim (w.served ++ []) before r.keepers.items from.after q.keepers.items from_start)) (slice_index_or r.keepers.items k p) x) ((at_place q.keepers.items k p there).1 p)
+        (served_told tells options.reclaim k (w.served ++ []) before r.keepers.items from.after q.keepers.items p from_start lt))) part in
+        let summary = summary_now state tells left config options start now opened r q faults faults' printed printed' is unused awake before from.after counted w
+        (closable_after state config opened r q (rack_closable state config opened r is) from.only from.can (from.locks ∙ moved.locks) from.same) spindles count each answers all_asked sized in
         record {
           run = w.lines;
           more = [];

@@ -1,5 +1,5 @@
 -- Windows that are served one after another.
-use Rattle.std.proofs.Common.{◌≡◌, ◌≤◌, ◌<◌, ◌+◌, ◌^◌, ℕ, zero, suc, Bool, true, not, List, [], ◌∷◌, ◌++◌, length, length-append, map, min, refl, sym, ap, subst, zero-add, ◌∙◌, append-nil, Option, Result, Ok, Err, inl, inr, arith}
+use Rattle.std.proofs.Common.{◌≡◌, ◌≤◌, ◌<◌, ◌+◌, ◌^◌, ℕ, zero, suc, Bool, true, false, not, List, [], ◌∷◌, ◌++◌, length, length-append, map, min, refl, sym, ap, subst, zero-add, ◌∙◌, append-nil, Option, Result, Ok, Err, inl, inr, arith}
 use Rattle.std.specs.Prelude.{count_by, sum_by, slice_index_or, slice_set}
 use Rattle.std.specs.Prelude.{All, OnOk, IfErr}
 use Rattle.std.specs.List.{flat_map, AllByRecursion}
@@ -46,6 +46,11 @@ same_both ps qs rs first then = record {
   count = then.count ∙ first.count;
   each = λ k d h. let (lock, number) = first.each k d h in let (lock', number') = then.each k d (omega (arith, h, first.count)) in (lock' ∙ lock, number' ∙ number);
 }
+
+-- an account that wasn't started starts
+pub starts_first : (started : Bool) (at : ℕ) (ps qs : List SpindlePass) → started ≡ false → HaveStarted at ps qs → StartsOnce started at ps qs
+starts_first true at ps qs is have = absurd (cc is)
+starts_first false at ps qs is have = have
 
 -- one place more, at which another value is put
 module _ {B : Type 0} (R : B → B → Type 0) (ps qs : List B) (q : B) (k : ℕ) (room : k < length qs) where

@@ -58,7 +58,7 @@ module _ {D : Type 0} where
   ruled_made p q r unused made same = record {
     notes = made.notes;
     mine = ap (λ (x : ManagerPass D). pass_mine x) same ∙ made.mine ∙ ap (λ l. l ++ map coded made.notes) unused.mine;
-    ruled = made.ruled;
+    ruled = made.all;
   }
 
   -- ---- Stations on a floor

@@ -1,11 +1,12 @@
 -- The summary of a trace that was served to its end: each disk's journal is that of its uses, and the keeper's are those of the account.
 use Rattle.std.proofs.Common.{◌≡◌, ◌++◌, ◌<◌, ◌-◌, ℕ, Bool, List, [], ◌∷◌, length, map, refl, sym, ap, subst, ◌∙◌, Option, Some, inl, inr, append-nil, arith}
 use Rattle.std.specs.Prelude.{All, slice_get, slice_index_or}
-use Rattle.wol_model.specs.Journal.{Started, Use}
+use Rattle.wol_model.specs.Journal.{Started, Use, new_spindle}
+use Rattle.run_laws.specs.Journals.{answers_by}
 use Rattle.wol_model.specs.Trace.{TraceLine, Window, pieces_of, requests, started, timed, windows}
 use Rattle.wol_promise.specs.Spindle.{keeper_uses}
 use Rattle.turn_lock.specs.Histories.{Entry, own}
-use Rattle.turn_lock.specs.Passes.{lock_id, pass_mine, pass_number}
+use Rattle.turn_lock.specs.Passes.{IsPartOf, lock_id, pass_lock, pass_mine, pass_number}
 use Rattle.spin_model.specs.Operations.{operation_of, use_of, uses_of}
 use Rattle.spin_model.specs.Spindles.{SpindleView, StandsFor}
 use Rattle.spin_model.specs.declared.spindle.SpindleBase.{SpindleBase}
@@ -31,49 +32,57 @@ use Rattle.replay.specs.declared.given.Given.{Given}
 use Rattle.replay.specs.declared.session.Options.{Options}
 use Rattle.replay.proofs.Accounts.{AreOthers, first_start, moments_of, others_access, own_uses, served_used, used_back}
 use Rattle.replay.proofs.AllAsked.{AreAllCounted}
-use Rattle.replay.proofs.RacksServed.{a_member, at_place, there_at}
+use Rattle.replay.proofs.RacksServed.{a_member, at_place}
 use Rattle.replay.proofs.Serving.{served_moments}
+use Rattle.replay.proofs.ToldAwake.{column, timeout_of}
 
 -- ---- One spindle
 
-pub account_kept : (s : SpindleView) (b : SpindleBase) (entries : List Entry) (n start : ℕ) (w : ℕ) (moments : List ℕ) → StandsFor s b entries → AreOthers n entries
-    → own n entries ≡ map (λ (u : Use). (n, operation_of u)) (keeper_uses start (w ∷ moments)) → IsAccount start (w ∷ moments) s
-account_kept s b entries n start w moments stands others mine = record {
-  uses = uses_of entries;
-  legal = rw stands.timeout stands.legal;
-  journal = rw stands.timeout stands.shows.journal;
-  keeper = n;
-  kept = inl (
-    λ none. absurd (cc none),
-    own_uses n entries ∙ ap (λ (es : List Entry). map (λ (e : Entry). use_of e.1) es) mine ∙ ap (λ (l : List Use). Started start ∷ l) (used_back n (w ∷ moments)),
-  );
-  others = others_access n entries others;
-}
+module _ (config : Config) (k : ℕ) (s : SpindleView) (b : SpindleBase) (entries : List Entry) (n start : ℕ) (awake : List (List Bool)) (stands : StandsFor s b entries) (others : AreOthers n entries) (volume : s.volume ≡ k)
+    (timeout_is : s.timeout ≡ config.timeout) (answers : answers_by b.timeout new_spindle n (uses_of entries) ≡ column k awake) where
+  pub account_kept : (w : ℕ) (moments : List ℕ) → own n entries ≡ map (λ (u : Use). (n, operation_of u)) (keeper_uses start (w ∷ moments)) → IsAccount config k start (w ∷ moments) awake s
+  account_kept w moments mine = record {
+    volume = volume;
+    timeout_is = timeout_is;
+    uses = uses_of entries;
+    legal = rw stands.timeout stands.legal;
+    journal = rw stands.timeout stands.shows.journal;
+    keeper = n;
+    kept = inl (
+      λ none. absurd (cc none),
+      own_uses n entries ∙ ap (λ (es : List Entry). map (λ (e : Entry). use_of e.1) es) mine ∙ ap (λ (l : List Use). Started start ∷ l) (used_back n (w ∷ moments)),
+    );
+    others = others_access n entries others;
+    answers = rw stands.timeout answers;
+  }
 
-pub account_empty : (s : SpindleView) (b : SpindleBase) (entries : List Entry) (n start : ℕ) → StandsFor s b entries → AreOthers n entries → own n entries ≡ [] → IsAccount start [] s
-account_empty s b entries n start stands others mine = record {
-  uses = uses_of entries;
-  legal = rw stands.timeout stands.legal;
-  journal = rw stands.timeout stands.shows.journal;
-  keeper = n;
-  kept = inr (refl, own_uses n entries ∙ ap (λ (es : List Entry). map (λ (e : Entry). use_of e.1) es) mine);
-  others = others_access n entries others;
-}
+  pub account_empty : own n entries ≡ [] → IsAccount config k start [] awake s
+  account_empty mine = record {
+    volume = volume;
+    timeout_is = timeout_is;
+    uses = uses_of entries;
+    legal = rw stands.timeout stands.legal;
+    journal = rw stands.timeout stands.shows.journal;
+    keeper = n;
+    kept = inr (refl, own_uses n entries ∙ ap (λ (es : List Entry). map (λ (e : Entry). use_of e.1) es) mine);
+    others = others_access n entries others;
+    answers = rw stands.timeout answers;
+  }
 
 -- ---- All of them
 
 module _ {D S : Type 0} (state : D → State) (tells : Bool) (left : S → Option (List ℕ)) (config : Config) (options : Options) (start now : Given S) (b : BayState) (old new : Rack D) (faults faults' : ℕ) (printed printed' : Option (List ℕ))
-    (is : IsRack state config b old) (unused : All (λ (p : SpindlePass). IsUnused p) old.keepers.items) where
+    (is : IsRack state config b old) (unused : All (λ (p : SpindlePass). IsUnused p) old.keepers.items) (awake : List (List Bool)) where
   spindle_account : (lines : List (Option TraceLine)) (ss : List ServedWindow) (f g : Floor D) → ServedFromStart tells options.reclaim ss f old.keepers.items g new.keepers.items
       → moments_of ss ≡ map (λ (w : Window). w.moment) (windows (most_of config) (targets_of config) lines) → (k : ℕ) (s : SpindleView) (base : SpindleBase) (entries : List Entry) (p : SpindlePass)
       → k < length old.keepers.items → slice_get new.keepers.items k ≡ Some p → StandsFor s base entries → AreOthers (pass_number p) entries → own (pass_number p) entries ≡ pass_mine p
-      → IsAccount (started (timed lines)) (moments_of ss) s
+      → s.volume ≡ k → s.timeout ≡ config.timeout → answers_by base.timeout new_spindle (pass_number p) (uses_of entries) ≡ column k awake → IsAccount config k (started (timed lines)) (moments_of ss) awake s
   unfolding windows
-  spindle_account lines [] f g (floor, passes) moments k s base entries p lt there stands others mine =
+  spindle_account lines [] f g (floor, passes) moments k s base entries p lt there stands others mine volume timeout_is answers =
       let was : slice_index_or old.keepers.items k p ≡ p = ap (λ (x : List SpindlePass). slice_index_or x k p) (sym passes) ∙ (at_place new.keepers.items k p there).1 p in
       let none : pass_mine p ≡ [] = ap (λ (x : SpindlePass). pass_mine x) (sym was) ∙ (unused k p lt).mine in
-      account_empty s base entries (pass_number p) (started (timed lines)) stands others (mine ∙ none)
-  spindle_account lines (w ∷ ss) f g served_ moments k s base entries p lt there stands others mine =
+      account_empty config k s base entries (pass_number p) (started (timed lines)) awake stands others volume timeout_is answers (mine ∙ none)
+  spindle_account lines (w ∷ ss) f g served_ moments k s base entries p lt there stands others mine volume timeout_is answers =
       let used = served_used tells options.reclaim k w ss f old.keepers.items g new.keepers.items p served_ lt in
       let at = (at_place new.keepers.items k p there).1 p in
       let same : pass_number (slice_index_or old.keepers.items k p) ≡ pass_number p = sym used.number ∙ ap (λ (x : SpindlePass). pass_number x) at in
@@ -81,30 +90,30 @@ module _ {D S : Type 0} (state : D → State) (tells : Bool) (left : S → Optio
       let all : pass_mine p ≡ map (λ (u : Use). (pass_number p, operation_of u)) uses =
       ap (λ (x : SpindlePass). pass_mine x) (sym at) ∙ used.mine ∙ (λ i. (unused k p lt).mine i ++ map (λ (u : Use). (same i, operation_of u)) uses) in
       let first : w.batch.moment ≡ started (timed lines) = first_start (pieces_of (most_of config) (targets_of config)) (timed lines) w.batch.moment (moments_of ss) moments in
-      account_kept s base entries (pass_number p) (started (timed lines)) w.batch.moment (moments_of ss) stands others
+      account_kept config k s base entries (pass_number p) (started (timed lines)) awake stands others volume timeout_is answers w.batch.moment (moments_of ss)
       (subst (λ (t : ℕ). own (pass_number p) entries ≡ map (λ (u : Use). (pass_number p, operation_of u)) (keeper_uses t (moments_of (w ∷ ss)))) first (mine ∙ all))
 
   module _ (f g : Floor D) (counted : Counted) (w : ServesWhole tells left config options start now f old.keepers.items g new.keepers.items counted faults faults' printed printed')
       (closable : IsClosable state config b new) (spindles : List SpindleView) (count : length spindles ≡ length (shapes_of config)) (each : (k : ℕ) (s : SpindleView) → slice_get spindles k ≡ Some s → IsClosedSpindle new k s) where
-    accounts_now : All (IsAccount (started (timed w.lines)) (moments_of w.served)) spindles
-    accounts_now k d lt =
-        let cs = each k (slice_index_or spindles k d) (there_at spindles k d lt) in
+    accounts_now : ((k : ℕ) (p : SpindlePass) (entries : List Entry) → k < length old.keepers.items → slice_get new.keepers.items k ≡ Some p → IsPartOf entries p
+        → answers_by (timeout_of p) new_spindle (pass_number p) (uses_of entries) ≡ column k awake) → (k : ℕ) (s : SpindleView) → slice_get spindles k ≡ Some s → IsAccount config k (started (timed w.lines)) (moments_of w.served) awake s
+    accounts_now told k s there =
+        let lt = (at_place spindles k s there).0 in
+        let cs = each k s there in
         let (p, keeper) = a_member new.keepers.items k (omega (arith, lt, count, closable.keepers.0)) in
         let (l, lock) = a_member new.shared.spindles.items k (omega (arith, lt, count, closable.locks.spindle_count)) in
-        spindle_account w.lines w.served f g w.from_start (served_moments config (windows (most_of config) (targets_of config) w.lines) w.served w.are) k (slice_index_or spindles k d) (lock_id l).base cs.entries p (omega (arith, lt, count, is.keepers.0)) keeper
-        (cs.stands l lock) (cs.accesses p keeper) (cs.keeper_part p keeper).mine
-
-    own_now : (k : ℕ) (s : SpindleView) → slice_get spindles k ≡ Some s → (s.volume ≡ k) × (s.timeout ≡ config.timeout)
-    own_now k s there =
-        let lt = (at_place spindles k s there).0 in
-        let (l, lock) = a_member new.shared.spindles.items k (omega (arith, lt, count, closable.locks.spindle_count)) in
         let is_lock = closable.locks.spindles k l lock in
-        let stands = (each k s there).stands l lock in
-        (stands.volume ∙ is_lock.volume, stands.timeout ∙ is_lock.timeout_is)
+        let stands = cs.stands l lock in
+        let own_lock : pass_lock p ≡ lock_id l = (closable.keepers.1 k l p lock keeper).own in
+        let less : k < length old.keepers.items = omega (arith, lt, count, is.keepers.0) in
+        spindle_account w.lines w.served f g w.from_start (served_moments config (windows (most_of config) (targets_of config) w.lines) w.served w.are) k s (lock_id l).base cs.entries p less keeper
+        stands (cs.accesses p keeper) (cs.keeper_part p keeper).mine (stands.volume ∙ is_lock.volume) (stands.timeout ∙ is_lock.timeout_is)
+        (subst (λ x. answers_by x.base.timeout new_spindle (pass_number p) (uses_of cs.entries) ≡ column k awake) own_lock (told k p cs.entries less keeper (cs.keeper_part p keeper)))
 
-    pub summary_now : AreAllCounted (requests (most_of config) (targets_of config) w.lines) w.served → length spindles ≡ length config.volumes.items
-        → IsSummary config w.lines (w.served ++ []) (summary_text counted.totals (printed_names config.volumes.items) (all_amounts config.powers counted.started counted.ended spindles))
-    summary_now all sized = subst (λ (ss : List ServedWindow). IsSummary config w.lines ss (summary_text counted.totals (printed_names config.volumes.items) (all_amounts config.powers counted.started counted.ended spindles))) (sym (append-nil w.served)) (record {
+    pub summary_now : ((k : ℕ) (p : SpindlePass) (entries : List Entry) → k < length old.keepers.items → slice_get new.keepers.items k ≡ Some p → IsPartOf entries p
+        → answers_by (timeout_of p) new_spindle (pass_number p) (uses_of entries) ≡ column k awake) → AreAllCounted (requests (most_of config) (targets_of config) w.lines) w.served → length spindles ≡ length config.volumes.items
+        → IsSummary config w.lines (w.served ++ []) awake (summary_text counted.totals (printed_names config.volumes.items) (all_amounts config.powers counted.started counted.ended spindles))
+    summary_now told all sized = subst (λ (ss : List ServedWindow). IsSummary config w.lines ss awake (summary_text counted.totals (printed_names config.volumes.items) (all_amounts config.powers counted.started counted.ended spindles))) (sym (append-nil w.served)) (record {
       totals = counted.totals;
       spindles = spindles;
       line_count = w.line_count;
@@ -115,7 +124,6 @@ module _ {D S : Type 0} (state : D → State) (tells : Bool) (left : S → Optio
       reads = w.totals_.reads ∙ all.reads;
       writes = w.totals_.writes ∙ all.writes;
       each = sized;
-      own = own_now;
-      accounts = accounts_now;
+      accounts = accounts_now told;
       text_is = λ i. summary_text counted.totals (printed_names config.volumes.items) (all_amounts config.powers (w.started_ i) (w.ended_ i) spindles);
     })

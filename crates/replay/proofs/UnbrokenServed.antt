@@ -1,11 +1,10 @@
 -- While windows go well no call of a disk fails: no pass of a volume makes a Broke.
-use Rattle.std.proofs.Common.{◌≡◌, ◌<◌, ◌+◌, ℕ, zero, suc, Bool, true, false, List, [], ◌∷◌, ◌++◌, length, map, drop, refl, sym, ap, subst, ◌∙◌, append_assoc, append-nil, Option, None, Some, arith}
+use Rattle.std.proofs.Common.{◌≡◌, ◌<◌, ◌+◌, ℕ, zero, suc, Bool, true, false, List, [], ◌∷◌, ◌++◌, length, map, drop, refl, sym, ap, subst, ◌∙◌, Option, None, Some, arith}
 use Rattle.std.specs.Prelude.{slice_index_or, if◌then◌else◌}
 use Rattle.std.specs.List.{AllByRecursion, list_any}
 use Rattle.std.specs.Option.{option_or}
-use Rattle.std.proofs.lemmas.List.{map-append}
 use Rattle.std.proofs.Math.Seq.{drop-append_seam}
-use Rattle.turn_lock.specs.Passes.{IsSamePass, pass_mine, pass_number}
+use Rattle.turn_lock.specs.Passes.{pass_mine, pass_number}
 use Rattle.wol_model.specs.History.{Broke, Kept, Operation, Read, Wrote, flight_from, flight_of, worker}
 use Rattle.wol_promise.specs.Ruled.{Noted, entries_of}
 use Rattle.run_laws.specs.Laws.{AreAllAnswered}
@@ -33,9 +32,10 @@ use Rattle.request_workers.specs.declared.request.Window.{Window}
 use Rattle.replay.specs.Endings.{fault_of_reclaim, fault_of_window, first_refused, lacked_memory}
 use Rattle.replay.specs.Served.{ServedFromStart, ServedWindow, WasServed, WereServed}
 use Rattle.replay.specs.Sessions.{WentWell}
-use Rattle.replay.proofs.AnswersServed.{all_both, own_answers}
+use Rattle.replay.proofs.AnswersServed.{own_answers}
 use Rattle.replay.proofs.EntriesOwn.{notes_back}
 use Rattle.replay.proofs.FirstsServed.{window_answered}
+use Rattle.replay.proofs.Makes.{Makes, makes_both, makes_none, makes_same}
 use Rattle.replay.proofs.PassesRuled.{AreThere, helper_on, keeper_on, was_ruled, worker_on}
 
 -- ---- Entries
@@ -102,57 +102,39 @@ no_first {D} start (e ∷ es) none k d lt = at e.fault refl none k lt (λ rest j
 -- ---- One pass
 
 -- what a pass added since has no Broke
-pub record MakesWhole {D : Type 0} (p q : ManagerPass D) : Type 0 where
-  pub same : IsSamePass p q
-  pub notes : List Noted
-  pub mine : pass_mine q ≡ pass_mine p ++ map coded notes
-  pub whole : AllByRecursion IsWholeNote notes
+abbrev pub MakesWhole : {D : Type 0} → (p q : ManagerPass D) → Type 0
+MakesWhole p q = Makes IsWholeNote p q
 
-module _ {D : Type 0} where
-  whole_none : (p : ManagerPass D) → MakesWhole p p
-  whole_none p = record { same = (refl, refl); notes = []; mine = sym (append-nil (pass_mine p)); whole = tt }
+module _ {D : Type 0} (tells : Bool) where
+  whole_closed : (mode : Reclaim) (fault : Option StepFault) (p q : ManagerPass D) → IsClosed tells mode fault p q → fault ≡ None → MakesWhole p q
+  whole_closed reclaim.Off fault p q c none = makes_same IsWholeNote p q c.0
+  whole_closed reclaim.Between fault p q c none = record { same = c.turned.same; notes = c.note ∷ []; mine = c.turned.mine; all = (subst IsWhole (sym (c.kept none)) tt, tt) }
+  whole_closed reclaim.Beside fault p q c none = record { same = c.turned.same; notes = c.note ∷ []; mine = c.turned.mine; all = (subst IsWhole (sym (c.kept none)) tt, tt) }
 
-  whole_both : (p q r : ManagerPass D) → MakesWhole p q → MakesWhole q r → MakesWhole p r
-  whole_both p q r a b = record {
-    same = (b.same.0 ∙ a.same.0, b.same.1 ∙ a.same.1);
-    notes = a.notes ++ b.notes;
-    mine = rw (b.mine, a.mine, map-append coded a.notes b.notes) (append_assoc (pass_mine p) (map coded a.notes) (map coded b.notes));
-    whole = all_both IsWholeNote a.notes b.notes a.whole b.whole;
-  }
+  whole_worked : (rs : List Request) (w : Window) (mode : Reclaim) (k : ℕ) (d e : Desk D) → HasWorked tells rs w.outcomes.items mode k d e → fault_of_window rs w ≡ None → e.fault ≡ None → MakesWhole d.worker e.worker
+  whole_worked rs w mode k d e worked well none =
+      let all = subst AreAllAnswered (own_answers k rs w.outcomes.items) (window_answered tells mode k rs w d e worked well) in
+      makes_both IsWholeNote d.worker worked.middle e.worker (record { same = worked.gains.same; notes = worked.notes; mine = worked.gains.mine; all = made_whole _ _ _ worked.notes worked.made all })
+      (whole_closed mode e.fault worked.middle e.worker worked.closed none)
 
-  whole_same : (p q : ManagerPass D) → q ≡ p → MakesWhole p q
-  whole_same p q same = subst (λ x. MakesWhole p x) (sym same) (whole_none p)
+  whole_begun : (awake : List Bool) (p q : ManagerPass D) → HasBegunVolume tells awake p q → MakesWhole p q
+  whole_begun awake p q b = record { same = b.turned.same; notes = b.note ∷ []; mine = b.turned.mine; all = (subst IsWhole (sym b.begun.does) tt, tt) }
 
-  module _ (tells : Bool) where
-    whole_closed : (mode : Reclaim) (fault : Option StepFault) (p q : ManagerPass D) → IsClosed tells mode fault p q → fault ≡ None → MakesWhole p q
-    whole_closed reclaim.Off fault p q c none = whole_same p q c.0
-    whole_closed reclaim.Between fault p q c none = record { same = c.turned.same; notes = c.note ∷ []; mine = c.turned.mine; whole = (subst IsWhole (sym (c.kept none)) tt, tt) }
-    whole_closed reclaim.Beside fault p q c none = record { same = c.turned.same; notes = c.note ∷ []; mine = c.turned.mine; whole = (subst IsWhole (sym (c.kept none)) tt, tt) }
-
-    whole_worked : (rs : List Request) (w : Window) (mode : Reclaim) (k : ℕ) (d e : Desk D) → HasWorked tells rs w.outcomes.items mode k d e → fault_of_window rs w ≡ None → e.fault ≡ None → MakesWhole d.worker e.worker
-    whole_worked rs w mode k d e worked well none =
-        let all = subst AreAllAnswered (own_answers k rs w.outcomes.items) (window_answered tells mode k rs w d e worked well) in
-        whole_both d.worker worked.middle e.worker (record { same = worked.gains.same; notes = worked.notes; mine = worked.gains.mine; whole = made_whole _ _ _ worked.notes worked.made all })
-        (whole_closed mode e.fault worked.middle e.worker worked.closed none)
-
-    whole_begun : (awake : List Bool) (p q : ManagerPass D) → HasBegunVolume tells awake p q → MakesWhole p q
-    whole_begun awake p q b = record { same = b.turned.same; notes = b.note ∷ []; mine = b.turned.mine; whole = (subst IsWhole (sym b.begun.does) tt, tt) }
-
-    whole_helped : (mode : Reclaim) (fault : Option (ℕ × StepFault)) (ps qs : List (ManagerPass D)) → HelpedIn tells mode ps qs → AreAllKept fault ps qs → fault ≡ None → (k : ℕ) (p : ManagerPass D) → k < length ps
-        → MakesWhole (slice_index_or ps k p) (slice_index_or qs k p)
-    whole_helped reclaim.Off fault ps qs same kept none k p lt = whole_same (slice_index_or ps k p) (slice_index_or qs k p) (ap (λ (x : List (ManagerPass D)). slice_index_or x k p) same)
-    whole_helped reclaim.Between fault ps qs same kept none k p lt = whole_same (slice_index_or ps k p) (slice_index_or qs k p) (ap (λ (x : List (ManagerPass D)). slice_index_or x k p) same)
-    whole_helped reclaim.Beside fault ps qs all kept none k p lt =
-        let one = all k p lt in
-        let before : ManagerPass D = slice_index_or ps k p in
-        let made : made_since before (slice_index_or qs k p) ≡ map coded one.notes = ap (drop (length (pass_mine before))) one.gains.mine ∙ drop-append_seam (pass_mine before) (map coded one.notes) in
-        let is_kept : AreKept before (slice_index_or qs k p) = kept none k p lt in
-        record {
-          same = one.gains.same;
-          notes = one.notes;
-          mine = one.gains.mine;
-          whole = kept_whole one.notes (subst (λ (ns : List Noted). AllByRecursion (λ (n : Noted). n.entry.operation ≡ Kept) ns) (ap notes_of made ∙ notes_back one.notes) is_kept);
-        }
+  whole_helped : (mode : Reclaim) (fault : Option (ℕ × StepFault)) (ps qs : List (ManagerPass D)) → HelpedIn tells mode ps qs → AreAllKept fault ps qs → fault ≡ None → (k : ℕ) (p : ManagerPass D) → k < length ps
+      → MakesWhole (slice_index_or ps k p) (slice_index_or qs k p)
+  whole_helped reclaim.Off fault ps qs same kept none k p lt = makes_same IsWholeNote (slice_index_or ps k p) (slice_index_or qs k p) (ap (λ (x : List (ManagerPass D)). slice_index_or x k p) same)
+  whole_helped reclaim.Between fault ps qs same kept none k p lt = makes_same IsWholeNote (slice_index_or ps k p) (slice_index_or qs k p) (ap (λ (x : List (ManagerPass D)). slice_index_or x k p) same)
+  whole_helped reclaim.Beside fault ps qs all kept none k p lt =
+      let one = all k p lt in
+      let before : ManagerPass D = slice_index_or ps k p in
+      let made : made_since before (slice_index_or qs k p) ≡ map coded one.notes = ap (drop (length (pass_mine before))) one.gains.mine ∙ drop-append_seam (pass_mine before) (map coded one.notes) in
+      let is_kept : AreKept before (slice_index_or qs k p) = kept none k p lt in
+      record {
+        same = one.gains.same;
+        notes = one.notes;
+        mine = one.gains.mine;
+        all = kept_whole one.notes (subst (λ (ns : List Noted). AllByRecursion (λ (n : Noted). n.entry.operation ≡ Kept) ns) (ap notes_of made ∙ notes_back one.notes) is_kept);
+      }
 
 -- ---- The passes of one volume on a floor
 
@@ -166,10 +148,10 @@ module _ {D : Type 0} (tells : Bool) (mode : Reclaim) (k : ℕ) (d : Desk D) (p 
     pub keeper_ : MakesWhole (keeper_on tells mode k d p client f) (keeper_on tells mode k d p client g)
 
   all_none : (f : Floor D) → AllWhole f f
-  all_none f = record { worker_ = whole_none _; helper_ = whole_none _; keeper_ = whole_none _ }
+  all_none f = record { worker_ = makes_none IsWholeNote _; helper_ = makes_none IsWholeNote _; keeper_ = makes_none IsWholeNote _ }
 
   all_then : (f g h : Floor D) → AllWhole f g → AllWhole g h → AllWhole f h
-  all_then f g h a b = record { worker_ = whole_both _ _ _ a.worker_ b.worker_; helper_ = whole_both _ _ _ a.helper_ b.helper_; keeper_ = whole_both _ _ _ a.keeper_ b.keeper_ }
+  all_then f g h a b = record { worker_ = makes_both IsWholeNote _ _ _ a.worker_ b.worker_; helper_ = makes_both IsWholeNote _ _ _ a.helper_ b.helper_; keeper_ = makes_both IsWholeNote _ _ _ a.keeper_ b.keeper_ }
 
   was_whole : (s : ServedWindow) (f : Floor D) (ps : List SpindlePass) (g : Floor D) (qs : List SpindlePass) → WasServed tells mode s f ps g qs → WentWell s → There f → There g → AllWhole f g
   was_whole s f ps g qs was well there there_after =

@@ -147,12 +147,12 @@ module _ {D : Type 0} (tells : Bool) where
   -- ---- What the spindles answered
 
   module _ (mode : Reclaim) where
-    awake_then : (ss : List ServedWindow) (f : Floor D) (ps : List _) (g : Floor D) (qs : List _) → WereServed tells mode ss f ps g qs → List (List Bool)
+    unfoldable pub awake_then : (ss : List ServedWindow) (f : Floor D) (ps : List _) (g : Floor D) (qs : List _) → WereServed tells mode ss f ps g qs → List (List Bool)
     awake_then [] f ps g qs were = []
     awake_then (s ∷ ss) f ps g qs (h, rs, was, others) = was.awake ∷ awake_then ss h rs g qs others
 
     -- window by window
-    pub awake_in : (ss : List ServedWindow) (f : Floor D) (ps : List _) (g : Floor D) (qs : List _) → ServedFromStart tells mode ss f ps g qs → List (List Bool)
+    unfoldable pub awake_in : (ss : List ServedWindow) (f : Floor D) (ps : List _) (g : Floor D) (qs : List _) → ServedFromStart tells mode ss f ps g qs → List (List Bool)
     awake_in [] f ps g qs were = []
     awake_in (s ∷ ss) f ps g qs (rs, started, were) = awake_then (s ∷ ss) f rs g qs were
 
@@ -173,6 +173,10 @@ module _ {D : Type 0} (tells : Bool) where
       | inl same ↦ []
       | inr (awake, begun) ↦ awake ∷ []
     ]
+
+    pub awake_last_none : (f g : Floor D) (same : g ≡ f) → awake_last f g (inl same) ≡ []
+    unfolding awake_last
+    awake_last_none f g same = refl
 
     pub awake_few : (f g : Floor D) (ends : EndsOn tells f g) → length {A = List Bool} (awake_last f g ends) ≤ 1
     unfolding awake_last

@@ -3,8 +3,8 @@
 --
 -- For every trace, number of workers and interleaving, each entry of a volume's one history follows the rules of placing and reclaim
 -- from the records that the volume was opened with; window by window the keeper says which disks were awake, and the worker serves the
--- requests and then reclaims what is within reach; each disk's journal is that of its uses in these windows; and what is printed at the
--- end of the trace is counted of these entries and journals.
+-- requests and then reclaims what is within reach; each disk's journal is that of its uses in these windows, and says that it was awake
+-- where the keepers were told so; and what is printed at the end of the trace is counted of these entries and journals.
 --
 -- The parameters are those of the headline; `mode` is when records are reclaimed. Read `Account` first, then `FollowsPolicy`; a disk's
 -- journal is `IsAccount` in `Summed`, what the passes did `WorksAs` in `Works`.
@@ -44,8 +44,8 @@ pub record FollowsPolicy (config : Config) (entry : Told) (mode : Reclaim) (wind
   pub alone : mode ≢ reclaim.Beside → HasNoHelp h.notes
 
 -- the output ended with the summary of these lines and windows: the counts, and the time and energy of each disk
-abbrev pub EndsWithSummary : Config → List (Option TraceLine) → List ServedWindow → (taken taken' : Option (List ℕ)) → Type 0
-EndsWithSummary config lines windows taken taken' = (before : List ℕ) × (summary : List ℕ) × IsSummary config lines windows summary × Appends taken taken' (before ++ summary)
+abbrev pub EndsWithSummary : Config → List (Option TraceLine) → List ServedWindow → (awake : List (List Bool)) → (taken taken' : Option (List ℕ)) → Type 0
+EndsWithSummary config lines windows awake taken taken' = (before : List ℕ) × (summary : List ℕ) × IsSummary config lines windows awake summary × Appends taken taken' (before ++ summary)
 
 pub record Account {S : Type 0} (left : S → Option (List ℕ)) (config : Config) (mode : Reclaim) (start now : Given S) (entry : Told) (status : ℕ) (taken taken' : Option (List ℕ)) : Type 0 where
   -- for every trace: some first lines of it were run, in these windows
@@ -61,7 +61,7 @@ pub record Account {S : Type 0} (left : S → Option (List ℕ)) (config : Confi
   pub each_volume : (v : ℕ) (h : History) → slice_get histories v ≡ Some h → FollowsPolicy config entry mode windows awake v h
   -- at the end of the trace no call of a disk had failed, and the summary was printed
   pub unbroken : status ≡ 0 → (v : ℕ) → is_broken_at histories v ≡ false
-  pub printed : status ≡ 0 → EndsWithSummary config lines windows taken taken'
+  pub printed : status ≡ 0 → EndsWithSummary config lines windows awake taken taken'
   -- its counts are those of the histories: of writes by where they went, and of reclaim
   pub placed : CountsPlaced windows histories
   pub reclaimed : CountsReclaimed windows histories

@@ -75,7 +75,7 @@ pub record Replays {S T : Type 0} (tells : Bool) (left : S → Option (List ℕ)
   pub marks : IsTrue tells → IsTold (λ entry left_. ArePlainMarks config (answers_in (earlier ++ last)) entry) old.told new.told
   pub images : IsTrue tells → IsTold (LeavesImages tells config (answers_in (earlier ++ last)) histories) old.told new.told
   pub summary : List ℕ
-  pub summary_is : IsSummaryOf left config start now run (earlier ++ last) result summary
+  pub summary_is : IsSummaryOf left config start now run (earlier ++ last) awake result summary
   pub prints : PrintsRun result (lines_asked config options.each (answers_in (earlier ++ last))) summary sink sink' printed printed'
 
 -- A run over a bay: there was no memory to open its volumes; or one of them couldn't be opened; or all were open.

@@ -1,7 +1,8 @@
 -- Windows that are served one after another on a floor.
 use Rattle.std.specs.Prelude.{◌≡◌, ◌⊎◌, ◌<◌, ◌++◌, ℕ, Bool, true, false, List, [], ◌∷◌, length, min, count_by, sum_by, slice_index_or}
 use Rattle.std.specs.List.{flat_map}
-use Rattle.turn_lock.specs.Passes.{pass_number, pass_mine, IsFree, IsSamePass}
+use Rattle.turn_lock.specs.Histories.{Begins, Entry}
+use Rattle.turn_lock.specs.Passes.{pass_number, pass_mine, pass_seen, IsFree, IsSamePass}
 use Rattle.spin_model.specs.Operations.{operation_of}
 use Rattle.wol_model.specs.Journal.{Started}
 use Rattle.request_turns.specs.declared.outcome.Outcome.{Outcome}
@@ -21,6 +22,8 @@ pub record HasStarted (at : ℕ) (p q : SpindlePass) : Type 0 where
   pub same : IsSamePass p q
   pub free : IsFree q
   pub mine : pass_mine q ≡ pass_mine p ++ (pass_number p, operation_of (Started at)) ∷ []
+  -- behind what it had seen, and what other passes did since
+  pub seen : (before : List Entry) × Begins (pass_seen p) before × (pass_seen q ≡ before ++ (pass_number p, operation_of (Started at)) ∷ [])
 
 -- so did each of them
 abbrev pub HaveStarted : (at : ℕ) → List SpindlePass → List SpindlePass → Type 0

@@ -1,5 +1,5 @@
 -- What a run over open volumes prints: the lines of the answered reads, and the summary with the account of each disk.
-use Rattle.std.specs.Prelude.{◌≡◌, ◌≢◌, ◌⊎◌, ◌++◌, ◌-◌, ℕ, Bool, true, false, is_none, count_by, List, [], length, map, not, take, Option, Some, slice_get, Result, Ok, Err, All}
+use Rattle.std.specs.Prelude.{◌≡◌, ◌≢◌, ◌⊎◌, ◌++◌, ◌-◌, ℕ, Bool, true, false, is_none, count_by, List, [], length, map, not, take, Option, Some, slice_get, slice_index_or, Result, Ok, Err}
 use Rattle.std.specs.Io.KnownBytes.{Appends}
 use Rattle.wol_disk.specs.Disk.{Rose}
 use Rattle.wol_io.specs.Streams.{AppendsFront}
@@ -9,7 +9,7 @@ use Rattle.wol_promise.specs.Outcomes.{Answered}
 use Rattle.wol_promise.specs.Run.{joined_lines}
 use Rattle.wol_promise.specs.Spindle.{keeper_uses}
 use Rattle.run_laws.specs.Answers.{told_lines}
-use Rattle.run_laws.specs.Journals.{OthersAccess, uses_by}
+use Rattle.run_laws.specs.Journals.{OthersAccess, answers_by, uses_by}
 use Rattle.wol_config.specs.declared.config.Config.{Config}
 use Rattle.report.specs.Names.{printed_names}
 use Rattle.report.specs.Summaries.{summary_text}
@@ -29,19 +29,22 @@ use Rattle.replay.specs.declared.stop.Stop.TheVariants as stop
 
 -- ---- The account
 
--- A spindle's journal is that of its uses: the keeper began the account and each window, and all other passes made accesses alone.
--- Without a window the keeper did nothing.
-pub record IsAccount (start : ℕ) (moments : List ℕ) (s : SpindleView) : Type 0 where
+-- The journal of the disk of volume k, with the configured timeout, is that of its uses: the keeper began the account and each window, and
+-- was told then whether the disk was awake; all other passes made accesses alone. Without a window the keeper did nothing.
+pub record IsAccount (config : Config) (k start : ℕ) (moments : List ℕ) (awake : List (List Bool)) (s : SpindleView) : Type 0 where
+  pub volume : s.volume ≡ k
+  pub timeout_is : s.timeout ≡ config.timeout
   pub uses : List (ℕ × Use)
   pub legal : AreUses s.timeout new_spindle uses
   pub journal : s.journal ≡ (spindle_after s.timeout new_spindle uses).journal
   pub keeper : ℕ
   pub kept : ((moments ≢ []) × (uses_by keeper uses ≡ keeper_uses start moments)) ⊎ ((moments ≡ []) × (uses_by keeper uses ≡ []))
   pub others : OthersAccess keeper uses
+  pub answers : answers_by s.timeout new_spindle keeper uses ≡ map (λ (a : List Bool). slice_index_or a k false) awake
 
 -- The summary of these lines and the windows that were served of them: what is counted, and what each disk used from the start of the
 -- account to its end.
-pub record IsSummary (config : Config) (lines : List (Option TraceLine)) (windows : List ServedWindow) (text : List ℕ) : Type 0 where
+pub record IsSummary (config : Config) (lines : List (Option TraceLine)) (windows : List ServedWindow) (awake : List (List Bool)) (text : List ℕ) : Type 0 where
   pub totals : Totals
   pub spindles : List SpindleView
   pub line_count : totals.lines ≡ length lines
@@ -53,15 +56,13 @@ pub record IsSummary (config : Config) (lines : List (Option TraceLine)) (window
   pub reads : totals.reads ≡ count_by (λ (r : Request). not (is_write r.kind)) (requests (most_of config) (targets_of config) lines)
   pub writes : totals.writes ≡ count_by (λ (r : Request). is_write r.kind) (requests (most_of config) (targets_of config) lines)
   pub each : length spindles ≡ length config.volumes.items
-  -- in order, each with the configured timeout
-  pub own : (k : ℕ) (s : SpindleView) → slice_get spindles k ≡ Some s → (s.volume ≡ k) × (s.timeout ≡ config.timeout)
-  pub accounts : All (IsAccount (started (timed lines)) (map (λ (s : ServedWindow). s.batch.moment) windows)) spindles
+  pub accounts : (k : ℕ) (s : SpindleView) → slice_get spindles k ≡ Some s → IsAccount config k (started (timed lines)) (map (λ (w : ServedWindow). w.batch.moment) windows) awake s
   pub text_is : text ≡ summary_text totals (printed_names config.volumes.items) (all_amounts config.powers (started (timed lines)) (ended (timed lines)) spindles)
 
 -- the summary of a trace that was run to its end; else nothing, and then the run ended with a fault
-pub data IsSummaryOf {S T : Type 0} (left : S → Option (List ℕ)) (config : Config) (start now : Given S) (lines : List (Option TraceLine)) (windows : List ServedWindow) : Result T Stop → (text : List ℕ) → Type 0 where
-  of_all : (result : Result T Stop) (text : List ℕ) → HasGivenAll left (targets_of config) start now lines → IsSummary config lines windows text → IsSummaryOf left config start now lines windows result text
-  of_none : (e : Stop) → IsSummaryOf left config start now lines windows (Err e) []
+pub data IsSummaryOf {S T : Type 0} (left : S → Option (List ℕ)) (config : Config) (start now : Given S) (lines : List (Option TraceLine)) (windows : List ServedWindow) (awake : List (List Bool)) : Result T Stop → (text : List ℕ) → Type 0 where
+  of_all : (result : Result T Stop) (text : List ℕ) → HasGivenAll left (targets_of config) start now lines → IsSummary config lines windows awake text → IsSummaryOf left config start now lines windows awake result text
+  of_none : (e : Stop) → IsSummaryOf left config start now lines windows awake (Err e) []
 
 -- ---- Texts
 

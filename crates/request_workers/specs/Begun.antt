@@ -1,5 +1,6 @@
 -- What the beginning of a window makes of the keepers' passes.
 use Rattle.std.specs.Prelude.{◌≡◌, ◌<◌, ◌∷◌, ◌++◌, ℕ, Bool, List, [], length, slice_index_or}
+use Rattle.turn_lock.specs.Histories.{Begins, Entry}
 use Rattle.turn_lock.specs.Passes.{pass_lock, pass_number, pass_seen, pass_mine, IsPassOf, IsFree, IsSamePass}
 use Rattle.turn_lock.specs.declared.pass.PassOf.{PassOf}
 use Rattle.spin_model.specs.Operations.{operation_of}
@@ -26,6 +27,8 @@ pub record HasBegun (t : ℕ) (awake : Bool) (p q : SpindlePass) : Type 0 where
   pub same : IsSamePass p q
   pub free : IsFree q
   pub mine : pass_mine q ≡ pass_mine p ++ (pass_number p, operation_of (Began t)) ∷ []
+  -- behind what it had seen, and what other passes did since
+  pub seen : (before : List Entry) × Begins (pass_seen p) before × (pass_seen q ≡ before ++ (pass_number p, operation_of (Began t)) ∷ [])
   pub answer : awake ≡ (state_after (pass_lock q).base (pass_seen q)).awake
 
 -- whether each spindle is awake, in order

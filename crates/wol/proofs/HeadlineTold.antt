@@ -7,55 +7,19 @@ use Rattle.wol_disk.specs.Disk.{State}
 use Rattle.wol_bay.specs.Bay.{BayState, Told}
 use Rattle.wol_promise.specs.Run.{joined_lines}
 use Rattle.wol_config.specs.declared.config.Config.{Config}
-use Rattle.wol_config.specs.declared.config.ConfigFault.{ConfigFault}
-use Rattle.wol_config.specs.declared.config.ConfigFault.TheVariants as refused
 use Rattle.report.specs.Faults.{status_of}
-use Rattle.report.specs.Troubles.{trouble_status}
-use Rattle.report.specs.declared.fault.Fault.{Fault}
-use Rattle.report.specs.declared.fault.Fault.TheVariants as fault
-use Rattle.report.specs.declared.trouble.Trouble.{Trouble}
-use Rattle.report.specs.declared.trouble.Trouble.TheVariants as trouble
 use Rattle.volume_images.specs.Left.{IsTold}
-use Rattle.replay.specs.Headline.{ArePrinted, Headline, KeepsHeadline}
+use Rattle.replay.specs.Headline.{ArePrinted, HasNotBegun, Headline, KeepsHeadline}
 use Rattle.replay.specs.Replays.{status_in}
 use Rattle.replay.specs.declared.given.Given.{Given}
 use Rattle.replay.specs.declared.session.Options.{Options}
 use Rattle.replay.specs.declared.stop.Stop.{Stop}
 use Rattle.replay.specs.declared.stop.Stop.TheVariants as stop
 use Rattle.replay.proofs.HeadlineKept.{keeps_headline}
+use Rattle.replay.proofs.Statuses.{not_sink, not_success}
 use Rattle.wol.specs.Headlined.{RunsHeadline}
 use Rattle.wol.specs.Replaying.{EndsReplay, GivenLines, RunsReplay}
 use Rattle.wol.specs.Tops.{EndsWith}
-
--- ---- No fault has the status of a sink that failed
-
-trouble_not_seven : (t : Trouble) → trouble_status t ≢ 7
-trouble_not_seven trouble.Absent is = absurd (cc is)
-trouble_not_seven (trouble.Length bytes) is = absurd (cc is)
-trouble_not_seven trouble.LabelDiffers is = absurd (cc is)
-trouble_not_seven (trouble.Damaged volume block) is = absurd (cc is)
-trouble_not_seven (trouble.Twins v first w second) is = absurd (cc is)
-trouble_not_seven (trouble.OutsideView logger segment) is = absurd (cc is)
-trouble_not_seven (trouble.LoggerMissing id) is = absurd (cc is)
-trouble_not_seven trouble.Bay is = absurd (cc is)
-trouble_not_seven trouble.Label is = absurd (cc is)
-trouble_not_seven trouble.Home is = absurd (cc is)
-trouble_not_seven (trouble.Segment logger index) is = absurd (cc is)
-
-config_not_seven : (why : ConfigFault) → status_of (fault.Config why) ≢ 7
-config_not_seven refused.NoMemory is = absurd (cc is)
-config_not_seven why is = absurd (cc is)
-
-not_seven : (f : Fault) → status_of f ≢ 7
-not_seven fault.Words is = absurd (cc is)
-not_seven (fault.Config why) is = config_not_seven why is
-not_seven (fault.Line line why) is = absurd (cc is)
-not_seven (fault.Volume volume t) is = trouble_not_seven t is
-not_seven fault.ConfigSource is = absurd (cc is)
-not_seven fault.TraceSource is = absurd (cc is)
-not_seven fault.Memory is = absurd (cc is)
-not_seven fault.Lines is = absurd (cc is)
-not_seven (fault.Versions volume) is = absurd (cc is)
 
 -- ---- What is printed, and then the line of a fault
 
@@ -87,13 +51,13 @@ same_printed lines before status taken then taken' is same printed = subst (λ (
 printed_ends : {T : Type 0} (config : Config) (result : Result T Stop) (lines : List (List ℕ)) (status : ℕ) (taken then taken' : Option (List ℕ)) → ArePrinted lines (status_in result) taken then → EndsReplay config result status then taken' → ArePrinted lines status taken taken'
 printed_ends config (Ok done) lines status taken then taken' printed (is, same) = same_printed lines 0 status taken then taken' is same printed
 printed_ends config (Err stop.Sink) lines status taken then taken' printed (is, same) = same_printed lines 7 status taken then taken' is same printed
-printed_ends config (Err (stop.Fault f)) lines status taken then taken' printed (inl ends) = then_text lines (status_of f) (status_of f) status _ taken then taken' (not_seven f) (λ a b. refl) printed ends
-printed_ends config (Err (stop.Fault f)) lines status taken then taken' printed (inr ends) = then_text lines (status_of f) 9 status _ taken then taken' (not_seven f) (λ a b. absurd (b refl)) printed ends
+printed_ends config (Err (stop.Fault f)) lines status taken then taken' printed (inl ends) = then_text lines (status_of f) (status_of f) status _ taken then taken' (not_sink f) (λ a b. refl) printed ends
+printed_ends config (Err (stop.Fault f)) lines status taken then taken' printed (inr ends) = then_text lines (status_of f) 9 status _ taken then taken' (not_sink f) (λ a b. absurd (b refl)) printed ends
 
 -- ---- The status
 
 -- status 0 is that of a run that was done
-of_success : {T : Type 0} (config : Config) (result : Result T Stop) (status : ℕ) (then taken' : Option (List ℕ)) → EndsReplay config result status then taken' → status ≡ 0 → status_in result ≡ 0
+pub of_success : {T : Type 0} (config : Config) (result : Result T Stop) (status : ℕ) (then taken' : Option (List ℕ)) → EndsReplay config result status then taken' → status ≡ 0 → status_in result ≡ 0
 of_success config (Ok done) status then taken' ends zero_is = refl
 of_success config (Err stop.Sink) status then taken' (is, same) zero_is = absurd (omega (arith, is, zero_is))
 of_success config (Err (stop.Fault f)) status then taken' (inl (inl (is, more))) zero_is = sym is ∙ zero_is
@@ -101,16 +65,27 @@ of_success config (Err (stop.Fault f)) status then taken' (inl (inr (is, more)))
 of_success config (Err (stop.Fault f)) status then taken' (inr (inl (is, more))) zero_is = absurd (omega (arith, is, zero_is))
 of_success config (Err (stop.Fault f)) status then taken' (inr (inr (is, more))) zero_is = absurd (omega (arith, is, zero_is))
 
+-- behind such a run nothing more was written
+pub same_taken : {T : Type 0} (config : Config) (result : Result T Stop) (status : ℕ) (taken then taken' : Option (List ℕ)) (text : List ℕ) → EndsReplay config result status then taken' → status ≡ 0 → Appends taken then text → Appends taken taken' text
+same_taken config (Ok done) status taken then taken' text (is, same) zero_is appends = subst (λ (t : Option (List ℕ)). Appends taken t text) (sym same) appends
+same_taken config (Err stop.Sink) status taken then taken' text (is, same) zero_is appends = absurd (omega (arith, is, zero_is))
+same_taken config (Err (stop.Fault f)) status taken then taken' text ends zero_is appends = absurd (not_success f (of_success config (Err (stop.Fault f)) status then taken' ends zero_is))
+
 -- what is told of the lines that were run is told of the program
-on_told : (P Q : Told → Told → Type 0) (a b : Option Told) → IsTold P a b → ((o n : Told) → P o n → Q o n) → IsTold Q a b
+pub on_told : (P Q : Told → Told → Type 0) (a b : Option Told) → IsTold P a b → ((o n : Told) → P o n → Q o n) → IsTold Q a b
 on_told P Q None b p all = p
 on_told P Q (Some o) None p all = p
 on_told P Q (Some o) (Some n) p all = λ apart. all o n (p apart)
 
+-- a run that ended before all volumes were open
+pub not_begun_ends : {D S T : Type 0} (tells : Bool) (state : D → State) (config : Config) (start now : Given S) (old new : BayState) (result : Result T Stop) (status : ℕ) (taken then taken' : Option (List ℕ))
+    → HasNotBegun tells state config start now old new (status_in result) taken then → EndsReplay config result status then taken' → HasNotBegun tells state config start now old new status taken taken'
+not_begun_ends tells state config start now old new result status taken then taken' none ends =
+    record { refused = λ zero_is. none.refused (of_success config result status then taken' ends zero_is); unread = none.unread; none = printed_ends config result [] status taken then taken' none.none ends; left = none.left }
+
 keeps_ends : {D S T : Type 0} (tells : Bool) (state : D → State) (left : S → Option (List ℕ)) (config : Config) (each : Bool) (start now : Given S) (old new : BayState) (result : Result T Stop) (status : ℕ) (taken then taken' : Option (List ℕ))
     → KeepsHeadline tells state left config each start now old new (status_in result) taken then → EndsReplay config result status then taken' → KeepsHeadline tells state left config each start now old new status taken taken'
-keeps_ends tells state left config each start now old new result status taken then taken' (inl none) ends =
-    inl (record { refused = λ zero_is. none.refused (of_success config result status then taken' ends zero_is); unread = none.unread; none = printed_ends config result [] status taken then taken' none.none ends; left = none.left })
+keeps_ends tells state left config each start now old new result status taken then taken' (inl none) ends = inl (not_begun_ends tells state config start now old new result status taken then taken' none ends)
 keeps_ends tells state left config each start now old new result status taken then taken' (inr keeps) ends = inr (λ telling. on_told
     (λ entry exit. Headline left config each start now entry exit old.faults new.faults (status_in result) taken then) (λ entry exit. Headline left config each start now entry exit old.faults new.faults status taken taken') old.told new.told (keeps telling)
     (λ entry exit h. record {

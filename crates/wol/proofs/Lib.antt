@@ -13,6 +13,7 @@ mod SeenLines
 mod Taken
 mod Unread
 mod HeadlineTold
+mod AccountTold
 mod WindowFaults
 mod Spent
 mod CausesTold

@@ -15,9 +15,10 @@ use Rattle.wol.specs.Causes.{IsCause, replayed_by}
 use Rattle.wol.specs.Causes as row
 use Rattle.wol.specs.Outside.{LeavesUnused, NothingFailed, Outside}
 use Rattle.wol.specs.Replaying.{lines_of, options_as, trace_of}
-use Rattle.wol.specs.Run.{IsFormat, IsHeadlineOf, IsListingOf, IsLookFor, IsReplayOf, IsSoloOf, IsUnconfigured, ReadsInOrder, Run, looked_at_by}
+use Rattle.wol.specs.Run.{IsAccountOf, IsFormat, IsHeadlineOf, IsListingOf, IsLookFor, IsReplayOf, IsSoloOf, IsUnconfigured, ReadsInOrder, Run, looked_at_by}
 use Rattle.wol.specs.Settings.{HasConfig, HasNoConfig, IsFaultLine}
 use Rattle.wol.specs.Tops.{EndsWith, IsDoneOrMemory, RunsSolo}
+use Rattle.wol.proofs.AccountTold.{runs_account}
 use Rattle.wol.proofs.Asked.{of_asked}
 use Rattle.wol.proofs.CausesTold.{at_status}
 use Rattle.wol.proofs.Complete.{no_both}
@@ -65,6 +66,15 @@ module _ {D : Type 0} (tells : Bool) (state : D → State) (words : List (List �
   headline_of Dump does = tt
   headline_of (Gen what) does = tt
   headline_of (Soak what options) does = runs_headline tells state (options_as options) _ _ _ _ _ _ _ _ _ _ _ does
+
+  account_of : (command : Command) → Does command → IfSome (replayed_by command before.trace.bytes) (IsAccountOf tells state before after status)
+  account_of (Solo volume) does = tt
+  account_of Format does = tt
+  account_of (Replay options) does = runs_account tells state (options_as options) _ _ _ _ _ _ _ _ _ _ _ does
+  account_of Check does = tt
+  account_of Dump does = tt
+  account_of (Gen what) does = tt
+  account_of (Soak what options) does = runs_account tells state (options_as options) _ _ _ _ _ _ _ _ _ _ _ does
 
   replay_of : (command : Command) → Does command → IfSome (replayed_by command before.trace.bytes) (IsReplayOf tells state before after status)
   replay_of (Solo volume) does = tt
@@ -147,6 +157,7 @@ module _ {D : Type 0} (tells : Bool) (state : D → State) (words : List (List �
       → Run tells state words before after status
   promise does refused cause sink unused complete = record {
     headline = λ command is. headline_of command (does command is);
+    account = λ command is. account_of command (does command is);
     replayed = λ command is. replay_of command (does command is);
     looked = λ command is. look_of command (does command is);
     formatted = λ is. does Format is;

@@ -1,13 +1,6 @@
 -- Which faults a window and a run of a trace can end with, and their statuses.
-use Rattle.std.proofs.Common.{◌≡◌, ◌≢◌, ℕ, Bool, true, false, List, [], ◌∷◌, Option, None, Some, if◌then◌else◌, refl, sym, subst, arith}
+use Rattle.std.proofs.Common.{◌≡◌, ◌≢◌, ℕ, List, Some, inl, inr, refl, sym, subst, arith}
 use Rattle.std.specs.Bool.{⊤}
-use Rattle.std.specs.Option.{option_or}
-use Rattle.std.specs.List.{list_any}
-use Rattle.std.proofs.lemmas.Option.{same_Some}
-use Rattle.manager.specs.declared.part.ReadRefusal.TheVariants as read
-use Rattle.manager.specs.declared.part.StepFault.{StepFault}
-use Rattle.manager.specs.declared.part.StepFault.TheVariants as step
-use Rattle.manager.specs.declared.part.WriteRefusal.TheVariants as write
 use Rattle.msr_trace.specs.declared.format.TraceFault.{TraceFault}
 use Rattle.msr_trace.specs.declared.format.TraceFault.TheVariants as trace
 use Rattle.report.specs.Faults.{status_of}
@@ -17,11 +10,10 @@ use Rattle.report.specs.declared.fault.Fault.TheVariants as fault
 use Rattle.report.specs.declared.trouble.Trouble.{Trouble}
 use Rattle.report.specs.declared.trouble.Trouble.TheVariants as trouble
 use Rattle.trace_windows.specs.declared.request.Request.{Request}
-use Rattle.request_turns.specs.declared.outcome.Outcome.{Outcome}
-use Rattle.request_turns.specs.declared.outcome.Outcome.TheVariants.{Read, Wrote, NoRead, NoWrite, NotRun}
 use Rattle.request_workers.specs.declared.request.Window.{Window}
-use Rattle.replay.specs.Endings.{fault_of_outcome, fault_of_reclaim, fault_of_window, first_refused, lacked_memory}
+use Rattle.replay.specs.Endings.{fault_of_window}
 use Rattle.replay.specs.Stops.{fault_of_trace}
+use Rattle.wol.proofs.WindowFaults.{ends_window}
 
 -- ---- Faults of windows
 
@@ -37,47 +29,12 @@ IsOfWindow fault.Memory = ⊤
 IsOfWindow fault.Lines = ⊥
 IsOfWindow (fault.Versions volume) = ⊤
 
-some_of_window : (x f : Fault) → IsOfWindow x → Some x ≡ Some f → IsOfWindow f
-some_of_window x f h is = subst IsOfWindow (same_Some x f is) h
-
-no_fault : (f : Fault) → None ≡ Some f → IsOfWindow f
-no_fault f is = absurd (cc)
-
-of_outcome : (volume : ℕ) (o : Outcome) (f : Fault) → fault_of_outcome volume o ≡ Some f → IsOfWindow f
-of_outcome volume (Read mark sources) f is = no_fault f is
-of_outcome volume (Wrote place drained) f is = no_fault f is
-of_outcome volume (NoRead (read.DiskFault p)) f is = some_of_window _ f tt is
-of_outcome volume (NoRead (read.Down p)) f is = some_of_window _ f tt is
-of_outcome volume (NoWrite write.Full) f is = no_fault f is
-of_outcome volume (NoWrite (write.DiskFault p)) f is = some_of_window _ f tt is
-of_outcome volume (NoWrite (write.Down p)) f is = some_of_window _ f tt is
-of_outcome volume (NoWrite write.VersionsSpent) f is = some_of_window _ f tt is
-of_outcome volume (NoWrite write.NoMemory) f is = some_of_window _ f tt is
-of_outcome volume NotRun f is = no_fault f is
-
-either : (a b : Option Fault) → ((f : Fault) → a ≡ Some f → IsOfWindow f) → ((f : Fault) → b ≡ Some f → IsOfWindow f) → (f : Fault) → option_or a b ≡ Some f → IsOfWindow f
-either None b one other f is = other f is
-either (Some x) b one other f is = one f is
-
-of_first : (rs : List Request) (os : List Outcome) (f : Fault) → first_refused rs os ≡ Some f → IsOfWindow f
-of_first [] os f is = no_fault f is
-of_first (r ∷ rs) [] f is = no_fault f is
-of_first (r ∷ rs) (o ∷ os) f is = either (fault_of_outcome r.volume o) (first_refused rs os) (of_outcome r.volume o) (of_first rs os) f is
-
-of_reclaim : (o : Option (ℕ × StepFault)) (f : Fault) → fault_of_reclaim o ≡ Some f → IsOfWindow f
-of_reclaim None f is = no_fault f is
-of_reclaim (Some (volume, step.DiskFault p)) f is = some_of_window _ f tt is
-of_reclaim (Some (volume, step.Down p)) f is = some_of_window _ f tt is
-
 pub of_window : (rs : List Request) (w : Window) (f : Fault) → fault_of_window rs w ≡ Some f → IsOfWindow f
-of_window rs w f is = by (list_any lacked_memory w.outcomes.items) is
-  where
-    rest : Option Fault
-    rest = option_or (first_refused rs w.outcomes.items) (fault_of_reclaim w.fault)
-
-    by : (b : Bool) → (if b then Some fault.Memory else rest) ≡ Some f → IsOfWindow f
-    by true same = some_of_window fault.Memory f tt same
-    by false same = either (first_refused rs w.outcomes.items) (fault_of_reclaim w.fault) (of_first rs w.outcomes.items) (of_reclaim w.fault) f same
+of_window rs w f is = elim (ends_window rs w f is) [
+  | inl ((volume, t, same), four) ↦ subst IsOfWindow (sym same) tt
+  | inr (inl same) ↦ subst IsOfWindow (sym same) tt
+  | inr (inr (volume, same)) ↦ subst IsOfWindow (sym same) tt
+]
 
 -- ---- Faults of runs
 

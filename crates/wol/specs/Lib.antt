@@ -8,6 +8,7 @@ pub mod Inspecting
 pub mod Replaying
 pub mod Completing
 pub mod Headlined
+pub mod Accounted
 pub mod Outside
 pub mod Causes
 pub mod Run

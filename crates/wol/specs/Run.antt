@@ -11,6 +11,7 @@ use Rattle.command_words.specs.Commands.{IsCommand, NoCommand}
 use Rattle.command_words.specs.declared.command.Command.{Command}
 use Rattle.command_words.specs.declared.command.Command.TheVariants.{Check, Dump, Format, Gen, Replay, Soak, Solo}
 use Rattle.command_words.specs.declared.command.Generated.{Generated}
+use Rattle.wol.specs.Accounted.{RunsAccount}
 use Rattle.wol.specs.Causes.{IsCause, replayed_by}
 use Rattle.wol.specs.Commands.{uses_config}
 use Rattle.wol.specs.Completing.{HasSoundImages, HaveVersions, IsGoodTrace, seed_lines}
@@ -36,6 +37,13 @@ module _ {D : Type 0} (tells : Bool) (state : D → State) (before after : Outsi
   abbrev pub IsHeadlineOf : Serving × GivenLines → Type 0
   IsHeadlineOf (how, start) =
       RunsHeadline tells state how.each start before.config.bytes
+      before.config.faults after.config.faults after.trace.bytes
+      before.bay after.bay status before.sink.bytes after.sink.bytes
+
+  -- the account of lines that were replayed so
+  abbrev pub IsAccountOf : Serving × GivenLines → Type 0
+  IsAccountOf (how, start) =
+      RunsAccount tells state how.reclaim start before.config.bytes
       before.config.faults after.config.faults after.trace.bytes
       before.bay after.bay status before.sink.bytes after.sink.bytes
 
@@ -107,6 +115,11 @@ pub record Run {D : Type 0} (tells : Bool) (state : D → State) (words : List (
   pub headline : (command : Command) → IsCommand words command
       → IfSome (replayed_by command before.trace.bytes)
       (IsHeadlineOf tells state before after status)
+  -- replay, soak: each entry of a volume's history follows the rules of placing and reclaim, and
+  -- what the summary says is counted of these entries and of the disks' journals
+  pub account : (command : Command) → IsCommand words command
+      → IfSome (replayed_by command before.trace.bytes)
+      (IsAccountOf tells state before after status)
   -- replay, soak: how many requests were answered, what was printed, what the images recover to,
   -- and what the policy and the disks did
   pub replayed : (command : Command) → IsCommand words command

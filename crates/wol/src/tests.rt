@@ -543,3 +543,35 @@ fn no_version_comes_after_the_last(rt: HostRuntime) -> Result<(), Fail> {
     try_in(&rt, rt.alloc(), &spent, &mut bay)?;
     Ok(())
 }
+
+// The lines of `OFFLOADS` where nothing is reclaimed: the second write of `usr` to a block that it logged is logged too, which wakes
+// `web`, and the three records stay.
+const KEPT: &[u8] = b"read 3 web0 16 2 4
+read 6 usr0 0 2 10
+read 8 usr0 2 2 2
+read 10 web0 0 1 4
+read 11 src0 10 1 7
+read 12 src0 10 2 7
+lines 12 blank 0 skipped 0
+reads 6 writes 6
+placed home 3 log 3 drains 0
+reclaimed blocks 0 records 0
+span 4000000000
+volume usr0 wakes 1 sleeps 2 awake 1200000000 standby 2800000000 energy 1290000
+volume web0 wakes 3 sleeps 3 awake 3500000000 standby 500000000 energy 3000000
+volume src0 wakes 1 sleeps 1 awake 600000000 standby 3400000000 energy 870000
+total wakes 5 sleeps 6 energy 5160000
+";
+
+#[test]
+fn keeps_records_where_reclaim_is_off(rt: HostRuntime) -> Result<(), Fail> {
+    let three = THREE_VOLUMES.as_bytes();
+    let formatted = b"format usr0 blocks 1066\nformat web0 blocks 1066\nformat src0 blocks 1066\n";
+    let mut bay = MemBay::new(rt.alloc());
+    let rows = [
+        replayed("format", three, b"", 0, formatted),
+        replayed("replay --each --reclaim off", three, OFFLOADS, 0, KEPT),
+        replayed("dump", three, b"", 0, b"x"),
+    ];
+    try_all(&rt, rt.alloc(), &rows, &mut bay)
+}

@@ -31,6 +31,6 @@ loop-k-preserved g c =
             (λ n x within. subst (λ (p : SpindlePass). IsSamePass (slice_index_or c.args.keepers.now n d) p) (get_or_default c.loop-k.keepers n d x within) (i.same.each n d (let m = i.same.count in omega (arith, within, m))))
             (subst (λ (p : SpindlePass). IsSamePass p new) (old d) e.same) j d (let m = i.same.count in omega (arith, lt, m, size));
       };
-      started = each_then (HasStarted c.args.at) c.args.keepers.now c.loop-k.keepers new k room i.started (λ d. subst (λ (p : SpindlePass). HasStarted c.args.at p new) (old d) (record { same = e.same; free = e.free; mine = e.mine }));
+      started = each_then (HasStarted c.args.at) c.args.keepers.now c.loop-k.keepers new k room i.started (λ d. subst (λ (p : SpindlePass). HasStarted c.args.at p new) (old d) (record { same = e.same; free = e.free; mine = e.mine; seen = e.seen }));
       waiting = λ j d le. let other : j ≢ k = (λ same. omega (arith, le, same)) in get_or-set_other c.loop-k.keepers k j new d other ∙ i.waiting j d (omega (arith, le));
     }

@@ -15,7 +15,7 @@ loop-k-preserved g c =
     (λ d. rest c.loop-k.k c.index-keepers-k.result (omega arith) ∙ get_or_default c.args.keepers.now c.loop-k.k c.index-keepers-k.result d (let a = c.loop-k.auto.keepers in omega (arith, room, a))) in
     record {
       begun = λ j b d lt. subst (λ us. HasBegun c.args.t (slice_index_or us j b) (slice_index_or c.args.keepers.now j d) (slice_index_or (slice_set c.loop-k.keepers c.loop-k.k c.begin_turn.new.pass) j d)) (sym c.push_reserved.ensures.items)
-          (each_more (HasBegun c.args.t) c.loop-k.awake.items _ c.args.keepers.now c.loop-k.keepers c.begin_turn.new.pass c.loop-k.k (sym c.loop-k.awake.ok.0 ∙ c.loop-k.invariant.len) room c.loop-k.invariant.begun (λ d. subst (λ p. HasBegun c.args.t c.in_ok-up.up p c.begin_turn.new.pass) (old d) (record { same = e.same; free = e.free; mine = e.mine; answer = e.answer })) j b d lt);
+          (each_more (HasBegun c.args.t) c.loop-k.awake.items _ c.args.keepers.now c.loop-k.keepers c.begin_turn.new.pass c.loop-k.k (sym c.loop-k.awake.ok.0 ∙ c.loop-k.invariant.len) room c.loop-k.invariant.begun (λ d. subst (λ p. HasBegun c.args.t c.in_ok-up.up p c.begin_turn.new.pass) (old d) (record { same = e.same; free = e.free; mine = e.mine; seen = e.seen; answer = e.answer })) j b d lt);
       rest = λ j d le. let other : j ≢ c.loop-k.k = (λ same. omega (arith, le, same)) in get_or-set_other c.loop-k.keepers c.loop-k.k j c.begin_turn.new.pass d other ∙ rest j d (omega (arith, le));
       own = λ j s. each_set (λ (i : ℕ) (p : SpindlePass). IsPassOf (slice_index_or c.args.spindles.now i s) p) c.loop-k.keepers c.begin_turn.new.pass c.loop-k.k (λ i d lt. c.loop-k.invariant.own i s d lt) (e.same.0 ∙ c.loop-k.invariant.own c.loop-k.k s c.index-keepers-k.result room) j;
       free = each_set (λ (i : ℕ) (p : SpindlePass). IsFree p) c.loop-k.keepers c.begin_turn.new.pass c.loop-k.k c.loop-k.invariant.free c.begin_turn.ensures.free;
