@@ -4,15 +4,15 @@
 PREFIX ?= /usr/local
 DESTDIR ?=
 
-.PHONY: look build demo test hostile bench install clean
+.PHONY: look build demo week test hostile bench install clean
 
-# The program on a small trace, compiled by `rt try` with no proof. It runs in an empty folder, which is removed.
+# Four policies on a sample trace, compiled by `rt try` with no proof. It runs in an empty folder, which is removed.
 look:
 	@echo "make look: this run is UNPROVED ('rt try'); 'make demo' shows the proved program. It compiles for 1 to 3 minutes."
 	@mkdir -p build
-	@cd crates/wol && rt try -- solo usr 0 100 <../../samples/small.csv >../../build/look.out 2>../../build/look.log \
+	@cd crates/wol && rt try --data wol.toml=../../samples/wol.toml -- whatif <../../samples/offload.csv >../../build/look.out 2>../../build/look.log \
 	|| { cat ../../build/look.log >&2; exit 1; }
-	@echo "wol solo usr 0 100 <samples/small.csv: what was read back; the last number is the sum of the lines that wrote the blocks."
+	@echo "wol whatif <samples/offload.csv: what the disks of samples/wol.toml would use by four policies (energy in mJ)."
 	@cat build/look.out
 
 # The words `none` are no command, on which the proved and built program touches no file and ends with 1.
@@ -50,6 +50,15 @@ demo: build
 	@echo
 	@echo "A line that is no line of a trace ends the run, and the lines before it were run:"
 	@cd demo/off-loading && { ../../build/wol replay --each <../../samples/bad.csv; echo "exit status $$?"; }
+
+# Four policies on a generated week of 36 volumes, by the program that `make build` leaves. The trace has 151 MB.
+week:
+	@test -x build/wol || { echo "make week: no build/wol: run 'make build' first" >&2; exit 1; }
+	@mkdir -p build/week
+	@cp samples/week/wol.toml build/week/wol.toml
+	@python3 samples/week/week.py >build/week/week.csv
+	@cd build/week && ../wol whatif <week.csv >whatif.txt
+	@cat build/week/whatif.txt
 
 # The gate, then the program that it built on closed streams, limits and odd files, and the documents against it.
 test:

@@ -1,0 +1,12 @@
+pub mod Lists
+pub mod Spinning
+pub mod Steps
+pub mod Doing
+pub mod Woken
+pub mod Written
+pub mod Hosts
+pub mod Seeing
+pub mod Turning
+pub mod New
+pub mod Sums
+pub mod Served

@@ -1,0 +1,398 @@
+-- The first entry that passes a test, in an index whose versions rise, and what the steps of reclaim make of an index.
+use Rattle.std.proofs.Common.{◌≡◌, ⊎_elim, ◌<◌, ◌≤◌, ◌+◌, ◌-◌, ◌^◌, ℕ, zero, suc, Bool, true, false, cond, not, ◌&&◌, ◌||◌, List, [], ◌∷◌, ◌++◌, map, length, get_or, Option, None, Some, refl, sym, ap, subst, ◌∙◌, arith, leb, bit_or}
+use Rattle.std.specs.Prelude.{find, position, nat_lt, Contains, IfSome, is_none, slice_get, slice_set, slice_index_or}
+use Rattle.std.specs.List.{AllByRecursion, filter, prefix_len, range_with_len}
+use Rattle.std.specs.Option.{option_map}
+use Rattle.std.proofs.lemmas.Bool.{false≢true, eq-eqb, ne_eqb, eqb-true, lt-ltb, le-leb, and_parts}
+use Rattle.std.proofs.lemmas.Option.{none-some, same_Some, slice_get_within}
+use Rattle.wol_model.specs.Extents.{remarked}
+use Rattle.wol_model.specs.Index.{Listed, Indexed, listed_in, AreRising, is_homed, is_due, goes, has_due, has_going, keeps_a_block, homing, keeping, block_numbers, left}
+use Rattle.wol_model.specs.Log.{has_bit, marks_of}
+use Rattle.wol_model.proofs.DrainGives.{giving_up_lowers}
+use Rattle.wol_model.proofs.DrainPuts.{putting_lowers}
+use Rattle.wol_promise.specs.Policy.{Look}
+use Rattle.wol_promise.proofs.Covers.{any_found}
+use Rattle.wol_promise.proofs.Lists.{all_map, all_member, member_map}
+use Rattle.redirect_map.specs.Index.{Contents, entry_at, changed, given_up, has_version, with_homed, IsAnswer, IsEntry, IsIndex, IsRecordOf}
+use Rattle.redirect_map.specs.Masks.{in_mask, IsMask}
+use Rattle.redirect_map.specs.declared.record.Rec.{Rec}
+use Rattle.redirect_map.proofs.Bits.{has_bit-or}
+use Rattle.redirect_map.proofs.Changing.{remarked-marks_of}
+use Rattle.redirect_map.proofs.Seen.{in_mask-bit}
+use Rattle.garbage_list.specs.Least.{first_version, can_go, can_go_home}
+use Rattle.whatif.specs.Machine.{Reach, Action, put_home, give_up, put_step, give_step, next_due, next_to_go, logger_at, step_at}
+use Rattle.whatif.specs.Volumes.{IsLogged, IsVolume, give_answer, look_in, put_answer, reach_in}
+use Rattle.whatif.specs.declared.volume.Volume.{Volume}
+use Rattle.whatif.proofs.Lists.{all_filter, found_none, none_found, none_mapped, none_passes, none_unmapped, passes_none}
+
+-- ---- lists
+
+-- the element that is found passes, and stands there
+pub found_passes : {X : Type 0} (test : X → Bool) (xs : List X) (x : X) → find test xs ≡ Some x → test x ≡ true
+found_passes test [] x is = absurd (none-some x is)
+found_passes {X} test (y ∷ ys) x is = at (test y) refl is (found_passes test ys x)
+  where
+    at : (t : Bool) → test y ≡ t → cond t (Some y) (find test ys) ≡ Some x → (find test ys ≡ Some x → test x ≡ true) → test x ≡ true
+    at true here found rest = subst (λ (z : X). test z ≡ true) (same_Some y x found) here
+    at false here found rest = rest found
+
+pub found_there : {X : Type 0} (test : X → Bool) (xs : List X) (x : X) → find test xs ≡ Some x → Contains xs x
+found_there test [] x is = absurd (none-some x is)
+found_there {X} test (y ∷ ys) x is = at (test y) is (found_there test ys x)
+  where
+    at : (t : Bool) → cond t (Some y) (find test ys) ≡ Some x → (find test ys ≡ Some x → Contains ys x) → Contains (y ∷ ys) x
+    at true found rest = (0, omega arith, same_Some y x found)
+    at false found rest = let r = rest found in (suc r.0, (let lt = r.1 in omega arith), r.2)
+
+-- ---- an entry of an index
+
+-- the entry of this version: its place, and the listed records where it is another
+pub record Spot (es : List Indexed) (version : ℕ) (e : Indexed) : Type 0 where
+  pub place : ℕ
+  pub there : slice_get (listed_in es) place ≡ Some e.listed
+  pub then_is : (f : Indexed → Indexed) → listed_in (changed version f es) ≡ slice_set (listed_in es) place (f e).listed
+
+later_differ : (version : ℕ) (es : List Indexed) → AllByRecursion (λ w. version < w) (map (λ (d : Indexed). d.listed.version) es) → AllByRecursion (λ (d : Indexed). has_version version d ≡ false) es
+later_differ version [] all = tt
+later_differ version (x ∷ es) all = (ne_eqb x.listed.version version (λ is. let lt : version < x.listed.version = all.0 in omega arith), later_differ version es all.1)
+
+unchanged : (version : ℕ) (f : Indexed → Indexed) (es : List Indexed) → AllByRecursion (λ (d : Indexed). has_version version d ≡ false) es → changed version f es ≡ es
+unchanged version f [] all = refl
+unchanged version f (x ∷ es) all = λ i. cond (all.0 i) (f x) x ∷ unchanged version f es all.1 i
+
+abbrev here_spot : (x : Indexed) (es : List Indexed) → AreRising (map (λ (d : Indexed). d.listed.version) (x ∷ es)) → Spot (x ∷ es) x.listed.version x
+here_spot x es rising = record {
+  place = 0;
+  there = refl;
+  then_is = λ f i. (cond (eq-eqb x.listed.version x.listed.version refl i) (f x) x).listed ∷ listed_in (unchanged x.listed.version f es (later_differ x.listed.version es rising.0) i);
+}
+
+abbrev behind_spot : (x : Indexed) (es : List Indexed) (version : ℕ) (e : Indexed) → has_version version x ≡ false → Spot es version e → Spot (x ∷ es) version e
+behind_spot x es version e other s = record {
+  place = suc s.place;
+  there = s.there;
+  then_is = λ f i. (cond (other i) (f x) x).listed ∷ s.then_is f i;
+}
+
+pub spot_of_version : (es : List Indexed) (version : ℕ) (e : Indexed) → AreRising (map (λ (d : Indexed). d.listed.version) es) → entry_at es version ≡ Some e → Spot es version e
+spot_of_version [] version e rising is = absurd (none-some e is)
+spot_of_version (x ∷ es) version e rising is = at (has_version version x) refl is (spot_of_version es version e rising.1)
+  where
+    at : (t : Bool) → has_version version x ≡ t → cond t (Some x) (entry_at es version) ≡ Some e → (entry_at es version ≡ Some e → Spot es version e) → Spot (x ∷ es) version e
+    at true here found rest =
+        let same : x ≡ e = same_Some x e found in
+        subst (λ (d : Indexed). Spot (x ∷ es) version d) same (subst (λ (v : ℕ). Spot (x ∷ es) v x) (eqb-true x.listed.version version here) (here_spot x es rising))
+    at false here found rest = behind_spot x es version e here (rest found)
+
+-- ---- the first that passes
+
+-- the first entry whose listed record passes
+pub record First (P : Listed → Bool) (es : List Indexed) (e : Indexed) : Type 0 where
+  pub spot : Spot es e.listed.version e
+  pub before : prefix_len (λ (d : Listed). not (P d)) (listed_in es) ≡ spot.place
+  pub entry : entry_at es e.listed.version ≡ Some e
+  pub passes : P e.listed ≡ true
+
+one_more : (n : ℕ) → 1 + n ≡ suc n
+one_more n = omega arith
+
+pub first_of_all : (P : Listed → Bool) (es : List Indexed) (e : Indexed) → AreRising (map (λ (d : Indexed). d.listed.version) es) → find (λ (d : Indexed). P d.listed) es ≡ Some e → First P es e
+first_of_all P [] e rising is = absurd (none-some e is)
+first_of_all P (x ∷ es) e rising is = at (P x.listed) refl is (first_of_all P es e rising.1)
+  where
+    at : (t : Bool) → P x.listed ≡ t → cond t (Some x) (find (λ (d : Indexed). P d.listed) es) ≡ Some e → (find (λ (d : Indexed). P d.listed) es ≡ Some e → First P es e) → First P (x ∷ es) e
+    at true here found more = subst (First P (x ∷ es)) (same_Some x e found) (record {
+      spot = here_spot x es rising;
+      before = (λ i. cond (not (here i)) (1 + prefix_len (λ (d : Listed). not (P d)) (listed_in es)) 0);
+      entry = (λ i. cond (eq-eqb x.listed.version x.listed.version refl i) (Some x) (entry_at es x.listed.version));
+      passes = here;
+    })
+    at false here found more =
+        let rest = more found in
+        let lt : x.listed.version < e.listed.version = all_member (λ (v : ℕ). x.listed.version < v) (map (λ (d : Indexed). d.listed.version) es) e.listed.version rising.0
+        (member_map (λ (d : Indexed). d.listed.version) es e (found_there (λ (d : Indexed). P d.listed) es e found)) in
+        let other : has_version e.listed.version x ≡ false = ne_eqb x.listed.version e.listed.version (λ same. omega arith) in record {
+          spot = behind_spot x es e.listed.version e other rest.spot;
+          before = (λ i. cond (not (here i)) (1 + prefix_len (λ (d : Listed). not (P d)) (listed_in es)) 0) ∙ one_more (prefix_len (λ (d : Listed). not (P d)) (listed_in es)) ∙ ap suc rest.before;
+          entry = (λ i. cond (other i) (Some x) (entry_at es e.listed.version)) ∙ rest.entry;
+          passes = rest.passes;
+        }
+
+-- so it is by its position
+pub least_of : (P : Listed → Bool) (es : List Indexed) (e : Indexed) (f : First P es e) → position P (listed_in es) ≡ Some f.spot.place
+least_of P es e f =
+    let lt = slice_get_within (listed_in es) f.spot.place e.listed f.spot.there in
+    ap (λ (n : ℕ). cond (nat_lt n (length (listed_in es))) (Some n) None) f.before ∙ ap (λ (t : Bool). cond t (Some f.spot.place) None) (lt-ltb f.spot.place (length (listed_in es)) lt)
+
+-- ---- the answers of the calls
+
+pub record Answered (o : Option Indexed) (r : Rec) : Type 0 where
+  pub entry : Indexed
+  pub is : o ≡ Some entry
+  pub record_ : IsRecordOf entry r
+
+pub answered : (o : Option Indexed) (r : Rec) → IsAnswer o (Some r) → Answered o r
+answered None r is = absurd is
+answered (Some e) r is = record { entry = e; is = refl; record_ = is }
+
+pub unanswered : (o : Option Indexed) → IsAnswer o None → o ≡ None
+unanswered None is = refl
+unanswered (Some e) is = absurd is
+
+version_in : (o : Option Indexed) (version : ℕ) → option_map (λ (e : Indexed). e.listed.version) o ≡ Some version → (e : Indexed) × (o ≡ Some e) × (e.listed.version ≡ version)
+version_in None version is = absurd (none-some version is)
+version_in (Some e) version is = (e, refl, same_Some e.listed.version version is)
+
+-- ---- marks
+
+marks_from : (marks : List Bool) (k h : ℕ) → ((i : ℕ) → i < length marks → has_bit h (k + i) ≡ get_or marks i false) → marks ≡ map (has_bit h) (range_with_len k (length marks))
+marks_from [] k h same = refl
+marks_from (x ∷ marks) k h same =
+    let here : has_bit h k ≡ x = let e : k + 0 ≡ k = omega arith in rw e at (same 0 (omega arith)) in
+    let rest = marks_from marks (k + 1) h (λ i lt. let e : k + 1 + i ≡ k + suc i = omega arith in rw e (same (suc i) (omega arith))) in
+    λ i. sym here i ∷ rest i
+
+-- the blocks of a mask become homed, beside those that were
+pub homed_then : (e : Indexed) (due : ℕ → Bool) (homed mask : ℕ) → length e.listed.homed ≡ length e.listed.keep → IsMask e.listed.first (is_homed e.listed) homed → IsMask e.listed.first due mask
+    → (with_homed (bit_or homed mask) e).listed ≡ homing due e.listed
+homed_then e due homed mask marks bits dues = λ i. record e.listed { homed = same i }
+  where
+    were : e.listed.homed ≡ marks_of (length e.listed.keep) homed
+    were = marks_from e.listed.homed 0 homed (λ i lt.
+        let zero_ : 0 + i ≡ i = omega arith in
+        let le : leb e.listed.first (e.listed.first + i) ≡ true = le-leb e.listed.first (e.listed.first + i) (omega arith) in
+        let place : e.listed.first + i - e.listed.first ≡ i = omega arith in
+        ap (has_bit homed) zero_ ∙ bits i ∙ rw (le, place) refl)
+        ∙ ap (λ (n : ℕ). marks_of n homed) marks
+
+    same : marks_of (length e.listed.keep) (bit_or homed mask) ≡ remarked e.listed.first e.listed.homed (λ b m. m || due b)
+    same = remarked-marks_of e.listed.first (length e.listed.keep) homed (bit_or homed mask) (λ b m. m || due b) (λ j. has_bit-or homed mask j ∙ ap (λ (t : Bool). has_bit homed j || t) (dues j))
+        ∙ ap (λ (l : List Bool). remarked e.listed.first l (λ b m. m || due b)) (sym were)
+
+remarked_same : (b : ℕ) (marks : List Bool) (f g : ℕ → Bool → Bool) → ((i : ℕ) (m : Bool) → f (b + i) m ≡ g (b + i) m) → remarked b marks f ≡ remarked b marks g
+remarked_same b [] f g same = refl
+remarked_same b (m ∷ marks) f g same =
+    let here : f b m ≡ g b m = let e : b + 0 ≡ b = omega arith in rw e at (same 0 m) in
+    let rest = remarked_same (b + 1) marks f g (λ i t. let e : b + 1 + i ≡ b + (i + 1) = omega arith in rw e (same (i + 1) t)) in
+    λ i. here i ∷ rest i
+
+-- the blocks of a mask are given up
+pub given_then : (es : List Listed) (e : Indexed) (given : ℕ) → IsMask e.listed.first (goes es e.listed) given → (given_up given e).listed ≡ keeping es e.listed
+given_then es e given bits = λ i. record e.listed { keep = same e.listed.keep i; homed = same e.listed.homed i }
+  where
+    same : (marks : List Bool) → remarked e.listed.first marks (λ b m. m && not (in_mask e.listed.first given b)) ≡ remarked e.listed.first marks (λ b m. m && not (goes es e.listed b))
+    same marks = remarked_same e.listed.first marks (λ b m. m && not (in_mask e.listed.first given b)) (λ b m. m && not (goes es e.listed b)) (λ i m. ap (λ (t : Bool). m && not t) (in_mask-bit e.listed.first given i ∙ bits i))
+
+-- ---- what is left
+
+pub record Around {X : Type 0} (xs : List X) (k : ℕ) (x : X) : Type 0 where
+  pub front : List X
+  pub back : List X
+  pub is : xs ≡ front ++ x ∷ back
+  pub set : (y : X) → slice_set xs k y ≡ front ++ y ∷ back
+
+around : {X : Type 0} (xs : List X) (k : ℕ) (x : X) → slice_get xs k ≡ Some x → Around xs k x
+around [] k x is = absurd (none-some x is)
+around (z ∷ xs) zero x is = record { front = []; back = xs; is = λ i. same_Some z x is i ∷ xs; set = λ y. refl }
+around (z ∷ xs) (suc k) x is = let rest = around xs k x is in record { front = z ∷ rest.front; back = rest.back; is = λ i. z ∷ rest.is i; set = λ y i. z ∷ rest.set y i }
+
+given_lowers : (listed : List Listed) (place : ℕ) (x : Listed) → slice_get listed place ≡ Some x → has_going listed x ≡ true → left (filter keeps_a_block (slice_set listed place (keeping listed x))) < left listed
+given_lowers listed place x is some =
+    let a = around listed place x is in
+    let f = any_found (goes listed x) (block_numbers x) some in
+    let lower = giving_up_lowers a.front a.back x f.item (subst (λ (l : List Listed). goes l x f.item ≡ true) a.is f.passes) in
+    let now : filter keeps_a_block (slice_set listed place (keeping listed x)) ≡ filter keeps_a_block (a.front ++ keeping (a.front ++ x ∷ a.back) x ∷ a.back) = ap (filter keeps_a_block) (a.set (keeping listed x) ∙ (λ i. a.front ++ keeping (a.is i) x ∷ a.back)) in
+    let l = ap left now in let r = ap left a.is in
+    omega (arith, lower, l, r)
+
+put_lowers : (listed : List Listed) (place : ℕ) (x : Listed) → slice_get listed place ≡ Some x → length x.homed ≡ length x.keep → has_due listed x ≡ true → left (slice_set listed place (homing (is_due listed x) x)) < left listed
+put_lowers listed place x is sized some =
+    let a = around listed place x is in
+    let f = any_found (is_due listed x) (block_numbers x) some in
+    let lower = putting_lowers a.front a.back x (is_due listed x) f.item sized (λ c p. subst (λ (l : List Listed). is_due l x c ≡ true) a.is p) f.passes in
+    let l = ap left (a.set (homing (is_due listed x) x)) in let r = ap left a.is in
+    omega (arith, lower, l, r)
+
+-- ---- the steps
+
+pub all_changed : (P : Indexed → Type 0) (version : ℕ) (f : Indexed → Indexed) → ((d : Indexed) → P d → P (f d)) → (es : List Indexed) → AllByRecursion P es → AllByRecursion P (changed version f es)
+all_changed P version f so [] all = tt
+all_changed P version f so (x ∷ es) all = (at (has_version version x), all_changed P version f so es all.1)
+  where
+    at : (t : Bool) → P (cond t (f x) x)
+    at true = so x all.0
+    at false = all.0
+
+pub some_of : {X : Type 0} (P : X → Type 0) (o : Option X) (x : X) → IfSome o P → o ≡ Some x → P x
+some_of P None x is same = absurd (none-some x same)
+some_of P (Some y) x is same = let Q : _ → Type 0 = λ z. P z in subst Q (same_Some y x same) is
+
+filter_listed : (xs : List Indexed) → listed_in (filter (λ (d : Indexed). keeps_a_block d.listed) xs) ≡ filter keeps_a_block (listed_in xs)
+filter_listed [] = refl
+filter_listed (x ∷ xs) = at (keeps_a_block x.listed) (filter_listed xs)
+  where
+    at : (t : Bool) → listed_in (filter (λ (d : Indexed). keeps_a_block d.listed) xs) ≡ filter keeps_a_block (listed_in xs)
+        → listed_in (cond t (x ∷ filter (λ (d : Indexed). keeps_a_block d.listed) xs) (filter (λ (d : Indexed). keeps_a_block d.listed) xs)) ≡ cond t (x.listed ∷ filter keeps_a_block (listed_in xs)) (filter keeps_a_block (listed_in xs))
+    at true rest = λ i. x.listed ∷ rest i
+    at false rest = rest
+
+module _ (r : Reach) (ups : List Bool) (next : ℕ) (es : List Indexed) (index : IsIndex es) (version : ℕ) (rec : Rec) (there : IsAnswer (entry_at es version) (Some rec)) where
+  module _ (P : Listed → Bool) (first : first_version (λ (d : Indexed). P d.listed) es ≡ Some version) where
+    found : (e : Indexed) × (find (λ (d : Indexed). P d.listed) es ≡ Some e) × (e.listed.version ≡ version)
+    found = version_in (find (λ (d : Indexed). P d.listed) es) version first
+
+    its : First P es found.0
+    its = first_of_all P es found.0 index.rising found.1
+
+    entry : entry_at es version ≡ Some found.0
+    entry = ap (entry_at es) (sym found.2) ∙ its.entry
+
+    lane : rec.lane ≡ found.0.listed.lane
+    lane = let a = answered (entry_at es version) rec there in a.record_.lane ∙ ap (λ (d : Indexed). d.listed.lane) (same_Some a.entry found.0 (sym a.is ∙ entry))
+
+    marks : length found.0.listed.homed ≡ length found.0.listed.keep
+    marks = (all_member (λ (d : Indexed). IsEntry (listed_in es) d.listed) es found.0 index.each (found_there (λ (d : Indexed). P d.listed) es found.0 found.1)).homed.marks
+
+    then : (f : Indexed → Indexed) → listed_in (changed version f es) ≡ slice_set (listed_in es) its.spot.place (f found.0).listed
+    then f = ap (λ (v : ℕ). listed_in (changed v f es)) (sym found.2) ∙ its.spot.then_is f
+
+  module _ (first : first_version (can_go_home ups es) es ≡ Some version) (homed mask : ℕ) (homes : IfSome (entry_at es version) (λ e. IsMask e.listed.first (is_homed e.listed) homed))
+      (dues : IfSome (entry_at es version) (λ e. IsMask e.listed.first (is_due (listed_in es) e.listed) mask)) where
+    abbrev P : Listed → Bool
+    P d = slice_index_or ups d.lane false && has_due (listed_in es) d
+
+    abbrev e : Indexed
+    e = (found P first).0
+
+    listed_then : listed_in (changed version (with_homed (bit_or homed mask)) es) ≡ slice_set (listed_in es) (its P first).spot.place (homing (is_due (listed_in es) e.listed) e.listed)
+    listed_then = then P first (with_homed (bit_or homed mask))
+        ∙ ap (slice_set (listed_in es) (its P first).spot.place) (homed_then e (is_due (listed_in es) e.listed) homed mask (marks P first)
+        (some_of (λ (d : Indexed). IsMask d.listed.first (is_homed d.listed) homed) (entry_at es version) e homes (entry P first))
+        (some_of (λ (d : Indexed). IsMask d.listed.first (is_due (listed_in es) d.listed) mask) (entry_at es version) e dues (entry P first)))
+
+    pub put_done : put_step r (record { home_up = true; ups = ups; next = next; listed = listed_in es })
+        ≡ Some (record { look = record { home_up = true; ups = ups; next = next; listed = listed_in (changed version (with_homed (bit_or homed mask)) es) }; uses = logger_at r rec.lane ∷ r.own ∷ [] })
+    put_done =
+        let l : Look = record { home_up = true; ups = ups; next = next; listed = listed_in es } in
+        ap (step_at (put_home r) l) (least_of P es e (its P first)) ∙ ap (option_map (put_home r l (its P first).spot.place)) (its P first).spot.there
+        ∙ (λ i. Some (record { look = record { home_up = true; ups = ups; next = next; listed = (sym listed_then) i }; uses = logger_at r (sym (lane P first) i) ∷ r.own ∷ [] }))
+
+    pub put_less : left (listed_in (changed version (with_homed (bit_or homed mask)) es)) < left (listed_in es)
+    put_less =
+        let same = ap left listed_then in
+        let less = put_lowers (listed_in es) (its P first).spot.place e.listed (its P first).spot.there (marks P first) (and_parts (slice_index_or ups e.listed.lane false) (has_due (listed_in es) e.listed) (its P first).passes).1 in
+        omega (arith, same, less)
+
+  module _ (first : first_version (can_go ups es) es ≡ Some version) (home_up : Bool) (given : ℕ) (bits : IfSome (entry_at es version) (λ e. IsMask e.listed.first (goes (listed_in es) e.listed) given)) where
+    abbrev Q : Listed → Bool
+    Q d = slice_index_or ups d.lane false && has_going (listed_in es) d
+
+    abbrev g : Indexed
+    g = (found Q first).0
+
+    kept_then : listed_in (filter (λ (d : Indexed). keeps_a_block d.listed) (changed version (given_up given) es)) ≡ filter keeps_a_block (slice_set (listed_in es) (its Q first).spot.place (keeping (listed_in es) g.listed))
+    kept_then = filter_listed (changed version (given_up given) es) ∙ ap (filter keeps_a_block) (then Q first (given_up given)
+        ∙ ap (slice_set (listed_in es) (its Q first).spot.place) (given_then (listed_in es) g given (some_of (λ (d : Indexed). IsMask d.listed.first (goes (listed_in es) d.listed) given) (entry_at es version) g bits (entry Q first))))
+
+    pub give_done : give_step r (record { home_up = home_up; ups = ups; next = next; listed = listed_in es })
+        ≡ Some (record { look = record { home_up = home_up; ups = ups; next = next; listed = listed_in (filter (λ (d : Indexed). keeps_a_block d.listed) (changed version (given_up given) es)) }; uses = logger_at r rec.lane ∷ [] })
+    give_done =
+        let l : Look = record { home_up = home_up; ups = ups; next = next; listed = listed_in es } in
+        ap (step_at (give_up r) l) (least_of Q es g (its Q first)) ∙ ap (option_map (give_up r l (its Q first).spot.place)) (its Q first).spot.there
+        ∙ (λ i. Some (record { look = record { home_up = home_up; ups = ups; next = next; listed = (sym kept_then) i }; uses = logger_at r (sym (lane Q first) i) ∷ [] }))
+
+    pub give_less : left (listed_in (filter (λ (d : Indexed). keeps_a_block d.listed) (changed version (given_up given) es))) < left (listed_in es)
+    give_less =
+        let same = ap left kept_then in
+        let less = given_lowers (listed_in es) (its Q first).spot.place g.listed (its Q first).spot.there (and_parts (slice_index_or ups g.listed.lane false) (has_going (listed_in es) g.listed) (its Q first).passes).1 in
+        omega (arith, same, less)
+
+-- the records stay among their lanes and versions
+pub homed_logged : (lanes next version mask : ℕ) (es : List Indexed) → AllByRecursion (IsLogged lanes next) es → AllByRecursion (IsLogged lanes next) (changed version (with_homed mask) es)
+homed_logged lanes next version mask es all = all_changed (IsLogged lanes next) version (with_homed mask) (λ d is. record { lane = is.lane; version = is.version }) es all
+
+pub given_logged : (lanes next version mask : ℕ) (es : List Indexed) → AllByRecursion (IsLogged lanes next) es → AllByRecursion (IsLogged lanes next) (filter (λ (d : Indexed). keeps_a_block d.listed) (changed version (given_up mask) es))
+given_logged lanes next version mask es all = all_filter (IsLogged lanes next) (λ (d : Indexed). keeps_a_block d.listed) (changed version (given_up mask) es) (all_changed (IsLogged lanes next) version (given_up mask) (λ d is. record { lane = is.lane; version = is.version }) es all)
+
+-- ---- a volume's steps
+
+pub index_same : (xs : List ℕ) (k d e : ℕ) → k < length xs → slice_index_or xs k d ≡ slice_index_or xs k e
+index_same [] k d e lt = absurd (omega arith)
+index_same (x ∷ xs) zero d e lt = refl
+index_same (x ∷ xs) (suc k) d e lt = index_same xs k d e (omega arith)
+
+-- a record's logger
+pub lane_of : (v : Volume) (version : ℕ) (rec : Rec) → IsVolume v → IsAnswer (entry_at v.index.entries version) (Some rec) → rec.lane < length v.loggers.items
+lane_of v version rec volume there =
+    let a = answered (entry_at v.index.entries version) rec there in
+    let in_ = all_member (IsLogged (length v.ups.items) v.next) v.index.entries a.entry volume.logged (found_there (has_version version) v.index.entries a.entry a.is) in
+    let lt = in_.lane in let same = a.record_.lane in let flags = volume.flags in omega (arith, lt, same, flags)
+
+pub logger_of : (v : Volume) (version : ℕ) (rec : Rec) (disk : ℕ) → IsVolume v → IsAnswer (entry_at v.index.entries version) (Some rec) → disk ≡ slice_index_or v.loggers.items rec.lane disk
+    → logger_at (reach_in v) rec.lane ≡ disk
+logger_of v version rec disk volume there is = index_same v.loggers.items rec.lane v.own disk (lane_of v version rec volume there) ∙ sym is
+
+-- the logger's disk is among the disks
+pub logger_within : (xs : List ℕ) (k disk n : ℕ) → k < length xs → disk ≡ slice_index_or xs k disk → AllByRecursion (λ d. d < n) xs → disk < n
+logger_within [] k disk n lt is all = absurd (omega arith)
+logger_within (x ∷ xs) zero disk n lt is all = let here : x < n = all.0 in omega (arith, is, here)
+logger_within (x ∷ xs) (suc k) disk n lt is all = logger_within xs k disk n (omega arith) is all.1
+
+pub put_answered : (v : Volume) (version : ℕ) (rec : Rec) (homed mask disk : ℕ) (after : Contents) → v.home_up ≡ true → IsVolume v → IsIndex v.index.entries → IsAnswer (entry_at v.index.entries version) (Some rec)
+    → first_version (can_go_home v.ups.items v.index.entries) v.index.entries ≡ Some version → IfSome (entry_at v.index.entries version) (λ e. IsMask e.listed.first (is_homed e.listed) homed)
+    → IfSome (entry_at v.index.entries version) (λ e. IsMask e.listed.first (is_due (listed_in v.index.entries) e.listed) mask)
+    → after.entries ≡ changed version (with_homed (bit_or homed mask)) v.index.entries → disk ≡ slice_index_or v.loggers.items rec.lane disk
+    → put_step (reach_in v) (look_in v) ≡ put_answer (reach_in v) (look_in (record v { index = after })) (Some disk)
+put_answered v version rec homed mask disk after up volume index there first homes dues entries is =
+    subst (λ (h : Bool). put_step (reach_in v) (record { home_up = h; ups = v.ups.items; next = v.next; listed = listed_in v.index.entries })
+    ≡ Some (record { look = record { home_up = h; ups = v.ups.items; next = v.next; listed = listed_in after.entries }; uses = disk ∷ v.own ∷ [] })) (sym up)
+    (put_done (reach_in v) v.ups.items v.next v.index.entries index version rec there first homed mask homes dues
+    ∙ (λ i. Some (record { look = record { home_up = true; ups = v.ups.items; next = v.next; listed = listed_in (sym entries i) }; uses = logger_of v version rec disk volume there is i ∷ v.own ∷ [] })))
+
+pub give_answered : (v : Volume) (version : ℕ) (rec : Rec) (given disk : ℕ) (after : Contents) → IsVolume v → IsIndex v.index.entries → IsAnswer (entry_at v.index.entries version) (Some rec)
+    → first_version (can_go v.ups.items v.index.entries) v.index.entries ≡ Some version → IfSome (entry_at v.index.entries version) (λ e. IsMask e.listed.first (goes (listed_in v.index.entries) e.listed) given)
+    → after.entries ≡ filter (λ (d : Indexed). keeps_a_block d.listed) (changed version (given_up given) v.index.entries) → disk ≡ slice_index_or v.loggers.items rec.lane disk
+    → give_step (reach_in v) (look_in v) ≡ give_answer (look_in (record v { index = after })) (Some disk)
+give_answered v version rec given disk after volume index there first bits entries is =
+    give_done (reach_in v) v.ups.items v.next v.index.entries index version rec there first v.home_up given bits
+    ∙ (λ i. Some (record { look = record { home_up = v.home_up; ups = v.ups.items; next = v.next; listed = listed_in (sym entries i) }; uses = logger_of v version rec disk volume there is i ∷ [] }))
+
+-- the volume with another index
+pub with_index : (v : Volume) (after : Contents) → IsVolume v → v.settled ≡ false → AllByRecursion (IsLogged (length v.ups.items) v.next) after.entries → IsVolume (record v { index = after })
+with_index v after volume unsettled logged = record { few = volume.few; flags = volume.flags; rooms_ = volume.rooms_; logged = logged; settled = λ is. absurd (false≢true (sym unsettled ∙ is)) }
+
+-- ---- no step
+
+version_none : (o : Option Indexed) → option_map (λ (e : Indexed). e.listed.version) o ≡ None → o ≡ None
+version_none None is = refl
+version_none (Some e) is = absurd (none-some e.listed.version (sym is))
+
+pub no_place : (P : Listed → Bool) (es : List Indexed) → first_version (λ (d : Indexed). P d.listed) es ≡ None → position P (listed_in es) ≡ None
+no_place P es is = none_passes P (listed_in es) (none_mapped P (λ (d : Indexed). d.listed) es (found_none (λ (d : Indexed). P d.listed) es (version_none (find (λ (d : Indexed). P d.listed) es) is)))
+
+-- a record is found exactly where it has a place
+pub some_place : (P : Listed → Bool) (es : List Indexed) → position P (listed_in es) ≡ None → first_version (λ (d : Indexed). P d.listed) es ≡ None
+some_place P es is = ap (option_map (λ (e : Indexed). e.listed.version)) (none_found (λ (d : Indexed). P d.listed) es (none_unmapped P (λ (d : Indexed). d.listed) es (passes_none P (listed_in es) is)))
+
+pub no_put : (r : Reach) (v : Volume) → first_version (can_go_home v.ups.items v.index.entries) v.index.entries ≡ None → next_due (look_in v) ≡ None
+no_put r v is = at v.home_up
+  where
+    at : (h : Bool) → cond h (position (λ (d : Listed). slice_index_or v.ups.items d.lane false && has_due (listed_in v.index.entries) d) (listed_in v.index.entries)) None ≡ None
+    at true = no_place (λ (d : Listed). slice_index_or v.ups.items d.lane false && has_due (listed_in v.index.entries) d) v.index.entries is
+    at false = refl
+
+pub no_give : (v : Volume) → first_version (can_go v.ups.items v.index.entries) v.index.entries ≡ None → next_to_go (look_in v) ≡ None
+no_give v is = no_place (λ (d : Listed). slice_index_or v.ups.items d.lane false && has_going (listed_in v.index.entries) d) v.index.entries is
+
+pub step_none : (f : Look → ℕ → Listed → Action) (l : Look) (o : Option ℕ) → o ≡ None → step_at f l o ≡ None
+step_none f l o is = ap (step_at f l) is
+
+-- whether there is a record to put home
+pub same_none : (v : Volume) → v.home_up ≡ true → is_none (first_version (can_go_home v.ups.items v.index.entries) v.index.entries) ≡ is_none (next_due (look_in v))
+same_none v up = at (first_version (can_go_home v.ups.items v.index.entries) v.index.entries) (position (λ (d : Listed). slice_index_or v.ups.items d.lane false && has_due (listed_in v.index.entries) d) (listed_in v.index.entries)) refl refl
+    ∙ ap (λ (h : Bool). is_none (cond h (position (λ (d : Listed). slice_index_or v.ups.items d.lane false && has_due (listed_in v.index.entries) d) (listed_in v.index.entries)) None)) (sym up)
+  where
+    at : (o q : Option ℕ) → first_version (can_go_home v.ups.items v.index.entries) v.index.entries ≡ o → position (λ (d : Listed). slice_index_or v.ups.items d.lane false && has_due (listed_in v.index.entries) d) (listed_in v.index.entries) ≡ q → is_none (first_version (can_go_home v.ups.items v.index.entries) v.index.entries) ≡ is_none (position (λ (d : Listed). slice_index_or v.ups.items d.lane false && has_due (listed_in v.index.entries) d) (listed_in v.index.entries))
+    at None q none place = ap is_none none ∙ sym (ap is_none (no_place (λ (d : Listed). slice_index_or v.ups.items d.lane false && has_due (listed_in v.index.entries) d) v.index.entries none))
+    at (Some version) None some place = absurd (none-some version (sym (some_place (λ (d : Listed). slice_index_or v.ups.items d.lane false && has_due (listed_in v.index.entries) d) v.index.entries place) ∙ some))
+    at (Some version) (Some k) some place = ap is_none some ∙ sym (ap is_none place)

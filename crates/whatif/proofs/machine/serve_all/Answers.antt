@@ -1,0 +1,26 @@
+-- One request more was served.
+use Rattle.std.proofs.Common.{◌≡◌, ◌<◌, ◌≤◌, ◌+◌, ◌++◌, ℕ, List, [], ◌∷◌, length, map, get_or, take, refl, sym, ap, subst, ◌∙◌, arith}
+use Rattle.std.proofs.lemmas.List.{take_all}
+use Rattle.wol_model.specs.declared.trace.Kind.TheVariants as kind
+use Rattle.whatif.specs.declared.policy.Ask.{Ask}
+use Rattle.whatif.specs.Machine.{Turn, asking}
+use Rattle.whatif.specs.Stands.{AreReady, HaveTurned}
+use Rattle.whatif.proofs.Lists.{got_at, same_default}
+use Rattle.whatif.proofs.Turning.{asked_more, turned_more}
+use Rattle.whatif.proofs.machine.serve_all.Goals as goal
+
+pub loop-place-preserved : goal.loop-place-preserved
+loop-place-preserved c =
+    let i = c.loop-place.invariant in let k = c.loop-place.place in let e = c.in_ok-serve.ensures in
+    let none : Ask = record { volume = 0; kind = kind.Read; lbn = 0; count = 0 } in
+    let a = get_or c.args.asks.now k none in
+    let sum : c.args.asked + k + 1 ≡ c.args.asked + (k + 1) = omega arith in record {
+      ready = subst (λ (n : ℕ). AreReady c.serve.new.volumes c.serve.new.disks n c.args.moment) sum e.ready;
+      turned = subst (λ (ts : List Turn). HaveTurned ts c.args.volumes.now c.args.disks.now c.serve.new.volumes c.serve.new.disks)
+          (sym (asked_more c.args.asks.now k a (got_at c.args.asks.now k a c.loop-place-test.true (same_default c.args.asks.now k none a c.loop-place-test.true))))
+          (turned_more (map asking (take k c.args.asks.now)) (asking a ∷ []) c.args.volumes.now c.loop-place.volumes c.serve.new.volumes c.args.disks.now c.loop-place.disks c.serve.new.disks i.turned e.turn);
+    }
+
+pub returns-clause-turns : goal.returns-clause-turns
+returns-clause-turns c =
+    subst (λ (l : List Ask). HaveTurned (map asking l) c.args.volumes.now c.args.disks.now c.loop-place.volumes c.loop-place.disks) (take_all c.loop-place.place c.args.asks.now c.loop-place-test.false) c.loop-place.invariant.turned

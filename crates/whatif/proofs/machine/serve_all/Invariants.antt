@@ -1,0 +1,10 @@
+use Rattle.std.proofs.Common.{◌≡◌, ◌+◌, length, map, take}
+use Rattle.whatif.specs.Machine.{asking}
+use Rattle.whatif.specs.Stands.{AreReady, HaveTurned}
+use Rattle.whatif.proofs.machine.serve_all.Given as goal
+
+abbrev pub invariant-loop-place : goal.invariant-loop-place
+invariant-loop-place l = record {
+  ready : AreReady l.volumes l.disks (l.asked + l.place) l.moment;
+  turned : HaveTurned (map asking (take l.place l.asks)) l.initial.volumes l.initial.disks l.volumes l.disks;
+}

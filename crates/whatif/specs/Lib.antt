@@ -1,0 +1,7 @@
+pub mod Machine
+pub mod Policies
+pub mod Disks
+pub mod Volumes
+pub mod Stands
+pub mod Lines
+pub mod Laws

@@ -1,0 +1,59 @@
+-- What the program has of a volume, and what its actions do.
+use Rattle.std.specs.Prelude.{◌≡◌, ℕ, ◌<◌, ◌≤◌, Bool, true, List, [], ◌∷◌, length, Option, None, Some, replicate}
+use Rattle.std.specs.List.{AllByRecursion}
+use Rattle.offload_policy.specs.declared.Room.TheVariants.{Yes}
+use Rattle.wol_model.specs.Index.{Indexed, listed_in}
+use Rattle.wol_model.specs.Journal.{SpindleState}
+use Rattle.wol_promise.specs.Policy.{Look}
+use Rattle.whatif.specs.declared.disk.Disk.{Disk}
+use Rattle.whatif.specs.declared.volume.Volume.{Volume}
+use Rattle.whatif.specs.Disks.{AreDisks}
+use Rattle.whatif.specs.Machine.{Reach, Action, next_due, next_to_go, all_accessed}
+use Rattle.whatif.specs.Machine as machine
+
+abbrev pub reach_in : Volume → Reach
+reach_in v = record { own = v.own; loggers = v.loggers.items }
+
+abbrev pub look_in : Volume → Look
+look_in v = record { home_up = v.home_up; ups = v.ups.items; next = v.next; listed = listed_in v.index.entries }
+
+abbrev pub volume_in : Volume → machine.Volume
+volume_in v = record { reach = reach_in v; look = look_in v }
+
+-- its disks are among so many
+pub record IsWithin (disks : ℕ) (r : Reach) : Type 0 where
+  pub own : r.own < disks
+  pub loggers : AllByRecursion (λ d. d < disks) r.loggers
+
+-- a record has a logger, and a version that was given
+pub record IsLogged (lanes next : ℕ) (e : Indexed) : Type 0 where
+  pub lane : e.listed.lane < lanes
+  pub version : e.listed.version < next
+
+-- with no further disk awake there is nothing to reclaim
+pub record IsSettled (l : Look) : Type 0 where
+  pub due : next_due l ≡ None
+  pub going : next_to_go l ≡ None
+
+-- what is so of each volume between its actions
+pub record IsVolume (v : Volume) : Type 0 where
+  pub few : length v.loggers.items ≤ 64
+  pub flags : length v.ups.items ≡ length v.loggers.items
+  pub rooms_ : v.rooms.items ≡ replicate (length v.loggers.items) Yes
+  pub logged : AllByRecursion (IsLogged (length v.ups.items) v.next) v.index.entries
+  pub settled : v.settled ≡ true → IsSettled (look_in v)
+
+-- a volume did this, and used disks for it
+pub record HasDone (action : Reach → Look → Action) (old new : Volume) (was is : List Disk) : Type 0 where
+  pub reach : reach_in new ≡ reach_in old
+  pub look : look_in new ≡ (action (reach_in old) (look_in old)).look
+  pub disks : (timeout : ℕ) (ss : List SpindleState) → AreDisks was ss → AreDisks is (all_accessed timeout (action (reach_in old) (look_in old)).uses ss)
+
+-- a step of reclaim that was done, by the disk of the logger that it used
+abbrev pub put_answer : Reach → Look → Option ℕ → Option Action
+put_answer r l None = None
+put_answer r l (Some logger) = Some (record { look = l; uses = logger ∷ r.own ∷ [] })
+
+abbrev pub give_answer : Look → Option ℕ → Option Action
+give_answer l None = None
+give_answer l (Some logger) = Some (record { look = l; uses = logger ∷ [] })

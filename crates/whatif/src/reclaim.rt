@@ -1,0 +1,130 @@
+// What a volume puts home and gives up after a window.
+ghost use Rattle.std.specs.Prelude.{◌≡◌, ◌<◌, ◌≤◌, ℕ, true, false, List, length, IfNone, IfSome, None, is_none};
+ghost use Rattle.std.specs.List.{AllByRecursion};
+ghost use Rattle.wol_model.specs.Index.{left, listed_in};
+ghost use Rattle.whatif.specs.Machine.{Reach, give_step, put_step, next_due, next_to_go, reclaiming, repeated};
+ghost use Rattle.whatif.specs.Disks.{IsKept, moments_of};
+ghost use Rattle.whatif.specs.Volumes.{HasDone, IsVolume, IsWithin, give_answer, look_in, put_answer, reach_in};
+
+use crate::disk::{Disk, access_at};
+use crate::volume::Volume;
+use garbage_list::{due, may_go, next_due, next_to_go};
+
+impl Volume {
+    // The due blocks of the record of least version within reach go home. Answers the disk of its logger.
+    fn put_home(&mut self) -> Option<u32>
+        requires volume { IsVolume self.old }
+        requires settled { self.old.settled ≡ false }
+        ensures volume { IsVolume self.new }
+        ensures settled { self.new.settled ≡ false }
+        ensures reach { reach_in self.new ≡ reach_in self.old }
+        ensures next { self.new.next ≡ self.old.next }
+        ensures none { IfNone result ((next_due (look_in self.old) ≡ None) × (self.new ≡ self.old)) }
+        ensures step { put_step (reach_in self.old) (look_in self.old) ≡ put_answer (reach_in self.old) (look_in self.new) result }
+        ensures within { IfSome result (λ d. (disks : ℕ) → IsWithin disks (reach_in self.old) → d < disks) }
+        ensures lowers { IfSome result (λ d. left (listed_in self.new.index.entries) < left (listed_in self.old.index.entries)) }
+    {
+        if !self.home_up {
+            return None;
+        }
+        let version = next_due(&self.index, self.ups.as_slice())?;
+        let record = self.index.find(version)?;
+        let homed = self.index.homed(version) | due(&self.index, version);
+        self.index.set_homed(version, homed);
+        Some(self.loggers[record.lane as usize])
+    }
+
+    // The record of least version within reach of which blocks may go gives these up. Answers the disk of its logger.
+    fn give_up(&mut self) -> Option<u32>
+        requires volume { IsVolume self.old }
+        requires settled { self.old.settled ≡ false }
+        ensures volume { IsVolume self.new }
+        ensures settled { self.new.settled ≡ false }
+        ensures reach { reach_in self.new ≡ reach_in self.old }
+        ensures next { self.new.next ≡ self.old.next }
+        ensures none { IfNone result ((next_to_go (look_in self.old) ≡ None) × (self.new ≡ self.old)) }
+        ensures step { give_step (reach_in self.old) (look_in self.old) ≡ give_answer (look_in self.new) result }
+        ensures within { IfSome result (λ d. (disks : ℕ) → IsWithin disks (reach_in self.old) → d < disks) }
+        ensures lowers { IfSome result (λ d. left (listed_in self.new.index.entries) < left (listed_in self.old.index.entries)) }
+    {
+        let version = next_to_go(&self.index, self.ups.as_slice())?;
+        let record = self.index.find(version)?;
+        let given = may_go(&self.index, version);
+        self.index.trim(version, given);
+        Some(self.loggers[record.lane as usize])
+    }
+
+    // All that is due within reach goes home.
+    fn put_all_home(&mut self, disks: &mut [Disk])
+        requires volume { IsVolume self.old }
+        requires settled { self.old.settled ≡ false }
+        requires within { IsWithin (length disks.old) (reach_in self.old) }
+        requires kept { AllByRecursion IsKept disks.old }
+        ensures volume { IsVolume self.new }
+        ensures settled { self.new.settled ≡ false }
+        ensures kept { AllByRecursion IsKept disks.new }
+        ensures moments { moments_of disks.new ≡ moments_of disks.old }
+        ensures next { self.new.next ≡ self.old.next }
+        ensures none { next_due (look_in self.new) ≡ None }
+        ensures done { HasDone (λ r l. repeated (left l.listed) (put_step r) l) self.old self.new disks.old disks.new }
+    {
+        'steps: loop {
+            match self.put_home() {
+                None => return,
+                Some(logger) => {
+                    access_at(disks, logger);
+                    access_at(disks, self.own);
+                }
+            }
+        }
+    }
+
+    // All that may go within reach is given up.
+    fn give_all_up(&mut self, disks: &mut [Disk])
+        requires volume { IsVolume self.old }
+        requires settled { self.old.settled ≡ false }
+        requires within { IsWithin (length disks.old) (reach_in self.old) }
+        requires kept { AllByRecursion IsKept disks.old }
+        ensures volume { IsVolume self.new }
+        ensures settled { self.new.settled ≡ false }
+        ensures kept { AllByRecursion IsKept disks.new }
+        ensures moments { moments_of disks.new ≡ moments_of disks.old }
+        ensures next { self.new.next ≡ self.old.next }
+        ensures none { next_to_go (look_in self.new) ≡ None }
+        ensures done { HasDone (λ r l. repeated (left l.listed) (give_step r) l) self.old self.new disks.old disks.new }
+    {
+        'steps: loop {
+            match self.give_up() {
+                None => return,
+                Some(logger) => access_at(disks, logger),
+            }
+        }
+    }
+
+    // Whether nothing is due within reach.
+    fn has_nothing_due(&self) -> bool
+        requires { IsVolume self.now }
+        ensures { result ≡ is_none (next_due (look_in self.now)) }
+    {
+        !self.home_up || next_due(&self.index, self.ups.as_slice()).is_none()
+    }
+
+    /// Puts home what is due, and then gives up what may go.
+    pub(crate) fn reclaim(&mut self, disks: &mut [Disk])
+        requires volume { IsVolume self.old }
+        requires within { IsWithin (length disks.old) (reach_in self.old) }
+        requires kept { AllByRecursion IsKept disks.old }
+        ensures volume { IsVolume self.new }
+        ensures kept { AllByRecursion IsKept disks.new }
+        ensures moments { moments_of disks.new ≡ moments_of disks.old }
+        ensures next { self.new.next ≡ self.old.next }
+        ensures done { HasDone reclaiming self.old self.new disks.old disks.new }
+    {
+        if self.settled {
+            return;
+        }
+        self.put_all_home(disks);
+        self.give_all_up(disks);
+        self.settled = self.has_nothing_due();
+    }
+}

@@ -1,0 +1,230 @@
+// One volume: what of it is logged, which disks it sees awake, and what its requests do.
+ghost use Rattle.std.specs.Prelude.{◌≡◌, ◌<◌, ◌≤◌, ◌+◌, ◌-◌, ◌^◌, ◌&&◌, ℕ, not, false, List, length, slice_set, slice_index_or, OnOk, IfOk, None};
+ghost use Rattle.std.specs.List.{AllByRecursion};
+ghost use Rattle.wol_model.specs.Journal.{SpindleState};
+ghost use Rattle.wol_model.specs.Index.{listed_in};
+ghost use Rattle.wol_model.specs.Placing.{Log};
+ghost use Rattle.wol_promise.specs.Policy.{placed, woken};
+ghost use Rattle.whatif.specs.Machine.{Reach, answering, first_look, reading, seeing, source_of, write_of, writing};
+ghost use Rattle.whatif.specs.Disks.{AreDisks, IsKept, moments_of};
+ghost use Rattle.whatif.specs.Volumes.{HasDone, IsVolume, IsWithin, look_in, reach_in, volume_in};
+
+use crate::disk::{Disk, access_at};
+use crate::policy::Ask;
+use offload_policy::{Room, Step, place};
+use redirect_map::{Index, Rec};
+use std::alloc::Global;
+use wol_disk::NoMemory;
+use wol_model::Kind;
+
+/// A volume, and the disks that it may use.
+#[derive(Drop)]
+pub(crate) struct Volume {
+    /// Its own disk.
+    pub own: u32,
+    /// The disks of its loggers, in the order of its view.
+    pub loggers: Vec<u32>,
+    /// What is known of the loggers' room: there always is some.
+    pub rooms: Vec<Room>,
+    /// Whether its own disk counts as awake.
+    pub home_up: bool,
+    /// Whether the loggers' disks count as awake.
+    pub ups: Vec<bool>,
+    /// The version of the next write to a log.
+    pub next: u64,
+    pub index: Index,
+    /// Whether nothing is left to reclaim while no further disk counts as awake and nothing further is logged.
+    pub settled: bool,
+}
+
+// The mask of a record that keeps all its blocks.
+fn all_kept(count: u32) -> u128
+    requires { (1 ≤ count) × (count ≤ 128) }
+    ensures { result ≡ 2 ^ count - 1 }
+{
+    u128::MAX >> (128 - count)
+}
+
+impl Volume {
+    /// A volume of which nothing is logged, and which counts all disks as awake.
+    pub(crate) fn new(alloc: Global, own: u32, loggers: Vec<u32>) -> Result<Volume, NoMemory>
+        requires few { length loggers.items ≤ 64 }
+        ensures volume { IfOk result IsVolume }
+        ensures reach { IfOk result (λ v. reach_in v ≡ record { own = own; loggers = loggers.items }) }
+        ensures look { IfOk result (λ v. look_in v ≡ first_look (reach_in v)) }
+    {
+        let count = loggers.len();
+        Ok(Volume {
+            own,
+            loggers,
+            rooms: vec![in alloc; Room::Yes; count]?,
+            home_up: true,
+            ups: vec![in alloc; true; count]?,
+            next: 1,
+            index: Index::new(alloc),
+            settled: false,
+        })
+    }
+
+    // Its own disk counts as awake.
+    fn see_home(&mut self, awake: bool)
+        requires volume { IsVolume self.old }
+        ensures volume { IsVolume self.new }
+        ensures flag { self.new.home_up ≡ awake }
+        ensures rest { self.new ≡ record self.old { home_up = self.new.home_up; settled = self.new.settled } }
+    {
+        self.settled &= !awake | self.home_up;
+        self.home_up = awake;
+    }
+
+    // The disk of the logger at this place of the view counts as awake, or not.
+    fn see_logger(&mut self, lane: usize, awake: bool)
+        requires volume { IsVolume self.old }
+        requires within { lane < length self.old.ups.items }
+        ensures volume { IsVolume self.new }
+        ensures flag { self.new.ups.items ≡ slice_set self.old.ups.items lane awake }
+        ensures rest { self.new ≡ record self.old { ups = self.new.ups; settled = self.new.settled } }
+    {
+        self.settled &= !awake | self.ups[lane];
+        self.ups[lane] = awake;
+    }
+
+    /// Sees which disks are awake.
+    pub(crate) fn see(&mut self, disks: &[Disk])
+        requires volume { IsVolume self.old }
+        requires within { IsWithin (length disks.now) (reach_in self.old) }
+        ensures volume { IsVolume self.new }
+        ensures seen { (ss : List SpindleState) → AreDisks disks.now ss → volume_in self.new ≡ seeing ss (volume_in self.old) }
+        ensures reach { reach_in self.new ≡ reach_in self.old }
+        ensures next { self.new.next ≡ self.old.next }
+    {
+        self.see_home(disks[self.own as usize].is_awake());
+        for lane in 0..self.loggers.len() {
+            let disk = self.loggers[lane] as usize;
+            self.see_logger(lane, disks[disk].is_awake());
+        }
+    }
+
+    // The disk that has the block counts as awake. Answers which it is.
+    fn wake_source(&mut self, lbn: u64) -> u32
+        requires volume { IsVolume self.old }
+        ensures volume { IsVolume self.new }
+        ensures source { result ≡ source_of (reach_in self.old) (listed_in self.old.index.entries) lbn }
+        ensures look { look_in self.new ≡ woken (look_in self.old) lbn 1 }
+        ensures reach { reach_in self.new ≡ reach_in self.old }
+    {
+        match self.index.newest(lbn) {
+            Some(record) => {
+                let lane = record.lane as usize;
+                self.see_logger(lane, true);
+                self.loggers[lane]
+            }
+            None => {
+                self.see_home(true);
+                self.own
+            }
+        }
+    }
+
+    // Reads blocks, each from the disk that has it.
+    fn read(&mut self, disks: &mut [Disk], lbn: u64, count: u32)
+        requires volume { IsVolume self.old }
+        requires within { IsWithin (length disks.old) (reach_in self.old) }
+        requires kept { AllByRecursion IsKept disks.old }
+        requires blocks { lbn + count ≤ 2 ^ 32 }
+        ensures volume { IsVolume self.new }
+        ensures kept { AllByRecursion IsKept disks.new }
+        ensures moments { moments_of disks.new ≡ moments_of disks.old }
+        ensures done { HasDone (reading lbn count) self.old self.new disks.old disks.new }
+    {
+        for i in 0..count {
+            let disk = self.wake_source(lbn + u64::from(i));
+            access_at(disks, disk);
+        }
+    }
+
+    // Adds a record to the log on the logger at this place of the view.
+    fn log(&mut self, lane: u32, lbn: u64, count: u32) -> Result<(), NoMemory>
+        requires volume { IsVolume self.old }
+        requires lane { lane < length self.old.ups.items }
+        requires next { self.old.next < 2 ^ 63 }
+        requires some { 1 ≤ count }
+        requires few { count ≤ 128 }
+        requires blocks { lbn + count ≤ 2 ^ 32 }
+        ensures volume { OnOk result (IsVolume self.new) }
+        ensures look { OnOk result (look_in self.new ≡ placed (Log lane) (look_in self.old) (write_of lbn count)) }
+        ensures reach { OnOk result (reach_in self.new ≡ reach_in self.old) }
+    {
+        self.index.reserve(1)?;
+        self.index.add(Rec {
+            version: self.next,
+            lbn,
+            count,
+            keep: all_kept(count),
+            lane,
+            segment: 0,
+            pos: 0,
+        });
+        self.next += 1;
+        self.ups[lane as usize] = true;
+        self.settled = false;
+        Ok(())
+    }
+
+    // Writes blocks where the rule of placing says.
+    fn write(&mut self, disks: &mut [Disk], lbn: u64, count: u32) -> Result<(), NoMemory>
+        requires volume { IsVolume self.old }
+        requires within { IsWithin (length disks.old) (reach_in self.old) }
+        requires kept { AllByRecursion IsKept disks.old }
+        requires next { self.old.next < 2 ^ 63 }
+        requires some { 1 ≤ count }
+        requires few { count ≤ 128 }
+        requires blocks { lbn + count ≤ 2 ^ 32 }
+        ensures volume { OnOk result (IsVolume self.new) }
+        ensures kept { OnOk result (AllByRecursion IsKept disks.new) }
+        ensures moments { OnOk result (moments_of disks.new ≡ moments_of disks.old) }
+        ensures done { OnOk result (HasDone (writing lbn count) self.old self.new disks.old disks.new) }
+    {
+        let covered = self.index.covered(lbn, count);
+        match place(
+            self.home_up,
+            covered,
+            self.ups.as_slice(),
+            self.rooms.as_slice(),
+        ) {
+            Step::Home | Step::WakeHome => {
+                self.see_home(true);
+                access_at(disks, self.own);
+            }
+            Step::Log(lane) | Step::WakeLog(lane) | Step::Ask(lane) => {
+                self.log(lane, lbn, count)?;
+                access_at(disks, self.loggers[lane as usize]);
+            }
+            Step::Full => {}
+        }
+        Ok(())
+    }
+
+    /// Does what is asked of the volume.
+    pub(crate) fn serve(&mut self, disks: &mut [Disk], ask: &Ask) -> Result<(), NoMemory>
+        requires volume { IsVolume self.old }
+        requires within { IsWithin (length disks.old) (reach_in self.old) }
+        requires kept { AllByRecursion IsKept disks.old }
+        requires next { self.old.next < 2 ^ 63 }
+        requires some { 1 ≤ ask.now.count }
+        requires few { ask.now.count ≤ 128 }
+        requires blocks { ask.now.lbn + ask.now.count ≤ 2 ^ 32 }
+        ensures volume { OnOk result (IsVolume self.new) }
+        ensures kept { OnOk result (AllByRecursion IsKept disks.new) }
+        ensures moments { OnOk result (moments_of disks.new ≡ moments_of disks.old) }
+        ensures done { OnOk result (HasDone (answering ask.now.kind ask.now.lbn ask.now.count) self.old self.new disks.old disks.new) }
+    {
+        match ask.kind {
+            Kind::Read => {
+                self.read(disks, ask.lbn, ask.count);
+                Ok(())
+            }
+            Kind::Write => self.write(disks, ask.lbn, ask.count),
+        }
+    }
+}
