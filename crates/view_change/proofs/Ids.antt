@@ -1,6 +1,6 @@
 -- The ids of a view that is changed are those of a view.
-use Rattle.std.proofs.Common.{◌≡◌, ◌≢◌, ◌<◌, ◌≤◌, ◌+◌, ◌^◌, ℕ, zero, suc, Bool, true, false, List, [], ◌∷◌, ◌++◌, length, cond, refl, sym, ap, subst, ◌∙◌, arith, length-append}
-use Rattle.std.specs.Prelude.{◌==◌, not, filter, Contains}
+use Rattle.std.proofs.Common.{◌≢◌, ◌<◌, ◌≤◌, ◌^◌, ℕ, zero, suc, Bool, true, false, List, [], ◌∷◌, ◌++◌, length, take, cond, arith, length-append}
+use Rattle.std.specs.Prelude.{filter, Contains}
 use Rattle.std.specs.List.{AllByRecursion}
 use Rattle.wol_model.specs.Blocks.{AreApart}
 use Rattle.wol_model.specs.Heads.{IsViewList}
@@ -31,24 +31,36 @@ view_with ids id is none room fits = record {
 module _ {X : Type 0} (P : X → Type 0) (p : X → Bool) where
   all_of_some : (xs : List X) → AllByRecursion P xs → AllByRecursion P (filter p xs)
   all_of_some [] all = tt
-  all_of_some (x ∷ xs) all = elim (p x) [
-    | true ↦ (all.0, all_of_some xs all.1)
-    | false ↦ all_of_some xs all.1
-  ]
+  all_of_some (x ∷ xs) all = go (p x) (all_of_some xs all.1)
+    where
+      go : (b : Bool) → AllByRecursion P (filter p xs) → AllByRecursion P (cond b (x ∷ filter p xs) (filter p xs))
+      go true rest = (all.0, rest)
+      go false rest = rest
 
 fewer : {X : Type 0} (p : X → Bool) (xs : List X) → length (filter p xs) ≤ length xs
 fewer p [] = omega arith
-fewer p (x ∷ xs) = let less = fewer p xs in elim (p x) [
-  | true ↦ omega (arith, less)
-  | false ↦ omega (arith, less)
-]
+fewer p (x ∷ xs) = go (p x) (fewer p xs)
+  where
+    go : (b : Bool) → length (filter p xs) ≤ length xs → length (cond b (x ∷ filter p xs) (filter p xs)) ≤ length (x ∷ xs)
+    go true less = omega (arith, less)
+    go false less = omega (arith, less)
+
+short : {X : Type 0} (n : ℕ) (xs : List X) → length (take n xs) ≤ n
+short zero xs = omega arith
+short (suc n) [] = omega arith
+short (suc n) (x ∷ xs) = let less = short n xs in omega (arith, less)
+
+-- of the first so many there are no more
+pub front_is_short : {X : Type 0} (p : X → Bool) (xs : List X) (n : ℕ) → length (filter p (take n xs)) ≤ n
+front_is_short p xs n = let less = fewer p (take n xs) in let front = short n xs in omega (arith, less, front)
 
 apart_some : (p : ℕ → Bool) (xs : List ℕ) → AreApart xs → AreApart (filter p xs)
 apart_some p [] apart = tt
-apart_some p (x ∷ xs) apart = elim (p x) [
-  | true ↦ (all_of_some (λ w. x ≢ w) p xs apart.0, apart_some p xs apart.1)
-  | false ↦ apart_some p xs apart.1
-]
+apart_some p (x ∷ xs) apart = go (p x) (apart_some p xs apart.1)
+  where
+    go : (b : Bool) → AreApart (filter p xs) → AreApart (cond b (x ∷ filter p xs) (filter p xs))
+    go true rest = (all_of_some (λ w. x ≢ w) p xs apart.0, rest)
+    go false rest = rest
 
 pub view_without : (p : ℕ → Bool) (ids : List ℕ) → IsViewList ids → IsViewList (filter p ids)
 view_without p ids is = record {

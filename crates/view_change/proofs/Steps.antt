@@ -1,5 +1,5 @@
 -- The steps of a drain, one after another.
-use Rattle.std.proofs.Common.{◌≡◌, ℕ, Bool, List, Option, None, Result, Ok, Err, refl, sym, ap, subst}
+use Rattle.std.proofs.Common.{◌≡◌, ℕ, Bool, List, Result, Ok, Err, subst}
 use Rattle.std.specs.Prelude.{IsTrue}
 use Rattle.wol_disk.specs.Disk.{State}
 use Rattle.wol_promise.specs.Ruled.{Noted}

@@ -1,5 +1,5 @@
 -- The turn of a drain, from entering to leaving.
-use Rattle.std.proofs.Common.{◌≡◌, ℕ, Bool, true, false, List, [], ◌∷◌, ◌++◌, Option, None, Some, Result, Ok, Err, refl, sym, ap, subst, ◌∙◌}
+use Rattle.std.proofs.Common.{◌≡◌, ℕ, Bool, true, false, List, [], ◌∷◌, ◌++◌, Result, Ok, Err, refl, sym, ap, subst, ◌∙◌}
 use Rattle.std.specs.Prelude.{IsSome, IfOk, IfErr, OnOk, OnErr}
 use Rattle.wol_disk.specs.Disk.{State}
 use Rattle.turn_lock.specs.Histories.{Entry, own, Begins}
@@ -16,7 +16,7 @@ use Rattle.manager.specs.declared.manager.Manager.{Manager}
 use Rattle.manager.specs.declared.part.StepFault.{StepFault}
 use Rattle.manager.specs.declared.part.StepFault.TheVariants.{DiskFault, Down}
 use Rattle.manager.proofs.Frames.{stands_kept, none_passed}
-use Rattle.request_turns.specs.Counts.{Counts, HasTaken, IsTakenOff}
+use Rattle.request_turns.specs.Counts.{Counts, HasTaken}
 use Rattle.request_turns.specs.Turns.{ManagerPass, coded, notes_seen, HasLeft, IsBroken}
 use Rattle.request_turns.specs.declared.tally.Tally.{Tally}
 use Rattle.request_turns.proofs.Counting.{all_taken}
@@ -39,7 +39,7 @@ module _ {D : Type 0} (tells : Bool) (state : D → State) (old new : Manager D)
   drain_stands b notes pass (Err (Down p)) keeps breaks k = kept b notes pass keeps k
 
   -- the turn, where it was drained, and where a step was refused
-  pub turned : (p i q : ManagerPass D) (answer : Result (ℕ × ℕ) StepFault) → IsSamePass p i → Begins (pass_seen p) (pass_seen i) → pass_mine i ≡ pass_mine p → own (pass_number i) (pass_seen i) ≡ pass_mine i
+  turned : (p i q : ManagerPass D) (answer : Result (ℕ × ℕ) StepFault) → IsSamePass p i → Begins (pass_seen p) (pass_seen i) → pass_mine i ≡ pass_mine p → own (pass_number i) (pass_seen i) ≡ pass_mine i
       → Stands tells state old (pass_lock i).base (notes_seen i) → Stands tells state new (pass_lock i).base (notes_seen i ++ drain_note (pass_number i) (drain_operation answer) (look_of_manager new) ∷ [])
       → Drains tells state (pass_lock i).base (notes_seen i) old new answer → HasLeft tells (drain_note (pass_number i) (drain_operation answer) (look_of_manager new)) i q
       → OnOk answer ((new.index.entries ≡ []) × (look_of_manager new ≡ drained (look_of_manager old))) → IfOk answer (TakesAll (look_of_manager old) (look_of_manager new)) → OnErr answer (IsBroken (notes_seen q))
@@ -65,8 +65,38 @@ module _ {D : Type 0} (tells : Bool) (state : D → State) (old new : Manager D)
   }
 
 -- what a drain answers instead of nothing
-pub drains_counted : {D T U : Type 0} (tells : Bool) (state : D → State) (b : ManagerBase) (notes : List Noted) (old new : Manager D) (x : T) (y : U) → Drains {T = T} tells state b notes old new (Ok x) → Drains {T = U} tells state b notes old new (Ok y)
+drains_counted : {D T U : Type 0} (tells : Bool) (state : D → State) (b : ManagerBase) (notes : List Noted) (old new : Manager D) (x : T) (y : U) → Drains {T = T} tells state b notes old new (Ok x) → Drains {T = U} tells state b notes old new (Ok y)
 drains_counted tells state b notes old new x y d = record { mid = d.mid; moves = d.moves; last = d.last }
 
-pub drains_refused : {D T U : Type 0} (tells : Bool) (state : D → State) (b : ManagerBase) (notes : List Noted) (old new : Manager D) (f : StepFault) → Drains {T = T} tells state b notes old new (Err f) → Drains {T = U} tells state b notes old new (Err f)
+drains_refused : {D T U : Type 0} (tells : Bool) (state : D → State) (b : ManagerBase) (notes : List Noted) (old new : Manager D) (f : StepFault) → Drains {T = T} tells state b notes old new (Err f) → Drains {T = U} tells state b notes old new (Err f)
 drains_refused tells state b notes old new f d = record { mid = d.mid; moves = d.moves; last = d.last }
+
+module _ {D : Type 0} (tells : Bool) (state : D → State) (old new : Manager D) (p i q : ManagerPass D) (same : IsSamePass p i) (begins : Begins (pass_seen p) (pass_seen i)) (mine : pass_mine i ≡ pass_mine p) (owns : own (pass_number i) (pass_seen i) ≡ pass_mine i)
+    (stood : Stands tells state old (pass_lock i).base (notes_seen i)) where
+  -- it was drained
+  pub turn_done : (answer : Result (Unit {0}) StepFault) (x : Unit {0}) (none done : Tally) → answer ≡ Ok x → Stands tells state new (pass_lock i).base (notes_seen i ++ drain_note (pass_number i) (drain_operation answer) (look_of_manager new) ∷ [])
+      → ((b : ManagerBase) (notes : List Noted) → Keeps tells state old b notes → Drains tells state b notes old new answer) → HasLeft tells (drain_note (pass_number i) (drain_operation answer) (look_of_manager new)) i q
+      → OnOk answer ((new.index.entries ≡ []) × (look_of_manager new ≡ drained (look_of_manager old))) → Counts 0 0 none → OnOk answer (HasTaken none done (look_of_manager old) (look_of_manager new))
+      → HasDrainedAll tells state p q (Ok (done.blocks, done.records))
+  turn_done (Ok y) x none done is stands drains left bare zero taken =
+      turned tells state old new p i q (Ok (done.blocks, done.records)) same begins mine owns stood stands
+      (drains_counted tells state (pass_lock i).base (notes_seen i) old new y (done.blocks, done.records) (drains (pass_lock i).base (notes_seen i) stood.keeps)) left bare
+      (all_taken none done (look_of_manager old) (look_of_manager new) zero taken) tt
+  turn_done (Err f) x none done is stands drains left bare zero taken = absurd (let no : Err f ≡ Ok x = is in cc)
+
+  -- a step was refused
+  refused_turn : (f : StepFault) → Stands tells state new (pass_lock i).base (notes_seen i ++ drain_note (pass_number i) (drain_operation {T = Unit {0}} (Err f)) (look_of_manager new) ∷ [])
+      → Drains {T = Unit {0}} tells state (pass_lock i).base (notes_seen i) old new (Err f) → HasLeft tells (drain_note (pass_number i) (drain_operation {T = Unit {0}} (Err f)) (look_of_manager new)) i q → IsBroken (notes_seen q)
+      → HasDrainedAll tells state p q (Err f)
+  refused_turn (DiskFault d) stands drains left broken =
+      turned tells state old new p i q (Err (DiskFault d)) same begins mine owns stood stands (drains_refused tells state (pass_lock i).base (notes_seen i) old new (DiskFault d) drains) left tt tt broken
+  refused_turn (Down d) stands drains left broken =
+      turned tells state old new p i q (Err (Down d)) same begins mine owns stood stands (drains_refused tells state (pass_lock i).base (notes_seen i) old new (Down d) drains) left tt tt broken
+
+  pub turn_refused : (answer : Result (Unit {0}) StepFault) (f : StepFault) → answer ≡ Err f → Stands tells state new (pass_lock i).base (notes_seen i ++ drain_note (pass_number i) (drain_operation answer) (look_of_manager new) ∷ [])
+      → ((b : ManagerBase) (notes : List Noted) → Keeps tells state old b notes → Drains tells state b notes old new answer) → HasLeft tells (drain_note (pass_number i) (drain_operation answer) (look_of_manager new)) i q
+      → IfErr answer (λ e. IsSome new.down) → (IsSome new.down → IsBroken (notes_seen q)) → HasDrainedAll tells state p q (Err f)
+  turn_refused (Ok y) f is stands drains left down broken = absurd (let no : Ok y ≡ Err f = is in cc)
+  turn_refused (Err e) f is stands drains left down broken =
+      let same_fault : e ≡ f = cc in
+      subst (λ (g : StepFault). HasDrainedAll tells state p q (Err g)) same_fault (refused_turn e stands (drains (pass_lock i).base (notes_seen i) stood.keeps) left (broken down))

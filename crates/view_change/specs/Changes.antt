@@ -1,5 +1,5 @@
 -- A change of a view: what becomes of its ids, when it is refused, and what the part of label and view shows meanwhile.
-use Rattle.std.specs.Prelude.{⊤, ◌≡◌, ◌≢◌, ◌⊎◌, ◌<◌, ◌≤◌, ◌==◌, ◌++◌, ℕ, not, List, [], ◌∷◌, length, filter, Some, Contains, Result, Ok, Err}
+use Rattle.std.specs.Prelude.{◌≡◌, ◌≢◌, ◌⊎◌, ◌<◌, ◌≤◌, ◌==◌, ◌++◌, ℕ, not, List, [], ◌∷◌, length, filter, Some, Contains, Result, Ok, Err}
 use Rattle.wol_disk.specs.Disk.{Block, Values, State, IsImageOf, reads}
 use Rattle.wol_model.specs.Heads.{Shape}
 use Rattle.logger_view.specs.Stored.{HasLabel, HasView, IsFirstFault, with_view}

@@ -1,5 +1,5 @@
 -- What one turn in which a volume is drained adds to its history, and what its steps do one after another.
-use Rattle.std.specs.Prelude.{⊤, ◌≡◌, ◌∷◌, ◌++◌, ℕ, Bool, false, List, [], Result, Ok, Err, IsTrue, IfOk, OnOk, OnErr}
+use Rattle.std.specs.Prelude.{◌≡◌, ◌∷◌, ◌++◌, ℕ, Bool, false, List, [], None, Result, Ok, Err, IsTrue, IfOk, OnOk, OnErr}
 use Rattle.wol_disk.specs.Disk.{State}
 use Rattle.turn_lock.specs.Histories.{Entry, own, Begins}
 use Rattle.turn_lock.specs.Passes.{pass_lock, pass_number, pass_seen, pass_mine, IsFree, IsSamePass}
@@ -12,7 +12,6 @@ use Rattle.manager.specs.Stands.{Keeps, Stands, notes_of}
 use Rattle.manager.specs.Stops.{Stops}
 use Rattle.manager.specs.declared.base.ManagerBase.{ManagerBase}
 use Rattle.manager.specs.declared.manager.Manager.{Manager}
-use Rattle.manager.specs.declared.part.Part.{Part}
 use Rattle.manager.specs.declared.part.StepFault.{StepFault}
 use Rattle.manager.specs.declared.part.StepFault.TheVariants.{DiskFault, Down}
 use Rattle.reclaimer.specs.Drains.{HasDrained}
@@ -20,7 +19,6 @@ use Rattle.reclaimer.specs.declared.answers.Drain.{Drain}
 use Rattle.reclaimer.specs.declared.answers.Drain.TheVariants.{Bare, Moved}
 use Rattle.request_turns.specs.Counts.{IsTakenOff}
 use Rattle.request_turns.specs.Turns.{ManagerPass, coded, notes_seen, IsBroken}
-use Rattle.request_turns.specs.declared.tally.Tally.{Tally}
 
 -- ---- Steps
 

@@ -94,7 +94,6 @@ pub fn change<D: Disk>(
 
     // at every moment within, an image is one at entry, or has the label as it reads and the new view
     ensures any_moment { LeavesOnly (state_of D.state label.old) (state_of D.state label.new) (MayShow own change.now (state_of D.state label.old)) }
-    ensures images { (c : List Block) → IsImageOf (state_of D.state label.new).values c → MayShow own change.now (state_of D.state label.old) c }
 
     // once it is done, each image has both
     ensures stored { IfOk result (λ new. (state_of D.state label.new).values ≡ option_map (λ vs. only (with_view new (reads vs))) (state_of D.state label.old).values) }

@@ -1,7 +1,6 @@
 -- What is left of the image of a volume whose view is changed.
-use Rattle.std.specs.Prelude.{⊤, ◌≡◌, ◌≢◌, ◌⊎◌, ◌<◌, ℕ, List, [], length, Option, Some, Result, Ok, Err, IfOk, Contains}
-use Rattle.std.specs.List.{AllByRecursion}
-use Rattle.wol_disk.specs.Disk.{Block, Rose, reads}
+use Rattle.std.specs.Prelude.{◌≡◌, ◌≢◌, ◌⊎◌, ℕ, List, take, Option, Some}
+use Rattle.wol_disk.specs.Disk.{Block, reads}
 use Rattle.wol_bay.specs.Bay.{Image, Name, Told, at_name}
 use Rattle.logger_view.specs.Stored.{with_view}
 use Rattle.volume_images.specs.Left.{AreNamedApart}
@@ -9,15 +8,16 @@ use Rattle.volume_images.specs.Volumes.{MayLeave}
 use Rattle.view_change.specs.Changes.{Allows, IsLoaded, changed}
 use Rattle.view_change.specs.declared.answers.Change.{Change}
 
--- the blocks are those of the image as it reads, with the new view of the view that it reads
+-- The blocks are those of an image that a crash might have left before, whose label and view are those that are read, with the new
+-- view in the place of that view.
 pub record ShowsNewView (name : Name) (own : ℕ) (change : Change) (t : Told) (c : List Block) : Type 0 where
-  pub image : Image
-  pub there : at_name name t.images ≡ Some image
-  pub whole : image.rest ≡ []
+  pub before : List Block
+  pub had : MayLeave (at_name name t.images) (Some before)
   pub ids : List ℕ
-  pub loaded : IsLoaded own (reads image.blocks) ids
+  pub loaded : IsLoaded own before ids
+  pub front : (i : Image) → at_name name t.images ≡ Some i → take 2 before ≡ take 2 (reads i.blocks)
   pub allowed : Allows ids change
-  pub is : c ≡ with_view (changed change ids) (reads image.blocks)
+  pub is : c ≡ with_view (changed change ids) before
 
 -- a crash leaves an image that shows the new view
 abbrev pub LeavesNewView : Name → (own : ℕ) → Change → Told → Option (List Block) → Type 0

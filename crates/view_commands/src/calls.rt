@@ -16,7 +16,7 @@ ghost use Rattle.volume_images.specs.Volumes.{NoneOut};
 use crate::draining::Draining;
 use crate::image::change_image;
 use crate::order::{Order, Stop, ViewRefusal};
-use crate::printing::view_line;
+use crate::printing::print_view;
 use log_layout::View;
 use open_rack::with_open;
 use std::alloc::Global;
@@ -28,13 +28,11 @@ use wol_disk::NoMemory;
 use wol_io::Sink;
 
 // The number of the volume of this name.
-fn number_named(volumes: &[VolumeConf], name: &str) -> Option<u32>
-    requires few { length volumes.now ≤ 64 }
+fn number_named(volumes: &[VolumeConf], name: &[u8]) -> Option<usize>
     ensures found { result ≡ number_named (names_of volumes.now) name.now }
     ensures within { IfSome result (λ number. number < length volumes.now) }
 {
-    let place = place_of(volumes, name.as_bytes())?;
-    Some(place as u32)
+    place_of(volumes, name)
 }
 
 // The place of the volume of this name.
@@ -103,15 +101,14 @@ pub fn change_view<R: Wait, K: Sink, B: Bay>(
     ensures later { K.faults out.old ≤ K.faults out.new }
     ensures content { ChangesView config.now order.now (B.state bay.old) (B.state bay.new) result (K.faults out.old) (K.faults out.new) (K.taken out.old) (K.taken out.new) }
 {
-    let Some(volume) = number_named(&config.volumes, order.volume) else {
+    let Some(volume) = number_named(&config.volumes, order.volume.as_bytes()) else {
         return Err(Stop::Refused(ViewRefusal::UnknownVolume));
     };
-    let Some(logger) = number_named(&config.volumes, order.logger) else {
+    let Some(logger) = number_named(&config.volumes, order.logger.as_bytes()) else {
         return Err(Stop::Refused(ViewRefusal::UnknownLogger));
     };
-    let change = order.change(logger);
+    let volume = volume as u32;
+    let change = order.change(logger as u32);
     let view = change_volume(rt, alloc, config, bay, volume, change)?;
-    let line = view_line(alloc, config, volume, &view)?;
-    out.write(&line)?;
-    Ok(())
+    print_view(alloc, config, volume, &view, out)
 }

@@ -1,4 +1,5 @@
 use Rattle.std.proofs.Common.{Ok, refl, subst, ◌∙◌}
+use Rattle.std.proofs.lemmas.Result.{err_from_is_err_and}
 use Rattle.manager.specs.Seen.{look_of_manager}
 use Rattle.reclaimer.specs.Counts.{CountsMoved}
 use Rattle.reclaimer.specs.declared.answers.Drain.{Drain}
@@ -32,3 +33,9 @@ steps-preserved g c = let e = c.in_ok-drain_step.ensures in let i = c.steps.inva
   taken = taken_both _ _ _ _ l m i.taken
       (record { blocks = c.in-Moved.blocks; records = c.in-Moved.records; taken = subst (λ (x : Drain). CountsMoved (Ok x) l m) c.in-Moved.is e.counted; counts = c.count.ensures });
 }
+
+pub returns-in_err-drain_step-clause-drains : goal.returns-in_err-drain_step-clause-drains
+returns-in_err-drain_step-clause-drains g c =
+    let p = err_from_is_err_and c.from_residual.result c.from_residual.ensures.1 in
+    let e = c.in_err-drain_step.ensures in
+    rw (p.1, p.2) (drains_err _ _ _ _ _ c.in_err-drain_step.field-0.0 c.steps.invariant.so e.fault e.drained e.any_moment)
