@@ -1,0 +1,4 @@
+pub mod Ids
+pub mod LabelPart
+pub mod Steps
+pub mod Turns

@@ -1,0 +1,44 @@
+use Rattle.std.proofs.Common.{◌≢◌, ◌<◌, rules}
+use Rattle.std.proofs.lemmas.Result.{err_from_is_err_and}
+use Rattle.wol_disk.specs.Disk.{reads}
+use Rattle.view_change.specs.Changes.{id_of}
+use Rattle.view_change.proofs.LabelPart.{load_refused, refused, while_stored, now_stored}
+use Rattle.view_change.proofs.changing.change.Goals as goal
+
+pub returns-in_err-view-clause-answer : goal.returns-in_err-view-clause-answer
+returns-in_err-view-clause-answer g c vs is =
+    let p = err_from_is_err_and c.from_residual.result c.from_residual.ensures.1 in
+    let less : id_of c.args.change.now < c.args.volumes = search rules in
+    let other : id_of c.args.change.now ≢ c.args.own = search rules in
+    rw (p.1, p.2) (load_refused c.args.own c.args.volumes c.args.change.now (reads vs) c.in_err-view.field-0.0 (less, other) (λ block e. c.in_err-view.ensures.damaged vs block is e))
+
+pub returns-in_err-new-clause-answer : goal.returns-in_err-new-clause-answer
+returns-in_err-new-clause-answer g c vs is =
+    let p = err_from_is_err_and c.from_residual-in_err-new.result c.from_residual-in_err-new.ensures.1 in
+    let v = c.in_ok-view.ensures in
+    let less : id_of c.args.change.now < c.args.volumes = search rules in
+    let other : id_of c.args.change.now ≢ c.args.own = search rules in
+    rw (p.1, p.2) (refused c.args.own c.args.volumes c.args.change.now (reads vs) c.in_ok-view.view c.in_err-new.field-0.0 (less, other)
+    (record { labelled = (_, _, v.label vs is); view = v.view vs is; others = v.others }) c.in_err-new.ensures.err)
+
+pub returns-in_err-store_view-clause-any_moment : goal.returns-in_err-store_view-clause-any_moment
+returns-in_err-store_view-clause-any_moment g c =
+    let v = c.in_ok-view.ensures in let n = c.in_ok-new.ensures.ok in
+    while_stored _ _ c.args.own c.args.change.now c.in_ok-view.view c.in_ok-new.new v.settled (λ vs is. record { labelled = (_, _, v.label vs is); view = v.view vs is; others = v.others }) n.0 n.1
+    v.any_moment c.in_err-store_view.ensures.any_moment
+
+pub returns-clause-answer : goal.returns-clause-answer
+returns-clause-answer g c vs is =
+    let v = c.in_ok-view.ensures in let n = c.in_ok-new.ensures.ok in
+    let less : id_of c.args.change.now < c.args.volumes = search rules in
+    let other : id_of c.args.change.now ≢ c.args.own = search rules in
+    ((less, other), c.in_ok-view.view, record { labelled = (_, _, v.label vs is); view = v.view vs is; others = v.others }, n.0, n.1)
+
+pub returns-clause-any_moment : goal.returns-clause-any_moment
+returns-clause-any_moment g c =
+    let v = c.in_ok-view.ensures in let n = c.in_ok-new.ensures.ok in
+    while_stored _ _ c.args.own c.args.change.now c.in_ok-view.view c.in_ok-new.new v.settled (λ vs is. record { labelled = (_, _, v.label vs is); view = v.view vs is; others = v.others }) n.0 n.1
+    v.any_moment c.in_ok-store_view.ensures.any_moment
+
+pub returns-clause-stored : goal.returns-clause-stored
+returns-clause-stored g c = now_stored _ _ _ c.in_ok-new.new c.in_ok-view.ensures.settled c.in_ok-store_view.ensures.settles

@@ -1,0 +1,2 @@
+pub mod DrainedRack
+pub mod Images

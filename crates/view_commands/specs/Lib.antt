@@ -1,0 +1,4 @@
+pub mod Orders
+pub mod Drains
+pub mod Images
+pub mod Runs

@@ -1,0 +1,5 @@
+//! Tests of views that are changed, over a bay in memory.
+#![tactic(auto)]
+
+#[cfg(test)]
+mod rows;
