@@ -1,0 +1,308 @@
+-- Chunk after chunk becomes tidy.
+use Rattle.std.proofs.Common.{◌≡◌, ◌⊎◌, inl, inr, ⊎_elim, ◌<◌, ◌≤◌, ◌+◌, ◌^◌, ℕ, zero, suc, Bool, true, false, ◌&&◌, List, [], ◌∷◌, ◌++◌, map, length, Some, Ok, Err, refl, sym, ap, subst, ◌∙◌, arith, leb, ltb, length-append}
+use Rattle.std.specs.Prelude.{Contains}
+use Rattle.std.specs.List.{AllByRecursion, range_with_len}
+use Rattle.std.proofs.lemmas.Bool.{cases_lt, leb-true, ltb-true, le-leb, lt-ltb}
+use Rattle.std.proofs.lemmas.List.{append-nil, map-append}
+use Rattle.std.proofs.lemmas.List.Sums.{sum_by-append}
+use Rattle.wol_disk.specs.Disk.{State}
+use Rattle.spin_model.specs.Spun.{state_of}
+use Rattle.wol_model.specs.Blocks.{Write}
+use Rattle.wol_model.specs.Index.{Listed, Indexed, listed_in, cover_of, block_numbers}
+use Rattle.wol_model.proofs.Counts.{marked_within}
+use Rattle.wol_promise.specs.Policy.{listing}
+use Rattle.wol_promise.proofs.Covers.{any_found}
+use Rattle.wol_promise.proofs.Lists.{all_push, all_mapped, all_map, all_member, range_push}
+use Rattle.redirect_map.specs.Index.{IsEntry, IsIndex}
+use Rattle.manager.specs.Stands.{IsInVolume, IsReady}
+use Rattle.manager.specs.declared.manager.Manager.{Manager}
+use Rattle.manager.specs.declared.part.Part.{Part}
+use Rattle.manager.specs.declared.part.StepFault.{StepFault}
+use Rattle.manager.specs.declared.part.StepFault.TheVariants as step
+use Rattle.manager.proofs.RunSources.{same_version}
+use Rattle.log_cleaner.specs.Chunks.{IsChunk, IsTidy, IsUppermost, KeepsJust, KeepsNone, NoneHomed, is_within}
+use Rattle.log_cleaner.specs.Cleans.{CanClean, HasCleaned, IsChunkOf, copied_blocks, covered_in}
+use Rattle.log_cleaner.specs.Steps.{GivesUp, HasCopied, HasRewritten, HasTidied, IsCopyAt, IsRefused, TellsFault, TidiesUp}
+use Rattle.log_cleaner.specs.Underway.{AreChunks, AreTidyBelow, CleansAll, CleansBy, EndsBy, HasCleanedSome}
+use Rattle.log_cleaner.specs.declared.answer.Cleaned.{Cleaned}
+use Rattle.log_cleaner.specs.declared.answer.CleanFault.{CleanFault}
+use Rattle.log_cleaner.specs.declared.answer.CleanFault.TheVariants.{DiskFault, VersionsSpent, NoMemory}
+use Rattle.log_cleaner.proofs.Chunking.{IsCutAt, chunk_at, cut_behind, cut_next, same_chunk}
+use Rattle.log_cleaner.proofs.Copying.{leaves_copies}
+use Rattle.log_cleaner.proofs.Stepping.{broken_then, copied_none, copied_then, empty_since}
+use Rattle.log_cleaner.proofs.Tidying.{clash, covers, listing_newest, listing_upper, member_unmap, upper_of_tidy, within_first}
+
+-- ---- Within
+
+pub inside_of : (first count b : ℕ) → is_within first count b ≡ true → (first ≤ b) × (b < first + count)
+inside_of first count b is = at (leb first b) refl is
+  where
+    at : (t : Bool) → leb first b ≡ t → (t && ltb b (first + count)) ≡ true → (first ≤ b) × (b < first + count)
+    at true low high = (leb-true first b low, ltb-true b (first + count) high)
+    at false low high = absurd (let wrong : false ≡ true = high in cc)
+
+pub of_inside : (first count b : ℕ) → first ≤ b → b < first + count → is_within first count b ≡ true
+of_inside first count b low high = (λ i. le-leb first b low i && ltb b (first + count)) ∙ lt-ltb b (first + count) high
+
+-- a covered block lies in the volume
+pub covered_within : {D : Type 0} (state : D → State) (m : Manager D) → IsReady state m → (b : ℕ) → covered_in m b ≡ true → b < (state_of state m.home).size
+covered_within state m ready b is =
+    let f = any_found (λ (e : Listed). covers e b) (listed_in m.index.entries) is in
+    let lies = all_member (λ (e : Listed). e.first + length e.keep ≤ (state_of state m.home).size) (listed_in m.index.entries) f.item
+    (all_mapped (λ (e : Listed). e.first + length e.keep ≤ (state_of state m.home).size) (λ (e : Indexed). e.listed) m.index.entries
+    (all_map (IsInVolume (state_of state m.home).size) (λ (e : Indexed). e.listed.first + length e.listed.keep ≤ (state_of state m.home).size) (λ e in_. in_.lies) m.index.entries ready.ranges)) f.among in
+    let w = marked_within f.item.first f.item.keep b f.passes in let h = w.1 in
+    omega (arith, lies, h)
+
+pub chunk_fits : {D : Type 0} (state : D → State) (m : Manager D) (first count : ℕ) → IsReady state m → 1 ≤ count → ((b : ℕ) → is_within first count b ≡ true → covered_in m b ≡ true) → first + count ≤ (state_of state m.home).size
+chunk_fits state m first zero ready some covered = absurd (omega (arith, some))
+chunk_fits state m first (suc n) ready some covered =
+    let lt = covered_within state m ready (first + n) (covered (first + n) (of_inside first (suc n) (first + n) (omega arith) (omega arith))) in omega (arith, lt)
+
+-- ---- One chunk
+
+module _ {D : Type 0} (tells : Bool) (state : D → State) (old mid new : Manager D) (first count : ℕ) (can : CanClean old) (ready : IsReady state old) (some : 1 ≤ count) (r : HasRewritten tells state first count old mid) where
+  unhomed : NoneHomed r.look.listed
+  unhomed = subst NoneHomed (sym r.listed_was) can.unhomed
+
+  below : AllByRecursion (λ (e : Listed). e.version < r.look.next) r.look.listed
+  below = subst (λ (es : List Listed). AllByRecursion (λ (e : Listed). e.version < r.look.next) es) (sym r.listed_was)
+      (subst (λ (n : ℕ). AllByRecursion (λ (e : Listed). e.version < n) (listed_in old.index.entries)) (sym r.next_was)
+      (all_mapped (λ (e : Listed). e.version < old.next) (λ (e : Indexed). e.listed) old.index.entries ready.below))
+
+  newest_ : IsUppermost (listed_in mid.index.entries) r.look.next first count
+  newest_ = subst (λ (es : List Listed). IsUppermost es r.look.next first count) (sym r.listed_is)
+      (subst (λ (n : ℕ). IsUppermost (listing r.look r.lane r.write) r.look.next first n) r.is_copy.count_is
+      (subst (λ (f : ℕ). IsUppermost (listing r.look r.lane r.write) r.look.next f (length r.write.blocks)) r.is_copy.first_is (listing_newest r.look r.lane r.write unhomed below)))
+
+  pub tidied : HasCopied tells state mid new [] → TidiesUp mid new → HasTidied tells state first count old new
+  tidied copied tidies = record {
+    write = r.write;
+    is_copy = r.is_copy;
+    copied = copied_then tells state old mid new (r.write ∷ []) [] can r.copied copied;
+    tidy = tidies r.look.next first count some newest_;
+    others = λ f c le apart t. tidies t.version f c le (subst (λ (es : List Listed). IsUppermost es t.version f c) (sym r.listed_is)
+        (listing_upper r.look r.lane r.write unhomed t.version f c
+        (λ b is. ap (λ (n : ℕ). is_within r.write.first n b) r.is_copy.count_is ∙ ap (λ (n : ℕ). is_within n count b) r.is_copy.first_is ∙ apart b is)
+        (subst (λ (es : List Listed). IsUppermost es t.version f c) (sym r.listed_was) (upper_of_tidy (listed_in old.index.entries) f c t))));
+  }
+
+  pub tidy_failing : (fault : StepFault) (result : CleanFault) → ((p : Part) → fault ≡ step.DiskFault p → result ≡ DiskFault p) → GivesUp tells state mid new (Err fault) → TellsFault tells state first count old new result
+  tidy_failing (step.DiskFault p) result is given = subst (TellsFault tells state first count old new) (sym (is p refl)) (record {
+    copies = r.write ∷ [];
+    one = omega arith;
+    are = (r.is_copy, tt);
+    broken = broken_then tells state old mid new p (r.write ∷ []) [] can r.copied given;
+  })
+  tidy_failing (step.Down p) result is given = absurd given
+
+-- ---- Several chunks
+
+-- a copy more
+pub chunks_more : (covered : ℕ → Bool) (most next first count : ℕ) (copies more : List Write) → AreChunks covered most next copies → IsChunk covered most first count → length more ≤ 1 → AllByRecursion (IsCopyAt first count (next + length copies)) more → AreChunks covered most next (copies ++ more)
+chunks_more covered most next first count copies [] are chunk one all = subst (AreChunks covered most next) (sym (append-nil copies)) are
+chunks_more covered most next first count copies (w ∷ []) are chunk one all = record {
+  chunks = all_push (IsChunkOf covered most) copies w are.chunks (subst (λ (f : ℕ). IsChunk covered most f (length w.blocks)) (sym all.0.first_is) (subst (IsChunk covered most first) (sym all.0.count_is) chunk));
+  numbered = map-append (λ (v : Write). v.version) copies (w ∷ []) ∙ (λ i. are.numbered i ++ all.0.version_is i ∷ [])
+      ∙ sym (ap (λ (n : ℕ). map (λ v. Some v) (range_with_len next n)) long ∙ ap (map (λ v. Some v)) (range_push next (length copies)) ∙ map-append (λ (v : ℕ). Some v) (range_with_len next (length copies)) ((next + length copies) ∷ []));
+}
+  where
+    long : length (copies ++ w ∷ []) ≡ suc (length copies)
+    long = let l = length-append copies (w ∷ []) in omega (arith, l)
+chunks_more covered most next first count copies (w ∷ v ∷ more) are chunk one all = absurd (omega (arith, one))
+
+pub chunks_none : (covered : ℕ → Bool) (most next : ℕ) → AreChunks covered most next []
+chunks_none covered most next = record { chunks = tt; numbered = refl }
+
+pub blocks_more : (copies : List Write) (w : Write) → copied_blocks (copies ++ w ∷ []) ≡ copied_blocks copies + length w.blocks
+blocks_more copies w = let e = sum_by-append (λ (v : Write). length v.blocks) copies (w ∷ []) in omega (arith, e)
+
+-- covered blocks as they were at the beginning, between chunks
+pub record Between {D : Type 0} (tells : Bool) (state : D → State) (most : ℕ) (old now : Manager D) (copied from : ℕ) : Type 0 where
+  pub copies : List Write
+  pub done : HasCleanedSome tells state most old now copies
+  pub count : copied ≡ copied_blocks copies
+  pub few : copied ≤ from
+  pub within : from ≤ 2 ^ 32
+  pub tidy : AreTidyBelow (covered_in old) most from (listed_in now.index.entries)
+  pub cut : covered_in old from ≡ true → IsCutAt (covered_in old) most from
+
+pub between_none : {D : Type 0} (tells : Bool) (state : D → State) (most : ℕ) (m : Manager D) → CanClean m → Between tells state most m m 0 0
+between_none tells state most m can = record {
+  copies = [];
+  done = record { chunks = chunks_none (covered_in m) most m.next; copied = copied_none tells state m can };
+  count = refl;
+  few = omega arith;
+  within = omega arith;
+  tidy = λ b lt is. absurd (omega (arith, lt));
+  cut = λ is. Rattle.log_cleaner.proofs.Chunking.cut_at_none (covered_in m) most;
+}
+
+module _ {D : Type 0} (tells : Bool) (state : D → State) (most : ℕ) (old now : Manager D) (copied from : ℕ) (can : CanClean old) (b : Between tells state most old now copied from)
+    (ready : IsReady state now) (lbn count : ℕ) (low : from ≤ lbn) (bare : (x : ℕ) → from ≤ x → x < lbn → covered_in now x ≡ false) (here : covered_in now lbn ≡ true)
+    (some : 1 ≤ count) (few : count ≤ most) (run : (x : ℕ) → lbn ≤ x → x < lbn + count → covered_in now x ≡ true) (ends : count < most → covered_in now (lbn + count) ≡ false) where
+  same_cover : (x : ℕ) → covered_in now x ≡ covered_in old x
+  same_cover x = b.done.copied.goes_on.covered x
+
+  pub chunk : IsChunk (covered_in old) most lbn count
+  chunk = chunk_at (covered_in old) most lbn count (cut_next (covered_in old) most from lbn b.cut low (λ x l h. sym (same_cover x) ∙ bare x l h) (sym (same_cover lbn) ∙ here)) some few
+      (λ x l h. sym (same_cover x) ∙ run x l h) (λ less. sym (same_cover (lbn + count)) ∙ ends less)
+
+  pub end_within : lbn + count ≤ 2 ^ 32
+  end_within = let fits = chunk_fits state now lbn count ready some (λ x is. let w = inside_of lbn count x is in run x w.0 w.1) in let small = ready.ready.home_small.1 in omega (arith, fits, small)
+
+  cut_then : covered_in old (lbn + count) ≡ true → IsCutAt (covered_in old) most (lbn + count)
+  cut_then is = cut_behind (covered_in old) most lbn count chunk is
+
+  -- one more is tidy
+  tidy_then : (es : List Listed) → AreTidyBelow (covered_in old) most from es → IsTidy es lbn count → AreTidyBelow (covered_in old) most (lbn + count) es
+  tidy_then es before now_ x lt is = at (cases_lt x from) (cases_lt x lbn)
+    where
+      at : (x < from) ⊎ (from ≤ x) → (x < lbn) ⊎ (lbn ≤ x) → (first : ℕ) × (n : ℕ) × IsChunk (covered_in old) most first n × (first ≤ x) × (x < first + n) × IsTidy es first n
+      at (inl l) other = before x l is
+      at (inr g) (inl l) = absurd (clash (covered_in old x) is (sym (same_cover x) ∙ bare x g l))
+      at (inr g) (inr h) = (lbn, count, chunk, h, lt, now_)
+
+  pub between_tidy : IsTidy (listed_in now.index.entries) lbn count → Between tells state most old now copied (lbn + count)
+  between_tidy t = record {
+    copies = b.copies;
+    done = b.done;
+    count = b.count;
+    few = let f = b.few in omega (arith, f, low);
+    within = end_within;
+    tidy = tidy_then (listed_in now.index.entries) b.tidy t;
+    cut = cut_then;
+  }
+
+  module _ (new : Manager D) where
+    next_is : now.next ≡ old.next + length b.copies
+    next_is = b.done.copied.next
+
+    pub between_copied : HasTidied tells state lbn count now new → Between tells state most old new (copied + count) (lbn + count)
+    between_copied t = record {
+      copies = b.copies ++ t.write ∷ [];
+      done = record {
+        chunks = chunks_more (covered_in old) most old.next lbn count b.copies (t.write ∷ []) b.done.chunks chunk (omega arith) (subst (λ (n : ℕ). IsCopyAt lbn count n t.write) next_is t.is_copy, tt);
+        copied = copied_then tells state old now new b.copies (t.write ∷ []) can b.done.copied t.copied;
+      };
+      count = let e = blocks_more b.copies t.write in let c = b.count in let n = t.is_copy.count_is in omega (arith, e, c, n);
+      few = let f = b.few in omega (arith, f, low);
+      within = end_within;
+      tidy = tidy_then (listed_in new.index.entries) (λ x lt is. let o = b.tidy x lt is in
+          (o.0, o.1, o.2, o.3, o.4, t.others o.0 o.1 o.2.some (λ y inside. apart_from x lt o.0 o.1 o.2 o.3 o.4 y inside) o.5)) t.tidy;
+      cut = cut_then;
+    }
+      where
+        apart_from : (x : ℕ) → x < from → (f n : ℕ) → IsChunk (covered_in old) most f n → f ≤ x → x < f + n → (y : ℕ) → is_within f n y ≡ true → is_within lbn count y ≡ false
+        apart_from x lt f n c l h y inside = Rattle.log_cleaner.proofs.Tidying.not_so (is_within lbn count y) (λ is.
+            let v = inside_of f n y inside in let w = inside_of lbn count y is in
+            let same = (same_chunk (covered_in old) most f n lbn count y c chunk v.0 v.1 w.0 w.1).0 in omega (arith, lt, l, same, low))
+
+    pub ends_full : IsRefused tells state now new → CleansBy tells state most old new b.copies (Ok (copied, true))
+    ends_full r = (
+      record { chunks = b.done.chunks; copied = subst (HasCopied tells state old new) (append-nil b.copies) (copied_then tells state old now new b.copies [] can b.done.copied r.copied) },
+      b.count,
+      λ wrong. absurd (let no_ : true ≡ false = wrong in cc),
+      λ yes_. (let e = r.copied.next in let n = r.next in omega (arith, e, n), empty_since old now new b.done.copied.goes_on r.empty),
+    )
+
+    pub ends_faulty : (fault : CleanFault) → TellsFault tells state lbn count now new fault → (copies : List Write) × EndsBy tells state most old new copies fault
+    ends_faulty (DiskFault p) f = (
+      b.copies ++ f.copies,
+      (
+        chunks_more (covered_in old) most old.next lbn count b.copies f.copies b.done.chunks chunk f.one (subst (λ (n : ℕ). AllByRecursion (IsCopyAt lbn count n) f.copies) next_is f.are),
+        broken_then tells state old now new p b.copies f.copies can b.done.copied f.broken,
+      ),
+    )
+    ends_faulty VersionsSpent f = (b.copies, (record { chunks = b.done.chunks; copied = subst (HasCopied tells state old new) (append-nil b.copies) (copied_then tells state old now new b.copies [] can b.done.copied f.0) }, f.1))
+    ends_faulty NoMemory f = (b.copies, record { chunks = b.done.chunks; copied = subst (HasCopied tells state old new) (append-nil b.copies) (copied_then tells state old now new b.copies [] can b.done.copied f) })
+
+-- all are tidy where no block is covered from here on
+pub ends_clean : {D : Type 0} (tells : Bool) (state : D → State) (most : ℕ) (old now : Manager D) (copied from : ℕ) → (b : Between tells state most old now copied from) → IsReady state now → IsIndex now.index.entries
+    → ((x : ℕ) → from ≤ x → x < 2 ^ 32 → covered_in now x ≡ false) → CleansBy tells state most old now b.copies (Ok (copied, false))
+ends_clean tells state most old now copied from b ready index bare = (
+  b.done,
+  b.count,
+  λ is. record { each = each; only = only },
+  λ wrong. absurd (let no_ : false ≡ true = wrong in cc),
+)
+  where
+    same_cover : (x : ℕ) → covered_in now x ≡ covered_in old x
+    same_cover x = b.done.copied.goes_on.covered x
+
+    at : (x : ℕ) → covered_in old x ≡ true → (first : ℕ) × (n : ℕ) × IsChunk (covered_in old) most first n × (first ≤ x) × (x < first + n) × IsTidy (listed_in now.index.entries) first n
+    at x is = ⊎_elim
+        (λ lt. b.tidy x lt is)
+        (λ ge. absurd (clash (covered_in now x) (same_cover x ∙ is) (bare x ge (let lt = covered_within state now ready x (same_cover x ∙ is) in let small = ready.ready.home_small.1 in omega (arith, lt, small)))))
+        (cases_lt x from)
+
+    each : (first n : ℕ) → IsChunk (covered_in old) most first n → IsTidy (listed_in now.index.entries) first n
+    each first n c =
+        let s = c.some in let e = c.cut in
+        let o = at first (c.run first (omega (arith, e)) (omega (arith, s))) in
+        let same = same_chunk (covered_in old) most o.0 o.1 first n first o.2 c o.3 o.4 (omega arith) (omega (arith, s)) in
+        subst (λ (f : ℕ). IsTidy (listed_in now.index.entries) f n) same.0 (subst (IsTidy (listed_in now.index.entries) o.0) same.1 o.5)
+
+    one : (e : Indexed) → Contains now.index.entries e → IsEntry (listed_in now.index.entries) e.listed → (first : ℕ) × (n : ℕ) × IsChunk (covered_in old) most first n × KeepsJust e.listed first n
+    one e has entry =
+        let f = any_found (cover_of e.listed).covers (block_numbers e.listed) entry.keeps in
+        let x = f.item in
+        let covered : covered_in now x ≡ true = Rattle.wol_promise.proofs.Covers.any_member (λ (d : Listed). covers d x) (listed_in now.index.entries) e.listed (Rattle.wol_promise.proofs.Lists.member_map (λ (d : Indexed). d.listed) now.index.entries e has) f.passes in
+        let o = at x (sym (same_cover x) ∙ covered) in
+        let t = o.5 in
+        let m = member_unmap (λ (d : Indexed). d.listed) now.index.entries t.one.record_ t.one.listed in
+        let v : e.listed.version ≡ t.version = ⊎_elim (λ same. same) (λ other. absurd (clash (covers e.listed x) f.passes
+        (all_member (λ (d : Listed). (d.version ≡ t.version → ⊥) → KeepsNone d o.0 o.1) (listed_in now.index.entries) e.listed t.alone (Rattle.wol_promise.proofs.Lists.member_map (λ (d : Indexed). d.listed) now.index.entries e has) other x (of_inside o.0 o.1 x o.3 o.4))))
+        (Rattle.std.proofs.lemmas.Bool.cases_eq e.listed.version t.version) in
+        let same : m.0 ≡ e = same_version now.index.entries m.0 e index.rising m.1 has (ap (λ (d : Listed). d.version) m.2 ∙ t.one.version_is ∙ sym v) in
+        (o.0, o.1, o.2, λ y. (λ i. covers (sym same i).listed y) ∙ (λ i. covers (m.2 i) y) ∙ t.one.keeps y)
+
+    only : AllByRecursion (λ (e : Listed). (first : ℕ) × (n : ℕ) × IsChunk (covered_in old) most first n × KeepsJust e first n) (listed_in now.index.entries)
+    only = all_mapped (λ (e : Listed). (first : ℕ) × (n : ℕ) × IsChunk (covered_in old) most first n × KeepsJust e first n) (λ (e : Indexed). e.listed) now.index.entries
+        (Rattle.log_cleaner.proofs.Lists.each_is_member (λ (e : Indexed). (first : ℕ) × (n : ℕ) × IsChunk (covered_in old) most first n × KeepsJust e.listed first n) now.index.entries (λ e has. one e has (all_member (λ (d : Indexed). IsEntry (listed_in now.index.entries) d.listed) now.index.entries e index.each has)))
+
+-- ---- The whole
+
+module _ {D : Type 0} (tells : Bool) (state : D → State) (most : ℕ) (old new : Manager D) (can : CanClean old) where
+  pub cleaned_ok : (copied : ℕ) (full : Bool) (c : Cleaned) → c.before ≡ length old.index.entries → c.after ≡ length new.index.entries → c.copied ≡ copied → c.full ≡ full → CleansAll tells state most old new (Ok (copied, full)) → HasCleaned tells state most old new (Ok c)
+  cleaned_ok copied full c before after same_copied same_full all = let d = all.1.0 in record {
+    copies = all.0;
+    chunks = d.chunks.chunks;
+    numbered = d.chunks.numbered;
+    copied = d.copied.copied;
+    tells_ = (
+      d.copied.goes_on,
+      leaves_copies tells state old new all.0 can.up d.copied.keeps,
+      before,
+      after,
+      same_copied ∙ all.1.1,
+      λ is. all.1.2 (sym same_full ∙ is),
+      λ is. all.1.3 (sym same_full ∙ is),
+    );
+  }
+
+  pub cleaned_err : (fault : CleanFault) → CleansAll tells state most old new (Err fault) → HasCleaned tells state most old new (Err fault)
+  cleaned_err (DiskFault p) all = let d = all.1.1 in record {
+    copies = all.0;
+    chunks = all.1.0.chunks;
+    numbered = all.1.0.numbered;
+    copied = d.copied;
+    tells_ = (d.down, d.rose, d.leaves);
+  }
+  cleaned_err VersionsSpent all = let d = all.1.0 in record {
+    copies = all.0;
+    chunks = d.chunks.chunks;
+    numbered = d.chunks.numbered;
+    copied = d.copied.copied;
+    tells_ = (d.copied.goes_on, leaves_copies tells state old new all.0 can.up d.copied.keeps, all.1.1);
+  }
+  cleaned_err NoMemory all = let d = all.1 in record {
+    copies = all.0;
+    chunks = d.chunks.chunks;
+    numbered = d.chunks.numbered;
+    copied = d.copied.copied;
+    tells_ = (d.copied.goes_on, leaves_copies tells state old new all.0 can.up d.copied.keeps);
+  }
+
+pub cleaned_none : {D : Type 0} (tells : Bool) (state : D → State) (most : ℕ) (m : Manager D) → CanClean m → HasCleaned tells state most m m (Err NoMemory)
+cleaned_none tells state most m can = cleaned_err tells state most m m can NoMemory ([], record { chunks = chunks_none (covered_in m) most m.next; copied = copied_none tells state m can })

@@ -1,0 +1,9 @@
+pub mod Lists
+pub mod Chunking
+pub mod Noting
+pub mod Tidying
+pub mod Copying
+pub mod Stepping
+pub mod Rewriting
+pub mod Cleaning
+pub mod Finding

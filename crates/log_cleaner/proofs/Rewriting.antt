@@ -1,0 +1,408 @@
+-- Blocks that are read and written again.
+use Rattle.std.proofs.Common.{◌≡◌, ◌⊎◌, inl, inr, ⊎_elim, ◌<◌, ◌≤◌, ◌+◌, ◌^◌, ℕ, zero, suc, Bool, true, false, cond, ◌||◌, ◌&&◌, not, List, [], ◌∷◌, ◌++◌, map, length, Option, None, Some, Result, Ok, Err, refl, sym, ap, subst, ◌∙◌, arith}
+use Rattle.std.specs.Prelude.{IsTrue, IsSome, slice_get, slice_index_or, slice_range, position, unwrap_or}
+use Rattle.std.specs.List.{prefix_len}
+use Rattle.wol_model.proofs.Counts.{not_true}
+use Rattle.std.specs.List.{AllByRecursion, AllZip, list_any, range_with_len, zip}
+use Rattle.std.proofs.lemmas.Bool.{cases_lt}
+use Rattle.std.proofs.lemmas.Option.{same_Some, slice_get_within}
+use Rattle.std.proofs.lemmas.List.{append-nil}
+use Rattle.wol_disk.specs.Disk.{State, Block}
+use Rattle.spin_model.specs.declared.spun.Spun.{Spun}
+use Rattle.turn_lock.specs.Histories.{Entry, Begins}
+use Rattle.turn_lock.specs.Passes.{pass_mine, pass_number}
+use Rattle.seg_pool.specs.Holders.{Took}
+use Rattle.seg_pool.specs.Operations.{operation_of}
+use Rattle.logger.specs.Lanes.{pool_of, logger_of}
+use Rattle.logger.specs.declared.lane.Lane.{Lane}
+use Rattle.offload_policy.specs.Placing.{may_hold}
+use Rattle.offload_policy.specs.declared.Room.{Room}
+use Rattle.offload_policy.specs.declared.Room.TheVariants.{Unknown, Yes, No}
+use Rattle.wol_model.specs.Blocks.{Write}
+use Rattle.wol_model.specs.History.{Read, Kept, Broke, worker, writes, flight_of, IsCut}
+use Rattle.wol_model.specs.Index.{Indexed, listed_in, is_covered}
+use Rattle.wol_model.specs.Placing.{Home as AtHome, Log as InLog, Full as Nowhere, place, log_or}
+use Rattle.wol_model.specs.Placing as placing
+use Rattle.wol_model.specs.Recovered.{recovered}
+use Rattle.wol_promise.specs.Policy.{Look, woken, placed, rooms_but}
+use Rattle.wol_promise.specs.Ruled.{Noted, entries_of}
+use Rattle.wol_promise.proofs.Lists.{all_map}
+use Rattle.manager.specs.Answers.{home_write, log_write, written, was_read, IsPlaceOf}
+use Rattle.manager.specs.Causes.{PartRose}
+use Rattle.manager.specs.Reading.{HasOnlyRead, LaneRead}
+use Rattle.manager.specs.Seen.{look_of_manager}
+use Rattle.manager.specs.Stands.{Keeps, IsReady, IsSameManager, Leaves, passed_in}
+use Rattle.manager.specs.Stops.{Stops}
+use Rattle.manager.specs.Writing.{HasAnswered, HaveAnswered, HasLook, TellsFault, IsAsBefore, ruled_place, takes_at, in_flight}
+use Rattle.manager.specs.declared.base.ManagerBase.{ManagerBase}
+use Rattle.manager.specs.declared.manager.Manager.{Manager}
+use Rattle.manager.specs.declared.part.Part.{Part}
+use Rattle.manager.specs.declared.part.Part.TheVariants as part
+use Rattle.manager.specs.declared.part.Place.{Place}
+use Rattle.manager.specs.declared.part.Place.TheVariants as place_
+use Rattle.manager.specs.declared.part.ReadRefusal.{ReadRefusal}
+use Rattle.manager.specs.declared.part.ReadRefusal.TheVariants as refused_read
+use Rattle.manager.specs.declared.part.Sources.{Sources}
+use Rattle.manager.specs.declared.part.WriteRefusal.{WriteRefusal}
+use Rattle.manager.specs.declared.part.WriteRefusal.TheVariants as refused
+use Rattle.manager.proofs.Answered.{get_inside}
+use Rattle.manager.proofs.Placing.{rooms_are}
+use Rattle.manager.proofs.ReadThrough.{zip_at, zip_length}
+use Rattle.log_cleaner.specs.Chunks.{IsCopyOf, NoneHomed, is_within}
+use Rattle.log_cleaner.specs.Copies.{AreCopies, one_more, array_of}
+use Rattle.log_cleaner.specs.Cleans.{CanClean, FindsAllEmpty, GoesOn, covered_in}
+use Rattle.log_cleaner.specs.Steps.{Fails, HasBroken, HasCopied, HasRewritten, IsCopyAt, IsRefused, Rewrites}
+use Rattle.log_cleaner.specs.Steps as steps
+use Rattle.log_cleaner.proofs.Copying.{copies_plain, cut_one, keeps_plain, keeps_wrote, leaves_broken, read_content, unbroken}
+use Rattle.log_cleaner.proofs.Stepping.{copied_then, empty_since, goes_none, goes_then, rose_of, set_awake}
+use Rattle.log_cleaner.proofs.Tidying.{clash, listing_covered, listing_unhomed}
+
+-- ---- Flags
+
+index_true : (us : List Bool) (k : ℕ) → AllByRecursion (λ x. x ≡ true) us → k < length us → slice_index_or us k false ≡ true
+index_true [] k all lt = absurd (omega (arith, lt))
+index_true (u ∷ us) zero all lt = all.0
+index_true (u ∷ us) (suc k) all lt = index_true us k all.1 (omega (arith, lt))
+
+all_of_range : {X : Type 0} (P : X → Type 0) (f : ℕ → X) (a n : ℕ) → ((k : ℕ) → a ≤ k → k < a + n → P (f k)) → AllByRecursion P (map f (range_with_len a n))
+all_of_range P f a zero each = tt
+all_of_range P f a (suc n) each = (each a (omega arith) (omega arith), all_of_range P f (a + 1) n (λ k low high. each k (omega (arith, low)) (omega (arith, high))))
+
+woken_awake : (us : List Bool) (q : ℕ → Bool) → AllByRecursion (λ x. x ≡ true) us → AllByRecursion (λ x. x ≡ true) (map (λ k. slice_index_or us k false || q k) (range_with_len 0 (length us)))
+woken_awake us q all = all_of_range (λ (x : Bool). x ≡ true) (λ (k : ℕ). slice_index_or us k false || q k) 0 (length us) (λ k low high. (λ i. index_true us k all (omega (arith, high)) i || q k))
+
+-- ---- Reads
+
+module _ {D : Type 0} (tells : Bool) (state : D → State) (old new : Manager D) (can : CanClean old) (read : HasOnlyRead state old new) where
+  read_pools : (k : ℕ) (o n : Lane D) → slice_get old.lanes.items k ≡ Some o → slice_get new.lanes.items k ≡ Some n → Begins (pass_mine (pool_of o)) (pass_mine (pool_of n))
+  read_pools k o n is_o is_n = ([], append-nil (pass_mine (pool_of o)) ∙ sym (zip_at (LaneRead state) old.lanes.items new.lanes.items k o n read.lanes is_o is_n).pool)
+
+  read_goes_on : new.down ≡ None → (first count : ℕ) → look_of_manager new ≡ woken (look_of_manager old) first count → GoesOn old new
+  read_goes_on up first count look = record {
+    same = record { id = read.same.id; most = read.same.most };
+    can = record {
+      up = up;
+      unhomed = subst (λ (es : List Indexed). NoneHomed (listed_in es)) (sym entries) can.unhomed;
+      awake = subst (λ (us : List Bool). AllByRecursion (λ up. up ≡ true) us) (sym (ap (λ (l : Look). l.ups) look)) (woken_awake old.ups.items _ can.awake);
+    };
+    covered = λ b. ap (λ (es : List Indexed). is_covered (listed_in es) b) entries;
+    lanes = zip_length (LaneRead state) old.lanes.items new.lanes.items read.lanes;
+    pools = read_pools;
+  }
+    where
+      entries : new.index.entries ≡ old.index.entries
+      entries = ap (λ i. i.entries) read.index
+
+  pub read_copied : (first count : ℕ) (reply : List Block) → new.down ≡ None → look_of_manager new ≡ woken (look_of_manager old) first count → Leaves tells state old new (Read first reply) [] worker
+      → (IsTrue tells → (b : ManagerBase) (notes : List Noted) → Keeps tells state old b notes → Stops state old new None b notes []) → HasCopied tells state old new []
+  read_copied first count reply up look leaves stops = record {
+    goes_on = read_goes_on up first count look;
+    keeps = keeps_plain tells state old new (Read first reply) [] refl refl leaves;
+    copied = copies_plain tells state old new can.up (λ told. (None, stops told));
+    next = let e = read.next in omega (arith, e);
+  }
+
+  pub read_broken : (p : Part) → new.down ≡ Some p → PartRose state old new p → Leaves tells state old new (Broke []) [] worker
+      → (IsTrue tells → (b : ManagerBase) (notes : List Noted) → Keeps tells state old b notes → Stops state old new None b notes []) → HasBroken tells state old new p []
+  read_broken p down rose leaves stops = record {
+    down = down;
+    rose = (old, goes_none old can, rose_of state old new p rose);
+    leaves = leaves_broken tells state old new [] [] can.up leaves;
+    copied = copies_plain tells state old new can.up (λ told. (None, stops told));
+  }
+
+-- ---- Places of covered blocks
+
+not_at_home : (home_up : Bool) (ups rooms : List Bool) → place home_up true ups rooms ≡ AtHome → ⊥
+not_at_home home_up ups rooms is = at home_up is
+  where
+    deeper : (o q : Option ℕ) → log_or o (log_or q Nowhere) ≡ AtHome → ⊥
+    deeper (Some k) q e = cc
+    deeper None (Some k) e = cc
+    deeper None None e = cc
+
+    at : (t : Bool) → place t true ups rooms ≡ AtHome → ⊥
+    at true e = deeper (position (λ (l : Bool × Bool). l.0 && l.1) (zip ups rooms)) (position (λ (l : Bool × Bool). not l.0 && l.1) (zip ups rooms)) e
+    at false e = deeper (position (λ (l : Bool × Bool). l.0 && l.1) (zip ups rooms)) (position (λ (l : Bool × Bool). not l.0 && l.1) (zip ups rooms)) e
+
+none_awake : (home_up : Bool) (ups rooms : List Bool) → place home_up true ups rooms ≡ Nowhere → position (λ (l : Bool × Bool). l.0 && l.1) (zip ups rooms) ≡ None
+none_awake home_up ups rooms is = at home_up is
+  where
+    deeper : (o : Option ℕ) (rest : placing.Place) → log_or o rest ≡ Nowhere → o ≡ None
+    deeper (Some k) rest e = absurd (let wrong : InLog k ≡ Nowhere = e in cc)
+    deeper None rest e = refl
+
+    at : (t : Bool) → place t true ups rooms ≡ Nowhere → position (λ (l : Bool × Bool). l.0 && l.1) (zip ups rooms) ≡ None
+    at true e = deeper (position (λ (l : Bool × Bool). l.0 && l.1) (zip ups rooms)) _ e
+    at false e = deeper (position (λ (l : Bool × Bool). l.0 && l.1) (zip ups rooms)) _ e
+
+-- a prefix as long as the list is all of it
+all_in_prefix : {X : Type 0} (q : X → Bool) (xs : List X) → length xs ≤ prefix_len q xs → AllByRecursion (λ x. q x ≡ true) xs
+all_in_prefix q [] le = tt
+all_in_prefix q (x ∷ xs) le = at (q x) refl le (all_in_prefix q xs)
+  where
+    at : (t : Bool) → q x ≡ t → suc (length xs) ≤ cond t (1 + prefix_len q xs) 0 → (length xs ≤ prefix_len q xs → AllByRecursion (λ y. q y ≡ true) xs) → (q x ≡ true) × AllByRecursion (λ y. q y ≡ true) xs
+    at true is le rest = (is, rest (omega (arith, le)))
+    at false is le rest = absurd (omega (arith, le))
+
+-- where no element passes each fails
+fails_all : {X : Type 0} (p : X → Bool) (xs : List X) → position p xs ≡ None → AllByRecursion (λ x. p x ≡ false) xs
+fails_all p xs none = all_map (λ x. not (p x) ≡ true) (λ x. p x ≡ false) (λ x is. not_true (p x) is) xs (all_in_prefix (λ x. not (p x)) xs (long (cases_lt (prefix_len (λ x. not (p x)) xs) (length xs))))
+  where
+    long : (prefix_len (λ x. not (p x)) xs < length xs) ⊎ (length xs ≤ prefix_len (λ x. not (p x)) xs) → length xs ≤ prefix_len (λ x. not (p x)) xs
+    long (inl lt) = absurd (Rattle.std.proofs.lemmas.Option.none-some (prefix_len (λ x. not (p x)) xs) (sym none ∙ ap (λ (t : Bool). cond t (Some (prefix_len (λ x. not (p x)) xs)) None) (Rattle.std.proofs.lemmas.Bool.lt-ltb (prefix_len (λ x. not (p x)) xs) (length xs) lt)))
+    long (inr le) = le
+
+-- no logger that is awake has room
+closed_at : (ups rooms : List Bool) → AllByRecursion (λ x. x ≡ true) ups → length rooms ≡ length ups → position (λ (l : Bool × Bool). l.0 && l.1) (zip ups rooms) ≡ None → (k : ℕ) (r : Bool) → slice_get rooms k ≡ Some r → r ≡ false
+closed_at ups rooms all long none k r is =
+    closed ups rooms all long (fails_all (λ (l : Bool × Bool). l.0 && l.1) (zip ups rooms) none) k r is
+  where
+    closed : (ups rooms : List Bool) → AllByRecursion (λ x. x ≡ true) ups → length rooms ≡ length ups → AllByRecursion (λ (l : Bool × Bool). (l.0 && l.1) ≡ false) (zip ups rooms) → (k : ℕ) (r : Bool) → slice_get rooms k ≡ Some r → r ≡ false
+    closed ups [] all long fails k r is = absurd (Rattle.std.proofs.lemmas.Option.none-some r is)
+    closed [] (x ∷ rooms) all long fails k r is = absurd (omega (arith, long))
+    closed (u ∷ ups) (x ∷ rooms) all long fails zero r is = sym (same_Some x r is) ∙ (λ i. sym (all.0) i && x) ∙ fails.0
+    closed (u ∷ ups) (x ∷ rooms) all long fails (suc k) r is = closed ups rooms all.1 (omega (arith, long)) fails.1 k r is
+
+-- ---- Writes
+
+-- a write of blocks that are covered
+module _ {D : Type 0} (tells : Bool) (state : D → State) (old new : Manager D) (can : CanClean old) (ready : IsReady state old) (first : ℕ) (blocks : List Block) (some : 1 ≤ length blocks)
+    (covered : (b : ℕ) → is_within first (length blocks) b ≡ true → covered_in old b ≡ true) where
+  abbrev ruled : placing.Place
+  ruled = ruled_place old new first blocks
+
+  is_covered_first : list_any (is_covered (listed_in old.index.entries)) (range_with_len first (length blocks)) ≡ true
+  is_covered_first = at (length blocks) refl some
+    where
+      here : is_covered (listed_in old.index.entries) first ≡ true
+      here = covered first (Rattle.log_cleaner.proofs.Tidying.within_first first (length blocks) some)
+
+      at : (n : ℕ) → length blocks ≡ n → 1 ≤ n → list_any (is_covered (listed_in old.index.entries)) (range_with_len first n) ≡ true
+      at zero e le = absurd (omega (arith, le))
+      at (suc n) e le = (λ i. here i || list_any (is_covered (listed_in old.index.entries)) (range_with_len (first + 1) n))
+
+  ruled_is : ruled ≡ place old.home_up true old.ups.items (rooms_but (passed_in new.rooms.items) old.ups.items)
+  ruled_is = ap (λ (c : Bool). place old.home_up c old.ups.items (rooms_but (passed_in new.rooms.items) old.ups.items)) is_covered_first
+
+  never_home : ruled ≡ AtHome → ⊥
+  never_home is = not_at_home old.home_up old.ups.items (rooms_but (passed_in new.rooms.items) old.ups.items) (sym ruled_is ∙ is)
+
+  -- the pools of lanes
+  gained : (took : Bool) (r : Room) (o n : Lane D) → HasAnswered (length blocks) took r o n → Begins (pass_mine (pool_of o)) (pass_mine (pool_of n))
+  gained true r o n h = ⊎_elim
+      (λ same. ([], append-nil (pass_mine (pool_of o)) ∙ sym same))
+      (λ more. ((pass_number (pool_of o), operation_of (Took (Some more.0))) ∷ [], sym more.1))
+      h.1.pool
+  gained false No o n h = ((pass_number (pool_of o), operation_of (Took None)) ∷ [], sym h.pool)
+  gained false Unknown o n h = ([], append-nil (pass_mine (pool_of o)) ∙ sym (ap (λ (l : Lane D). pass_mine (pool_of l)) h))
+  gained false Yes o n h = absurd h
+
+  write_pools : (answer : Result Place WriteRefusal) → HaveAnswered (length blocks) (takes_at ruled answer) new.rooms.items old.lanes.items new.lanes.items
+      → (k : ℕ) (o n : Lane D) → slice_get old.lanes.items k ≡ Some o → slice_get new.lanes.items k ≡ Some n → Begins (pass_mine (pool_of o)) (pass_mine (pool_of n))
+  write_pools answer all k o n is_o is_n =
+      let lt = slice_get_within old.lanes.items k o is_o in let long = all.noted in
+      let r = get_inside new.rooms.items k (omega (arith, lt, long)) in
+      gained (takes_at ruled answer k) r.0 o n (all.each k r.0 o n r.1 is_o is_n)
+
+  -- where the rule ended without a place each pool was found empty
+  all_empty : ruled ≡ Nowhere → HaveAnswered (length blocks) (takes_at ruled (Err refused.Full)) new.rooms.items old.lanes.items new.lanes.items → FindsAllEmpty old new
+  all_empty nowhere all k o n is_o is_n =
+      let lt = slice_get_within old.lanes.items k o is_o in let long = all.noted in
+      let r = get_inside new.rooms.items k (omega (arith, lt, long)) in
+      turned r.0 (shut r.0 r.1) (all.each k r.0 o n r.1 is_o is_n)
+    where
+      flags : length old.ups.items ≡ length new.rooms.items
+      flags = ready.ready.flags ∙ sym all.noted
+
+      shut : (r : Room) → slice_get new.rooms.items k ≡ Some r → may_hold r ≡ false
+      shut r is = closed_at old.ups.items (map may_hold new.rooms.items) can.awake (Rattle.std.proofs.lemmas.List.length-map new.rooms.items may_hold ∙ sym flags)
+          (ap (λ (rs : List Bool). position (λ (l : Bool × Bool). l.0 && l.1) (zip old.ups.items rs)) (sym (rooms_are old.ups.items new.rooms.items flags))
+          ∙ none_awake old.home_up old.ups.items (rooms_but (passed_in new.rooms.items) old.ups.items) (sym ruled_is ∙ nowhere))
+          k (may_hold r) (Rattle.std.proofs.lemmas.Option.slice_get-map may_hold new.rooms.items k ∙ ap (Rattle.std.specs.Option.option_map may_hold) is)
+
+      turned : (r : Room) → may_hold r ≡ false → HasAnswered (length blocks) (takes_at ruled (Err refused.Full) k) r o n → (before : List Entry) × Begins (pass_mine (pool_of o)) before × (pass_mine (pool_of n) ≡ before ++ (pass_number (pool_of n), operation_of (Took None)) ∷ [])
+      turned Unknown no_ h = absurd (let wrong : true ≡ false = no_ in cc)
+      turned Yes no_ h = absurd (let wrong : true ≡ false = no_ in cc)
+      turned No no_ h = (
+        pass_mine (pool_of o),
+        ([], append-nil (pass_mine (pool_of o))),
+        h.pool ∙ (λ i. pass_mine (pool_of o) ++ (sym (h.same.pool.1) i, operation_of (Took None)) ∷ []),
+      )
+
+  -- ---- A write that was answered
+
+  write_goes_on : (lane : ℕ) (answer : Place) → ruled ≡ InLog lane → look_of_manager new ≡ placed ruled (look_of_manager old) (home_write first blocks) → IsSameManager old new → new.down ≡ None
+      → HaveAnswered (length blocks) (takes_at ruled (Ok answer)) new.rooms.items old.lanes.items new.lanes.items → GoesOn old new
+  write_goes_on lane answer is look same up all =
+      let l : look_of_manager new ≡ placed (InLog lane) (look_of_manager old) (home_write first blocks) = look ∙ ap (λ (p : placing.Place). placed p (look_of_manager old) (home_write first blocks)) is in record {
+        same = same;
+        can = record {
+          up = up;
+          unhomed = subst (λ (m : Look). NoneHomed m.listed) (sym l) (listing_unhomed (look_of_manager old) lane (home_write first blocks) can.unhomed);
+          awake = subst (λ (m : Look). AllByRecursion (λ up. up ≡ true) m.ups) (sym l) (set_awake old.ups.items lane can.awake);
+        };
+        covered = λ b. ap (λ (m : Look). is_covered m.listed b) l ∙ listing_covered (look_of_manager old) lane (home_write first blocks) can.unhomed covered b;
+        lanes = all.same;
+        pools = write_pools (Ok answer) all;
+      }
+
+  -- ---- A write that was refused before a disk was tried
+
+  -- nothing was written, and at most pools were asked
+  unwritten : (answer : Result Place WriteRefusal) → IsSameManager old new → new.down ≡ old.down → new.ups.items ≡ old.ups.items → new.next ≡ old.next → new.index.entries ≡ old.index.entries
+      → HaveAnswered (length blocks) (takes_at ruled answer) new.rooms.items old.lanes.items new.lanes.items → Leaves tells state old new Kept (passed_in new.rooms.items) worker
+      → (IsTrue tells → (claimed : Option (Spun D)) × ((b : ManagerBase) (notes : List Noted) → Keeps tells state old b notes → Stops state old new claimed b notes [])) → HasCopied tells state old new []
+  unwritten answer same down ups next entries all leaves stops = record {
+    goes_on = record {
+      same = same;
+      can = record {
+        up = down ∙ can.up;
+        unhomed = subst (λ (es : List Indexed). NoneHomed (listed_in es)) (sym entries) can.unhomed;
+        awake = subst (λ (us : List Bool). AllByRecursion (λ up. up ≡ true) us) (sym ups) can.awake;
+      };
+      covered = λ b. ap (λ (es : List Indexed). is_covered (listed_in es) b) entries;
+      lanes = all.same;
+      pools = write_pools answer all;
+    };
+    keeps = keeps_plain tells state old new Kept (passed_in new.rooms.items) refl refl leaves;
+    copied = copies_plain tells state old new can.up stops;
+    next = omega (arith, next);
+  }
+
+-- ---- Behind a read
+
+-- a copy of what was read before is at each moment what the volume has
+copies_after_read : {D : Type 0} (tells : Bool) (state : D → State) (old mid new : Manager D) (w : Write) → HasCopied tells state old mid [] → IsSome w.version
+    → (IsTrue tells → (b : ManagerBase) (notes : List Noted) → Keeps tells state old b notes → IsCopyOf (array_of b notes) w)
+    → (IsTrue tells → (claimed : Option (Spun D)) × ((b : ManagerBase) (notes : List Noted) → Keeps tells state mid b notes → Stops state mid new claimed b notes (w ∷ []))) → AreCopies tells state old new (w ∷ [])
+copies_after_read tells state old mid new w first some same stops = record {
+  same = λ told b notes k. (same told b notes k, tt);
+  any_moment = λ told b notes k.
+      let k1 = subst (Keeps tells state mid b) (append-nil notes) (first.keeps b notes (look_of_manager mid) k) in
+      let s = stops told in
+      one_more old mid new s.0 (first.copied.any_moment told b notes k) (λ before after was is home segments h zip.
+      cut_one b.volume.began.array (writes (entries_of notes)) w (recovered b.volume.began.owner home segments) some (same told b notes k)
+      (subst (λ (f : List Write). IsCut b.volume.began.array (writes (entries_of notes)) f (recovered b.volume.began.owner home segments)) (alone (flight_of (entries_of notes)) (unbroken tells state mid b notes k1 first.goes_on.can.up))
+      (s.1 b notes k1 before after was is home segments h zip)));
+  logged = (some, tt);
+}
+  where
+    alone : (f : Option (List Write)) → f ≡ None → unwrap_or f (w ∷ []) ≡ w ∷ []
+    alone f is = ap (λ (o : Option (List Write)). unwrap_or o (w ∷ [])) is
+
+-- what a write answered, of blocks that had been read
+pub record WriteTold {D : Type 0} (tells : Bool) (state : D → State) (mid new : Manager D) (first : ℕ) (blocks : List Block) (answer : Result Place WriteRefusal) : Type 0 where
+  pub same : IsSameManager mid new
+  pub stands : Leaves tells state mid new (written mid.next first blocks answer) (passed_in new.rooms.items) worker
+  pub placed : IsPlaceOf (map logger_of mid.lanes.items) answer (ruled_place mid new first blocks)
+  pub answered : HaveAnswered (length blocks) (takes_at (ruled_place mid new first blocks) answer) new.rooms.items mid.lanes.items new.lanes.items
+  pub look : HasLook (ruled_place mid new first blocks) (home_write first blocks) answer (look_of_manager mid) (look_of_manager new)
+  pub down : (p : Part) → answer ≡ Err (refused.Down p) → mid.down ≡ Some p
+  pub versions : answer ≡ Err refused.VersionsSpent → mid.next ≡ 2 ^ 63
+  pub unspent : mid.next ≡ 2 ^ 63 → answer ≡ Err refused.VersionsSpent
+  pub fault : TellsFault state answer mid new
+  pub unchanged : IsAsBefore answer mid new
+  pub any_moment : IsTrue tells → (claimed : Option (Spun D)) × ((b : ManagerBase) (notes : List Noted) → Keeps tells state mid b notes → Stops state mid new claimed b notes (in_flight mid.next first blocks answer))
+
+module _ {D : Type 0} (tells : Bool) (state : D → State) (old mid new : Manager D) (can : CanClean old) (ready : IsReady state mid) (first : ℕ) (blocks : List Block) (some : 1 ≤ length blocks)
+    (covered : (b : ℕ) → is_within first (length blocks) b ≡ true → covered_in old b ≡ true) (read : HasCopied tells state old mid []) (entries : mid.index.entries ≡ old.index.entries)
+    (content : IsTrue tells → (b : ManagerBase) (notes : List Noted) → Keeps tells state old b notes → blocks ≡ slice_range (array_of b notes) first (first + length blocks)) where
+  abbrev w : Write
+  w = log_write mid.next first blocks
+
+  covered_mid : (b : ℕ) → is_within first (length blocks) b ≡ true → covered_in mid b ≡ true
+  covered_mid b is = read.goes_on.covered b ∙ covered b is
+
+  same_next : mid.next ≡ old.next
+  same_next = let e = read.next in omega (arith, e)
+
+  is_copy_at : IsCopyAt first (length blocks) old.next w
+  is_copy_at = record { first_is = refl; count_is = refl; version_is = ap Some same_next }
+
+  no_home : (answer : Result Place WriteRefusal) → ruled_place mid new first blocks ≡ AtHome → ⊥
+  no_home answer is = never_home tells state mid new read.goes_on.can ready first blocks some covered_mid is
+
+  logged_ends : (logger : ℕ) → WriteTold tells state mid new first blocks (Ok (place_.Log logger)) → HasRewritten tells state first (length blocks) old new
+  logged_ends logger t =
+      let lane = t.placed.0 in let is = t.placed.2 in
+      let look = t.look ∙ ap (λ (p : placing.Place). placed p (look_of_manager mid) (home_write first blocks)) is in
+      record {
+        write = w;
+        is_copy = is_copy_at;
+        copied = record {
+          goes_on = goes_then old mid new read.goes_on (write_goes_on tells state mid new read.goes_on.can ready first blocks some covered_mid lane (place_.Log logger) is t.look t.same (t.fault ∙ read.goes_on.can.up) t.answered);
+          keeps = Rattle.log_cleaner.proofs.Copying.keeps_then tells state old mid new [] (w ∷ []) can.up read.keeps (keeps_wrote tells state mid new w (passed_in new.rooms.items) read.goes_on.can.up t.stands);
+          copied = copies_after_read tells state old mid new w read refl content t.any_moment;
+          next = let e = ap (λ (l : Look). l.next) look in let f = same_next in omega (arith, e, f);
+        };
+        look = look_of_manager mid;
+        lane = lane;
+        listed_was = ap listed_in entries;
+        next_was = same_next;
+        listed_is = ap (λ (l : Look). l.listed) look;
+      }
+
+  full_ends : WriteTold tells state mid new first blocks (Err refused.Full) → IsRefused tells state old new
+  full_ends t =
+      let rest = t.unchanged.rest in record {
+        copied = copied_then tells state old mid new [] [] can read (unwritten tells state mid new read.goes_on.can ready first blocks some covered_mid (Err refused.Full) t.same t.fault (ap (λ (m : Manager D). m.ups.items) rest) (ap (λ (m : Manager D). m.next) rest) t.unchanged.index t.answered t.stands t.any_moment);
+        entries = t.unchanged.index ∙ entries;
+        next = below (ready.next.1) same_next (λ is. let wrong = t.unspent is in cc);
+        empty = empty_since old mid new read.goes_on (all_empty tells state mid new read.goes_on.can ready first blocks some covered_mid t.placed t.answered);
+      }
+    where
+      below : {m n k : ℕ} → m ≤ k → m ≡ n → (m ≡ k → ⊥) → n < k
+      below {m} {n} {k} le e ne = ⊎_elim (λ lt. omega (arith, lt, e)) (λ ge. absurd (ne (omega (arith, le, ge)))) (cases_lt m k)
+
+  spent_ends : WriteTold tells state mid new first blocks (Err refused.VersionsSpent) → HasCopied tells state old new [] × (new.next ≡ 2 ^ 63)
+  spent_ends t =
+      let rest = t.unchanged.rest in let n = ap (λ (m : Manager D). m.next) rest in
+      (copied_then tells state old mid new [] [] can read (unwritten tells state mid new read.goes_on.can ready first blocks some covered_mid (Err refused.VersionsSpent) t.same t.fault (ap (λ (m : Manager D). m.ups.items) rest) n t.unchanged.index t.answered t.stands t.any_moment), n ∙ t.versions refl)
+
+  memory_ends : WriteTold tells state mid new first blocks (Err refused.NoMemory) → HasCopied tells state old new []
+  memory_ends t =
+      let rest = t.unchanged.rest in
+      copied_then tells state old mid new [] [] can read (unwritten tells state mid new read.goes_on.can ready first blocks some covered_mid (Err refused.NoMemory) t.same t.fault (ap (λ (m : Manager D). m.ups.items) rest) (ap (λ (m : Manager D). m.next) rest) t.unchanged.index t.answered t.stands t.any_moment)
+
+  failed_ends : (logger index : ℕ) → WriteTold tells state mid new first blocks (Err (refused.DiskFault (part.Segment logger index))) → Fails tells state first (length blocks) old new (part.Segment logger index)
+  failed_ends logger index t = record {
+    copies = w ∷ [];
+    one = omega arith;
+    are = (is_copy_at, tt);
+    broken = record {
+      down = t.fault.0;
+      rose = (mid, read.goes_on, t.fault.1);
+      leaves = Rattle.log_cleaner.proofs.Copying.leaves_then tells state old mid new [] (w ∷ []) can.up (refl, tt) read.keeps (leaves_broken tells state mid new (w ∷ []) (passed_in new.rooms.items) read.goes_on.can.up t.stands);
+      copied = copies_after_read tells state old mid new w read refl content t.any_moment;
+    };
+  }
+
+  pub write_ends : (answer : Result Place WriteRefusal) → WriteTold tells state mid new first blocks answer → Rewrites tells state first (length blocks) old new (steps.told_of answer)
+  write_ends (Ok place_.Home) t = absurd (no_home (Ok place_.Home) t.placed)
+  write_ends (Ok (place_.Log logger)) t = logged_ends logger t
+  write_ends (Err refused.Full) t = full_ends t
+  write_ends (Err (refused.DiskFault (part.Home volume))) t = absurd (no_home (Err (refused.DiskFault (part.Home volume))) t.placed)
+  write_ends (Err (refused.DiskFault (part.Segment logger index))) t = failed_ends logger index t
+  write_ends (Err (refused.Down p)) t = absurd (let wrong : None ≡ Some p = sym read.goes_on.can.up ∙ t.down p refl in cc)
+  write_ends (Err refused.VersionsSpent) t = spent_ends t
+  write_ends (Err refused.NoMemory) t = memory_ends t
+
+-- ---- A read that was refused
+
+abbrev pub refused_as : ReadRefusal → Result Sources ReadRefusal
+refused_as refusal = Err refusal
+
+pub read_ends : {D : Type 0} (tells : Bool) (state : D → State) (old new : Manager D) (can : CanClean old) (read : HasOnlyRead state old new) (first count lbn : ℕ) (reply : List Block) (refusal : ReadRefusal)
+    → ((p : Part) → refused_as refusal ≡ Err (refused_read.DiskFault p) → (new.down ≡ Some p) × PartRose state old new p)
+    → ((p : Part) → refused_as refusal ≡ Err (refused_read.Down p) → old.down ≡ Some p)
+    → Leaves tells state old new (was_read lbn reply (Err refusal)) [] worker
+    → (IsTrue tells → (b : ManagerBase) (notes : List Noted) → Keeps tells state old b notes → Stops state old new None b notes [])
+    → steps.TellsFault tells state first count old new (steps.fault_of refusal)
+read_ends tells state old new can read first count lbn reply (refused_read.DiskFault p) cause down leaves stops = record {
+  copies = [];
+  one = omega arith;
+  are = tt;
+  broken = let c = cause p refl in read_broken tells state old new can read p c.0 c.1 leaves stops;
+}
+read_ends tells state old new can read first count lbn reply (refused_read.Down p) cause down leaves stops = absurd (let wrong : None ≡ Some p = sym can.up ∙ down p refl in cc)

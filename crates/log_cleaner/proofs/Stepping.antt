@@ -1,0 +1,235 @@
+-- Steps of a cleaning, one after another.
+use Rattle.std.proofs.Common.{◌≡◌, ◌⊎◌, inl, inr, ◌<◌, ◌≤◌, ℕ, zero, suc, Bool, true, false, List, [], ◌∷◌, ◌++◌, length, Option, None, Some, Result, Ok, Err, refl, sym, ap, subst, ◌∙◌, arith, append_assoc, length-append}
+use Rattle.std.specs.Prelude.{Contains, IsTrue, slice_get, slice_set, slice_index_or}
+use Rattle.std.specs.List.{AllByRecursion, AllZip, list_any, range_with_len}
+use Rattle.std.proofs.Math.ListN.{length-set}
+use Rattle.std.proofs.lemmas.Bool.{cases_lt}
+use Rattle.std.proofs.lemmas.Option.{same_Some, slice_get_within}
+use Rattle.std.proofs.lemmas.List.{append-nil}
+use Rattle.wol_disk.specs.Disk.{State}
+use Rattle.turn_lock.specs.Histories.{Entry, Begins}
+use Rattle.turn_lock.specs.Passes.{pass_mine, pass_number}
+use Rattle.seg_pool.specs.Holders.{Gave}
+use Rattle.seg_pool.specs.Operations.{operation_of}
+use Rattle.logger.specs.Lanes.{pool_of}
+use Rattle.logger.specs.declared.lane.Lane.{Lane}
+use Rattle.wol_model.specs.Blocks.{Write}
+use Rattle.wol_model.specs.Index.{Listed, Indexed, listed_in, is_covered, goes}
+use Rattle.wol_promise.proofs.Lists.{all_mapped, all_map}
+use Rattle.redirect_map.specs.Index.{entry_at}
+use Rattle.manager.specs.Causes.{PartRose, PartRoseOrClaimed}
+use Rattle.manager.specs.Offers.{ChangesLane}
+use Rattle.manager.specs.Reclaim.{TellsStep, KeepsOn, Always, HasDropped, IsTrimmedLane, given_of}
+use Rattle.manager.specs.Stands.{Keeps, entries_at}
+use Rattle.manager.specs.declared.manager.Manager.{Manager}
+use Rattle.manager.specs.declared.part.Part.{Part}
+use Rattle.manager.specs.declared.part.Part.TheVariants.{Home, Segment}
+use Rattle.manager.specs.declared.part.StepFault.{StepFault}
+use Rattle.manager.specs.declared.part.StepFault.TheVariants as step
+use Rattle.manager.proofs.Answered.{get_inside}
+use Rattle.manager.proofs.Lanes.{get_set, get_other}
+use Rattle.reclaimer.specs.Fetches.{going_entry}
+use Rattle.reclaimer.specs.Steps.{HasGivenUp, StopsWithin}
+use Rattle.reclaimer.specs.declared.answers.Gone.{Gone}
+use Rattle.reclaimer.specs.declared.answers.Gone.TheVariants as gone
+use Rattle.reclaimer.proofs.Idle.{idle}
+use Rattle.log_cleaner.specs.Chunks.{IsUppermost, NoneHomed}
+use Rattle.log_cleaner.specs.Cleans.{AllAwake, CanClean, FindsAllEmpty, GoesOn}
+use Rattle.log_cleaner.specs.Steps.{GivesUp, HasBroken, HasCopied, TidiesUp}
+use Rattle.log_cleaner.proofs.Copying.{copies_none, copies_plain, copies_then, keeps_none, keeps_then, leaves_then}
+use Rattle.log_cleaner.proofs.Tidying.{given_covered, given_unhomed, given_upper, none_goes, tidy_of_upper}
+
+-- ---- Entries of a pass
+
+begins_same : (xs ys : List Entry) → ys ≡ xs → Begins xs ys
+begins_same xs ys same = ([], append-nil xs ∙ sym same)
+
+begins_more : (xs ys more : List Entry) → ys ≡ xs ++ more → Begins xs ys
+begins_more xs ys more is = (more, sym is)
+
+pub begins_then : (xs ys zs : List Entry) → Begins xs ys → Begins ys zs → Begins xs zs
+begins_then xs ys zs first second = (first.0 ++ second.0, sym (append_assoc xs first.0 second.0) ∙ ap (λ (l : List Entry). l ++ second.0) first.1 ∙ second.1)
+
+-- ---- Going on
+
+pub goes_none : {D : Type 0} (m : Manager D) → CanClean m → GoesOn m m
+goes_none {D} m can = record {
+  same = record { id = refl; most = refl };
+  can = can;
+  covered = λ b. refl;
+  lanes = refl;
+  pools = λ k o n is_o is_n. begins_same (pass_mine (pool_of o)) (pass_mine (pool_of n)) (ap (λ (l : Lane D). pass_mine (pool_of l)) (same_Some n o (sym is_n ∙ is_o)));
+}
+
+pub goes_then : {D : Type 0} (old mid new : Manager D) → GoesOn old mid → GoesOn mid new → GoesOn old new
+goes_then old mid new first second = record {
+  same = record { id = second.same.id ∙ first.same.id; most = second.same.most ∙ first.same.most };
+  can = second.can;
+  covered = λ b. second.covered b ∙ first.covered b;
+  lanes = second.lanes ∙ first.lanes;
+  pools = λ k o n is_o is_n.
+      let lt = slice_get_within old.lanes.items k o is_o in let long = first.lanes in
+      let l = get_inside mid.lanes.items k (omega (arith, lt, long)) in
+      begins_then (pass_mine (pool_of o)) (pass_mine (pool_of l.0)) (pass_mine (pool_of n)) (first.pools k o l.0 is_o l.1) (second.pools k l.0 n l.1 is_n);
+}
+
+-- an empty pool is found empty since an earlier moment too
+pub empty_since : {D : Type 0} (old mid new : Manager D) → GoesOn old mid → FindsAllEmpty mid new → FindsAllEmpty old new
+empty_since old mid new first empty k o n is_o is_n =
+    let lt = slice_get_within old.lanes.items k o is_o in let long = first.lanes in
+    let l = get_inside mid.lanes.items k (omega (arith, lt, long)) in
+    let e = empty k l.0 n l.1 is_n in
+    (e.0, begins_then (pass_mine (pool_of o)) (pass_mine (pool_of l.0)) e.0 (first.pools k o l.0 is_o l.1) e.1, e.2)
+
+module _ {D : Type 0} (tells : Bool) (state : D → State) where
+  pub copied_none : (m : Manager D) → CanClean m → HasCopied tells state m m []
+  copied_none m can = record { goes_on = goes_none m can; keeps = keeps_none tells state m; copied = copies_none tells state m; next = omega arith }
+
+  pub copied_then : (old mid new : Manager D) (cs ds : List Write) → CanClean old → HasCopied tells state old mid cs → HasCopied tells state mid new ds → HasCopied tells state old new (cs ++ ds)
+  copied_then old mid new cs ds can first second = record {
+    goes_on = goes_then old mid new first.goes_on second.goes_on;
+    keeps = keeps_then tells state old mid new cs ds can.up first.keeps second.keeps;
+    copied = copies_then tells state old mid new cs ds first.keeps first.copied second.copied;
+    next = let a = first.next in let b = second.next in let l = length-append cs ds in omega (arith, a, b, l);
+  }
+
+  pub broken_then : (old mid new : Manager D) (p : Part) (cs fs : List Write) → CanClean old → HasCopied tells state old mid cs → HasBroken tells state mid new p fs → HasBroken tells state old new p (cs ++ fs)
+  broken_then old mid new p cs fs can first second = record {
+    down = second.down;
+    rose = (second.rose.0, goes_then old mid second.rose.0 first.goes_on second.rose.1, second.rose.2);
+    leaves = leaves_then tells state old mid new cs fs can.up second.copied.logged first.keeps second.leaves;
+    copied = copies_then tells state old mid new cs fs first.keeps first.copied second.copied;
+  }
+
+-- ---- A step in which blocks are given up
+
+all_set : (xs : List Bool) (k : ℕ) → AllByRecursion (λ x. x ≡ true) xs → AllByRecursion (λ x. x ≡ true) (slice_set xs k true)
+all_set [] k all = tt
+all_set (x ∷ xs) zero all = (refl, all.1)
+all_set (x ∷ xs) (suc k) all = (all.0, all_set xs k all.1)
+
+pub set_awake : (xs : List Bool) (k : ℕ) → AllByRecursion (λ x. x ≡ true) xs → AllByRecursion (λ x. x ≡ true) (slice_set xs k true)
+set_awake xs k all = all_set xs k all
+
+-- a part of a step rose
+pub rose_of : {D : Type 0} (state : D → State) (old new : Manager D) (p : Part) → PartRose state old new p → PartRoseOrClaimed state old new p
+rose_of state old new (Home volume) rose = rose
+rose_of state old new (Segment volume index) rose = inl rose
+
+module _ {D : Type 0} (old new : Manager D) (version : ℕ) (e : Indexed) {T : Type 0} (res : Result T StepFault) (can : CanClean old) (dropped : HasDropped version e old new res) where
+  gained_at : (l m : Lane D) (given : Type 0) (decided : given ⊎ (given → ⊥)) → IsTrimmedLane e.index given l m → Begins (pass_mine (pool_of l)) (pass_mine (pool_of m))
+  gained_at l m given (inl is) t = begins_more (pass_mine (pool_of l)) (pass_mine (pool_of m)) ((pass_number (pool_of l), operation_of (Gave e.index)) ∷ []) (t.gave is).0
+  gained_at l m given (inr not_) t = begins_same (pass_mine (pool_of l)) (pass_mine (pool_of m)) (t.kept not_).0
+
+  is_none : (n : ℕ) → (n ≡ 0) ⊎ (n ≡ 0 → ⊥)
+  is_none zero = inl refl
+  is_none (suc n) = inr (λ is. omega (arith, is))
+
+  drop_pools : (k : ℕ) (o n : Lane D) → slice_get old.lanes.items k ≡ Some o → slice_get new.lanes.items k ≡ Some n → Begins (pass_mine (pool_of o)) (pass_mine (pool_of n))
+  drop_pools k o n is_o is_n = at (Rattle.std.proofs.lemmas.Bool.cases_eq k e.listed.lane)
+    where
+      c : ChangesLane (IsTrimmedLane e.index (entries_at e.listed.lane e.index new.index.entries ≡ 0)) e.listed.lane old.lanes.items new.lanes.items
+      c = dropped.lanes
+
+      at : (k ≡ e.listed.lane) ⊎ (k ≡ e.listed.lane → ⊥) → Begins (pass_mine (pool_of o)) (pass_mine (pool_of n))
+      at (inl same) =
+          let was : o ≡ c.before = same_Some o c.before (sym is_o ∙ ap (slice_get old.lanes.items) same ∙ c.there) in
+          let now : n ≡ c.after = same_Some n c.after (sym is_n ∙ (λ i. slice_get (c.set i) (same i)) ∙ get_set old.lanes.items e.listed.lane c.before c.after c.there) in
+          subst (λ (l : Lane D). Begins (pass_mine (pool_of l)) (pass_mine (pool_of n))) (sym was) (subst (λ (l : Lane D). Begins (pass_mine (pool_of c.before)) (pass_mine (pool_of l))) (sym now)
+          (gained_at c.before c.after (entries_at e.listed.lane e.index new.index.entries ≡ 0) (is_none (entries_at e.listed.lane e.index new.index.entries)) c.change))
+      at (inr other) =
+          let now : n ≡ o = same_Some n o (sym is_n ∙ ap (λ (l : List (Lane D)). slice_get l k) c.set ∙ get_other old.lanes.items e.listed.lane k c.after other ∙ is_o) in
+          begins_same (pass_mine (pool_of o)) (pass_mine (pool_of n)) (ap (λ (l : Lane D). pass_mine (pool_of l)) now)
+
+  pub drop_goes_on : new.down ≡ None → new.index.entries ≡ given_of version old.index.entries → GoesOn old new
+  drop_goes_on up entries = record {
+    same = record { id = ap (λ (m : Manager D). m.id) dropped.rest; most = ap (λ (m : Manager D). m.most) dropped.rest };
+    can = record {
+      up = up;
+      unhomed = subst (λ (es : List Indexed). NoneHomed (listed_in es)) (sym entries) (given_unhomed old.index.entries version can.unhomed);
+      awake = subst (λ (us : List Bool). AllByRecursion (λ up. up ≡ true) us) (sym (ap (λ (m : Manager D). m.ups.items) dropped.rest)) (set_awake old.ups.items e.listed.lane can.awake);
+    };
+    covered = λ b. ap (λ (es : List Indexed). is_covered (listed_in es) b) entries ∙ given_covered old.index.entries version can.unhomed b;
+    lanes = let c = dropped.lanes in ap length c.set ∙ length-set old.lanes.items e.listed.lane c.after;
+    pools = drop_pools;
+  }
+
+-- what giving up keeps of uppermost records
+abbrev pub KeepsUppermost : {D : Type 0} → (old new : Manager D) → Type 0
+KeepsUppermost old new = (u first count : ℕ) → 1 ≤ count → IsUppermost (listed_in old.index.entries) u first count → IsUppermost (listed_in new.index.entries) u first count
+
+module _ {D : Type 0} (tells : Bool) (state : D → State) (old new : Manager D) (can : CanClean old) where
+  pub gave_one : {T : Type 0} (version : ℕ) (e : Indexed) (res : Result T StepFault) → HasDropped version e old new res → new.down ≡ None → new.index.entries ≡ given_of version old.index.entries → KeepsOn tells state old new Always
+      → (IsTrue tells → StopsWithin tells state old new Always) → HasCopied tells state old new [] × KeepsUppermost old new
+  gave_one version e res dropped up entries keeps stops = (
+    record {
+      goes_on = drop_goes_on old new version e res can dropped up entries;
+      keeps = λ b notes look k. subst (Keeps tells state new b) (sym (append-nil notes)) (keeps b notes tt k);
+      copied = copies_plain tells state old new can.up (λ told. (None, λ b notes k. stops told b notes tt k));
+      next = let e = ap (λ (m : Manager D). m.next) dropped.rest in omega (arith, e);
+    },
+    λ u first count some x. subst (λ (es : List Indexed). IsUppermost (listed_in es) u first count) (sym entries) (given_upper old.index.entries version can.unhomed u first count some x),
+  )
+
+  -- by what a step of reclaim answers
+  pub gave_more : (answer : Gone) → (answer ≡ gone.Nothing → ⊥) → HasGivenUp (Ok answer) old new → TellsStep state (Ok answer) old new → KeepsOn tells state old new Always
+      → (IsTrue tells → StopsWithin tells state old new Always) → HasCopied tells state old new [] × KeepsUppermost old new
+  gave_more (gone.Version version) some given told keeps stops = by_entry (going_entry old) given
+    where
+      by_entry : (o : Option Indexed) → Rattle.std.specs.Prelude.IsSomeAnd o (λ e. (version ≡ e.listed.version) × Rattle.std.specs.Prelude.IsNone (entry_at new.index.entries version) × HasDropped version e old new (Ok (gone.Version version))) → HasCopied tells state old new [] × KeepsUppermost old new
+      by_entry None h = absurd h
+      by_entry (Some e) h = gave_one version e (Ok (gone.Version version)) h.2 told.1 h.2.ok keeps stops
+  gave_more (gone.Trimmed version) some given told keeps stops = by_entry (going_entry old) given
+    where
+      by_entry : (o : Option Indexed) → Rattle.std.specs.Prelude.IsSomeAnd o (λ e. (version ≡ e.listed.version) × Rattle.std.specs.Prelude.IsSome (entry_at new.index.entries version) × HasDropped version e old new (Ok (gone.Trimmed version))) → HasCopied tells state old new [] × KeepsUppermost old new
+      by_entry None h = absurd h
+      by_entry (Some e) h = gave_one version e (Ok (gone.Trimmed version)) h.2 told.1 h.2.ok keeps stops
+  gave_more gone.Nothing some given told keeps stops = absurd (some refl)
+
+  -- a step that failed
+  pub gave_failing : (fault : StepFault) → TellsStep {T = Gone} state (Err fault) old new → Rattle.manager.specs.Reclaim.OnFailed {T = Gone} (Err fault) (Rattle.manager.specs.Reclaim.BreaksOff tells state old new Always)
+      → (IsTrue tells → StopsWithin tells state old new Always) → GivesUp tells state old new (Err fault)
+  gave_failing (step.DiskFault p) told broke stops = record {
+    down = told.1;
+    rose = (old, goes_none old can, rose_of state old new p told.2);
+    leaves = λ b notes n client note k. broke b notes n tt note k;
+    copied = copies_plain tells state old new can.up (λ t. (None, λ b notes k. stops t b notes tt k));
+  }
+  gave_failing (step.Down p) told broke stops = absurd (let wrong : None ≡ Some p = sym can.up ∙ told.0 in cc)
+
+-- after copies, a step that failed
+pub given_failing : {D : Type 0} (tells : Bool) (state : D → State) (old mid new : Manager D) (fault : StepFault) → CanClean old → HasCopied tells state old mid [] → GivesUp tells state mid new (Err fault) → GivesUp tells state old new (Err fault)
+given_failing tells state old mid new (step.DiskFault p) can copied given = broken_then tells state old mid new p [] [] can copied given
+given_failing tells state old mid new (step.Down p) can copied given = absurd given
+
+-- ---- Where nothing more may go
+
+pub none_left : {D : Type 0} (m : Manager D) → AllAwake m → AllByRecursion (λ (e : Indexed). e.listed.lane < length m.ups.items) m.index.entries → going_entry m ≡ None
+    → AllByRecursion (λ (e : Listed). (b : ℕ) → goes (listed_in m.index.entries) e b ≡ false) (listed_in m.index.entries)
+none_left m awake lanes none = Rattle.log_cleaner.proofs.Lists.all_both
+    (λ (e : Listed). e.lane < length m.ups.items)
+    (λ (e : Listed). slice_index_or m.ups.items e.lane false ≡ true → (Rattle.wol_model.specs.Index.has_going (listed_in m.index.entries) e ≡ false) × (false ≡ true → Rattle.wol_model.specs.Index.has_due (listed_in m.index.entries) e ≡ false))
+    (λ (e : Listed). (b : ℕ) → goes (listed_in m.index.entries) e b ≡ false)
+    (λ e lt quiet. none_goes (listed_in m.index.entries) e (quiet (awake_at m.ups.items e.lane awake lt)).0)
+    (listed_in m.index.entries)
+    (all_mapped (λ (e : Listed). e.lane < length m.ups.items) (λ (e : Indexed). e.listed) m.index.entries lanes)
+    (idle (record m { home_up = false }) refl none)
+  where
+    awake_at : (us : List Bool) (k : ℕ) → AllByRecursion (λ x. x ≡ true) us → k < length us → slice_index_or us k false ≡ true
+    awake_at [] k all lt = absurd (omega (arith, lt))
+    awake_at (u ∷ us) zero all lt = all.0
+    awake_at (u ∷ us) (suc k) all lt = awake_at us k all.1 (omega (arith, lt))
+
+-- each entry's lane has its flag
+pub lanes_within : {D : Type 0} (state : D → State) (m : Manager D) → Rattle.manager.specs.Stands.IsReady state m → m.down ≡ None → AllByRecursion (λ (e : Indexed). e.listed.lane < length m.ups.items) m.index.entries
+lanes_within state m ready up = all_map (Rattle.manager.specs.Stands.IsPlacedIn m.lanes.items) (λ (e : Indexed). e.listed.lane < length m.ups.items)
+    (λ e placed. let lt = slice_get_within m.lanes.items e.listed.lane placed.lane placed.lane_is in let f = ready.ready.flags in omega (arith, lt, f)) m.index.entries (ready.up up).placed
+
+pub tidies_up : {D : Type 0} (state : D → State) (old new : Manager D) → Rattle.manager.specs.Stands.IsReady state new → CanClean new → going_entry new ≡ None → KeepsUppermost old new → TidiesUp old new
+tidies_up state old new ready can none upper u first count some x =
+    tidy_of_upper (listed_in new.index.entries) u first count (none_left new can.awake (lanes_within state new ready can.up) none) (upper u first count some x)
+
+pub lowers_of : {D : Type 0} (answer : Gone) (old new : Manager D) → (answer ≡ gone.Nothing → ⊥) → Rattle.reclaimer.specs.Counts.LowersGone (Ok answer) old new → Rattle.wol_model.specs.Index.left (listed_in new.index.entries) < Rattle.wol_model.specs.Index.left (listed_in old.index.entries)
+lowers_of (gone.Version version) old new some lower = lower
+lowers_of (gone.Trimmed version) old new some lower = lower
+lowers_of gone.Nothing old new some lower = absurd (some refl)

@@ -1,0 +1,76 @@
+use Rattle.std.proofs.Common.{◌≡◌, ◌<◌, ◌≤◌, ◌+◌, ℕ, Bool, true, false, Ok, length, sym, subst, ◌∙◌, arith, rules}
+use Rattle.std.proofs.lemmas.Result.{err_from_is_err_and}
+use Rattle.wol_model.specs.Index.{listed_in, is_covered}
+use Rattle.redirect_map.specs.Index.{Contents, IsIndex}
+use Rattle.log_cleaner.specs.Chunks.{IsTidy}
+use Rattle.log_cleaner.specs.Steps.{CopiesChunk, TellsFault}
+use Rattle.log_cleaner.proofs.Cleaning.{between_copied, between_none, between_tidy, ends_clean, ends_faulty, ends_full}
+use Rattle.log_cleaner.proofs.cleaner.clean_all.Goals.{then-not-is_tidy+in_ok-copy_chunk+else-not-branch, else-not-is_tidy}
+use Rattle.log_cleaner.proofs.cleaner.clean_all.Goals as goal
+
+pub chunks-init : goal.chunks-init
+chunks-init g c = record { ready = c.requires.ready; at = c.requires.at; between = between_none g.D.Disk.tells g.D.Disk.state c.args.most c.args.m.now c.requires.can }
+
+pub returns-then-lbn-eq-END-clause-cleaned : goal.returns-then-lbn-eq-END-clause-cleaned
+returns-then-lbn-eq-END-clause-cleaned g c =
+    let i = c.chunks.invariant in let n = c.next_covered-lbn.ensures in
+    let bare = subst (λ (x : Contents). (b : ℕ) → c.chunks.from ≤ b → b < c.next_covered-lbn.result → is_covered (listed_in x.entries) b ≡ false) c.index.ensures n.bare in (
+      i.between.copies,
+      ends_clean g.D.Disk.tells g.D.Disk.state c.args.most c.args.m.now c.chunks.m c.chunks.copied c.chunks.from i.between i.ready (subst (λ (x : Contents). IsIndex x.entries) c.index.ensures n.index)
+          (λ b l h. bare b l (let e = c.if-lbn-eq-END.true in omega (arith, h, e))),
+    )
+
+pub returns-in_err-copy_chunk-clause-cleaned : goal.returns-in_err-copy_chunk-clause-cleaned
+returns-in_err-copy_chunk-clause-cleaned g c =
+    let i = c.chunks.invariant in let n = c.next_covered-lbn.ensures in let k = c.chunk_len-count.ensures in
+    let lbn = c.next_covered-lbn.result in let count = c.chunk_len-count.result in
+    let p = err_from_is_err_and c.from_residual.result c.from_residual.ensures.1 in
+    let long : length c.copy_chunk.new.blocks ≡ count = search rules in
+    let bare = subst (λ (x : Contents). (b : ℕ) → c.chunks.from ≤ b → b < lbn → is_covered (listed_in x.entries) b ≡ false) c.index.ensures n.bare in
+    let here = subst (λ (x : Contents). is_covered (listed_in x.entries) lbn ≡ true) c.index.ensures (n.covered (let e = c.if-lbn-eq-END.false in let b = n.bounds in omega (arith, e, b))) in
+    let run = subst (λ (x : Contents). (b : ℕ) → lbn ≤ b → b < lbn + count → is_covered (listed_in x.entries) b ≡ true) c.index-in-chunks.ensures k.run in
+    let ends = subst (λ (x : Contents). count < c.args.most → is_covered (listed_in x.entries) (lbn + count) ≡ false) c.index-in-chunks.ensures k.ends in
+    let told = subst (λ (m : ℕ). TellsFault g.D.Disk.tells g.D.Disk.state lbn m c.chunks.m c.copy_chunk.new.m c.in_err-copy_chunk.field-0.0) (sym c.copy_chunk.auto.blocks ∙ long) c.in_err-copy_chunk.ensures.copied in
+    rw (p.1, p.2) (ends_faulty g.D.Disk.tells g.D.Disk.state c.args.most c.args.m.now c.chunks.m c.chunks.copied c.chunks.from c.requires.can i.between i.ready lbn count n.bounds.0 bare here k.count.0 k.count.1 run ends c.copy_chunk.new.m c.in_err-copy_chunk.field-0.0 told)
+
+pub returns-then-not-branch-clause-cleaned : goal.returns-then-not-branch-clause-cleaned
+returns-then-not-branch-clause-cleaned g c =
+    let i = c.chunks.invariant in let n = c.next_covered-lbn.ensures in let k = c.chunk_len-count.ensures in
+    let lbn = c.next_covered-lbn.result in let count = c.chunk_len-count.result in
+    let long : length c.copy_chunk.new.blocks ≡ count = search rules in
+    let bare = subst (λ (x : Contents). (b : ℕ) → c.chunks.from ≤ b → b < lbn → is_covered (listed_in x.entries) b ≡ false) c.index.ensures n.bare in
+    let here = subst (λ (x : Contents). is_covered (listed_in x.entries) lbn ≡ true) c.index.ensures (n.covered (let e = c.if-lbn-eq-END.false in let b = n.bounds in omega (arith, e, b))) in
+    let run = subst (λ (x : Contents). (b : ℕ) → lbn ≤ b → b < lbn + count → is_covered (listed_in x.entries) b ≡ true) c.index-in-chunks.ensures k.run in
+    let ends = subst (λ (x : Contents). count < c.args.most → is_covered (listed_in x.entries) (lbn + count) ≡ false) c.index-in-chunks.ensures k.ends in
+    let told = subst (λ (t : Bool). CopiesChunk g.D.Disk.tells g.D.Disk.state lbn count c.chunks.m c.copy_chunk.new.m (Ok t)) c.if-not-branch.true
+    (subst (λ (m : ℕ). CopiesChunk g.D.Disk.tells g.D.Disk.state lbn m c.chunks.m c.copy_chunk.new.m (Ok c.in_ok-copy_chunk.field-0)) (sym c.copy_chunk.auto.blocks ∙ long) c.in_ok-copy_chunk.ensures.copied) in
+    (i.between.copies, ends_full g.D.Disk.tells g.D.Disk.state c.args.most c.args.m.now c.chunks.m c.chunks.copied c.chunks.from c.requires.can i.between i.ready lbn count n.bounds.0 bare here k.count.0 k.count.1 run ends c.copy_chunk.new.m told)
+
+pub chunks-preserved : goal.chunks-preserved
+chunks-preserved g c =
+    let i = c.chunks.invariant in let n = c.next_covered-lbn.ensures in let k = c.chunk_len-count.ensures in
+    let lbn = c.next_covered-lbn.result in let count = c.chunk_len-count.result in
+    let bare = subst (λ (x : Contents). (b : ℕ) → c.chunks.from ≤ b → b < lbn → is_covered (listed_in x.entries) b ≡ false) c.index.ensures n.bare in
+    let here = subst (λ (x : Contents). is_covered (listed_in x.entries) lbn ≡ true) c.index.ensures (n.covered (let e = c.if-lbn-eq-END.false in let b = n.bounds in omega (arith, e, b))) in
+    let run = subst (λ (x : Contents). (b : ℕ) → lbn ≤ b → b < lbn + count → is_covered (listed_in x.entries) b ≡ true) c.index-in-chunks.ensures k.run in
+    let ends = subst (λ (x : Contents). count < c.args.most → is_covered (listed_in x.entries) (lbn + count) ≡ false) c.index-in-chunks.ensures k.ends in
+    let next = c.from-in-chunks.ensures in
+    elim c.if-not-is_tidy.branch [
+      | then-not-is_tidy+in_ok-copy_chunk+else-not-branch w ↦
+          let long : length w.copy_chunk.new.blocks ≡ count = search rules in
+          let e = w.in_ok-copy_chunk.ensures in
+          let told = subst (λ (t : Bool). CopiesChunk g.D.Disk.tells g.D.Disk.state lbn count c.chunks.m w.copy_chunk.new.m (Ok t)) w.if-not-branch.false
+          (subst (λ (m : ℕ). CopiesChunk g.D.Disk.tells g.D.Disk.state lbn m c.chunks.m w.copy_chunk.new.m (Ok w.in_ok-copy_chunk.field-0)) (sym w.copy_chunk.auto.blocks ∙ long) e.copied) in
+          rw (w.m-is, w.copied-is, next, w.from.ensures) (record {
+            ready = e.ready;
+            at = e.at;
+            between = between_copied g.D.Disk.tells g.D.Disk.state c.args.most c.args.m.now c.chunks.m c.chunks.copied c.chunks.from c.requires.can i.between i.ready lbn count n.bounds.0 bare here k.count.0 k.count.1 run ends w.copy_chunk.new.m told;
+          })
+      | else-not-is_tidy w ↦
+          rw (w.m-is, w.copied-is, next) (record {
+            ready = i.ready;
+            at = i.at;
+            between = between_tidy g.D.Disk.tells g.D.Disk.state c.args.most c.args.m.now c.chunks.m c.chunks.copied c.chunks.from c.requires.can i.between i.ready lbn count n.bounds.0 bare here k.count.0 k.count.1 run ends
+                (subst (λ (x : Contents). IsTidy (listed_in x.entries) lbn count) c.index-in-chunks-2.ensures (c.is_tidy.ensures w.if-not-is_tidy.false));
+          })
+    ]

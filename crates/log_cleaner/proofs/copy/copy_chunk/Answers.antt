@@ -1,0 +1,17 @@
+use Rattle.std.proofs.Common.{◌≡◌, Bool, true, Ok, length, subst, rules}
+use Rattle.log_cleaner.specs.Steps.{Rewrites}
+use Rattle.log_cleaner.proofs.Cleaning.{tidied, tidy_failing}
+use Rattle.log_cleaner.proofs.copy.copy_chunk.Goals as goal
+
+pub returns-in-Ok-clause-copied : goal.returns-in-Ok-clause-copied
+returns-in-Ok-clause-copied g c =
+    let is : c.in_ok-copied.copied ≡ true = search rules in
+    let r = subst (λ (t : Bool). Rewrites g.D.Disk.tells g.D.Disk.state c.args.lbn (length c.args.blocks.now) c.args.m.now c.rewrite.new.m (Ok t)) is c.in_ok-copied.ensures.rewritten in
+    let given = c.in-Ok.ensures.given in
+    tidied g.D.Disk.tells g.D.Disk.state c.args.m.now c.rewrite.new.m c.give_up.new.m c.args.lbn (length c.args.blocks.now) c.requires.can c.requires.ready c.requires.count.0 r given.0 given.1
+
+pub returns-in-Err-clause-copied : goal.returns-in-Err-clause-copied
+returns-in-Err-clause-copied g c =
+    let is : c.in_ok-copied.copied ≡ true = search rules in
+    let r = subst (λ (t : Bool). Rewrites g.D.Disk.tells g.D.Disk.state c.args.lbn (length c.args.blocks.now) c.args.m.now c.rewrite.new.m (Ok t)) is c.in_ok-copied.ensures.rewritten in
+    tidy_failing g.D.Disk.tells g.D.Disk.state c.args.m.now c.rewrite.new.m c.give_up.new.m c.args.lbn (length c.args.blocks.now) c.requires.can c.requires.ready c.requires.count.0 r c.in-Err.fault c.step_fault.result c.step_fault.ensures c.in-Err.ensures.given

@@ -1,0 +1,67 @@
+-- Chunks of blocks that records cover, and records that keep one each.
+use Rattle.std.specs.Prelude.{◌≡◌, ◌≢◌, ◌<◌, ◌≤◌, ◌+◌, ◌*◌, ◌&&◌, nat_le, nat_lt, ℕ, Bool, true, false, List, length, Contains, slice_range}
+use Rattle.std.specs.List.{AllByRecursion}
+use Rattle.wol_disk.specs.Disk.{Block}
+use Rattle.wol_model.specs.Blocks.{Write}
+use Rattle.wol_model.specs.Index.{Listed, cover_of, is_homed}
+
+-- ---- Chunks
+
+-- A maximal run of covered blocks is cut after each `most` blocks from its start; these are so many blocks between two cuts, or behind the last one.
+pub record IsChunk (covered : ℕ → Bool) (most first count : ℕ) : Type 0 where
+  -- where its run starts
+  pub start : ℕ
+  pub starts : (b : ℕ) → b + 1 ≡ start → covered b ≡ false
+  pub cuts : ℕ
+  pub cut : first ≡ start + cuts * most
+  pub run : (b : ℕ) → start ≤ b → b < first + count → covered b ≡ true
+  pub some : 1 ≤ count
+  pub few : count ≤ most
+  pub ends : count < most → covered (first + count) ≡ false
+
+-- block b is one of so many from `first` on
+abbrev pub is_within : (first count : ℕ) → (b : ℕ) → Bool
+is_within first count b = nat_le first b && nat_lt b (first + count)
+
+-- ---- Records
+
+-- the record keeps just these blocks
+abbrev pub KeepsJust : Listed → (first count : ℕ) → Type 0
+KeepsJust e first count = (b : ℕ) → (cover_of e).covers b ≡ is_within first count b
+
+-- it keeps none of them
+abbrev pub KeepsNone : Listed → (first count : ℕ) → Type 0
+KeepsNone e first count = (b : ℕ) → is_within first count b ≡ true → (cover_of e).covers b ≡ false
+
+-- the record of this version keeps just these blocks
+pub record IsOneOf (es : List Listed) (version first count : ℕ) : Type 0 where
+  pub record_ : Listed
+  pub listed : Contains es record_
+  pub version_is : record_.version ≡ version
+  pub keeps : KeepsJust record_ first count
+
+-- a chunk is tidy where one record keeps just its blocks, and no other record keeps any of them
+pub record IsTidy (es : List Listed) (first count : ℕ) : Type 0 where
+  pub version : ℕ
+  pub one : IsOneOf es version first count
+  pub alone : AllByRecursion (λ e. e.version ≢ version → KeepsNone e first count) es
+
+-- the record of this version keeps just these blocks, and no newer record keeps any of them
+pub record IsUppermost (es : List Listed) (version first count : ℕ) : Type 0 where
+  pub one : IsOneOf es version first count
+  pub above : AllByRecursion (λ (e : Listed). version < e.version → KeepsNone e first count) es
+
+-- no block of a record is home too
+abbrev pub NoneHomed : List Listed → Type 0
+NoneHomed es = AllByRecursion (λ e. (b : ℕ) → is_homed e b ≡ false) es
+
+-- the records are one for each chunk of these covered blocks, each keeping that chunk
+pub record IsClean (covered : ℕ → Bool) (most : ℕ) (es : List Listed) : Type 0 where
+  pub each : (first count : ℕ) → IsChunk covered most first count → IsTidy es first count
+  pub only : AllByRecursion (λ e. (first : ℕ) × (count : ℕ) × IsChunk covered most first count × KeepsJust e first count) es
+
+-- ---- Copies
+
+-- a write of what the array has there
+abbrev pub IsCopyOf : List Block → Write → Type 0
+IsCopyOf array w = w.blocks ≡ slice_range array w.first (w.first + length w.blocks)

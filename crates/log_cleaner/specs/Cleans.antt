@@ -1,0 +1,79 @@
+-- What cleaning does to a manager, by its answer.
+use Rattle.std.specs.Prelude.{◌≡◌, ◌<◌, ◌^◌, ◌∷◌, ◌++◌, ℕ, Bool, true, false, List, [], map, length, sum_by, None, Some, Result, Ok, Err, slice_get}
+use Rattle.std.specs.List.{AllByRecursion, range_with_len}
+use Rattle.wol_disk.specs.Disk.{State}
+use Rattle.turn_lock.specs.Histories.{Entry, Begins}
+use Rattle.turn_lock.specs.Passes.{pass_mine, pass_number}
+use Rattle.seg_pool.specs.Holders.{Took}
+use Rattle.seg_pool.specs.Operations.{operation_of}
+use Rattle.logger.specs.Lanes.{pool_of}
+use Rattle.logger.specs.declared.lane.Lane.{Lane}
+use Rattle.wol_model.specs.Blocks.{Write}
+use Rattle.wol_model.specs.History.{Broke}
+use Rattle.wol_model.specs.Index.{listed_in, is_covered}
+use Rattle.manager.specs.Causes.{PartRoseOrClaimed}
+use Rattle.manager.specs.Stands.{IsSameManager}
+use Rattle.manager.specs.declared.manager.Manager.{Manager}
+use Rattle.manager.specs.declared.part.Part.{Part}
+use Rattle.log_cleaner.specs.Chunks.{IsChunk, IsClean, NoneHomed}
+use Rattle.log_cleaner.specs.Copies.{AreCopies, LeavesEntry, wrote}
+use Rattle.log_cleaner.specs.declared.answer.Cleaned.{Cleaned}
+use Rattle.log_cleaner.specs.declared.answer.CleanFault.{CleanFault}
+use Rattle.log_cleaner.specs.declared.answer.CleanFault.TheVariants.{DiskFault, VersionsSpent, NoMemory}
+
+-- each logger of the view is awake for the manager
+abbrev pub AllAwake : {D : Type 0} → Manager D → Type 0
+AllAwake m = AllByRecursion (λ up. up ≡ true) m.ups.items
+
+-- a block is covered by a record of the manager
+abbrev pub covered_in : {D : Type 0} → Manager D → ℕ → Bool
+covered_in m b = is_covered (listed_in m.index.entries) b
+
+-- the manager can be cleaned: nothing failed, no block is homed, and all its loggers are awake for it
+pub record CanClean {D : Type 0} (m : Manager D) : Type 0 where
+  pub up : m.down ≡ None
+  pub unhomed : NoneHomed (listed_in m.index.entries)
+  pub awake : AllAwake m
+
+-- Between calls of a cleaning: it can be cleaned still, the same blocks are covered, and the passes of its pools have gained entries at most.
+pub record GoesOn {D : Type 0} (old new : Manager D) : Type 0 where
+  pub same : IsSameManager old new
+  pub can : CanClean new
+  pub covered : (b : ℕ) → covered_in new b ≡ covered_in old b
+  pub lanes : length new.lanes.items ≡ length old.lanes.items
+  pub pools : (k : ℕ) (o n : Lane D) → slice_get old.lanes.items k ≡ Some o → slice_get new.lanes.items k ≡ Some n → Begins (pass_mine (pool_of o)) (pass_mine (pool_of n))
+
+-- a copy is of a chunk of the covered blocks
+abbrev pub IsChunkOf : (covered : ℕ → Bool) → (most : ℕ) → Write → Type 0
+IsChunkOf covered most w = IsChunk covered most w.first (length w.blocks)
+
+-- the last that each lane's pass did in its pool was to find it empty
+abbrev pub FindsAllEmpty : {D : Type 0} → (old new : Manager D) → Type 0
+FindsAllEmpty {D} old new = (k : ℕ) (o n : Lane D) → slice_get old.lanes.items k ≡ Some o → slice_get new.lanes.items k ≡ Some n
+    → (before : List Entry) × Begins (pass_mine (pool_of o)) before × (pass_mine (pool_of n) ≡ before ++ (pass_number (pool_of n), operation_of (Took None)) ∷ [])
+
+-- how many blocks were copied
+abbrev pub copied_blocks : List Write → ℕ
+copied_blocks copies = sum_by (λ (w : Write). length w.blocks) copies
+
+-- A part's count rose in a call of the cleaning.
+abbrev pub RoseSince : {D : Type 0} → (D → State) → (old new : Manager D) → Part → Type 0
+RoseSince {D} state old new p = (mid : Manager D) × GoesOn old mid × PartRoseOrClaimed state mid new p
+
+-- What an answer says. Where it isn't full the records are one for each chunk; where it is, no pool had a segment for the next.
+abbrev pub TellsCleaned : {D : Type 0} → (tells : Bool) → (D → State) → (most : ℕ) → (old new : Manager D) → List Write → Result Cleaned CleanFault → Type 0
+TellsCleaned tells state most old new copies (Ok c) = GoesOn old new × LeavesEntry tells state old new (wrote copies)
+    × (c.before ≡ length old.index.entries) × (c.after ≡ length new.index.entries) × (c.copied ≡ copied_blocks copies)
+    × (c.full ≡ false → IsClean (covered_in old) most (listed_in new.index.entries))
+    × (c.full ≡ true → (new.next < 2 ^ 63) × FindsAllEmpty old new)
+TellsCleaned tells state most old new copies (Err (DiskFault p)) = (new.down ≡ Some p) × RoseSince state old new p × LeavesEntry tells state old new (Broke copies)
+TellsCleaned tells state most old new copies (Err VersionsSpent) = GoesOn old new × LeavesEntry tells state old new (wrote copies) × (new.next ≡ 2 ^ 63)
+TellsCleaned tells state most old new copies (Err NoMemory) = GoesOn old new × LeavesEntry tells state old new (wrote copies)
+
+-- What was copied are chunks, under the next versions in order; after a fault of a disk the last of them may be in flight.
+pub record HasCleaned {D : Type 0} (tells : Bool) (state : D → State) (most : ℕ) (old new : Manager D) (result : Result Cleaned CleanFault) : Type 0 where
+  pub copies : List Write
+  pub chunks : AllByRecursion (IsChunkOf (covered_in old) most) copies
+  pub numbered : map (λ w. w.version) copies ≡ map (λ v. Some v) (range_with_len old.next (length copies))
+  pub copied : AreCopies tells state old new copies
+  pub tells_ : TellsCleaned tells state most old new copies result

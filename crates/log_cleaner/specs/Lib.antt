@@ -1,0 +1,5 @@
+pub mod Chunks
+pub mod Copies
+pub mod Cleans
+pub mod Steps
+pub mod Underway

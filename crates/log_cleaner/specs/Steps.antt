@@ -1,0 +1,115 @@
+-- What steps of a cleaning come to.
+use Rattle.std.specs.Prelude.{◌≡◌, ◌<◌, ◌≤◌, ◌+◌, ◌^◌, ◌∷◌, ℕ, Bool, true, false, List, [], length, Some, Result, Ok, Err}
+use Rattle.std.specs.List.{AllByRecursion}
+use Rattle.wol_disk.specs.Disk.{State}
+use Rattle.wol_model.specs.Blocks.{Write}
+use Rattle.wol_model.specs.History.{Broke}
+use Rattle.wol_model.specs.Index.{listed_in}
+use Rattle.wol_promise.specs.Policy.{Look, listing}
+use Rattle.manager.specs.declared.manager.Manager.{Manager}
+use Rattle.manager.specs.declared.part.Part.{Part}
+use Rattle.manager.specs.declared.part.Place.{Place}
+use Rattle.manager.specs.declared.part.ReadRefusal.{ReadRefusal}
+use Rattle.manager.specs.declared.part.ReadRefusal.TheVariants as refused_read
+use Rattle.manager.specs.declared.part.WriteRefusal.{WriteRefusal}
+use Rattle.manager.specs.declared.part.WriteRefusal.TheVariants as refused
+use Rattle.manager.specs.declared.part.StepFault.{StepFault}
+use Rattle.manager.specs.declared.part.StepFault.TheVariants as step
+use Rattle.log_cleaner.specs.Chunks.{IsTidy, is_within}
+use Rattle.log_cleaner.specs.Copies.{AreCopies, KeepsCopies, LeavesEntry}
+use Rattle.log_cleaner.specs.Cleans.{FindsAllEmpty, GoesOn, RoseSince}
+use Rattle.log_cleaner.specs.declared.answer.CleanFault.{CleanFault}
+use Rattle.log_cleaner.specs.declared.answer.CleanFault.TheVariants.{DiskFault, VersionsSpent, NoMemory}
+
+-- what is told of a read that was refused, and of a write
+abbrev pub fault_of : ReadRefusal → CleanFault
+fault_of (refused_read.DiskFault p) = DiskFault p
+fault_of (refused_read.Down p) = DiskFault p
+
+abbrev pub told_of : Result Place WriteRefusal → Result Bool CleanFault
+told_of (Ok place) = Ok true
+told_of (Err refused.Full) = Ok false
+told_of (Err (refused.DiskFault p)) = Err (DiskFault p)
+told_of (Err (refused.Down p)) = Err (DiskFault p)
+told_of (Err refused.VersionsSpent) = Err VersionsSpent
+told_of (Err refused.NoMemory) = Err NoMemory
+
+-- these were copied, and nothing failed
+pub record HasCopied {D : Type 0} (tells : Bool) (state : D → State) (old new : Manager D) (copies : List Write) : Type 0 where
+  pub goes_on : GoesOn old new
+  pub keeps : KeepsCopies tells state old new copies
+  pub copied : AreCopies tells state old new copies
+  pub next : new.next ≡ old.next + length copies
+
+-- a call of this part failed, and the last of these may be in flight
+pub record HasBroken {D : Type 0} (tells : Bool) (state : D → State) (old new : Manager D) (p : Part) (copies : List Write) : Type 0 where
+  pub down : new.down ≡ Some p
+  pub rose : RoseSince state old new p
+  pub leaves : LeavesEntry tells state old new (Broke copies)
+  pub copied : AreCopies tells state old new copies
+
+-- the write has so many blocks from `first` on, under this version
+pub record IsCopyAt (first count version : ℕ) (w : Write) : Type 0 where
+  pub first_is : w.first ≡ first
+  pub count_is : length w.blocks ≡ count
+  pub version_is : w.version ≡ Some version
+
+-- nothing more may go: each chunk whose uppermost record keeps just its blocks is tidy
+abbrev pub TidiesUp : {D : Type 0} → (old new : Manager D) → Type 0
+TidiesUp old new = (version first count : ℕ) → 1 ≤ count → Rattle.log_cleaner.specs.Chunks.IsUppermost (listed_in old.index.entries) version first count → IsTidy (listed_in new.index.entries) first count
+
+-- giving up what may go
+abbrev pub GivesUp : {D : Type 0} → (tells : Bool) → (D → State) → (old new : Manager D) → Result (Unit {0}) StepFault → Type 0
+GivesUp tells state old new (Ok done) = HasCopied tells state old new [] × TidiesUp old new
+GivesUp tells state old new (Err (step.DiskFault p)) = HasBroken tells state old new p []
+GivesUp tells state old new (Err (step.Down p)) = ⊥
+
+-- no log had room
+pub record IsRefused {D : Type 0} (tells : Bool) (state : D → State) (old new : Manager D) : Type 0 where
+  pub copied : HasCopied tells state old new []
+  pub entries : new.index.entries ≡ old.index.entries
+  pub next : old.next < 2 ^ 63
+  pub empty : FindsAllEmpty old new
+
+-- the blocks were written again, as the newest record
+pub record HasRewritten {D : Type 0} (tells : Bool) (state : D → State) (first count : ℕ) (old new : Manager D) : Type 0 where
+  pub write : Write
+  pub is_copy : IsCopyAt first count old.next write
+  pub copied : HasCopied tells state old new (write ∷ [])
+  pub look : Look
+  pub lane : ℕ
+  pub listed_was : look.listed ≡ listed_in old.index.entries
+  pub next_was : look.next ≡ old.next
+  pub listed_is : listed_in new.index.entries ≡ listing look lane write
+
+-- a disk call failed, perhaps that of a copy
+pub record Fails {D : Type 0} (tells : Bool) (state : D → State) (first count : ℕ) (old new : Manager D) (p : Part) : Type 0 where
+  pub copies : List Write
+  pub one : length copies ≤ 1
+  pub are : AllByRecursion (IsCopyAt first count old.next) copies
+  pub broken : HasBroken tells state old new p copies
+
+-- what is so after a refusal
+abbrev pub TellsFault : {D : Type 0} → (tells : Bool) → (D → State) → (first count : ℕ) → (old new : Manager D) → CleanFault → Type 0
+TellsFault tells state first count old new (DiskFault p) = Fails tells state first count old new p
+TellsFault tells state first count old new VersionsSpent = HasCopied tells state old new [] × (new.next ≡ 2 ^ 63)
+TellsFault tells state first count old new NoMemory = HasCopied tells state old new []
+
+-- reading and writing again
+abbrev pub Rewrites : {D : Type 0} → (tells : Bool) → (D → State) → (first count : ℕ) → (old new : Manager D) → Result Bool CleanFault → Type 0
+Rewrites tells state first count old new (Ok true) = HasRewritten tells state first count old new
+Rewrites tells state first count old new (Ok false) = IsRefused tells state old new
+Rewrites tells state first count old new (Err fault) = TellsFault tells state first count old new fault
+
+-- a chunk was made tidy, and others stay so
+pub record HasTidied {D : Type 0} (tells : Bool) (state : D → State) (first count : ℕ) (old new : Manager D) : Type 0 where
+  pub write : Write
+  pub is_copy : IsCopyAt first count old.next write
+  pub copied : HasCopied tells state old new (write ∷ [])
+  pub tidy : IsTidy (listed_in new.index.entries) first count
+  pub others : (f c : ℕ) → 1 ≤ c → ((b : ℕ) → is_within f c b ≡ true → is_within first count b ≡ false) → IsTidy (listed_in old.index.entries) f c → IsTidy (listed_in new.index.entries) f c
+
+abbrev pub CopiesChunk : {D : Type 0} → (tells : Bool) → (D → State) → (first count : ℕ) → (old new : Manager D) → Result Bool CleanFault → Type 0
+CopiesChunk tells state first count old new (Ok true) = HasTidied tells state first count old new
+CopiesChunk tells state first count old new (Ok false) = IsRefused tells state old new
+CopiesChunk tells state first count old new (Err fault) = TellsFault tells state first count old new fault

@@ -1,0 +1,17 @@
+//! After many small and overlapping writes the segments of a volume hold few live blocks. Cleaning writes each run of
+//! covered blocks again, as few records, so that thin segments become empty and go back to their pools. What readers
+//! see stays as it was at each moment of it.
+//!
+//! `chunks.rt` finds the next chunk, a run of covered blocks of at most so many, and tells whether it is tidy: one
+//! record keeps just its blocks, and no other record keeps any of them. `copy.rt` writes one chunk again and then
+//! gives up what may go, `cleaner.rt` goes from chunk to chunk (`clean`). Of `specs/`: `Chunks` says what a chunk is and
+//! when it is tidy, `Copies` what copies leave in a history and at each moment, `Cleans` what the answers mean.
+#![tactic(auto)]
+
+mod answer;
+mod chunks;
+mod cleaner;
+mod copy;
+
+pub use answer::{CleanFault, Cleaned};
+pub use cleaner::clean;
