@@ -1,2 +1,0 @@
-pub mod DrainedRack
-pub mod Images

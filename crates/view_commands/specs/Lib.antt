@@ -1,4 +1,0 @@
-pub mod Orders
-pub mod Drains
-pub mod Images
-pub mod Runs
