@@ -1,7 +1,8 @@
 #!/usr/bin/env bash
 # All figures in one table: each work with its lines a second, its processor seconds, the limit of the machine in the same run, and the ratio of the
 # two. Replays of generated lines over 3, 36 and 64 volumes (the most that may be configured), with 1, 2 and 4 workers and each mode of reclaim, and of
-# windows of 2 and of 64 lines over 36 volumes; on a memory file system, and synced on a disk. Then lines that belong to nobody, and digests.
+# windows of 2 and of 64 lines over 36 volumes; on a memory file system, and synced on a disk. Then four policies compared on generated lines over
+# 36 volumes, lines that belong to nobody, and digests.
 # The limit of a replay is what `dd` writes and syncs in the same folder just before: as many blocks of 4 KiB as there are lines, each synced, by as
 # many processes as there are workers. The limit of lines is `wc -l`, that of digests `sha256sum`.
 # usage: bench/all.sh [LINES] [SYNCED]    lines of a replay in memory (100000 if left out) and on the disk (2000); the program is build/wol, as
@@ -116,6 +117,10 @@ compare() {
 
 cd "$memory"
 replays memory "$lines"
+configure 36 >wol.toml
+"$program" gen 7 $((lines * 10)) >trace.csv
+compare "whatif of generated lines, 36 volumes, a line" $((lines * 10)) "'$program' whatif <trace.csv" "'$program' solo nobody 0 1 <trace.csv"
+rm -f solo.vol
 windows $((lines * 10)) 64 | sed 's/,h/,nobody/' >trace.csv
 compare "lines of nobody (solo), a line" $((lines * 10)) "'$program' solo usr 0 1 <trace.csv" "wc -l <trace.csv"
 configure 4 >wol.toml
@@ -130,7 +135,7 @@ replays disk "$synced"
         "$(awk '/MemTotal/ { printf "%.0f GiB", $2 / 1048576 }' /proc/meminfo)" "$(uname -sr)"
     printf 'at its end the load was %s.\n\n' "$(cut -d ' ' -f 1 /proc/loadavg)"
     printf 'What is counted are lines a second, and bytes a second of `check`. The limit is what a plain program does in the same place just before: `dd` with\n'
-    printf 'blocks of 4 KiB, each synced, as many processes as workers; `wc -l`; `sha256sum`. The ratio is speed over limit.\n\n'
+    printf 'blocks of 4 KiB, each synced, as many processes as workers; reading the lines alone (`solo`); `wc -l`; `sha256sum`. The ratio is speed over limit.\n\n'
     printf '| work | a second | CPU s | limit a second | ratio |\n|---|---|---|---|---|\n'
     cat "$rows"
 } >"$figures"
