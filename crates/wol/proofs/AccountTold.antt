@@ -1,5 +1,5 @@
 -- The account holds of the program's runs, by the text and the status that end them.
-use Rattle.std.proofs.Common.{ℕ, Bool, List, Option, Result, inl, inr}
+use Rattle.std.proofs.Common.{ℕ, Bool, List, ◌++◌, Option, Result, inl, inr}
 use Rattle.wol_disk.specs.Disk.{State}
 use Rattle.wol_bay.specs.Bay.{BayState}
 use Rattle.wol_config.specs.declared.config.Config.{Config}
@@ -31,7 +31,7 @@ module _ {D S T : Type 0} (tells : Bool) (state : D → State) (left : S → Opt
         unbroken = λ zero_is. a.unbroken (of_success config result status then taken' ends zero_is);
         printed = λ zero_is. (
             let (before, summary, is, appends) = a.printed (of_success config result status then taken' ends zero_is) in
-            (before, summary, is, same_taken config result status taken then taken' _ ends zero_is appends));
+            (before, summary, is, same_taken config result status taken then taken' (before ++ summary) ends zero_is appends));
         placed = a.placed;
         reclaimed = a.reclaimed;
       }))

@@ -57,10 +57,10 @@ module _ {S T : Type 0} (tells : Bool) (left : S → Option (List ℕ)) (config 
   ends_seen run last result memory = memory
   ends_seen run last result (sink_failed rose) = sink_failed rose
 
-  summary_seen : (lines : List (Option TraceLine)) (windows : List ServedWindow) (result : Result T Stop) (text : List ℕ) → IsSummaryOf left config start now lines windows result text
-      → IsSummaryOf (λ bytes. bytes) config (seen left start) (seen left now) lines windows result text
-  summary_seen lines windows result text (of_all r x all is) = of_all r x (all_seen left (targets_of config) start now lines all) is
-  summary_seen lines windows result text (of_none e) = of_none e
+  summary_seen : (lines : List (Option TraceLine)) (windows : List ServedWindow) (awake : List (List Bool)) (result : Result T Stop) (text : List ℕ) → IsSummaryOf left config start now lines windows awake result text
+      → IsSummaryOf (λ bytes. bytes) config (seen left start) (seen left now) lines windows awake result text
+  summary_seen lines windows awake result text (of_all r x all is) = of_all r x (all_seen left (targets_of config) start now lines all) is
+  summary_seen lines windows awake result text (of_none e) = of_none e
 
   module _ (options : Options) (printed printed' : Option (List ℕ)) where
     pub replayed_seen : {D : Type 0} (state : D → State) (result : Result T Stop) → Replayed tells state left config options start now old new sink sink' printed printed' result
@@ -94,7 +94,7 @@ module _ {S T : Type 0} (tells : Bool) (left : S → Option (List ℕ)) (config 
       marks = is.marks;
       images = is.images;
       summary = is.summary;
-      summary_is = summary_seen is.run (is.earlier ++ is.last) r is.summary is.summary_is;
+      summary_is = summary_seen is.run (is.earlier ++ is.last) is.awake r is.summary is.summary_is;
       prints = is.prints;
     })
 
