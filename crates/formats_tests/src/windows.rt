@@ -18,7 +18,7 @@ struct Cut {
 }
 
 fn cut_of(batch: &Batch) -> Cut {
-    cut(batch.moment(), batch.lines(), batch.requests().len())
+    noted(batch.moment(), batch.lines(), batch.requests().len())
 }
 
 // The windows of a trace of at most ten lines over three volumes, and what was counted of its lines.
@@ -48,7 +48,7 @@ fn cut_text(alloc: Global, text: &[u8]) -> Result<(Vec<Cut>, Tally), Fail>
     Ok((cuts, cutter.tally()))
 }
 
-fn cut(moment: u64, lines: u32, requests: usize) -> Cut {
+fn noted(moment: u64, lines: u32, requests: usize) -> Cut {
     Cut {
         moment,
         lines,
@@ -66,7 +66,11 @@ fn windows_last_a_second(rt: HostRuntime) -> Result<(), Fail> {
 30000000,usr,0,Read,511000,2000,1
 ";
     let (cuts, tally) = cut_text(rt.alloc(), text)?;
-    let expected = [cut(100, 2, 3), cut(10_000_100, 2, 0), cut(30_000_000, 1, 2)];
+    let expected = [
+        noted(100, 2, 3),
+        noted(10_000_100, 2, 0),
+        noted(30_000_000, 1, 2),
+    ];
     assert_eq!(rt; cuts.as_slice(), expected.as_slice());
     assert_eq!(rt; (tally.lines, tally.blank, tally.skipped), (6, 1, 2));
     assert_eq!(rt; (tally.requests, tally.span()), (5, 29_999_900));
@@ -81,7 +85,7 @@ fn times_never_fall(rt: HostRuntime) -> Result<(), Fail> {
 60000000,usr,0,Write,0,512,1
 ";
     let (cuts, tally) = cut_text(rt.alloc(), text)?;
-    let expected = [cut(50_000_000, 2, 2), cut(60_000_000, 1, 1)];
+    let expected = [noted(50_000_000, 2, 2), noted(60_000_000, 1, 1)];
     assert_eq!(rt; cuts.as_slice(), expected.as_slice());
     assert_eq!(rt; tally.span(), 10_000_000);
     Ok(())
