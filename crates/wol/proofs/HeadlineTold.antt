@@ -69,7 +69,7 @@ of_success config (Err (stop.Fault f)) status then taken' (inr (inr (is, more)))
 pub same_taken : {T : Type 0} (config : Config) (result : Result T Stop) (status : ℕ) (taken then taken' : Option (List ℕ)) (text : List ℕ) → EndsReplay config result status then taken' → status ≡ 0 → Appends taken then text → Appends taken taken' text
 same_taken config (Ok done) status taken then taken' text (is, same) zero_is appends = subst (λ (t : Option (List ℕ)). Appends taken t text) (sym same) appends
 same_taken config (Err stop.Sink) status taken then taken' text (is, same) zero_is appends = absurd (omega (arith, is, zero_is))
-same_taken config (Err (stop.Fault f)) status taken then taken' text ends zero_is appends = absurd (not_success f (of_success config (Err (stop.Fault f)) status then taken' ends zero_is))
+same_taken {T} config (Err (stop.Fault f)) status taken then taken' text ends zero_is appends = absurd (not_success f (of_success {T = T} config (Err (stop.Fault f)) status then taken' ends zero_is))
 
 -- what is told of the lines that were run is told of the program
 pub on_told : (P Q : Told → Told → Type 0) (a b : Option Told) → IsTold P a b → ((o n : Told) → P o n → Q o n) → IsTold Q a b
