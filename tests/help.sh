@@ -62,8 +62,8 @@ usage_and_version() {
         wol $words
         expect "[$words]: status" 1 "$status"
         expect "[$words]: output" "fault 1 words" "$(cat "$room/out")"
-        expect "[$words]: lines of the usage" 10 "$(errors | wc -l)"
-        for command in format replay check dump gen soak solo; do
+        expect "[$words]: lines of the usage" 11 "$(errors | wc -l)"
+        for command in format replay check dump whatif gen soak solo; do
             expect "[$words]: the usage has $command" 1 "$(errors | grep -c "^  wol $command")"
         done
     done

@@ -12,7 +12,7 @@ use Rattle.command_words.specs.Laws.{AreSame, CommandsAreOne}
 use Rattle.command_words.specs.Table.{mode_text}
 use Rattle.command_words.specs.Values.{HasOptions, HasText, HasTrace, HasVolume}
 use Rattle.command_words.specs.declared.command.Command.{Command}
-use Rattle.command_words.specs.declared.command.Command.TheVariants.{Solo, Format, Replay, Check, Dump, Gen, Soak}
+use Rattle.command_words.specs.declared.command.Command.TheVariants.{Solo, Format, Replay, Check, Dump, Gen, Soak, WhatIf}
 use Rattle.command_words.specs.declared.command.Generated.{Generated}
 use Rattle.command_words.specs.declared.command.Mode.{Mode}
 use Rattle.command_words.specs.declared.command.Mode.TheVariants.{Off, Between, Beside}
@@ -73,6 +73,7 @@ same rows (Solo v) Check e h k = absurd (apart (codes "solo") (codes "check") re
 same rows (Solo v) Dump e h k = absurd (apart (codes "solo") (codes "dump") refl refl e)
 same rows (Solo v) (Gen b) e h k = absurd (apart (codes "solo") (codes "gen") refl refl e)
 same rows (Solo v) (Soak b p) e h k = absurd (apart (codes "solo") (codes "soak") refl refl e)
+same rows (Solo v) WhatIf e h k = absurd (apart (codes "solo") (codes "whatif") refl refl e)
 same rows Format (Solo w) e h k = absurd (apart (codes "format") (codes "solo") refl refl e)
 same rows Format Format e h k = refl
 same rows Format (Replay p) e h k = absurd (apart (codes "format") (codes "replay") refl refl e)
@@ -80,6 +81,7 @@ same rows Format Check e h k = absurd (apart (codes "format") (codes "check") re
 same rows Format Dump e h k = absurd (apart (codes "format") (codes "dump") refl refl e)
 same rows Format (Gen b) e h k = absurd (apart (codes "format") (codes "gen") refl refl e)
 same rows Format (Soak b p) e h k = absurd (apart (codes "format") (codes "soak") refl refl e)
+same rows Format WhatIf e h k = absurd (apart (codes "format") (codes "whatif") refl refl e)
 same rows (Replay o) (Solo w) e h k = absurd (apart (codes "replay") (codes "solo") refl refl e)
 same rows (Replay o) Format e h k = absurd (apart (codes "replay") (codes "format") refl refl e)
 same rows (Replay o) (Replay p) e h k = ap Replay (same_options rows o p h k)
@@ -87,6 +89,7 @@ same rows (Replay o) Check e h k = absurd (apart (codes "replay") (codes "check"
 same rows (Replay o) Dump e h k = absurd (apart (codes "replay") (codes "dump") refl refl e)
 same rows (Replay o) (Gen b) e h k = absurd (apart (codes "replay") (codes "gen") refl refl e)
 same rows (Replay o) (Soak b p) e h k = absurd (apart (codes "replay") (codes "soak") refl refl e)
+same rows (Replay o) WhatIf e h k = absurd (apart (codes "replay") (codes "whatif") refl refl e)
 same rows Check (Solo w) e h k = absurd (apart (codes "check") (codes "solo") refl refl e)
 same rows Check Format e h k = absurd (apart (codes "check") (codes "format") refl refl e)
 same rows Check (Replay p) e h k = absurd (apart (codes "check") (codes "replay") refl refl e)
@@ -94,6 +97,7 @@ same rows Check Check e h k = refl
 same rows Check Dump e h k = absurd (apart (codes "check") (codes "dump") refl refl e)
 same rows Check (Gen b) e h k = absurd (apart (codes "check") (codes "gen") refl refl e)
 same rows Check (Soak b p) e h k = absurd (apart (codes "check") (codes "soak") refl refl e)
+same rows Check WhatIf e h k = absurd (apart (codes "check") (codes "whatif") refl refl e)
 same rows Dump (Solo w) e h k = absurd (apart (codes "dump") (codes "solo") refl refl e)
 same rows Dump Format e h k = absurd (apart (codes "dump") (codes "format") refl refl e)
 same rows Dump (Replay p) e h k = absurd (apart (codes "dump") (codes "replay") refl refl e)
@@ -101,6 +105,7 @@ same rows Dump Check e h k = absurd (apart (codes "dump") (codes "check") refl r
 same rows Dump Dump e h k = refl
 same rows Dump (Gen b) e h k = absurd (apart (codes "dump") (codes "gen") refl refl e)
 same rows Dump (Soak b p) e h k = absurd (apart (codes "dump") (codes "soak") refl refl e)
+same rows Dump WhatIf e h k = absurd (apart (codes "dump") (codes "whatif") refl refl e)
 same rows (Gen a) (Solo w) e h k = absurd (apart (codes "gen") (codes "solo") refl refl e)
 same rows (Gen a) Format e h k = absurd (apart (codes "gen") (codes "format") refl refl e)
 same rows (Gen a) (Replay p) e h k = absurd (apart (codes "gen") (codes "replay") refl refl e)
@@ -108,6 +113,7 @@ same rows (Gen a) Check e h k = absurd (apart (codes "gen") (codes "check") refl
 same rows (Gen a) Dump e h k = absurd (apart (codes "gen") (codes "dump") refl refl e)
 same rows (Gen a) (Gen b) e h k = ap Gen (same_trace rows a b h k)
 same rows (Gen a) (Soak b p) e h k = absurd (apart (codes "gen") (codes "soak") refl refl e)
+same rows (Gen a) WhatIf e h k = absurd (apart (codes "gen") (codes "whatif") refl refl e)
 same rows (Soak a o) (Solo w) e h k = absurd (apart (codes "soak") (codes "solo") refl refl e)
 same rows (Soak a o) Format e h k = absurd (apart (codes "soak") (codes "format") refl refl e)
 same rows (Soak a o) (Replay p) e h k = absurd (apart (codes "soak") (codes "replay") refl refl e)
@@ -115,6 +121,15 @@ same rows (Soak a o) Check e h k = absurd (apart (codes "soak") (codes "check") 
 same rows (Soak a o) Dump e h k = absurd (apart (codes "soak") (codes "dump") refl refl e)
 same rows (Soak a o) (Gen b) e h k = absurd (apart (codes "soak") (codes "gen") refl refl e)
 same rows (Soak a o) (Soak b p) e h k = ap₂ Soak (same_trace rows a b h.0 k.0) (same_options rows o p h.1 k.1)
+same rows (Soak a o) WhatIf e h k = absurd (apart (codes "soak") (codes "whatif") refl refl e)
+same rows WhatIf (Solo w) e h k = absurd (apart (codes "whatif") (codes "solo") refl refl e)
+same rows WhatIf Format e h k = absurd (apart (codes "whatif") (codes "format") refl refl e)
+same rows WhatIf (Replay p) e h k = absurd (apart (codes "whatif") (codes "replay") refl refl e)
+same rows WhatIf Check e h k = absurd (apart (codes "whatif") (codes "check") refl refl e)
+same rows WhatIf Dump e h k = absurd (apart (codes "whatif") (codes "dump") refl refl e)
+same rows WhatIf (Gen b) e h k = absurd (apart (codes "whatif") (codes "gen") refl refl e)
+same rows WhatIf (Soak b p) e h k = absurd (apart (codes "whatif") (codes "soak") refl refl e)
+same rows WhatIf WhatIf e h k = refl
 
 abbrev found : Option (Text × List Row) → Text × List Row
 found o = unwrap_or o ([], [])
@@ -144,9 +159,11 @@ equal_or_alike (Solo v) Check e = inl e
 equal_or_alike (Solo v) Dump e = inl e
 equal_or_alike (Solo v) (Gen asked) e = inl e
 equal_or_alike (Solo v) (Soak asked options) e = inl e
+equal_or_alike (Solo v) WhatIf e = inl e
 equal_or_alike Format d e = inl e
 equal_or_alike (Replay options) d e = inl e
 equal_or_alike Check d e = inl e
 equal_or_alike Dump d e = inl e
 equal_or_alike (Gen asked) d e = inl e
 equal_or_alike (Soak asked options) d e = inl e
+equal_or_alike WhatIf d e = inl e

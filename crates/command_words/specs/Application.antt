@@ -44,11 +44,12 @@ bare_app = record {
 -- the program
 abbrev pub the_app : App
 the_app =
-    with_subcommand (with_subcommand (with_subcommand (with_subcommand (with_subcommand (with_subcommand (with_subcommand bare_app
+    with_subcommand (with_subcommand (with_subcommand (with_subcommand (with_subcommand (with_subcommand (with_subcommand (with_subcommand bare_app
     (with_volume (new_app (codes "solo"))).top)
     (new_app (codes "format")).top)
     (with_options (new_app (codes "replay"))).top)
     (new_app (codes "check")).top)
     (new_app (codes "dump")).top)
     (with_trace (new_app (codes "gen"))).top)
+    (new_app (codes "whatif")).top)
     (with_options (with_trace (new_app (codes "soak")))).top

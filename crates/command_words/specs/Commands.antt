@@ -5,7 +5,7 @@ use Rattle.solo.specs.Volume.{target_of}
 use Rattle.command_words.specs.Application.{the_app}
 use Rattle.command_words.specs.Values.{HasOptions, HasTrace, HasVolume}
 use Rattle.command_words.specs.declared.command.Command.{Command}
-use Rattle.command_words.specs.declared.command.Command.TheVariants.{Solo, Format, Replay, Check, Dump, Gen, Soak}
+use Rattle.command_words.specs.declared.command.Command.TheVariants.{Solo, Format, Replay, Check, Dump, Gen, Soak, WhatIf}
 
 -- the name of a command
 abbrev pub name_of : Command → Text
@@ -16,6 +16,7 @@ name_of Check = codes "check"
 name_of Dump = codes "dump"
 name_of (Gen asked) = codes "gen"
 name_of (Soak asked options) = codes "soak"
+name_of WhatIf = codes "whatif"
 
 -- the values are those of the command
 abbrev pub HasValues : List Row → Command → Type 0
@@ -26,6 +27,7 @@ HasValues rows Check = ⊤
 HasValues rows Dump = ⊤
 HasValues rows (Gen asked) = HasTrace rows asked
 HasValues rows (Soak asked options) = HasTrace rows asked × HasOptions rows options
+HasValues rows WhatIf = ⊤
 
 -- the subcommand of this name with these values is the command
 pub record Asks (name : Text) (rows : List Row) (command : Command) : Type 0 where

@@ -5,9 +5,9 @@ use Rattle.solo.specs.Volume.{target_of}
 use Rattle.solo.specs.declared.volume.Volume.{Volume}
 use Rattle.wol_model.specs.Trace.{Target}
 use Rattle.command_words.specs.Commands.{IsCommand}
-use Rattle.command_words.specs.Table.{IsSolo, IsGen, IsFormat, IsCheck, IsDump, IsReplay, IsSoak}
+use Rattle.command_words.specs.Table.{IsSolo, IsGen, IsFormat, IsCheck, IsDump, IsReplay, IsSoak, IsWhatIf}
 use Rattle.command_words.specs.declared.command.Command.{Command}
-use Rattle.command_words.specs.declared.command.Command.TheVariants.{Solo, Format, Replay, Check, Dump, Gen, Soak}
+use Rattle.command_words.specs.declared.command.Command.TheVariants.{Solo, Format, Replay, Check, Dump, Gen, Soak, WhatIf}
 use Rattle.command_words.specs.declared.command.Generated.{Generated}
 use Rattle.command_words.specs.declared.command.Options.{Options}
 
@@ -32,6 +32,9 @@ GenIsCommand = (words : List Text) (asked : Generated) → IsGen words asked →
 
 abbrev pub SoakIsCommand : Type 0
 SoakIsCommand = (words : List Text) (asked : Generated) (options : Options) → IsSoak words asked options → IsCommand words (Soak asked options)
+
+abbrev pub WhatIfIsCommand : Type 0
+WhatIfIsCommand = (words : List Text) → IsWhatIf words → IsCommand words WhatIf
 
 -- two commands are one, wherever a host's name lies in memory
 abbrev pub AreSame : Command → Command → Type 0

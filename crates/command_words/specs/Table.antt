@@ -45,6 +45,10 @@ IsCheck words = words ≡ codes "check" ∷ []
 abbrev pub IsDump : List (List ℕ) → Type 0
 IsDump words = words ≡ codes "dump" ∷ []
 
+-- the words are `whatif`
+abbrev pub IsWhatIf : List (List ℕ) → Type 0
+IsWhatIf words = words ≡ codes "whatif" ∷ []
+
 -- ---- The options of a run over a trace
 
 abbrev pub mode_text : Mode → List ℕ

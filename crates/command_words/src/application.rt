@@ -23,6 +23,7 @@ pub(crate) fn application<'a>(alloc: Global) -> Result<Command<'a>, AllocError>
         .subcommand(Command::new(alloc, "check"))?
         .subcommand(Command::new(alloc, "dump"))?
         .subcommand(of_trace(alloc, Command::new(alloc, "gen"))?)?
+        .subcommand(Command::new(alloc, "whatif"))?
         .subcommand(of_options(alloc, of_trace(alloc, Command::new(alloc, "soak"))?)?)
 }
 

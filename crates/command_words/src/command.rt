@@ -57,6 +57,8 @@ pub enum Command<'a> {
     Gen(Generated),
     /// A generated trace is run on the volumes of the configuration.
     Soak(Generated, Options),
+    /// What each of four policies would use for a trace is printed.
+    WhatIf,
 }
 
 /// Why there is no command.
@@ -111,6 +113,7 @@ fn read<'a>(name: &str, matches: &ArgMatches<'a>) -> Option<Command<'a>>
         "dump" => Some(Command::Dump),
         "gen" => Some(Command::Gen(trace_of(matches)?)),
         "soak" => Some(Command::Soak(trace_of(matches)?, options_of(matches)?)),
+        "whatif" => Some(Command::WhatIf),
         _ => None,
     }
 }

@@ -1,5 +1,5 @@
 // The laws of words.
-ghost use Rattle.command_words.specs.Laws.{CheckIsCommand, CommandsAreOne, DumpIsCommand, FormatIsCommand, GenIsCommand, ReplayIsCommand, SoakIsCommand, SoloIsCommand};
+ghost use Rattle.command_words.specs.Laws.{CheckIsCommand, CommandsAreOne, DumpIsCommand, FormatIsCommand, GenIsCommand, ReplayIsCommand, SoakIsCommand, SoloIsCommand, WhatIfIsCommand};
 
 /// Words as the table of the program's words spells them ask for the command that stands there, and words ask for one command at most.
 pub fn words_laws()
@@ -10,5 +10,6 @@ pub fn words_laws()
     ensures dump { DumpIsCommand }
     ensures generated { GenIsCommand }
     ensures soak { SoakIsCommand }
+    ensures whatif { WhatIfIsCommand }
     ensures one { CommandsAreOne }
 {}

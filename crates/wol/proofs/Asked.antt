@@ -4,7 +4,7 @@ use Rattle.solo.specs.Volume.{IsVolume, target_of}
 use Rattle.solo.specs.declared.volume.Volume.{Volume}
 use Rattle.command_words.specs.Commands.{IsCommand}
 use Rattle.command_words.specs.declared.command.Command.{Command}
-use Rattle.command_words.specs.declared.command.Command.TheVariants.{Solo, Format, Replay, Check, Dump, Gen, Soak}
+use Rattle.command_words.specs.declared.command.Command.TheVariants.{Solo, Format, Replay, Check, Dump, Gen, Soak, WhatIf}
 use Rattle.command_words.specs.declared.command.Generated.{Generated}
 use Rattle.command_words.specs.declared.command.Options.{Options}
 use Rattle.wol.specs.Commands.{IsCount, IsInRange}
@@ -28,6 +28,7 @@ in_range words Check is = tt
 in_range words Dump is = tt
 in_range words (Gen asked) is = omega (arith, is.asks.values.most)
 in_range words (Soak asked options) is = (omega (arith, is.asks.values.0.most), (is.asks.values.1.workers.some, is.asks.values.1.workers.most))
+in_range words WhatIf is = tt
 
 pub range_of_solo : (command : Command) (volume : Volume) → command ≡ Solo volume → IsInRange command → IsVolume (target_of volume)
 range_of_solo command volume is h = subst IsInRange is h

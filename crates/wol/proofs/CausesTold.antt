@@ -23,7 +23,9 @@ use Rattle.msr_trace.specs.declared.format.TraceFault.TheVariants as trace
 use Rattle.inspection.specs.Lines.{Telling, first_of, first_trouble}
 use Rattle.inspection.specs.declared.asked.Asked.{Asked}
 use Rattle.replay.specs.Ended.{EndsFor, HasRefusedWrite, whole, no_line, refused, memory, sink_failed}
-use Rattle.replay.specs.Givens.{HasGivenAll}
+use Rattle.comparison.specs.Compares.{EndsBehind}
+use Rattle.comparison.specs.Compares as behind
+use Rattle.replay.specs.Givens.{HasGivenAll, Refuses}
 use Rattle.replay.specs.NotOpened.{IsOpened}
 use Rattle.replay.specs.Replays.{Replayed, Replays, closed, no_memory, ran, status_in}
 use Rattle.replay.specs.Served.{ServedWindow}
@@ -32,21 +34,22 @@ use Rattle.replay.specs.declared.session.Options.{Options as Serving}
 use Rattle.replay.specs.declared.stop.Stop.{Stop}
 use Rattle.command_words.specs.Commands.{IsCommand}
 use Rattle.command_words.specs.declared.command.Command.{Command}
-use Rattle.command_words.specs.declared.command.Command.TheVariants.{Format, Gen}
+use Rattle.command_words.specs.declared.command.Command.TheVariants.{Format, Gen, WhatIf}
 use Rattle.command_words.specs.declared.command.Generated.{Generated}
 use Rattle.wol.specs.Causes.{AskFor, IsCause, IsClosedFor, replayed_by}
 use Rattle.wol.specs.Causes as row
 use Rattle.wol.specs.Commands.{uses_bay, uses_config, uses_trace}
 use Rattle.wol.specs.Inspecting.{AreTold, IsLook, status_of_first}
 use Rattle.wol.specs.Outside.{Outside}
-use Rattle.wol.specs.Replaying.{EndsReplay, GivenLines, HasLeft, IsReplay}
-use Rattle.wol.specs.Run.{IsFormat, IsListingOf, IsLookFor, IsReplayOf}
+use Rattle.wol.specs.Comparing.{IsComparison}
+use Rattle.wol.specs.Replaying.{EndsReplay, GivenLines, HasLeft, IsReplay, trace_of}
+use Rattle.wol.specs.Run.{IsComparisonOf, IsFormat, IsListingOf, IsLookFor, IsReplayOf}
 use Rattle.wol.specs.Settings.{HasConfig, IsFaultLine}
 use Rattle.wol.specs.Tops.{EndsWith, HasBadLine, HasMoreLines}
 use Rattle.wol.proofs.Asked.{of_asked}
 use Rattle.wol.proofs.FormatEndings.{ends_format}
 use Rattle.wol.proofs.GenEndings.{ends_gen}
-use Rattle.wol.proofs.ReplayEndings.{of_call}
+use Rattle.wol.proofs.ReplayEndings.{at_end, bad_of, more_of, of_call}
 use Rattle.wol.proofs.Spent.{spent_of}
 use Rattle.wol.proofs.Unread.{ends_unread, wanted_or_sink}
 use Rattle.wol.proofs.WindowFaults.{ends_window}
@@ -122,6 +125,46 @@ module _ {D : Type 0} (tells : Bool) (state : D → State) (words : List (List �
       | inr (inl (eight, rose)) ↦ at_status 8 status (same ∙ eight) (row.source_failed (inl rose))
       | inr (inr nine) ↦ at_status 9 status (same ∙ nine) row.no_memory
     ]
+
+    -- the status is that of the fault, or the sink or memory failed
+    told_cause : (names : List (List ℕ)) (f : Fault) (mid : Option (List ℕ)) → EndsWith (fault_text names f) (status_of f) status mid after.sink.bytes ⊎ EndsWith (codes "fault 9 memory\n") 9 status mid after.sink.bytes
+        → (status ≡ status_of f → Cause status) → Cause status
+    told_cause names f mid (inl ends) cause = elim (wanted_or_sink _ (status_of f) status mid after.sink.bytes ends) [
+      | inl same ↦ cause same
+      | inr seven ↦ of_sink seven
+    ]
+    told_cause names f mid (inr ends) cause = elim (wanted_or_sink _ 9 status mid after.sink.bytes ends) [
+      | inl nine ↦ at_status 9 status nine row.no_memory
+      | inr seven ↦ of_sink seven
+    ]
+
+    -- ---- Policies that were compared
+
+    module _ (is : IsCommand words WhatIf) (source : status ≡ 8 → Rose before.config.faults after.config.faults ⊎ Rose before.trace.faults after.trace.faults) where
+      for_lines : AskFor words uses_trace
+      for_lines = record { command = WhatIf; is = is; does = refl }
+
+      no_further : (now : GivenLines) (run : List (Option TraceLine)) (refusal : TraceFault) → refusal ≢ trace.NoMemory → Refuses (λ bytes. bytes) refusal (trace_of before.trace.bytes) now run
+          → status ≡ status_of (fault_of_trace refusal) → Cause status
+      no_further now run trace.Source other refuses same = at_status 8 status same (row.source_failed (source same))
+      no_further now run (trace.Bad number why) other refuses same = at_status 3 status same (row.bad_line for_lines (bad_of before.trace.bytes now run (trace.Bad number why) refl refuses))
+      no_further now run trace.Spent other refuses same = at_status 10 status same (row.more_lines for_lines (more_of before.trace.bytes now run trace.Spent refl refuses))
+      no_further now run trace.NoMemory other refuses same = absurd (other refl)
+
+      module _ (run : IsComparison (trace_of before.trace.bytes) before.config.bytes after.trace.bytes before.sink.faults status before.sink.bytes after.sink.bytes) where
+        of_behind : (ls : List (Option TraceLine)) (x : Result (Unit {0}) Stop) → EndsBehind (λ bytes. bytes) run.config (trace_of before.trace.bytes) run.now before.sink.faults run.sink_then before.sink.bytes run.printed_then ls x
+            → EndsReplay run.config x status run.printed_then after.sink.bytes → Cause status
+        of_behind ls x (behind.whole done all calm more) ends = at_status 0 status ends.0 (row.done WhatIf is (λ asks. at_end before.trace.bytes after.trace.bytes run.now ls run.config run.rest all))
+        of_behind ls x (behind.sink_failed all rose front) ends = of_sink ends.0
+        of_behind ls x (behind.no_line refusal other refuses calm kept) ends = told_cause _ (fault_of_trace refusal) run.printed_then ends (no_further run.now ls refusal other refuses)
+        of_behind ls x (behind.memory calm kept) ends = told_cause _ fault.Memory run.printed_then ends (λ nine. at_status 9 status nine row.no_memory)
+
+      pub comparison_cause : IsComparisonOf before after status → Cause status
+      comparison_cause (inl run) = of_behind run run.compares.run run.result run.compares.ends run.ends
+      comparison_cause (inr unread) = elim (wanted_or_sink unread.text unread.wanted status _ _ unread.ends) [
+        | inr seven ↦ of_sink seven
+        | inl same ↦ unread_cause (record { command = WhatIf; is = is; does = refl }) unread.text unread.wanted unread.line_ same
+      ]
 
     pub gen_cause : (what : Generated) → IsCommand words (Gen what) → IsListingOf before after status what → Cause status
     gen_cause what is run = elim (ends_gen what _ _ _ status _ _ run) [
@@ -203,18 +246,6 @@ module _ {D : Type 0} (tells : Bool) (state : D → State) (words : List (List �
           (source : status ≡ 8 → Rose before.config.faults after.config.faults ⊎ Rose before.trace.faults after.trace.faults)
           (line : status ≡ 3 → AskFor words uses_trace × HasBadLine before.trace.bytes) (lines : status ≡ 10 → AskFor words uses_trace × HasMoreLines before.trace.bytes)
           (ended : (now : GivenLines) (run : List (Option TraceLine)) (config : Config) → HasLeft now after.trace.bytes → HasGivenAll (λ bytes. bytes) (targets_of config) start now run → AskFor words uses_trace → IsAtEnd after.trace.bytes) where
-        -- the status is that of the fault, or the sink or memory failed
-        told_cause : (names : List (List ℕ)) (f : Fault) (mid : Option (List ℕ)) → EndsWith (fault_text names f) (status_of f) status mid after.sink.bytes ⊎ EndsWith (codes "fault 9 memory\n") 9 status mid after.sink.bytes
-            → (status ≡ status_of f → Cause status) → Cause status
-        told_cause names f mid (inl ends) cause = elim (wanted_or_sink _ (status_of f) status mid after.sink.bytes ends) [
-          | inl same ↦ cause same
-          | inr seven ↦ of_sink seven
-        ]
-        told_cause names f mid (inr ends) cause = elim (wanted_or_sink _ 9 status mid after.sink.bytes ends) [
-          | inl nine ↦ at_status 9 status nine row.no_memory
-          | inr seven ↦ of_sink seven
-        ]
-
         module _ (run : IsReplay tells state how start before.config.bytes after.trace.bytes before.bay after.bay before.sink.faults status before.sink.bytes after.sink.bytes) where
           abbrev Ends : Result (Unit {0}) Stop → Type 0
           Ends r = EndsReplay run.config r status run.printed_then after.sink.bytes

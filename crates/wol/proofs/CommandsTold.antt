@@ -19,7 +19,7 @@ use Rattle.replay.specs.Givens.{HasGivenAll}
 use Rattle.replay.specs.declared.given.Given.TheVariants as given
 use Rattle.command_words.specs.Commands.{IsCommand}
 use Rattle.command_words.specs.declared.command.Command.{Command}
-use Rattle.command_words.specs.declared.command.Command.TheVariants.{Check, Dump, Format, Gen, Replay, Soak, Solo}
+use Rattle.command_words.specs.declared.command.Command.TheVariants.{Check, Dump, Format, Gen, Replay, Soak, Solo, WhatIf}
 use Rattle.command_words.specs.declared.command.Generated.{Generated}
 use Rattle.command_words.specs.declared.command.Options.{Options}
 use Rattle.wol.specs.Causes.{AskFor}
@@ -28,24 +28,20 @@ use Rattle.wol.specs.Commands.{uses_trace}
 use Rattle.wol.specs.Completing.{HasSoundImages, HaveVersions, IsGoodTrace, seed_lines}
 use Rattle.wol.specs.Outside.{LeavesUnused, Outside, Stream}
 use Rattle.wol.specs.Replaying.{GivenLines, HasLeft, lines_of, options_as, trace_of}
-use Rattle.wol.specs.Run.{IsFormat, IsListingOf, IsLookFor, IsReplayOf, Run}
+use Rattle.wol.specs.Run.{IsComparisonOf, IsFormat, IsListingOf, IsLookFor, IsReplayOf, Run}
 use Rattle.wol.specs.Settings.{IsConfigured}
 use Rattle.wol.specs.Tops.{EndsWith, HasCause, IsDoneOrMemory, TellsFault, TellsStatus}
 use Rattle.wol.proofs.Asked.{of_asked}
-use Rattle.wol.proofs.CausesTold.{format_cause, gen_cause, look_cause, replay_cause}
+use Rattle.wol.proofs.CausesTold.{comparison_cause, format_cause, gen_cause, look_cause, replay_cause}
+use Rattle.wol.proofs.Compared.{uncompared}
 use Rattle.wol.proofs.Complete.{complete_format, complete_gen}
 use Rattle.wol.proofs.Endings.{told_done, told_fault}
 use Rattle.wol.proofs.FormatEndings.{told_untouched}
 use Rattle.wol.proofs.GenEndings.{told_unread}
 use Rattle.wol.proofs.LookEndings.{look_untouched}
 use Rattle.wol.proofs.Promised.{Does, of_command, of_unread_words}
-use Rattle.wol.proofs.ReplayEndings.{replay_bad_line, replay_more_lines, soak_not_ten, soak_not_three, unreplayed}
+use Rattle.wol.proofs.ReplayEndings.{at_end, replay_bad_line, replay_more_lines, soak_not_ten, soak_not_three, unreplayed}
 use Rattle.wol.proofs.SoloTold.{solo_cause, solo_complete}
-
--- a trace that came to its end has nothing left
-at_end : (left rest : Option (List ℕ)) (now : GivenLines) (run : List (Option TraceLine)) (config : Config) → HasLeft now rest → HasGivenAll (λ bytes. bytes) (targets_of config) (trace_of left) now run → IsAtEnd rest
-at_end left rest (given.Trace q) run config same all = subst IsAtEnd same all.2
-at_end left rest (given.Generated g count) run config same all = absurd all
 
 module _ {D : Type 0} (tells : Bool) (state : D → State) (words : List (List ℕ)) (before after : Outside) (status : ℕ)
     (seven : status ≡ 7 → Rose before.sink.faults after.sink.faults) (later : before.sink.faults < after.sink.faults → status ≡ 7) where
@@ -104,6 +100,13 @@ module _ {D : Type 0} (tells : Bool) (state : D → State) (words : List (List �
       (record { config = λ none. absurd (used refl (none (Soak what options) is)); trace = λ none. trace; bay = λ none. absurd (used refl (none (Soak what options) is)) })
       (λ order calm. complete order.1 order.2 order.0 (calm.bay refl) (calm.config refl) calm.sink)
 
+  pub comparison_promise : IsCommand words WhatIf → IsComparisonOf before after status → (status ≡ 8 → Rose before.config.faults after.config.faults ⊎ Rose before.trace.faults after.trace.faults)
+      → ((lines : _) → IsGoodTrace before.trace.bytes lines → IsConfigured before.config.bytes → ¬ Rose before.config.faults after.config.faults → ¬ Rose before.trace.faults after.trace.faults → ¬ Rose before.sink.faults after.sink.faults
+      → IsDoneOrMemory status) → after.bay ≡ before.bay → Run tells state words before after status
+  comparison_promise is run source complete bay = of_command tells state words before after status WhatIf is run (comparison_cause tells state words before after status seven is source run) later
+      (record { config = λ none. absurd (used refl (none WhatIf is)); trace = λ none. absurd (used refl (none WhatIf is)); bay = λ none. bay })
+      (λ order calm. complete order.1 order.2 order.0 (calm.config refl) (calm.trace refl) calm.sink)
+
   -- the lines of one volume were run on an image of its own
   module _ (own : Volume) (is : IsCommand words (Solo own)) (config : after.config ≡ before.config) where
     unused : LeavesUnused words before after
@@ -139,6 +142,7 @@ module _ {D : Type 0} (tells : Bool) (state : D → State) (words : List (List �
   does_none Dump = look_untouched _ _ asked.Dump _ _ _ _ _ status _ _ fault.Memory tt refl (inr ends)
   does_none (Gen what) = told_unread what _ _ _ status _ _ fault.Memory tt (inr ends)
   does_none (Soak what options) = unreplayed _ _ _ _ _ _ _ _ _ _ _ _ _ fault.Memory tt tt (inr ends)
+  does_none WhatIf = uncompared _ _ _ _ _ _ _ _ _ fault.Memory tt refl (inr ends)
 
   pub memory_promise : (status ≡ 7 → Rose before.sink.faults sink.faults) → (before.sink.faults < sink.faults → status ≡ 7) → Run tells state words before after status
   memory_promise seven later = of_unread_words tells state words before after status does_none ends seven later (record { config = λ none. refl; trace = λ none. refl; bay = λ none. refl })

@@ -26,6 +26,7 @@ use Rattle.solo.specs.Requests.{HasLines, HasLinesBefore, LineRead, lines_read}
 use Rattle.trace_gen.specs.Generated.{Generator, line, targets_of}
 use Rattle.trace_windows.specs.Requests.{most_of}
 use Rattle.trace_windows.proofs.Counting.{requests_blank, requests_more}
+use Rattle.comparison.specs.Compares.{MayCompare}
 use Rattle.replay.specs.Givens.{HasGiven, IsWithin, Refuses}
 use Rattle.replay.specs.Completes.{Completes, MayComplete, is_write, writes_to}
 use Rattle.replay.specs.declared.given.Given.{Given}
@@ -179,8 +180,8 @@ versions_of config b lines run more rest all same =
     let whole : HasVersions config b (run ++ (more ++ rest)) = subst (HasVersions config b) split all in
     omega (arith, whole, few)
 
-module _ {S : Type 0} (tells : Bool) (left : S → Option (List ℕ)) (config : Config) (bytes : Option (List ℕ)) (has : HasConfig bytes config) (lines : List (Option TraceLine)) (old new : BayState) (sink sink' source source' : ℕ) where
-  module _ (r q : Reading S) (none_held : r.held ≡ []) (none_given : r.given ≡ 0) (good : IsGoodTrace (left r.source) lines) where
+module _ {S : Type 0} (left : S → Option (List ℕ)) (config : Config) (lines : List (Option TraceLine)) (r q : Reading S) where
+  module _ (none_held : r.held ≡ []) (none_given : r.given ≡ 0) (good : IsGoodTrace (left r.source) lines) where
     is_pending : pending left r ≡ Some good.bytes
     is_pending = rw (none_held, good.told) refl
 
@@ -191,27 +192,37 @@ module _ {S : Type 0} (tells : Bool) (left : S → Option (List ℕ)) (config : 
     given_front None ls before = absurd (subst (λ (p : Option (List ℕ)). HasLinesBefore p ls None) is_pending before)
     given_front (Some l) ls before = front_of lines ls (lines_read l) (sym lines_of_bytes ∙ subst (λ (p : Option (List ℕ)). HasLinesBefore p ls (Some l)) is_pending before)
 
-    pub may_replay : (is : HasSoundImages tells bytes old) → HaveVersions bytes is.entry (λ c. lines) → ¬ Rose old.faults new.faults → ¬ Rose sink sink' → ¬ Rose source source'
-        → MayComplete tells left config (Trace r) (Trace q) old new sink sink' source source'
-    may_replay is versions bay_calm sink_calm source_calm = record {
-      telling = is.telling;
-      entry = is.entry;
-      entry_is = is.entry_is;
-      apart = is.apart;
-      sound = is.sound config has;
-      bay_calm = bay_calm;
-      sink_calm = sink_calm;
-      source_calm = source_calm;
-      spelled = λ line why ls bad. all_well lines ls why bad.0 (sym lines_of_bytes ∙ subst (λ (p : Option (List ℕ)). HasLines p ls (Err why ∷ bad.0)) is_pending bad.1);
-      few = λ ls spent.
-          let many = too_many lines ls spent.0 spent.1 (sym lines_of_bytes ∙ subst (λ (p : Option (List ℕ)). HasLines p ls (spent.0 ∷ spent.1)) is_pending spent.2) in
-          let count = spent.3 in
-          let most = good.few in
-          omega (arith, many, count, none_given, most);
-      versions = λ b begun run more given.
-          let front = given_front (pending left q) (run ++ more) given.0 in
-          versions_of config b lines run more front.0 (versions config has b begun) front.1;
-    }
+    none_bad : (number : ℕ) (why : BadLine) (ls : List (Option TraceLine)) → Refuses left (trace.Bad number why) (Trace r) (Trace q) ls → ⊥
+    none_bad number why ls bad = all_well lines ls why bad.0 (sym lines_of_bytes ∙ subst (λ (p : Option (List ℕ)). HasLines p ls (Err why ∷ bad.0)) is_pending bad.1)
+
+    not_spent : (ls : List (Option TraceLine)) → Refuses left trace.Spent (Trace r) (Trace q) ls → ⊥
+    not_spent ls spent =
+        let many = too_many lines ls spent.0 spent.1 (sym lines_of_bytes ∙ subst (λ (p : Option (List ℕ)). HasLines p ls (spent.0 ∷ spent.1)) is_pending spent.2) in
+        let count = spent.3 in
+        let most = good.few in
+        omega (arith, many, count, none_given, most)
+
+    module _ (sink sink' source source' : ℕ) (sink_calm : ¬ Rose sink sink') (source_calm : ¬ Rose source source') where
+      pub may_compare : MayCompare left (Trace r) (Trace q) sink sink' source source'
+      may_compare = record { sink_calm = sink_calm; source_calm = source_calm; spelled = none_bad; few = not_spent }
+
+      pub may_replay : (tells : Bool) (bytes : Option (List ℕ)) → HasConfig bytes config → (old new : BayState) (is : HasSoundImages tells bytes old) → HaveVersions bytes is.entry (λ c. lines) → ¬ Rose old.faults new.faults
+          → MayComplete tells left config (Trace r) (Trace q) old new sink sink' source source'
+      may_replay tells bytes has old new is versions bay_calm = record {
+        telling = is.telling;
+        entry = is.entry;
+        entry_is = is.entry_is;
+        apart = is.apart;
+        sound = is.sound config has;
+        bay_calm = bay_calm;
+        sink_calm = sink_calm;
+        source_calm = source_calm;
+        spelled = none_bad;
+        few = not_spent;
+        versions = λ b begun run more given.
+            let front = given_front (pending left q) (run ++ more) given.0 in
+            versions_of config b lines run more front.0 (versions config has b begun) front.1;
+      }
 
 -- ---- Seeds
 
@@ -316,4 +327,13 @@ earlier_calm tells left config start now old new sink sink' later source source'
   spelled = is.spelled;
   few = is.few;
   versions = is.versions;
+}
+
+pub earlier_compared : {S : Type 0} (left : S → Option (List ℕ)) (start now : Given S) (sink sink' later source source' : ℕ) → sink' ≤ later
+    → MayCompare left start now sink later source source' → MayCompare left start now sink sink' source source'
+earlier_compared left start now sink sink' later source source' on is = record {
+  sink_calm = λ rose. is.sink_calm (rose_later sink sink' later rose on);
+  source_calm = is.source_calm;
+  spelled = is.spelled;
+  few = is.few;
 }

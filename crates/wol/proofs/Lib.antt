@@ -10,6 +10,7 @@ mod ReplayEndings
 mod ReplayEnds
 mod ReplayFaults
 mod SeenLines
+mod Compared
 mod Taken
 mod Unread
 mod HeadlineTold

@@ -9,13 +9,13 @@ use Rattle.inspection.specs.declared.asked.Asked.{Asked}
 use Rattle.inspection.specs.declared.asked.Asked.TheVariants as asked
 use Rattle.command_words.specs.Commands.{IsCommand, NoCommand}
 use Rattle.command_words.specs.declared.command.Command.{Command}
-use Rattle.command_words.specs.declared.command.Command.TheVariants.{Check, Dump, Format, Gen, Replay, Soak, Solo}
+use Rattle.command_words.specs.declared.command.Command.TheVariants.{Check, Dump, Format, Gen, Replay, Soak, Solo, WhatIf}
 use Rattle.command_words.specs.declared.command.Generated.{Generated}
 use Rattle.wol.specs.Causes.{IsCause, replayed_by}
 use Rattle.wol.specs.Causes as row
 use Rattle.wol.specs.Outside.{LeavesUnused, NothingFailed, Outside}
 use Rattle.wol.specs.Replaying.{lines_of, options_as, trace_of}
-use Rattle.wol.specs.Run.{IsAccountOf, IsFormat, IsHeadlineOf, IsListingOf, IsLookFor, IsReplayOf, IsSoloOf, IsUnconfigured, ReadsInOrder, Run, looked_at_by}
+use Rattle.wol.specs.Run.{IsAccountOf, IsComparisonOf, IsFormat, IsHeadlineOf, IsListingOf, IsLookFor, IsReplayOf, IsSoloOf, IsUnconfigured, ReadsInOrder, Run, looked_at_by}
 use Rattle.wol.specs.Settings.{HasConfig, HasNoConfig, IsFaultLine}
 use Rattle.wol.specs.Tops.{EndsWith, IsDoneOrMemory, RunsSolo}
 use Rattle.wol.proofs.AccountTold.{runs_account}
@@ -54,6 +54,7 @@ module _ {D : Type 0} (tells : Bool) (state : D → State) (words : List (List �
   Does Dump = IsLookFor tells state before after status asked.Dump
   Does (Gen what) = IsListingOf before after status what
   Does (Soak what options) = IsReplayOf tells state before after status (options_as options, lines_of what)
+  Does WhatIf = IsComparisonOf before after status
 
   does_alike : (own volume : Volume) → target_of own ≡ target_of volume → Does (Solo own) → Does (Solo volume)
   does_alike own volume same does = subst (λ t. RunsSolo t before.trace.bytes after.trace.bytes before.bay.told after.bay.told before.bay.faults after.bay.faults before.trace.faults after.trace.faults status before.sink.bytes after.sink.bytes) same does
@@ -66,6 +67,7 @@ module _ {D : Type 0} (tells : Bool) (state : D → State) (words : List (List �
   headline_of Dump does = tt
   headline_of (Gen what) does = tt
   headline_of (Soak what options) does = runs_headline tells state (options_as options) _ _ _ _ _ _ _ _ _ _ _ does
+  headline_of WhatIf does = tt
 
   account_of : (command : Command) → Does command → IfSome (replayed_by command before.trace.bytes) (IsAccountOf tells state before after status)
   account_of (Solo volume) does = tt
@@ -75,6 +77,7 @@ module _ {D : Type 0} (tells : Bool) (state : D → State) (words : List (List �
   account_of Dump does = tt
   account_of (Gen what) does = tt
   account_of (Soak what options) does = runs_account tells state (options_as options) _ _ _ _ _ _ _ _ _ _ _ does
+  account_of WhatIf does = tt
 
   replay_of : (command : Command) → Does command → IfSome (replayed_by command before.trace.bytes) (IsReplayOf tells state before after status)
   replay_of (Solo volume) does = tt
@@ -84,6 +87,7 @@ module _ {D : Type 0} (tells : Bool) (state : D → State) (words : List (List �
   replay_of Dump does = tt
   replay_of (Gen what) does = tt
   replay_of (Soak what options) does = does
+  replay_of WhatIf does = tt
 
   look_of : (command : Command) → Does command → IfSome (looked_at_by command) (IsLookFor tells state before after status)
   look_of (Solo volume) does = tt
@@ -93,6 +97,7 @@ module _ {D : Type 0} (tells : Bool) (state : D → State) (words : List (List �
   look_of Dump does = does
   look_of (Gen what) does = tt
   look_of (Soak what options) does = tt
+  look_of WhatIf does = tt
 
   -- ---- .. where the configuration is none
 
@@ -134,6 +139,13 @@ module _ {D : Type 0} (tells : Bool) (state : D → State) (words : List (List �
     | inl same ↦ of_unread _ bytes told none _ _ unread.text unread.wanted status unread.untouched.line_ same
   ]
 
+  comparison_unconfigured : IsComparisonOf before after status → (bytes : List ℕ) → before.config.bytes ≡ Some bytes → HasNoConfig (Some bytes) → TellsNoConfig status
+  comparison_unconfigured (inl run) bytes told none = absurd (never_had _ bytes told none run.config run.has)
+  comparison_unconfigured (inr unread) bytes told none = elim (wanted_or_sink unread.text unread.wanted status _ _ unread.ends) [
+    | inr seven ↦ inr (inl seven)
+    | inl same ↦ of_unread _ bytes told none _ _ unread.text unread.wanted status unread.line_ same
+  ]
+
   unconfigured_of : (command : Command) → Does command → IsUnconfigured command before → TellsNoConfig status
   unconfigured_of (Solo volume) does (uses, bytes, told, none) = absurd (true≢false (sym uses))
   unconfigured_of Format does (uses, bytes, told, none) = format_unconfigured does bytes told none
@@ -142,6 +154,7 @@ module _ {D : Type 0} (tells : Bool) (state : D → State) (words : List (List �
   unconfigured_of Dump does (uses, bytes, told, none) = look_unconfigured asked.Dump does bytes told none
   unconfigured_of (Gen what) does (uses, bytes, told, none) = gen_unconfigured what does bytes told none
   unconfigured_of (Soak what options) does (uses, bytes, told, none) = replay_unconfigured _ does bytes told none
+  unconfigured_of WhatIf does (uses, bytes, told, none) = comparison_unconfigured does bytes told none
 
   -- ---- The whole
 
@@ -162,6 +175,7 @@ module _ {D : Type 0} (tells : Bool) (state : D → State) (words : List (List �
     looked = λ command is. look_of command (does command is);
     formatted = λ is. does Format is;
     generated = λ what is. does (Gen what) is;
+    compared = λ is. does WhatIf is;
     solo = λ volume is. does (Solo volume) is;
     refused = refused;
     cause = cause;

@@ -1,10 +1,12 @@
 -- What the statuses of a replay come of.
-use Rattle.std.proofs.Common.{◌≡◌, ◌≢◌, ◌⊎◌, inl, inr, ℕ, Bool, List, [], Option, None, Some, Result, Ok, Err, refl, sym, ap, ◌∙◌, arith}
+use Rattle.std.proofs.Common.{◌≡◌, ◌≢◌, ◌⊎◌, inl, inr, ℕ, Bool, List, [], Option, None, Some, Result, Ok, Err, refl, sym, ap, subst, ◌∙◌, arith}
 use Rattle.std.specs.Prelude.{codes}
+use Rattle.std.specs.Io.KnownBytes.{IsAtEnd}
 use Rattle.wol_disk.specs.Disk.{Rose, State}
 use Rattle.wol_bay.specs.Bay.{BayState}
 use Rattle.wol_model.specs.Trace.{TraceLine}
 use Rattle.wol_config.specs.declared.config.Config.{Config}
+use Rattle.trace_gen.specs.Generated.{targets_of}
 use Rattle.msr_trace.specs.declared.format.TraceFault.{TraceFault}
 use Rattle.msr_trace.specs.declared.format.TraceFault.TheVariants as trace
 use Rattle.report.specs.Faults.{fault_text, status_of}
@@ -15,7 +17,7 @@ use Rattle.rack.specs.declared.volume_fault.VolumeFault.TheVariants as closed_fo
 use Rattle.rack.specs.Racks.{NamesVolumes}
 use Rattle.report.specs.Troubles.{trouble_status}
 use Rattle.replay.specs.Ended.{memory}
-use Rattle.replay.specs.Givens.{Refuses}
+use Rattle.replay.specs.Givens.{HasGivenAll, Refuses}
 use Rattle.replay.specs.NotOpened.{IsOfCall}
 use Rattle.replay.specs.Stops.{fault_of_trace}
 use Rattle.replay.specs.declared.given.Given.TheVariants as given
@@ -142,9 +144,14 @@ module _ {D : Type 0} (tells : Bool) (state : D → State) (options : Options) (
     | inr (inr (inr nine)) ↦ absurd (no_nine (sym is_k ∙ nine))
   ]
 
--- ---- Bad lines, and too many
+-- ---- The end, bad lines, and too many
 
-bad_of : (left : Option (List ℕ)) (now : GivenLines) (run : List (Option TraceLine)) (refusal : TraceFault) → status_of (fault_of_trace refusal) ≡ 3 → Refuses (λ bytes. bytes) refusal (trace_of left) now run → HasBadLine left
+-- a trace that came to its end has nothing left
+pub at_end : (left rest : Option (List ℕ)) (now : GivenLines) (run : List (Option TraceLine)) (config : Config) → HasLeft now rest → HasGivenAll (λ bytes. bytes) (targets_of config) (trace_of left) now run → IsAtEnd rest
+at_end left rest (given.Trace q) run config same all = subst IsAtEnd same all.2
+at_end left rest (given.Generated g count) run config same all = absurd all
+
+pub bad_of : (left : Option (List ℕ)) (now : GivenLines) (run : List (Option TraceLine)) (refusal : TraceFault) → status_of (fault_of_trace refusal) ≡ 3 → Refuses (λ bytes. bytes) refusal (trace_of left) now run → HasBadLine left
 bad_of left (given.Generated g count) run refusal three refuses = absurd refuses
 bad_of left (given.Trace q) run trace.Source three refuses = absurd (omega (arith, three))
 bad_of None (given.Trace q) run (trace.Bad line why) three refuses = (run, why, [], tt)
@@ -152,7 +159,7 @@ bad_of (Some bytes) (given.Trace q) run (trace.Bad line why) three (more, has, n
 bad_of left (given.Trace q) run trace.Spent three refuses = absurd (omega (arith, three))
 bad_of left (given.Trace q) run trace.NoMemory three refuses = absurd (omega (arith, three))
 
-more_of : (left : Option (List ℕ)) (now : GivenLines) (run : List (Option TraceLine)) (refusal : TraceFault) → status_of (fault_of_trace refusal) ≡ 10 → Refuses (λ bytes. bytes) refusal (trace_of left) now run → HasMoreLines left
+pub more_of : (left : Option (List ℕ)) (now : GivenLines) (run : List (Option TraceLine)) (refusal : TraceFault) → status_of (fault_of_trace refusal) ≡ 10 → Refuses (λ bytes. bytes) refusal (trace_of left) now run → HasMoreLines left
 more_of left (given.Generated g count) run refusal ten refuses = absurd refuses
 more_of left (given.Trace q) run trace.Source ten refuses = absurd (omega (arith, ten))
 more_of left (given.Trace q) run (trace.Bad line why) ten refuses = absurd (omega (arith, ten))

@@ -21,19 +21,19 @@ use Rattle.wol.specs.Replaying.{EndsReplay, HasLeft, HasSource, IsReplay, seen}
 use Rattle.wol.specs.Settings.{HasConfig}
 
 module _ {S : Type 0} (left : S → Option (List ℕ)) (targets : List Target) where
-  given_seen : (start now : Given S) (ls : List (Option TraceLine)) → HasGiven left targets start now ls → HasGiven (λ bytes. bytes) targets (seen left start) (seen left now) ls
+  pub given_seen : (start now : Given S) (ls : List (Option TraceLine)) → HasGiven left targets start now ls → HasGiven (λ bytes. bytes) targets (seen left start) (seen left now) ls
   given_seen (Trace r) (Trace q) ls h = h
   given_seen (Trace r) (Generated g n) ls h = h
   given_seen (Generated g n) (Trace q) ls h = h
   given_seen (Generated g n) (Generated k m) ls h = h
 
-  all_seen : (start now : Given S) (ls : List (Option TraceLine)) → HasGivenAll left targets start now ls → HasGivenAll (λ bytes. bytes) targets (seen left start) (seen left now) ls
+  pub all_seen : (start now : Given S) (ls : List (Option TraceLine)) → HasGivenAll left targets start now ls → HasGivenAll (λ bytes. bytes) targets (seen left start) (seen left now) ls
   all_seen (Trace r) (Trace q) ls h = h
   all_seen (Trace r) (Generated g n) ls h = h
   all_seen (Generated g n) (Trace q) ls h = h
   all_seen (Generated g n) (Generated k m) ls h = h
 
-refuses_seen : {S : Type 0} (left : S → Option (List ℕ)) (e : TraceFault) (start now : Given S) (ls : List (Option TraceLine)) → Refuses left e start now ls → Refuses (λ bytes. bytes) e (seen left start) (seen left now) ls
+pub refuses_seen : {S : Type 0} (left : S → Option (List ℕ)) (e : TraceFault) (start now : Given S) (ls : List (Option TraceLine)) → Refuses left e start now ls → Refuses (λ bytes. bytes) e (seen left start) (seen left now) ls
 refuses_seen left e (Trace r) (Trace q) ls h = h
 refuses_seen left e (Trace r) (Generated g n) ls h = h
 refuses_seen left e (Generated g n) (Trace q) ls h = h
@@ -100,7 +100,7 @@ module _ {S T : Type 0} (tells : Bool) (left : S → Option (List ℕ)) (config 
 
 -- ---- Sources
 
-still_given : {S : Type 0} (left : S → Option (List ℕ)) (targets : List Target) (start now : Given S) (ls : List (Option TraceLine)) → HasGiven left targets start now ls → HasSource start → HasSource now
+pub still_given : {S : Type 0} (left : S → Option (List ℕ)) (targets : List Target) (start now : Given S) (ls : List (Option TraceLine)) → HasGiven left targets start now ls → HasSource start → HasSource now
 still_given left targets (Trace r) (Trace q) ls h is = tt
 still_given left targets (Trace r) (Generated g n) ls h is = h
 still_given left targets (Generated g n) now ls h is = absurd is

@@ -3,17 +3,19 @@ use Rattle.std.specs.Prelude.{◌≡◌, Bool, true, false, ⊤, ℕ, ◌≤◌,
 use Rattle.solo.specs.Volume.{IsVolume, target_of}
 use Rattle.command_words.specs.Commands.{IsCommand}
 use Rattle.command_words.specs.declared.command.Command.{Command}
-use Rattle.command_words.specs.declared.command.Command.TheVariants.{Solo, Replay, Gen, Soak}
+use Rattle.command_words.specs.declared.command.Command.TheVariants.{Solo, Replay, Gen, Soak, WhatIf}
 
 -- whether a command uses the bay
 abbrev pub uses_bay : Command → Bool
 uses_bay (Gen asked) = false
+uses_bay WhatIf = false
 uses_bay command = true
 
 -- whether it uses the trace that it is given
 abbrev pub uses_trace : Command → Bool
 uses_trace (Solo volume) = true
 uses_trace (Replay options) = true
+uses_trace WhatIf = true
 uses_trace command = false
 
 -- whether it uses the configuration

@@ -6,6 +6,7 @@ pub mod Generating
 pub mod Formatting
 pub mod Inspecting
 pub mod Replaying
+pub mod Comparing
 pub mod Completing
 pub mod Headlined
 pub mod Accounted

@@ -9,18 +9,19 @@ use Rattle.inspection.specs.declared.asked.Asked.TheVariants as asked
 use Rattle.replay.specs.declared.session.Options.{Options as Serving}
 use Rattle.command_words.specs.Commands.{IsCommand, NoCommand}
 use Rattle.command_words.specs.declared.command.Command.{Command}
-use Rattle.command_words.specs.declared.command.Command.TheVariants.{Check, Dump, Format, Gen, Replay, Soak, Solo}
+use Rattle.command_words.specs.declared.command.Command.TheVariants.{Check, Dump, Format, Gen, Replay, Soak, Solo, WhatIf}
 use Rattle.command_words.specs.declared.command.Generated.{Generated}
 use Rattle.wol.specs.Accounted.{RunsAccount}
 use Rattle.wol.specs.Causes.{IsCause, replayed_by}
 use Rattle.wol.specs.Commands.{uses_config}
+use Rattle.wol.specs.Comparing.{RunsWhatIf}
 use Rattle.wol.specs.Completing.{HasSoundImages, HaveVersions, IsGoodTrace, seed_lines}
 use Rattle.wol.specs.Formatting.{RunsFormat}
 use Rattle.wol.specs.Generating.{RunsGen}
 use Rattle.wol.specs.Headlined.{RunsHeadline}
 use Rattle.wol.specs.Inspecting.{RunsLook}
 use Rattle.wol.specs.Outside.{LeavesUnused, NothingFailed, Outside}
-use Rattle.wol.specs.Replaying.{GivenLines, RunsReplay}
+use Rattle.wol.specs.Replaying.{GivenLines, RunsReplay, trace_of}
 use Rattle.wol.specs.Settings.{HasNoConfig, IsConfigured}
 use Rattle.wol.specs.Tops.{EndsWith, IsDoneOrMemory, IsRunnable, RunsSolo}
 
@@ -79,6 +80,13 @@ IsSoloOf before after status volume =
     before.bay.faults after.bay.faults before.trace.faults after.trace.faults status
     before.sink.bytes after.sink.bytes
 
+-- the policies were compared on the trace
+abbrev pub IsComparisonOf : (before after : Outside) → (status : ℕ) → Type 0
+IsComparisonOf before after status =
+    RunsWhatIf (trace_of before.trace.bytes) before.config.bytes
+    before.config.faults after.config.faults after.trace.bytes
+    before.sink.faults status before.sink.bytes after.sink.bytes
+
 -- ---- What a run needs
 
 -- the command needs a configuration, and the bytes that are told are none
@@ -105,6 +113,8 @@ ReadsInOrder tells (Soak what options) before =
     IsConfigured before.config.bytes
     × (images : HasSoundImages tells before.config.bytes before.bay)
     × HaveVersions before.config.bytes images.entry (seed_lines what)
+ReadsInOrder tells WhatIf before =
+    IsConfigured before.config.bytes × (lines : List _) × IsGoodTrace before.trace.bytes lines
 
 -- ---- The whole
 
@@ -134,6 +144,8 @@ pub record Run {D : Type 0} (tells : Bool) (state : D → State) (words : List (
   -- gen: the first lines of the seed
   pub generated : (what : Generated) → IsCommand words (Gen what)
       → IsListingOf before after status what
+  -- whatif: what each policy would use for the trace, or why no further line came
+  pub compared : IsCommand words WhatIf → IsComparisonOf before after status
   -- solo: the lines of one volume, on an image of its own
   pub solo : (volume : Volume) → IsCommand words (Solo volume) → IsSoloOf before after status volume
   -- the words are no command: that is told

@@ -11,6 +11,7 @@ usage: wol COMMAND, in the folder that has wol.toml and the images (NAME.vol)
   wol replay [OPTION..] < TRACE       serve a block trace on the images and print a report
   wol check                           print each volume's state and the SHA-256 of its content
   wol dump                            print the records that are in logs
+  wol whatif < TRACE                  compare four policies on a trace, without images
   wol gen SEED LINES                  print a generated trace
   wol soak SEED LINES [OPTION..]      replay a generated trace without printing it
   wol solo HOST DISK BLOCKS < TRACE   run one disk's lines on a new image, without wol.toml
@@ -29,7 +30,7 @@ pub fn advice(status: u8) -> Option<&'static str>
             "wol: wol.toml is not a valid configuration; no image was touched. Mend the key or name in the last line.\n"
         }
         3 => {
-            "wol: a line of the trace was refused; all lines before it were run. Mend that line and replay from there.\n"
+            "wol: a line of the trace was refused; all lines before it were run. Mend that line; a replay goes on from there.\n"
         }
         4 => {
             "wol: a call on the folder or an image failed. Look for a second wol, linked images, rights, space and ulimit -f.\n"

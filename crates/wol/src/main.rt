@@ -1,8 +1,8 @@
 //! Write off-loading for disk volumes: the command line.
 //!
 //! `wol` is the program: `settings.rt` the configuration from its source, `listing.rt` the command `gen`,
-//! `formatting.rt` `format`, `inspecting.rt` `check` and `dump`, `replaying.rt` `replay` and `soak`, `telling.rt`
-//! the last line of a run, `status.rt` `solo`'s statuses and lines of faults, `top.rt` the top call, `main.rt`.
+//! `formatting.rt` `format`, `inspecting.rt` `check` and `dump`, `replaying.rt` `replay` and `soak`, `comparing.rt`
+//! `whatif`, `telling.rt` the last line of a run, `status.rt` `solo`'s statuses and lines of faults, `top.rt` the top call, `main.rt`.
 //! For `main.rt` alone are `start.rt` (the words, and whether the streams that they need can be used), `streams.rt` (the
 //! standard streams), `limits.rt` (the limit on the length of files), and what goes to standard error: `advice.rt` on
 //! a status, `progress.rt` on how far a trace is. A further command joins as a further arm of `top::run`; `IsCommand`,
@@ -10,6 +10,7 @@
 #![tactic(auto)]
 
 mod advice;
+mod comparing;
 mod formatting;
 mod inspecting;
 mod limits;

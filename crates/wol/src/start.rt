@@ -33,7 +33,7 @@ fn uses_trace(command: &Command<'_>) -> bool
     ensures { result ≡ uses_trace command.now }
 {
     match command {
-        Command::Solo(_) | Command::Replay(_) => true,
+        Command::Solo(_) | Command::Replay(_) | Command::WhatIf => true,
         Command::Gen(_) | Command::Format | Command::Check | Command::Dump | Command::Soak(..) => {
             false
         }

@@ -495,6 +495,45 @@ fn replays_traces(rt: HostRuntime) -> Result<(), Fail> {
     Ok(())
 }
 
+const COMPARED: &[u8] = b"always wakes 0 sleeps 0 energy 9600000
+spindown wakes 6 sleeps 8 energy 5910000
+host wakes 6 sleeps 8 energy 5910000
+all wakes 4 sleeps 5 energy 5250000
+";
+
+const NONE_COMPARED: &[u8] = b"always wakes 0 sleeps 0 energy 0
+spindown wakes 0 sleeps 0 energy 0
+host wakes 0 sleeps 0 energy 0
+all wakes 0 sleeps 0 energy 0
+";
+
+#[test]
+fn compares_policies(rt: HostRuntime) -> Result<(), Fail> {
+    let three = THREE_VOLUMES.as_bytes();
+    let mut bay = MemBay::new(rt.alloc());
+    let rows = [
+        replayed("whatif", three, OFFLOADS, 0, COMPARED),
+        replayed("whatif", three, b"", 0, NONE_COMPARED),
+        replayed(
+            "whatif",
+            three,
+            b"1,usr,0,Read,0,512",
+            3,
+            b"fault 3 line 1 fields\n",
+        ),
+        replayed("whatif", b"=", OFFLOADS, 2, b"fault 2 config not toml\n"),
+        Row {
+            source: Some(0),
+            ..replayed("whatif", three, OFFLOADS, 8, b"fault 8 trace\n")
+        },
+        Row {
+            sink: Some(0),
+            ..replayed("whatif", three, OFFLOADS, 7, b"")
+        },
+    ];
+    try_all(&rt, rt.alloc(), &rows, &mut bay)
+}
+
 #[test]
 fn drains_a_full_log(rt: HostRuntime) -> Result<(), Fail> {
     let mut bay = MemBay::new(rt.alloc());
@@ -563,6 +602,14 @@ volume src0 wakes 1 sleeps 1 awake 600000000 standby 3400000000 energy 870000
 total wakes 5 sleeps 6 energy 5160000
 ";
 
+const KEPT_RECORDS: &[u8] = b"usr0 records 2
+record 1 0 2 on web0 segment 0 block 1 live 00000000000000000000000000000002 home 00000000000000000000000000000000
+record 2 0 1 on web0 segment 0 block 4 live 00000000000000000000000000000001 home 00000000000000000000000000000000
+web0 records 0
+src0 records 1
+record 1 10 1 on web0 segment 1 block 1 live 00000000000000000000000000000001 home 00000000000000000000000000000000
+";
+
 #[test]
 fn keeps_records_where_reclaim_is_off(rt: HostRuntime) -> Result<(), Fail> {
     let three = THREE_VOLUMES.as_bytes();
@@ -571,7 +618,7 @@ fn keeps_records_where_reclaim_is_off(rt: HostRuntime) -> Result<(), Fail> {
     let rows = [
         replayed("format", three, b"", 0, formatted),
         replayed("replay --each --reclaim off", three, OFFLOADS, 0, KEPT),
-        replayed("dump", three, b"", 0, b"x"),
+        replayed("dump", three, b"", 0, KEPT_RECORDS),
     ];
     try_all(&rt, rt.alloc(), &rows, &mut bay)
 }

@@ -4,6 +4,7 @@ ghost use Rattle.solo.specs.Images.{NoneOut};
 ghost use Rattle.wol.specs.Outside.{outside};
 ghost use Rattle.wol.specs.Run.{Run};
 
+use crate::comparing::compare;
 use crate::formatting::format;
 use crate::inspecting::inspect;
 use crate::listing::generate;
@@ -25,8 +26,8 @@ use wol_io::{Gate, Sink, Source};
 /// and prints a line for each. `check` opens the volumes of the configuration and prints a line for each: what its array is,
 /// or what is wrong with it. `dump` prints the records of each in the same way. `replay` runs the lines of the trace on the
 /// volumes of the configuration, window by window, by so many workers, and `soak SEED LINES` the lines that SEED generates; the
-/// requests of a volume are answered in order, and what they wrote is there after any stop. Which words are a command is what
-/// `clap` makes of them.
+/// requests of a volume are answered in order, and what they wrote is there after any stop. `whatif` prints what each of four
+/// policies would use for the trace, without an image. Which words are a command is what `clap` makes of them.
 ///
 /// 0: done; a trace that was run was read to its end. 1: the words aren't a command. 2: the configuration's bytes are none.
 /// 3: a line is no line of a trace; all lines before it were run. 4: the bay or a part of an image failed. 5: an image isn't what
@@ -76,5 +77,6 @@ where
         },
         Command::Replay(options) => replay(rt, alloc, options, config, trace, out, bay, gate),
         Command::Soak(asked, options) => soak(rt, alloc, asked, options, config, out, bay, gate),
+        Command::WhatIf => compare(alloc, config, trace, out),
     }
 }

@@ -18,13 +18,14 @@ returns c =
     let replay : app_of c.in_ok-of_options.field-0 ≡ with_options (new_app (codes "replay")) = c.in_ok-of_options.ensures.app ∙ ap with_options c.new-4.ensures.app in
     let gen : app_of c.in_ok-of_trace.field-0 ≡ with_trace (new_app (codes "gen")) = c.in_ok-of_trace.ensures.app ∙ ap with_trace c.new-7.ensures.app in
     let soak : app_of c.in_ok-of_options-2.field-0 ≡ with_options (with_trace (new_app (codes "soak"))) =
-    c.in_ok-of_options-2.ensures.app ∙ ap with_options (c.in_ok-of_trace-2.ensures.app ∙ ap with_trace c.new-8.ensures.app) in
+    c.in_ok-of_options-2.ensures.app ∙ ap with_options (c.in_ok-of_trace-2.ensures.app ∙ ap with_trace c.new-9.ensures.app) in
     let one = c.in_ok-subcommand.ensures.shape (c.in_ok-of_volume.ensures.globals ∙ c.new-2.ensures.local) ∙ ap₂ with_subcommand bare (ap (λ (a : App). a.top) solo) in
     let two = c.in_ok-subcommand-2.ensures.shape c.new-3.ensures.local ∙ ap₂ with_subcommand one (ap (λ (a : App). a.top) c.new-3.ensures.app) in
     let three = c.in_ok-subcommand-3.ensures.shape (c.in_ok-of_options.ensures.globals ∙ c.new-4.ensures.local) ∙ ap₂ with_subcommand two (ap (λ (a : App). a.top) replay) in
     let four = c.in_ok-subcommand-4.ensures.shape c.new-5.ensures.local ∙ ap₂ with_subcommand three (ap (λ (a : App). a.top) c.new-5.ensures.app) in
     let five = c.in_ok-subcommand-5.ensures.shape c.new-6.ensures.local ∙ ap₂ with_subcommand four (ap (λ (a : App). a.top) c.new-6.ensures.app) in
     let six = c.in_ok-subcommand-6.ensures.shape (c.in_ok-of_trace.ensures.globals ∙ c.new-7.ensures.local) ∙ ap₂ with_subcommand five (ap (λ (a : App). a.top) gen) in
-    IfOk-weaker c.subcommand-7.result _ _
-    (λ made h. h.shape (c.in_ok-of_options-2.ensures.globals ∙ c.in_ok-of_trace-2.ensures.globals ∙ c.new-8.ensures.local) ∙ ap₂ with_subcommand six (ap (λ (a : App). a.top) soak))
-    c.subcommand-7.ensures
+    let seven = c.in_ok-subcommand-7.ensures.shape c.new-8.ensures.local ∙ ap₂ with_subcommand six (ap (λ (a : App). a.top) c.new-8.ensures.app) in
+    IfOk-weaker c.subcommand-8.result _ _
+    (λ made h. h.shape (c.in_ok-of_options-2.ensures.globals ∙ c.in_ok-of_trace-2.ensures.globals ∙ c.new-9.ensures.local) ∙ ap₂ with_subcommand seven (ap (λ (a : App). a.top) soak))
+    c.subcommand-8.ensures

@@ -1,5 +1,5 @@
 use Rattle.command_words.proofs.laws.words_laws.Goals as goal
-use Rattle.command_words.proofs.Taken.{check_is_command, dump_is_command, format_is_command, gen_is_command, solo_is_command}
+use Rattle.command_words.proofs.Taken.{check_is_command, dump_is_command, format_is_command, gen_is_command, solo_is_command, whatif_is_command}
 use Rattle.command_words.proofs.TakenOptions.{replay_is_command, soak_is_command}
 use Rattle.command_words.proofs.Unique.{commands_are_one}
 
@@ -23,6 +23,9 @@ returns-clause-replay c = replay_is_command
 
 pub returns-clause-soak : goal.returns-clause-soak
 returns-clause-soak c = soak_is_command
+
+pub returns-clause-whatif : goal.returns-clause-whatif
+returns-clause-whatif c = whatif_is_command
 
 pub returns-clause-one : goal.returns-clause-one
 returns-clause-one c = commands_are_one

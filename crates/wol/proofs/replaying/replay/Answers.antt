@@ -24,4 +24,4 @@ pub returns-clause-complete : goal.returns-clause-complete
 returns-clause-complete g c lines images versions good configured bay source trace sink =
     let same : c.replay_lines-status.result.1.source.now ≡ c.trace-1.given.0 = search rules in
     (rw c.new-lines.ensures at c.replay_lines-status.ensures.complete)
-    (may_replay _ _ c.in-Ok.config _ c.in-Ok.ensures.ok lines _ _ _ _ _ _ _ _ refl refl good images versions bay sink (λ rose. trace (rw same at rose)))
+    (may_replay _ c.in-Ok.config lines _ _ refl refl good _ _ _ _ sink (λ rose. trace (rw same at rose)) _ _ c.in-Ok.ensures.ok _ _ images versions bay)

@@ -1,7 +1,7 @@
 use Rattle.std.proofs.Common.{Err, inl, inr, refl, ap, subst, arith}
 use Rattle.command_words.specs.Commands.{IsCommand}
 use Rattle.wol.proofs.Asked.{in_range, range_of_gen, range_of_solo}
-use Rattle.wol.proofs.CommandsTold.{check_promise, dump_promise, format_promise, gen_promise, memory_promise, replay_promise, soak_promise, solo_done_promise, solo_fault_promise}
+use Rattle.wol.proofs.CommandsTold.{check_promise, comparison_promise, dump_promise, format_promise, gen_promise, memory_promise, replay_promise, soak_promise, solo_done_promise, solo_fault_promise}
 use Rattle.wol.proofs.Completing.{rose_from, rose_later}
 use Rattle.wol.proofs.Endings.{has_cause}
 use Rattle.wol.proofs.Promised.{of_none}
@@ -36,6 +36,10 @@ returns-in-Replay-clause-promise g c =
 pub returns-in-Soak-clause-promise : goal.returns-in-Soak-clause-promise
 returns-in-Soak-clause-promise g c =
     soak_promise _ _ _ _ _ _ c.soak.ensures.cause c.soak.ensures.calm c.in-Soak.asked c.in-Soak.options (subst (IsCommand _) c.in-Soak.is c.in-Ok.ensures.ok) (c.soak.ensures.content _) c.soak.ensures.source c.soak.ensures.complete refl
+
+pub returns-in-WhatIf-clause-promise : goal.returns-in-WhatIf-clause-promise
+returns-in-WhatIf-clause-promise g c =
+    comparison_promise _ _ _ _ _ _ c.compare.ensures.cause c.compare.ensures.calm (subst (IsCommand _) c.in-WhatIf.is c.in-Ok.ensures.ok) c.compare.ensures.content c.compare.ensures.source c.compare.ensures.complete refl
 
 -- the lines of one volume were run to their end
 pub returns-in-Ok-run-clause-promise : goal.returns-in-Ok-run-clause-promise
