@@ -46,7 +46,7 @@ use Rattle.wol.specs.Replaying.{EndsReplay, GivenLines, HasLeft, IsReplay, trace
 use Rattle.wol.specs.Run.{IsComparisonOf, IsFormat, IsListingOf, IsLookFor, IsReplayOf}
 use Rattle.wol.specs.Settings.{HasConfig, IsFaultLine}
 use Rattle.wol.specs.Tops.{EndsWith, HasBadLine, HasMoreLines}
-use Rattle.wol.proofs.Asked.{of_asked}
+use Rattle.wol.proofs.Asked.{of_asked, uses_alike}
 use Rattle.wol.proofs.FormatEndings.{ends_format}
 use Rattle.wol.proofs.GenEndings.{ends_gen}
 use Rattle.wol.proofs.ReplayEndings.{at_end, bad_of, more_of, of_call}
@@ -93,7 +93,7 @@ module _ {D : Type 0} (tells : Bool) (state : D → State) (words : List (List �
 
   -- the command that was read is done; it uses no trace
   done_without : (read : Command) → IsCommand words read → uses_trace read ≡ false → Cause 0
-  done_without read is none = row.done read is (λ asks. absurd (true≢false (sym asks.does ∙ of_asked (λ c. uses_trace c ≡ false) (λ own volume same no. no) words read asks.command is asks.is none)))
+  done_without read is none = row.done read is (λ asks. absurd (true≢false (sym asks.does ∙ of_asked (λ c. uses_trace c ≡ false) uses_alike words read asks.command is asks.is none)))
 
   part_cause : AskFor words uses_bay → (p : Part) → Rose before.bay.faults after.bay.faults → Cause (trouble_status (trouble_of_part p))
   part_cause bay (part.Home volume) rose = row.part_failed bay rose

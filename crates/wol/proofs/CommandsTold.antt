@@ -31,7 +31,7 @@ use Rattle.wol.specs.Replaying.{GivenLines, HasLeft, lines_of, options_as, trace
 use Rattle.wol.specs.Run.{IsComparisonOf, IsFormat, IsListingOf, IsLookFor, IsReplayOf, Run}
 use Rattle.wol.specs.Settings.{IsConfigured}
 use Rattle.wol.specs.Tops.{EndsWith, HasCause, IsDoneOrMemory, TellsFault, TellsStatus}
-use Rattle.wol.proofs.Asked.{of_asked}
+use Rattle.wol.proofs.Asked.{of_asked, uses_alike}
 use Rattle.wol.proofs.CausesTold.{comparison_cause, format_cause, gen_cause, look_cause, replay_cause}
 use Rattle.wol.proofs.Compared.{uncompared}
 use Rattle.wol.proofs.Complete.{complete_format, complete_gen}
@@ -96,7 +96,7 @@ module _ {D : Type 0} (tells : Bool) (state : D → State) (words : List (List �
       (replay_cause tells state words before after status seven (Soak what options) is refl refl (options_as options) (lines_of what) refl (λ eight. inl (source eight))
       (λ three. absurd (soak_not_three tells state (options_as options) _ _ _ _ _ _ _ status _ _ what run three))
       (λ ten. absurd (soak_not_ten tells state (options_as options) _ _ _ _ _ _ _ status _ _ what run ten))
-      (λ now lines config rest all asks. absurd (used asks.does (of_asked (λ c. uses_trace c ≡ false) (λ own volume same no. no) words (Soak what options) asks.command is asks.is refl))) run) later
+      (λ now lines config rest all asks. absurd (used asks.does (of_asked (λ c. uses_trace c ≡ false) uses_alike words (Soak what options) asks.command is asks.is refl))) run) later
       (record { config = λ none. absurd (used refl (none (Soak what options) is)); trace = λ none. trace; bay = λ none. absurd (used refl (none (Soak what options) is)) })
       (λ order calm. complete order.1 order.2 order.0 (calm.bay refl) (calm.config refl) calm.sink)
 

@@ -9,8 +9,12 @@ use Rattle.inspection.specs.declared.asked.Asked.TheVariants as asked
 use Rattle.replay.specs.declared.session.Options.{Options as Serving}
 use Rattle.command_words.specs.Commands.{IsCommand, NoCommand}
 use Rattle.command_words.specs.declared.command.Command.{Command}
-use Rattle.command_words.specs.declared.command.Command.TheVariants.{Check, Dump, Format, Gen, Replay, Soak, Solo, WhatIf}
+use Rattle.command_words.specs.declared.command.Command.TheVariants.{Check, Dump, Format, Gen, Replay, Soak, Solo, ViewAdd, ViewRemove, WhatIf}
 use Rattle.command_words.specs.declared.command.Generated.{Generated}
+use Rattle.command_words.specs.Table.{Named}
+use Rattle.command_words.specs.Values.{named_by}
+use Rattle.view_commands.specs.declared.order.Verb.{Verb}
+use Rattle.view_commands.specs.declared.order.Verb.TheVariants.{Add, Remove}
 use Rattle.wol.specs.Accounted.{RunsAccount}
 use Rattle.wol.specs.Causes.{IsCause, replayed_by}
 use Rattle.wol.specs.Commands.{uses_config}
@@ -23,6 +27,7 @@ use Rattle.wol.specs.Inspecting.{RunsLook}
 use Rattle.wol.specs.Outside.{LeavesUnused, NothingFailed, Outside}
 use Rattle.wol.specs.Replaying.{GivenLines, RunsReplay, trace_of}
 use Rattle.wol.specs.Settings.{HasNoConfig, IsConfigured}
+use Rattle.wol.specs.Viewing.{RunsViewChange}
 use Rattle.wol.specs.Tops.{EndsWith, IsDoneOrMemory, IsRunnable, RunsSolo}
 
 -- what a command looks at the volumes for; none of another command
@@ -30,6 +35,12 @@ abbrev pub looked_at_by : Command → Option Asked
 looked_at_by Check = Some asked.Check
 looked_at_by Dump = Some asked.Dump
 looked_at_by command = None
+
+-- the change of a view that a command makes; none of another command
+abbrev pub view_change_by : Command → Option (Verb × Named)
+view_change_by (ViewAdd names) = Some (Add, named_by names)
+view_change_by (ViewRemove names) = Some (Remove, named_by names)
+view_change_by command = None
 
 -- ---- What each command does, of what is outside
 
@@ -86,6 +97,12 @@ IsComparisonOf before after status =
     RunsWhatIf (trace_of before.trace.bytes) before.config.bytes
     before.config.faults after.config.faults after.trace.bytes
     before.sink.faults status before.sink.bytes after.sink.bytes
+
+-- a view was to be changed so
+abbrev pub IsViewChangeOf : (before after : Outside) → (status : ℕ) → Verb × Named → Type 0
+IsViewChangeOf before after status (verb, named) =
+    RunsViewChange verb named before.config.bytes before.config.faults after.config.faults
+    before.bay after.bay before.sink.faults status before.sink.bytes after.sink.bytes
 
 -- ---- What a run needs
 
@@ -146,6 +163,9 @@ pub record Run {D : Type 0} (tells : Bool) (state : D → State) (words : List (
       → IsListingOf before after status what
   -- whatif: what each policy would use for the trace, or why no further line came
   pub compared : IsCommand words WhatIf → IsComparisonOf before after status
+  -- view-add, view-remove: the new view, what the images recover to, or why nothing changed
+  pub viewed : (command : Command) → IsCommand words command
+      → IfSome (view_change_by command) (IsViewChangeOf before after status)
   -- solo: the lines of one volume, on an image of its own
   pub solo : (volume : Volume) → IsCommand words (Solo volume) → IsSoloOf before after status volume
   -- the words are no command: that is told

@@ -12,9 +12,12 @@ usage: wol COMMAND, in the folder that has wol.toml and the images (NAME.vol)
   wol check                           print each volume's state and the SHA-256 of its content
   wol dump                            print the records that are in logs
   wol whatif < TRACE                  compare four policies on a trace, without images
+  wol clean                           rewrite what is in logs as few records, to free segments
   wol gen SEED LINES                  print a generated trace
   wol soak SEED LINES [OPTION..]      replay a generated trace without printing it
   wol solo HOST DISK BLOCKS < TRACE   run one disk's lines on a new image, without wol.toml
+  wol view-add NAME LOGGER            let the volume LOGGER log for the volume NAME
+  wol view-remove NAME LOGGER         bring all of NAME home, and let LOGGER log for it no more
 OPTION: --each | --workers N (1 to 64) | --reclaim off|between|beside
 Numbers have no sign and no leading zero. README.md and docs/USAGE.md say more.
 ";
@@ -23,6 +26,7 @@ Numbers have no sign and no leading zero. README.md and docs/USAGE.md say more.
 pub fn advice(status: u8) -> Option<&'static str>
     ensures done { status ≡ 0 → result ≡ None }
     ensures told { 1 ≤ status → status ≤ 12 → IsSome result }
+    ensures refused { status ≡ 15 → IsSome result }
 {
     Some(match status {
         1 => USAGE,
@@ -51,9 +55,11 @@ pub fn advice(status: u8) -> Option<&'static str>
         10 =>
             "wol: the trace has more than 4294967296 lines; those were run. Split it and replay the rest.\n",
         11 =>
-            "wol: a volume has no version left for a write. wol format begins anew, and erases every volume.\n",
+            "wol: a volume has no version left for a record. wol format begins anew, and erases every volume.\n",
         12 =>
             "wol: an image is missing. Put it back; for new volumes wol format makes all images, and erases every volume.\n",
+        15 =>
+            "wol: no view was changed. Look for the names of volumes in wol.toml, and for the loggers in the volume's view.\n",
         _ => return None,
     })
 }

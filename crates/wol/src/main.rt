@@ -2,7 +2,7 @@
 //!
 //! `wol` is the program: `settings.rt` the configuration from its source, `listing.rt` the command `gen`,
 //! `formatting.rt` `format`, `inspecting.rt` `check` and `dump`, `replaying.rt` `replay` and `soak`, `comparing.rt`
-//! `whatif`, `telling.rt` the last line of a run, `status.rt` `solo`'s statuses and lines of faults, `top.rt` the top call, `main.rt`.
+//! `whatif`, `viewing.rt` `view-add` and `view-remove`, `telling.rt` the last line of a run, `status.rt` `solo`'s statuses and lines of faults, `top.rt` the top call, `main.rt`.
 //! For `main.rt` alone are `start.rt` (the words, and whether the streams that they need can be used), `streams.rt` (the
 //! standard streams), `limits.rt` (the limit on the length of files), and what goes to standard error: `advice.rt` on
 //! a status, `progress.rt` on how far a trace is. A further command joins as a further arm of `top::run`; `IsCommand`,
@@ -25,6 +25,7 @@ mod telling;
 #[cfg(test)]
 mod tests;
 mod top;
+mod viewing;
 
 use crate::advice::{VERSION, advice};
 use crate::progress::Progress;
