@@ -1,0 +1,5 @@
+pub mod Order
+pub mod Behind
+pub mod Taking
+pub mod Lines
+pub mod Telling

@@ -1,0 +1,16 @@
+use Rattle.std.proofs.Common.{◌≡◌, ◌≤◌}
+use Rattle.replay.specs.Givens.{IsLive, borrow_of, faults_of, given_count}
+use Rattle.comparison.proofs.Lines.{SoFar}
+use Rattle.comparison.proofs.run.run_all.Given as goal
+
+abbrev pub invariant-loop : goal.invariant-loop
+invariant-loop g l = record {
+  so_far : SoFar g.S.Source.left l.config l.initial.given l.given l.cutter l.comparison;
+  live : IsLive l.given;
+  turns : given_count l.given ≡ l.counter;
+  lines : l.cutter.tally.lines ≡ l.counter;
+  most : given_count l.given ≤ 4294967296;
+  source_later : faults_of g.S.Source.faults l.initial.given ≤ faults_of g.S.Source.faults l.given;
+  source_calm : faults_of g.S.Source.faults l.given ≡ faults_of g.S.Source.faults l.initial.given;
+  same_borrow : borrow_of g.S.Source.borrow l.given ≡ borrow_of g.S.Source.borrow l.initial.given;
+}

@@ -1,0 +1,32 @@
+-- What a trace asks of its volumes, window by window, and what is printed of it.
+use Rattle.std.specs.Prelude.{ℕ, List, map, Option}
+use Rattle.wol_model.specs.Trace as trace
+use Rattle.wol_model.specs.Trace.{TraceLine, Window, ended, started, timed, windows}
+use Rattle.wol_config.specs.declared.config.Config.{Config}
+use Rattle.trace_gen.specs.Generated.{targets_of}
+use Rattle.trace_windows.specs.Batches.{Batched}
+use Rattle.trace_windows.specs.Requests.{asked, most_of, requests_in}
+use Rattle.trace_windows.specs.declared.request.Request.{Request}
+use Rattle.whatif.specs.declared.policy.Ask.{Ask}
+use Rattle.whatif.specs.Machine.{Asked}
+use Rattle.whatif.specs.Lines.{whatif_text}
+
+-- what a request asks of its volume
+abbrev pub ask_of : trace.Request → Ask
+ask_of r = record { volume = r.volume; kind = r.kind; lbn = r.first; count = r.count }
+
+-- what is asked in a window, as its requests are gathered
+abbrev pub asked_of : Batched → Asked
+asked_of b = record { moment = b.moment; asks = map (λ (r : Request). ask_of (asked r)) b.requests }
+
+-- what is asked in a window
+abbrev pub asked_in : Config → Window → Asked
+asked_in config w = record { moment = w.moment; asks = map ask_of (requests_in (most_of config) (targets_of config) w) }
+
+-- .. in each window of these lines
+abbrev pub asked_by : Config → List (Option TraceLine) → List Asked
+asked_by config ls = map (asked_in config) (windows (most_of config) (targets_of config) ls)
+
+-- the four lines of a trace; the account begins with its first line and ends with its last
+abbrev pub comparison_of : Config → List (Option TraceLine) → List ℕ
+comparison_of config ls = whatif_text config (started (timed ls)) (asked_by config ls) (ended (timed ls))

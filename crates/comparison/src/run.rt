@@ -1,0 +1,82 @@
+// The policies are compared on a trace.
+ghost use Rattle.std.specs.Prelude.{◌≡◌, ◌≤◌, Err, IfOk, IfErr};
+ghost use Rattle.wol_disk.specs.Disk.{Rose};
+ghost use Rattle.wol_config.specs.Configs.{IsValid};
+ghost use Rattle.replay.specs.Completes.{Completes};
+ghost use Rattle.replay.specs.Givens.{IsNew, IsWithin, borrow_of, faults_of};
+ghost use Rattle.replay.specs.Stops.{fault_of_trace};
+ghost use Rattle.comparison.specs.Compares.{Compares, MakesWhole, MayCompare, StopsBefore};
+
+use crate::windows::Comparison;
+use msr_trace::TraceFault;
+use replay::{Given, Stop};
+use report::Fault;
+use std::alloc::Global;
+use trace_windows::Cutter;
+use wol_config::Config;
+use wol_io::{Sink, Source};
+
+// What is told of a trace that gives no further line.
+fn fault_of_trace(fault: TraceFault) -> Fault
+    ensures { result ≡ fault_of_trace fault }
+{
+    match fault {
+        TraceFault::Source => Fault::TraceSource,
+        TraceFault::Bad { line, why } => Fault::Line { line, why },
+        TraceFault::Spent => Fault::Lines,
+        TraceFault::NoMemory => Fault::Memory,
+    }
+}
+
+// Runs the lines that are given, and makes the four lines of them.
+fn run_all<S: Source>(alloc: Global, config: &Config, given: &mut Given<S>) -> Result<Vec<u8>, Stop>
+    requires valid { IsValid config.now }
+    requires new { IsNew given.old }
+    ensures whole { IfOk result (λ text. MakesWhole S.left config.now given.old given.new text.items) }
+    ensures some { IfErr result (λ e. StopsBefore S.left config.now given.old given.new e) }
+    ensures source_later { faults_of S.faults given.old ≤ faults_of S.faults given.new }
+    ensures source { result ≡ Err (Stop.Fault Fault.TraceSource) → Rose (faults_of S.faults given.old) (faults_of S.faults given.new) }
+    ensures same_borrow { borrow_of S.borrow given.new ≡ borrow_of S.borrow given.old }
+    ensures within { IsWithin given.new }
+{
+    let mut comparison = Comparison::new(alloc, config)?;
+    let mut cutter = Cutter::new(alloc);
+    for _ in 0..u64::MAX {
+        match given.next(alloc, config) {
+            Ok(Some(line)) => {
+                let line = line.as_ref();
+                comparison.take(alloc, config, &mut cutter, line)?;
+            }
+            Ok(None) => return Ok(comparison.finish(alloc, config, &cutter)?),
+            Err(fault) => return Err(Stop::Fault(fault_of_trace(fault))),
+        }
+    }
+    unreachable!()
+}
+
+/// Runs the lines that are given by each policy, with no image, and prints a line for each: how often disks woke and slept, and
+/// the energy in mJ.
+///
+/// Nothing is printed but the four lines, and these only behind the last line of the trace. Each policy's account begins with
+/// the first line and ends with the last; a trace with no line gives four lines of zeros. A trace that gives no further line
+/// ends the run with its fault, as want of memory does.
+pub fn compare<S: Source, K: Sink>(
+    alloc: Global,
+    config: &Config,
+    given: &mut Given<S>,
+    out: &mut K,
+) -> Result<(), Stop>
+    requires valid { IsValid config.now }
+    requires new { IsNew given.old }
+    ensures compares { Compares S.left config.now given.old given.new (K.faults out.old) (K.faults out.new) (K.taken out.old) (K.taken out.new) result }
+    ensures later { K.faults out.old ≤ K.faults out.new }
+    ensures source_later { faults_of S.faults given.old ≤ faults_of S.faults given.new }
+    ensures source { result ≡ Err (Stop.Fault Fault.TraceSource) → Rose (faults_of S.faults given.old) (faults_of S.faults given.new) }
+    ensures same_borrow { borrow_of S.borrow given.new ≡ borrow_of S.borrow given.old }
+    ensures within { IsWithin given.new }
+    ensures complete { MayCompare S.left given.old given.new (K.faults out.old) (K.faults out.new) (faults_of S.faults given.old) (faults_of S.faults given.new) → Completes result }
+{
+    let text = run_all(alloc, config, given)?;
+    out.write(&text)?;
+    Ok(())
+}
