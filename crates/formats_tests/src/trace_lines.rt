@@ -1,5 +1,8 @@
 // The format's own examples: what is refused and in which order, where lines are cut, pieces, texts and payloads.
-use msr_trace::{BadLine, HostName, Kind, Line, Lines, Piece, TraceFault, fill, mark, write_line};
+use msr_trace::{
+    BadLine, HostName, Kind, Line, LineFault, Lines, Piece, TraceFault, fill, mark, read_line,
+    write_line,
+};
 use std::alloc::Global;
 use std::process::Abort;
 use std::test::Fail;
@@ -20,6 +23,17 @@ fn first_fault(alloc: Global, text: &[u8], cut: usize) -> Result<Option<TraceFau
         }
     }
     Ok(None)
+}
+
+#[test]
+fn a_line_alone_is_read(rt: HostRuntime) -> Result<(), Fail> {
+    let alloc = rt.alloc();
+    let line = read_line(alloc, b"1,usr,0,Read,0,512,7")?;
+    assert_eq!(rt; line.map(|line| line.response), Some(7));
+    assert!(rt; read_line(alloc, b"\r")?.is_none());
+    let short = read_line(alloc, b"1,usr,0,Read,0,512");
+    assert_eq!(rt; short.err(), Some(LineFault::Bad(BadLine::FieldCount)));
+    Ok(())
 }
 
 #[test]
