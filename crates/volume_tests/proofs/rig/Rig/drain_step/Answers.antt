@@ -3,7 +3,7 @@ use Rattle.manager.specs.Reclaim.{Always}
 use Rattle.reclaimer.specs.Fetches.{HasData}
 use Rattle.reclaimer.specs.Records.{FetchedRecord}
 use Rattle.volume_tests.proofs.Steps.{rig_step}
-use Rattle.volume_tests.proofs.calls.Rig.drain_step.Goals as goal
+use Rattle.volume_tests.proofs.rig.Rig.drain_step.Goals as goal
 
 pub returns : goal.returns
 returns g c = rig_step c.args.self.now c.requires c.drain_step.new.m c.drain_step.ensures.at Always c.drain_step.result c.drain_step.new.into tt
