@@ -51,7 +51,7 @@ told() {
 
 check_sizes() {
     local document
-    [ "$(wc -c <README.md)" -lt 10000 ] || echo "README.md has 10,000 bytes or more"
+    [ "$(wc -c <README.md)" -lt 8000 ] || echo "README.md has 8,000 bytes or more"
     for document in "${documents[@]}"; do
         [ "$(wc -L <"$document")" -le 200 ] || echo "$document has a line over 200 columns"
         awk -v document="$document" '
