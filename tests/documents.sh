@@ -18,7 +18,7 @@ commands() {
 
 # statuses: the exit statuses of the program
 statuses() {
-    sed -n 's/.*IsCause \([0-9]\{1,2\}\)$/\1/p' crates/wol/specs/Causes.antt
+    sed -n 's/.*IsCause \([0-9]\{1,2\}\)$/\1/p' crates/wol_run/specs/Causes.antt
 }
 
 # labels CRATE FUNCTION: the labels of the clauses of a public function; of one whose clause is the record `Run`, the fields of that
@@ -121,7 +121,7 @@ check_versions() {
 
 check_clauses() {
     local crate function have label rows
-    for function in wol::run replay::replay inspection::inspect rack::open_all rack::close_all request_workers::window \
+    for function in wol_run::run replay::replay inspection::inspect rack::open_all rack::close_all request_workers::window \
         $(sed -n 's/^    pub fn \([a-z_]*\).*/manager::Manager::\1/p' crates/manager/src/*.rt); do
         crate=${function%%::*}
         have=$(labels "$crate" "${function##*::}" | sort -u)

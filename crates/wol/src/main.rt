@@ -1,30 +1,15 @@
 //! Write off-loading for disk volumes: the command line.
 //!
-//! `wol` is the program: `settings.rt` the configuration from its source, `listing.rt` the command `gen`,
-//! `formatting.rt` `format`, `inspecting.rt` `check` and `dump`, `replaying.rt` `replay` and `soak`, `comparing.rt`
-//! `whatif`, `telling.rt` the last line of a run, `status.rt` `solo`'s statuses and lines of faults, `top.rt` the top call, `main.rt`.
-//! For `main.rt` alone are `start.rt` (the words, and whether the streams that they need can be used), `streams.rt` (the
-//! standard streams), `limits.rt` (the limit on the length of files), and what goes to standard error: `advice.rt` on
-//! a status, `progress.rt` on how far a trace is. A further command joins as a further arm of `top::run`; `IsCommand`,
-//! `NoCommand` and `IsCause` then name it.
+//! `wol` is the program, `main.rt`; what a command does is `wol_run`'s. `start.rt` has the words, and whether the streams
+//! that they need can be used; `streams.rt` the standard streams, `limits.rt` the limit on the length of files. What goes
+//! to standard error: `advice.rt` on a status, `progress.rt` on how far a trace is.
 #![tactic(auto)]
 
 mod advice;
-mod comparing;
-mod formatting;
-mod inspecting;
 mod limits;
-mod listing;
 mod progress;
-mod replaying;
-mod settings;
 mod start;
-mod status;
 mod streams;
-mod telling;
-#[cfg(test)]
-mod tests;
-mod top;
 
 use crate::advice::{VERSION, advice};
 use crate::progress::Progress;
@@ -34,6 +19,7 @@ use std::io;
 use std::process::ExitCode;
 use wol_bay::FileBay;
 use wol_io::{FileSource, NoGate, StdSink, StdSource, WatchedSource};
+use wol_run::run;
 
 // Says on standard error what the status means, where it isn't 0 and there is room.
 fn advise(rt: &impl Eprint, words: &[String], status: u8, room: u64) {
@@ -63,7 +49,7 @@ fn main(rt: HostRuntime) -> ExitCode {
             let input = StdSource::new(rt.reader());
             let mut trace = WatchedSource::new(input, Progress::new(rt, is_wanted));
             let mut bay = FileBay::new(rt, alloc, ".").within(most_bytes);
-            let status = top::run(
+            let status = run(
                 &rt,
                 alloc,
                 &words,

@@ -1,9 +1,8 @@
 // What a run begins with: its words, and the streams that they need.
 ghost use Rattle.std.specs.Prelude.{◌≡◌, map, string_bytes, false};
-ghost use Rattle.wol.specs.Commands.{NoneOf, uses_trace};
+ghost use Rattle.wol_run.specs.Commands.{NoneOf, uses_trace};
 
 use crate::streams::{gives_input, takes_output};
-use crate::telling::{NO_MEMORY, end_with, tell};
 use command_words::{Command, command_of};
 use solo::Fault;
 use std::alloc::Global;
@@ -12,6 +11,7 @@ use std::io::ErrorKind;
 use std::rt::Env;
 use wol_disk::NoMemory;
 use wol_io::Sink;
+use wol_run::{NO_MEMORY, end_with, tell};
 
 // The words after the program's name. Words that aren't all text are none.
 fn words(rt: &(impl Env + AllocGlobal), alloc: Global) -> Result<Vec<String>, NoMemory> {

@@ -1,0 +1,49 @@
+-- The account holds of the program's runs, by the text and the status that end them.
+use Rattle.std.proofs.Common.{ℕ, Bool, List, ◌++◌, Option, Result, inl, inr}
+use Rattle.wol_disk.specs.Disk.{State}
+use Rattle.wol_bay.specs.Bay.{BayState}
+use Rattle.wol_config.specs.declared.config.Config.{Config}
+use Rattle.request_workers.specs.declared.request.Reclaim.{Reclaim}
+use Rattle.replay.specs.Account.{Account, KeepsAccount}
+use Rattle.replay.specs.Replays.{status_in}
+use Rattle.replay.specs.declared.given.Given.{Given}
+use Rattle.replay.specs.declared.session.Options.{Options}
+use Rattle.replay.specs.declared.stop.Stop.{Stop}
+use Rattle.replay.proofs.AccountKept.{keeps_account}
+use Rattle.wol_run.specs.Accounted.{RunsAccount}
+use Rattle.wol_run.specs.Replaying.{EndsReplay, GivenLines, RunsReplay}
+use Rattle.wol_run.proofs.HeadlineTold.{not_begun_ends, of_success, on_told, same_taken}
+
+module _ {D S T : Type 0} (tells : Bool) (state : D → State) (left : S → Option (List ℕ)) (config : Config) (mode : Reclaim) (start now : Given S) (old new : BayState) (result : Result T Stop) (status : ℕ) (taken then taken' : Option (List ℕ)) where
+  account_ends : KeepsAccount tells state left config mode start now old new (status_in result) taken then → EndsReplay config result status then taken' → KeepsAccount tells state left config mode start now old new status taken taken'
+  account_ends (inl none) ends = inl (not_begun_ends tells state config start now old new result status taken then taken' none ends)
+  account_ends (inr keeps) ends = inr (λ telling. on_told
+      (λ entry exit. Account left config mode start now entry (status_in result) taken then) (λ entry exit. Account left config mode start now entry status taken taken') old.told new.told (keeps telling)
+      (λ entry exit a. record {
+        lines = a.lines;
+        given = a.given;
+        windows = a.windows;
+        are = a.are;
+        awake = a.awake;
+        histories = a.histories;
+        count = a.count;
+        each_volume = a.each_volume;
+        unbroken = λ zero_is. a.unbroken (of_success config result status then taken' ends zero_is);
+        printed = λ zero_is. (
+            let (before, summary, is, appends) = a.printed (of_success config result status then taken' ends zero_is) in
+            (before, summary, is, same_taken config result status taken then taken' (before ++ summary) ends zero_is appends));
+        placed = a.placed;
+        reclaimed = a.reclaimed;
+      }))
+
+pub runs_account : {D : Type 0} (tells : Bool) (state : D → State) (options : Options) (start : GivenLines) (left : Option (List ℕ)) (faults faults' : ℕ) (left_of_trace : Option (List ℕ)) (old new : BayState) (sink status : ℕ) (taken taken' : Option (List ℕ))
+    → RunsReplay tells state options start left faults faults' left_of_trace old new sink status taken taken' → RunsAccount tells state options.reclaim start left faults faults' left_of_trace old new status taken taken'
+runs_account tells state options start left faults faults' left_of_trace old new sink status taken taken' (inl run) = inl (record {
+  config = run.config;
+  has = run.has;
+  now = run.now;
+  rest = run.rest;
+  keeps = account_ends tells state (λ bytes. bytes) run.config options.reclaim start run.now old new run.result status taken run.printed_then taken'
+      (keeps_account tells state (λ bytes. bytes) run.config options start run.now old new sink run.sink_then taken run.printed_then run.result run.replayed) run.ends;
+})
+runs_account tells state options start left faults faults' left_of_trace old new sink status taken taken' (inr unread) = inr unread

@@ -1,0 +1,317 @@
+-- Why each command ended with its status.
+use Rattle.std.proofs.Common.{◌≡◌, ◌≢◌, ◌⊎◌, inl, inr, ℕ, zero, suc, ◌<◌, Bool, true, false, List, [], ◌∷◌, Option, None, Some, Result, refl, sym, ap, subst, ◌∙◌, true≢false, arith}
+use Rattle.std.specs.Prelude.{IfSome, IsTrue, codes, slice_get}
+use Rattle.std.specs.Io.KnownBytes.{IsAtEnd}
+use Rattle.std.proofs.lemmas.Option.{same_Some}
+use Rattle.wol_disk.specs.Disk.{Rose, State}
+use Rattle.wol_bay.specs.Bay.{Told}
+use Rattle.wol_model.specs.Trace.{TraceLine}
+use Rattle.wol_config.specs.declared.config.Config.{Config}
+use Rattle.report.specs.Faults.{fault_text, status_of}
+use Rattle.report.specs.Troubles.{trouble_status}
+use Rattle.report.specs.declared.fault.Fault.{Fault}
+use Rattle.report.specs.declared.fault.Fault.TheVariants as fault
+use Rattle.report.specs.declared.trouble.Trouble.{Trouble}
+use Rattle.report.specs.declared.trouble.Trouble.TheVariants as trouble
+use Rattle.troubles.specs.Troubles.{trouble_of, trouble_of_part}
+use Rattle.manager.specs.declared.part.Part.{Part}
+use Rattle.manager.specs.declared.part.Part.TheVariants as part
+use Rattle.trace_gen.specs.Generated.{targets_of}
+use Rattle.volume_images.specs.Left.{AreNamedApart}
+use Rattle.msr_trace.specs.declared.format.TraceFault.{TraceFault}
+use Rattle.msr_trace.specs.declared.format.TraceFault.TheVariants as trace
+use Rattle.inspection.specs.Lines.{Telling, first_of, first_trouble}
+use Rattle.inspection.specs.declared.asked.Asked.{Asked}
+use Rattle.replay.specs.Ended.{EndsFor, HasRefusedWrite, whole, no_line, refused, memory, sink_failed}
+use Rattle.comparison.specs.Compares.{EndsBehind}
+use Rattle.comparison.specs.Compares as behind
+use Rattle.replay.specs.Givens.{HasGivenAll, Refuses}
+use Rattle.replay.specs.NotOpened.{IsOpened}
+use Rattle.replay.specs.Replays.{Replayed, Replays, closed, no_memory, ran, status_in}
+use Rattle.replay.specs.Served.{ServedWindow}
+use Rattle.replay.specs.Stops.{fault_of_trace}
+use Rattle.replay.specs.declared.session.Options.{Options as Serving}
+use Rattle.replay.specs.declared.stop.Stop.{Stop}
+use Rattle.command_words.specs.Commands.{IsCommand}
+use Rattle.command_words.specs.declared.command.Command.{Command}
+use Rattle.command_words.specs.declared.command.Command.TheVariants.{Format, Gen, WhatIf}
+use Rattle.command_words.specs.declared.command.Generated.{Generated}
+use Rattle.wol_run.specs.Causes.{AskFor, IsCause, IsClosedFor, replayed_by}
+use Rattle.wol_run.specs.Causes as row
+use Rattle.wol_run.specs.Commands.{uses_bay, uses_config, uses_trace}
+use Rattle.wol_run.specs.Inspecting.{AreTold, IsLook, status_of_first}
+use Rattle.wol_run.specs.Outside.{Outside}
+use Rattle.wol_run.specs.Comparing.{IsComparison}
+use Rattle.wol_run.specs.Replaying.{EndsReplay, GivenLines, HasLeft, IsReplay, trace_of}
+use Rattle.wol_run.specs.Run.{IsComparisonOf, IsFormat, IsListingOf, IsLookFor, IsReplayOf}
+use Rattle.wol_run.specs.Settings.{HasConfig, IsFaultLine}
+use Rattle.wol_run.specs.Tops.{EndsWith, HasBadLine, HasMoreLines}
+use Rattle.wol_run.proofs.Asked.{of_asked}
+use Rattle.wol_run.proofs.FormatEndings.{ends_format}
+use Rattle.wol_run.proofs.GenEndings.{ends_gen}
+use Rattle.wol_run.proofs.ReplayEndings.{at_end, bad_of, more_of, of_call}
+use Rattle.wol_run.proofs.Spent.{spent_of}
+use Rattle.wol_run.proofs.Unread.{ends_unread, wanted_or_sink}
+use Rattle.wol_run.proofs.WindowFaults.{ends_window}
+
+-- what is told of the images is told of them in other words
+if_told : (P Q : Told → Type 0) (o : Option Told) → ((t : Told) → P t → Q t) → IfSome o P → IfSome o Q
+if_told P Q None on h = tt
+if_told P Q (Some t) on h = on t h
+
+-- ---- The first volume that isn't in order
+
+-- a volume, and those before it, none of which is in disorder
+abbrev IsFirst : List Telling → Trouble → Type 0
+IsFirst told o = (k : ℕ) × (t : Telling) × (slice_get told k ≡ Some t) × (t.trouble ≡ Some o)
+    × ((j : ℕ) → j < k → (u : Telling) × (slice_get told j ≡ Some u) × (u.trouble ≡ None))
+
+-- none of those before it is in disorder where the one in front of them isn't either
+earlier_too : (t : Telling) (ts : List Telling) (k : ℕ) → t.trouble ≡ None → ((j : ℕ) → j < k → (u : Telling) × (slice_get ts j ≡ Some u) × (u.trouble ≡ None)) → (j : ℕ) → j < suc k
+    → (u : Telling) × (slice_get (t ∷ ts) j ≡ Some u) × (u.trouble ≡ None)
+earlier_too t ts k none before zero less = (t, refl, none)
+earlier_too t ts k none before (suc j) less = before j (omega (arith, less))
+
+first_at : (told : List Telling) (o : Trouble) → first_trouble told ≡ Some o → IsFirst told o
+first_at [] o is = absurd (let no : None ≡ Some o = is in cc)
+first_at (t ∷ ts) o is = by t.trouble refl is (first_at ts o)
+  where
+    by : (p : Option Trouble) → t.trouble ≡ p → first_of p (first_trouble ts) ≡ Some o → (first_trouble ts ≡ Some o → IsFirst ts o) → IsFirst (t ∷ ts) o
+    by None none rest later =
+        let (k, u, here, same, before) = later rest in
+        (suc k, u, here, same, earlier_too t ts k none before)
+    by (Some u) same first later = (zero, t, refl, same ∙ first, λ j less. absurd (omega (arith, less)))
+
+-- ---- All commands
+
+module _ {D : Type 0} (tells : Bool) (state : D → State) (words : List (List ℕ)) (before after : Outside) where
+  abbrev pub Cause : (status : ℕ) → Type 0
+  Cause status = IsCause tells state words before after status
+
+  pub at_status : (k status : ℕ) → status ≡ k → Cause k → Cause status
+  at_status k status is cause = subst Cause (sym is) cause
+
+  -- the command that was read is done; it uses no trace
+  done_without : (read : Command) → IsCommand words read → uses_trace read ≡ false → Cause 0
+  done_without read is none = row.done read is (λ asks. absurd (true≢false (sym asks.does ∙ of_asked (λ c. uses_trace c ≡ false) (λ own volume same no. no) words read asks.command is asks.is none)))
+
+  part_cause : AskFor words uses_bay → (p : Part) → Rose before.bay.faults after.bay.faults → Cause (trouble_status (trouble_of_part p))
+  part_cause bay (part.Home volume) rose = row.part_failed bay rose
+  part_cause bay (part.Segment volume index) rose = row.part_failed bay rose
+
+  -- what a volume's trouble comes of
+  trouble_cause : AskFor words uses_config → AskFor words uses_bay → (t : Trouble) → IsClosedFor tells state before after (trouble_status t)
+      → (trouble_status t ≡ 4 → Rose before.bay.faults after.bay.faults) → Cause (trouble_status t)
+  trouble_cause config bay trouble.Absent is rose = row.no_image config is
+  trouble_cause config bay (trouble.Length bytes) is rose = row.image config is
+  trouble_cause config bay trouble.LabelDiffers is rose = row.image config is
+  trouble_cause config bay (trouble.Damaged volume block) is rose = row.image config is
+  trouble_cause config bay (trouble.Twins v first w second) is rose = row.image config is
+  trouble_cause config bay (trouble.OutsideView logger segment) is rose = row.image config is
+  trouble_cause config bay (trouble.LoggerMissing id) is rose = row.no_logger config is
+  trouble_cause config bay trouble.Bay is rose = row.part_failed bay (rose refl)
+  trouble_cause config bay trouble.Label is rose = row.part_failed bay (rose refl)
+  trouble_cause config bay trouble.Home is rose = row.part_failed bay (rose refl)
+  trouble_cause config bay (trouble.Segment logger index) is rose = row.part_failed bay (rose refl)
+
+  module _ (status : ℕ) (sink : status ≡ 7 → Rose before.sink.faults after.sink.faults) where
+    of_sink : status ≡ 7 → Cause status
+    of_sink seven = at_status 7 status seven (row.sink_failed (sink seven))
+
+    -- the configuration wasn't had
+    unread_cause : AskFor words uses_config → (text : List ℕ) (wanted : ℕ) → IsFaultLine before.config.bytes before.config.faults after.config.faults text wanted → status ≡ wanted → Cause status
+    unread_cause asks text wanted line same = elim (ends_unread _ _ _ text wanted line) [
+      | inl (two, none) ↦ at_status 2 status (same ∙ two) (row.no_config asks none)
+      | inr (inl (eight, rose)) ↦ at_status 8 status (same ∙ eight) (row.source_failed (inl rose))
+      | inr (inr nine) ↦ at_status 9 status (same ∙ nine) row.no_memory
+    ]
+
+    -- the status is that of the fault, or the sink or memory failed
+    told_cause : (names : List (List ℕ)) (f : Fault) (mid : Option (List ℕ)) → EndsWith (fault_text names f) (status_of f) status mid after.sink.bytes ⊎ EndsWith (codes "fault 9 memory\n") 9 status mid after.sink.bytes
+        → (status ≡ status_of f → Cause status) → Cause status
+    told_cause names f mid (inl ends) cause = elim (wanted_or_sink _ (status_of f) status mid after.sink.bytes ends) [
+      | inl same ↦ cause same
+      | inr seven ↦ of_sink seven
+    ]
+    told_cause names f mid (inr ends) cause = elim (wanted_or_sink _ 9 status mid after.sink.bytes ends) [
+      | inl nine ↦ at_status 9 status nine row.no_memory
+      | inr seven ↦ of_sink seven
+    ]
+
+    -- ---- Policies that were compared
+
+    module _ (is : IsCommand words WhatIf) (source : status ≡ 8 → Rose before.config.faults after.config.faults ⊎ Rose before.trace.faults after.trace.faults) where
+      for_lines : AskFor words uses_trace
+      for_lines = record { command = WhatIf; is = is; does = refl }
+
+      no_further : (now : GivenLines) (run : List (Option TraceLine)) (refusal : TraceFault) → refusal ≢ trace.NoMemory → Refuses (λ bytes. bytes) refusal (trace_of before.trace.bytes) now run
+          → status ≡ status_of (fault_of_trace refusal) → Cause status
+      no_further now run trace.Source other refuses same = at_status 8 status same (row.source_failed (source same))
+      no_further now run (trace.Bad number why) other refuses same = at_status 3 status same (row.bad_line for_lines (bad_of before.trace.bytes now run (trace.Bad number why) refl refuses))
+      no_further now run trace.Spent other refuses same = at_status 10 status same (row.more_lines for_lines (more_of before.trace.bytes now run trace.Spent refl refuses))
+      no_further now run trace.NoMemory other refuses same = absurd (other refl)
+
+      module _ (run : IsComparison (trace_of before.trace.bytes) before.config.bytes after.trace.bytes before.sink.faults status before.sink.bytes after.sink.bytes) where
+        of_behind : (ls : List (Option TraceLine)) (x : Result (Unit {0}) Stop) → EndsBehind (λ bytes. bytes) run.config (trace_of before.trace.bytes) run.now before.sink.faults run.sink_then before.sink.bytes run.printed_then ls x
+            → EndsReplay run.config x status run.printed_then after.sink.bytes → Cause status
+        of_behind ls x (behind.whole done all calm more) ends = at_status 0 status ends.0 (row.done WhatIf is (λ asks. at_end before.trace.bytes after.trace.bytes run.now ls run.config run.rest all))
+        of_behind ls x (behind.sink_failed all rose front) ends = of_sink ends.0
+        of_behind ls x (behind.no_line refusal other refuses calm kept) ends = told_cause _ (fault_of_trace refusal) run.printed_then ends (no_further run.now ls refusal other refuses)
+        of_behind ls x (behind.memory calm kept) ends = told_cause _ fault.Memory run.printed_then ends (λ nine. at_status 9 status nine row.no_memory)
+
+      pub comparison_cause : IsComparisonOf before after status → Cause status
+      comparison_cause (inl run) = of_behind run run.compares.run run.result run.compares.ends run.ends
+      comparison_cause (inr unread) = elim (wanted_or_sink unread.text unread.wanted status _ _ unread.ends) [
+        | inr seven ↦ of_sink seven
+        | inl same ↦ unread_cause (record { command = WhatIf; is = is; does = refl }) unread.text unread.wanted unread.line_ same
+      ]
+
+    pub gen_cause : (what : Generated) → IsCommand words (Gen what) → IsListingOf before after status what → Cause status
+    gen_cause what is run = elim (ends_gen what _ _ _ status _ _ run) [
+      | inl none ↦ at_status 0 status none (done_without (Gen what) is refl)
+      | inr (inl (two, none)) ↦ at_status 2 status two (row.no_config (record { command = Gen what; is = is; does = refl }) none)
+      | inr (inr (inl seven)) ↦ of_sink seven
+      | inr (inr (inr (inl (eight, rose)))) ↦ at_status 8 status eight (row.source_failed (inl rose))
+      | inr (inr (inr (inr nine))) ↦ at_status 9 status nine row.no_memory
+    ]
+
+    pub format_cause : IsCommand words Format → IsFormat before after status → Cause status
+    format_cause is run = elim (ends_format _ _ _ _ _ status _ _ run) [
+      | inl none ↦ at_status 0 status none (done_without Format is refl)
+      | inr (inl (two, none)) ↦ at_status 2 status two (row.no_config (record { command = Format; is = is; does = refl }) none)
+      | inr (inr (inl (four, rose))) ↦ at_status 4 status four (row.part_failed (record { command = Format; is = is; does = refl }) rose)
+      | inr (inr (inr (inl seven))) ↦ of_sink seven
+      | inr (inr (inr (inr (inl (eight, rose))))) ↦ at_status 8 status eight (row.source_failed (inl rose))
+      | inr (inr (inr (inr (inr nine)))) ↦ at_status 9 status nine row.no_memory
+    ]
+
+    module _ (command : Command) (is : IsCommand words command) (config_ : uses_config command ≡ true) (bay_ : uses_bay command ≡ true) where
+      for_config : AskFor words uses_config
+      for_config = record { command = command; is = is; does = config_ }
+
+      for_bay : AskFor words uses_bay
+      for_bay = record { command = command; is = is; does = bay_ }
+
+      -- ---- Volumes that were looked at
+
+      -- a volume that was told in order was opened
+      was_opened : (config : Config) (what : Asked) (told : List Telling) (are : AreTold tells state what config before.bay after.bay told) (j : ℕ) (u : Telling) → slice_get told j ≡ Some u → u.trouble ≡ None
+          → IsTrue tells → IfSome before.bay.told (λ images. AreNamedApart images → IsOpened config are.out images j)
+      was_opened config what told are j u here none telling = elim (are.each j u here) [
+        | inl refusal ↦ absurd (let no : None ≡ Some (trouble_of refusal.fault) = sym none ∙ refusal.trouble in cc)
+        | inr (inl order) ↦ if_told _ _ before.bay.told (λ images orderly apart.
+            let o = orderly apart in record { base = o.base.volume.began; owner = o.owner; begun = o.began; loggers = o.loggers_out }) (order.lines_ telling)
+        | inr (inr part) ↦ absurd (let no : None ≡ Some _ = sym none ∙ part.trouble in cc)
+      ]
+
+      look_trouble : (config : Config) → HasConfig before.config.bytes config → (what : Asked) (told : List Telling) → AreTold tells state what config before.bay after.bay told
+          → (o : Trouble) → IsFirst told o → Cause (trouble_status o)
+      look_trouble config has what told are o (k, t, here, is_o, earlier) = elim (are.each k t here) [
+        | inl refusal ↦
+            let same : trouble_of refusal.fault ≡ o = same_Some (trouble_of refusal.fault) o (sym refusal.trouble ∙ is_o) in
+            subst (λ (x : Trouble). Cause (trouble_status x)) same (trouble_cause for_config for_bay (trouble_of refusal.fault)
+            (record {
+              config = config;
+              has = has;
+              volume = k;
+              conf = refusal.conf;
+              conf_is = refusal.is_conf;
+              out = are.out;
+              fault = refusal.fault;
+              refused = refusal.refuses;
+              status_is = refl;
+              first = λ j less. (let (u, there, none) = earlier j less in was_opened config what told are j u there none);
+            }) refusal.rose)
+        | inr (inl order) ↦ absurd (let no : None ≡ Some o = sym order.trouble ∙ is_o in cc)
+        | inr (inr part) ↦ subst (λ (x : Trouble). Cause (trouble_status x)) (same_Some (trouble_of_part part.part) o (sym part.trouble ∙ is_o)) (part_cause for_bay part.part part.rose)
+      ]
+
+      pub look_cause : uses_trace command ≡ false → (what : Asked) → IsLookFor tells state before after status what → Cause status
+      look_cause none what run = elim (wanted_or_sink run.text run.wanted status _ _ run.ends) [
+        | inr seven ↦ of_sink seven
+        | inl same ↦ elim run.allowed [
+          | inl look ↦ by look (first_trouble look.told) refl (same ∙ look.done)
+          | inr (inl cut) ↦ at_status 9 status (same ∙ cut.memory) row.no_memory
+          | inr (inr untouched) ↦ unread_cause for_config run.text run.wanted untouched.line_ same
+        ]
+      ]
+        where
+          by : (look : IsLook tells state what before.config.bytes before.bay after.bay run.text run.wanted) (first : Option Trouble) → first_trouble look.told ≡ first → status ≡ status_of_first (first_trouble look.told) → Cause status
+          by look None is_first at = at_status 0 status (at ∙ ap status_of_first is_first) (done_without command is none)
+          by look (Some o) is_first at = at_status (trouble_status o) status (at ∙ ap status_of_first is_first) (look_trouble look.config look.has what look.told look.are o (first_at look.told o is_first))
+
+      -- ---- Lines that were replayed
+
+      module _ (how : Serving) (start : GivenLines) (replays : replayed_by command before.trace.bytes ≡ Some (how, start))
+          (source : status ≡ 8 → Rose before.config.faults after.config.faults ⊎ Rose before.trace.faults after.trace.faults)
+          (line : status ≡ 3 → AskFor words uses_trace × HasBadLine before.trace.bytes) (lines : status ≡ 10 → AskFor words uses_trace × HasMoreLines before.trace.bytes)
+          (ended : (now : GivenLines) (run : List (Option TraceLine)) (config : Config) → HasLeft now after.trace.bytes → HasGivenAll (λ bytes. bytes) (targets_of config) start now run → AskFor words uses_trace → IsAtEnd after.trace.bytes) where
+        module _ (run : IsReplay tells state how start before.config.bytes after.trace.bytes before.bay after.bay before.sink.faults status before.sink.bytes after.sink.bytes) where
+          abbrev Ends : Result (Unit {0}) Stop → Type 0
+          Ends r = EndsReplay run.config r status run.printed_then after.sink.bytes
+
+          of_line : (refusal : TraceFault) → refusal ≢ trace.NoMemory → status ≡ status_of (fault_of_trace refusal) → Cause status
+          of_line trace.Source other same = at_status 8 status same (row.source_failed (source same))
+          of_line (trace.Bad number why) other same = at_status 3 status same (row.bad_line (line same).0 (line same).1)
+          of_line trace.Spent other same = at_status 10 status same (row.more_lines (lines same).0 (lines same).1)
+          of_line trace.NoMemory other same = absurd (other refl)
+
+          module _ (r : Result (Unit {0}) Stop) (of : Replays tells (λ bytes. bytes) run.config how start run.now before.bay after.bay r before.sink.faults run.sink_then before.sink.bytes run.printed_then) where
+            of_versions : (v : ℕ) (s : ServedWindow) → of.last ≡ s ∷ [] → HasRefusedWrite v s → status_in r ≡ 11 → Cause 11
+            of_versions v s only write eleven =
+                let spent = spent_of tells (λ bytes. bytes) run.config how start run.now before.bay after.bay r before.sink.faults run.sink_then before.sink.bytes run.printed_then of v s only write eleven in
+                row.no_version for_config (record {
+                  config = run.config;
+                  has = run.has;
+                  command = command;
+                  is = is;
+                  how = how;
+                  start = start;
+                  replays = replays;
+                  now = run.now;
+                  lines = of.run;
+                  more = of.more;
+                  given = of.given;
+                  base = spent.base;
+                  begun = spent.begun;
+                  logged = spent.logged;
+                  few = spent.few;
+                  spent = spent.spent;
+                })
+
+            of_end : (x : Result (Unit {0}) Stop) → x ≡ r → EndsFor (λ bytes. bytes) run.config start run.now of.run of.last before.bay.faults after.bay.faults before.sink.faults run.sink_then x → Ends x → Cause status
+            of_end x same (whole d none all) ends = at_status 0 status ends.0 (row.done command is (ended run.now of.run run.config run.rest all))
+            of_end x same (no_line refusal other empty refuses) ends = told_cause _ (fault_of_trace refusal) run.printed_then ends (of_line refusal other)
+            of_end x same (refused f s only told rose versions) ends = told_cause _ f run.printed_then ends (λ at. elim (ends_window s.batch.requests s.answer f told) [
+              | inl (part, four) ↦ at_status 4 status (at ∙ four) (row.part_failed for_bay (rose part))
+              | inr (inl lacks) ↦ at_status 9 status (at ∙ ap status_of lacks) row.no_memory
+              | inr (inr (v, spent)) ↦ at_status 11 status (at ∙ ap status_of spent) (of_versions v s only (versions v spent) (ap (λ (y : Result (Unit {0}) Stop). status_in y) (sym same) ∙ ap status_of spent))
+            ])
+            of_end x same memory ends = told_cause _ fault.Memory run.printed_then ends (λ nine. at_status 9 status nine row.no_memory)
+            of_end x same (sink_failed rose) ends = of_sink ends.0
+
+          of_replayed : (r : Result (Unit {0}) Stop) → Replayed tells state (λ bytes. bytes) run.config how start run.now before.bay after.bay before.sink.faults run.sink_then before.sink.bytes run.printed_then r → Ends r → Cause status
+          of_replayed r (no_memory asks leaves) ends = told_cause _ fault.Memory run.printed_then ends (λ nine. at_status 9 status nine row.no_memory)
+          of_replayed r (closed k f asks first leaves) ends = told_cause _ (fault.Volume k (trouble_of f)) run.printed_then ends (λ same. at_status (trouble_status (trouble_of f)) status same
+              (trouble_cause for_config for_bay (trouble_of f)
+              (record {
+                config = run.config;
+                has = run.has;
+                volume = k;
+                conf = first.conf;
+                conf_is = first.conf_is;
+                out = first.out;
+                fault = f;
+                refused = first.refused;
+                status_is = refl;
+                first = λ j less. (first.before j less).1;
+              })
+              (λ four. first.cause (of_call f _ first.names four))))
+          of_replayed r (ran r2 of) ends = of_end r2 of r2 refl of.ends ends
+
+        pub replay_cause : IsReplayOf tells state before after status (how, start) → Cause status
+        replay_cause (inl run) = of_replayed run run.result run.replayed run.ends
+        replay_cause (inr unread) = elim (wanted_or_sink unread.text unread.wanted status _ _ unread.ends) [
+          | inr seven ↦ of_sink seven
+          | inl same ↦ unread_cause for_config unread.text unread.wanted unread.untouched.line_ same
+        ]

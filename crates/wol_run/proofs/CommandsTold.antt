@@ -1,0 +1,148 @@
+-- What a run promises, command by command.
+use Rattle.std.proofs.Common.{◌≡◌, ◌⊎◌, inl, inr, ℕ, ◌<◌, Bool, true, false, List, Option, Err, Ok, refl, sym, subst, ◌∙◌, true≢false}
+use Rattle.std.specs.Prelude.{codes}
+use Rattle.std.specs.Io.KnownBytes.{IsAtEnd}
+use Rattle.wol_disk.specs.Disk.{Rose, State}
+use Rattle.wol_model.specs.Trace.{TraceLine}
+use Rattle.wol_config.specs.declared.config.Config.{Config}
+use Rattle.solo.proofs.Imaging.{not_made}
+use Rattle.solo.specs.Images.{RunsInBay}
+use Rattle.solo.specs.Volume.{target_of}
+use Rattle.solo.specs.declared.fault.Fault.{Fault}
+use Rattle.solo.specs.declared.fault.Fault.TheVariants as solo_fault
+use Rattle.solo.specs.declared.volume.Volume.{Volume}
+use Rattle.wol_bay.specs.declared.fault.BayFault.TheVariants as bay_fault
+use Rattle.report.specs.declared.fault.Fault.TheVariants as fault
+use Rattle.trace_gen.specs.Generated.{targets_of}
+use Rattle.inspection.specs.declared.asked.Asked.TheVariants as asked
+use Rattle.replay.specs.Givens.{HasGivenAll}
+use Rattle.replay.specs.declared.given.Given.TheVariants as given
+use Rattle.command_words.specs.Commands.{IsCommand}
+use Rattle.command_words.specs.declared.command.Command.{Command}
+use Rattle.command_words.specs.declared.command.Command.TheVariants.{Check, Dump, Format, Gen, Replay, Soak, Solo, WhatIf}
+use Rattle.command_words.specs.declared.command.Generated.{Generated}
+use Rattle.command_words.specs.declared.command.Options.{Options}
+use Rattle.wol_run.specs.Causes.{AskFor}
+use Rattle.wol_run.specs.Causes as row
+use Rattle.wol_run.specs.Commands.{uses_trace}
+use Rattle.wol_run.specs.Completing.{HasSoundImages, HaveVersions, IsGoodTrace, seed_lines}
+use Rattle.wol_run.specs.Outside.{LeavesUnused, Outside, Stream}
+use Rattle.wol_run.specs.Replaying.{GivenLines, HasLeft, lines_of, options_as, trace_of}
+use Rattle.wol_run.specs.Run.{IsComparisonOf, IsFormat, IsListingOf, IsLookFor, IsReplayOf, Run}
+use Rattle.wol_run.specs.Settings.{IsConfigured}
+use Rattle.wol_run.specs.Tops.{EndsWith, HasCause, IsDoneOrMemory, TellsFault, TellsStatus}
+use Rattle.wol_run.proofs.Asked.{of_asked}
+use Rattle.wol_run.proofs.CausesTold.{comparison_cause, format_cause, gen_cause, look_cause, replay_cause}
+use Rattle.wol_run.proofs.Compared.{uncompared}
+use Rattle.wol_run.proofs.Complete.{complete_format, complete_gen}
+use Rattle.wol_run.proofs.Endings.{told_done, told_fault}
+use Rattle.wol_run.proofs.FormatEndings.{told_untouched}
+use Rattle.wol_run.proofs.GenEndings.{told_unread}
+use Rattle.wol_run.proofs.LookEndings.{look_untouched}
+use Rattle.wol_run.proofs.Promised.{Does, of_command, of_unread_words}
+use Rattle.wol_run.proofs.ReplayEndings.{at_end, replay_bad_line, replay_more_lines, soak_not_ten, soak_not_three, unreplayed}
+use Rattle.wol_run.proofs.SoloTold.{solo_cause, solo_complete}
+
+module _ {D : Type 0} (tells : Bool) (state : D → State) (words : List (List ℕ)) (before after : Outside) (status : ℕ)
+    (seven : status ≡ 7 → Rose before.sink.faults after.sink.faults) (later : before.sink.faults < after.sink.faults → status ≡ 7) where
+  used : {b : Bool} → b ≡ true → b ≡ false → ⊥
+  used is none = true≢false (sym is ∙ none)
+
+  pub gen_promise : (what : Generated) → IsCommand words (Gen what) → IsListingOf before after status what → after.trace ≡ before.trace → after.bay ≡ before.bay → Run tells state words before after status
+  gen_promise what is run trace bay = of_command tells state words before after status (Gen what) is run (gen_cause tells state words before after status seven what is run) later
+      (record { config = λ none. absurd (used refl (none (Gen what) is)); trace = λ none. trace; bay = λ none. bay })
+      (λ order calm. complete_gen what _ _ _ status _ _ order (calm.config refl) (λ is_7. calm.sink (seven is_7)) run)
+
+  pub format_promise : IsCommand words Format → IsFormat before after status → after.trace ≡ before.trace → Run tells state words before after status
+  format_promise is run trace = of_command tells state words before after status Format is run (format_cause tells state words before after status seven is run) later
+      (record { config = λ none. absurd (used refl (none Format is)); trace = λ none. trace; bay = λ none. absurd (used refl (none Format is)) })
+      (λ order calm. complete_format _ _ _ _ _ status _ _ order (calm.config refl) (calm.bay refl) (λ is_7. calm.sink (seven is_7)) run)
+
+  -- the volumes were looked at, and where nothing stood in the way the look came to its end
+  module _ (complete : HasSoundImages tells before.config.bytes before.bay → IsConfigured before.config.bytes → ¬ Rose before.bay.faults after.bay.faults
+      → ¬ Rose before.config.faults after.config.faults → ¬ Rose before.sink.faults after.sink.faults → IsDoneOrMemory status) (trace : after.trace ≡ before.trace) where
+    pub check_promise : IsCommand words Check → IsLookFor tells state before after status asked.Check → Run tells state words before after status
+    check_promise is run = of_command tells state words before after status Check is run (look_cause tells state words before after status seven Check is refl refl refl asked.Check run) later
+        (record { config = λ none. absurd (used refl (none Check is)); trace = λ none. trace; bay = λ none. absurd (used refl (none Check is)) })
+        (λ order calm. complete order.1 order.0 (calm.bay refl) (calm.config refl) calm.sink)
+
+    pub dump_promise : IsCommand words Dump → IsLookFor tells state before after status asked.Dump → Run tells state words before after status
+    dump_promise is run = of_command tells state words before after status Dump is run (look_cause tells state words before after status seven Dump is refl refl refl asked.Dump run) later
+        (record { config = λ none. absurd (used refl (none Dump is)); trace = λ none. trace; bay = λ none. absurd (used refl (none Dump is)) })
+        (λ order calm. complete order.1 order.0 (calm.bay refl) (calm.config refl) calm.sink)
+
+  pub replay_promise : (options : Options) → IsCommand words (Replay options) → IsReplayOf tells state before after status (options_as options, trace_of before.trace.bytes)
+      → (status ≡ 8 → Rose before.config.faults after.config.faults ⊎ Rose before.trace.faults after.trace.faults)
+      → ((lines : _) (images : HasSoundImages tells before.config.bytes before.bay) → HaveVersions before.config.bytes images.entry (λ c. lines) → IsGoodTrace before.trace.bytes lines → IsConfigured before.config.bytes
+      → ¬ Rose before.bay.faults after.bay.faults → ¬ Rose before.config.faults after.config.faults → ¬ Rose before.trace.faults after.trace.faults → ¬ Rose before.sink.faults after.sink.faults → IsDoneOrMemory status)
+      → Run tells state words before after status
+  replay_promise options is run source complete = of_command tells state words before after status (Replay options) is run
+      (replay_cause tells state words before after status seven (Replay options) is refl refl (options_as options) (trace_of before.trace.bytes) refl source
+      (λ three. (for_trace, replay_bad_line tells state (options_as options) _ _ _ _ _ _ _ status _ _ before.trace.bytes run three))
+      (λ ten. (for_trace, replay_more_lines tells state (options_as options) _ _ _ _ _ _ _ status _ _ before.trace.bytes run ten))
+      (λ now lines config rest all uses. at_end before.trace.bytes after.trace.bytes now lines config rest all) run) later
+      (record { config = λ none. absurd (used refl (none (Replay options) is)); trace = λ none. absurd (used refl (none (Replay options) is)); bay = λ none. absurd (used refl (none (Replay options) is)) })
+      (λ order calm. complete order.2 order.1 order.4 order.3 order.0 (calm.bay refl) (calm.config refl) (calm.trace refl) calm.sink)
+    where
+      for_trace : AskFor words uses_trace
+      for_trace = record { command = Replay options; is = is; does = refl }
+
+  pub soak_promise : (what : Generated) (options : Options) → IsCommand words (Soak what options) → IsReplayOf tells state before after status (options_as options, lines_of what)
+      → (status ≡ 8 → Rose before.config.faults after.config.faults)
+      → ((images : HasSoundImages tells before.config.bytes before.bay) → HaveVersions before.config.bytes images.entry (seed_lines what) → IsConfigured before.config.bytes
+      → ¬ Rose before.bay.faults after.bay.faults → ¬ Rose before.config.faults after.config.faults → ¬ Rose before.sink.faults after.sink.faults → IsDoneOrMemory status)
+      → after.trace ≡ before.trace → Run tells state words before after status
+  soak_promise what options is run source complete trace = of_command tells state words before after status (Soak what options) is run
+      (replay_cause tells state words before after status seven (Soak what options) is refl refl (options_as options) (lines_of what) refl (λ eight. inl (source eight))
+      (λ three. absurd (soak_not_three tells state (options_as options) _ _ _ _ _ _ _ status _ _ what run three))
+      (λ ten. absurd (soak_not_ten tells state (options_as options) _ _ _ _ _ _ _ status _ _ what run ten))
+      (λ now lines config rest all asks. absurd (used asks.does (of_asked (λ c. uses_trace c ≡ false) (λ own volume same no. no) words (Soak what options) asks.command is asks.is refl))) run) later
+      (record { config = λ none. absurd (used refl (none (Soak what options) is)); trace = λ none. trace; bay = λ none. absurd (used refl (none (Soak what options) is)) })
+      (λ order calm. complete order.1 order.2 order.0 (calm.bay refl) (calm.config refl) calm.sink)
+
+  pub comparison_promise : IsCommand words WhatIf → IsComparisonOf before after status → (status ≡ 8 → Rose before.config.faults after.config.faults ⊎ Rose before.trace.faults after.trace.faults)
+      → ((lines : _) → IsGoodTrace before.trace.bytes lines → IsConfigured before.config.bytes → ¬ Rose before.config.faults after.config.faults → ¬ Rose before.trace.faults after.trace.faults → ¬ Rose before.sink.faults after.sink.faults
+      → IsDoneOrMemory status) → after.bay ≡ before.bay → Run tells state words before after status
+  comparison_promise is run source complete bay = of_command tells state words before after status WhatIf is run (comparison_cause tells state words before after status seven is source run) later
+      (record { config = λ none. absurd (used refl (none WhatIf is)); trace = λ none. absurd (used refl (none WhatIf is)); bay = λ none. bay })
+      (λ order calm. complete order.1 order.2 order.0 (calm.config refl) (calm.trace refl) calm.sink)
+
+  -- the lines of one volume were run on an image of its own
+  module _ (own : Volume) (is : IsCommand words (Solo own)) (config : after.config ≡ before.config) where
+    unused : LeavesUnused words before after
+    unused = record { config = λ none. config; trace = λ none. absurd (used refl (none (Solo own) is)); bay = λ none. absurd (used refl (none (Solo own) is)) }
+
+    pub solo_fault_promise : (T : Type 0) (e : Fault) (mid : Option (List ℕ)) → TellsStatus e status → TellsFault e status mid after.sink.bytes
+        → HasCause e before.bay.faults after.bay.faults before.trace.faults after.trace.faults
+        → RunsInBay {T = T} (target_of own) before.trace.bytes after.trace.bytes before.bay.told after.bay.told (Err e) before.sink.bytes mid → Run tells state words before after status
+    solo_fault_promise T e mid told tells_ cause run = of_command tells state words before after status (Solo own) is
+        (told_fault (target_of own) _ _ _ _ _ _ _ _ status _ mid _ T e cause tells_ run)
+        (solo_cause tells state words before after own is T status mid seven e told cause run) later unused
+        (λ order calm. solo_complete T (target_of own) _ _ _ _ _ mid _ _ _ _ status (calm.bay refl) (calm.trace refl) (λ is_7. calm.sink (seven is_7)) order e told cause run)
+
+-- they were run to their end
+pub solo_done_promise : {D : Type 0} (tells : Bool) (state : D → State) (words : List (List ℕ)) (before after : Outside) → (before.sink.faults < after.sink.faults → ⊥) → (own : Volume) → IsCommand words (Solo own) → after.config ≡ before.config
+    → IsAtEnd after.trace.bytes → {T : Type 0} (x : T) → RunsInBay (target_of own) before.trace.bytes after.trace.bytes before.bay.told after.bay.told (Ok x) before.sink.bytes after.sink.bytes → Run tells state words before after 0
+solo_done_promise tells state words before after calm own is config end x run = of_command tells state words before after 0 (Solo own) is
+    (told_done x (target_of own) _ _ _ _ _ _ _ _ _ _ run) (row.done (Solo own) is (λ uses. end)) (λ less. absurd (calm less))
+    (record { config = λ none. config; trace = λ none. absurd (true≢false (none (Solo own) is)); bay = λ none. absurd (true≢false (none (Solo own) is)) })
+    (λ order still. inl refl)
+
+-- there was no memory to read the words, and the sink alone was used
+module _ {D : Type 0} (tells : Bool) (state : D → State) (words : List (List ℕ)) (before : Outside) (sink : Stream) (status : ℕ) (ends : EndsWith (codes "fault 9 memory\n") 9 status before.sink.bytes sink.bytes) where
+  abbrev after : Outside
+  after = record before { sink = sink }
+
+  does_none : (command : Command) → Does tells state words before after status command
+  does_none (Solo volume) = told_fault (target_of volume) before.trace.bytes before.trace.bytes before.bay.told before.bay.told before.bay.faults before.bay.faults before.trace.faults before.trace.faults status _ _ _ (Unit {0}) solo_fault.NoMemory tt ends
+      (not_made (Unit {0}) bay_fault.NoMemory (target_of volume) before.trace.bytes before.trace.bytes before.bay.told before.bay.told before.sink.bytes refl)
+  does_none Format = told_untouched _ _ _ _ _ status _ _ fault.Memory tt refl (inr ends)
+  does_none (Replay options) = unreplayed _ _ _ _ _ _ _ _ _ _ _ _ _ fault.Memory tt refl (inr ends)
+  does_none Check = look_untouched _ _ asked.Check _ _ _ _ _ status _ _ fault.Memory tt refl (inr ends)
+  does_none Dump = look_untouched _ _ asked.Dump _ _ _ _ _ status _ _ fault.Memory tt refl (inr ends)
+  does_none (Gen what) = told_unread what _ _ _ status _ _ fault.Memory tt (inr ends)
+  does_none (Soak what options) = unreplayed _ _ _ _ _ _ _ _ _ _ _ _ _ fault.Memory tt tt (inr ends)
+  does_none WhatIf = uncompared _ _ _ _ _ _ _ _ _ fault.Memory tt refl (inr ends)
+
+  pub memory_promise : (status ≡ 7 → Rose before.sink.faults sink.faults) → (before.sink.faults < sink.faults → status ≡ 7) → Run tells state words before after status
+  memory_promise seven later = of_unread_words tells state words before after status does_none ends seven later (record { config = λ none. refl; trace = λ none. refl; bay = λ none. refl })

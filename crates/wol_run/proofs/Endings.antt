@@ -1,0 +1,69 @@
+-- What is told at the end of a run.
+use Rattle.std.proofs.Common.{◌≡◌, inl, inr, ℕ, List, [], ◌∷◌, Option, Ok, Err, refl, sym, append-nil, arith}
+use Rattle.msr_trace.specs.declared.format.BadLine.{BadLine}
+use Rattle.wol_disk.specs.Disk.{Block, Rose, Values}
+use Rattle.wol_bay.specs.Bay.{Told}
+use Rattle.wol_model.specs.Trace.{Target}
+use Rattle.solo.specs.declared.fault.Fault.{Fault}
+use Rattle.solo.specs.declared.fault.Fault.TheVariants as fault
+use Rattle.solo.specs.Images.{RunsInBay}
+use Rattle.solo.specs.Requests.{asked_of}
+use Rattle.solo.specs.Runs.{EndsBy}
+use Rattle.wol_run.specs.Tops.{HasBadLine, HasCause, HasMoreLines, RunsSolo, TellsFault, TellsStatus}
+
+-- what a fault comes of
+pub has_cause : (e : Fault) (bay bay' source source' : ℕ) → (e ≡ fault.Disk → Rose bay bay') → (e ≡ fault.Bay → Rose bay bay') → (e ≡ fault.Source → Rose source source') → HasCause e bay bay' source source'
+has_cause fault.Bay bay bay' source source' disk image trace = image refl
+has_cause fault.Disk bay bay' source source' disk image trace = disk refl
+has_cause fault.Source bay bay' source source' disk image trace = trace refl
+has_cause fault.Sink bay bay' source source' disk image trace = tt
+has_cause fault.NoMemory bay bay' source source' disk image trace = tt
+has_cause fault.Spent bay bay' source source' disk image trace = tt
+has_cause (fault.BadLine line why) bay bay' source source' disk image trace = tt
+
+-- ---- Texts
+
+-- a bad line was met, and then there was no memory for its text
+no_memory_instead : (line : ℕ) (why : BadLine) (target : Target) (trace left : Option (List ℕ)) (array : Option (List Block)) (old new : Option (List ℕ)) (values : Option (List (Values Block)))
+    → EndsBy (fault.BadLine line why) target trace left array old new values → EndsBy fault.NoMemory target trace left array old new values
+no_memory_instead line why target trace left array old new values (lines, more, has, number, (answered, cuts)) =
+    (lines, Err why ∷ more, has, (asked_of target lines, [], (sym (append-nil (asked_of target lines)), cuts), answered))
+
+module _ (target : Target) (trace left : Option (List ℕ)) (told told' : Option Told) (bay bay' source source' status : ℕ) (old mid new : Option (List ℕ)) where
+  pub told_fault : (T : Type 0) (e : Fault) → HasCause e bay bay' source source' → TellsFault e status mid new → RunsInBay {T = T} target trace left told told' (Err e) old mid → RunsSolo target trace left told told' bay bay' source source' status old new
+  told_fault T (fault.BadLine line why) cause (inl tells) (array, begins, values, images, ends) = (array, begins, values, inr (fault.BadLine line why, tt, (images, mid, ends, tells)))
+  told_fault T (fault.BadLine line why) cause (inr tells) (array, begins, values, images, ends) =
+      (array, begins, values, inr (fault.NoMemory, tt, (inr images, mid, no_memory_instead line why target trace left array old mid values ends, tells)))
+  told_fault T fault.Bay cause tells (array, begins, values, images, ends) = (array, begins, values, inr (fault.Bay, cause, (images, mid, ends, tells)))
+  told_fault T fault.Disk cause tells (array, begins, values, images, ends) = (array, begins, values, inr (fault.Disk, cause, (images, mid, ends, tells)))
+  told_fault T fault.Sink cause tells (array, begins, values, images, ends) = (array, begins, values, inr (fault.Sink, cause, (images, mid, ends, tells)))
+  told_fault T fault.Source cause tells (array, begins, values, images, ends) = (array, begins, values, inr (fault.Source, cause, (images, mid, ends, tells)))
+  told_fault T fault.NoMemory cause tells (array, begins, values, images, ends) = (array, begins, values, inr (fault.NoMemory, cause, (images, mid, ends, tells)))
+  told_fault T fault.Spent cause tells (array, begins, values, images, ends) = (array, begins, values, inr (fault.Spent, cause, (images, mid, ends, tells)))
+
+pub told_done : {T : Type 0} (x : T) (target : Target) (trace left : Option (List ℕ)) (told told' : Option Told) (bay bay' source source' : ℕ) (old new : Option (List ℕ)) → RunsInBay target trace left told told' (Ok x) old new → RunsSolo target trace left told told' bay bay' source source' 0 old new
+told_done x target trace left told told' bay bay' source source' old new (array, begins, values, images, ends) = (array, begins, values, inl (refl, images, ends))
+
+-- ---- What the statuses of the trace come of
+
+pub comes_of_bad_line : (T : Type 0) (e : Fault) (status : ℕ) (target : Target) (trace left : Option (List ℕ)) (told told' : Option Told) (old mid : Option (List ℕ)) → TellsStatus e status → status ≡ 3 → RunsInBay {T = T} target trace left told told' (Err e) old mid → HasBadLine trace
+comes_of_bad_line T e status target trace left told told' old mid (inr (inl is)) three runs = absurd (omega (arith, is, three))
+comes_of_bad_line T e status target trace left told told' old mid (inr (inr is)) three runs = absurd (omega (arith, is, three))
+comes_of_bad_line T (fault.BadLine line why) status target trace left told told' old mid (inl is) three (array, begins, values, images, (lines, more, has, number, all)) = (lines, why, more, has)
+comes_of_bad_line T fault.Bay status target trace left told told' old mid (inl is) three runs = absurd (omega (arith, is, three))
+comes_of_bad_line T fault.Disk status target trace left told told' old mid (inl is) three runs = absurd (omega (arith, is, three))
+comes_of_bad_line T fault.Sink status target trace left told told' old mid (inl is) three runs = absurd (omega (arith, is, three))
+comes_of_bad_line T fault.Source status target trace left told told' old mid (inl is) three runs = absurd (omega (arith, is, three))
+comes_of_bad_line T fault.NoMemory status target trace left told told' old mid (inl is) three runs = absurd (omega (arith, is, three))
+comes_of_bad_line T fault.Spent status target trace left told told' old mid (inl is) three runs = absurd (omega (arith, is, three))
+
+pub comes_of_lines : (T : Type 0) (e : Fault) (status : ℕ) (target : Target) (trace left : Option (List ℕ)) (told told' : Option Told) (old mid : Option (List ℕ)) → TellsStatus e status → status ≡ 10 → RunsInBay {T = T} target trace left told told' (Err e) old mid → HasMoreLines trace
+comes_of_lines T e status target trace left told told' old mid (inr (inl is)) ten runs = absurd (omega (arith, is, ten))
+comes_of_lines T e status target trace left told told' old mid (inr (inr is)) ten runs = absurd (omega (arith, is, ten))
+comes_of_lines T fault.Spent status target trace left told told' old mid (inl is) ten (array, begins, values, images, (lines, next, more, has, number, all)) = (lines, next, more, has, number)
+comes_of_lines T (fault.BadLine line why) status target trace left told told' old mid (inl is) ten runs = absurd (omega (arith, is, ten))
+comes_of_lines T fault.Bay status target trace left told told' old mid (inl is) ten runs = absurd (omega (arith, is, ten))
+comes_of_lines T fault.Disk status target trace left told told' old mid (inl is) ten runs = absurd (omega (arith, is, ten))
+comes_of_lines T fault.Sink status target trace left told told' old mid (inl is) ten runs = absurd (omega (arith, is, ten))
+comes_of_lines T fault.Source status target trace left told told' old mid (inl is) ten runs = absurd (omega (arith, is, ten))
+comes_of_lines T fault.NoMemory status target trace left told told' old mid (inl is) ten runs = absurd (omega (arith, is, ten))

@@ -1,0 +1,216 @@
+-- What a run promises, by what each of its commands gives.
+use Rattle.std.proofs.Common.{◌≡◌, ◌⊎◌, inl, inr, ℕ, ◌<◌, Bool, true, List, Option, Some, refl, sym, subst, ◌∙◌, true≢false}
+use Rattle.std.specs.Prelude.{IfSome, codes}
+use Rattle.wol_disk.specs.Disk.{Rose, State}
+use Rattle.wol_config.specs.declared.config.Config.{Config}
+use Rattle.solo.specs.Volume.{target_of}
+use Rattle.solo.specs.declared.volume.Volume.{Volume}
+use Rattle.inspection.specs.declared.asked.Asked.{Asked}
+use Rattle.inspection.specs.declared.asked.Asked.TheVariants as asked
+use Rattle.command_words.specs.Commands.{IsCommand, NoCommand}
+use Rattle.command_words.specs.declared.command.Command.{Command}
+use Rattle.command_words.specs.declared.command.Command.TheVariants.{Check, Dump, Format, Gen, Replay, Soak, Solo, WhatIf}
+use Rattle.command_words.specs.declared.command.Generated.{Generated}
+use Rattle.wol_run.specs.Causes.{IsCause, replayed_by}
+use Rattle.wol_run.specs.Causes as row
+use Rattle.wol_run.specs.Outside.{LeavesUnused, NothingFailed, Outside}
+use Rattle.wol_run.specs.Replaying.{lines_of, options_as, trace_of}
+use Rattle.wol_run.specs.Run.{IsAccountOf, IsComparisonOf, IsFormat, IsHeadlineOf, IsListingOf, IsLookFor, IsReplayOf, IsSoloOf, IsUnconfigured, ReadsInOrder, Run, looked_at_by}
+use Rattle.wol_run.specs.Settings.{HasConfig, HasNoConfig, IsFaultLine}
+use Rattle.wol_run.specs.Tops.{EndsWith, IsDoneOrMemory, RunsSolo}
+use Rattle.wol_run.proofs.AccountTold.{runs_account}
+use Rattle.wol_run.proofs.Asked.{of_asked}
+use Rattle.wol_run.proofs.CausesTold.{at_status}
+use Rattle.wol_run.proofs.Complete.{no_both}
+use Rattle.wol_run.proofs.HeadlineTold.{runs_headline}
+use Rattle.wol_run.proofs.Unread.{ends_unread, wanted_or_sink}
+
+-- ---- A configuration that is none
+
+-- the status of a command that needs a configuration where there is none
+abbrev pub TellsNoConfig : (status : ℕ) → Type 0
+TellsNoConfig status = (status ≡ 2) ⊎ (status ≡ 7) ⊎ (status ≡ 8) ⊎ (status ≡ 9)
+
+module _ (left : Option (List ℕ)) (bytes : List ℕ) (told : left ≡ Some bytes) (none : HasNoConfig (Some bytes)) where
+  never_had : (config : Config) → HasConfig left config → ⊥
+  never_had config has = no_both (Some bytes) (record { bytes = bytes; told = refl; config = config; has = subst (λ (o : Option (List ℕ)). HasConfig o config) told has }) none
+
+  of_unread : (faults faults' : ℕ) (text : List ℕ) (wanted status : ℕ) → IsFaultLine left faults faults' text wanted → status ≡ wanted → TellsNoConfig status
+  of_unread faults faults' text wanted status line same = elim (ends_unread left faults faults' text wanted line) [
+    | inl (two, had) ↦ inl (same ∙ two)
+    | inr (inl (eight, rose)) ↦ inr (inr (inl (same ∙ eight)))
+    | inr (inr nine) ↦ inr (inr (inr (same ∙ nine)))
+  ]
+
+-- ---- The command that the words ask for
+
+module _ {D : Type 0} (tells : Bool) (state : D → State) (words : List (List ℕ)) (before after : Outside) (status : ℕ) where
+  -- what a command does
+  abbrev pub Does : Command → Type 0
+  Does (Solo volume) = IsSoloOf before after status volume
+  Does Format = IsFormat before after status
+  Does (Replay options) = IsReplayOf tells state before after status (options_as options, trace_of before.trace.bytes)
+  Does Check = IsLookFor tells state before after status asked.Check
+  Does Dump = IsLookFor tells state before after status asked.Dump
+  Does (Gen what) = IsListingOf before after status what
+  Does (Soak what options) = IsReplayOf tells state before after status (options_as options, lines_of what)
+  Does WhatIf = IsComparisonOf before after status
+
+  does_alike : (own volume : Volume) → target_of own ≡ target_of volume → Does (Solo own) → Does (Solo volume)
+  does_alike own volume same does = subst (λ t. RunsSolo t before.trace.bytes after.trace.bytes before.bay.told after.bay.told before.bay.faults after.bay.faults before.trace.faults after.trace.faults status before.sink.bytes after.sink.bytes) same does
+
+  headline_of : (command : Command) → Does command → IfSome (replayed_by command before.trace.bytes) (IsHeadlineOf tells state before after status)
+  headline_of (Solo volume) does = tt
+  headline_of Format does = tt
+  headline_of (Replay options) does = runs_headline tells state (options_as options) _ _ _ _ _ _ _ _ _ _ _ does
+  headline_of Check does = tt
+  headline_of Dump does = tt
+  headline_of (Gen what) does = tt
+  headline_of (Soak what options) does = runs_headline tells state (options_as options) _ _ _ _ _ _ _ _ _ _ _ does
+  headline_of WhatIf does = tt
+
+  account_of : (command : Command) → Does command → IfSome (replayed_by command before.trace.bytes) (IsAccountOf tells state before after status)
+  account_of (Solo volume) does = tt
+  account_of Format does = tt
+  account_of (Replay options) does = runs_account tells state (options_as options) _ _ _ _ _ _ _ _ _ _ _ does
+  account_of Check does = tt
+  account_of Dump does = tt
+  account_of (Gen what) does = tt
+  account_of (Soak what options) does = runs_account tells state (options_as options) _ _ _ _ _ _ _ _ _ _ _ does
+  account_of WhatIf does = tt
+
+  replay_of : (command : Command) → Does command → IfSome (replayed_by command before.trace.bytes) (IsReplayOf tells state before after status)
+  replay_of (Solo volume) does = tt
+  replay_of Format does = tt
+  replay_of (Replay options) does = does
+  replay_of Check does = tt
+  replay_of Dump does = tt
+  replay_of (Gen what) does = tt
+  replay_of (Soak what options) does = does
+  replay_of WhatIf does = tt
+
+  look_of : (command : Command) → Does command → IfSome (looked_at_by command) (IsLookFor tells state before after status)
+  look_of (Solo volume) does = tt
+  look_of Format does = tt
+  look_of (Replay options) does = tt
+  look_of Check does = does
+  look_of Dump does = does
+  look_of (Gen what) does = tt
+  look_of (Soak what options) does = tt
+  look_of WhatIf does = tt
+
+  -- ---- .. where the configuration is none
+
+  gen_unconfigured : (what : Generated) → IsListingOf before after status what → (bytes : List ℕ) → before.config.bytes ≡ Some bytes → HasNoConfig (Some bytes) → TellsNoConfig status
+  gen_unconfigured what run bytes told none = elim (wanted_or_sink run.text run.wanted status _ _ run.ends) [
+    | inr seven ↦ inr (inl seven)
+    | inl same ↦ elim run.allowed [
+      | inl listed ↦ absurd (never_had _ bytes told none listed.config listed.has)
+      | inr (inl cut) ↦ inr (inr (inr (same ∙ cut.memory)))
+      | inr (inr line) ↦ of_unread _ bytes told none _ _ run.text run.wanted status line same
+    ]
+  ]
+
+  format_unconfigured : IsFormat before after status → (bytes : List ℕ) → before.config.bytes ≡ Some bytes → HasNoConfig (Some bytes) → TellsNoConfig status
+  format_unconfigured run bytes told none = elim (wanted_or_sink run.text run.wanted status _ _ run.ends) [
+    | inr seven ↦ inr (inl seven)
+    | inl same ↦ elim run.allowed [
+      | inl whole ↦ absurd (never_had _ bytes told none whole.config whole.has)
+      | inr (inl failed) ↦ absurd (never_had _ bytes told none failed.config failed.has)
+      | inr (inr (inl cut)) ↦ inr (inr (inr (same ∙ cut.memory)))
+      | inr (inr (inr untouched)) ↦ of_unread _ bytes told none _ _ run.text run.wanted status untouched.line_ same
+    ]
+  ]
+
+  look_unconfigured : (what : Asked) → IsLookFor tells state before after status what → (bytes : List ℕ) → before.config.bytes ≡ Some bytes → HasNoConfig (Some bytes) → TellsNoConfig status
+  look_unconfigured what run bytes told none = elim (wanted_or_sink run.text run.wanted status _ _ run.ends) [
+    | inr seven ↦ inr (inl seven)
+    | inl same ↦ elim run.allowed [
+      | inl look ↦ absurd (never_had _ bytes told none look.config look.has)
+      | inr (inl cut) ↦ inr (inr (inr (same ∙ cut.memory)))
+      | inr (inr untouched) ↦ of_unread _ bytes told none _ _ run.text run.wanted status untouched.line_ same
+    ]
+  ]
+
+  replay_unconfigured : (how : _) → IsReplayOf tells state before after status how → (bytes : List ℕ) → before.config.bytes ≡ Some bytes → HasNoConfig (Some bytes) → TellsNoConfig status
+  replay_unconfigured (how, start) (inl run) bytes told none = absurd (never_had _ bytes told none run.config run.has)
+  replay_unconfigured (how, start) (inr unread) bytes told none = elim (wanted_or_sink unread.text unread.wanted status _ _ unread.ends) [
+    | inr seven ↦ inr (inl seven)
+    | inl same ↦ of_unread _ bytes told none _ _ unread.text unread.wanted status unread.untouched.line_ same
+  ]
+
+  comparison_unconfigured : IsComparisonOf before after status → (bytes : List ℕ) → before.config.bytes ≡ Some bytes → HasNoConfig (Some bytes) → TellsNoConfig status
+  comparison_unconfigured (inl run) bytes told none = absurd (never_had _ bytes told none run.config run.has)
+  comparison_unconfigured (inr unread) bytes told none = elim (wanted_or_sink unread.text unread.wanted status _ _ unread.ends) [
+    | inr seven ↦ inr (inl seven)
+    | inl same ↦ of_unread _ bytes told none _ _ unread.text unread.wanted status unread.line_ same
+  ]
+
+  unconfigured_of : (command : Command) → Does command → IsUnconfigured command before → TellsNoConfig status
+  unconfigured_of (Solo volume) does (uses, bytes, told, none) = absurd (true≢false (sym uses))
+  unconfigured_of Format does (uses, bytes, told, none) = format_unconfigured does bytes told none
+  unconfigured_of (Replay options) does (uses, bytes, told, none) = replay_unconfigured _ does bytes told none
+  unconfigured_of Check does (uses, bytes, told, none) = look_unconfigured asked.Check does bytes told none
+  unconfigured_of Dump does (uses, bytes, told, none) = look_unconfigured asked.Dump does bytes told none
+  unconfigured_of (Gen what) does (uses, bytes, told, none) = gen_unconfigured what does bytes told none
+  unconfigured_of (Soak what options) does (uses, bytes, told, none) = replay_unconfigured _ does bytes told none
+  unconfigured_of WhatIf does (uses, bytes, told, none) = comparison_unconfigured does bytes told none
+
+  -- ---- The whole
+
+  abbrev Completes : Command → Type 0
+  Completes command = ReadsInOrder tells command before → NothingFailed command before after → IsDoneOrMemory status
+
+  completes_alike : (own volume : Volume) → target_of own ≡ target_of volume → Completes (Solo own) → Completes (Solo volume)
+  completes_alike own volume same completes = λ order calm. completes order (record { config = calm.config; trace = calm.trace; bay = calm.bay; sink = calm.sink })
+
+  pub promise : ((command : Command) → IsCommand words command → Does command)
+      → (NoCommand words → EndsWith (codes "fault 1 words\n") 1 status before.sink.bytes after.sink.bytes ⊎ EndsWith (codes "fault 9 memory\n") 9 status before.sink.bytes after.sink.bytes)
+      → IsCause tells state words before after status → (before.sink.faults < after.sink.faults → status ≡ 7) → LeavesUnused words before after → ((command : Command) → IsCommand words command → Completes command)
+      → Run tells state words before after status
+  promise does refused cause sink unused complete = record {
+    headline = λ command is. headline_of command (does command is);
+    account = λ command is. account_of command (does command is);
+    replayed = λ command is. replay_of command (does command is);
+    looked = λ command is. look_of command (does command is);
+    formatted = λ is. does Format is;
+    generated = λ what is. does (Gen what) is;
+    compared = λ is. does WhatIf is;
+    solo = λ volume is. does (Solo volume) is;
+    refused = refused;
+    cause = cause;
+    sink = sink;
+    config = λ command is. unconfigured_of command (does command is);
+    unused = unused;
+    complete = complete;
+  }
+
+  -- the words are a command, which was read
+  pub of_command : (read : Command) → IsCommand words read → Does read → IsCause tells state words before after status → (before.sink.faults < after.sink.faults → status ≡ 7) → LeavesUnused words before after
+      → (ReadsInOrder tells read before → NothingFailed read before after → IsDoneOrMemory status) → Run tells state words before after status
+  of_command read is does cause sink unused complete = promise
+      (λ command so. of_asked Does does_alike words read command is so does)
+      (λ none. absurd (none read is)) cause sink unused
+      (λ command so. of_asked Completes completes_alike words read command is so complete)
+
+  -- they are none
+  pub of_none : NoCommand words → EndsWith (codes "fault 1 words\n") 1 status before.sink.bytes after.sink.bytes → (status ≡ 7 → Rose before.sink.faults after.sink.faults)
+      → (before.sink.faults < after.sink.faults → status ≡ 7) → LeavesUnused words before after → Run tells state words before after status
+  of_none none ends rose sink unused = promise (λ command is. absurd (none command is)) (λ _. inl ends)
+      (elim (wanted_or_sink _ 1 status _ _ ends) [
+        | inl one ↦ at_status tells state words before after 1 status one (row.no_command none)
+        | inr seven ↦ at_status tells state words before after 7 status seven (row.sink_failed (rose seven))
+      ]) sink unused (λ command is. absurd (none command is))
+
+  -- there was no memory to read them
+  pub of_unread_words : ((command : Command) → Does command) → EndsWith (codes "fault 9 memory\n") 9 status before.sink.bytes after.sink.bytes → (status ≡ 7 → Rose before.sink.faults after.sink.faults)
+      → (before.sink.faults < after.sink.faults → status ≡ 7) → LeavesUnused words before after → Run tells state words before after status
+  of_unread_words does ends rose sink unused = promise (λ command is. does command) (λ _. inr ends)
+      (elim (wanted_or_sink _ 9 status _ _ ends) [
+        | inl nine ↦ at_status tells state words before after 9 status nine row.no_memory
+        | inr seven ↦ at_status tells state words before after 7 status seven (row.sink_failed (rose seven))
+      ]) sink unused
+      (λ command is order calm. elim (wanted_or_sink _ 9 status _ _ ends) [
+        | inl nine ↦ inr nine
+        | inr seven ↦ absurd (calm.sink (rose seven))
+      ])

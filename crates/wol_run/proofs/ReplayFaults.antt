@@ -1,0 +1,117 @@
+-- Which faults a window and a run of a trace can end with, and their statuses.
+use Rattle.std.proofs.Common.{◌≡◌, ◌≢◌, ℕ, List, Some, inl, inr, refl, sym, subst, arith}
+use Rattle.std.specs.Bool.{⊤}
+use Rattle.msr_trace.specs.declared.format.TraceFault.{TraceFault}
+use Rattle.msr_trace.specs.declared.format.TraceFault.TheVariants as trace
+use Rattle.report.specs.Faults.{status_of}
+use Rattle.report.specs.Troubles.{trouble_status}
+use Rattle.report.specs.declared.fault.Fault.{Fault}
+use Rattle.report.specs.declared.fault.Fault.TheVariants as fault
+use Rattle.report.specs.declared.trouble.Trouble.{Trouble}
+use Rattle.report.specs.declared.trouble.Trouble.TheVariants as trouble
+use Rattle.trace_windows.specs.declared.request.Request.{Request}
+use Rattle.request_workers.specs.declared.request.Window.{Window}
+use Rattle.replay.specs.Endings.{fault_of_window}
+use Rattle.replay.specs.Stops.{fault_of_trace}
+use Rattle.wol_run.proofs.WindowFaults.{ends_window}
+
+-- ---- Faults of windows
+
+-- what a window ends a run with: a volume isn't in order, or has no version left, or there was no memory
+abbrev pub IsOfWindow : Fault → Type 0
+IsOfWindow fault.Words = ⊥
+IsOfWindow (fault.Config why) = ⊥
+IsOfWindow (fault.Line line why) = ⊥
+IsOfWindow (fault.Volume volume t) = ⊤
+IsOfWindow fault.ConfigSource = ⊥
+IsOfWindow fault.TraceSource = ⊥
+IsOfWindow fault.Memory = ⊤
+IsOfWindow fault.Lines = ⊥
+IsOfWindow (fault.Versions volume) = ⊤
+
+pub of_window : (rs : List Request) (w : Window) (f : Fault) → fault_of_window rs w ≡ Some f → IsOfWindow f
+of_window rs w f is = elim (ends_window rs w f is) [
+  | inl ((volume, t, same), four) ↦ subst IsOfWindow (sym same) tt
+  | inr (inl same) ↦ subst IsOfWindow (sym same) tt
+  | inr (inr (volume, same)) ↦ subst IsOfWindow (sym same) tt
+]
+
+-- ---- Faults of runs
+
+-- what a run ends with: what a window ends it with, or no further line
+abbrev pub CanEnd : Fault → Type 0
+CanEnd fault.Words = ⊥
+CanEnd (fault.Config why) = ⊥
+CanEnd (fault.Line line why) = ⊤
+CanEnd (fault.Volume volume t) = ⊤
+CanEnd fault.ConfigSource = ⊥
+CanEnd fault.TraceSource = ⊤
+CanEnd fault.Memory = ⊤
+CanEnd fault.Lines = ⊤
+CanEnd (fault.Versions volume) = ⊤
+
+pub window_can : (f : Fault) → IsOfWindow f → CanEnd f
+window_can fault.Words h = h
+window_can (fault.Config why) h = h
+window_can (fault.Line line why) h = tt
+window_can (fault.Volume volume t) h = tt
+window_can fault.ConfigSource h = h
+window_can fault.TraceSource h = tt
+window_can fault.Memory h = tt
+window_can fault.Lines h = tt
+window_can (fault.Versions volume) h = tt
+
+pub trace_can : (e : TraceFault) → CanEnd (fault_of_trace e)
+trace_can trace.Source = tt
+trace_can (trace.Bad line why) = tt
+trace_can trace.Spent = tt
+trace_can trace.NoMemory = tt
+
+-- the status of a trouble is 4, 5, 6 or 12
+other_status : (t : Trouble) (k : ℕ) → (k ≢ 4) → (k ≢ 5) → (k ≢ 6) → (k ≢ 12) → trouble_status t ≢ k
+other_status trouble.Absent k four five six twelve is = twelve (sym is)
+other_status (trouble.Length bytes) k four five six twelve is = five (sym is)
+other_status trouble.LabelDiffers k four five six twelve is = five (sym is)
+other_status (trouble.Damaged volume block) k four five six twelve is = five (sym is)
+other_status (trouble.Twins v first w second) k four five six twelve is = five (sym is)
+other_status (trouble.OutsideView logger segment) k four five six twelve is = five (sym is)
+other_status (trouble.LoggerMissing id) k four five six twelve is = six (sym is)
+other_status trouble.Bay k four five six twelve is = four (sym is)
+other_status trouble.Label k four five six twelve is = four (sym is)
+other_status trouble.Home k four five six twelve is = four (sym is)
+other_status (trouble.Segment logger index) k four five six twelve is = four (sym is)
+
+-- of what ends a run by a window the status is neither 3 nor 10
+pub not_three : (f : Fault) → IsOfWindow f → status_of f ≢ 3
+not_three fault.Words h is = h
+not_three (fault.Config why) h is = h
+not_three (fault.Line line why) h is = h
+not_three (fault.Volume volume t) h is = other_status t 3 (λ e. omega (arith, e)) (λ e. omega (arith, e)) (λ e. omega (arith, e)) (λ e. omega (arith, e)) is
+not_three fault.ConfigSource h is = h
+not_three fault.TraceSource h is = h
+not_three fault.Memory h is = omega (arith, is)
+not_three fault.Lines h is = h
+not_three (fault.Versions volume) h is = omega (arith, is)
+
+pub not_ten : (f : Fault) → IsOfWindow f → status_of f ≢ 10
+not_ten fault.Words h is = h
+not_ten (fault.Config why) h is = h
+not_ten (fault.Line line why) h is = h
+not_ten (fault.Volume volume t) h is = other_status t 10 (λ e. omega (arith, e)) (λ e. omega (arith, e)) (λ e. omega (arith, e)) (λ e. omega (arith, e)) is
+not_ten fault.ConfigSource h is = h
+not_ten fault.TraceSource h is = h
+not_ten fault.Memory h is = omega (arith, is)
+not_ten fault.Lines h is = h
+not_ten (fault.Versions volume) h is = omega (arith, is)
+
+-- a run that ends with status 8 ends by the source of its trace
+pub is_source : (f : Fault) → CanEnd f → status_of f ≡ 8 → f ≡ fault.TraceSource
+is_source fault.Words h is = absurd h
+is_source (fault.Config why) h is = absurd h
+is_source (fault.Line line why) h is = absurd (omega (arith, is))
+is_source (fault.Volume volume t) h is = absurd (other_status t 8 (λ e. omega (arith, e)) (λ e. omega (arith, e)) (λ e. omega (arith, e)) (λ e. omega (arith, e)) is)
+is_source fault.ConfigSource h is = absurd h
+is_source fault.TraceSource h is = refl
+is_source fault.Memory h is = absurd (omega (arith, is))
+is_source fault.Lines h is = absurd (omega (arith, is))
+is_source (fault.Versions volume) h is = absurd (omega (arith, is))

@@ -1,0 +1,27 @@
+use Rattle.std.proofs.Common.{◌≡◌, inl, inr, refl, rules}
+use Rattle.wol_run.proofs.Completing.{complete_unread, may_replay}
+use Rattle.wol_run.proofs.ReplayEndings.{unreplayed}
+use Rattle.wol_run.proofs.replaying.replay.Goals as goal
+
+pub returns-in-Err-clause-content : goal.returns-in-Err-clause-content
+returns-in-Err-clause-content g c = unreplayed _ _ _ _ _ _ _ _ _ _ _ _ _ c.in-Err.fault c.in-Err.ensures.err refl c.tell_fault.ensures.content
+
+pub returns-clause-content : goal.returns-clause-content
+returns-clause-content g c =
+    let same : c.replay_lines-status.result.1.source.now ≡ c.trace-1.given.0 = search rules in
+    inl (rw (c.new-lines.ensures, same) at (c.replay_lines-status.ensures.content _ c.in-Ok.ensures.ok))
+
+pub returns-clause-source : goal.returns-clause-source
+returns-clause-source g c eight =
+    let same : c.replay_lines-status.result.1.source.now ≡ c.trace-1.given.0 = search rules in
+    inr (rw (c.new-lines.ensures, same) at (c.replay_lines-status.ensures.source eight))
+
+pub returns-in-Err-clause-complete : goal.returns-in-Err-clause-complete
+returns-in-Err-clause-complete g c lines images versions good configured bay source trace sink =
+    complete_unread _ _ _ c.tell_fault.result _ _ c.in-Err.fault c.in-Err.ensures.err configured source (λ seven. sink (c.tell_fault.ensures.cause seven)) c.tell_fault.ensures.content
+
+pub returns-clause-complete : goal.returns-clause-complete
+returns-clause-complete g c lines images versions good configured bay source trace sink =
+    let same : c.replay_lines-status.result.1.source.now ≡ c.trace-1.given.0 = search rules in
+    (rw c.new-lines.ensures at c.replay_lines-status.ensures.complete)
+    (may_replay _ c.in-Ok.config lines _ _ refl refl good _ _ _ _ sink (λ rose. trace (rw same at rose)) _ _ c.in-Ok.ensures.ok _ _ images versions bay)

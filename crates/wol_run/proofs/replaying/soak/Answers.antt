@@ -1,0 +1,25 @@
+use Rattle.std.proofs.Common.{inl}
+use Rattle.replay.specs.declared.given.Given.TheVariants.{Generated}
+use Rattle.wol_run.proofs.Completing.{complete_unread, may_soak}
+use Rattle.wol_run.proofs.ReplayEndings.{unreplayed}
+use Rattle.wol_run.proofs.SeenLines.{left_of_seed, seed_calm}
+use Rattle.wol_run.proofs.replaying.soak.Goals as goal
+
+pub returns-in-Err-clause-content : goal.returns-in-Err-clause-content
+returns-in-Err-clause-content g c rest = unreplayed _ _ _ _ _ _ _ _ _ _ _ _ _ c.in-Err.fault c.in-Err.ensures.err tt c.tell_fault.ensures.content
+
+pub returns-clause-content : goal.returns-clause-content
+returns-clause-content g c rest =
+    inl (rw c.new.ensures at (c.replay_given.ensures.content _ rest c.in-Ok.ensures.ok (left_of_seed _ c.replay_given.new.given rest c.replay_given.ensures.seed_kept)))
+
+pub returns-clause-source : goal.returns-clause-source
+returns-clause-source g c eight = absurd (seed_calm _ (Generated c.new.result c.args.asked.lines) c.replay_given.new.given (λ is. is) c.replay_given.ensures.seed_kept (c.replay_given.ensures.source eight))
+
+pub returns-in-Err-clause-complete : goal.returns-in-Err-clause-complete
+returns-in-Err-clause-complete g c images versions configured bay source sink =
+    complete_unread _ _ _ c.tell_fault.result _ _ c.in-Err.fault c.in-Err.ensures.err configured source (λ seven. sink (c.tell_fault.ensures.cause seven)) c.tell_fault.ensures.content
+
+pub returns-clause-complete : goal.returns-clause-complete
+returns-clause-complete g c images versions configured bay source sink =
+    (rw c.new.ensures at c.replay_given.ensures.complete)
+    (may_soak _ _ c.in-Ok.config _ c.in-Ok.ensures.ok c.args.asked c.replay_given.new.given _ _ _ _ _ _ (seed_calm _ (Generated c.new.result c.args.asked.lines) c.replay_given.new.given (λ is. is) c.replay_given.ensures.seed_kept) c.replay_given.ensures.within images versions bay sink)

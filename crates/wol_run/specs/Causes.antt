@@ -1,0 +1,113 @@
+-- Why the program ended with its status: a row for each, in the order of their numbers.
+use Rattle.std.specs.Prelude.{◌≡◌, ◌≤◌, ◌<◌, ◌⊎◌, ◌+◌, ◌^◌, ◌++◌, ℕ, Bool, true, List, Option, None, Some, IfSome, IsTrue, slice_get}
+use Rattle.std.specs.Io.KnownBytes.{IsAtEnd}
+use Rattle.wol_disk.specs.Disk.{Rose, State}
+use Rattle.wol_model.specs.Trace.{TraceLine, requests}
+use Rattle.wol_promise.specs.Manager.{Base}
+use Rattle.wol_config.specs.declared.config.Config.{Config}
+use Rattle.wol_config.specs.declared.config.VolumeConf.{VolumeConf}
+use Rattle.volume_images.specs.Left.{AreNamedApart, IsTold}
+use Rattle.volume_images.specs.Volumes.{images_read}
+use Rattle.rack.specs.Opens.{RefusesVolume}
+use Rattle.rack.specs.Owners.{IsBegun}
+use Rattle.rack.specs.declared.rack.ImageRest.{ImageRest}
+use Rattle.rack.specs.declared.volume_fault.VolumeFault.{VolumeFault}
+use Rattle.report.specs.Troubles.{trouble_status}
+use Rattle.troubles.specs.Troubles.{trouble_of}
+use Rattle.trace_gen.specs.Generated.{targets_of}
+use Rattle.trace_windows.specs.Requests.{most_of}
+use Rattle.replay.specs.Completes.{writes_to}
+use Rattle.replay.specs.Givens.{HasGiven}
+use Rattle.replay.specs.NotOpened.{IsOpened}
+use Rattle.replay.specs.declared.session.Options.{Options as Serving}
+use Rattle.command_words.specs.Commands.{IsCommand, NoCommand}
+use Rattle.command_words.specs.declared.command.Command.{Command}
+use Rattle.command_words.specs.declared.command.Command.TheVariants.{Replay, Soak}
+use Rattle.wol_run.specs.Commands.{uses_bay, uses_config, uses_trace}
+use Rattle.wol_run.specs.Outside.{Outside}
+use Rattle.wol_run.specs.Replaying.{GivenLines, lines_of, options_as, trace_of}
+use Rattle.wol_run.specs.Settings.{HasConfig, HasNoConfig}
+use Rattle.wol_run.specs.Tops.{HasBadLine, HasMoreLines}
+
+-- the words ask for a command that uses this
+pub record AskFor (words : List (List ℕ)) (uses : Command → Bool) : Type 0 where
+  pub command : Command
+  pub is : IsCommand words command
+  pub does : uses command ≡ true
+
+-- The first volume of the configuration that isn't open was refused for a cause of this status.
+-- Those before it were opened, of their own images and of those of the loggers of their views.
+pub record IsClosedFor {D : Type 0} (tells : Bool) (state : D → State) (before after : Outside)
+    (status : ℕ) : Type 0 where
+  pub config : Config
+  pub has : HasConfig before.config.bytes config
+  pub volume : ℕ
+  pub conf : VolumeConf
+  pub conf_is : slice_get config.volumes.items volume ≡ Some conf
+  pub out : List (Option (ImageRest D))
+  pub fault : VolumeFault
+  pub refused : RefusesVolume tells state config out before.bay after.bay volume conf fault
+  pub status_is : trouble_status (trouble_of fault) ≡ status
+  pub first : (j : ℕ) → j < volume → IsTrue tells
+      → IfSome before.bay.told (λ images. AreNamedApart images → IsOpened config out images j)
+
+-- how a command replays lines on the volumes, and which; none of another command
+abbrev pub replayed_by : Command → (trace : Option (List ℕ)) → Option (Serving × GivenLines)
+replayed_by (Replay options) trace = Some (options_as options, trace_of trace)
+replayed_by (Soak asked options) trace = Some (options_as options, lines_of asked)
+replayed_by command trace = None
+
+-- A volume had no version left for a write: its writes that went to logs, fewer than are asked of
+-- it, took all versions from the next one at opening on. Or a call of the bay failed.
+pub record HasNoVersion (tells : Bool) (words : List (List ℕ)) (before after : Outside) : Type 0 where
+  pub config : Config
+  pub has : HasConfig before.config.bytes config
+  pub command : Command
+  pub is : IsCommand words command
+  pub how : Serving
+  pub start : GivenLines
+  pub replays : replayed_by command before.trace.bytes ≡ Some (how, start)
+  pub now : GivenLines
+  pub lines : List (Option TraceLine)
+  pub more : List (Option TraceLine)
+  pub given : HasGiven (λ bytes. bytes) (targets_of config) start now (lines ++ more)
+  pub base : Base
+  pub begun : IsTrue tells
+      → IsTold (λ entry exit. IsBegun config (images_read config entry) base)
+      before.bay.told after.bay.told
+  pub logged : ℕ
+  pub few : logged < writes_to base.owner (requests (most_of config) (targets_of config) lines)
+  pub spent : (2 ^ 63 ≤ base.next + logged) ⊎ Rose before.bay.faults after.bay.faults
+
+module _ {D : Type 0} (tells : Bool) (state : D → State) (words : List (List ℕ))
+    (before after : Outside) where
+  pub data IsCause : (status : ℕ) → Type 0 where
+    -- 0: the command was done; a trace that it uses was read to its end
+    done : (command : Command) → IsCommand words command
+        → (AskFor words uses_trace → IsAtEnd after.trace.bytes) → IsCause 0
+    -- 1: the words ask for no command
+    no_command : NoCommand words → IsCause 1
+    -- 2: the configuration is needed, and its bytes are none
+    no_config : AskFor words uses_config → HasNoConfig before.config.bytes → IsCause 2
+    -- 3: a line is no line of a trace
+    bad_line : AskFor words uses_trace → HasBadLine before.trace.bytes → IsCause 3
+    -- 4: a call of the bay or of a part of an image failed
+    part_failed : AskFor words uses_bay → Rose before.bay.faults after.bay.faults → IsCause 4
+    -- 5: an image has another length or label, is damaged, has a record twice, or has a segment of
+    -- a volume whose view doesn't name it
+    image : AskFor words uses_config → IsClosedFor tells state before after 5 → IsCause 5
+    -- 6: a view names a logger that isn't configured or whose image was refused
+    no_logger : AskFor words uses_config → IsClosedFor tells state before after 6 → IsCause 6
+    -- 7: a call of the sink failed
+    sink_failed : Rose before.sink.faults after.sink.faults → IsCause 7
+    -- 8: a call of the source of the configuration or of the trace failed
+    source_failed : Rose before.config.faults after.config.faults
+        ⊎ Rose before.trace.faults after.trace.faults → IsCause 8
+    -- 9: there was no memory
+    no_memory : IsCause 9
+    -- 10: there are more than 2^32 lines
+    more_lines : AskFor words uses_trace → HasMoreLines before.trace.bytes → IsCause 10
+    -- 11: a volume had no version left for a write
+    no_version : AskFor words uses_config → HasNoVersion tells words before after → IsCause 11
+    -- 12: the bay has no image of a volume's name
+    no_image : AskFor words uses_config → IsClosedFor tells state before after 12 → IsCause 12

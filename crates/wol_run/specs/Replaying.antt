@@ -1,0 +1,95 @@
+-- What replaying a trace on the volumes of the configuration leaves and prints, and its exit status.
+use Rattle.std.specs.Prelude.{◌≡◌, ℕ, ◌⊎◌, ⊤, Bool, true, List, [], codes, Option, Result, Ok, Err}
+use Rattle.wol_disk.specs.Disk.{State}
+use Rattle.wol_bay.specs.Bay.{BayState}
+use Rattle.wol_config.specs.declared.config.Config.{Config}
+use Rattle.report.specs.Faults.{fault_text, status_of}
+use Rattle.report.specs.Names.{printed_names}
+use Rattle.replay.specs.Replays.{Replayed}
+use Rattle.replay.specs.declared.given.Given.{Given}
+use Rattle.replay.specs.declared.given.Given.TheVariants as given
+use Rattle.replay.specs.declared.session.Options.{Options as Serving}
+use Rattle.replay.specs.declared.stop.Stop.{Stop}
+use Rattle.replay.specs.declared.stop.Stop.TheVariants as stop
+use Rattle.command_words.specs.declared.command.Generated.{Generated}
+use Rattle.command_words.specs.declared.command.Options.{Options}
+use Rattle.command_words.specs.declared.command.Mode.{Mode}
+use Rattle.command_words.specs.declared.command.Mode.TheVariants as mode
+use Rattle.request_workers.specs.declared.request.Reclaim.{Reclaim}
+use Rattle.request_workers.specs.declared.request.Reclaim.TheVariants as reclaim
+use Rattle.request_workers.specs.declared.request.Sharing.TheVariants.{WherePays}
+use Rattle.wol_run.specs.Formatting.{IsUntouched}
+use Rattle.wol_run.specs.Settings.{HasConfig}
+use Rattle.wol_run.specs.Tops.{EndsWith}
+
+-- lines of a source that is seen as the bytes that are left of it, or of a seed
+abbrev pub GivenLines : Type 0
+GivenLines = Given (Option (List ℕ))
+
+-- a trace with these bytes, of which no line was read
+abbrev pub trace_of : Option (List ℕ) → GivenLines
+trace_of left = given.Trace (record { source = left; held = []; given = 0; live = true })
+
+-- the lines of a seed that are asked for, of which none was given
+abbrev pub lines_of : Generated → GivenLines
+lines_of asked = given.Generated (record { seed = asked.seed; given = 0 }) asked.lines
+
+-- lines of any source are seen so
+abbrev pub seen : {S : Type 0} → (S → Option (List ℕ)) → Given S → GivenLines
+seen left (given.Trace r) = given.Trace (record { source = left r.source; held = r.held; given = r.given; live = r.live })
+seen left (given.Generated g count) = given.Generated g count
+
+-- they come of a source
+abbrev pub HasSource : {S : Type 0} → Given S → Type 0
+HasSource (given.Trace r) = ⊤
+HasSource (given.Generated g count) = ⊥
+
+-- these bytes are left of the source
+abbrev pub HasLeft : GivenLines → Option (List ℕ) → Type 0
+HasLeft (given.Trace r) left = r.source ≡ left
+HasLeft (given.Generated g count) left = ⊤
+
+-- when windows reclaim, as it is asked for
+abbrev pub reclaim_of : Mode → Reclaim
+reclaim_of mode.Off = reclaim.Off
+reclaim_of mode.Between = reclaim.Between
+reclaim_of mode.Beside = reclaim.Beside
+
+-- the options of a replay, as they are asked for
+abbrev pub options_as : Options → Serving
+options_as options = record { workers = options.workers; sharing = WherePays; reclaim = reclaim_of options.reclaim; each = options.each }
+
+-- Behind what a replay printed nothing more is written at its end and where the sink failed; else the line of its fault, or, where there
+-- was no memory for that, the line of want of memory.
+abbrev pub EndsReplay : {T : Type 0} → Config → Result T Stop → (status : ℕ) → (printed new : Option (List ℕ)) → Type 0
+EndsReplay config (Ok done) status printed new = (status ≡ 0) × (new ≡ printed)
+EndsReplay config (Err stop.Sink) status printed new = (status ≡ 7) × (new ≡ printed)
+EndsReplay config (Err (stop.Fault f)) status printed new =
+    EndsWith (fault_text (printed_names config.volumes.items) f) (status_of f) status printed new ⊎ EndsWith (codes "fault 9 memory\n") 9 status printed new
+
+-- the configuration was had, and these lines were replayed on its volumes
+pub record IsReplay {D : Type 0} (tells : Bool) (state : D → State) (options : Serving) (start : GivenLines) (left left_of_trace : Option (List ℕ)) (old new : BayState) (sink status : ℕ) (printed printed' : Option (List ℕ)) : Type 0 where
+  pub config : Config
+  pub has : HasConfig left config
+  pub now : GivenLines
+  pub rest : HasLeft now left_of_trace
+  pub result : Result (Unit {0}) Stop
+  pub sink_then : ℕ
+  pub printed_then : Option (List ℕ)
+  pub replayed : Replayed tells state (λ bytes. bytes) config options start now old new sink sink_then printed printed_then result
+  pub ends : EndsReplay config result status printed_then printed'
+
+-- the configuration wasn't had: the text says why, and the bay and the trace are as they were
+pub record IsUnreplayed (start : GivenLines) (left left_of_trace : Option (List ℕ)) (faults faults' : ℕ) (old new : BayState) (status : ℕ) (printed printed' : Option (List ℕ)) : Type 0 where
+  pub text : List ℕ
+  pub wanted : ℕ
+  pub untouched : IsUntouched left faults faults' old new text wanted
+  pub rest : HasLeft start left_of_trace
+  pub ends : EndsWith text wanted status printed printed'
+
+-- a run of `replay` or `soak`, by the bytes of the configuration, its count of faults, the bytes that are left of the trace, the bay,
+-- the sink's count of faults at entry, the status, and what the sink took
+abbrev pub RunsReplay : {D : Type 0} → (tells : Bool) → (D → State) → (options : Serving) → (start : GivenLines) → (left : Option (List ℕ)) → (faults faults' : ℕ) → (left_of_trace : Option (List ℕ)) → (old new : BayState) → (sink status : ℕ)
+    → (printed printed' : Option (List ℕ)) → Type 0
+RunsReplay tells state options start left faults faults' left_of_trace old new sink status printed printed' =
+    IsReplay tells state options start left left_of_trace old new sink status printed printed' ⊎ IsUnreplayed start left left_of_trace faults faults' old new status printed printed'

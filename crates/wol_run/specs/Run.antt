@@ -1,0 +1,166 @@
+-- What a run of the program promises, by the words, by what was outside before and after it, and by
+-- its status.
+use Rattle.std.specs.Prelude.{◌≡◌, ◌<◌, ◌⊎◌, ℕ, Bool, true, List, Option, None, Some, IfSome, codes}
+use Rattle.wol_disk.specs.Disk.{State}
+use Rattle.solo.specs.Volume.{target_of}
+use Rattle.solo.specs.declared.volume.Volume.{Volume}
+use Rattle.inspection.specs.declared.asked.Asked.{Asked}
+use Rattle.inspection.specs.declared.asked.Asked.TheVariants as asked
+use Rattle.replay.specs.declared.session.Options.{Options as Serving}
+use Rattle.command_words.specs.Commands.{IsCommand, NoCommand}
+use Rattle.command_words.specs.declared.command.Command.{Command}
+use Rattle.command_words.specs.declared.command.Command.TheVariants.{Check, Dump, Format, Gen, Replay, Soak, Solo, WhatIf}
+use Rattle.command_words.specs.declared.command.Generated.{Generated}
+use Rattle.wol_run.specs.Accounted.{RunsAccount}
+use Rattle.wol_run.specs.Causes.{IsCause, replayed_by}
+use Rattle.wol_run.specs.Commands.{uses_config}
+use Rattle.wol_run.specs.Comparing.{RunsWhatIf}
+use Rattle.wol_run.specs.Completing.{HasSoundImages, HaveVersions, IsGoodTrace, seed_lines}
+use Rattle.wol_run.specs.Formatting.{RunsFormat}
+use Rattle.wol_run.specs.Generating.{RunsGen}
+use Rattle.wol_run.specs.Headlined.{RunsHeadline}
+use Rattle.wol_run.specs.Inspecting.{RunsLook}
+use Rattle.wol_run.specs.Outside.{LeavesUnused, NothingFailed, Outside}
+use Rattle.wol_run.specs.Replaying.{GivenLines, RunsReplay, trace_of}
+use Rattle.wol_run.specs.Settings.{HasNoConfig, IsConfigured}
+use Rattle.wol_run.specs.Tops.{EndsWith, IsDoneOrMemory, IsRunnable, RunsSolo}
+
+-- what a command looks at the volumes for; none of another command
+abbrev pub looked_at_by : Command → Option Asked
+looked_at_by Check = Some asked.Check
+looked_at_by Dump = Some asked.Dump
+looked_at_by command = None
+
+-- ---- What each command does, of what is outside
+
+module _ {D : Type 0} (tells : Bool) (state : D → State) (before after : Outside) (status : ℕ) where
+  -- the headline of lines that were replayed so
+  abbrev pub IsHeadlineOf : Serving × GivenLines → Type 0
+  IsHeadlineOf (how, start) =
+      RunsHeadline tells state how.each start before.config.bytes
+      before.config.faults after.config.faults after.trace.bytes
+      before.bay after.bay status before.sink.bytes after.sink.bytes
+
+  -- the account of lines that were replayed so
+  abbrev pub IsAccountOf : Serving × GivenLines → Type 0
+  IsAccountOf (how, start) =
+      RunsAccount tells state how.reclaim start before.config.bytes
+      before.config.faults after.config.faults after.trace.bytes
+      before.bay after.bay status before.sink.bytes after.sink.bytes
+
+  -- lines were replayed so
+  abbrev pub IsReplayOf : Serving × GivenLines → Type 0
+  IsReplayOf (how, start) =
+      RunsReplay tells state how start before.config.bytes
+      before.config.faults after.config.faults after.trace.bytes
+      before.bay after.bay before.sink.faults status before.sink.bytes after.sink.bytes
+
+  -- the volumes were looked at
+  abbrev pub IsLookFor : Asked → Type 0
+  IsLookFor what =
+      RunsLook tells state what before.config.bytes before.config.faults after.config.faults
+      before.bay after.bay status before.sink.bytes after.sink.bytes
+
+-- the images were made anew
+abbrev pub IsFormat : (before after : Outside) → (status : ℕ) → Type 0
+IsFormat before after status =
+    RunsFormat before.config.bytes before.config.faults after.config.faults
+    before.bay after.bay status before.sink.bytes after.sink.bytes
+
+-- lines of a seed were printed
+abbrev pub IsListingOf : (before after : Outside) → (status : ℕ) → Generated → Type 0
+IsListingOf before after status what =
+    RunsGen what before.config.bytes before.config.faults after.config.faults status
+    before.sink.bytes after.sink.bytes
+
+-- the lines of one volume were run on an image of its own
+abbrev pub IsSoloOf : (before after : Outside) → (status : ℕ) → Volume → Type 0
+IsSoloOf before after status volume =
+    RunsSolo (target_of volume) before.trace.bytes after.trace.bytes before.bay.told after.bay.told
+    before.bay.faults after.bay.faults before.trace.faults after.trace.faults status
+    before.sink.bytes after.sink.bytes
+
+-- the policies were compared on the trace
+abbrev pub IsComparisonOf : (before after : Outside) → (status : ℕ) → Type 0
+IsComparisonOf before after status =
+    RunsWhatIf (trace_of before.trace.bytes) before.config.bytes
+    before.config.faults after.config.faults after.trace.bytes
+    before.sink.faults status before.sink.bytes after.sink.bytes
+
+-- ---- What a run needs
+
+-- the command needs a configuration, and the bytes that are told are none
+abbrev pub IsUnconfigured : Command → Outside → Type 0
+IsUnconfigured command before =
+    (uses_config command ≡ true) × (bytes : List ℕ)
+    × (before.config.bytes ≡ Some bytes) × HasNoConfig (Some bytes)
+
+-- what a command reads is in order
+abbrev pub ReadsInOrder : (tells : Bool) → Command → Outside → Type 0
+ReadsInOrder tells (Solo volume) before = IsRunnable before.trace.bytes
+ReadsInOrder tells (Gen what) before = IsConfigured before.config.bytes
+ReadsInOrder tells Format before = IsConfigured before.config.bytes
+ReadsInOrder tells Check before =
+    IsConfigured before.config.bytes × HasSoundImages tells before.config.bytes before.bay
+ReadsInOrder tells Dump before =
+    IsConfigured before.config.bytes × HasSoundImages tells before.config.bytes before.bay
+ReadsInOrder tells (Replay options) before =
+    IsConfigured before.config.bytes
+    × (images : HasSoundImages tells before.config.bytes before.bay)
+    × (lines : List _) × IsGoodTrace before.trace.bytes lines
+    × HaveVersions before.config.bytes images.entry (λ config. lines)
+ReadsInOrder tells (Soak what options) before =
+    IsConfigured before.config.bytes
+    × (images : HasSoundImages tells before.config.bytes before.bay)
+    × HaveVersions before.config.bytes images.entry (seed_lines what)
+ReadsInOrder tells WhatIf before =
+    IsConfigured before.config.bytes × (lines : List _) × IsGoodTrace before.trace.bytes lines
+
+-- ---- The whole
+
+pub record Run {D : Type 0} (tells : Bool) (state : D → State) (words : List (List ℕ))
+    (before after : Outside) (status : ℕ) : Type 0 where
+  -- replay, soak: each answered read gives every block's last acknowledged write in its volume's
+  -- one legal history, and wherever the disks stop, reopening gives what that acknowledged
+  pub headline : (command : Command) → IsCommand words command
+      → IfSome (replayed_by command before.trace.bytes)
+      (IsHeadlineOf tells state before after status)
+  -- replay, soak: each entry of a volume's history follows the rules of placing and reclaim, and
+  -- what the summary says is counted of these entries and of the disks' journals
+  pub account : (command : Command) → IsCommand words command
+      → IfSome (replayed_by command before.trace.bytes)
+      (IsAccountOf tells state before after status)
+  -- replay, soak: how many requests were answered, what was printed, what the images recover to,
+  -- and what the policy and the disks did
+  pub replayed : (command : Command) → IsCommand words command
+      → IfSome (replayed_by command before.trace.bytes)
+      (IsReplayOf tells state before after status)
+  -- check, dump: a line or more for each volume, by what its image and the others say as they read,
+  -- or by its first fault
+  pub looked : (command : Command) → IsCommand words command
+      → IfSome (looked_at_by command) (IsLookFor tells state before after status)
+  -- format: each image is as it was, has no label or is whole; at status 0 all recover to zeros
+  pub formatted : IsCommand words Format → IsFormat before after status
+  -- gen: the first lines of the seed
+  pub generated : (what : Generated) → IsCommand words (Gen what)
+      → IsListingOf before after status what
+  -- whatif: what each policy would use for the trace, or why no further line came
+  pub compared : IsCommand words WhatIf → IsComparisonOf before after status
+  -- solo: the lines of one volume, on an image of its own
+  pub solo : (volume : Volume) → IsCommand words (Solo volume) → IsSoloOf before after status volume
+  -- the words are no command: that is told
+  pub refused : NoCommand words
+      → EndsWith (codes "fault 1 words\n") 1 status before.sink.bytes after.sink.bytes
+      ⊎ EndsWith (codes "fault 9 memory\n") 9 status before.sink.bytes after.sink.bytes
+  -- the status has its cause, which is one of 0 to 12
+  pub cause : IsCause tells state words before after status
+  -- it is 7 where a call of the sink failed; a count at its last value stands still
+  pub sink : before.sink.faults < after.sink.faults → status ≡ 7
+  -- a configuration that is needed and is none is told, unless a source, the sink or memory failed
+  pub config : (command : Command) → IsCommand words command → IsUnconfigured command before
+      → (status ≡ 2) ⊎ (status ≡ 7) ⊎ (status ≡ 8) ⊎ (status ≡ 9)
+  -- what no command that the words ask for has a use for is as it was
+  pub unused : LeavesUnused words before after
+  -- where no call failed and what is read is in order, the command is done, or there was no memory
+  pub complete : (command : Command) → IsCommand words command → ReadsInOrder tells command before
+      → NothingFailed command before after → IsDoneOrMemory status

@@ -1,0 +1,20 @@
+//! What the program does, by its words and by what is outside.
+//!
+//! `wol_run` is the top call: `top.rt` has `run`, `settings.rt` the configuration from its source, `telling.rt` the last
+//! line of a run, `status.rt` `solo`'s statuses and lines of faults. Of the commands `formatting.rt` has `format`,
+//! `inspecting.rt` `check` and `dump`, `listing.rt` `gen`, `replaying.rt` `replay` and `soak`, `comparing.rt` `whatif`.
+//! A further command joins as a further arm of `run`; `IsCommand`, `NoCommand` and `IsCause` then name it.
+#![tactic(auto)]
+
+mod comparing;
+mod formatting;
+mod inspecting;
+mod listing;
+mod replaying;
+mod settings;
+mod status;
+mod telling;
+mod top;
+
+pub use telling::{NO_MEMORY, end_with, tell};
+pub use top::run;

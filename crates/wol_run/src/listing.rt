@@ -1,0 +1,112 @@
+// The lines of a generated trace, printed.
+ghost use Rattle.std.specs.Prelude.{◌≡◌, ◌⊎◌, ◌<◌, ◌≤◌, ◌^◌, ℕ, [], length, OnOk, OnErr};
+ghost use Rattle.std.specs.Io.KnownBytes.{Appends};
+ghost use Rattle.wol_disk.specs.Disk.{Rose};
+ghost use Rattle.wol_io.specs.Streams.{AppendsFront};
+ghost use Rattle.wol_config.specs.Configs.{IsValid};
+ghost use Rattle.wol_run.specs.Generating.{HandsOn, Prints, RunsGen};
+ghost use Rattle.wol_run.specs.declared.listing.Stop.TheVariants.{Sink as sink_failed, Memory as no_memory};
+
+use crate::settings::config_of;
+use crate::telling::{NO_MEMORY, end_with, tell_fault};
+use command_words::Generated;
+use msr_trace::write_line;
+use std::alloc::Global;
+use trace_gen::Gen;
+use wol_config::Config;
+use wol_disk::{Failed, NoMemory};
+use wol_io::{Sink, Source};
+
+// How many bytes of lines are gathered for a call of the sink.
+const CHUNK_BYTES: usize = 8_192;
+
+// Why not all lines were printed.
+enum Stop {
+    // The sink failed.
+    Sink,
+    // There was no memory.
+    Memory,
+}
+
+impl From<Failed> for Stop {
+    ghost from_gives = { λ _ e. e ≡ sink_failed };
+
+    fn from(_e: Failed) -> Stop {
+        Stop::Sink
+    }
+}
+
+impl From<NoMemory> for Stop {
+    ghost from_gives = { λ _ e. e ≡ no_memory };
+
+    fn from(_e: NoMemory) -> Stop {
+        Stop::Memory
+    }
+}
+
+/// Prints the lines of a generated trace on the volumes of the configuration that a source has, and answers the status.
+///
+/// 0: all lines were printed. 2: the source's bytes are no configuration. 7: the sink failed. 8: the source failed. 9: there
+/// was no memory, and what was printed before are some first lines, or none.
+pub fn generate<C: Source, K: Sink>(
+    alloc: Global,
+    asked: Generated,
+    source: &mut C,
+    out: &mut K,
+) -> u8
+    requires few { asked.lines ≤ 2 ^ 31 }
+    ensures content { RunsGen asked (C.left source.old) (C.faults source.old) (C.faults source.new) result (K.taken out.old) (K.taken out.new) }
+    ensures cause { result ≡ 7 → Rose (K.faults out.old) (K.faults out.new) }
+    ensures later { K.faults out.old ≤ K.faults out.new }
+    ensures calm { K.faults out.old < K.faults out.new → result ≡ 7 }
+{
+    let config = match config_of(alloc, source) {
+        Ok(config) => config,
+        Err(fault) => return tell_fault(alloc, out, &[], &fault),
+    };
+    match print_lines(alloc, &config, asked, out) {
+        Ok(()) => 0,
+        Err(Stop::Sink) => 7,
+        Err(Stop::Memory) => end_with(out, NO_MEMORY, 9),
+    }
+}
+
+// Prints the lines, a chunk of them at a time.
+fn print_lines<K: Sink>(
+    alloc: Global,
+    config: &Config,
+    asked: Generated,
+    out: &mut K,
+) -> Result<(), Stop>
+    requires valid { IsValid config.now }
+    requires few { asked.lines ≤ 2 ^ 31 }
+    ensures later { K.faults out.old ≤ K.faults out.new }
+    ensures content { Prints result config.now asked.seed asked.lines (K.faults out.old) (K.faults out.new) (K.taken out.old) (K.taken out.new) }
+{
+    let mut generator = Gen::new(asked.seed);
+    let mut text = Vec::new(alloc);
+    for _number in 0..asked.lines {
+        let line = generator.next(alloc, config)?;
+        write_line(&line, &mut text)?;
+        hand_on(out, &mut text, CHUNK_BYTES)?;
+    }
+    hand_on(out, &mut text, 1)?;
+    Ok(())
+}
+
+// Writes a text that has so many bytes to the sink, and empties it. A shorter one stays as it is.
+fn hand_on<K: Sink>(out: &mut K, text: &mut Vec<u8>, least: usize) -> Result<(), Failed>
+    ensures ok { OnOk result (HandsOn (K.taken out.old) (K.taken out.new) text.old.items text.new.items) }
+    ensures left { OnOk result ((length text.new.items < least) ⊎ (text.new.items ≡ [])) }
+    ensures err { OnErr result (AppendsFront (K.taken out.old) (K.taken out.new) text.old.items) }
+    ensures later { K.faults out.old ≤ K.faults out.new }
+    ensures cause { OnErr result (Rose (K.faults out.old) (K.faults out.new)) }
+    ensures calm { OnOk result (K.faults out.new ≡ K.faults out.old) }
+{
+    if text.len() < least {
+        return Ok(());
+    }
+    out.write(text)?;
+    text.clear();
+    Ok(())
+}
