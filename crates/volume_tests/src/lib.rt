@@ -7,7 +7,6 @@
 //! pass. `offload.rt` and `reclaim.rt` are the tests of it.
 #![tactic(auto)]
 
-#[cfg(test)]
 mod calls;
 #[cfg(test)]
 mod life;
