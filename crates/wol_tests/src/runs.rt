@@ -534,6 +534,60 @@ fn compares_policies(rt: HostRuntime) -> Result<(), Fail> {
     try_all(&rt, rt.alloc(), &rows, &mut bay)
 }
 
+// The three volumes, where each logs for each other.
+const AMONG_ALL: &str = r#"segment_blocks = 16
+timeout_ms = 60000
+awake_mw = 8000
+standby_mw = 1000
+wake_mj = 50000
+[[volume]]
+name = "usr0"
+host = "usr"
+disk = 0
+home_blocks = 1000
+segments = 4
+view = ["web0", "src0"]
+[[volume]]
+name = "web0"
+host = "web"
+disk = 0
+home_blocks = 1000
+segments = 4
+view = ["usr0", "src0"]
+[[volume]]
+name = "src0"
+host = "src"
+disk = 0
+home_blocks = 1000
+segments = 4
+view = ["usr0", "web0"]
+"#;
+
+const REPLAYED_AMONG_ALL: &[u8] = b"lines 12 blank 0 skipped 0
+reads 6 writes 6
+placed home 4 log 2 drains 0
+reclaimed blocks 3 records 2
+span 4000000000
+volume usr0 wakes 1 sleeps 2 awake 1500000000 standby 2500000000 energy 1500000
+volume web0 wakes 2 sleeps 2 awake 3400000000 standby 600000000 energy 2880000
+volume src0 wakes 1 sleeps 1 awake 600000000 standby 3400000000 energy 870000
+total wakes 4 sleeps 5 energy 5250000
+";
+
+// The last line of a replay on images and that of `all` have the same sums.
+#[test]
+fn all_is_a_replay_among_all(rt: HostRuntime) -> Result<(), Fail> {
+    let all = AMONG_ALL.as_bytes();
+    let mut bay = MemBay::new(rt.alloc());
+    let formatted = b"format usr0 blocks 1066\nformat web0 blocks 1066\nformat src0 blocks 1066\n";
+    let rows = [
+        replayed("format", all, b"", 0, formatted),
+        replayed("replay", all, OFFLOADS, 0, REPLAYED_AMONG_ALL),
+        replayed("whatif", all, OFFLOADS, 0, COMPARED),
+    ];
+    try_all(&rt, rt.alloc(), &rows, &mut bay)
+}
+
 #[test]
 fn drains_a_full_log(rt: HostRuntime) -> Result<(), Fail> {
     let mut bay = MemBay::new(rt.alloc());
