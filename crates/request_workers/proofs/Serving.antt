@@ -15,7 +15,7 @@ use Rattle.manager.specs.declared.part.ReadRefusal.{ReadRefusal}
 use Rattle.manager.specs.declared.part.ReadRefusal.TheVariants as refused_read
 use Rattle.manager.specs.declared.part.WriteRefusal.{WriteRefusal}
 use Rattle.manager.specs.declared.part.WriteRefusal.TheVariants as refused
-use Rattle.request_turns.specs.Entries.{IsEntryOf, AreEntriesOf, AreMade, TellsFault, TellsOfRead, TellsOfWrite}
+use Rattle.request_turns.specs.Entries.{IsEntryOf, AreEntriesOf, AreMade, TellsFault, TellsOfRead, TellsOfWrite, WasSpent}
 use Rattle.request_turns.specs.Requests.{IsWithin}
 use Rattle.request_workers.specs.Requests.{AreWithin, was_answered, was_run, both, going_after, StopsAtRefusal, own_requests}
 use Rattle.request_workers.specs.Served.{HasServedNext, IsServing}
@@ -60,11 +60,22 @@ tells_read : (r : ReadRefusal) (seen more : List Noted) → TellsOfRead r seen �
 tells_read (refused_read.DiskFault p) seen more is = broken_more seen more is
 tells_read (refused_read.Down p) seen more is = broken_more seen more is
 
+-- no version is left behind more entries too
+spent_more : (seen more : List Noted) → WasSpent seen → WasSpent (seen ++ more)
+spent_more seen more is = record {
+  front = is.front;
+  note = is.note;
+  later = is.later ++ more;
+  seen_is = ap (λ (notes : List Noted). notes ++ more) is.seen_is ∙ append_assoc is.front (is.note ∷ is.later) more;
+  unbroken = is.unbroken;
+  spent = is.spent;
+}
+
 tells_write : (r : WriteRefusal) (seen more : List Noted) → TellsOfWrite r seen → TellsOfWrite r (seen ++ more)
 tells_write refused.Full seen more is = tt
 tells_write (refused.DiskFault p) seen more is = broken_more seen more is
 tells_write (refused.Down p) seen more is = broken_more seen more is
-tells_write refused.VersionsSpent seen more is = tt
+tells_write refused.VersionsSpent seen more is = spent_more seen more is
 tells_write refused.NoMemory seen more is = tt
 
 tells_more : (seen more : List Noted) (o : Outcome) → TellsFault seen o → TellsFault (seen ++ more) o
