@@ -2,6 +2,7 @@ use Rattle.std.proofs.Common.{◌∙◌, Err, ap, inr, length, refl}
 use Rattle.wol_io.proofs.Appending.{keeps_same}
 use Rattle.std.proofs.lemmas.List.{length-map}
 use Rattle.volume_images.specs.Volumes.{shape_in}
+use Rattle.rack.proofs.OthersKept.{others_then}
 use Rattle.replay.proofs.Closed.{closable_now, home_outs, journals_now, outs_same, same_rest}
 use Rattle.replay.proofs.RacksServed.{can_serve}
 use Rattle.replay.specs.Completes.{Completes}
@@ -197,3 +198,11 @@ returns-in_err-counted-clause-account g c = keeps_account _ _ _ _ _ _ _ _ _ _ _ 
 
 pub returns-clause-account : goal.returns-clause-account
 returns-clause-account g c = keeps_account _ _ _ _ _ _ _ _ _ _ _ _ _ _ (returns-clause-replays g c)
+
+pub returns-in_err-counted-clause-others : goal.returns-in_err-counted-clause-others
+returns-in_err-counted-clause-others g c =
+    others_then c.args.config.now (g.B.Bay.state c.args.bay.now).told (g.B.Bay.state c.open_all.new.bay).told (g.B.Bay.state c.close_all-spindles.new.bay).told c.in-Ok.ensures.apart c.open_all.ensures.others c.close_all-spindles.ensures.others
+
+pub returns-clause-others : goal.returns-clause-others
+returns-clause-others g c =
+    others_then c.args.config.now (g.B.Bay.state c.args.bay.now).told (g.B.Bay.state c.open_all.new.bay).told (g.B.Bay.state c.close_all-spindles.new.bay).told c.in-Ok.ensures.apart c.open_all.ensures.others c.close_all-spindles.ensures.others
