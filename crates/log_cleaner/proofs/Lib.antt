@@ -7,3 +7,4 @@ pub mod Stepping
 pub mod Rewriting
 pub mod Cleaning
 pub mod Finding
+pub mod Telling

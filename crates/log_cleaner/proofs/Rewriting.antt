@@ -355,10 +355,10 @@ module _ {D : Type 0} (tells : Bool) (state : D → State) (old mid new : Manage
       below : {m n k : ℕ} → m ≤ k → m ≡ n → (m ≡ k → ⊥) → n < k
       below {m} {n} {k} le e ne = ⊎_elim (λ lt. omega (arith, lt, e)) (λ ge. absurd (ne (omega (arith, le, ge)))) (cases_lt m k)
 
-  spent_ends : WriteTold tells state mid new first blocks (Err refused.VersionsSpent) → HasCopied tells state old new [] × (new.next ≡ 2 ^ 63)
+  spent_ends : WriteTold tells state mid new first blocks (Err refused.VersionsSpent) → HasCopied tells state old new [] × (new.next ≡ 2 ^ 63) × (new.index.entries ≡ old.index.entries)
   spent_ends t =
       let rest = t.unchanged.rest in let n = ap (λ (m : Manager D). m.next) rest in
-      (copied_then tells state old mid new [] [] can read (unwritten tells state mid new read.goes_on.can ready first blocks some covered_mid (Err refused.VersionsSpent) t.same t.fault (ap (λ (m : Manager D). m.ups.items) rest) n t.unchanged.index t.answered t.stands t.any_moment), n ∙ t.versions refl)
+      (copied_then tells state old mid new [] [] can read (unwritten tells state mid new read.goes_on.can ready first blocks some covered_mid (Err refused.VersionsSpent) t.same t.fault (ap (λ (m : Manager D). m.ups.items) rest) n t.unchanged.index t.answered t.stands t.any_moment), n ∙ t.versions refl, t.unchanged.index ∙ entries)
 
   memory_ends : WriteTold tells state mid new first blocks (Err refused.NoMemory) → HasCopied tells state old new []
   memory_ends t =

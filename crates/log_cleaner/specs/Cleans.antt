@@ -1,5 +1,5 @@
 -- What cleaning does to a manager, by its answer.
-use Rattle.std.specs.Prelude.{◌≡◌, ◌<◌, ◌^◌, ◌∷◌, ◌++◌, ℕ, Bool, true, false, List, [], map, length, sum_by, None, Some, Result, Ok, Err, slice_get}
+use Rattle.std.specs.Prelude.{◌≡◌, ◌<◌, ◌+◌, ◌^◌, ◌∷◌, ◌++◌, ℕ, Bool, true, false, List, [], map, length, sum_by, None, Some, Result, Ok, Err, slice_get}
 use Rattle.std.specs.List.{AllByRecursion, range_with_len}
 use Rattle.wol_disk.specs.Disk.{State}
 use Rattle.turn_lock.specs.Histories.{Entry, Begins}
@@ -10,12 +10,12 @@ use Rattle.logger.specs.Lanes.{pool_of}
 use Rattle.logger.specs.declared.lane.Lane.{Lane}
 use Rattle.wol_model.specs.Blocks.{Write}
 use Rattle.wol_model.specs.History.{Broke}
-use Rattle.wol_model.specs.Index.{listed_in, is_covered}
+use Rattle.wol_model.specs.Index.{Listed, AreRising, listed_in, is_covered}
 use Rattle.manager.specs.Causes.{PartRoseOrClaimed}
 use Rattle.manager.specs.Stands.{IsSameManager}
 use Rattle.manager.specs.declared.manager.Manager.{Manager}
 use Rattle.manager.specs.declared.part.Part.{Part}
-use Rattle.log_cleaner.specs.Chunks.{IsChunk, IsClean, NoneHomed}
+use Rattle.log_cleaner.specs.Chunks.{IsChunk, IsClean, IsTidy, NoneHomed}
 use Rattle.log_cleaner.specs.Copies.{AreCopies, LeavesEntry, wrote}
 use Rattle.log_cleaner.specs.declared.answer.Cleaned.{Cleaned}
 use Rattle.log_cleaner.specs.declared.answer.CleanFault.{CleanFault}
@@ -47,6 +47,18 @@ pub record GoesOn {D : Type 0} (old new : Manager D) : Type 0 where
 abbrev pub IsChunkOf : (covered : ℕ → Bool) → (most : ℕ) → Write → Type 0
 IsChunkOf covered most w = IsChunk covered most w.first (length w.blocks)
 
+-- the write is of a chunk that isn't tidy
+abbrev pub IsOfUntidy : List Listed → Write → Type 0
+IsOfUntidy es w = IsTidy es w.first (length w.blocks) → ⊥
+
+-- a chunk behind all copies still isn't tidy
+pub record IsLeftUntidy (covered : ℕ → Bool) (most : ℕ) (es : List Listed) (copies : List Write) : Type 0 where
+  pub first : ℕ
+  pub count : ℕ
+  pub chunk : IsChunk covered most first count
+  pub behind : AllByRecursion (λ w. w.first < first) copies
+  pub untidy : IsTidy es first count → ⊥
+
 -- the last that each lane's pass did in its pool was to find it empty
 abbrev pub FindsAllEmpty : {D : Type 0} → (old new : Manager D) → Type 0
 FindsAllEmpty {D} old new = (k : ℕ) (o n : Lane D) → slice_get old.lanes.items k ≡ Some o → slice_get new.lanes.items k ≡ Some n
@@ -65,15 +77,18 @@ abbrev pub TellsCleaned : {D : Type 0} → (tells : Bool) → (D → State) → 
 TellsCleaned tells state most old new copies (Ok c) = GoesOn old new × LeavesEntry tells state old new (wrote copies)
     × (c.before ≡ length old.index.entries) × (c.after ≡ length new.index.entries) × (c.copied ≡ copied_blocks copies)
     × (c.full ≡ false → IsClean (covered_in old) most (listed_in new.index.entries))
-    × (c.full ≡ true → (new.next < 2 ^ 63) × FindsAllEmpty old new)
+    × (c.full ≡ true → (new.next < 2 ^ 63) × FindsAllEmpty old new × IsLeftUntidy (covered_in old) most (listed_in new.index.entries) copies)
 TellsCleaned tells state most old new copies (Err (DiskFault p)) = (new.down ≡ Some p) × RoseSince state old new p × LeavesEntry tells state old new (Broke copies)
 TellsCleaned tells state most old new copies (Err VersionsSpent) = GoesOn old new × LeavesEntry tells state old new (wrote copies) × (new.next ≡ 2 ^ 63)
+    × (old.next + length copies ≡ 2 ^ 63) × IsLeftUntidy (covered_in old) most (listed_in new.index.entries) copies
 TellsCleaned tells state most old new copies (Err NoMemory) = GoesOn old new × LeavesEntry tells state old new (wrote copies)
 
--- What was copied are chunks, under the next versions in order; after a fault of a disk the last of them may be in flight.
+-- What was copied are chunks that weren't tidy, in order, under the next versions; after a fault of a disk the last of them may be in flight.
 pub record HasCleaned {D : Type 0} (tells : Bool) (state : D → State) (most : ℕ) (old new : Manager D) (result : Result Cleaned CleanFault) : Type 0 where
   pub copies : List Write
   pub chunks : AllByRecursion (IsChunkOf (covered_in old) most) copies
+  pub untidy : AllByRecursion (IsOfUntidy (listed_in old.index.entries)) copies
+  pub in_order : AreRising (map (λ w. w.first) copies)
   pub numbered : map (λ w. w.version) copies ≡ map (λ v. Some v) (range_with_len old.next (length copies))
   pub copied : AreCopies tells state old new copies
   pub tells_ : TellsCleaned tells state most old new copies result

@@ -92,7 +92,7 @@ pub record Fails {D : Type 0} (tells : Bool) (state : D → State) (first count 
 -- what is so after a refusal
 abbrev pub TellsFault : {D : Type 0} → (tells : Bool) → (D → State) → (first count : ℕ) → (old new : Manager D) → CleanFault → Type 0
 TellsFault tells state first count old new (DiskFault p) = Fails tells state first count old new p
-TellsFault tells state first count old new VersionsSpent = HasCopied tells state old new [] × (new.next ≡ 2 ^ 63)
+TellsFault tells state first count old new VersionsSpent = HasCopied tells state old new [] × (new.next ≡ 2 ^ 63) × (new.index.entries ≡ old.index.entries)
 TellsFault tells state first count old new NoMemory = HasCopied tells state old new []
 
 -- reading and writing again
