@@ -20,10 +20,10 @@ use Rattle.manager.specs.declared.part.Part.{Part}
 use Rattle.manager.specs.declared.part.StepFault.{StepFault}
 use Rattle.manager.specs.declared.part.StepFault.TheVariants as step
 use Rattle.manager.proofs.RunSources.{same_version}
-use Rattle.log_cleaner.specs.Chunks.{IsChunk, IsTidy, IsUppermost, KeepsJust, KeepsNone, NoneHomed, is_within}
+use Rattle.log_cleaner.specs.Chunks.{AreTidyBelow, IsChunk, IsTidy, IsUppermost, KeepsJust, KeepsNone, NoneHomed, is_within}
 use Rattle.log_cleaner.specs.Cleans.{CanClean, HasCleaned, IsChunkOf, IsLeftUntidy, IsOfUntidy, copied_blocks, covered_in}
 use Rattle.log_cleaner.specs.Steps.{GivesUp, HasCopied, HasRewritten, HasTidied, IsCopyAt, IsRefused, TellsFault, TidiesUp}
-use Rattle.log_cleaner.specs.Underway.{AreChunks, AreTidyBelow, CleansAll, CleansBy, EndsBy, HasCleanedSome}
+use Rattle.log_cleaner.specs.Underway.{AreChunks, CleansAll, CleansBy, EndsBy, HasCleanedSome}
 use Rattle.log_cleaner.specs.declared.answer.Cleaned.{Cleaned}
 use Rattle.log_cleaner.specs.declared.answer.CleanFault.{CleanFault}
 use Rattle.log_cleaner.specs.declared.answer.CleanFault.TheVariants.{DiskFault, VersionsSpent, NoMemory}
@@ -124,6 +124,10 @@ chunks_more covered es most next first count copies (w ∷ v ∷ more) are chunk
 pub chunks_none : (covered : ℕ → Bool) (es : List Listed) (most next : ℕ) → AreChunks covered es most next []
 chunks_none covered es most next = record { chunks = tt; untidy = tt; in_order = tt; numbered = refl }
 
+some_last : {X : Type 0} (xs : List X) (x : X) → xs ++ x ∷ [] ≡ [] → ⊥
+some_last [] x is = absurd (let no : x ∷ [] ≡ [] = is in cc)
+some_last (y ∷ xs) x is = absurd (let no : y ∷ (xs ++ x ∷ []) ≡ [] = is in cc)
+
 pub blocks_more : (copies : List Write) (w : Write) → copied_blocks (copies ++ w ∷ []) ≡ copied_blocks copies + length w.blocks
 blocks_more copies w = let e = sum_by-append (λ (v : Write). length v.blocks) copies (w ∷ []) in omega (arith, e)
 
@@ -143,7 +147,7 @@ pub record Between {D : Type 0} (tells : Bool) (state : D → State) (most : ℕ
 pub between_none : {D : Type 0} (tells : Bool) (state : D → State) (most : ℕ) (m : Manager D) → CanClean m → Between tells state most m m 0 0
 between_none tells state most m can = record {
   copies = [];
-  done = record { chunks = chunks_none (covered_in m) (listed_in m.index.entries) most m.next; copied = copied_none tells state m can };
+  done = record { chunks = chunks_none (covered_in m) (listed_in m.index.entries) most m.next; copied = copied_none tells state m can; untouched = λ none. refl };
   count = refl;
   few = omega arith;
   within = omega arith;
@@ -178,6 +182,10 @@ module _ {D : Type 0} (tells : Bool) (state : D → State) (most : ℕ) (old now
       at (inr g) (inl l) = absurd (clash (covered_in old x) is (sym (same_cover x) ∙ bare x g l))
       at (inr g) (inr h) = (lbn, count, chunk, h, lt, now_)
 
+  -- the chunks before it are tidy
+  tidy_before : AreTidyBelow (covered_in old) most lbn (listed_in now.index.entries)
+  tidy_before x lt is = ⊎_elim (λ l. b.tidy x l is) (λ g. absurd (clash (covered_in old x) is (sym (same_cover x) ∙ bare x g lt))) (cases_lt x from)
+
   -- those that lie before a block lie before a later one
   behind_later : AllByRecursion (λ (w : Write). w.first < lbn) b.copies
   behind_later = all_map (λ (w : Write). w.first < from) (λ (w : Write). w.first < lbn) (λ w lt. omega (arith, lt, low)) b.copies b.behind
@@ -203,11 +211,12 @@ module _ {D : Type 0} (tells : Bool) (state : D → State) (most : ℕ) (old now
     untidy_old : IsTidy (listed_in old.index.entries) lbn count → ⊥
     untidy_old t = untidy (b.stays lbn count some low t)
 
-    left_untidy : new.index.entries ≡ now.index.entries → IsLeftUntidy (covered_in old) most (listed_in new.index.entries) b.copies
+    abbrev left_untidy : new.index.entries ≡ now.index.entries → IsLeftUntidy (covered_in old) most (listed_in new.index.entries) b.copies
     left_untidy same = record {
       first = lbn;
       count = count;
       chunk = chunk;
+      before = subst (λ (es : List Indexed). AreTidyBelow (covered_in old) most lbn (listed_in es)) (sym same) tidy_before;
       behind = behind_later;
       untidy = λ t. untidy (subst (λ (es : List Indexed). IsTidy (listed_in es) lbn count) same t);
     }
@@ -221,6 +230,7 @@ module _ {D : Type 0} (tells : Bool) (state : D → State) (most : ℕ) (old now
       done = record {
         chunks = chunks_more (covered_in old) (listed_in old.index.entries) most old.next lbn count b.copies (t.write ∷ []) b.done.chunks chunk untidy_old behind_later (omega arith) (subst (λ (n : ℕ). IsCopyAt lbn count n t.write) next_is t.is_copy, tt);
         copied = copied_then tells state old now new b.copies (t.write ∷ []) can b.done.copied t.copied;
+        untouched = λ none. absurd (some_last b.copies t.write none);
       };
       count = let e = blocks_more b.copies t.write in let c = b.count in let n = t.is_copy.count_is in omega (arith, e, c, n);
       few = let f = b.few in omega (arith, f, low);
@@ -238,12 +248,12 @@ module _ {D : Type 0} (tells : Bool) (state : D → State) (most : ℕ) (old now
             let v = inside_of f n y inside in let w = inside_of lbn count y is in
             let same = (same_chunk (covered_in old) most f n lbn count y c chunk v.0 v.1 w.0 w.1).0 in omega (arith, lt, l, same, low))
 
-    pub ends_full : IsRefused tells state now new → CleansBy tells state most old new b.copies (Ok (copied, true))
+    pub ends_full : IsRefused tells state count now new → CleansBy tells state most old new b.copies (Ok (copied, true))
     ends_full r = (
-      record { chunks = b.done.chunks; copied = subst (HasCopied tells state old new) (append-nil b.copies) (copied_then tells state old now new b.copies [] can b.done.copied r.copied) },
+      record { chunks = b.done.chunks; copied = subst (HasCopied tells state old new) (append-nil b.copies) (copied_then tells state old now new b.copies [] can b.done.copied r.copied); untouched = λ none. r.entries ∙ b.done.untouched none },
       b.count,
       λ wrong. absurd (let no_ : true ≡ false = wrong in cc),
-      λ yes_. (let e = r.copied.next in let n = r.next in omega (arith, e, n), empty_since old now new b.done.copied.goes_on r.empty, left_untidy r.entries),
+      λ yes_. (let e = r.copied.next in let n = r.next in omega (arith, e, n), empty_since old now new b.done.copied.goes_on r.empty, left_untidy r.entries, r.room),
     )
 
     pub ends_faulty : (fault : CleanFault) → TellsFault tells state lbn count now new fault → (copies : List Write) × EndsBy tells state most old new copies fault
@@ -254,8 +264,14 @@ module _ {D : Type 0} (tells : Bool) (state : D → State) (most : ℕ) (old now
         broken_then tells state old now new p b.copies f.copies can b.done.copied f.broken,
       ),
     )
-    ends_faulty VersionsSpent f = (b.copies, (record { chunks = b.done.chunks; copied = subst (HasCopied tells state old new) (append-nil b.copies) (copied_then tells state old now new b.copies [] can b.done.copied f.0) }, f.1, left_untidy f.2))
-    ends_faulty NoMemory f = (b.copies, record { chunks = b.done.chunks; copied = subst (HasCopied tells state old new) (append-nil b.copies) (copied_then tells state old now new b.copies [] can b.done.copied f) })
+    ends_faulty VersionsSpent f = (b.copies, (record { chunks = b.done.chunks; copied = subst (HasCopied tells state old new) (append-nil b.copies) (copied_then tells state old now new b.copies [] can b.done.copied f.0); untouched = λ none. f.2 ∙ b.done.untouched none }, f.1, left_untidy f.2))
+    ends_faulty NoMemory f = (
+      b.copies,
+      (
+        record { chunks = b.done.chunks; copied = subst (HasCopied tells state old new) (append-nil b.copies) (copied_then tells state old now new b.copies [] can b.done.copied f.0); untouched = λ none. f.1 ∙ b.done.untouched none },
+        (lbn, subst (λ (es : List Indexed). AreTidyBelow (covered_in old) most lbn (listed_in es)) (sym f.1) tidy_before, behind_later),
+      ),
+    )
 
 -- all are tidy where no block is covered from here on
 pub ends_clean : {D : Type 0} (tells : Bool) (state : D → State) (most : ℕ) (old now : Manager D) (copied from : ℕ) → (b : Between tells state most old now copied from) → IsReady state now → IsIndex now.index.entries
@@ -320,6 +336,7 @@ module _ {D : Type 0} (tells : Bool) (state : D → State) (most : ℕ) (old new
       same_copied ∙ all.1.1,
       λ is. all.1.2 (sym same_full ∙ is),
       λ is. all.1.3 (sym same_full ∙ is),
+      d.untouched,
     );
   }
 
@@ -340,17 +357,18 @@ module _ {D : Type 0} (tells : Bool) (state : D → State) (most : ℕ) (old new
     in_order = d.chunks.in_order;
     numbered = d.chunks.numbered;
     copied = d.copied.copied;
-    tells_ = (d.copied.goes_on, leaves_copies tells state old new all.0 can.up d.copied.keeps, all.1.1, sym d.copied.next ∙ all.1.1, all.1.2);
+    tells_ = (d.copied.goes_on, leaves_copies tells state old new all.0 can.up d.copied.keeps, all.1.1, sym d.copied.next ∙ all.1.1, all.1.2, d.untouched);
   }
-  cleaned_err NoMemory all = let d = all.1 in record {
+  cleaned_err NoMemory all = let d = all.1.0 in record {
     copies = all.0;
     chunks = d.chunks.chunks;
     untidy = d.chunks.untidy;
     in_order = d.chunks.in_order;
     numbered = d.chunks.numbered;
     copied = d.copied.copied;
-    tells_ = (d.copied.goes_on, leaves_copies tells state old new all.0 can.up d.copied.keeps);
+    tells_ = (d.copied.goes_on, leaves_copies tells state old new all.0 can.up d.copied.keeps, d.untouched, all.1.1);
   }
 
 pub cleaned_none : {D : Type 0} (tells : Bool) (state : D → State) (most : ℕ) (m : Manager D) → CanClean m → HasCleaned tells state most m m (Err NoMemory)
-cleaned_none tells state most m can = cleaned_err tells state most m m can NoMemory ([], record { chunks = chunks_none (covered_in m) (listed_in m.index.entries) most m.next; copied = copied_none tells state m can })
+cleaned_none tells state most m can = cleaned_err tells state most m m can NoMemory
+    ([], (record { chunks = chunks_none (covered_in m) (listed_in m.index.entries) most m.next; copied = copied_none tells state m can; untouched = λ none. refl }, (0, (λ x lt is. absurd (omega (arith, lt))), tt)))

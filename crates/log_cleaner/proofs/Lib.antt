@@ -2,6 +2,7 @@ pub mod Lists
 pub mod Chunking
 pub mod Noting
 pub mod Tidying
+pub mod Claiming
 pub mod Copying
 pub mod Stepping
 pub mod Rewriting

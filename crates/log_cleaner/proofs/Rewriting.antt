@@ -13,7 +13,9 @@ use Rattle.turn_lock.specs.Histories.{Entry, Begins}
 use Rattle.turn_lock.specs.Passes.{pass_mine, pass_number}
 use Rattle.seg_pool.specs.Holders.{Took}
 use Rattle.seg_pool.specs.Operations.{operation_of}
-use Rattle.logger.specs.Lanes.{pool_of, logger_of}
+use Rattle.logger.specs.Lanes.{HasNoRoom, held_in, pool_of, logger_of}
+use Rattle.logger.specs.declared.lane.HeldSegment.{HeldSegment}
+use Rattle.manager.specs.Offers.{IsTurnedAway}
 use Rattle.logger.specs.declared.lane.Lane.{Lane}
 use Rattle.offload_policy.specs.Placing.{may_hold}
 use Rattle.offload_policy.specs.declared.Room.{Room}
@@ -49,8 +51,9 @@ use Rattle.manager.proofs.Answered.{get_inside}
 use Rattle.manager.proofs.Placing.{rooms_are}
 use Rattle.manager.proofs.ReadThrough.{zip_at, zip_length}
 use Rattle.log_cleaner.specs.Chunks.{IsCopyOf, NoneHomed, is_within}
-use Rattle.log_cleaner.specs.Copies.{AreCopies, one_more, array_of}
-use Rattle.log_cleaner.specs.Cleans.{CanClean, FindsAllEmpty, GoesOn, covered_in}
+use Rattle.log_cleaner.specs.Copies.{AreCopies, Claims, one_more, array_of}
+use Rattle.log_cleaner.proofs.Claiming.{fewer_read}
+use Rattle.log_cleaner.specs.Cleans.{CanClean, FindsAllEmpty, GoesOn, NoneHasRoom, covered_in}
 use Rattle.log_cleaner.specs.Steps.{Fails, HasBroken, HasCopied, HasRewritten, IsCopyAt, IsRefused, Rewrites}
 use Rattle.log_cleaner.specs.Steps as steps
 use Rattle.log_cleaner.proofs.Copying.{copies_plain, cut_one, keeps_plain, keeps_wrote, leaves_broken, read_content, unbroken}
@@ -98,7 +101,7 @@ module _ {D : Type 0} (tells : Bool) (state : D → State) (old new : Manager D)
   read_copied first count reply up look leaves stops = record {
     goes_on = read_goes_on up first count look;
     keeps = keeps_plain tells state old new (Read first reply) [] refl refl leaves;
-    copied = copies_plain tells state old new can.up (λ told. (None, stops told));
+    copied = copies_plain tells state old new can.up (λ told. (None, fewer_read state old.lanes.items new.lanes.items read.lanes, stops told));
     next = let e = read.next in omega (arith, e);
   }
 
@@ -108,7 +111,7 @@ module _ {D : Type 0} (tells : Bool) (state : D → State) (old new : Manager D)
     down = down;
     rose = (old, goes_none old can, rose_of state old new p rose);
     leaves = leaves_broken tells state old new [] [] can.up leaves;
-    copied = copies_plain tells state old new can.up (λ told. (None, stops told));
+    copied = copies_plain tells state old new can.up (λ told. (None, fewer_read state old.lanes.items new.lanes.items read.lanes, stops told));
   }
 
 -- ---- Places of covered blocks
@@ -205,30 +208,47 @@ module _ {D : Type 0} (tells : Bool) (state : D → State) (old new : Manager D)
       let r = get_inside new.rooms.items k (omega (arith, lt, long)) in
       gained (takes_at ruled answer k) r.0 o n (all.each k r.0 o n r.1 is_o is_n)
 
-  -- where the rule ended without a place each pool was found empty
-  all_empty : ruled ≡ Nowhere → HaveAnswered (length blocks) (takes_at ruled (Err refused.Full)) new.rooms.items old.lanes.items new.lanes.items → FindsAllEmpty old new
-  all_empty nowhere all k o n is_o is_n =
-      let lt = slice_get_within old.lanes.items k o is_o in let long = all.noted in
-      let r = get_inside new.rooms.items k (omega (arith, lt, long)) in
-      turned r.0 (shut r.0 r.1) (all.each k r.0 o n r.1 is_o is_n)
+  -- where the rule ended without a place, each lane was turned away
+  all_shut : ruled ≡ Nowhere → HaveAnswered (length blocks) (takes_at ruled (Err refused.Full)) new.rooms.items old.lanes.items new.lanes.items → (k : ℕ) (r : Room) → slice_get new.rooms.items k ≡ Some r → may_hold r ≡ false
+  all_shut nowhere all k r is = closed_at old.ups.items (map may_hold new.rooms.items) can.awake (Rattle.std.proofs.lemmas.List.length-map new.rooms.items may_hold ∙ sym flags)
+      (ap (λ (rs : List Bool). position (λ (l : Bool × Bool). l.0 && l.1) (zip old.ups.items rs)) (sym (rooms_are old.ups.items new.rooms.items flags))
+      ∙ none_awake old.home_up old.ups.items (rooms_but (passed_in new.rooms.items) old.ups.items) (sym ruled_is ∙ nowhere))
+      k (may_hold r) (Rattle.std.proofs.lemmas.Option.slice_get-map may_hold new.rooms.items k ∙ ap (Rattle.std.specs.Option.option_map may_hold) is)
     where
       flags : length old.ups.items ≡ length new.rooms.items
       flags = ready.ready.flags ∙ sym all.noted
 
-      shut : (r : Room) → slice_get new.rooms.items k ≡ Some r → may_hold r ≡ false
-      shut r is = closed_at old.ups.items (map may_hold new.rooms.items) can.awake (Rattle.std.proofs.lemmas.List.length-map new.rooms.items may_hold ∙ sym flags)
-          (ap (λ (rs : List Bool). position (λ (l : Bool × Bool). l.0 && l.1) (zip old.ups.items rs)) (sym (rooms_are old.ups.items new.rooms.items flags))
-          ∙ none_awake old.home_up old.ups.items (rooms_but (passed_in new.rooms.items) old.ups.items) (sym ruled_is ∙ nowhere))
-          k (may_hold r) (Rattle.std.proofs.lemmas.Option.slice_get-map may_hold new.rooms.items k ∙ ap (Rattle.std.specs.Option.option_map may_hold) is)
-
-      turned : (r : Room) → may_hold r ≡ false → HasAnswered (length blocks) (takes_at ruled (Err refused.Full) k) r o n → (before : List Entry) × Begins (pass_mine (pool_of o)) before × (pass_mine (pool_of n) ≡ before ++ (pass_number (pool_of n), operation_of (Took None)) ∷ [])
+  all_turned : ruled ≡ Nowhere → HaveAnswered (length blocks) (takes_at ruled (Err refused.Full)) new.rooms.items old.lanes.items new.lanes.items → (k : ℕ) (o n : Lane D) → slice_get old.lanes.items k ≡ Some o → slice_get new.lanes.items k ≡ Some n
+      → IsTurnedAway (length blocks) o n
+  all_turned nowhere all k o n is_o is_n =
+      let lt = slice_get_within old.lanes.items k o is_o in let long = all.noted in
+      let r = get_inside new.rooms.items k (omega (arith, lt, long)) in
+      turned r.0 (all_shut nowhere all k r.0 r.1) (all.each k r.0 o n r.1 is_o is_n)
+    where
+      turned : (r : Room) → may_hold r ≡ false → HasAnswered (length blocks) (takes_at ruled (Err refused.Full) k) r o n → IsTurnedAway (length blocks) o n
       turned Unknown no_ h = absurd (let wrong : true ≡ false = no_ in cc)
       turned Yes no_ h = absurd (let wrong : true ≡ false = no_ in cc)
-      turned No no_ h = (
-        pass_mine (pool_of o),
-        ([], append-nil (pass_mine (pool_of o))),
-        h.pool ∙ (λ i. pass_mine (pool_of o) ++ (sym (h.same.pool.1) i, operation_of (Took None)) ∷ []),
-      )
+      turned No no_ h = h
+
+  -- each pool was found empty
+  all_empty : ruled ≡ Nowhere → HaveAnswered (length blocks) (takes_at ruled (Err refused.Full)) new.rooms.items old.lanes.items new.lanes.items → FindsAllEmpty old new
+  all_empty nowhere all k o n is_o is_n = let h = all_turned nowhere all k o n is_o is_n in (
+    pass_mine (pool_of o),
+    ([], append-nil (pass_mine (pool_of o))),
+    h.pool ∙ (λ i. pass_mine (pool_of o) ++ (sym (h.same.pool.1) i, operation_of (Took None)) ∷ []),
+  )
+
+  -- and no segment has room
+  none_has_room : ruled ≡ Nowhere → HaveAnswered (length blocks) (takes_at ruled (Err refused.Full)) new.rooms.items old.lanes.items new.lanes.items → NoneHasRoom (length blocks) new
+  none_has_room nowhere all = by_places (λ (l : Lane D). HasNoRoom (length blocks) (held_in l)) new.lanes.items (λ k n is_n.
+      let lt = slice_get_within new.lanes.items k n is_n in let long = all.same in
+      let o = get_inside old.lanes.items k (omega (arith, lt, long)) in
+      let h = all_turned nowhere all k o.0 n o.1 is_n in
+      subst (λ (hs : List (HeldSegment D)). HasNoRoom (length blocks) hs) (sym h.held) h.full)
+    where
+      by_places : {X : Type 0} (P : X → Type 0) (xs : List X) → ((k : ℕ) (x : X) → slice_get xs k ≡ Some x → P x) → AllByRecursion P xs
+      by_places P [] each = tt
+      by_places P (x ∷ xs) each = (each zero x refl, by_places P xs (λ k y is. each (suc k) y is))
 
   -- ---- A write that was answered
 
@@ -252,7 +272,7 @@ module _ {D : Type 0} (tells : Bool) (state : D → State) (old new : Manager D)
   -- nothing was written, and at most pools were asked
   unwritten : (answer : Result Place WriteRefusal) → IsSameManager old new → new.down ≡ old.down → new.ups.items ≡ old.ups.items → new.next ≡ old.next → new.index.entries ≡ old.index.entries
       → HaveAnswered (length blocks) (takes_at ruled answer) new.rooms.items old.lanes.items new.lanes.items → Leaves tells state old new Kept (passed_in new.rooms.items) worker
-      → (IsTrue tells → (claimed : Option (Spun D)) × ((b : ManagerBase) (notes : List Noted) → Keeps tells state old b notes → Stops state old new claimed b notes [])) → HasCopied tells state old new []
+      → (IsTrue tells → (claimed : Option (Spun D)) × Claims tells state old.lanes.items new.lanes.items claimed × ((b : ManagerBase) (notes : List Noted) → Keeps tells state old b notes → Stops state old new claimed b notes [])) → HasCopied tells state old new []
   unwritten answer same down ups next entries all leaves stops = record {
     goes_on = record {
       same = same;
@@ -275,16 +295,16 @@ module _ {D : Type 0} (tells : Bool) (state : D → State) (old new : Manager D)
 -- a copy of what was read before is at each moment what the volume has
 copies_after_read : {D : Type 0} (tells : Bool) (state : D → State) (old mid new : Manager D) (w : Write) → HasCopied tells state old mid [] → IsSome w.version
     → (IsTrue tells → (b : ManagerBase) (notes : List Noted) → Keeps tells state old b notes → IsCopyOf (array_of b notes) w)
-    → (IsTrue tells → (claimed : Option (Spun D)) × ((b : ManagerBase) (notes : List Noted) → Keeps tells state mid b notes → Stops state mid new claimed b notes (w ∷ []))) → AreCopies tells state old new (w ∷ [])
+    → (IsTrue tells → (claimed : Option (Spun D)) × Claims tells state mid.lanes.items new.lanes.items claimed × ((b : ManagerBase) (notes : List Noted) → Keeps tells state mid b notes → Stops state mid new claimed b notes (w ∷ []))) → AreCopies tells state old new (w ∷ [])
 copies_after_read tells state old mid new w first some same stops = record {
   same = λ told b notes k. (same told b notes k, tt);
   any_moment = λ told b notes k.
       let k1 = subst (Keeps tells state mid b) (append-nil notes) (first.keeps b notes (look_of_manager mid) k) in
       let s = stops told in
-      one_more old mid new s.0 (first.copied.any_moment told b notes k) (λ before after was is home segments h zip.
+      one_more old mid new s.0 (first.copied.any_moment told b notes k) s.1 (λ before after was is home segments h zip.
       cut_one b.volume.began.array (writes (entries_of notes)) w (recovered b.volume.began.owner home segments) some (same told b notes k)
       (subst (λ (f : List Write). IsCut b.volume.began.array (writes (entries_of notes)) f (recovered b.volume.began.owner home segments)) (alone (flight_of (entries_of notes)) (unbroken tells state mid b notes k1 first.goes_on.can.up))
-      (s.1 b notes k1 before after was is home segments h zip)));
+      (s.2 b notes k1 before after was is home segments h zip)));
   logged = (some, tt);
 }
   where
@@ -303,7 +323,7 @@ pub record WriteTold {D : Type 0} (tells : Bool) (state : D → State) (mid new 
   pub unspent : mid.next ≡ 2 ^ 63 → answer ≡ Err refused.VersionsSpent
   pub fault : TellsFault state answer mid new
   pub unchanged : IsAsBefore answer mid new
-  pub any_moment : IsTrue tells → (claimed : Option (Spun D)) × ((b : ManagerBase) (notes : List Noted) → Keeps tells state mid b notes → Stops state mid new claimed b notes (in_flight mid.next first blocks answer))
+  pub any_moment : IsTrue tells → (claimed : Option (Spun D)) × Claims tells state mid.lanes.items new.lanes.items claimed × ((b : ManagerBase) (notes : List Noted) → Keeps tells state mid b notes → Stops state mid new claimed b notes (in_flight mid.next first blocks answer))
 
 module _ {D : Type 0} (tells : Bool) (state : D → State) (old mid new : Manager D) (can : CanClean old) (ready : IsReady state mid) (first : ℕ) (blocks : List Block) (some : 1 ≤ length blocks)
     (covered : (b : ℕ) → is_within first (length blocks) b ≡ true → covered_in old b ≡ true) (read : HasCopied tells state old mid []) (entries : mid.index.entries ≡ old.index.entries)
@@ -343,13 +363,14 @@ module _ {D : Type 0} (tells : Bool) (state : D → State) (old mid new : Manage
         listed_is = ap (λ (l : Look). l.listed) look;
       }
 
-  full_ends : WriteTold tells state mid new first blocks (Err refused.Full) → IsRefused tells state old new
+  full_ends : WriteTold tells state mid new first blocks (Err refused.Full) → IsRefused tells state (length blocks) old new
   full_ends t =
       let rest = t.unchanged.rest in record {
         copied = copied_then tells state old mid new [] [] can read (unwritten tells state mid new read.goes_on.can ready first blocks some covered_mid (Err refused.Full) t.same t.fault (ap (λ (m : Manager D). m.ups.items) rest) (ap (λ (m : Manager D). m.next) rest) t.unchanged.index t.answered t.stands t.any_moment);
         entries = t.unchanged.index ∙ entries;
         next = below (ready.next.1) same_next (λ is. let wrong = t.unspent is in cc);
         empty = empty_since old mid new read.goes_on (all_empty tells state mid new read.goes_on.can ready first blocks some covered_mid t.placed t.answered);
+        room = none_has_room tells state mid new read.goes_on.can ready first blocks some covered_mid t.placed t.answered;
       }
     where
       below : {m n k : ℕ} → m ≤ k → m ≡ n → (m ≡ k → ⊥) → n < k
@@ -360,10 +381,10 @@ module _ {D : Type 0} (tells : Bool) (state : D → State) (old mid new : Manage
       let rest = t.unchanged.rest in let n = ap (λ (m : Manager D). m.next) rest in
       (copied_then tells state old mid new [] [] can read (unwritten tells state mid new read.goes_on.can ready first blocks some covered_mid (Err refused.VersionsSpent) t.same t.fault (ap (λ (m : Manager D). m.ups.items) rest) n t.unchanged.index t.answered t.stands t.any_moment), n ∙ t.versions refl, t.unchanged.index ∙ entries)
 
-  memory_ends : WriteTold tells state mid new first blocks (Err refused.NoMemory) → HasCopied tells state old new []
+  memory_ends : WriteTold tells state mid new first blocks (Err refused.NoMemory) → HasCopied tells state old new [] × (new.index.entries ≡ old.index.entries)
   memory_ends t =
       let rest = t.unchanged.rest in
-      copied_then tells state old mid new [] [] can read (unwritten tells state mid new read.goes_on.can ready first blocks some covered_mid (Err refused.NoMemory) t.same t.fault (ap (λ (m : Manager D). m.ups.items) rest) (ap (λ (m : Manager D). m.next) rest) t.unchanged.index t.answered t.stands t.any_moment)
+      (copied_then tells state old mid new [] [] can read (unwritten tells state mid new read.goes_on.can ready first blocks some covered_mid (Err refused.NoMemory) t.same t.fault (ap (λ (m : Manager D). m.ups.items) rest) (ap (λ (m : Manager D). m.next) rest) t.unchanged.index t.answered t.stands t.any_moment), t.unchanged.index ∙ entries)
 
   failed_ends : (logger index : ℕ) → WriteTold tells state mid new first blocks (Err (refused.DiskFault (part.Segment logger index))) → Fails tells state first (length blocks) old new (part.Segment logger index)
   failed_ends logger index t = record {

@@ -2,6 +2,7 @@ use Rattle.std.proofs.Common.{◌≡◌, ℕ, true, length, sym, subst, ap, arit
 use Rattle.log_cleaner.specs.Chunks.{is_within}
 use Rattle.log_cleaner.specs.Cleans.{covered_in}
 use Rattle.log_cleaner.specs.Steps.{Rewrites, TellsFault, told_of}
+use Rattle.log_cleaner.proofs.Claiming.{claims_of}
 use Rattle.log_cleaner.proofs.Cleaning.{chunk_fits}
 use Rattle.log_cleaner.proofs.Copying.{read_content}
 use Rattle.log_cleaner.proofs.Rewriting.{read_copied, read_ends, write_ends}
@@ -40,7 +41,7 @@ returns-in-Ok-clause-rewritten g c =
       unspent = λ is. w.versions.1 (e.up, is);
       fault = w.fault;
       unchanged = w.unchanged;
-      any_moment = λ t. let s = w.any_moment in (s.0, λ b notes k. s.2 t b notes k);
+      any_moment = λ t. let s = w.any_moment in (s.0, claims_of _ _ _ _ _ s.0 w.answered.same s.1, λ b notes k. s.2 t b notes k);
     })))
 
 pub returns-in-Err-clause-rewritten : goal.returns-in-Err-clause-rewritten
