@@ -31,11 +31,15 @@ use Rattle.wol_promise.specs.Ruled.{Noted, entries_of}
 use Rattle.wol_promise.proofs.Lists.{all_map}
 use Rattle.manager.specs.Answers.{home_write, log_write, written, was_read, IsPlaceOf}
 use Rattle.manager.specs.Causes.{PartRose}
-use Rattle.manager.specs.Reading.{HasOnlyRead, LaneRead}
+use Rattle.manager.specs.Reading.{HasOnlyRead, LaneRead, NeedsSources, needs_of}
+use Rattle.spin_model.specs.Operations.{use_of}
+use Rattle.wol_promise.specs.Spindle.{needs_in}
+use Rattle.log_cleaner.proofs.Cleaning.{of_inside}
+use Rattle.log_cleaner.proofs.Lists.{some_in}
 use Rattle.manager.specs.Seen.{look_of_manager}
 use Rattle.manager.specs.Stands.{Keeps, IsReady, IsSameManager, Leaves, passed_in}
 use Rattle.manager.specs.Stops.{Stops}
-use Rattle.manager.specs.Writing.{HasAnswered, HaveAnswered, HasLook, TellsFault, IsAsBefore, ruled_place, takes_at, in_flight}
+use Rattle.manager.specs.Writing.{HasAnswered, HaveAnswered, NeedsHome, HasLook, TellsFault, IsAsBefore, ruled_place, takes_at, in_flight}
 use Rattle.manager.specs.declared.base.ManagerBase.{ManagerBase}
 use Rattle.manager.specs.declared.manager.Manager.{Manager}
 use Rattle.manager.specs.declared.part.Part.{Part}
@@ -58,7 +62,7 @@ use Rattle.log_cleaner.specs.Steps.{Fails, HasBroken, HasCopied, HasRewritten, I
 use Rattle.log_cleaner.specs.Steps as steps
 use Rattle.log_cleaner.proofs.Copying.{copies_plain, cut_one, keeps_plain, keeps_wrote, leaves_broken, read_content, unbroken}
 use Rattle.log_cleaner.proofs.Stepping.{copied_then, empty_since, goes_none, goes_then, rose_of, set_awake}
-use Rattle.log_cleaner.proofs.Tidying.{clash, listing_covered, listing_unhomed}
+use Rattle.log_cleaner.proofs.Tidying.{clash, listing_covered, listing_unhomed, not_so}
 
 -- ---- Flags
 
@@ -80,8 +84,15 @@ module _ {D : Type 0} (tells : Bool) (state : D → State) (old new : Manager D)
   read_pools : (k : ℕ) (o n : Lane D) → slice_get old.lanes.items k ≡ Some o → slice_get new.lanes.items k ≡ Some n → Begins (pass_mine (pool_of o)) (pass_mine (pool_of n))
   read_pools k o n is_o is_n = ([], append-nil (pass_mine (pool_of o)) ∙ sym (zip_at (LaneRead state) old.lanes.items new.lanes.items k o n read.lanes is_o is_n).pool)
 
-  read_goes_on : new.down ≡ None → (first count : ℕ) → look_of_manager new ≡ woken (look_of_manager old) first count → GoesOn old new
-  read_goes_on up first count look = record {
+  -- no block of the range is at home alone
+  none_home : (first count : ℕ) → ((b : ℕ) → is_within first count b ≡ true → covered_in old b ≡ true) → list_any (λ b. not (covered_in old b)) (range_with_len first count) ≡ false
+  none_home first count covered = not_so (list_any (λ b. not (covered_in old b)) (range_with_len first count)) (λ some.
+      let s = some_in (λ b. not (covered_in old b)) first count some in
+      let here : covered_in old s.item ≡ true = covered s.item (of_inside first count s.item s.low s.high) in
+      let no : false ≡ true = sym (ap not here) ∙ s.passes in cc no)
+
+  read_goes_on : new.down ≡ None → (first count : ℕ) → look_of_manager new ≡ woken (look_of_manager old) first count → ((b : ℕ) → is_within first count b ≡ true → covered_in old b ≡ true) → NeedsSources old new first count → GoesOn old new
+  read_goes_on up first count look range needs = record {
     same = record { id = read.same.id; most = read.same.most };
     can = record {
       up = up;
@@ -89,6 +100,8 @@ module _ {D : Type 0} (tells : Bool) (state : D → State) (old new : Manager D)
       awake = subst (λ (us : List Bool). AllByRecursion (λ up. up ≡ true) us) (sym (ap (λ (l : Look). l.ups) look)) (woken_awake old.ups.items _ can.awake);
     };
     covered = λ b. ap (λ (es : List Indexed). is_covered (listed_in es) b) entries;
+    home_up = ap (λ (l : Look). l.home_up) look ∙ ap (λ (t : Bool). old.home_up || t) (none_home first count range) ∙ or_false old.home_up;
+    home_needs = same_needs needs.home.no_less (λ more. let no : false ≡ true = sym (none_home first count range) ∙ needs.home.exactly.0 more in cc no);
     lanes = zip_length (LaneRead state) old.lanes.items new.lanes.items read.lanes;
     pools = read_pools;
   }
@@ -96,10 +109,17 @@ module _ {D : Type 0} (tells : Bool) (state : D → State) (old new : Manager D)
       entries : new.index.entries ≡ old.index.entries
       entries = ap (λ i. i.entries) read.index
 
-  pub read_copied : (first count : ℕ) (reply : List Block) → new.down ≡ None → look_of_manager new ≡ woken (look_of_manager old) first count → Leaves tells state old new (Read first reply) [] worker
+      or_false : (t : Bool) → (t || false) ≡ t
+      or_false true = refl
+      or_false false = refl
+
+      same_needs : {m n : ℕ} → m ≤ n → (m < n → ⊥) → n ≡ m
+      same_needs {m} {n} le never = ⊎_elim (λ lt. absurd (never lt)) (λ ge. omega (arith, le, ge)) (cases_lt m n)
+
+  pub read_copied : (first count : ℕ) (reply : List Block) → new.down ≡ None → look_of_manager new ≡ woken (look_of_manager old) first count → ((b : ℕ) → is_within first count b ≡ true → covered_in old b ≡ true) → NeedsSources old new first count → Leaves tells state old new (Read first reply) [] worker
       → (IsTrue tells → (b : ManagerBase) (notes : List Noted) → Keeps tells state old b notes → Stops state old new None b notes []) → HasCopied tells state old new []
-  read_copied first count reply up look leaves stops = record {
-    goes_on = read_goes_on up first count look;
+  read_copied first count reply up look range needs leaves stops = record {
+    goes_on = read_goes_on up first count look range needs;
     keeps = keeps_plain tells state old new (Read first reply) [] refl refl leaves;
     copied = copies_plain tells state old new can.up (λ told. (None, fewer_read state old.lanes.items new.lanes.items read.lanes, stops told));
     next = let e = read.next in omega (arith, e);
@@ -252,9 +272,9 @@ module _ {D : Type 0} (tells : Bool) (state : D → State) (old new : Manager D)
 
   -- ---- A write that was answered
 
-  write_goes_on : (lane : ℕ) (answer : Place) → ruled ≡ InLog lane → look_of_manager new ≡ placed ruled (look_of_manager old) (home_write first blocks) → IsSameManager old new → new.down ≡ None
+  write_goes_on : (lane : ℕ) (answer : Place) → ruled ≡ InLog lane → NeedsHome ruled (Ok answer) old new → look_of_manager new ≡ placed ruled (look_of_manager old) (home_write first blocks) → IsSameManager old new → new.down ≡ None
       → HaveAnswered (length blocks) (takes_at ruled (Ok answer)) new.rooms.items old.lanes.items new.lanes.items → GoesOn old new
-  write_goes_on lane answer is look same up all =
+  write_goes_on lane answer is needs look same up all =
       let l : look_of_manager new ≡ placed (InLog lane) (look_of_manager old) (home_write first blocks) = look ∙ ap (λ (p : placing.Place). placed p (look_of_manager old) (home_write first blocks)) is in record {
         same = same;
         can = record {
@@ -263,6 +283,8 @@ module _ {D : Type 0} (tells : Bool) (state : D → State) (old new : Manager D)
           awake = subst (λ (m : Look). AllByRecursion (λ up. up ≡ true) m.ups) (sym l) (set_awake old.ups.items lane can.awake);
         };
         covered = λ b. ap (λ (m : Look). is_covered m.listed b) l ∙ listing_covered (look_of_manager old) lane (home_write first blocks) can.unhomed covered b;
+        home_up = ap (λ (m : Look). m.home_up) l;
+        home_needs = ap (λ es. needs_in (map (λ (e : Entry). use_of e.1) es)) (subst (λ (p : placing.Place). NeedsHome p (Ok answer) old new) is needs);
         lanes = all.same;
         pools = write_pools (Ok answer) all;
       }
@@ -270,10 +292,10 @@ module _ {D : Type 0} (tells : Bool) (state : D → State) (old new : Manager D)
   -- ---- A write that was refused before a disk was tried
 
   -- nothing was written, and at most pools were asked
-  unwritten : (answer : Result Place WriteRefusal) → IsSameManager old new → new.down ≡ old.down → new.ups.items ≡ old.ups.items → new.next ≡ old.next → new.index.entries ≡ old.index.entries
+  unwritten : (answer : Result Place WriteRefusal) → IsSameManager old new → new.down ≡ old.down → new.home_up ≡ old.home_up → needs_of new.spindle ≡ needs_of old.spindle → new.ups.items ≡ old.ups.items → new.next ≡ old.next → new.index.entries ≡ old.index.entries
       → HaveAnswered (length blocks) (takes_at ruled answer) new.rooms.items old.lanes.items new.lanes.items → Leaves tells state old new Kept (passed_in new.rooms.items) worker
       → (IsTrue tells → (claimed : Option (Spun D)) × Claims tells state old.lanes.items new.lanes.items claimed × ((b : ManagerBase) (notes : List Noted) → Keeps tells state old b notes → Stops state old new claimed b notes [])) → HasCopied tells state old new []
-  unwritten answer same down ups next entries all leaves stops = record {
+  unwritten answer same down home needs ups next entries all leaves stops = record {
     goes_on = record {
       same = same;
       can = record {
@@ -282,6 +304,8 @@ module _ {D : Type 0} (tells : Bool) (state : D → State) (old new : Manager D)
         awake = subst (λ (us : List Bool). AllByRecursion (λ up. up ≡ true) us) (sym ups) can.awake;
       };
       covered = λ b. ap (λ (es : List Indexed). is_covered (listed_in es) b) entries;
+      home_up = home;
+      home_needs = needs;
       lanes = all.same;
       pools = write_pools answer all;
     };
@@ -318,6 +342,7 @@ pub record WriteTold {D : Type 0} (tells : Bool) (state : D → State) (mid new 
   pub placed : IsPlaceOf (map logger_of mid.lanes.items) answer (ruled_place mid new first blocks)
   pub answered : HaveAnswered (length blocks) (takes_at (ruled_place mid new first blocks) answer) new.rooms.items mid.lanes.items new.lanes.items
   pub look : HasLook (ruled_place mid new first blocks) (home_write first blocks) answer (look_of_manager mid) (look_of_manager new)
+  pub waking : NeedsHome (ruled_place mid new first blocks) answer mid new
   pub down : (p : Part) → answer ≡ Err (refused.Down p) → mid.down ≡ Some p
   pub versions : answer ≡ Err refused.VersionsSpent → mid.next ≡ 2 ^ 63
   pub unspent : mid.next ≡ 2 ^ 63 → answer ≡ Err refused.VersionsSpent
@@ -351,7 +376,7 @@ module _ {D : Type 0} (tells : Bool) (state : D → State) (old mid new : Manage
         write = w;
         is_copy = is_copy_at;
         copied = record {
-          goes_on = goes_then old mid new read.goes_on (write_goes_on tells state mid new read.goes_on.can ready first blocks some covered_mid lane (place_.Log logger) is t.look t.same (t.fault ∙ read.goes_on.can.up) t.answered);
+          goes_on = goes_then old mid new read.goes_on (write_goes_on tells state mid new read.goes_on.can ready first blocks some covered_mid lane (place_.Log logger) is t.waking t.look t.same (t.fault ∙ read.goes_on.can.up) t.answered);
           keeps = Rattle.log_cleaner.proofs.Copying.keeps_then tells state old mid new [] (w ∷ []) can.up read.keeps (keeps_wrote tells state mid new w (passed_in new.rooms.items) read.goes_on.can.up t.stands);
           copied = copies_after_read tells state old mid new w read refl content t.any_moment;
           next = let e = ap (λ (l : Look). l.next) look in let f = same_next in omega (arith, e, f);
@@ -366,7 +391,7 @@ module _ {D : Type 0} (tells : Bool) (state : D → State) (old mid new : Manage
   full_ends : WriteTold tells state mid new first blocks (Err refused.Full) → IsRefused tells state (length blocks) old new
   full_ends t =
       let rest = t.unchanged.rest in record {
-        copied = copied_then tells state old mid new [] [] can read (unwritten tells state mid new read.goes_on.can ready first blocks some covered_mid (Err refused.Full) t.same t.fault (ap (λ (m : Manager D). m.ups.items) rest) (ap (λ (m : Manager D). m.next) rest) t.unchanged.index t.answered t.stands t.any_moment);
+        copied = copied_then tells state old mid new [] [] can read (unwritten tells state mid new read.goes_on.can ready first blocks some covered_mid (Err refused.Full) t.same t.fault (ap (λ (m : Manager D). m.home_up) rest) (ap (λ (m : Manager D). needs_of m.spindle) rest) (ap (λ (m : Manager D). m.ups.items) rest) (ap (λ (m : Manager D). m.next) rest) t.unchanged.index t.answered t.stands t.any_moment);
         entries = t.unchanged.index ∙ entries;
         next = below (ready.next.1) same_next (λ is. let wrong = t.unspent is in cc);
         empty = empty_since old mid new read.goes_on (all_empty tells state mid new read.goes_on.can ready first blocks some covered_mid t.placed t.answered);
@@ -379,12 +404,12 @@ module _ {D : Type 0} (tells : Bool) (state : D → State) (old mid new : Manage
   spent_ends : WriteTold tells state mid new first blocks (Err refused.VersionsSpent) → HasCopied tells state old new [] × (new.next ≡ 2 ^ 63) × (new.index.entries ≡ old.index.entries)
   spent_ends t =
       let rest = t.unchanged.rest in let n = ap (λ (m : Manager D). m.next) rest in
-      (copied_then tells state old mid new [] [] can read (unwritten tells state mid new read.goes_on.can ready first blocks some covered_mid (Err refused.VersionsSpent) t.same t.fault (ap (λ (m : Manager D). m.ups.items) rest) n t.unchanged.index t.answered t.stands t.any_moment), n ∙ t.versions refl, t.unchanged.index ∙ entries)
+      (copied_then tells state old mid new [] [] can read (unwritten tells state mid new read.goes_on.can ready first blocks some covered_mid (Err refused.VersionsSpent) t.same t.fault (ap (λ (m : Manager D). m.home_up) rest) (ap (λ (m : Manager D). needs_of m.spindle) rest) (ap (λ (m : Manager D). m.ups.items) rest) n t.unchanged.index t.answered t.stands t.any_moment), n ∙ t.versions refl, t.unchanged.index ∙ entries)
 
   memory_ends : WriteTold tells state mid new first blocks (Err refused.NoMemory) → HasCopied tells state old new [] × (new.index.entries ≡ old.index.entries)
   memory_ends t =
       let rest = t.unchanged.rest in
-      (copied_then tells state old mid new [] [] can read (unwritten tells state mid new read.goes_on.can ready first blocks some covered_mid (Err refused.NoMemory) t.same t.fault (ap (λ (m : Manager D). m.ups.items) rest) (ap (λ (m : Manager D). m.next) rest) t.unchanged.index t.answered t.stands t.any_moment), t.unchanged.index ∙ entries)
+      (copied_then tells state old mid new [] [] can read (unwritten tells state mid new read.goes_on.can ready first blocks some covered_mid (Err refused.NoMemory) t.same t.fault (ap (λ (m : Manager D). m.home_up) rest) (ap (λ (m : Manager D). needs_of m.spindle) rest) (ap (λ (m : Manager D). m.ups.items) rest) (ap (λ (m : Manager D). m.next) rest) t.unchanged.index t.answered t.stands t.any_moment), t.unchanged.index ∙ entries)
 
   failed_ends : (logger index : ℕ) → WriteTold tells state mid new first blocks (Err (refused.DiskFault (part.Segment logger index))) → Fails tells state first (length blocks) old new (part.Segment logger index)
   failed_ends logger index t = record {

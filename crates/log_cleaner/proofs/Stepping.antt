@@ -19,6 +19,7 @@ use Rattle.wol_promise.proofs.Lists.{all_mapped, all_map}
 use Rattle.redirect_map.specs.Index.{entry_at}
 use Rattle.manager.specs.Causes.{PartRose, PartRoseOrClaimed}
 use Rattle.manager.specs.Offers.{ChangesLane}
+use Rattle.manager.specs.Reading.{needs_of}
 use Rattle.manager.specs.Reclaim.{TellsStep, KeepsOn, Always, HasDropped, IsTrimmedLane, given_of}
 use Rattle.manager.specs.Stands.{Keeps, entries_at}
 use Rattle.manager.specs.declared.manager.Manager.{Manager}
@@ -59,6 +60,8 @@ goes_none {D} m can = record {
   same = record { id = refl; most = refl };
   can = can;
   covered = λ b. refl;
+  home_up = refl;
+  home_needs = refl;
   lanes = refl;
   pools = λ k o n is_o is_n. begins_same (pass_mine (pool_of o)) (pass_mine (pool_of n)) (ap (λ (l : Lane D). pass_mine (pool_of l)) (same_Some n o (sym is_n ∙ is_o)));
 }
@@ -68,6 +71,8 @@ goes_then old mid new first second = record {
   same = record { id = second.same.id ∙ first.same.id; most = second.same.most ∙ first.same.most };
   can = second.can;
   covered = λ b. second.covered b ∙ first.covered b;
+  home_up = second.home_up ∙ first.home_up;
+  home_needs = second.home_needs ∙ first.home_needs;
   lanes = second.lanes ∙ first.lanes;
   pools = λ k o n is_o is_n.
       let lt = slice_get_within old.lanes.items k o is_o in let long = first.lanes in
@@ -176,6 +181,8 @@ module _ {D : Type 0} (old new : Manager D) (version : ℕ) (e : Indexed) {T : T
       awake = subst (λ (us : List Bool). AllByRecursion (λ up. up ≡ true) us) (sym (ap (λ (m : Manager D). m.ups.items) dropped.rest)) (set_awake old.ups.items e.listed.lane can.awake);
     };
     covered = λ b. ap (λ (es : List Indexed). is_covered (listed_in es) b) entries ∙ given_covered old.index.entries version can.unhomed b;
+    home_up = ap (λ (m : Manager D). m.home_up) dropped.rest;
+    home_needs = ap (λ (m : Manager D). needs_of m.spindle) dropped.rest;
     lanes = let c = dropped.lanes in ap length c.set ∙ length-set old.lanes.items e.listed.lane c.after;
     pools = drop_pools;
   }

@@ -12,6 +12,7 @@ use Rattle.wol_model.specs.Blocks.{Write}
 use Rattle.wol_model.specs.History.{Broke}
 use Rattle.wol_model.specs.Index.{Listed, AreRising, listed_in, is_covered}
 use Rattle.manager.specs.Causes.{PartRoseOrClaimed}
+use Rattle.manager.specs.Reading.{needs_of}
 use Rattle.manager.specs.Stands.{IsSameManager}
 use Rattle.manager.specs.declared.manager.Manager.{Manager}
 use Rattle.manager.specs.declared.part.Part.{Part}
@@ -35,11 +36,15 @@ pub record CanClean {D : Type 0} (m : Manager D) : Type 0 where
   pub unhomed : NoneHomed (listed_in m.index.entries)
   pub awake : AllAwake m
 
--- Between calls of a cleaning: it can be cleaned still, the same blocks are covered, and the passes of its pools have gained entries at most.
+-- Between calls of a cleaning: it can be cleaned still, the same blocks are covered, home wasn't woken, and the passes of its pools have gained
+-- entries at most.
 pub record GoesOn {D : Type 0} (old new : Manager D) : Type 0 where
   pub same : IsSameManager old new
   pub can : CanClean new
   pub covered : (b : ℕ) → covered_in new b ≡ covered_in old b
+  -- home isn't woken
+  pub home_up : new.home_up ≡ old.home_up
+  pub home_needs : needs_of new.spindle ≡ needs_of old.spindle
   pub lanes : length new.lanes.items ≡ length old.lanes.items
   pub pools : (k : ℕ) (o n : Lane D) → slice_get old.lanes.items k ≡ Some o → slice_get new.lanes.items k ≡ Some n → Begins (pass_mine (pool_of o)) (pass_mine (pool_of n))
 

@@ -1,11 +1,11 @@
 -- A cleaning underway.
-use Rattle.std.specs.Prelude.{◌≡◌, ◌<◌, ◌≤◌, ◌+◌, ◌^◌, ℕ, Bool, true, false, List, [], map, length, Some, Result, Ok, Err}
+use Rattle.std.specs.Prelude.{◌≡◌, ◌<◌, ◌^◌, ℕ, Bool, true, false, List, [], map, length, Some, Result, Ok, Err}
 use Rattle.std.specs.List.{AllByRecursion, range_with_len}
 use Rattle.wol_disk.specs.Disk.{State}
 use Rattle.wol_model.specs.Blocks.{Write}
 use Rattle.wol_model.specs.Index.{Listed, AreRising, listed_in}
 use Rattle.manager.specs.declared.manager.Manager.{Manager}
-use Rattle.log_cleaner.specs.Chunks.{IsChunk, IsClean, IsTidy}
+use Rattle.log_cleaner.specs.Chunks.{IsClean}
 use Rattle.log_cleaner.specs.Cleans.{FindsAllEmpty, NoneHasRoom, TidiesBefore, IsChunkOf, IsLeftUntidy, IsOfUntidy, copied_blocks, covered_in}
 use Rattle.log_cleaner.specs.Steps.{HasBroken, HasCopied}
 use Rattle.log_cleaner.specs.declared.answer.CleanFault.{CleanFault}

@@ -24,7 +24,7 @@ returns-in-Ok-clause-rewritten g c =
     let out = c.read.new.out in
     let long : length out ≡ length c.args.blocks.now = c.read.auto.out in
     let e = c.in-Ok.ensures in let w = c.write.ensures in
-    let read = read_copied tells state old mid c.requires.can e.read c.args.lbn (length c.args.blocks.now) out e.up e.look e.stands e.any_moment in
+    let read = read_copied tells state old mid c.requires.can e.read c.args.lbn (length c.args.blocks.now) out e.up e.look c.requires.covered e.needs_all e.stands e.any_moment in
     let entries = ap (λ i. i.entries) e.read.index in
     let covered : (b : ℕ) → is_within c.args.lbn (length out) b ≡ true → covered_in old b ≡ true = λ b is. c.requires.covered b (subst (λ (n : ℕ). is_within c.args.lbn n b ≡ true) long is) in
     let some = c.requires.count.0 in
@@ -36,6 +36,7 @@ returns-in-Ok-clause-rewritten g c =
       placed = w.placed;
       answered = w.answered;
       look = w.look;
+      waking = w.waking_home;
       down = λ p is. (w.down p).0 is;
       versions = λ is. (w.versions.0 is).1;
       unspent = λ is. w.versions.1 (e.up, is);
