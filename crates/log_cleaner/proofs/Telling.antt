@@ -1,5 +1,5 @@
 -- A chunk that is tidy is told to be.
-use Rattle.std.proofs.Common.{◌≡◌, ⊎_elim, ◌<◌, ◌≤◌, ◌+◌, ◌^◌, ℕ, Bool, true, false, cond, ◌&&◌, not, List, [], ◌∷◌, map, Option, None, Some, refl, sym, ap, ◌∙◌, arith, ltb}
+use Rattle.std.proofs.Common.{◌≡◌, ⊎_elim, ◌<◌, ◌≤◌, ◌+◌, ◌^◌, ℕ, Bool, true, false, cond, ◌&&◌, not, List, [], ◌∷◌, map, None, Some, refl, sym, ap, ◌∙◌, arith, ltb}
 use Rattle.std.specs.Prelude.{Contains, IfSome, find, is_some}
 use Rattle.std.specs.List.{range_with_len}
 use Rattle.std.specs.Option.{option_map}
@@ -17,15 +17,12 @@ use Rattle.redirect_map.proofs.Seen.{in_mask-bit}
 use Rattle.manager.proofs.Entries.{among, entry_of_version, some_of}
 use Rattle.manager.proofs.GivenUp.{same_mask}
 use Rattle.manager.proofs.RunContent.{newest_is, newest_listed}
-use Rattle.manager.proofs.RunSources.{Answers, same_version, some_answer}
-use Rattle.manager.proofs.Woken.{covered_is}
+use Rattle.garbage_list.proofs.Nexts.{Answered, answered, unanswered}
+use Rattle.manager.proofs.RunSources.{same_version}
+use Rattle.wol_promise.proofs.Woken.{covered_is}
 use Rattle.log_cleaner.specs.Chunks.{IsTidy, KeepsNone, is_within}
 use Rattle.log_cleaner.proofs.Finding.{covers_mask, found, found_is}
 use Rattle.log_cleaner.proofs.Tidying.{clash, covers, member_unmap, not_so, within_first}
-
-none_of : (o : Option Indexed) → IsAnswer o None → o ≡ None
-none_of None is = refl
-none_of (Some e) is = absurd is
 
 not_found : {X : Type 0} (p : X → Bool) (xs : List X) (x : X) → find p xs ≡ None → Contains xs x → p x ≡ true → ⊥
 not_found p [] x none has is = (let lt = has.1 in omega arith)
@@ -42,7 +39,7 @@ not_found p (y ∷ ys) x none has is = ⊎_elim
 pub is_found : (es : List Indexed) (first count : ℕ) → 1 ≤ count → IsTidy (listed_in es) first count → IsAnswer (newest cover_at es first) None → ⊥
 is_found es first count some t a = clash (is_covered (listed_in es) first)
     (any_member (λ (d : Listed). covers d first) (listed_in es) t.one.record_ t.one.listed (t.one.keeps first ∙ within_first first count some))
-    (covered_is (listed_in es) first ∙ ap is_some (newest_listed es first ∙ ap (option_map (λ (e : Indexed). e.listed)) (none_of (newest cover_at es first) a)))
+    (covered_is (listed_in es) first ∙ ap is_some (newest_listed es first ∙ ap (option_map (λ (e : Indexed). e.listed)) (unanswered (newest cover_at es first) a)))
 
 module _ (es : List Indexed) (index : IsIndex es) (first count : ℕ) (some : 1 ≤ count) (t : IsTidy (listed_in es) first count) where
   abbrev L : List Listed
@@ -66,8 +63,8 @@ module _ (es : List Indexed) (index : IsIndex es) (first count : ℕ) (some : 1 
       (cases_eq e.listed.version t.version)
 
   module _ (newest_ : Rec) (a : IsAnswer (newest cover_at es first) (Some newest_)) where
-    n : Answers (newest cover_at es first) newest_
-    n = some_answer (newest cover_at es first) newest_ a
+    n : Answered (newest cover_at es first) newest_
+    n = answered (newest cover_at es first) newest_ a
 
     n_is : n.entry ≡ its.0
     n_is = let x = newest_is cover_at es first n.entry n.is in is_its n.entry x.among first inside x.covers
@@ -76,7 +73,7 @@ module _ (es : List Indexed) (index : IsIndex es) (first count : ℕ) (some : 1 
     v = n.record_.version ∙ ap (λ (e : Indexed). e.listed.version) n_is
 
     pub is_there : IsAnswer (entry_at es newest_.version) None → ⊥
-    is_there b = not_found (has_version newest_.version) es its.0 (none_of (entry_at es newest_.version) b) its.1 (eq-eqb its.0.listed.version newest_.version (sym v))
+    is_there b = not_found (has_version newest_.version) es its.0 (unanswered (entry_at es newest_.version) b) its.1 (eq-eqb its.0.listed.version newest_.version (sym v))
 
     module _ (r : Rec) (b : IsAnswer (entry_at es newest_.version) (Some r)) where
       abbrev f : Indexed
