@@ -8,7 +8,7 @@ use Rattle.std.proofs.lemmas.List.Sums.{sum_by-append}
 use Rattle.wol_disk.specs.Disk.{State}
 use Rattle.spin_model.specs.Spun.{state_of}
 use Rattle.wol_model.specs.Blocks.{Write}
-use Rattle.wol_model.specs.Index.{Listed, Indexed, listed_in, cover_of, block_numbers}
+use Rattle.wol_model.specs.Index.{Listed, Indexed, AreRising, listed_in, cover_of, block_numbers}
 use Rattle.wol_model.proofs.Counts.{marked_within}
 use Rattle.wol_promise.specs.Policy.{listing}
 use Rattle.wol_promise.proofs.Covers.{any_found}
@@ -20,10 +20,10 @@ use Rattle.manager.specs.declared.part.Part.{Part}
 use Rattle.manager.specs.declared.part.StepFault.{StepFault}
 use Rattle.manager.specs.declared.part.StepFault.TheVariants as step
 use Rattle.manager.proofs.RunSources.{same_version}
-use Rattle.log_cleaner.specs.Chunks.{IsChunk, IsTidy, IsUppermost, KeepsJust, KeepsNone, NoneHomed, is_within}
-use Rattle.log_cleaner.specs.Cleans.{CanClean, HasCleaned, IsChunkOf, copied_blocks, covered_in}
+use Rattle.log_cleaner.specs.Chunks.{AreTidyBelow, IsChunk, IsTidy, IsUppermost, KeepsJust, KeepsNone, NoneHomed, is_within}
+use Rattle.log_cleaner.specs.Cleans.{CanClean, HasCleaned, IsChunkOf, IsLeftUntidy, IsOfUntidy, copied_blocks, covered_in}
 use Rattle.log_cleaner.specs.Steps.{GivesUp, HasCopied, HasRewritten, HasTidied, IsCopyAt, IsRefused, TellsFault, TidiesUp}
-use Rattle.log_cleaner.specs.Underway.{AreChunks, AreTidyBelow, CleansAll, CleansBy, EndsBy, HasCleanedSome}
+use Rattle.log_cleaner.specs.Underway.{AreChunks, CleansAll, CleansBy, EndsBy, HasCleanedSome}
 use Rattle.log_cleaner.specs.declared.answer.Cleaned.{Cleaned}
 use Rattle.log_cleaner.specs.declared.answer.CleanFault.{CleanFault}
 use Rattle.log_cleaner.specs.declared.answer.CleanFault.TheVariants.{DiskFault, VersionsSpent, NoMemory}
@@ -98,21 +98,35 @@ module _ {D : Type 0} (tells : Bool) (state : D → State) (old mid new : Manage
 
 -- ---- Several chunks
 
--- a copy more
-pub chunks_more : (covered : ℕ → Bool) (most next first count : ℕ) (copies more : List Write) → AreChunks covered most next copies → IsChunk covered most first count → length more ≤ 1 → AllByRecursion (IsCopyAt first count (next + length copies)) more → AreChunks covered most next (copies ++ more)
-chunks_more covered most next first count copies [] are chunk one all = subst (AreChunks covered most next) (sym (append-nil copies)) are
-chunks_more covered most next first count copies (w ∷ []) are chunk one all = record {
+-- one more, above the others
+rising_push : (vs : List ℕ) (v : ℕ) → AreRising vs → AllByRecursion (λ (u : ℕ). u < v) vs → AreRising (vs ++ v ∷ [])
+rising_push [] v rising less = (tt, tt)
+rising_push (u ∷ vs) v rising less = (all_push (λ (w : ℕ). u < w) vs v rising.0 less.0, rising_push vs v rising.1 less.1)
+
+-- a copy more, behind the others, of a chunk that wasn't tidy
+pub chunks_more : (covered : ℕ → Bool) (es : List Listed) (most next first count : ℕ) (copies more : List Write) → AreChunks covered es most next copies → IsChunk covered most first count → (IsTidy es first count → ⊥) → AllByRecursion (λ (w : Write). w.first < first) copies
+    → length more ≤ 1 → AllByRecursion (IsCopyAt first count (next + length copies)) more → AreChunks covered es most next (copies ++ more)
+chunks_more covered es most next first count copies [] are chunk untidy behind one all = subst (AreChunks covered es most next) (sym (append-nil copies)) are
+chunks_more covered es most next first count copies (w ∷ []) are chunk untidy behind one all = record {
   chunks = all_push (IsChunkOf covered most) copies w are.chunks (subst (λ (f : ℕ). IsChunk covered most f (length w.blocks)) (sym all.0.first_is) (subst (IsChunk covered most first) (sym all.0.count_is) chunk));
+  untidy = all_push (IsOfUntidy es) copies w are.untidy (λ t. untidy (subst (λ (f : ℕ). IsTidy es f count) all.0.first_is (subst (IsTidy es w.first) all.0.count_is t)));
+  in_order = subst AreRising (sym (map-append (λ (v : Write). v.first) copies (w ∷ [])))
+      (rising_push (map (λ (v : Write). v.first) copies) w.first are.in_order (subst (λ (f : ℕ). AllByRecursion (λ (u : ℕ). u < f) (map (λ (v : Write). v.first) copies)) (sym all.0.first_is)
+      (all_mapped (λ (u : ℕ). u < first) (λ (v : Write). v.first) copies behind)));
   numbered = map-append (λ (v : Write). v.version) copies (w ∷ []) ∙ (λ i. are.numbered i ++ all.0.version_is i ∷ [])
       ∙ sym (ap (λ (n : ℕ). map (λ v. Some v) (range_with_len next n)) long ∙ ap (map (λ v. Some v)) (range_push next (length copies)) ∙ map-append (λ (v : ℕ). Some v) (range_with_len next (length copies)) ((next + length copies) ∷ []));
 }
   where
     long : length (copies ++ w ∷ []) ≡ suc (length copies)
     long = let l = length-append copies (w ∷ []) in omega (arith, l)
-chunks_more covered most next first count copies (w ∷ v ∷ more) are chunk one all = absurd (omega (arith, one))
+chunks_more covered es most next first count copies (w ∷ v ∷ more) are chunk untidy behind one all = absurd (omega (arith, one))
 
-pub chunks_none : (covered : ℕ → Bool) (most next : ℕ) → AreChunks covered most next []
-chunks_none covered most next = record { chunks = tt; numbered = refl }
+pub chunks_none : (covered : ℕ → Bool) (es : List Listed) (most next : ℕ) → AreChunks covered es most next []
+chunks_none covered es most next = record { chunks = tt; untidy = tt; in_order = tt; numbered = refl }
+
+some_last : {X : Type 0} (xs : List X) (x : X) → xs ++ x ∷ [] ≡ [] → ⊥
+some_last [] x is = absurd (let no : x ∷ [] ≡ [] = is in cc)
+some_last (y ∷ xs) x is = absurd (let no : y ∷ (xs ++ x ∷ []) ≡ [] = is in cc)
 
 pub blocks_more : (copies : List Write) (w : Write) → copied_blocks (copies ++ w ∷ []) ≡ copied_blocks copies + length w.blocks
 blocks_more copies w = let e = sum_by-append (λ (v : Write). length v.blocks) copies (w ∷ []) in omega (arith, e)
@@ -126,16 +140,21 @@ pub record Between {D : Type 0} (tells : Bool) (state : D → State) (most : ℕ
   pub within : from ≤ 2 ^ 32
   pub tidy : AreTidyBelow (covered_in old) most from (listed_in now.index.entries)
   pub cut : covered_in old from ≡ true → IsCutAt (covered_in old) most from
+  -- the copies lie before, and what was tidy behind is still
+  pub behind : AllByRecursion (λ (w : Write). w.first < from) copies
+  pub stays : (f c : ℕ) → 1 ≤ c → from ≤ f → IsTidy (listed_in old.index.entries) f c → IsTidy (listed_in now.index.entries) f c
 
 pub between_none : {D : Type 0} (tells : Bool) (state : D → State) (most : ℕ) (m : Manager D) → CanClean m → Between tells state most m m 0 0
 between_none tells state most m can = record {
   copies = [];
-  done = record { chunks = chunks_none (covered_in m) most m.next; copied = copied_none tells state m can };
+  done = record { chunks = chunks_none (covered_in m) (listed_in m.index.entries) most m.next; copied = copied_none tells state m can; untouched = λ none. refl };
   count = refl;
   few = omega arith;
   within = omega arith;
   tidy = λ b lt is. absurd (omega (arith, lt));
   cut = λ is. Rattle.log_cleaner.proofs.Chunking.cut_at_none (covered_in m) most;
+  behind = tt;
+  stays = λ f c some le t. t;
 }
 
 module _ {D : Type 0} (tells : Bool) (state : D → State) (most : ℕ) (old now : Manager D) (copied from : ℕ) (can : CanClean old) (b : Between tells state most old now copied from)
@@ -163,6 +182,17 @@ module _ {D : Type 0} (tells : Bool) (state : D → State) (most : ℕ) (old now
       at (inr g) (inl l) = absurd (clash (covered_in old x) is (sym (same_cover x) ∙ bare x g l))
       at (inr g) (inr h) = (lbn, count, chunk, h, lt, now_)
 
+  -- the chunks before it are tidy
+  tidy_before : AreTidyBelow (covered_in old) most lbn (listed_in now.index.entries)
+  tidy_before x lt is = ⊎_elim (λ l. b.tidy x l is) (λ g. absurd (clash (covered_in old x) is (sym (same_cover x) ∙ bare x g lt))) (cases_lt x from)
+
+  -- those that lie before a block lie before a later one
+  behind_later : AllByRecursion (λ (w : Write). w.first < lbn) b.copies
+  behind_later = all_map (λ (w : Write). w.first < from) (λ (w : Write). w.first < lbn) (λ w lt. omega (arith, lt, low)) b.copies b.behind
+
+  behind_end : AllByRecursion (λ (w : Write). w.first < lbn + count) b.copies
+  behind_end = all_map (λ (w : Write). w.first < from) (λ (w : Write). w.first < lbn + count) (λ w lt. omega (arith, lt, low)) b.copies b.behind
+
   pub between_tidy : IsTidy (listed_in now.index.entries) lbn count → Between tells state most old now copied (lbn + count)
   between_tidy t = record {
     copies = b.copies;
@@ -172,9 +202,25 @@ module _ {D : Type 0} (tells : Bool) (state : D → State) (most : ℕ) (old now
     within = end_within;
     tidy = tidy_then (listed_in now.index.entries) b.tidy t;
     cut = cut_then;
+    behind = behind_end;
+    stays = λ f c least le. b.stays f c least (omega (arith, le, low));
   }
 
-  module _ (new : Manager D) where
+  module _ (untidy : IsTidy (listed_in now.index.entries) lbn count → ⊥) (new : Manager D) where
+    -- it wasn't tidy at the beginning either
+    untidy_old : IsTidy (listed_in old.index.entries) lbn count → ⊥
+    untidy_old t = untidy (b.stays lbn count some low t)
+
+    abbrev left_untidy : new.index.entries ≡ now.index.entries → IsLeftUntidy (covered_in old) most (listed_in new.index.entries) b.copies
+    left_untidy same = record {
+      first = lbn;
+      count = count;
+      chunk = chunk;
+      before = subst (λ (es : List Indexed). AreTidyBelow (covered_in old) most lbn (listed_in es)) (sym same) tidy_before;
+      behind = behind_later;
+      untidy = λ t. untidy (subst (λ (es : List Indexed). IsTidy (listed_in es) lbn count) same t);
+    }
+
     next_is : now.next ≡ old.next + length b.copies
     next_is = b.done.copied.next
 
@@ -182,8 +228,9 @@ module _ {D : Type 0} (tells : Bool) (state : D → State) (most : ℕ) (old now
     between_copied t = record {
       copies = b.copies ++ t.write ∷ [];
       done = record {
-        chunks = chunks_more (covered_in old) most old.next lbn count b.copies (t.write ∷ []) b.done.chunks chunk (omega arith) (subst (λ (n : ℕ). IsCopyAt lbn count n t.write) next_is t.is_copy, tt);
+        chunks = chunks_more (covered_in old) (listed_in old.index.entries) most old.next lbn count b.copies (t.write ∷ []) b.done.chunks chunk untidy_old behind_later (omega arith) (subst (λ (n : ℕ). IsCopyAt lbn count n t.write) next_is t.is_copy, tt);
         copied = copied_then tells state old now new b.copies (t.write ∷ []) can b.done.copied t.copied;
+        untouched = λ none. absurd (some_last b.copies t.write none);
       };
       count = let e = blocks_more b.copies t.write in let c = b.count in let n = t.is_copy.count_is in omega (arith, e, c, n);
       few = let f = b.few in omega (arith, f, low);
@@ -191,6 +238,9 @@ module _ {D : Type 0} (tells : Bool) (state : D → State) (most : ℕ) (old now
       tidy = tidy_then (listed_in new.index.entries) (λ x lt is. let o = b.tidy x lt is in
           (o.0, o.1, o.2, o.3, o.4, t.others o.0 o.1 o.2.some (λ y inside. apart_from x lt o.0 o.1 o.2 o.3 o.4 y inside) o.5)) t.tidy;
       cut = cut_then;
+      behind = all_push (λ (w : Write). w.first < lbn + count) b.copies t.write behind_end (let f = t.is_copy.first_is in omega (arith, f, some));
+      stays = λ f c least le x. t.others f c least (λ y inside. Rattle.log_cleaner.proofs.Tidying.not_so (is_within lbn count y) (λ is.
+          let v = inside_of f c y inside in let w = inside_of lbn count y is in let l = v.0 in let h = w.1 in omega (arith, l, h, le))) (b.stays f c least (omega (arith, le, low)) x);
     }
       where
         apart_from : (x : ℕ) → x < from → (f n : ℕ) → IsChunk (covered_in old) most f n → f ≤ x → x < f + n → (y : ℕ) → is_within f n y ≡ true → is_within lbn count y ≡ false
@@ -198,24 +248,30 @@ module _ {D : Type 0} (tells : Bool) (state : D → State) (most : ℕ) (old now
             let v = inside_of f n y inside in let w = inside_of lbn count y is in
             let same = (same_chunk (covered_in old) most f n lbn count y c chunk v.0 v.1 w.0 w.1).0 in omega (arith, lt, l, same, low))
 
-    pub ends_full : IsRefused tells state now new → CleansBy tells state most old new b.copies (Ok (copied, true))
+    pub ends_full : IsRefused tells state count now new → CleansBy tells state most old new b.copies (Ok (copied, true))
     ends_full r = (
-      record { chunks = b.done.chunks; copied = subst (HasCopied tells state old new) (append-nil b.copies) (copied_then tells state old now new b.copies [] can b.done.copied r.copied) },
+      record { chunks = b.done.chunks; copied = subst (HasCopied tells state old new) (append-nil b.copies) (copied_then tells state old now new b.copies [] can b.done.copied r.copied); untouched = λ none. r.entries ∙ b.done.untouched none },
       b.count,
       λ wrong. absurd (let no_ : true ≡ false = wrong in cc),
-      λ yes_. (let e = r.copied.next in let n = r.next in omega (arith, e, n), empty_since old now new b.done.copied.goes_on r.empty),
+      λ yes_. (let e = r.copied.next in let n = r.next in omega (arith, e, n), empty_since old now new b.done.copied.goes_on r.empty, left_untidy r.entries, r.room),
     )
 
     pub ends_faulty : (fault : CleanFault) → TellsFault tells state lbn count now new fault → (copies : List Write) × EndsBy tells state most old new copies fault
     ends_faulty (DiskFault p) f = (
       b.copies ++ f.copies,
       (
-        chunks_more (covered_in old) most old.next lbn count b.copies f.copies b.done.chunks chunk f.one (subst (λ (n : ℕ). AllByRecursion (IsCopyAt lbn count n) f.copies) next_is f.are),
+        chunks_more (covered_in old) (listed_in old.index.entries) most old.next lbn count b.copies f.copies b.done.chunks chunk untidy_old behind_later f.one (subst (λ (n : ℕ). AllByRecursion (IsCopyAt lbn count n) f.copies) next_is f.are),
         broken_then tells state old now new p b.copies f.copies can b.done.copied f.broken,
       ),
     )
-    ends_faulty VersionsSpent f = (b.copies, (record { chunks = b.done.chunks; copied = subst (HasCopied tells state old new) (append-nil b.copies) (copied_then tells state old now new b.copies [] can b.done.copied f.0) }, f.1))
-    ends_faulty NoMemory f = (b.copies, record { chunks = b.done.chunks; copied = subst (HasCopied tells state old new) (append-nil b.copies) (copied_then tells state old now new b.copies [] can b.done.copied f) })
+    ends_faulty VersionsSpent f = (b.copies, (record { chunks = b.done.chunks; copied = subst (HasCopied tells state old new) (append-nil b.copies) (copied_then tells state old now new b.copies [] can b.done.copied f.0); untouched = λ none. f.2 ∙ b.done.untouched none }, f.1, left_untidy f.2))
+    ends_faulty NoMemory f = (
+      b.copies,
+      (
+        record { chunks = b.done.chunks; copied = subst (HasCopied tells state old new) (append-nil b.copies) (copied_then tells state old now new b.copies [] can b.done.copied f.0); untouched = λ none. f.1 ∙ b.done.untouched none },
+        (lbn, subst (λ (es : List Indexed). AreTidyBelow (covered_in old) most lbn (listed_in es)) (sym f.1) tidy_before, behind_later),
+      ),
+    )
 
 -- all are tidy where no block is covered from here on
 pub ends_clean : {D : Type 0} (tells : Bool) (state : D → State) (most : ℕ) (old now : Manager D) (copied from : ℕ) → (b : Between tells state most old now copied from) → IsReady state now → IsIndex now.index.entries
@@ -268,6 +324,8 @@ module _ {D : Type 0} (tells : Bool) (state : D → State) (most : ℕ) (old new
   cleaned_ok copied full c before after same_copied same_full all = let d = all.1.0 in record {
     copies = all.0;
     chunks = d.chunks.chunks;
+    untidy = d.chunks.untidy;
+    in_order = d.chunks.in_order;
     numbered = d.chunks.numbered;
     copied = d.copied.copied;
     tells_ = (
@@ -278,6 +336,7 @@ module _ {D : Type 0} (tells : Bool) (state : D → State) (most : ℕ) (old new
       same_copied ∙ all.1.1,
       λ is. all.1.2 (sym same_full ∙ is),
       λ is. all.1.3 (sym same_full ∙ is),
+      d.untouched,
     );
   }
 
@@ -285,6 +344,8 @@ module _ {D : Type 0} (tells : Bool) (state : D → State) (most : ℕ) (old new
   cleaned_err (DiskFault p) all = let d = all.1.1 in record {
     copies = all.0;
     chunks = all.1.0.chunks;
+    untidy = all.1.0.untidy;
+    in_order = all.1.0.in_order;
     numbered = all.1.0.numbered;
     copied = d.copied;
     tells_ = (d.down, d.rose, d.leaves);
@@ -292,17 +353,22 @@ module _ {D : Type 0} (tells : Bool) (state : D → State) (most : ℕ) (old new
   cleaned_err VersionsSpent all = let d = all.1.0 in record {
     copies = all.0;
     chunks = d.chunks.chunks;
+    untidy = d.chunks.untidy;
+    in_order = d.chunks.in_order;
     numbered = d.chunks.numbered;
     copied = d.copied.copied;
-    tells_ = (d.copied.goes_on, leaves_copies tells state old new all.0 can.up d.copied.keeps, all.1.1);
+    tells_ = (d.copied.goes_on, leaves_copies tells state old new all.0 can.up d.copied.keeps, all.1.1, sym d.copied.next ∙ all.1.1, all.1.2, d.untouched);
   }
-  cleaned_err NoMemory all = let d = all.1 in record {
+  cleaned_err NoMemory all = let d = all.1.0 in record {
     copies = all.0;
     chunks = d.chunks.chunks;
+    untidy = d.chunks.untidy;
+    in_order = d.chunks.in_order;
     numbered = d.chunks.numbered;
     copied = d.copied.copied;
-    tells_ = (d.copied.goes_on, leaves_copies tells state old new all.0 can.up d.copied.keeps);
+    tells_ = (d.copied.goes_on, leaves_copies tells state old new all.0 can.up d.copied.keeps, d.untouched, all.1.1);
   }
 
 pub cleaned_none : {D : Type 0} (tells : Bool) (state : D → State) (most : ℕ) (m : Manager D) → CanClean m → HasCleaned tells state most m m (Err NoMemory)
-cleaned_none tells state most m can = cleaned_err tells state most m m can NoMemory ([], record { chunks = chunks_none (covered_in m) most m.next; copied = copied_none tells state m can })
+cleaned_none tells state most m can = cleaned_err tells state most m m can NoMemory
+    ([], (record { chunks = chunks_none (covered_in m) (listed_in m.index.entries) most m.next; copied = copied_none tells state m can; untouched = λ none. refl }, (0, (λ x lt is. absurd (omega (arith, lt))), tt)))

@@ -25,7 +25,7 @@ use Rattle.manager.specs.declared.base.ManagerBase.{ManagerBase}
 use Rattle.manager.specs.declared.manager.Manager.{Manager}
 use Rattle.manager.proofs.Frames.{none_passed, stands_kept}
 use Rattle.log_cleaner.specs.Chunks.{IsCopyOf}
-use Rattle.log_cleaner.specs.Copies.{AreCopies, AtEachMoment, no_call, one_more, KeepsCopies, LeavesEntry, array_of, copy_notes, wrote}
+use Rattle.log_cleaner.specs.Copies.{AreCopies, AtEachMoment, Claims, no_call, one_more, KeepsCopies, LeavesEntry, array_of, copy_notes, wrote}
 use Rattle.log_cleaner.proofs.Noting.{AreLogged, history_front, legal_last, passed_front, upholds_sooner}
 
 -- ---- Arrays
@@ -271,9 +271,9 @@ module _ {D : Type 0} (tells : Bool) (state : D → State) where
       stands_broken tells state new b notes l cs fs p n (unbroken tells state old b notes k up) logged client note refl
       (leaves b (notes ++ copy_notes l cs) p refl (is_plain (last_look b.volume.began.look (notes ++ copy_notes l cs)) (Broke fs) l []) (keeps b notes l k)).keeps
 
-  moments_then : (owner : ℕ) (array : List Block) (old mid new : Manager D) → AtEachMoment state owner array old mid → AtEachMoment state owner array mid new → AtEachMoment state owner array old new
+  moments_then : (owner : ℕ) (array : List Block) (old mid new : Manager D) → AtEachMoment tells state owner array old mid → AtEachMoment tells state owner array mid new → AtEachMoment tells state owner array old new
   moments_then owner array old mid new first (no_call m) = first
-  moments_then owner array old mid new first (one_more m k n claimed before step) = one_more old k n claimed (moments_then owner array old m k first before) step
+  moments_then owner array old mid new first (one_more m k n claimed before claims step) = one_more old k n claimed (moments_then owner array old m k first before) claims step
 
   -- the array is the same after copies
   pub array_copies : (b : ManagerBase) (notes : List Noted) (l : Look) (cs : List Write) → AllByRecursion (IsCopyOf (array_of b notes)) cs → array_of b (notes ++ copy_notes l cs) ≡ array_of b notes
@@ -289,7 +289,7 @@ module _ {D : Type 0} (tells : Bool) (state : D → State) where
         let here = first.same told b notes k in
         let l = look_of_manager mid in
         moments_then b.volume.began.owner (array_of b notes) old mid new (first.any_moment told b notes k)
-        (subst (λ (a : List Block). AtEachMoment state b.volume.began.owner a mid new) (array_copies b notes l cs here) (second.any_moment told b (notes ++ copy_notes l cs) (keeps b notes l k)));
+        (subst (λ (a : List Block). AtEachMoment tells state b.volume.began.owner a mid new) (array_copies b notes l cs here) (second.any_moment told b (notes ++ copy_notes l cs) (keeps b notes l k)));
     logged = all_joined (λ (w : Write). IsSome w.version) cs ds first.logged second.logged;
   }
 
@@ -301,13 +301,13 @@ module _ {D : Type 0} (tells : Bool) (state : D → State) where
   copies_none m = record { same = λ told b notes k. tt; any_moment = λ told b notes k. no_call m; logged = tt }
 
   -- a call that writes nothing
-  pub copies_plain : (old new : Manager D) → old.down ≡ None → (IsTrue tells → (claimed : Option (Spun D)) × ((b : ManagerBase) (notes : List Noted) → Keeps tells state old b notes → Stops state old new claimed b notes [])) → AreCopies tells state old new []
+  pub copies_plain : (old new : Manager D) → old.down ≡ None → (IsTrue tells → (claimed : Option (Spun D)) × Claims tells state old.lanes.items new.lanes.items claimed × ((b : ManagerBase) (notes : List Noted) → Keeps tells state old b notes → Stops state old new claimed b notes [])) → AreCopies tells state old new []
   copies_plain old new up stops = record {
     same = λ told b notes k. tt;
-    any_moment = λ told b notes k. let s = stops told in one_more old old new s.0 (no_call old) (λ before after was is home segments h zip.
+    any_moment = λ told b notes k. let s = stops told in one_more old old new s.0 (no_call old) s.1 (λ before after was is home segments h zip.
         cut_none b.volume.began.array (writes (entries_of notes)) (recovered b.volume.began.owner home segments)
         (subst (λ (f : List Write). IsCut b.volume.began.array (writes (entries_of notes)) f (recovered b.volume.began.owner home segments)) (nothing (flight_of (entries_of notes)) (unbroken tells state old b notes k up))
-        (s.1 b notes k before after was is home segments h zip)));
+        (s.2 b notes k before after was is home segments h zip)));
     logged = tt;
   }
     where
@@ -316,13 +316,13 @@ module _ {D : Type 0} (tells : Bool) (state : D → State) where
 
   -- a call that writes a copy to a log
   pub copies_wrote : (old new : Manager D) (w : Write) → old.down ≡ None → IsSome w.version → (IsTrue tells → (b : ManagerBase) (notes : List Noted) → Keeps tells state old b notes → IsCopyOf (array_of b notes) w)
-      → (IsTrue tells → (claimed : Option (Spun D)) × ((b : ManagerBase) (notes : List Noted) → Keeps tells state old b notes → Stops state old new claimed b notes (w ∷ []))) → AreCopies tells state old new (w ∷ [])
+      → (IsTrue tells → (claimed : Option (Spun D)) × Claims tells state old.lanes.items new.lanes.items claimed × ((b : ManagerBase) (notes : List Noted) → Keeps tells state old b notes → Stops state old new claimed b notes (w ∷ []))) → AreCopies tells state old new (w ∷ [])
   copies_wrote old new w up some same stops = record {
     same = λ told b notes k. (same told b notes k, tt);
-    any_moment = λ told b notes k. let s = stops told in one_more old old new s.0 (no_call old) (λ before after was is home segments h zip.
+    any_moment = λ told b notes k. let s = stops told in one_more old old new s.0 (no_call old) s.1 (λ before after was is home segments h zip.
         cut_one b.volume.began.array (writes (entries_of notes)) w (recovered b.volume.began.owner home segments) some (same told b notes k)
         (subst (λ (f : List Write). IsCut b.volume.began.array (writes (entries_of notes)) f (recovered b.volume.began.owner home segments)) (alone (flight_of (entries_of notes)) (unbroken tells state old b notes k up))
-        (s.1 b notes k before after was is home segments h zip)));
+        (s.2 b notes k before after was is home segments h zip)));
     logged = (some, tt);
   }
     where

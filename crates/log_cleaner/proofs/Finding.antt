@@ -1,8 +1,9 @@
 -- Covered blocks are found, and a record that keeps just a chunk.
-use Rattle.std.proofs.Common.{◌≡◌, ◌⊎◌, inl, inr, ⊎_elim, ◌<◌, ◌≤◌, ◌+◌, ◌-◌, ◌^◌, ℕ, Bool, true, false, ◌&&◌, not, List, Some, refl, sym, ap, ◌∙◌, arith, leb, ltb}
+use Rattle.std.proofs.Common.{◌≡◌, ◌⊎◌, inl, inr, ⊎_elim, ◌<◌, ◌≤◌, ◌+◌, ◌-◌, ◌^◌, ℕ, zero, suc, Bool, true, false, cond, ◌&&◌, not, List, Some, refl, sym, ap, ◌∙◌, arith, leb, ltb, eqb, nat_cmp, is_lt, Less, Equal, Greater}
 use Rattle.std.specs.Prelude.{IfSome, is_some}
 use Rattle.std.specs.List.{list_any, range_with_len}
-use Rattle.std.proofs.lemmas.Bool.{cases_lt, leb-true, le-leb, lt-ltb, le-ltb}
+use Rattle.std.proofs.lemmas.Bool.{cases_lt, leb-true, ltb-true, le-leb, lt-ltb, le-ltb}
+use Rattle.std.specs.Ordering.{ord_min}
 use Rattle.wol_model.specs.Extents.{Cover, marked, has_newer, has_older}
 use Rattle.wol_model.specs.Index.{Listed, Indexed, listed_in, cover_of, listed_covers, is_live, is_older}
 use Rattle.wol_model.specs.Log.{has_bit}
@@ -33,6 +34,15 @@ found_right p low high half n is none t = (t.0, above (cases_lt (low + half) t.0
 pub bare_right : (p : ℕ → Bool) (from low half n : ℕ) → n ≡ half + 1 → list_any p (range_with_len low n) ≡ false → ((x : ℕ) → from ≤ x → x < low → p x ≡ false) → (x : ℕ) → from ≤ x → x < low + half + 1 → p x ≡ false
 bare_right p from low half n is none before x l h = ⊎_elim (λ lt. before x l lt) (λ ge. none_in p low n x none ge (omega (arith, h, is))) (cases_lt x low)
 
+-- the smaller of two numbers
+pub smaller : (a b : ℕ) → (ord_min nat_cmp a b ≤ a) × (ord_min nat_cmp a b ≤ b) × (1 ≤ a → 1 ≤ b → 1 ≤ ord_min nat_cmp a b)
+smaller a b = by (ltb b a) (eqb b a) refl
+  where
+    by : (t e : Bool) → ltb b a ≡ t → (cond (is_lt (cond t Less (cond e Equal Greater))) b a ≤ a) × (cond (is_lt (cond t Less (cond e Equal Greater))) b a ≤ b) × (1 ≤ a → 1 ≤ b → 1 ≤ cond (is_lt (cond t Less (cond e Equal Greater))) b a)
+    by true e is = let lt = ltb-true b a is in (omega (arith, lt), omega arith, λ some other. other)
+    by false true is = (omega arith, ⊎_elim (λ lt. absurd (clash (ltb b a) (lt-ltb b a lt) is)) (λ le. le) (cases_lt b a), λ some other. some)
+    by false false is = (omega arith, ⊎_elim (λ lt. absurd (clash (ltb b a) (lt-ltb b a lt) is)) (λ le. le) (cases_lt b a), λ some other. some)
+
 -- ---- Masks
 
 pub just_kept : (first count keep lbn n place : ℕ) → keep < 2 ^ count → count ≤ place → ((i : ℕ) → i < place → has_bit keep i ≡ is_within lbn n (first + i)) → first ≤ lbn → lbn + n ≤ first + count → (b : ℕ) → in_mask first keep b ≡ is_within lbn n b
@@ -58,6 +68,32 @@ just_kept first count keep lbn n place within long each le fits b = at (cases_lt
 
         beyond : place ≤ b - first → is_within lbn n b ≡ false
         beyond past = (λ i. leb lbn b && le-ltb b (lbn + n) (omega (arith, past, long, fits, ge)) i) ∙ and_false (leb lbn b)
+
+within_at : (first n b : ℕ) → first ≤ b → b < first + n → is_within first n b ≡ true
+within_at first n b low high = (λ i. le-leb first b low i && ltb b (first + n)) ∙ lt-ltb b (first + n) high
+
+mask_parts : (first keep b : ℕ) → in_mask first keep b ≡ true → (first ≤ b) × (has_bit keep (b - first) ≡ true)
+mask_parts first keep b is = at (leb first b) refl is
+  where
+    at : (t : Bool) → leb first b ≡ t → (t && has_bit keep (b - first)) ≡ true → (first ≤ b) × (has_bit keep (b - first) ≡ true)
+    at true le bit = (leb-true first b le, bit)
+    at false le bit = absurd (let wrong : false ≡ true = bit in cc)
+
+-- a record that keeps just some blocks has them in its range
+pub just_reaches : (first count keep lbn n : ℕ) → keep < 2 ^ count → 1 ≤ n → ((b : ℕ) → in_mask first keep b ≡ is_within lbn n b) → (first ≤ lbn) × (lbn + n ≤ first + count)
+just_reaches first count keep lbn zero small some just = absurd (omega (arith, some))
+just_reaches first count keep lbn (suc k) small some just =
+    let low = (mask_parts first keep lbn (just lbn ∙ within_at lbn (suc k) lbn (omega arith) (omega arith))).0 in
+    let high = mask_parts first keep (lbn + k) (just (lbn + k) ∙ within_at lbn (suc k) (lbn + k) (omega arith) (omega arith)) in
+    let h = high.0 in (
+      low,
+      ⊎_elim (λ lt. omega (arith, lt, h)) (λ past. absurd (clash (has_bit keep (lbn + k - first)) high.1 (has_bit-above keep count (lbn + k - first) small past))) (cases_lt (lbn + k - first) count),
+    )
+
+-- and a mark for each block of it
+pub just_marks : (first keep lbn n i : ℕ) → ((b : ℕ) → in_mask first keep b ≡ is_within lbn n b) → has_bit keep i ≡ is_within lbn n (first + i)
+just_marks first keep lbn n i just =
+    sym ((λ j. le-leb first (first + i) (omega arith) j && has_bit keep (first + i - first)) ∙ (let e : first + i - first ≡ i = omega arith in ap (has_bit keep) e)) ∙ just (first + i)
 
 -- ---- A record that is alone
 
@@ -89,7 +125,7 @@ module _ (es : List Indexed) (index : IsIndex es) (version : ℕ) (r : Rec) (ans
   abbrev e : Listed
   e = found.entry.listed
 
-  covers_mask : (b : ℕ) → covers e b ≡ in_mask r.lbn r.keep b
+  pub covers_mask : (b : ℕ) → covers e b ≡ in_mask r.lbn r.keep b
   covers_mask b = (λ i. marked (sym found.record_.first i) (sym found.record_.keep i) b) ∙ marked-marks_of r.lbn r.count r.keep b found.record_.within
 
   and_parts : (a b : Bool) → (a && b) ≡ true → (a ≡ true) × (b ≡ true)

@@ -2,8 +2,10 @@ pub mod Lists
 pub mod Chunking
 pub mod Noting
 pub mod Tidying
+pub mod Claiming
 pub mod Copying
 pub mod Stepping
 pub mod Rewriting
 pub mod Cleaning
 pub mod Finding
+pub mod Telling

@@ -13,7 +13,9 @@ use Rattle.turn_lock.specs.Histories.{Entry, Begins}
 use Rattle.turn_lock.specs.Passes.{pass_mine, pass_number}
 use Rattle.seg_pool.specs.Holders.{Took}
 use Rattle.seg_pool.specs.Operations.{operation_of}
-use Rattle.logger.specs.Lanes.{pool_of, logger_of}
+use Rattle.logger.specs.Lanes.{HasNoRoom, held_in, pool_of, logger_of}
+use Rattle.logger.specs.declared.lane.HeldSegment.{HeldSegment}
+use Rattle.manager.specs.Offers.{IsTurnedAway}
 use Rattle.logger.specs.declared.lane.Lane.{Lane}
 use Rattle.offload_policy.specs.Placing.{may_hold}
 use Rattle.offload_policy.specs.declared.Room.{Room}
@@ -29,11 +31,15 @@ use Rattle.wol_promise.specs.Ruled.{Noted, entries_of}
 use Rattle.wol_promise.proofs.Lists.{all_map}
 use Rattle.manager.specs.Answers.{home_write, log_write, written, was_read, IsPlaceOf}
 use Rattle.manager.specs.Causes.{PartRose}
-use Rattle.manager.specs.Reading.{HasOnlyRead, LaneRead}
+use Rattle.manager.specs.Reading.{HasOnlyRead, LaneRead, NeedsSources, needs_of}
+use Rattle.spin_model.specs.Operations.{use_of}
+use Rattle.wol_promise.specs.Spindle.{needs_in}
+use Rattle.log_cleaner.proofs.Cleaning.{of_inside}
+use Rattle.log_cleaner.proofs.Lists.{some_in}
 use Rattle.manager.specs.Seen.{look_of_manager}
 use Rattle.manager.specs.Stands.{Keeps, IsReady, IsSameManager, Leaves, passed_in}
 use Rattle.manager.specs.Stops.{Stops}
-use Rattle.manager.specs.Writing.{HasAnswered, HaveAnswered, HasLook, TellsFault, IsAsBefore, ruled_place, takes_at, in_flight}
+use Rattle.manager.specs.Writing.{HasAnswered, HaveAnswered, NeedsHome, HasLook, TellsFault, IsAsBefore, ruled_place, takes_at, in_flight}
 use Rattle.manager.specs.declared.base.ManagerBase.{ManagerBase}
 use Rattle.manager.specs.declared.manager.Manager.{Manager}
 use Rattle.manager.specs.declared.part.Part.{Part}
@@ -49,13 +55,14 @@ use Rattle.manager.proofs.Answered.{get_inside}
 use Rattle.manager.proofs.Placing.{rooms_are}
 use Rattle.manager.proofs.ReadThrough.{zip_at, zip_length}
 use Rattle.log_cleaner.specs.Chunks.{IsCopyOf, NoneHomed, is_within}
-use Rattle.log_cleaner.specs.Copies.{AreCopies, one_more, array_of}
-use Rattle.log_cleaner.specs.Cleans.{CanClean, FindsAllEmpty, GoesOn, covered_in}
+use Rattle.log_cleaner.specs.Copies.{AreCopies, Claims, one_more, array_of}
+use Rattle.log_cleaner.proofs.Claiming.{fewer_read}
+use Rattle.log_cleaner.specs.Cleans.{CanClean, FindsAllEmpty, GoesOn, NoneHasRoom, covered_in}
 use Rattle.log_cleaner.specs.Steps.{Fails, HasBroken, HasCopied, HasRewritten, IsCopyAt, IsRefused, Rewrites}
 use Rattle.log_cleaner.specs.Steps as steps
 use Rattle.log_cleaner.proofs.Copying.{copies_plain, cut_one, keeps_plain, keeps_wrote, leaves_broken, read_content, unbroken}
 use Rattle.log_cleaner.proofs.Stepping.{copied_then, empty_since, goes_none, goes_then, rose_of, set_awake}
-use Rattle.log_cleaner.proofs.Tidying.{clash, listing_covered, listing_unhomed}
+use Rattle.log_cleaner.proofs.Tidying.{clash, listing_covered, listing_unhomed, not_so}
 
 -- ---- Flags
 
@@ -77,8 +84,15 @@ module _ {D : Type 0} (tells : Bool) (state : D → State) (old new : Manager D)
   read_pools : (k : ℕ) (o n : Lane D) → slice_get old.lanes.items k ≡ Some o → slice_get new.lanes.items k ≡ Some n → Begins (pass_mine (pool_of o)) (pass_mine (pool_of n))
   read_pools k o n is_o is_n = ([], append-nil (pass_mine (pool_of o)) ∙ sym (zip_at (LaneRead state) old.lanes.items new.lanes.items k o n read.lanes is_o is_n).pool)
 
-  read_goes_on : new.down ≡ None → (first count : ℕ) → look_of_manager new ≡ woken (look_of_manager old) first count → GoesOn old new
-  read_goes_on up first count look = record {
+  -- no block of the range is at home alone
+  none_home : (first count : ℕ) → ((b : ℕ) → is_within first count b ≡ true → covered_in old b ≡ true) → list_any (λ b. not (covered_in old b)) (range_with_len first count) ≡ false
+  none_home first count covered = not_so (list_any (λ b. not (covered_in old b)) (range_with_len first count)) (λ some.
+      let s = some_in (λ b. not (covered_in old b)) first count some in
+      let here : covered_in old s.item ≡ true = covered s.item (of_inside first count s.item s.low s.high) in
+      let no : false ≡ true = sym (ap not here) ∙ s.passes in cc no)
+
+  read_goes_on : new.down ≡ None → (first count : ℕ) → look_of_manager new ≡ woken (look_of_manager old) first count → ((b : ℕ) → is_within first count b ≡ true → covered_in old b ≡ true) → NeedsSources old new first count → GoesOn old new
+  read_goes_on up first count look range needs = record {
     same = record { id = read.same.id; most = read.same.most };
     can = record {
       up = up;
@@ -86,6 +100,8 @@ module _ {D : Type 0} (tells : Bool) (state : D → State) (old new : Manager D)
       awake = subst (λ (us : List Bool). AllByRecursion (λ up. up ≡ true) us) (sym (ap (λ (l : Look). l.ups) look)) (woken_awake old.ups.items _ can.awake);
     };
     covered = λ b. ap (λ (es : List Indexed). is_covered (listed_in es) b) entries;
+    home_up = ap (λ (l : Look). l.home_up) look ∙ ap (λ (t : Bool). old.home_up || t) (none_home first count range) ∙ or_false old.home_up;
+    home_needs = same_needs needs.home.no_less (λ more. let no : false ≡ true = sym (none_home first count range) ∙ needs.home.exactly.0 more in cc no);
     lanes = zip_length (LaneRead state) old.lanes.items new.lanes.items read.lanes;
     pools = read_pools;
   }
@@ -93,12 +109,19 @@ module _ {D : Type 0} (tells : Bool) (state : D → State) (old new : Manager D)
       entries : new.index.entries ≡ old.index.entries
       entries = ap (λ i. i.entries) read.index
 
-  pub read_copied : (first count : ℕ) (reply : List Block) → new.down ≡ None → look_of_manager new ≡ woken (look_of_manager old) first count → Leaves tells state old new (Read first reply) [] worker
+      or_false : (t : Bool) → (t || false) ≡ t
+      or_false true = refl
+      or_false false = refl
+
+      same_needs : {m n : ℕ} → m ≤ n → (m < n → ⊥) → n ≡ m
+      same_needs {m} {n} le never = ⊎_elim (λ lt. absurd (never lt)) (λ ge. omega (arith, le, ge)) (cases_lt m n)
+
+  pub read_copied : (first count : ℕ) (reply : List Block) → new.down ≡ None → look_of_manager new ≡ woken (look_of_manager old) first count → ((b : ℕ) → is_within first count b ≡ true → covered_in old b ≡ true) → NeedsSources old new first count → Leaves tells state old new (Read first reply) [] worker
       → (IsTrue tells → (b : ManagerBase) (notes : List Noted) → Keeps tells state old b notes → Stops state old new None b notes []) → HasCopied tells state old new []
-  read_copied first count reply up look leaves stops = record {
-    goes_on = read_goes_on up first count look;
+  read_copied first count reply up look range needs leaves stops = record {
+    goes_on = read_goes_on up first count look range needs;
     keeps = keeps_plain tells state old new (Read first reply) [] refl refl leaves;
-    copied = copies_plain tells state old new can.up (λ told. (None, stops told));
+    copied = copies_plain tells state old new can.up (λ told. (None, fewer_read state old.lanes.items new.lanes.items read.lanes, stops told));
     next = let e = read.next in omega (arith, e);
   }
 
@@ -108,7 +131,7 @@ module _ {D : Type 0} (tells : Bool) (state : D → State) (old new : Manager D)
     down = down;
     rose = (old, goes_none old can, rose_of state old new p rose);
     leaves = leaves_broken tells state old new [] [] can.up leaves;
-    copied = copies_plain tells state old new can.up (λ told. (None, stops told));
+    copied = copies_plain tells state old new can.up (λ told. (None, fewer_read state old.lanes.items new.lanes.items read.lanes, stops told));
   }
 
 -- ---- Places of covered blocks
@@ -205,36 +228,53 @@ module _ {D : Type 0} (tells : Bool) (state : D → State) (old new : Manager D)
       let r = get_inside new.rooms.items k (omega (arith, lt, long)) in
       gained (takes_at ruled answer k) r.0 o n (all.each k r.0 o n r.1 is_o is_n)
 
-  -- where the rule ended without a place each pool was found empty
-  all_empty : ruled ≡ Nowhere → HaveAnswered (length blocks) (takes_at ruled (Err refused.Full)) new.rooms.items old.lanes.items new.lanes.items → FindsAllEmpty old new
-  all_empty nowhere all k o n is_o is_n =
-      let lt = slice_get_within old.lanes.items k o is_o in let long = all.noted in
-      let r = get_inside new.rooms.items k (omega (arith, lt, long)) in
-      turned r.0 (shut r.0 r.1) (all.each k r.0 o n r.1 is_o is_n)
+  -- where the rule ended without a place, each lane was turned away
+  all_shut : ruled ≡ Nowhere → HaveAnswered (length blocks) (takes_at ruled (Err refused.Full)) new.rooms.items old.lanes.items new.lanes.items → (k : ℕ) (r : Room) → slice_get new.rooms.items k ≡ Some r → may_hold r ≡ false
+  all_shut nowhere all k r is = closed_at old.ups.items (map may_hold new.rooms.items) can.awake (Rattle.std.proofs.lemmas.List.length-map new.rooms.items may_hold ∙ sym flags)
+      (ap (λ (rs : List Bool). position (λ (l : Bool × Bool). l.0 && l.1) (zip old.ups.items rs)) (sym (rooms_are old.ups.items new.rooms.items flags))
+      ∙ none_awake old.home_up old.ups.items (rooms_but (passed_in new.rooms.items) old.ups.items) (sym ruled_is ∙ nowhere))
+      k (may_hold r) (Rattle.std.proofs.lemmas.Option.slice_get-map may_hold new.rooms.items k ∙ ap (Rattle.std.specs.Option.option_map may_hold) is)
     where
       flags : length old.ups.items ≡ length new.rooms.items
       flags = ready.ready.flags ∙ sym all.noted
 
-      shut : (r : Room) → slice_get new.rooms.items k ≡ Some r → may_hold r ≡ false
-      shut r is = closed_at old.ups.items (map may_hold new.rooms.items) can.awake (Rattle.std.proofs.lemmas.List.length-map new.rooms.items may_hold ∙ sym flags)
-          (ap (λ (rs : List Bool). position (λ (l : Bool × Bool). l.0 && l.1) (zip old.ups.items rs)) (sym (rooms_are old.ups.items new.rooms.items flags))
-          ∙ none_awake old.home_up old.ups.items (rooms_but (passed_in new.rooms.items) old.ups.items) (sym ruled_is ∙ nowhere))
-          k (may_hold r) (Rattle.std.proofs.lemmas.Option.slice_get-map may_hold new.rooms.items k ∙ ap (Rattle.std.specs.Option.option_map may_hold) is)
-
-      turned : (r : Room) → may_hold r ≡ false → HasAnswered (length blocks) (takes_at ruled (Err refused.Full) k) r o n → (before : List Entry) × Begins (pass_mine (pool_of o)) before × (pass_mine (pool_of n) ≡ before ++ (pass_number (pool_of n), operation_of (Took None)) ∷ [])
+  all_turned : ruled ≡ Nowhere → HaveAnswered (length blocks) (takes_at ruled (Err refused.Full)) new.rooms.items old.lanes.items new.lanes.items → (k : ℕ) (o n : Lane D) → slice_get old.lanes.items k ≡ Some o → slice_get new.lanes.items k ≡ Some n
+      → IsTurnedAway (length blocks) o n
+  all_turned nowhere all k o n is_o is_n =
+      let lt = slice_get_within old.lanes.items k o is_o in let long = all.noted in
+      let r = get_inside new.rooms.items k (omega (arith, lt, long)) in
+      turned r.0 (all_shut nowhere all k r.0 r.1) (all.each k r.0 o n r.1 is_o is_n)
+    where
+      turned : (r : Room) → may_hold r ≡ false → HasAnswered (length blocks) (takes_at ruled (Err refused.Full) k) r o n → IsTurnedAway (length blocks) o n
       turned Unknown no_ h = absurd (let wrong : true ≡ false = no_ in cc)
       turned Yes no_ h = absurd (let wrong : true ≡ false = no_ in cc)
-      turned No no_ h = (
-        pass_mine (pool_of o),
-        ([], append-nil (pass_mine (pool_of o))),
-        h.pool ∙ (λ i. pass_mine (pool_of o) ++ (sym (h.same.pool.1) i, operation_of (Took None)) ∷ []),
-      )
+      turned No no_ h = h
+
+  -- each pool was found empty
+  all_empty : ruled ≡ Nowhere → HaveAnswered (length blocks) (takes_at ruled (Err refused.Full)) new.rooms.items old.lanes.items new.lanes.items → FindsAllEmpty old new
+  all_empty nowhere all k o n is_o is_n = let h = all_turned nowhere all k o n is_o is_n in (
+    pass_mine (pool_of o),
+    ([], append-nil (pass_mine (pool_of o))),
+    h.pool ∙ (λ i. pass_mine (pool_of o) ++ (sym (h.same.pool.1) i, operation_of (Took None)) ∷ []),
+  )
+
+  -- and no segment has room
+  none_has_room : ruled ≡ Nowhere → HaveAnswered (length blocks) (takes_at ruled (Err refused.Full)) new.rooms.items old.lanes.items new.lanes.items → NoneHasRoom (length blocks) new
+  none_has_room nowhere all = by_places (λ (l : Lane D). HasNoRoom (length blocks) (held_in l)) new.lanes.items (λ k n is_n.
+      let lt = slice_get_within new.lanes.items k n is_n in let long = all.same in
+      let o = get_inside old.lanes.items k (omega (arith, lt, long)) in
+      let h = all_turned nowhere all k o.0 n o.1 is_n in
+      subst (λ (hs : List (HeldSegment D)). HasNoRoom (length blocks) hs) (sym h.held) h.full)
+    where
+      by_places : {X : Type 0} (P : X → Type 0) (xs : List X) → ((k : ℕ) (x : X) → slice_get xs k ≡ Some x → P x) → AllByRecursion P xs
+      by_places P [] each = tt
+      by_places P (x ∷ xs) each = (each zero x refl, by_places P xs (λ k y is. each (suc k) y is))
 
   -- ---- A write that was answered
 
-  write_goes_on : (lane : ℕ) (answer : Place) → ruled ≡ InLog lane → look_of_manager new ≡ placed ruled (look_of_manager old) (home_write first blocks) → IsSameManager old new → new.down ≡ None
+  write_goes_on : (lane : ℕ) (answer : Place) → ruled ≡ InLog lane → NeedsHome ruled (Ok answer) old new → look_of_manager new ≡ placed ruled (look_of_manager old) (home_write first blocks) → IsSameManager old new → new.down ≡ None
       → HaveAnswered (length blocks) (takes_at ruled (Ok answer)) new.rooms.items old.lanes.items new.lanes.items → GoesOn old new
-  write_goes_on lane answer is look same up all =
+  write_goes_on lane answer is needs look same up all =
       let l : look_of_manager new ≡ placed (InLog lane) (look_of_manager old) (home_write first blocks) = look ∙ ap (λ (p : placing.Place). placed p (look_of_manager old) (home_write first blocks)) is in record {
         same = same;
         can = record {
@@ -243,6 +283,8 @@ module _ {D : Type 0} (tells : Bool) (state : D → State) (old new : Manager D)
           awake = subst (λ (m : Look). AllByRecursion (λ up. up ≡ true) m.ups) (sym l) (set_awake old.ups.items lane can.awake);
         };
         covered = λ b. ap (λ (m : Look). is_covered m.listed b) l ∙ listing_covered (look_of_manager old) lane (home_write first blocks) can.unhomed covered b;
+        home_up = ap (λ (m : Look). m.home_up) l;
+        home_needs = ap (λ es. needs_in (map (λ (e : Entry). use_of e.1) es)) (subst (λ (p : placing.Place). NeedsHome p (Ok answer) old new) is needs);
         lanes = all.same;
         pools = write_pools (Ok answer) all;
       }
@@ -250,10 +292,10 @@ module _ {D : Type 0} (tells : Bool) (state : D → State) (old new : Manager D)
   -- ---- A write that was refused before a disk was tried
 
   -- nothing was written, and at most pools were asked
-  unwritten : (answer : Result Place WriteRefusal) → IsSameManager old new → new.down ≡ old.down → new.ups.items ≡ old.ups.items → new.next ≡ old.next → new.index.entries ≡ old.index.entries
+  unwritten : (answer : Result Place WriteRefusal) → IsSameManager old new → new.down ≡ old.down → new.home_up ≡ old.home_up → needs_of new.spindle ≡ needs_of old.spindle → new.ups.items ≡ old.ups.items → new.next ≡ old.next → new.index.entries ≡ old.index.entries
       → HaveAnswered (length blocks) (takes_at ruled answer) new.rooms.items old.lanes.items new.lanes.items → Leaves tells state old new Kept (passed_in new.rooms.items) worker
-      → (IsTrue tells → (claimed : Option (Spun D)) × ((b : ManagerBase) (notes : List Noted) → Keeps tells state old b notes → Stops state old new claimed b notes [])) → HasCopied tells state old new []
-  unwritten answer same down ups next entries all leaves stops = record {
+      → (IsTrue tells → (claimed : Option (Spun D)) × Claims tells state old.lanes.items new.lanes.items claimed × ((b : ManagerBase) (notes : List Noted) → Keeps tells state old b notes → Stops state old new claimed b notes [])) → HasCopied tells state old new []
+  unwritten answer same down home needs ups next entries all leaves stops = record {
     goes_on = record {
       same = same;
       can = record {
@@ -262,6 +304,8 @@ module _ {D : Type 0} (tells : Bool) (state : D → State) (old new : Manager D)
         awake = subst (λ (us : List Bool). AllByRecursion (λ up. up ≡ true) us) (sym ups) can.awake;
       };
       covered = λ b. ap (λ (es : List Indexed). is_covered (listed_in es) b) entries;
+      home_up = home;
+      home_needs = needs;
       lanes = all.same;
       pools = write_pools answer all;
     };
@@ -275,16 +319,16 @@ module _ {D : Type 0} (tells : Bool) (state : D → State) (old new : Manager D)
 -- a copy of what was read before is at each moment what the volume has
 copies_after_read : {D : Type 0} (tells : Bool) (state : D → State) (old mid new : Manager D) (w : Write) → HasCopied tells state old mid [] → IsSome w.version
     → (IsTrue tells → (b : ManagerBase) (notes : List Noted) → Keeps tells state old b notes → IsCopyOf (array_of b notes) w)
-    → (IsTrue tells → (claimed : Option (Spun D)) × ((b : ManagerBase) (notes : List Noted) → Keeps tells state mid b notes → Stops state mid new claimed b notes (w ∷ []))) → AreCopies tells state old new (w ∷ [])
+    → (IsTrue tells → (claimed : Option (Spun D)) × Claims tells state mid.lanes.items new.lanes.items claimed × ((b : ManagerBase) (notes : List Noted) → Keeps tells state mid b notes → Stops state mid new claimed b notes (w ∷ []))) → AreCopies tells state old new (w ∷ [])
 copies_after_read tells state old mid new w first some same stops = record {
   same = λ told b notes k. (same told b notes k, tt);
   any_moment = λ told b notes k.
       let k1 = subst (Keeps tells state mid b) (append-nil notes) (first.keeps b notes (look_of_manager mid) k) in
       let s = stops told in
-      one_more old mid new s.0 (first.copied.any_moment told b notes k) (λ before after was is home segments h zip.
+      one_more old mid new s.0 (first.copied.any_moment told b notes k) s.1 (λ before after was is home segments h zip.
       cut_one b.volume.began.array (writes (entries_of notes)) w (recovered b.volume.began.owner home segments) some (same told b notes k)
       (subst (λ (f : List Write). IsCut b.volume.began.array (writes (entries_of notes)) f (recovered b.volume.began.owner home segments)) (alone (flight_of (entries_of notes)) (unbroken tells state mid b notes k1 first.goes_on.can.up))
-      (s.1 b notes k1 before after was is home segments h zip)));
+      (s.2 b notes k1 before after was is home segments h zip)));
   logged = (some, tt);
 }
   where
@@ -298,12 +342,13 @@ pub record WriteTold {D : Type 0} (tells : Bool) (state : D → State) (mid new 
   pub placed : IsPlaceOf (map logger_of mid.lanes.items) answer (ruled_place mid new first blocks)
   pub answered : HaveAnswered (length blocks) (takes_at (ruled_place mid new first blocks) answer) new.rooms.items mid.lanes.items new.lanes.items
   pub look : HasLook (ruled_place mid new first blocks) (home_write first blocks) answer (look_of_manager mid) (look_of_manager new)
+  pub waking : NeedsHome (ruled_place mid new first blocks) answer mid new
   pub down : (p : Part) → answer ≡ Err (refused.Down p) → mid.down ≡ Some p
   pub versions : answer ≡ Err refused.VersionsSpent → mid.next ≡ 2 ^ 63
   pub unspent : mid.next ≡ 2 ^ 63 → answer ≡ Err refused.VersionsSpent
   pub fault : TellsFault state answer mid new
   pub unchanged : IsAsBefore answer mid new
-  pub any_moment : IsTrue tells → (claimed : Option (Spun D)) × ((b : ManagerBase) (notes : List Noted) → Keeps tells state mid b notes → Stops state mid new claimed b notes (in_flight mid.next first blocks answer))
+  pub any_moment : IsTrue tells → (claimed : Option (Spun D)) × Claims tells state mid.lanes.items new.lanes.items claimed × ((b : ManagerBase) (notes : List Noted) → Keeps tells state mid b notes → Stops state mid new claimed b notes (in_flight mid.next first blocks answer))
 
 module _ {D : Type 0} (tells : Bool) (state : D → State) (old mid new : Manager D) (can : CanClean old) (ready : IsReady state mid) (first : ℕ) (blocks : List Block) (some : 1 ≤ length blocks)
     (covered : (b : ℕ) → is_within first (length blocks) b ≡ true → covered_in old b ≡ true) (read : HasCopied tells state old mid []) (entries : mid.index.entries ≡ old.index.entries)
@@ -331,7 +376,7 @@ module _ {D : Type 0} (tells : Bool) (state : D → State) (old mid new : Manage
         write = w;
         is_copy = is_copy_at;
         copied = record {
-          goes_on = goes_then old mid new read.goes_on (write_goes_on tells state mid new read.goes_on.can ready first blocks some covered_mid lane (place_.Log logger) is t.look t.same (t.fault ∙ read.goes_on.can.up) t.answered);
+          goes_on = goes_then old mid new read.goes_on (write_goes_on tells state mid new read.goes_on.can ready first blocks some covered_mid lane (place_.Log logger) is t.waking t.look t.same (t.fault ∙ read.goes_on.can.up) t.answered);
           keeps = Rattle.log_cleaner.proofs.Copying.keeps_then tells state old mid new [] (w ∷ []) can.up read.keeps (keeps_wrote tells state mid new w (passed_in new.rooms.items) read.goes_on.can.up t.stands);
           copied = copies_after_read tells state old mid new w read refl content t.any_moment;
           next = let e = ap (λ (l : Look). l.next) look in let f = same_next in omega (arith, e, f);
@@ -343,27 +388,28 @@ module _ {D : Type 0} (tells : Bool) (state : D → State) (old mid new : Manage
         listed_is = ap (λ (l : Look). l.listed) look;
       }
 
-  full_ends : WriteTold tells state mid new first blocks (Err refused.Full) → IsRefused tells state old new
+  full_ends : WriteTold tells state mid new first blocks (Err refused.Full) → IsRefused tells state (length blocks) old new
   full_ends t =
       let rest = t.unchanged.rest in record {
-        copied = copied_then tells state old mid new [] [] can read (unwritten tells state mid new read.goes_on.can ready first blocks some covered_mid (Err refused.Full) t.same t.fault (ap (λ (m : Manager D). m.ups.items) rest) (ap (λ (m : Manager D). m.next) rest) t.unchanged.index t.answered t.stands t.any_moment);
+        copied = copied_then tells state old mid new [] [] can read (unwritten tells state mid new read.goes_on.can ready first blocks some covered_mid (Err refused.Full) t.same t.fault (ap (λ (m : Manager D). m.home_up) rest) (ap (λ (m : Manager D). needs_of m.spindle) rest) (ap (λ (m : Manager D). m.ups.items) rest) (ap (λ (m : Manager D). m.next) rest) t.unchanged.index t.answered t.stands t.any_moment);
         entries = t.unchanged.index ∙ entries;
         next = below (ready.next.1) same_next (λ is. let wrong = t.unspent is in cc);
         empty = empty_since old mid new read.goes_on (all_empty tells state mid new read.goes_on.can ready first blocks some covered_mid t.placed t.answered);
+        room = none_has_room tells state mid new read.goes_on.can ready first blocks some covered_mid t.placed t.answered;
       }
     where
       below : {m n k : ℕ} → m ≤ k → m ≡ n → (m ≡ k → ⊥) → n < k
       below {m} {n} {k} le e ne = ⊎_elim (λ lt. omega (arith, lt, e)) (λ ge. absurd (ne (omega (arith, le, ge)))) (cases_lt m k)
 
-  spent_ends : WriteTold tells state mid new first blocks (Err refused.VersionsSpent) → HasCopied tells state old new [] × (new.next ≡ 2 ^ 63)
+  spent_ends : WriteTold tells state mid new first blocks (Err refused.VersionsSpent) → HasCopied tells state old new [] × (new.next ≡ 2 ^ 63) × (new.index.entries ≡ old.index.entries)
   spent_ends t =
       let rest = t.unchanged.rest in let n = ap (λ (m : Manager D). m.next) rest in
-      (copied_then tells state old mid new [] [] can read (unwritten tells state mid new read.goes_on.can ready first blocks some covered_mid (Err refused.VersionsSpent) t.same t.fault (ap (λ (m : Manager D). m.ups.items) rest) n t.unchanged.index t.answered t.stands t.any_moment), n ∙ t.versions refl)
+      (copied_then tells state old mid new [] [] can read (unwritten tells state mid new read.goes_on.can ready first blocks some covered_mid (Err refused.VersionsSpent) t.same t.fault (ap (λ (m : Manager D). m.home_up) rest) (ap (λ (m : Manager D). needs_of m.spindle) rest) (ap (λ (m : Manager D). m.ups.items) rest) n t.unchanged.index t.answered t.stands t.any_moment), n ∙ t.versions refl, t.unchanged.index ∙ entries)
 
-  memory_ends : WriteTold tells state mid new first blocks (Err refused.NoMemory) → HasCopied tells state old new []
+  memory_ends : WriteTold tells state mid new first blocks (Err refused.NoMemory) → HasCopied tells state old new [] × (new.index.entries ≡ old.index.entries)
   memory_ends t =
       let rest = t.unchanged.rest in
-      copied_then tells state old mid new [] [] can read (unwritten tells state mid new read.goes_on.can ready first blocks some covered_mid (Err refused.NoMemory) t.same t.fault (ap (λ (m : Manager D). m.ups.items) rest) (ap (λ (m : Manager D). m.next) rest) t.unchanged.index t.answered t.stands t.any_moment)
+      (copied_then tells state old mid new [] [] can read (unwritten tells state mid new read.goes_on.can ready first blocks some covered_mid (Err refused.NoMemory) t.same t.fault (ap (λ (m : Manager D). m.home_up) rest) (ap (λ (m : Manager D). needs_of m.spindle) rest) (ap (λ (m : Manager D). m.ups.items) rest) (ap (λ (m : Manager D). m.next) rest) t.unchanged.index t.answered t.stands t.any_moment), t.unchanged.index ∙ entries)
 
   failed_ends : (logger index : ℕ) → WriteTold tells state mid new first blocks (Err (refused.DiskFault (part.Segment logger index))) → Fails tells state first (length blocks) old new (part.Segment logger index)
   failed_ends logger index t = record {

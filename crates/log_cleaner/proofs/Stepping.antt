@@ -19,6 +19,7 @@ use Rattle.wol_promise.proofs.Lists.{all_mapped, all_map}
 use Rattle.redirect_map.specs.Index.{entry_at}
 use Rattle.manager.specs.Causes.{PartRose, PartRoseOrClaimed}
 use Rattle.manager.specs.Offers.{ChangesLane}
+use Rattle.manager.specs.Reading.{needs_of}
 use Rattle.manager.specs.Reclaim.{TellsStep, KeepsOn, Always, HasDropped, IsTrimmedLane, given_of}
 use Rattle.manager.specs.Stands.{Keeps, entries_at}
 use Rattle.manager.specs.declared.manager.Manager.{Manager}
@@ -36,6 +37,8 @@ use Rattle.reclaimer.proofs.Idle.{idle}
 use Rattle.log_cleaner.specs.Chunks.{IsUppermost, NoneHomed}
 use Rattle.log_cleaner.specs.Cleans.{AllAwake, CanClean, FindsAllEmpty, GoesOn}
 use Rattle.log_cleaner.specs.Steps.{GivesUp, HasBroken, HasCopied, TidiesUp}
+use Rattle.log_cleaner.specs.Copies.{HoldFewer, indexes_of}
+use Rattle.log_cleaner.proofs.Claiming.{members}
 use Rattle.log_cleaner.proofs.Copying.{copies_none, copies_plain, copies_then, keeps_none, keeps_then, leaves_then}
 use Rattle.log_cleaner.proofs.Tidying.{given_covered, given_unhomed, given_upper, none_goes, tidy_of_upper}
 
@@ -57,6 +60,8 @@ goes_none {D} m can = record {
   same = record { id = refl; most = refl };
   can = can;
   covered = λ b. refl;
+  home_up = refl;
+  home_needs = refl;
   lanes = refl;
   pools = λ k o n is_o is_n. begins_same (pass_mine (pool_of o)) (pass_mine (pool_of n)) (ap (λ (l : Lane D). pass_mine (pool_of l)) (same_Some n o (sym is_n ∙ is_o)));
 }
@@ -66,6 +71,8 @@ goes_then old mid new first second = record {
   same = record { id = second.same.id ∙ first.same.id; most = second.same.most ∙ first.same.most };
   can = second.can;
   covered = λ b. second.covered b ∙ first.covered b;
+  home_up = second.home_up ∙ first.home_up;
+  home_needs = second.home_needs ∙ first.home_needs;
   lanes = second.lanes ∙ first.lanes;
   pools = λ k o n is_o is_n.
       let lt = slice_get_within old.lanes.items k o is_o in let long = first.lanes in
@@ -141,6 +148,30 @@ module _ {D : Type 0} (old new : Manager D) (version : ℕ) (e : Indexed) {T : T
           let now : n ≡ o = same_Some n o (sym is_n ∙ ap (λ (l : List (Lane D)). slice_get l k) c.set ∙ get_other old.lanes.items e.listed.lane k c.after other ∙ is_o) in
           begins_same (pass_mine (pool_of o)) (pass_mine (pool_of n)) (ap (λ (l : Lane D). pass_mine (pool_of l)) now)
 
+  -- each segment that is held was held before
+  pub drop_fewer : HoldFewer old.lanes.items new.lanes.items
+  drop_fewer = (ap length c.set ∙ length-set old.lanes.items e.listed.lane c.after, each)
+    where
+      c : ChangesLane (IsTrimmedLane e.index (entries_at e.listed.lane e.index new.index.entries ≡ 0)) e.listed.lane old.lanes.items new.lanes.items
+      c = dropped.lanes
+
+      left_at : (given : Type 0) (decided : given ⊎ (given → ⊥)) (l m : Lane D) → IsTrimmedLane e.index given l m → AllByRecursion (λ (i : ℕ). Contains (indexes_of l) i) (indexes_of m)
+      left_at given (inl is) l m t = subst (λ (xs : List ℕ). AllByRecursion (λ (i : ℕ). Contains (indexes_of l) i) xs) (sym (t.gave is).1) (Rattle.log_cleaner.proofs.Lists.all_filter (λ (i : ℕ). Contains (indexes_of l) i) _ (indexes_of l) (members (indexes_of l)))
+      left_at given (inr not_) l m t = subst (λ (xs : List ℕ). AllByRecursion (λ (i : ℕ). Contains (indexes_of l) i) xs) (sym (t.kept not_).1) (members (indexes_of l))
+
+      each : (k : ℕ) (o n : Lane D) → slice_get old.lanes.items k ≡ Some o → slice_get new.lanes.items k ≡ Some n → AllByRecursion (λ (i : ℕ). Contains (indexes_of o) i) (indexes_of n)
+      each k o n is_o is_n = at (Rattle.std.proofs.lemmas.Bool.cases_eq k e.listed.lane)
+        where
+          at : (k ≡ e.listed.lane) ⊎ (k ≡ e.listed.lane → ⊥) → AllByRecursion (λ (i : ℕ). Contains (indexes_of o) i) (indexes_of n)
+          at (inl same) =
+              let was : o ≡ c.before = same_Some o c.before (sym is_o ∙ ap (slice_get old.lanes.items) same ∙ c.there) in
+              let now : n ≡ c.after = same_Some n c.after (sym is_n ∙ (λ i. slice_get (c.set i) (same i)) ∙ get_set old.lanes.items e.listed.lane c.before c.after c.there) in
+              subst (λ (l : Lane D). AllByRecursion (λ (i : ℕ). Contains (indexes_of l) i) (indexes_of n)) (sym was) (subst (λ (l : Lane D). AllByRecursion (λ (i : ℕ). Contains (indexes_of c.before) i) (indexes_of l)) (sym now)
+              (left_at (entries_at e.listed.lane e.index new.index.entries ≡ 0) (is_none (entries_at e.listed.lane e.index new.index.entries)) c.before c.after c.change))
+          at (inr other) =
+              let now : n ≡ o = same_Some n o (sym is_n ∙ ap (λ (l : List (Lane D)). slice_get l k) c.set ∙ get_other old.lanes.items e.listed.lane k c.after other ∙ is_o) in
+              subst (λ (l : Lane D). AllByRecursion (λ (i : ℕ). Contains (indexes_of o) i) (indexes_of l)) (sym now) (members (indexes_of o))
+
   pub drop_goes_on : new.down ≡ None → new.index.entries ≡ given_of version old.index.entries → GoesOn old new
   drop_goes_on up entries = record {
     same = record { id = ap (λ (m : Manager D). m.id) dropped.rest; most = ap (λ (m : Manager D). m.most) dropped.rest };
@@ -150,6 +181,8 @@ module _ {D : Type 0} (old new : Manager D) (version : ℕ) (e : Indexed) {T : T
       awake = subst (λ (us : List Bool). AllByRecursion (λ up. up ≡ true) us) (sym (ap (λ (m : Manager D). m.ups.items) dropped.rest)) (set_awake old.ups.items e.listed.lane can.awake);
     };
     covered = λ b. ap (λ (es : List Indexed). is_covered (listed_in es) b) entries ∙ given_covered old.index.entries version can.unhomed b;
+    home_up = ap (λ (m : Manager D). m.home_up) dropped.rest;
+    home_needs = ap (λ (m : Manager D). needs_of m.spindle) dropped.rest;
     lanes = let c = dropped.lanes in ap length c.set ∙ length-set old.lanes.items e.listed.lane c.after;
     pools = drop_pools;
   }
@@ -165,7 +198,7 @@ module _ {D : Type 0} (tells : Bool) (state : D → State) (old new : Manager D)
     record {
       goes_on = drop_goes_on old new version e res can dropped up entries;
       keeps = λ b notes look k. subst (Keeps tells state new b) (sym (append-nil notes)) (keeps b notes tt k);
-      copied = copies_plain tells state old new can.up (λ told. (None, λ b notes k. stops told b notes tt k));
+      copied = copies_plain tells state old new can.up (λ told. (None, drop_fewer old new version e res can dropped, λ b notes k. stops told b notes tt k));
       next = let e = ap (λ (m : Manager D). m.next) dropped.rest in omega (arith, e);
     },
     λ u first count some x. subst (λ (es : List Indexed). IsUppermost (listed_in es) u first count) (sym entries) (given_upper old.index.entries version can.unhomed u first count some x),
@@ -188,14 +221,18 @@ module _ {D : Type 0} (tells : Bool) (state : D → State) (old new : Manager D)
 
   -- a step that failed
   pub gave_failing : (fault : StepFault) → TellsStep {T = Gone} state (Err fault) old new → Rattle.manager.specs.Reclaim.OnFailed {T = Gone} (Err fault) (Rattle.manager.specs.Reclaim.BreaksOff tells state old new Always)
-      → (IsTrue tells → StopsWithin tells state old new Always) → GivesUp tells state old new (Err fault)
-  gave_failing (step.DiskFault p) told broke stops = record {
+      → HasGivenUp (Err fault) old new → (IsTrue tells → StopsWithin tells state old new Always) → GivesUp tells state old new (Err fault)
+  gave_failing (step.DiskFault p) told broke given stops = record {
     down = told.1;
     rose = (old, goes_none old can, rose_of state old new p told.2);
     leaves = λ b notes n client note k. broke b notes n tt note k;
-    copied = copies_plain tells state old new can.up (λ t. (None, λ b notes k. stops t b notes tt k));
+    copied = copies_plain tells state old new can.up (λ t. (None, fewer (going_entry old) given, λ b notes k. stops t b notes tt k));
   }
-  gave_failing (step.Down p) told broke stops = absurd (let wrong : None ≡ Some p = sym can.up ∙ told.0 in cc)
+    where
+      fewer : (o : Option Indexed) → Rattle.std.specs.Prelude.IsSomeAnd o (λ e. HasDropped {T = Gone} e.listed.version e old new (Err (step.DiskFault p))) → HoldFewer old.lanes.items new.lanes.items
+      fewer None h = absurd h
+      fewer (Some e) h = drop_fewer old new e.listed.version e {T = Gone} (Err (step.DiskFault p)) can h
+  gave_failing (step.Down p) told broke given stops = absurd (let wrong : None ≡ Some p = sym can.up ∙ told.0 in cc)
 
 -- after copies, a step that failed
 pub given_failing : {D : Type 0} (tells : Bool) (state : D → State) (old mid new : Manager D) (fault : StepFault) → CanClean old → HasCopied tells state old mid [] → GivesUp tells state mid new (Err fault) → GivesUp tells state old new (Err fault)

@@ -60,6 +60,10 @@ pub record IsClean (covered : ℕ → Bool) (most : ℕ) (es : List Listed) : Ty
   pub each : (first count : ℕ) → IsChunk covered most first count → IsTidy es first count
   pub only : AllByRecursion (λ e. (first : ℕ) × (count : ℕ) × IsChunk covered most first count × KeepsJust e first count) es
 
+-- each covered block below this one lies in a chunk that is tidy
+abbrev pub AreTidyBelow : (covered : ℕ → Bool) → (most from : ℕ) → List Listed → Type 0
+AreTidyBelow covered most from es = (b : ℕ) → b < from → covered b ≡ true → (first : ℕ) × (count : ℕ) × IsChunk covered most first count × (first ≤ b) × (b < first + count) × IsTidy es first count
+
 -- ---- Copies
 
 -- a write of what the array has there

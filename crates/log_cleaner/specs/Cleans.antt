@@ -1,21 +1,22 @@
 -- What cleaning does to a manager, by its answer.
-use Rattle.std.specs.Prelude.{◌≡◌, ◌<◌, ◌^◌, ◌∷◌, ◌++◌, ℕ, Bool, true, false, List, [], map, length, sum_by, None, Some, Result, Ok, Err, slice_get}
+use Rattle.std.specs.Prelude.{◌≡◌, ◌<◌, ◌+◌, ◌^◌, ◌∷◌, ◌++◌, ℕ, Bool, true, false, List, [], map, length, sum_by, None, Some, Result, Ok, Err, slice_get}
 use Rattle.std.specs.List.{AllByRecursion, range_with_len}
 use Rattle.wol_disk.specs.Disk.{State}
 use Rattle.turn_lock.specs.Histories.{Entry, Begins}
 use Rattle.turn_lock.specs.Passes.{pass_mine, pass_number}
 use Rattle.seg_pool.specs.Holders.{Took}
 use Rattle.seg_pool.specs.Operations.{operation_of}
-use Rattle.logger.specs.Lanes.{pool_of}
+use Rattle.logger.specs.Lanes.{HasNoRoom, held_in, pool_of}
 use Rattle.logger.specs.declared.lane.Lane.{Lane}
 use Rattle.wol_model.specs.Blocks.{Write}
 use Rattle.wol_model.specs.History.{Broke}
-use Rattle.wol_model.specs.Index.{listed_in, is_covered}
+use Rattle.wol_model.specs.Index.{Listed, AreRising, listed_in, is_covered}
 use Rattle.manager.specs.Causes.{PartRoseOrClaimed}
+use Rattle.manager.specs.Reading.{needs_of}
 use Rattle.manager.specs.Stands.{IsSameManager}
 use Rattle.manager.specs.declared.manager.Manager.{Manager}
 use Rattle.manager.specs.declared.part.Part.{Part}
-use Rattle.log_cleaner.specs.Chunks.{IsChunk, IsClean, NoneHomed}
+use Rattle.log_cleaner.specs.Chunks.{AreTidyBelow, IsChunk, IsClean, IsTidy, NoneHomed}
 use Rattle.log_cleaner.specs.Copies.{AreCopies, LeavesEntry, wrote}
 use Rattle.log_cleaner.specs.declared.answer.Cleaned.{Cleaned}
 use Rattle.log_cleaner.specs.declared.answer.CleanFault.{CleanFault}
@@ -35,11 +36,15 @@ pub record CanClean {D : Type 0} (m : Manager D) : Type 0 where
   pub unhomed : NoneHomed (listed_in m.index.entries)
   pub awake : AllAwake m
 
--- Between calls of a cleaning: it can be cleaned still, the same blocks are covered, and the passes of its pools have gained entries at most.
+-- Between calls of a cleaning: it can be cleaned still, the same blocks are covered, home wasn't woken, and the passes of its pools have gained
+-- entries at most.
 pub record GoesOn {D : Type 0} (old new : Manager D) : Type 0 where
   pub same : IsSameManager old new
   pub can : CanClean new
   pub covered : (b : ℕ) → covered_in new b ≡ covered_in old b
+  -- home isn't woken
+  pub home_up : new.home_up ≡ old.home_up
+  pub home_needs : needs_of new.spindle ≡ needs_of old.spindle
   pub lanes : length new.lanes.items ≡ length old.lanes.items
   pub pools : (k : ℕ) (o n : Lane D) → slice_get old.lanes.items k ≡ Some o → slice_get new.lanes.items k ≡ Some n → Begins (pass_mine (pool_of o)) (pass_mine (pool_of n))
 
@@ -47,10 +52,31 @@ pub record GoesOn {D : Type 0} (old new : Manager D) : Type 0 where
 abbrev pub IsChunkOf : (covered : ℕ → Bool) → (most : ℕ) → Write → Type 0
 IsChunkOf covered most w = IsChunk covered most w.first (length w.blocks)
 
+-- the write is of a chunk that isn't tidy
+abbrev pub IsOfUntidy : List Listed → Write → Type 0
+IsOfUntidy es w = IsTidy es w.first (length w.blocks) → ⊥
+
+-- the next chunk, behind all copies, still isn't tidy, and those before it are
+pub record IsLeftUntidy (covered : ℕ → Bool) (most : ℕ) (es : List Listed) (copies : List Write) : Type 0 where
+  pub first : ℕ
+  pub count : ℕ
+  pub chunk : IsChunk covered most first count
+  pub before : AreTidyBelow covered most first es
+  pub behind : AllByRecursion (λ w. w.first < first) copies
+  pub untidy : IsTidy es first count → ⊥
+
+-- the chunks up to some block are tidy, and all copies lie before it
+abbrev pub TidiesBefore : (covered : ℕ → Bool) → (most : ℕ) → List Listed → (copies : List Write) → Type 0
+TidiesBefore covered most es copies = (first : ℕ) × AreTidyBelow covered most first es × AllByRecursion (λ w. w.first < first) copies
+
 -- the last that each lane's pass did in its pool was to find it empty
 abbrev pub FindsAllEmpty : {D : Type 0} → (old new : Manager D) → Type 0
 FindsAllEmpty {D} old new = (k : ℕ) (o n : Lane D) → slice_get old.lanes.items k ≡ Some o → slice_get new.lanes.items k ≡ Some n
     → (before : List Entry) × Begins (pass_mine (pool_of o)) before × (pass_mine (pool_of n) ≡ before ++ (pass_number (pool_of n), operation_of (Took None)) ∷ [])
+
+-- no segment that a lane holds has room for so many blocks
+abbrev pub NoneHasRoom : {D : Type 0} → (count : ℕ) → Manager D → Type 0
+NoneHasRoom {D} count m = AllByRecursion (λ (l : Lane D). HasNoRoom count (held_in l)) m.lanes.items
 
 -- how many blocks were copied
 abbrev pub copied_blocks : List Write → ℕ
@@ -60,20 +86,27 @@ copied_blocks copies = sum_by (λ (w : Write). length w.blocks) copies
 abbrev pub RoseSince : {D : Type 0} → (D → State) → (old new : Manager D) → Part → Type 0
 RoseSince {D} state old new p = (mid : Manager D) × GoesOn old mid × PartRoseOrClaimed state mid new p
 
--- What an answer says. Where it isn't full the records are one for each chunk; where it is, no pool had a segment for the next.
+-- where nothing was copied the records are as they were
+abbrev pub Untouched : {D : Type 0} → (old new : Manager D) → List Write → Type 0
+Untouched old new copies = copies ≡ [] → new.index.entries ≡ old.index.entries
+
+-- What an answer says. Where it isn't full the records are one for each chunk; where it is, no segment had room for the next, and no pool had one.
 abbrev pub TellsCleaned : {D : Type 0} → (tells : Bool) → (D → State) → (most : ℕ) → (old new : Manager D) → List Write → Result Cleaned CleanFault → Type 0
 TellsCleaned tells state most old new copies (Ok c) = GoesOn old new × LeavesEntry tells state old new (wrote copies)
     × (c.before ≡ length old.index.entries) × (c.after ≡ length new.index.entries) × (c.copied ≡ copied_blocks copies)
     × (c.full ≡ false → IsClean (covered_in old) most (listed_in new.index.entries))
-    × (c.full ≡ true → (new.next < 2 ^ 63) × FindsAllEmpty old new)
+    × (c.full ≡ true → (new.next < 2 ^ 63) × FindsAllEmpty old new × (left : IsLeftUntidy (covered_in old) most (listed_in new.index.entries) copies) × NoneHasRoom left.count new) × Untouched old new copies
 TellsCleaned tells state most old new copies (Err (DiskFault p)) = (new.down ≡ Some p) × RoseSince state old new p × LeavesEntry tells state old new (Broke copies)
 TellsCleaned tells state most old new copies (Err VersionsSpent) = GoesOn old new × LeavesEntry tells state old new (wrote copies) × (new.next ≡ 2 ^ 63)
-TellsCleaned tells state most old new copies (Err NoMemory) = GoesOn old new × LeavesEntry tells state old new (wrote copies)
+    × (old.next + length copies ≡ 2 ^ 63) × IsLeftUntidy (covered_in old) most (listed_in new.index.entries) copies × Untouched old new copies
+TellsCleaned tells state most old new copies (Err NoMemory) = GoesOn old new × LeavesEntry tells state old new (wrote copies) × Untouched old new copies × TidiesBefore (covered_in old) most (listed_in new.index.entries) copies
 
--- What was copied are chunks, under the next versions in order; after a fault of a disk the last of them may be in flight.
+-- What was copied are chunks that weren't tidy, in order, under the next versions; after a fault of a disk the last of them may be in flight.
 pub record HasCleaned {D : Type 0} (tells : Bool) (state : D → State) (most : ℕ) (old new : Manager D) (result : Result Cleaned CleanFault) : Type 0 where
   pub copies : List Write
   pub chunks : AllByRecursion (IsChunkOf (covered_in old) most) copies
+  pub untidy : AllByRecursion (IsOfUntidy (listed_in old.index.entries)) copies
+  pub in_order : AreRising (map (λ w. w.first) copies)
   pub numbered : map (λ w. w.version) copies ≡ map (λ v. Some v) (range_with_len old.next (length copies))
   pub copied : AreCopies tells state old new copies
   pub tells_ : TellsCleaned tells state most old new copies result

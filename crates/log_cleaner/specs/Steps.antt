@@ -17,7 +17,7 @@ use Rattle.manager.specs.declared.part.StepFault.{StepFault}
 use Rattle.manager.specs.declared.part.StepFault.TheVariants as step
 use Rattle.log_cleaner.specs.Chunks.{IsTidy, is_within}
 use Rattle.log_cleaner.specs.Copies.{AreCopies, KeepsCopies, LeavesEntry}
-use Rattle.log_cleaner.specs.Cleans.{FindsAllEmpty, GoesOn, RoseSince}
+use Rattle.log_cleaner.specs.Cleans.{FindsAllEmpty, GoesOn, NoneHasRoom, RoseSince}
 use Rattle.log_cleaner.specs.declared.answer.CleanFault.{CleanFault}
 use Rattle.log_cleaner.specs.declared.answer.CleanFault.TheVariants.{DiskFault, VersionsSpent, NoMemory}
 
@@ -65,11 +65,12 @@ GivesUp tells state old new (Err (step.DiskFault p)) = HasBroken tells state old
 GivesUp tells state old new (Err (step.Down p)) = ⊥
 
 -- no log had room
-pub record IsRefused {D : Type 0} (tells : Bool) (state : D → State) (old new : Manager D) : Type 0 where
+pub record IsRefused {D : Type 0} (tells : Bool) (state : D → State) (count : ℕ) (old new : Manager D) : Type 0 where
   pub copied : HasCopied tells state old new []
   pub entries : new.index.entries ≡ old.index.entries
   pub next : old.next < 2 ^ 63
   pub empty : FindsAllEmpty old new
+  pub room : NoneHasRoom count new
 
 -- the blocks were written again, as the newest record
 pub record HasRewritten {D : Type 0} (tells : Bool) (state : D → State) (first count : ℕ) (old new : Manager D) : Type 0 where
@@ -92,13 +93,13 @@ pub record Fails {D : Type 0} (tells : Bool) (state : D → State) (first count 
 -- what is so after a refusal
 abbrev pub TellsFault : {D : Type 0} → (tells : Bool) → (D → State) → (first count : ℕ) → (old new : Manager D) → CleanFault → Type 0
 TellsFault tells state first count old new (DiskFault p) = Fails tells state first count old new p
-TellsFault tells state first count old new VersionsSpent = HasCopied tells state old new [] × (new.next ≡ 2 ^ 63)
-TellsFault tells state first count old new NoMemory = HasCopied tells state old new []
+TellsFault tells state first count old new VersionsSpent = HasCopied tells state old new [] × (new.next ≡ 2 ^ 63) × (new.index.entries ≡ old.index.entries)
+TellsFault tells state first count old new NoMemory = HasCopied tells state old new [] × (new.index.entries ≡ old.index.entries)
 
 -- reading and writing again
 abbrev pub Rewrites : {D : Type 0} → (tells : Bool) → (D → State) → (first count : ℕ) → (old new : Manager D) → Result Bool CleanFault → Type 0
 Rewrites tells state first count old new (Ok true) = HasRewritten tells state first count old new
-Rewrites tells state first count old new (Ok false) = IsRefused tells state old new
+Rewrites tells state first count old new (Ok false) = IsRefused tells state count old new
 Rewrites tells state first count old new (Err fault) = TellsFault tells state first count old new fault
 
 -- a chunk was made tidy, and others stay so
@@ -111,5 +112,5 @@ pub record HasTidied {D : Type 0} (tells : Bool) (state : D → State) (first co
 
 abbrev pub CopiesChunk : {D : Type 0} → (tells : Bool) → (D → State) → (first count : ℕ) → (old new : Manager D) → Result Bool CleanFault → Type 0
 CopiesChunk tells state first count old new (Ok true) = HasTidied tells state first count old new
-CopiesChunk tells state first count old new (Ok false) = IsRefused tells state old new
+CopiesChunk tells state first count old new (Ok false) = IsRefused tells state count old new
 CopiesChunk tells state first count old new (Err fault) = TellsFault tells state first count old new fault

@@ -14,7 +14,7 @@ pub struct Cleaned {
     pub full: bool,
 }
 
-/// Why cleaning wasn't done. What was copied before stands.
+/// Why cleaning wasn't done. After `VersionsSpent` and `NoMemory` what was copied before stands.
 #[derive(Clone, Copy, Debug, PartialEq, Eq)]
 pub enum CleanFault {
     /// A call of this part failed. The manager is down from now on.

@@ -59,8 +59,8 @@ fn clean_all<R: Wait, D: Disk>(
 /// Segments in which no record is left go to their pools.
 ///
 /// `DiskFault` comes only where the part's count of faults rose in this call, and brings the manager down.
-/// `VersionsSpent` comes where the next version is 2^63 and a chunk still isn't tidy. What was copied before a refusal
-/// stands.
+/// `VersionsSpent` comes where the next version is 2^63 and a chunk still isn't tidy. After it and after `NoMemory` what
+/// was copied stands.
 pub fn clean<R: Wait, D: Disk>(
     rt: &R,
     alloc: Global,

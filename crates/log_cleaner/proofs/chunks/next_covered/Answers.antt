@@ -1,22 +1,22 @@
-use Rattle.std.proofs.Common.{◌-◌, ◌/◌, sym, ◌∙◌, arith}
+use Rattle.std.proofs.Common.{⊎_elim, ◌-◌, ◌*◌, ◌^◌, sym, ◌∙◌, arith}
+use Rattle.std.proofs.lemmas.Bool.{cases_lt}
 use Rattle.wol_model.specs.Index.{listed_in, is_covered}
-use Rattle.log_cleaner.proofs.Finding.{bare_right, found_left, found_right}
+use Rattle.log_cleaner.proofs.Finding.{smaller}
+use Rattle.log_cleaner.proofs.Lists.{none_in, some_in}
 use Rattle.log_cleaner.proofs.chunks.next_covered.Goals as goal
 
-pub search-preserved-then-covered : goal.search-preserved-then-covered
-search-preserved-then-covered c =
-    let i = c.search.invariant in let t = c.search-test.true in let l = i.low_ in let h = i.high_ in record {
-      low_ = (l.0, omega arith);
-      high_ = omega (arith, t, h);
-      bare = i.bare;
-      there = λ lt. found_left (is_covered (listed_in c.args.index.now.entries)) c.search.low ((c.search.high - c.search.low) / 2) _ (omega arith) (sym c.covered.ensures ∙ c.if-covered.true);
-    }
+pub first_covered-requires-clause-there : goal.first_covered-requires-clause-there
+first_covered-requires-clause-there c =
+    let s = some_in (is_covered (listed_in c.args.index.now.entries)) c.widening.low c.min-count.result (sym c.covered.ensures ∙ c.if-covered.true) in
+    let h = s.high in (s.item, s.low, omega (arith, h), s.passes)
 
-pub search-preserved : goal.search-preserved
-search-preserved c =
-    let i = c.search.invariant in let t = c.search-test.true in let l = i.low_ in let h = i.high_ in record {
-      low_ = (omega (arith, l), omega (arith, t));
-      high_ = h;
-      bare = bare_right (is_covered (listed_in c.args.index.now.entries)) c.args.from c.search.low ((c.search.high - c.search.low) / 2) _ (omega arith) (sym c.covered.ensures ∙ c.if-covered.false) i.bare;
-      there = λ lt. found_right (is_covered (listed_in c.args.index.now.entries)) c.search.low c.search.high ((c.search.high - c.search.low) / 2) _ (omega arith) (sym c.covered.ensures ∙ c.if-covered.false) (i.there lt);
+pub widening-preserved : goal.widening-preserved
+widening-preserved c =
+    let i = c.widening.invariant in let l = i.low_.0 in let t = c.widening-test.true in let w = i.width_.0 in
+    let e = c.min-count.ensures in let f = c.min-width.ensures in
+    let m = smaller c.widening.width (2 ^ 32 - c.widening.low) in let n = smaller (2 ^ 31) (c.widening.width * 2) in
+    let inside = m.1 in let wide = n.0 in let some = n.2 (omega arith) (omega (arith, w)) in record {
+      low_ = (omega (arith, l), omega (arith, e, inside, t));
+      width_ = (omega (arith, f, some), omega (arith, f, wide));
+      bare = λ b least less. ⊎_elim (λ lt. i.bare b least lt) (λ ge. none_in (is_covered (listed_in c.args.index.now.entries)) c.widening.low c.min-count.result b (sym c.covered.ensures ∙ c.if-covered.false) ge less) (cases_lt b c.widening.low);
     }

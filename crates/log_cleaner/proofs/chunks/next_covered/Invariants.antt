@@ -1,14 +1,13 @@
-use Rattle.std.proofs.Common.{◌≡◌, ◌<◌, ◌≤◌, ◌-◌, ◌^◌, ℕ, true, false}
+use Rattle.std.proofs.Common.{◌≡◌, ◌<◌, ◌≤◌, ◌-◌, ◌^◌, ℕ, false}
 use Rattle.wol_model.specs.Index.{listed_in, is_covered}
 use Rattle.log_cleaner.proofs.chunks.next_covered.Given as goal
 
-abbrev pub invariant-search : goal.invariant-search
-invariant-search l = record {
-  low_ : (l.from ≤ l.low) × (l.low ≤ l.high);
-  high_ : l.high ≤ 2 ^ 32;
+abbrev pub invariant-widening : goal.invariant-widening
+invariant-widening l = record {
+  low_ : (l.from ≤ l.low) × (l.low ≤ 2 ^ 32);
+  width_ : (1 ≤ l.width) × (l.width ≤ 2 ^ 31);
   bare : (b : ℕ) → l.from ≤ b → b < l.low → is_covered (listed_in l.index.entries) b ≡ false;
-  there : l.high < 2 ^ 32 → (b : ℕ) × (l.low ≤ b) × (b ≤ l.high) × (is_covered (listed_in l.index.entries) b ≡ true);
 }
 
-abbrev pub decreases-search : goal.decreases-search
-decreases-search l = l.high - l.low
+abbrev pub decreases-widening : goal.decreases-widening
+decreases-widening l = 2 ^ 32 - l.low

@@ -5,6 +5,7 @@ use Rattle.redirect_map.specs.Index.{Contents, IsIndex}
 use Rattle.log_cleaner.specs.Chunks.{IsTidy}
 use Rattle.log_cleaner.specs.Steps.{CopiesChunk, TellsFault}
 use Rattle.log_cleaner.proofs.Cleaning.{between_copied, between_none, between_tidy, ends_clean, ends_faulty, ends_full}
+use Rattle.log_cleaner.proofs.Tidying.{clash}
 use Rattle.log_cleaner.proofs.cleaner.clean_all.Goals.{then-not-is_tidy+in_ok-copy_chunk+else-not-branch, else-not-is_tidy}
 use Rattle.log_cleaner.proofs.cleaner.clean_all.Goals as goal
 
@@ -31,7 +32,8 @@ returns-in_err-copy_chunk-clause-cleaned g c =
     let run = subst (λ (x : Contents). (b : ℕ) → lbn ≤ b → b < lbn + count → is_covered (listed_in x.entries) b ≡ true) c.index-in-chunks.ensures k.run in
     let ends = subst (λ (x : Contents). count < c.args.most → is_covered (listed_in x.entries) (lbn + count) ≡ false) c.index-in-chunks.ensures k.ends in
     let told = subst (λ (m : ℕ). TellsFault g.D.Disk.tells g.D.Disk.state lbn m c.chunks.m c.copy_chunk.new.m c.in_err-copy_chunk.field-0.0) (sym c.copy_chunk.auto.blocks ∙ long) c.in_err-copy_chunk.ensures.copied in
-    rw (p.1, p.2) (ends_faulty g.D.Disk.tells g.D.Disk.state c.args.most c.args.m.now c.chunks.m c.chunks.copied c.chunks.from c.requires.can i.between i.ready lbn count n.bounds.0 bare here k.count.0 k.count.1 run ends c.copy_chunk.new.m c.in_err-copy_chunk.field-0.0 told)
+    let untidy = λ (t : IsTidy (listed_in c.chunks.m.index.entries) lbn count). clash c.is_tidy.result (c.is_tidy.ensures.1 (subst (λ (x : Contents). IsTidy (listed_in x.entries) lbn count) (sym c.index-in-chunks-2.ensures) t)) c.if-not-is_tidy.true in
+    rw (p.1, p.2) (ends_faulty g.D.Disk.tells g.D.Disk.state c.args.most c.args.m.now c.chunks.m c.chunks.copied c.chunks.from c.requires.can i.between i.ready lbn count n.bounds.0 bare here k.count.0 k.count.1 run ends untidy c.copy_chunk.new.m c.in_err-copy_chunk.field-0.0 told)
 
 pub returns-then-not-branch-clause-cleaned : goal.returns-then-not-branch-clause-cleaned
 returns-then-not-branch-clause-cleaned g c =
@@ -44,7 +46,8 @@ returns-then-not-branch-clause-cleaned g c =
     let ends = subst (λ (x : Contents). count < c.args.most → is_covered (listed_in x.entries) (lbn + count) ≡ false) c.index-in-chunks.ensures k.ends in
     let told = subst (λ (t : Bool). CopiesChunk g.D.Disk.tells g.D.Disk.state lbn count c.chunks.m c.copy_chunk.new.m (Ok t)) c.if-not-branch.true
     (subst (λ (m : ℕ). CopiesChunk g.D.Disk.tells g.D.Disk.state lbn m c.chunks.m c.copy_chunk.new.m (Ok c.in_ok-copy_chunk.field-0)) (sym c.copy_chunk.auto.blocks ∙ long) c.in_ok-copy_chunk.ensures.copied) in
-    (i.between.copies, ends_full g.D.Disk.tells g.D.Disk.state c.args.most c.args.m.now c.chunks.m c.chunks.copied c.chunks.from c.requires.can i.between i.ready lbn count n.bounds.0 bare here k.count.0 k.count.1 run ends c.copy_chunk.new.m told)
+    let untidy = λ (t : IsTidy (listed_in c.chunks.m.index.entries) lbn count). clash c.is_tidy.result (c.is_tidy.ensures.1 (subst (λ (x : Contents). IsTidy (listed_in x.entries) lbn count) (sym c.index-in-chunks-2.ensures) t)) c.if-not-is_tidy.true in
+    (i.between.copies, ends_full g.D.Disk.tells g.D.Disk.state c.args.most c.args.m.now c.chunks.m c.chunks.copied c.chunks.from c.requires.can i.between i.ready lbn count n.bounds.0 bare here k.count.0 k.count.1 run ends untidy c.copy_chunk.new.m told)
 
 pub chunks-preserved : goal.chunks-preserved
 chunks-preserved g c =
@@ -64,13 +67,13 @@ chunks-preserved g c =
           rw (w.m-is, w.copied-is, next, w.from.ensures) (record {
             ready = e.ready;
             at = e.at;
-            between = between_copied g.D.Disk.tells g.D.Disk.state c.args.most c.args.m.now c.chunks.m c.chunks.copied c.chunks.from c.requires.can i.between i.ready lbn count n.bounds.0 bare here k.count.0 k.count.1 run ends w.copy_chunk.new.m told;
+            between = between_copied g.D.Disk.tells g.D.Disk.state c.args.most c.args.m.now c.chunks.m c.chunks.copied c.chunks.from c.requires.can i.between i.ready lbn count n.bounds.0 bare here k.count.0 k.count.1 run ends (λ t. clash c.is_tidy.result (c.is_tidy.ensures.1 (subst (λ (x : Contents). IsTidy (listed_in x.entries) lbn count) (sym c.index-in-chunks-2.ensures) t)) w.if-not-is_tidy.true) w.copy_chunk.new.m told;
           })
       | else-not-is_tidy w ↦
           rw (w.m-is, w.copied-is, next) (record {
             ready = i.ready;
             at = i.at;
             between = between_tidy g.D.Disk.tells g.D.Disk.state c.args.most c.args.m.now c.chunks.m c.chunks.copied c.chunks.from c.requires.can i.between i.ready lbn count n.bounds.0 bare here k.count.0 k.count.1 run ends
-                (subst (λ (x : Contents). IsTidy (listed_in x.entries) lbn count) c.index-in-chunks-2.ensures (c.is_tidy.ensures w.if-not-is_tidy.false));
+                (subst (λ (x : Contents). IsTidy (listed_in x.entries) lbn count) c.index-in-chunks-2.ensures (c.is_tidy.ensures.0 w.if-not-is_tidy.false));
           })
     ]

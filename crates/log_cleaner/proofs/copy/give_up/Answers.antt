@@ -15,7 +15,7 @@ returns-in_err-invalidate_one-clause-given g c =
     let p = err_from_is_err_and c.from_residual.result c.from_residual.ensures.1 in
     let e = c.in_err-invalidate_one.ensures in let i = c.steps.invariant in
     rw (p.1, p.2) (given_failing g.D.Disk.tells g.D.Disk.state c.args.m.now c.steps.m c.invalidate_one.new.m c.in_err-invalidate_one.field-0.0 c.requires.can i.copied
-    (gave_failing g.D.Disk.tells g.D.Disk.state c.steps.m c.invalidate_one.new.m i.copied.goes_on.can c.in_err-invalidate_one.field-0.0 e.fault e.broke e.any_moment))
+    (gave_failing g.D.Disk.tells g.D.Disk.state c.steps.m c.invalidate_one.new.m i.copied.goes_on.can c.in_err-invalidate_one.field-0.0 e.fault e.broke e.gone e.any_moment))
 
 pub returns-in-Nothing-clause-given : goal.returns-in-Nothing-clause-given
 returns-in-Nothing-clause-given g c =

@@ -2,6 +2,7 @@ use Rattle.std.proofs.Common.{◌≡◌, ℕ, true, length, sym, subst, ap, arit
 use Rattle.log_cleaner.specs.Chunks.{is_within}
 use Rattle.log_cleaner.specs.Cleans.{covered_in}
 use Rattle.log_cleaner.specs.Steps.{Rewrites, TellsFault, told_of}
+use Rattle.log_cleaner.proofs.Claiming.{claims_of}
 use Rattle.log_cleaner.proofs.Cleaning.{chunk_fits}
 use Rattle.log_cleaner.proofs.Copying.{read_content}
 use Rattle.log_cleaner.proofs.Rewriting.{read_copied, read_ends, write_ends}
@@ -23,7 +24,7 @@ returns-in-Ok-clause-rewritten g c =
     let out = c.read.new.out in
     let long : length out ≡ length c.args.blocks.now = c.read.auto.out in
     let e = c.in-Ok.ensures in let w = c.write.ensures in
-    let read = read_copied tells state old mid c.requires.can e.read c.args.lbn (length c.args.blocks.now) out e.up e.look e.stands e.any_moment in
+    let read = read_copied tells state old mid c.requires.can e.read c.args.lbn (length c.args.blocks.now) out e.up e.look c.requires.covered e.needs_all e.stands e.any_moment in
     let entries = ap (λ i. i.entries) e.read.index in
     let covered : (b : ℕ) → is_within c.args.lbn (length out) b ≡ true → covered_in old b ≡ true = λ b is. c.requires.covered b (subst (λ (n : ℕ). is_within c.args.lbn n b ≡ true) long is) in
     let some = c.requires.count.0 in
@@ -35,12 +36,13 @@ returns-in-Ok-clause-rewritten g c =
       placed = w.placed;
       answered = w.answered;
       look = w.look;
+      waking = w.waking_home;
       down = λ p is. (w.down p).0 is;
       versions = λ is. (w.versions.0 is).1;
       unspent = λ is. w.versions.1 (e.up, is);
       fault = w.fault;
       unchanged = w.unchanged;
-      any_moment = λ t. let s = w.any_moment in (s.0, λ b notes k. s.2 t b notes k);
+      any_moment = λ t. let s = w.any_moment in (s.0, claims_of _ _ _ _ _ s.0 w.answered.same s.1, λ b notes k. s.2 t b notes k);
     })))
 
 pub returns-in-Err-clause-rewritten : goal.returns-in-Err-clause-rewritten
