@@ -4,6 +4,7 @@ ghost use Rattle.wol_disk.specs.Disk.{Rose};
 ghost use Rattle.wol_config.specs.Configs.{IsValid};
 ghost use Rattle.replay.specs.Completes.{Completes};
 ghost use Rattle.replay.specs.Givens.{IsNew, IsWithin, borrow_of, faults_of};
+ghost use Rattle.report.specs.declared.fault.Fault.TheVariants.{TraceSource};
 ghost use Rattle.comparison.specs.Compares.{Compares, MakesWhole, MayCompare, StopsBefore};
 
 use crate::windows::Comparison;
@@ -20,7 +21,7 @@ fn run_all<S: Source>(alloc: Global, config: &Config, given: &mut Given<S>) -> R
     ensures whole { IfOk result (λ text. MakesWhole S.left config.now given.old given.new text.items) }
     ensures some { IfErr result (λ e. StopsBefore S.left config.now given.old given.new e) }
     ensures source_later { faults_of S.faults given.old ≤ faults_of S.faults given.new }
-    ensures source { result ≡ Err (Stop.Fault Fault.TraceSource) → Rose (faults_of S.faults given.old) (faults_of S.faults given.new) }
+    ensures source { result ≡ Err (Stop.Fault TraceSource) → Rose (faults_of S.faults given.old) (faults_of S.faults given.new) }
     ensures same_borrow { borrow_of S.borrow given.new ≡ borrow_of S.borrow given.old }
     ensures within { IsWithin given.new }
 {
@@ -56,7 +57,7 @@ pub fn compare<S: Source, K: Sink>(
     ensures compares { Compares S.left config.now given.old given.new (K.faults out.old) (K.faults out.new) (K.taken out.old) (K.taken out.new) result }
     ensures later { K.faults out.old ≤ K.faults out.new }
     ensures source_later { faults_of S.faults given.old ≤ faults_of S.faults given.new }
-    ensures source { result ≡ Err (Stop.Fault Fault.TraceSource) → Rose (faults_of S.faults given.old) (faults_of S.faults given.new) }
+    ensures source { result ≡ Err (Stop.Fault TraceSource) → Rose (faults_of S.faults given.old) (faults_of S.faults given.new) }
     ensures same_borrow { borrow_of S.borrow given.new ≡ borrow_of S.borrow given.old }
     ensures within { IsWithin given.new }
     ensures complete { MayCompare S.left given.old given.new (K.faults out.old) (K.faults out.new) (faults_of S.faults given.old) (faults_of S.faults given.new) → Completes result }
