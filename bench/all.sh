@@ -4,13 +4,16 @@
 # windows of 2 and of 64 lines over 36 volumes; on a memory file system, and synced on a disk. Then four policies compared on generated lines over
 # 36 volumes, lines that belong to nobody, and digests.
 # The limit of a replay is what `dd` writes and syncs in the same folder just before: as many blocks of 4 KiB as there are lines, each synced, by as
-# many processes as there are workers. The limit of lines is `wc -l`, that of digests `sha256sum`.
+# many processes as there are workers. The limit of lines is `wc -l`, that of digests `sha256sum`. Of each replay and its limit the best of RUNS
+# runs counts, by turns, each on images just formatted.
 # usage: bench/all.sh [LINES] [SYNCED]    lines of a replay in memory (100000 if left out) and on the disk (2000); the program is build/wol, as
-# `make build` leaves it. DISK is the folder on the disk (/var/tmp). The table is printed, and written to bench/FIGURES.md
+# `make build` leaves it. RUNS is 3 if left out. DISK is the folder on the disk (/var/tmp). The table is printed, and written to bench/FIGURES.md
 set -eu
 cd "$(dirname "$0")/.."
 lines=${1:-100000}
 synced=${2:-2000}
+runs=${RUNS:-3}
+load=$(cut -d ' ' -f 1 /proc/loadavg)
 program=$PWD/build/wol
 figures=$PWD/bench/FIGURES.md
 [ -x "$program" ] || { echo "bench/all.sh: no build/wol: run 'make build' first" >&2; exit 1; }
@@ -36,12 +39,12 @@ windows() {
     }'
 }
 
-# add WORK LINES WORKERS WORDS..: runs the program on trace.csv in this folder, and adds a row
+# add WORK LINES WORKERS WORDS..: formats images and runs the program on trace.csv in this folder, as often as asked, and adds a row
 add() {
-    python3 - "$rows" "$program" "$@" <<'PYTHON'
+    python3 - "$rows" "$runs" "$program" "$@" <<'PYTHON'
 import os, resource, subprocess, sys, time
-rows, program, work, lines, workers, *words = sys.argv[1:]
-lines, workers = int(lines), int(workers)
+rows, runs, program, work, lines, workers, *words = sys.argv[1:]
+runs, lines, workers = int(runs), int(lines), int(workers)
 
 
 def timed(act):
@@ -62,15 +65,22 @@ def run(command):
         subprocess.run(command, stdin=trace, stdout=out, check=True)
 
 
-limit = lines / timed(write_and_sync)
-for k in range(workers):
-    os.remove("limit%d" % k)
-before = resource.getrusage(resource.RUSAGE_CHILDREN)
-speed = lines / timed(lambda: run([program, *words]))
-after = resource.getrusage(resource.RUSAGE_CHILDREN)
-cpu = after.ru_utime + after.ru_stime - before.ru_utime - before.ru_stime
+def cpu():
+    used = resource.getrusage(resource.RUSAGE_CHILDREN)
+    return used.ru_utime + used.ru_stime
+
+
+limit, speed, seconds = 0, 0, float("inf")
+for _ in range(runs):
+    limit = max(limit, lines / timed(write_and_sync))
+    for k in range(workers):
+        os.remove("limit%d" % k)
+    subprocess.run([program, "format"], stdout=subprocess.DEVNULL, check=True)
+    before = cpu()
+    speed = max(speed, lines / timed(lambda: run([program, *words])))
+    seconds = min(seconds, cpu() - before)
 with open(rows, "a") as table:
-    print("| %s | %d | %.2f | %d | %.2f |" % (work, speed, cpu, limit, speed / limit), file=table)
+    print("| %s | %d | %.2f | %d | %.2f |" % (work, speed, seconds, limit, speed / limit), file=table)
 PYTHON
     tail -n 1 "$rows"
 }
@@ -83,7 +93,6 @@ replays() {
         "$program" gen 7 "$count" >trace.csv
         for workers in 1 2 4; do
             for mode in off between beside; do
-                "$program" format >/dev/null
                 add "$place, generated lines, $volumes volumes, $workers workers, $mode" "$count" "$workers" replay --workers "$workers" --reclaim "$mode"
             done
         done
@@ -93,7 +102,6 @@ replays() {
     for size in 2 64; do
         windows "$count" "$size" >trace.csv
         for workers in 1 2 4; do
-            "$program" format >/dev/null
             add "$place, windows of $size lines, 36 volumes, $workers workers, between" "$count" "$workers" replay --workers "$workers" --reclaim between
         done
     done
@@ -133,9 +141,10 @@ replays disk "$synced"
     printf '# Figures\n\nMade by `bench/all.sh %s %s` on %s, on a machine with %s processors (%s) and %s of memory, under %s; ' \
         "$lines" "$synced" "$(date -u '+%Y-%m-%d %H:%M UTC')" "$(nproc)" "$(sed -n 's/^model name[^:]*: //p' /proc/cpuinfo | head -n 1)" \
         "$(awk '/MemTotal/ { printf "%.0f GiB", $2 / 1048576 }' /proc/meminfo)" "$(uname -sr)"
-    printf 'at its end the load was %s.\n\n' "$(cut -d ' ' -f 1 /proc/loadavg)"
-    printf 'What is counted are lines a second, and bytes a second of `check`. The limit is what a plain program does in the same place just before: `dd` with\n'
-    printf 'blocks of 4 KiB, each synced, as many processes as workers; reading the lines alone (`solo`); `wc -l`; `sha256sum`. The ratio is speed over limit.\n\n'
+    printf 'when it began the load was %s, at its end %s.\n\n' "$load" "$(cut -d ' ' -f 1 /proc/loadavg)"
+    printf 'What is counted are lines a second, and bytes a second of `check`: of a replay and its limit the best of %s runs, by turns. The limit is what\n' "$runs"
+    printf 'a plain program does in the same place: `dd` with blocks of 4 KiB, each synced, as many processes as workers; reading the lines alone (`solo`);\n'
+    printf '`wc -l`; `sha256sum`. The ratio is speed over limit.\n\n'
     printf '| work | a second | CPU s | limit a second | ratio |\n|---|---|---|---|---|\n'
     cat "$rows"
 } >"$figures"

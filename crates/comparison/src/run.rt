@@ -4,29 +4,14 @@ ghost use Rattle.wol_disk.specs.Disk.{Rose};
 ghost use Rattle.wol_config.specs.Configs.{IsValid};
 ghost use Rattle.replay.specs.Completes.{Completes};
 ghost use Rattle.replay.specs.Givens.{IsNew, IsWithin, borrow_of, faults_of};
-ghost use Rattle.replay.specs.Stops.{fault_of_trace};
 ghost use Rattle.comparison.specs.Compares.{Compares, MakesWhole, MayCompare, StopsBefore};
 
 use crate::windows::Comparison;
-use msr_trace::TraceFault;
-use replay::{Given, Stop};
-use report::Fault;
+use replay::{Given, Stop, fault_of_trace};
 use std::alloc::Global;
 use trace_windows::Cutter;
 use wol_config::Config;
 use wol_io::{Sink, Source};
-
-// What is told of a trace that gives no further line.
-fn fault_of_trace(fault: TraceFault) -> Fault
-    ensures { result ≡ fault_of_trace fault }
-{
-    match fault {
-        TraceFault::Source => Fault::TraceSource,
-        TraceFault::Bad { line, why } => Fault::Line { line, why },
-        TraceFault::Spent => Fault::Lines,
-        TraceFault::NoMemory => Fault::Memory,
-    }
-}
 
 // Runs the lines that are given, and makes the four lines of them.
 fn run_all<S: Source>(alloc: Global, config: &Config, given: &mut Given<S>) -> Result<Vec<u8>, Stop>

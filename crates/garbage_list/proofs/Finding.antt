@@ -1,8 +1,8 @@
 -- The first record of a list that passes a test is the one of least version.
-use Rattle.std.proofs.Common.{◌≡◌, ⊎_elim, ◌<◌, ◌≤◌, ◌+◌, ◌^◌, ℕ, zero, suc, Bool, true, false, cond, not, ◌&&◌, List, [], ◌∷◌, map, length, Option, None, Some, refl, sym, ap, ◌∙◌, subst, arith, eqb, IsSome}
+use Rattle.std.proofs.Common.{◌≡◌, ⊎_elim, ◌<◌, ◌≤◌, ◌+◌, ◌^◌, ℕ, zero, suc, Bool, true, false, cond, not, ◌&&◌, List, [], ◌∷◌, map, length, Option, None, Some, refl, sym, ap, ◌∙◌, subst, arith, eqb}
 use Rattle.std.specs.Prelude.{slice_get, option_map, IfSome, IsSomeAnd, slice_index_or}
 use Rattle.std.specs.List.{AllByRecursion, find, list_any}
-use Rattle.std.proofs.lemmas.Bool.{false≢true, cases_lt, cases_eq, eqb-true}
+use Rattle.std.proofs.lemmas.Bool.{false≢true, cases_lt, eqb-true}
 use Rattle.wol_model.specs.Index.{Listed, Indexed, AreRising, cover_of, block_numbers}
 use Rattle.redirect_map.specs.declared.record.Rec.{Rec}
 use Rattle.redirect_map.specs.Masks.{IsMask}

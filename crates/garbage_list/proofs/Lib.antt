@@ -1,3 +1,4 @@
 pub mod Going
 pub mod Finding
 pub mod Lanes
+pub mod Nexts

@@ -1,5 +1,5 @@
-// 100,000 records of one block, on three lanes.
-ghost use Rattle.std.specs.Prelude.{◌≡◌, ◌<◌, ◌≤◌, length, IfOk};
+// 100,000 and more records of one block, on three lanes.
+ghost use Rattle.std.specs.Prelude.{◌≡◌, ◌<◌, ◌≤◌, ◌*◌, length, IfOk};
 ghost use Rattle.index_tests.specs.Below.{AreBelow};
 
 use crate::steps::{add_next, give_up, put_home};
@@ -39,6 +39,22 @@ fn records(alloc: Global, count: u64) -> Result<Index, NoMemory>
     Ok(index)
 }
 
+// The same number of blocks, each written twice: newer records cover the first half.
+fn records_twice(alloc: Global, count: u64) -> Result<Index, NoMemory>
+    requires { count ≤ 500000 }
+    ensures { IfOk result (λ index. AreBelow (2 * count) index.entries) }
+{
+    let mut index = Index::new(alloc);
+    for version in 0..2 * count {
+        let record = Rec {
+            lbn: version % count,
+            ..record_of(version)
+        };
+        add_next(&mut index, record)?;
+    }
+    Ok(index)
+}
+
 // Puts home and gives up all records, the oldest first.
 fn drop_all(index: &mut Index, count: u64)
     requires { AreBelow count index.old.entries }
@@ -69,6 +85,22 @@ fn drain(index: &mut Index, count: u64, lanes: &[bool], most: u64) -> u64
     most
 }
 
+// Puts home what is due, the least version first, until nothing is. Says how many calls that took.
+fn put_due(index: &mut Index, count: u64, lanes: &[bool], most: u64) -> u64
+    requires below { AreBelow count index.old.entries }
+    requires lanes { 3 ≤ length lanes.now }
+    ensures { AreBelow count index.new.entries }
+{
+    for step in 0..most {
+        if let Some(version) = next_due(index, lanes) {
+            let _ = put_home(index, count, version);
+        } else {
+            return step;
+        }
+    }
+    most
+}
+
 #[test]
 fn a_drain_of_100_000_ends(rt: HostRuntime) -> Result<(), Fail> {
     let mut index = records(rt.alloc(), 100_000)?;
@@ -86,6 +118,19 @@ fn records_on_a_sleeping_lane_are_passed_over(rt: HostRuntime) -> Result<(), Fai
         40_000
     );
     assert_eq!(rt; index.len(), 10_000);
+    Ok(())
+}
+
+// Reclaim between requests puts home first: the 100,000 covered records are not looked at again and again.
+#[test]
+fn covered_records_are_passed_over(rt: HostRuntime) -> Result<(), Fail> {
+    let mut index = records_twice(rt.alloc(), 100_000)?;
+    assert_eq!(rt;
+        put_due(&mut index, 200_000, &[true; 3], 1_000_000),
+        100_000
+    );
+    assert_eq!(rt; drain(&mut index, 200_000, &[true; 3], 1_000_000), 200_000);
+    assert!(rt; index.is_empty());
     Ok(())
 }
 

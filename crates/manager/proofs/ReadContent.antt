@@ -30,7 +30,8 @@ use Rattle.manager.specs.Stands.{Keeps}
 use Rattle.manager.specs.declared.base.ManagerBase.{ManagerBase}
 use Rattle.manager.specs.declared.manager.Manager.{Manager}
 use Rattle.manager.proofs.RunContent.{newest_is, bare_block, record_block, bare_run, row_run}
-use Rattle.manager.proofs.RunSources.{Answers, bare_source, entry_for, in_record, same_version}
+use Rattle.garbage_list.proofs.Nexts.{Answered}
+use Rattle.manager.proofs.RunSources.{bare_source, entry_for, in_record, same_version}
 
 -- ---- held segments by place
 
@@ -147,7 +148,7 @@ module _ {D : Type 0} (tells : Bool) (state : D → State) (m : Manager D) (b : 
         same_length : length (reads vs) ≡ length vs
         same_length = length-map vs (λ (v : Values Block). v.now)
 
-        entry : Answers (newest cover_at m.index.entries first) r
+        entry : Answered (newest cover_at m.index.entries first) r
         entry = entry_for m.index.entries first n r source first (omega arith) (omega arith)
 
         among : Contains m.index.entries entry.entry

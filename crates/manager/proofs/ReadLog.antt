@@ -24,7 +24,8 @@ use Rattle.manager.proofs.Lanes.{all_at, all_set, get_set}
 use Rattle.manager.proofs.ReadyLanes.{get_of, ready_set, placed_set, stays_set}
 use Rattle.manager.proofs.ReadThrough.{zip_set, segment_self}
 use Rattle.manager.proofs.RunContent.{newest_is}
-use Rattle.manager.proofs.RunSources.{Answers, entry_for, in_record}
+use Rattle.garbage_list.proofs.Nexts.{Answered}
+use Rattle.manager.proofs.RunSources.{entry_for, in_record}
 
 -- ---- the lane
 
@@ -102,7 +103,7 @@ module _ {D : Type 0} (state : D → State) (m : Manager D) (ready : IsReady sta
     },
   )
     where
-      entry : Answers (newest cover_at m.index.entries first) r
+      entry : Answered (newest cover_at m.index.entries first) r
       entry = entry_for m.index.entries first n r source first (omega arith) (omega arith)
 
       placed : IsPlacedIn m.lanes.items entry.entry

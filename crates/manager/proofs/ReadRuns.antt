@@ -24,7 +24,7 @@ use Rattle.manager.proofs.Calm.{none_home, none_then}
 use Rattle.manager.proofs.ReadKeeps.{keeps_read}
 use Rattle.manager.proofs.ReadThrough.{through_self, through_then}
 use Rattle.manager.proofs.RunSources.{needs_nothing, needs_more}
-use Rattle.manager.proofs.Woken.{count_joined, woken_none, woken_more}
+use Rattle.wol_promise.proofs.Woken.{count_joined, woken_none, woken_more}
 
 -- the first `done` blocks from `first` on were read into `out`
 pub record HasRead {D : Type 0} (tells : Bool) (state : D → State) (shared : Shared D) (old now : Manager D) (first total done : ℕ) (out : List Block) (sources : Sources) : Type 0 where

@@ -18,7 +18,7 @@ use Rattle.wol_promise.specs.Manager.{Held, IsBacked, IsIndexOf, extents_held}
 use Rattle.wol_promise.proofs.Covers.{any_member, any_found, same_cover, held_is_listed}
 use Rattle.wol_promise.proofs.Lists.{member_map, member_of, member_front, member_behind}
 use Rattle.redirect_map.specs.Index.{cover_at}
-use Rattle.manager.proofs.Woken.{covered_is}
+use Rattle.wol_promise.proofs.Woken.{covered_is}
 
 -- ---- the newest of a list
 

@@ -30,35 +30,22 @@ use Rattle.wol_promise.specs.Policy.{has_newest_on}
 use Rattle.manager.specs.declared.manager.Manager.{Manager}
 use Rattle.manager.proofs.ReadThrough.{zip_get, same_lane_spindle}
 use Rattle.manager.proofs.RunContent.{newest_listed, newest_is}
-use Rattle.manager.proofs.Woken.{IsBareRun, IsLaneRun, covered_is, any_joined, count_all, count_none}
+use Rattle.garbage_list.proofs.Nexts.{Answered, answered, unanswered}
+use Rattle.wol_promise.proofs.Woken.{IsBareRun, IsLaneRun, covered_is, any_joined, count_all, count_none}
 
 -- ---- sources
-
-none_answer : (o : Option Indexed) → IsAnswer o None → o ≡ None
-none_answer None is = refl
-none_answer (Some e) is = absurd is
-
--- the entry that an answer is of
-pub record Answers (o : Option Indexed) (r : Rec) : Type 0 where
-  pub entry : Indexed
-  pub is : o ≡ Some entry
-  pub record_ : IsRecordOf entry r
-
-pub some_answer : (o : Option Indexed) (r : Rec) → IsAnswer o (Some r) → Answers o r
-some_answer None r is = absurd is
-some_answer (Some e) r is = record { entry = e; is = refl; record_ = is }
 
 module _ (es : List Indexed) (first n : ℕ) where
   -- blocks that are read at home
   pub bare_source : IsSource es first n None → (b : ℕ) → first ≤ b → b < first + n → newest cover_at es b ≡ None
-  bare_source source b le lt = none_answer (newest cover_at es b) (source b le lt)
+  bare_source source b le lt = unanswered (newest cover_at es b) (source b le lt)
 
   pub bare_run_of : IsSource es first n None → IsBareRun (listed_in es) first n
   bare_run_of source b le lt = newest_listed es b ∙ ap (option_map (λ (e : Indexed). e.listed)) (bare_source source b le lt)
 
   -- blocks that are read in a record
-  pub entry_for : (r : Rec) → IsSource es first n (Some r) → (b : ℕ) → first ≤ b → b < first + n → Answers (newest cover_at es b) r
-  entry_for r source b le lt = some_answer (newest cover_at es b) r (source b le lt)
+  pub entry_for : (r : Rec) → IsSource es first n (Some r) → (b : ℕ) → first ≤ b → b < first + n → Answered (newest cover_at es b) r
+  entry_for r source b le lt = answered (newest cover_at es b) r (source b le lt)
 
   pub lane_run_of : (r : Rec) → IsSource es first n (Some r) → IsLaneRun (listed_in es) r.lane first n
   lane_run_of r source b le lt = let a = entry_for r source b le lt in

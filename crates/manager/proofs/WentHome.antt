@@ -38,7 +38,7 @@ use Rattle.manager.proofs.Lanes.{lanes_map}
 use Rattle.manager.proofs.Moments.{stops_so, still_logs}
 use Rattle.manager.proofs.ReadContent.{unbroken, upholds_up}
 use Rattle.manager.proofs.RunContent.{bare_block, newest_listed}
-use Rattle.manager.proofs.Woken.{covered_is}
+use Rattle.wol_promise.proofs.Woken.{covered_is}
 
 -- ---- blocks that no record covers
 

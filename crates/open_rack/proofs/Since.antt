@@ -15,9 +15,9 @@ use Rattle.manager.specs.declared.station.Station.{Station}
 use Rattle.manager_recovery.specs.declared.refusal.OpenRefusal.TheVariants.{DiskFault}
 use Rattle.volume_images.specs.Left.{AreNamedApart, IsTold}
 use Rattle.volume_images.specs.Volumes.{NoneOut, images_read, shape_in, shapes_of}
-use Rattle.rack.specs.Closes.{HasFaultIn, IsQuiet, LeavesOpen, LeavesVolumes, is_kept_home}
+use Rattle.rack.specs.Closes.{AreLeftOfParts, HasFaultIn, IsQuiet, LeavesOpen, LeavesUnopened, LeavesVolumes, is_kept_home}
 use Rattle.rack.specs.Closing.{LeavesNoneOut}
-use Rattle.rack.specs.Opens.{AreRefused, BeganWith, KeepsAllSound, LeavesAll, RefusesVolume, WereThere, out_names}
+use Rattle.rack.specs.Opens.{AreRefused, BeganWith, HasFaulty, KeepsAllSound, LeavesAll, RefusesVolume, WereThere, out_names}
 use Rattle.rack.specs.Owners.{HadRefused}
 use Rattle.rack.specs.Racks.{IsOpenBase, IsRack, IsStation, base_of_station}
 use Rattle.rack.specs.Rests.{IsImageOut, image_here}
@@ -27,6 +27,8 @@ use Rattle.rack.specs.declared.rack.Rest.{Rest}
 use Rattle.rack.specs.declared.volume_fault.VolumeFault.{VolumeFault}
 use Rattle.rack.specs.declared.volume_fault.VolumeFault.TheVariants as fault
 use Rattle.rack.proofs.Asking.{refuses_later, rose_on}
+use Rattle.rack.proofs.NewFaults.{told_each, told_with}
+use Rattle.rack.proofs.StillThere.{there_left}
 use Rattle.rack.proofs.SentNames.{none_named}
 use Rattle.open_rack.specs.Again.{IsRackAgain}
 use Rattle.open_rack.specs.Sessions.{IsClosed, IsOpened, OpensAndCloses}
@@ -93,8 +95,8 @@ refused_alone : {D : Type 0} (tells : Bool) (state : D → State) (config : Conf
 refused_alone tells state config out old new k v fault.Absent home (not_out, says) = (none_here k, says)
 refused_alone tells state config out old new k v (fault.WrongLength bytes) home (not_out, says) = (none_here k, says)
 refused_alone tells state config out old new k v fault.BayFailed home ((not_out, says), rose) = ((none_here k, says), rose)
-refused_alone tells state config out old new k v fault.LabelFault home refused = record { not_out = none_here k; image_fault = refused.image_fault; is_fault = refused.is_fault; said = refused.said; cause = refused.cause }
-refused_alone tells state config out old new k v (fault.Refused r) home (inl refused) = inl (record { not_out = none_here k; image_fault = refused.image_fault; is_fault = refused.is_fault; said = refused.said; cause = refused.cause })
+refused_alone tells state config out old new k v fault.LabelFault home refused = record { not_out = none_here k; image_fault = refused.image_fault; is_fault = refused.is_fault; said = refused.said; cause = refused.cause; faulty = refused.faulty }
+refused_alone tells state config out old new k v (fault.Refused r) home (inl refused) = inl (record { not_out = none_here k; image_fault = refused.image_fault; is_fault = refused.is_fault; said = refused.said; cause = refused.cause; faulty = refused.faulty })
 refused_alone tells state config out old new k v (fault.Refused r) home (inr refused) = absurd (let no : true ≡ false = sym refused.is_out ∙ ap is_some home in cc no)
 
 -- the element at a place of a list that was mapped
@@ -144,9 +146,9 @@ module _ {D : Type 0} (tells : Bool) (state : D → State) (config : Config) (ol
       → IsTold (KeepsAllSound config) old.told new.told
   sound_since telling closing = since (KeepsAllSound config) (KeepsAllSound config) telling closing (λ t y stays sound. sound)
 
-  module _ (refused : AreRefused tells state config old bay r) where
+  module _ (refused : AreRefused tells state config old bay r) (apart : IsTold (λ x y. AreNamedApart y) old.told bay.told) (gained : IsTold HasFaulty bay.told new.told) where
     refused_since : AreRefused tells state config old new r
-    refused_since k v f conf at = refuses_later tells state config r.rest.images.items old bay new k v f later (refused k v f conf at)
+    refused_since k v f conf at = refuses_later tells state config r.rest.images.items old bay new k v f later apart gained (refused k v f conf at)
 
     -- an image that isn't out was refused
     missing : (k : ℕ) (v : VolumeConf) → slice_get config.volumes.items k ≡ Some v → image_here r.rest.images.items k ≡ None → (f : VolumeFault) × RefusesVolume tells state config r.rest.images.items old new k v f
@@ -172,15 +174,16 @@ module _ {D : Type 0} (tells : Bool) (state : D → State) (config : Config) (ol
     cause : (k : ℕ) (v : VolumeConf) → slice_get config.volumes.items k ≡ Some v → is_kept_home r.rest.images.items k ≡ true → (f : VolumeFault) × RefusesVolume {D = D} tells state config [] old new k v f
     cause k v conf home = let none = not_out k home in let (f, why) = missing k v conf none in (f, refused_alone tells state config r.rest.images.items old new k v f none why)
 
-    leaves : (t y : Told) → HadRefused config q.rest.images.items t y → LeavesVolumes config q t y → LeavesAll tells state config old new t y
-    leaves t y stays volumes =
+    leaves : (t y : Told) → HadRefused config q.rest.images.items t y → LeavesVolumes config q t y × AreLeftOfParts state config q y → LeavesAll tells state config old new t y
+    leaves t y stays both =
         let stayed = subst (λ (w : Rest D). HadRefused config w.images.items t y) (rest_again state config r q again) stays in
-        let all = subst (λ (w : Rack D). LeavesVolumes config w t y) again.only volumes in
+        let all = subst (λ (w : Rack D). LeavesVolumes config w t y) again.only both.0 in
         record {
           refused = is_kept_home r.rest.images.items;
           cause = cause;
           kept = λ k v conf home c may. stayed k v conf (not_out k home) c may;
           left = λ images left v there. all images left v;
+          there = λ images left v was. there_left state config q t y stays both.1 images left v was;
         }
 
     pub opens_and_closes : (did : (before after : Rack D) → Type 0) (spindles : List SpindleView) → did r q → IsClosed tells state config bay new q spindles
@@ -191,8 +194,10 @@ module _ {D : Type 0} (tells : Bool) (state : D → State) (config : Config) (ol
         → ((t : Told) → IsTrue tells → BeganWith state config t q → All (λ (s : Station D). IsQuiet s) q.stations.items → IsTold (λ x y. LeavesOpen config q t y) bay.told new.told)
         → ((t : Told) → IsTrue tells → BeganWith state config t q → WereThere config q.rest.images.items t → All (λ (s : Station D). IsQuiet s) q.stations.items
         → IsTold (λ x y. HadRefused config q.rest.images.items t x → LeavesVolumes config q t y) bay.told new.told)
+        → ((t : Told) → IsTrue tells → BeganWith state config t q → WereThere config q.rest.images.items t
+        → IsTold (λ x y. HadRefused config q.rest.images.items t x → LeavesUnopened config q t y) bay.told new.told)
         → OpensAndCloses tells state config did old new spindles
-    opens_and_closes did spindles done closed failed complete risen left_open volumes = record {
+    opens_and_closes did spindles done closed failed complete risen left_open volumes unopened = record {
       bay = bay;
       before = r;
       after = q;
@@ -216,7 +221,11 @@ module _ {D : Type 0} (tells : Bool) (state : D → State) (config : Config) (ol
           old.told (λ t all named sound calm. all named sound (λ has. calm (risen_since has)) (λ rose. calm (rose_on old.faults bay.faults new.faults rose later))) (complete telling);
       left_open = λ telling quiet. since (LeavesOpen config q) (LeavesOpen config q) telling
           (λ t began there. weaker (λ x. HadRefused config q.rest.images.items t x) (LeavesOpen config q t) bay.told new.told (left_open t telling began quiet)) (λ t y stays is. is);
-      left = λ telling quiet. since (LeavesVolumes config q) (LeavesAll tells state config old new) telling (λ t began there. volumes t telling began there quiet) leaves;
+      left_unopened = λ telling. since (LeavesUnopened config q) (LeavesUnopened config q) telling (λ t began there. unopened t telling began there) (λ t y stays is. is);
+      left = λ telling quiet. since (λ t y. LeavesVolumes config q t y × AreLeftOfParts state config q y) (LeavesAll tells state config old new) telling
+          (λ t began there. told_each (λ x y. (HadRefused config q.rest.images.items t x → LeavesVolumes config q t y) × AreLeftOfParts state config q y)
+          (λ x y. HadRefused config q.rest.images.items t x → LeavesVolumes config q t y × AreLeftOfParts state config q y) bay.told new.told (λ x y both had. (both.0 had, both.1))
+          (told_with (λ x y. HadRefused config q.rest.images.items t x → LeavesVolumes config q t y) (λ x y. AreLeftOfParts state config q y) bay.told new.told (volumes t telling began there quiet) (closed.parts telling))) leaves;
     }
       where
         risen_since : HasFaultIn state r.rest → Rose old.faults new.faults

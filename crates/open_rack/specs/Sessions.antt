@@ -11,8 +11,8 @@ use Rattle.manager.specs.declared.part.Part.{Part}
 use Rattle.manager_recovery.specs.declared.refusal.OpenRefusal.TheVariants.{DiskFault}
 use Rattle.volume_images.specs.Left.{AreNamedApart, IsTold}
 use Rattle.volume_images.specs.Volumes.{images_read, shapes_of}
-use Rattle.rack.specs.Closes.{AreLeftOfParts, IsClosedSpindle, IsClosedVolume, IsQuiet, LeavesOpen}
-use Rattle.rack.specs.Opens.{AreRefused, BeganWith, LeavesAll, RefusesVolume, WereThere}
+use Rattle.rack.specs.Closes.{AreLeftOfParts, IsClosedSpindle, IsClosedVolume, IsQuiet, LeavesOpen, LeavesUnopened}
+use Rattle.rack.specs.Opens.{AreRefused, BeganWith, HasFaulty, LeavesAll, RefusesVolume, WereThere}
 use Rattle.rack.specs.Owners.{HadRefused}
 use Rattle.rack.specs.Racks.{AreUnused, IsRack, IsUnused}
 use Rattle.rack.specs.Rests.{IsImageOut, image_here}
@@ -42,6 +42,9 @@ pub record IsClosed {D : Type 0} (tells : Bool) (state : D → State) (config : 
   pub each : (k : ℕ) (s : SpindleView) → slice_get spindles k ≡ Some s → IsClosedSpindle r k s
   pub stations : All (IsClosedVolume tells config r.rest.images.items bay new) r.stations.items
   pub parts : IsTrue tells → IsTold (λ x y. AreLeftOfParts state config r y) bay.told new.told
+  -- no two images have one name still, and parts of images came back with a fault
+  pub apart : IsTold (λ x y. AreNamedApart y) bay.told new.told
+  pub gained : IsTold HasFaulty bay.told new.told
 
 -- A rack was opened, this was done with it, and it was closed.
 pub record OpensAndCloses {D : Type 0} (tells : Bool) (state : D → State) (config : Config) (did : (before after : Rack D) → Type 0) (old new : BayState) (spindles : List SpindleView) : Type 0 where
@@ -64,6 +67,8 @@ pub record OpensAndCloses {D : Type 0} (tells : Bool) (state : D → State) (con
   -- where the images are sound as they read, and no call failed, each volume was open
   pub complete : IsTrue tells → IfSome old.told (λ t. AreNamedApart t → AreSound (shapes_of config) (images_read config t) → (Rose old.faults new.faults → ⊥)
       → (k : ℕ) → k < length (shapes_of config) → slice_get before.faults.items k ≡ Some None)
+  -- whatever was written, a volume that wasn't opened recovers to what it might have
+  pub left_unopened : IsTrue tells → IsTold (LeavesUnopened config after) old.told new.told
   -- where nothing was written, each open volume recovers to what the images before recovered to, and each volume to what it might have
   pub left_open : IsTrue tells → All (λ s. IsQuiet s) after.stations.items → IsTold (LeavesOpen config after) old.told new.told
   pub left : IsTrue tells → All (λ s. IsQuiet s) after.stations.items → IsTold (LeavesAll tells state config old new) old.told new.told

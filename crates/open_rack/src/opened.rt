@@ -4,7 +4,7 @@ ghost use Rattle.wol_bay.specs.Bay.{outs};
 ghost use Rattle.wol_config.specs.Configs.{IsValid};
 ghost use Rattle.volume_images.specs.Left.{IsTold};
 ghost use Rattle.volume_images.specs.Volumes.{NoneOut};
-ghost use Rattle.rack.specs.Opens.{KeepsAllSound, LeavesAll};
+ghost use Rattle.rack.specs.Opens.{KeepsAllSound, KeepsOthers, LeavesAll};
 ghost use Rattle.open_rack.specs.Sessions.{OpensAndCloses};
 
 use crate::work::Work;
@@ -45,6 +45,7 @@ pub fn with_open<R: Wait, B: Bay, S, K, W: Work<R, B::Part, S, K>>(
     // images that a crash might have left sound before are sound behind it, whatever was written
     ensures sound { IsTrue B.Part.tells
         → IsTold (KeepsAllSound config.now) (B.state bay.old).told (B.state bay.new).told }
+    ensures others { IsTold (KeepsOthers config.now) (B.state bay.old).told (B.state bay.new).told }
     // the work was done with the rack while it was open
     ensures did { IfOk result (λ c. OpensAndCloses B.Part.tells B.Part.state config.now
         (λ before after. W.Did work config.now before after given.old given.new out.old out.new c.answer)

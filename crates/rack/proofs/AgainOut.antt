@@ -82,8 +82,8 @@ module _ {D : Type 0} (state : D → State) (tell_all : (d : D) → TellsContent
       is_foreign : IsSegmentHere r.rest k i p → IsForeign state (map (λ (u : Station D). base_of_station u) r.stations.items) p
       is_foreign (inl x) = foreign.places k i x.0 p x.1 x.2
       is_foreign (inr x) = foreign.held x.0 k i p x.1
-  none_at k i bs away (from_pool idle) = idle_none s.id bs idle
-  none_at k i bs away (from_manager u among view its whole) = go (cases_eq u.id s.id) its
+  none_at k i bs away (from_pool never idle) = idle_none s.id bs idle
+  none_at k i bs away (from_manager never u among view its whole) = go (cases_eq u.id s.id) its
     where
       go : (u.id ≡ s.id) ⊎ (u.id ≢ s.id) → IsIdle bs ⊎ IsLogOfStation u k bs → extents_in s.id bs ≡ []
       go (inl e) log = absurd (away (subst (λ (w : Station D). Contains (base_of_station w).volume.began.view k) (same_station u among e) view))

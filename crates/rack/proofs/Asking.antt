@@ -17,13 +17,14 @@ use Rattle.volume_images.specs.Volumes.{shape_in, shapes_of}
 use Rattle.volume_images.proofs.Refused.{rose_since}
 use Rattle.rack.specs.Rests.{image_here}
 use Rattle.rack.specs.Making.{AreNewImages, PushesImage}
-use Rattle.rack.specs.Opens.{RefusesVolume, RefusesImage}
-use Rattle.rack.specs.Opening.{said_at, fault_at, IsRefused, IsOut, WasAtEntry, AreAsked, IsNextOpened, IsNextRefused}
+use Rattle.rack.specs.Opens.{HasFaulty, RefusesVolume, RefusesImage}
+use Rattle.rack.specs.Opening.{said_at, fault_at, IsRefused, IsOut, WasAtEntry, AreAsked, StayedAs, IsNextOpened, IsNextRefused}
 use Rattle.rack.specs.declared.heads_said.Said.{Said}
 use Rattle.rack.specs.declared.images.Images.{Images}
 use Rattle.rack.specs.declared.rack.ImageRest.{ImageRest}
 use Rattle.rack.specs.declared.volume_fault.VolumeFault.{VolumeFault}
 use Rattle.rack.specs.declared.volume_fault.VolumeFault.TheVariants.{Absent, WrongLength, Refused, LabelFault, BayFailed}
+use Rattle.rack.proofs.NewFaults.{told_each, sent_faulty, fault_since, fault_later}
 
 -- ---- One more at the end of a list
 
@@ -68,19 +69,32 @@ rose_on a b c rose le = ⊎_elim (λ (lt : a < b). inl (omega (arith, lt, le))) 
 
 -- the name has the image that it had
 abbrev pub SameAt : Name → Told → Told → Type 0
-SameAt name old new = AreNamedApart new × (at_name name new.images ≡ at_name name old.images)
+SameAt name old new = AreNamedApart new × (at_name name new.images ≡ at_name name old.images) × HasFaulty old new
+
+-- no two images have one name still
+abbrev pub StaysApart : (old new : BayState) → Type 0
+StaysApart old new = IsTold (λ x y. AreNamedApart y) old.told new.told
 
 module _ {D : Type 0} (tells : Bool) (state : D → State) (config : Config) where
-  image_later : (out : List (Option (ImageRest D))) (b b1 b2 : BayState) (k : ℕ) (v : VolumeConf) (f : VolumeFault) → b1.faults ≤ b2.faults → RefusesImage config out b b1 k v f → RefusesImage config out b b2 k v f
-  image_later out b b1 b2 k v f le r = record { not_out = r.not_out; image_fault = r.image_fault; is_fault = r.is_fault; said = r.said; cause = λ call. rose_on b.faults b1.faults b2.faults (r.cause call) le }
+  image_later : (out : List (Option (ImageRest D))) (b b1 b2 : BayState) (k : ℕ) (v : VolumeConf) (f : VolumeFault) → b1.faults ≤ b2.faults → StaysApart b b1 → IsTold HasFaulty b1.told b2.told
+      → RefusesImage config out b b1 k v f → RefusesImage config out b b2 k v f
+  image_later out b b1 b2 k v f le apart gained r = record {
+    not_out = r.not_out;
+    image_fault = r.image_fault;
+    is_fault = r.is_fault;
+    said = r.said;
+    cause = λ call. rose_on b.faults b1.faults b2.faults (r.cause call) le;
+    faulty = λ call. fault_later v.name r.image_fault b.told b1.told b2.told apart (r.faulty call) gained;
+  }
 
   -- a cause stays one while the bay goes on
-  pub refuses_later : (out : List (Option (ImageRest D))) (b b1 b2 : BayState) (k : ℕ) (v : VolumeConf) (f : VolumeFault) → b1.faults ≤ b2.faults → RefusesVolume tells state config out b b1 k v f → RefusesVolume tells state config out b b2 k v f
-  refuses_later out b b1 b2 k v Absent le r = r
-  refuses_later out b b1 b2 k v (WrongLength bytes) le r = r
-  refuses_later out b b1 b2 k v BayFailed le r = (r.0, rose_on b.faults b1.faults b2.faults r.1 le)
-  refuses_later out b b1 b2 k v LabelFault le r = image_later out b b1 b2 k v LabelFault le r
-  refuses_later out b b1 b2 k v (Refused f) le r = ⊎_elim (λ i. inl (image_later out b b1 b2 k v (Refused f) le i)) (λ o. inr o) r
+  pub refuses_later : (out : List (Option (ImageRest D))) (b b1 b2 : BayState) (k : ℕ) (v : VolumeConf) (f : VolumeFault) → b1.faults ≤ b2.faults → StaysApart b b1 → IsTold HasFaulty b1.told b2.told
+      → RefusesVolume tells state config out b b1 k v f → RefusesVolume tells state config out b b2 k v f
+  refuses_later out b b1 b2 k v Absent le apart gained r = r
+  refuses_later out b b1 b2 k v (WrongLength bytes) le apart gained r = r
+  refuses_later out b b1 b2 k v BayFailed le apart gained r = (r.0, rose_on b.faults b1.faults b2.faults r.1 le)
+  refuses_later out b b1 b2 k v LabelFault le apart gained r = image_later out b b1 b2 k v LabelFault le apart gained r
+  refuses_later out b b1 b2 k v (Refused f) le apart gained r = ⊎_elim (λ i. inl (image_later out b b1 b2 k v (Refused f) le apart gained i)) (λ o. inr o) r
 
   bay_since : (name : Name) (sizes : List ℕ) (answer : Option BayFault) (o o1 : Option Told) → IsTold (SameAt name) o o1 → IfSome o1 (λ t. AreNamedApart t → refusal name sizes t ≡ answer)
       → IfSome o (λ t. AreNamedApart t → refusal name sizes t ≡ answer)
@@ -102,6 +116,8 @@ module _ {D : Type 0} (tells : Bool) (state : D → State) (config : Config) whe
     is_fault = r.is_fault;
     said = λ t i told apart at. let then = told_there v.name t b.told b1.told told same apart in r.said then.0 i then.1 then.2.0 (then.2.1 ∙ at);
     cause = λ call. rose_since b.faults b1.faults b2.faults le (r.cause call);
+    faulty = λ call. fault_since v.name r.image_fault b.told b1.told b2.told
+        (told_each (SameAt v.name) (λ x y. AreNamedApart y) b.told b1.told (λ x y s. s.0) same) (told_each (SameAt v.name) HasFaulty b.told b1.told (λ x y s. s.2) same) (r.faulty call);
   }
 
   -- and was one before
@@ -123,9 +139,14 @@ module _ {D : Type 0} (tells : Bool) (state : D → State) (config : Config) whe
     same_shape k s e found =
         same_Some (shape_in config v) s (sym (ap (option_map (shape_in config)) at) ∙ sym (slice_get-map (shape_in config) config.volumes.items n) ∙ sym (ap (λ (j : ℕ). slice_get (shapes_of config) j) e) ∙ found)
 
-    refused_before : (k : ℕ) (w : VolumeConf) → b1.faults ≤ b2.faults → said_at i2.said.items k ≡ said_at i1.said.items k → fault_at i2.faults.items k ≡ fault_at i1.faults.items k
+    refused_before : (k : ℕ) (w : VolumeConf) → b1.faults ≤ b2.faults → IsTold HasFaulty b1.told b2.told → said_at i2.said.items k ≡ said_at i1.said.items k → fault_at i2.faults.items k ≡ fault_at i1.faults.items k
         → IsRefused tells state config b b1 k w i1 → IsRefused tells state config b b2 k w i2
-    refused_before k w later said fault r = record { unsaid = said ∙ r.unsaid; fault = r.fault; fault_is = fault ∙ r.fault_is; refuses = refuses_later [] b b1 b2 k w r.fault later r.refuses }
+    refused_before k w later gained said fault r = record {
+      unsaid = said ∙ r.unsaid;
+      fault = r.fault;
+      fault_is = fault ∙ r.fault_is;
+      refuses = refuses_later [] b b1 b2 k w r.fault later (told_each (SameAt v.name) (λ x y. AreNamedApart y) b.told b1.told (λ x y s. s.0) same) gained r.refuses;
+    }
 
     out_before : (k : ℕ) (s : Shape) (r : ImageRest D) → said_at i2.said.items k ≡ said_at i1.said.items k → fault_at i2.faults.items k ≡ fault_at i1.faults.items k
         → IsOut state (length (shapes_of config)) k s i1 r → IsOut state (length (shapes_of config)) k s i2 r
@@ -140,7 +161,7 @@ module _ {D : Type 0} (tells : Bool) (state : D → State) (config : Config) whe
       refused = λ k w lt found none.
           let none_now : get_or (i1.out.items ++ Some r ∷ []) k None ≡ None = sym (ap (λ l. get_or l k None) pushes.out.0) ∙ none in
           ⊎_elim
-          (λ (less : k < n). refused_before k w next.counts (said_less k less) (fault_less k less) (asked.refused k w less found (sym (at_less i1.out.items (Some r) n asked.out_count k less) ∙ none_now)))
+          (λ (less : k < n). refused_before k w next.counts (sent_faulty v.name (part_sizes (shape_in config v)) b1.told b2.told next.sent) (said_less k less) (fault_less k less) (asked.refused k w less found (sym (at_less i1.out.items (Some r) n asked.out_count k less) ∙ none_now)))
           (λ (more : n ≤ k).
           let e : k ≡ n = omega (arith, more, lt) in
           absurd (none-some r (sym none_now ∙ ap (λ (j : ℕ). get_or (i1.out.items ++ Some r ∷ []) j None) e ∙ at_new i1.out.items (Some r) n asked.out_count)))
@@ -196,7 +217,7 @@ module _ {D : Type 0} (tells : Bool) (state : D → State) (config : Config) whe
       refused = λ k w lt found none.
           let none_now : get_or (i1.out.items ++ None ∷ []) k None ≡ None = sym (ap (λ l. get_or l k None) pushes.out.0) ∙ none in
           ⊎_elim
-          (λ (less : k < n). refused_before k w next.counts (said_less k less) (fault_less k less) (asked.refused k w less found (sym (at_less i1.out.items None n asked.out_count k less) ∙ none_now)))
+          (λ (less : k < n). refused_before k w next.counts (told_each (StayedAs v.name) HasFaulty b1.told b2.told (λ x y s. s.faulty) next.left) (said_less k less) (fault_less k less) (asked.refused k w less found (sym (at_less i1.out.items None n asked.out_count k less) ∙ none_now)))
           (λ (more : n ≤ k).
           let e : k ≡ n = omega (arith, more, lt) in
           let R : ℕ → VolumeConf → Type 0 = λ j u. IsRefused tells state config b b2 j u i2 in
@@ -234,12 +255,12 @@ module _ {D : Type 0} (tells : Bool) (state : D → State) (config : Config) whe
     asked_more (Err fault) pushes ok err = asked_refused fault pushes (err v at)
 
   -- the faults of the bay may go on
-  pub asked_later : (b b1 b2 : BayState) (n : ℕ) (i : Images D) → b1.faults ≤ b2.faults → AreAsked tells state config b b1 n i → AreAsked tells state config b b2 n i
-  asked_later b b1 b2 n i le asked = record {
+  pub asked_later : (b b1 b2 : BayState) (n : ℕ) (i : Images D) → b1.faults ≤ b2.faults → StaysApart b b1 → IsTold HasFaulty b1.told b2.told → AreAsked tells state config b b1 n i → AreAsked tells state config b b2 n i
+  asked_later b b1 b2 n i le apart gained asked = record {
     said_count = asked.said_count;
     out_count = asked.out_count;
     fault_count = asked.fault_count;
-    refused = λ k w lt found none. let r = asked.refused k w lt found none in record { unsaid = r.unsaid; fault = r.fault; fault_is = r.fault_is; refuses = refuses_later [] b b1 b2 k w r.fault le r.refuses };
+    refused = λ k w lt found none. let r = asked.refused k w lt found none in record { unsaid = r.unsaid; fault = r.fault; fault_is = r.fault_is; refuses = refuses_later [] b b1 b2 k w r.fault le apart gained r.refuses };
     out = asked.out;
     entry = asked.entry;
   }

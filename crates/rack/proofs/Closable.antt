@@ -80,6 +80,7 @@ module _ {D : Type 0} (state : D → State) (config : Config) where
                 (x.0, kept.spindles v k ∙ x.1, is.parts.spindles.each v k l x.0 at x.1);
             keeper_ = subst (λ (n : ℕ). IsPassAt l n p) (sym (kept.count ∙ is.parts.count)) (are.1 k l p at has);
             accesses = λ v q there. only v k q (sym (kept.spindles v k) ∙ there);
+            settled = λ v q there. is.parts.spindles.settled v k q (sym (kept.spindles v k) ∙ there);
           };
       room_count = ap (λ r. length r.spindles.items) rooms ∙ is.rooms.spindle_count ∙ sym locks.spindle_count;
       rooms = subst (λ r. All (λ row. (row.items ≡ []) × (length cur.passes.items + 1 ≤ Rattle.std.specs.Prelude.vec_capacity row)) r.spindles.items) (sym rooms)

@@ -9,12 +9,14 @@ use Rattle.std.proofs.lemmas.List.Elements.{All-contains}
 use Rattle.wol_disk.specs.Disk.{Block, State, IsDisk, TellsContent, IsImageOf}
 use Rattle.wol_model.specs.Heads.{Shape}
 use Rattle.wol_model.specs.Images.{Images, image_of, home_in, segment_of, accepted_from, accepted}
+use Rattle.wol_model.specs.Index.{Listed, listed_in}
 use Rattle.wol_model.specs.Log.{Record}
 use Rattle.wol_model.specs.Blocks.{after}
 use Rattle.wol_model.specs.Extents.{AreDistinct, covers_of}
 use Rattle.wol_model.specs.History.{writes, flight_of, IsCut}
 use Rattle.wol_model.specs.Recovered.{extents_in, extents_of}
-use Rattle.wol_promise.specs.Ruled.{entries_of}
+use Rattle.wol_promise.specs.Policy.{Look}
+use Rattle.wol_promise.specs.Ruled.{entries_of, last_look}
 use Rattle.wol_model.proofs.Images.{idle_none}
 use Rattle.wol_promise.specs.Manager.{Held, SaysOwnerOrFree}
 use Rattle.wol_promise.specs.Stands.{IsHeldBy, IsSoundOf}
@@ -38,7 +40,7 @@ use Rattle.manager.specs.declared.base.ManagerBase.{ManagerBase}
 use Rattle.manager.specs.declared.station.Station.{Station}
 use Rattle.volume_images.specs.Volumes.{shapes_of, AreLeft}
 use Rattle.rack.specs.Foreign.{IsForeign}
-use Rattle.rack.specs.Closes.{segments_out, recovered_out}
+use Rattle.rack.specs.Closes.{AreListedOf, segments_out, recovered_out}
 use Rattle.rack.specs.Rests.{image_here, segment_here, held_here, away_with, IsImageOut, IsSegmentHere, IsRest}
 use Rattle.rack.specs.Racks.{IsClosable, IsOpenBase, base_of_station}
 use Rattle.rack.specs.Parts.{HasBack, held_parts}
@@ -53,7 +55,7 @@ use Rattle.rack.proofs.Closable.{blocks_at, image_was, images_rest, images_whole
 use Rattle.rack.proofs.RackClosed.{same_out}
 use Rattle.rack.proofs.StationParts.{zip_at, among, is_base, is_station, image_end, shape_of_image, home_there, lane_there}
 use Rattle.rack.proofs.HeldSegments.{no_log, not_of_other, each_held, of_held}
-use Rattle.rack.proofs.StationRecovers.{blocks_in, IsThereNow, AreLeftNow, cut_now, whole_now, distinct_now, sound_now}
+use Rattle.rack.proofs.StationRecovers.{blocks_in, IsThereNow, AreLeftNow, cut_now, whole_now, distinct_now, listed_now, sound_now}
 
 -- ---- Images without those that were refused
 
@@ -179,7 +181,7 @@ module _ {D : Type 0} (state : D → State) (tells : Bool) (told : IsTrue tells)
     abbrev owner : ℕ
     owner = base.volume.began.owner
 
-    owner_is : owner ≡ s.id
+    pub owner_is : owner ≡ s.id
     owner_is = (is_station state tells config b r can first second is closed filled kept n s s_at).id
 
     pub open_base : IsOpenBase config r.shared r.rest.images.items base
@@ -233,31 +235,37 @@ module _ {D : Type 0} (state : D → State) (tells : Bool) (told : IsTrue tells)
         ic.stands.keeps.held never l h in_lanes in_held
         (λ j rs broken x. let v = (lane_there state tells config b r can first second is closed filled kept n s c s_at ic l h in_lanes in_held).0 in x (λ e. ((v ∙ logger) e, index e)))
 
-    -- a part of another station isn't a log of this one
-    not_mine : (j : ℕ) (t : Station D) (d : Closing D) → j ≢ n → slice_get r.stations.items j ≡ Some t → IsClosing tells state first t d
-        → (l : Lane D) (h : HeldSegment D) → Contains d.manager.lanes.items l → Contains (held_in l) h → (bs : List Block) → IsImageOf (state_of state (part_of h.segment)).values bs → extents_in owner bs ≡ []
-    not_mine j t d differs t_at id l h in_lanes in_held bs is_image =
-        not_of_other owner (base_of_station t).volume.began.owner bs (owner_small j t t_at) owners
-        (of_held (IsHeldBy (parts_of tells state) (base_of_station t).volume.began) (SaysOwnerOrFree (base_of_station t).volume.began.owner bs) 0 d.manager.lanes.items id.stands.keeps.logs
-        (λ g rs. IsTrue tells → d.manager.down ≡ None → Rattle.log_segment.specs.Segment.Holds state g.segment rs) id.stands.keeps.held id.stands.keeps.upholds.places.each l h in_lanes in_held
-        (λ i rs broken x. x.owned bs (told, is_image)))
+    -- another place among the stations is that of another volume
+    pub other_volume : (j : ℕ) (t : Station D) → j ≢ n → slice_get r.stations.items j ≡ Some t → owner ≢ (base_of_station t).volume.began.owner
+    other_volume j t differs t_at e = go (cases_lt j n)
       where
         ids_at : (m : ℕ) (u : Station D) → slice_get r.stations.items m ≡ Some u → slice_get (map (λ (w : Station D). w.id) r.stations.items) m ≡ Some u.id
         ids_at m u at = slice_get-map (λ (w : Station D). w.id) r.stations.items m ∙ ap (option_map (λ (w : Station D). w.id)) at
 
-        owners : owner ≢ (base_of_station t).volume.began.owner
-        owners e = go (cases_lt j n)
-          where
-            ids : s.id ≡ t.id
-            ids = sym owner_is ∙ e ∙ (is_station state tells config b r can first second is closed filled kept j t t_at).id
+        ids : s.id ≡ t.id
+        ids = sym owner_is ∙ e ∙ (is_station state tells config b r can first second is closed filled kept j t t_at).id
 
-            two : n ≤ j → (n < j) ⊎ (j ≤ n) → ⊥
-            two le (inl less) = let rise = can.rising n j s.id t.id less (ids_at n s s_at) (ids_at j t t_at) in omega (arith, rise, ids)
-            two le (inr also) = differs (omega (arith, le, also))
+        two : n ≤ j → (n < j) ⊎ (j ≤ n) → ⊥
+        two le (inl less) = let rise = can.rising n j s.id t.id less (ids_at n s s_at) (ids_at j t t_at) in omega (arith, rise, ids)
+        two le (inr also) = differs (omega (arith, le, also))
 
-            go : (j < n) ⊎ (n ≤ j) → ⊥
-            go (inl less) = let rise = can.rising j n t.id s.id less (ids_at j t t_at) (ids_at n s s_at) in omega (arith, rise, ids)
-            go (inr le) = two le (cases_lt n j)
+        go : (j < n) ⊎ (n ≤ j) → ⊥
+        go (inl less) = let rise = can.rising j n t.id s.id less (ids_at j t t_at) (ids_at n s s_at) in omega (arith, rise, ids)
+        go (inr le) = two le (cases_lt n j)
+
+    -- a part of another station says that one, or free
+    pub says_other : (j : ℕ) (t : Station D) (d : Closing D) → IsClosing tells state first t d
+        → (l : Lane D) (h : HeldSegment D) → Contains d.manager.lanes.items l → Contains (held_in l) h → (bs : List Block) → IsImageOf (state_of state (part_of h.segment)).values bs → SaysOwnerOrFree (base_of_station t).volume.began.owner bs
+    says_other j t d id l h in_lanes in_held bs is_image =
+        of_held (IsHeldBy (parts_of tells state) (base_of_station t).volume.began) (SaysOwnerOrFree (base_of_station t).volume.began.owner bs) 0 d.manager.lanes.items id.stands.keeps.logs
+        (λ g rs. IsTrue tells → d.manager.down ≡ None → Rattle.log_segment.specs.Segment.Holds state g.segment rs) id.stands.keeps.held id.stands.keeps.upholds.places.each l h in_lanes in_held
+        (λ i rs broken x. x.owned bs (told, is_image))
+
+    -- so it isn't a log of this one
+    not_mine : (j : ℕ) (t : Station D) (d : Closing D) → j ≢ n → slice_get r.stations.items j ≡ Some t → IsClosing tells state first t d
+        → (l : Lane D) (h : HeldSegment D) → Contains d.manager.lanes.items l → Contains (held_in l) h → (bs : List Block) → IsImageOf (state_of state (part_of h.segment)).values bs → extents_in owner bs ≡ []
+    not_mine j t d differs t_at id l h in_lanes in_held bs is_image =
+        not_of_other owner (base_of_station t).volume.began.owner bs (owner_small j t t_at) (other_volume j t differs t_at) (says_other j t d id l h in_lanes in_held bs is_image)
 
     other_now : (k i : ℕ) (z : Shape) (bs : List Block) → slice_get (shapes_of config) k ≡ Some z → image_of taken k ≡ Some bs → i < z.segments
         → AllByRecursion (λ (h : Held (Spun D)). ◌≢◌ {A = ℕ × ℕ} (volume_of h.part, h.index) (k, i)) (all_held 0 c.manager.lanes.items ic.stands.keeps.logs) → extents_in owner (segment_of z bs i) ≡ []
@@ -309,6 +317,14 @@ module _ {D : Type 0} (state : D → State) (tells : Bool) (told : IsTrue tells)
     distinct_left =
         subst (λ (v : ℕ). AreDistinct (covers_of (extents_of v (segments_out config r.rest.images.items images)))) owner_is
         (distinct_now tells state told c.manager base notes ic.stands.keeps open_base.apart (shapes_of config) taken home are_left)
+
+    -- the records that keep a block in them are those that its last look lists, where nothing broke
+    pub listed_left : flight_of (entries_of notes) ≡ None → AreListedOf (last_look base.volume.began.look notes).listed (extents_of s.id (segments_out config r.rest.images.items images))
+    listed_left up =
+        let now = listed_now tells state told c.manager base notes ic.stands.keeps open_base.apart (shapes_of config) taken home are_left up in
+        let look : listed_in c.manager.index.entries ≡ (last_look base.volume.began.look notes).listed = sym (ap (λ (k : Look). k.listed) ic.stands.look) in
+        subst (λ (v : ℕ). AreListedOf (last_look base.volume.began.look notes).listed (extents_of v (segments_out config r.rest.images.items images))) owner_is
+        (subst (λ (es : List Listed). AreListedOf es (extents_of owner (segments_out config r.rest.images.items images))) look now)
 
     -- each of its segments is sound
     pub sound_left : (l : Lane D) (h : HeldSegment D) → Contains c.manager.lanes.items l → Contains (held_in l) h → (z : Shape) (bs : List Block) → slice_get (shapes_of config) (logger_of l) ≡ Some z → image_of images (logger_of l) ≡ Some bs

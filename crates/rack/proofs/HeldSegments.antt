@@ -6,7 +6,6 @@ use Rattle.wol_disk.specs.Disk.{Block}
 use Rattle.wol_model.specs.Heads.{Free, Owned, owned_block}
 use Rattle.wol_model.specs.Log.{Record, IsIdle, IsLog, extent_of}
 use Rattle.wol_model.specs.Recovered.{read_log, extents_in}
-use Rattle.wol_model.proofs.Images.{idle_none}
 use Rattle.wol_model.proofs.ReadLogs.{log_from}
 use Rattle.wol_model.proofs.Spellings.{one_segment_head}
 use Rattle.wol_promise.specs.Manager.{Held, SaysOwnerOrFree}
@@ -28,18 +27,6 @@ no_log v bs never = go (read_log v bs) refl
     go None e = ap (λ (o : Option (List Record)). map extent_of (unwrap_or o [])) e
     go (Some rs) e = absurd (never rs (log_from bs v rs e))
 
--- a segment that says it is another volume's, or free, is no log of this one
-pub not_of_other : (v w : ℕ) (bs : List Block) → w < 2 ^ 32 → v ≢ w → SaysOwnerOrFree w bs → extents_in v bs ≡ []
-not_of_other v w [] small differs says = absurd says
-not_of_other v w (b ∷ bs) small differs (inr free) = idle_none v (b ∷ bs) free
-not_of_other v w (b ∷ bs) small differs (inl owned) = no_log v (b ∷ bs) (λ rs log.
-    let first : b ≡ owned_block v = first_same b bs (owned_block v) _ log.joined in
-    let same : Owned v ≡ Owned w = one_segment_head b (Owned v) (Owned w) (record { in_range = log.known; bytes = first }) (record { in_range = small; bytes = owned }) in
-    differs (cc same))
-  where
-    first_same : (x : Block) (xs : List Block) (y : Block) (ys : List Block) → x ∷ xs ≡ y ∷ ys → x ≡ y
-    first_same x xs y ys e = cc e
-
 -- a free segment is no log
 pub not_idle : (owner : ℕ) (bs : List Block) (rs : List Record) → IsIdle bs → IsLog bs owner rs → ⊥
 not_idle owner [] rs free log = absurd free
@@ -50,6 +37,22 @@ not_idle owner (b ∷ bs) rs free log =
   where
     first_block : (x : Block) (xs : List Block) (y : Block) (ys : List Block) → x ∷ xs ≡ y ∷ ys → x ≡ y
     first_block x xs y ys e = cc e
+
+-- a segment that says it is another volume's, or free, is no log of this one
+pub no_log_of_other : (v w : ℕ) (bs : List Block) (rs : List Record) → w < 2 ^ 32 → v ≢ w → SaysOwnerOrFree w bs → IsLog bs v rs → ⊥
+no_log_of_other v w [] rs small differs says log = absurd says
+no_log_of_other v w (b ∷ bs) rs small differs (inr free) log = not_idle v (b ∷ bs) rs free log
+no_log_of_other v w (b ∷ bs) rs small differs (inl owned) log =
+    let first : b ≡ owned_block v = first_same b bs (owned_block v) _ log.joined in
+    let same : Owned v ≡ Owned w = one_segment_head b (Owned v) (Owned w) (record { in_range = log.known; bytes = first }) (record { in_range = small; bytes = owned }) in
+    differs (cc same)
+  where
+    first_same : (x : Block) (xs : List Block) (y : Block) (ys : List Block) → x ∷ xs ≡ y ∷ ys → x ≡ y
+    first_same x xs y ys e = cc e
+
+-- so it gives that volume no extents
+pub not_of_other : (v w : ℕ) (bs : List Block) → w < 2 ^ 32 → v ≢ w → SaysOwnerOrFree w bs → extents_in v bs ≡ []
+not_of_other v w bs small differs says = no_log v bs (λ rs log. no_log_of_other v w bs rs small differs says log)
 
 -- ---- What is held
 

@@ -1,7 +1,8 @@
 -- The images that a crash leaves of a rack that was closed: what each of their parts comes from.
-use Rattle.std.proofs.Common.{◌≡◌, ◌⊎◌, inl, inr, ◌<◌, ◌≤◌, ◌+◌, ℕ, Bool, List, [], ◌∷◌, length, map, Some, None, sym, ap, ◌∙◌, subst, arith}
+use Rattle.std.proofs.Common.{◌≡◌, ◌⊎◌, inl, inr, ⊎_elim, ◌<◌, ◌≤◌, ◌+◌, ℕ, Bool, List, [], ◌∷◌, length, map, Some, None, sym, ap, ◌∙◌, subst, arith}
 use Rattle.std.specs.Prelude.{Contains, IsTrue, slice_get, slice_range}
 use Rattle.std.specs.List.{AllByRecursion}
+use Rattle.std.proofs.lemmas.Option.{same_Some}
 use Rattle.wol_disk.specs.Disk.{Block, State, IsDisk, TellsContent, IsImageOf}
 use Rattle.wol_model.specs.Heads.{Shape}
 use Rattle.wol_model.specs.Images.{Images, image_of, segment_of}
@@ -24,7 +25,7 @@ use Rattle.logger.specs.declared.lane.Lane.{Lane}
 use Rattle.manager.specs.Seen.{may_be, parts_of}
 use Rattle.manager.specs.declared.station.Station.{Station}
 use Rattle.volume_images.specs.Volumes.{shapes_of, AreLeft}
-use Rattle.rack.specs.Rests.{image_here, segment_here, IsRest}
+use Rattle.rack.specs.Rests.{image_here, segment_here, IsSegmentHere, IsRest}
 use Rattle.rack.specs.Racks.{IsClosable, base_of_station}
 use Rattle.rack.specs.Closing.{Closing, IsClosing, ClosesStations, RefillsAll, KeepsSpindles, GivesBack}
 use Rattle.rack.specs.Closes.{ComesFrom, from_here, from_pool, from_manager, IsLogOfStation, IsUnbroken, IsLeftOfParts}
@@ -36,6 +37,7 @@ use Rattle.rack.proofs.Closable.{images_rest, images_whole}
 use Rattle.rack.proofs.StationParts.{among, is_station}
 use Rattle.rack.proofs.HeldSegments.{of_held, not_idle}
 use Rattle.rack.proofs.FinalImages.{Origin, was_here, was_pooled, of_station, IsLeftNow, left_now, origin, sound_left}
+use Rattle.rack.proofs.HereOrNot.{here_or_not}
 use Rattle.rack.proofs.PartsThrough.{image_through}
 use Rattle.rack.proofs.Unbroken.{unbroken}
 
@@ -104,7 +106,7 @@ module _ {D : Type 0} (state : D → State) (tells : Bool) (told : IsTrue tells)
       x = left_now state tells told tell_all sound config few_volumes b r can first second is closed filled kept old new given images left k z q.0 at q.1.here
 
       segment : (i : ℕ) → i < z.segments → ComesFrom state r k i (segment_of z x.0 i)
-      segment i within = go (origin state tells told tell_all sound config few_volumes b r can first second is closed filled kept old new given images left k i q.0 p.0 q.1.here p.1)
+      segment i within = by_place (here_or_not r.rest k i m here)
         where
           p : (p : Spun D) × (segment_here q.0 i ≡ Some p)
           p =
@@ -115,11 +117,23 @@ module _ {D : Type 0} (state : D → State) (tells : Bool) (told : IsTrue tells)
           is_image : IsImageOf (state_of state p.0).values (segment_of z x.0 i)
           is_image = x.2.segments i p.0 p.1
 
-          go : Origin state tells told tell_all sound config few_volumes b r can first second is closed filled kept old new given images left k i p.0 → ComesFrom state r k i (segment_of z x.0 i)
-          go (was_here there foreign) = from_here p.0 there is_image
-          go (was_pooled free) = from_pool (free (segment_of z x.0 i) is_image)
-          go (of_station j t d t_at d_at id l h in_lanes logger in_held index part) =
+          -- one that was here stays in its place
+          end_of : (n : Spun D) → IsSegmentHere r.rest k i n → segment_here q.0 i ≡ Some n
+          end_of n place =
+              ⊎_elim
+              (λ y. q.1.places i n (ap (λ (w : ImageRest D). segment_here w i) (same_Some m y.0 (sym here ∙ y.1)) ∙ y.2))
+              (λ y. q.1.held y.0 i n y.1)
+              place
+
+          go : ((n : Spun D) → IsSegmentHere r.rest k i n → ⊥) → Origin state tells told tell_all sound config few_volumes b r can first second is closed filled kept old new given images left k i p.0 → ComesFrom state r k i (segment_of z x.0 i)
+          go never (was_here there foreign) = absurd (never p.0 there)
+          go never (was_pooled free) = from_pool never (free (segment_of z x.0 i) is_image)
+          go never (of_station j t d t_at d_at id l h in_lanes logger in_held index part) =
               let image : IsImageOf (state_of state (part_of h.segment)).values (segment_of z x.0 i) = subst (λ (n : Spun D). IsImageOf (state_of state n).values (segment_of z x.0 i)) (sym part) is_image in
               let in_view : Contains (base_of_station t).volume.began.view k = subst (λ xs. Contains xs k) id.stands.keeps.locks.view (subst (λ (n : ℕ). Contains (map logger_of d.manager.lanes.items) n) logger (in_map logger_of d.manager.lanes.items l in_lanes)) in
               let it = idle_or_log k j t t_at (segment_of z x.0 i) (sound_of k i z x.0 at x.1 j t d t_at d_at id l h in_lanes logger in_held index) in
-              from_manager t (among state tells config b r can first second is closed filled kept j t t_at) in_view it (log_of k j t d t_at id l h in_lanes in_held (segment_of z x.0 i) image it)
+              from_manager never t (among state tells config b r can first second is closed filled kept j t t_at) in_view it (log_of k j t d t_at id l h in_lanes in_held (segment_of z x.0 i) image it)
+
+          by_place : ((n : Spun D) × IsSegmentHere r.rest k i n) ⊎ ((n : Spun D) → IsSegmentHere r.rest k i n → ⊥) → ComesFrom state r k i (segment_of z x.0 i)
+          by_place (inl place) = from_here place.0 place.1 (x.2.segments i place.0 (end_of place.0 place.1))
+          by_place (inr never) = go never (origin state tells told tell_all sound config few_volumes b r can first second is closed filled kept old new given images left k i q.0 p.0 q.1.here p.1)

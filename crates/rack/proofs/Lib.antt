@@ -4,6 +4,9 @@ pub mod OutNames
 pub mod GivingBack
 pub mod CutParts
 pub mod Asking
+pub mod NewFaults
+pub mod OthersKept
+pub mod StillThere
 pub mod SentNames
 pub mod NextImage
 pub mod NextRefused
@@ -51,10 +54,13 @@ pub mod IssuedOne
 pub mod SameSegments
 pub mod Shapes
 pub mod StationRecovers
+pub mod ListedLeft
 pub mod RackClosed
 pub mod HeldSegments
 pub mod LeftImage
 pub mod FinalImages
+pub mod EmptiedLeft
+pub mod HereOrNot
 pub mod FaultyParts
 pub mod StationParts
 pub mod StationClosed

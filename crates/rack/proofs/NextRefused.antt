@@ -1,5 +1,5 @@
 -- An image that was refused, and is in its bay.
-use Rattle.std.proofs.Common.{◌≡◌, inl, ℕ, Bool, List, [], length, Option, None, Some, IfSome, Err, refl, sym, ap, ◌∙◌, subst, append-nil}
+use Rattle.std.proofs.Common.{◌≡◌, ◌+◌, inl, ℕ, Bool, List, [], length, Option, None, Some, IfSome, Err, refl, sym, ap, ◌∙◌, subst, append-nil}
 use Rattle.std.specs.Prelude.{IsErrOf}
 use Rattle.wol_disk.specs.Disk.{Block, State, Rose, IsImage, reads}
 use Rattle.wol_model.specs.Heads.{Shape}
@@ -12,16 +12,18 @@ use Rattle.wol_config.specs.declared.config.VolumeConf.{VolumeConf}
 use Rattle.volume_images.specs.Accepted.{IsImageFault}
 use Rattle.volume_images.specs.Formatted.{part_sizes}
 use Rattle.volume_images.specs.Left.{AreNamedApart, IsTold}
-use Rattle.volume_images.specs.Refusals.{Refuses, GaveBack, IsCallFault}
+use Rattle.volume_images.specs.Refusals.{Refuses, GaveBack, IsCallFault, IsFaultAt}
 use Rattle.volume_images.specs.Volumes.{shape_in, shapes_of, MayLeave}
 use Rattle.volume_images.specs.declared.opening.ImageRefusal.{ImageRefusal}
 use Rattle.volume_images.specs.declared.opening.ImageRefusal.TheVariants as refusal
 use Rattle.volume_images.specs.declared.reading.ImageFault.{ImageFault}
 use Rattle.volume_images.specs.declared.reading.ImageFault.TheVariants as fault
-use Rattle.rack.specs.Opens.{fault_in_image, fault_of_image, RefusesVolume, RefusesImage}
-use Rattle.rack.specs.Opening.{HasFaulty, StayedAs}
+use Rattle.rack.specs.Opens.{fault_in_image, fault_of_image, HasFaulty, IsFaultAmong, HasNewFault, RefusesVolume, RefusesImage}
+use Rattle.rack.specs.Opening.{StayedAs}
 use Rattle.rack.specs.declared.volume_fault.VolumeFault.{VolumeFault}
 use Rattle.rack.specs.declared.volume_fault.VolumeFault.TheVariants.{Absent, WrongLength, BayFailed}
+use Rattle.rack.proofs.Members.{in_map}
+use Rattle.rack.proofs.NewFaults.{told_each}
 
 -- no further part came back with a fault
 pub no_more : (t : Told) → HasFaulty t t
@@ -49,6 +51,12 @@ module _ {D : Type 0} (tells : Bool) (state : D → State) (config : Config) (b 
       let image : g.before ≡ i = cc in
       subst (λ (x : Image). IsImageFault volumes k shape (reads x.blocks) f) image g.refused
 
+  among_places : (f : ImageFault) (places : List ℕ) → IsFaultAt f places → IsFaultAmong v.name f (each_place v.name places)
+  among_places (fault.Damaged block) places is = tt
+  among_places fault.LabelDiffers places is = tt
+  among_places fault.LabelFault places is = in_map (λ (place : ℕ). (v.name, place)) places 0 is
+  among_places (fault.SegmentFault index) places is = in_map (λ (place : ℕ). (v.name, place)) places (2 + index) is
+
   of_image : (f : ImageFault) → IsTold (GaveBack volumes k shape v.name f) b.told b'.told → (IsCallFault f → Rose b.faults b'.faults) → RefusesImage {D = D} config [] b b' k v (fault_in_image k f)
   of_image f h cause = record {
     not_out = refl;
@@ -56,6 +64,8 @@ module _ {D : Type 0} (tells : Bool) (state : D → State) (config : Config) (b 
     is_fault = refl;
     said = λ t i told apart at. gave f t i b.told b'.told h told apart at;
     cause = cause;
+    faulty = λ call. told_each (GaveBack volumes k shape v.name f) (HasNewFault v.name f) b.told b'.told
+        (λ x y g. record { more = each_place v.name g.places; more_is = g.back.faulty; among = among_places f g.places g.fault }) h;
   }
 
   by_fault : (f : ImageFault) → RefusesImage {D = D} config [] b b' k v (fault_in_image k f) → RefusesVolume {D = D} tells state config [] b b' k v (fault_in_image k f)

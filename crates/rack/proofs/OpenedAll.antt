@@ -33,9 +33,9 @@ use Rattle.rack.specs.Rests.{image_here, segment_here, IsImageOut}
 use Rattle.rack.specs.Making.{AreSettled, AreSpindlesOf}
 use Rattle.rack.specs.Parts.{in_image, segment_in, IsSetUp}
 use Rattle.rack.specs.Owners.{HadRefused}
-use Rattle.rack.specs.Opens.{out_names, fault_in_image, RefusesVolume, WereThere, AreRefused, LeavesAll, KeepsAllSound}
-use Rattle.rack.specs.Opening.{IsTaken, StayedSo, HasFaulty, HaveFaults, HasFaultOf, AreSameOut}
-use Rattle.rack.specs.Closes.{is_kept_home, in_flight, IsQuiet, HasFaultIn, LeavesVolumes}
+use Rattle.rack.specs.Opens.{out_names, fault_in_image, HasFaulty, KeepsOthers, RefusesVolume, WereThere, AreRefused, LeavesAll, KeepsAllSound}
+use Rattle.rack.specs.Opening.{IsTaken, StayedSo, HaveFaults, HasFaultOf, AreSameOut}
+use Rattle.rack.specs.Closes.{AreLeftOfParts, is_kept_home, in_flight, IsQuiet, HasFaultIn, LeavesVolumes}
 use Rattle.rack.specs.Closing.{LeavesNoneOut}
 use Rattle.rack.specs.Racks.{IsUnused, AreUnused}
 use Rattle.rack.specs.declared.all.Taken.{Taken}
@@ -46,6 +46,8 @@ use Rattle.rack.specs.declared.rack.Rack.{Rack}
 use Rattle.rack.specs.declared.volume_fault.VolumeFault.{VolumeFault}
 use Rattle.rack.specs.declared.volume_fault.VolumeFault.TheVariants.{Refused}
 use Rattle.rack.proofs.Asking.{some_at, refuses_later}
+use Rattle.rack.proofs.NewFaults.{told_each, told_with}
+use Rattle.rack.proofs.StillThere.{there_left}
 use Rattle.rack.proofs.SentNames.{names_differ, names_alike, none_named}
 use Rattle.rack.proofs.TakenReady.{alike}
 
@@ -112,6 +114,9 @@ module _ {D : Type 0} (tells : Bool) (state : D → State) (config : Config) (va
 
   pub opened_faulty : IsTold HasFaulty b.told b1.told
   opened_faulty = told_stayed (λ old new s. s.faulty)
+
+  pub opened_others : IsTold (KeepsOthers config) b.told b1.told
+  opened_others = told_stayed (λ old new s. s.others)
 
   pub opened_unfaulty : ((k : ℕ) → k < length (shapes_of config) → IsImageOut r.rest.images.items k) → length (shapes_of config) ≡ length config.volumes.items → IsTold (λ old new. new.faulty ≡ old.faulty) b.told b1.told
   opened_unfaulty all many = told_stayed (λ old new s. s.unfaulty (λ k lt. sym (out_is k) ∙ all k (omega (arith, lt, many))))
@@ -204,7 +209,7 @@ quiet_stations stations unused k d lt =
 -- ---- After want of memory, once the rack is closed
 
 module _ {D : Type 0} (tells : Bool) (state : D → State) (config : Config) (valid : IsValid config) (b b1 b2 : BayState) (t : Taken D) (taken : IsTaken tells state config b b1 t)
-    (r : Rack D) (out_is : (k : ℕ) → is_some (image_here r.rest.images.items k) ≡ is_some (image_here taken.before.out.items k)) (counts : b1.faults ≤ b2.faults) where
+    (r : Rack D) (out_is : (k : ℕ) → is_some (image_here r.rest.images.items k) ≡ is_some (image_here taken.before.out.items k)) (counts : b1.faults ≤ b2.faults) (gained : IsTold HasFaulty b1.told b2.told) where
   not_out : (k : ℕ) → is_kept_home r.rest.images.items k ≡ true → image_here taken.before.out.items k ≡ None
   not_out k is = go (image_here taken.before.out.items k) refl
     where
@@ -215,7 +220,7 @@ module _ {D : Type 0} (tells : Bool) (state : D → State) (config : Config) (va
   why_refused : (k : ℕ) (v : VolumeConf) → slice_get config.volumes.items k ≡ Some v → is_kept_home r.rest.images.items k ≡ true → (f : VolumeFault) × RefusesVolume {D = D} tells state config [] b b2 k v f
   why_refused k v at is =
       let why = taken.asked.refused k v (slice_get_within config.volumes.items k v at) at (not_out k is) in
-      (why.fault, refuses_later tells state config [] b b1 b2 k v why.fault counts why.refuses)
+      (why.fault, refuses_later tells state config [] b b1 b2 k v why.fault counts (opened_apart tells state config valid b b1 t taken r out_is) gained why.refuses)
 
   -- what closing says, where the bay told this at entry
   closed_told : {P Q : Told → Told → Type 0} → IsTold (HadRefused config r.rest.images.items) b1.told b2.told
@@ -240,15 +245,19 @@ module _ {D : Type 0} (tells : Bool) (state : D → State) (config : Config) (va
       go None e = e
       go (Some q) e = absurd (let f = ap is_some e in cc (f, is))
 
-  pub closed_left : IsTold (HadRefused config r.rest.images.items) b1.told b2.told
+  pub closed_left : IsTold (HadRefused config r.rest.images.items) b1.told b2.told → IsTold (λ x y. AreLeftOfParts state config r y) b1.told b2.told
       → ((old : Told) → b.told ≡ Some old → AreNamedApart old → IsTold (λ mid new. HadRefused config r.rest.images.items old mid → LeavesVolumes config r old new) b1.told b2.told)
       → IsTold (LeavesAll tells state config b b2) b.told b2.told
-  closed_left still closing = closed_told still closing
-      (λ old new kept leaves. record {
+  closed_left still parts closing = closed_told {P = λ old new. LeavesVolumes config r old new × AreLeftOfParts state config r new} still
+      (λ old is apart. told_each (λ x y. (HadRefused config r.rest.images.items old x → LeavesVolumes config r old y) × AreLeftOfParts state config r y)
+      (λ x y. HadRefused config r.rest.images.items old x → LeavesVolumes config r old y × AreLeftOfParts state config r y) b1.told b2.told (λ x y both had. (both.0 had, both.1))
+      (told_with (λ x y. HadRefused config r.rest.images.items old x → LeavesVolumes config r old y) (λ x y. AreLeftOfParts state config r y) b1.told b2.told (closing old is apart) parts))
+      (λ old new kept both. record {
         refused = is_kept_home r.rest.images.items;
         cause = why_refused;
         kept = λ k v at is c may. kept k v at (none_kept k is) c may;
-        left = λ images left v there. leaves images left v;
+        left = λ images left v there. both.0 images left v;
+        there = λ images left v all. there_left state config r old new kept both.1 images left v all;
       })
 
   pub closed_sound : IsTold (HadRefused config r.rest.images.items) b1.told b2.told

@@ -1,11 +1,12 @@
 -- The entries of a lock's other passes, where each made accesses only.
-use Rattle.std.proofs.Common.{◌≡◌, ◌≢◌, ◌⊎◌, ◌==◌, inl, inr, ℕ, Bool, true, false, cond, List, [], ◌∷◌, ◌++◌, map, sym, ap, ◌∙◌, subst}
+use Rattle.std.proofs.Common.{◌≡◌, ◌≢◌, ◌⊎◌, ◌==◌, inl, inr, ℕ, Bool, true, false, cond, List, [], ◌∷◌, ◌++◌, map, refl, sym, ap, ◌∙◌, subst}
 use Rattle.std.specs.Prelude.{Contains, All}
 use Rattle.std.specs.List.{AllByRecursion}
 use Rattle.std.proofs.lemmas.List.Elements.{All-push, All-contains, Contains-append_left}
 use Rattle.turn_lock.specs.Histories.{Entry, own}
 use Rattle.turn_lock.specs.Passes.{pass_number, pass_mine, IsPartOf, AreWhole}
 use Rattle.turn_lock.specs.declared.pass.PassOf.{PassOf}
+use Rattle.spin_model.specs.Operations.{has_token}
 use Rattle.spin_model.specs.declared.spindle.Spindle.{Spindle}
 use Rattle.spin_model.specs.declared.spindle.SpindleBase.{SpindleBase}
 use Rattle.logger.specs.Lanes.{AreAccesses}
@@ -24,20 +25,27 @@ by_own keeper (e ∷ es) each = (one, by_own keeper es (λ n differs. rest_acces
     one : IsAccessBut keeper e
     one differs = (subst (λ (t : Bool). AreAccesses (cond t (e ∷ own e.0 es) (own e.0 es))) (self_equal e.0) (each e.0 differs)).0
 
-pub others_access : (es : List Entry) (ps : List (PassOf Spindle SpindleBase)) (keeper : PassOf Spindle SpindleBase) → AreWhole es (ps ++ keeper ∷ []) → All (λ p. AreAccesses (pass_mine p)) ps → AllByRecursion (IsAccessBut (pass_number keeper)) es
-others_access es ps keeper whole accesses = by_own (pass_number keeper) es each
+-- what holds of the entries of each other pass, and of none, holds of those of any number but the keeper's
+pub by_others : (P : List Entry → Type 0) → P [] → (es : List Entry) (ps : List (PassOf Spindle SpindleBase)) (keeper : PassOf Spindle SpindleBase) → AreWhole es (ps ++ keeper ∷ []) → All (λ p. P (pass_mine p)) ps
+    → (n : ℕ) → n ≢ pass_number keeper → P (own n es)
+by_others P nothing es ps keeper whole all n differs = go (is_member (map (λ (p : PassOf Spindle SpindleBase). pass_number p) ps) n)
   where
-    each : (n : ℕ) → n ≢ pass_number keeper → AreAccesses (own n es)
-    each n differs = go (is_member (map (λ (p : PassOf Spindle SpindleBase). pass_number p) ps) n)
-      where
-        go : Contains (map (λ (p : PassOf Spindle SpindleBase). pass_number p) ps) n ⊎ (Contains (map (λ (p : PassOf Spindle SpindleBase). pass_number p) ps) n → ⊥) → AreAccesses (own n es)
-        go (inl has) =
-            let p = of_map (λ (p : PassOf Spindle SpindleBase). pass_number p) ps n has in
-            let part = All-contains (λ q. IsPartOf es q) (ps ++ keeper ∷ []) p.0 whole.parts (Contains-append_left ps (keeper ∷ []) p.0 p.1) in
-            let mine : own n es ≡ pass_mine p.0 = ap (λ (m : ℕ). own m es) (sym p.2) ∙ part.mine in
-            subst AreAccesses (sym mine) (All-contains (λ q. AreAccesses (pass_mine q)) ps p.0 accesses p.1)
-        go (inr never) =
-            let none : own n es ≡ [] = whole.no_more n (All-push (λ q. pass_number q ≢ n) ps keeper
-            (all_member (λ q. pass_number q ≢ n) ps (λ q has e. never (subst (λ (m : ℕ). Contains (map (λ (p : PassOf Spindle SpindleBase). pass_number p) ps) m) e (in_map (λ (p : PassOf Spindle SpindleBase). pass_number p) ps q has))))
-            (λ e. differs (sym e))) in
-            subst AreAccesses (sym none) tt
+    go : Contains (map (λ (p : PassOf Spindle SpindleBase). pass_number p) ps) n ⊎ (Contains (map (λ (p : PassOf Spindle SpindleBase). pass_number p) ps) n → ⊥) → P (own n es)
+    go (inl has) =
+        let p = of_map (λ (p : PassOf Spindle SpindleBase). pass_number p) ps n has in
+        let part = All-contains (λ q. IsPartOf es q) (ps ++ keeper ∷ []) p.0 whole.parts (Contains-append_left ps (keeper ∷ []) p.0 p.1) in
+        let mine : own n es ≡ pass_mine p.0 = ap (λ (m : ℕ). own m es) (sym p.2) ∙ part.mine in
+        subst P (sym mine) (All-contains (λ q. P (pass_mine q)) ps p.0 all p.1)
+    go (inr never) =
+        let none : own n es ≡ [] = whole.no_more n (All-push (λ q. pass_number q ≢ n) ps keeper
+        (all_member (λ q. pass_number q ≢ n) ps (λ q has e. never (subst (λ (m : ℕ). Contains (map (λ (p : PassOf Spindle SpindleBase). pass_number p) ps) m) e (in_map (λ (p : PassOf Spindle SpindleBase). pass_number p) ps q has))))
+        (λ e. differs (sym e))) in
+        subst P (sym none) nothing
+
+pub others_access : (es : List Entry) (ps : List (PassOf Spindle SpindleBase)) (keeper : PassOf Spindle SpindleBase) → AreWhole es (ps ++ keeper ∷ []) → All (λ p. AreAccesses (pass_mine p)) ps → AllByRecursion (IsAccessBut (pass_number keeper)) es
+others_access es ps keeper whole accesses = by_own (pass_number keeper) es (by_others AreAccesses tt es ps keeper whole accesses)
+
+-- none has an access open
+pub others_ended : (es : List Entry) (ps : List (PassOf Spindle SpindleBase)) (keeper : PassOf Spindle SpindleBase) → AreWhole es (ps ++ keeper ∷ []) → All (λ p. has_token (pass_mine p) ≡ false) ps
+    → (n : ℕ) → n ≢ pass_number keeper → has_token (own n es) ≡ false
+others_ended es ps keeper whole settled = by_others (λ xs. has_token xs ≡ false) refl es ps keeper whole settled

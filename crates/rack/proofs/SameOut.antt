@@ -56,9 +56,9 @@ module _ {D : Type 0} where
     refuses_too tells state config b b1 k v Absent r = (none_too k r.0, r.1)
     refuses_too tells state config b b1 k v (WrongLength bytes) r = (none_too k r.0, r.1)
     refuses_too tells state config b b1 k v BayFailed r = ((none_too k r.0.0, r.0.1), r.1)
-    refuses_too tells state config b b1 k v LabelFault r = record { not_out = none_too k r.not_out; image_fault = r.image_fault; is_fault = r.is_fault; said = r.said; cause = r.cause }
+    refuses_too tells state config b b1 k v LabelFault r = record { not_out = none_too k r.not_out; image_fault = r.image_fault; is_fault = r.is_fault; said = r.said; cause = r.cause; faulty = r.faulty }
     refuses_too tells state config b b1 k v (Refused why) r =
         ⊎_elim
-        (λ i. inl (record { not_out = none_too k i.not_out; image_fault = i.image_fault; is_fault = i.is_fault; said = i.said; cause = i.cause }))
+        (λ i. inl (record { not_out = none_too k i.not_out; image_fault = i.image_fault; is_fault = i.is_fault; said = i.said; cause = i.cause; faulty = i.faulty }))
         (λ o. inr (record { is_out = out_too k o.is_out; before = o.before; after = o.after; of = λ t telling told apart. opening_too state config t k o.before (o.of t telling told apart); refuses = o.refuses }))
         r

@@ -125,8 +125,8 @@ module _ {D : Type 0} (r : Rack D) where
 
 module _ {D : Type 0} (state : D → State) (config : Config) (r : Rack D) (entry : Told) (began : BeganWith state config entry r) where
   pub has_come : (k i : ℕ) (v : VolumeConf) (before : Image) (bs : List Block) → slice_get config.volumes.items k ≡ Some v → at_name v.name entry.images ≡ Some before → ComesFrom state r k i bs → HasCome r k (shape_in config v) before i bs
-  has_come k i v before bs at is (from_pool free_) = as_it_read r k (shape_in config v) before i bs (λ was. free free_)
-  has_come k i v before bs at is (from_manager s has view it unbroken) = ⊎_elim
+  has_come k i v before bs at is (from_pool never free_) = as_it_read r k (shape_in config v) before i bs (λ was. free free_)
+  has_come k i v before bs at is (from_manager never s has view it unbroken) = ⊎_elim
       (λ free_. as_it_read r k (shape_in config v) before i bs (λ was. free free_))
       (λ its. as_it_read r k (shape_in config v) before i bs (λ was. of_station s has view its)) it
   has_come k i v before bs at is (from_here p here image) = go (had here)

@@ -104,7 +104,7 @@ module _ {D : Type 0} (config : Config) where
     pub same_until : (o o1 : Option Told) → IsTold (StayedSo config out n) o o1 → IsTold (SameAt v.name) o o1
     same_until None o1 s = s
     same_until (Some t) None s = s
-    same_until (Some t) (Some t1) s = λ apart. let h = s apart in (h.apart, h.further n v (omega arith) at)
+    same_until (Some t) (Some t1) s = λ apart. let h = s apart in (h.apart, h.further n v (omega arith) at, h.faulty)
 
     other_names : (k : ℕ) (w : VolumeConf) → n + 1 ≤ k → slice_get config.volumes.items k ≡ Some w → w.name ≢ v.name
     other_names k w le found = names_differ config valid k n w v found at (λ e. omega (arith, le, e))
@@ -129,6 +129,7 @@ module _ {D : Type 0} (config : Config) where
           further = λ k w le found. other_gone v.name w.name (other_names k w le found) t1.images ∙ h.further k w (omega (arith, le)) found;
           faulty = h.faulty;
           unfaulty = λ all. h.unfaulty (λ k lt. ap is_some (sym (at_less out (Some r) n count k lt)) ∙ all k (omega (arith, lt)));
+          others = λ name not. other_gone v.name name (not n v at) t1.images ∙ h.others name not;
         })
 
     pub sent_more : (r : ImageRest D) (b b1 b2 : BayState) → HasSentOut config out n b b1 → b2.told ≡ option_map (sent_out v.name (part_sizes (shape_in config v))) b1.told → b1.faults ≤ b2.faults → HasSentOut config (out ++ Some r ∷ []) (n + 1) b b2
@@ -157,6 +158,7 @@ module _ {D : Type 0} (config : Config) where
           further = λ k w le found. l.others w.name (other_names k w le found) ∙ h.further k w (omega (arith, le)) found;
           faulty = (h.faulty.0 ++ l.faulty.0, l.faulty.1 ∙ ap (λ (fs : List (Name × ℕ)). fs ++ l.faulty.0) h.faulty.1 ∙ append_assoc t.faulty h.faulty.0 l.faulty.0);
           unfaulty = λ all. absurd (let there = all n (omega arith) in let none = ap is_some (at_new out None n count) in cc (there, none));
+          others = λ name not. l.others name (not n v at) ∙ h.others name not;
         }
 
     pub refused_more : (b b1 b2 : BayState) → HasSentOut config out n b b1 → outs b2 ≡ outs b1 → IsTold (StayedAs v.name) b1.told b2.told → b1.faults ≤ b2.faults → HasSentOut config (out ++ None ∷ []) (n + 1) b b2
@@ -184,7 +186,7 @@ module _ {D : Type 0} (config : Config) where
 
       stays : (o : Option Told) → IsTold (StayedSo {D = D} config [] 0) o o
       stays None = refl
-      stays (Some t) = λ apart. record { apart = apart; stayed = λ name not c may. may; further = λ k w le found. refl; faulty = no_more t; unfaulty = λ all. refl }
+      stays (Some t) = λ apart. record { apart = apart; stayed = λ name not c may. may; further = λ k w le found. refl; faulty = no_more t; unfaulty = λ all. refl; others = λ name not. refl }
 
 -- no name of the configuration is among those that are out
 pub none_named : (config : Config) (b : BayState) → NoneOut config b → IfSome (outs b) (λ os. All (λ (v : VolumeConf). at_name v.name os ≡ None) config.volumes.items)

@@ -39,6 +39,7 @@ module _ {D : Type 0} (locks : List (TurnLock Spindle SpindleBase)) (l : TurnLoc
           each = λ v less. let y = x.each v (omega (arith, less, rows.count)) in (y.0, others v k (λ e. absurd (omega (arith, e, below))) ∙ y.1, y.2);
           keeper_ = subst (λ (n : ℕ). Rattle.rack.specs.Rests.IsPassAt f n q) (sym rows.count) x.keeper_;
           accesses = λ v y there. x.accesses v y (sym (others v k (λ e. absurd (omega (arith, e, below)))) ∙ there);
+          settled = λ v y there. x.settled v y (sym (others v k (λ e. absurd (omega (arith, e, below)))) ∙ there);
         };
     room_count = room_count;
     rooms = subst (λ (n : ℕ). All (λ row. (row.items ≡ []) × (n + 1 ≤ vec_capacity row)) new.rooms.spindles.items) (sym rows.count) rooms;

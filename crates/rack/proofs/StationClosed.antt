@@ -34,7 +34,7 @@ use Rattle.rack.specs.Rests.{image_here, segment_here, IsRest}
 use Rattle.rack.specs.Racks.{IsClosable, base_of_station}
 use Rattle.rack.specs.Parts.{IsTogether}
 use Rattle.rack.specs.Closing.{Closing, IsClosing, ClosesStations, RefillsAll, KeepsSpindles, GivesBack, HasFaultHere}
-use Rattle.rack.specs.Closes.{RecoversTo, IsClosedVolume, HasFaultyPart, SaysOwnerIn}
+use Rattle.rack.specs.Closes.{RecoversTo, IsClosedVolume, HasFaultyPart, SaysOwnerIn, LeavesNoLog}
 use Rattle.rack.specs.declared.rack.ImageRest.{ImageRest}
 use Rattle.rack.specs.declared.rack.Rack.{Rack}
 use Rattle.rack.specs.declared.rack.Rest.{Rest}
@@ -43,7 +43,8 @@ use Rattle.rack.proofs.Closable.{images_whole}
 use Rattle.rack.proofs.HeldSegments.{each_held, of_held}
 use Rattle.rack.proofs.FaultyParts.{together_of, home_fault, segment_fault}
 use Rattle.rack.proofs.StationParts.{zip_at, is_station, home_there, lane_there, shape_of_image}
-use Rattle.rack.proofs.FinalImages.{volume_at, left_now, cut_left, whole_left, distinct_left}
+use Rattle.rack.proofs.FinalImages.{volume_at, left_now, cut_left, whole_left, distinct_left, listed_left}
+use Rattle.rack.proofs.EmptiedLeft.{no_log_left}
 
 pub told_map : (P Q : Told → Told → Type 0) (a b : Option Told) → IsTold P a b → ((o n : Told) → P o n → Q o n) → IsTold Q a b
 told_map P Q None b is each = is
@@ -156,6 +157,7 @@ module _ {D : Type 0} (state : D → State) (tells : Bool) (config : Config) (b 
     recovers told tell_all sound few old new given = record {
       cut = λ images left. cut_left state tells told tell_all sound config few b r can first second is closed filled kept old new given images left n s c s_at c_at ic;
       whole = λ images left up. whole_left state tells told tell_all sound config few b r can first second is closed filled kept old new given images left n s c s_at c_at ic up;
+      listed = λ images left up. listed_left state tells told tell_all sound config few b r can first second is closed filled kept old new given images left n s c s_at c_at ic up;
       distinct = λ images left. distinct_left state tells told tell_all sound config few b r can first second is closed filled kept old new given images left n s c s_at c_at ic;
     }
 
@@ -176,6 +178,8 @@ module _ {D : Type 0} (state : D → State) (tells : Bool) (config : Config) (b 
     cause = λ broke. let part = broken has.0 s c.0 at c.1 c.2 broke in cause (fault_here part.volume part.place part.image part.here part.among);
     faulty = λ broke. told_map (GivesBack state config second.images.items 0) (HasFaultyPart tells config s.id (base_of_station s).volume.began.view) x.told y.told given (λ old new back. faulty_part has.0 s c.0 at c.1 c.2 tell_all sound few old new back (broken has.0 s c.0 at c.1 c.2 broke));
     recovers = λ told. told_map (GivesBack state config second.images.items 0) (λ o n. RecoversTo config r.rest.images.items s c.0.entries n) x.told y.told given (λ old new back. recovers has.0 s c.0 at c.1 c.2 told (tell_all told) sound few old new back);
+    emptied = λ told up none. told_map (GivesBack state config second.images.items 0) (λ o n. LeavesNoLog config r.rest.images.items s.id n) x.told y.told given
+        (λ old new back. λ images left. no_log_left state tells told (tell_all told) sound config few b r can first second is closed filled kept old new back images left has.0 s c.0 at c.1 c.2 up none);
   }
     where
       at : slice_get r.stations.items has.0 ≡ Some s

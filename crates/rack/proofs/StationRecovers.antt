@@ -7,15 +7,16 @@ use Rattle.std.proofs.lemmas.Option.{slice_get_within, get_or_from_slice_get}
 use Rattle.std.proofs.lemmas.List.Elements.{All-from_recursion}
 use Rattle.wol_disk.specs.Disk.{Block, State, IsImageOf}
 use Rattle.wol_model.specs.Blocks.{after}
-use Rattle.wol_model.specs.Extents.{AreDistinct, covers_of, with_extents}
+use Rattle.wol_model.specs.Extents.{AreDistinct, Extent, covers_of, with_extents}
 use Rattle.wol_model.specs.Heads.{Shape}
 use Rattle.wol_model.specs.History.{writes, flight_of, IsCut}
 use Rattle.wol_model.specs.Images.{Images, image_of, image_size, segment_of, all_segments}
+use Rattle.wol_model.specs.Index.{listed_in}
 use Rattle.wol_model.specs.Recovered.{extents_in, extents_of, recovered}
-use Rattle.wol_promise.specs.Manager.{Held}
+use Rattle.wol_promise.specs.Manager.{Held, extents_held}
 use Rattle.wol_promise.specs.Ruled.{Noted, entries_of}
 use Rattle.wol_promise.specs.Stands.{place_in, ApartFrom, AreApartPlaces, IsHeldBy, IsWhole, IsSoundOf, AreSoundOf}
-use Rattle.wol_promise.proofs.Choices.{recovers_from}
+use Rattle.wol_promise.proofs.Choices.{chosen_extents, recovers_from}
 use Rattle.wol_promise.proofs.SoundSegments.{logs_sound}
 use Rattle.spin_model.specs.Spun.{state_of, volume_of}
 use Rattle.spin_model.specs.declared.spun.Spun.{Spun}
@@ -24,6 +25,8 @@ use Rattle.manager.specs.Stands.{Keeps}
 use Rattle.manager.specs.declared.base.ManagerBase.{ManagerBase}
 use Rattle.manager.specs.declared.manager.Manager.{Manager}
 use Rattle.manager_recovery.proofs.SameNewest.{same_array}
+use Rattle.rack.specs.Closes.{AreListedOf}
+use Rattle.rack.proofs.ListedLeft.{listed_held, listed_same}
 use Rattle.rack.proofs.SameSegments.{Placed, AreApartPlaced, AreThese, Shuffled, same_extents, shuffled_same, shuffled_distinct, shuffled_to, shuffled_from, once}
 
 -- the blocks of a segment of these images
@@ -181,3 +184,12 @@ module _ {D : Type 0} (tells : Bool) (state : D → State) (told : IsTrue tells)
           sym (same_recovered v home chosen_segments (all_segments shapes images) (shuffled_same home (extents_of v chosen_segments) (extents_of v (all_segments shapes images)) shuffled sound_chosen.distinct))
           ∙ recovers_from (λ h bs. IsTrue tells × IsImageOf (state_of state h.part).values bs) v (λ bs. IsTrue tells × IsImageOf (state_of state m.home).values bs) held (after b.volume.began.array (writes (entries_of notes)))
           whole_is.logs (λ image is. (whole_is.holds image is).stands) home chosen_segments (told, are.home_left) (chosen held are.each)
+
+      -- what the index lists is what is left
+      pub listed_now : AreListedOf (listed_in m.index.entries) (extents_of v (all_segments shapes images))
+      listed_now =
+          let same : extents_of v chosen_segments ≡ extents_held held =
+          chosen_extents (λ h bs. IsTrue tells × IsImageOf (state_of state h.part).values bs) v held chosen_segments whole_is.logs (chosen held are.each) in
+          listed_same (listed_in m.index.entries) (extents_of v chosen_segments) (extents_of v (all_segments shapes images)) (shuffled_to (extents_of v chosen_segments) (extents_of v (all_segments shapes images)) shuffled)
+          (shuffled_from (extents_of v chosen_segments) (extents_of v (all_segments shapes images)) shuffled)
+          (subst (λ (xs : List Extent). AreListedOf (listed_in m.index.entries) xs) (sym same) (listed_held m.index.entries held whole_is.index))

@@ -10,6 +10,7 @@ use Rattle.wol_model.specs.Images.{Images, image_of, segment_of, IsSoundSegment,
 use Rattle.wol_model.specs.Log.{IsIdle}
 use Rattle.wol_model.specs.Recovered.{extents_in}
 use Rattle.wol_model.proofs.Images.{idle_none}
+use Rattle.wol_promise.specs.Run.{IsThere}
 use Rattle.wol_bay.specs.Bay.{Image, Told, BayState, at_name}
 use Rattle.wol_config.specs.Configs.{IsValid}
 use Rattle.wol_config.specs.declared.config.Config.{Config}
@@ -23,7 +24,7 @@ use Rattle.volume_images.specs.Left.{AreNamedApart, IsTold}
 use Rattle.volume_images.specs.Volumes.{shape_in, shapes_of, MayLeave, AreLeft}
 use Rattle.rack.specs.Rests.{image_here, segment_here}
 use Rattle.rack.specs.Closing.{GivesBack}
-use Rattle.rack.specs.Opens.{LeavesAll, KeepsAllSound, RefusesVolume}
+use Rattle.rack.specs.Opens.{LeavesAll, KeepsAllSound, HasFaulty, RefusesVolume}
 use Rattle.rack.specs.Opening.{AreAsked, HasSentOut, StayedSo, LeavesNoMore, WasAtEntry, said_at}
 use Rattle.rack.specs.Parts.{IsRestored, Restores}
 use Rattle.rack.specs.declared.heads_said.Said.{Said}
@@ -35,8 +36,10 @@ use Rattle.rack.proofs.Asking.{some_at, refuses_later}
 use Rattle.rack.proofs.CutParts.{reads_range}
 use Rattle.rack.proofs.KeptImages.{IsKeptImage, AreTwo, IsBefore, kept_before, before_same}
 use Rattle.rack.proofs.LeftImage.{IsLeftNow, left_image}
+use Rattle.rack.proofs.NewFaults.{told_each}
 use Rattle.rack.proofs.SentNames.{names_differ}
 use Rattle.rack.proofs.SoundBefore.{sound_before}
+use Rattle.rack.proofs.StillThere.{WasThere, conf_there, there_may}
 use Rattle.rack.proofs.TakenOut.{idle_of_free, same_here, again}
 
 -- ---- Where no image may be left that might not have been before
@@ -55,6 +58,7 @@ module _ {D : Type 0} (tells : Bool) (state : D → State) (config : Config) (b 
     cause = λ k v at is. absurd (cc (is));
     kept = λ k v at is. absurd (cc (is));
     left = λ images left v there. (images, left_less config old new less images left, refl);
+    there = λ images left v all. all images (left_less config old new less images left);
   }
 
   sound_less : (old new : Told) → LeavesNoMore old new → KeepsAllSound config old new
@@ -122,7 +126,11 @@ module _ {D : Type 0} (tells : Bool) (state : D → State) (config : Config) (va
   cause k v at is = go (image_here i.out.items k) refl
     where
       go : (o : Option (ImageRest D)) → image_here i.out.items k ≡ o → (f : VolumeFault) × RefusesVolume {D = D} tells state config [] b b2 k v f
-      go None e = let why = asked.refused k v (slice_get_within config.volumes.items k v at) at e in (why.fault, refuses_later tells state config [] b b1 b2 k v why.fault counts why.refuses)
+      go None e = let why = asked.refused k v (slice_get_within config.volumes.items k v at) at e in (
+        why.fault,
+        refuses_later tells state config [] b b1 b2 k v why.fault counts (told_each (StayedSo config i.out.items (length config.volumes.items)) (λ x y. AreNamedApart y) b.told b1.told (λ x y s. s.apart) sent.stayed)
+            (told_each (GivesBack state config out 0) HasFaulty b1.told b2.told (λ x y g. (g.more, g.faulty)) back) why.refuses,
+      )
       go (Some r) e = absurd (let f = ap is_some e in cc (f, is))
 
   -- an image with its parts as they were, but for free segments
@@ -245,6 +253,17 @@ module _ {D : Type 0} (tells : Bool) (state : D → State) (config : Config) (va
           let name : (slice_index_or config.volumes.items k conf).name ≡ conf.name = ap (λ (w : VolumeConf). w.name) (Rattle.std.proofs.lemmas.Option.get_or_from_slice_get config.volumes.items k conf conf at) in
           refused_kept k conf at is_not (image_of images k) (subst (λ (m : _). MayLeave (at_name m t2.images) (image_of images k)) name one)
 
+      -- each image that was there is there
+      back_there : (v : ℕ) → WasThere config t v → IsThere (shapes_of config) images v
+      back_there v all = go (not_taken v) refl
+        where
+          conf : (z : Shape) × (conf : VolumeConf) × (slice_get (shapes_of config) v ≡ Some z) × (slice_get config.volumes.items v ≡ Some conf)
+          conf = conf_there config t v all
+
+          go : (o : Bool) → not_taken v ≡ o → IsThere (shapes_of config) images v
+          go true e = there_may config t images v conf.1 conf.3 (still v conf.1 conf.3 e) all
+          go false e = let k = kept v conf.1 conf.3 e in (shape_in config conf.1, k.now, shape_is v conf.1 conf.3, k.is, k.sized)
+
       before : (was : Images) × IsBefore KeepsFront KeepsSegment config t not_taken images kept still was
       before = kept_before KeepsFront KeepsSegment config t not_taken images kept still
 
@@ -285,6 +304,7 @@ module _ {D : Type 0} (tells : Bool) (state : D → State) (config : Config) (va
       cause = cause;
       kept = refused_kept telling (tell_all telling) sound t t1 t2 is apart stayed given;
       left = λ images left v there. back_recovers telling (tell_all telling) sound t t1 t2 is apart stayed given images left v;
+      there = λ images left v all. back_there telling (tell_all telling) sound t t1 t2 is apart stayed given images left v all;
     })
 
     pub sound_again : IsTrue tells → IsTold (KeepsAllSound config) b.told b2.told

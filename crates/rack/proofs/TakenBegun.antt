@@ -43,9 +43,9 @@ refused_with : {D : Type 0} (tells : Bool) (state : D → State) (config : Confi
 refused_with tells state config out b b1 k v Absent none r = (none, r.1)
 refused_with tells state config out b b1 k v (WrongLength bytes) none r = (none, r.1)
 refused_with tells state config out b b1 k v BayFailed none r = ((none, r.0.1), r.1)
-refused_with tells state config out b b1 k v LabelFault none r = record { not_out = none; image_fault = r.image_fault; is_fault = r.is_fault; said = r.said; cause = r.cause }
+refused_with tells state config out b b1 k v LabelFault none r = record { not_out = none; image_fault = r.image_fault; is_fault = r.is_fault; said = r.said; cause = r.cause; faulty = r.faulty }
 refused_with tells state config out b b1 k v (Refused why) none r =
-    ⊎_elim (λ i. inl (record { not_out = none; image_fault = i.image_fault; is_fault = i.is_fault; said = i.said; cause = i.cause })) (λ o. absurd (cc o.is_out)) r
+    ⊎_elim (λ i. inl (record { not_out = none; image_fault = i.image_fault; is_fault = i.is_fault; said = i.said; cause = i.cause; faulty = i.faulty })) (λ o. absurd (cc o.is_out)) r
 
 module _ {D : Type 0} (tells : Bool) (state : D → State) (config : Config) (valid : IsValid config) (b b1 : BayState) (t : Taken D) (taken : IsTaken tells state config b b1 t)
     (r : Rack D) (set_up : IsSetUp t.spindles.items t.pools.items (length t.spindles.items) r) (images_are : r.rest.images ≡ t.images.out) (faults_are : r.faults ≡ t.images.faults) where

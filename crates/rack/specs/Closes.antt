@@ -1,16 +1,17 @@
 -- What closing a rack leaves. `state` is that of a part's disk.
-use Rattle.std.specs.Prelude.{◌≡◌, ◌≢◌, ◌<◌, ◌≤◌, ◌+◌, ◌++◌, ◌⊎◌, ℕ, List, [], ◌∷◌, length, Option, None, Some, not, is_some, unwrap_or, slice_get, slice_range, All, Contains, IsTrue}
+use Rattle.std.specs.Prelude.{false, ◌≡◌, ◌≢◌, ◌<◌, ◌≤◌, ◌+◌, ◌++◌, ◌⊎◌, ℕ, List, [], ◌∷◌, length, Option, None, Some, not, is_some, unwrap_or, slice_get, slice_range, All, Contains, IsTrue}
 use Rattle.std.specs.List.{AllByRecursion}
-use Rattle.wol_disk.specs.Disk.{Block, State, Rose, IsImageOf}
+use Rattle.wol_disk.specs.Disk.{Block, State, Rose, IsAmong, IsImageOf}
 use Rattle.wol_model.specs.Blocks.{Write, after}
-use Rattle.wol_model.specs.Extents.{AreDistinct, covers_of}
+use Rattle.wol_model.specs.Extents.{AreDistinct, Extent, IsValid, covers_of}
 use Rattle.wol_model.specs.Heads.{Shape}
 use Rattle.wol_model.specs.History.{worker, helper, keeper, writes, flight_of, IsCut}
 use Rattle.wol_model.specs.Images.{Images, image_of, accepted, all_segments, segment_of}
+use Rattle.wol_model.specs.Index.{Listed, cover_of}
 use Rattle.wol_model.specs.Log.{Record, IsLog, IsIdle}
 use Rattle.wol_model.specs.Recovered.{extents_of}
 use Rattle.wol_promise.specs.Manager.{SaysOwnerOrFree}
-use Rattle.wol_promise.specs.Ruled.{entries_of}
+use Rattle.wol_promise.specs.Ruled.{entries_of, last_look}
 use Rattle.wol_promise.specs.Stands.{HasHistory, IsOpening}
 use Rattle.wol_bay.specs.Bay.{Name, Told, BayState}
 use Rattle.wol_config.specs.declared.config.Config.{Config}
@@ -19,6 +20,7 @@ use Rattle.turn_lock.specs.Histories.{Entry, own}
 use Rattle.turn_lock.specs.Passes.{lock_id, pass_number, pass_mine, IsPartOf}
 use Rattle.turn_lock.specs.declared.lock.TurnLock.{TurnLock}
 use Rattle.turn_lock.specs.declared.pass.PassOf.{PassOf}
+use Rattle.spin_model.specs.Operations.{has_token}
 use Rattle.spin_model.specs.Spindles.{SpindleView, StandsFor}
 use Rattle.spin_model.specs.Spun.{state_of}
 use Rattle.spin_model.specs.declared.spun.Spun.{Spun}
@@ -28,7 +30,7 @@ use Rattle.manager.specs.Stands.{notes_of}
 use Rattle.manager.specs.declared.station.Station.{Station}
 use Rattle.volume_images.specs.Left.{IsTold}
 use Rattle.volume_images.specs.Volumes.{shape_in, shapes_of, images_read, AreLeft}
-use Rattle.rack.specs.Rests.{image_here, IsSegmentHere}
+use Rattle.rack.specs.Rests.{image_here, IsImageOut, IsSegmentHere}
 use Rattle.rack.specs.Racks.{base_of_station}
 use Rattle.rack.specs.Closing.{IsAccessBut}
 use Rattle.rack.specs.Owners.{recovered_but}
@@ -45,6 +47,8 @@ pub record IsClosedSpindle {D : Type 0} (r : Rack D) (k : ℕ) (s : SpindleView)
   pub keeper_part : (p : PassOf Spindle SpindleBase) → slice_get r.keepers.items k ≡ Some p → IsPartOf entries p
   -- each entry of another pass is one of an access
   pub accesses : (p : PassOf Spindle SpindleBase) → slice_get r.keepers.items k ≡ Some p → AllByRecursion (IsAccessBut (pass_number p)) entries
+  -- and none has an access open at the end
+  pub ended : (p : PassOf Spindle SpindleBase) → slice_get r.keepers.items k ≡ Some p → (n : ℕ) → n ≢ pass_number p → has_token (own n entries) ≡ false
 
 -- ---- Volumes
 
@@ -91,14 +95,33 @@ pub record HasFaultyPart (tells : Rattle.std.specs.Prelude.Bool) (config : Confi
   pub among : Contains more (conf.name, place)
   pub of_volume : ((volume ≡ owner) × (place ≡ 1)) ⊎ (Contains view volume × (index : ℕ) × (place ≡ 2 + index) × (IsTrue tells → SaysOwnerIn config owner new volume (shape_in config conf) index))
 
+-- a listed record is that of this extent: of its version, with the blocks that it covers
+pub record IsOfExtent (x : Extent) (e : Listed) : Type 0 where
+  pub version : e.version ≡ x.cover.version
+  pub first : e.first ≡ x.first
+  pub keeps : (b : ℕ) → (cover_of e).covers b ≡ x.cover.covers b
+
+-- the listed records are those of the extents that cover a block
+pub record AreListedOf (listed : List Listed) (extents : List Extent) : Type 0 where
+  pub each : (x : Extent) → IsAmong extents x → IsValid x.cover → (e : Listed) × Contains listed e × IsOfExtent x e
+  pub only : (e : Listed) → Contains listed e → (x : Extent) × IsAmong extents x × IsValid x.cover × IsOfExtent x e
+
 -- What images a crash leaves of an open volume, by the entries of its passes: it recovers to what was written to the array at opening,
--- or to a cut of the writes in flight where a call of a disk had failed; no two of its records in these images have one version.
+-- or to a cut of the writes in flight where a call of a disk had failed; no two of its records in these images have one version; and
+-- where none had failed those that keep a block are the ones that its last look lists.
 pub record RecoversTo {D : Type 0} (config : Config) (out : List (Option (ImageRest D))) (s : Station D) (entries : List Entry) (new : Told) : Type 0 where
   pub cut : (images : Images) → AreLeft config new images
       → IsCut (base_of_station s).volume.began.array (writes (entries_of (notes_of entries))) (unwrap_or (flight_of (entries_of (notes_of entries))) []) (recovered_out config out images s.id)
   pub whole : (images : Images) → AreLeft config new images → flight_of (entries_of (notes_of entries)) ≡ None
       → recovered_out config out images s.id ≡ after (base_of_station s).volume.began.array (writes (entries_of (notes_of entries)))
   pub distinct : (images : Images) → AreLeft config new images → AreDistinct (covers_of (extents_of s.id (segments_out config out images)))
+  pub listed : (images : Images) → AreLeft config new images → flight_of (entries_of (notes_of entries)) ≡ None
+      → AreListedOf (last_look (base_of_station s).volume.began.look (notes_of entries)).listed (extents_of s.id (segments_out config out images))
+
+-- whatever images a crash leaves, no segment of an image that is out is a log of volume v
+abbrev pub LeavesNoLog : {D : Type 0} → Config → List (Option (ImageRest D)) → (v : ℕ) → Told → Type 0
+LeavesNoLog config out v new = (images : Images) → AreLeft config new images → (k i : ℕ) (s : Shape) (c : List Block) (rs : List Record) → slice_get (shapes_of config) k ≡ Some s → IsImageOut out k
+    → image_of images k ≡ Some c → i < s.segments → IsLog (segment_of s c i) v rs → ⊥
 
 -- the entries of a volume, which are those of its passes, and what they leave
 pub record IsClosedVolume {D : Type 0} (tells : Rattle.std.specs.Prelude.Bool) (config : Config) (out : List (Option (ImageRest D))) (old new : BayState) (s : Station D) : Type 0 where
@@ -113,6 +136,9 @@ pub record IsClosedVolume {D : Type 0} (tells : Rattle.std.specs.Prelude.Bool) (
   pub cause : (flight_of (entries_of (notes_of entries)) ≡ None → ⊥) → Rose old.faults new.faults
   pub faulty : (flight_of (entries_of (notes_of entries)) ≡ None → ⊥) → IsTold (HasFaultyPart tells config s.id (base_of_station s).volume.began.view) old.told new.told
   pub recovers : IsTrue tells → IsTold (λ o n. RecoversTo config out s entries n) old.told new.told
+  -- where no call failed and the last look lists no record, no log of the volume is left
+  pub emptied : IsTrue tells → flight_of (entries_of (notes_of entries)) ≡ None → (last_look (base_of_station s).volume.began.look (notes_of entries)).listed ≡ []
+      → IsTold (λ o n. LeavesNoLog config out s.id n) old.told new.told
 
 -- ---- The parts of images
 
@@ -134,11 +160,11 @@ pub record IsLogOfStation {D : Type 0} (s : Station D) (k : ℕ) (bs : List Bloc
   pub log : IsLog bs s.id records
   pub within : AllByRecursion (λ (r : Record). r.head.first + r.head.count ≤ (base_of_station s).volume.began.home_blocks) records
 
--- Where an image of segment i of volume k comes from: the segment was here when the rack was closed; or it was in its pool; or a manager had it.
+-- Where an image of segment i of volume k comes from: the segment was here when the rack was closed; or it wasn't, and was in its pool, or a manager had it.
 pub data ComesFrom {D : Type 0} (state : D → State) (r : Rack D) (k i : ℕ) (bs : List Block) : Type 0 where
   from_here : (p : Spun D) → IsSegmentHere r.rest k i p → IsImageOf (state_of state p).values bs → ComesFrom state r k i bs
-  from_pool : IsIdle bs → ComesFrom state r k i bs
-  from_manager : (s : Station D) → Contains r.stations.items s → Contains (base_of_station s).volume.began.view k → IsIdle bs ⊎ IsLogOfStation s k bs → (IsUnbroken s → IsLogOfStation s k bs) → ComesFrom state r k i bs
+  from_pool : ((p : Spun D) → IsSegmentHere r.rest k i p → ⊥) → IsIdle bs → ComesFrom state r k i bs
+  from_manager : ((p : Spun D) → IsSegmentHere r.rest k i p → ⊥) → (s : Station D) → Contains r.stations.items s → Contains (base_of_station s).volume.began.view k → IsIdle bs ⊎ IsLogOfStation s k bs → (IsUnbroken s → IsLogOfStation s k bs) → ComesFrom state r k i bs
 
 -- The image that is left of volume k, by its parts: those that were here have images that they had.
 pub record IsLeftOfParts {D : Type 0} (state : D → State) (s : Shape) (r : Rack D) (k : ℕ) (image : ImageRest D) (c : List Block) : Type 0 where
@@ -162,4 +188,10 @@ LeavesOpen config r entry new = (images : Images) → AreLeft config new images
 -- the same of every volume: it recovers to what images that a crash might have left at entry recover to
 abbrev pub LeavesVolumes : {D : Type 0} → Config → Rack D → (entry new : Told) → Type 0
 LeavesVolumes config r entry new = (images : Images) → AreLeft config new images → (v : ℕ)
+    → (before : Images) × AreLeft config entry before × (recovered_out config r.rest.images.items images v ≡ recovered_out config r.rest.images.items before v)
+
+-- Whatever was written, whatever images a crash leaves: a volume without a station recovers to what images that a crash might have
+-- left at entry recover to.
+abbrev pub LeavesUnopened : {D : Type 0} → Config → Rack D → (entry new : Told) → Type 0
+LeavesUnopened {D} config r entry new = (images : Images) → AreLeft config new images → (v : ℕ) → ((s : Station D) → Contains r.stations.items s → v ≢ s.id)
     → (before : Images) × AreLeft config entry before × (recovered_out config r.rest.images.items images v ≡ recovered_out config r.rest.images.items before v)

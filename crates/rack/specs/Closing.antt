@@ -1,5 +1,5 @@
 -- What closing a rack does step by step. `state` is that of a part's disk.
-use Rattle.std.specs.Prelude.{◌≡◌, ◌≢◌, ◌<◌, ◌≤◌, ◌+◌, ◌++◌, ◌⊎◌, ℕ, Bool, List, [], ◌∷◌, length, map, reverse, vec_capacity, Option, None, Some, IsSome, IfSome, option_map, option_and_then, slice_get, slice_index_or, All, Contains}
+use Rattle.std.specs.Prelude.{false, ◌≡◌, ◌≢◌, ◌<◌, ◌≤◌, ◌+◌, ◌++◌, ◌⊎◌, ℕ, Bool, List, [], ◌∷◌, length, map, reverse, vec_capacity, Option, None, Some, IsSome, IfSome, option_map, option_and_then, slice_get, slice_index_or, All, Contains}
 use Rattle.std.specs.List.{AllByRecursion, AllZip}
 use Rattle.wol_disk.specs.Disk.{Block, Values, State, Rose}
 use Rattle.wol_model.specs.Blocks.{AreApart}
@@ -9,11 +9,11 @@ use Rattle.wol_bay.specs.Bay.{Name, Told, BayState, at_name, came_back}
 use Rattle.wol_bay.specs.Parts.{blocks_of, faulty_places}
 use Rattle.wol_config.specs.declared.config.Config.{Config}
 use Rattle.wol_config.specs.declared.config.VolumeConf.{VolumeConf}
-use Rattle.turn_lock.specs.Histories.{Entry}
+use Rattle.turn_lock.specs.Histories.{Entry, own}
 use Rattle.turn_lock.specs.Passes.{lock_id, lock_passes, pass_number, pass_mine, IsPartOf, AreWhole}
 use Rattle.turn_lock.specs.declared.lock.TurnLock.{TurnLock}
 use Rattle.turn_lock.specs.declared.pass.PassOf.{PassOf}
-use Rattle.spin_model.specs.Operations.{use_of}
+use Rattle.spin_model.specs.Operations.{has_token, use_of}
 use Rattle.spin_model.specs.Spindles.{SpindleView, StandsFor}
 use Rattle.spin_model.specs.declared.spun.Spun.{Spun}
 use Rattle.spin_model.specs.declared.spindle.Spindle.{Spindle}
@@ -223,6 +223,8 @@ pub record StandsClosed (l : TurnLock Spindle SpindleBase) (keeper : PassOf Spin
   pub keeper_part : IsPartOf entries keeper
   -- each entry of another pass is one of an access
   pub accesses : AllByRecursion (IsAccessBut (pass_number keeper)) entries
+  -- and none has an access open at the end
+  pub ended : (n : ℕ) → n ≢ pass_number keeper → has_token (own n entries) ≡ false
 
 -- the passes of the lock of spindle k: one in each row, and the keeper's
 pub record HasSpindlePasses {D : Type 0} (r : Rest D) (k : ℕ) (l : TurnLock Spindle SpindleBase) (keeper : PassOf Spindle SpindleBase) : Type 0 where
@@ -230,6 +232,7 @@ pub record HasSpindlePasses {D : Type 0} (r : Rest D) (k : ℕ) (l : TurnLock Sp
   pub each : (v : ℕ) → v < length r.passes.items → (p : PassOf Spindle SpindleBase) × (spindle_pass r v k ≡ Some p) × IsPassAt l v p
   pub keeper_ : IsPassAt l (length r.passes.items) keeper
   pub accesses : (v : ℕ) (p : PassOf Spindle SpindleBase) → spindle_pass r v k ≡ Some p → AreAccesses (pass_mine p)
+  pub settled : (v : ℕ) (p : PassOf Spindle SpindleBase) → spindle_pass r v k ≡ Some p → has_token (pass_mine p) ≡ false
 
 -- the first spindles have all their passes, and there is room to close them
 pub record CanCloseSpindles {D : Type 0} (locks : List (TurnLock Spindle SpindleBase)) (keepers : List (PassOf Spindle SpindleBase)) (r : Rest D) : Type 0 where

@@ -31,7 +31,7 @@ use Rattle.rack.specs.Making.{AreSpindlesOf}
 use Rattle.rack.specs.Parts.{holder_by, IsIssuedPool, Supplies, IsOwnedPlace, segment_in}
 use Rattle.rack.specs.Racks.{IsClosable, NamesVolumes, AreUnused}
 use Rattle.rack.specs.Closing.{IsComplete}
-use Rattle.rack.specs.Opens.{HadBefore, IsAsRead, out_names, BeganWith, RefusesVolume}
+use Rattle.rack.specs.Opens.{HadBefore, IsAsRead, out_names, BeganWith, HasFaulty, KeepsOthers, RefusesVolume}
 use Rattle.rack.specs.declared.all.Taken.{Taken}
 use Rattle.rack.specs.declared.heads_said.Said.{Said}
 use Rattle.rack.specs.declared.images.Images.{Images}
@@ -122,10 +122,6 @@ pub record AreAsked {D : Type 0} (tells : Bool) (state : D → State) (config : 
 
 -- ---- The bay meanwhile
 
--- further parts came back with a fault
-abbrev pub HasFaulty : (old new : Told) → Type 0
-HasFaulty old new = (more : List (Name × ℕ)) × (new.faulty ≡ old.faulty ++ more)
-
 -- the image of this name may be left only as before, and those of others are as they were
 pub record StayedAs (name : Name) (old new : Told) : Type 0 where
   pub apart : AreNamedApart new
@@ -168,6 +164,7 @@ pub record StayedSo {D : Type 0} (config : Config) (out : List (Option (ImageRes
   pub further : (k : ℕ) (v : VolumeConf) → n ≤ k → slice_get config.volumes.items k ≡ Some v → at_name v.name new.images ≡ at_name v.name old.images
   pub faulty : HasFaulty old new
   pub unfaulty : ((k : ℕ) → k < n → IsImageOut out k) → new.faulty ≡ old.faulty
+  pub others : KeepsOthers config old new
 
 -- the bay while the first n images were asked for
 pub record HasSentOut {D : Type 0} (config : Config) (out : List (Option (ImageRest D))) (n : ℕ) (b b' : BayState) : Type 0 where

@@ -1,5 +1,5 @@
 -- What opening all volumes answers: why a volume is refused, what the others begin with, and what is left of the images.
-use Rattle.std.specs.Prelude.{◌≡◌, ◌⊎◌, ◌<◌, ◌+◌, ℕ, List, [], ◌∷◌, length, Contains, Bool, true, Option, None, Some, IfSome, slice_get, slice_range, All, IsTrue}
+use Rattle.std.specs.Prelude.{⊤, ◌≡◌, ◌≢◌, ◌⊎◌, ◌<◌, ◌+◌, ◌++◌, ℕ, List, [], ◌∷◌, length, Contains, Bool, true, Option, None, Some, IfSome, slice_get, slice_range, All, IsTrue}
 use Rattle.wol_disk.specs.Disk.{Block, State, Rose, IsImageOf, reads}
 use Rattle.wol_model.specs.Heads.{Shape, Free, Owned}
 use Rattle.wol_model.specs.Log.{Record}
@@ -22,7 +22,7 @@ use Rattle.volume_images.specs.Formatted.{part_sizes}
 use Rattle.volume_images.specs.Refusals.{IsCallFault}
 use Rattle.wol_model.specs.Images.{Images, image_size}
 use Rattle.wol_promise.specs.Run.{IsThere, KeepsSound}
-use Rattle.volume_images.specs.Left.{AreNamedApart}
+use Rattle.volume_images.specs.Left.{AreNamedApart, IsTold}
 use Rattle.volume_images.specs.Volumes.{shape_in, shapes_of, MayLeave, AreLeft}
 use Rattle.rack.specs.Rests.{image_here, segment_here, held_here, IsImageOut, IsSegmentHere}
 use Rattle.rack.specs.Racks.{base_of_station}
@@ -60,7 +60,25 @@ fault_of_image id image_refusal.BayFailed = Some BayFailed
 fault_of_image id (image_refusal.Fault f) = Some (fault_in_image id f)
 fault_of_image id image_refusal.NoMemory = None
 
--- the image itself is refused: it isn't out; it said so as it read, and where a call failed the bay's count rose
+-- parts of images came back with a fault, beside those that had before
+abbrev pub HasFaulty : (old new : Told) → Type 0
+HasFaulty old new = (more : List (Name × ℕ)) × (new.faulty ≡ old.faulty ++ more)
+
+-- the part of this image a call of which failed is among these
+abbrev pub IsFaultAmong : Name → ImageFault → List (Name × ℕ) → Type 0
+IsFaultAmong name (fault.Damaged block) parts = ⊤
+IsFaultAmong name fault.LabelDiffers parts = ⊤
+IsFaultAmong name fault.LabelFault parts = Contains parts (name, 0)
+IsFaultAmong name (fault.SegmentFault index) parts = Contains parts (name, 2 + index)
+
+-- since the first it came back with a fault
+pub record HasNewFault (name : Name) (f : ImageFault) (old new : Told) : Type 0 where
+  pub more : List (Name × ℕ)
+  pub more_is : new.faulty ≡ old.faulty ++ more
+  pub among : IsFaultAmong name f more
+
+-- the image itself is refused: it isn't out; it said so as it read; and where a call failed the bay's count rose, and the part that
+-- is named came back with a fault
 pub record RefusesImage {D : Type 0} (config : Config) (out : List (Option (ImageRest D))) (old new : BayState) (k : ℕ) (v : VolumeConf) (f : VolumeFault) : Type 0 where
   pub not_out : image_here out k ≡ None
   pub image_fault : ImageFault
@@ -68,6 +86,7 @@ pub record RefusesImage {D : Type 0} (config : Config) (out : List (Option (Imag
   pub said : (t : Told) (i : Image) → old.told ≡ Some t → AreNamedApart t → at_name v.name t.images ≡ Some i
       → IsImageFault (length (shapes_of config)) k (shape_in config v) (reads i.blocks) image_fault
   pub cause : IsCallFault image_fault → Rose old.faults new.faults
+  pub faulty : IsCallFault image_fault → IsTold (HasNewFault v.name image_fault) old.told new.told
 
 -- the image is out, and the opening of its volume was refused: it was opened of what the images say
 pub record RefusesOpening {D : Type 0} (tells : Bool) (state : D → State) (config : Config) (out : List (Option (ImageRest D))) (old : BayState) (k : ℕ) (r : OpenRefusal) : Type 0 where
@@ -116,6 +135,10 @@ pub record IsGone {D : Type 0} (volumes : ℕ) (s : Shape) (before : Image) (sta
   pub had : IsImageOf (Some (slice_range before.blocks (head_place s i) (head_place s (i + 1)))) was
   pub said : HasHead volumes was Free ⊎ ((station : Station D) × Contains stations station × HasHead volumes was (Owned station.id)) ⊎ ((owner : ℕ) × (rs : List Record) × HasNothing owner rs was)
 
+-- images of names that aren't configured are as they were
+abbrev pub KeepsOthers : Config → Told → Told → Type 0
+KeepsOthers config old new = (name : Name) → ((k : ℕ) (v : VolumeConf) → slice_get config.volumes.items k ≡ Some v → name ≢ v.name) → at_name name new.images ≡ at_name name old.images
+
 -- ---- The whole
 
 -- What a rack began with, whatever its volumes were told since: each volume with a station begins with what the images recovered to
@@ -150,6 +173,8 @@ pub record LeavesAll {D : Type 0} (tells : Bool) (state : D → State) (config :
   pub kept : (k : ℕ) (v : VolumeConf) → slice_get config.volumes.items k ≡ Some v → refused k ≡ true → (c : Option (List Block)) → MayLeave (at_name v.name new.images) c → MayLeave (at_name v.name old.images) c
   pub left : (images : Images) → AreLeft config new images → (v : ℕ) → IsThere (shapes_of config) images v
       → (before : Images) × AreLeft config old before × (recovered_but (shapes_of config) refused images v ≡ recovered_but (shapes_of config) refused before v)
+  -- an image that was there, whatever a crash had left, is there
+  pub there : (images : Images) → AreLeft config new images → (v : ℕ) → ((before : Images) → AreLeft config old before → IsThere (shapes_of config) before v) → IsThere (shapes_of config) images v
 
 -- where all images that a crash might have left before were sound, all are
 abbrev pub KeepsAllSound : Config → Told → Told → Type 0

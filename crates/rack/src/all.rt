@@ -8,7 +8,7 @@ ghost use Rattle.rack.specs.Racks.{IsRack, IsUnused, AreUnused};
 ghost use Rattle.rack.specs.Rests.{IsImageOut};
 ghost use Rattle.rack.specs.Owners.{HadRefused};
 ghost use Rattle.rack.specs.Opening.{IsTaken};
-ghost use Rattle.rack.specs.Opens.{out_names, BeganWith, WereThere, AreRefused, LeavesAll, KeepsAllSound};
+ghost use Rattle.rack.specs.Opens.{out_names, BeganWith, WereThere, AreRefused, LeavesAll, HasFaulty, KeepsOthers, KeepsAllSound};
 ghost use Rattle.wol_disk.specs.Disk.{Rose};
 ghost use Rattle.wol_model.specs.Images.{AreSound};
 ghost use Rattle.manager.specs.declared.part.Part.{Part};
@@ -50,6 +50,7 @@ fn take_out<R: Wait, B: Bay>(
     ensures home { OnErr result (outs (B.state bay.new) ≡ outs (B.state bay.old)) }
     ensures left { OnErr result (IsTrue B.Part.tells → IsTold (LeavesAll B.Part.tells B.Part.state config.now (B.state bay.old) (B.state bay.new)) (B.state bay.old).told (B.state bay.new).told) }
     ensures sound { OnErr result (IsTrue B.Part.tells → IsTold (KeepsAllSound config.now) (B.state bay.old).told (B.state bay.new).told) }
+    ensures others { IsTold (KeepsOthers config.now) (B.state bay.old).told (B.state bay.new).told }
     ensures counts { (B.state bay.old).faults ≤ (B.state bay.new).faults }
 {
     let count = config.volumes.len() as u32;
@@ -99,9 +100,9 @@ pub fn open_all<R: Wait, B: Bay>(
     // no pass of a station was used
     ensures fresh { IfOk result (λ r. AreUnused r.stations.items) }
     ensures fresh_keepers { IfOk result (λ r. All (λ p. IsUnused p) r.keepers.items) }
-    ensures apart { IfOk result (λ r. IsTrue B.Part.tells → IsTold (λ old new. AreNamedApart new) (B.state bay.old).told (B.state bay.new).told) }
+    ensures apart { IfOk result (λ r. IsTold (λ old new. AreNamedApart new) (B.state bay.old).told (B.state bay.new).told) }
     // parts of images that came back; none where all images are out
-    ensures faulty { IfOk result (λ r. IsTold (λ old new. (more : List (Name × ℕ)) × (new.faulty ≡ old.faulty ++ more)) (B.state bay.old).told (B.state bay.new).told) }
+    ensures faulty { IfOk result (λ r. IsTold HasFaulty (B.state bay.old).told (B.state bay.new).told) }
     ensures unfaulty { IfOk result (λ r. ((k : ℕ) → k < length (shapes_of config.now) → IsImageOut r.rest.images.items k)
         → IsTold (λ old new. new.faulty ≡ old.faulty) (B.state bay.old).told (B.state bay.new).told) }
     ensures kept { IfOk result (λ r. IsTrue B.Part.tells → IsTold (HadRefused config.now r.rest.images.items) (B.state bay.old).told (B.state bay.new).told) }
@@ -115,6 +116,7 @@ pub fn open_all<R: Wait, B: Bay>(
     // each image left in the bay recovers to what one at entry did, also after a stop within
     ensures left { OnErr result (IsTrue B.Part.tells → IsTold (LeavesAll B.Part.tells B.Part.state config.now (B.state bay.old) (B.state bay.new)) (B.state bay.old).told (B.state bay.new).told) }
     ensures sound { OnErr result (IsTrue B.Part.tells → IsTold (KeepsAllSound config.now) (B.state bay.old).told (B.state bay.new).told) }
+    ensures others { IsTold (KeepsOthers config.now) (B.state bay.old).told (B.state bay.new).told }
     ensures counts { (B.state bay.old).faults ≤ (B.state bay.new).faults }
 {
     let lists = Lists::new(alloc, config.volumes.len())?;

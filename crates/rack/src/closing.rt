@@ -4,13 +4,13 @@ ghost use Rattle.wol_disk.specs.Disk.{Rose};
 ghost use Rattle.wol_bay.specs.Bay.{Name, Told, outs, at_name, IsHome};
 ghost use Rattle.wol_config.specs.Configs.{IsValid};
 ghost use Rattle.spin_model.specs.Spindles.{SpindleView};
-ghost use Rattle.volume_images.specs.Left.{IsTold};
+ghost use Rattle.volume_images.specs.Left.{AreNamedApart, IsTold};
 ghost use Rattle.volume_images.specs.Volumes.{shapes_of};
 ghost use Rattle.rack.specs.Foreign.{AreForeign};
 ghost use Rattle.rack.specs.Racks.{IsClosable};
-ghost use Rattle.rack.specs.Opens.{BeganWith, WereThere, KeepsAllSound};
+ghost use Rattle.rack.specs.Opens.{BeganWith, WereThere, HasFaulty, KeepsOthers, KeepsAllSound};
 ghost use Rattle.rack.specs.Owners.{HadRefused};
-ghost use Rattle.rack.specs.Closes.{IsClosedSpindle, IsClosedVolume, IsQuiet, AreLeftOfParts, HasFaultIn, LeavesOpen, LeavesVolumes};
+ghost use Rattle.rack.specs.Closes.{IsClosedSpindle, IsClosedVolume, IsQuiet, AreLeftOfParts, HasFaultIn, LeavesOpen, LeavesUnopened, LeavesVolumes};
 ghost use Rattle.rack.specs.Closing.{pool_in, spindle_in, ArePoolsTaken, AreSpindlesTaken, LeavesNoneOut};
 ghost use Rattle.rack.specs.declared.rack.VolumePasses.{VolumePasses};
 
@@ -254,11 +254,18 @@ pub fn close_all<B: Bay>(rack: Rack<B::Part>, bay: &mut B, config: &Config) -> V
     // and of all volumes, where images that aren't out were as they are now
     ensures volumes { (entry : Told) → IsTrue B.Part.tells → BeganWith B.Part.state config.now entry rack → WereThere config.now rack.rest.images.items entry → All (λ s. IsQuiet s) rack.stations.items
         → IsTold (λ old new. HadRefused config.now rack.rest.images.items entry old → LeavesVolumes config.now rack entry new) (B.state bay.old).told (B.state bay.new).told }
+    // of those that weren't opened, whatever was written to others, and also where a call of a disk failed
+    ensures unopened { (entry : Told) → IsTrue B.Part.tells → BeganWith B.Part.state config.now entry rack → WereThere config.now rack.rest.images.items entry
+        → IsTold (λ old new. HadRefused config.now rack.rest.images.items entry old → LeavesUnopened config.now rack entry new) (B.state bay.old).told (B.state bay.new).told }
     // since then, whatever was written, and also where a call of a disk failed
     ensures sound { (entry : Told) → IsTrue B.Part.tells → BeganWith B.Part.state config.now entry rack → WereThere config.now rack.rest.images.items entry
         → IsTold (λ old new. HadRefused config.now rack.rest.images.items entry old → KeepsAllSound config.now entry new) (B.state bay.old).told (B.state bay.new).told }
     // images that aren't out stay as they were
     ensures kept { IsTrue B.Part.tells → IsTold (HadRefused config.now rack.rest.images.items) (B.state bay.old).told (B.state bay.new).told }
+    ensures apart { IsTold (λ old new. AreNamedApart new) (B.state bay.old).told (B.state bay.new).told }
+    ensures others { IsTold (KeepsOthers config.now) (B.state bay.old).told (B.state bay.new).told }
+    // parts that came back with a fault
+    ensures faulty { IsTold HasFaulty (B.state bay.old).told (B.state bay.new).told }
     ensures counts { (B.state bay.old).faults ≤ (B.state bay.new).faults }
     ensures cause { HasFaultIn B.Part.state rack.rest → Rose (B.state bay.old).faults (B.state bay.new).faults }
 {

@@ -3,9 +3,11 @@ ghost use Rattle.std.specs.Prelude.{◌≡◌, ◌<◌, length, slice_index_or, 
 ghost use Rattle.wol_bay.specs.Bay.{IsHome};
 ghost use Rattle.wol_config.specs.Configs.{IsValid};
 ghost use Rattle.wol_config.specs.declared.config.VolumeConf.{VolumeConf};
+ghost use Rattle.volume_images.specs.Left.{IsTold};
 ghost use Rattle.volume_images.specs.Volumes.{NoneOut, shapes_of};
 ghost use Rattle.rack.specs.Rests.{IsSpindleLock};
 ghost use Rattle.rack.specs.Making.{IsInOrder, AreSettled, AreSpindlesOf};
+ghost use Rattle.rack.specs.Opens.{KeepsOthers};
 ghost use Rattle.rack.specs.Opening.{IsNextOpened, IsNextRefused, IsBackAtOnce, AreAsked, HasSentOut, HasAllBack};
 
 use crate::VolumeFault;
@@ -120,6 +122,7 @@ pub(crate) fn open_images<R: Wait, B: Bay>(
     ensures asked { IfOk result (AreAsked B.Part.tells B.Part.state config.now (B.state bay.old) (B.state bay.new) (length config.now.volumes.items)) }
     ensures out { IfOk result (λ i. HasSentOut config.now i.out.items (length config.now.volumes.items) (B.state bay.old) (B.state bay.new)) }
     ensures err { OnErr result (HasAllBack B.Part.tells (B.state bay.old) (B.state bay.new)) }
+    ensures others { IsTold (KeepsOthers config.now) (B.state bay.old).told (B.state bay.new).told }
     ensures count { length spindles.new ≡ length spindles.old }
     ensures spindles { AreSpindlesOf (length config.now.volumes.items) config.now.timeout spindles.new }
 {

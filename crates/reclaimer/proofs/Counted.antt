@@ -20,12 +20,13 @@ use Rattle.manager.specs.declared.manager.Manager.{Manager}
 use Rattle.manager.specs.declared.part.StepFault.{StepFault}
 use Rattle.manager.proofs.Entries.{entry_of_version, among, entry_in}
 use Rattle.manager.proofs.StoreHome.{bit_of}
+use Rattle.wol_promise.proofs.Lowering.{around, put_lowers, given_lowers, filter_listed}
 use Rattle.reclaimer.specs.Counts.{TakesOff}
 use Rattle.reclaimer.proofs.Counting.{blocks_counted}
-use Rattle.reclaimer.proofs.Draining.{around, all_keep, put_lowers, given_lowers}
+use Rattle.reclaimer.proofs.Draining.{all_keep}
 use Rattle.reclaimer.proofs.Dues.{homed_taken, given_dues, length_given, version_given, others_differ}
-use Rattle.reclaimer.proofs.GiveUp.{done_then, filter_listed}
-use Rattle.reclaimer.proofs.Nexts.{Spot, spot_of_version, found_passes}
+use Rattle.reclaimer.proofs.GiveUp.{done_then}
+use Rattle.garbage_list.proofs.Nexts.{Spot, spot_of_version, found_passes}
 use Rattle.reclaimer.proofs.Putting.{never}
 use Rattle.reclaimer.proofs.TakenOff.{Taken, dues_in, taken_none, takes_off, nothing_taken}
 use Rattle.wol_promise.proofs.Lists.{all_parts}

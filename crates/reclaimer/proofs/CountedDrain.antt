@@ -18,7 +18,7 @@ use Rattle.reclaimer.specs.declared.answers.Drain.{Drain}
 use Rattle.reclaimer.specs.declared.answers.Drain.TheVariants.{Bare, Moved}
 use Rattle.reclaimer.proofs.Counting.{count_moved}
 use Rattle.reclaimer.proofs.Counted.{index_stays, drop_takes, put_takes, taken_since}
-use Rattle.reclaimer.proofs.Nexts.{first_of_all}
+use Rattle.garbage_list.proofs.Nexts.{first_of_all}
 
 module _ {D : Type 0} (state : D → State) (old new : Manager D) (index : IsIndex old.index.entries) where
   -- as many as are told

@@ -25,13 +25,15 @@ use Rattle.manager.specs.declared.part.StepFault.{StepFault}
 use Rattle.manager.specs.declared.part.StepFault.TheVariants.{DiskFault, Down}
 use Rattle.manager.proofs.Entries.{entry_of_version, among, entry_in}
 use Rattle.manager.proofs.StoreHome.{bit_of}
+use Rattle.wol_promise.proofs.Lowering.{given_lowers, put_lowers, filter_listed}
 use Rattle.reclaimer.specs.Drains.{Drains, HasMoved, Lowers, TellsMoved, put, not_read, gave_up, put_home, first_going}
 use Rattle.reclaimer.specs.declared.answers.Drain.{Drain}
 use Rattle.reclaimer.specs.declared.answers.Drain.TheVariants.{Bare, Moved}
-use Rattle.reclaimer.proofs.Draining.{drained_same, given_lowers, put_lowers, others_given, others_homed, all_keep, lane_here, all_awake, find_same}
+use Rattle.reclaimer.proofs.Draining.{drained_same, others_given, others_homed, all_keep, lane_here, all_awake, find_same}
 use Rattle.reclaimer.proofs.Fetching.{and_of}
-use Rattle.reclaimer.proofs.GiveUp.{dropped_as, done_then, filter_listed}
-use Rattle.reclaimer.proofs.Nexts.{First, Spot, first_of_all, answered, within_reach}
+use Rattle.reclaimer.proofs.GiveUp.{dropped_as, done_then}
+use Rattle.garbage_list.proofs.Nexts.{First, Spot, first_of_all, answered}
+use Rattle.reclaimer.proofs.Reach.{within_reach}
 
 -- ---- the first record, whatever sleeps
 

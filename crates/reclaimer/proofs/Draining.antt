@@ -7,8 +7,6 @@ use Rattle.std.proofs.lemmas.Option.{same_Some, none-some}
 use Rattle.std.proofs.Math.ListN.{length-set}
 use Rattle.wol_model.specs.Extents.{Cover}
 use Rattle.wol_model.specs.Index.{Listed, Indexed, listed_in, listed_covers, cover_of, is_homed, is_due, goes, has_due, has_going, keeps_a_block, homing, keeping, block_numbers, left}
-use Rattle.wol_model.proofs.DrainGives.{giving_up_lowers}
-use Rattle.wol_model.proofs.DrainPuts.{putting_lowers}
 use Rattle.wol_model.proofs.Live.{least_goes}
 use Rattle.wol_promise.specs.Policy.{drained}
 use Rattle.wol_promise.proofs.Covers.{any_found, any_member}
@@ -16,18 +14,6 @@ use Rattle.wol_promise.proofs.Lists.{all_map, all_mapped, member_of}
 use Rattle.redirect_map.specs.Index.{IsEntry, IsIndex}
 
 -- ---- lists
-
--- around the element at a place
-pub record Around {X : Type 0} (xs : List X) (k : ℕ) (x : X) : Type 0 where
-  pub front : List X
-  pub back : List X
-  pub is : xs ≡ front ++ x ∷ back
-  pub set : (y : X) → slice_set xs k y ≡ front ++ y ∷ back
-
-pub around : {X : Type 0} (xs : List X) (k : ℕ) (x : X) → slice_get xs k ≡ Some x → Around xs k x
-around [] k x is = absurd (none-some x is)
-around (z ∷ xs) zero x is = record { front = []; back = xs; is = λ i. same_Some z x is i ∷ xs; set = λ y. refl }
-around (z ∷ xs) (suc k) x is = let rest = around xs k x is in record { front = z ∷ rest.front; back = rest.back; is = λ i. z ∷ rest.is i; set = λ y i. z ∷ rest.set y i }
 
 keep_all : (xs : List Listed) → AllByRecursion (λ (d : Listed). keeps_a_block d ≡ true) xs → filter keeps_a_block xs ≡ xs
 keep_all [] all = refl
@@ -109,25 +95,6 @@ others_given listed place x y is same all k other = any_given (λ (d : Listed). 
 pub others_homed : (listed : List Listed) (place : ℕ) (x y : Listed) → slice_get listed place ≡ Some x → y.lane ≡ x.lane
     → (k : ℕ) → list_any (λ (d : Listed). eqb d.lane k) (slice_set listed place y) ≡ list_any (λ (d : Listed). eqb d.lane k) listed
 others_homed listed place x y is same k = any_set (λ (d : Listed). eqb d.lane k) listed place x y is (ap (λ (l : ℕ). eqb l k) same)
-
--- ---- what is left
-
-pub given_lowers : (listed : List Listed) (place : ℕ) (x : Listed) → slice_get listed place ≡ Some x → has_going listed x ≡ true → left (filter keeps_a_block (slice_set listed place (keeping listed x))) < left listed
-given_lowers listed place x is some =
-    let a = around listed place x is in
-    let f = any_found (goes listed x) (block_numbers x) some in
-    let lower = giving_up_lowers a.front a.back x f.item (subst (λ (l : List Listed). goes l x f.item ≡ true) a.is f.passes) in
-    let now : filter keeps_a_block (slice_set listed place (keeping listed x)) ≡ filter keeps_a_block (a.front ++ keeping (a.front ++ x ∷ a.back) x ∷ a.back) = ap (filter keeps_a_block) (a.set (keeping listed x) ∙ (λ i. a.front ++ keeping (a.is i) x ∷ a.back)) in
-    let l = ap left now in let r = ap left a.is in
-    omega (arith, lower, l, r)
-
-pub put_lowers : (listed : List Listed) (place : ℕ) (x : Listed) (put : ℕ → Bool) (b : ℕ) → slice_get listed place ≡ Some x → length x.homed ≡ length x.keep → ((c : ℕ) → put c ≡ true → is_due listed x c ≡ true) → put b ≡ true
-    → left (slice_set listed place (homing put x)) < left listed
-put_lowers listed place x put b is sized due is_put =
-    let a = around listed place x is in
-    let lower = putting_lowers a.front a.back x put b sized (λ c p. subst (λ (l : List Listed). is_due l x c ≡ true) a.is (due c p)) is_put in
-    let l = ap left (a.set (homing put x)) in let r = ap left a.is in
-    omega (arith, lower, l, r)
 
 -- ---- nothing is left
 

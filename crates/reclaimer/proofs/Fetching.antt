@@ -26,7 +26,7 @@ use Rattle.reclaimer.specs.Steps.{HasFetchedNext}
 use Rattle.reclaimer.specs.declared.answers.Fetched.TheVariants as fetched
 use Rattle.reclaimer.specs.declared.room.Filled.{Filled}
 use Rattle.reclaimer.proofs.GiveUp.{some_and, set_same}
-use Rattle.reclaimer.proofs.Nexts.{first_of_all, answered}
+use Rattle.garbage_list.proofs.Nexts.{first_of_all, answered}
 use Rattle.reclaimer.proofs.ReadRecord.{front_of}
 
 pub and_of : {X : Type 0} (P : X → Type 0) (o : Option X) (x : X) → IsSomeAnd o P → o ≡ Some x → P x

@@ -14,11 +14,12 @@ use Rattle.manager.specs.Seen.{look_of_manager}
 use Rattle.manager.specs.declared.manager.Manager.{Manager}
 use Rattle.manager.specs.declared.part.StepFault.{StepFault}
 use Rattle.manager.specs.declared.part.StepFault.TheVariants.{DiskFault, Down}
+use Rattle.wol_promise.proofs.Lowering.{filter_listed}
 use Rattle.reclaimer.specs.Fetches.{going_entry}
 use Rattle.reclaimer.specs.Steps.{HasGivenUp}
 use Rattle.reclaimer.specs.declared.answers.Gone.{Gone}
 use Rattle.reclaimer.specs.declared.answers.Gone.TheVariants.{Version, Trimmed}
-use Rattle.reclaimer.proofs.Nexts.{First, first_of_all, least_of, answered}
+use Rattle.garbage_list.proofs.Nexts.{First, first_of_all, least_of, answered}
 
 -- ---- answers
 
@@ -60,15 +61,6 @@ pub set_same : (flags : List Bool) (k : ℕ) → slice_index_or flags k false �
 set_same [] k is = absurd (let no : false ≡ true = is in cc)
 set_same (x ∷ flags) zero is = λ i. sym is i ∷ flags
 set_same (x ∷ flags) (suc k) is = λ i. x ∷ set_same flags k is i
-
-pub filter_listed : (es : List Indexed) → listed_in (filter (λ e. keeps_a_block e.listed) es) ≡ filter keeps_a_block (listed_in es)
-filter_listed [] = refl
-filter_listed (x ∷ es) = at (keeps_a_block x.listed) (filter_listed es)
-  where
-    at : (t : Bool) → listed_in (filter (λ e. keeps_a_block e.listed) es) ≡ filter keeps_a_block (listed_in es)
-        → listed_in (cond t (x ∷ filter (λ e. keeps_a_block e.listed) es) (filter (λ e. keeps_a_block e.listed) es)) ≡ cond t (x.listed ∷ filter keeps_a_block (listed_in es)) (filter keeps_a_block (listed_in es))
-    at true rest = λ i. x.listed ∷ rest i
-    at false rest = rest
 
 -- ---- the step
 

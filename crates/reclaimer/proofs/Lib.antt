@@ -10,7 +10,7 @@ pub mod Idle
 pub mod Later
 pub mod Moments
 pub mod MoveHome
-pub mod Nexts
+pub mod Reach
 pub mod ReadRecord
 pub mod Woken
 pub mod TakenOff

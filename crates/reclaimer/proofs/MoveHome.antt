@@ -28,7 +28,7 @@ use Rattle.reclaimer.specs.declared.room.Filled.{Filled}
 use Rattle.reclaimer.proofs.Counting.{blocks_counted}
 use Rattle.reclaimer.proofs.Fetching.{and_of}
 use Rattle.reclaimer.proofs.GiveUp.{some_and}
-use Rattle.reclaimer.proofs.Nexts.{found_passes}
+use Rattle.garbage_list.proofs.Nexts.{found_passes}
 use Rattle.reclaimer.proofs.Putting.{never, stored_as}
 
 -- no block outside the record's range is due

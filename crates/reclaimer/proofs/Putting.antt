@@ -29,7 +29,7 @@ use Rattle.reclaimer.specs.Records.{FetchedRecord}
 use Rattle.reclaimer.specs.declared.room.Filled.{Filled}
 use Rattle.reclaimer.proofs.Counting.{blocks_counted, no_blocks}
 use Rattle.reclaimer.proofs.GiveUp.{ok_as, err_as, done_then}
-use Rattle.reclaimer.proofs.Nexts.{spot_of_version}
+use Rattle.garbage_list.proofs.Nexts.{spot_of_version}
 use Rattle.reclaimer.proofs.ReadRecord.{length_take}
 
 -- ---- which blocks

@@ -114,7 +114,7 @@ homed_live items version k e es at =
 pub find_none : (items : List Entry) (version : ℕ) → find (is_version version) items ≡ None → IsAnswer (entry_at (map seen items) version) None
 find_none items version none = rw (find-map (has_version version) seen items, none) tt
 
-find_range : (p : Entry → Bool) (items : List Entry) (e : Entry) → AllByRecursion IsInRange items → find p items ≡ Some e → IsInRange e
+pub find_range : (p : Entry → Bool) (items : List Entry) (e : Entry) → AllByRecursion IsInRange items → find p items ≡ Some e → IsInRange e
 find_range p [] e ranges found = absurd (cc)
 find_range p (x ∷ xs) e ranges found = at (p x) found (find_range p xs e ranges.1)
   where

@@ -3,7 +3,7 @@ use Rattle.std.proofs.Common.{◌≡◌, ◌⊎◌, inl, inr, ⊎_elim, ◌<◌,
 use Rattle.std.specs.Prelude.{slice_get, IfSome, IfNone}
 use Rattle.std.specs.Int.{bit_not, w128}
 use Rattle.std.specs.List.{AllByRecursion, AllZip, list_any, remove, find}
-use Rattle.std.proofs.lemmas.Bool.{cases_lt, ne_eqb, eq-eqb, eqb-true, lt-ltb, leb-true, false≢true, and_parts, not-true, false_from_ne_true, or_left, or_right}
+use Rattle.std.proofs.lemmas.Bool.{cases_lt, cases_eq, ne_eqb, eq-eqb, eqb-true, lt-ltb, leb-true, false≢true, and_parts, not-true, false_from_ne_true, or_left, or_right}
 use Rattle.wol_model.specs.Log.{has_bit}
 use Rattle.wol_model.specs.Extents.{has_newer, has_older}
 use Rattle.wol_model.specs.Index.{listed_in, Indexed, listed_covers, AreRising, is_due, goes, is_live, is_homed, block_numbers, has_due, has_going}
@@ -268,6 +268,17 @@ marks_set items G M N k version mask e f rising at old new there sets mine other
     let differs : d.record.version ≡ version → ⊥ = λ same. versions_apart items j k d e rising apart.1 at apart.0 (same ∙ sym old) in
     subst (λ (m : ℕ). IsMarked G m d) (sym (other_mask M N version d.record.version mask sets differs)) (others j d found apart.1))
     (get_set items k j f d found)
+
+-- the mask of one version becomes exact
+pub marks_exact : (items : List Entry) (G : ℕ → Option Cell) (M N : ℕ → ℕ) (version mask : ℕ) (e : Entry) → AreRising (map (λ (d : Entry). d.record.version) items) → find (is_version version) items ≡ Some e
+    → ((w : ℕ) → N w ≡ cond (eqb w version && not (eqb (M w) 0)) mask (M w)) → IsMarked G mask e → AreMarked items G M → AreMarked items G N
+marks_exact items G M N version mask e rising found sets mine marked k d at = ⊎_elim
+    (λ same.
+    let own : find (is_version version) items ≡ Some d = ap (λ (v : ℕ). find (is_version v) items) (sym same) ∙ same_version items k d rising at in
+    let g : e ≡ d = cc in
+    subst (λ (m : ℕ). IsMarked G m d) (sym (own_mask M N version d.record.version mask sets same (marked k d at).there)) (subst (λ (x : Entry). IsMarked G mask x) g mine))
+    (λ other. subst (λ (m : ℕ). IsMarked G m d) (sym (other_mask M N version d.record.version mask sets other)) (marked k d at))
+    (cases_eq d.record.version version)
 
 -- an entry is taken out
 pub marks_removed : (items : List Entry) (G : ℕ → Option Cell) (M N : ℕ → ℕ) (k version mask : ℕ) (e : Entry) → AreRising (map (λ (d : Entry). d.record.version) items) → slice_get items k ≡ Some e → e.record.version ≡ version

@@ -11,7 +11,9 @@ ghost use Rattle.redirect_map.specs.Index.{cover_at, entry_at, HasVersion, entry
 
 use crate::blocks::{Cell, any_covered, cover, held, newest_of, uncover};
 use crate::entry::{Entry, any_meets, kept_from, place_of, unhome, with_version};
-use crate::marking::{exact_mask, lanes_mask, mark_blocks, new_mask};
+use crate::marking::{
+    exact_mask, lanes_mask, mark_all_exactly, mark_blocks, new_mask, newest_versions,
+};
 use crate::record::Rec;
 use std::alloc::Global;
 use std::collections::{HashMap, VecDeque};
@@ -91,6 +93,7 @@ impl Index {
             ≡ map (unhomed (cover_at (entry_of entry 0))) self.old.entries ++ entry_of entry 0 ∷ [] }
         ensures room { self.old.reserved ≤ self.new.reserved + runs_of (marks_of entry.count entry.keep) }
     {
+        let covered = newest_versions(&self.blocks, &entry);
         mark_blocks(
             &mut self.marks,
             &self.entries,
@@ -107,6 +110,12 @@ impl Index {
             record: entry,
             homed: 0,
         });
+        mark_all_exactly(
+            &mut self.marks,
+            &self.entries,
+            &self.blocks,
+            &covered[..entry.count as usize],
+        );
     }
 
     /// The newest record that covers the block, and none where no record covers it.

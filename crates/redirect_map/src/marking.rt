@@ -6,11 +6,12 @@ ghost use Rattle.version_marks.specs.Marks.{mask_of};
 ghost use Rattle.redirect_map.specs.Masks.{in_mask};
 ghost use Rattle.redirect_map.specs.Kept.{IsInRange, AreEntries};
 ghost use Rattle.redirect_map.specs.Cells.{AreTabled};
-ghost use Rattle.redirect_map.specs.Marked.{there_bit, lane_bit, is_home, begins, IsMarked, AreThere, AreBegun, KeepsBits};
+ghost use Rattle.redirect_map.specs.Marked.{there_bit, lane_bit, is_home, begins, IsMarked, AreMarked, AreThere, AreBegun, KeepsBits};
 
 use crate::blocks::{Cell, held, newest_of, with_bit};
 use crate::entry::{Entry, with_version};
 use crate::mask::moved;
+use crate::record::Rec;
 use std::collections::{HashMap, VecDeque};
 use version_marks::VersionMarks;
 
@@ -157,6 +158,76 @@ pub fn mark_blocks(
 {
     for i in 0..count {
         mark_bit(marks, entries, blocks, first, mask, i, covered);
+    }
+}
+
+// The versions of the newest records of the record's blocks, in order, and 0 where no record keeps one. No proof
+// rests on them: their marks are made exact, and those of any others may be.
+pub fn newest_versions(blocks: &HashMap<u64, Cell>, one: &Rec) -> [u64; 128]
+    requires count { one.now.count ≤ 128 }
+    requires within { one.now.lbn + one.now.count ≤ 2 ^ 32 }
+{
+    let mut versions = [0; 128];
+    for i in 0..one.count {
+        if let Some(cell) = newest_of(blocks, one.lbn + u64::from(i)) {
+            versions[i as usize] = cell.version;
+        }
+    }
+    versions
+}
+
+// Makes the marks of this version exact, if there is such a record.
+fn mark_exactly(
+    marks: &mut VersionMarks,
+    entries: &VecDeque<Entry>,
+    blocks: &HashMap<u64, Cell>,
+    version: u64,
+)
+    requires entries { AreEntries entries.now.items }
+    requires marked { AreMarked entries.now.items (get nat_eq blocks.now) (mask_of marks.old) }
+    ensures marked { AreMarked entries.now.items (get nat_eq blocks.now) (mask_of marks.new) }
+    ensures room { marks.new.room ≡ marks.old.room }
+{
+    let Some(entry) = with_version(entries, version) else {
+        return;
+    };
+    marks.set(version, exact_mask(blocks, &entry));
+}
+
+// The same, unless this version was the last one.
+fn mark_next(
+    marks: &mut VersionMarks,
+    entries: &VecDeque<Entry>,
+    blocks: &HashMap<u64, Cell>,
+    last: u64,
+    version: u64,
+)
+    requires entries { AreEntries entries.now.items }
+    requires marked { AreMarked entries.now.items (get nat_eq blocks.now) (mask_of marks.old) }
+    ensures marked { AreMarked entries.now.items (get nat_eq blocks.now) (mask_of marks.new) }
+    ensures room { marks.new.room ≡ marks.old.room }
+{
+    if version != last {
+        mark_exactly(marks, entries, blocks, version);
+    }
+}
+
+// Makes the marks of these versions exact. Equal versions in a row are looked at once.
+pub fn mark_all_exactly(
+    marks: &mut VersionMarks,
+    entries: &VecDeque<Entry>,
+    blocks: &HashMap<u64, Cell>,
+    versions: &[u64],
+)
+    requires entries { AreEntries entries.now.items }
+    requires marked { AreMarked entries.now.items (get nat_eq blocks.now) (mask_of marks.old) }
+    ensures marked { AreMarked entries.now.items (get nat_eq blocks.now) (mask_of marks.new) }
+    ensures room { marks.new.room ≡ marks.old.room }
+{
+    let mut last = 0;
+    for version in versions {
+        mark_next(marks, entries, blocks, last, *version);
+        last = *version;
     }
 }
 

@@ -13,13 +13,13 @@ use Rattle.manager_recovery.specs.declared.refusal.OpenRefusal.TheVariants as re
 use Rattle.report.specs.declared.fault.Fault.{Fault}
 use Rattle.report.specs.declared.fault.Fault.TheVariants.{Volume}
 use Rattle.troubles.specs.Troubles.{trouble_of}
-use Rattle.volume_images.specs.Left.{AreNamedApart}
+use Rattle.volume_images.specs.Left.{AreNamedApart, IsTold}
 use Rattle.volume_images.specs.Refusals.{IsCallFault}
 use Rattle.volume_images.specs.Volumes.{shape_in, shapes_of}
 use Rattle.volume_images.specs.declared.reading.ImageFault.{ImageFault}
 use Rattle.volume_images.specs.declared.reading.ImageFault.TheVariants as image
 use Rattle.rack.specs.Closes.{HasFaultIn}
-use Rattle.rack.specs.Opens.{AreRefused, BeganWith, RefusesImage, RefusesVolume, fault_in_image}
+use Rattle.rack.specs.Opens.{AreRefused, BeganWith, HasFaulty, RefusesVolume, fault_in_image}
 use Rattle.rack.specs.Owners.{IsBegun, images_taken}
 use Rattle.rack.specs.Racks.{IsRack, NamesVolumes, base_of_station}
 use Rattle.rack.specs.Rests.{IsImageOut, image_here}
@@ -27,6 +27,7 @@ use Rattle.rack.specs.declared.rack.ImageRest.{ImageRest}
 use Rattle.rack.specs.declared.rack.Rack.{Rack}
 use Rattle.rack.specs.declared.volume_fault.VolumeFault.{VolumeFault}
 use Rattle.rack.specs.declared.volume_fault.VolumeFault.TheVariants as fault
+use Rattle.rack.proofs.Asking.{refuses_later}
 use Rattle.replay.specs.NotOpened.{IsFirstClosed, IsOfCall, IsOpened}
 use Rattle.replay.specs.Runs.{first_closed}
 use Rattle.replay.proofs.CauseServed.{rose_from}
@@ -60,25 +61,6 @@ first_is n (None ∷ faults) told first =
 pub rose_to : (a b c : ℕ) → Rose a b → b ≤ c → Rose a c
 rose_to a b c (inl less) le = inl (omega (arith, less, le))
 rose_to a b c (inr most) le = inr (omega (arith, most, le))
-
-image_later : {D : Type 0} (config : Config) (out : List (Option (ImageRest D))) (old b new : BayState) (k : ℕ) (v : VolumeConf) (f : VolumeFault) → b.faults ≤ new.faults → RefusesImage config out old b k v f → RefusesImage config out old new k v f
-image_later config out old b new k v f le refused = record {
-  not_out = refused.not_out;
-  image_fault = refused.image_fault;
-  is_fault = refused.is_fault;
-  said = refused.said;
-  cause = λ call. rose_to old.faults b.faults new.faults (refused.cause call) le;
-}
-
--- the cause stays, whatever comes behind opening
-pub refused_later : {D : Type 0} (tells : Bool) (state : D → State) (config : Config) (out : List (Option (ImageRest D))) (old b new : BayState) (k : ℕ) (v : VolumeConf) (f : VolumeFault) → b.faults ≤ new.faults
-    → RefusesVolume tells state config out old b k v f → RefusesVolume tells state config out old new k v f
-refused_later tells state config out old b new k v fault.Absent le refused = refused
-refused_later tells state config out old b new k v (fault.WrongLength bytes) le refused = refused
-refused_later tells state config out old b new k v fault.BayFailed le (home, rose) = (home, rose_to old.faults b.faults new.faults rose le)
-refused_later tells state config out old b new k v fault.LabelFault le refused = image_later config out old b new k v fault.LabelFault le refused
-refused_later tells state config out old b new k v (fault.Refused r) le (inl refused) = inl (image_later config out old b new k v (fault.Refused r) le refused)
-refused_later tells state config out old b new k v (fault.Refused r) le (inr refused) = inr refused
 
 label_call : (k : ℕ) (i : ImageFault) → fault.LabelFault ≡ fault_in_image k i → IsCallFault i
 label_call k (image.Damaged block) is = absurd (cc is)
@@ -136,6 +118,7 @@ opened_at {D} state config b r is t began j lt none =
 module _ {D : Type 0} (tells : Bool) (state : D → State) (config : Config) (entry b last : BayState) (r : Rack D) (is : IsRack state config b r) (refused : AreRefused tells state config entry b r)
     (failed : (k : ℕ) (p : Part) → slice_get r.faults.items k ≡ Some (Some (fault.Refused (refusal.DiskFault p))) → HasFaultIn state r.rest ⊎ Rose entry.faults b.faults)
     (rises : HasFaultIn state r.rest → Rose b.faults last.faults) (opening : entry.faults ≤ b.faults) (closing : b.faults ≤ last.faults)
+    (apart : IsTold (λ x y. AreNamedApart y) entry.told b.told) (gained : IsTold HasFaulty b.told last.told)
     (began : IsTrue tells → IfSome entry.told (λ t. AreNamedApart t → BeganWith state config t r)) where
   -- each volume whose image isn't out has its fault
   missing : (j : ℕ) (v : VolumeConf) → slice_get config.volumes.items j ≡ Some v → image_here r.rest.images.items j ≡ None → (g : VolumeFault) × RefusesVolume tells state config r.rest.images.items entry last j v g
@@ -148,7 +131,7 @@ module _ {D : Type 0} (tells : Bool) (state : D → State) (config : Config) (en
       at None none = let wrong : true ≡ false = sym (opened_out state config b r is j within none) ∙ ap is_some home in absurd (cc wrong)
       at (Some g) some = (
         g,
-        refused_later tells state config r.rest.images.items entry b last j v g closing
+        refuses_later tells state config r.rest.images.items entry b last j v g closing apart gained
             (refused j v g conf (there_at r.faults.items j None (omega (arith, within, is.fault_count)) ∙ ap (λ (o : Option VolumeFault). Some o) some)),
       )
 
@@ -165,7 +148,7 @@ module _ {D : Type 0} (tells : Bool) (state : D → State) (config : Config) (en
       let one = first_is 0 r.faults.items told first in
       let (less, place) = at_place r.faults.items one.k (Some one.fault_) one.here in
       let (v, conf) = a_member config.volumes.items one.k (omega (arith, less, is.fault_count, length-map config.volumes.items (shape_in config))) in
-      let why = refused_later tells state config r.rest.images.items entry b last one.k v one.fault_ closing (refused one.k v one.fault_ conf one.here) in (
+      let why = refuses_later tells state config r.rest.images.items entry b last one.k v one.fault_ closing apart gained (refused one.k v one.fault_ conf one.here) in (
         one.k,
         one.fault_,
         one.told_is ∙ ap (λ (m : ℕ). Volume m (trouble_of one.fault_)) (omega arith),

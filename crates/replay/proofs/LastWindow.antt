@@ -41,11 +41,11 @@ use Rattle.replay.proofs.FirstsServed.{was_worked}
 abbrev pub IsBelow : ℕ → Noted → Type 0
 IsBelow most n = n.look.next ≤ most
 
-part_right : {X : Type 0} (P : X → Type 0) (xs ys : List X) → AllByRecursion P (xs ++ ys) → AllByRecursion P ys
+pub part_right : {X : Type 0} (P : X → Type 0) (xs ys : List X) → AllByRecursion P (xs ++ ys) → AllByRecursion P ys
 part_right P [] ys all = all
 part_right P (x ∷ xs) ys all = part_right P xs ys all.1
 
-part_left : {X : Type 0} (P : X → Type 0) (xs ys : List X) → AllByRecursion P (xs ++ ys) → AllByRecursion P xs
+pub part_left : {X : Type 0} (P : X → Type 0) (xs ys : List X) → AllByRecursion P (xs ++ ys) → AllByRecursion P xs
 part_left P [] ys all = tt
 part_left P (x ∷ xs) ys all = (all.0, part_left P xs ys all.1)
 
@@ -96,7 +96,7 @@ other_cause rs w f is other = at (list_any lacked_memory w.outcomes.items) is
 -- ---- The last window
 
 -- a turn of reclaim adds to what a pass saw and made
-closed_more : {D : Type 0} (tells : Bool) (mode : Reclaim) (fault : Option StepFault) (p q : ManagerPass D) → IsClosed tells mode fault p q
+pub closed_more : {D : Type 0} (tells : Bool) (mode : Reclaim) (fault : Option StepFault) (p q : ManagerPass D) → IsClosed tells mode fault p q
     → (more : List Entry) × (notes : List Noted) × (pass_seen q ≡ pass_seen p ++ more) × (pass_mine q ≡ pass_mine p ++ map coded notes)
 closed_more tells reclaim.Off fault p q c = ([], [], ap (λ (x : ManagerPass _). pass_seen x) c.0 ∙ sym (append-nil (pass_seen p)), ap (λ (x : ManagerPass _). pass_mine x) c.0 ∙ sym (append-nil (pass_mine p)))
 closed_more tells reclaim.Between fault p q c = let g = gains_turn tells p q c.before c.note c.turned in (_, c.note ∷ [], g.seen, g.mine)

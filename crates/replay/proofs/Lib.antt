@@ -23,6 +23,7 @@ pub mod EntriesOwn
 pub mod StationsRan
 pub mod HistoriesLeft
 pub mod VersionsLeft
+pub mod SpentLeft
 pub mod RequestsServed
 pub mod CountsLeft
 pub mod LastWindow

@@ -27,7 +27,7 @@ use Rattle.request_workers.specs.declared.floor.Floor.{Floor}
 use Rattle.replay.specs.Counts.{no_totals}
 use Rattle.replay.specs.Givens.{HasGiven, HasGivenAll, Refuses}
 use Rattle.replay.specs.Served.{AreTotals, ServedFromStart, ServedWindow, WasNotRun, is_none_served}
-use Rattle.replay.specs.Sessions.{AreServedOf, Closes, EndsIn, EndsWithWindow, GoesOn, HasServed, ServesSome, StopsAfter, StopsAtLine, TakesOn, ServesWhole, WentWell, lines_of_window, lines_of_windows, opens}
+use Rattle.replay.specs.Sessions.{AreServedOf, Closes, EndsIn, EndsWithWindow, GoesOn, HasServed, ServesSome, StopsAfter, StopsAtLine, TakesOn, ServesWhole, WentWell, at_refusal, lines_of_window, lines_of_windows, opens}
 use Rattle.replay.specs.Stops.{fault_of_trace}
 use Rattle.replay.specs.declared.counting.Counted.{Counted}
 use Rattle.replay.specs.declared.given.Given.{Given}
@@ -129,6 +129,27 @@ no_windows : (most : ℕ) (targets : List Target) → windows most targets [] �
 unfolding windows
 no_windows most targets = refl
 
+-- the line behind these opens a further window
+pub record OpensNext (config : Config) (run more : List (Option TraceLine)) : Type 0 where
+  pub line : Option TraceLine
+  pub rest : List (Option TraceLine)
+  pub window : Window
+  pub more_is : more ≡ line ∷ rest
+  pub windows_are : windows (most_of config) (targets_of config) (run ++ line ∷ []) ≡ windows (most_of config) (targets_of config) run ++ window ∷ []
+
+-- whatever comes behind it
+opens_more : (config : Config) (run more further : List (Option TraceLine)) → OpensNext config run more → OpensNext config run (more ++ further)
+opens_more config run more further o = record {
+  line = o.line;
+  rest = o.rest ++ further;
+  window = o.window;
+  more_is = ap (λ (ls : List (Option TraceLine)). ls ++ further) o.more_is;
+  windows_are = o.windows_are;
+}
+
+ends_open : {S : Type 0} (left : S → Option (List ℕ)) (config : Config) (start now : Given S) (run more : List (Option TraceLine)) → OpensNext config run more → EndsWithWindow left config start now run more
+ends_open left config start now run more o = opens o.line o.rest o.window o.more_is o.windows_are
+
 module _ {D S : Type 0} (tells : Bool) (left : S → Option (List ℕ)) (config : Config) (options : Options) (start : Given S) (f : Floor D) (ps : List SpindlePass) (faults : ℕ) (printed : Option (List ℕ)) where
   pub record SoFar (now : Given S) (c : Cutting) (s : Session D) (faults' : ℕ) (new : Option (List ℕ)) : Type 0 where
     pub run : List (Option TraceLine)
@@ -138,6 +159,8 @@ module _ {D S : Type 0} (tells : Bool) (left : S → Option (List ℕ)) (config 
     pub cut : HasCut (most_of config) (targets_of config) (run ++ more) ws c
     pub whole : windows (most_of config) (targets_of config) run ≡ ws
     pub ss : List ServedWindow
+    -- the last window that was served is whole
+    pub opened : ss ≢ [] → OpensNext config run more
     pub are : AreServedOf config ws ss
     pub well : AllByRecursion WentWell ss
     pub from_start : ServedFromStart tells options.reclaim ss f ps s.floor s.keepers.items
@@ -156,6 +179,7 @@ module _ {D S : Type 0} (tells : Bool) (left : S → Option (List ℕ)) (config 
     cut = cut (most_of config) (targets_of config);
     whole = no_windows (most_of config) (targets_of config);
     ss = [];
+    opened = λ some. absurd (some refl);
     are = served_none config;
     well = tt;
     from_start = (floor, keepers);
@@ -181,6 +205,7 @@ module _ {D S : Type 0} (tells : Bool) (left : S → Option (List ℕ)) (config 
       cut = subst (λ (ls : List (Option TraceLine)). HasCut (most_of config) (targets_of config) ls so.ws c') (append_assoc so.run so.more (l ∷ [])) cut;
       whole = so.whole;
       ss = so.ss;
+      opened = λ some. opens_more config so.run so.more (l ∷ []) (so.opened some);
       are = so.are;
       well = so.well;
       from_start = so.from_start;
@@ -205,6 +230,20 @@ module _ {D S : Type 0} (tells : Bool) (left : S → Option (List ℕ)) (config 
       prints_more : (then : Option (List ℕ)) → Appends new then (joined_lines (lines_of_window config options here)) → Appends printed then (joined_lines (lines_of_windows config options (so.ss ++ here ∷ [])))
       prints_more then more = rw (lines_of_more config options so.ss here) (appends_both printed new then (joined_lines (lines_of_windows config options so.ss)) (joined_lines (lines_of_window config options here)) so.prints more)
 
+    -- a line that closes a window opens the next one
+    opened_by : (w : Window) (l : Option TraceLine) (c' : Cutting) → HasCut (most_of config) (targets_of config) ((so.run ++ so.more) ++ l ∷ []) (so.ws ++ w ∷ []) c' → OpensNext config (so.run ++ so.more) (l ∷ [])
+    opened_by w l c' cut = at cut.last cut.windows
+      where
+        at : (further : Option Window) → AreWindows (most_of config) (targets_of config) (windows (most_of config) (targets_of config) ((so.run ++ so.more) ++ l ∷ [])) (so.ws ++ w ∷ []) further c'.current → OpensNext config (so.run ++ so.more) (l ∷ [])
+        at None (none, given, blank) = absurd (not_empty so.ws w given)
+        at (Some v) (is, further_of) = record {
+          line = l;
+          rest = [];
+          window = v;
+          more_is = refl;
+          windows_are = is ∙ ap (λ (vs : List Window). vs ++ v ∷ []) (sym (closed (most_of config) (targets_of config) (so.run ++ so.more) so.ws w l c c' so.cut cut));
+        }
+
     -- a line came that closed a window, and all went well
     line_closes : (w : Window) (b : Batched) (next : Given S) (l : Option TraceLine) (c' : Cutting) (n : Session D) (faults'' : ℕ) (then : Option (List ℕ))
         → Closes config (so.run ++ so.more) so.ws l c' w b → n.started ≡ true → GoesOn tells config options b s n faults' faults'' new then
@@ -217,6 +256,7 @@ module _ {D S : Type 0} (tells : Bool) (left : S → Option (List ℕ)) (config 
       cut = cut;
       whole = closed (most_of config) (targets_of config) (so.run ++ so.more) so.ws w l c c' so.cut cut;
       ss = so.ss ++ record { batch = b; answer = h.answer } ∷ [];
+      opened = λ some. opened_by w l c' cut;
       are = are_more w b of n h;
       well = well_more WentWell so.ss (record { batch = b; answer = h.answer }) so.well well;
       from_start = from_start_more w b of n h;
@@ -234,16 +274,16 @@ module _ {D S : Type 0} (tells : Bool) (left : S → Option (List ℕ)) (config 
     -- ---- The run ends
 
     -- behind the windows that were served, for want of memory
-    pub lacks_memory : (next : Given S) (more : List (Option TraceLine)) (g : Floor D) (qs : List SpindlePass) (faults'' : ℕ) (then : Option (List ℕ)) → HasGiven left (targets_of config) start next (so.run ++ more) → WasNotRun tells s.floor g
+    pub lacks_memory : (next : Given S) (further : List (Option TraceLine)) (g : Floor D) (qs : List SpindlePass) (faults'' : ℕ) (then : Option (List ℕ)) → HasGiven left (targets_of config) start next (so.run ++ (so.more ++ further)) → WasNotRun tells s.floor g
         → faults'' ≡ faults' → Keeps new then → ServesSome tells left config options start (stop.Fault Memory) next f ps g qs faults faults'' printed then
-    lacks_memory next more g qs faults'' then has not_run calm keeps = record {
+    lacks_memory next further g qs faults'' then has not_run calm keeps = record {
       run = so.run;
-      more = more;
+      more = so.more ++ further;
       given = has;
       earlier = so.ss;
       last = [];
       are = rw (append-nil so.ss, so.whole) so.are;
-      whole = λ some. absurd (some refl);
+      whole = λ some. ends_open left config start next so.run (so.more ++ further) (opens_more config so.run so.more further (so.opened (λ none. some (append-nil so.ss ∙ none))));
       well = so.well;
       middle = s.floor;
       between = s.keepers.items;
@@ -280,19 +320,16 @@ module _ {D S : Type 0} (tells : Bool) (left : S → Option (List ℕ)) (config 
         → windows (most_of config) (targets_of config) (so.run ++ so.more) ≡ so.ws ++ w ∷ [] → EndsWithWindow left config start next (so.run ++ so.more) more → HasGiven left (targets_of config) start next ((so.run ++ so.more) ++ more)
         → EndsIn e tells config options b s n faults' faults'' new then → ServesSome tells left config options start e next f ps n.floor n.keepers.items faults faults'' printed then
     ends_in_window w b next more e n faults'' then of whole last has (inl (memory, not_run, calm, keeps)) =
-        rw memory (lacks_memory next (so.more ++ more) n.floor n.keepers.items faults'' then (subst (λ (ls : List (Option TraceLine)). HasGiven left (targets_of config) start next ls) (append_assoc so.run so.more more) has) not_run calm keeps)
+        rw memory (lacks_memory next more n.floor n.keepers.items faults'' then (subst (λ (ls : List (Option TraceLine)). HasGiven left (targets_of config) start next ls) (append_assoc so.run so.more more) has) not_run calm keeps)
     ends_in_window w b next more e n faults'' then of whole last has (inr (h, stops)) = stops_behind w b next more e n faults'' then of whole last has h stops
 
     pub stops_at_line : (next : Given S) (l : Option TraceLine) (c' : Cutting) (e : Stop) (n : Session D) (faults'' : ℕ) (then : Option (List ℕ)) → StopsAtLine e tells config options (so.run ++ so.more) so.ws l c' s n faults' faults'' new then
         → HasGiven left (targets_of config) start next ((so.run ++ so.more) ++ l ∷ []) → ServesSome tells left config options start e next f ps n.floor n.keepers.items faults faults'' printed then
     stops_at_line next l c' e n faults'' then (inl (memory, same, calm, keeps)) has =
-        rw (memory, same) (lacks_memory next (so.more ++ l ∷ []) s.floor s.keepers.items faults'' then (longer next l has) (not_run_same tells s.floor) calm keeps)
+        rw (memory, same) (lacks_memory next (l ∷ []) s.floor s.keepers.items faults'' then (longer next l has) (not_run_same tells s.floor) calm keeps)
     stops_at_line next l c' e n faults'' then (inr (w, b, (of, cut), ends)) has =
-        ends_in_window w b next (l ∷ []) e n faults'' then of (closed (most_of config) (targets_of config) (so.run ++ so.more) so.ws w l c c' so.cut cut) (at cut.last cut.windows) has ends
-      where
-        at : (further : Option Window) → AreWindows (most_of config) (targets_of config) (windows (most_of config) (targets_of config) ((so.run ++ so.more) ++ l ∷ [])) (so.ws ++ w ∷ []) further c'.current → EndsWithWindow left config start next (so.run ++ so.more) (l ∷ [])
-        at None (none, given, blank) = absurd (not_empty so.ws w given)
-        at (Some v) (is, further_of) = opens l v refl (is ∙ ap (λ (vs : List Window). vs ++ v ∷ []) (sym (closed (most_of config) (targets_of config) (so.run ++ so.more) so.ws w l c c' so.cut cut)))
+        ends_in_window w b next (l ∷ []) e n faults'' then of (closed (most_of config) (targets_of config) (so.run ++ so.more) so.ws w l c c' so.cut cut)
+        (ends_open left config start next (so.run ++ so.more) (l ∷ []) (opened_by w l c' cut)) has ends
 
     -- in the last window
     pub stops_last : (next : Given S) (e : Stop) (n : Session D) (faults'' : ℕ) (then : Option (List ℕ)) → EndsWithWindow left config start next (so.run ++ so.more) [] → 0 < c.current.lines → EndsIn e tells config options c.current s n faults' faults'' new then
@@ -363,7 +400,7 @@ module _ {D S : Type 0} (tells : Bool) (left : S → Option (List ℕ)) (config 
           earlier = a.all;
           last = [];
           are = rw (append-nil a.all) a.are_all;
-          whole = λ some. absurd (some refl);
+          whole = λ some. at_refusal e other refuses;
           well = a.all_well;
           middle = n.floor;
           between = n.keepers.items;

@@ -13,8 +13,8 @@ use Rattle.manager_recovery.specs.declared.refusal.OpenRefusal.TheVariants as re
 use Rattle.report.specs.Names.{printed_names}
 use Rattle.report.specs.Summaries.{summary_text}
 use Rattle.report.specs.declared.fault.Fault.TheVariants.{Memory}
-use Rattle.rack.specs.Closes.{HasFaultIn, IsClosedSpindle, IsClosedVolume, IsQuiet, LeavesVolumes}
-use Rattle.rack.specs.Opens.{AreRefused, BeganWith, KeepsAllSound, WereThere}
+use Rattle.rack.specs.Closes.{AreLeftOfParts, HasFaultIn, IsClosedSpindle, IsClosedVolume, IsQuiet, LeavesVolumes}
+use Rattle.rack.specs.Opens.{AreRefused, BeganWith, HasFaulty, KeepsAllSound, WereThere}
 use Rattle.rack.specs.Owners.{HadRefused}
 use Rattle.rack.specs.Racks.{AreUnused, IsRack, IsUnused}
 use Rattle.rack.specs.Rests.{IsImageOut}
@@ -49,7 +49,7 @@ pub record HasOpened {D : Type 0} (state : D → State) (tells : Bool) (config :
   pub refused : AreRefused tells state config entry opened r
   pub fresh : AreUnused r.stations.items
   pub fresh_keepers : All (λ (p : SpindlePass). IsUnused p) r.keepers.items
-  pub apart : IsTrue tells → IsTold (λ x y. AreNamedApart y) entry.told opened.told
+  pub apart : IsTold (λ x y. AreNamedApart y) entry.told opened.told
   pub unfaulty : ((k : ℕ) → k < length (shapes_of config) → IsImageOut r.rest.images.items k) → IsTold (λ x y. y.faulty ≡ x.faulty) entry.told opened.told
   pub kept : IsTrue tells → IsTold (HadRefused config r.rest.images.items) entry.told opened.told
   pub failed : (k : ℕ) (p : Part) → slice_get r.faults.items k ≡ Some (Some (fault.Refused (refusal.DiskFault p))) → HasFaultIn state r.rest ⊎ Rose entry.faults opened.faults
@@ -65,6 +65,8 @@ pub record HasClosedRack {D : Type 0} (state : D → State) (tells : Bool) (conf
   pub sound : (t : Told) → IsTrue tells → BeganWith state config t q → WereThere config q.rest.images.items t → IsTold (λ old new. HadRefused config q.rest.images.items t old → KeepsAllSound config t new) opened.told left_.told
   pub cause : HasFaultIn state q.rest → Rose opened.faults left_.faults
   pub counts : opened.faults ≤ left_.faults
+  pub faulty : IsTold HasFaulty opened.told left_.told
+  pub parts : IsTrue tells → IsTold (λ x y. AreLeftOfParts state config q y) opened.told left_.told
 
 module _ {D S : Type 0} (T : Type 0) (state : D → State) (tells : Bool) (left : S → Option (List ℕ)) (config : Config) (options : Options) (start now : Given S) (entry opened left_ : BayState) (r q : Rack D) (Q : Told → Told → Type 0)
     (o : HasOpened state tells config entry opened r) (c : HasClosedRack state tells config opened left_ q Q) (faults faults' : ℕ) (printed printed' : Option (List ℕ)) where
@@ -88,7 +90,7 @@ module _ {D S : Type 0} (T : Type 0) (state : D → State) (tells : Bool) (left 
     sound_still : q.rest ≡ r.rest → locks_of q.stations.items ≡ locks_of r.stations.items → AreStations q.stations.items → IsTrue tells → IsTold (KeepsAllSound config) entry.told left_.told
     sound_still rest locks news telling =
         run_sound state config q Q entry opened left_ (still entry.told (o.began telling)) (subst (λ (x : Rest D). IfSome entry.told (λ t. AreNamedApart t → WereThere config x.images.items t)) (sym rest) (o.there telling))
-        (subst (λ (x : Rest D). IsTold (HadRefused config x.images.items) entry.told opened.told) (sym rest) (o.kept telling)) (o.apart telling) (c.told telling) (λ t with was. c.sound t telling with was)
+        (subst (λ (x : Rest D). IsTold (HadRefused config x.images.items) entry.told opened.told) (sym rest) (o.kept telling)) o.apart (c.told telling) (λ t with was. c.sound t telling with was)
       where
         still : (told : Option Told) → IfSome told (λ t. AreNamedApart t → BeganWith state config t r) → IfSome told (λ t. AreNamedApart t → BeganWith state config t q)
         still None began = tt
@@ -97,7 +99,7 @@ module _ {D S : Type 0} (T : Type 0) (state : D → State) (tells : Bool) (left 
   bay_left : q ≡ r → LeavesBay tells state config entry left_
   bay_left same =
       let closing = subst (λ (x : Rack D). HasClosedRack state tells config opened left_ x Q) same c in
-      leaves_bay tells state config entry opened left_ r o.is o.refused c.counts o.began o.there o.kept o.apart o.fresh closing.kept closing.volumes closing.sound
+      leaves_bay tells state config entry opened left_ r o.is o.refused c.counts o.apart c.faulty o.began o.there o.kept o.fresh closing.kept closing.parts closing.volumes closing.sound
 
   abbrev Ran : Result T Stop → (faults'' : ℕ) → (printed'' : Option (List ℕ)) → Type 0
   Ran done faults'' printed'' = Replays tells left config options start now entry left_ done faults faults'' printed printed''
@@ -110,7 +112,7 @@ module _ {D S : Type 0} (T : Type 0) (state : D → State) (tells : Bool) (left 
       let rest : q.rest ≡ r.rest = ap (λ (x : Rack D). x.rest) none.same in
       let news : AreStations q.stations.items = subst (λ (x : Rack D). AreStations x.stations.items) (sym none.same) (stations first) in
       subst (λ (x : Stop). Ran (Err x) faults' printed') same
-      (replays_none T state tells left config options start now entry opened left_ r q o.is (count first) (some first) (all_out first) o.began o.apart Q c.told o.counts c.stations o.fresh (o.unfaulty (all_out first))
+      (replays_none T state tells left config options start now entry opened left_ r q o.is (count first) (some first) (all_out first) o.began (λ telling. o.apart) Q c.told o.counts c.stations o.fresh (o.unfaulty (all_out first))
       (sound_still first rest (ap (λ (x : Rack D). locks_of x.stations.items) none.same) news) faults faults' printed printed' none news)
   served_err result (served done first before moved from) e is open_ = at done from.served is
     where
@@ -120,14 +122,14 @@ module _ {D S : Type 0} (T : Type 0) (state : D → State) (tells : Bool) (left 
       at (Err y) w is =
           let same : y ≡ e = cc is in
           subst (λ (x : Stop). Ran (Err x) faults' printed') same
-          (replays_some T state tells left config options start now entry opened left_ r q o.is (count first) (some first) (all_out first) o.began o.apart Q c.told o.counts c.stations o.fresh (o.unfaulty (all_out first))
+          (replays_some T state tells left config options start now entry opened left_ r q o.is (count first) (some first) (all_out first) o.began (λ telling. o.apart) Q c.told o.counts c.stations o.fresh (o.unfaulty (all_out first))
           (sound_still first (ap (λ (x : Rack D). x.rest) from.only) (from.locks ∙ moved.locks) from.can.each) faults faults' printed printed' before moved done from y w)
 
   pub replayed_err : (result : Result Counted Stop) → RunsIn tells left config options start now r q faults faults' printed printed' result → (e : Stop) → result ≡ Err e → Comes (Err e) faults' printed'
   replayed_err result (closed f first none) e is =
       let same : stop.Fault f ≡ e = cc is in
       subst (λ (x : Stop). Comes (Err x) faults' printed') same
-      (runs_closed {T = T} tells state left config options start now entry opened left_ r q faults faults' printed printed' f o.is o.refused o.failed c.cause o.counts c.counts o.began first none (bay_left none.same))
+      (runs_closed {T = T} tells state left config options start now entry opened left_ r q faults faults' printed printed' f o.is o.refused o.failed c.cause o.counts c.counts o.apart c.faulty o.began first none (bay_left none.same))
   replayed_err result (no_memory first none) e is = ran (Err e) (served_err result (no_memory first none) e is first)
   replayed_err result (served done first before moved from) e is = ran (Err e) (served_err result (served done first before moved from) e is first)
 
@@ -145,7 +147,7 @@ module _ {D S : Type 0} (T : Type 0) (state : D → State) (tells : Bool) (left 
       at (Ok d) w is =
           let same : d ≡ counted = cc is in
           let here = subst (λ (x : Counted). ServesWhole tells left config options start now before r.keepers.items from.after q.keepers.items x faults faults' printed printed') same w in
-          replays_whole T state tells left config options start now entry opened left_ r q o.is (count first) (some first) (all_out first) o.began o.apart Q c.told o.counts c.stations o.fresh (o.unfaulty (all_out first))
+          replays_whole T state tells left config options start now entry opened left_ r q o.is (count first) (some first) (all_out first) o.began (λ telling. o.apart) Q c.told o.counts c.stations o.fresh (o.unfaulty (all_out first))
           (sound_still first (ap (λ (x : Rack D). x.rest) from.only) (from.locks ∙ moved.locks) from.can.each) faults faults' printed printed' before moved whole from counted here spindles sized each closed_ o.fresh_keepers done faults'' printed'' prints
 
   pub replayed_ok : (result : Result Counted Stop) → RunsIn tells left config options start now r q faults faults' printed printed' result → (counted : Counted) → result ≡ Ok counted → (spindles : List SpindleView)

@@ -1,5 +1,5 @@
 -- Why not all requests of the last window were answered: a part of the volume failed, or its versions ended.
-use Rattle.std.proofs.Common.{◌≡◌, ◌≢◌, ◌<◌, ◌^◌, ℕ, Bool, true, List, [], ◌∷◌, Option, None, Some, refl, sym, ap, subst, ◌∙◌, append-nil}
+use Rattle.std.proofs.Common.{◌≡◌, ◌≢◌, ◌<◌, ◌≤◌, ◌^◌, ℕ, Bool, true, List, [], ◌∷◌, Option, None, Some, refl, sym, ap, subst, ◌∙◌, append-nil, arith}
 use Rattle.std.specs.Prelude.{IsTrue, is_some, slice_get}
 use Rattle.std.specs.List.{AllByRecursion}
 use Rattle.std.specs.Option.{option_map_or}
@@ -9,7 +9,8 @@ use Rattle.wol_bay.specs.Bay.{BayState}
 use Rattle.wol_model.specs.Blocks.{Write}
 use Rattle.wol_model.specs.History.{flight_of, worker}
 use Rattle.wol_promise.specs.Outcomes.{Answered}
-use Rattle.wol_promise.specs.Ruled.{entries_of}
+use Rattle.wol_promise.specs.Report.{logged_writes}
+use Rattle.wol_promise.specs.Ruled.{AreRuled, entries_of}
 use Rattle.run_laws.specs.Answers.{answers_of}
 use Rattle.run_laws.specs.Laws.{AreAllAnswered}
 use Rattle.wol_config.specs.declared.config.Config.{Config}
@@ -17,6 +18,7 @@ use Rattle.manager.specs.declared.station.Station.{Station}
 use Rattle.report.specs.declared.fault.Fault.{Fault}
 use Rattle.report.specs.declared.fault.Fault.TheVariants as fault
 use Rattle.rack.specs.declared.rack.ImageRest.{ImageRest}
+use Rattle.manager.specs.Stands.{notes_of}
 use Rattle.request_turns.specs.Turns.{IsBroken, ManagerPass}
 use Rattle.request_workers.specs.Requests.{answers_to}
 use Rattle.request_workers.specs.declared.request.Reclaim.{Reclaim}
@@ -25,6 +27,8 @@ use Rattle.replay.specs.Histories.{History, answers_in, is_broken_at, next_after
 use Rattle.replay.specs.Served.{ServedWindow}
 use Rattle.replay.proofs.HistoriesLeft.{IsHistoryAt}
 use Rattle.replay.proofs.LastWindow.{IsBelow, last_answered}
+use Rattle.replay.proofs.PassesRuled.{IsRuled}
+use Rattle.replay.proofs.SpentLeft.{versions_ended}
 use Rattle.replay.proofs.TracesLeft.{LastServed}
 
 -- ---- The last window
@@ -56,3 +60,13 @@ module _ {D : Type 0} (tells : Bool) (mode : Reclaim) (config : Config) (out : L
 
       low : next_after h < 2 ^ 63
       low = subst (λ (o : Option History). option_map_or next_after o 0 < 2 ^ 63) here few
+
+  -- where its versions ended the window, its writes to logs took all of them
+  pub spent_last : fault_of_window s.batch.requests s.answer ≡ Some (fault.Versions v) → AreRuled h.base.look h.notes → AllByRecursion IsRuled h.notes → h.base.look.next ≡ h.base.next → 2 ^ 63 ≤ next_at histories v
+  spent_last ended rules all opened =
+      let least = versions_ended tells mode v s.batch.requests s.answer served.before served.after served.worked at.closed.entries
+      (subst (λ (p : ManagerPass D). Begins (pass_seen p) at.closed.entries) served.same at.closed.worker_part.seen) ended h.base.look
+      (subst (λ (x : History). AreRuled h.base.look x.notes) at.is rules) (subst (λ (x : History). AllByRecursion IsRuled x.notes) at.is all) in
+      let logged : logged_writes h.notes ≡ logged_writes (notes_of at.closed.entries) = ap (λ (x : History). logged_writes x.notes) at.is in
+      let now : next_at histories v ≡ next_after h = ap (λ (o : Option History). option_map_or next_after o 0) here in
+      omega (arith, least, logged, now, opened)

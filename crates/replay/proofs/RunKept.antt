@@ -21,13 +21,14 @@ use Rattle.trace_gen.specs.Generated.{target_of, targets_of}
 use Rattle.trace_windows.specs.Requests.{most_of}
 use Rattle.manager.specs.declared.station.Station.{Station}
 use Rattle.report.specs.declared.fault.Fault.{Fault}
-use Rattle.report.specs.declared.fault.Fault.TheVariants.{Memory}
+use Rattle.report.specs.declared.fault.Fault.TheVariants.{Memory, Versions}
 use Rattle.rack.specs.Closes.{IsClosedVolume}
 use Rattle.rack.specs.Opens.{BeganWith, KeepsAllSound}
 use Rattle.rack.specs.Racks.{AreUnused, IsUnused, base_of_station}
 use Rattle.rack.specs.Rests.{IsImageOut}
 use Rattle.rack.specs.declared.rack.Rack.{Rack}
 use Rattle.rack.specs.declared.rack.Rest.{Rest}
+use Rattle.request_workers.specs.Requests.{answers_to}
 use Rattle.request_workers.specs.Stations.{AreStations, IsMoved}
 use Rattle.request_workers.specs.declared.floor.Floor.{Floor}
 use Rattle.request_workers.specs.declared.request.Reclaim.{Reclaim}
@@ -42,7 +43,10 @@ use Rattle.replay.proofs.FlightEnded.{StationFlew, station_flew, station_still}
 use Rattle.replay.proofs.HistoriesLeft.{passes_numbered, histories_of}
 use Rattle.replay.proofs.RacksServed.{a_member, at_place}
 use Rattle.replay.proofs.ReclaimedLeft.{closed_idle, last_of, none_helped}
-use Rattle.replay.proofs.RunCounts.{answered_last}
+use Rattle.replay.proofs.CountsLeft.{answers_joined}
+use Rattle.replay.proofs.LastWindow.{part_left, part_right}
+use Rattle.replay.proofs.RunCounts.{answered_last, spent_last}
+use Rattle.replay.proofs.SpentLeft.{spent_request, spent_within}
 use Rattle.replay.proofs.RunImages.{run_images}
 use Rattle.replay.proofs.RunCauses.{run_cause}
 use Rattle.replay.proofs.RunLeft.{at_volume, histories, its_history, run_begun, run_below, run_histories, run_marks, run_ruled}
@@ -73,6 +77,8 @@ pub record RunKept (tells : Bool) (config : Config) (mode : Reclaim) (entry open
   -- of the last window all requests of a volume were answered, where none of its parts failed and it had versions left
   pub unless : (s : ServedWindow) → last ≡ s ∷ [] → (f : Fault) → fault_of_window s.batch.requests s.answer ≡ Some f → f ≢ Memory → (v : ℕ) → (IsTrue (is_broken_at kept v) → ⊥) → next_at kept v < 2 ^ 63
       → AreAllAnswered (answers_of v (answers_in last))
+  -- where the versions of a volume ended it, none was left
+  pub spent : (s : ServedWindow) → last ≡ s ∷ [] → (v : ℕ) → fault_of_window s.batch.requests s.answer ≡ Some (Versions v) → 2 ^ 63 ≤ next_at kept v
 
 module _ {D : Type 0} (state : D → State) (tells : Bool) (config : Config) (entry opened left_ : BayState) (r q : Rack D) (rest : q.rest ≡ r.rest) (counted : length r.stations.items ≡ length (shapes_of config))
     (all_out : (k : ℕ) → k < length (shapes_of config) → IsImageOut r.rest.images.items k)
@@ -140,6 +146,25 @@ module _ {D : Type 0} (state : D → State) (tells : Bool) (config : Config) (en
     within_here = each_within (length hs) (answers_in (earlier ++ last)) (subst (λ (n : ℕ). AllByRecursion (λ (x : Request). x.volume < n) (requests_in (answers_in (earlier ++ last)))) (sym (are_here.count ∙ target_count))
         (subst (λ (rs : List Request). AllByRecursion (λ (x : Request). x.volume < length (targets_of config)) rs) (sym all_asked) (requests_of_volumes (most_of config) (targets_of config) run)))
 
+    spent_here : (s : ServedWindow) → last ≡ s ∷ [] → (v : ℕ) → fault_of_window s.batch.requests s.answer ≡ Some (Versions v) → 2 ^ 63 ≤ next_at hs v
+    spent_here s is v ended = elim (cases_lt v (length hs)) [
+      | inl lt ↦
+          let (h, here) = a_member hs v lt in
+          let at = its_history state tells config entry opened left_ r q rest locks_same count all_out began told_open Q told_left closed stations (answers_in (earlier ++ last)) ran first others v h here in
+          let number = (passes_numbered tells config q.rest.images.items opened left_ q.stations.items closed stations (answers_in (earlier ++ last)) ran v at.station at.there).0 in
+          spent_last tells mode config q.rest.images.items opened left_ q.stations.items hs v h here at number
+          (run_below state tells config entry opened left_ r q rest locks_same count all_out began told_open Q told_left closed stations (answers_in (earlier ++ last)) ran first others v h here)
+          s (run_last tells mode config r.stations.items q.stations.items before middle after ps qs moved back locks sized numbers fresh run earlier last are well one served ends s is v at.station at.there) ended
+          (are_here.each v h here).legal.ruled
+          (run_ruled state tells config entry opened left_ r q rest locks_same count all_out began told_open Q told_left closed stations (answers_in (earlier ++ last)) ran first others v h here) (are_here.each v h here).opening.next
+      | inr beyond ↦
+          let all = subst (λ (l : List Answered). AllByRecursion (λ (a : Answered). a.request.volume < length hs) l) (answers_joined earlier last) within_here in
+          let of_last = subst (λ (l : List ServedWindow). AllByRecursion (λ (a : Answered). a.request.volume < length hs) (answers_in l)) is (part_right (λ (a : Answered). a.request.volume < length hs) (answers_in earlier) (answers_in last) all) in
+          let own_all = part_left (λ (a : Answered). a.request.volume < length hs) (answers_to s.batch.requests s.answer.outcomes.items) [] of_last in
+          let less = spent_within (length hs) s.batch.requests s.answer.outcomes.items v (spent_request s.batch.requests s.answer v ended) own_all in
+          absurd (omega (arith, beyond, less))
+    ]
+
     reclaims_here : LeavesReclaimed mode (earlier ++ last) hs
     reclaims_here = record {
       idle = λ some nonempty v h here whole. (
@@ -178,6 +203,7 @@ module _ {D : Type 0} (state : D → State) (tells : Bool) (config : Config) (en
           (run_begun state tells config entry opened left_ r q rest locks_same count all_out began told_open Q told_left closed stations (answers_in (earlier ++ last)) ran first others told) (sound told) (told_left told);
       well = run_well tells mode config r.stations.items q.stations.items before middle after ps qs moved back locks sized numbers fresh run earlier last are well one served ends;
       unless = unless_here;
+      spent = spent_here;
     }
 
     -- these are the histories of the closed volumes
@@ -232,6 +258,7 @@ module _ {D : Type 0} (state : D → State) (tells : Bool) (config : Config) (en
           (run_begun state tells config entry opened left_ r q rest (ap locks_of same) (ap length same ∙ counted) all_out began told_open Q told_left closed stations [] none_ran (λ v. refl) (λ v beyond. refl) told) (sound told) (told_left told);
       well = λ v. tt;
       unless = λ s is. absurd (cc is);
+      spent = λ s is. absurd (cc is);
     }
 
     pub none_is : (none : requests (most_of config) (targets_of config) [] ≡ []) (mode : Reclaim) → (kept_none none mode).kept ≡ histories_of tells config q.rest.images.items opened left_ q.stations.items closed

@@ -1,5 +1,5 @@
 -- Replaying a trace on a rack all of whose volumes are open.
-use Rattle.std.proofs.Common.{◌≡◌, ◌≢◌, ◌<◌, ◌≤◌, ℕ, Bool, false, List, [], ◌∷◌, ◌++◌, length, Option, Some, Result, Ok, Err, refl, sym, ap, subst, ◌∙◌, append-nil, inl, inr, arith}
+use Rattle.std.proofs.Common.{◌≡◌, ◌≢◌, ◌<◌, ◌≤◌, ◌^◌, ℕ, Bool, false, List, [], ◌∷◌, ◌++◌, length, Option, Some, Result, Ok, Err, refl, sym, ap, subst, ◌∙◌, append-nil, inl, inr, arith}
 use Rattle.std.specs.List.{AllByRecursion}
 use Rattle.std.specs.Prelude.{All, IfSome, IsTrue, slice_get, slice_index_or}
 use Rattle.std.proofs.lemmas.List.{length-map}
@@ -17,7 +17,7 @@ use Rattle.report.specs.Faults.{status_of}
 use Rattle.report.specs.Names.{printed_names}
 use Rattle.report.specs.Summaries.{summary_text}
 use Rattle.report.specs.declared.fault.Fault.{Fault}
-use Rattle.report.specs.declared.fault.Fault.TheVariants.{Memory, Volume}
+use Rattle.report.specs.declared.fault.Fault.TheVariants.{Memory, Versions, Volume}
 use Rattle.report.specs.declared.trouble.Trouble.{Trouble}
 use Rattle.msr_trace.specs.declared.format.TraceFault.{TraceFault}
 use Rattle.msr_trace.specs.declared.format.TraceFault.TheVariants as trace
@@ -37,12 +37,12 @@ use Rattle.request_workers.specs.declared.request.Reclaim.{Reclaim}
 use Rattle.request_workers.specs.declared.request.Reclaim.TheVariants as reclaim
 use Rattle.replay.specs.Ended.{memory}
 use Rattle.replay.specs.Givens.{HasGiven}
-use Rattle.replay.specs.Histories.{CountAnswered, History, answers_in, is_broken_at}
+use Rattle.replay.specs.Histories.{CountAnswered, History, answers_in, is_broken_at, next_at}
 use Rattle.replay.specs.Prints.{CutsLines, PrintsText, all_amounts}
 use Rattle.replay.specs.Replays.{Replays, status_in}
 use Rattle.replay.specs.Runs.{RunsNone, ServesFrom}
 use Rattle.replay.specs.Served.{ServedFromStart, ServedWindow}
-use Rattle.replay.specs.Sessions.{AreWindowsOf, EndsBy, ServesSome, ServesWhole, WentWell, lines_of_window}
+use Rattle.replay.specs.Sessions.{AreWindowsOf, EndsBy, ServesSome, ServesWhole, WentWell, at_end, lines_of_window}
 use Rattle.replay.specs.Summed.{PrintsRun, lines_asked, of_all, of_none}
 use Rattle.replay.specs.declared.counting.Counted.{Counted}
 use Rattle.replay.specs.declared.given.Given.{Given}
@@ -86,6 +86,24 @@ no_windows : (config : Config) → AreWindowsOf config [] []
 unfolding windows
 no_windows config = tt
 
+-- ---- Faults for which no volume had a version left
+
+trace_versions : (refusal : TraceFault) (v : ℕ) → stop.Fault (fault_of_trace refusal) ≡ stop.Fault (Versions v) → ⊥
+trace_versions trace.Source v is = absurd (cc is)
+trace_versions (trace.Bad line why) v is = absurd (cc is)
+trace_versions trace.Spent v is = absurd (cc is)
+trace_versions trace.NoMemory v is = absurd (cc is)
+
+cut_versions : (e : Stop) (lines : List (List ℕ)) (faults faults' : ℕ) (printed new : Option (List ℕ)) (v : ℕ) → CutsLines e lines faults faults' printed new → e ≡ stop.Fault (Versions v) → ⊥
+cut_versions stop.Sink lines faults faults' printed new v cuts is = absurd (cc is)
+cut_versions (stop.Fault f) lines faults faults' printed new v (memory_is, calm, some) is = let no : stop.Fault Memory ≡ stop.Fault (Versions v) = ap (λ (x : Fault). stop.Fault x) (sym memory_is) ∙ is in absurd (cc no)
+
+text_versions : {T : Type 0} (done : Result T Stop) (text : List ℕ) (faults faults' : ℕ) (printed new : Option (List ℕ)) (v : ℕ) → PrintsText done text faults faults' printed new → done ≡ Err (stop.Fault (Versions v)) → ⊥
+text_versions (Ok x) text faults faults' printed new v prints is = absurd (cc is)
+text_versions (Err stop.Sink) text faults faults' printed new v prints is = absurd (cc is)
+text_versions (Err (stop.Fault f)) text faults faults' printed new v (memory_is, calm, keeps) is =
+    let same : f ≡ Versions v = cc is in let no : Memory ≡ Versions v = sym memory_is ∙ same in absurd (cc no)
+
 -- ---- How a window ended a run
 
 module _ {D S : Type 0} (T : Type 0) (tells : Bool) (left : S → Option (List ℕ)) (config : Config) (options : Options) (start now : Given S) (entry opened left_ : BayState) (run more : List (Option TraceLine)) (earlier : List ServedWindow)
@@ -113,6 +131,16 @@ module _ {D S : Type 0} (T : Type 0) (tells : Bool) (left : S → Option (List �
       at stop.Sink cut = counts_cut earlier (s ∷ []) kept.kept kept.well 7 (λ is. absurd (cc is)) (λ not_7 not_9. not_7 refl)
       at (stop.Fault f) cut = counts_cut earlier (s ∷ []) kept.kept kept.well (status_of f) (not_success f) (λ not_7 not_9. not_9 (ap status_of cut.0))
   counts_some e (s ∷ t ∷ rest) ends kept = absurd ends
+
+  -- where versions ended it, a volume had none left
+  spent_some : (e : Stop) (last : List ServedWindow) → EndsBy tells left config options start e now run more last h ms g qs faults faults' printed new → (kept : RunKept tells config options.reclaim entry opened left_ run earlier last)
+      → (v : ℕ) → e ≡ stop.Fault (Versions v) → 2 ^ 63 ≤ next_at kept.kept v
+  spent_some e [] (calm, keeps, inl (refusal, other, is, none_more, refuses, floor, passes)) kept v named = absurd (trace_versions refusal v (sym is ∙ named))
+  spent_some e [] (calm, keeps, inr (is, not_run)) kept v named = let no : stop.Fault Memory ≡ stop.Fault (Versions v) = sym is ∙ named in absurd (cc no)
+  spent_some e (s ∷ []) (floor, passes, inl (f, told, is, calm, prints)) kept v named =
+      let same : f ≡ Versions v = cc (sym is ∙ named) in kept.spent s refl v (subst (λ (x : Fault). fault_of_window s.batch.requests s.answer ≡ Some x) same told)
+  spent_some e (s ∷ []) (floor, passes, inr cuts) kept v named = absurd (cut_versions e (lines_of_window config options s) faults faults' printed new v cuts named)
+  spent_some e (s ∷ t ∷ rest) ends kept v named = absurd ends
 
 -- ---- Faults that name no part
 
@@ -189,6 +217,7 @@ module _ {D S : Type 0} (T : Type 0) (state : D → State) (tells : Bool) (left 
         are = kept.are;
         cause = λ v broken. rose_from entry.faults opened.faults left_.faults opening (kept.cause v broken);
         part = λ v t is. (let no : stop.Fault Memory ≡ stop.Fault (Volume v t) = cc is in absurd (cc no));
+        spent = λ v is. (let no : stop.Fault Memory ≡ stop.Fault (Versions v) = cc is in absurd (cc no));
         begun = kept.begun;
         counts = counts_whole [] [] kept.kept kept.well 9 (λ v. tt);
         placed = placed_by tells config options.reclaim entry opened left_ [] [] [] kept [] (worked is_none runs stations);
@@ -329,6 +358,7 @@ module _ {D S : Type 0} (T : Type 0) (state : D → State) (tells : Bool) (left 
           are = kept.are;
           cause = λ v broken. rose_from entry.faults opened.faults left_.faults opening (kept.cause v broken);
           part = λ v t is. (subst (λ (hs : List History). IsTrue (is_broken_at hs v)) (sym is_kept) (part_by e w.run w.more w.earlier w.last w.middle w.between w.then w.ends w.from_start w.are v t (cc is)));
+          spent = λ v is. spent_some T tells left config options start now entry opened left_ w.run w.more w.earlier w.middle w.between from.after q.keepers.items faults faults' w.then printed' e w.last w.ends kept v (cc is);
           begun = kept.begun;
           counts = counts_some T tells left config options start now entry opened left_ w.run w.more w.earlier w.middle w.between from.after q.keepers.items faults faults' w.then printed' e w.last w.ends kept;
           placed = placed_by tells config options.reclaim entry opened left_ w.run w.earlier w.last kept awake worked;
@@ -380,7 +410,7 @@ module _ {D S : Type 0} (T : Type 0) (state : D → State) (tells : Bool) (left 
           last = [];
           windows_ = are;
           one = omega arith;
-          whole = λ some. absurd (some refl);
+          whole = λ some. at_end w.all;
           well = w.well;
           asked = kept.asked;
           ends = ends_summed left config start now w.lines [] entry.faults left_.faults text done faults faults' faults'' printed' printed'' refl w.all w.calm prints;
@@ -388,6 +418,7 @@ module _ {D S : Type 0} (T : Type 0) (state : D → State) (tells : Bool) (left 
           are = kept.are;
           cause = λ v broken. rose_from entry.faults opened.faults left_.faults opening (kept.cause v broken);
           part = λ v t is. absurd (text_other done text faults' faults'' printed' printed'' v t prints is);
+          spent = λ v is. absurd (text_versions done text faults' faults'' printed' printed'' v prints is);
           begun = kept.begun;
           counts = counts_whole w.served [] kept.kept kept.well (status_in done) (λ v. tt);
           placed = placed_by tells config options.reclaim entry opened left_ w.lines w.served [] kept awake worked;

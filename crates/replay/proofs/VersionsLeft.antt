@@ -91,3 +91,20 @@ next_below l (n ∷ notes) most rules all none le =
     let step : n.look.next ≡ l.next + versioned (written_by n.entry.operation) = step_next n n.entry.pass n.entry.operation l n.look (rules.0 all.0) here in
     let joined : logged_writes (n ∷ notes) ≡ versioned (written_by n.entry.operation) + logged_writes notes = versioned_joined (written_by n.entry.operation) (writes (entries_of notes)) in
     (omega (arith, step, joined, le), next_below n.look notes most rules.1 all.1 rest (omega (arith, step, joined, le)))
+
+-- an entry behind which no call had failed leaves a next version that isn't above the one at the end, whatever comes behind it
+pub next_at_most : (l : Look) (front : List Noted) (n : Noted) (later : List Noted) → AreRuled l (front ++ n ∷ later) → AllByRecursion IsRuled (front ++ n ∷ later) → flight_of (entries_of (front ++ n ∷ [])) ≡ None
+    → n.look.next ≤ l.next + logged_writes (front ++ n ∷ later)
+unfolding versioned
+next_at_most l [] n later rules all none =
+    let (here, rest) = unbroken n [] none in
+    let step : n.look.next ≡ l.next + versioned (written_by n.entry.operation) = step_next n n.entry.pass n.entry.operation l n.look (rules.0 all.0) here in
+    let joined : logged_writes (n ∷ later) ≡ versioned (written_by n.entry.operation) + logged_writes later = versioned_joined (written_by n.entry.operation) (writes (entries_of later)) in
+    omega (arith, step, joined)
+next_at_most l (m ∷ front) n later rules all none =
+    let (here, rest) = unbroken m (front ++ n ∷ []) none in
+    let step : m.look.next ≡ l.next + versioned (written_by m.entry.operation) = step_next m m.entry.pass m.entry.operation l m.look (rules.0 all.0) here in
+    let joined : logged_writes (m ∷ (front ++ n ∷ later)) ≡ versioned (written_by m.entry.operation) + logged_writes (front ++ n ∷ later)
+    = versioned_joined (written_by m.entry.operation) (writes (entries_of (front ++ n ∷ later))) in
+    let more = next_at_most m.look front n later rules.1 all.1 rest in
+    omega (arith, step, joined, more)

@@ -1,5 +1,5 @@
 -- What replaying a trace on all volumes of a bay comes to, where all of them are open.
-use Rattle.std.specs.Prelude.{◌≡◌, ◌≢◌, ◌≤◌, ◌++◌, ℕ, Bool, false, List, [], length, Option, Result, Ok, Err, IsTrue}
+use Rattle.std.specs.Prelude.{◌≡◌, ◌≢◌, ◌≤◌, ◌^◌, ◌++◌, ℕ, Bool, false, List, [], length, Option, Result, Ok, Err, IsTrue}
 use Rattle.std.specs.List.{AllByRecursion}
 use Rattle.wol_disk.specs.Disk.{Rose, State}
 use Rattle.wol_bay.specs.Bay.{BayState}
@@ -8,7 +8,7 @@ use Rattle.run_laws.specs.Answers.{requests_in}
 use Rattle.wol_config.specs.declared.config.Config.{Config}
 use Rattle.volume_images.specs.Left.{IsTold}
 use Rattle.report.specs.Faults.{status_of}
-use Rattle.report.specs.declared.fault.Fault.TheVariants.{Memory, Volume}
+use Rattle.report.specs.declared.fault.Fault.TheVariants.{Memory, Versions, Volume}
 use Rattle.report.specs.declared.trouble.Trouble.{Trouble}
 use Rattle.trace_gen.specs.Generated.{targets_of}
 use Rattle.trace_windows.specs.Requests.{most_of}
@@ -16,7 +16,7 @@ use Rattle.troubles.specs.Troubles.{trouble_of}
 use Rattle.rack.specs.declared.volume_fault.VolumeFault.{VolumeFault}
 use Rattle.replay.specs.Ended.{EndsFor}
 use Rattle.replay.specs.Givens.{HasGiven}
-use Rattle.replay.specs.Histories.{History, AreHistories, ArePlainMarks, BeginAsRead, CountAnswered, LeavesReclaimed, answers_in, is_broken_at}
+use Rattle.replay.specs.Histories.{History, AreHistories, ArePlainMarks, BeginAsRead, CountAnswered, LeavesReclaimed, answers_in, is_broken_at, next_at}
 use Rattle.replay.specs.Leaves.{LeavesImages}
 use Rattle.replay.specs.NotOpened.{AsksNone, IsFirstClosed, LeavesBay}
 use Rattle.replay.specs.Placed.{CountsPlaced, CountsReclaimed}
@@ -48,8 +48,8 @@ pub record Replays {S T : Type 0} (tells : Bool) (left : S → Option (List ℕ)
   pub last : List ServedWindow
   pub windows_ : AreWindowsOf config run (earlier ++ last)
   pub one : length last ≤ 1
-  -- the window in which it ended is whole
-  pub whole : last ≢ [] → EndsWithWindow left config start now run more
+  -- the last window that was served is whole
+  pub whole : earlier ++ last ≢ [] → EndsWithWindow left config start now run more
   pub well : AllByRecursion WentWell earlier
   -- the requests of the windows are those of the lines
   pub asked : requests_in (answers_in (earlier ++ last)) ≡ requests (most_of config) (targets_of config) run
@@ -60,6 +60,8 @@ pub record Replays {S T : Type 0} (tells : Bool) (left : S → Option (List ℕ)
   pub cause : (v : ℕ) → IsTrue (is_broken_at histories v) → Rose old.faults new.faults
   -- where a part of a volume is at fault, a call of that very volume failed
   pub part : (v : ℕ) (t : Trouble) → result ≡ Err (stop.Fault (Volume v t)) → IsTrue (is_broken_at histories v)
+  -- where versions ended a run, a volume's writes to logs took all of them, whatever failed afterwards
+  pub spent : (v : ℕ) → result ≡ Err (stop.Fault (Versions v)) → 2 ^ 63 ≤ next_at histories v
   pub begun : IsTrue tells → IsTold (λ entry left_. BeginAsRead config entry histories) old.told new.told
   pub counts : CountAnswered (answers_in earlier) (answers_in (earlier ++ last)) (status_in result) histories
   -- the writes that are counted are those of the histories

@@ -105,9 +105,9 @@ AreServedOf config ws ss = AreServedFrom config 0 ws ss
 abbrev pub AreWindowsOf : Config → (run : List (Option TraceLine)) → List ServedWindow → Type 0
 AreWindowsOf config run ss = AreServedOf config (windows (most_of config) (targets_of config) run) ss
 
--- The last window of the lines `run` has all of its lines: the next line opens a further one, or no line comes any more.
+-- The last window of the lines `run` has all of its lines: the line behind them opens a further one, or none comes any more.
 pub data EndsWithWindow {S : Type 0} (left : S → Option (List ℕ)) (config : Config) (start now : Given S) (run more : List (Option TraceLine)) : Type 0 where
-  opens : (line : Option TraceLine) (w : Window) → more ≡ line ∷ [] → windows (most_of config) (targets_of config) (run ++ line ∷ []) ≡ windows (most_of config) (targets_of config) run ++ w ∷ [] → EndsWithWindow left config start now run more
+  opens : (line : Option TraceLine) (rest : List (Option TraceLine)) (w : Window) → more ≡ line ∷ rest → windows (most_of config) (targets_of config) (run ++ line ∷ []) ≡ windows (most_of config) (targets_of config) run ++ w ∷ [] → EndsWithWindow left config start now run more
   at_end : HasGivenAll left (targets_of config) start now run → EndsWithWindow left config start now run more
   at_refusal : (refusal : TraceFault) → refusal ≢ trace.NoMemory → Refuses left refusal start now run → EndsWithWindow left config start now run more
 
@@ -208,8 +208,8 @@ module _ {D S : Type 0} (tells : Bool) (left : S → Option (List ℕ)) (config 
     pub earlier : List ServedWindow
     pub last : List ServedWindow
     pub are : AreWindowsOf config run (earlier ++ last)
-    -- the window behind which the run ended is whole
-    pub whole : last ≢ [] → EndsWithWindow left config start now run more
+    -- the last window that was served is whole
+    pub whole : earlier ++ last ≢ [] → EndsWithWindow left config start now run more
     pub well : AllByRecursion WentWell earlier
     pub middle : Floor D
     pub between : List SpindlePass

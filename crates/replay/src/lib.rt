@@ -26,4 +26,4 @@ pub use given::Given;
 pub use laws::reopening_laws;
 pub use run::replay;
 pub use session::Options;
-pub use stop::Stop;
+pub use stop::{Stop, fault_of_trace};

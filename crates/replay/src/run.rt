@@ -3,7 +3,9 @@ ghost use Rattle.std.specs.Prelude.{◌≡◌, ◌≤◌, ◌^◌, [], length, N
 ghost use Rattle.wol_bay.specs.Bay.{outs};
 ghost use Rattle.wol_disk.specs.Disk.{Rose};
 ghost use Rattle.wol_config.specs.Configs.{IsValid};
+ghost use Rattle.volume_images.specs.Left.{IsTold};
 ghost use Rattle.volume_images.specs.Volumes.{NoneOut};
+ghost use Rattle.rack.specs.Opens.{KeepsOthers};
 ghost use Rattle.replay.specs.Account.{KeepsAccount};
 ghost use Rattle.replay.specs.Headline.{KeepsHeadline};
 ghost use Rattle.replay.specs.Givens.{IsNew, IsWithin, faults_of, borrow_of};
@@ -159,6 +161,7 @@ where
     // each exit
     ensures home { NoneOut config.now (B.state bay.new) }
     ensures outs { outs (B.state bay.new) ≡ outs (B.state bay.old) }
+    ensures others { IsTold (KeepsOthers config.now) (B.state bay.old).told (B.state bay.new).told }
     ensures counts { (B.state bay.old).faults ≤ (B.state bay.new).faults }
     ensures replays { Replayed B.Part.tells B.Part.state S.left config.now options given.old given.new (B.state bay.old) (B.state bay.new) (K.faults out.old) (K.faults out.new) (K.taken out.old) (K.taken out.new) result }
     ensures later { K.faults out.old ≤ K.faults out.new }

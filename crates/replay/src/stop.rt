@@ -35,7 +35,7 @@ impl From<NoMemory> for Stop {
 }
 
 /// What is told of a trace that gives no further line.
-pub(crate) fn fault_of_trace(fault: TraceFault) -> Fault
+pub fn fault_of_trace(fault: TraceFault) -> Fault
     ensures { result ≡ fault_of_trace fault }
 {
     match fault {

@@ -36,7 +36,7 @@ use Rattle.request_turns.specs.declared.outcome.Outcome.TheVariants as outcome
 use Rattle.request_turns.specs.declared.tally.Tally.{Tally}
 use Rattle.request_turns.proofs.Counting.{entry_quiet, entry_taken, taken_then, more_of}
 use Rattle.request_turns.proofs.Merging.{merged}
-use Rattle.request_turns.proofs.WriteNotes.{one_flight, write_fault}
+use Rattle.request_turns.proofs.WriteNotes.{one_flight, was_spent, write_fault}
 
 none_covered : (xs : List ℕ) → list_any (is_covered []) xs ≡ false
 none_covered [] = refl
@@ -123,14 +123,15 @@ pub has_drained : {D : Type 0} (tells : Bool) (state : D → State) (old new : M
     → look_of_manager old ≡ drained (last_look (began p).look (notes_seen p)) → place_of passed (last_look (began p).look (notes_seen p)) (home_write first blocks) ≡ Nowhere
     → IsPlaceOf view a (ruled_place old new first blocks) → HasLook (ruled_place old new first blocks) (home_write first blocks) a (look_of_manager old) (look_of_manager new)
     → ((d : Part) → (a ≡ Err (Down d)) ↔ (old.down ≡ Some d)) → ((a ≡ Err VersionsSpent) ↔ ((old.down ≡ None) × (old.next ≡ 2 ^ 63))) → writing.TellsFault state a old new
-    → HasLeft tells (note_of (pass_number p) (written next first blocks a) (look_of_manager new) passed (is_ok a)) p q → (IsSome new.down → IsBroken (notes_seen q)) → HasWritten tells first blocks (written_outcome true a) t u p q
-has_drained tells state old new first blocks next passed view a p q done t u failed is_failed taken add stays bare full at look down spent told left broken = record {
+    → HasLeft tells (note_of (pass_number p) (written next first blocks a) (look_of_manager new) passed (is_ok a)) p q → (IsSome new.down → IsBroken (notes_seen q)) → (new.down ≡ None → IsBroken (notes_seen q) → ⊥) → HasWritten tells first blocks (written_outcome true a) t u p q
+has_drained tells state old new first blocks next passed view a p q done t u failed is_failed taken add stays bare full at look down spent told left broken unbroken = record {
   note = note_of (pass_number p) (written next first blocks a) (look_of_manager new) passed (is_ok a);
   left = left;
   ruled = refl;
   entry = drain_entry old new first blocks (pass_number p) next passed (last_look (began p).look (notes_seen p)) bare full view (began p).view a at look (λ e. (spent.0 e).1);
   stays = drain_stays old new first blocks (pass_number p) next passed (last_look (began p).look (notes_seen p)) bare full view a at look;
-  fault = write_fault state old new true (notes_seen q) a told down broken;
+  fault = write_fault state old new true (notes_seen q) a told down broken
+      (was_spent tells state old new (ruled_place old new first blocks) (home_write first blocks) (note_of (pass_number p) (written next first blocks a) (look_of_manager new) passed (is_ok a)) p q refl left a look told spent unbroken);
   counted = drain_counted old new first blocks (pass_number p) next passed (last_look (began p).look (notes_seen p)) bare full done t u taken failed add stays view a is_failed at look;
 }
 

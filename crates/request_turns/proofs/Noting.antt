@@ -1,5 +1,5 @@
 -- A turn's entry, coded and read back.
-use Rattle.std.proofs.Common.{◌≡◌, ℕ, Bool, List, [], ◌∷◌, ◌++◌, Option, None, Some, refl, sym, ap, subst, ◌∙◌}
+use Rattle.std.proofs.Common.{◌≡◌, ℕ, Bool, List, [], ◌∷◌, ◌++◌, true, false, Option, None, Some, refl, sym, ap, subst, ◌∙◌}
 use Rattle.std.specs.Prelude.{IsTrue, IsSome, is_some}
 use Rattle.std.proofs.lemmas.List.{map-append}
 use Rattle.turn_lock.specs.Histories.{Entry}
@@ -49,3 +49,9 @@ module _ {D : Type 0} (tells : Bool) (state : D → State) (m : Manager D) (p q 
 
   pub is_broken : IsSome m.down → IsBroken (notes_seen q)
   is_broken down = ap (λ (notes : List Noted). is_some (flight_of (entries_of notes))) now_seen ∙ sym s.keeps.upholds.is_down ∙ is_told m.down ∙ down
+
+  pub is_unbroken : m.down ≡ None → IsBroken (notes_seen q) → ⊥
+  is_unbroken up broken =
+      let down : is_some m.down ≡ true = sym (is_told m.down) ∙ s.keeps.upholds.is_down ∙ sym (ap (λ (notes : List Noted). is_some (flight_of (entries_of notes))) now_seen) ∙ broken in
+      let none : is_some m.down ≡ false = ap is_some up in
+      absurd (cc (down, none))

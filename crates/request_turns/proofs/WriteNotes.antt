@@ -2,7 +2,7 @@
 use Rattle.std.proofs.Common.{◌≡◌, ◌^◌, ℕ, Bool, true, false, List, [], ◌∷◌, ◌++◌, map, Option, None, Some, Result, Ok, Err, refl, sym, ap, subst, ◌∙◌, inl, inr}
 use Rattle.std.specs.Prelude.{IsSome, is_some, ◌↔◌}
 use Rattle.wol_disk.specs.Disk.{State, Block}
-use Rattle.turn_lock.specs.Passes.{pass_number}
+use Rattle.turn_lock.specs.Passes.{pass_number, pass_seen}
 use Rattle.wol_model.specs.Blocks.{Write}
 use Rattle.wol_model.specs.ArrayLaws.{unversioned}
 use Rattle.wol_model.specs.History.{Wrote, Kept, Broke}
@@ -14,7 +14,7 @@ use Rattle.wol_promise.specs.Ruled as ruled
 use Rattle.logger.specs.Lanes.{logger_of}
 use Rattle.manager.specs.Answers.{home_write, log_write, failed_write, written, IsPlaceOf}
 use Rattle.manager.specs.Seen.{look_of_manager}
-use Rattle.manager.specs.Stands.{IsNote, passed_in}
+use Rattle.manager.specs.Stands.{IsNote, notes_of, passed_in}
 use Rattle.manager.specs.Writing as writing
 use Rattle.manager.specs.Writing.{HasLook, ruled_place}
 use Rattle.manager.specs.declared.manager.Manager.{Manager}
@@ -28,11 +28,12 @@ use Rattle.manager.specs.Stands.{Keeps, Stands, Leaves}
 use Rattle.manager.specs.declared.base.ManagerBase.{ManagerBase}
 use Rattle.wol_model.specs.History.{worker}
 use Rattle.request_turns.specs.Counts.{CountsEntry}
-use Rattle.request_turns.specs.Entries.{note_of, full_note, written_outcome, is_full, IsWrittenAs, TellsFault}
+use Rattle.request_turns.specs.Entries.{note_of, full_note, written_outcome, is_full, IsWrittenAs, TellsFault, WasSpent}
 use Rattle.request_turns.specs.Turns.{ManagerPass, began, notes_seen, HasLeft, IsBroken, Stays}
 use Rattle.request_turns.specs.Written.{HasWritten}
 use Rattle.request_turns.specs.declared.tally.Tally.{Tally}
 use Rattle.request_turns.proofs.Counting.{entry_same, entry_quiet}
+use Rattle.request_turns.proofs.Noting.{notes_at}
 
 -- a part that failed had this payload in flight
 pub one_flight : (next first : ℕ) (blocks : List Block) (p : Part) → unversioned (failed_write next first blocks p) ≡ home_write first blocks
@@ -116,15 +117,32 @@ module _ {D : Type 0} (old new : Manager D) (first : ℕ) (blocks : List Block) 
   write_counted (Err VersionsSpent) look k is t = entry_same k (write_note (Err VersionsSpent)) t (λ _. ap (λ (j : Look). j.listed) (look ∙ sym is))
   write_counted (Err NoMemory) look k is t = entry_same k (write_note (Err NoMemory)) t (λ _. ap (λ (j : Look). j.listed) (look ∙ sym is))
 
+-- where a write is refused since no version is left, none is left behind its entry
+pub was_spent : {D : Type 0} (tells : Bool) (state : D → State) (old new : Manager D) (P : placing.Place) (w : Write) (n : Noted) (p q : ManagerPass D) → n.look ≡ look_of_manager new → HasLeft tells n p q → (a : Result Place WriteRefusal)
+    → HasLook P w a (look_of_manager old) (look_of_manager new) → writing.TellsFault state a old new → ((a ≡ Err VersionsSpent) ↔ ((old.down ≡ None) × (old.next ≡ 2 ^ 63))) → (new.down ≡ None → IsBroken (notes_seen q) → ⊥)
+    → a ≡ Err VersionsSpent → WasSpent (notes_seen q)
+was_spent {D} tells state old new P w n p q is_look left a look told spent unbroken is =
+    let seen : notes_seen q ≡ notes_seen p ++ n ∷ [] = ap notes_of left.seen ∙ notes_at (pass_seen p) n.entry.pass n refl in
+    let same : look_of_manager new ≡ look_of_manager old = subst (λ (r : Result Place WriteRefusal). HasLook P w r (look_of_manager old) (look_of_manager new)) is look in
+    let up : new.down ≡ None = subst (λ (r : Result Place WriteRefusal). writing.TellsFault state r old new) is told ∙ (spent.0 is).0 in
+    record {
+      front = notes_seen p;
+      note = n;
+      later = [];
+      seen_is = seen;
+      unbroken = λ broken. unbroken up (subst (λ (ns : List Noted). IsBroken ns) (sym seen) broken);
+      spent = ap (λ (k : Look). k.next) (is_look ∙ same) ∙ (spent.0 is).1;
+    }
+
 -- a refusal that tells of a part comes where the manager is down after the call
 pub write_fault : {D : Type 0} (state : D → State) (old new : Manager D) (drained : Bool) (seen : List Noted) (a : Result Place WriteRefusal) → writing.TellsFault state a old new
-    → ((p : Part) → (a ≡ Err (Down p)) ↔ (old.down ≡ Some p)) → (IsSome new.down → IsBroken seen) → TellsFault seen (written_outcome drained a)
-write_fault state old new drained seen (Ok p) told down broken = tt
-write_fault state old new drained seen (Err Full) told down broken = tt
-write_fault state old new drained seen (Err (DiskFault p)) told down broken = broken (ap is_some told.0)
-write_fault state old new drained seen (Err (Down p)) told down broken = broken (ap is_some (told ∙ (down p).0 refl))
-write_fault state old new drained seen (Err VersionsSpent) told down broken = tt
-write_fault state old new drained seen (Err NoMemory) told down broken = tt
+    → ((p : Part) → (a ≡ Err (Down p)) ↔ (old.down ≡ Some p)) → (IsSome new.down → IsBroken seen) → (a ≡ Err VersionsSpent → WasSpent seen) → TellsFault seen (written_outcome drained a)
+write_fault state old new drained seen (Ok p) told down broken spent = tt
+write_fault state old new drained seen (Err Full) told down broken spent = tt
+write_fault state old new drained seen (Err (DiskFault p)) told down broken spent = broken (ap is_some told.0)
+write_fault state old new drained seen (Err (Down p)) told down broken spent = broken (ap is_some (told ∙ (down p).0 refl))
+write_fault state old new drained seen (Err VersionsSpent) told down broken spent = spent refl
+write_fault state old new drained seen (Err NoMemory) told down broken spent = tt
 
 module _ {D : Type 0} (tells : Bool) (state : D → State) (old new : Manager D) (first : ℕ) (blocks : List Block) (a : Result Place WriteRefusal) (next : ℕ) (is_next : next ≡ old.next) where
   abbrev at_next : (pass : ℕ) → Noted
@@ -145,17 +163,21 @@ module _ {D : Type 0} (tells : Bool) (state : D → State) (old new : Manager D)
       → is_full a ≡ false → map logger_of old.lanes.items ≡ (began p).view → last_look (began p).look (notes_seen p) ≡ look_of_manager old
       → IsPlaceOf (map logger_of old.lanes.items) a (ruled_place old new first blocks) → HasLook (ruled_place old new first blocks) (home_write first blocks) a (look_of_manager old) (look_of_manager new)
       → ((d : Part) → (a ≡ Err (Down d)) ↔ (old.down ≡ Some d)) → ((a ≡ Err VersionsSpent) ↔ ((old.down ≡ None) × (old.next ≡ 2 ^ 63))) → writing.TellsFault state a old new
-      → HasLeft tells (note_of (pass_number p) (written next first blocks a) (look_of_manager new) (passed_in new.rooms.items) false) p q → (IsSome new.down → IsBroken (notes_seen q))
+      → HasLeft tells (note_of (pass_number p) (written next first blocks a) (look_of_manager new) (passed_in new.rooms.items) false) p q → (IsSome new.down → IsBroken (notes_seen q)) → (new.down ≡ None → IsBroken (notes_seen q) → ⊥)
       → HasWritten tells first blocks (written_outcome false a) t t p q
-  has_written p q t not_full view is at look down spent told left broken = record {
+  has_written p q t not_full view is at look down spent told left broken unbroken = record {
     note = write_note old new first blocks (pass_number p) a;
-    left = subst (λ (k : ℕ). HasLeft tells (note_of (pass_number p) (written k first blocks a) (look_of_manager new) (passed_in new.rooms.items) false) p q) is_next left;
+    left = left_here;
     ruled = refl;
     entry = write_entry old new first blocks (pass_number p) (began p).view a not_full (subst (λ (v : List ℕ). IsPlaceOf v a (ruled_place old new first blocks)) view at) look (λ e. (spent.0 e).1);
     stays = write_stays old new first blocks (pass_number p) a look (last_look (began p).look (notes_seen p)) is;
-    fault = write_fault state old new false (notes_seen q) a told down broken;
+    fault = write_fault state old new false (notes_seen q) a told down broken
+        (was_spent tells state old new (ruled_place old new first blocks) (home_write first blocks) (write_note old new first blocks (pass_number p) a) p q refl left_here a look told spent unbroken);
     counted = write_counted old new first blocks (pass_number p) a look (last_look (began p).look (notes_seen p)) is t;
   }
+    where
+      left_here : HasLeft tells (write_note old new first blocks (pass_number p) a) p q
+      left_here = subst (λ (k : ℕ). HasLeft tells (note_of (pass_number p) (written k first blocks a) (look_of_manager new) (passed_in new.rooms.items) false) p q) is_next left
 
 -- ---- A write that is refused as full
 

@@ -168,7 +168,16 @@ AreMade view (r ∷ rs) (o ∷ os) notes = (first rest : List Noted) × (notes �
 
 -- ---- Causes
 
--- a refusal that tells of a disk comes only where a disk call failed
+-- no version was left behind one of these entries, and no disk call had failed until then
+pub record WasSpent (seen : List Noted) : Type 0 where
+  pub front : List Noted
+  pub note : Noted
+  pub later : List Noted
+  pub seen_is : seen ≡ front ++ note ∷ later
+  pub unbroken : IsBroken (front ++ note ∷ []) → ⊥
+  pub spent : note.look.next ≡ 2 ^ 63
+
+-- a refusal that tells of a disk comes only where a disk call failed, and one for want of a version only where none was left before any failed
 abbrev pub TellsOfRead : ReadRefusal → List Noted → Type 0
 TellsOfRead (refused_read.DiskFault p) seen = IsBroken seen
 TellsOfRead (refused_read.Down p) seen = IsBroken seen
@@ -177,7 +186,7 @@ abbrev pub TellsOfWrite : WriteRefusal → List Noted → Type 0
 TellsOfWrite refused.Full seen = ⊤
 TellsOfWrite (refused.DiskFault p) seen = IsBroken seen
 TellsOfWrite (refused.Down p) seen = IsBroken seen
-TellsOfWrite refused.VersionsSpent seen = ⊤
+TellsOfWrite refused.VersionsSpent seen = WasSpent seen
 TellsOfWrite refused.NoMemory seen = ⊤
 
 abbrev pub TellsFault : List Noted → Outcome → Type 0

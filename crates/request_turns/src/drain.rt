@@ -102,6 +102,7 @@ fn leave_drained<D: Disk, B: Memo, N: Memo>(
     requires value { Stands D.tells D.state turn.value (pass_lock pass.old).base (notes_seen pass.old ++ N.note ∷ []) }
     ensures left { HasLeft D.tells N.note pass.old pass.new }
     ensures broken { IsSome turn.value.down → IsBroken (notes_seen pass.new) }
+    ensures unbroken { turn.value.down ≡ None → IsBroken (notes_seen pass.new) → ⊥ }
 {
     let _ = from;
     leave_noted::<D, N>(lock, turn, pass);

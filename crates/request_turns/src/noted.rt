@@ -1,5 +1,5 @@
 // How a turn ends: with an entry that the caller's proof names, with its notes.
-ghost use Rattle.std.specs.Prelude.{ℕ, ◌≡◌, ◌++◌, ◌∷◌, [], false, IsSome};
+ghost use Rattle.std.specs.Prelude.{ℕ, ◌≡◌, ◌++◌, ◌∷◌, [], false, IsSome, None};
 ghost use Rattle.turn_lock.specs.Passes.{pass_lock, pass_number, IsPassOf, IsInTurn};
 ghost use Rattle.wol_promise.specs.Code.{no_note};
 ghost use Rattle.wol_promise.specs.Ruled.{Noted};
@@ -38,6 +38,7 @@ pub fn leave_noted<D: Disk, N: Memo>(
     requires value { Stands D.tells D.state turn.value (pass_lock pass.old).base (notes_seen pass.old ++ N.note ∷ []) }
     ensures left { HasLeft D.tells N.note pass.old pass.new }
     ensures broken { IsSome turn.value.down → IsBroken (notes_seen pass.new) }
+    ensures unbroken { turn.value.down ≡ None → IsBroken (notes_seen pass.new) → ⊥ }
 {
     lock.leave::<Brand>(turn, pass);
 }

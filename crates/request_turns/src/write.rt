@@ -1,5 +1,5 @@
 // A write in one turn, after a drain where no log has room.
-ghost use Rattle.std.specs.Prelude.{ℕ, IsSome, ◌≡◌, ◌++◌, ◌∷◌, [], ◌≤◌, ◌+◌, false, length};
+ghost use Rattle.std.specs.Prelude.{ℕ, IsSome, ◌≡◌, ◌++◌, ◌∷◌, [], ◌≤◌, ◌+◌, false, None, length};
 ghost use Rattle.turn_lock.specs.Passes.{pass_lock, pass_number, IsPassOf, IsFree, IsInTurn};
 ghost use Rattle.wol_model.specs.History.{worker};
 ghost use Rattle.wol_model.specs.Trace.{payload_block};
@@ -62,6 +62,7 @@ fn leave_written<D: Disk, B: Memo, N: Memo>(
     requires value { Stands D.tells D.state turn.value (pass_lock pass.old).base (notes_seen pass.old ++ N.note ∷ []) }
     ensures left { HasLeft D.tells N.note pass.old pass.new }
     ensures broken { IsSome turn.value.down → IsBroken (notes_seen pass.new) }
+    ensures unbroken { turn.value.down ≡ None → IsBroken (notes_seen pass.new) → ⊥ }
 {
     let _ = from;
     leave_noted::<D, N>(lock, turn, pass);

@@ -1,5 +1,6 @@
 pub mod OneMore
 pub mod Opened
+pub mod Handing
 pub mod Serving
 pub mod Working
 pub mod Roomy

@@ -1,5 +1,5 @@
 -- A floor before and after a window.
-use Rattle.std.proofs.Common.{◌≡◌, ◌<◌, ◌≤◌, ◌+◌, ℕ, Bool, List, [], ◌∷◌, vec_capacity, length, get_or, ap, ◌∙◌, sym, subst, arith, Option}
+use Rattle.std.proofs.Common.{All, ◌≡◌, ◌<◌, ◌+◌, ℕ, Bool, List, [], ◌∷◌, length, get_or, ap, ◌∙◌, sym, subst, arith, Option}
 use Rattle.turn_lock.specs.LockIds.{LockId}
 use Rattle.turn_lock.specs.Passes.{lock_id, pass_lock, pass_number, IsPassOf, IsFree, IsSamePass}
 use Rattle.wol_model.specs.History.{worker, helper}
@@ -8,9 +8,11 @@ use Rattle.manager.specs.Stands.{IsShared}
 use Rattle.manager.specs.declared.base.ManagerBase.{ManagerBase}
 use Rattle.manager.specs.declared.part.StepFault.{StepFault}
 use Rattle.request_workers.specs.Closed.{IsClosed}
-use Rattle.request_workers.specs.Desks.{IsReadyDesk, AreReady, AreServed, AreAt, ShareDesks, AreNumbered, AreEmpty}
-use Rattle.request_workers.specs.Floors.{IsFloor, IsOn, AreInside, HasRoom, HaveRoom, AreSameButRoom}
+use Rattle.request_workers.specs.Desks.{IsReadyDesk, AreReady, AreServed, AreAt, ShareDesks, AreEmpty}
+use Rattle.request_workers.specs.Floors.{IsFloor, IsOn, AreInside, AreSameButRoom}
 use Rattle.request_turns.specs.Helped.{ManagerLock, IsPassAt}
+use Rattle.request_turns.specs.Requests.{IsWithin}
+use Rattle.request_workers.specs.Handed.{IsHanded, HasOwn, AreHandedOut}
 use Rattle.request_workers.specs.Helped.{ArePassesAt, AreSharing}
 use Rattle.request_workers.specs.Requests.{AreWithin, own_requests}
 use Rattle.request_turns.specs.Counts.{Counts, blocks_between, records_between}
@@ -18,6 +20,7 @@ use Rattle.request_turns.specs.Turns.{ManagerPass, IsHonest, Gains}
 use Rattle.request_workers.specs.Worked.{HasWorked, AreWorked, HelpedIn}
 use Rattle.request_workers.specs.declared.desk.Desk.{Desk}
 use Rattle.request_workers.specs.declared.floor.Floor.{Floor}
+use Rattle.request_workers.proofs.Handing.{own_within}
 use Rattle.trace_windows.specs.declared.request.Request.{Request}
 use Rattle.request_turns.specs.declared.outcome.Outcome.{Outcome}
 use Rattle.request_workers.specs.declared.request.Reclaim.{Reclaim}
@@ -29,46 +32,47 @@ some_in (x ∷ xs) k h = x
 
 -- ---- Before
 
+-- after the requests the passes are those of the locks still
+module _ {D : Type 0} (ls : List (ManagerLock D)) (shared : Shared D) (tells : Bool) (ds es : List (Desk D)) (count : length ds ≡ length ls) (same : length es ≡ length ds) (ready : AreReady ls shared 0 ds) (served : AreServed tells ds es) where
+  pub passes_served : AreAt ls es
+  passes_served k l d h =
+      let i = subst (λ (n : ℕ). k < n) same h in let r = ready k l d i in let g = (served k d i).gains in let from : 0 + k ≡ k = omega arith in record {
+        own = g.same.0 ∙ subst (λ (j : ℕ). IsPassOf (get_or ls j l) (get_or ds k d).worker) from r.pass.own;
+        free = g.free;
+        number_is = g.same.1 ∙ r.pass.number_is;
+      }
+
+  pub shares_served : ShareDesks shared es
+  shares_served k d h =
+      let i = subst (λ (n : ℕ). k < n) same h in let j = subst (λ (n : ℕ). k < n) count i in let l = some_in ls k j in
+      subst (λ (x : LockId ManagerBase). IsShared shared x.base) (sym (served k d i).gains.same.0) (ready k l d i).shared_
+
 module _ {D : Type 0} (ls : List (ManagerLock D)) (shared : Shared D) (rs : List Request) where
   -- the managers of passes of these locks use the shared ones
   pub sharing : IsOn shared ls → (number : ℕ) (ps : List (ManagerPass D)) → length ps ≡ length ls → ArePassesAt ls number ps → AreSharing shared ps
   sharing on number ps count at k d h = let i = subst (λ (n : ℕ). k < n) count h in let l = some_in ls k i in
       subst (λ (j : LockId ManagerBase). IsShared shared j.base) (sym (at k l d h).own) (on k l i)
 
-  -- after the requests the passes are those of the locks still
-  module _ (tells : Bool) (ds es : List (Desk D)) (count : length ds ≡ length ls) (same : length es ≡ length ds) (ready : AreReady ls shared 0 rs ds) (served : AreServed tells rs ds es) where
-    pub passes_served : AreAt ls es
-    passes_served k l d h =
-        let i = subst (λ (n : ℕ). k < n) same h in let r = ready k l d i in let g = (served k d i).gains in let from : 0 + k ≡ k = omega arith in record {
-          own = g.same.0 ∙ subst (λ (j : ℕ). IsPassOf (get_or ls j l) (get_or ds k d).worker) from r.pass.own;
-          free = g.free;
-          number_is = g.same.1 ∙ r.pass.number_is;
-        }
-
-    pub shares_served : ShareDesks shared es
-    shares_served k d h =
-        let i = subst (λ (n : ℕ). k < n) same h in let j = subst (λ (n : ℕ). k < n) count i in let l = some_in ls k j in
-        subst (λ (x : LockId ManagerBase). IsShared shared x.base) (sym (served k d i).gains.same.0) (ready k l d i).shared_
-
-  ready_desk : IsOn shared ls → (k : ℕ) (l : ManagerLock D) (d e : Desk D) → k < length ls → d.id ≡ k → IsPassAt (get_or ls k l) worker d.worker → d.outcomes.items ≡ [] → AreWithin (lock_id (get_or ls k l)).base k rs → HasRoom rs d e
-      → IsReadyDesk (get_or ls k l) shared rs e
-  ready_desk on k l d e h id at empty within room = record {
+  ready_desk : IsOn shared ls → (k : ℕ) (l : ManagerLock D) (d e : Desk D) → k < length ls → IsPassAt (get_or ls k l) worker d.worker → d.outcomes.items ≡ [] → AreWithin (lock_id (get_or ls k l)).base k rs → HasOwn rs k d e
+      → IsReadyDesk (get_or ls k l) shared e
+  ready_desk on k l d e h at empty within own = let room = own.handed in record {
     pass = subst (IsPassAt (get_or ls k l) worker) (sym room.worker_is) at;
     shared_ = subst (λ (p : ManagerPass D). IsShared shared (pass_lock p).base) (sym room.worker_is) (subst (λ (j : LockId ManagerBase). IsShared shared j.base) (sym at.own) (on k l h));
-    within = subst (λ (p : ManagerPass D). AreWithin (pass_lock p).base e.id rs) (sym room.worker_is) (subst (λ (j : LockId ManagerBase). AreWithin j.base e.id rs) (sym at.own) (subst (λ (v : ℕ). AreWithin (lock_id (get_or ls k l)).base v rs) (sym (room.id ∙ id)) within));
+    within = subst (λ (p : ManagerPass D). All (IsWithin (pass_lock p).base) e.requests.items) (sym room.worker_is)
+        (subst (λ (j : LockId ManagerBase). All (IsWithin j.base) e.requests.items) (sym at.own) (subst (λ (qs : List Request). All (IsWithin (lock_id (get_or ls k l)).base) qs) (sym room.requests) (own_within (lock_id (get_or ls k l)).base k rs within)));
     empty = room.outcomes ∙ empty;
-    room = subst (λ (v : ℕ). length (own_requests v rs) ≤ vec_capacity e.outcomes) (sym room.id) room.room;
+    room = own.room;
   }
 
-  pub all_ready : IsOn shared ls → (ds es : List (Desk D)) → length ds ≡ length ls → length es ≡ length ds → AreNumbered ds → AreAt ls ds → AreEmpty ds → AreInside ls rs → HaveRoom rs ds es → AreReady ls shared 0 rs es
-  all_ready on ds es count same numbered at empty inside room k l d h =
+  pub all_ready : IsOn shared ls → (ds es : List (Desk D)) → length ds ≡ length ls → length es ≡ length ds → AreAt ls ds → AreEmpty ds → AreInside ls rs → AreHandedOut rs ds es → AreReady ls shared 0 es
+  all_ready on ds es count same at empty inside room k l d h =
       let i = subst (λ (n : ℕ). k < n) same h in let j = subst (λ (n : ℕ). k < n) count i in let from : 0 + k ≡ k = omega arith in
-      rw from (ready_desk on k l (get_or ds k d) (get_or es k d) j (numbered k d i) (at k l d i) (empty k d i) (inside k l j) (room k d i))
+      rw from (ready_desk on k l (get_or ds k d) (get_or es k d) j (at k l d i) (empty k d i) (inside k l j) (room k d i))
 
 -- ---- After
 
 module _ {D : Type 0} (tells : Bool) (rs : List Request) (os : List Outcome) (mode : Reclaim) where
-  roomy_worked : (k : ℕ) (d e f : Desk D) → HasRoom rs d e → HasWorked tells rs os mode k e f → HasWorked tells rs os mode k d f
+  roomy_worked : (k : ℕ) (d e f : Desk D) → IsHanded (own_requests k rs) d e → HasWorked tells rs os mode k e f → HasWorked tells rs os mode k d f
   roomy_worked k d e f r w = record {
     id = w.id ∙ r.id;
     middle = w.middle;
@@ -85,8 +89,8 @@ module _ {D : Type 0} (tells : Bool) (rs : List Request) (os : List Outcome) (mo
     counted = subst (λ (p : ManagerPass D). IsHonest tells p → Counts (blocks_between p f.worker) (records_between p f.worker) f.tally) r.worker_is w.counted;
   }
 
-  pub all_roomy : (ds es fs : List (Desk D)) → length es ≡ length ds → HaveRoom rs ds es → AreWorked tells rs os mode es fs → AreWorked tells rs os mode ds fs
-  all_roomy ds es fs same r w k d h = roomy_worked k (get_or ds k d) (get_or es k d) (get_or fs k d) (r k d h) (w k d (subst (λ m. k < m) (sym same) h))
+  pub all_roomy : (ds es fs : List (Desk D)) → length es ≡ length ds → AreHandedOut rs ds es → AreWorked tells rs os mode es fs → AreWorked tells rs os mode ds fs
+  all_roomy ds es fs same r w k d h = roomy_worked k (get_or ds k d) (get_or es k d) (get_or fs k d) (r k d h).handed (w k d (subst (λ m. k < m) (sym same) h))
 
   closed_pass : (m : Reclaim) (f : Option StepFault) (p q : ManagerPass D) → IsClosed tells m f p q → IsFree p → IsSamePass p q × IsFree q
   closed_pass reclaim.Off f p q c free = ((ap (λ (x : ManagerPass D). pass_lock x) c.0, ap (λ (x : ManagerPass D). pass_number x) c.0), subst (λ (x : ManagerPass D). IsFree x) (sym c.0) free)

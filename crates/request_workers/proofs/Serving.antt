@@ -1,12 +1,8 @@
 -- Serving one more request.
-use Rattle.std.proofs.Common.{inl, inr, ◌≡◌, ◌≢◌, ◌≤◌, ◌<◌, vec_len, vec_capacity, ◌+◌, take, get_or, drop, take-append-drop, ℕ, Bool, true, false, List, [], ◌∷◌, ◌++◌, length, filter, ◌==◌, refl, ap, ◌∙◌, sym, subst, append_assoc, length-append, arith}
+use Rattle.std.proofs.Common.{◌≡◌, ◌≤◌, ◌<◌, vec_len, vec_capacity, ◌+◌, take, get_or, ℕ, Bool, true, List, [], ◌∷◌, ◌++◌, length, refl, ap, ◌∙◌, sym, subst, append_assoc, arith}
 use Rattle.std.specs.List.{AllByRecursion}
-use Rattle.std.proofs.lemmas.List.{take_more, append-nil}
-use Rattle.std.proofs.lemmas.Bool.{eq-eqb}
-use Rattle.std.proofs.lemmas.Bool.Decides.{eqb_tells}
-use Rattle.std.proofs.lemmas.List.Elements.{filter-append}
+use Rattle.std.proofs.lemmas.List.{take_more, append-nil, length-take}
 use Rattle.turn_lock.specs.LockIds.{LockId}
-use Rattle.turn_lock.specs.Passes.{pass_lock}
 use Rattle.wol_promise.specs.Ruled.{Noted}
 use Rattle.wol_promise.proofs.Lists.{all_push, all_map}
 use Rattle.manager.specs.Stands.{notes_of}
@@ -15,9 +11,8 @@ use Rattle.manager.specs.declared.part.ReadRefusal.{ReadRefusal}
 use Rattle.manager.specs.declared.part.ReadRefusal.TheVariants as refused_read
 use Rattle.manager.specs.declared.part.WriteRefusal.{WriteRefusal}
 use Rattle.manager.specs.declared.part.WriteRefusal.TheVariants as refused
-use Rattle.request_turns.specs.Entries.{IsEntryOf, AreEntriesOf, AreMade, TellsFault, TellsOfRead, TellsOfWrite}
-use Rattle.request_turns.specs.Requests.{IsWithin}
-use Rattle.request_workers.specs.Requests.{AreWithin, was_answered, was_run, both, going_after, StopsAtRefusal, own_requests}
+use Rattle.request_turns.specs.Entries.{IsEntryOf, AreEntriesOf, AreMade, TellsFault, TellsOfRead, TellsOfWrite, WasSpent}
+use Rattle.request_workers.specs.Requests.{was_answered, was_run, both, going_after, StopsAtRefusal}
 use Rattle.request_workers.specs.Served.{HasServedNext, IsServing}
 use Rattle.request_turns.specs.Turns.{began, notes_seen}
 use Rattle.turn_lock.specs.Passes.{IsFree}
@@ -42,29 +37,26 @@ going_after_push : (going : Bool) (os : List Outcome) (o : Outcome) → going_af
 going_after_push going [] o = refl
 going_after_push going (p ∷ os) o = going_after_push (both going (was_answered p)) os o
 
-pub own_keeps : (v : ℕ) (rs : List Request) (r : Request) → (r.volume == v) ≡ true → own_requests v (rs ++ r ∷ []) ≡ own_requests v rs ++ r ∷ []
-own_keeps v rs r e = let f : List Request → List Request = filter (λ (q : Request). q.volume == v) in let one : f (r ∷ []) ≡ r ∷ [] = rw e refl in
-    filter-append (λ (q : Request). q.volume == v) rs (r ∷ []) ∙ ap (λ t. f rs ++ t) one
-
-pub own_skips : (v : ℕ) (rs : List Request) (r : Request) → (r.volume == v) ≡ false → own_requests v (rs ++ r ∷ []) ≡ own_requests v rs
-own_skips v rs r e = let f : List Request → List Request = filter (λ (q : Request). q.volume == v) in let none : f (r ∷ []) ≡ [] = rw e refl in
-    filter-append (λ (q : Request). q.volume == v) rs (r ∷ []) ∙ (ap (λ t. f rs ++ t) none ∙ append-nil (f rs))
-
-same_eq : (a b : ℕ) → a ≡ b → (a == b) ≡ true
-same_eq a b h = eq-eqb a b h
-
-other_eq : (a b : ℕ) → a ≢ b → (a == b) ≡ false
-other_eq a b h = elim (eqb_tells a b) [ inl t ↦ absurd (h t.1) | inr t ↦ t.0 ]
-
 tells_read : (r : ReadRefusal) (seen more : List Noted) → TellsOfRead r seen → TellsOfRead r (seen ++ more)
 tells_read (refused_read.DiskFault p) seen more is = broken_more seen more is
 tells_read (refused_read.Down p) seen more is = broken_more seen more is
+
+-- no version is left behind more entries too
+spent_more : (seen more : List Noted) → WasSpent seen → WasSpent (seen ++ more)
+spent_more seen more is = record {
+  front = is.front;
+  note = is.note;
+  later = is.later ++ more;
+  seen_is = ap (λ (notes : List Noted). notes ++ more) is.seen_is ∙ append_assoc is.front (is.note ∷ is.later) more;
+  unbroken = is.unbroken;
+  spent = is.spent;
+}
 
 tells_write : (r : WriteRefusal) (seen more : List Noted) → TellsOfWrite r seen → TellsOfWrite r (seen ++ more)
 tells_write refused.Full seen more is = tt
 tells_write (refused.DiskFault p) seen more is = broken_more seen more is
 tells_write (refused.Down p) seen more is = broken_more seen more is
-tells_write refused.VersionsSpent seen more is = tt
+tells_write refused.VersionsSpent seen more is = spent_more seen more is
 tells_write refused.NoMemory seen more is = tt
 
 tells_more : (seen more : List Noted) (o : Outcome) → TellsFault seen o → TellsFault (seen ++ more) o
@@ -75,16 +67,15 @@ tells_more seen more (outcome.NoWrite r) is = tells_write r seen more is
 tells_more seen more outcome.NotRun is = tt
 
 module _ {D : Type 0} (tells : Bool) (rs : List Request) (r : Request) (going : Bool) (d e : Desk D) where
-  pub serving_more : (f : Desk D) (next : Bool) → r.volume ≡ e.id → IsServing tells rs going d e → HasServedNext tells r going e f next → IsServing tells (rs ++ r ∷ []) next d f
-  serving_more f next is s h =
-      let v = s.served in let o = h.outcome in let os = e.outcomes.items in let own = own_requests d.id rs in
-      let keeps = own_keeps d.id rs r (same_eq r.volume d.id (is ∙ v.id)) in record {
+  pub serving_more : (f : Desk D) (next : Bool) → IsServing tells rs going d e → HasServedNext tells r going e f next → IsServing tells (rs ++ r ∷ []) next d f
+  serving_more f next s h =
+      let v = s.served in let o = h.outcome in let os = e.outcomes.items in record {
         served = record {
           id = h.id ∙ v.id;
           more = v.more ++ h.more;
           notes = v.notes ++ h.notes;
           gains = gains_both tells d.worker e.worker f.worker v.more h.more v.notes h.notes v.gains h.gains;
-          made = rw (keeps, h.outcomes) (made_push (began d.worker).view own os r o v.notes h.notes v.made (subst (λ (l : LockId ManagerBase). AreEntriesOf l.base.volume.began.view r o h.notes) v.gains.same.0 h.are));
+          made = rw h.outcomes (made_push (began d.worker).view rs os r o v.notes h.notes v.made (subst (λ (l : LockId ManagerBase). AreEntriesOf l.base.volume.began.view r o h.notes) v.gains.same.0 h.are));
           stops = rw h.outcomes (stops_push true os o v.stops (h.run ∙ s.going_is));
           stays = λ honest. stays_both tells d.worker e.worker f.worker v.more h.more v.notes h.notes v.gains h.gains (v.stays honest) (h.stays (v.gains.honest honest));
           faults = rw h.outcomes (all_push (TellsFault (notes_seen f.worker)) os o
@@ -92,34 +83,14 @@ module _ {D : Type 0} (tells : Bool) (rs : List Request) (r : Request) (going : 
           reclaim = h.reclaim ∙ v.reclaim;
           counted = counted_both tells d.worker e.worker f.worker v.more h.more v.notes h.notes v.gains h.gains d.tally e.tally f.tally v.counted h.counted;
         };
+        requests = h.requests ∙ s.requests;
         going_is = rw h.outcomes (h.next_is ∙ (ap (λ b. both b (was_answered o)) s.going_is ∙ sym (going_after_push true os o)));
         room = h.room ∙ s.room;
       }
 
-  pub serving_skip : r.volume ≢ e.id → IsServing tells rs going d e → IsServing tells (rs ++ r ∷ []) going d e
-  serving_skip is s = let v = s.served in let skips = own_skips d.id rs r (other_eq r.volume d.id (λ h. is (h ∙ sym v.id))) in record {
-    served = record {
-      id = v.id;
-      more = v.more;
-      notes = v.notes;
-      gains = v.gains;
-      made = rw skips v.made;
-      stops = v.stops;
-      stays = v.stays;
-      faults = v.faults;
-      reclaim = v.reclaim;
-      counted = v.counted;
-    };
-    going_is = s.going_is;
-    room = s.room;
-  }
-
-module _ {D : Type 0} (tells : Bool) (rs : List Request) (i : ℕ) (x : Request) (at : i < length rs) (going : Bool) (d e : Desk D) where
-  pub serving_more_at : (f : Desk D) (next : Bool) → IsServing tells (take i rs) going d e → (get_or rs i x).volume ≡ e.id → HasServedNext tells (get_or rs i x) going e f next → IsServing tells (take (i + 1) rs) next d f
-  serving_more_at f next s is h = rw (take_more rs i x at) (serving_more tells (take i rs) (get_or rs i x) going d e f next is s h)
-
-  pub serving_skip_at : IsServing tells (take i rs) going d e → (get_or rs i x).volume ≢ e.id → IsServing tells (take (i + 1) rs) going d e
-  serving_skip_at s is = rw (take_more rs i x at) (serving_skip tells (take i rs) (get_or rs i x) going d e is s)
+pub serving_more_at : {D : Type 0} (tells : Bool) (rs : List Request) (i : ℕ) (x : Request) → i < length rs → (going : Bool) (d e f : Desk D) (next : Bool)
+    → IsServing tells (take i rs) going d e → HasServedNext tells (get_or rs i x) going e f next → IsServing tells (take (i + 1) rs) next d f
+serving_more_at tells rs i x at going d e f next s h = rw (take_more rs i x at) (serving_more tells (take i rs) (get_or rs i x) going d e f next s h)
 
 pub made_length : (view : List ℕ) (rs : List Request) (os : List Outcome) (ns : List Noted) → AreMade view rs os ns → length os ≡ length rs
 made_length view [] [] ns m = refl
@@ -127,28 +98,14 @@ made_length view [] (o ∷ os) ns m = absurd m
 made_length view (r ∷ rs) [] ns m = absurd m
 made_length view (r ∷ rs) (o ∷ os) ns m = let h = made_length view rs os m.1 m.4 in grind (arith, h)
 
--- the requests of a volume among the first i, where the next is its too, are fewer than all
-own_fewer : (v : ℕ) (rs : List Request) (i : ℕ) (x : Request) → i < length rs → (get_or rs i x).volume ≡ v → length (own_requests v (take i rs)) < length (own_requests v rs)
-own_fewer v rs i x at is =
-    let r = get_or rs i x in let own : List Request → List Request = own_requests v in
-    let a : own (take (i + 1) rs) ≡ own (take i rs) ++ r ∷ [] = ap own (take_more rs i x at) ∙ own_keeps v (take i rs) r (same_eq r.volume v is) in
-    let b : own rs ≡ own (take (i + 1) rs) ++ own (drop (i + 1) rs) = ap own (sym (take-append-drop (i + 1) rs)) ∙ filter-append (λ (q : Request). q.volume == v) (take (i + 1) rs) (drop (i + 1) rs) in
-    let c : length (own (take (i + 1) rs)) ≡ length (own (take i rs)) + 1 = ap length a ∙ length-append (own (take i rs)) (r ∷ []) in
-    let d : length (own rs) ≡ length (own (take (i + 1) rs)) + length (own (drop (i + 1) rs)) = ap length b ∙ length-append (own (take (i + 1) rs)) (own (drop (i + 1) rs)) in
-    omega arith
-
-pub serving_room : {D : Type 0} (tells : Bool) (rs : List Request) (i : ℕ) (x : Request) → i < length rs → (going : Bool) (d e : Desk D) → IsServing tells (take i rs) going d e → (get_or rs i x).volume ≡ e.id → length (own_requests d.id rs) ≤ vec_capacity d.outcomes → vec_len e.outcomes < vec_capacity e.outcomes
-serving_room tells rs i x at going d e s is room =
-    let few = own_fewer d.id rs i x at (is ∙ s.served.id) in let l = made_length (began d.worker).view (own_requests d.id (take i rs)) e.outcomes.items s.served.notes s.served.made in let r = s.room in let o = e.outcomes.ok.0 in omega arith
-
--- the request is one of the volume's
-pub serving_within : {D : Type 0} (tells : Bool) (rs : List Request) (i : ℕ) (x : Request) → i < length rs → (going : Bool) (d e : Desk D) → IsServing tells (take i rs) going d e → (get_or rs i x).volume ≡ e.id
-    → AreWithin (pass_lock d.worker).base d.id rs → IsWithin (pass_lock e.worker).base (get_or rs i x)
-serving_within tells rs i x at going d e s is within = subst (λ (l : LockId ManagerBase). IsWithin l.base (get_or rs i x)) (sym s.served.gains.same.0) (within i x at (is ∙ s.served.id))
+pub serving_room : {D : Type 0} (tells : Bool) (rs : List Request) (i : ℕ) → i < length rs → (going : Bool) (d e : Desk D) → IsServing tells (take i rs) going d e → length rs ≤ vec_capacity d.outcomes → vec_len e.outcomes < vec_capacity e.outcomes
+serving_room tells rs i at going d e s room =
+    let l = made_length (began d.worker).view (take i rs) e.outcomes.items s.served.notes s.served.made in let few = length-take i rs in let r = s.room in let o = e.outcomes.ok.0 in omega arith
 
 -- no request
 pub serving_none : {D : Type 0} (tells : Bool) (d : Desk D) → IsFree d.worker → d.outcomes.items ≡ [] → IsServing tells [] true d d
 serving_none tells d free empty = record {
+  requests = refl;
   served = record {
     id = refl;
     more = [];

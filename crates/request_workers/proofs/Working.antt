@@ -11,7 +11,7 @@ use Rattle.manager.specs.declared.part.WriteRefusal.{WriteRefusal}
 use Rattle.manager.specs.declared.part.WriteRefusal.TheVariants as refused
 use Rattle.request_workers.specs.Closed.{IsClosed, HasClosedDesk, AreClosed}
 use Rattle.request_workers.specs.Collects.{IsCollected, HoldsOutcomes}
-use Rattle.request_workers.specs.Desks.{AreNumbered, AreServed}
+use Rattle.request_workers.specs.Desks.{HaveOwn, AreServed}
 use Rattle.request_turns.specs.Counts.{Counts, blocks_between, records_between}
 use Rattle.request_turns.specs.Entries.{AreEntriesOf, AreMade, IsRefusedRead, IsRefusedWrite, TellsFault}
 use Rattle.request_workers.specs.Requests.{own_requests, outcomes_of, answers_to, StopsAtRefusal}
@@ -78,15 +78,15 @@ made_outcomes view (r ∷ rs) (o ∷ os) ns m = one_more view r o rs os ns m.0 m
 
 -- ---- A desk
 
-module _ {D : Type 0} (tells : Bool) (rs : List Request) (mode : Reclaim) (k : ℕ) (d e f : Desk D) (numbered : d.id ≡ k) (s : HasServed tells rs d e) (c : HasClosedDesk tells mode e f) where
+module _ {D : Type 0} (tells : Bool) (rs : List Request) (mode : Reclaim) (k : ℕ) (d e f : Desk D) (own : d.requests.items ≡ own_requests k rs) (s : HasServed tells d.requests.items d e) (c : HasClosedDesk tells mode e f) where
   holds_outcomes : HoldsOutcomes rs k f
-  holds_outcomes = ap length c.outcomes ∙ (made_length (began d.worker).view (own_requests d.id rs) e.outcomes.items s.notes s.made ∙ ap (λ v. length (own_requests v rs)) numbered)
+  holds_outcomes = ap length c.outcomes ∙ (made_length (began d.worker).view d.requests.items e.outcomes.items s.notes s.made ∙ ap length own)
 
   worked : Counts 0 0 d.tally → (os : List Outcome) (g : Desk D) → IsCollected rs os k f g → HasWorked tells rs os mode k d g
   worked fresh os g t =
       let are : e.outcomes.items ≡ outcomes_of k rs os = sym (t.outcomes ∙ c.outcomes) in
       let made : AreMade (began d.worker).view (own_requests k rs) (outcomes_of k rs os) s.notes =
-      subst (λ (xs : List Outcome). AreMade (began d.worker).view (own_requests k rs) xs s.notes) are (subst (λ (v : ℕ). AreMade (began d.worker).view (own_requests v rs) e.outcomes.items s.notes) numbered s.made) in
+      subst (λ (xs : List Outcome). AreMade (began d.worker).view (own_requests k rs) xs s.notes) are (subst (λ (qs : List Request). AreMade (began d.worker).view qs e.outcomes.items s.notes) own s.made) in
       record {
         id = t.same.id ∙ (c.id ∙ s.id);
         middle = e.worker;
@@ -105,11 +105,11 @@ module _ {D : Type 0} (tells : Bool) (rs : List Request) (mode : Reclaim) (k : �
             (from_none tells d.worker f.worker d.tally f.tally fresh (closed_counted tells d.worker e.worker f.worker s.more s.notes s.gains d.tally e.tally f.tally s.counted mode f.fault c.closed c.counted) honest));
       }
 
-module _ {D : Type 0} (tells : Bool) (rs : List Request) (mode : Reclaim) (ds es fs : List (Desk D)) (numbered : AreNumbered ds) (s : AreServed tells rs ds es) (c : AreClosed tells mode es fs) (same : length es ≡ length ds) where
+module _ {D : Type 0} (tells : Bool) (rs : List Request) (mode : Reclaim) (ds es fs : List (Desk D)) (own : HaveOwn rs ds) (s : AreServed tells ds es) (c : AreClosed tells mode es fs) (same : length es ≡ length ds) where
   pub all_hold : (k : ℕ) (d : Desk D) → k < length ds → HoldsOutcomes rs k (get_or fs k d)
-  all_hold k d h = let h2 = subst (λ n. k < n) (sym same) h in holds_outcomes tells rs mode k (get_or ds k d) (get_or es k d) (get_or fs k d) (numbered k d h) (s k d h) (c k d h2)
+  all_hold k d h = let h2 = subst (λ n. k < n) (sym same) h in holds_outcomes tells rs mode k (get_or ds k d) (get_or es k d) (get_or fs k d) (own k d h) (s k d h) (c k d h2)
 
   pub all_worked : ((k : ℕ) (d : Desk D) → k < length ds → Counts 0 0 (get_or ds k d).tally) → (os : List Outcome) (gs : List (Desk D)) → length fs ≡ length ds → ((k : ℕ) (d : Desk D) → k < length fs → IsCollected rs os k (get_or fs k d) (get_or gs k d)) → AreWorked tells rs os mode ds gs
   all_worked fresh os gs same3 t k d h =
       let h2 = subst (λ n. k < n) (sym same) h in let h3 = subst (λ n. k < n) (sym same3) h in
-      worked tells rs mode k (get_or ds k d) (get_or es k d) (get_or fs k d) (numbered k d h) (s k d h) (c k d h2) (fresh k d h) os (get_or gs k d) (t k d h3)
+      worked tells rs mode k (get_or ds k d) (get_or es k d) (get_or fs k d) (own k d h) (s k d h) (c k d h2) (fresh k d h) os (get_or gs k d) (t k d h3)

@@ -1,5 +1,5 @@
 -- A floor between windows, and what a window makes of it.
-use Rattle.std.specs.Prelude.{◌≡◌, ◌+◌, ◌≤◌, ◌<◌, ℕ, Bool, List, [], map, length, vec_capacity, slice_index_or, None}
+use Rattle.std.specs.Prelude.{◌≡◌, ◌+◌, ◌≤◌, ◌<◌, ℕ, Bool, List, [], map, length, vec_capacity, slice_index_or}
 use Rattle.std.specs.Option.{option_or}
 use Rattle.turn_lock.specs.Passes.{lock_id}
 use Rattle.wol_model.specs.History.{helper, keeper}
@@ -12,7 +12,7 @@ use Rattle.request_workers.specs.Counted.{AreHonest, all_between}
 use Rattle.request_workers.specs.Desks.{AreAt, AreNumbered, AreEmpty}
 use Rattle.request_turns.specs.Helped.{ManagerLock}
 use Rattle.request_workers.specs.Helped.{ArePassesAt, IsCause, AreAllKept}
-use Rattle.request_workers.specs.Requests.{AreWithin, own_requests}
+use Rattle.request_workers.specs.Requests.{AreWithin}
 use Rattle.request_workers.specs.Worked.{AreWorked, HelpedIn, first_fault}
 use Rattle.request_workers.specs.declared.desk.Desk.{Desk}
 use Rattle.request_workers.specs.declared.floor.Floor.{Floor}
@@ -46,23 +46,11 @@ IsOn {D} shared ls = (k : ℕ) (l : ManagerLock D) → k < length ls → IsShare
 abbrev pub AreInside : {D : Type 0} → List (ManagerLock D) → List Request → Type 0
 AreInside {D} ls rs = (k : ℕ) (l : ManagerLock D) → k < length ls → AreWithin (lock_id (slice_index_or ls k l)).base k rs
 
--- more room for outcomes, no refused step and nothing counted, and no other change
-pub record HasRoom {D : Type 0} (rs : List Request) (d e : Desk D) : Type 0 where
-  pub id : e.id ≡ d.id
-  pub worker_is : e.worker ≡ d.worker
-  pub outcomes : e.outcomes.items ≡ d.outcomes.items
-  pub fault : e.fault ≡ None
-  pub tally : Counts 0 0 e.tally
-  pub room : length (own_requests d.id rs) ≤ vec_capacity e.outcomes
-
 -- the same locks, passes and outcomes
 pub record IsSameButRoom {D : Type 0} (d e : Desk D) : Type 0 where
   pub id : e.id ≡ d.id
   pub worker_is : e.worker ≡ d.worker
   pub outcomes : e.outcomes.items ≡ d.outcomes.items
-
-abbrev pub HaveRoom : {D : Type 0} → List Request → List (Desk D) → List (Desk D) → Type 0
-HaveRoom {D} rs ds es = (k : ℕ) (d : Desk D) → k < length ds → HasRoom rs (slice_index_or ds k d) (slice_index_or es k d)
 
 abbrev pub AreSameButRoom : {D : Type 0} → List (Desk D) → List (Desk D) → Type 0
 AreSameButRoom {D} ds es = (k : ℕ) (d : Desk D) → k < length ds → IsSameButRoom (slice_index_or ds k d) (slice_index_or es k d)

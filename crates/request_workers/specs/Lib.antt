@@ -1,4 +1,5 @@
 pub mod Requests
+pub mod Handed
 pub mod Served
 pub mod Closed
 pub mod Helped

@@ -1,14 +1,14 @@
 // Windows over a floor.
 ghost use Rattle.std.specs.Prelude.{◌≡◌, ◌≤◌, ◌<◌, ◌^◌, [], ℕ, List, map, length, vec_len, vec_capacity, slice_index_or, sum_by, OnOk, OnErr, IfOk};
 ghost use Rattle.request_turns.specs.Counts.{CountsMore};
-ghost use Rattle.request_workers.specs.Desks.{AreEmpty};
-ghost use Rattle.request_workers.specs.Floors.{IsFloor, IsOn, AreInside, HaveRoom, AreSameButRoom, HasRun, IsAsItWas};
-ghost use Rattle.request_workers.specs.Requests.{own_requests, AreOfVolumes};
+ghost use Rattle.request_workers.specs.Floors.{IsFloor, IsOn, AreInside, HasRun, IsAsItWas};
+ghost use Rattle.request_workers.specs.Requests.{AreOfVolumes};
 ghost use Rattle.request_workers.specs.Worked.{first_fault};
 ghost use Rattle.request_workers.specs.declared.desk.Desk.{Desk};
 
 use crate::desk::Desk;
 use crate::floor::Floor;
+use crate::hand_out::hand_out;
 use crate::helper::HelperRoom;
 use crate::request::{Reclaim, Window, Workers};
 use crate::run::hands_for;
@@ -22,35 +22,6 @@ use std::thread::Threads;
 use trace_windows::Request;
 use wol_disk::{Disk, NoMemory};
 use wol_io::Gate;
-
-// How many requests a volume has.
-fn count_own(requests: &[Request], volume: u32) -> usize
-    ensures { result ≡ length (own_requests volume requests.now) }
-{
-    let mut count = 0;
-    for request in requests {
-        if request.volume == volume {
-            count += 1;
-        }
-    }
-    count
-}
-
-// Makes room for the outcomes of each desk's requests, and begins to count.
-fn make_room<D: Disk>(desks: &mut [Desk<D>], requests: &[Request]) -> Result<(), NoMemory>
-    requires { AreEmpty desks.old }
-    ensures same { AreSameButRoom desks.old desks.new }
-    ensures room { OnOk result (HaveRoom requests.now desks.old desks.new) }
-{
-    for k in 0..desks.len() {
-        let count = count_own(requests, desks[k].id);
-        let desk = &mut desks[k];
-        desk.tally = Tally::new();
-        desk.fault = None;
-        desk.outcomes.reserve(count)?;
-    }
-    Ok(())
-}
 
 // What was reclaimed by the workers and the helper.
 fn reclaimed<D: Disk>(desks: &[Desk<D>], help: &HelperRoom) -> Tally
@@ -105,7 +76,7 @@ pub fn window<D: Disk + Send, G: Gate + Sync, R: Threads + Wait + Sync>(
     ensures unchanged { OnErr result (IsAsItWas floor.old floor.new) }
 {
     let mut outcomes = Vec::with_capacity(alloc, requests.len())?;
-    make_room(floor.desks.as_mut_slice(), requests)?;
+    hand_out(floor.desks.as_mut_slice(), requests)?;
     floor.help.tally = Tally::new();
     floor.help.fault = None;
     let hands = hands_for(workers, floor.desks.len(), requests);

@@ -2,6 +2,7 @@
 use manager::{Manager, StepFault};
 use reclaimer::Fetch;
 use request_turns::{Outcome, Payload, Tally};
+use trace_windows::Request;
 use turn_lock::Pass;
 use wol_disk::Disk;
 
@@ -11,6 +12,8 @@ pub struct Desk<D: Disk> {
     /// The number of the volume.
     pub id: u32,
     pub worker: Pass<Manager<D>>,
+    // the requests of its volume in this window, in order
+    pub(crate) requests: Vec<Request>,
     pub(crate) outcomes: Vec<Outcome>,
     pub(crate) payload: Payload,
     pub(crate) fetch: Fetch,

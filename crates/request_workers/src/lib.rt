@@ -1,13 +1,13 @@
 //! Windows of requests over volumes, each under its lock: workers serve the volumes side by side, and what is due is
 //! reclaimed after the requests or beside them.
 //!
-//! A window from the outside in: `calls.rt` (`window`) makes room and adds up, `slices.rt` runs a window over
-//! lists, `run.rt` cuts the volumes into runs, one for each worker, or has the caller serve all, `serve.rt` serves the requests of one desk in
-//! order; `gather.rt` puts the outcomes into the order of the trace. `closing.rt` takes the reclaim turns,
-//! `helper.rt` and `beside.rt` are the helper beside the workers, `begin.rt` the beginning of a window,
-//! `setting.rt` how stations become a floor and back. Of `specs/`: `Served`, `Closed`, `Helped` and `Worked` have
-//! what becomes of a desk, `Counted` what is counted over all volumes, `Floors` what a window makes of a floor,
-//! `Begun` its beginning.
+//! A window from the outside in: `calls.rt` (`window`) adds up, `hand_out.rt` hands each desk the requests of its volume,
+//! `slices.rt` runs a window over lists, `run.rt` cuts the volumes into runs, one for each worker, or has the caller serve
+//! all, `serve.rt` serves the requests of one desk in order; `gather.rt` puts the outcomes into the order of the trace.
+//! `closing.rt` takes the reclaim turns, `helper.rt` and `beside.rt` are the helper beside the workers, `begin.rt` the
+//! beginning of a window, `setting.rt` how stations become a floor and back. Of `specs/`: `Handed`, `Served`, `Closed`,
+//! `Helped` and `Worked` have what becomes of a desk, `Counted` what is counted over all volumes, `Floors` what a window
+//! makes of a floor, `Begun` its beginning.
 #![tactic(auto)]
 
 mod begin;
@@ -17,6 +17,7 @@ mod closing;
 mod desk;
 mod floor;
 mod gather;
+mod hand_out;
 mod helper;
 mod request;
 mod run;

@@ -61,15 +61,14 @@ fn serve_run<D: Disk, G: Gate, R: Wait>(
     shared: &Shared<D>,
     start: usize,
     run: &mut [Desk<D>],
-    requests: &[Request],
     gate: &G,
 )
     requires within { start + length run.old ≤ length locks.now }
-    requires ready { AreReady locks.now shared.now start requests.now run.old }
-    ensures { AreServed D.tells requests.now run.old run.new }
+    requires ready { AreReady locks.now shared.now start run.old }
+    ensures { AreServed D.tells run.old run.new }
 {
     for k in 0..run.len() {
-        serve_desk(rt, &locks[start + k], shared, &mut run[k], requests, gate);
+        serve_desk(rt, &locks[start + k], shared, &mut run[k], gate);
     }
 }
 
@@ -79,23 +78,22 @@ fn serve_runs<D: Disk + Send, G: Gate + Sync, R: Threads + Wait + Sync>(
     locks: &[TurnLock<Manager<D>>],
     shared: &Shared<D>,
     size: usize,
-    requests: &[Request],
     gate: &G,
     desks: &mut [Desk<D>],
 )
     requires size { 0 < size }
     requires count { length desks.old ≡ length locks.now }
-    requires ready { AreReady locks.now shared.now 0 requests.now desks.old }
-    ensures { AreServed D.tells requests.now desks.old desks.new }
+    requires ready { AreReady locks.now shared.now 0 desks.old }
+    ensures { AreServed D.tells desks.old desks.new }
 {
     thread::for_each_chunk_mut(
         rt,
         desks,
         size,
         &|start: usize, run: &mut [Desk<D>]|
-            requires { (start + length run.now ≤ length locks.now) × AreReady locks.now shared.now start requests.now run.now }
-            ensures { AreServed D.tells requests.entry.now run.entry.now run.exit.now }
-        { serve_run(rt, locks, shared, start, run, requests, gate) },
+            requires { (start + length run.now ≤ length locks.now) × AreReady locks.now shared.now start run.now }
+            ensures { AreServed D.tells run.entry.now run.exit.now }
+        { serve_run(rt, locks, shared, start, run, gate) },
     );
 }
 
@@ -105,16 +103,15 @@ pub(crate) fn serve_all<D: Disk + Send, G: Gate + Sync, R: Threads + Wait + Sync
     locks: &[TurnLock<Manager<D>>],
     shared: &Shared<D>,
     hands: Hands,
-    requests: &[Request],
     gate: &G,
     desks: &mut [Desk<D>],
 )
     requires count { length desks.old ≡ length locks.now }
-    requires ready { AreReady locks.now shared.now 0 requests.now desks.old }
-    ensures { AreServed D.tells requests.now desks.old desks.new }
+    requires ready { AreReady locks.now shared.now 0 desks.old }
+    ensures { AreServed D.tells desks.old desks.new }
 {
     match hands {
-        Hands::One => serve_run(rt, locks, shared, 0, desks, requests, gate),
-        Hands::Many { size } => serve_runs(rt, locks, shared, size.max(1), requests, gate, desks),
+        Hands::One => serve_run(rt, locks, shared, 0, desks, gate),
+        Hands::Many { size } => serve_runs(rt, locks, shared, size.max(1), gate, desks),
     }
 }

@@ -6,7 +6,7 @@ ghost use Rattle.manager.specs.Stands.{IsShared};
 ghost use Rattle.request_turns.specs.Helped.{IsPassAt};
 ghost use Rattle.request_turns.specs.Requests.{IsWithin};
 ghost use Rattle.request_turns.specs.Counts.{HasCounted};
-ghost use Rattle.request_workers.specs.Requests.{was_answered, own_requests};
+ghost use Rattle.request_workers.specs.Requests.{was_answered};
 ghost use Rattle.request_workers.specs.Desks.{IsReadyDesk};
 ghost use Rattle.request_turns.specs.Answered.{HasAnswered};
 ghost use Rattle.request_workers.specs.Served.{HasServed, HasServedNext};
@@ -35,6 +35,7 @@ fn serve_one<D: Disk, R: Wait>(
     requires within { IsWithin (pass_lock desk.old.worker).base request.now }
     ensures answered { HasAnswered D.tells request.now result desk.old.worker desk.new.worker }
     ensures id { desk.new.id ≡ desk.old.id }
+    ensures requests { desk.new.requests ≡ desk.old.requests }
     ensures outcomes { desk.new.outcomes ≡ desk.old.outcomes }
     ensures fault { desk.new.fault ≡ desk.old.fault }
     ensures counted { HasCounted D.tells desk.old.tally desk.new.tally desk.old.worker desk.new.worker }
@@ -100,16 +101,14 @@ pub(crate) fn serve_desk<D: Disk, G: Gate, R: Wait>(
     lock: &TurnLock<Manager<D>>,
     shared: &Shared<D>,
     desk: &mut Desk<D>,
-    requests: &[Request],
     gate: &G,
 )
-    requires ready { IsReadyDesk lock.now shared.now requests.now desk.old }
-    ensures { HasServed D.tells requests.now desk.old desk.new }
+    requires ready { IsReadyDesk lock.now shared.now desk.old }
+    ensures { HasServed D.tells desk.old.requests.items desk.old desk.new }
 {
     let mut going = true;
-    for request in requests {
-        if request.volume == desk.id {
-            going = serve_next(rt, lock, shared, desk, request, gate, going);
-        }
+    for k in 0..desk.requests.len() {
+        let request = desk.requests[k];
+        going = serve_next(rt, lock, shared, desk, &request, gate, going);
     }
 }

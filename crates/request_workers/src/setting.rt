@@ -53,6 +53,7 @@ fn move_all<D: Disk>(alloc: Global, floor: &mut Floor<D>, mut tools: Vec<Tools>)
         floor.desks.push_reserved(Desk {
             id,
             worker,
+            requests: Vec::new(alloc),
             outcomes: Vec::new(alloc),
             payload,
             fetch,
@@ -129,6 +130,7 @@ pub fn take_down<D: Disk>(floor: Floor<D>) -> Vec<Station<D>>
         let Desk {
             id,
             worker,
+            requests: _,
             outcomes: _,
             payload: _,
             fetch: _,

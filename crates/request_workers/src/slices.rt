@@ -3,7 +3,7 @@ ghost use Rattle.std.specs.Prelude.{◌≡◌, ◌^◌, ◌≤◌, ◌<◌, [], 
 ghost use Rattle.wol_model.specs.History.{helper};
 ghost use Rattle.request_turns.specs.Counts.{Counts};
 ghost use Rattle.request_workers.specs.Counted.{HaveCounted};
-ghost use Rattle.request_workers.specs.Desks.{AreReady, AreServed, AreNumbered};
+ghost use Rattle.request_workers.specs.Desks.{AreReady, AreServed, HaveOwn};
 ghost use Rattle.request_workers.specs.Helped.{ArePassesAt, AreSharing, AreAllKept, IsCause};
 ghost use Rattle.request_workers.specs.Requests.{AreOfVolumes};
 ghost use Rattle.request_workers.specs.Worked.{AreWorked, HelpedIn};
@@ -35,32 +35,29 @@ fn serve_mode<'a, D: Disk + Send, G: Gate + Sync, R: Threads + Wait + Sync>(
     helpers: &'a mut [Pass<Manager<D>>],
     room: &'a mut HelperRoom,
     hands: Hands,
-    requests: &'a [Request],
+    rounds: usize,
     reclaim: Reclaim,
     gate: &'a G,
 )
     requires count { length desks.old ≡ length locks.now }
-    requires ready { AreReady locks.now shared.now 0 requests.now desks.old }
+    requires ready { AreReady locks.now shared.now 0 desks.old }
     requires helpers { length helpers.old ≡ length locks.now }
     requires few { length helpers.old ≤ 2 ^ 32 }
     requires passes { ArePassesAt locks.now helper helpers.old }
     requires shared { AreSharing shared.now helpers.old }
     requires cause { IsCause helpers.old room.old.fault }
-    ensures served { AreServed D.tells requests.now desks.old desks.new }
+    ensures served { AreServed D.tells desks.old desks.new }
     ensures helped { HelpedIn D.tells reclaim helpers.old helpers.new }
     ensures counted { HaveCounted D.tells room.old.tally room.new.tally helpers.old helpers.new }
     ensures all_kept { AreAllKept room.new.fault helpers.old helpers.new }
     ensures cause { IsCause helpers.new room.new.fault }
 {
     match reclaim {
-        Reclaim::Off => serve_all(rt, locks, shared, hands, requests, gate, desks),
-        Reclaim::Between => serve_all(rt, locks, shared, hands, requests, gate, desks),
-        Reclaim::Beside => {
-            let rounds = requests.len().saturating_add(1);
-            serve_beside(
-                rt, locks, shared, desks, helpers, room, hands, rounds, requests, gate,
-            )
-        }
+        Reclaim::Off => serve_all(rt, locks, shared, hands, gate, desks),
+        Reclaim::Between => serve_all(rt, locks, shared, hands, gate, desks),
+        Reclaim::Beside => serve_beside(
+            rt, locks, shared, desks, helpers, room, hands, rounds, gate,
+        ),
     }
 }
 
@@ -79,8 +76,8 @@ pub(crate) fn run_window<'a, D: Disk + Send, G: Gate + Sync, R: Threads + Wait +
     out: &'a mut Vec<Outcome>,
 )
     requires count { length desks.old ≡ length locks.now }
-    requires ids { AreNumbered desks.old }
-    requires ready { AreReady locks.now shared.now 0 requests.now desks.old }
+    requires own { HaveOwn requests.now desks.old }
+    requires ready { AreReady locks.now shared.now 0 desks.old }
     requires faultless { (k : ℕ) (d : Desk _) → k < length desks.old → (slice_index_or desks.old k d).fault ≡ None }
     requires fresh { (k : ℕ) (d : Desk _) → k < length desks.old → Counts 0 0 (slice_index_or desks.old k d).tally }
     requires helpers { length helpers.old ≡ length locks.now }
@@ -98,8 +95,9 @@ pub(crate) fn run_window<'a, D: Disk + Send, G: Gate + Sync, R: Threads + Wait +
     ensures all_kept { AreAllKept room.new.fault helpers.old helpers.new }
     ensures cause { IsCause helpers.new room.new.fault }
 {
+    let rounds = requests.len().saturating_add(1);
     serve_mode(
-        rt, locks, shared, desks, helpers, room, hands, requests, reclaim, gate,
+        rt, locks, shared, desks, helpers, room, hands, rounds, reclaim, gate,
     );
     close_all(rt, locks, shared, desks, reclaim);
     collect(desks, requests, out);

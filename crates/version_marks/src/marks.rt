@@ -47,6 +47,9 @@ fn below(versions: &[u64], version: u64) -> usize
     ensures low { (k : ℕ) → k < result → slice_index versions.now k < version }
     ensures high { (k : ℕ) → result ≤ k → k < length versions.now → version ≤ slice_index versions.now k }
 {
+    if version == 0 {
+        return 0;
+    }
     versions.partition_point(|other| *other < version)
 }
 

@@ -36,7 +36,8 @@ pub fn set_leaf(nodes: &mut Vec<u128>, place: usize, mask: u128)
 // The first node from a leaf on that has a bit of `wanted`, or the length of the list.
 //
 // The node `leaf >> height` stands above the leaf. Where it has no such bit, no leaf below it has, and the
-// search goes on behind these and a level higher; where it has one, a level lower.
+// search goes on behind these and a level higher; where it has one, a level lower. It begins above the root, so
+// that one look tells that there is none.
 pub fn first_leaf(nodes: &[u128], from: usize, wanted: u128) -> usize
     requires { IsSummed nodes.now }
     ensures from { from ≤ length nodes.now → from ≤ result }
@@ -45,7 +46,7 @@ pub fn first_leaf(nodes: &[u128], from: usize, wanted: u128) -> usize
     ensures apart { (n : ℕ) → from ≤ n → n < result → AreApart (slice_index nodes.now n) wanted }
 {
     let mut leaf = from;
-    let mut height = 0u32;
+    let mut height = (usize::BITS - nodes.len().leading_zeros()).min(60);
     while leaf < nodes.len() {
         if nodes[leaf >> height] & wanted == 0 {
             leaf = ((leaf >> height) + 1) << height;

@@ -2,7 +2,6 @@ pub mod Lists
 pub mod Spinning
 pub mod Steps
 pub mod Doing
-pub mod Woken
 pub mod Written
 pub mod Hosts
 pub mod Seeing

@@ -25,7 +25,7 @@ use Rattle.whatif.specs.Machine.{seeing}
 use Rattle.whatif.specs.Volumes.{volume_in}
 use Rattle.whatif.proofs.Lists.{all_imply, flags_all, none_passes, passes_none}
 use Rattle.whatif.proofs.Steps.{index_same, lane_of}
-use Rattle.whatif.proofs.Woken.{woken_home, woken_log, covered_is}
+use Rattle.wol_promise.proofs.Woken.{woken_home, woken_log, covered_is}
 
 -- ---- flags
 

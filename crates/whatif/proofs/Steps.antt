@@ -8,10 +8,9 @@ use Rattle.std.proofs.lemmas.Option.{none-some, same_Some, slice_get_within}
 use Rattle.wol_model.specs.Extents.{remarked}
 use Rattle.wol_model.specs.Index.{Listed, Indexed, listed_in, AreRising, is_homed, is_due, goes, has_due, has_going, keeps_a_block, homing, keeping, block_numbers, left}
 use Rattle.wol_model.specs.Log.{has_bit, marks_of}
-use Rattle.wol_model.proofs.DrainGives.{giving_up_lowers}
-use Rattle.wol_model.proofs.DrainPuts.{putting_lowers}
 use Rattle.wol_promise.specs.Policy.{Look}
 use Rattle.wol_promise.proofs.Covers.{any_found}
+use Rattle.wol_promise.proofs.Lowering.{given_lowers, put_lowers, filter_listed}
 use Rattle.wol_promise.proofs.Lists.{all_map, all_member, member_map}
 use Rattle.redirect_map.specs.Index.{Contents, entry_at, changed, given_up, has_version, with_homed, IsAnswer, IsEntry, IsIndex, IsRecordOf}
 use Rattle.redirect_map.specs.Masks.{in_mask, IsMask}
@@ -20,128 +19,11 @@ use Rattle.redirect_map.proofs.Bits.{has_bit-or}
 use Rattle.redirect_map.proofs.Changing.{remarked-marks_of}
 use Rattle.redirect_map.proofs.Seen.{in_mask-bit}
 use Rattle.garbage_list.specs.Least.{first_version, can_go, can_go_home}
+use Rattle.garbage_list.proofs.Nexts.{First, Answered, Spot, answered, found_there, found_passes, first_of_all, least_of, spot_of_version, unanswered, version_in}
 use Rattle.whatif.specs.Machine.{Reach, Action, put_home, give_up, put_step, give_step, next_due, next_to_go, logger_at, step_at}
 use Rattle.whatif.specs.Volumes.{IsLogged, IsVolume, give_answer, look_in, put_answer, reach_in}
 use Rattle.whatif.specs.declared.volume.Volume.{Volume}
 use Rattle.whatif.proofs.Lists.{all_filter, found_none, none_found, none_mapped, none_passes, none_unmapped, passes_none}
-
--- ---- lists
-
--- the element that is found passes, and stands there
-pub found_passes : {X : Type 0} (test : X → Bool) (xs : List X) (x : X) → find test xs ≡ Some x → test x ≡ true
-found_passes test [] x is = absurd (none-some x is)
-found_passes {X} test (y ∷ ys) x is = at (test y) refl is (found_passes test ys x)
-  where
-    at : (t : Bool) → test y ≡ t → cond t (Some y) (find test ys) ≡ Some x → (find test ys ≡ Some x → test x ≡ true) → test x ≡ true
-    at true here found rest = subst (λ (z : X). test z ≡ true) (same_Some y x found) here
-    at false here found rest = rest found
-
-pub found_there : {X : Type 0} (test : X → Bool) (xs : List X) (x : X) → find test xs ≡ Some x → Contains xs x
-found_there test [] x is = absurd (none-some x is)
-found_there {X} test (y ∷ ys) x is = at (test y) is (found_there test ys x)
-  where
-    at : (t : Bool) → cond t (Some y) (find test ys) ≡ Some x → (find test ys ≡ Some x → Contains ys x) → Contains (y ∷ ys) x
-    at true found rest = (0, omega arith, same_Some y x found)
-    at false found rest = let r = rest found in (suc r.0, (let lt = r.1 in omega arith), r.2)
-
--- ---- an entry of an index
-
--- the entry of this version: its place, and the listed records where it is another
-pub record Spot (es : List Indexed) (version : ℕ) (e : Indexed) : Type 0 where
-  pub place : ℕ
-  pub there : slice_get (listed_in es) place ≡ Some e.listed
-  pub then_is : (f : Indexed → Indexed) → listed_in (changed version f es) ≡ slice_set (listed_in es) place (f e).listed
-
-later_differ : (version : ℕ) (es : List Indexed) → AllByRecursion (λ w. version < w) (map (λ (d : Indexed). d.listed.version) es) → AllByRecursion (λ (d : Indexed). has_version version d ≡ false) es
-later_differ version [] all = tt
-later_differ version (x ∷ es) all = (ne_eqb x.listed.version version (λ is. let lt : version < x.listed.version = all.0 in omega arith), later_differ version es all.1)
-
-unchanged : (version : ℕ) (f : Indexed → Indexed) (es : List Indexed) → AllByRecursion (λ (d : Indexed). has_version version d ≡ false) es → changed version f es ≡ es
-unchanged version f [] all = refl
-unchanged version f (x ∷ es) all = λ i. cond (all.0 i) (f x) x ∷ unchanged version f es all.1 i
-
-abbrev here_spot : (x : Indexed) (es : List Indexed) → AreRising (map (λ (d : Indexed). d.listed.version) (x ∷ es)) → Spot (x ∷ es) x.listed.version x
-here_spot x es rising = record {
-  place = 0;
-  there = refl;
-  then_is = λ f i. (cond (eq-eqb x.listed.version x.listed.version refl i) (f x) x).listed ∷ listed_in (unchanged x.listed.version f es (later_differ x.listed.version es rising.0) i);
-}
-
-abbrev behind_spot : (x : Indexed) (es : List Indexed) (version : ℕ) (e : Indexed) → has_version version x ≡ false → Spot es version e → Spot (x ∷ es) version e
-behind_spot x es version e other s = record {
-  place = suc s.place;
-  there = s.there;
-  then_is = λ f i. (cond (other i) (f x) x).listed ∷ s.then_is f i;
-}
-
-pub spot_of_version : (es : List Indexed) (version : ℕ) (e : Indexed) → AreRising (map (λ (d : Indexed). d.listed.version) es) → entry_at es version ≡ Some e → Spot es version e
-spot_of_version [] version e rising is = absurd (none-some e is)
-spot_of_version (x ∷ es) version e rising is = at (has_version version x) refl is (spot_of_version es version e rising.1)
-  where
-    at : (t : Bool) → has_version version x ≡ t → cond t (Some x) (entry_at es version) ≡ Some e → (entry_at es version ≡ Some e → Spot es version e) → Spot (x ∷ es) version e
-    at true here found rest =
-        let same : x ≡ e = same_Some x e found in
-        subst (λ (d : Indexed). Spot (x ∷ es) version d) same (subst (λ (v : ℕ). Spot (x ∷ es) v x) (eqb-true x.listed.version version here) (here_spot x es rising))
-    at false here found rest = behind_spot x es version e here (rest found)
-
--- ---- the first that passes
-
--- the first entry whose listed record passes
-pub record First (P : Listed → Bool) (es : List Indexed) (e : Indexed) : Type 0 where
-  pub spot : Spot es e.listed.version e
-  pub before : prefix_len (λ (d : Listed). not (P d)) (listed_in es) ≡ spot.place
-  pub entry : entry_at es e.listed.version ≡ Some e
-  pub passes : P e.listed ≡ true
-
-one_more : (n : ℕ) → 1 + n ≡ suc n
-one_more n = omega arith
-
-pub first_of_all : (P : Listed → Bool) (es : List Indexed) (e : Indexed) → AreRising (map (λ (d : Indexed). d.listed.version) es) → find (λ (d : Indexed). P d.listed) es ≡ Some e → First P es e
-first_of_all P [] e rising is = absurd (none-some e is)
-first_of_all P (x ∷ es) e rising is = at (P x.listed) refl is (first_of_all P es e rising.1)
-  where
-    at : (t : Bool) → P x.listed ≡ t → cond t (Some x) (find (λ (d : Indexed). P d.listed) es) ≡ Some e → (find (λ (d : Indexed). P d.listed) es ≡ Some e → First P es e) → First P (x ∷ es) e
-    at true here found more = subst (First P (x ∷ es)) (same_Some x e found) (record {
-      spot = here_spot x es rising;
-      before = (λ i. cond (not (here i)) (1 + prefix_len (λ (d : Listed). not (P d)) (listed_in es)) 0);
-      entry = (λ i. cond (eq-eqb x.listed.version x.listed.version refl i) (Some x) (entry_at es x.listed.version));
-      passes = here;
-    })
-    at false here found more =
-        let rest = more found in
-        let lt : x.listed.version < e.listed.version = all_member (λ (v : ℕ). x.listed.version < v) (map (λ (d : Indexed). d.listed.version) es) e.listed.version rising.0
-        (member_map (λ (d : Indexed). d.listed.version) es e (found_there (λ (d : Indexed). P d.listed) es e found)) in
-        let other : has_version e.listed.version x ≡ false = ne_eqb x.listed.version e.listed.version (λ same. omega arith) in record {
-          spot = behind_spot x es e.listed.version e other rest.spot;
-          before = (λ i. cond (not (here i)) (1 + prefix_len (λ (d : Listed). not (P d)) (listed_in es)) 0) ∙ one_more (prefix_len (λ (d : Listed). not (P d)) (listed_in es)) ∙ ap suc rest.before;
-          entry = (λ i. cond (other i) (Some x) (entry_at es e.listed.version)) ∙ rest.entry;
-          passes = rest.passes;
-        }
-
--- so it is by its position
-pub least_of : (P : Listed → Bool) (es : List Indexed) (e : Indexed) (f : First P es e) → position P (listed_in es) ≡ Some f.spot.place
-least_of P es e f =
-    let lt = slice_get_within (listed_in es) f.spot.place e.listed f.spot.there in
-    ap (λ (n : ℕ). cond (nat_lt n (length (listed_in es))) (Some n) None) f.before ∙ ap (λ (t : Bool). cond t (Some f.spot.place) None) (lt-ltb f.spot.place (length (listed_in es)) lt)
-
--- ---- the answers of the calls
-
-pub record Answered (o : Option Indexed) (r : Rec) : Type 0 where
-  pub entry : Indexed
-  pub is : o ≡ Some entry
-  pub record_ : IsRecordOf entry r
-
-pub answered : (o : Option Indexed) (r : Rec) → IsAnswer o (Some r) → Answered o r
-answered None r is = absurd is
-answered (Some e) r is = record { entry = e; is = refl; record_ = is }
-
-pub unanswered : (o : Option Indexed) → IsAnswer o None → o ≡ None
-unanswered None is = refl
-unanswered (Some e) is = absurd is
-
-version_in : (o : Option Indexed) (version : ℕ) → option_map (λ (e : Indexed). e.listed.version) o ≡ Some version → (e : Indexed) × (o ≡ Some e) × (e.listed.version ≡ version)
-version_in None version is = absurd (none-some version is)
-version_in (Some e) version is = (e, refl, same_Some e.listed.version version is)
 
 -- ---- marks
 
@@ -185,33 +67,10 @@ given_then es e given bits = λ i. record e.listed { keep = same e.listed.keep i
 
 -- ---- what is left
 
-pub record Around {X : Type 0} (xs : List X) (k : ℕ) (x : X) : Type 0 where
-  pub front : List X
-  pub back : List X
-  pub is : xs ≡ front ++ x ∷ back
-  pub set : (y : X) → slice_set xs k y ≡ front ++ y ∷ back
-
-around : {X : Type 0} (xs : List X) (k : ℕ) (x : X) → slice_get xs k ≡ Some x → Around xs k x
-around [] k x is = absurd (none-some x is)
-around (z ∷ xs) zero x is = record { front = []; back = xs; is = λ i. same_Some z x is i ∷ xs; set = λ y. refl }
-around (z ∷ xs) (suc k) x is = let rest = around xs k x is in record { front = z ∷ rest.front; back = rest.back; is = λ i. z ∷ rest.is i; set = λ y i. z ∷ rest.set y i }
-
-given_lowers : (listed : List Listed) (place : ℕ) (x : Listed) → slice_get listed place ≡ Some x → has_going listed x ≡ true → left (filter keeps_a_block (slice_set listed place (keeping listed x))) < left listed
-given_lowers listed place x is some =
-    let a = around listed place x is in
-    let f = any_found (goes listed x) (block_numbers x) some in
-    let lower = giving_up_lowers a.front a.back x f.item (subst (λ (l : List Listed). goes l x f.item ≡ true) a.is f.passes) in
-    let now : filter keeps_a_block (slice_set listed place (keeping listed x)) ≡ filter keeps_a_block (a.front ++ keeping (a.front ++ x ∷ a.back) x ∷ a.back) = ap (filter keeps_a_block) (a.set (keeping listed x) ∙ (λ i. a.front ++ keeping (a.is i) x ∷ a.back)) in
-    let l = ap left now in let r = ap left a.is in
-    omega (arith, lower, l, r)
-
-put_lowers : (listed : List Listed) (place : ℕ) (x : Listed) → slice_get listed place ≡ Some x → length x.homed ≡ length x.keep → has_due listed x ≡ true → left (slice_set listed place (homing (is_due listed x) x)) < left listed
-put_lowers listed place x is sized some =
-    let a = around listed place x is in
+due_lowers : (listed : List Listed) (place : ℕ) (x : Listed) → slice_get listed place ≡ Some x → length x.homed ≡ length x.keep → has_due listed x ≡ true → left (slice_set listed place (homing (is_due listed x) x)) < left listed
+due_lowers listed place x is sized some =
     let f = any_found (is_due listed x) (block_numbers x) some in
-    let lower = putting_lowers a.front a.back x (is_due listed x) f.item sized (λ c p. subst (λ (l : List Listed). is_due l x c ≡ true) a.is p) f.passes in
-    let l = ap left (a.set (homing (is_due listed x) x)) in let r = ap left a.is in
-    omega (arith, lower, l, r)
+    put_lowers listed place x (is_due listed x) f.item is sized (λ c p. p) f.passes
 
 -- ---- the steps
 
@@ -226,15 +85,6 @@ all_changed P version f so (x ∷ es) all = (at (has_version version x), all_cha
 pub some_of : {X : Type 0} (P : X → Type 0) (o : Option X) (x : X) → IfSome o P → o ≡ Some x → P x
 some_of P None x is same = absurd (none-some x same)
 some_of P (Some y) x is same = let Q : _ → Type 0 = λ z. P z in subst Q (same_Some y x same) is
-
-filter_listed : (xs : List Indexed) → listed_in (filter (λ (d : Indexed). keeps_a_block d.listed) xs) ≡ filter keeps_a_block (listed_in xs)
-filter_listed [] = refl
-filter_listed (x ∷ xs) = at (keeps_a_block x.listed) (filter_listed xs)
-  where
-    at : (t : Bool) → listed_in (filter (λ (d : Indexed). keeps_a_block d.listed) xs) ≡ filter keeps_a_block (listed_in xs)
-        → listed_in (cond t (x ∷ filter (λ (d : Indexed). keeps_a_block d.listed) xs) (filter (λ (d : Indexed). keeps_a_block d.listed) xs)) ≡ cond t (x.listed ∷ filter keeps_a_block (listed_in xs)) (filter keeps_a_block (listed_in xs))
-    at true rest = λ i. x.listed ∷ rest i
-    at false rest = rest
 
 module _ (r : Reach) (ups : List Bool) (next : ℕ) (es : List Indexed) (index : IsIndex es) (version : ℕ) (rec : Rec) (there : IsAnswer (entry_at es version) (Some rec)) where
   module _ (P : Listed → Bool) (first : first_version (λ (d : Indexed). P d.listed) es ≡ Some version) where
@@ -280,7 +130,7 @@ module _ (r : Reach) (ups : List Bool) (next : ℕ) (es : List Indexed) (index :
     pub put_less : left (listed_in (changed version (with_homed (bit_or homed mask)) es)) < left (listed_in es)
     put_less =
         let same = ap left listed_then in
-        let less = put_lowers (listed_in es) (its P first).spot.place e.listed (its P first).spot.there (marks P first) (and_parts (slice_index_or ups e.listed.lane false) (has_due (listed_in es) e.listed) (its P first).passes).1 in
+        let less = due_lowers (listed_in es) (its P first).spot.place e.listed (its P first).spot.there (marks P first) (and_parts (slice_index_or ups e.listed.lane false) (has_due (listed_in es) e.listed) (its P first).passes).1 in
         omega (arith, same, less)
 
   module _ (first : first_version (can_go ups es) es ≡ Some version) (home_up : Bool) (given : ℕ) (bits : IfSome (entry_at es version) (λ e. IsMask e.listed.first (goes (listed_in es) e.listed) given)) where

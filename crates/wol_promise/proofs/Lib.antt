@@ -28,3 +28,5 @@ pub mod PlacingRules
 pub mod OpenedManager
 pub mod WhatIsRefused
 pub mod LookSteps
+pub mod Woken
+pub mod Lowering

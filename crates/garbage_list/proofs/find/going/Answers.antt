@@ -1,4 +1,4 @@
-use Rattle.std.proofs.Common.{Option, not, ap, subst, sym, true, false, arith}
+use Rattle.std.proofs.Common.{Option, not, ap, subst, true, false, arith}
 use Rattle.std.proofs.lemmas.Bool.{and_from, and_right, eq-eqb, ne_eqb}
 use Rattle.wol_model.specs.Index.{Indexed, listed_in, goes}
 use Rattle.redirect_map.specs.declared.record.Rec.{Rec}

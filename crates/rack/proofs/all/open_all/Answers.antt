@@ -11,8 +11,9 @@ use Rattle.rack.specs.Opening.{IsOpeningRack, HasBegun, HaveFaults}
 use Rattle.rack.specs.declared.heads_said.Said.{Said}
 use Rattle.rack.proofs.Complete.{opens_all}
 use Rattle.rack.proofs.Issues.{on_err}
+use Rattle.rack.proofs.OthersKept.{others_same, others_then}
 use Rattle.rack.proofs.TakenBack.{left_back, nothing_done}
-use Rattle.rack.proofs.OpenedAll.{out_after, opened_out, opened_home, opened_apart, opened_faulty, opened_unfaulty, opened_kept, opened_failed, opened_there, closed_left, closed_sound, quiet_stations, fresh_passes, count_spindles, count_pools, told_at}
+use Rattle.rack.proofs.OpenedAll.{out_after, opened_out, opened_home, opened_apart, opened_others, opened_faulty, opened_unfaulty, opened_kept, opened_failed, opened_there, closed_left, closed_sound, quiet_stations, fresh_passes, count_spindles, count_pools, told_at}
 use Rattle.rack.proofs.TakenBegun.{begun_first, refused_first}
 use Rattle.rack.proofs.TakenReady.{taken_opening, many}
 use Rattle.rack.proofs.all.open_all.Goals as goal
@@ -169,7 +170,7 @@ returns-in-Ok-open_volumes-clause-apart g c =
     let faults_are = c.filled-rack.ensures.faults in
     let last = c.open_volumes.new.self in
     let out_is = out_after tells state config c.requires.config b b1 t taken first last images_are c.open_volumes.ensures.same_out in
-    λ telling. opened_apart tells state config c.requires.config b b1 t taken last out_is
+    opened_apart tells state config c.requires.config b b1 t taken last out_is
 
 pub returns-in-Ok-open_volumes-clause-faulty : goal.returns-in-Ok-open_volumes-clause-faulty
 returns-in-Ok-open_volumes-clause-faulty g c =
@@ -297,7 +298,7 @@ returns-clause-left g c = λ telling.
     let out_is = out_after tells state config c.requires.config b b1 t taken first last images_are c.open_volumes.ensures.same_out in
     let began : IsTrue tells → (old : Told) → b.told ≡ Some old → AreNamedApart old → BeganWith state config old last = λ telling old is apart.
     c.open_volumes.ensures.began telling old (subst (λ (l : List (Option Said)). HasBegun state config old l 0 first) (sym c.as_slice.ensures.value) (begun_first tells state config c.requires.config b b1 t taken first set_up images_are faults_are telling old is apart)) in
-    closed_left tells state config c.requires.config b b1 (g.B.Bay.state c.close_all-spindles.new.bay) t taken last out_is closed.counts (closed.kept telling)
+    closed_left tells state config c.requires.config b b1 (g.B.Bay.state c.close_all-spindles.new.bay) t taken last out_is closed.counts closed.faulty (closed.kept telling) (closed.parts telling)
     (λ old is apart. closed.volumes old telling (began telling old is apart) (opened_there tells state config c.requires.config b b1 t taken last out_is telling old is apart) (quiet_stations last.stations.items c.open_volumes.ensures.fresh))
 
 pub returns-clause-sound : goal.returns-clause-sound
@@ -318,7 +319,7 @@ returns-clause-sound g c = λ telling.
     let out_is = out_after tells state config c.requires.config b b1 t taken first last images_are c.open_volumes.ensures.same_out in
     let began : IsTrue tells → (old : Told) → b.told ≡ Some old → AreNamedApart old → BeganWith state config old last = λ telling old is apart.
     c.open_volumes.ensures.began telling old (subst (λ (l : List (Option Said)). HasBegun state config old l 0 first) (sym c.as_slice.ensures.value) (begun_first tells state config c.requires.config b b1 t taken first set_up images_are faults_are telling old is apart)) in
-    closed_sound tells state config c.requires.config b b1 (g.B.Bay.state c.close_all-spindles.new.bay) t taken last out_is closed.counts (closed.kept telling)
+    closed_sound tells state config c.requires.config b b1 (g.B.Bay.state c.close_all-spindles.new.bay) t taken last out_is closed.counts closed.faulty (closed.kept telling)
     (λ old is apart. closed.sound old telling (began telling old is apart) (opened_there tells state config c.requires.config b b1 t taken last out_is telling old is apart))
 
 pub returns-in-Ok-open_volumes-clause-complete : goal.returns-in-Ok-open_volumes-clause-complete
@@ -328,3 +329,33 @@ returns-in-Ok-open_volumes-clause-complete g c =
     λ telling. told_at b.told (λ old is apart sound no_part calm k lt.
     opens_all c.args.config.now c.requires.config old sound g.B.Part.Disk.tells telling g.B.Part.Disk.state b b1 is apart c.open_volumes.new.self
     (returns-in-Ok-open_volumes-clause-rack g c) (returns-in-Ok-open_volumes-clause-refused g c) (returns-in-Ok-open_volumes-clause-failed g c) no_part calm k lt)
+
+pub returns-in_err-lists-clause-others : goal.returns-in_err-lists-clause-others
+returns-in_err-lists-clause-others g c = others_same c.args.config.now (g.B.Bay.state c.args.bay.now).told
+
+pub returns-in-Ok-open_volumes-clause-others : goal.returns-in-Ok-open_volumes-clause-others
+returns-in-Ok-open_volumes-clause-others g c =
+    let tells = g.B.Part.Disk.tells in
+    let state = g.B.Part.Disk.state in
+    let config = c.args.config.now in
+    let b = g.B.Bay.state c.args.bay.now in
+    let b1 = g.B.Bay.state c.take_out.new.bay in
+    let t = c.in-Ok.taken in
+    let taken = c.in-Ok.ensures.taken in
+    let last = c.open_volumes.new.self in
+    let out_is = out_after tells state config c.requires.config b b1 t taken c.filled-rack.result last c.filled-rack.ensures.images c.open_volumes.ensures.same_out in
+    opened_others tells state config c.requires.config b b1 t taken last out_is
+
+pub returns-clause-others : goal.returns-clause-others
+returns-clause-others g c =
+    let tells = g.B.Part.Disk.tells in
+    let state = g.B.Part.Disk.state in
+    let config = c.args.config.now in
+    let b = g.B.Bay.state c.args.bay.now in
+    let b1 = g.B.Bay.state c.take_out.new.bay in
+    let b2 = g.B.Bay.state c.close_all-spindles.new.bay in
+    let t = c.in-Ok.taken in
+    let taken = c.in-Ok.ensures.taken in
+    let last = c.open_volumes.new.self in
+    let out_is = out_after tells state config c.requires.config b b1 t taken c.filled-rack.result last c.filled-rack.ensures.images c.open_volumes.ensures.same_out in
+    others_then config b.told b1.told b2.told (opened_apart tells state config c.requires.config b b1 t taken last out_is) (opened_others tells state config c.requires.config b b1 t taken last out_is) c.close_all-spindles.ensures.others

@@ -16,6 +16,7 @@ use Rattle.rack.specs.declared.locks.Issued.{Issued}
 use Rattle.rack.specs.declared.rack.ImageRest.{ImageRest}
 use Rattle.rack.proofs.SentNames.{names_out}
 use Rattle.rack.proofs.Issues.{on_err}
+use Rattle.rack.proofs.OthersKept.{others_same, others_then, back_others, sent_others, sent_apart}
 use Rattle.rack.proofs.TakenBack.{left_back, sound_back, nothing_done, left_again, sound_again}
 use Rattle.rack.proofs.TakenOut.{shape_here, may_issue, again, same_here, home_again}
 use Rattle.rack.proofs.all.take_out.Goals as goal
@@ -156,3 +157,16 @@ returns-in-Err-issue_pools-clause-sound g c =
     sound_again g.B.Part.Disk.tells state c.args.config.now c.requires.config b b1 b2 c.in-Ok.images c.in-Ok.ensures.asked c.in-Ok.ensures.out c.issue_pools.new.images count restores
     (subst (λ (l : List (Option (ImageRest g.row.B-Part.Denot))). IsTold (GivesBack state c.args.config.now l 0) b1.told b2.told) e c.give_back.ensures.back) c.give_back.ensures.counts
     (λ telling d. g.met.B.Part.Disk.told telling d) g.met.B.Part.Disk.sound
+
+pub returns-in_err-spindles-clause-others : goal.returns-in_err-spindles-clause-others
+returns-in_err-spindles-clause-others g c = others_same c.args.config.now (g.B.Bay.state c.args.bay.now).told
+
+pub returns-in-Err-issue_pools-clause-others : goal.returns-in-Err-issue_pools-clause-others
+returns-in-Err-issue_pools-clause-others g c =
+    let config = c.args.config.now in
+    let b = g.B.Bay.state c.args.bay.now in
+    let b1 = g.B.Bay.state c.open_images.new.bay in
+    let b2 = g.B.Bay.state c.give_back.new.bay in
+    let out = c.in-Ok.images.out.items in
+    let n = length config.volumes.items in
+    others_then config b.told b1.told b2.told (sent_apart config out n b b1 c.in-Ok.ensures.out) (sent_others config out n b b1 c.in-Ok.ensures.out) (back_others config _ g.B.Part.Disk.state b1.told b2.told c.give_back.ensures.back)

@@ -1,4 +1,4 @@
-use Rattle.std.proofs.Common.{◌≡◌, ◌≤◌, length, sym, ap, ◌∙◌, subst, arith}
+use Rattle.std.proofs.Common.{◌≡◌, ◌≢◌, ◌≤◌, ℕ, false, length, sym, ap, ◌∙◌, subst, arith}
 use Rattle.std.specs.List.{AllByRecursion}
 use Rattle.turn_lock.specs.declared.pass.PassOf.{PassOf}
 use Rattle.spin_model.specs.declared.spindle.Spindle.{Spindle}
@@ -11,7 +11,7 @@ use Rattle.rack.proofs.PartsThrough.{fault_through}
 use Rattle.rack.proofs.LeftOfParts.{left_parts}
 use Rattle.rack.proofs.QuietClosed.{left_quiet}
 use Rattle.rack.proofs.LeftSound.{left_sound, left_kept}
-use Rattle.rack.proofs.LeftVolumes.{volume_recovers}
+use Rattle.rack.proofs.LeftVolumes.{closed_recovers, volume_recovers}
 use Rattle.rack.proofs.closing.close_all.Goals as goal
 
 pub close_stations-requires : goal.close_stations-requires
@@ -123,6 +123,8 @@ returns-clause-spindles g c = λ k s at.
       entries = is.entries;
       stands = λ m there. subst (λ q. Rattle.spin_model.specs.Spindles.StandsFor s (Rattle.turn_lock.specs.Passes.lock_id q).base is.entries) (Rattle.std.proofs.lemmas.Option.same_Some l.0 m (sym l.1 ∙ there)) is.stands;
       accesses = λ q there. subst (λ (x : PassOf Spindle SpindleBase). AllByRecursion (Rattle.rack.specs.Closing.IsAccessBut (Rattle.turn_lock.specs.Passes.pass_number x)) is.entries) (Rattle.std.proofs.lemmas.Option.same_Some p.0 q (sym p.1 ∙ there)) is.accesses;
+      ended = λ q there. subst (λ (x : PassOf Spindle SpindleBase). (n : ℕ) → n ≢ Rattle.turn_lock.specs.Passes.pass_number x → Rattle.spin_model.specs.Operations.has_token (Rattle.turn_lock.specs.Histories.own n is.entries) ≡ false)
+          (Rattle.std.proofs.lemmas.Option.same_Some p.0 q (sym p.1 ∙ there)) is.ended;
       keeper_part = λ q there. subst (λ x. Rattle.turn_lock.specs.Passes.IsPartOf is.entries x) (Rattle.std.proofs.lemmas.Option.same_Some p.0 q (sym p.1 ∙ there)) is.keeper_part;
     }
 
@@ -216,6 +218,21 @@ returns-clause-volumes g c = λ entry told began there quiet.
     told_map (Rattle.rack.specs.Closing.GivesBack state config second.images.items 0) (λ o n. Rattle.rack.specs.Owners.HadRefused config c.args.rack.rest.images.items entry o → Rattle.rack.specs.Closes.LeavesVolumes config c.args.rack entry n) old.told new.told given
     (λ o n back had images left v. volume_recovers state g.B.Part.Disk.tells told (g.met.B.Part.Disk.told told) g.met.B.Part.Disk.sound config c.requires.config few old c.args.rack can c.close_stations.new.self second is1 c.close_stations.ensures.closed c.close_pools.ensures.images c.close_pools.ensures.spindles o n back entry began there had images left quiet v)
 
+pub returns-clause-unopened : goal.returns-clause-unopened
+returns-clause-unopened g c = λ entry told began there.
+    let can = c.requires.rack in
+    let state = g.B.Part.Disk.state in
+    let config = c.args.config.now in
+    let shared = c.args.rack.shared in
+    let is1 = c.close_stations.ensures.rest config shared (stations_may state config (g.B.Bay.state c.args.bay.now) c.args.rack can) in
+    let second = c.close_pools.new.self in
+    let old = g.B.Bay.state c.args.bay.now in
+    let new = g.B.Bay.state c.give_back.new.bay in
+    let few : length (shapes_of config) ≤ 64 = let n = Rattle.std.proofs.lemmas.List.length-map config.volumes.items (Rattle.volume_images.specs.Volumes.shape_in config) in omega (arith, n, c.requires.config.count) in
+    let given = subst (λ w. Rattle.volume_images.specs.Left.IsTold (Rattle.rack.specs.Closing.GivesBack state config w.items 0) old.told new.told) c.close_spindles.ensures.images c.give_back.ensures.back in
+    told_map (Rattle.rack.specs.Closing.GivesBack state config second.images.items 0) (λ o n. Rattle.rack.specs.Owners.HadRefused config c.args.rack.rest.images.items entry o → Rattle.rack.specs.Closes.LeavesUnopened config c.args.rack entry n) old.told new.told given
+    (λ o n back had images left v others. closed_recovers state g.B.Part.Disk.tells told (g.met.B.Part.Disk.told told) g.met.B.Part.Disk.sound config c.requires.config few old c.args.rack can c.close_stations.new.self second is1 c.close_stations.ensures.closed c.close_pools.ensures.images c.close_pools.ensures.spindles o n back entry began there had images left v (λ s has. others s has))
+
 pub returns-clause-kept : goal.returns-clause-kept
 returns-clause-kept g c = λ told.
     let can = c.requires.rack in
@@ -229,3 +246,33 @@ returns-clause-kept g c = λ told.
     let given = subst (λ w. Rattle.volume_images.specs.Left.IsTold (Rattle.rack.specs.Closing.GivesBack state config w.items 0) old.told new.told) c.close_spindles.ensures.images c.give_back.ensures.back in
     told_map (Rattle.rack.specs.Closing.GivesBack state config second.images.items 0) (Rattle.rack.specs.Owners.HadRefused config c.args.rack.rest.images.items) old.told new.told given
     (λ o n back. left_kept state g.B.Part.Disk.tells config old c.args.rack can c.close_stations.new.self second is1 c.close_stations.ensures.closed c.close_pools.ensures.images c.close_pools.ensures.spindles c.requires.config o n back)
+
+pub returns-clause-others : goal.returns-clause-others
+returns-clause-others g c =
+    let state = g.B.Part.Disk.state in
+    let config = c.args.config.now in
+    let second = c.close_pools.new.self in
+    let old = g.B.Bay.state c.args.bay.now in
+    let new = g.B.Bay.state c.give_back.new.bay in
+    let given = subst (λ w. Rattle.volume_images.specs.Left.IsTold (Rattle.rack.specs.Closing.GivesBack state config w.items 0) old.told new.told) c.close_spindles.ensures.images c.give_back.ensures.back in
+    told_map (Rattle.rack.specs.Closing.GivesBack state config second.images.items 0) (Rattle.rack.specs.Opens.KeepsOthers config) old.told new.told given (λ o n back name not. back.others name (λ k v le at there. not k v at))
+
+pub returns-clause-faulty : goal.returns-clause-faulty
+returns-clause-faulty g c =
+    let state = g.B.Part.Disk.state in
+    let config = c.args.config.now in
+    let second = c.close_pools.new.self in
+    let old = g.B.Bay.state c.args.bay.now in
+    let new = g.B.Bay.state c.give_back.new.bay in
+    let given = subst (λ w. Rattle.volume_images.specs.Left.IsTold (Rattle.rack.specs.Closing.GivesBack state config w.items 0) old.told new.told) c.close_spindles.ensures.images c.give_back.ensures.back in
+    told_map (Rattle.rack.specs.Closing.GivesBack state config second.images.items 0) Rattle.rack.specs.Opens.HasFaulty old.told new.told given (λ o n back. (back.more, back.faulty))
+
+pub returns-clause-apart : goal.returns-clause-apart
+returns-clause-apart g c =
+    let state = g.B.Part.Disk.state in
+    let config = c.args.config.now in
+    let second = c.close_pools.new.self in
+    let old = g.B.Bay.state c.args.bay.now in
+    let new = g.B.Bay.state c.give_back.new.bay in
+    let given = subst (λ w. Rattle.volume_images.specs.Left.IsTold (Rattle.rack.specs.Closing.GivesBack state config w.items 0) old.told new.told) c.close_spindles.ensures.images c.give_back.ensures.back in
+    told_map (Rattle.rack.specs.Closing.GivesBack state config second.images.items 0) (λ o n. Rattle.volume_images.specs.Left.AreNamedApart n) old.told new.told given (λ o n back. back.apart)

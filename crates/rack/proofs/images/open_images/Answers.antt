@@ -6,6 +6,8 @@ use Rattle.wol_config.specs.declared.config.VolumeConf.{VolumeConf}
 use Rattle.volume_images.specs.Volumes.{shape_in}
 use Rattle.rack.specs.Opening.{HasSentOut, AreAsked}
 use Rattle.rack.proofs.Asking.{some_at, asked_more, asked_later, none_asked}
+use Rattle.rack.proofs.NewFaults.{same_faulty}
+use Rattle.rack.proofs.OthersKept.{others_same, others_then, back_others, sent_others, sent_apart}
 use Rattle.rack.proofs.SentNames.{same_until, sent_on, none_sent, next_home, names_out, sent_same}
 use Rattle.rack.proofs.AllBack.{all_back, all_whole, nothing_out}
 use Rattle.rack.proofs.UsedPass.{used_spindle}
@@ -118,7 +120,8 @@ returns-in-Err-clause-err g c =
     let at_once = c.in-Err.ensures.err in
     let inv = c.loop-id.invariant in
     all_back g.B.Part.Disk.tells g.B.Part.Disk.state g.met.B.Part.Disk.told c.args.config.now b b2 b3 c.loop-id.id c.loop-id.images
-    (asked_later g.B.Part.Disk.tells g.B.Part.Disk.state c.args.config.now b b1 b2 c.loop-id.id c.loop-id.images at_once.counts inv.asked)
+    (asked_later g.B.Part.Disk.tells g.B.Part.Disk.state c.args.config.now b b1 b2 c.loop-id.id c.loop-id.images at_once.counts
+    (sent_apart c.args.config.now c.loop-id.images.out.items c.loop-id.id b b1 inv.sent) (same_faulty b1.told b2.told at_once.same) inv.asked)
     (sent_same c.args.config.now c.loop-id.images.out.items c.loop-id.id b b1 b2 inv.sent at_once) c.give_back.ensures.back c.requires.home c.give_back.ensures.home c.give_back.ensures.counts
 
 pub loop-id-preserved : goal.loop-id-preserved
@@ -148,3 +151,21 @@ loop-id-preserved g c =
       count = length-set c.loop-id.spindles n c.open_next.new.spindle ∙ count;
       spindles = used_spindle (length vs) config.timeout c.loop-id.spindles n c.index-spindles-id.result c.open_next.new.spindle inv.spindles lt c.open_next.ensures.spindle c.open_next.ensures.passes;
     }
+
+pub returns-in_err-images-clause-others : goal.returns-in_err-images-clause-others
+returns-in_err-images-clause-others g c = others_same c.args.config.now (g.B.Bay.state c.args.bay.now).told
+
+pub returns-in-Err-clause-others : goal.returns-in-Err-clause-others
+returns-in-Err-clause-others g c =
+    let config = c.args.config.now in
+    let b = g.B.Bay.state c.args.bay.now in
+    let b1 = g.B.Bay.state c.loop-id.bay in
+    let b2 = g.B.Bay.state c.open_next.new.bay in
+    let b3 = g.B.Bay.state c.give_back.new.bay in
+    let out = c.loop-id.images.out.items in
+    let n = c.loop-id.id in
+    let sent = sent_same config out n b b1 b2 c.loop-id.invariant.sent c.in-Err.ensures.err in
+    others_then config b.told b2.told b3.told (sent_apart config out n b b2 sent) (sent_others config out n b b2 sent) (back_others config _ g.B.Part.Disk.state b2.told b3.told c.give_back.ensures.back)
+
+pub returns-clause-others : goal.returns-clause-others
+returns-clause-others g c = sent_others c.args.config.now c.loop-id.images.out.items c.loop-id.id (g.B.Bay.state c.args.bay.now) (g.B.Bay.state c.loop-id.bay) c.loop-id.invariant.sent

@@ -9,7 +9,8 @@ use Rattle.manager.proofs.ReadStops.{stops_read}
 use Rattle.reclaimer.proofs.Draining.{none_left}
 use Rattle.reclaimer.proofs.DrainStep.{awake_answer, byte_is, first_awake, first_there, first_passes, given_drains, given_less, given_look, drop_refused, moved_drains}
 use Rattle.reclaimer.proofs.GiveUp.{some_and}
-use Rattle.reclaimer.proofs.Nexts.{unanswered, within_reach}
+use Rattle.garbage_list.proofs.Nexts.{unanswered}
+use Rattle.reclaimer.proofs.Reach.{within_reach}
 use Rattle.reclaimer.proofs.drain.drain_awake.Goals as goal
 
 -- all loggers count as awake

@@ -8,7 +8,7 @@ use Rattle.manager.proofs.ReadThrough.{never_some}
 use Rattle.reclaimer.proofs.CountedGone.{whole_counts, part_counts, less_left, fails_counts}
 use Rattle.reclaimer.proofs.GiveUp.{going_of, goes_of, there_of, given_whole, given_part, given_fails, reclaims}
 use Rattle.reclaimer.proofs.Moments.{within, at_rest, tried_within}
-use Rattle.reclaimer.proofs.Nexts.{within_reach}
+use Rattle.reclaimer.proofs.Reach.{within_reach}
 use Rattle.reclaimer.proofs.TakenOff.{nothing_taken}
 use Rattle.reclaimer.proofs.give_up.invalidate_one.Goals as goal
 

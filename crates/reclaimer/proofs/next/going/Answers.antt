@@ -1,7 +1,7 @@
 -- The least version is that of the first entry.
 use Rattle.std.proofs.Common.{◌&&◌, false, sym, slice_index_or}
 use Rattle.wol_model.specs.Index.{listed_in, has_going}
-use Rattle.reclaimer.proofs.Nexts.{answer_of_first}
+use Rattle.garbage_list.proofs.Nexts.{answer_of_first}
 use Rattle.reclaimer.proofs.next.going.Goals as goal
 
 pub returns-clause-answer : goal.returns-clause-answer

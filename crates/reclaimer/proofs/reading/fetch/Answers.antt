@@ -7,7 +7,7 @@ use Rattle.reclaimer.specs.Records.{record_of}
 use Rattle.reclaimer.specs.declared.room.Filled.{Filled}
 use Rattle.reclaimer.proofs.Fetching.{due_of, due_there, stays_empty, lent_back, fetched_look, next_fetched, finds_due, not_fetched, look_of_fault}
 use Rattle.reclaimer.proofs.Moments.{within, at_rest, tried_within}
-use Rattle.reclaimer.proofs.Nexts.{within_reach}
+use Rattle.reclaimer.proofs.Reach.{within_reach}
 use Rattle.reclaimer.proofs.reading.fetch.Goals as goal
 
 pub returns-in-Some-clause-any_moment : goal.returns-in-Some-clause-any_moment

@@ -2,6 +2,7 @@ use Rattle.std.proofs.Common.{◌∙◌, Err, ap, inr, length, refl}
 use Rattle.wol_io.proofs.Appending.{keeps_same}
 use Rattle.std.proofs.lemmas.List.{length-map}
 use Rattle.volume_images.specs.Volumes.{shape_in}
+use Rattle.rack.proofs.OthersKept.{others_then}
 use Rattle.replay.proofs.Closed.{closable_now, home_outs, journals_now, outs_same, same_rest}
 use Rattle.replay.proofs.RacksServed.{can_serve}
 use Rattle.replay.specs.Completes.{Completes}
@@ -90,7 +91,7 @@ returns-in_err-counted-clause-replays g c =
       failed = opened.failed;
       counts = opened.counts;
     })
-    (record { stations = closed.stations; told = closed.parts; kept = closed.kept; volumes = closed.volumes; sound = closed.sound; cause = closed.cause; counts = closed.counts })
+    (record { stations = closed.stations; told = closed.parts; kept = closed.kept; volumes = closed.volumes; sound = closed.sound; cause = closed.cause; counts = closed.counts; faulty = closed.faulty; parts = closed.parts })
     (g.K.Sink.faults c.args.out.now) (g.K.Sink.faults run.new.out) (g.K.Sink.taken c.args.out.now) (g.K.Sink.taken run.new.out) run.result run.ensures.runs e is) c.in_err-counted.was c.from_residual.ensures.1
 
 pub returns-clause-replays : goal.returns-clause-replays
@@ -114,7 +115,7 @@ returns-clause-replays g c =
       failed = opened.failed;
       counts = opened.counts;
     })
-    (record { stations = closed.stations; told = closed.parts; kept = closed.kept; volumes = closed.volumes; sound = closed.sound; cause = closed.cause; counts = closed.counts })
+    (record { stations = closed.stations; told = closed.parts; kept = closed.kept; volumes = closed.volumes; sound = closed.sound; cause = closed.cause; counts = closed.counts; faulty = closed.faulty; parts = closed.parts })
     (g.K.Sink.faults c.args.out.now) (g.K.Sink.faults run.new.out) (g.K.Sink.taken c.args.out.now) (g.K.Sink.taken run.new.out) run.result run.ensures.runs c.in_ok-counted.counted c.in_ok-counted.was c.deref.result.now
     (ap length c.deref.ensures.value ∙ closed.count) (ap length c.deref.ensures.value ∙ closed.count ∙ length-map c.args.config.now.volumes.items (shape_in c.args.config.now))
     (rw c.deref.ensures.value closed.spindles) c.print_summary.result (g.K.Sink.faults c.print_summary.new.out) (g.K.Sink.taken c.print_summary.new.out) c.print_summary.ensures.prints
@@ -143,7 +144,7 @@ returns-in_err-counted-clause-complete g c = λ may.
       failed = opened.failed;
       counts = opened.counts;
     })
-    (record { stations = closed.stations; told = closed.parts; kept = closed.kept; volumes = closed.volumes; sound = closed.sound; cause = closed.cause; counts = closed.counts })
+    (record { stations = closed.stations; told = closed.parts; kept = closed.kept; volumes = closed.volumes; sound = closed.sound; cause = closed.cause; counts = closed.counts; faulty = closed.faulty; parts = closed.parts })
     (same_rest g.B.Part.Disk.state g.B.Part.Disk.tells g.S.Source.left c.args.config.now c.args.options c.args.given.now run.new.given (g.B.Bay.state c.open_all.new.bay) c.in-Ok.rack run.new.rack
     (g.K.Sink.faults c.args.out.now) (g.K.Sink.faults run.new.out) (g.K.Sink.taken c.args.out.now) (g.K.Sink.taken run.new.out) opened.rack run.result run.ensures.runs)
     (g.K.Sink.faults c.args.out.now) (g.K.Sink.faults run.new.out) (g.K.Sink.taken c.args.out.now) (g.K.Sink.taken run.new.out)
@@ -171,7 +172,7 @@ returns-clause-complete g c = λ may.
       failed = opened.failed;
       counts = opened.counts;
     })
-    (record { stations = closed.stations; told = closed.parts; kept = closed.kept; volumes = closed.volumes; sound = closed.sound; cause = closed.cause; counts = closed.counts })
+    (record { stations = closed.stations; told = closed.parts; kept = closed.kept; volumes = closed.volumes; sound = closed.sound; cause = closed.cause; counts = closed.counts; faulty = closed.faulty; parts = closed.parts })
     (same_rest g.B.Part.Disk.state g.B.Part.Disk.tells g.S.Source.left c.args.config.now c.args.options c.args.given.now run.new.given (g.B.Bay.state c.open_all.new.bay) c.in-Ok.rack run.new.rack
     (g.K.Sink.faults c.args.out.now) (g.K.Sink.faults run.new.out) (g.K.Sink.taken c.args.out.now) (g.K.Sink.taken run.new.out) opened.rack run.result run.ensures.runs)
     (g.K.Sink.faults c.args.out.now) (g.K.Sink.faults run.new.out) (g.K.Sink.taken c.args.out.now) (g.K.Sink.taken run.new.out)
@@ -197,3 +198,11 @@ returns-in_err-counted-clause-account g c = keeps_account _ _ _ _ _ _ _ _ _ _ _ 
 
 pub returns-clause-account : goal.returns-clause-account
 returns-clause-account g c = keeps_account _ _ _ _ _ _ _ _ _ _ _ _ _ _ (returns-clause-replays g c)
+
+pub returns-in_err-counted-clause-others : goal.returns-in_err-counted-clause-others
+returns-in_err-counted-clause-others g c =
+    others_then c.args.config.now (g.B.Bay.state c.args.bay.now).told (g.B.Bay.state c.open_all.new.bay).told (g.B.Bay.state c.close_all-spindles.new.bay).told c.in-Ok.ensures.apart c.open_all.ensures.others c.close_all-spindles.ensures.others
+
+pub returns-clause-others : goal.returns-clause-others
+returns-clause-others g c =
+    others_then c.args.config.now (g.B.Bay.state c.args.bay.now).told (g.B.Bay.state c.open_all.new.bay).told (g.B.Bay.state c.close_all-spindles.new.bay).told c.in-Ok.ensures.apart c.open_all.ensures.others c.close_all-spindles.ensures.others

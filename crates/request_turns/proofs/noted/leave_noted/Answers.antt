@@ -1,4 +1,4 @@
-use Rattle.request_turns.proofs.Noting.{stands_coded, has_left, is_broken}
+use Rattle.request_turns.proofs.Noting.{stands_coded, has_left, is_broken, is_unbroken}
 use Rattle.request_turns.proofs.noted.leave_noted.Goals as goal
 
 pub leave-requires-clause-value : goal.leave-requires-clause-value
@@ -9,3 +9,6 @@ returns-clause-left g c = let l = c.leave.ensures in has_left _ _ _ _ _ _ c.requ
 
 pub returns-clause-broken : goal.returns-clause-broken
 returns-clause-broken g c = is_broken _ _ _ _ _ _ c.requires.number c.requires.value c.leave.ensures.seen
+
+pub returns-clause-unbroken : goal.returns-clause-unbroken
+returns-clause-unbroken g c = is_unbroken _ _ _ _ _ _ c.requires.number c.requires.value c.leave.ensures.seen

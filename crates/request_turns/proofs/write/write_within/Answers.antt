@@ -30,4 +30,4 @@ leave_written-requires-clause-value g c = let r = c.write-answer.ensures in
 pub returns : goal.returns
 returns g c = let r = c.write-answer.ensures in let l = c.leave_written.ensures in
     rw c.outcome_of.ensures (has_written _ g.D.Disk.state c.args.turn.value c.write-answer.new.self c.args.lbn c.args.from.now c.write-answer.result _ c.requires.next c.args.pass.now _ _
-    (sym c.is_full.ensures ∙ c.if-is_full.false) c.requires.value.keeps.locks.view c.requires.value.look r.placed r.look r.down r.versions r.fault l.left l.broken)
+    (sym c.is_full.ensures ∙ c.if-is_full.false) c.requires.value.keeps.locks.view c.requires.value.look r.placed r.look r.down r.versions r.fault l.left l.broken l.unbroken)

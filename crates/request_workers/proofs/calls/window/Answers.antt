@@ -10,21 +10,21 @@ use Rattle.request_workers.proofs.Counted.{window_counts}
 use Rattle.request_workers.proofs.Roomy.{sharing, all_ready, all_roomy, floor_after, floor_same}
 use Rattle.request_workers.proofs.calls.window.Goals as goal
 
-pub returns-in_err-make_room-clause-floor : goal.returns-in_err-make_room-clause-floor
-returns-in_err-make_room-clause-floor g c =
-    let v = c.args.floor.now.desks in let d1 = c.make_room.new.desks in
-    let l1 : length d1 ≡ v.len = c.make_room.auto.desks ∙ c.as_mut_slice.ensures.len in
+pub returns-in_err-hand_out-clause-floor : goal.returns-in_err-hand_out-clause-floor
+returns-in_err-hand_out-clause-floor g c =
+    let v = c.args.floor.now.desks in let d1 = c.hand_out.new.desks in
+    let l1 : length d1 ≡ v.len = c.hand_out.auto.desks ∙ c.as_mut_slice.ensures.len in
     let e1 = with_items_is v d1 l1 in
-    floor_same c.args.floor.now _ c.requires.floor refl refl refl refl (ap length e1 ∙ (c.make_room.auto.desks ∙ ap length c.as_mut_slice.ensures.value))
-    (rw e1 (rw c.as_mut_slice.ensures.value at c.make_room.ensures.same))
+    floor_same c.args.floor.now _ c.requires.floor refl refl refl refl (ap length e1 ∙ (c.hand_out.auto.desks ∙ ap length c.as_mut_slice.ensures.value))
+    (rw e1 (rw c.as_mut_slice.ensures.value at c.hand_out.ensures.same))
 
 pub run_window-requires-clause-ready : goal.run_window-requires-clause-ready
 run_window-requires-clause-ready g c κs within =
-    let v = c.args.floor.now.desks in let d1 = c.make_room.new.desks in
-    let l1 : length d1 ≡ v.len = c.make_room.auto.desks ∙ c.as_mut_slice.ensures.len in
+    let v = c.args.floor.now.desks in let d1 = c.hand_out.new.desks in
+    let l1 : length d1 ≡ v.len = c.hand_out.auto.desks ∙ c.as_mut_slice.ensures.len in
     let s2 = c.as_mut_slice-2.ensures.value ∙ with_items_is v d1 l1 in
-    rw (c.as_slice.ensures.value, s2) (all_ready c.args.floor.now.locks.items c.args.shared.now c.args.requests.now c.requires.shared v.items d1 c.requires.floor.desks (c.make_room.auto.desks ∙ ap length c.as_mut_slice.ensures.value)
-    c.requires.floor.numbered c.requires.floor.workers c.requires.floor.empty c.requires.within (rw c.as_mut_slice.ensures.value at c.in_ok-make_room.ensures.room))
+    rw (c.as_slice.ensures.value, s2) (all_ready c.args.floor.now.locks.items c.args.shared.now c.args.requests.now c.requires.shared v.items d1 c.requires.floor.desks (c.hand_out.auto.desks ∙ ap length c.as_mut_slice.ensures.value)
+    c.requires.floor.workers c.requires.floor.empty c.requires.within (rw c.as_mut_slice.ensures.value at c.in_ok-hand_out.ensures.handed))
 
 pub run_window-requires-clause-passes : goal.run_window-requires-clause-passes
 run_window-requires-clause-passes g c κs within = rw (c.as_slice.ensures.value, c.as_mut_slice-3.ensures.value) c.requires.floor.help
@@ -35,32 +35,32 @@ run_window-requires-clause-shared g c κs within =
 
 pub returns-clause-floor : goal.returns-clause-floor
 returns-clause-floor g c =
-    let v = c.args.floor.now.desks in let d1 = c.make_room.new.desks in let d2 = c.run_window.new.desks in
-    let l1 : length d1 ≡ v.len = c.make_room.auto.desks ∙ c.as_mut_slice.ensures.len in
+    let v = c.args.floor.now.desks in let d1 = c.hand_out.new.desks in let d2 = c.run_window.new.desks in
+    let l1 : length d1 ≡ v.len = c.hand_out.auto.desks ∙ c.as_mut_slice.ensures.len in
     let e1 = with_items_is v d1 l1 in
     let l2 : length d2 ≡ v.len = c.run_window.auto.desks ∙ c.as_mut_slice-2.ensures.len in
     let e2 = with_items_is (with_items v d1) d2 l2 in
-    let s1 = c.make_room.auto.desks ∙ ap length c.as_mut_slice.ensures.value in
+    let s1 = c.hand_out.auto.desks ∙ ap length c.as_mut_slice.ensures.value in
     let h = c.args.floor.now.helpers in let h1 = c.run_window.new.helpers in
     let f1 = with_items_is h h1 (c.run_window.auto.helpers ∙ c.as_mut_slice-3.ensures.len) in
     floor_after _ c.args.requests.now c.run_window.new.out.items c.args.reclaim c.args.floor.now _ c.requires.floor refl refl refl
     (ap length e2 ∙ (c.run_window.auto.desks ∙ (ap length (c.as_mut_slice-2.ensures.value ∙ e1) ∙ s1)))
     (ap length f1 ∙ (c.run_window.auto.helpers ∙ ap length c.as_mut_slice-3.ensures.value))
-    (subst (λ (xs : List (Desk g.row.D.Denot)). AreWorked g.D.Disk.tells c.args.requests.now c.run_window.new.out.items c.args.reclaim v.items xs) (sym e2) (all_roomy _ _ _ _ v.items d1 d2 s1 (rw c.as_mut_slice.ensures.value at c.in_ok-make_room.ensures.room) (rw (c.as_mut_slice-2.ensures.value ∙ e1) at c.run_window.ensures.worked)))
+    (subst (λ (xs : List (Desk g.row.D.Denot)). AreWorked g.D.Disk.tells c.args.requests.now c.run_window.new.out.items c.args.reclaim v.items xs) (sym e2) (all_roomy _ _ _ _ v.items d1 d2 s1 (rw c.as_mut_slice.ensures.value at c.in_ok-hand_out.ensures.handed) (rw (c.as_mut_slice-2.ensures.value ∙ e1) at c.run_window.ensures.worked)))
     (subst (λ (ps : List (ManagerPass g.row.D.Denot)). HelpedIn g.D.Disk.tells c.args.reclaim h.items ps) (sym f1) (rw c.as_mut_slice-3.ensures.value at c.run_window.ensures.helped))
 
 pub returns-clause-run : goal.returns-clause-run
 returns-clause-run g c =
-    let v = c.args.floor.now.desks in let d1 = c.make_room.new.desks in let d2 = c.run_window.new.desks in
-    let l1 : length d1 ≡ v.len = c.make_room.auto.desks ∙ c.as_mut_slice.ensures.len in
+    let v = c.args.floor.now.desks in let d1 = c.hand_out.new.desks in let d2 = c.run_window.new.desks in
+    let l1 : length d1 ≡ v.len = c.hand_out.auto.desks ∙ c.as_mut_slice.ensures.len in
     let e1 = with_items_is v d1 l1 in
     let l2 : length d2 ≡ v.len = c.run_window.auto.desks ∙ c.as_mut_slice-2.ensures.len in
     let e2 = with_items_is (with_items v d1) d2 l2 in
-    let s1 = c.make_room.auto.desks ∙ ap length c.as_mut_slice.ensures.value in
+    let s1 = c.hand_out.auto.desks ∙ ap length c.as_mut_slice.ensures.value in
     let h = c.args.floor.now.helpers in let h1 = c.run_window.new.helpers in
     let f1 = with_items_is h h1 (c.run_window.auto.helpers ∙ c.as_mut_slice-3.ensures.len) in
     let worked : AreWorked g.D.Disk.tells c.args.requests.now c.run_window.new.out.items c.args.reclaim v.items d2 =
-    all_roomy _ _ _ _ v.items d1 d2 s1 (rw c.as_mut_slice.ensures.value at c.in_ok-make_room.ensures.room) (rw (c.as_mut_slice-2.ensures.value ∙ e1) at c.run_window.ensures.worked) in
+    all_roomy _ _ _ _ v.items d1 d2 s1 (rw c.as_mut_slice.ensures.value at c.in_ok-hand_out.ensures.handed) (rw (c.as_mut_slice-2.ensures.value ∙ e1) at c.run_window.ensures.worked) in
     record {
       len = c.run_window.ensures.len;
       worked = rw e2 worked;

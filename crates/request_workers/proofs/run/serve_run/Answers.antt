@@ -9,6 +9,6 @@ serve_desk-requires g c =
     let same : c.loop-k.k ≤ c.loop-k.k = omega arith in
     record {
       ready = rw (c.loop-k.invariant.rest c.loop-k.k c.index-run-k.result same)
-          (subst (λ (l : ManagerLock g.row.D.Denot). IsReadyDesk l c.args.shared.now c.args.requests.now (get_or c.args.run.now c.loop-k.k c.index-run-k.result)) (sym c.index-locks-start.is)
+          (subst (λ (l : ManagerLock g.row.D.Denot). IsReadyDesk l c.args.shared.now (get_or c.args.run.now c.loop-k.k c.index-run-k.result)) (sym c.index-locks-start.is)
           (c.requires.ready c.loop-k.k c.index-locks-start.result c.index-run-k.result within));
     }

@@ -11,6 +11,7 @@ returns-then-not-going g c = record {
   outcome = outcome.NotRun;
   outcomes = c.push_reserved.ensures.items;
   id = refl;
+  requests = refl;
   more = [];
   notes = [];
   gains = gains_none _ _ c.requires.pass.free;
@@ -29,6 +30,7 @@ returns g c = let e = c.serve_one-outcome.ensures in let a = e.answered in recor
   outcome = c.serve_one-outcome.result;
   outcomes = c.push_reserved-2.ensures.items ∙ ap (λ v. v.items ++ c.serve_one-outcome.result ∷ []) e.outcomes;
   id = e.id;
+  requests = e.requests;
   more = _;
   notes = _;
   gains = gains_turn _ _ _ a.before a.note a.turned;

@@ -5,7 +5,7 @@ use Rattle.request_workers.proofs.setting.move_all.Goals as goal
 pub loop-station-preserved : goal.loop-station-preserved
 loop-station-preserved g c = record {
   moving = moving_more _ c.in-Some.station
-      (record { id = c.in-Some.station.id; worker = c.in-Some.station.worker; outcomes = c.new.result; payload = c.unwrap-payload.result.payload; fetch = c.unwrap-payload.result.fetch; tally = c.new-in-Some.result; fault = None })
+      (record { id = c.in-Some.station.id; worker = c.in-Some.station.worker; requests = c.new.result; outcomes = c.new-in-Some.result; payload = c.unwrap-payload.result.payload; fetch = c.unwrap-payload.result.fetch; tally = c.new-in-Some-2.result; fault = None })
       c.loop-station.floor _ c.loop-station.invariant.moving (record {
         room = search rules;
         locks = c.push_reserved.ensures.items;
@@ -14,7 +14,7 @@ loop-station-preserved g c = record {
         keepers = c.push_reserved-in-Some-3.ensures.items;
         id = refl;
         worker = refl;
-        empty = c.new.ensures.items;
+        empty = c.new-in-Some.ensures.items;
         lock_room = c.push_reserved.ensures.capacity;
         desk_room = c.push_reserved-in-Some.ensures.capacity;
         helper_room = c.push_reserved-in-Some-2.ensures.capacity;

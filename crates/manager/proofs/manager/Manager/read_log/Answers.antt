@@ -15,7 +15,7 @@ use Rattle.manager.proofs.ReadContent.{log_content}
 use Rattle.manager.proofs.ReadLog.{spotted, spotted_in, lane_read, whole_after, counted_after, stays_after, ready_after, segment_after}
 use Rattle.manager.proofs.ReadThrough.{home_self, lanes_set, on_ok_like, err_like}
 use Rattle.manager.proofs.RunSources.{lane_run_of, needs_set, needs_none}
-use Rattle.manager.proofs.Woken.{woken_log, log_reads_home, log_reads_lane}
+use Rattle.wol_promise.proofs.Woken.{woken_log, log_reads_home, log_reads_lane}
 use Rattle.manager.proofs.manager.Manager.read_log.Goals as goal
 
 pub bounds-deref_mut-place : goal.bounds-deref_mut-place

@@ -1,9 +1,10 @@
-use Rattle.std.proofs.Common.{List, length, get_or, ap, ◌∙◌, sym, subst, arith}
+use Rattle.std.proofs.Common.{◌≡◌, false, List, length, get_or, ap, ◌∙◌, sym, subst, arith}
 use Rattle.std.specs.Prelude.{All}
 use Rattle.std.proofs.lemmas.List.{with_items_is}
 use Rattle.std.proofs.lemmas.List.Elements.{All-push, All-contains, Contains-push}
 use Rattle.turn_lock.specs.Passes.{pass_mine, IsPassOf, IsFree, IsPartOf, AreWhole}
 use Rattle.turn_lock.specs.declared.pass.PassOf.{PassOf}
+use Rattle.spin_model.specs.Operations.{has_token}
 use Rattle.spin_model.specs.declared.spindle.Spindle.{Spindle}
 use Rattle.spin_model.specs.declared.spindle.SpindleBase.{SpindleBase}
 use Rattle.logger.specs.Lanes.{AreAccesses}
@@ -11,7 +12,7 @@ use Rattle.rack.specs.Closing.{spindle_in, AreSpindlesTaken}
 use Rattle.rack.specs.declared.rack.VolumePasses.{VolumePasses}
 use Rattle.rack.proofs.Gathering.{spindle_at_row, spindles_gathered, spindles_all, spindles_kept, some_element}
 use Rattle.rack.proofs.Members.{is_there}
-use Rattle.rack.proofs.OthersAccess.{others_access}
+use Rattle.rack.proofs.OthersAccess.{others_access, others_ended}
 use Rattle.rack.proofs.rack.Rest.close_spindle.Goals as goal
 
 pub gather_spindles-room-requires-clause-there : goal.gather_spindles-room-requires-clause-there
@@ -42,6 +43,13 @@ returns-clause-spindle g c = record {
       subst (λ (l : List (VolumePasses g.row.D.Denot)). AreSpindlesTaken c.args.id l c.gather_spindles-room.new.passes c.gather_spindles-room.result.items) c.deref_mut.ensures.value c.gather_spindles-room.ensures.taken in
       others_access c.close.ensures.0 ps c.args.keeper (subst (λ (l : List (PassOf Spindle SpindleBase)). AreWhole c.close.ensures.0 l) c.push_reserved.ensures.items c.close.ensures.2)
       (spindles_all (λ p. AreAccesses (pass_mine p)) c.args.id rows c.gather_spindles-room.new.passes ps taken c.requires.passes.accesses);
+  ended =
+      let rows = c.args.self.now.passes.items in
+      let ps = c.gather_spindles-room.result.items in
+      let taken : AreSpindlesTaken c.args.id rows c.gather_spindles-room.new.passes ps =
+      subst (λ (l : List (VolumePasses g.row.D.Denot)). AreSpindlesTaken c.args.id l c.gather_spindles-room.new.passes c.gather_spindles-room.result.items) c.deref_mut.ensures.value c.gather_spindles-room.ensures.taken in
+      others_ended c.close.ensures.0 ps c.args.keeper (subst (λ (l : List (PassOf Spindle SpindleBase)). AreWhole c.close.ensures.0 l) c.push_reserved.ensures.items c.close.ensures.2)
+      (spindles_all (λ p. has_token (pass_mine p) ≡ false) c.args.id rows c.gather_spindles-room.new.passes ps taken c.requires.passes.settled);
   keeper_part = All-contains (λ p. IsPartOf c.close.ensures.0 p) c.push_reserved.new.self.items c.args.keeper c.close.ensures.2.parts (rw c.push_reserved.ensures.items (Contains-push c.gather_spindles-room.result.items c.args.keeper));
 }
 

@@ -20,7 +20,7 @@ close_spindle-spindle-requires-clause-passes g c =
     let x = next_passes c.pop.new.self.items c.in-Some.lock c.pop-in-Some.new.self.items c.in-Some-Some.keeper c.loop-lock.self can in
     let number : length c.pop.new.self.items ≡ c.len.result = omega (arith, c.len.ensures, c.pop.new.self.ok.0) in
     let y : HasSpindlePasses c.loop-lock.self c.len.result c.in-Some.lock c.in-Some-Some.keeper = subst (λ (n : ℕ). HasSpindlePasses c.loop-lock.self n c.in-Some.lock c.in-Some-Some.keeper) number x in
-    record { count = y.count; each = y.each; keeper_ = y.keeper_; accesses = y.accesses }
+    record { count = y.count; each = y.each; keeper_ = y.keeper_; accesses = y.accesses; settled = y.settled }
 
 pub close_spindle-spindle-requires-clause-empty : goal.close_spindle-spindle-requires-clause-empty
 close_spindle-spindle-requires-clause-empty g c =

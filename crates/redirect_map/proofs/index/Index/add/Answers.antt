@@ -13,18 +13,6 @@ use Rattle.version_marks.specs.Marks.{mask_of}
 use Rattle.redirect_map.proofs.Marked.{marks_added}
 use Rattle.redirect_map.proofs.index.Index.add.Goals as goal
 
--- the record is one that may be added
-fresh : (c : goal.After-push_back_reserved) → IsNew c.args.entry
-fresh c = record { some = c.requires.some; count = c.requires.count; within = c.requires.within; keeps = c.requires.keeps; keep_within = c.requires.keep_within }
-
--- the old entries, of which some blocks are homed no more
-zipped : (c : goal.After-push_back_reserved) → AllZip (IsUnhomed c.args.entry) c.self.inside.entries.items c.unhome.new.entries.items
-zipped c = c.unhome.ensures.zip
-
-items_are : (c : goal.After-push_back_reserved) → c.push_back_reserved.new.self.items ≡ c.unhome.new.entries.items ++ new_entry c.args.entry ∷ []
-unfolding new_entry
-items_are c = c.push_back_reserved.ensures.items
-
 pub push_back_reserved-requires : goal.push_back_reserved-requires
 push_back_reserved-requires c =
     let new : IsNew c.args.entry = record { some = c.requires.some; count = c.requires.count; within = c.requires.within; keeps = c.requires.keeps; keep_within = c.requires.keep_within } in
@@ -32,15 +20,23 @@ push_back_reserved-requires c =
     let one = some_run c.args.entry new in
     omega (arith, room, one, c.unhome.ensures.room, c.unhome.new.entries.ok.0, c.self.inside.entries.ok.0, zip_length c.args.entry c.self.inside.entries.items c.unhome.new.entries.items c.unhome.ensures.zip)
 
+pub mark_all_exactly-requires-clause-entries : goal.mark_all_exactly-requires-clause-entries
+unfolding new_entry
+mark_all_exactly-requires-clause-entries c = subst AreEntries (sym c.push_back_reserved.ensures.items) (entries_added c.args.entry c.self.inside.entries.items c.unhome.new.entries.items c.self.invariant.0 c.unhome.ensures.zip (record { some = c.requires.some; count = c.requires.count; within = c.requires.within; keeps = c.requires.keeps; keep_within = c.requires.keep_within }) (subst (λ (v : Contents). AllByRecursion (λ (d : Indexed). d.listed.version < c.args.entry.version) v.entries) (sym c.self.view_is) c.requires.newest))
+
+pub mark_all_exactly-requires-clause-marked : goal.mark_all_exactly-requires-clause-marked
+unfolding new_entry
+mark_all_exactly-requires-clause-marked c = marks_added c.args.entry c.self.inside.entries.items c.unhome.new.entries.items c.push_back_reserved.new.self.items (get nat_eq c.self.inside.blocks) (get nat_eq c.cover.new.blocks)
+    (mask_of c.self.inside.marks) (mask_of c.mark_blocks.new.marks) (mask_of c.push.new.self) c.new_mask.result c.unhome.ensures.zip c.push_back_reserved.ensures.items
+    (subst (λ (v : Contents). AllByRecursion (λ (d : Indexed). d.listed.version < c.args.entry.version) v.entries) (sym c.self.view_is) c.requires.newest)
+    c.self.invariant.2 c.mark_blocks.ensures.more c.mark_blocks.ensures.begun c.cover.ensures.cells c.push.ensures.masks c.new_mask.ensures.there c.new_mask.ensures.due
+
 pub invariant_of-self : goal.invariant_of-self
+unfolding new_entry
 invariant_of-self c = (
-  subst AreEntries (sym (items_are c)) (entries_added c.args.entry c.self.inside.entries.items c.unhome.new.entries.items c.self.invariant.0 (zipped c) (fresh c)
-      (subst (λ (v : Contents). AllByRecursion (λ (d : Indexed). d.listed.version < c.args.entry.version) v.entries) (sym c.self.view_is) c.requires.newest)),
-  all_added c.args.entry c.self.inside.entries.items c.unhome.new.entries.items c.push_back_reserved.new.self.items (get nat_eq c.self.inside.blocks) (get nat_eq c.cover.new.blocks) (zipped c) (items_are c) c.self.invariant.1 c.cover.ensures.cells,
-  marks_added c.args.entry c.self.inside.entries.items c.unhome.new.entries.items c.push_back_reserved.new.self.items (get nat_eq c.self.inside.blocks) (get nat_eq c.cover.new.blocks)
-      (mask_of c.self.inside.marks) (mask_of c.mark_blocks.new.marks) (mask_of c.push.new.self) c.new_mask.result (zipped c) (items_are c)
-      (subst (λ (v : Contents). AllByRecursion (λ (d : Indexed). d.listed.version < c.args.entry.version) v.entries) (sym c.self.view_is) c.requires.newest)
-      c.self.invariant.2 c.mark_blocks.ensures.more c.mark_blocks.ensures.begun c.cover.ensures.cells c.push.ensures.masks c.new_mask.ensures.there c.new_mask.ensures.due,
+  subst AreEntries (sym c.push_back_reserved.ensures.items) (entries_added c.args.entry c.self.inside.entries.items c.unhome.new.entries.items c.self.invariant.0 c.unhome.ensures.zip (record { some = c.requires.some; count = c.requires.count; within = c.requires.within; keeps = c.requires.keeps; keep_within = c.requires.keep_within }) (subst (λ (v : Contents). AllByRecursion (λ (d : Indexed). d.listed.version < c.args.entry.version) v.entries) (sym c.self.view_is) c.requires.newest)),
+  all_added c.args.entry c.self.inside.entries.items c.unhome.new.entries.items c.push_back_reserved.new.self.items (get nat_eq c.self.inside.blocks) (get nat_eq c.cover.new.blocks) c.unhome.ensures.zip c.push_back_reserved.ensures.items c.self.invariant.1 c.cover.ensures.cells,
+  c.mark_all_exactly.ensures.marked,
 )
 
 pub push-requires : goal.push-requires
@@ -51,12 +47,14 @@ push-requires c =
     omega (arith, room, one, c.mark_blocks.ensures.room)
 
 pub returns-clause-entries : goal.returns-clause-entries
-returns-clause-entries c = rw (← c.self.view_is) (ap (map seen) (items_are c) ∙ seen_added c.args.entry c.self.inside.entries.items c.unhome.new.entries.items (fresh c) (zipped c))
+unfolding new_entry
+returns-clause-entries c = rw (← c.self.view_is) (ap (map seen) c.push_back_reserved.ensures.items ∙ seen_added c.args.entry c.self.inside.entries.items c.unhome.new.entries.items (record { some = c.requires.some; count = c.requires.count; within = c.requires.within; keeps = c.requires.keeps; keep_within = c.requires.keep_within }) c.unhome.ensures.zip)
 
 pub returns-clause-room : goal.returns-clause-room
 returns-clause-room c =
-    let one = some_run c.args.entry (fresh c) in
-    rw (← c.self.view_is, c.push_back_reserved.ensures.capacity, c.push_back_reserved.ensures.len) (omega (arith, one, c.unhome.ensures.room, c.unhome.new.entries.ok.0, c.self.inside.entries.ok.0, zip_length c.args.entry c.self.inside.entries.items c.unhome.new.entries.items c.unhome.ensures.zip, c.cover.ensures.spare, c.requires.count, c.push.ensures.room, c.mark_blocks.ensures.room))
+    let new : IsNew c.args.entry = record { some = c.requires.some; count = c.requires.count; within = c.requires.within; keeps = c.requires.keeps; keep_within = c.requires.keep_within } in
+    let one = some_run c.args.entry new in
+    rw (← c.self.view_is, c.push_back_reserved.ensures.capacity, c.push_back_reserved.ensures.len) (omega (arith, one, c.unhome.ensures.room, c.unhome.new.entries.ok.0, c.self.inside.entries.ok.0, zip_length c.args.entry c.self.inside.entries.items c.unhome.new.entries.items c.unhome.ensures.zip, c.cover.ensures.spare, c.requires.count, c.push.ensures.room, c.mark_blocks.ensures.room, c.mark_all_exactly.ensures.room))
 
 pub cover-requires-clause-spare : goal.cover-requires-clause-spare
 cover-requires-clause-spare c =

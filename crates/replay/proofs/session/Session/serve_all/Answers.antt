@@ -1,4 +1,4 @@
-use Rattle.std.proofs.Common.{◌≡◌, ◌≢◌, ◌+◌, ◌*◌, ◌++◌, true, false, refl, ap, ◌∙◌, arith}
+use Rattle.std.proofs.Common.{◌≡◌, ◌≢◌, ◌+◌, ◌*◌, ◌++◌, [], true, false, refl, ap, ◌∙◌, append-nil, arith}
 use Rattle.std.proofs.lemmas.Result.{err_from_is_err_and}
 use Rattle.wol_io.proofs.Appending.{keeps_same}
 use Rattle.msr_trace.specs.Reading.{is_no_memory}
@@ -94,8 +94,8 @@ returns-then-is_memory-clause-some g c =
     let so = c.loop.invariant.so_far in
     let has = c.in-Err.ensures.refused c.args.given.now (so.run ++ so.more) so.given in
     lacks_memory g.D.Disk.tells g.S.Source.left c.args.config.now c.args.options c.args.given.now c.args.self.now.floor c.args.self.now.keepers.items (g.K.Sink.faults c.args.out.now) (g.K.Sink.taken c.args.out.now)
-    c.loop.given c.loop.cutter c.loop.self (g.K.Sink.faults c.loop.out) (g.K.Sink.taken c.loop.out) so c.next.new.self so.more c.loop.self.floor c.loop.self.keepers.items (g.K.Sink.faults c.loop.out) (g.K.Sink.taken c.loop.out)
-    has.0 (not_run_same g.D.Disk.tells c.loop.self.floor) refl (keeps_same (g.K.Sink.taken c.loop.out))
+    c.loop.given c.loop.cutter c.loop.self (g.K.Sink.faults c.loop.out) (g.K.Sink.taken c.loop.out) so c.next.new.self [] c.loop.self.floor c.loop.self.keepers.items (g.K.Sink.faults c.loop.out) (g.K.Sink.taken c.loop.out)
+    (rw (append-nil so.more) has.0) (not_run_same g.D.Disk.tells c.loop.self.floor) refl (keeps_same (g.K.Sink.taken c.loop.out))
 
 pub serve_last-requires-in-Err-clause-inside : goal.serve_last-requires-in-Err-clause-inside
 serve_last-requires-in-Err-clause-inside g c κs lives =

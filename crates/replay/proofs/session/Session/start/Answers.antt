@@ -1,5 +1,4 @@
 use Rattle.std.proofs.Common.{◌≡◌, List, length, sym, ap, subst, arith}
-use Rattle.std.specs.Vec.{with_items}
 use Rattle.std.proofs.lemmas.List.{with_items_is}
 use Rattle.request_workers.specs.Begun.{SpindlePass}
 use Rattle.replay.specs.Served.{StartsOnce}

@@ -7,7 +7,7 @@ use Rattle.whatif.specs.Disks.{AreDisks}
 use Rattle.whatif.specs.Machine.{Reach, accessed, all_accessed, changed_at, source_of}
 use Rattle.whatif.specs.Volumes.{IsWithin, look_in, reach_in}
 use Rattle.whatif.proofs.Doing.{read_more, same_length, same_within, source_within}
-use Rattle.whatif.proofs.Woken.{woken_more, woken_none}
+use Rattle.wol_promise.proofs.Woken.{woken_more, woken_none}
 use Rattle.whatif.proofs.volume.Volume.read.Goals as goal
 
 pub loop-i-init : goal.loop-i-init

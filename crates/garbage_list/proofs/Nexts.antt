@@ -5,14 +5,11 @@ use Rattle.std.specs.List.{AllByRecursion, prefix_len}
 use Rattle.std.specs.Option.{option_map}
 use Rattle.std.proofs.lemmas.Bool.{eq-eqb, ne_eqb, eqb-true, lt-ltb}
 use Rattle.std.proofs.lemmas.Option.{none-some, same_Some, slice_get_within}
-use Rattle.wol_disk.specs.Disk.{State}
 use Rattle.wol_model.specs.Index.{Listed, Indexed, listed_in, AreRising}
-use Rattle.wol_promise.proofs.Lists.{all_map, all_member, member_map}
-use Rattle.redirect_map.specs.Index.{Contents, entry_at, changed, has_version, IsAnswer, IsRecordOf}
+use Rattle.wol_promise.proofs.Lists.{all_member, member_map}
+use Rattle.redirect_map.specs.Index.{entry_at, changed, has_version, IsAnswer, IsRecordOf}
 use Rattle.redirect_map.specs.declared.record.Rec.{Rec}
-use Rattle.garbage_list.specs.Least.{HasLane, first_version}
-use Rattle.manager.specs.Stands.{IsReady, IsPlacedIn}
-use Rattle.manager.specs.declared.manager.Manager.{Manager}
+use Rattle.garbage_list.specs.Least.{first_version}
 
 -- ---- lists
 
@@ -128,7 +125,7 @@ pub unanswered : (o : Option Indexed) → IsAnswer o None → o ≡ None
 unanswered None is = refl
 unanswered (Some e) is = absurd is
 
-version_in : (o : Option Indexed) (version : ℕ) → option_map (λ (e : Indexed). e.listed.version) o ≡ Some version → (e : Indexed) × (o ≡ Some e) × (e.listed.version ≡ version)
+pub version_in : (o : Option Indexed) (version : ℕ) → option_map (λ (e : Indexed). e.listed.version) o ≡ Some version → (e : Indexed) × (o ≡ Some e) × (e.listed.version ≡ version)
 version_in None version is = absurd (none-some version is)
 version_in (Some e) version is = (e, refl, same_Some e.listed.version version is)
 
@@ -143,10 +140,3 @@ answer_of_first P es version r rising first is =
 pub answer_of_none : (o : Option Indexed) → option_map (λ (e : Indexed). e.listed.version) o ≡ None → IsAnswer o None
 answer_of_none None is = tt
 answer_of_none (Some e) is = absurd (none-some e.listed.version (sym is))
-
--- ---- lanes
-
--- each entry's lane has a flag
-pub within_reach : {D : Type 0} (state : D → State) (m : Manager D) → IsReady state m → m.down ≡ None → (index : Contents) → index ≡ m.index → (flags : List Bool) → length m.lanes.items ≤ length flags → AllByRecursion (HasLane flags) index.entries
-within_reach state m ready up index same flags few = subst (λ (i : Contents). AllByRecursion (HasLane flags) i.entries) (sym same) (all_map (IsPlacedIn m.lanes.items) (HasLane flags)
-    (λ e placed. let lt = slice_get_within m.lanes.items e.listed.lane placed.lane placed.lane_is in omega (arith, lt, few)) m.index.entries (ready.up up).placed)

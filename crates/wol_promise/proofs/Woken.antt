@@ -1,15 +1,17 @@
--- Looks after reads, a block at a time.
+-- Looks after reads: of a run of blocks with one source, and of one range behind another.
 use Rattle.std.proofs.Common.{◌≡◌, ◌≢◌, ◌⊎◌, inl, inr, ◌<◌, ◌≤◌, ◌+◌, ℕ, zero, suc, Bool, true, false, cond, not, ◌||◌, List, [], ◌∷◌, ◌++◌, map, length, get_or, set, Option, None, Some, refl, sym, ap, ◌∙◌, arith, eqb, ltb}
 use Rattle.std.specs.Prelude.{slice_set, is_some}
-use Rattle.std.specs.List.{list_any, range_with_len}
+use Rattle.std.specs.List.{list_any, count_by, range_with_len}
 use Rattle.std.specs.Option.{option_map_or}
 use Rattle.std.proofs.Math.ListN.{length-set}
-use Rattle.std.proofs.lemmas.List.{get_or-set_same, get_or-set_other, map-append}
+use Rattle.std.proofs.lemmas.List.{get_or-set_same, get_or-set_other}
 use Rattle.std.proofs.lemmas.List.Folds.{list_any-append}
+use Rattle.std.proofs.lemmas.List.Sums.{sum_by-append}
 use Rattle.std.proofs.lemmas.List.FromFn.{get_or-map-range_with_len, length-map-range_with_len, fill_by_all}
 use Rattle.std.proofs.lemmas.Bool.{eq-eqb, ne_eqb, cases_eq}
 use Rattle.wol_model.specs.Extents.{Cover, newest, newer_of}
 use Rattle.wol_model.specs.Index.{Listed, cover_of, is_covered}
+use Rattle.wol_model.proofs.Counts.{counted, one}
 use Rattle.wol_promise.specs.Policy.{Look, woken, has_newest_on}
 
 -- ---- ranges
@@ -20,6 +22,9 @@ range_joined a (suc n) m =
     let e : suc n + m ≡ suc (n + m) = omega arith in
     let f : a + suc n ≡ a + 1 + n = omega arith in
     rw (e, f) (λ i. a ∷ range_joined (a + 1) n m i)
+
+pub count_joined : (p : ℕ → Bool) (a n m : ℕ) → count_by p (range_with_len a (n + m)) ≡ count_by p (range_with_len a n) + count_by p (range_with_len (a + n) m)
+count_joined p a n m = ap (count_by p) (range_joined a n m) ∙ sum_by-append (λ (b : ℕ). cond (p b) 1 0) (range_with_len a n) (range_with_len (a + n) m)
 
 pub any_joined : (p : ℕ → Bool) (a n m : ℕ) → list_any p (range_with_len a (n + m)) ≡ (list_any p (range_with_len a n) || list_any p (range_with_len (a + n) m))
 any_joined p a n m = ap (list_any p) (range_joined a n m) ∙ list_any-append p (range_with_len a n) (range_with_len (a + n) m)
@@ -37,6 +42,18 @@ any_same p t a (suc (suc n)) some same =
     or_self : (u : Bool) → (u || u) ≡ u
     or_self true = refl
     or_self false = refl
+
+pub count_all : (p : ℕ → Bool) (a n : ℕ) → ((b : ℕ) → a ≤ b → b < a + n → p b ≡ true) → count_by p (range_with_len a n) ≡ n
+count_all p a zero same = refl
+count_all p a (suc n) same =
+    let here : one (p a) ≡ one true = ap one (same a (omega arith) (omega arith)) in
+    omega (arith, counted p a (range_with_len (a + 1) n), here, count_all p (a + 1) n (λ b le lt. same b (omega arith) (omega arith)))
+
+pub count_none : (p : ℕ → Bool) (a n : ℕ) → ((b : ℕ) → a ≤ b → b < a + n → p b ≡ false) → count_by p (range_with_len a n) ≡ 0
+count_none p a zero same = refl
+count_none p a (suc n) same =
+    let here : one (p a) ≡ one false = ap one (same a (omega arith) (omega arith)) in
+    omega (arith, counted p a (range_with_len (a + 1) n), here, count_none p (a + 1) n (λ b le lt. same b (omega arith) (omega arith)))
 
 -- ---- covered blocks
 

@@ -1,0 +1,84 @@
+-- An image that was there, whatever a crash had left of it, is there afterwards.
+use Rattle.std.proofs.Common.{◌≡◌, ◌⊎◌, inl, inr, ⊎_elim, ℕ, List, length, Option, None, Some, option_map, refl, sym, ap, ◌∙◌, subst}
+use Rattle.std.specs.Prelude.{slice_get, slice_set, slice_index_or, unwrap_or}
+use Rattle.std.proofs.lemmas.Bool.{cases_eq}
+use Rattle.std.proofs.lemmas.List.{length-set}
+use Rattle.std.proofs.lemmas.Option.{get_or_from_slice_get, slice_get_within, slice_get-map}
+use Rattle.wol_disk.specs.Disk.{Block, State}
+use Rattle.wol_model.specs.Heads.{Shape}
+use Rattle.wol_model.specs.Images.{Images, image_of}
+use Rattle.wol_promise.specs.Run.{IsThere}
+use Rattle.wol_bay.specs.Bay.{Name, Told, at_name}
+use Rattle.wol_config.specs.declared.config.Config.{Config}
+use Rattle.wol_config.specs.declared.config.VolumeConf.{VolumeConf}
+use Rattle.manager.proofs.Lanes.{get_set, get_other}
+use Rattle.volume_images.specs.Volumes.{shapes_of, image_read, images_read, MayLeave, AreLeft}
+use Rattle.rack.specs.Closes.{AreLeftOfParts}
+use Rattle.rack.specs.Owners.{HadRefused}
+use Rattle.rack.specs.Rests.{image_here}
+use Rattle.rack.specs.declared.rack.ImageRest.{ImageRest}
+use Rattle.rack.specs.declared.rack.Rack.{Rack}
+use Rattle.rack.proofs.LeftImage.{volume_at}
+use Rattle.rack.proofs.Reopening.{reads_are_left}
+
+-- whatever a crash had left of the images, that of volume v was there
+abbrev pub WasThere : Config → Told → (v : ℕ) → Type 0
+WasThere config old v = (before : Images) → AreLeft config old before → IsThere (shapes_of config) before v
+
+-- the name of a volume of the configuration
+name_at : (config : Config) (v : ℕ) (d conf : VolumeConf) → slice_get config.volumes.items v ≡ Some conf → (slice_index_or config.volumes.items v d).name ≡ conf.name
+name_at config v d conf at = ap (λ (w : VolumeConf). w.name) (get_or_from_slice_get config.volumes.items v conf d at)
+
+-- what a crash may leave of one image
+pub may_at : (config : Config) (t : Told) (images : Images) (v : ℕ) (conf : VolumeConf) → slice_get config.volumes.items v ≡ Some conf → AreLeft config t images → MayLeave (at_name conf.name t.images) (image_of images v)
+may_at config t images v conf at left = subst (λ (n : Name). MayLeave (at_name n t.images) (image_of images v)) (name_at config v conf conf at) (left.each v conf (slice_get_within config.volumes.items v conf at))
+
+module _ (config : Config) (old : Told) (images : Images) (v : ℕ) (conf : VolumeConf) (at : slice_get config.volumes.items v ≡ Some conf) (may : MayLeave (at_name conf.name old.images) (image_of images v)) where
+  -- the images as they read before, with this one
+  abbrev before : Images
+  before = slice_set (images_read config old) v (image_of images v)
+
+  here : image_of before v ≡ image_of images v
+  here =
+      let read_at : slice_get (images_read config old) v ≡ Some (image_read (at_name conf.name old.images))
+      = slice_get-map (λ (w : VolumeConf). image_read (at_name w.name old.images)) config.volumes.items v ∙ ap (option_map (λ (w : VolumeConf). image_read (at_name w.name old.images))) at in
+      ap (λ (o : Option (Option (List Block))). unwrap_or o None) (get_set (images_read config old) v (image_read (at_name conf.name old.images)) (image_of images v) read_at)
+
+  -- they might have been left
+  before_left : AreLeft config old before
+  before_left = record {
+    count = length-set (images_read config old) v (image_of images v) ∙ (reads_are_left config old).count;
+    each = λ k d lt. ⊎_elim
+        (λ (same : k ≡ v).
+        let name : (slice_index_or config.volumes.items k d).name ≡ conf.name = ap (λ (n : ℕ). (slice_index_or config.volumes.items n d).name) same ∙ name_at config v d conf at in
+        let image : image_of before k ≡ image_of images v = ap (λ (n : ℕ). image_of before n) same ∙ here in
+        subst (λ (o : Option (List Block)). MayLeave (at_name (slice_index_or config.volumes.items k d).name old.images) o) (sym image)
+        (subst (λ (n : Name). MayLeave (at_name n old.images) (image_of images v)) (sym name) may))
+        (λ (differs : k ≡ v → ⊥).
+        let image : image_of before k ≡ image_of (images_read config old) k = ap (λ (o : Option (Option (List Block))). unwrap_or o None) (get_other (images_read config old) v k (image_of images v) differs) in
+        subst (λ (o : Option (List Block)). MayLeave (at_name (slice_index_or config.volumes.items k d).name old.images) o) (sym image) ((reads_are_left config old).each k d lt))
+        (cases_eq k v);
+  }
+
+  -- an image that might have been left before is there as those before
+  pub there_may : WasThere config old v → IsThere (shapes_of config) images v
+  there_may all = let x = all before before_left in (x.0, x.1, x.2, sym here ∙ x.3, x.4)
+
+-- the volume that was there is one of the configuration
+pub conf_there : (config : Config) (old : Told) (v : ℕ) → WasThere config old v → (z : Shape) × (conf : VolumeConf) × (slice_get (shapes_of config) v ≡ Some z) × (slice_get config.volumes.items v ≡ Some conf)
+conf_there config old v all =
+    let x = all (images_read config old) (reads_are_left config old) in
+    let w = volume_at config v x.0 x.2 in
+    (x.0, w.0, x.2, w.1)
+
+-- of a rack that was closed: an image that was out is back whole, and one that wasn't is left as before
+pub there_left : {D : Type 0} (state : D → State) (config : Config) (r : Rack D) (old new : Told) → HadRefused config r.rest.images.items old new → AreLeftOfParts state config r new
+    → (images : Images) → AreLeft config new images → (v : ℕ) → WasThere config old v → IsThere (shapes_of config) images v
+there_left {D} state config r old new had parts images left v all = go (image_here r.rest.images.items v) refl
+  where
+    conf : (z : Shape) × (conf : VolumeConf) × (slice_get (shapes_of config) v ≡ Some z) × (slice_get config.volumes.items v ≡ Some conf)
+    conf = conf_there config old v all
+
+    go : (o : Option (ImageRest D)) → image_here r.rest.images.items v ≡ o → IsThere (shapes_of config) images v
+    go None none = there_may config old images v conf.1 conf.3 (had v conf.1 conf.3 none (image_of images v) (may_at config new images v conf.1 conf.3 left)) all
+    go (Some m) here = let x = parts images left v conf.0 m conf.2 here in (conf.0, x.0, conf.2, x.1, x.2.sized)
