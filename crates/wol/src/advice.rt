@@ -8,13 +8,15 @@ pub const VERSION: &str = "wol 0.2.0\n";
 pub const USAGE: &str = "\
 usage: wol COMMAND, in the folder that has wol.toml and the images (NAME.vol)
   wol format                          make all images anew; this erases every volume
-  wol replay [OPTION..] < TRACE       serve a block trace on the images and print a report
+  wol replay [OPTION..] < TRACE       serve a block trace on the images
   wol check                           print each volume's state and the SHA-256 of its content
-  wol dump                            print the records that are in logs
+  wol dump                            print the records in logs
   wol whatif < TRACE                  compare four policies on a trace, without images
   wol gen SEED LINES                  print a generated trace
   wol soak SEED LINES [OPTION..]      replay a generated trace without printing it
   wol solo HOST DISK BLOCKS < TRACE   run one disk's lines on a new image, without wol.toml
+  wol view-add NAME LOGGER            let LOGGER log for NAME
+  wol view-remove NAME LOGGER         drain NAME; LOGGER logs for it no more
 OPTION: --each | --workers N (1 to 64) | --reclaim off|between|beside
 Numbers have no sign and no leading zero. README.md and docs/USAGE.md say more.
 ";
@@ -23,6 +25,7 @@ Numbers have no sign and no leading zero. README.md and docs/USAGE.md say more.
 pub fn advice(status: u8) -> Option<&'static str>
     ensures done { status ≡ 0 → result ≡ None }
     ensures told { 1 ≤ status → status ≤ 12 → IsSome result }
+    ensures refused { status ≡ 15 → IsSome result }
 {
     Some(match status {
         1 => USAGE,
@@ -54,6 +57,8 @@ pub fn advice(status: u8) -> Option<&'static str>
             "wol: a volume has no version left for a write. wol format begins anew, and erases every volume.\n",
         12 =>
             "wol: an image is missing. Put it back; for new volumes wol format makes all images, and erases every volume.\n",
+        15 =>
+            "wol: no view was changed. Look for the names of volumes in wol.toml, and for the loggers in the volume's view.\n",
         _ => return None,
     })
 }

@@ -34,9 +34,13 @@ fn uses_trace(command: &Command<'_>) -> bool
 {
     match command {
         Command::Solo(_) | Command::Replay(_) | Command::WhatIf => true,
-        Command::Gen(_) | Command::Format | Command::Check | Command::Dump | Command::Soak(..) => {
-            false
-        }
+        Command::Gen(_)
+        | Command::Format
+        | Command::Check
+        | Command::Dump
+        | Command::Soak(..)
+        | Command::ViewAdd(_)
+        | Command::ViewRemove(_) => false,
     }
 }
 

@@ -1,22 +1,35 @@
 -- The one command that words ask for.
-use Rattle.std.proofs.Common.{◌≡◌, inl, inr, sym, subst, ◌≤◌, ◌^◌, arith, ℕ, List}
+use Rattle.std.proofs.Common.{◌≡◌, inl, inr, false, sym, subst, ◌≤◌, ◌^◌, arith, ℕ, List}
 use Rattle.solo.specs.Volume.{IsVolume, target_of}
 use Rattle.solo.specs.declared.volume.Volume.{Volume}
 use Rattle.command_words.specs.Commands.{IsCommand}
 use Rattle.command_words.specs.declared.command.Command.{Command}
-use Rattle.command_words.specs.declared.command.Command.TheVariants.{Solo, Format, Replay, Check, Dump, Gen, Soak, WhatIf}
+use Rattle.command_words.specs.declared.command.Command.TheVariants.{Solo, Format, Replay, Check, Dump, Gen, Soak, WhatIf, ViewAdd, ViewRemove}
 use Rattle.command_words.specs.declared.command.Generated.{Generated}
 use Rattle.command_words.specs.declared.command.Options.{Options}
-use Rattle.wol_run.specs.Commands.{IsCount, IsInRange}
+use Rattle.command_words.specs.declared.command.ViewNames.{ViewNames}
+use Rattle.command_words.specs.Values.{named_by}
+use Rattle.wol_run.specs.Commands.{IsCount, IsInRange, uses_trace}
 use Rattle.command_words.proofs.Unique.{commands_are_one, equal_or_alike}
 
+-- what holds of a command holds of one that names the same volumes
+pub record IsAlike (P : Command → Type 0) : Type 0 where
+  pub solo : (own other : Volume) → target_of own ≡ target_of other → P (Solo own) → P (Solo other)
+  pub add : (own other : ViewNames) → named_by own ≡ named_by other → P (ViewAdd own) → P (ViewAdd other)
+  pub remove : (own other : ViewNames) → named_by own ≡ named_by other → P (ViewRemove own) → P (ViewRemove other)
+
 -- what holds of the command that was read holds of each that the words ask for
-pub of_asked : (P : Command → Type 0) → ((own volume : Volume) → target_of own ≡ target_of volume → P (Solo own) → P (Solo volume))
-    → (words : List (List ℕ)) (read asked : Command) → IsCommand words read → IsCommand words asked → P read → P asked
+pub of_asked : (P : Command → Type 0) → IsAlike P → (words : List (List ℕ)) (read asked : Command) → IsCommand words read → IsCommand words asked → P read → P asked
 of_asked P alike words read asked is so p = elim (equal_or_alike read asked (commands_are_one words read asked is so)) [
   | inl same ↦ subst P same p
-  | inr two ↦ subst P (sym two.second_is) (alike two.first two.second two.alike (subst P two.first_is p))
+  | inr (inl two) ↦ subst P (sym two.second_is) (alike.solo two.first two.second two.alike (subst P two.first_is p))
+  | inr (inr (inl two)) ↦ subst P (sym two.second_is) (alike.add two.first two.second two.alike (subst P two.first_is p))
+  | inr (inr (inr two)) ↦ subst P (sym two.second_is) (alike.remove two.first two.second two.alike (subst P two.first_is p))
 ]
+
+-- a command uses what one uses that names the same volumes
+pub uses_alike : IsAlike (λ c. uses_trace c ≡ false)
+uses_alike = record { solo = λ own other same no. no; add = λ own other same no. no; remove = λ own other same no. no }
 
 -- ---- Numbers in range
 
@@ -29,6 +42,8 @@ in_range words Dump is = tt
 in_range words (Gen asked) is = omega (arith, is.asks.values.most)
 in_range words (Soak asked options) is = (omega (arith, is.asks.values.0.most), (is.asks.values.1.workers.some, is.asks.values.1.workers.most))
 in_range words WhatIf is = tt
+in_range words (ViewAdd names) is = tt
+in_range words (ViewRemove names) is = tt
 
 pub range_of_solo : (command : Command) (volume : Volume) → command ≡ Solo volume → IsInRange command → IsVolume (target_of volume)
 range_of_solo command volume is h = subst IsInRange is h

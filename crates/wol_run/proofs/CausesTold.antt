@@ -1,5 +1,5 @@
 -- Why each command ended with its status.
-use Rattle.std.proofs.Common.{◌≡◌, ◌≢◌, ◌⊎◌, inl, inr, ℕ, zero, suc, ◌<◌, Bool, true, false, List, [], ◌∷◌, Option, None, Some, Result, refl, sym, ap, subst, ◌∙◌, true≢false, arith}
+use Rattle.std.proofs.Common.{◌≡◌, ◌≢◌, ◌⊎◌, inl, inr, ℕ, zero, suc, ◌<◌, Bool, true, false, List, [], ◌∷◌, Option, None, Some, Result, Ok, Err, refl, sym, ap, subst, ◌∙◌, true≢false, arith}
 use Rattle.std.specs.Prelude.{IfSome, IsTrue, codes, slice_get}
 use Rattle.std.specs.Io.KnownBytes.{IsAtEnd}
 use Rattle.std.proofs.lemmas.Option.{same_Some}
@@ -17,7 +17,7 @@ use Rattle.troubles.specs.Troubles.{trouble_of, trouble_of_part}
 use Rattle.manager.specs.declared.part.Part.{Part}
 use Rattle.manager.specs.declared.part.Part.TheVariants as part
 use Rattle.trace_gen.specs.Generated.{targets_of}
-use Rattle.volume_images.specs.Left.{AreNamedApart}
+use Rattle.volume_images.specs.Left.{AreNamedApart, IsTold}
 use Rattle.msr_trace.specs.declared.format.TraceFault.{TraceFault}
 use Rattle.msr_trace.specs.declared.format.TraceFault.TheVariants as trace
 use Rattle.inspection.specs.Lines.{Telling, first_of, first_trouble}
@@ -26,27 +26,40 @@ use Rattle.replay.specs.Ended.{EndsFor, HasRefusedWrite, whole, no_line, refused
 use Rattle.comparison.specs.Compares.{EndsBehind}
 use Rattle.comparison.specs.Compares as behind
 use Rattle.replay.specs.Givens.{HasGivenAll, Refuses}
-use Rattle.replay.specs.NotOpened.{IsOpened}
-use Rattle.replay.specs.Replays.{Replayed, Replays, closed, no_memory, ran, status_in}
+use Rattle.replay.specs.NotOpened.{IsFirstClosed, IsOpened}
+use Rattle.rack.specs.declared.volume_fault.VolumeFault.{VolumeFault}
+use Rattle.replay.specs.Replays.{Replayed, Replays, closed, no_memory, ran}
 use Rattle.replay.specs.Served.{ServedWindow}
 use Rattle.replay.specs.Stops.{fault_of_trace}
 use Rattle.replay.specs.declared.session.Options.{Options as Serving}
 use Rattle.replay.specs.declared.stop.Stop.{Stop}
+use Rattle.replay.specs.declared.stop.Stop.TheVariants as stop
+use Rattle.view_change.specs.declared.answers.Change.{Change}
+use Rattle.view_commands.specs.Orders.{AreNamed, change_of}
+use Rattle.view_commands.specs.Runs.{ChangesOpen, ChangesView, FailsFor, FailsWith}
+use Rattle.view_commands.specs.Runs as changed
+use Rattle.view_commands.specs.Views.{ChangesViewOf}
+use Rattle.view_commands.specs.declared.order.Stop.{Stop as ViewStop}
+use Rattle.view_commands.specs.declared.order.Stop.TheVariants as view_stop
+use Rattle.view_commands.specs.declared.order.Verb.{Verb}
+use Rattle.view_commands.specs.declared.order.ViewRefusal.{ViewRefusal}
 use Rattle.command_words.specs.Commands.{IsCommand}
+use Rattle.command_words.specs.Table.{Named}
 use Rattle.command_words.specs.declared.command.Command.{Command}
 use Rattle.command_words.specs.declared.command.Command.TheVariants.{Format, Gen, WhatIf}
 use Rattle.command_words.specs.declared.command.Generated.{Generated}
 use Rattle.wol_run.specs.Causes.{AskFor, IsCause, IsClosedFor, replayed_by}
 use Rattle.wol_run.specs.Causes as row
-use Rattle.wol_run.specs.Commands.{uses_bay, uses_config, uses_trace}
+use Rattle.wol_run.specs.Commands.{changes_view, uses_bay, uses_config, uses_trace}
 use Rattle.wol_run.specs.Inspecting.{AreTold, IsLook, status_of_first}
 use Rattle.wol_run.specs.Outside.{Outside}
 use Rattle.wol_run.specs.Comparing.{IsComparison}
 use Rattle.wol_run.specs.Replaying.{EndsReplay, GivenLines, HasLeft, IsReplay, trace_of}
-use Rattle.wol_run.specs.Run.{IsComparisonOf, IsFormat, IsListingOf, IsLookFor, IsReplayOf}
+use Rattle.wol_run.specs.Run.{IsComparisonOf, IsFormat, IsListingOf, IsLookFor, IsReplayOf, IsViewChangeOf}
 use Rattle.wol_run.specs.Settings.{HasConfig, IsFaultLine}
 use Rattle.wol_run.specs.Tops.{EndsWith, HasBadLine, HasMoreLines}
-use Rattle.wol_run.proofs.Asked.{of_asked}
+use Rattle.wol_run.specs.Viewing.{EndsChange, IsViewChange, RefusesChange, view_change_by}
+use Rattle.wol_run.proofs.Asked.{of_asked, uses_alike}
 use Rattle.wol_run.proofs.FormatEndings.{ends_format}
 use Rattle.wol_run.proofs.GenEndings.{ends_gen}
 use Rattle.wol_run.proofs.ReplayEndings.{at_end, bad_of, more_of, of_call}
@@ -58,6 +71,12 @@ use Rattle.wol_run.proofs.WindowFaults.{ends_window}
 if_told : (P Q : Told → Type 0) (o : Option Told) → ((t : Told) → P t → Q t) → IfSome o P → IfSome o Q
 if_told P Q None on h = tt
 if_told P Q (Some t) on h = on t h
+
+-- .. and of those before and after
+told_in_words : (P Q : Told → Told → Type 0) (o n : Option Told) → ((old new : Told) → P old new → Q old new) → IsTold P o n → IsTold Q o n
+told_in_words P Q None n on h = h
+told_in_words P Q (Some old) None on h = h
+told_in_words P Q (Some old) (Some new) on h = λ apart. on old new (h apart)
 
 -- ---- The first volume that isn't in order
 
@@ -93,7 +112,7 @@ module _ {D : Type 0} (tells : Bool) (state : D → State) (words : List (List �
 
   -- the command that was read is done; it uses no trace
   done_without : (read : Command) → IsCommand words read → uses_trace read ≡ false → Cause 0
-  done_without read is none = row.done read is (λ asks. absurd (true≢false (sym asks.does ∙ of_asked (λ c. uses_trace c ≡ false) (λ own volume same no. no) words read asks.command is asks.is none)))
+  done_without read is none = row.done read is (λ asks. absurd (true≢false (sym asks.does ∙ of_asked (λ c. uses_trace c ≡ false) uses_alike words read asks.command is asks.is none)))
 
   part_cause : AskFor words uses_bay → (p : Part) → Rose before.bay.faults after.bay.faults → Cause (trouble_status (trouble_of_part p))
   part_cause bay (part.Home volume) rose = row.part_failed bay rose
@@ -192,6 +211,23 @@ module _ {D : Type 0} (tells : Bool) (state : D → State) (words : List (List �
       for_bay : AskFor words uses_bay
       for_bay = record { command = command; is = is; does = bay_ }
 
+      -- the first volume that isn't open, and why it isn't
+      closed_cause : (config : Config) → HasConfig before.config.bytes config → (k : ℕ) (f : VolumeFault) → IsFirstClosed tells state config before.bay after.bay k f → Cause (trouble_status (trouble_of f))
+      closed_cause config has k f first = trouble_cause for_config for_bay (trouble_of f)
+          (record {
+            config = config;
+            has = has;
+            volume = k;
+            conf = first.conf;
+            conf_is = first.conf_is;
+            out = first.out;
+            fault = f;
+            refused = first.refused;
+            status_is = refl;
+            first = λ j less. (first.before j less).1;
+          })
+          (λ four. first.cause (of_call f _ first.names four))
+
       -- ---- Volumes that were looked at
 
       -- a volume that was told in order was opened
@@ -240,6 +276,88 @@ module _ {D : Type 0} (tells : Bool) (state : D → State) (words : List (List �
           by look None is_first at = at_status 0 status (at ∙ ap status_of_first is_first) (done_without command is none)
           by look (Some o) is_first at = at_status (trouble_status o) status (at ∙ ap status_of_first is_first) (look_trouble look.config look.has what look.told look.are o (first_at look.told o is_first))
 
+      -- ---- A view that was to be changed
+
+      module _ (verb : Verb) (named : Named) (changes : view_change_by command ≡ Some (verb, named)) (again : AskFor words changes_view) (none : uses_trace command ≡ false) where
+        module _ (run : IsViewChange tells state verb named before.config.bytes before.bay after.bay before.sink.faults status before.sink.bytes after.sink.bytes) where
+          abbrev EndsSo : Result (Unit {0}) ViewStop → Type 0
+          EndsSo r = EndsChange run.config run.order r status run.printed_then after.sink.bytes
+
+          -- a refusal was told, or the sink or memory failed
+          of_refusal : (refusal : ViewRefusal) → RefusesChange tells run.config run.order before.bay after.bay refusal → EndsSo (Err (view_stop.Refused refusal)) → Cause status
+          of_refusal refusal why (inl ends) = elim (wanted_or_sink _ 15 status run.printed_then after.sink.bytes ends) [
+            | inl same ↦ at_status 15 status same (row.view_refused (record {
+              config = run.config;
+              has = run.has;
+              command = command;
+              is = is;
+              verb = verb;
+              named = named;
+              changes = changes;
+              order = run.order;
+              is_order = run.is_order;
+              refusal = refusal;
+              cause = why;
+            }))
+            | inr seven ↦ of_sink seven
+          ]
+          of_refusal refusal why (inr ends) = elim (wanted_or_sink _ 9 status run.printed_then after.sink.bytes ends) [
+            | inl nine ↦ at_status 9 status nine row.no_memory
+            | inr seven ↦ of_sink seven
+          ]
+
+          of_failure : (volume : ℕ) (t : Trouble) → FailsWith tells run.config volume before.bay after.bay t → Cause (trouble_status t)
+          of_failure volume t (changed.part p base owner begun faulty rose) = part_cause for_bay p rose
+          of_failure volume t (changed.bay rose) = row.part_failed for_bay rose
+          of_failure volume t (changed.label rose) = row.part_failed for_bay rose
+          of_failure volume t (changed.damaged block damaged) = row.damaged_view again (record { config = run.config; has = run.has; volume = volume; block = block; damaged = damaged })
+          of_failure volume t (changed.untold x other never) = row.image_again again x other never
+
+          of_failed : (volume : ℕ) (f : Fault) → FailsFor tells run.config volume before.bay after.bay f → status ≡ status_of f → Cause status
+          of_failed volume fault.Words fails same = absurd fails
+          of_failed volume (fault.Config why) fails same = absurd fails
+          of_failed volume (fault.Line number why) fails same = absurd fails
+          of_failed volume (fault.Volume number t) fails same = at_status (trouble_status t) status same (of_failure volume t fails.1)
+          of_failed volume fault.ConfigSource fails same = absurd fails
+          of_failed volume fault.TraceSource fails same = absurd fails
+          of_failed volume fault.Memory fails same = at_status 9 status same row.no_memory
+          of_failed volume fault.Lines fails same = absurd fails
+          of_failed volume (fault.Versions number) fails same = absurd fails
+
+          module _ (volume logger : ℕ) (named_ : AreNamed run.config run.order volume logger) where
+            abbrev change : Change
+            change = change_of run.order.verb logger
+
+            refused_open : (refusal : ViewRefusal) (view : List ℕ) → (IsTrue tells → IsTold (ChangesViewOf {T = Unit {0}} run.config volume change (Err (view_stop.Refused refusal)) view) before.bay.told after.bay.told)
+                → RefusesChange tells run.config run.order before.bay after.bay refusal
+            refused_open refusal view views = inr (
+              volume,
+              logger,
+              named_,
+              λ telling. told_in_words _ _ before.bay.told after.bay.told
+                  (λ old new h. record { ids = h.ids; at_entry = h.at_entry; cause = h.becomes.0 }) (views telling),
+            )
+
+            of_open : (view : List ℕ) (r : Result (Unit {0}) ViewStop) → ChangesOpen tells run.config volume change view before.bay after.bay r → EndsSo r → Cause status
+            of_open view (Ok done) open_ ends = at_status 0 status ends.0 (done_without command is none)
+            of_open view (Err view_stop.Sink) open_ ends = of_sink ends.0
+            of_open view (Err (view_stop.Refused refusal)) open_ ends = of_refusal refusal (refused_open refusal view open_.views) ends
+            of_open view (Err (view_stop.Fault f)) open_ ends = told_cause _ f run.printed_then ends (of_failed volume f (open_.fails f refl))
+
+          of_change : (r : Result (Unit {0}) ViewStop) → ChangesView tells state run.config run.order before.bay after.bay before.sink.faults run.sink_then before.sink.bytes run.printed_then r → EndsSo r → Cause status
+          of_change r (changed.unknown refusal unknown prints same) ends = of_refusal refusal (inl unknown) ends
+          of_change r (changed.no_memory volume logger named_ prints leaves) ends = told_cause _ fault.Memory run.printed_then ends (λ nine. at_status 9 status nine row.no_memory)
+          of_change r (changed.closed volume logger k f named_ prints first leaves) ends =
+              told_cause _ (fault.Volume k (trouble_of f)) run.printed_then ends (λ same. at_status (trouble_status (trouble_of f)) status same (closed_cause run.config run.has k f first))
+          of_change r (changed.opened volume logger view x named_ prints open_) ends = of_open volume logger named_ view x open_ ends
+
+        pub view_cause : IsViewChangeOf tells state before after status (verb, named) → Cause status
+        view_cause (inl run) = of_change run run.result run.changes run.ends
+        view_cause (inr unread) = elim (wanted_or_sink unread.text unread.wanted status _ _ unread.ends) [
+          | inr seven ↦ of_sink seven
+          | inl same ↦ unread_cause for_config unread.text unread.wanted unread.untouched.line_ same
+        ]
+
       -- ---- Lines that were replayed
 
       module _ (how : Serving) (start : GivenLines) (replays : replayed_by command before.trace.bytes ≡ Some (how, start))
@@ -257,9 +375,9 @@ module _ {D : Type 0} (tells : Bool) (state : D → State) (words : List (List �
           of_line trace.NoMemory other same = absurd (other refl)
 
           module _ (r : Result (Unit {0}) Stop) (of : Replays tells (λ bytes. bytes) run.config how start run.now before.bay after.bay r before.sink.faults run.sink_then before.sink.bytes run.printed_then) where
-            of_versions : (v : ℕ) (s : ServedWindow) → of.last ≡ s ∷ [] → HasRefusedWrite v s → status_in r ≡ 11 → Cause 11
-            of_versions v s only write eleven =
-                let spent = spent_of tells (λ bytes. bytes) run.config how start run.now before.bay after.bay r before.sink.faults run.sink_then before.sink.bytes run.printed_then of v s only write eleven in
+            of_versions : (v : ℕ) (s : ServedWindow) → of.last ≡ s ∷ [] → HasRefusedWrite v s → r ≡ Err (stop.Fault (fault.Versions v)) → Cause 11
+            of_versions v s only write told =
+                let spent = spent_of tells (λ bytes. bytes) run.config how start run.now before.bay after.bay r before.sink.faults run.sink_then before.sink.bytes run.printed_then of v s only write told in
                 row.no_version for_config (record {
                   config = run.config;
                   has = run.has;
@@ -285,28 +403,15 @@ module _ {D : Type 0} (tells : Bool) (state : D → State) (words : List (List �
             of_end x same (refused f s only told rose versions) ends = told_cause _ f run.printed_then ends (λ at. elim (ends_window s.batch.requests s.answer f told) [
               | inl (part, four) ↦ at_status 4 status (at ∙ four) (row.part_failed for_bay (rose part))
               | inr (inl lacks) ↦ at_status 9 status (at ∙ ap status_of lacks) row.no_memory
-              | inr (inr (v, spent)) ↦ at_status 11 status (at ∙ ap status_of spent) (of_versions v s only (versions v spent) (ap (λ (y : Result (Unit {0}) Stop). status_in y) (sym same) ∙ ap status_of spent))
+              | inr (inr (v, spent)) ↦ at_status 11 status (at ∙ ap status_of spent) (of_versions v s only (versions v spent) (sym same ∙ ap (λ (y : Fault). Err (stop.Fault y)) spent))
             ])
             of_end x same memory ends = told_cause _ fault.Memory run.printed_then ends (λ nine. at_status 9 status nine row.no_memory)
             of_end x same (sink_failed rose) ends = of_sink ends.0
 
           of_replayed : (r : Result (Unit {0}) Stop) → Replayed tells state (λ bytes. bytes) run.config how start run.now before.bay after.bay before.sink.faults run.sink_then before.sink.bytes run.printed_then r → Ends r → Cause status
           of_replayed r (no_memory asks leaves) ends = told_cause _ fault.Memory run.printed_then ends (λ nine. at_status 9 status nine row.no_memory)
-          of_replayed r (closed k f asks first leaves) ends = told_cause _ (fault.Volume k (trouble_of f)) run.printed_then ends (λ same. at_status (trouble_status (trouble_of f)) status same
-              (trouble_cause for_config for_bay (trouble_of f)
-              (record {
-                config = run.config;
-                has = run.has;
-                volume = k;
-                conf = first.conf;
-                conf_is = first.conf_is;
-                out = first.out;
-                fault = f;
-                refused = first.refused;
-                status_is = refl;
-                first = λ j less. (first.before j less).1;
-              })
-              (λ four. first.cause (of_call f _ first.names four))))
+          of_replayed r (closed k f asks first leaves) ends =
+              told_cause _ (fault.Volume k (trouble_of f)) run.printed_then ends (λ same. at_status (trouble_status (trouble_of f)) status same (closed_cause run.config run.has k f first))
           of_replayed r (ran r2 of) ends = of_end r2 of r2 refl of.ends ends
 
         pub replay_cause : IsReplayOf tells state before after status (how, start) → Cause status

@@ -19,20 +19,23 @@ use Rattle.replay.specs.Givens.{HasGivenAll}
 use Rattle.replay.specs.declared.given.Given.TheVariants as given
 use Rattle.command_words.specs.Commands.{IsCommand}
 use Rattle.command_words.specs.declared.command.Command.{Command}
-use Rattle.command_words.specs.declared.command.Command.TheVariants.{Check, Dump, Format, Gen, Replay, Soak, Solo, WhatIf}
+use Rattle.command_words.specs.declared.command.Command.TheVariants.{Check, Dump, Format, Gen, Replay, Soak, Solo, ViewAdd, ViewRemove, WhatIf}
 use Rattle.command_words.specs.declared.command.Generated.{Generated}
 use Rattle.command_words.specs.declared.command.Options.{Options}
+use Rattle.command_words.specs.declared.command.ViewNames.{ViewNames}
+use Rattle.command_words.specs.Values.{named_by}
+use Rattle.view_commands.specs.declared.order.Verb.TheVariants.{Add, Remove}
 use Rattle.wol_run.specs.Causes.{AskFor}
 use Rattle.wol_run.specs.Causes as row
 use Rattle.wol_run.specs.Commands.{uses_trace}
 use Rattle.wol_run.specs.Completing.{HasSoundImages, HaveVersions, IsGoodTrace, seed_lines}
 use Rattle.wol_run.specs.Outside.{LeavesUnused, Outside, Stream}
 use Rattle.wol_run.specs.Replaying.{GivenLines, HasLeft, lines_of, options_as, trace_of}
-use Rattle.wol_run.specs.Run.{IsComparisonOf, IsFormat, IsListingOf, IsLookFor, IsReplayOf, Run}
+use Rattle.wol_run.specs.Run.{IsComparisonOf, IsFormat, IsListingOf, IsLookFor, IsReplayOf, IsViewChangeOf, Run}
 use Rattle.wol_run.specs.Settings.{IsConfigured}
 use Rattle.wol_run.specs.Tops.{EndsWith, HasCause, IsDoneOrMemory, TellsFault, TellsStatus}
-use Rattle.wol_run.proofs.Asked.{of_asked}
-use Rattle.wol_run.proofs.CausesTold.{comparison_cause, format_cause, gen_cause, look_cause, replay_cause}
+use Rattle.wol_run.proofs.Asked.{of_asked, uses_alike}
+use Rattle.wol_run.proofs.CausesTold.{comparison_cause, format_cause, gen_cause, look_cause, replay_cause, view_cause}
 use Rattle.wol_run.proofs.Compared.{uncompared}
 use Rattle.wol_run.proofs.Complete.{complete_format, complete_gen}
 use Rattle.wol_run.proofs.Endings.{told_done, told_fault}
@@ -42,6 +45,7 @@ use Rattle.wol_run.proofs.LookEndings.{look_untouched}
 use Rattle.wol_run.proofs.Promised.{Does, of_command, of_unread_words}
 use Rattle.wol_run.proofs.ReplayEndings.{at_end, replay_bad_line, replay_more_lines, soak_not_ten, soak_not_three, unreplayed}
 use Rattle.wol_run.proofs.SoloTold.{solo_cause, solo_complete}
+use Rattle.wol_run.proofs.Unread.{not_begun}
 
 module _ {D : Type 0} (tells : Bool) (state : D → State) (words : List (List ℕ)) (before after : Outside) (status : ℕ)
     (seven : status ≡ 7 → Rose before.sink.faults after.sink.faults) (later : before.sink.faults < after.sink.faults → status ≡ 7) where
@@ -51,12 +55,12 @@ module _ {D : Type 0} (tells : Bool) (state : D → State) (words : List (List �
   pub gen_promise : (what : Generated) → IsCommand words (Gen what) → IsListingOf before after status what → after.trace ≡ before.trace → after.bay ≡ before.bay → Run tells state words before after status
   gen_promise what is run trace bay = of_command tells state words before after status (Gen what) is run (gen_cause tells state words before after status seven what is run) later
       (record { config = λ none. absurd (used refl (none (Gen what) is)); trace = λ none. trace; bay = λ none. bay })
-      (λ order calm. complete_gen what _ _ _ status _ _ order (calm.config refl) (λ is_7. calm.sink (seven is_7)) run)
+      (λ order calm. inl (complete_gen what _ _ _ status _ _ order (calm.config refl) (λ is_7. calm.sink (seven is_7)) run))
 
   pub format_promise : IsCommand words Format → IsFormat before after status → after.trace ≡ before.trace → Run tells state words before after status
   format_promise is run trace = of_command tells state words before after status Format is run (format_cause tells state words before after status seven is run) later
       (record { config = λ none. absurd (used refl (none Format is)); trace = λ none. trace; bay = λ none. absurd (used refl (none Format is)) })
-      (λ order calm. complete_format _ _ _ _ _ status _ _ order (calm.config refl) (calm.bay refl) (λ is_7. calm.sink (seven is_7)) run)
+      (λ order calm. inl (complete_format _ _ _ _ _ status _ _ order (calm.config refl) (calm.bay refl) (λ is_7. calm.sink (seven is_7)) run))
 
   -- the volumes were looked at, and where nothing stood in the way the look came to its end
   module _ (complete : HasSoundImages tells before.config.bytes before.bay → IsConfigured before.config.bytes → ¬ Rose before.bay.faults after.bay.faults
@@ -64,12 +68,12 @@ module _ {D : Type 0} (tells : Bool) (state : D → State) (words : List (List �
     pub check_promise : IsCommand words Check → IsLookFor tells state before after status asked.Check → Run tells state words before after status
     check_promise is run = of_command tells state words before after status Check is run (look_cause tells state words before after status seven Check is refl refl refl asked.Check run) later
         (record { config = λ none. absurd (used refl (none Check is)); trace = λ none. trace; bay = λ none. absurd (used refl (none Check is)) })
-        (λ order calm. complete order.1 order.0 (calm.bay refl) (calm.config refl) calm.sink)
+        (λ order calm. inl (complete order.1 order.0 (calm.bay refl) (calm.config refl) calm.sink))
 
     pub dump_promise : IsCommand words Dump → IsLookFor tells state before after status asked.Dump → Run tells state words before after status
     dump_promise is run = of_command tells state words before after status Dump is run (look_cause tells state words before after status seven Dump is refl refl refl asked.Dump run) later
         (record { config = λ none. absurd (used refl (none Dump is)); trace = λ none. trace; bay = λ none. absurd (used refl (none Dump is)) })
-        (λ order calm. complete order.1 order.0 (calm.bay refl) (calm.config refl) calm.sink)
+        (λ order calm. inl (complete order.1 order.0 (calm.bay refl) (calm.config refl) calm.sink))
 
   pub replay_promise : (options : Options) → IsCommand words (Replay options) → IsReplayOf tells state before after status (options_as options, trace_of before.trace.bytes)
       → (status ≡ 8 → Rose before.config.faults after.config.faults ⊎ Rose before.trace.faults after.trace.faults)
@@ -82,7 +86,7 @@ module _ {D : Type 0} (tells : Bool) (state : D → State) (words : List (List �
       (λ ten. (for_trace, replay_more_lines tells state (options_as options) _ _ _ _ _ _ _ status _ _ before.trace.bytes run ten))
       (λ now lines config rest all uses. at_end before.trace.bytes after.trace.bytes now lines config rest all) run) later
       (record { config = λ none. absurd (used refl (none (Replay options) is)); trace = λ none. absurd (used refl (none (Replay options) is)); bay = λ none. absurd (used refl (none (Replay options) is)) })
-      (λ order calm. complete order.2 order.1 order.4 order.3 order.0 (calm.bay refl) (calm.config refl) (calm.trace refl) calm.sink)
+      (λ order calm. inl (complete order.2 order.1 order.4 order.3 order.0 (calm.bay refl) (calm.config refl) (calm.trace refl) calm.sink))
     where
       for_trace : AskFor words uses_trace
       for_trace = record { command = Replay options; is = is; does = refl }
@@ -96,16 +100,35 @@ module _ {D : Type 0} (tells : Bool) (state : D → State) (words : List (List �
       (replay_cause tells state words before after status seven (Soak what options) is refl refl (options_as options) (lines_of what) refl (λ eight. inl (source eight))
       (λ three. absurd (soak_not_three tells state (options_as options) _ _ _ _ _ _ _ status _ _ what run three))
       (λ ten. absurd (soak_not_ten tells state (options_as options) _ _ _ _ _ _ _ status _ _ what run ten))
-      (λ now lines config rest all asks. absurd (used asks.does (of_asked (λ c. uses_trace c ≡ false) (λ own volume same no. no) words (Soak what options) asks.command is asks.is refl))) run) later
+      (λ now lines config rest all asks. absurd (used asks.does (of_asked (λ c. uses_trace c ≡ false) uses_alike words (Soak what options) asks.command is asks.is refl))) run) later
       (record { config = λ none. absurd (used refl (none (Soak what options) is)); trace = λ none. trace; bay = λ none. absurd (used refl (none (Soak what options) is)) })
-      (λ order calm. complete order.1 order.2 order.0 (calm.bay refl) (calm.config refl) calm.sink)
+      (λ order calm. inl (complete order.1 order.2 order.0 (calm.bay refl) (calm.config refl) calm.sink))
 
   pub comparison_promise : IsCommand words WhatIf → IsComparisonOf before after status → (status ≡ 8 → Rose before.config.faults after.config.faults ⊎ Rose before.trace.faults after.trace.faults)
       → ((lines : _) → IsGoodTrace before.trace.bytes lines → IsConfigured before.config.bytes → ¬ Rose before.config.faults after.config.faults → ¬ Rose before.trace.faults after.trace.faults → ¬ Rose before.sink.faults after.sink.faults
       → IsDoneOrMemory status) → after.bay ≡ before.bay → Run tells state words before after status
   comparison_promise is run source complete bay = of_command tells state words before after status WhatIf is run (comparison_cause tells state words before after status seven is source run) later
       (record { config = λ none. absurd (used refl (none WhatIf is)); trace = λ none. absurd (used refl (none WhatIf is)); bay = λ none. bay })
-      (λ order calm. complete order.1 order.2 order.0 (calm.config refl) (calm.trace refl) calm.sink)
+      (λ order calm. inl (complete order.1 order.2 order.0 (calm.config refl) (calm.trace refl) calm.sink))
+
+  -- a view was to be changed
+  module _ (complete : HasSoundImages tells before.config.bytes before.bay → IsConfigured before.config.bytes → ¬ Rose before.bay.faults after.bay.faults
+      → ¬ Rose before.config.faults after.config.faults → ¬ Rose before.sink.faults after.sink.faults → IsDoneOrMemory status ⊎ (status ≡ 15)) (trace : after.trace ≡ before.trace) where
+    view_ends : {b : Bool} → b ≡ true → IsDoneOrMemory status ⊎ (status ≡ 15) → IsDoneOrMemory status ⊎ ((b ≡ true) × (status ≡ 15))
+    view_ends changes (inl done) = inl done
+    view_ends changes (inr refused) = inr (changes, refused)
+
+    pub view_add_promise : (names : ViewNames) → IsCommand words (ViewAdd names) → IsViewChangeOf tells state before after status (Add, named_by names) → Run tells state words before after status
+    view_add_promise names is run = of_command tells state words before after status (ViewAdd names) is run
+        (view_cause tells state words before after status seven (ViewAdd names) is refl refl Add (named_by names) refl (record { command = ViewAdd names; is = is; does = refl }) refl run) later
+        (record { config = λ none. absurd (used refl (none (ViewAdd names) is)); trace = λ none. trace; bay = λ none. absurd (used refl (none (ViewAdd names) is)) })
+        (λ order calm. view_ends refl (complete order.1 order.0 (calm.bay refl) (calm.config refl) calm.sink))
+
+    pub view_remove_promise : (names : ViewNames) → IsCommand words (ViewRemove names) → IsViewChangeOf tells state before after status (Remove, named_by names) → Run tells state words before after status
+    view_remove_promise names is run = of_command tells state words before after status (ViewRemove names) is run
+        (view_cause tells state words before after status seven (ViewRemove names) is refl refl Remove (named_by names) refl (record { command = ViewRemove names; is = is; does = refl }) refl run) later
+        (record { config = λ none. absurd (used refl (none (ViewRemove names) is)); trace = λ none. trace; bay = λ none. absurd (used refl (none (ViewRemove names) is)) })
+        (λ order calm. view_ends refl (complete order.1 order.0 (calm.bay refl) (calm.config refl) calm.sink))
 
   -- the lines of one volume were run on an image of its own
   module _ (own : Volume) (is : IsCommand words (Solo own)) (config : after.config ≡ before.config) where
@@ -118,7 +141,7 @@ module _ {D : Type 0} (tells : Bool) (state : D → State) (words : List (List �
     solo_fault_promise T e mid told tells_ cause run = of_command tells state words before after status (Solo own) is
         (told_fault (target_of own) _ _ _ _ _ _ _ _ status _ mid _ T e cause tells_ run)
         (solo_cause tells state words before after own is T status mid seven e told cause run) later unused
-        (λ order calm. solo_complete T (target_of own) _ _ _ _ _ mid _ _ _ _ status (calm.bay refl) (calm.trace refl) (λ is_7. calm.sink (seven is_7)) order e told cause run)
+        (λ order calm. inl (solo_complete T (target_of own) _ _ _ _ _ mid _ _ _ _ status (calm.bay refl) (calm.trace refl) (λ is_7. calm.sink (seven is_7)) order e told cause run))
 
 -- they were run to their end
 pub solo_done_promise : {D : Type 0} (tells : Bool) (state : D → State) (words : List (List ℕ)) (before after : Outside) → (before.sink.faults < after.sink.faults → ⊥) → (own : Volume) → IsCommand words (Solo own) → after.config ≡ before.config
@@ -126,7 +149,7 @@ pub solo_done_promise : {D : Type 0} (tells : Bool) (state : D → State) (words
 solo_done_promise tells state words before after calm own is config end x run = of_command tells state words before after 0 (Solo own) is
     (told_done x (target_of own) _ _ _ _ _ _ _ _ _ _ run) (row.done (Solo own) is (λ uses. end)) (λ less. absurd (calm less))
     (record { config = λ none. config; trace = λ none. absurd (true≢false (none (Solo own) is)); bay = λ none. absurd (true≢false (none (Solo own) is)) })
-    (λ order still. inl refl)
+    (λ order still. inl (inl refl))
 
 -- there was no memory to read the words, and the sink alone was used
 module _ {D : Type 0} (tells : Bool) (state : D → State) (words : List (List ℕ)) (before : Outside) (sink : Stream) (status : ℕ) (ends : EndsWith (codes "fault 9 memory\n") 9 status before.sink.bytes sink.bytes) where
@@ -143,6 +166,8 @@ module _ {D : Type 0} (tells : Bool) (state : D → State) (words : List (List �
   does_none (Gen what) = told_unread what _ _ _ status _ _ fault.Memory tt (inr ends)
   does_none (Soak what options) = unreplayed _ _ _ _ _ _ _ _ _ _ _ _ _ fault.Memory tt tt (inr ends)
   does_none WhatIf = uncompared _ _ _ _ _ _ _ _ _ fault.Memory tt refl (inr ends)
+  does_none (ViewAdd names) = inr (not_begun _ _ _ _ _ status _ _ fault.Memory tt refl (inr ends))
+  does_none (ViewRemove names) = inr (not_begun _ _ _ _ _ status _ _ fault.Memory tt refl (inr ends))
 
   pub memory_promise : (status ≡ 7 → Rose before.sink.faults sink.faults) → (before.sink.faults < sink.faults → status ≡ 7) → Run tells state words before after status
   memory_promise seven later = of_unread_words tells state words before after status does_none ends seven later (record { config = λ none. refl; trace = λ none. refl; bay = λ none. refl })

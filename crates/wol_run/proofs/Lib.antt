@@ -11,6 +11,7 @@ mod ReplayEnds
 mod ReplayFaults
 mod SeenLines
 mod Compared
+mod Viewed
 mod Taken
 mod Unread
 mod HeadlineTold

@@ -9,17 +9,24 @@ use Rattle.inspection.specs.declared.asked.Asked.{Asked}
 use Rattle.inspection.specs.declared.asked.Asked.TheVariants as asked
 use Rattle.command_words.specs.Commands.{IsCommand, NoCommand}
 use Rattle.command_words.specs.declared.command.Command.{Command}
-use Rattle.command_words.specs.declared.command.Command.TheVariants.{Check, Dump, Format, Gen, Replay, Soak, Solo, WhatIf}
+use Rattle.command_words.specs.declared.command.Command.TheVariants.{Check, Dump, Format, Gen, Replay, Soak, Solo, ViewAdd, ViewRemove, WhatIf}
 use Rattle.command_words.specs.declared.command.Generated.{Generated}
+use Rattle.command_words.specs.declared.command.ViewNames.{ViewNames}
+use Rattle.command_words.specs.Table.{Named}
+use Rattle.command_words.specs.Values.{named_by}
+use Rattle.view_commands.specs.declared.order.Verb.{Verb}
+use Rattle.view_commands.specs.declared.order.Verb.TheVariants.{Add, Remove}
 use Rattle.wol_run.specs.Causes.{IsCause, replayed_by}
 use Rattle.wol_run.specs.Causes as row
+use Rattle.wol_run.specs.Formatting.{IsNotBegun}
 use Rattle.wol_run.specs.Outside.{LeavesUnused, NothingFailed, Outside}
 use Rattle.wol_run.specs.Replaying.{lines_of, options_as, trace_of}
-use Rattle.wol_run.specs.Run.{IsAccountOf, IsComparisonOf, IsFormat, IsHeadlineOf, IsListingOf, IsLookFor, IsReplayOf, IsSoloOf, IsUnconfigured, ReadsInOrder, Run, looked_at_by}
+use Rattle.wol_run.specs.Run.{ComesToItsEnd, IsAccountOf, IsComparisonOf, IsFormat, IsHeadlineOf, IsListingOf, IsLookFor, IsReplayOf, IsSoloOf, IsUnconfigured, IsViewChangeOf, ReadsInOrder, Run, looked_at_by}
 use Rattle.wol_run.specs.Settings.{HasConfig, HasNoConfig, IsFaultLine}
-use Rattle.wol_run.specs.Tops.{EndsWith, IsDoneOrMemory, RunsSolo}
+use Rattle.wol_run.specs.Tops.{EndsWith, RunsSolo}
+use Rattle.wol_run.specs.Viewing.{view_change_by}
 use Rattle.wol_run.proofs.AccountTold.{runs_account}
-use Rattle.wol_run.proofs.Asked.{of_asked}
+use Rattle.wol_run.proofs.Asked.{IsAlike, of_asked}
 use Rattle.wol_run.proofs.CausesTold.{at_status}
 use Rattle.wol_run.proofs.Complete.{no_both}
 use Rattle.wol_run.proofs.HeadlineTold.{runs_headline}
@@ -55,9 +62,18 @@ module _ {D : Type 0} (tells : Bool) (state : D → State) (words : List (List �
   Does (Gen what) = IsListingOf before after status what
   Does (Soak what options) = IsReplayOf tells state before after status (options_as options, lines_of what)
   Does WhatIf = IsComparisonOf before after status
+  Does (ViewAdd names) = IsViewChangeOf tells state before after status (Add, named_by names)
+  Does (ViewRemove names) = IsViewChangeOf tells state before after status (Remove, named_by names)
 
-  does_alike : (own volume : Volume) → target_of own ≡ target_of volume → Does (Solo own) → Does (Solo volume)
-  does_alike own volume same does = subst (λ t. RunsSolo t before.trace.bytes after.trace.bytes before.bay.told after.bay.told before.bay.faults after.bay.faults before.trace.faults after.trace.faults status before.sink.bytes after.sink.bytes) same does
+  solo_alike : (own volume : Volume) → target_of own ≡ target_of volume → Does (Solo own) → Does (Solo volume)
+  solo_alike own volume same does = subst (λ t. RunsSolo t before.trace.bytes after.trace.bytes before.bay.told after.bay.told before.bay.faults after.bay.faults before.trace.faults after.trace.faults status before.sink.bytes after.sink.bytes) same does
+
+  does_alike : IsAlike Does
+  does_alike = record {
+    solo = solo_alike;
+    add = λ own other same does. subst (λ n. IsViewChangeOf tells state before after status (Add, n)) same does;
+    remove = λ own other same does. subst (λ n. IsViewChangeOf tells state before after status (Remove, n)) same does;
+  }
 
   headline_of : (command : Command) → Does command → IfSome (replayed_by command before.trace.bytes) (IsHeadlineOf tells state before after status)
   headline_of (Solo volume) does = tt
@@ -68,6 +84,8 @@ module _ {D : Type 0} (tells : Bool) (state : D → State) (words : List (List �
   headline_of (Gen what) does = tt
   headline_of (Soak what options) does = runs_headline tells state (options_as options) _ _ _ _ _ _ _ _ _ _ _ does
   headline_of WhatIf does = tt
+  headline_of (ViewAdd names) does = tt
+  headline_of (ViewRemove names) does = tt
 
   account_of : (command : Command) → Does command → IfSome (replayed_by command before.trace.bytes) (IsAccountOf tells state before after status)
   account_of (Solo volume) does = tt
@@ -78,6 +96,8 @@ module _ {D : Type 0} (tells : Bool) (state : D → State) (words : List (List �
   account_of (Gen what) does = tt
   account_of (Soak what options) does = runs_account tells state (options_as options) _ _ _ _ _ _ _ _ _ _ _ does
   account_of WhatIf does = tt
+  account_of (ViewAdd names) does = tt
+  account_of (ViewRemove names) does = tt
 
   replay_of : (command : Command) → Does command → IfSome (replayed_by command before.trace.bytes) (IsReplayOf tells state before after status)
   replay_of (Solo volume) does = tt
@@ -88,6 +108,8 @@ module _ {D : Type 0} (tells : Bool) (state : D → State) (words : List (List �
   replay_of (Gen what) does = tt
   replay_of (Soak what options) does = does
   replay_of WhatIf does = tt
+  replay_of (ViewAdd names) does = tt
+  replay_of (ViewRemove names) does = tt
 
   look_of : (command : Command) → Does command → IfSome (looked_at_by command) (IsLookFor tells state before after status)
   look_of (Solo volume) does = tt
@@ -98,6 +120,20 @@ module _ {D : Type 0} (tells : Bool) (state : D → State) (words : List (List �
   look_of (Gen what) does = tt
   look_of (Soak what options) does = tt
   look_of WhatIf does = tt
+  look_of (ViewAdd names) does = tt
+  look_of (ViewRemove names) does = tt
+
+  view_of : (command : Command) → Does command → IfSome (view_change_by command) (IsViewChangeOf tells state before after status)
+  view_of (Solo volume) does = tt
+  view_of Format does = tt
+  view_of (Replay options) does = tt
+  view_of Check does = tt
+  view_of Dump does = tt
+  view_of (Gen what) does = tt
+  view_of (Soak what options) does = tt
+  view_of WhatIf does = tt
+  view_of (ViewAdd names) does = does
+  view_of (ViewRemove names) does = does
 
   -- ---- .. where the configuration is none
 
@@ -146,6 +182,17 @@ module _ {D : Type 0} (tells : Bool) (state : D → State) (words : List (List �
     | inl same ↦ of_unread _ bytes told none _ _ unread.text unread.wanted status unread.line_ same
   ]
 
+  not_begun_unconfigured : IsNotBegun before.config.bytes before.config.faults after.config.faults before.bay after.bay status before.sink.bytes after.sink.bytes
+      → (bytes : List ℕ) → before.config.bytes ≡ Some bytes → HasNoConfig (Some bytes) → TellsNoConfig status
+  not_begun_unconfigured unread bytes told none = elim (wanted_or_sink unread.text unread.wanted status _ _ unread.ends) [
+    | inr seven ↦ inr (inl seven)
+    | inl same ↦ of_unread _ bytes told none _ _ unread.text unread.wanted status unread.untouched.line_ same
+  ]
+
+  view_unconfigured : (how : Verb × Named) → IsViewChangeOf tells state before after status how → (bytes : List ℕ) → before.config.bytes ≡ Some bytes → HasNoConfig (Some bytes) → TellsNoConfig status
+  view_unconfigured (verb, named) (inl run) bytes told none = absurd (never_had _ bytes told none run.config run.has)
+  view_unconfigured (verb, named) (inr unread) bytes told none = not_begun_unconfigured unread bytes told none
+
   unconfigured_of : (command : Command) → Does command → IsUnconfigured command before → TellsNoConfig status
   unconfigured_of (Solo volume) does (uses, bytes, told, none) = absurd (true≢false (sym uses))
   unconfigured_of Format does (uses, bytes, told, none) = format_unconfigured does bytes told none
@@ -155,14 +202,20 @@ module _ {D : Type 0} (tells : Bool) (state : D → State) (words : List (List �
   unconfigured_of (Gen what) does (uses, bytes, told, none) = gen_unconfigured what does bytes told none
   unconfigured_of (Soak what options) does (uses, bytes, told, none) = replay_unconfigured _ does bytes told none
   unconfigured_of WhatIf does (uses, bytes, told, none) = comparison_unconfigured does bytes told none
+  unconfigured_of (ViewAdd names) does (uses, bytes, told, none) = view_unconfigured _ does bytes told none
+  unconfigured_of (ViewRemove names) does (uses, bytes, told, none) = view_unconfigured _ does bytes told none
 
   -- ---- The whole
 
   abbrev Completes : Command → Type 0
-  Completes command = ReadsInOrder tells command before → NothingFailed command before after → IsDoneOrMemory status
+  Completes command = ReadsInOrder tells command before → NothingFailed command before after → ComesToItsEnd command status
 
-  completes_alike : (own volume : Volume) → target_of own ≡ target_of volume → Completes (Solo own) → Completes (Solo volume)
-  completes_alike own volume same completes = λ order calm. completes order (record { config = calm.config; trace = calm.trace; bay = calm.bay; sink = calm.sink })
+  completes_alike : IsAlike Completes
+  completes_alike = record {
+    solo = λ own other same completes order calm. completes order (record { config = calm.config; trace = calm.trace; bay = calm.bay; sink = calm.sink });
+    add = λ own other same completes order calm. completes order (record { config = calm.config; trace = calm.trace; bay = calm.bay; sink = calm.sink });
+    remove = λ own other same completes order calm. completes order (record { config = calm.config; trace = calm.trace; bay = calm.bay; sink = calm.sink });
+  }
 
   pub promise : ((command : Command) → IsCommand words command → Does command)
       → (NoCommand words → EndsWith (codes "fault 1 words\n") 1 status before.sink.bytes after.sink.bytes ⊎ EndsWith (codes "fault 9 memory\n") 9 status before.sink.bytes after.sink.bytes)
@@ -176,6 +229,7 @@ module _ {D : Type 0} (tells : Bool) (state : D → State) (words : List (List �
     formatted = λ is. does Format is;
     generated = λ what is. does (Gen what) is;
     compared = λ is. does WhatIf is;
+    viewed = λ command is. view_of command (does command is);
     solo = λ volume is. does (Solo volume) is;
     refused = refused;
     cause = cause;
@@ -187,7 +241,7 @@ module _ {D : Type 0} (tells : Bool) (state : D → State) (words : List (List �
 
   -- the words are a command, which was read
   pub of_command : (read : Command) → IsCommand words read → Does read → IsCause tells state words before after status → (before.sink.faults < after.sink.faults → status ≡ 7) → LeavesUnused words before after
-      → (ReadsInOrder tells read before → NothingFailed read before after → IsDoneOrMemory status) → Run tells state words before after status
+      → (ReadsInOrder tells read before → NothingFailed read before after → ComesToItsEnd read status) → Run tells state words before after status
   of_command read is does cause sink unused complete = promise
       (λ command so. of_asked Does does_alike words read command is so does)
       (λ none. absurd (none read is)) cause sink unused
@@ -211,6 +265,6 @@ module _ {D : Type 0} (tells : Bool) (state : D → State) (words : List (List �
         | inr seven ↦ at_status tells state words before after 7 status seven (row.sink_failed (rose seven))
       ]) sink unused
       (λ command is order calm. elim (wanted_or_sink _ 9 status _ _ ends) [
-        | inl nine ↦ inr nine
+        | inl nine ↦ inl (inr nine)
         | inr seven ↦ absurd (calm.sink (rose seven))
       ])

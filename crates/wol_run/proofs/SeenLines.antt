@@ -41,7 +41,7 @@ refuses_seen left e (Generated g n) (Generated k m) ls h = h
 
 window_seen : {S : Type 0} (left : S → Option (List ℕ)) (config : Config) (start now : Given S) (run more : List (Option TraceLine)) → EndsWithWindow left config start now run more
     → EndsWithWindow (λ bytes. bytes) config (seen left start) (seen left now) run more
-window_seen left config start now run more (opens line w one same) = opens line w one same
+window_seen left config start now run more (opens line rest w one same) = opens line rest w one same
 window_seen left config start now run more (at_end all) = at_end (all_seen left (targets_of config) start now run all)
 window_seen left config start now run more (at_refusal refusal other refuses) = at_refusal refusal other (refuses_seen left refusal start now run refuses)
 
@@ -83,6 +83,7 @@ module _ {S T : Type 0} (tells : Bool) (left : S → Option (List ℕ)) (config 
       are = is.are;
       cause = is.cause;
       part = is.part;
+      spent = is.spent;
       begun = is.begun;
       counts = is.counts;
       placed = is.placed;

@@ -1,19 +1,18 @@
 -- Where versions ended a run, a volume had none left for a write.
-use Rattle.std.proofs.Common.{◌≡◌, ◌≤◌, ◌<◌, ◌⊎◌, ◌+◌, ◌++◌, ◌^◌, ℕ, Bool, true, false, List, [], ◌∷◌, length, Option, None, Some, Result, inl, inr, refl, sym, ap, subst, ◌∙◌, arith}
+use Rattle.std.proofs.Common.{◌≡◌, ◌≤◌, ◌<◌, ◌+◌, ◌++◌, ◌^◌, ℕ, Bool, true, List, [], ◌∷◌, Option, None, Some, Result, Err, refl, sym, ap, subst, ◌∙◌, arith}
 use Rattle.std.specs.Prelude.{IsTrue, slice_get}
 use Rattle.std.specs.List.{count_by}
 use Rattle.std.specs.Option.{option_map_or}
-use Rattle.std.proofs.lemmas.Bool.{cases_lt}
-use Rattle.wol_disk.specs.Disk.{Rose}
 use Rattle.wol_bay.specs.Bay.{BayState}
 use Rattle.wol_model.specs.Trace.{Request, TraceLine, requests}
 use Rattle.wol_promise.specs.Manager.{Base}
-use Rattle.wol_promise.specs.Outcomes.{Answered, answered_in, of_volume}
+use Rattle.wol_promise.specs.Outcomes.{Answered, answered_in}
 use Rattle.wol_promise.specs.Report.{logged_writes}
 use Rattle.wol_promise.specs.Ruled.{entries_of}
-use Rattle.run_laws.specs.Answers.{answers_of, requests_in}
-use Rattle.run_laws.proofs.ReadLines.{length_mapped, volume_requests}
+use Rattle.run_laws.specs.Answers.{answers_of}
+use Rattle.run_laws.proofs.ReadLines.{volume_requests}
 use Rattle.wol_config.specs.declared.config.Config.{Config}
+use Rattle.report.specs.declared.fault.Fault.TheVariants.{Versions}
 use Rattle.volume_images.specs.Left.{IsTold}
 use Rattle.volume_images.specs.Volumes.{images_read}
 use Rattle.rack.specs.Owners.{IsBegun}
@@ -21,22 +20,23 @@ use Rattle.trace_gen.specs.Generated.{targets_of}
 use Rattle.trace_windows.specs.Requests.{most_of}
 use Rattle.replay.specs.Completes.{is_write, writes_to}
 use Rattle.replay.specs.Ended.{HasRefusedWrite}
-use Rattle.replay.specs.Histories.{History, answers_in, is_broken, is_broken_at, next_after, next_at}
-use Rattle.replay.specs.Replays.{Replays, status_in}
+use Rattle.replay.specs.Histories.{History, answers_in, next_after, next_at}
+use Rattle.replay.specs.Replays.{Replays}
 use Rattle.replay.specs.Served.{ServedWindow}
 use Rattle.replay.specs.declared.given.Given.{Given}
 use Rattle.replay.specs.declared.session.Options.{Options}
 use Rattle.replay.specs.declared.stop.Stop.{Stop}
+use Rattle.replay.specs.declared.stop.Stop.TheVariants as stop
 use Rattle.replay.proofs.CountsLeft.{answers_joined}
 use Rattle.replay.proofs.WritesAnswered.{Among, among_left, among_of, among_right, among_volume, asked_writes, asks_write, logged_answered, one_less, writes_in}
 
--- the base of the volume's history, whose writes to logs took all versions, unless a call of the bay failed
+-- the base of the volume's history, whose writes to logs took all versions
 pub record HasSpent (tells : Bool) (config : Config) (lines : List (Option TraceLine)) (old new : BayState) : Type 0 where
   pub base : Base
   pub begun : IsTrue tells → IsTold (λ entry exit. IsBegun config (images_read config entry) base) old.told new.told
   pub logged : ℕ
   pub few : logged < writes_to base.owner (requests (most_of config) (targets_of config) lines)
-  pub spent : (2 ^ 63 ≤ base.next + logged) ⊎ Rose old.faults new.faults
+  pub spent : 2 ^ 63 ≤ base.next + logged
 
 -- it is told of one volume as of all
 on_told : (P Q : Rattle.wol_bay.specs.Bay.Told → Rattle.wol_bay.specs.Bay.Told → Type 0) (a b : Option Rattle.wol_bay.specs.Bay.Told) → IsTold P a b → ((o n : Rattle.wol_bay.specs.Bay.Told) → P o n → Q o n) → IsTold Q a b
@@ -49,36 +49,22 @@ module _ {S T : Type 0} (tells : Bool) (left : S → Option (List ℕ)) (config 
   abbrev answers : List Answered
   answers = answers_in (r.earlier ++ r.last)
 
-  pub spent_of : (v : ℕ) (s : ServedWindow) → r.last ≡ s ∷ [] → HasRefusedWrite v s → status_in result ≡ 11 → HasSpent tells config r.run old new
-  spent_of v s only write_ status =
+  pub spent_of : (v : ℕ) (s : ServedWindow) → r.last ≡ s ∷ [] → HasRefusedWrite v s → result ≡ Err (stop.Fault (Versions v)) → HasSpent tells config r.run old new
+  spent_of v s only write_ is =
       let a : Answered = write_.answer in
       let here : Among (answers_in (s ∷ [])) a = among_left _ [] a (among_of _ a write_.among) in
       let last : Among (answers_in r.last) a = subst (λ (l : List ServedWindow). Among (answers_in l) a) (sym only) here in
       let all : Among answers a = subst (λ (l : List Answered). Among l a) (sym (answers_joined r.earlier r.last)) (among_right (answers_in r.earlier) (answers_in r.last) a last) in
       let asks : asks_write a ≡ true = ap is_write write_.kind_is in
       let (short, few) = one_less (answers_of v answers) a write_.refused asks (among_volume v answers a write_.volume all) in
-      at (slice_get r.histories v) refl short few
+      at (slice_get r.histories v) refl few
     where
-      sized : length (of_volume v (requests_in answers)) ≡ length (answers_of v answers)
-      sized = ap length (sym (volume_requests v answers)) ∙ length_mapped (λ (x : Answered). x.request) (answers_of v answers)
-
-      -- no less than all are answered of a volume that wasn't broken and has versions
-      never : (IsTrue (is_broken_at r.histories v) → ⊥) → next_at r.histories v < 2 ^ 63 → length (answered_in (answers_of v answers)) < length (answers_of v answers) → ⊥
-      never intact less short =
-          let every = r.counts.unless v (λ is. (let no : 11 ≡ 7 = sym status ∙ is in absurd (omega (arith, no)))) (λ is. (let no : 11 ≡ 9 = sym status ∙ is in absurd (omega (arith, no)))) intact less in
-          omega (arith, every, sized, short)
-
-      broken_or : (b : Bool) → is_broken_at r.histories v ≡ b → next_at r.histories v < 2 ^ 63 → length (answered_in (answers_of v answers)) < length (answers_of v answers) → Rose old.faults new.faults
-      broken_or true is less short = r.cause v is
-      broken_or false is less short = absurd (never (λ broken. (let no : true ≡ false = sym broken ∙ is in cc)) less short)
-
-      at : (o : Option History) → slice_get r.histories v ≡ o → length (answered_in (answers_of v answers)) < length (answers_of v answers)
+      at : (o : Option History) → slice_get r.histories v ≡ o
           → writes_in (answered_in (answers_of v answers)) + 1 ≤ writes_in (answers_of v answers) → HasSpent tells config r.run old new
-      at None none short few =
-          let whole : is_broken_at r.histories v ≡ false = ap (λ (x : Option History). option_map_or is_broken x false) none in
+      at None none few =
           let next : next_at r.histories v ≡ 0 = ap (λ (x : Option History). option_map_or next_after x 0) none in
-          absurd (never (λ broken. (let no : true ≡ false = sym broken ∙ whole in cc)) (omega (arith, next)) short)
-      at (Some h) here short few =
+          absurd (omega (arith, r.spent v is, next))
+      at (Some h) here few =
           let one = r.are.each v h here in
           let asked : writes_to h.base.owner (requests (most_of config) (targets_of config) r.run) ≡ writes_in (answers_of v answers)
           = (λ i. writes_to (one.owner i) (sym r.asked i)) ∙ ap (λ (l : List Request). count_by (λ (x : Request). is_write x.kind) l) (sym (volume_requests v answers)) ∙ sym (asked_writes (answers_of v answers)) in
@@ -89,8 +75,5 @@ module _ {S T : Type 0} (tells : Bool) (left : S → Option (List ℕ)) (config 
             begun = λ telling. on_told _ _ old.told new.told (r.begun telling) (λ o n begins. begins v h here);
             logged = logged_writes h.notes;
             few = omega (arith, asked, logged, few);
-            spent = elim (cases_lt (next_at r.histories v) (2 ^ 63)) [
-              | inl less ↦ inr (broken_or (is_broken_at r.histories v) refl less short)
-              | inr more ↦ inl (omega (arith, more, next))
-            ];
+            spent = omega (arith, r.spent v is, next);
           }

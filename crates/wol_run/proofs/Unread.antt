@@ -9,6 +9,8 @@ use Rattle.report.specs.declared.fault.Fault.TheVariants as fault
 use Rattle.report.specs.Faults.{cause_text, fault_text, status_of}
 use Rattle.report.specs.Names.{printed_names}
 use Rattle.report.specs.Words.{line_of}
+use Rattle.wol_bay.specs.Bay.{BayState}
+use Rattle.wol_run.specs.Formatting.{IsNotBegun}
 use Rattle.wol_run.specs.Settings.{HasNoConfig, IsFaultLine, IsUnread, line_of_fault}
 use Rattle.wol_run.specs.Tops.{EndsWith}
 
@@ -56,3 +58,19 @@ ends_unread left faults faults' text wanted line = elim (unread_status line.faul
   | inr (inl (eight, rose)) ↦ inr (inl (line.told ∙ eight, rose))
   | inr (inr nine) ↦ inr (inr (line.told ∙ nine))
 ]
+
+-- a command that uses the bay wasn't begun
+pub not_begun : (left : Option (List ℕ)) (faults faults' : ℕ) (old new : BayState) (status : ℕ) (printed printed' : Option (List ℕ)) → (e : Fault) → IsUnread e left faults faults' → new ≡ old
+    → EndsWith (line_of_fault e) (status_of e) status printed printed' ⊎ EndsWith (codes "fault 9 memory\n") 9 status printed printed' → IsNotBegun left faults faults' old new status printed printed'
+not_begun left faults faults' old new status printed printed' e cause same (inl ends) = record {
+  text = line_of_fault e;
+  wanted = status_of e;
+  untouched = record { line_ = line_unread e left faults faults' cause; bay = same };
+  ends = ends;
+}
+not_begun left faults faults' old new status printed printed' e cause same (inr ends) = record {
+  text = codes "fault 9 memory\n";
+  wanted = 9;
+  untouched = record { line_ = line_of_memory left faults faults'; bay = same };
+  ends = ends;
+}

@@ -1,5 +1,5 @@
 -- Why the program ended with its status: a row for each, in the order of their numbers.
-use Rattle.std.specs.Prelude.{◌≡◌, ◌≤◌, ◌<◌, ◌⊎◌, ◌+◌, ◌^◌, ◌++◌, ℕ, Bool, true, List, Option, None, Some, IfSome, IsTrue, slice_get}
+use Rattle.std.specs.Prelude.{◌≡◌, ◌≢◌, ◌≤◌, ◌<◌, ◌⊎◌, ◌+◌, ◌^◌, ◌++◌, ℕ, Bool, true, List, Option, None, Some, IfSome, IsTrue, slice_get}
 use Rattle.std.specs.Io.KnownBytes.{IsAtEnd}
 use Rattle.wol_disk.specs.Disk.{Rose, State}
 use Rattle.wol_model.specs.Trace.{TraceLine, requests}
@@ -13,6 +13,7 @@ use Rattle.rack.specs.Owners.{IsBegun}
 use Rattle.rack.specs.declared.rack.ImageRest.{ImageRest}
 use Rattle.rack.specs.declared.volume_fault.VolumeFault.{VolumeFault}
 use Rattle.report.specs.Troubles.{trouble_status}
+use Rattle.report.specs.declared.trouble.Trouble.{Trouble}
 use Rattle.troubles.specs.Troubles.{trouble_of}
 use Rattle.trace_gen.specs.Generated.{targets_of}
 use Rattle.trace_windows.specs.Requests.{most_of}
@@ -21,13 +22,19 @@ use Rattle.replay.specs.Givens.{HasGiven}
 use Rattle.replay.specs.NotOpened.{IsOpened}
 use Rattle.replay.specs.declared.session.Options.{Options as Serving}
 use Rattle.command_words.specs.Commands.{IsCommand, NoCommand}
+use Rattle.command_words.specs.Table.{Named}
 use Rattle.command_words.specs.declared.command.Command.{Command}
 use Rattle.command_words.specs.declared.command.Command.TheVariants.{Replay, Soak}
-use Rattle.wol_run.specs.Commands.{uses_bay, uses_config, uses_trace}
+use Rattle.view_commands.specs.Views.{IsDamagedIn}
+use Rattle.view_commands.specs.declared.order.Order.{Order}
+use Rattle.view_commands.specs.declared.order.Verb.{Verb}
+use Rattle.view_commands.specs.declared.order.ViewRefusal.{ViewRefusal}
+use Rattle.wol_run.specs.Commands.{changes_view, uses_bay, uses_config, uses_trace}
 use Rattle.wol_run.specs.Outside.{Outside}
 use Rattle.wol_run.specs.Replaying.{GivenLines, lines_of, options_as, trace_of}
 use Rattle.wol_run.specs.Settings.{HasConfig, HasNoConfig}
 use Rattle.wol_run.specs.Tops.{HasBadLine, HasMoreLines}
+use Rattle.wol_run.specs.Viewing.{IsOrder, RefusesChange, view_change_by}
 
 -- the words ask for a command that uses this
 pub record AskFor (words : List (List ℕ)) (uses : Command → Bool) : Type 0 where
@@ -58,7 +65,7 @@ replayed_by (Soak asked options) trace = Some (options_as options, lines_of aske
 replayed_by command trace = None
 
 -- A volume had no version left for a write: its writes that went to logs, fewer than are asked of
--- it, took all versions from the next one at opening on. Or a call of the bay failed.
+-- it, took all versions from the next one at opening on.
 pub record HasNoVersion (tells : Bool) (words : List (List ℕ)) (before after : Outside) : Type 0 where
   pub config : Config
   pub has : HasConfig before.config.bytes config
@@ -77,7 +84,32 @@ pub record HasNoVersion (tells : Bool) (words : List (List ℕ)) (before after :
       before.bay.told after.bay.told
   pub logged : ℕ
   pub few : logged < writes_to base.owner (requests (most_of config) (targets_of config) lines)
-  pub spent : (2 ^ 63 ≤ base.next + logged) ⊎ Rose before.bay.faults after.bay.faults
+  pub spent : 2 ^ 63 ≤ base.next + logged
+
+-- A view was to be changed, and that is refused: a word names no volume, or the view can't be
+-- changed so.
+pub record HasRefusal (tells : Bool) (words : List (List ℕ)) (before after : Outside) : Type 0 where
+  pub config : Config
+  pub has : HasConfig before.config.bytes config
+  pub command : Command
+  pub is : IsCommand words command
+  pub verb : Verb
+  pub named : Named
+  pub changes : view_change_by command ≡ Some (verb, named)
+  pub order : Order
+  pub is_order : IsOrder verb named order
+  pub refusal : ViewRefusal
+  pub cause : RefusesChange tells config order before.bay after.bay refusal
+
+-- A block of the label and view of a volume is damaged, as its image reads.
+pub record HasDamagedView (tells : Bool) (before after : Outside) : Type 0 where
+  pub config : Config
+  pub has : HasConfig before.config.bytes config
+  pub volume : ℕ
+  pub block : ℕ
+  pub damaged : IsTrue tells
+      → IsTold (λ entry left. IsDamagedIn (images_read config entry) volume block)
+      before.bay.told after.bay.told
 
 module _ {D : Type 0} (tells : Bool) (state : D → State) (words : List (List ℕ))
     (before after : Outside) where
@@ -111,3 +143,12 @@ module _ {D : Type 0} (tells : Bool) (state : D → State) (words : List (List �
     no_version : AskFor words uses_config → HasNoVersion tells words before after → IsCause 11
     -- 12: the bay has no image of a volume's name
     no_image : AskFor words uses_config → IsClosedFor tells state before after 12 → IsCause 12
+    -- 15: a word is no volume's name, or the view of the volume can't be changed so
+    view_refused : HasRefusal tells words before after → IsCause 15
+    -- 5 too: the label or the view of a volume whose view is to be changed is damaged
+    damaged_view : AskFor words changes_view → HasDamagedView tells before after → IsCause 5
+    -- 5, 6 and 12 too: the image of a volume whose view is to be changed is another as it is handed
+    -- out again, which a bay that tells its images never does
+    image_again : AskFor words changes_view → (t : Trouble) → trouble_status t ≢ 4
+        → (IsTrue tells → IsTold (λ entry left. ⊥) before.bay.told after.bay.told)
+        → IsCause (trouble_status t)

@@ -3,7 +3,7 @@ use Rattle.std.specs.Prelude.{◌≡◌, Bool, true, false, ⊤, ℕ, ◌≤◌,
 use Rattle.solo.specs.Volume.{IsVolume, target_of}
 use Rattle.command_words.specs.Commands.{IsCommand}
 use Rattle.command_words.specs.declared.command.Command.{Command}
-use Rattle.command_words.specs.declared.command.Command.TheVariants.{Solo, Replay, Gen, Soak, WhatIf}
+use Rattle.command_words.specs.declared.command.Command.TheVariants.{Solo, Replay, Gen, Soak, ViewAdd, ViewRemove, WhatIf}
 
 -- whether a command uses the bay
 abbrev pub uses_bay : Command → Bool
@@ -22,6 +22,12 @@ uses_trace command = false
 abbrev pub uses_config : Command → Bool
 uses_config (Solo volume) = false
 uses_config command = true
+
+-- whether it changes a view
+abbrev pub changes_view : Command → Bool
+changes_view (ViewAdd names) = true
+changes_view (ViewRemove names) = true
+changes_view command = false
 
 -- the words ask for no command that passes the test
 abbrev pub NoneOf : (Command → Bool) → List (List ℕ) → Type 0

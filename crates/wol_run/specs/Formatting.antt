@@ -82,6 +82,13 @@ pub record IsUntouched (left : Option (List ℕ)) (faults faults' : ℕ) (old ne
   pub line_ : IsFaultLine left faults faults' text status
   pub bay : new ≡ old
 
+-- the configuration wasn't had: the text says why, and the bay is as it was
+pub record IsNotBegun (left : Option (List ℕ)) (faults faults' : ℕ) (old new : BayState) (status : ℕ) (printed printed' : Option (List ℕ)) : Type 0 where
+  pub text : List ℕ
+  pub wanted : ℕ
+  pub untouched : IsUntouched left faults faults' old new text wanted
+  pub ends : EndsWith text wanted status printed printed'
+
 -- a run of `format`: one of these texts was printed whole, or a front of it to a sink that failed
 pub record RunsFormat (left : Option (List ℕ)) (faults faults' : ℕ) (bay bay' : BayState) (status : ℕ) (printed new : Option (List ℕ)) : Type 0 where
   pub text : List ℕ

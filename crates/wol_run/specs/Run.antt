@@ -9,11 +9,13 @@ use Rattle.inspection.specs.declared.asked.Asked.TheVariants as asked
 use Rattle.replay.specs.declared.session.Options.{Options as Serving}
 use Rattle.command_words.specs.Commands.{IsCommand, NoCommand}
 use Rattle.command_words.specs.declared.command.Command.{Command}
-use Rattle.command_words.specs.declared.command.Command.TheVariants.{Check, Dump, Format, Gen, Replay, Soak, Solo, WhatIf}
+use Rattle.command_words.specs.declared.command.Command.TheVariants.{Check, Dump, Format, Gen, Replay, Soak, Solo, ViewAdd, ViewRemove, WhatIf}
 use Rattle.command_words.specs.declared.command.Generated.{Generated}
+use Rattle.command_words.specs.Table.{Named}
+use Rattle.view_commands.specs.declared.order.Verb.{Verb}
 use Rattle.wol_run.specs.Accounted.{RunsAccount}
 use Rattle.wol_run.specs.Causes.{IsCause, replayed_by}
-use Rattle.wol_run.specs.Commands.{uses_config}
+use Rattle.wol_run.specs.Commands.{changes_view, uses_config}
 use Rattle.wol_run.specs.Comparing.{RunsWhatIf}
 use Rattle.wol_run.specs.Completing.{HasSoundImages, HaveVersions, IsGoodTrace, seed_lines}
 use Rattle.wol_run.specs.Formatting.{RunsFormat}
@@ -24,6 +26,7 @@ use Rattle.wol_run.specs.Outside.{LeavesUnused, NothingFailed, Outside}
 use Rattle.wol_run.specs.Replaying.{GivenLines, RunsReplay, trace_of}
 use Rattle.wol_run.specs.Settings.{HasNoConfig, IsConfigured}
 use Rattle.wol_run.specs.Tops.{EndsWith, IsDoneOrMemory, IsRunnable, RunsSolo}
+use Rattle.wol_run.specs.Viewing.{RunsViewChange, view_change_by}
 
 -- what a command looks at the volumes for; none of another command
 abbrev pub looked_at_by : Command → Option Asked
@@ -60,6 +63,13 @@ module _ {D : Type 0} (tells : Bool) (state : D → State) (before after : Outsi
   IsLookFor what =
       RunsLook tells state what before.config.bytes before.config.faults after.config.faults
       before.bay after.bay status before.sink.bytes after.sink.bytes
+
+  -- a view was to be changed so
+  abbrev pub IsViewChangeOf : Verb × Named → Type 0
+  IsViewChangeOf (verb, named) =
+      RunsViewChange tells state verb named before.config.bytes
+      before.config.faults after.config.faults
+      before.bay after.bay before.sink.faults status before.sink.bytes after.sink.bytes
 
 -- the images were made anew
 abbrev pub IsFormat : (before after : Outside) → (status : ℕ) → Type 0
@@ -115,6 +125,15 @@ ReadsInOrder tells (Soak what options) before =
     × HaveVersions before.config.bytes images.entry (seed_lines what)
 ReadsInOrder tells WhatIf before =
     IsConfigured before.config.bytes × (lines : List _) × IsGoodTrace before.trace.bytes lines
+ReadsInOrder tells (ViewAdd names) before =
+    IsConfigured before.config.bytes × HasSoundImages tells before.config.bytes before.bay
+ReadsInOrder tells (ViewRemove names) before =
+    IsConfigured before.config.bytes × HasSoundImages tells before.config.bytes before.bay
+
+-- the command is done, or there was no memory; or a view can't be changed as the words ask
+abbrev pub ComesToItsEnd : Command → (status : ℕ) → Type 0
+ComesToItsEnd command status =
+    IsDoneOrMemory status ⊎ ((changes_view command ≡ true) × (status ≡ 15))
 
 -- ---- The whole
 
@@ -146,13 +165,16 @@ pub record Run {D : Type 0} (tells : Bool) (state : D → State) (words : List (
       → IsListingOf before after status what
   -- whatif: what each policy would use for the trace, or why no further line came
   pub compared : IsCommand words WhatIf → IsComparisonOf before after status
+  -- view-add, view-remove: the new view, what the images recover to, or why nothing changed
+  pub viewed : (command : Command) → IsCommand words command
+      → IfSome (view_change_by command) (IsViewChangeOf tells state before after status)
   -- solo: the lines of one volume, on an image of its own
   pub solo : (volume : Volume) → IsCommand words (Solo volume) → IsSoloOf before after status volume
   -- the words are no command: that is told
   pub refused : NoCommand words
       → EndsWith (codes "fault 1 words\n") 1 status before.sink.bytes after.sink.bytes
       ⊎ EndsWith (codes "fault 9 memory\n") 9 status before.sink.bytes after.sink.bytes
-  -- the status has its cause, which is one of 0 to 12
+  -- the status has its cause, which is one of 0 to 12, or 15
   pub cause : IsCause tells state words before after status
   -- it is 7 where a call of the sink failed; a count at its last value stands still
   pub sink : before.sink.faults < after.sink.faults → status ≡ 7
@@ -161,6 +183,6 @@ pub record Run {D : Type 0} (tells : Bool) (state : D → State) (words : List (
       → (status ≡ 2) ⊎ (status ≡ 7) ⊎ (status ≡ 8) ⊎ (status ≡ 9)
   -- what no command that the words ask for has a use for is as it was
   pub unused : LeavesUnused words before after
-  -- where no call failed and what is read is in order, the command is done, or there was no memory
+  -- where no call failed and what is read is in order, the command comes to its end
   pub complete : (command : Command) → IsCommand words command → ReadsInOrder tells command before
-      → NothingFailed command before after → IsDoneOrMemory status
+      → NothingFailed command before after → ComesToItsEnd command status

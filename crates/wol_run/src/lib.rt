@@ -2,7 +2,8 @@
 //!
 //! `wol_run` is the top call: `top.rt` has `run`, `settings.rt` the configuration from its source, `telling.rt` the last
 //! line of a run, `status.rt` `solo`'s statuses and lines of faults. Of the commands `formatting.rt` has `format`,
-//! `inspecting.rt` `check` and `dump`, `listing.rt` `gen`, `replaying.rt` `replay` and `soak`, `comparing.rt` `whatif`.
+//! `inspecting.rt` `check` and `dump`, `listing.rt` `gen`, `replaying.rt` `replay` and `soak`, `comparing.rt` `whatif`,
+//! `viewing.rt` `view-add` and `view-remove`.
 //! A further command joins as a further arm of `run`; `IsCommand`, `NoCommand` and `IsCause` then name it.
 #![tactic(auto)]
 
@@ -15,6 +16,7 @@ mod settings;
 mod status;
 mod telling;
 mod top;
+mod viewing;
 
 pub use telling::{NO_MEMORY, end_with, tell};
 pub use top::run;

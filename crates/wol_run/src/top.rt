@@ -10,11 +10,13 @@ use crate::inspecting::inspect;
 use crate::listing::generate;
 use crate::replaying::{replay, soak};
 use crate::telling::{NO_MEMORY, end_with, tell};
+use crate::viewing::change_view;
 use command_words::{Command, WordsFault, command_of};
 use inspection::Asked;
 use std::alloc::Global;
 use std::sync::Wait;
 use std::thread::Threads;
+use view_commands::Verb;
 use wol_bay::Bay;
 use wol_io::{Gate, Sink, Source};
 
@@ -27,15 +29,18 @@ use wol_io::{Gate, Sink, Source};
 /// or what is wrong with it. `dump` prints the records of each in the same way. `replay` runs the lines of the trace on the
 /// volumes of the configuration, window by window, by so many workers, and `soak SEED LINES` the lines that SEED generates; the
 /// requests of a volume are answered in order, and what they wrote is there after any stop. `whatif` prints what each of four
-/// policies would use for the trace, without an image. Which words are a command is what `clap` makes of them.
+/// policies would use for the trace, without an image. `view-add NAME LOGGER` lets a volume log for another, and
+/// `view-remove NAME LOGGER` brings all of a volume home and then lets the other log for it no more. Which words are a command is
+/// what `clap` makes of them.
 ///
 /// 0: done; a trace that was run was read to its end. 1: the words aren't a command. 2: the configuration's bytes are none.
 /// 3: a line is no line of a trace; all lines before it were run. 4: the bay or a part of an image failed. 5: an image isn't what
 /// the configuration says, is damaged, or has a segment or a record that it shouldn't have. 6: a view names a logger that isn't
 /// configured or whose image was refused. 7: the sink failed, and nothing more is written to it. 8: the source of the
 /// configuration or of the trace failed; the whole lines before were run. 9: there was no memory. 10: there are more than 2^32
-/// lines. 11: a volume has no version left for a write. 12: an image isn't there. Where volumes are looked at it is the status of
-/// the first that isn't in order; where one isn't, no line of a trace is run.
+/// lines. 11: a volume has no version left for a write. 12: an image isn't there. 15: a view can't be changed as the
+/// words ask. Where volumes are looked at it is the status of the first that isn't in order; where one isn't open, no line of a
+/// trace is run and no view is changed.
 pub fn run<R: Threads + Wait + Sync, C: Source, S: Source, K: Sink, B: Bay, G: Gate + Sync>(
     rt: &R,
     alloc: Global,
@@ -78,5 +83,7 @@ where
         Command::Replay(options) => replay(rt, alloc, options, config, trace, out, bay, gate),
         Command::Soak(asked, options) => soak(rt, alloc, asked, options, config, out, bay, gate),
         Command::WhatIf => compare(alloc, config, trace, out),
+        Command::ViewAdd(names) => change_view(rt, alloc, Verb::Add, names, config, out, bay),
+        Command::ViewRemove(names) => change_view(rt, alloc, Verb::Remove, names, config, out, bay),
     }
 }

@@ -676,3 +676,70 @@ fn keeps_records_where_reclaim_is_off(rt: HostRuntime) -> Result<(), Fail> {
     ];
     try_all(&rt, rt.alloc(), &rows, &mut bay)
 }
+
+// What the volumes have after `OFFLOADS`, once the first was drained. The digests were made outside, of the writes in those lines.
+const CHECKED_HOME: &[u8] =
+    b"usr0 ok sha256 33f8070c09f79108c216b48fa147141d893e50a4d018f1a16b4e9bf0e39d1b87 records 0 segments 0
+web0 ok sha256 61b45ae54ca39a001efc0780d6e0aadd8fb5fa0b7d9c6d59de4ada0b1d6c3be3 records 0 segments 0
+src0 ok sha256 431c7bfed2499633fc2023ccdc39e2e344e23156fc688cb3947d92b384e10c33 records 1 segments 1
+";
+
+const SMALL_VOLUMES: &[u8] = b"segment_blocks = 16
+awake_mw = 8000
+standby_mw = 1000
+wake_mj = 50000
+volume = [
+  { name = \"a\", host = \"a\", disk = 0, home_blocks = 1, segments = 1, view = [\"b\"] },
+  { name = \"b\", host = \"b\", disk = 0, home_blocks = 1, segments = 1, view = [] },
+  { name = \"c\", host = \"c\", disk = 0, home_blocks = 1, segments = 1, view = [] },
+]
+";
+
+#[test]
+fn changes_views(rt: HostRuntime) -> Result<(), Fail> {
+    let small = SMALL_VOLUMES;
+    let formatted = b"format a blocks 19\nformat b blocks 19\nformat c blocks 19\n";
+    let mut bay = MemBay::new(rt.alloc());
+    let rows = [
+        configured("view-add b a", small, 12, b"fault 12 a absent\n"),
+        configured("format", small, 0, formatted),
+        configured("view-add b", small, 1, b"fault 1 words\n"),
+        configured("view-add -b a", small, 1, b"fault 1 words\n"),
+        configured("view-remove b a c", small, 1, b"fault 1 words\n"),
+        configured("view-add b a", b"=", 2, b"fault 2 config not toml\n"),
+        configured("view-add b d", small, 15, b"fault 15 unknown d\n"),
+        configured("view-remove d e", small, 15, b"fault 15 unknown d\n"),
+        configured("view-add b b", small, 15, b"fault 15 itself\n"),
+        configured("view-remove b a", small, 15, b"fault 15 not there a\n"),
+        configured("view-add b a", small, 0, b"view b loggers a\n"),
+        configured("view-add b a", small, 15, b"fault 15 already a\n"),
+        configured("view-add b c", small, 0, b"view b loggers a c\n"),
+        configured("view-remove b a", small, 0, b"view b loggers c\n"),
+        Row {
+            settings: Some(0),
+            ..configured("view-remove b c", small, 8, b"fault 8 config\n")
+        },
+        Row {
+            sink: Some(0),
+            ..configured("view-remove b c", small, 7, b"")
+        },
+        configured("view-remove b c", small, 15, b"fault 15 not there c\n"),
+    ];
+    try_all(&rt, rt.alloc(), &rows, &mut bay)
+}
+
+#[test]
+fn drains_before_a_logger_leaves(rt: HostRuntime) -> Result<(), Fail> {
+    let three = THREE_VOLUMES.as_bytes();
+    let formatted = b"format usr0 blocks 1066\nformat web0 blocks 1066\nformat src0 blocks 1066\n";
+    let mut bay = MemBay::new(rt.alloc());
+    let rows = [
+        replayed("format", three, b"", 0, formatted),
+        replayed("replay --each --reclaim off", three, OFFLOADS, 0, KEPT),
+        configured("view-remove usr0 web0", three, 0, b"view usr0 loggers\n"),
+        configured("check", three, 0, CHECKED_HOME),
+        configured("view-add usr0 web0", three, 0, b"view usr0 loggers web0\n"),
+        configured("check", three, 0, CHECKED_HOME),
+    ];
+    try_all(&rt, rt.alloc(), &rows, &mut bay)
+}

@@ -1,7 +1,7 @@
 use Rattle.std.proofs.Common.{Err, inl, inr, refl, ap, subst, arith}
 use Rattle.command_words.specs.Commands.{IsCommand}
 use Rattle.wol_run.proofs.Asked.{in_range, range_of_gen, range_of_solo}
-use Rattle.wol_run.proofs.CommandsTold.{check_promise, comparison_promise, dump_promise, format_promise, gen_promise, memory_promise, replay_promise, soak_promise, solo_done_promise, solo_fault_promise}
+use Rattle.wol_run.proofs.CommandsTold.{check_promise, comparison_promise, dump_promise, format_promise, gen_promise, memory_promise, replay_promise, soak_promise, solo_done_promise, solo_fault_promise, view_add_promise, view_remove_promise}
 use Rattle.wol_run.proofs.Completing.{rose_from, rose_later}
 use Rattle.wol_run.proofs.Endings.{has_cause}
 use Rattle.wol_run.proofs.Promised.{of_none}
@@ -40,6 +40,15 @@ returns-in-Soak-clause-promise g c =
 pub returns-in-WhatIf-clause-promise : goal.returns-in-WhatIf-clause-promise
 returns-in-WhatIf-clause-promise g c =
     comparison_promise _ _ _ _ _ _ c.compare.ensures.cause c.compare.ensures.calm (subst (IsCommand _) c.in-WhatIf.is c.in-Ok.ensures.ok) c.compare.ensures.content c.compare.ensures.source c.compare.ensures.complete refl
+
+pub returns-in-ViewAdd-clause-promise : goal.returns-in-ViewAdd-clause-promise
+returns-in-ViewAdd-clause-promise g c =
+    view_add_promise _ _ _ _ _ _ c.change_view.ensures.cause c.change_view.ensures.calm c.change_view.ensures.complete refl c.in-ViewAdd.names (subst (IsCommand _) c.in-ViewAdd.is c.in-Ok.ensures.ok) c.change_view.ensures.content
+
+pub returns-in-ViewRemove-clause-promise : goal.returns-in-ViewRemove-clause-promise
+returns-in-ViewRemove-clause-promise g c =
+    view_remove_promise _ _ _ _ _ _ c.change_view-in-ViewRemove.ensures.cause c.change_view-in-ViewRemove.ensures.calm c.change_view-in-ViewRemove.ensures.complete refl c.in-ViewRemove.names
+    (subst (IsCommand _) c.in-ViewRemove.is c.in-Ok.ensures.ok) c.change_view-in-ViewRemove.ensures.content
 
 -- the lines of one volume were run to their end
 pub returns-in-Ok-run-clause-promise : goal.returns-in-Ok-run-clause-promise

@@ -1,0 +1,74 @@
+use Rattle.std.proofs.Common.{arith, inl, inr, refl, subst}
+use Rattle.report.specs.Names.{printed_names}
+use Rattle.wol_run.proofs.Completing.{complete_unread, may_look, rose_from, rose_later, told_memory}
+use Rattle.wol_run.proofs.ReplayFaults.{CanEnd}
+use Rattle.wol_run.proofs.Unread.{not_begun}
+use Rattle.wol_run.proofs.Viewed.{change_memory, change_not_sink, is_view_change, sink_said, told_refusal}
+use Rattle.wol_run.proofs.viewing.change_view.Goals as goal
+
+-- ---- What it does
+
+pub tell_fault-requires-in-Err-Fault : goal.tell_fault-requires-in-Err-Fault
+tell_fault-requires-in-Err-Fault g c = record { told = λ same. subst CanEnd same (sink_said _ _ _ _ _ _ _ _ _ _ _ (rw c.in-Err-Fault.field-0-is at c.in-Err-Fault.ensures.content)).1 }
+
+pub returns-in-Err-clause-content : goal.returns-in-Err-clause-content
+returns-in-Err-clause-content g c = inr (not_begun _ _ _ _ _ _ _ _ c.in-Err.fault c.in-Err.ensures.err refl c.tell_fault.ensures.content)
+
+pub returns-in-Ok-change_view-clause-content : goal.returns-in-Ok-change_view-clause-content
+returns-in-Ok-change_view-clause-content g c =
+    inl (is_view_change _ _ c.in-Ok.config _ _ _ _ _ _ _ _ _ _ c.in-Ok-change_view.ensures.left c.in-Ok-change_view.ensures.sound c.in-Ok-change_view.ensures.content (refl, refl) _ c.in-Ok.ensures.ok _ (record { verb_is = refl; volume = refl; logger = refl }))
+
+pub returns-in-Err-Sink-clause-content : goal.returns-in-Err-Sink-clause-content
+returns-in-Err-Sink-clause-content g c =
+    inl (is_view_change _ _ c.in-Ok.config _ _ _ _ _ _ _ _ _ _ c.in-Err-Sink.ensures.left c.in-Err-Sink.ensures.sound (rw c.in-Err-Sink.field-0-is at c.in-Err-Sink.ensures.content) (refl, refl) _ c.in-Ok.ensures.ok _ (record { verb_is = refl; volume = refl; logger = refl }))
+
+pub returns-in-Err-Refused-clause-content : goal.returns-in-Err-Refused-clause-content
+returns-in-Err-Refused-clause-content g c =
+    inl (is_view_change _ _ c.in-Ok.config _ _ _ _ _ _ _ _ _ _ c.in-Err-Refused.ensures.left c.in-Err-Refused.ensures.sound (rw c.in-Err-Refused.field-0-is at c.in-Err-Refused.ensures.content) c.tell_refusal.ensures.content _ c.in-Ok.ensures.ok _
+    (record { verb_is = refl; volume = refl; logger = refl }))
+
+pub returns-clause-content : goal.returns-clause-content
+returns-clause-content g c =
+    inl (is_view_change _ _ c.in-Ok.config _ _ _ _ _ _ _ _ _ _ c.in-Err-Fault.ensures.left c.in-Err-Fault.ensures.sound (rw c.in-Err-Fault.field-0-is at c.in-Err-Fault.ensures.content) (rw c.deref.ensures.value at c.tell_fault-in-Err-Fault.ensures.content) _ c.in-Ok.ensures.ok _
+    (record { verb_is = refl; volume = refl; logger = refl }))
+
+-- ---- It comes to its end
+
+pub returns-in-Err-clause-complete : goal.returns-in-Err-clause-complete
+returns-in-Err-clause-complete g c is configured bay source sink =
+    inl (complete_unread _ _ _ c.tell_fault.result _ _ c.in-Err.fault c.in-Err.ensures.err configured source (λ seven. sink (c.tell_fault.ensures.cause seven)) c.tell_fault.ensures.content)
+
+pub returns-in-Ok-change_view-clause-complete : goal.returns-in-Ok-change_view-clause-complete
+returns-in-Ok-change_view-clause-complete g c is configured bay source sink = inl (inl refl)
+
+pub returns-in-Err-Sink-clause-complete : goal.returns-in-Err-Sink-clause-complete
+returns-in-Err-Sink-clause-complete g c is configured bay source sink =
+    absurd (change_not_sink c.in-Err-Sink.field-0 c.in-Err-Sink.field-0-is (c.in-Err-Sink.ensures.complete (may_look _ _ c.in-Ok.config c.in-Ok.ensures.ok _ _ _ _ is bay sink)))
+
+pub returns-in-Err-Refused-clause-complete : goal.returns-in-Err-Refused-clause-complete
+returns-in-Err-Refused-clause-complete g c is configured bay source sink =
+    told_refusal _ c.tell_refusal.result _ _ (λ seven. sink (rose_from _ _ _ c.in-Err-Refused.ensures.later (c.tell_refusal.ensures.cause seven))) c.tell_refusal.ensures.content
+
+pub returns-clause-complete : goal.returns-clause-complete
+returns-clause-complete g c is configured bay source sink =
+    let may = may_look _ _ c.in-Ok.config c.in-Ok.ensures.ok _ _ _ _ is bay (λ rose. sink (rose_later _ _ _ rose c.tell_fault-in-Err-Fault.ensures.later)) in
+    let memory = change_memory c.in-Err-Fault.field-0 c.in-Err-Fault.fault c.in-Err-Fault.field-0-is (c.in-Err-Fault.ensures.complete may) in
+    inl (told_memory (printed_names c.deref.result.now) c.in-Err-Fault.fault c.tell_fault-in-Err-Fault.result _ _ memory (λ seven. sink (rose_from _ _ _ c.in-Err-Fault.ensures.later (c.tell_fault-in-Err-Fault.ensures.cause seven))) c.tell_fault-in-Err-Fault.ensures.content)
+
+-- ---- The sink
+
+pub returns-in-Err-Sink-clause-cause : goal.returns-in-Err-Sink-clause-cause
+returns-in-Err-Sink-clause-cause g c seven = sink_said _ _ _ _ _ _ _ _ _ _ _ (rw c.in-Err-Sink.field-0-is at c.in-Err-Sink.ensures.content)
+
+pub returns-in-Ok-change_view-clause-calm : goal.returns-in-Ok-change_view-clause-calm
+returns-in-Ok-change_view-clause-calm g c less = absurd (let same = sink_said _ _ _ _ _ _ _ _ _ _ _ c.in-Ok-change_view.ensures.content in omega (arith, same, less))
+
+pub returns-in-Err-Refused-clause-calm : goal.returns-in-Err-Refused-clause-calm
+returns-in-Err-Refused-clause-calm g c rose =
+    let calm = sink_said _ _ _ _ _ _ _ _ _ _ _ (rw c.in-Err-Refused.field-0-is at c.in-Err-Refused.ensures.content) in
+    c.tell_refusal.ensures.calm (rw calm rose)
+
+pub returns-clause-calm : goal.returns-clause-calm
+returns-clause-calm g c rose =
+    let calm = (sink_said _ _ _ _ _ _ _ _ _ _ _ (rw c.in-Err-Fault.field-0-is at c.in-Err-Fault.ensures.content)).0 in
+    c.tell_fault-in-Err-Fault.ensures.calm (rw calm rose)
