@@ -62,8 +62,8 @@ usage_and_version() {
         wol $words
         expect "[$words]: status" 1 "$status"
         expect "[$words]: output" "fault 1 words" "$(cat "$room/out")"
-        expect "[$words]: lines of the usage" 11 "$(errors | wc -l)"
-        for command in format replay check dump whatif gen soak solo; do
+        expect "[$words]: lines of the usage" 13 "$(errors | wc -l)"
+        for command in format replay check dump whatif gen soak solo view-add view-remove; do
             expect "[$words]: the usage has $command" 1 "$(errors | grep -c "^  wol $command")"
         done
     done
@@ -98,6 +98,8 @@ statuses() {
     timeout 60 "${program[@]}" check >/dev/full 2>"$room/errors"
     status=$?
     expect_advice "a full output" 7
+    wol view-add usr0 nobody
+    expect_advice "no volume of this name" 15
     rm wol.toml
     wol check
     expect_advice "no file wol.toml" 8
