@@ -6,6 +6,7 @@ use Rattle.turn_lock.specs.Passes.{pass_lock, pass_number, pass_seen, pass_mine,
 use Rattle.wol_model.specs.History.{Operation, Kept, Broke}
 use Rattle.wol_promise.specs.Policy.{Look, drained}
 use Rattle.wol_promise.specs.Ruled.{Noted}
+use Rattle.manager.specs.Causes.{NoneRose}
 use Rattle.manager.specs.Reclaim.{OnTried, TellsStep}
 use Rattle.manager.specs.Seen.{look_of_manager}
 use Rattle.manager.specs.Stands.{Keeps, Stands, notes_of}
@@ -28,6 +29,8 @@ pub record IsSafeStep {D : Type 0} (tells : Bool) (state : D → State) (b : Man
   pub kept : Keeps tells state old b notes
   pub told : TellsStep state answer old new
   pub did : OnTried answer (HasDrained state old new answer)
+  -- no call of a disk failed in a step that is done
+  pub calm : OnOk answer (NoneRose state old new)
   pub any_moment : IsTrue tells → Stops state old new None b notes []
 
 -- steps one after another, each of which moved something

@@ -86,6 +86,7 @@ pub fn change<D: Disk>(
     requires size { (state_of D.state label.old).size ≡ 2 }
     // each answer has its cause
     ensures unknown { IsErrOf result (ChangeRefusal.Unknown (id_of change.now)) ↔ (volumes ≤ id_of change.now) }
+    ensures known { id_of change.now < volumes → (n : ℕ) → IsErrOf result (ChangeRefusal.Unknown n) → ⊥ }
     ensures itself { IsErrOf result ChangeRefusal.Itself ↔ ((id_of change.now < volumes) × (id_of change.now ≡ own)) }
     ensures answer { (vs : List (Values Block)) → (state_of D.state label.old).values ≡ Some vs → Answers own volumes change.now (reads vs) result }
     ensures view { IfOk result IsViewList }

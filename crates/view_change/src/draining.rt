@@ -1,5 +1,5 @@
 // All records of a volume go home, in one turn.
-ghost use Rattle.std.specs.Prelude.{◌≡◌, ◌++◌, ◌∷◌, [], List, OnOk, IfErr, IsSome};
+ghost use Rattle.std.specs.Prelude.{◌≡◌, ◌++◌, ◌∷◌, [], List, None, OnOk, IfErr, IsSome};
 ghost use Rattle.turn_lock.specs.Passes.{pass_lock, pass_number, IsPassOf, IsInTurn};
 ghost use Rattle.wol_model.specs.History.{worker};
 ghost use Rattle.wol_promise.specs.Policy.{drained};
@@ -38,6 +38,7 @@ fn drain<R: Wait, D: Disk>(
     ensures down { IfErr result (λ f. IsSome m.new.down) }
     ensures keeps { OnKept result (KeepsOn D.tells D.state m.old m.new Always) }
     ensures broke { OnFailed result (BreaksOff D.tells D.state m.old m.new Always) }
+    ensures empty { into.new ≡ None }
 {
     'steps: loop {
         match drain_step(rt, m, shared, into)? {
@@ -75,6 +76,7 @@ fn drain_turn<D: Disk, R: Wait>(
 ) -> Result<(u64, u64), StepFault>
     requires pass { IsPassAt lock.now worker pass.old }
     requires shared { IsShared shared.now (pass_lock pass.old).base }
+    ensures empty { into.new ≡ None }
     ensures drained { HasDrainedAll D.tells D.state pass.old pass.new result }
 {
     let mut turn = lock.enter(rt, pass);
@@ -92,7 +94,8 @@ fn drain_turn<D: Disk, R: Wait>(
 /// takes no memory.
 ///
 /// `DiskFault` comes only where a part's count of faults rose in this call, and brings the volume down; `Down` exactly where
-/// it is down. Stopped at any moment of it, every choice of images recovers to the volume's array.
+/// it is down. Stopped at any moment of any of its steps, every choice of images recovers to the volume's array. The fetch is
+/// empty afterwards.
 pub fn drain_all<D: Disk, R: Wait>(
     rt: &R,
     station: &mut Station<D>,
@@ -103,6 +106,7 @@ pub fn drain_all<D: Disk, R: Wait>(
     requires shared { IsShared shared.now (pass_lock station.old.worker).base }
     // only what the worker's pass has seen and made is another
     ensures same { station.new ≡ record station.old { worker = station.new.worker } }
+    ensures empty { into.new ≡ None }
     ensures drained { HasDrainedAll D.tells D.state station.old.worker station.new.worker result }
 {
     drain_turn(rt, &station.lock, &mut station.worker, shared, into)

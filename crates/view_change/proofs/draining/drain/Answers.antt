@@ -22,13 +22,13 @@ returns-in-Bare-clause-taken g c = let l = look_of_manager c.steps.m in let m = 
     (record { blocks = 0; records = 0; taken = subst (λ (x : Drain). CountsMoved (Ok x) l m) c.in-Bare.is c.in_ok-drain_step.ensures.counted; counts = none_more c.steps.tally })
 
 pub returns-in-Bare-clause-drains : goal.returns-in-Bare-clause-drains
-returns-in-Bare-clause-drains g c = let e = c.in_ok-drain_step.ensures in drains_ok _ _ _ _ _ _ c.in-Bare.is c.steps.invariant.so e.fault e.drained e.any_moment
+returns-in-Bare-clause-drains g c = let e = c.in_ok-drain_step.ensures in drains_ok _ _ _ _ _ _ c.in-Bare.is c.steps.invariant.so e.fault e.drained e.calm e.any_moment
 
 pub steps-preserved : goal.steps-preserved
 steps-preserved g c = let e = c.in_ok-drain_step.ensures in let i = c.steps.invariant in let l = look_of_manager c.steps.m in let m = look_of_manager c.drain_step.new.m in record {
   ready = e.ready;
   at = e.at;
-  so = one_further _ _ _ _ _ c.in-Moved.blocks c.in-Moved.records _ c.in-Moved.is i.so e.keeps e.fault e.drained e.any_moment;
+  so = one_further _ _ _ _ _ c.in-Moved.blocks c.in-Moved.records _ c.in-Moved.is i.so e.keeps e.fault e.drained e.calm e.any_moment;
   look = e.look ∙ i.look;
   taken = taken_both _ _ _ _ l m i.taken
       (record { blocks = c.in-Moved.blocks; records = c.in-Moved.records; taken = subst (λ (x : Drain). CountsMoved (Ok x) l m) c.in-Moved.is e.counted; counts = c.count.ensures });

@@ -1,0 +1,12 @@
+pub mod DrainedRack
+pub mod Shown
+pub mod Kept
+pub mod Changed
+pub mod Names
+pub mod Emptied
+pub mod Sessions
+pub mod Whole
+pub mod Answered
+pub mod Lines
+pub mod Images
+pub mod InBay

@@ -1,0 +1,300 @@
+-- All volumes were opened, and closed behind a drain: what is told of the bay.
+use Rattle.std.proofs.Common.{◌≡◌, ◌<◌, ◌++◌, ℕ, Bool, true, false, List, length, map, Option, None, Some, option_map, Err, refl, sym, ap, ◌∙◌, subst, arith, append_assoc}
+use Rattle.std.specs.Prelude.{slice_get, slice_range, slice_index_or, All, Contains, IfSome, IsSome, IsTrue}
+use Rattle.std.proofs.lemmas.List.{length-map}
+use Rattle.std.proofs.lemmas.List.Elements.{Contains-append_right}
+use Rattle.std.proofs.lemmas.Option.{slice_get-map, slice_get_within}
+use Rattle.wol_disk.specs.Disk.{Rose, State, reads}
+use Rattle.wol_bay.specs.Bay.{BayState, Name, Told, at_name}
+use Rattle.wol_config.specs.declared.config.Config.{Config}
+use Rattle.wol_config.specs.declared.config.VolumeConf.{VolumeConf}
+use Rattle.wol_model.specs.Images.{Images, image_of}
+use Rattle.turn_lock.specs.Passes.{pass_seen}
+use Rattle.manager.specs.declared.part.Part.{Part}
+use Rattle.manager.specs.declared.part.StepFault.{StepFault}
+use Rattle.manager.specs.declared.part.StepFault.TheVariants.{DiskFault, Down}
+use Rattle.manager.specs.declared.station.Station.{Station}
+use Rattle.manager_recovery.specs.declared.refusal.OpenRefusal.TheVariants as refusal
+use Rattle.manager.specs.declared.part.Part.TheVariants as part
+use Rattle.request_turns.specs.Turns.{IsBroken, notes_seen}
+use Rattle.report.specs.Troubles.{trouble_status}
+use Rattle.report.specs.declared.fault.Fault.{Fault}
+use Rattle.report.specs.declared.fault.Fault.TheVariants.{Volume}
+use Rattle.troubles.specs.Troubles.{trouble_of, trouble_of_part}
+use Rattle.spin_model.specs.Spindles.{SpindleView}
+use Rattle.volume_images.specs.Left.{AreNamedApart, IsTold}
+use Rattle.volume_images.specs.Volumes.{AreLeft, images_read, shape_in, shapes_of}
+use Rattle.rack.specs.Closes.{AreLeftOfParts, HasFaultyPart, IsClosedVolume, IsQuiet, LeavesOpen, recovered_out}
+use Rattle.rack.specs.Opens.{BeganWith, WereThere}
+use Rattle.rack.specs.Owners.{IsBegun, images_taken}
+use Rattle.rack.specs.Racks.{IsOpenBase, IsStation, NamesVolumes, base_of_station}
+use Rattle.rack.specs.Rests.{IsImageOut, image_here}
+use Rattle.rack.specs.declared.rack.ImageRest.{ImageRest}
+use Rattle.rack.specs.declared.rack.Rack.{Rack}
+use Rattle.rack.specs.declared.volume_fault.VolumeFault.{VolumeFault}
+use Rattle.rack.specs.declared.volume_fault.VolumeFault.TheVariants as fault
+use Rattle.open_rack.specs.Sessions.{OpensAndCloses}
+use Rattle.open_rack.proofs.Since.{rose_before}
+use Rattle.inspection.specs.Racks.{IsSameRack, numbers_of}
+use Rattle.inspection.proofs.Opened.{rose_of}
+use Rattle.inspection.proofs.Quiet.{all_quiet}
+use Rattle.inspection.proofs.SameRacks.{numbers_same}
+use Rattle.inspection.proofs.Unhelped.{all_at, broken_still, there_is}
+use Rattle.replay.specs.NotOpened.{IsFirstClosed, IsOfCall, IsOpened}
+use Rattle.replay.proofs.AllOut.{recovered_all, taken_all}
+use Rattle.replay.proofs.FirstClosed.{opened_out}
+use Rattle.replay.proofs.RacksServed.{there_at, unmapped}
+use Rattle.view_commands.specs.Drains.{AllOpen, IsDrained, TellsClosed, trouble_of_step}
+use Rattle.view_commands.specs.Runs.{FailsWith}
+use Rattle.view_commands.specs.Runs as runs
+use Rattle.view_commands.specs.Views.{KeepsArrays}
+use Rattle.view_commands.proofs.Kept.{KeepsFronts}
+
+-- what holds of what is told where it says more
+pub told_by : (P Q : Told → Told → Type 0) → ((x y : Told) → P x y → Q x y) → (o n : Option Told) → IsTold P o n → IsTold Q o n
+told_by P Q f None n is = is
+told_by P Q f (Some o) None is = is
+told_by P Q f (Some o) (Some n) is = λ apart. f o n (is apart)
+
+-- what is left since opening is left since entry
+pub told_since : (P : Told → Type 0) → (o m n : Option Told) → IsTold (λ x y. AreNamedApart y) o m → IsTold (λ x y. P y) m n → IsTold (λ x y. P y) o n
+told_since P None None n apart is = is
+told_since P None (Some m) n apart is = absurd (cc apart)
+told_since P (Some o) None n apart is = absurd apart
+told_since P (Some o) (Some m) None apart is = absurd is
+told_since P (Some o) (Some m) (Some n) apart is = λ named. is (apart named)
+
+here_is : {X : Type 0} (o : Option X) → IsSome o → (x : X) × (o ≡ Some x)
+here_is None is = absurd (let no : false ≡ true = is in cc)
+here_is (Some x) is = (x, refl)
+
+-- parts that came back with a fault since opening did so since entry
+faulty_since : (tells : Bool) (config : Config) (owner : ℕ) (view : List ℕ) (o m n : Option Told) → IsTold (λ x y. AreNamedApart y) o m → IsTold (λ x y. (more : List (Name × ℕ)) × (y.faulty ≡ x.faulty ++ more)) o m
+    → IsTold (HasFaultyPart tells config owner view) m n → IsTold (HasFaultyPart tells config owner view) o n
+faulty_since tells config owner view None None n apart gained faulty = faulty
+faulty_since tells config owner view None (Some m) n apart gained faulty = absurd (cc apart)
+faulty_since tells config owner view (Some o) None n apart gained faulty = absurd apart
+faulty_since tells config owner view (Some o) (Some m) None apart gained faulty = absurd faulty
+faulty_since tells config owner view (Some o) (Some m) (Some n) apart gained faulty = λ named.
+    let first = gained named in
+    let then = faulty (apart named) in record {
+      more = first.0 ++ then.more;
+      more_is = then.more_is ∙ ap (λ (ps : List (Name × ℕ)). ps ++ then.more) first.1 ∙ append_assoc o.faulty first.0 then.more;
+      volume = then.volume;
+      conf = then.conf;
+      conf_is = then.conf_is;
+      place = then.place;
+      among = Contains-append_right first.0 then.more (then.conf.name, then.place) then.among;
+      of_volume = then.of_volume;
+    }
+
+-- ---- The status of a failed call
+
+call_status : (f : VolumeFault) → IsOfCall f → trouble_status (trouble_of f) ≡ 4
+call_status fault.Absent call = absurd call
+call_status (fault.WrongLength bytes) call = absurd call
+call_status fault.BayFailed call = refl
+call_status fault.LabelFault call = refl
+call_status (fault.Refused (refusal.DiskFault (part.Home volume))) call = refl
+call_status (fault.Refused (refusal.DiskFault (part.Segment volume index))) call = refl
+call_status (fault.Refused refusal.LabelDiffers) call = absurd call
+call_status (fault.Refused (refusal.LoggerMissing id)) call = absurd call
+call_status (fault.Refused (refusal.OutsideView logger segment)) call = absurd call
+call_status (fault.Refused (refusal.Damaged volume block)) call = absurd call
+call_status (fault.Refused (refusal.Twins first_volume first second_volume second)) call = absurd call
+call_status (fault.Refused refusal.NoMemory) call = absurd call
+
+pub part_of : StepFault → Part
+part_of (DiskFault p) = p
+part_of (Down p) = p
+
+pub step_trouble : (f : StepFault) → trouble_of_step f ≡ trouble_of_part (part_of f)
+unfolding part_of
+step_trouble (DiskFault p) = refl
+step_trouble (Down p) = refl
+
+module _ {D : Type 0} (tells : Bool) (state : D → State) (config : Config) (did : Rack D → Rack D → Type 0) (old new : BayState) (spindles : List SpindleView) (session : OpensAndCloses tells state config did old new spindles) where
+  abbrev before : Rack D
+  before = session.before
+
+  abbrev after : Rack D
+  after = session.after
+
+  shapes_count : length (shapes_of config) ≡ length config.volumes.items
+  shapes_count = length-map config.volumes.items (shape_in config)
+
+  -- ---- A volume without a fault
+
+  station_of : (k : ℕ) → k < length (shapes_of config) → slice_index_or before.faults.items k None ≡ None → (at : ℕ) × (s : Station D) × (slice_get before.stations.items at ≡ Some s) × (s.id ≡ k)
+  station_of k lt none =
+      let (at, less, id) = (session.opened.rack.faults k lt).0 none in
+      let (s, there, same) = unmapped (λ (s : Station D). s.id) before.stations.items at k (there_at (map (λ (s : Station D). s.id) before.stations.items) at k less ∙ ap (λ (n : ℕ). Some n) id) in
+      (at, s, there, same)
+
+  opened_at : (t : Told) → BeganWith state config t before → (k : ℕ) → k < length (shapes_of config) → slice_index_or before.faults.items k None ≡ None → IsOpened config before.rest.images.items t k
+  opened_at t began k lt none =
+      let (at, s, there, same) = station_of k lt none in
+      let station = all_at IsStation before.stations.items at s session.opened.rack.stations there in
+      record {
+        base = (base_of_station s).volume.began;
+        owner = station.id ∙ same;
+        begun = all_at (λ (x : Station D). IsBegun config (images_taken config before.rest.images.items t) (base_of_station x).volume.began) before.stations.items at s began.stations there;
+        loggers = (all_at (λ (x : Station D). IsOpenBase config before.shared before.rest.images.items (base_of_station x)) before.stations.items at s session.opened.rack.bases there).loggers_out;
+      }
+
+  out_at : (k : ℕ) → k < length (shapes_of config) → slice_index_or before.faults.items k None ≡ None → IsImageOut before.rest.images.items k
+  out_at k lt none = opened_out state config session.bay before session.opened.rack k lt none
+
+  -- ---- The first volume that isn't open
+
+  pub first_closed : (told : Fault) → TellsClosed before.faults.items told → (k : ℕ) × (f : VolumeFault) × (told ≡ Volume k (trouble_of f)) × IsFirstClosed tells state config old new k f
+  first_closed told is =
+      let k = is.volume in
+      let f = is.fault in
+      let within : k < length before.faults.items = slice_get_within before.faults.items k (Some f) is.closed.there in
+      let conf = there_is config.volumes.items k (omega (arith, within, session.opened.rack.fault_count, shapes_count)) in
+      let why = session.refused k conf.0 f conf.1 is.closed.there in (
+        k,
+        f,
+        is.told_is,
+        record {
+          out = before.rest.images.items;
+          count = session.opened.rack.rest.parts.images.0 ∙ shapes_count;
+          missing = session.missing;
+          before = λ j lt.
+              let inside : j < length (shapes_of config) = omega (arith, lt, within, session.opened.rack.fault_count) in
+              let none : slice_index_or before.faults.items j None ≡ None =
+              is.closed.first j (slice_index_or before.faults.items j None) lt (there_at before.faults.items j None (omega (arith, lt, within))) in
+              (out_at j inside none, λ telling. begun_at old.told (session.opened.began telling) j inside none);
+          conf = conf.0;
+          conf_is = conf.1;
+          refused = why;
+          names = subst (λ (n : ℕ). NamesVolumes n f) shapes_count (session.opened.rack.known k f is.closed.there);
+          cause = λ call. rose_of tells state config before.rest.images.items old new k conf.0 f (length (shapes_of config)) (session.opened.rack.known k f is.closed.there) why
+              (λ p disk. session.failed k p (is.closed.there ∙ ap (λ (g : VolumeFault). Some (Some g)) disk)) (call_status f call);
+        },
+      )
+    where
+      begun_at : (o : Option Told) → IfSome o (λ t. AreNamedApart t → BeganWith state config t before) → (j : ℕ) → j < length (shapes_of config) → slice_index_or before.faults.items j None ≡ None
+          → IfSome o (λ t. AreNamedApart t → IsOpened config before.rest.images.items t j)
+      begun_at None all j lt none = tt
+      begun_at (Some t) all j lt none = λ apart. opened_at t (all apart) j lt none
+
+  -- ---- All volumes were open
+
+  module _ (all_open : AllOpen before.faults.items) (same : IsSameRack before after) where
+    none_at : (k : ℕ) → k < length (shapes_of config) → slice_index_or before.faults.items k None ≡ None
+    none_at k lt = all_open k (slice_index_or before.faults.items k None) (there_at before.faults.items k None (omega (arith, lt, session.opened.rack.fault_count)))
+
+    outs : (k : ℕ) → k < length (shapes_of config) → IsImageOut before.rest.images.items k
+    outs k lt = out_at k lt (none_at k lt)
+
+    same_images : after.rest.images.items ≡ before.rest.images.items
+    same_images = ap (λ (r : Rack D). r.rest.images.items) same.same
+
+    pub outs_after : (k : ℕ) → k < length (shapes_of config) → IsImageOut after.rest.images.items k
+    outs_after k lt = subst (λ (images : List (Option (ImageRest D))). IsImageOut images k) (sym same_images) (outs k lt)
+
+    -- ---- Arrays
+
+    quiet : All (λ (s : Station D). IsQuiet s) after.stations.items
+    quiet = all_quiet before.stations.items after.stations.items same.each session.opened.fresh
+
+    station_after : (k : ℕ) → k < length (shapes_of config) → (at : ℕ) × (s : Station D) × (slice_get after.stations.items at ≡ Some s) × (s.id ≡ k)
+    station_after k lt =
+        let (at, less, id) = subst (λ (ns : List ℕ). Contains ns k) (sym (numbers_same before.stations.items after.stations.items same.each)) ((session.opened.rack.faults k lt).0 (none_at k lt)) in
+        let (s, there, is) = unmapped (λ (s : Station D). s.id) after.stations.items at k (there_at (numbers_of after.stations.items) at k less ∙ ap (λ (n : ℕ). Some n) id) in
+        (at, s, there, is)
+
+    arrays_at : (entry mid : Told) → LeavesOpen config after entry mid → KeepsArrays config entry mid
+    arrays_at entry mid leaves images left k lt =
+        let (at, s, there, is) = station_after k lt in
+        let out = after.rest.images.items in
+        let here : recovered_out config out images s.id ≡ recovered_out config out (images_read config entry) s.id =
+        all_at (λ (x : Station D). recovered_out config out images x.id ≡ recovered_out config out (images_read config entry) x.id) after.stations.items at s (leaves images left) there in
+        let read_count : length (images_read config entry) ≡ length config.volumes.items = length-map config.volumes.items (λ (v : VolumeConf). Rattle.volume_images.specs.Volumes.image_read (at_name v.name entry.images)) in
+        sym (recovered_all config out outs_after images left.count k)
+        ∙ subst (λ (n : ℕ). recovered_out config out images n ≡ recovered_out config out (images_read config entry) n) is here
+        ∙ recovered_all config out outs_after (images_read config entry) read_count k
+
+    -- each volume recovers to its array at entry
+    pub arrays : IsTrue tells → IsTold (KeepsArrays config) old.told new.told
+    arrays telling = told_by (LeavesOpen config after) (KeepsArrays config) arrays_at old.told new.told (session.left_open telling quiet)
+
+    -- ---- Labels and views
+
+    fronts_at : (entry mid : Told) → BeganWith state config entry before → WereThere config before.rest.images.items entry → AreLeftOfParts state config after mid → KeepsFronts config entry mid
+    fronts_at entry mid began there parts images left k v conf =
+        let lt : k < length (shapes_of config) = (let within = slice_get_within config.volumes.items k v conf in omega (arith, within, shapes_count)) in
+        let was = there k v conf (outs k lt) in
+        let r = here_is (image_here before.rest.images.items k) (outs k lt) in
+        let shape : slice_get (shapes_of config) k ≡ Some (shape_in config v) = slice_get-map (shape_in config) config.volumes.items k ∙ ap (option_map (shape_in config)) conf in
+        let c = parts images left k (shape_in config v) r.0 shape (ap (λ (out : List (Option (ImageRest D))). image_here out k) same_images ∙ r.1) in
+        let first = began.left k v was.0 r.0 conf was.1 r.1 in
+        let opened = opened_at entry began k lt (none_at k lt) in
+        let taken = taken_all config before.rest.images.items outs entry in
+        let begun : IsBegun config (images_read config entry) opened.base = subst (λ (l : Images). IsBegun config l opened.base) taken opened.begun in
+        let reads_are : image_of (images_read config entry) k ≡ Some (reads was.0.blocks) =
+        Rattle.view_commands.proofs.Kept.read_at config entry k v conf ∙ ap Rattle.volume_images.specs.Volumes.image_read was.1 ∙ Rattle.view_commands.proofs.Kept.read_whole was.0 was.2 in
+        record {
+          image = was.0;
+          there = was.1;
+          whole = was.2;
+          size = was.3;
+          blocks = c.0;
+          here = c.1;
+          sized = c.2.sized;
+          front = first.label (slice_range c.0 0 2) c.2.label;
+          ids = opened.base.view;
+          view = begun.view (reads was.0.blocks) (ap (image_of (images_read config entry)) opened.owner ∙ reads_are);
+        }
+
+    -- label and view of each image are as they read at entry
+    pub fronts : IsTrue tells → IsTold (KeepsFronts config) old.told new.told
+    fronts telling = go old.told session.bay.told new.told (session.opened.began telling) (session.opened.there telling) (session.opened.apart telling) (session.closed.parts telling)
+      where
+        go : (o b n : Option Told) → IfSome o (λ t. AreNamedApart t → BeganWith state config t before) → IfSome o (λ t. AreNamedApart t → WereThere config before.rest.images.items t)
+            → IsTold (λ x y. AreNamedApart y) o b → IsTold (λ x y. AreLeftOfParts state config after y) b n → IsTold (KeepsFronts config) o n
+        go None None n began there apart parts = parts
+        go None (Some b) n began there apart parts = absurd (cc apart)
+        go (Some o) None n began there apart parts = absurd apart
+        go (Some o) (Some b) None began there apart parts = absurd parts
+        go (Some o) (Some b) (Some n) began there apart parts = λ named. fronts_at o n (began named) (there named) (parts (apart named))
+
+    -- ---- A drain that was refused
+
+    module _ (volume : ℕ) (f : StepFault) (drained : IsDrained tells state before after volume (Err f)) where
+      abbrev s : Station D
+      s = drained.station
+
+      ends : IsClosedVolume tells config after.rest.images.items session.bay new (record s { worker = drained.pass })
+      ends = all_at (IsClosedVolume tells config after.rest.images.items session.bay new) after.stations.items drained.place (record s { worker = drained.pass }) session.closed.stations drained.now
+
+      station : IsStation s
+      station = all_at IsStation before.stations.items drained.place s session.opened.rack.stations drained.is_station.there
+
+      owner : (base_of_station s).volume.began.owner ≡ volume
+      owner = station.id ∙ drained.is_station.id
+
+      broken : IsBroken (notes_seen drained.pass)
+      broken = drained.drained.cause
+
+      rose : Rose old.faults new.faults
+      rose = rose_before old.faults session.bay.faults new.faults session.sooner (ends.cause (broken_still (pass_seen drained.pass) ends.entries ends.worker_part.seen broken))
+
+      begun : (o : Option Told) → IfSome o (λ t. AreNamedApart t → BeganWith state config t before) → IfSome o (λ t. AreNamedApart t → IsBegun config (images_read config t) (base_of_station s).volume.began)
+      begun None is = tt
+      begun (Some t) is = λ apart. subst (λ (l : Images). IsBegun config l (base_of_station s).volume.began) (taken_all config before.rest.images.items outs t)
+          (all_at (λ (w : Station D). IsBegun config (images_taken config before.rest.images.items t) (base_of_station w).volume.began) before.stations.items drained.place s (is apart).stations drained.is_station.there)
+
+      faulty : IsTrue tells → IsTold (HasFaultyPart tells config volume (base_of_station s).volume.began.view) old.told new.told
+      faulty telling =
+          subst (λ (n : ℕ). IsTold (HasFaultyPart tells config n (base_of_station s).volume.began.view) old.told new.told) drained.is_station.id
+          (faulty_since tells config s.id (base_of_station s).volume.began.view old.told session.bay.told new.told (session.opened.apart telling) session.opened.faulty
+          (ends.faulty (broken_still (pass_seen drained.pass) ends.entries ends.worker_part.seen broken)))
+
+      pub drain_fails : FailsWith tells config volume old new (trouble_of_step f)
+      drain_fails = subst (FailsWith tells config volume old new) (sym (step_trouble f)) (runs.part (part_of f) (base_of_station s).volume.began owner (λ telling. begun old.told (session.opened.began telling)) faulty rose)
+
+      pub drain_rose : Rose old.faults new.faults
+      drain_rose = rose

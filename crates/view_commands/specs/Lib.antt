@@ -1,0 +1,6 @@
+pub mod Orders
+pub mod Printed
+pub mod Views
+pub mod Drains
+pub mod Images
+pub mod Runs
