@@ -1,5 +1,5 @@
 -- What a parse of the words says of the command that they ask for.
-use Rattle.std.proofs.Common.{◌≡◌, ◌∙◌, inl, inr, true, refl, sym, ap, ap₂, subst, List, [], Option, Some, None, option_map, true≢false, is_some, Result, Ok, Err, IfNone}
+use Rattle.std.proofs.Common.{◌≡◌, ◌∙◌, inl, inr, true, refl, sym, ap, ap₂, subst, List, [], Option, Some, None, option_map, true≢false, is_some, Result, Ok, Err, IfNone, IfOk, IfSome}
 use Rattle.std.specs.Prelude.{Box, is_ok, unwrap_or}
 use Rattle.std.specs.Option.{ok_or}
 use Rattle.std.specs.Box.{box_value}
@@ -11,7 +11,9 @@ use Rattle.clap.specs.declared.ArgMatches.{ArgMatches}
 use Rattle.clap.specs.declared.ArgMatches.TheViews.{out-SubCommand}
 use Rattle.clap.specs.declared.error.ErrorKind.TheVariants.{OutOfMemory}
 use Rattle.command_words.specs.Application.{the_app}
-use Rattle.command_words.specs.Commands.{Asks, AsksNothing, NoCommand}
+use Rattle.command_words.specs.Commands.{Asks, AsksNothing, IsCommand, NoCommand}
+use Rattle.command_words.specs.declared.command.Command.{Command}
+use Rattle.command_words.specs.declared.command.WordsFault.{WordsFault}
 
 the_app_is_simple : is_simple the_app ≡ true
 unfolding clap_on_literals
@@ -31,6 +33,18 @@ pub refused : (app : App) (words : List Text) (e : Error) → app ≡ the_app �
 refused app words e is kinds other command asked =
     let has : HasKind (fault_of the_app words) e = subst (λ (a : App). HasKind (fault_of a words) e) is (kinds (ap is_simple_and_free is ∙ the_app_is_free)) in
     other (no_other e (subst (λ (ks : Kinds). HasKind ks e) asked.taken has))
+
+-- words of which the parse made a command ask for it
+pub asked_for : (app : App) (words : List Text) (m : ArgMatches) (name : Text) (rows : List Row) (o : Option Command) (r : Result Command WordsFault) (e : WordsFault) → app ≡ the_app
+    → (is_simple_and_free app ≡ true → fault_of app words ≡ []) → HasMatchesOf app words m → subcommand_rows_of m ≡ Some (name, rows) → r ≡ ok_or o e → IfSome o (Asks name rows) → IfOk r (IsCommand words)
+asked_for app words m name rows None r e is free matches met same asks = subst (λ (x : Result Command WordsFault). IfOk x (IsCommand words)) (sym same) tt
+asked_for app words m name rows (Some command) r e is free matches met same asks = subst (λ (x : Result Command WordsFault). IfOk x (IsCommand words)) (sym same) (record {
+  taken = ap (λ (a : App). fault_of a words) (sym is) ∙ free (ap is_simple_and_free is ∙ the_app_is_free);
+  name = name;
+  rows = rows;
+  met = ap (λ (a : App). subcommand_of a words) (sym is) ∙ sym (matches (ap is_simple is ∙ the_app_is_simple)).1 ∙ met;
+  asks = asks;
+})
 
 -- words of which the parse made nothing that is a command ask for none
 pub asked_nothing : (app : App) (words : List Text) (m : ArgMatches) (name : Text) (rows : List Row) → app ≡ the_app → HasMatchesOf app words m

@@ -6,5 +6,6 @@ pub mod Steps
 pub mod AnyOrder
 pub mod Subcommands
 pub mod Taken
+pub mod TakenNames
 pub mod TakenOptions
 pub mod Unique

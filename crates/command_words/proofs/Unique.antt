@@ -9,14 +9,15 @@ use Rattle.solo.specs.declared.volume.Volume.{Volume}
 use Rattle.wol_model.specs.Trace.{Target}
 use Rattle.command_words.specs.Commands.{HasValues, name_of}
 use Rattle.command_words.specs.Laws.{AreSame, CommandsAreOne}
-use Rattle.command_words.specs.Table.{mode_text}
-use Rattle.command_words.specs.Values.{HasOptions, HasText, HasTrace, HasVolume}
+use Rattle.command_words.specs.Table.{Named, mode_text}
+use Rattle.command_words.specs.Values.{HasNames, HasOptions, HasText, HasTrace, HasVolume, named_by}
 use Rattle.command_words.specs.declared.command.Command.{Command}
-use Rattle.command_words.specs.declared.command.Command.TheVariants.{Solo, Format, Replay, Check, Dump, Gen, Soak, WhatIf}
+use Rattle.command_words.specs.declared.command.Command.TheVariants.{Solo, Format, Replay, Check, Dump, Gen, Soak, WhatIf, ViewAdd, ViewRemove}
 use Rattle.command_words.specs.declared.command.Generated.{Generated}
 use Rattle.command_words.specs.declared.command.Mode.{Mode}
 use Rattle.command_words.specs.declared.command.Mode.TheVariants.{Off, Between, Beside}
 use Rattle.command_words.specs.declared.command.Options.{Options}
+use Rattle.command_words.specs.declared.command.ViewNames.{ViewNames}
 
 -- two texts that a test tells apart
 pub apart : (x y : Text) → bytes_eq x x ≡ true → bytes_eq y x ≡ false → x ≡ y → ⊥
@@ -34,6 +35,12 @@ same_volume rows v w h k =
     let disk = one_number rows (codes "DISK") v.disk w.disk (omega (arith, h.small)) (omega (arith, k.small)) h.disk k.disk in
     let home = one_number rows (codes "BLOCKS") v.home w.home (omega (arith, h.most)) (omega (arith, k.most)) h.blocks k.blocks in
     λ i. record { host = host i; disk = disk i; home = home i }
+
+same_names : (rows : List Row) (v w : Named) → HasNames rows v → HasNames rows w → v ≡ w
+same_names rows v w h k =
+    let volume = one_text rows (codes "NAME") v.volume w.volume h.volume.text k.volume.text in
+    let logger = one_text rows (codes "LOGGER") v.logger w.logger h.logger.text k.logger.text in
+    λ i. record { volume = volume i; logger = logger i }
 
 same_trace : (rows : List Row) (a b : Generated) → HasTrace rows a → HasTrace rows b → a ≡ b
 same_trace rows a b h k =
@@ -74,6 +81,8 @@ same rows (Solo v) Dump e h k = absurd (apart (codes "solo") (codes "dump") refl
 same rows (Solo v) (Gen b) e h k = absurd (apart (codes "solo") (codes "gen") refl refl e)
 same rows (Solo v) (Soak b p) e h k = absurd (apart (codes "solo") (codes "soak") refl refl e)
 same rows (Solo v) WhatIf e h k = absurd (apart (codes "solo") (codes "whatif") refl refl e)
+same rows (Solo v) (ViewAdd w) e h k = absurd (apart (codes "solo") (codes "view-add") refl refl e)
+same rows (Solo v) (ViewRemove w) e h k = absurd (apart (codes "solo") (codes "view-remove") refl refl e)
 same rows Format (Solo w) e h k = absurd (apart (codes "format") (codes "solo") refl refl e)
 same rows Format Format e h k = refl
 same rows Format (Replay p) e h k = absurd (apart (codes "format") (codes "replay") refl refl e)
@@ -82,6 +91,8 @@ same rows Format Dump e h k = absurd (apart (codes "format") (codes "dump") refl
 same rows Format (Gen b) e h k = absurd (apart (codes "format") (codes "gen") refl refl e)
 same rows Format (Soak b p) e h k = absurd (apart (codes "format") (codes "soak") refl refl e)
 same rows Format WhatIf e h k = absurd (apart (codes "format") (codes "whatif") refl refl e)
+same rows Format (ViewAdd w) e h k = absurd (apart (codes "format") (codes "view-add") refl refl e)
+same rows Format (ViewRemove w) e h k = absurd (apart (codes "format") (codes "view-remove") refl refl e)
 same rows (Replay o) (Solo w) e h k = absurd (apart (codes "replay") (codes "solo") refl refl e)
 same rows (Replay o) Format e h k = absurd (apart (codes "replay") (codes "format") refl refl e)
 same rows (Replay o) (Replay p) e h k = ap Replay (same_options rows o p h k)
@@ -90,6 +101,8 @@ same rows (Replay o) Dump e h k = absurd (apart (codes "replay") (codes "dump") 
 same rows (Replay o) (Gen b) e h k = absurd (apart (codes "replay") (codes "gen") refl refl e)
 same rows (Replay o) (Soak b p) e h k = absurd (apart (codes "replay") (codes "soak") refl refl e)
 same rows (Replay o) WhatIf e h k = absurd (apart (codes "replay") (codes "whatif") refl refl e)
+same rows (Replay o) (ViewAdd w) e h k = absurd (apart (codes "replay") (codes "view-add") refl refl e)
+same rows (Replay o) (ViewRemove w) e h k = absurd (apart (codes "replay") (codes "view-remove") refl refl e)
 same rows Check (Solo w) e h k = absurd (apart (codes "check") (codes "solo") refl refl e)
 same rows Check Format e h k = absurd (apart (codes "check") (codes "format") refl refl e)
 same rows Check (Replay p) e h k = absurd (apart (codes "check") (codes "replay") refl refl e)
@@ -98,6 +111,8 @@ same rows Check Dump e h k = absurd (apart (codes "check") (codes "dump") refl r
 same rows Check (Gen b) e h k = absurd (apart (codes "check") (codes "gen") refl refl e)
 same rows Check (Soak b p) e h k = absurd (apart (codes "check") (codes "soak") refl refl e)
 same rows Check WhatIf e h k = absurd (apart (codes "check") (codes "whatif") refl refl e)
+same rows Check (ViewAdd w) e h k = absurd (apart (codes "check") (codes "view-add") refl refl e)
+same rows Check (ViewRemove w) e h k = absurd (apart (codes "check") (codes "view-remove") refl refl e)
 same rows Dump (Solo w) e h k = absurd (apart (codes "dump") (codes "solo") refl refl e)
 same rows Dump Format e h k = absurd (apart (codes "dump") (codes "format") refl refl e)
 same rows Dump (Replay p) e h k = absurd (apart (codes "dump") (codes "replay") refl refl e)
@@ -106,6 +121,8 @@ same rows Dump Dump e h k = refl
 same rows Dump (Gen b) e h k = absurd (apart (codes "dump") (codes "gen") refl refl e)
 same rows Dump (Soak b p) e h k = absurd (apart (codes "dump") (codes "soak") refl refl e)
 same rows Dump WhatIf e h k = absurd (apart (codes "dump") (codes "whatif") refl refl e)
+same rows Dump (ViewAdd w) e h k = absurd (apart (codes "dump") (codes "view-add") refl refl e)
+same rows Dump (ViewRemove w) e h k = absurd (apart (codes "dump") (codes "view-remove") refl refl e)
 same rows (Gen a) (Solo w) e h k = absurd (apart (codes "gen") (codes "solo") refl refl e)
 same rows (Gen a) Format e h k = absurd (apart (codes "gen") (codes "format") refl refl e)
 same rows (Gen a) (Replay p) e h k = absurd (apart (codes "gen") (codes "replay") refl refl e)
@@ -114,6 +131,8 @@ same rows (Gen a) Dump e h k = absurd (apart (codes "gen") (codes "dump") refl r
 same rows (Gen a) (Gen b) e h k = ap Gen (same_trace rows a b h k)
 same rows (Gen a) (Soak b p) e h k = absurd (apart (codes "gen") (codes "soak") refl refl e)
 same rows (Gen a) WhatIf e h k = absurd (apart (codes "gen") (codes "whatif") refl refl e)
+same rows (Gen a) (ViewAdd w) e h k = absurd (apart (codes "gen") (codes "view-add") refl refl e)
+same rows (Gen a) (ViewRemove w) e h k = absurd (apart (codes "gen") (codes "view-remove") refl refl e)
 same rows (Soak a o) (Solo w) e h k = absurd (apart (codes "soak") (codes "solo") refl refl e)
 same rows (Soak a o) Format e h k = absurd (apart (codes "soak") (codes "format") refl refl e)
 same rows (Soak a o) (Replay p) e h k = absurd (apart (codes "soak") (codes "replay") refl refl e)
@@ -122,6 +141,8 @@ same rows (Soak a o) Dump e h k = absurd (apart (codes "soak") (codes "dump") re
 same rows (Soak a o) (Gen b) e h k = absurd (apart (codes "soak") (codes "gen") refl refl e)
 same rows (Soak a o) (Soak b p) e h k = ap₂ Soak (same_trace rows a b h.0 k.0) (same_options rows o p h.1 k.1)
 same rows (Soak a o) WhatIf e h k = absurd (apart (codes "soak") (codes "whatif") refl refl e)
+same rows (Soak a o) (ViewAdd w) e h k = absurd (apart (codes "soak") (codes "view-add") refl refl e)
+same rows (Soak a o) (ViewRemove w) e h k = absurd (apart (codes "soak") (codes "view-remove") refl refl e)
 same rows WhatIf (Solo w) e h k = absurd (apart (codes "whatif") (codes "solo") refl refl e)
 same rows WhatIf Format e h k = absurd (apart (codes "whatif") (codes "format") refl refl e)
 same rows WhatIf (Replay p) e h k = absurd (apart (codes "whatif") (codes "replay") refl refl e)
@@ -130,6 +151,28 @@ same rows WhatIf Dump e h k = absurd (apart (codes "whatif") (codes "dump") refl
 same rows WhatIf (Gen b) e h k = absurd (apart (codes "whatif") (codes "gen") refl refl e)
 same rows WhatIf (Soak b p) e h k = absurd (apart (codes "whatif") (codes "soak") refl refl e)
 same rows WhatIf WhatIf e h k = refl
+same rows WhatIf (ViewAdd w) e h k = absurd (apart (codes "whatif") (codes "view-add") refl refl e)
+same rows WhatIf (ViewRemove w) e h k = absurd (apart (codes "whatif") (codes "view-remove") refl refl e)
+same rows (ViewAdd v) (Solo w) e h k = absurd (apart (codes "view-add") (codes "solo") refl refl e)
+same rows (ViewAdd v) Format e h k = absurd (apart (codes "view-add") (codes "format") refl refl e)
+same rows (ViewAdd v) (Replay p) e h k = absurd (apart (codes "view-add") (codes "replay") refl refl e)
+same rows (ViewAdd v) Check e h k = absurd (apart (codes "view-add") (codes "check") refl refl e)
+same rows (ViewAdd v) Dump e h k = absurd (apart (codes "view-add") (codes "dump") refl refl e)
+same rows (ViewAdd v) (Gen b) e h k = absurd (apart (codes "view-add") (codes "gen") refl refl e)
+same rows (ViewAdd v) (Soak b p) e h k = absurd (apart (codes "view-add") (codes "soak") refl refl e)
+same rows (ViewAdd v) WhatIf e h k = absurd (apart (codes "view-add") (codes "whatif") refl refl e)
+same rows (ViewAdd v) (ViewAdd w) e h k = same_names rows (named_by v) (named_by w) h k
+same rows (ViewAdd v) (ViewRemove w) e h k = absurd (apart (codes "view-add") (codes "view-remove") refl refl e)
+same rows (ViewRemove v) (Solo w) e h k = absurd (apart (codes "view-remove") (codes "solo") refl refl e)
+same rows (ViewRemove v) Format e h k = absurd (apart (codes "view-remove") (codes "format") refl refl e)
+same rows (ViewRemove v) (Replay p) e h k = absurd (apart (codes "view-remove") (codes "replay") refl refl e)
+same rows (ViewRemove v) Check e h k = absurd (apart (codes "view-remove") (codes "check") refl refl e)
+same rows (ViewRemove v) Dump e h k = absurd (apart (codes "view-remove") (codes "dump") refl refl e)
+same rows (ViewRemove v) (Gen b) e h k = absurd (apart (codes "view-remove") (codes "gen") refl refl e)
+same rows (ViewRemove v) (Soak b p) e h k = absurd (apart (codes "view-remove") (codes "soak") refl refl e)
+same rows (ViewRemove v) WhatIf e h k = absurd (apart (codes "view-remove") (codes "whatif") refl refl e)
+same rows (ViewRemove v) (ViewAdd w) e h k = absurd (apart (codes "view-remove") (codes "view-add") refl refl e)
+same rows (ViewRemove v) (ViewRemove w) e h k = same_names rows (named_by v) (named_by w) h k
 
 abbrev found : Option (Text × List Row) → Text × List Row
 found o = unwrap_or o ([], [])
@@ -151,8 +194,22 @@ pub record AreNamedAlike (c d : Command) : Type 0 where
   pub second_is : d ≡ Solo second
   pub alike : target_of first ≡ target_of second
 
-pub equal_or_alike : (c d : Command) → AreSame c d → (c ≡ d) ⊎ AreNamedAlike c d
-equal_or_alike (Solo v) (Solo w) e = inr (record { first = v; second = w; first_is = refl; second_is = refl; alike = e })
+-- two changes of views that name the same volumes
+pub record AreViewedAlike (command : ViewNames → Command) (c d : Command) : Type 0 where
+  pub first : ViewNames
+  pub second : ViewNames
+  pub first_is : c ≡ command first
+  pub second_is : d ≡ command second
+  pub alike : named_by first ≡ named_by second
+
+-- two commands are one, or differ in where names lie in memory
+abbrev pub AreOneOrAlike : (c d : Command) → Type 0
+AreOneOrAlike c d = (c ≡ d) ⊎ AreNamedAlike c d ⊎ AreViewedAlike ViewAdd c d ⊎ AreViewedAlike ViewRemove c d
+
+pub equal_or_alike : (c d : Command) → AreSame c d → AreOneOrAlike c d
+equal_or_alike (Solo v) (Solo w) e = inr (inl (record { first = v; second = w; first_is = refl; second_is = refl; alike = e }))
+equal_or_alike (ViewAdd v) (ViewAdd w) e = inr (inr (inl (record { first = v; second = w; first_is = refl; second_is = refl; alike = e })))
+equal_or_alike (ViewRemove v) (ViewRemove w) e = inr (inr (inr (record { first = v; second = w; first_is = refl; second_is = refl; alike = e })))
 equal_or_alike (Solo v) Format e = inl e
 equal_or_alike (Solo v) (Replay options) e = inl e
 equal_or_alike (Solo v) Check e = inl e
@@ -160,6 +217,26 @@ equal_or_alike (Solo v) Dump e = inl e
 equal_or_alike (Solo v) (Gen asked) e = inl e
 equal_or_alike (Solo v) (Soak asked options) e = inl e
 equal_or_alike (Solo v) WhatIf e = inl e
+equal_or_alike (Solo v) (ViewAdd names) e = inl e
+equal_or_alike (Solo v) (ViewRemove names) e = inl e
+equal_or_alike (ViewAdd v) (Solo volume) e = inl e
+equal_or_alike (ViewAdd v) Format e = inl e
+equal_or_alike (ViewAdd v) (Replay options) e = inl e
+equal_or_alike (ViewAdd v) Check e = inl e
+equal_or_alike (ViewAdd v) Dump e = inl e
+equal_or_alike (ViewAdd v) (Gen asked) e = inl e
+equal_or_alike (ViewAdd v) (Soak asked options) e = inl e
+equal_or_alike (ViewAdd v) WhatIf e = inl e
+equal_or_alike (ViewAdd v) (ViewRemove names) e = inl e
+equal_or_alike (ViewRemove v) (Solo volume) e = inl e
+equal_or_alike (ViewRemove v) Format e = inl e
+equal_or_alike (ViewRemove v) (Replay options) e = inl e
+equal_or_alike (ViewRemove v) Check e = inl e
+equal_or_alike (ViewRemove v) Dump e = inl e
+equal_or_alike (ViewRemove v) (Gen asked) e = inl e
+equal_or_alike (ViewRemove v) (Soak asked options) e = inl e
+equal_or_alike (ViewRemove v) WhatIf e = inl e
+equal_or_alike (ViewRemove v) (ViewAdd names) e = inl e
 equal_or_alike Format d e = inl e
 equal_or_alike (Replay options) d e = inl e
 equal_or_alike Check d e = inl e

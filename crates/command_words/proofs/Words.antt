@@ -6,7 +6,7 @@ use Rattle.std.proofs.lemmas.Bool.{ne_eqb}
 use Rattle.std.proofs.lemmas.Fmt.{decimal_by_steps}
 use Rattle.clap.specs.Lexer.{long_of, short_of}
 use Rattle.clap.specs.Words.{Text}
-use Rattle.command_words.specs.Table.{IsHost, mode_text}
+use Rattle.command_words.specs.Table.{IsHost, IsName, mode_text}
 use Rattle.command_words.specs.declared.command.Mode.{Mode}
 use Rattle.command_words.specs.declared.command.Mode.TheVariants.{Off, Between, Beside}
 
@@ -25,6 +25,10 @@ plain x xs ne =
 pub plain_host : (name : Text) → IsHost name → IsPlain name
 plain_host [] h = absurd (omega (arith, h.not_empty))
 plain_host (x ∷ xs) h = plain x xs (λ e. h.no_dash_in_front (ap Some e))
+
+pub plain_name : (name : Text) → IsName name → IsPlain name
+plain_name [] h = record { dashes = refl; long = refl; short = refl }
+plain_name (x ∷ xs) h = plain x xs (λ e. h (ap Some e))
 
 -- the text begins with a digit
 abbrev HasDigitInFront : Text → Type 0

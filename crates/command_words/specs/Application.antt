@@ -24,6 +24,10 @@ with_volume a = with_rule (with_rule (with_rule a (positional_rule (codes "HOST"
 abbrev pub with_trace : App → App
 with_trace a = with_rule (with_rule a (positional_rule (codes "SEED"))) (positional_rule (codes "LINES"))
 
+-- the command with the arguments that name a volume and one that logs for it
+abbrev pub with_names : App → App
+with_names a = with_rule (with_rule a (positional_rule (codes "NAME"))) (positional_rule (codes "LOGGER"))
+
 -- the command with the options of a run over a trace
 abbrev pub with_options : App → App
 with_options a = with_rule (with_rule (with_rule a (option_rule (codes "workers"))) (option_rule (codes "reclaim"))) (flag_rule (codes "each"))
@@ -44,7 +48,7 @@ bare_app = record {
 -- the program
 abbrev pub the_app : App
 the_app =
-    with_subcommand (with_subcommand (with_subcommand (with_subcommand (with_subcommand (with_subcommand (with_subcommand (with_subcommand bare_app
+    with_subcommand (with_subcommand (with_subcommand (with_subcommand (with_subcommand (with_subcommand (with_subcommand (with_subcommand (with_subcommand (with_subcommand bare_app
     (with_volume (new_app (codes "solo"))).top)
     (new_app (codes "format")).top)
     (with_options (new_app (codes "replay"))).top)
@@ -52,4 +56,6 @@ the_app =
     (new_app (codes "dump")).top)
     (with_trace (new_app (codes "gen"))).top)
     (new_app (codes "whatif")).top)
+    (with_names (new_app (codes "view-add"))).top)
+    (with_names (new_app (codes "view-remove"))).top)
     (with_options (with_trace (new_app (codes "soak")))).top

@@ -3,9 +3,9 @@ use Rattle.std.specs.Prelude.{◌≡◌, ⊤, List, [], Some, codes}
 use Rattle.clap.specs.Words.{Row, Text, fault_of, subcommand_of}
 use Rattle.solo.specs.Volume.{target_of}
 use Rattle.command_words.specs.Application.{the_app}
-use Rattle.command_words.specs.Values.{HasOptions, HasTrace, HasVolume}
+use Rattle.command_words.specs.Values.{HasNames, HasOptions, HasTrace, HasVolume, named_by}
 use Rattle.command_words.specs.declared.command.Command.{Command}
-use Rattle.command_words.specs.declared.command.Command.TheVariants.{Solo, Format, Replay, Check, Dump, Gen, Soak, WhatIf}
+use Rattle.command_words.specs.declared.command.Command.TheVariants.{Solo, Format, Replay, Check, Dump, Gen, Soak, WhatIf, ViewAdd, ViewRemove}
 
 -- the name of a command
 abbrev pub name_of : Command → Text
@@ -17,6 +17,8 @@ name_of Dump = codes "dump"
 name_of (Gen asked) = codes "gen"
 name_of (Soak asked options) = codes "soak"
 name_of WhatIf = codes "whatif"
+name_of (ViewAdd names) = codes "view-add"
+name_of (ViewRemove names) = codes "view-remove"
 
 -- the values are those of the command
 abbrev pub HasValues : List Row → Command → Type 0
@@ -28,6 +30,8 @@ HasValues rows Dump = ⊤
 HasValues rows (Gen asked) = HasTrace rows asked
 HasValues rows (Soak asked options) = HasTrace rows asked × HasOptions rows options
 HasValues rows WhatIf = ⊤
+HasValues rows (ViewAdd names) = HasNames rows (named_by names)
+HasValues rows (ViewRemove names) = HasNames rows (named_by names)
 
 -- the subcommand of this name with these values is the command
 pub record Asks (name : Text) (rows : List Row) (command : Command) : Type 0 where

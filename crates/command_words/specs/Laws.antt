@@ -5,11 +5,13 @@ use Rattle.solo.specs.Volume.{target_of}
 use Rattle.solo.specs.declared.volume.Volume.{Volume}
 use Rattle.wol_model.specs.Trace.{Target}
 use Rattle.command_words.specs.Commands.{IsCommand}
-use Rattle.command_words.specs.Table.{IsSolo, IsGen, IsFormat, IsCheck, IsDump, IsReplay, IsSoak, IsWhatIf}
+use Rattle.command_words.specs.Table.{IsSolo, IsGen, IsFormat, IsCheck, IsDump, IsReplay, IsSoak, IsWhatIf, IsViewAdd, IsViewRemove, Named}
 use Rattle.command_words.specs.declared.command.Command.{Command}
-use Rattle.command_words.specs.declared.command.Command.TheVariants.{Solo, Format, Replay, Check, Dump, Gen, Soak, WhatIf}
+use Rattle.command_words.specs.declared.command.Command.TheVariants.{Solo, Format, Replay, Check, Dump, Gen, Soak, WhatIf, ViewAdd, ViewRemove}
 use Rattle.command_words.specs.declared.command.Generated.{Generated}
 use Rattle.command_words.specs.declared.command.Options.{Options}
+use Rattle.command_words.specs.declared.command.ViewNames.{ViewNames}
+use Rattle.command_words.specs.Values.{named_by}
 
 -- each spelling of the table asks for its command
 abbrev pub SoloIsCommand : Type 0
@@ -36,9 +38,17 @@ SoakIsCommand = (words : List Text) (asked : Generated) (options : Options) → 
 abbrev pub WhatIfIsCommand : Type 0
 WhatIfIsCommand = (words : List Text) → IsWhatIf words → IsCommand words WhatIf
 
--- two commands are one, wherever a host's name lies in memory
+abbrev pub ViewAddIsCommand : Type 0
+ViewAddIsCommand = (words : List Text) (named : Named) → IsViewAdd words named → (names : ViewNames) × (named_by names ≡ named) × IsCommand words (ViewAdd names)
+
+abbrev pub ViewRemoveIsCommand : Type 0
+ViewRemoveIsCommand = (words : List Text) (named : Named) → IsViewRemove words named → (names : ViewNames) × (named_by names ≡ named) × IsCommand words (ViewRemove names)
+
+-- two commands are one, wherever the names in them lie in memory
 abbrev pub AreSame : Command → Command → Type 0
 AreSame (Solo v) (Solo w) = target_of v ≡ target_of w
+AreSame (ViewAdd v) (ViewAdd w) = named_by v ≡ named_by w
+AreSame (ViewRemove v) (ViewRemove w) = named_by v ≡ named_by w
 AreSame c d = c ≡ d
 
 -- words ask for no two commands

@@ -49,6 +49,29 @@ IsDump words = words ≡ codes "dump" ∷ []
 abbrev pub IsWhatIf : List (List ℕ) → Type 0
 IsWhatIf words = words ≡ codes "whatif" ∷ []
 
+-- a word that may be a name: it doesn't begin with a dash
+abbrev pub IsName : List ℕ → Type 0
+IsName word = ¬ (slice_get word 0 ≡ Some 45)
+
+-- a volume and another that may log for it, by their names
+pub record Named : Type 0 where
+  pub volume : List ℕ
+  pub logger : List ℕ
+
+-- the words are this one and the two names
+pub record IsOfNames (command : List ℕ) (words : List (List ℕ)) (named : Named) : Type 0 where
+  pub spelled : words ≡ command ∷ named.volume ∷ named.logger ∷ []
+  pub volume : IsName named.volume
+  pub logger : IsName named.logger
+
+-- the words are `view-add NAME LOGGER`
+abbrev pub IsViewAdd : List (List ℕ) → Named → Type 0
+IsViewAdd = IsOfNames (codes "view-add")
+
+-- the words are `view-remove NAME LOGGER`
+abbrev pub IsViewRemove : List (List ℕ) → Named → Type 0
+IsViewRemove = IsOfNames (codes "view-remove")
+
 -- ---- The options of a run over a trace
 
 abbrev pub mode_text : Mode → List ℕ

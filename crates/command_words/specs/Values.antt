@@ -2,10 +2,11 @@
 use Rattle.std.specs.Prelude.{◌≡◌, ◌↔◌, ◌^◌, ◌<◌, ◌≤◌, ℕ, List, Some, IsTrue, codes, decimal, unwrap_or}
 use Rattle.clap.specs.Words.{Row, Text, first_of}
 use Rattle.wol_model.specs.Trace.{Target}
-use Rattle.command_words.specs.Table.{IsHost, mode_text}
+use Rattle.command_words.specs.Table.{IsHost, IsName, Named, mode_text}
 use Rattle.command_words.specs.declared.command.Generated.{Generated}
 use Rattle.command_words.specs.declared.command.Mode.{Mode}
 use Rattle.command_words.specs.declared.command.Options.{Options}
+use Rattle.command_words.specs.declared.command.ViewNames.{ViewNames}
 
 -- the argument of this name was given with this text
 abbrev pub HasText : List Row → Text → Text → Type 0
@@ -35,6 +36,28 @@ pub record HasTrace (rows : List Row) (asked : Generated) : Type 0 where
 -- they are none
 abbrev pub NoTrace : List Row → Type 0
 NoTrace rows = (asked : Generated) → ¬ HasTrace rows asked
+
+-- the names, without where they lie in memory
+abbrev pub named_by : ViewNames → Named
+named_by names = record { volume = names.volume.now; logger = names.logger.now }
+
+-- the argument's value is this name
+pub record HasName (rows : List Row) (which name : Text) : Type 0 where
+  pub text : HasText rows which name
+  pub is : IsName name
+
+-- it is none
+abbrev pub NoName : List Row → (which : Text) → Type 0
+NoName rows which = (name : Text) → ¬ HasName rows which name
+
+-- the values NAME and LOGGER are these names
+pub record HasNames (rows : List Row) (named : Named) : Type 0 where
+  pub volume : HasName rows (codes "NAME") named.volume
+  pub logger : HasName rows (codes "LOGGER") named.logger
+
+-- they are none
+abbrev pub NoNames : List Row → Type 0
+NoNames rows = (named : Named) → ¬ HasNames rows named
 
 -- so many workers are asked for: one, where the option isn't given
 pub record HasWorkers (rows : List Row) (workers : ℕ) : Type 0 where

@@ -2,7 +2,7 @@
 ghost use Rattle.std.specs.Prelude.{◌≡◌, false, IfOk};
 ghost use Rattle.clap.specs.Words.{app_of, rule_of};
 ghost use Rattle.clap.specs.declared.builder.Command.TheViews.{out-Command};
-ghost use Rattle.command_words.specs.Application.{option_rule, positional_rule, the_app, with_options, with_trace, with_volume};
+ghost use Rattle.command_words.specs.Application.{option_rule, positional_rule, the_app, with_names, with_options, with_trace, with_volume};
 
 use clap::{Arg, ArgAction, Command};
 use std::alloc::{AllocError, Global};
@@ -24,6 +24,8 @@ pub(crate) fn application<'a>(alloc: Global) -> Result<Command<'a>, AllocError>
         .subcommand(Command::new(alloc, "dump"))?
         .subcommand(of_trace(alloc, Command::new(alloc, "gen"))?)?
         .subcommand(Command::new(alloc, "whatif"))?
+        .subcommand(of_view(alloc, Command::new(alloc, "view-add"))?)?
+        .subcommand(of_view(alloc, Command::new(alloc, "view-remove"))?)?
         .subcommand(of_options(alloc, of_trace(alloc, Command::new(alloc, "soak"))?)?)
 }
 
@@ -46,6 +48,16 @@ fn of_trace<'a>(alloc: Global, command: Command<'a>) -> Result<Command<'a>, Allo
     command
         .arg(positional(alloc, "SEED"))?
         .arg(positional(alloc, "LINES"))
+}
+
+// The command with the arguments that name a volume and one that logs for it.
+fn of_view<'a>(alloc: Global, command: Command<'a>) -> Result<Command<'a>, AllocError>
+    ensures app { IfOk result (λ made. app_of made ≡ with_names (app_of command.entry)) }
+    ensures globals { IfOk result (λ made. (out-Command made).has_globals ≡ (out-Command command.entry).has_globals) }
+{
+    command
+        .arg(positional(alloc, "NAME"))?
+        .arg(positional(alloc, "LOGGER"))
 }
 
 // The command with the options of a run over a trace.

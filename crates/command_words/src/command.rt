@@ -4,7 +4,7 @@ ghost use Rattle.clap.specs.Words.{found_of, kind_of, rows_of};
 ghost use Rattle.command_words.specs.Commands.{Asks, AsksNothing, IsCommand, NoCommand};
 
 use crate::application::application;
-use crate::values::{options_of, trace_of, volume_of};
+use crate::values::{names_of, options_of, trace_of, volume_of};
 use clap::error::ErrorKind;
 use clap::{ArgMatches, Error};
 use solo::Volume;
@@ -40,6 +40,15 @@ pub struct Options {
     pub each: bool,
 }
 
+/// A volume, and another that is to log for it or no longer to.
+#[derive(Clone, Copy)]
+pub struct ViewNames<'a> {
+    /// It doesn't begin with a dash.
+    pub volume: &'a str,
+    /// It doesn't begin with a dash.
+    pub logger: &'a str,
+}
+
 /// What the program is asked to do.
 #[derive(Clone, Copy)]
 pub enum Command<'a> {
@@ -59,6 +68,10 @@ pub enum Command<'a> {
     Soak(Generated, Options),
     /// What each of four policies would use for a trace is printed.
     WhatIf,
+    /// A volume's view gains a logger.
+    ViewAdd(ViewNames<'a>),
+    /// A volume's view loses a logger, after what lies there went home.
+    ViewRemove(ViewNames<'a>),
 }
 
 /// Why there is no command.
@@ -114,6 +127,8 @@ fn read<'a>(name: &str, matches: &ArgMatches<'a>) -> Option<Command<'a>>
         "gen" => Some(Command::Gen(trace_of(matches)?)),
         "soak" => Some(Command::Soak(trace_of(matches)?, options_of(matches)?)),
         "whatif" => Some(Command::WhatIf),
+        "view-add" => Some(Command::ViewAdd(names_of(matches)?)),
+        "view-remove" => Some(Command::ViewRemove(names_of(matches)?)),
         _ => None,
     }
 }

@@ -10,5 +10,5 @@ mod command;
 mod laws;
 mod values;
 
-pub use command::{Command, Generated, Mode, Options, WordsFault, command_of};
+pub use command::{Command, Generated, Mode, Options, ViewNames, WordsFault, command_of};
 pub use laws::words_laws;

@@ -3,9 +3,9 @@ ghost use Rattle.std.specs.Prelude.{◌≡◌, ◌↔◌, ◌<◌, ◌≤◌, �
 ghost use Rattle.clap.specs.Words.{first_of, found_of, rows_of};
 ghost use Rattle.solo.specs.Volume.{target_of};
 ghost use Rattle.command_words.specs.Table.{IsHost, IsHostByte};
-ghost use Rattle.command_words.specs.Values.{HasMode, HasOptions, HasTrace, HasVolume, HasWorkers, NoOptions, NoTrace, NoVolume};
+ghost use Rattle.command_words.specs.Values.{HasMode, HasName, HasNames, HasOptions, HasTrace, HasVolume, HasWorkers, NoName, NoNames, NoOptions, NoTrace, NoVolume, named_by};
 
-use crate::command::{Generated, Mode, Options};
+use crate::command::{Generated, Mode, Options, ViewNames};
 use clap::ArgMatches;
 use itoa::Buffer;
 use solo::Volume;
@@ -61,6 +61,17 @@ pub(crate) fn trace_of(matches: &ArgMatches<'_>) -> Option<Generated>
     })
 }
 
+/// The two names that the values are: neither begins with a dash. `None` exactly where they are none.
+pub(crate) fn names_of<'a>(matches: &ArgMatches<'a>) -> Option<ViewNames<'a>>
+    ensures some { IfSome result (λ names. HasNames (rows_of (found_of matches.now)) (named_by names)) }
+    ensures none { IfNone result (NoNames (rows_of (found_of matches.now))) }
+{
+    Some(ViewNames {
+        volume: name_at(matches, "NAME")?,
+        logger: name_at(matches, "LOGGER")?,
+    })
+}
+
 /// The options that the values are. `None` exactly where they are none.
 pub(crate) fn options_of(matches: &ArgMatches<'_>) -> Option<Options>
     ensures some { IfSome result (HasOptions (rows_of (found_of matches.now))) }
@@ -101,6 +112,18 @@ fn number_at(matches: &ArgMatches<'_>, name: &str) -> Option<u64>
     ensures { (n : ℕ) → n < 2 ^ 64 → (result ≡ Some n) ↔ (first_of name.now (rows_of (found_of matches.now)) ≡ Some (decimal n)) }
 {
     number(value_at(matches, name)?)
+}
+
+// The name that an argument's value is.
+fn name_at<'a>(matches: &ArgMatches<'a>, name: &str) -> Option<&'a str>
+    ensures some { IfSome result (λ it. HasName (rows_of (found_of matches.now)) name.now it.now) }
+    ensures none { IfNone result (NoName (rows_of (found_of matches.now)) name.now) }
+{
+    let value = value_at(matches, name)?;
+    if value.as_bytes().first() == Some(&b'-') {
+        return None;
+    }
+    Some(value)
 }
 
 // An argument's value, or the default.

@@ -1,0 +1,89 @@
+-- The words of the table with the names of two volumes are commands.
+use Rattle.std.proofs.Common.{◌≡◌, ℕ, true, refl, List, [], ◌∷◌, Some, None, codes}
+use Rattle.clap.proofs.OnLiterals.{clap_on_literals}
+use Rattle.clap.specs.Simple.{Shape, built}
+use Rattle.clap.specs.Walk.{Held, nothing_held}
+use Rattle.clap.specs.Words.{App, Row, Text, new_app}
+use Rattle.command_words.specs.Application.{the_app, with_names}
+use Rattle.command_words.specs.Laws.{ViewAddIsCommand, ViewRemoveIsCommand}
+use Rattle.command_words.specs.Table.{Named}
+use Rattle.command_words.specs.declared.command.Command.TheVariants.{ViewAdd, ViewRemove}
+use Rattle.command_words.specs.declared.command.ViewNames.{ViewNames}
+use Rattle.command_words.proofs.Rows.{given_row}
+use Rattle.command_words.proofs.Steps.{Holds, Leads, by_place, filled, filled_holds, leads_on, standing}
+use Rattle.command_words.proofs.Subcommands.{Enters}
+use Rattle.command_words.proofs.Taken.{Takes, asks_for, built_sub, nothing_holds, takes}
+use Rattle.command_words.proofs.Words.{IsPlain, plain_name}
+
+abbrev of_names : Text → App
+of_names command = with_names (new_app command)
+
+enters_add : Enters (built the_app) (codes "view-add") (built_sub (of_names (codes "view-add")))
+unfolding clap_on_literals
+enters_add = record { turn = refl; stops = refl; found = refl; ends = refl }
+
+enters_remove : Enters (built the_app) (codes "view-remove") (built_sub (of_names (codes "view-remove")))
+unfolding clap_on_literals
+enters_remove = record { turn = refl; stops = refl; found = refl; ends = refl }
+
+abbrev names_rows : Text → Text → List Row
+names_rows volume logger = given_row (codes "NAME") volume ∷ given_row (codes "LOGGER") logger ∷ []
+
+module _ (command volume logger : Text) (plain_1 : IsPlain volume) (plain_2 : IsPlain logger) where
+  abbrev view : Shape
+  view = built_sub (of_names command)
+
+  abbrev rows_1 : List Row
+  rows_1 = given_row (codes "NAME") volume ∷ []
+
+  abbrev held_1 : Held
+  held_1 = filled view (codes "NAME") volume nothing_held
+
+  abbrev held_2 : Held
+  held_2 = filled view (codes "LOGGER") logger held_1
+
+  holds_1 : Holds view rows_1 held_1
+  holds_1 = filled_holds view (codes "NAME") None (Some 1) true [] nothing_held volume (nothing_holds view) refl refl
+
+  holds_2 : Holds view (names_rows volume logger) held_2
+  holds_2 = filled_holds view (codes "LOGGER") None (Some 2) true rows_1 held_1 logger holds_1 refl refl
+
+  leads_names : Leads view (standing 1 nothing_held) (volume ∷ logger ∷ []) (standing 3 held_2)
+  leads_names =
+      leads_on view (standing 1 nothing_held) (standing 2 held_1) (standing 3 held_2) (volume ∷ []) (logger ∷ [])
+      (by_place view (codes "NAME") None (Some 1) true [] nothing_held volume (nothing_holds view) refl 1 refl plain_1)
+      (by_place view (codes "LOGGER") None (Some 2) true rows_1 held_1 logger holds_1 refl 2 refl plain_2)
+
+takes_add : (volume logger : Text) → IsPlain volume → IsPlain logger → Takes (codes "view-add") (volume ∷ logger ∷ []) (names_rows volume logger)
+unfolding clap_on_literals
+takes_add volume logger p q =
+    takes (codes "view-add") (built_sub (of_names (codes "view-add"))) (volume ∷ logger ∷ []) (names_rows volume logger) 3 (held_2 (codes "view-add") volume logger p q) enters_add refl
+    (leads_names (codes "view-add") volume logger p q) (holds_2 (codes "view-add") volume logger p q) refl
+
+takes_remove : (volume logger : Text) → IsPlain volume → IsPlain logger → Takes (codes "view-remove") (volume ∷ logger ∷ []) (names_rows volume logger)
+unfolding clap_on_literals
+takes_remove volume logger p q =
+    takes (codes "view-remove") (built_sub (of_names (codes "view-remove"))) (volume ∷ logger ∷ []) (names_rows volume logger) 3 (held_2 (codes "view-remove") volume logger p q) enters_remove refl
+    (leads_names (codes "view-remove") volume logger p q) (holds_2 (codes "view-remove") volume logger p q) refl
+
+-- the names, as they lie anywhere in memory
+abbrev somewhere : Named → ViewNames
+somewhere named = record { volume = record { ref_ptr = (0, 0); now = named.volume }; logger = record { ref_ptr = (0, 0); now = named.logger } }
+
+pub view_add_is_command : ViewAddIsCommand
+view_add_is_command words named is = (
+  somewhere named,
+  refl,
+  asks_for words (codes "view-add") (named.volume ∷ named.logger ∷ []) (names_rows named.volume named.logger) (ViewAdd (somewhere named)) is.spelled
+      (takes_add named.volume named.logger (plain_name named.volume is.volume) (plain_name named.logger is.logger))
+      (record { named = refl; values = record { volume = record { text = refl; is = is.volume }; logger = record { text = refl; is = is.logger } } }),
+)
+
+pub view_remove_is_command : ViewRemoveIsCommand
+view_remove_is_command words named is = (
+  somewhere named,
+  refl,
+  asks_for words (codes "view-remove") (named.volume ∷ named.logger ∷ []) (names_rows named.volume named.logger) (ViewRemove (somewhere named)) is.spelled
+      (takes_remove named.volume named.logger (plain_name named.volume is.volume) (plain_name named.logger is.logger))
+      (record { named = refl; values = record { volume = record { text = refl; is = is.volume }; logger = record { text = refl; is = is.logger } } }),
+)
