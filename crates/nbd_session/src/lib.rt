@@ -3,10 +3,13 @@
 //!
 //! `session.rt` has `serve`, the loop of a session; `volume.rt` what a volume that is served can do (`Volume`), a turn at a
 //! time; `header.rt` requests and `error.rt` the errors of replies; `intake.rt` takes a request's bytes from the source;
-//! `ranges.rt` cuts a range into pieces; `answer.rt` says what becomes of one request, and `reply.rt` sends it. Of `specs/`:
-//! `Headers` has requests and replies as bytes, `Errors` which error a request has before the volume is asked, `Turns` what
-//! is asked of a volume, `Ranges` a range in pieces, `Answers` what becomes of one request, `Sessions` requests one after
-//! another and how a session ends, `Streams` what was taken of a source.
+//! `answer.rt` says what becomes of one request, `ranges.rt` cuts its range into pieces, and `reply.rt` sends the reply.
+//!
+//! To read the contract of `serve`, begin with `specs/Headers` (requests and replies as bytes), `Errors` (which error a
+//! request has before the volume is asked), `Turns` (what is asked of a volume), `Ranges` (a range in pieces), `Answers`
+//! (what becomes of one request) and `Sessions` (requests one after another, and how a session ends). `Intake` and `Taking`
+//! serve the functions within. In `proofs/`: `Intakes` for bytes taken call by call, `Piecewise` for ranges, `Asked` for
+//! what a volume was asked, `Replies` for what a sink takes, `Served` for requests one after another.
 #![tactic(auto)]
 
 mod answer;
