@@ -1,10 +1,11 @@
 -- Bytes taken from a source, call by call.
-use Rattle.std.proofs.Common.{◌≡◌, ◌≤◌, ◌+◌, ◌-◌, ℕ, List, [], ◌++◌, length, take, drop, Option, arith, length-append}
+use Rattle.std.proofs.Common.{◌≡◌, ◌≤◌, ◌<◌, ◌+◌, ◌-◌, ℕ, List, [], ◌++◌, length, take, drop, Option, arith, length-append}
 use Rattle.std.proofs.Math.Seq.{take-add}
+use Rattle.std.proofs.lemmas.List.{length-take}
 use Rattle.std.specs.Io.KnownBytes.{Consumes, Keeps}
 use Rattle.wol_io.proofs.Appending.{keeps_same}
 use Rattle.wol_io.proofs.Consuming.{consumes_both, consumes_kept, consumes_none}
-use Rattle.nbd_session.specs.Intake.{TakesSome}
+use Rattle.nbd_session.specs.Intake.{TakesFewer}
 
 -- bytes behind those that a room held before
 pub filled_more : (a b d : Option (List ℕ)) (old new : List ℕ) (count more : ℕ) → Consumes a b (take count old) → take count new ≡ take count old → Consumes b d (take more (drop count new)) → Consumes a d (take (count + more) new)
@@ -31,6 +32,9 @@ skipped_more a b d count left n s (bs, took, size) le = record {
   rest = let e = s.rest in omega (arith, length-append s.part bs);
 }
 
--- the rest of it was nothing
-pub skipped_kept : (a b d : Option (List ℕ)) (count left : ℕ) → Skipped a b count left → Keeps b d → TakesSome a d
-skipped_kept a b d count left s k = (s.part, consumes_kept a b d s.part s.took k)
+-- nothing was taken of what is left
+pub skipped_kept : (a b d : Option (List ℕ)) (count left : ℕ) → Skipped a b count left → 0 < left → Keeps b d → TakesFewer a d count
+skipped_kept a b d count left s more k = (s.part, consumes_kept a b d s.part s.took k, let e = s.rest in omega arith)
+
+pub filled_kept : (a b d : Option (List ℕ)) (room : List ℕ) (count size : ℕ) → Consumes a b (take count room) → count < length room → length room ≡ size → Keeps b d → TakesFewer a d size
+filled_kept a b d room count size h more is k = (take count room, consumes_kept a b d (take count room) h k, omega (arith, length-take count room))

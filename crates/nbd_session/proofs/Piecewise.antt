@@ -34,24 +34,24 @@ whole_chunks xs count blocks size is =
     ap (λ (bs : List Block). bytes_of bs) is ∙ bytes-chunks (length xs / 512) xs ∙ ap (λ (n : ℕ). take n xs) e ∙ take-length xs
 
 module _ {V : Type 0} (turned : Turn → V → V → Type 0) (most at count : ℕ) (v : V) where
-  reads_piece : (done piece : ℕ) (old new : List ℕ) (m w : V) → HasRead turned most at count v done (take (512 * done) old) m → piece ≡ piece_of most count done → ReadsPiece {T = Unit {0}} turned (at + done) piece done old new m w (Ok tt) → HasRead turned most at count v (done + piece) (take (512 * (done + piece)) new) w
-  reads_piece done piece old new m w so is (blocks, size, took, put) =
+  reads_piece : (done piece : ℕ) (old new : List ℕ) (m w : V) → HasRead turned most at count v done (take (512 * done) old) m → done < count → piece ≡ piece_of most count done → ReadsPiece {T = Unit {0}} turned (at + done) piece done old new m w (Ok tt) → HasRead turned most at count v (done + piece) (take (512 * (done + piece)) new) w
+  reads_piece done piece old new m w so more is (blocks, size, took, put) =
       let P : ℕ → Type 0 = λ (n : ℕ). HasRead turned most at count v (done + n) (take (512 * done) old ++ bytes_of blocks) w in
       let Q : List ℕ → Type 0 = λ (bs : List ℕ). HasRead turned most at count v (done + piece) bs w in
-      subst Q (sym put) (subst P size (HasRead.next done (take (512 * done) old) m w blocks so (size ∙ is) took))
+      subst Q (sym put) (subst P size (HasRead.next done (take (512 * done) old) m w blocks so more (size ∙ is) took))
 
   -- one more piece was read, into room of so many blocks
-  pub reads_on : (done len piece : ℕ) (old new : List ℕ) (m w : V) → HasRead turned most at count v done (take (512 * done) old) m → ReadsPiece {T = Unit {0}} turned (at + done) len done old new m w (Ok tt) → piece ≡ piece_of most count done → len ≡ piece → HasRead turned most at count v (done + piece) (take (512 * (done + piece)) new) w
-  reads_on done len piece old new m w so read is same =
-      reads_piece done piece old new m w so is (subst (λ (n : ℕ). ReadsPiece {T = Unit {0}} turned (at + done) n done old new m w (Ok tt)) same read)
+  pub reads_on : (done len piece : ℕ) (old new : List ℕ) (m w : V) → HasRead turned most at count v done (take (512 * done) old) m → ReadsPiece {T = Unit {0}} turned (at + done) len done old new m w (Ok tt) → done < count → piece ≡ piece_of most count done → len ≡ piece → HasRead turned most at count v (done + piece) (take (512 * (done + piece)) new) w
+  reads_on done len piece old new m w so read more is same =
+      reads_piece done piece old new m w so more is (subst (λ (n : ℕ). ReadsPiece {T = Unit {0}} turned (at + done) n done old new m w (Ok tt)) same read)
 
   -- one more piece was written
-  pub writes_on : (done piece : ℕ) (blocks part : List Block) (m w : V) → HasWritten turned most at count v done (bytes_of (take done blocks)) m → turned (Wrote (at + done) part) m w → part ≡ take piece (drop done blocks) → length (take piece (drop done blocks)) ≡ piece → piece ≡ piece_of most count done → HasWritten turned most at count v (done + piece) (bytes_of (take (done + piece) blocks)) w
-  writes_on done piece blocks part m w so took same size is =
+  pub writes_on : (done piece : ℕ) (blocks part : List Block) (m w : V) → HasWritten turned most at count v done (bytes_of (take done blocks)) m → turned (Wrote (at + done) part) m w → part ≡ take piece (drop done blocks) → length (take piece (drop done blocks)) ≡ piece → piece ≡ piece_of most count done → done < count → HasWritten turned most at count v (done + piece) (bytes_of (take (done + piece) blocks)) w
+  writes_on done piece blocks part m w so took same size is more =
       let P : ℕ → Type 0 = λ (n : ℕ). HasWritten turned most at count v (done + n) (bytes_of (take done blocks) ++ bytes_of (take piece (drop done blocks))) w in
       let Q : List ℕ → Type 0 = λ (bs : List ℕ). HasWritten turned most at count v (done + piece) bs w in
       let R : List Block → Type 0 = λ (bs : List Block). turned (Wrote (at + done) bs) m w in
-      subst Q (sym (bytes-more blocks done piece)) (subst P size (HasWritten.next done (bytes_of (take done blocks)) m w (take piece (drop done blocks)) so (size ∙ is) (subst R same took)))
+      subst Q (sym (bytes-more blocks done piece)) (subst P size (HasWritten.next done (bytes_of (take done blocks)) m w (take piece (drop done blocks)) so more (size ∙ is) (subst R same took)))
 
   -- a piece was refused
   pub writes_no_more : (done piece : ℕ) (blocks part : List Block) (m w : V) (refusal : Refusal) → HasWritten turned most at count v done (bytes_of (take done blocks)) m → turned (NotWrote (at + done) part refusal) m w → part ≡ take piece (drop done blocks) → length (take piece (drop done blocks)) ≡ piece → piece ≡ piece_of most count done → done < count → HasNotWritten turned most at count (bytes_of blocks) v w refusal

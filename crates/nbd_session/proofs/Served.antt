@@ -1,12 +1,11 @@
 -- Requests of a session, one after another.
-use Rattle.std.proofs.Common.{◌≡◌, ◌≢◌, ◌+◌, ◌-◌, ◌^◌, ℕ, List, [], ◌++◌, length, min, Option, None, Some, Result, Ok, Err, refl, sym, ap, subst, arith, append-nil, inl, inr}
+use Rattle.std.proofs.Common.{◌≡◌, ◌≢◌, ◌+◌, ◌-◌, ◌^◌, ℕ, List, [], ◌++◌, length, min, Option, None, Some, Result, Ok, Err, refl, sym, ◌∙◌, ap, subst, arith, append-nil, inl, inr}
 use Rattle.std.specs.Io.KnownBytes.{Appends, Consumes}
-use Rattle.wol_io.proofs.Appending.{appends_both, appends_kept, appends_none, front_last, keeps_same}
+use Rattle.wol_io.proofs.Appending.{appends_both, appends_kept, appends_none, keeps_same}
 use Rattle.wol_io.proofs.Consuming.{consumes_both, consumes_none}
 use Rattle.nbd_session.specs.declared.error.NbdError.{NbdError}
 use Rattle.nbd_session.specs.declared.header.Command.TheVariants as command
 use Rattle.nbd_session.specs.declared.header.Header.{Header}
-use Rattle.nbd_session.specs.declared.intake.Next.{Next}
 use Rattle.nbd_session.specs.declared.intake.Next.TheVariants as next
 use Rattle.nbd_session.specs.declared.session.Ended.{Ended}
 use Rattle.nbd_session.specs.declared.session.Ended.TheVariants as ended
@@ -14,7 +13,8 @@ use Rattle.nbd_session.specs.declared.session.NbdFault.{NbdFault}
 use Rattle.nbd_session.specs.declared.session.NbdFault.TheVariants as fault
 use Rattle.nbd_session.specs.Answers.{Serves, answer_in, reply_of}
 use Rattle.nbd_session.specs.Errors.{known_error}
-use Rattle.nbd_session.specs.Intake.{TakesHeader, TakesSome}
+use Rattle.nbd_session.specs.Headers.{payload_of}
+use Rattle.nbd_session.specs.Intake.{TakesFewer, TakesHeader}
 use Rattle.nbd_session.specs.Sessions.{CountsFaults, GoesOn, HasServed, IsSession, RepliesSo, ServesOne, request_behind}
 use Rattle.nbd_session.specs.Taking.{AnswersTaken, AnswersWhole, RefusesSo}
 use Rattle.nbd_session.specs.Turns.{Turn}
@@ -74,14 +74,14 @@ module _ {V : Type 0} (turned : Turn → V → V → Type 0) (home most : ℕ) (
       }
 
   pub fails : (request next : ℕ) (m w : V) (left' left'' taken' taken'' : Option (List ℕ)) (f : NbdFault) → Underway request m left' taken' → GoesOn turned home most next m w left' left'' taken' taken'' (Err f) → IsSession turned home most v w left left'' taken taken'' (Err f)
-  fails request next m w left' left'' taken' taken'' fault.Source u (same, (part, took), kept) = record {
+  fails request next m w left' left'' taken' taken'' fault.Source u (same, (part, took, short), kept) = record {
     requests = u.requests;
     bytes = u.so.bytes;
     replies = u.so.replies;
     served = rw same u.so.served;
     last = part;
     took = consumes_both left left' left'' u.so.bytes part u.so.took took;
-    ends = tt;
+    ends = short;
     out = appends_kept taken taken' taken'' u.so.replies u.so.out kept;
   }
   fails request next m w left' left'' taken' taken'' fault.Sink u (reply, one, out) = record {
@@ -92,7 +92,24 @@ module _ {V : Type 0} (turned : Turn → V → V → Type 0) (home most : ℕ) (
     last = [];
     took = rw append-nil (consumes_both left left' left'' u.so.bytes one.bytes u.so.took one.took);
     ends = refl;
-    out = front_last taken taken' taken'' u.so.replies reply u.so.out out;
+    out = let (front, rest, cut, appended) = out in record {
+      n = u.requests;
+      before = u.so.bytes;
+      replies = u.so.replies;
+      m = m;
+      served = u.so.served;
+      h = one.h;
+      given = one.given;
+      more = one.bytes;
+      answer = one.answer;
+      request = one.request;
+      serves = one.serves;
+      is = refl;
+      front = front;
+      rest = rest;
+      cut = sym one.is ∙ cut;
+      out = appends_both taken taken' taken'' u.so.replies front u.so.out appended;
+    };
   }
   fails request next m w left' left'' taken' taken'' fault.NoMemory u h = absurd h
 
@@ -133,14 +150,18 @@ module _ {V : Type 0} (turned : Turn → V → V → Type 0) (home most request 
   at_end t = (refl, (t.bs, t.taken, t.is, t.end (let e = ap length t.is in omega (arith, e))), keeps_same taken)
 
   pub at_bad_magic : TakesHeader left left' next.BadMagic → GoesOn turned home most request v v left left' taken taken (Ok (Some (ended.BadMagic request)))
-  at_bad_magic t = (refl, (t.bs, t.taken, (refl, t.is.0, t.is.1), tt), keeps_same taken)
+  at_bad_magic t = (refl, (t.bs, t.taken, (refl, t.is.0, t.is.1, t.is.2), tt), keeps_same taken)
 
   pub at_cut : TakesHeader left left' next.Cut → GoesOn turned home most request v v left left' taken taken (Ok (Some (ended.Cut request)))
   at_cut t = (refl, (t.bs, t.taken, (refl, inl t.is), t.end t.is.short), keeps_same taken)
 
   -- a call of the source failed within the data
-  pub at_fault : (w : V) (left'' : Option (List ℕ)) (n : Next) → TakesHeader left left' n → TakesSome left' left'' → w ≡ v → GoesOn turned home most request v w left left'' taken taken (Err fault.Source)
-  at_fault w left'' n t (part, took) same = (same, (t.bs ++ part, consumes_both left left' left'' t.bs part t.taken took), keeps_same taken)
+  pub at_fault : (w : V) (left'' : Option (List ℕ)) (h : Header) → TakesHeader left left' (next.Request h) → TakesFewer left' left'' (payload_of h.command h.length) → w ≡ v → GoesOn turned home most request v w left left'' taken taken (Err fault.Source)
+  at_fault w left'' h t (part, took, short) same = (same, (t.bs ++ part, consumes_both left left' left'' t.bs part t.taken took, inr (record { h = h; head = t.bs; header = t.is.0; part = part; short = short; is = refl })), keeps_same taken)
+
+  -- a call of the source failed within the header
+  pub at_fault_first : TakesFewer left left' 28 → GoesOn turned home most request v v left left' taken taken (Err fault.Source)
+  at_fault_first (part, took, short) = (refl, (part, took, inl short), keeps_same taken)
 
   -- it was asked of the volume
   asked_one : (w : V) (left'' : Option (List ℕ)) (h : Header) (room : List ℕ) (answer : Result ℕ NbdError) → h.command ≢ command.Disc → TakesHeader left left' (next.Request h) → AnswersWhole turned home most h v w left' left'' room answer → ServesOne turned home most v w left left'' (reply_of h.cookie (answer_in room answer))

@@ -16,12 +16,12 @@ piece_of most count done = min most (count - done)
 -- the first blocks of a range were read, piece by piece: they hold these bytes
 pub data HasRead {V : Type 0} (turned : Turn → V → V → Type 0) (most at count : ℕ) (v : V) : (done : ℕ) → List ℕ → V → Type 0 where
   none : HasRead turned most at count v 0 [] v
-  next : (done : ℕ) (got : List ℕ) (m w : V) (blocks : List Block) → HasRead turned most at count v done got m → length blocks ≡ piece_of most count done → turned (Read (at + done) blocks) m w → HasRead turned most at count v (done + length blocks) (got ++ bytes_of blocks) w
+  next : (done : ℕ) (got : List ℕ) (m w : V) (blocks : List Block) → HasRead turned most at count v done got m → done < count → length blocks ≡ piece_of most count done → turned (Read (at + done) blocks) m w → HasRead turned most at count v (done + length blocks) (got ++ bytes_of blocks) w
 
 -- the first blocks of a range were written, piece by piece: they hold these bytes
 pub data HasWritten {V : Type 0} (turned : Turn → V → V → Type 0) (most at count : ℕ) (v : V) : (done : ℕ) → List ℕ → V → Type 0 where
   none : HasWritten turned most at count v 0 [] v
-  next : (done : ℕ) (got : List ℕ) (m w : V) (blocks : List Block) → HasWritten turned most at count v done got m → length blocks ≡ piece_of most count done → turned (Wrote (at + done) blocks) m w → HasWritten turned most at count v (done + length blocks) (got ++ bytes_of blocks) w
+  next : (done : ℕ) (got : List ℕ) (m w : V) (blocks : List Block) → HasWritten turned most at count v done got m → done < count → length blocks ≡ piece_of most count done → turned (Wrote (at + done) blocks) m w → HasWritten turned most at count v (done + length blocks) (got ++ bytes_of blocks) w
 
 -- the first blocks of a range were read, and then a piece was refused
 pub record HasNotRead {V : Type 0} (turned : Turn → V → V → Type 0) (most at count : ℕ) (v w : V) (refusal : Refusal) : Type 0 where

@@ -12,7 +12,7 @@ use Rattle.nbd_session.specs.declared.session.NbdFault.{NbdFault}
 use Rattle.nbd_session.specs.declared.session.NbdFault.TheVariants as fault
 use Rattle.nbd_session.specs.Answers.{Answer, Serves, answer_in, reply_of}
 use Rattle.nbd_session.specs.Headers.{HasMagic, IsHeader, IsRequest, payload_of}
-use Rattle.nbd_session.specs.Intake.{IsCutHeader, TakesSome}
+use Rattle.nbd_session.specs.Intake.{IsCutHeader}
 use Rattle.nbd_session.specs.Turns.{Turn}
 
 -- So many whole requests, none of them a DISC, stand in these bytes one after another; these are their replies, one after
@@ -34,11 +34,15 @@ pub record IsCutData (bs : List ℕ) : Type 0 where
 abbrev pub IsCut : List ℕ → Type 0
 IsCut bs = IsCutHeader bs ⊎ IsCutData bs
 
+-- bytes of a request that isn't whole
+abbrev pub IsUnfinished : List ℕ → Type 0
+IsUnfinished bs = (length bs < 28) ⊎ IsCutData bs
+
 -- the bytes from this request on end the session so
 abbrev pub EndsSo : (request : ℕ) → (last : List ℕ) → Ended → Type 0
 EndsSo request last ended.Disc = (h : Header) × IsHeader last h × (h.command ≡ command.Disc)
 EndsSo request last ended.End = last ≡ []
-EndsSo request last (ended.BadMagic at) = (at ≡ request) × (4 ≤ length last) × (HasMagic last → ⊥)
+EndsSo request last (ended.BadMagic at) = (at ≡ request) × (4 ≤ length last) × (length last ≤ 28) × (HasMagic last → ⊥)
 EndsSo request last (ended.Cut at) = (at ≡ request) × IsCut last
 
 -- the session ends there only where the source has no more bytes
@@ -52,16 +56,35 @@ NeedsEnd (ended.Cut at) left = IsAtEnd left
 -- or a fault
 abbrev pub EndsWith : (request : ℕ) → (last : List ℕ) → (left : Option (List ℕ)) → Result Ended NbdFault → Type 0
 EndsWith request last left (Ok e) = EndsSo request last e × NeedsEnd e left
-EndsWith request last left (Err fault.Source) = Unit {0}
+EndsWith request last left (Err fault.Source) = IsUnfinished last
 EndsWith request last left (Err fault.Sink) = last ≡ []
 EndsWith request last left (Err fault.NoMemory) = (request ≡ 1) × (last ≡ [])
 
--- the replies are out; where the sink failed, a front of them
-abbrev pub AreOut : {T : Type 0} → (old new : Option (List ℕ)) → (replies : List ℕ) → Result T NbdFault → Type 0
-AreOut old new replies (Ok x) = Appends old new replies
-AreOut old new replies (Err fault.Source) = Appends old new replies
-AreOut old new replies (Err fault.Sink) = AppendsFront old new replies
-AreOut old new replies (Err fault.NoMemory) = Appends old new replies
+-- the sink failed within the reply to the last of these requests, and the replies before it are out
+pub record IsCutReply {V : Type 0} (turned : Turn → V → V → Type 0) (home most : ℕ) (v w : V) (bytes : List ℕ) (taken taken' : Option (List ℕ)) : Type 0 where
+  pub n : ℕ
+  pub before : List ℕ
+  pub replies : List ℕ
+  pub m : V
+  pub served : HasServed turned home most v n before replies m
+  pub h : Header
+  pub given : List ℕ
+  pub more : List ℕ
+  pub answer : Answer
+  pub request : IsRequest h given more
+  pub serves : Serves turned home most h given m answer w
+  pub is : bytes ≡ before ++ more
+  pub front : List ℕ
+  pub rest : List ℕ
+  pub cut : reply_of h.cookie answer ≡ front ++ rest
+  pub out : Appends taken taken' (replies ++ front)
+
+-- the replies are out; where the sink failed, all but the last, of which a front is
+abbrev pub AreOut : {V T : Type 0} → (turned : Turn → V → V → Type 0) → (home most : ℕ) → (v w : V) → (bytes replies : List ℕ) → (taken taken' : Option (List ℕ)) → Result T NbdFault → Type 0
+AreOut turned home most v w bytes replies taken taken' (Ok x) = Appends taken taken' replies
+AreOut turned home most v w bytes replies taken taken' (Err fault.Source) = Appends taken taken' replies
+AreOut turned home most v w bytes replies taken taken' (Err fault.Sink) = IsCutReply turned home most v w bytes taken taken'
+AreOut turned home most v w bytes replies taken taken' (Err fault.NoMemory) = Appends taken taken' replies
 
 -- the counts of faults of the source and of the sink, before and behind: a fault rises its own, and nothing else does
 abbrev pub CountsFaults : {T : Type 0} → (source source' sink sink' : ℕ) → Result T NbdFault → Type 0
@@ -84,7 +107,7 @@ pub record IsSession {V : Type 0} (turned : Turn → V → V → Type 0) (home m
   pub last : List ℕ
   pub took : Consumes left left' (bytes ++ last)
   pub ends : EndsWith (request_behind requests) last left' result
-  pub out : AreOut taken taken' replies result
+  pub out : AreOut turned home most v w bytes replies taken taken' result
 
 -- the bytes of one request were taken, it was asked of the volume, and this is its reply
 pub record ServesOne {V : Type 0} (turned : Turn → V → V → Type 0) (home most : ℕ) (v w : V) (left left' : Option (List ℕ)) (reply : List ℕ) : Type 0 where
@@ -102,7 +125,7 @@ pub record ServesOne {V : Type 0} (turned : Turn → V → V → Type 0) (home m
 abbrev pub GoesOn : {V : Type 0} → (turned : Turn → V → V → Type 0) → (home most request : ℕ) → (v w : V) → (left left' taken taken' : Option (List ℕ)) → Result (Option Ended) NbdFault → Type 0
 GoesOn turned home most request v w left left' taken taken' (Ok None) = (reply : List ℕ) × ServesOne turned home most v w left left' reply × Appends taken taken' reply
 GoesOn turned home most request v w left left' taken taken' (Ok (Some e)) = (w ≡ v) × ((last : List ℕ) × Consumes left left' last × EndsSo request last e × NeedsEnd e left') × Keeps taken taken'
-GoesOn turned home most request v w left left' taken taken' (Err fault.Source) = (w ≡ v) × TakesSome left left' × Keeps taken taken'
+GoesOn turned home most request v w left left' taken taken' (Err fault.Source) = (w ≡ v) × ((last : List ℕ) × Consumes left left' last × IsUnfinished last) × Keeps taken taken'
 GoesOn turned home most request v w left left' taken taken' (Err fault.Sink) = (reply : List ℕ) × ServesOne turned home most v w left left' reply × AppendsFront taken taken' reply
 GoesOn turned home most request v w left left' taken taken' (Err fault.NoMemory) = ⊥
 

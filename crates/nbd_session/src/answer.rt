@@ -38,6 +38,8 @@ impl Desk {
 
 // Looks whether a volume is up, and answers with no data.
 fn look<V: Volume>(volume: &mut V) -> Result<usize, NbdError>
+    requires ready { V.Ready volume.old }
+    ensures ready { V.Ready volume.new }
     ensures same_home { V.home volume.new ≡ V.home volume.old }
     ensures same_most { V.most volume.new ≡ V.most volume.old }
     ensures looked { LooksSo V.Turned volume.old volume.new result }
@@ -56,9 +58,11 @@ fn read<V: Volume>(
     bytes: &mut [u8],
     room: &mut [Block],
 ) -> Result<usize, NbdError>
+    requires ready { V.Ready volume.old }
     requires bytes { length bytes.old ≡ 33554432 }
     requires room { length room.old ≡ 128 }
     requires inside { IsInside (V.home volume.old) header.now }
+    ensures ready { V.Ready volume.new }
     ensures same_home { V.home volume.new ≡ V.home volume.old }
     ensures same_most { V.most volume.new ≡ V.most volume.old }
     ensures read { ReadsSo V.Turned (V.most volume.old) header.now bytes.new volume.old volume.new result }
@@ -80,8 +84,10 @@ fn read<V: Volume>(
 
 // Writes the bytes in front to the range of a request.
 fn write<V: Volume>(volume: &mut V, header: &Header, bytes: &[u8]) -> Result<usize, NbdError>
+    requires ready { V.Ready volume.old }
     requires bytes { length bytes.now ≡ 33554432 }
     requires inside { IsInside (V.home volume.old) header.now }
+    ensures ready { V.Ready volume.new }
     ensures same_home { V.home volume.new ≡ V.home volume.old }
     ensures same_most { V.most volume.new ≡ V.most volume.old }
     ensures written { WritesSo V.Turned (V.most volume.old) header.now (take header.now.length bytes.now) volume.old volume.new result }
@@ -97,8 +103,10 @@ fn write<V: Volume>(volume: &mut V, header: &Header, bytes: &[u8]) -> Result<usi
 
 // A request that asks for no blocks.
 fn ask_nothing<V: Volume>(volume: &mut V, header: &Header) -> Result<usize, NbdError>
+    requires ready { V.Ready volume.old }
     requires known { known_error (V.home volume.old) header.now ≡ None }
     requires nothing { (header.now.command ≡ Command.Flush) ⊎ (header.now.length ≡ 0) }
+    ensures ready { V.Ready volume.new }
     ensures same_home { V.home volume.new ≡ V.home volume.old }
     ensures same_most { V.most volume.new ≡ V.most volume.old }
     ensures serves { (given room : List ℕ) → Serves V.Turned (V.home volume.old) (V.most volume.old) header.now given volume.old (answer_in room result) volume.new }
@@ -115,11 +123,13 @@ fn ask_read<V: Volume>(
     bytes: &mut [u8],
     room: &mut [Block],
 ) -> Result<usize, NbdError>
+    requires ready { V.Ready volume.old }
     requires bytes { length bytes.old ≡ 33554432 }
     requires room { length room.old ≡ 128 }
     requires known { known_error (V.home volume.old) header.now ≡ None }
     requires is { header.now.command ≡ Command.Read }
     requires some { header.now.length ≢ 0 }
+    ensures ready { V.Ready volume.new }
     ensures same_home { V.home volume.new ≡ V.home volume.old }
     ensures same_most { V.most volume.new ≡ V.most volume.old }
     ensures serves { (given : List ℕ) → Serves V.Turned (V.home volume.old) (V.most volume.old) header.now given volume.old (answer_in bytes.new result) volume.new }
@@ -130,10 +140,12 @@ fn ask_read<V: Volume>(
 
 // A write of some blocks, which stand in front in the bytes.
 fn ask_write<V: Volume>(volume: &mut V, header: &Header, bytes: &[u8]) -> Result<usize, NbdError>
+    requires ready { V.Ready volume.old }
     requires bytes { length bytes.now ≡ 33554432 }
     requires known { known_error (V.home volume.old) header.now ≡ None }
     requires is { header.now.command ≡ Command.Write }
     requires some { header.now.length ≢ 0 }
+    ensures ready { V.Ready volume.new }
     ensures same_home { V.home volume.new ≡ V.home volume.old }
     ensures same_most { V.most volume.new ≡ V.most volume.old }
     ensures serves { Serves V.Turned (V.home volume.old) (V.most volume.old) header.now (take (payload_of header.now.command header.now.length) bytes.now) volume.old (answer_in bytes.now result) volume.new }
@@ -150,10 +162,12 @@ fn ask<V: Volume>(
     bytes: &mut [u8],
     room: &mut [Block],
 ) -> Result<usize, NbdError>
+    requires ready { V.Ready volume.old }
     requires bytes { length bytes.old ≡ 33554432 }
     requires room { length room.old ≡ 128 }
     requires known { known_error (V.home volume.old) header.now ≡ None }
     requires stays { header.now.command ≢ Command.Disc }
+    ensures ready { V.Ready volume.new }
     ensures same_home { V.home volume.new ≡ V.home volume.old }
     ensures same_most { V.most volume.new ≡ V.most volume.old }
     ensures serves { Serves V.Turned (V.home volume.old) (V.most volume.old) header.now (take (payload_of header.now.command header.now.length) bytes.old) volume.old (answer_in bytes.new result) volume.new }
@@ -198,10 +212,12 @@ fn admit<V: Volume, S: Source>(
     bytes: &mut [u8],
     room: &mut [Block],
 ) -> Result<Option<Result<usize, NbdError>>, Failed>
+    requires ready { V.Ready volume.old }
     requires bytes { length bytes.old ≡ 33554432 }
     requires room { length room.old ≡ 128 }
     requires known { known_error (V.home volume.old) header.now ≡ None }
     requires stays { header.now.command ≢ Command.Disc }
+    ensures ready { V.Ready volume.new }
     ensures same_home { V.home volume.new ≡ V.home volume.old }
     ensures same_most { V.most volume.new ≡ V.most volume.old }
     ensures content { AnswersTaken V.Turned (V.home volume.old) (V.most volume.old) header.now volume.old volume.new (S.left input.old) (S.left input.new) bytes.new result }
@@ -224,7 +240,9 @@ pub(crate) fn take_and_ask<V: Volume, S: Source>(
     input: &mut S,
     desk: &mut Desk,
 ) -> Result<Option<Result<usize, NbdError>>, Failed>
+    requires ready { V.Ready volume.old }
     requires stays { header.now.command ≢ Command.Disc }
+    ensures ready { V.Ready volume.new }
     ensures same_home { V.home volume.new ≡ V.home volume.old }
     ensures same_most { V.most volume.new ≡ V.most volume.old }
     ensures content { AnswersTaken V.Turned (V.home volume.old) (V.most volume.old) header.now volume.old volume.new (S.left input.old) (S.left input.new) desk.new.bytes.items result }

@@ -26,10 +26,12 @@ fn read_piece<V: Volume>(
     bytes: &mut [u8],
     done: usize,
 ) -> Result<(), Refusal>
+    requires ready { V.Ready volume.old }
     requires some { 1 ≤ length blocks.old }
     requires few { length blocks.old ≤ V.most volume.old }
     requires fits { at + length blocks.old ≤ V.home volume.old }
     requires bytes { 512 * (done + length blocks.old) ≤ length bytes.old }
+    ensures ready { V.Ready volume.new }
     ensures same_home { V.home volume.new ≡ V.home volume.old }
     ensures same_most { V.most volume.new ≡ V.most volume.old }
     ensures read { ReadsPiece V.Turned at (length blocks.old) done bytes.old bytes.new volume.old volume.new result }
@@ -47,10 +49,12 @@ pub(crate) fn read_range<V: Volume>(
     bytes: &mut [u8],
     room: &mut [Block],
 ) -> Result<(), Refusal>
+    requires ready { V.Ready volume.old }
     requires bytes { length bytes.old ≡ 512 * count }
     requires room { length room.old ≡ 128 }
     requires fits { at + count ≤ V.home volume.old }
     requires small { at + count < 2 ^ 64 }
+    ensures ready { V.Ready volume.new }
     ensures same_home { V.home volume.new ≡ V.home volume.old }
     ensures same_most { V.most volume.new ≡ V.most volume.old }
     ensures read { MatchResult result
@@ -69,8 +73,10 @@ pub(crate) fn read_range<V: Volume>(
 
 // Writes blocks from place `at` on.
 fn write_blocks<V: Volume>(volume: &mut V, at: u64, blocks: &[Block]) -> Result<(), Refusal>
+    requires ready { V.Ready volume.old }
     requires fits { at + length blocks.now ≤ V.home volume.old }
     requires small { at + length blocks.now < 2 ^ 64 }
+    ensures ready { V.Ready volume.new }
     ensures same_home { V.home volume.new ≡ V.home volume.old }
     ensures same_most { V.most volume.new ≡ V.most volume.old }
     ensures written { MatchResult result
@@ -95,9 +101,11 @@ pub(crate) fn write_range<V: Volume>(
     count: usize,
     bytes: &[u8],
 ) -> Result<(), Refusal>
+    requires ready { V.Ready volume.old }
     requires bytes { length bytes.now ≡ 512 * count }
     requires fits { at + count ≤ V.home volume.old }
     requires small { at + count < 2 ^ 64 }
+    ensures ready { V.Ready volume.new }
     ensures same_home { V.home volume.new ≡ V.home volume.old }
     ensures same_most { V.most volume.new ≡ V.most volume.old }
     ensures written { MatchResult result

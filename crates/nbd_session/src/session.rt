@@ -68,7 +68,9 @@ fn serve_request<V: Volume, S: Source, K: Sink>(
     header: &Header,
     request: u64,
 ) -> Result<Option<Ended>, NbdFault>
+    requires ready { V.Ready volume.old }
     requires stays { header.now.command ≢ Command.Disc }
+    ensures ready { V.Ready volume.new }
     ensures same_home { V.home volume.new ≡ V.home volume.old }
     ensures same_most { V.most volume.new ≡ V.most volume.old }
     ensures content { (before : Option (List ℕ)) → TakesHeader before (S.left input.old) (Next.Request header.now)
@@ -90,7 +92,9 @@ fn serve_this<V: Volume, S: Source, K: Sink>(
     next: Next,
     request: u64,
 ) -> Result<Option<Ended>, NbdFault>
+    requires ready { V.Ready volume.old }
     requires next { IsComing next }
+    ensures ready { V.Ready volume.new }
     ensures same_home { V.home volume.new ≡ V.home volume.old }
     ensures same_most { V.most volume.new ≡ V.most volume.old }
     ensures content { (before : Option (List ℕ)) → TakesHeader before (S.left input.old) next
@@ -114,6 +118,8 @@ fn serve_next<V: Volume, S: Source, K: Sink>(
     desk: &mut Desk,
     request: u64,
 ) -> Result<Option<Ended>, NbdFault>
+    requires ready { V.Ready volume.old }
+    ensures ready { V.Ready volume.new }
     ensures same_home { V.home volume.new ≡ V.home volume.old }
     ensures same_most { V.most volume.new ≡ V.most volume.old }
     ensures content { GoesOn V.Turned (V.home volume.old) (V.most volume.old) request volume.old volume.new (S.left input.old) (S.left input.new) (K.taken out.old) (K.taken out.new) result }
@@ -142,6 +148,10 @@ pub fn serve<R: Wait, V: Volume, S: Source, K: Sink>(
     input: &mut S,
     out: &mut K,
 ) -> Result<Ended, NbdFault>
+    requires ready { V.Ready volume.old }
+    ensures ready { V.Ready volume.new }
+    ensures same_home { V.home volume.new ≡ V.home volume.old }
+    ensures same_most { V.most volume.new ≡ V.most volume.old }
     ensures session { IsSession V.Turned (V.home volume.old) (V.most volume.old) volume.old volume.new (S.left input.old) (S.left input.new) (K.taken out.old) (K.taken out.new) result }
     ensures faults { CountsFaults (S.faults input.old) (S.faults input.new) (K.faults out.old) (K.faults out.new) result }
 {

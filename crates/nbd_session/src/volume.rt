@@ -19,8 +19,11 @@ pub trait Volume {
     ghost use Rattle.std.specs.Prelude.{◌≡◌, ◌≤◌, ◌<◌, ◌+◌, ◌^◌, ℕ, length};
     ghost use Rattle.nbd_session.specs.Turns.{Turn, look_turn, read_turn, write_turn};
 
-    /// A turn that was taken, and the volume before and behind it.
+    /// A turn that was taken, and the volume before and behind it. It is this that says which refusal comes when.
     ghost Turned: { Turn → Self → Self → Type 0 };
+
+    /// That it can take turns. Each turn leaves it so.
+    ghost Ready: { Self → Type 0 };
 
     /// The number of its blocks.
     ghost home: { Self → ℕ };
@@ -40,24 +43,30 @@ pub trait Volume {
 
     /// Looks whether it is up: `Down` exactly where it isn't.
     fn look(&mut self) -> Result<(), Refusal>
+        requires ready { Ready self.old }
+        ensures ready { Ready self.new }
         ensures turned { Turned (look_turn result) self.old self.new }
         ensures same_home { home self.new ≡ home self.old }
         ensures same_most { most self.new ≡ most self.old };
 
     /// Reads the blocks from place `at` on. After a refusal what stands in `out` is open.
     fn read(&mut self, at: u64, out: &mut [Block]) -> Result<(), Refusal>
+        requires ready { Ready self.old }
         requires some { 1 ≤ length out.old }
         requires few { length out.old ≤ most self.old }
         requires fits { at + length out.old ≤ home self.old }
+        ensures ready { Ready self.new }
         ensures turned { Turned (read_turn at (length out.old) out.new result) self.old self.new }
         ensures same_home { home self.new ≡ home self.old }
         ensures same_most { most self.new ≡ most self.old };
 
     /// Writes the blocks from place `at` on, and makes them last.
     fn write(&mut self, at: u64, from: &[Block]) -> Result<(), Refusal>
+        requires ready { Ready self.old }
         requires some { 1 ≤ length from.now }
         requires few { length from.now ≤ most self.old }
         requires fits { at + length from.now ≤ home self.old }
+        ensures ready { Ready self.new }
         ensures turned { Turned (write_turn at from.now result) self.old self.new }
         ensures same_home { home self.new ≡ home self.old }
         ensures same_most { most self.new ≡ most self.old };

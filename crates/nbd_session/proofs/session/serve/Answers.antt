@@ -6,7 +6,7 @@ use Rattle.nbd_session.proofs.Served.{begun, ends, fails, goes_at, goes_on, unbe
 use Rattle.nbd_session.proofs.session.serve.Goals as goal
 
 pub requests-init : goal.requests-init
-requests-init g c = record { home = refl; most = refl; underway = begun _ _ _ _ _ _; calm_source = refl; calm_sink = refl }
+requests-init g c = record { ready = c.requires.ready; home = refl; most = refl; underway = begun _ _ _ _ _ _; calm_source = refl; calm_sink = refl }
 
 pub returns-in-Err-clause-session : goal.returns-in-Err-clause-session
 returns-in-Err-clause-session g c = unbegun _ _ _ _ _ _
@@ -64,6 +64,7 @@ requests-preserved g c =
     let w = c.serve_next.new.volume in
     let P : Option Ended → Type 0 = λ (a : Option Ended). GoesOn g.V.Volume.Turned home most next m w left' left'' taken' taken'' (Ok a) in
     record {
+      ready = c.in_ok-ended.ensures.ready;
       home = c.in_ok-ended.ensures.same_home ∙ i.home;
       most = c.in_ok-ended.ensures.same_most ∙ i.most;
       underway = goes_on g.V.Volume.Turned home most c.args.volume.now left taken c.requests.request next m w left' left'' taken' taken'' i.underway c.saturating_add-request.ensures

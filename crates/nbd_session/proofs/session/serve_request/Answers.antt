@@ -1,6 +1,5 @@
 use Rattle.std.proofs.Common.{refl}
 use Rattle.wol_disk.specs.declared.disk.Failed.{Failed}
-use Rattle.nbd_session.specs.declared.intake.Next.TheVariants as next
 use Rattle.nbd_session.proofs.Served.{answered, at_fault, counts_still}
 use Rattle.nbd_session.proofs.session.serve_request.Goals as goal
 
@@ -18,4 +17,4 @@ returns-in-Ok-clause-faults g c =
 pub returns-in-Err-clause-content : goal.returns-in-Err-clause-content
 returns-in-Err-clause-content g c before t =
     at_fault g.V.Volume.Turned (g.V.Volume.home c.args.volume.now) (g.V.Volume.most c.args.volume.now) c.args.request c.args.volume.now before (g.S.Source.left c.args.input.now) (g.K.Sink.taken c.args.out.now) c.take_and_ask.new.volume
-    (g.S.Source.left c.take_and_ask.new.input) (next.Request c.args.header.now) t c.in-Err.ensures.content.0 c.in-Err.ensures.content.1
+    (g.S.Source.left c.take_and_ask.new.input) c.args.header.now t c.in-Err.ensures.content.0 c.in-Err.ensures.content.1
