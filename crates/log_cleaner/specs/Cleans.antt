@@ -101,7 +101,7 @@ TellsCleaned tells state most old new copies (Err VersionsSpent) = GoesOn old ne
     × (old.next + length copies ≡ 2 ^ 63) × IsLeftUntidy (covered_in old) most (listed_in new.index.entries) copies × Untouched old new copies
 TellsCleaned tells state most old new copies (Err NoMemory) = GoesOn old new × LeavesEntry tells state old new (wrote copies) × Untouched old new copies × TidiesBefore (covered_in old) most (listed_in new.index.entries) copies
 
--- What was copied are chunks that weren't tidy, in order, under the next versions; after a fault of a disk the last of them may be in flight.
+-- What was copied are chunks that weren't tidy, in order, under the next versions; after a fault of a disk they may be in flight.
 pub record HasCleaned {D : Type 0} (tells : Bool) (state : D → State) (most : ℕ) (old new : Manager D) (result : Result Cleaned CleanFault) : Type 0 where
   pub copies : List Write
   pub chunks : AllByRecursion (IsChunkOf (covered_in old) most) copies

@@ -58,9 +58,9 @@ fn clean_all<R: Wait, D: Disk>(
 /// keeps any of them. For each in order its blocks are read, written again to a log, and what may go is given up.
 /// Segments in which no record is left go to their pools.
 ///
-/// `DiskFault` comes only where the part's count of faults rose in this call, and brings the manager down.
-/// `VersionsSpent` comes where the next version is 2^63 and a chunk still isn't tidy. After it and after `NoMemory` what
-/// was copied stands.
+/// `DiskFault` comes only where the part's count of faults rose, and brings the manager down; what was copied may then be
+/// in flight. `VersionsSpent` comes where the next version is 2^63 and a chunk still isn't tidy. After it and after
+/// `NoMemory` what was copied stands.
 pub fn clean<R: Wait, D: Disk>(
     rt: &R,
     alloc: Global,

@@ -1,11 +1,11 @@
 -- The view in one image was changed, behind the closing of all: what is left of arrays and views, told of the bay at entry.
-use Rattle.std.proofs.Common.{◌≡◌, ◌≢◌, ◌⊎◌, inl, inr, ◌<◌, ◌≤◌, ◌^◌, ◌++◌, ℕ, zero, suc, Bool, true, false, cond, List, [], ◌∷◌, length, map, take, not, ◌==◌, Option, None, Some, option_map, Result, Ok, Err, refl, sym, ap, ◌∙◌, subst, arith, get_or}
+use Rattle.std.proofs.Common.{◌≡◌, ◌≢◌, ◌⊎◌, inl, inr, ◌<◌, ◌≤◌, ◌^◌, ◌++◌, ℕ, Bool, true, false, cond, List, [], ◌∷◌, length, not, ◌==◌, Option, None, Some, option_map, Result, Ok, Err, sym, ap, ◌∙◌, subst, arith}
 use Rattle.std.specs.Prelude.{slice_get, slice_set, slice_range, slice_index_or, filter, Contains}
 use Rattle.std.specs.List.{AllByRecursion}
 use Rattle.std.proofs.lemmas.Bool.{cases_eq}
 use Rattle.std.proofs.lemmas.List.{length-map, length-set}
 use Rattle.std.proofs.lemmas.List.Elements.{Contains-append_left}
-use Rattle.std.proofs.lemmas.Option.{none-some, same_Some, slice_get-map, slice_get-get_or, slice_get_within, get_or_from_slice_get}
+use Rattle.std.proofs.lemmas.Option.{same_Some, slice_get-map, slice_get-get_or, slice_get_within, get_or_from_slice_get}
 use Rattle.wol_disk.specs.Disk.{Block, reads}
 use Rattle.wol_bay.specs.Bay.{Image, Name, Told, at_name}
 use Rattle.wol_config.specs.Configs.{IsValid}
@@ -18,23 +18,23 @@ use Rattle.wol_promise.specs.Run.{IsThere}
 use Rattle.logger_view.specs.Stored.{HasView, with_view}
 use Rattle.logger_view.proofs.Callers.{same_view}
 use Rattle.manager.proofs.Lanes.{get_set, get_other}
-use Rattle.volume_images.specs.Volumes.{AreLeft, MayLeave, images_read, image_read, shape_in, shapes_of}
+use Rattle.volume_images.specs.Volumes.{AreLeft, MayLeave, images_read, shape_in, shapes_of}
 use Rattle.rack.specs.Opens.{KeepsAllSound}
 use Rattle.rack.proofs.SentNames.{names_differ}
 use Rattle.rack.proofs.SoundBefore.{at_front, some_image}
 use Rattle.inspection.proofs.Unhelped.{there_is}
 use Rattle.report.specs.declared.fault.Fault.{Fault}
-use Rattle.view_change.specs.Changes.{Allows, IsLoaded, changed, id_of}
+use Rattle.view_change.specs.Changes.{Allows, changed, id_of}
 use Rattle.view_change.specs.declared.answers.Change.{Change}
 use Rattle.view_change.specs.declared.answers.Change.TheVariants.{Add, Remove}
 use Rattle.view_change.proofs.Ids.{view_with, view_without}
-use Rattle.view_commands.specs.Images.{AnswersFront, ChangesImage, LeavesBy, LeavesNewView, ShowsNewView, front_of}
-use Rattle.view_commands.specs.Views.{BecomesBy, ChangesViewOf, HasViewIn, KeepsArrays, KeepsOtherViews, LeavesEither, LeavesThere, LeavesView, MayChange, MayNotChange}
+use Rattle.view_commands.specs.Images.{AnswersFront, ChangesImage, LeavesBy, LeavesNewView, front_of}
+use Rattle.view_commands.specs.Views.{BecomesBy, ChangesViewOf, HasViewIn, KeepsArrays, KeepsOtherViews, LeavesThere, MayChange, MayNotChange}
 use Rattle.view_commands.specs.declared.order.Stop.{Stop}
 use Rattle.view_commands.specs.declared.order.Stop.TheVariants as stop
 use Rattle.view_commands.specs.declared.order.ViewRefusal.{ViewRefusal}
-use Rattle.view_commands.specs.declared.order.ViewRefusal.TheVariants.{UnknownVolume, UnknownLogger, Itself, Already, NotThere, ViewFull}
-use Rattle.view_commands.proofs.Kept.{HasFront, KeepsFronts, entry_reads, front_view, read_at, read_some, reads_left, view_at_entry, view_now, view_then, within_images}
+use Rattle.view_commands.specs.declared.order.ViewRefusal.TheVariants.{Itself}
+use Rattle.view_commands.proofs.Kept.{KeepsFronts, entry_reads, read_at, read_some, reads_left, view_now, view_then, within_images}
 use Rattle.view_commands.proofs.Shown.{AllThere, OnlyView, recovers_same, shown_there, shows_view, sound_shown}
 
 -- a logger comes

@@ -1,12 +1,12 @@
 -- One volume of a rack is drained: the rack is the same but for the pass of its worker.
-use Rattle.std.proofs.Common.{◌≡◌, ◌<◌, ℕ, Bool, List, [], ◌∷◌, ◌++◌, Option, None, Some, Result, Ok, Err, get_or, length, arith, refl, sym, ap, subst, ◌∙◌}
+use Rattle.std.proofs.Common.{◌≡◌, ◌<◌, ℕ, Bool, List, [], ◌∷◌, ◌++◌, Some, Result, Ok, Err, get_or, length, arith, refl, sym, ap, subst, ◌∙◌}
 use Rattle.std.specs.Prelude.{slice_get, slice_set, Contains}
 use Rattle.std.specs.List.{AllByRecursion}
 use Rattle.std.specs.declared.alloc.Global.{Global}
 use Rattle.std.specs.declared.vec.Vec.{Vec}
 use Rattle.std.proofs.lemmas.Option.{get_or_from_slice_get}
 use Rattle.wol_disk.specs.Disk.{State}
-use Rattle.wol_model.specs.History.{IsHelp, Operation, worker}
+use Rattle.wol_model.specs.History.{IsHelp, worker}
 use Rattle.wol_promise.specs.Ruled.{Noted}
 use Rattle.turn_lock.specs.LockIds.{LockId}
 use Rattle.turn_lock.specs.Passes.{pass_lock, pass_mine}

@@ -1,14 +1,12 @@
 -- A volume that was drained has an entry of that alone, and lists no record behind it.
-use Rattle.std.proofs.Common.{◌≡◌, ◌≢◌, ◌⊎◌, inl, inr, ◌<◌, ◌++◌, ◌==◌, ℕ, zero, suc, Bool, true, false, cond, List, [], ◌∷◌, Option, None, Some, Result, Ok, refl, sym, ap, ◌∙◌, subst, arith, append_assoc}
-use Rattle.std.specs.Prelude.{All, IsTrue}
+use Rattle.std.proofs.Common.{◌≡◌, ◌≢◌, ◌⊎◌, inl, inr, ◌++◌, ◌==◌, ℕ, zero, suc, Bool, true, false, cond, List, [], ◌∷◌, None, Ok, refl, sym, ap, ◌∙◌, subst, arith, append_assoc}
 use Rattle.std.proofs.lemmas.Bool.{eq-eqb}
 use Rattle.wol_disk.specs.Disk.{State}
 use Rattle.wol_bay.specs.Bay.{BayState}
 use Rattle.wol_config.specs.declared.config.Config.{Config}
 use Rattle.turn_lock.specs.Histories.{Entry, own}
-use Rattle.turn_lock.specs.LockIds.{LockId}
 use Rattle.turn_lock.specs.Passes.{pass_mine, pass_number, pass_seen}
-use Rattle.wol_model.specs.History.{Operation, worker, helper, keeper, flight_of}
+use Rattle.wol_model.specs.History.{worker, helper, keeper, flight_of}
 use Rattle.wol_promise.specs.Policy.{Look}
 use Rattle.wol_promise.specs.Ruled.{Noted, entries_of, last_look}
 use Rattle.manager.specs.Stands.{notes_of}

@@ -1,10 +1,9 @@
 -- An image whose view was changed comes back to its bay.
-use Rattle.std.proofs.Common.{◌≡◌, ◌≢◌, ◌⊎◌, inl, inr, ◌<◌, ◌≤◌, ◌*◌, ◌+◌, ℕ, zero, suc, Bool, true, false, nat_eq, nat_lt, cond, List, [], ◌∷◌, ◌++◌, length, take, Option, None, Some, option_map, Result, Ok, Err, refl, sym, ap, subst, ◌∙◌, arith}
-use Rattle.std.specs.Prelude.{sum, IfSome, IsSome, IsTrue, IsErrOf, is_some}
+use Rattle.std.proofs.Common.{◌≡◌, ◌≢◌, ◌⊎◌, inl, inr, ◌<◌, ◌*◌, ◌+◌, ℕ, zero, Bool, true, false, nat_eq, cond, List, [], ◌∷◌, ◌++◌, length, take, Option, None, Some, option_map, Result, Ok, Err, refl, sym, ap, subst, ◌∙◌, arith}
+use Rattle.std.specs.Prelude.{sum, IfSome, IsSome, is_some}
 use Rattle.std.proofs.lemmas.Bool.Decides.{nat_tests}
 use Rattle.std.proofs.lemmas.List.{length-map, take-map}
-use Rattle.std.proofs.lemmas.Option.{same_Some}
-use Rattle.wol_disk.specs.Disk.{Block, State, TellsContent, Values, IsDisk, IsImage, IsImageOf, LeavesOnly, Rose, only, put, reads, settled}
+use Rattle.wol_disk.specs.Disk.{Block, State, TellsContent, Values, IsDisk, IsImage, IsImageOf, Rose, only, put, reads, settled}
 use Rattle.wol_disk.proofs.Images.{image_reads, settled_image}
 use Rattle.wol_bay.specs.Bay.{BayState, Image, Name, Told, at_name, bytes_of, came_back, sent_out}
 use Rattle.wol_bay.specs.Parts.{AreCut, blocks_of, faulty_places, joined}
@@ -18,25 +17,20 @@ use Rattle.wol_model.specs.Heads.{view_block}
 use Rattle.wol_model.specs.Images.{image_size}
 use Rattle.logger_view.specs.Stored.{IsFirstFault, with_view}
 use Rattle.logger_view.proofs.Callers.{label_in_front, view_in_front}
-use Rattle.report.specs.declared.fault.Fault.{Fault}
-use Rattle.report.specs.declared.fault.Fault.TheVariants.{Volume, Memory}
-use Rattle.report.specs.declared.trouble.Trouble.TheVariants as trouble
 use Rattle.volume_images.specs.Left.{AreNamedApart, IsTold}
 use Rattle.volume_images.specs.Volumes.{MayLeave, shape_in}
 use Rattle.volume_images.proofs.Bays.{came}
 use Rattle.volume_images.proofs.SentOut.{IsCutWhole, answered_ok, cut_whole}
 use Rattle.volume_images.proofs.SettledParts.{cut_image}
-use Rattle.view_change.specs.Changes.{Allows, Answers, IsAsked, IsLoaded, MayShow, RefusesView, ShowsChange, changed, id_of}
+use Rattle.view_change.specs.Changes.{Answers, IsAsked, IsLoaded, MayShow, RefusesView, ShowsChange, changed, id_of}
 use Rattle.view_change.specs.declared.answers.Change.{Change}
 use Rattle.view_change.specs.declared.answers.Change.TheVariants.{Add, Remove}
 use Rattle.view_change.specs.declared.answers.ChangeRefusal.{ChangeRefusal}
 use Rattle.view_change.specs.declared.answers.ChangeRefusal.TheVariants as change
 use Rattle.view_change.proofs.LabelPart.{stored_shows}
 use Rattle.view_commands.specs.Images.{AnswersFront, ChangesImage, ChangesInBay, FailsOnImage, IsNotWhole, IsWhole, LeavesBy, LeavesNewView, ShowsNewView, fault_of_bay, front_of, stop_of}
-use Rattle.view_commands.specs.Views.{MayChange, MayNotChange}
 use Rattle.view_commands.specs.declared.order.Stop.{Stop}
 use Rattle.view_commands.specs.declared.order.Stop.TheVariants as stop
-use Rattle.view_commands.specs.declared.order.ViewRefusal.TheVariants.{UnknownLogger, Itself, Already, NotThere, ViewFull}
 
 -- ---- Two parts
 

@@ -1,9 +1,9 @@
 -- An image goes out of its bay in two parts, the first of which is changed, and comes back.
-use Rattle.std.proofs.Common.{◌≡◌, ◌≢◌, ◌⊎◌, inl, inr, ◌<◌, ◌≤◌, ◌-◌, ◌^◌, ℕ, zero, suc, Bool, true, false, nat_lt, cond, List, [], ◌∷◌, length, map, take, drop, Option, None, Some, option_map, Result, Ok, Err, refl, sym, ap, subst, ◌∙◌, arith}
+use Rattle.std.proofs.Common.{◌≡◌, ◌≢◌, ◌⊎◌, inl, inr, ◌<◌, ℕ, zero, Bool, true, nat_lt, cond, List, [], ◌∷◌, length, map, drop, Option, None, Some, option_map, Result, Ok, Err, refl, sym, ap, subst, ◌∙◌, arith}
 use Rattle.std.specs.Prelude.{IfErr, IfOk, IfSome, IsErrOf, IsTrue}
 use Rattle.std.proofs.lemmas.Bool.Decides.{nat_tests}
-use Rattle.wol_disk.specs.Disk.{Block, State, TellsContent, Values, IsDisk, IsImageOf, LeavesOnly, Rose, only, reads, settled}
-use Rattle.wol_bay.specs.Bay.{BayState, Image, Name, Told, at_name, came_back, sent_out}
+use Rattle.wol_disk.specs.Disk.{Block, State, TellsContent, Values, IsDisk, LeavesOnly, Rose, only, reads, settled}
+use Rattle.wol_bay.specs.Bay.{BayState, Image, Told, at_name, came_back, sent_out}
 use Rattle.wol_bay.specs.Parts.{AreCut, blocks_of, faulty_from, faulty_places, sizes_of}
 use Rattle.wol_bay.specs.Refusals.{IsAnswered, blocks_at, refusal}
 use Rattle.wol_config.specs.declared.config.Config.{Config}
@@ -23,8 +23,7 @@ use Rattle.view_change.specs.declared.answers.ChangeRefusal.TheVariants as chang
 use Rattle.view_commands.specs.Images.{ChangesInBay, FailsOnImage, IsDamagedAt, front_of, stop_of}
 use Rattle.view_commands.specs.Orders.{IsOfWords}
 use Rattle.view_commands.specs.declared.order.ViewRefusal.{ViewRefusal}
-use Rattle.view_commands.specs.declared.order.ViewRefusal.TheVariants.{UnknownLogger, Itself, Already, NotThere, ViewFull}
-use Rattle.view_commands.specs.declared.order.Stop.{Stop}
+use Rattle.view_commands.specs.declared.order.ViewRefusal.TheVariants.{Itself, Already, NotThere, ViewFull}
 use Rattle.view_commands.specs.declared.order.Stop.TheVariants as stop
 use Rattle.view_commands.proofs.Images.{ChangesPart, damaged_at, image_changed, told_as}
 

@@ -1,9 +1,9 @@
 -- Images whose labels and views are those at entry.
-use Rattle.std.proofs.Common.{◌≡◌, inl, inr, ◌<◌, ℕ, zero, suc, Bool, true, false, cond, List, [], ◌∷◌, length, map, take, drop, nat_eq, Option, None, Some, option_map, refl, sym, ap, ◌∙◌, subst, arith}
-use Rattle.std.specs.Prelude.{slice_get, slice_range, slice_index_or, unwrap_or, Contains, ◌⊎◌}
+use Rattle.std.proofs.Common.{◌≡◌, inl, inr, ◌<◌, ℕ, zero, suc, Bool, true, false, cond, List, [], ◌∷◌, length, take, nat_eq, Option, None, Some, option_map, refl, sym, ap, ◌∙◌, subst, arith}
+use Rattle.std.specs.Prelude.{slice_get, slice_range, slice_index_or, unwrap_or}
 use Rattle.std.proofs.lemmas.Bool.Decides.{nat_tests}
 use Rattle.std.proofs.lemmas.List.{length-map}
-use Rattle.std.proofs.lemmas.Option.{none-some, same_Some, slice_get-map, slice_get-get_or, slice_get_within}
+use Rattle.std.proofs.lemmas.Option.{none-some, same_Some, slice_get-map, slice_get-get_or}
 use Rattle.wol_disk.specs.Disk.{Block, reads}
 use Rattle.wol_disk.proofs.Images.{image_reads}
 use Rattle.wol_bay.specs.Bay.{Image, Told, at_name}
@@ -11,7 +11,7 @@ use Rattle.wol_config.specs.declared.config.Config.{Config}
 use Rattle.wol_config.specs.declared.config.VolumeConf.{VolumeConf}
 use Rattle.wol_model.specs.Heads.{Shape}
 use Rattle.wol_model.specs.Images.{Images, image_of, image_size}
-use Rattle.logger_view.specs.Stored.{HasLabel, HasNoLabel, HasNoView, HasView, IsFirstFault}
+use Rattle.logger_view.specs.Stored.{HasLabel, HasView, IsFirstFault}
 use Rattle.volume_images.specs.Volumes.{AreLeft, MayLeave, image_read, images_read, shape_in}
 use Rattle.rack.proofs.SoundBefore.{at_front}
 use Rattle.view_commands.specs.Views.{HasViewIn}

@@ -1,6 +1,6 @@
 -- A change of a view is told by names, with the line that is printed.
-use Rattle.std.proofs.Common.{◌≡◌, inl, inr, ℕ, Bool, false, List, Option, None, Some, Result, Ok, Err, refl, sym, ap, subst, ◌∙◌, arith}
-use Rattle.std.specs.Prelude.{IfOk, IsTrue}
+use Rattle.std.proofs.Common.{◌≡◌, inl, inr, ℕ, Bool, false, List, Option, None, Some, Result, Ok, Err, refl, sym, ap, subst, arith}
+use Rattle.std.specs.Prelude.{IfOk}
 use Rattle.wol_disk.specs.Disk.{State, Rose}
 use Rattle.wol_bay.specs.Bay.{BayState, Told}
 use Rattle.wol_config.specs.declared.config.Config.{Config}
@@ -10,10 +10,9 @@ use Rattle.troubles.specs.Troubles.{trouble_of}
 use Rattle.volume_images.specs.Left.{IsTold}
 use Rattle.rack.specs.Opens.{KeepsAllSound, LeavesAll}
 use Rattle.inspection.specs.Runs.{MayComplete}
-use Rattle.view_change.specs.Changes.{changed}
 use Rattle.view_change.specs.declared.answers.Change.{Change}
-use Rattle.view_commands.specs.Orders.{AreNamed, IsOfWords, change_of}
-use Rattle.view_commands.specs.Printed.{PrintsNothing, PrintsView}
+use Rattle.view_commands.specs.Orders.{AreNamed, change_of}
+use Rattle.view_commands.specs.Printed.{PrintsView}
 use Rattle.view_commands.specs.Runs.{ChangesOpen, ChangesVolume, ChangesView, Completes, FailsFor}
 use Rattle.view_commands.specs.Runs as runs
 use Rattle.view_commands.specs.Views.{BecomesBy, ChangesViewOf, HasViewIn}

@@ -1,6 +1,5 @@
 -- A view of other volumes doesn't name its own.
-use Rattle.std.proofs.Common.{◌≡◌, ◌≢◌, ◌<◌, ℕ, zero, suc, List, [], ◌∷◌, length, get_or, arith}
-use Rattle.std.specs.Prelude.{Contains}
+use Rattle.std.proofs.Common.{◌≡◌, ◌<◌, ℕ, zero, suc, List, [], ◌∷◌, length, get_or, arith}
 use Rattle.wol_model.specs.Images.{NamesOthers}
 
 pub not_named : (n own : ℕ) (ids : List ℕ) → NamesOthers n own ids → (k : ℕ) → k < length ids → get_or ids k own ≡ own → ⊥

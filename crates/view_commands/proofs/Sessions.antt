@@ -1,19 +1,15 @@
 -- All volumes were opened, and closed behind a drain: what is told of the bay.
-use Rattle.std.proofs.Common.{◌≡◌, ◌≢◌, ◌⊎◌, inl, inr, ◌<◌, ◌≤◌, ◌++◌, ℕ, zero, suc, Bool, true, false, List, [], ◌∷◌, length, map, is_some, Option, None, Some, option_map, Result, Ok, Err, refl, sym, ap, ◌∙◌, subst, arith, append_assoc}
+use Rattle.std.proofs.Common.{◌≡◌, ◌<◌, ◌++◌, ℕ, Bool, true, false, List, length, map, Option, None, Some, option_map, Err, refl, sym, ap, ◌∙◌, subst, arith, append_assoc}
 use Rattle.std.specs.Prelude.{slice_get, slice_range, slice_index_or, All, Contains, IfSome, IsSome, IsTrue}
-use Rattle.std.specs.List.{AllByRecursion}
 use Rattle.std.proofs.lemmas.List.{length-map}
 use Rattle.std.proofs.lemmas.List.Elements.{Contains-append_right}
-use Rattle.std.proofs.lemmas.Option.{slice_get-map, slice_get-get_or, slice_get_within}
-use Rattle.wol_disk.specs.Disk.{Block, Rose, State, reads}
-use Rattle.wol_bay.specs.Bay.{BayState, Image, Name, Told, at_name}
+use Rattle.std.proofs.lemmas.Option.{slice_get-map, slice_get_within}
+use Rattle.wol_disk.specs.Disk.{Rose, State, reads}
+use Rattle.wol_bay.specs.Bay.{BayState, Name, Told, at_name}
 use Rattle.wol_config.specs.declared.config.Config.{Config}
 use Rattle.wol_config.specs.declared.config.VolumeConf.{VolumeConf}
-use Rattle.wol_model.specs.Images.{Images, image_of, recovered_from}
-use Rattle.turn_lock.specs.LockIds.{LockId}
-use Rattle.turn_lock.specs.Passes.{pass_lock, pass_seen}
-use Rattle.manager.specs.Stands.{notes_of}
-use Rattle.manager.specs.declared.base.ManagerBase.{ManagerBase}
+use Rattle.wol_model.specs.Images.{Images, image_of}
+use Rattle.turn_lock.specs.Passes.{pass_seen}
 use Rattle.manager.specs.declared.part.Part.{Part}
 use Rattle.manager.specs.declared.part.StepFault.{StepFault}
 use Rattle.manager.specs.declared.part.StepFault.TheVariants.{DiskFault, Down}
@@ -29,7 +25,7 @@ use Rattle.spin_model.specs.Spindles.{SpindleView}
 use Rattle.volume_images.specs.Left.{AreNamedApart, IsTold}
 use Rattle.volume_images.specs.Volumes.{AreLeft, images_read, shape_in, shapes_of}
 use Rattle.rack.specs.Closes.{AreLeftOfParts, HasFaultyPart, IsClosedVolume, IsQuiet, LeavesOpen, recovered_out}
-use Rattle.rack.specs.Opens.{BeganWith, RefusesVolume, WereThere}
+use Rattle.rack.specs.Opens.{BeganWith, WereThere}
 use Rattle.rack.specs.Owners.{IsBegun, images_taken}
 use Rattle.rack.specs.Racks.{IsOpenBase, IsStation, NamesVolumes, base_of_station}
 use Rattle.rack.specs.Rests.{IsImageOut, image_here}
@@ -47,8 +43,8 @@ use Rattle.inspection.proofs.Unhelped.{all_at, broken_still, there_is}
 use Rattle.replay.specs.NotOpened.{IsFirstClosed, IsOfCall, IsOpened}
 use Rattle.replay.proofs.AllOut.{recovered_all, taken_all}
 use Rattle.replay.proofs.FirstClosed.{opened_out}
-use Rattle.replay.proofs.RacksServed.{at_place, there_at, unmapped}
-use Rattle.view_commands.specs.Drains.{AllOpen, IsDrained, IsFirstFault, TellsClosed, trouble_of_step}
+use Rattle.replay.proofs.RacksServed.{there_at, unmapped}
+use Rattle.view_commands.specs.Drains.{AllOpen, IsDrained, TellsClosed, trouble_of_step}
 use Rattle.view_commands.specs.Runs.{FailsWith}
 use Rattle.view_commands.specs.Runs as runs
 use Rattle.view_commands.specs.Views.{KeepsArrays}

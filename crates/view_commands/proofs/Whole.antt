@@ -1,6 +1,6 @@
 -- What the change of a view behind the closing of all volumes comes to, told of the bay at entry.
-use Rattle.std.proofs.Common.{◌≡◌, ◌≢◌, ◌⊎◌, inl, inr, ◌<◌, ◌≤◌, ℕ, zero, suc, ◌+◌, Bool, true, false, cond, List, [], ◌∷◌, length, map, take, Option, None, Some, option_map, Result, Ok, Err, refl, sym, ap, ◌∙◌, subst, arith}
-use Rattle.std.specs.Prelude.{slice_get, IfOk, IfSome, IsOk, IsTrue}
+use Rattle.std.proofs.Common.{◌≡◌, inl, inr, ◌<◌, ◌≤◌, ℕ, ◌+◌, Bool, false, List, [], ◌∷◌, length, take, Option, None, Some, option_map, Result, Ok, Err, refl, sym, ap, ◌∙◌, subst, arith}
+use Rattle.std.specs.Prelude.{slice_get, IfOk, IfSome, IsTrue}
 use Rattle.std.proofs.lemmas.List.{length-map}
 use Rattle.std.proofs.lemmas.Option.{same_Some, slice_get-map, slice_get_within}
 use Rattle.wol_disk.specs.Disk.{Block, Rose, State, Values, reads}
@@ -8,29 +8,27 @@ use Rattle.wol_bay.specs.Bay.{BayState, Image, Told, at_name}
 use Rattle.wol_config.specs.Configs.{IsValid}
 use Rattle.wol_config.specs.declared.config.Config.{Config}
 use Rattle.wol_config.specs.declared.config.VolumeConf.{VolumeConf}
-use Rattle.wol_model.specs.Images.{Images, image_of, image_size, accepted, accepted_from, all_segments, home_in, recovered_from, AreSound}
+use Rattle.wol_model.specs.Images.{Images, image_of, accepted_from, all_segments, home_in, recovered_from, AreSound}
 use Rattle.wol_model.specs.Recovered.{recovered}
-use Rattle.logger_view.specs.Stored.{HasLabel, HasView, IsFirstFault}
+use Rattle.logger_view.specs.Stored.{IsFirstFault}
 use Rattle.logger_view.proofs.Callers.{no_fault}
 use Rattle.report.specs.declared.fault.Fault.{Fault}
 use Rattle.report.specs.declared.fault.Fault.TheVariants as report
 use Rattle.report.specs.declared.trouble.Trouble.{Trouble}
 use Rattle.report.specs.declared.trouble.Trouble.TheVariants as trouble
-use Rattle.troubles.specs.Troubles.{trouble_of}
 use Rattle.spin_model.specs.Spindles.{SpindleView}
 use Rattle.volume_images.specs.Left.{AreNamedApart, IsTold}
-use Rattle.volume_images.specs.Volumes.{AreLeft, images_read, shape_in, shapes_of}
+use Rattle.volume_images.specs.Volumes.{images_read, shape_in, shapes_of}
 use Rattle.rack.specs.Opens.{KeepsAllSound, LeavesAll}
 use Rattle.rack.specs.Owners.{recovered_but}
 use Rattle.rack.specs.declared.rack.Rack.{Rack}
-use Rattle.rack.proofs.SoundBefore.{at_front, some_image}
+use Rattle.rack.proofs.SoundBefore.{some_image}
 use Rattle.open_rack.specs.Sessions.{OpensAndCloses}
 use Rattle.open_rack.proofs.Since.{rose_before}
 use Rattle.inspection.specs.Racks.{IsSameRack}
 use Rattle.inspection.specs.Runs.{MayComplete}
 use Rattle.inspection.proofs.Quiet.{all_quiet}
 use Rattle.inspection.proofs.SameRacks.{rack_self}
-use Rattle.replay.specs.NotOpened.{LeavesBay}
 use Rattle.view_change.specs.Changes.{id_of}
 use Rattle.view_change.specs.declared.answers.Change.{Change}
 use Rattle.view_change.specs.declared.answers.Change.TheVariants.{Add, Remove}

@@ -1,4 +1,4 @@
-use Rattle.std.proofs.Common.{Ok, Err, refl, ap, sym, subst, ◌∙◌, arith}
+use Rattle.std.proofs.Common.{Ok, Err, refl, ap, arith}
 use Rattle.std.specs.Vec.{with_item}
 use Rattle.std.proofs.lemmas.Option.{slice_get_within}
 use Rattle.inspection.proofs.SameRacks.{rack_self}

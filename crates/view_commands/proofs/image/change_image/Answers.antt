@@ -1,9 +1,6 @@
-use Rattle.std.proofs.Common.{◌≡◌, ◌≢◌, ◌∷◌, [], ℕ, List, Some, Ok, Err, option_map, refl, ap, sym, subst, ◌∙◌, arith}
+use Rattle.std.proofs.Common.{◌≡◌, ◌∷◌, [], ℕ, List, Ok, Err, refl, ap, sym, subst, ◌∙◌, arith}
 use Rattle.std.proofs.lemmas.Option.{same_Some, slice_get_read}
-use Rattle.wol_disk.specs.Disk.{Rose}
-use Rattle.wol_bay.specs.Bay.{IsHome, IsOut, came_back}
-use Rattle.wol_bay.specs.Parts.{AreCut, blocks_of, faulty_places, sizes_of}
-use Rattle.wol_bay.specs.Refusals.{blocks_at}
+use Rattle.wol_bay.specs.Bay.{IsHome, IsOut}
 use Rattle.wol_bay.proofs.OneImage.{comes_home, goes_out}
 use Rattle.inspection.proofs.Unhelped.{there_is}
 use Rattle.view_commands.specs.declared.order.Stop.TheVariants as stop

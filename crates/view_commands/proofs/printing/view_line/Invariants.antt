@@ -1,4 +1,4 @@
-use Rattle.std.proofs.Common.{◌≡◌, ◌∷◌, [], ℕ, List, map, take}
+use Rattle.std.proofs.Common.{◌≡◌, ◌∷◌, ℕ, List, map, take}
 use Rattle.std.specs.Prelude.{codes}
 use Rattle.wol_config.specs.Documents.{names_of}
 use Rattle.report.specs.Names.{name_at}

@@ -1,0 +1,5 @@
+pub mod Intakes
+pub mod Piecewise
+pub mod Asked
+pub mod Replies
+pub mod Served

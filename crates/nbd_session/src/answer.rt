@@ -1,0 +1,257 @@
+// What becomes of one request.
+ghost use Rattle.std.specs.Prelude.{◌≡◌, ◌≢◌, ◌≤◌, ◌⊎◌, ℕ, List, None, length, take, IfOk, OnErr, OnOk};
+ghost use Rattle.wol_disk.specs.Disk.{Rose};
+ghost use Rattle.nbd_session.specs.Answers.{IsInside, LooksSo, ReadsSo, Serves, WritesSo, answer_in};
+ghost use Rattle.nbd_session.specs.Errors.{known_error};
+ghost use Rattle.nbd_session.specs.Headers.{payload_of};
+ghost use Rattle.nbd_session.specs.Taking.{AnswersTaken, RefusesSo};
+
+use crate::error::{MOST_BYTES, NbdError, error_of, known_error};
+use crate::header::{Command, Header};
+use crate::intake::{skip, take_data};
+use crate::ranges::{BLOCK_BYTES, read_range, write_range};
+use crate::volume::Volume;
+use std::alloc::Global;
+use wol_disk::{Block, Failed, NoMemory};
+use wol_io::Source;
+
+/// The most blocks of one turn.
+const MOST_BLOCKS: usize = 128;
+
+/// Room for the bytes of one range, and for the blocks of one piece.
+#[derive(Drop)]
+pub(crate) struct Desk {
+    pub(crate) bytes: Vec<u8>,
+    room: Vec<Block>,
+    ghost bytes_size: { length bytes.items ≡ 33554432 },
+    ghost room_size: { length room.items ≡ 128 },
+}
+
+impl Desk {
+    pub(crate) fn new(alloc: Global) -> Result<Desk, NoMemory> {
+        Ok(Desk {
+            bytes: vec![in alloc; 0; MOST_BYTES]?,
+            room: vec![in alloc; [0; BLOCK_BYTES]; MOST_BLOCKS]?,
+        })
+    }
+}
+
+// Looks whether a volume is up, and answers with no data.
+fn look<V: Volume>(volume: &mut V) -> Result<usize, NbdError>
+    requires ready { V.Ready volume.old }
+    ensures ready { V.Ready volume.new }
+    ensures same_home { V.home volume.new ≡ V.home volume.old }
+    ensures same_most { V.most volume.new ≡ V.most volume.old }
+    ensures looked { LooksSo V.Turned volume.old volume.new result }
+    ensures fits { IfOk result (λ n. n ≤ 33554432) }
+{
+    match volume.look() {
+        Ok(()) => Ok(0),
+        Err(refusal) => Err(error_of(refusal)),
+    }
+}
+
+// Reads the range of a request into the bytes in front, by way of a room.
+fn read<V: Volume>(
+    volume: &mut V,
+    header: &Header,
+    bytes: &mut [u8],
+    room: &mut [Block],
+) -> Result<usize, NbdError>
+    requires ready { V.Ready volume.old }
+    requires bytes { length bytes.old ≡ 33554432 }
+    requires room { length room.old ≡ 128 }
+    requires inside { IsInside (V.home volume.old) header.now }
+    ensures ready { V.Ready volume.new }
+    ensures same_home { V.home volume.new ≡ V.home volume.old }
+    ensures same_most { V.most volume.new ≡ V.most volume.old }
+    ensures read { ReadsSo V.Turned (V.most volume.old) header.now bytes.new volume.old volume.new result }
+    ensures fits { IfOk result (λ n. n ≤ 33554432) }
+{
+    let length = header.length as usize;
+    let count = length / BLOCK_BYTES;
+    match read_range(
+        volume,
+        header.offset / 512,
+        count,
+        &mut bytes[..length],
+        room,
+    ) {
+        Ok(()) => Ok(length),
+        Err(refusal) => Err(error_of(refusal)),
+    }
+}
+
+// Writes the bytes in front to the range of a request.
+fn write<V: Volume>(volume: &mut V, header: &Header, bytes: &[u8]) -> Result<usize, NbdError>
+    requires ready { V.Ready volume.old }
+    requires bytes { length bytes.now ≡ 33554432 }
+    requires inside { IsInside (V.home volume.old) header.now }
+    ensures ready { V.Ready volume.new }
+    ensures same_home { V.home volume.new ≡ V.home volume.old }
+    ensures same_most { V.most volume.new ≡ V.most volume.old }
+    ensures written { WritesSo V.Turned (V.most volume.old) header.now (take header.now.length bytes.now) volume.old volume.new result }
+    ensures fits { IfOk result (λ n. n ≤ 33554432) }
+{
+    let length = header.length as usize;
+    let count = length / BLOCK_BYTES;
+    match write_range(volume, header.offset / 512, count, &bytes[..length]) {
+        Ok(()) => Ok(0),
+        Err(refusal) => Err(error_of(refusal)),
+    }
+}
+
+// A request that asks for no blocks.
+fn ask_nothing<V: Volume>(volume: &mut V, header: &Header) -> Result<usize, NbdError>
+    requires ready { V.Ready volume.old }
+    requires known { known_error (V.home volume.old) header.now ≡ None }
+    requires nothing { (header.now.command ≡ Command.Flush) ⊎ (header.now.length ≡ 0) }
+    ensures ready { V.Ready volume.new }
+    ensures same_home { V.home volume.new ≡ V.home volume.old }
+    ensures same_most { V.most volume.new ≡ V.most volume.old }
+    ensures serves { (given room : List ℕ) → Serves V.Turned (V.home volume.old) (V.most volume.old) header.now given volume.old (answer_in room result) volume.new }
+    ensures fits { IfOk result (λ n. n ≤ 33554432) }
+{
+    let _ = header;
+    look(volume)
+}
+
+// A read of some blocks, which stand in front in the bytes then.
+fn ask_read<V: Volume>(
+    volume: &mut V,
+    header: &Header,
+    bytes: &mut [u8],
+    room: &mut [Block],
+) -> Result<usize, NbdError>
+    requires ready { V.Ready volume.old }
+    requires bytes { length bytes.old ≡ 33554432 }
+    requires room { length room.old ≡ 128 }
+    requires known { known_error (V.home volume.old) header.now ≡ None }
+    requires is { header.now.command ≡ Command.Read }
+    requires some { header.now.length ≢ 0 }
+    ensures ready { V.Ready volume.new }
+    ensures same_home { V.home volume.new ≡ V.home volume.old }
+    ensures same_most { V.most volume.new ≡ V.most volume.old }
+    ensures serves { (given : List ℕ) → Serves V.Turned (V.home volume.old) (V.most volume.old) header.now given volume.old (answer_in bytes.new result) volume.new }
+    ensures fits { IfOk result (λ n. n ≤ 33554432) }
+{
+    read(volume, header, bytes, room)
+}
+
+// A write of some blocks, which stand in front in the bytes.
+fn ask_write<V: Volume>(volume: &mut V, header: &Header, bytes: &[u8]) -> Result<usize, NbdError>
+    requires ready { V.Ready volume.old }
+    requires bytes { length bytes.now ≡ 33554432 }
+    requires known { known_error (V.home volume.old) header.now ≡ None }
+    requires is { header.now.command ≡ Command.Write }
+    requires some { header.now.length ≢ 0 }
+    ensures ready { V.Ready volume.new }
+    ensures same_home { V.home volume.new ≡ V.home volume.old }
+    ensures same_most { V.most volume.new ≡ V.most volume.old }
+    ensures serves { Serves V.Turned (V.home volume.old) (V.most volume.old) header.now (take (payload_of header.now.command header.now.length) bytes.now) volume.old (answer_in bytes.now result) volume.new }
+    ensures fits { IfOk result (λ n. n ≤ 33554432) }
+{
+    write(volume, header, bytes)
+}
+
+// Asks a volume what a request asks for that has no error so far. A write's data stand in front in the bytes, and a read's
+// will. Answers how many bytes of the reply's data stand there.
+fn ask<V: Volume>(
+    volume: &mut V,
+    header: &Header,
+    bytes: &mut [u8],
+    room: &mut [Block],
+) -> Result<usize, NbdError>
+    requires ready { V.Ready volume.old }
+    requires bytes { length bytes.old ≡ 33554432 }
+    requires room { length room.old ≡ 128 }
+    requires known { known_error (V.home volume.old) header.now ≡ None }
+    requires stays { header.now.command ≢ Command.Disc }
+    ensures ready { V.Ready volume.new }
+    ensures same_home { V.home volume.new ≡ V.home volume.old }
+    ensures same_most { V.most volume.new ≡ V.most volume.old }
+    ensures serves { Serves V.Turned (V.home volume.old) (V.most volume.old) header.now (take (payload_of header.now.command header.now.length) bytes.old) volume.old (answer_in bytes.new result) volume.new }
+    ensures fits { IfOk result (λ n. n ≤ 33554432) }
+{
+    if header.length == 0 {
+        return ask_nothing(volume, header);
+    }
+    match header.command {
+        Command::Read => ask_read(volume, header, bytes, room),
+        Command::Write => ask_write(volume, header, bytes),
+        Command::Flush => ask_nothing(volume, header),
+        Command::Disc | Command::Unknown => unreachable!(),
+    }
+}
+
+// Takes and drops the data of a request that has this error. `None` where the source ends within them.
+fn refuse<S: Source>(
+    input: &mut S,
+    bytes: &mut [u8],
+    header: &Header,
+    error: NbdError,
+) -> Result<Option<Result<usize, NbdError>>, Failed>
+    requires { 1 ≤ length bytes.old }
+    ensures content { RefusesSo (S.left input.old) (S.left input.new) header.now error result }
+    ensures later { S.faults input.old ≤ S.faults input.new }
+    ensures cause { OnErr result (Rose (S.faults input.old) (S.faults input.new)) }
+    ensures calm { OnOk result (S.faults input.new ≡ S.faults input.old) }
+{
+    if skip(input, bytes, header.payload())? {
+        Ok(Some(Err(error)))
+    } else {
+        Ok(None)
+    }
+}
+
+// Takes the data of a request that has no error so far, and asks the volume. `None` where the source ends within them.
+fn admit<V: Volume, S: Source>(
+    volume: &mut V,
+    header: &Header,
+    input: &mut S,
+    bytes: &mut [u8],
+    room: &mut [Block],
+) -> Result<Option<Result<usize, NbdError>>, Failed>
+    requires ready { V.Ready volume.old }
+    requires bytes { length bytes.old ≡ 33554432 }
+    requires room { length room.old ≡ 128 }
+    requires known { known_error (V.home volume.old) header.now ≡ None }
+    requires stays { header.now.command ≢ Command.Disc }
+    ensures ready { V.Ready volume.new }
+    ensures same_home { V.home volume.new ≡ V.home volume.old }
+    ensures same_most { V.most volume.new ≡ V.most volume.old }
+    ensures content { AnswersTaken V.Turned (V.home volume.old) (V.most volume.old) header.now volume.old volume.new (S.left input.old) (S.left input.new) bytes.new result }
+    ensures later { S.faults input.old ≤ S.faults input.new }
+    ensures cause { OnErr result (Rose (S.faults input.old) (S.faults input.new)) }
+    ensures calm { OnOk result (S.faults input.new ≡ S.faults input.old) }
+{
+    if take_data(input, bytes, header.payload())? {
+        Ok(Some(ask(volume, header, bytes, room)))
+    } else {
+        Ok(None)
+    }
+}
+
+/// Takes the data of a request, asks the volume, and answers how many bytes of the reply's data stand in front on the desk,
+/// or the reply's error. `None` where the source ends within the data; nothing was asked then.
+pub(crate) fn take_and_ask<V: Volume, S: Source>(
+    volume: &mut V,
+    header: &Header,
+    input: &mut S,
+    desk: &mut Desk,
+) -> Result<Option<Result<usize, NbdError>>, Failed>
+    requires ready { V.Ready volume.old }
+    requires stays { header.now.command ≢ Command.Disc }
+    ensures ready { V.Ready volume.new }
+    ensures same_home { V.home volume.new ≡ V.home volume.old }
+    ensures same_most { V.most volume.new ≡ V.most volume.old }
+    ensures content { AnswersTaken V.Turned (V.home volume.old) (V.most volume.old) header.now volume.old volume.new (S.left input.old) (S.left input.new) desk.new.bytes.items result }
+    ensures later { S.faults input.old ≤ S.faults input.new }
+    ensures cause { OnErr result (Rose (S.faults input.old) (S.faults input.new)) }
+    ensures calm { OnOk result (S.faults input.new ≡ S.faults input.old) }
+{
+    match known_error(volume.home(), header) {
+        Some(error) => refuse(input, &mut desk.bytes, header, error),
+        None => admit(volume, header, input, &mut desk.bytes, &mut desk.room),
+    }
+}
