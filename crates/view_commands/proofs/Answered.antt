@@ -14,7 +14,7 @@ use Rattle.spin_model.specs.Spindles.{SpindleView}
 use Rattle.volume_images.specs.Left.{AreNamedApart, IsTold}
 use Rattle.volume_images.specs.Volumes.{shapes_of}
 use Rattle.rack.specs.Closes.{LeavesNoLog}
-use Rattle.rack.specs.Opens.{KeepsAllSound, LeavesAll}
+use Rattle.rack.specs.Opens.{KeepsAllSound, KeepsOthers, LeavesAll}
 use Rattle.rack.specs.declared.rack.Rack.{Rack}
 use Rattle.open_rack.specs.Sessions.{OpensAndCloses}
 use Rattle.inspection.specs.Racks.{IsSameRack}
@@ -25,7 +25,7 @@ use Rattle.view_change.specs.declared.answers.Change.{Change}
 use Rattle.view_change.specs.declared.answers.Change.TheVariants.{Add, Remove}
 use Rattle.view_commands.specs.Drains.{AllOpen, IsDrained, TellsChange, TellsRack}
 use Rattle.view_commands.specs.Drains as drains
-use Rattle.view_commands.specs.Images.{ChangesInBay}
+use Rattle.view_commands.specs.Images.{ChangesImage, ChangesInBay}
 use Rattle.view_commands.specs.Orders.{IsOfWords}
 use Rattle.view_commands.specs.Runs.{ChangesVolume, Completes}
 use Rattle.view_commands.specs.Views.{KeepsArrays, LeavesThere}
@@ -35,7 +35,7 @@ use Rattle.view_commands.specs.declared.order.ViewRefusal.{ViewRefusal}
 use Rattle.view_commands.proofs.Changed.{HasNoLog, IsAddition}
 use Rattle.view_commands.proofs.Emptied.{ends, lists_none, unbroken}
 use Rattle.view_commands.proofs.Sessions.{outs_after, told_by, told_since}
-use Rattle.view_commands.proofs.Whole.{both_through, changed_completes, changed_open, ended_completes, ended_of, leaves_all, left_of, sound_gone_through, sound_through}
+use Rattle.view_commands.proofs.Whole.{both_through, changed_completes, changed_open, ended_completes, ended_of, leaves_all, left_of, sound_gone_through, sound_through, told_then}
 
 module _ (config : Config) (valid : IsValid config) (volume : ℕ) (within : volume < length config.volumes.items) (asked : Change) (fits : id_of asked < length config.volumes.items) {D : Type 0} (tells : Bool) (state : D → State) (old mid : BayState)
     (spindles : List SpindleView) (answer : Result (Unit {0}) Fault) (session : OpensAndCloses tells state config (λ before after. TellsRack tells state asked volume before after answer) old mid spindles) where
@@ -94,6 +94,11 @@ module _ (config : Config) (valid : IsValid config) (volume : ℕ) (within : vol
     done_left telling =
         told_by (λ x y. KeepsArrays config x y × LeavesThere config y) (LeavesAll tells state config old new) (λ entry left is. leaves_all tells state config old new entry left is.0 is.1) old.told new.told
         (both_through config valid volume v conf asked fits tells state did old mid spindles session is_done.all_open is_done.same new result apart (changes v conf) later telling)
+
+    pub done_others : IsTold (KeepsOthers config) old.told mid.told → IsTrue tells → IsTold (KeepsOthers config) old.told new.told
+    done_others others telling =
+        told_then (KeepsOthers config) (ChangesImage v.name volume asked result) (KeepsOthers config) (λ x y z named one two name differs. two.others name (differs volume v conf) ∙ one name differs) old.told mid.told new.told others (apart telling)
+        ((changes v conf).left telling)
 
     -- behind a drain no log of the volume is left
     no_log : (counts : ℕ × ℕ) → IsDrained tells state session.before session.after volume (Ok counts) → IsTrue tells → IsTold (λ x y. HasNoLog config volume y) old.told mid.told

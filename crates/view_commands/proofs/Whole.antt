@@ -73,7 +73,7 @@ leaves_all tells state config b b' entry left arrays_are all_there = record {
 -- ---- What is told from entry to exit
 
 -- what is told of two steps
-told_then : (P Q R : Told → Told → Type 0) → ((x y z : Told) → AreNamedApart x → P x y → Q y z → R x z) → (o m n : Option Told) → IsTold P o m → IsTold (λ x y. AreNamedApart y) o m → IsTold Q m n → IsTold R o n
+pub told_then : (P Q R : Told → Told → Type 0) → ((x y z : Told) → AreNamedApart x → P x y → Q y z → R x z) → (o m n : Option Told) → IsTold P o m → IsTold (λ x y. AreNamedApart y) o m → IsTold Q m n → IsTold R o n
 told_then P Q R f None None n p apart q = q
 told_then P Q R f None (Some m) n p apart q = absurd (cc p)
 told_then P Q R f (Some o) None n p apart q = absurd p

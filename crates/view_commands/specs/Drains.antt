@@ -21,7 +21,7 @@ abbrev pub AllOpen : List (Option VolumeFault) → Type 0
 AllOpen faults = (k : ℕ) (f : Option VolumeFault) → slice_get faults k ≡ Some f → f ≡ None
 
 -- this volume is the first that isn't, for this
-pub record IsFirstFault (faults : List (Option VolumeFault)) (k : ℕ) (f : VolumeFault) : Type 0 where
+pub record IsFirstClosedAt (faults : List (Option VolumeFault)) (k : ℕ) (f : VolumeFault) : Type 0 where
   pub there : slice_get faults k ≡ Some (Some f)
   pub first : (j : ℕ) (g : Option VolumeFault) → j < k → slice_get faults j ≡ Some g → g ≡ None
 
@@ -29,7 +29,7 @@ pub record IsFirstFault (faults : List (Option VolumeFault)) (k : ℕ) (f : Volu
 pub record TellsClosed (faults : List (Option VolumeFault)) (told : Fault) : Type 0 where
   pub volume : ℕ
   pub fault : VolumeFault
-  pub closed : IsFirstFault faults volume fault
+  pub closed : IsFirstClosedAt faults volume fault
   pub told_is : told ≡ Volume volume (trouble_of fault)
 
 -- what is told of a refused step

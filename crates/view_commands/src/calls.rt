@@ -6,7 +6,7 @@ ghost use Rattle.wol_config.specs.Configs.{IsValid};
 ghost use Rattle.wol_config.specs.Documents.{names_of, number_named};
 ghost use Rattle.volume_images.specs.Left.{IsTold};
 ghost use Rattle.volume_images.specs.Volumes.{NoneOut};
-ghost use Rattle.rack.specs.Opens.{KeepsAllSound, LeavesAll};
+ghost use Rattle.rack.specs.Opens.{KeepsAllSound, KeepsOthers, LeavesAll};
 ghost use Rattle.inspection.specs.Runs.{MayComplete};
 ghost use Rattle.view_change.specs.Changes.{id_of};
 ghost use Rattle.view_commands.specs.declared.order.Stop.TheVariants as stop;
@@ -67,6 +67,9 @@ fn change_volume<R: Wait, B: Bay>(
     ensures content { ChangesVolume B.Part.tells B.Part.state config.now volume change (B.state bay.old) (B.state bay.new) result }
     ensures left { IsTrue B.Part.tells
         → IsTold (LeavesAll B.Part.tells B.Part.state config.now (B.state bay.old) (B.state bay.new)) (B.state bay.old).told (B.state bay.new).told }
+    // images of names that aren't configured are as they were
+    ensures others { IsTrue B.Part.tells
+        → IsTold (KeepsOthers config.now) (B.state bay.old).told (B.state bay.new).told }
     ensures sound { IsTrue B.Part.tells
         → IsTold (KeepsAllSound config.now) (B.state bay.old).told (B.state bay.new).told }
     ensures complete { MayComplete B.Part.tells config.now (B.state bay.old) (B.state bay.new) 0 0
@@ -85,8 +88,9 @@ fn change_volume<R: Wait, B: Bay>(
 }
 
 /// Changes the view of a volume of a bay by a logger more or less, and prints it. All volumes are opened first, and where the
-/// logger is to leave the view, all records of the volume go home; then all are closed, and the view is changed in the image
-/// of the volume alone. The view of the configuration stays: only a format reads it.
+/// logger is to leave the view, the volume is drained; then all are closed, and the view is changed in the image of the volume
+/// alone. Of the drain the clauses say only what it is for: sound images stay sound, so that no log of the volume is left on a
+/// logger that its view names no longer. The view of the configuration stays: only a format reads it.
 ///
 /// `Refused`: a name isn't configured, which is told before anything is opened, that of the volume first; or the view can't be
 /// changed so, as it was at entry. `Fault`: the first volume that isn't open, else the volume itself, where a part of it or the
@@ -110,6 +114,9 @@ pub fn change_view<R: Wait, K: Sink, B: Bay>(
         (K.faults out.old) (K.faults out.new) (K.taken out.old) (K.taken out.new) result }
     ensures left { IsTrue B.Part.tells
         → IsTold (LeavesAll B.Part.tells B.Part.state config.now (B.state bay.old) (B.state bay.new)) (B.state bay.old).told (B.state bay.new).told }
+    // images of names that aren't configured are as they were
+    ensures others { IsTrue B.Part.tells
+        → IsTold (KeepsOthers config.now) (B.state bay.old).told (B.state bay.new).told }
     ensures sound { IsTrue B.Part.tells
         → IsTold (KeepsAllSound config.now) (B.state bay.old).told (B.state bay.new).told }
     ensures complete { MayComplete B.Part.tells config.now (B.state bay.old) (B.state bay.new) (K.faults out.old) (K.faults out.new)

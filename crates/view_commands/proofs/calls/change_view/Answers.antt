@@ -3,7 +3,7 @@ use Rattle.std.proofs.lemmas.Result.{err_from_is_err_and}
 use Rattle.view_commands.specs.Orders.{AreNamed, number_in, unknown_of}
 use Rattle.view_commands.specs.Runs as runs
 use Rattle.view_commands.specs.declared.order.ViewRefusal.TheVariants.{UnknownLogger, UnknownVolume}
-use Rattle.view_commands.proofs.Lines.{completes_as, ended_view, leaves_same, printed_open, prints_complete, sound_same, still_completes}
+use Rattle.view_commands.proofs.Lines.{completes_as, ended_view, leaves_same, others_same, printed_open, prints_complete, sound_same, still_completes}
 use Rattle.view_commands.proofs.calls.change_view.Goals as goal
 
 pub returns-in_default-clause-content : goal.returns-in_default-clause-content
@@ -56,3 +56,9 @@ returns-clause-content g c =
 pub returns-clause-complete : goal.returns-clause-complete
 returns-clause-complete g c = λ m. prints_complete c.args.config.now c.in-Some.volume c.in_ok-view.view c.print_view.result (g.K.Sink.faults c.args.out.now) (g.K.Sink.faults c.print_view.new.out)
     (g.K.Sink.taken c.args.out.now) (g.K.Sink.taken c.print_view.new.out) c.print_view.ensures.prints m.sink_calm c.print_view.ensures.refused c.print_view.ensures.fault
+
+pub returns-in_default-clause-others : goal.returns-in_default-clause-others
+returns-in_default-clause-others g c = λ telling. others_same c.args.config.now (g.B.Bay.state c.args.bay.now).told
+
+pub returns-in_default-number_named-clause-others : goal.returns-in_default-number_named-clause-others
+returns-in_default-number_named-clause-others g c = λ telling. others_same c.args.config.now (g.B.Bay.state c.args.bay.now).told

@@ -5,7 +5,7 @@ use Rattle.wol_config.specs.declared.config.VolumeConf.{VolumeConf}
 use Rattle.inspection.proofs.Unhelped.{all_at}
 use Rattle.replay.proofs.Closed.{home_outs}
 use Rattle.view_commands.specs.Runs as runs
-use Rattle.view_commands.proofs.Answered.{done_complete, done_content, done_left, done_sound, refused_complete, refused_content, refused_left}
+use Rattle.view_commands.proofs.Answered.{done_complete, done_content, done_left, done_others, done_sound, refused_complete, refused_content, refused_left}
 use Rattle.view_commands.proofs.calls.change_volume.Goals as goal
 
 pub returns-in_err-answer-clause-content : goal.returns-in_err-answer-clause-content
@@ -37,6 +37,18 @@ returns-in-Ok-clause-sound g c =
     let is : c.in_ok-answer.field-0.answer ≡ Ok c.in-Ok.field-0 = cc in
     done_sound c.args.config.now c.requires.config c.args.volume c.requires.volume c.args.change c.requires.logger g.B.Part.Disk.tells g.B.Part.Disk.state (g.B.Bay.state c.args.bay.now) (g.B.Bay.state c.with_open.new.bay) _
     c.in_ok-answer.field-0.answer c.in_ok-answer.ensures.did is (g.B.Bay.state c.change_image.new.bay) c.change_image.result c.change_image.ensures.changes c.with_open.ensures.sound
+
+pub returns-in_err-answer-clause-others : goal.returns-in_err-answer-clause-others
+returns-in_err-answer-clause-others g c = λ telling. c.with_open.ensures.others
+
+pub returns-clause-others : goal.returns-clause-others
+returns-clause-others g c = λ telling. c.with_open.ensures.others
+
+pub returns-in-Ok-clause-others : goal.returns-in-Ok-clause-others
+returns-in-Ok-clause-others g c =
+    let is : c.in_ok-answer.field-0.answer ≡ Ok c.in-Ok.field-0 = cc in
+    done_others c.args.config.now c.requires.config c.args.volume c.requires.volume c.args.change c.requires.logger g.B.Part.Disk.tells g.B.Part.Disk.state (g.B.Bay.state c.args.bay.now) (g.B.Bay.state c.with_open.new.bay) _
+    c.in_ok-answer.field-0.answer c.in_ok-answer.ensures.did is (g.B.Bay.state c.change_image.new.bay) c.change_image.result c.change_image.ensures.changes c.with_open.ensures.others
 
 pub returns-in-Ok-clause-complete : goal.returns-in-Ok-clause-complete
 returns-in-Ok-clause-complete g c =

@@ -1,0 +1,9 @@
+//! Tests of sessions of NBD, at a plain volume in memory whose turns fail as planned.
+#![tactic(auto)]
+
+#[cfg(test)]
+mod plain;
+#[cfg(test)]
+mod requests;
+#[cfg(test)]
+mod sessions;
