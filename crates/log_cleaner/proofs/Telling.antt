@@ -1,13 +1,13 @@
 -- A chunk that is tidy is told to be.
-use Rattle.std.proofs.Common.{◌≡◌, ⊎_elim, ◌<◌, ◌≤◌, ◌+◌, ◌^◌, ℕ, Bool, true, false, cond, ◌&&◌, not, List, [], ◌∷◌, map, None, Some, refl, sym, ap, ◌∙◌, arith, ltb}
+use Rattle.std.proofs.Common.{◌≡◌, ◌⊎◌, inl, inr, ⊎_elim, ◌<◌, ◌≤◌, ◌+◌, ◌-◌, ◌^◌, ℕ, zero, suc, Bool, true, false, cond, ◌&&◌, not, List, [], ◌∷◌, map, length, Option, None, Some, refl, sym, ap, subst, ◌∙◌, arith, leb, ltb}
 use Rattle.std.specs.Prelude.{Contains, IfSome, find, is_some}
-use Rattle.std.specs.List.{range_with_len}
+use Rattle.std.specs.List.{AllByRecursion, list_any, range_with_len}
 use Rattle.std.specs.Option.{option_map}
 use Rattle.std.proofs.lemmas.Bool.{cases_lt, cases_eq, eq-eqb, leb-true}
 use Rattle.std.proofs.lemmas.Option.{none-some}
 use Rattle.wol_model.specs.Extents.{Cover, newest, has_newer, has_older}
 use Rattle.wol_model.specs.Index.{Listed, Indexed, listed_in, cover_of, listed_covers, is_covered, is_live, is_older}
-use Rattle.wol_model.specs.Log.{has_bit}
+use Rattle.wol_model.specs.Log.{has_bit, marks_of}
 use Rattle.wol_promise.proofs.Covers.{any_found, any_member}
 use Rattle.wol_promise.proofs.Lists.{all_member, member_map}
 use Rattle.redirect_map.specs.Index.{IsAnswer, IsIndex, cover_at, entry_at, has_version}
@@ -22,7 +22,7 @@ use Rattle.manager.proofs.RunSources.{same_version}
 use Rattle.wol_promise.proofs.Woken.{covered_is}
 use Rattle.log_cleaner.specs.Chunks.{IsTidy, KeepsNone, is_within}
 use Rattle.log_cleaner.proofs.Finding.{covers_mask, found, found_is}
-use Rattle.log_cleaner.proofs.Tidying.{clash, covers, member_unmap, not_so, within_first}
+use Rattle.log_cleaner.proofs.Tidying.{both_ways, clash, covers, member_unmap, not_so, within_first}
 
 not_found : {X : Type 0} (p : X → Bool) (xs : List X) (x : X) → find p xs ≡ None → Contains xs x → p x ≡ true → ⊥
 not_found p [] x none has is = (let lt = has.1 in omega arith)

@@ -1,12 +1,13 @@
 // One chunk is written again.
-ghost use Rattle.std.specs.Prelude.{◌≡◌, ◌≤◌, ℕ, true, length, IfErr, Some};
+ghost use Rattle.std.specs.Prelude.{◌≡◌, ◌≤◌, ◌++◌, ℕ, true, length, IfErr, Some};
 ghost use Rattle.manager.specs.Stands.{IsReady, IsHome};
 ghost use Rattle.manager.specs.declared.part.Part.{Part};
 ghost use Rattle.log_cleaner.specs.Chunks.{is_within};
 ghost use Rattle.log_cleaner.specs.Cleans.{CanClean, covered_in};
-ghost use Rattle.log_cleaner.specs.Steps.{CopiesChunk, GivesUp, Rewrites, fault_of, told_of};
+ghost use Rattle.log_cleaner.specs.Steps.{CopiesChunk, GivesUp, Rewrites, chunk_copies, fault_of, rewritten, told_of};
 
 use crate::CleanFault;
+use crate::copies::{Copies, noted, with_copy};
 use logger::Shared;
 use manager::{Manager, Place, ReadRefusal, StepFault, WriteRefusal};
 use reclaimer::{Gone, invalidate_one};
@@ -74,6 +75,7 @@ fn rewrite<R: Wait, D: Disk>(
     shared: &Shared<D>,
     lbn: u64,
     blocks: &mut [Block],
+    done: &mut Copies,
 ) -> Result<bool, CleanFault>
     requires ready { IsReady D.state m.old }
     requires at { IsHome shared.now m.old }
@@ -82,10 +84,15 @@ fn rewrite<R: Wait, D: Disk>(
     requires covered { (b : ℕ) → is_within lbn (length blocks.old) b ≡ true → covered_in m.old b ≡ true }
     ensures ready { IsReady D.state m.new }
     ensures at { IsHome shared.now m.new }
-    ensures rewritten { Rewrites D.tells D.state lbn (length blocks.old) m.old m.new result }
+    ensures rewritten { (r : Rewrites D.tells D.state lbn (length blocks.old) m.old m.new result) × (done.new.value.items ≡ done.old.value.items ++ rewritten result r) }
 {
     match m.read(rt, shared, lbn, blocks) {
-        Ok(_) => told(m.write(rt, shared, lbn, blocks)),
+        Ok(_) => {
+            let more = with_copy(done, m, lbn, blocks);
+            let answer = m.write(rt, shared, lbn, blocks);
+            noted(done, more, &answer);
+            told(answer)
+        }
         Err(refusal) => Err(read_fault(refusal)),
     }
 }
@@ -97,6 +104,7 @@ pub(crate) fn copy_chunk<R: Wait, D: Disk>(
     shared: &Shared<D>,
     lbn: u64,
     blocks: &mut [Block],
+    done: &mut Copies,
 ) -> Result<bool, CleanFault>
     requires ready { IsReady D.state m.old }
     requires at { IsHome shared.now m.old }
@@ -105,9 +113,9 @@ pub(crate) fn copy_chunk<R: Wait, D: Disk>(
     requires covered { (b : ℕ) → is_within lbn (length blocks.old) b ≡ true → covered_in m.old b ≡ true }
     ensures ready { IsReady D.state m.new }
     ensures at { IsHome shared.now m.new }
-    ensures copied { CopiesChunk D.tells D.state lbn (length blocks.old) m.old m.new result }
+    ensures copied { (r : CopiesChunk D.tells D.state lbn (length blocks.old) m.old m.new result) × (done.new.value.items ≡ done.old.value.items ++ chunk_copies result r) }
 {
-    let copied = rewrite(rt, m, shared, lbn, blocks)?;
+    let copied = rewrite(rt, m, shared, lbn, blocks, done)?;
     if !copied {
         return Ok(false);
     }

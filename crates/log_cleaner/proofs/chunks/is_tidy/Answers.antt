@@ -1,4 +1,4 @@
-use Rattle.std.proofs.Common.{◌≡◌, true, false, arith}
+use Rattle.std.proofs.Common.{◌≡◌, true, false, sym, ◌∙◌, arith}
 use Rattle.std.proofs.lemmas.Bool.{eqb-true}
 use Rattle.log_cleaner.proofs.Finding.{few, has_version_, in_range, tidy_of_alone}
 use Rattle.log_cleaner.proofs.Telling.{alone_is, is_found, is_there, mask_just}

@@ -1,0 +1,7 @@
+//! Volumes that were written to are cleaned. The expected lines were worked out by hand.
+#![tactic(auto)]
+
+#[cfg(test)]
+mod rows;
+#[cfg(test)]
+mod stopping;
