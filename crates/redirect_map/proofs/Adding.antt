@@ -58,7 +58,7 @@ all_push : (P : ℕ → Type 0) (vs : List ℕ) (v : ℕ) → AllByRecursion P v
 all_push P [] v all here = (here, tt)
 all_push P (w ∷ vs) v all here = (all.0, all_push P vs v all.1 here)
 
-rising_push : (vs : List ℕ) (v : ℕ) → AreRising vs → AllByRecursion (λ w. w < v) vs → AreRising (vs ++ v ∷ [])
+pub rising_push : (vs : List ℕ) (v : ℕ) → AreRising vs → AllByRecursion (λ w. w < v) vs → AreRising (vs ++ v ∷ [])
 rising_push [] v rising below = (tt, tt)
 rising_push (w ∷ vs) v rising below = (all_push (λ x. w < x) vs v rising.0 below.0, rising_push vs v rising.1 below.1)
 

@@ -8,64 +8,63 @@ use Rattle.redirect_map.specs.declared.entry.Entry.{Entry}
 use Rattle.redirect_map.specs.Cells.{cell_of}
 use Rattle.redirect_map.specs.Index.{Contents, HasVersion, entry_at}
 use Rattle.redirect_map.specs.Kept.{seen, AreEntries}
-use Rattle.redirect_map.proofs.Answering.{is_there, place_is}
+use Rattle.redirect_map.proofs.Answering.{is_there}
 use Rattle.redirect_map.proofs.Changing.{trimmed, entries_trimmed, changed_trimmed, entries_removed, changed_removed}
 use Rattle.redirect_map.proofs.Tabling.{all_less, cell_emptied, cell_trimmed, mask_fits}
 use Rattle.version_marks.specs.Marks.{mask_of}
 use Rattle.redirect_map.specs.Marked.{there_bit, AreMarked}
 use Rattle.redirect_map.proofs.Marked.{marks_set, marks_removed, others_less}
+use Rattle.redirect_map.specs.Listing.{place_in}
+use Rattle.redirect_map.proofs.Listing.{found_at}
 use Rattle.redirect_map.proofs.index.Index.trim.Goals as goal
 
-pub place_of-place-requires-clause-rising : goal.place_of-place-requires-clause-rising
-place_of-place-requires-clause-rising c = c.self.invariant.0.rising
-
-pub place_of-place-requires-clause-there : goal.place_of-place-requires-clause-there
-place_of-place-requires-clause-there c = (is_there c.self.inside.entries.items c.args.version (subst (λ (v : Contents). HasVersion v.entries c.args.version) (sym c.self.view_is) c.requires.there))
+pub unwrap-requires : goal.unwrap-requires
+unwrap-requires c = subst (λ (o : Option Entry). IsSome o) (sym c.get.ensures) (is_there c.self.inside.entries.items c.args.version (subst (λ (v : Contents). HasVersion v.entries c.args.version) (sym c.self.view_is) c.requires.there))
 
 -- what is left
 taken_out : {X : Type 0} (o : Option X) (x : X) (P : Type 0) → o ≡ Some x → OnSome o P → P
 taken_out None x P is all = absurd (cc)
 taken_out (Some y) x P is all = all
 
-table_removed : (c : goal.After-remove) → (b : ℕ) → get nat_eq c.uncover.new.blocks b ≡ cell_of (remove c.self.inside.entries.items c.place_of-place.result) b
-table_removed c = all_less (get nat_eq c.self.inside.blocks) (get nat_eq c.uncover.new.blocks) c.self.inside.entries.items (remove c.self.inside.entries.items c.place_of-place.result) c.index.result.now.record.lbn c.args.mask c.self.invariant.1 c.uncover.ensures.cells
-    (λ b. cell_emptied c.self.inside.entries.items c.args.version c.place_of-place.result c.index.result.now c.args.mask b c.self.invariant.0 (place_is c.self.inside.entries.items c.self.inside.entries.items c.args.version c.place_of-place.result c.index.result.now refl c.place_of-place.ensures.found c.place_of-place.ensures.within c.index.ensures) (subst (λ (v : Contents). ForSome (entry_at v.entries c.args.version) (λ e. (i : ℕ) → has_bit c.args.mask i ≡ true → goes (listed_in v.entries) e.listed (e.listed.first + i) ≡ true)) (sym c.self.view_is) c.requires.goes) (omega arith) c.if-entry-eq0.true)
+table_removed : (c : goal.After-remove) → (b : ℕ) → get nat_eq c.uncover.new.blocks b ≡ cell_of (remove c.self.inside.entries.items (place_in c.args.version c.self.inside.entries.items)) b
+table_removed c = all_less (get nat_eq c.self.inside.blocks) (get nat_eq c.uncover.new.blocks) c.self.inside.entries.items (remove c.self.inside.entries.items (place_in c.args.version c.self.inside.entries.items)) c.unwrap.result.record.lbn c.args.mask c.self.invariant.1 c.uncover.ensures.cells
+    (λ b. cell_emptied c.self.inside.entries.items c.args.version (place_in c.args.version c.self.inside.entries.items) c.unwrap.result c.args.mask b c.self.invariant.0 (found_at c.self.inside.entries.items c.args.version c.unwrap.result (sym c.get.ensures ∙ c.unwrap.ensures)) (subst (λ (v : Contents). ForSome (entry_at v.entries c.args.version) (λ e. (i : ℕ) → has_bit c.args.mask i ≡ true → goes (listed_in v.entries) e.listed (e.listed.first + i) ≡ true)) (sym c.self.view_is) c.requires.goes) (omega arith) c.if-entry-eq0.true)
 
 pub invariant_of-self : goal.invariant_of-self
 invariant_of-self c =
-    let at = (place_is c.self.inside.entries.items c.self.inside.entries.items c.args.version c.place_of-place.result c.index.result.now refl c.place_of-place.ensures.found c.place_of-place.ensures.within c.index.ensures) in
-    let same = (taken_out c.remove.result _ _ (c.remove.ensures.succeeds c.index.result.now (omega (arith, c.place_of-place.ensures.within, c.self.inside.entries.ok.0))) c.remove.ensures.items) in (
-      subst AreEntries (sym same) (entries_removed c.self.inside.entries.items c.place_of-place.result c.self.invariant.0),
+    let at = (found_at c.self.inside.entries.items c.args.version c.unwrap.result (sym c.get.ensures ∙ c.unwrap.ensures)) in
+    let same = (taken_out c.remove.result _ _ (c.remove.ensures.succeeds c.unwrap.result (omega (arith, c.place_of-place.ensures.within, c.self.inside.entries.ok.0))) c.remove.ensures.items) in (
+      subst AreEntries (sym same) (entries_removed c.self.inside.entries.items (place_in c.args.version c.self.inside.entries.items) c.self.invariant.0),
       subst (λ (es : List Entry). (b : ℕ) → get nat_eq c.uncover.new.blocks b ≡ cell_of es b) (sym same) (table_removed c),
       subst (λ (es : List Entry). AreMarked es (get nat_eq c.uncover.new.blocks) (mask_of c.set.new.self)) (sym same)
-          (marks_removed c.self.inside.entries.items (get nat_eq c.uncover.new.blocks) (mask_of c.mark_blocks.new.marks) (mask_of c.set.new.self) c.place_of-place.result c.args.version 0 c.index.result.now
+          (marks_removed c.self.inside.entries.items (get nat_eq c.uncover.new.blocks) (mask_of c.mark_blocks.new.marks) (mask_of c.set.new.self) (place_in c.args.version c.self.inside.entries.items) c.args.version 0 c.unwrap.result
           c.self.invariant.0.rising at.at at.version_is c.set.ensures.masks
-          (λ j d i found there. others_less c.self.inside.entries.items (remove c.self.inside.entries.items c.place_of-place.result) (get nat_eq c.self.inside.blocks) (get nat_eq c.uncover.new.blocks) (mask_of c.self.inside.marks) (mask_of c.mark_blocks.new.marks) c.index.result.now.record.lbn c.args.mask j i d c.self.invariant.2 c.mark_blocks.ensures.more c.mark_blocks.ensures.begun c.uncover.ensures.cells (table_removed c) found there)),
+          (λ j d i found there. others_less c.self.inside.entries.items (remove c.self.inside.entries.items (place_in c.args.version c.self.inside.entries.items)) (get nat_eq c.self.inside.blocks) (get nat_eq c.uncover.new.blocks) (mask_of c.self.inside.marks) (mask_of c.mark_blocks.new.marks) c.unwrap.result.record.lbn c.args.mask j i d c.self.invariant.2 c.mark_blocks.ensures.more c.mark_blocks.ensures.begun c.uncover.ensures.cells (table_removed c) found there)),
     )
 
 pub invariant_of-self-else-entry-eq0 : goal.invariant_of-self-else-entry-eq0
 unfolding trimmed
 invariant_of-self-else-entry-eq0 c =
-    let at = (place_is c.self.inside.entries.items c.self.inside.entries.items c.args.version c.place_of-place.result c.index.result.now refl c.place_of-place.ensures.found c.place_of-place.ensures.within c.index.ensures) in
-    let table = all_less (get nat_eq c.self.inside.blocks) (get nat_eq c.uncover.new.blocks) c.self.inside.entries.items (set c.self.inside.entries.items c.place_of-place.result (trimmed c.index.result.now c.args.mask)) c.index.result.now.record.lbn c.args.mask c.self.invariant.1 c.uncover.ensures.cells
-    (λ b. cell_trimmed c.self.inside.entries.items c.args.version c.place_of-place.result c.index.result.now c.args.mask b c.self.invariant.0 at (subst (λ (v : Contents). ForSome (entry_at v.entries c.args.version) (λ e. (i : ℕ) → has_bit c.args.mask i ≡ true → goes (listed_in v.entries) e.listed (e.listed.first + i) ≡ true)) (sym c.self.view_is) c.requires.goes) (omega arith)) in (
-      entries_trimmed c.self.inside.entries.items c.place_of-place.result c.index.result.now c.args.mask c.self.invariant.0 at.at (omega arith) (omega arith),
+    let at = (found_at c.self.inside.entries.items c.args.version c.unwrap.result (sym c.get.ensures ∙ c.unwrap.ensures)) in
+    let table = all_less (get nat_eq c.self.inside.blocks) (get nat_eq c.uncover.new.blocks) c.self.inside.entries.items (set c.self.inside.entries.items (place_in c.args.version c.self.inside.entries.items) (trimmed c.unwrap.result c.args.mask)) c.unwrap.result.record.lbn c.args.mask c.self.invariant.1 c.uncover.ensures.cells
+    (λ b. cell_trimmed c.self.inside.entries.items c.args.version (place_in c.args.version c.self.inside.entries.items) c.unwrap.result c.args.mask b c.self.invariant.0 at (subst (λ (v : Contents). ForSome (entry_at v.entries c.args.version) (λ e. (i : ℕ) → has_bit c.args.mask i ≡ true → goes (listed_in v.entries) e.listed (e.listed.first + i) ≡ true)) (sym c.self.view_is) c.requires.goes) (omega arith)) in (
+      entries_trimmed c.self.inside.entries.items (place_in c.args.version c.self.inside.entries.items) c.unwrap.result c.args.mask c.self.invariant.0 at.at (omega arith) (omega arith),
       table,
-      marks_set c.self.inside.entries.items (get nat_eq c.uncover.new.blocks) (mask_of c.mark_blocks.new.marks) (mask_of c.set-else-entry-eq0.new.self) c.place_of-place.result c.args.version c.exact_mask.result c.index.result.now (trimmed c.index.result.now c.args.mask)
-          c.self.invariant.0.rising at.at at.version_is at.version_is (ap (λ (v : ℕ). has_bit (mask_of c.mark_blocks.new.marks v) there_bit) (sym at.version_is) ∙ c.mark_blocks.ensures.more c.index.result.now.record.version there_bit (c.self.invariant.2 c.place_of-place.result c.index.result.now at.at).there)
+      marks_set c.self.inside.entries.items (get nat_eq c.uncover.new.blocks) (mask_of c.mark_blocks.new.marks) (mask_of c.set-else-entry-eq0.new.self) (place_in c.args.version c.self.inside.entries.items) c.args.version c.exact_mask.result c.unwrap.result (trimmed c.unwrap.result c.args.mask)
+          c.self.invariant.0.rising at.at at.version_is at.version_is (ap (λ (v : ℕ). has_bit (mask_of c.mark_blocks.new.marks v) there_bit) (sym at.version_is) ∙ c.mark_blocks.ensures.more c.unwrap.result.record.version there_bit (c.self.invariant.2 (place_in c.args.version c.self.inside.entries.items) c.unwrap.result at.at).there)
           c.set-else-entry-eq0.ensures.masks c.exact_mask.ensures
-          (λ j d found there. others_less c.self.inside.entries.items (set c.self.inside.entries.items c.place_of-place.result (trimmed c.index.result.now c.args.mask)) (get nat_eq c.self.inside.blocks) (get nat_eq c.uncover.new.blocks) (mask_of c.self.inside.marks) (mask_of c.mark_blocks.new.marks) c.index.result.now.record.lbn c.args.mask j j d c.self.invariant.2 c.mark_blocks.ensures.more c.mark_blocks.ensures.begun c.uncover.ensures.cells table found there),
+          (λ j d found there. others_less c.self.inside.entries.items (set c.self.inside.entries.items (place_in c.args.version c.self.inside.entries.items) (trimmed c.unwrap.result c.args.mask)) (get nat_eq c.self.inside.blocks) (get nat_eq c.uncover.new.blocks) (mask_of c.self.inside.marks) (mask_of c.mark_blocks.new.marks) c.unwrap.result.record.lbn c.args.mask j j d c.self.invariant.2 c.mark_blocks.ensures.more c.mark_blocks.ensures.begun c.uncover.ensures.cells table found there),
     )
 
 pub mark_blocks-requires-clause-mask : goal.mark_blocks-requires-clause-mask
-mark_blocks-requires-clause-mask c = mask_fits c.self.inside.entries.items c.args.version c.place_of-place.result c.index.result.now c.args.mask c.self.invariant.0 (place_is c.self.inside.entries.items c.self.inside.entries.items c.args.version c.place_of-place.result c.index.result.now refl c.place_of-place.ensures.found c.place_of-place.ensures.within c.index.ensures) (subst (λ (v : Contents). ForSome (entry_at v.entries c.args.version) (λ e. (i : ℕ) → has_bit c.args.mask i ≡ true → goes (listed_in v.entries) e.listed (e.listed.first + i) ≡ true)) (sym c.self.view_is) c.requires.goes)
+mark_blocks-requires-clause-mask c = mask_fits c.self.inside.entries.items c.args.version (place_in c.args.version c.self.inside.entries.items) c.unwrap.result c.args.mask c.self.invariant.0 (found_at c.self.inside.entries.items c.args.version c.unwrap.result (sym c.get.ensures ∙ c.unwrap.ensures)) (subst (λ (v : Contents). ForSome (entry_at v.entries c.args.version) (λ e. (i : ℕ) → has_bit c.args.mask i ≡ true → goes (listed_in v.entries) e.listed (e.listed.first + i) ≡ true)) (sym c.self.view_is) c.requires.goes)
 
 pub returns-then-entry-eq0-clause-entries : goal.returns-then-entry-eq0-clause-entries
-returns-then-entry-eq0-clause-entries c = rw (← c.self.view_is) (ap (map seen) (taken_out c.remove.result _ _ (c.remove.ensures.succeeds c.index.result.now (omega (arith, c.place_of-place.ensures.within, c.self.inside.entries.ok.0))) c.remove.ensures.items) ∙ changed_removed c.self.inside.entries.items c.args.version c.place_of-place.result c.index.result.now c.args.mask c.self.invariant.0 (place_is c.self.inside.entries.items c.self.inside.entries.items c.args.version c.place_of-place.result c.index.result.now refl c.place_of-place.ensures.found c.place_of-place.ensures.within c.index.ensures) (omega arith) c.if-entry-eq0.true)
+returns-then-entry-eq0-clause-entries c = rw (← c.self.view_is) (ap (map seen) (taken_out c.remove.result _ _ (c.remove.ensures.succeeds c.unwrap.result (omega (arith, c.place_of-place.ensures.within, c.self.inside.entries.ok.0))) c.remove.ensures.items) ∙ changed_removed c.self.inside.entries.items c.args.version (place_in c.args.version c.self.inside.entries.items) c.unwrap.result c.args.mask c.self.invariant.0 (found_at c.self.inside.entries.items c.args.version c.unwrap.result (sym c.get.ensures ∙ c.unwrap.ensures)) (omega arith) c.if-entry-eq0.true)
 
 pub returns-else-entry-eq0-clause-entries : goal.returns-else-entry-eq0-clause-entries
 unfolding trimmed
-returns-else-entry-eq0-clause-entries c = rw (← c.self.view_is) (changed_trimmed c.self.inside.entries.items c.args.version c.place_of-place.result c.index.result.now c.args.mask c.self.invariant.0 (place_is c.self.inside.entries.items c.self.inside.entries.items c.args.version c.place_of-place.result c.index.result.now refl c.place_of-place.ensures.found c.place_of-place.ensures.within c.index.ensures) (omega arith) (omega arith))
+returns-else-entry-eq0-clause-entries c = rw (← c.self.view_is) (changed_trimmed c.self.inside.entries.items c.args.version (place_in c.args.version c.self.inside.entries.items) c.unwrap.result c.args.mask c.self.invariant.0 (found_at c.self.inside.entries.items c.args.version c.unwrap.result (sym c.get.ensures ∙ c.unwrap.ensures)) (omega arith) (omega arith))
 
 pub uncover-requires-clause-mask : goal.uncover-requires-clause-mask
-uncover-requires-clause-mask c = mask_fits c.self.inside.entries.items c.args.version c.place_of-place.result c.index.result.now c.args.mask c.self.invariant.0 (place_is c.self.inside.entries.items c.self.inside.entries.items c.args.version c.place_of-place.result c.index.result.now refl c.place_of-place.ensures.found c.place_of-place.ensures.within c.index.ensures) (subst (λ (v : Contents). ForSome (entry_at v.entries c.args.version) (λ e. (i : ℕ) → has_bit c.args.mask i ≡ true → goes (listed_in v.entries) e.listed (e.listed.first + i) ≡ true)) (sym c.self.view_is) c.requires.goes)
+uncover-requires-clause-mask c = mask_fits c.self.inside.entries.items c.args.version (place_in c.args.version c.self.inside.entries.items) c.unwrap.result c.args.mask c.self.invariant.0 (found_at c.self.inside.entries.items c.args.version c.unwrap.result (sym c.get.ensures ∙ c.unwrap.ensures)) (subst (λ (v : Contents). ForSome (entry_at v.entries c.args.version) (λ e. (i : ℕ) → has_bit c.args.mask i ≡ true → goes (listed_in v.entries) e.listed (e.listed.first + i) ≡ true)) (sym c.self.view_is) c.requires.goes)
