@@ -48,7 +48,7 @@ bare_app = record {
 -- the program
 abbrev pub the_app : App
 the_app =
-    with_subcommand (with_subcommand (with_subcommand (with_subcommand (with_subcommand (with_subcommand (with_subcommand (with_subcommand (with_subcommand (with_subcommand bare_app
+    with_subcommand (with_subcommand (with_subcommand (with_subcommand (with_subcommand (with_subcommand (with_subcommand (with_subcommand (with_subcommand (with_subcommand (with_subcommand bare_app
     (with_volume (new_app (codes "solo"))).top)
     (new_app (codes "format")).top)
     (with_options (new_app (codes "replay"))).top)
@@ -58,4 +58,5 @@ the_app =
     (new_app (codes "whatif")).top)
     (with_names (new_app (codes "view-add"))).top)
     (with_names (new_app (codes "view-remove"))).top)
+    (new_app (codes "clean")).top)
     (with_options (with_trace (new_app (codes "soak")))).top

@@ -5,9 +5,9 @@ use Rattle.solo.specs.Volume.{target_of}
 use Rattle.solo.specs.declared.volume.Volume.{Volume}
 use Rattle.wol_model.specs.Trace.{Target}
 use Rattle.command_words.specs.Commands.{IsCommand}
-use Rattle.command_words.specs.Table.{IsSolo, IsGen, IsFormat, IsCheck, IsDump, IsReplay, IsSoak, IsWhatIf, IsViewAdd, IsViewRemove, Named}
+use Rattle.command_words.specs.Table.{IsSolo, IsGen, IsFormat, IsCheck, IsDump, IsReplay, IsSoak, IsWhatIf, IsViewAdd, IsViewRemove, Named, IsClean}
 use Rattle.command_words.specs.declared.command.Command.{Command}
-use Rattle.command_words.specs.declared.command.Command.TheVariants.{Solo, Format, Replay, Check, Dump, Gen, Soak, WhatIf, ViewAdd, ViewRemove}
+use Rattle.command_words.specs.declared.command.Command.TheVariants.{Solo, Format, Replay, Check, Dump, Gen, Soak, WhatIf, ViewAdd, ViewRemove, Clean}
 use Rattle.command_words.specs.declared.command.Generated.{Generated}
 use Rattle.command_words.specs.declared.command.Options.{Options}
 use Rattle.command_words.specs.declared.command.ViewNames.{ViewNames}
@@ -43,6 +43,9 @@ ViewAddIsCommand = (words : List Text) (named : Named) → IsViewAdd words named
 
 abbrev pub ViewRemoveIsCommand : Type 0
 ViewRemoveIsCommand = (words : List Text) (named : Named) → IsViewRemove words named → (names : ViewNames) × (named_by names ≡ named) × IsCommand words (ViewRemove names)
+
+abbrev pub CleanIsCommand : Type 0
+CleanIsCommand = (words : List Text) → IsClean words → IsCommand words Clean
 
 -- two commands are one, wherever the names in them lie in memory
 abbrev pub AreSame : Command → Command → Type 0

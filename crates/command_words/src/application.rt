@@ -26,6 +26,7 @@ pub(crate) fn application<'a>(alloc: Global) -> Result<Command<'a>, AllocError>
         .subcommand(Command::new(alloc, "whatif"))?
         .subcommand(of_view(alloc, Command::new(alloc, "view-add"))?)?
         .subcommand(of_view(alloc, Command::new(alloc, "view-remove"))?)?
+        .subcommand(Command::new(alloc, "clean"))?
         .subcommand(of_options(alloc, of_trace(alloc, Command::new(alloc, "soak"))?)?)
 }
 

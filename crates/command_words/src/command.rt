@@ -72,6 +72,8 @@ pub enum Command<'a> {
     ViewAdd(ViewNames<'a>),
     /// A volume's view loses a logger, after what lies there went home.
     ViewRemove(ViewNames<'a>),
+    /// What lies in logs is rewritten as few records.
+    Clean,
 }
 
 /// Why there is no command.
@@ -129,6 +131,7 @@ fn read<'a>(name: &str, matches: &ArgMatches<'a>) -> Option<Command<'a>>
         "whatif" => Some(Command::WhatIf),
         "view-add" => Some(Command::ViewAdd(names_of(matches)?)),
         "view-remove" => Some(Command::ViewRemove(names_of(matches)?)),
+        "clean" => Some(Command::Clean),
         _ => None,
     }
 }

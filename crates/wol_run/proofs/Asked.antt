@@ -4,7 +4,7 @@ use Rattle.solo.specs.Volume.{IsVolume, target_of}
 use Rattle.solo.specs.declared.volume.Volume.{Volume}
 use Rattle.command_words.specs.Commands.{IsCommand}
 use Rattle.command_words.specs.declared.command.Command.{Command}
-use Rattle.command_words.specs.declared.command.Command.TheVariants.{Solo, Format, Replay, Check, Dump, Gen, Soak, WhatIf, ViewAdd, ViewRemove}
+use Rattle.command_words.specs.declared.command.Command.TheVariants.{Solo, Format, Replay, Check, Dump, Gen, Soak, WhatIf, ViewAdd, ViewRemove, Clean}
 use Rattle.command_words.specs.declared.command.Generated.{Generated}
 use Rattle.command_words.specs.declared.command.Options.{Options}
 use Rattle.command_words.specs.declared.command.ViewNames.{ViewNames}
@@ -44,6 +44,7 @@ in_range words (Soak asked options) is = (omega (arith, is.asks.values.0.most), 
 in_range words WhatIf is = tt
 in_range words (ViewAdd names) is = tt
 in_range words (ViewRemove names) is = tt
+in_range words Clean is = tt
 
 pub range_of_solo : (command : Command) (volume : Volume) → command ≡ Solo volume → IsInRange command → IsVolume (target_of volume)
 range_of_solo command volume is h = subst IsInRange is h

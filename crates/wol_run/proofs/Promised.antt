@@ -9,7 +9,7 @@ use Rattle.inspection.specs.declared.asked.Asked.{Asked}
 use Rattle.inspection.specs.declared.asked.Asked.TheVariants as asked
 use Rattle.command_words.specs.Commands.{IsCommand, NoCommand}
 use Rattle.command_words.specs.declared.command.Command.{Command}
-use Rattle.command_words.specs.declared.command.Command.TheVariants.{Check, Dump, Format, Gen, Replay, Soak, Solo, ViewAdd, ViewRemove, WhatIf}
+use Rattle.command_words.specs.declared.command.Command.TheVariants.{Check, Clean, Dump, Format, Gen, Replay, Soak, Solo, ViewAdd, ViewRemove, WhatIf}
 use Rattle.command_words.specs.declared.command.Generated.{Generated}
 use Rattle.command_words.specs.declared.command.ViewNames.{ViewNames}
 use Rattle.command_words.specs.Table.{Named}
@@ -21,7 +21,7 @@ use Rattle.wol_run.specs.Causes as row
 use Rattle.wol_run.specs.Formatting.{IsNotBegun}
 use Rattle.wol_run.specs.Outside.{LeavesUnused, NothingFailed, Outside}
 use Rattle.wol_run.specs.Replaying.{lines_of, options_as, trace_of}
-use Rattle.wol_run.specs.Run.{ComesToItsEnd, IsAccountOf, IsComparisonOf, IsFormat, IsHeadlineOf, IsListingOf, IsLookFor, IsReplayOf, IsSoloOf, IsUnconfigured, IsViewChangeOf, ReadsInOrder, Run, looked_at_by}
+use Rattle.wol_run.specs.Run.{ComesToItsEnd, IsAccountOf, IsCleaningOf, IsComparisonOf, IsFormat, IsHeadlineOf, IsListingOf, IsLookFor, IsReplayOf, IsSoloOf, IsUnconfigured, IsViewChangeOf, ReadsInOrder, Run, looked_at_by}
 use Rattle.wol_run.specs.Settings.{HasConfig, HasNoConfig, IsFaultLine}
 use Rattle.wol_run.specs.Tops.{EndsWith, RunsSolo}
 use Rattle.wol_run.specs.Viewing.{view_change_by}
@@ -64,6 +64,7 @@ module _ {D : Type 0} (tells : Bool) (state : D → State) (words : List (List �
   Does WhatIf = IsComparisonOf before after status
   Does (ViewAdd names) = IsViewChangeOf tells state before after status (Add, named_by names)
   Does (ViewRemove names) = IsViewChangeOf tells state before after status (Remove, named_by names)
+  Does Clean = IsCleaningOf tells state before after status
 
   solo_alike : (own volume : Volume) → target_of own ≡ target_of volume → Does (Solo own) → Does (Solo volume)
   solo_alike own volume same does = subst (λ t. RunsSolo t before.trace.bytes after.trace.bytes before.bay.told after.bay.told before.bay.faults after.bay.faults before.trace.faults after.trace.faults status before.sink.bytes after.sink.bytes) same does
@@ -86,6 +87,7 @@ module _ {D : Type 0} (tells : Bool) (state : D → State) (words : List (List �
   headline_of WhatIf does = tt
   headline_of (ViewAdd names) does = tt
   headline_of (ViewRemove names) does = tt
+  headline_of Clean does = tt
 
   account_of : (command : Command) → Does command → IfSome (replayed_by command before.trace.bytes) (IsAccountOf tells state before after status)
   account_of (Solo volume) does = tt
@@ -98,6 +100,7 @@ module _ {D : Type 0} (tells : Bool) (state : D → State) (words : List (List �
   account_of WhatIf does = tt
   account_of (ViewAdd names) does = tt
   account_of (ViewRemove names) does = tt
+  account_of Clean does = tt
 
   replay_of : (command : Command) → Does command → IfSome (replayed_by command before.trace.bytes) (IsReplayOf tells state before after status)
   replay_of (Solo volume) does = tt
@@ -110,6 +113,7 @@ module _ {D : Type 0} (tells : Bool) (state : D → State) (words : List (List �
   replay_of WhatIf does = tt
   replay_of (ViewAdd names) does = tt
   replay_of (ViewRemove names) does = tt
+  replay_of Clean does = tt
 
   look_of : (command : Command) → Does command → IfSome (looked_at_by command) (IsLookFor tells state before after status)
   look_of (Solo volume) does = tt
@@ -122,6 +126,7 @@ module _ {D : Type 0} (tells : Bool) (state : D → State) (words : List (List �
   look_of WhatIf does = tt
   look_of (ViewAdd names) does = tt
   look_of (ViewRemove names) does = tt
+  look_of Clean does = tt
 
   view_of : (command : Command) → Does command → IfSome (view_change_by command) (IsViewChangeOf tells state before after status)
   view_of (Solo volume) does = tt
@@ -134,6 +139,7 @@ module _ {D : Type 0} (tells : Bool) (state : D → State) (words : List (List �
   view_of WhatIf does = tt
   view_of (ViewAdd names) does = does
   view_of (ViewRemove names) does = does
+  view_of Clean does = tt
 
   -- ---- .. where the configuration is none
 
@@ -193,6 +199,10 @@ module _ {D : Type 0} (tells : Bool) (state : D → State) (words : List (List �
   view_unconfigured (verb, named) (inl run) bytes told none = absurd (never_had _ bytes told none run.config run.has)
   view_unconfigured (verb, named) (inr unread) bytes told none = not_begun_unconfigured unread bytes told none
 
+  clean_unconfigured : IsCleaningOf tells state before after status → (bytes : List ℕ) → before.config.bytes ≡ Some bytes → HasNoConfig (Some bytes) → TellsNoConfig status
+  clean_unconfigured (inl run) bytes told none = absurd (never_had _ bytes told none run.config run.has)
+  clean_unconfigured (inr unread) bytes told none = not_begun_unconfigured unread bytes told none
+
   unconfigured_of : (command : Command) → Does command → IsUnconfigured command before → TellsNoConfig status
   unconfigured_of (Solo volume) does (uses, bytes, told, none) = absurd (true≢false (sym uses))
   unconfigured_of Format does (uses, bytes, told, none) = format_unconfigured does bytes told none
@@ -204,6 +214,7 @@ module _ {D : Type 0} (tells : Bool) (state : D → State) (words : List (List �
   unconfigured_of WhatIf does (uses, bytes, told, none) = comparison_unconfigured does bytes told none
   unconfigured_of (ViewAdd names) does (uses, bytes, told, none) = view_unconfigured _ does bytes told none
   unconfigured_of (ViewRemove names) does (uses, bytes, told, none) = view_unconfigured _ does bytes told none
+  unconfigured_of Clean does (uses, bytes, told, none) = clean_unconfigured does bytes told none
 
   -- ---- The whole
 
@@ -230,6 +241,7 @@ module _ {D : Type 0} (tells : Bool) (state : D → State) (words : List (List �
     generated = λ what is. does (Gen what) is;
     compared = λ is. does WhatIf is;
     viewed = λ command is. view_of command (does command is);
+    cleaned = λ is. does Clean is;
     solo = λ volume is. does (Solo volume) is;
     refused = refused;
     cause = cause;

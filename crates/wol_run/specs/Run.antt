@@ -9,15 +9,16 @@ use Rattle.inspection.specs.declared.asked.Asked.TheVariants as asked
 use Rattle.replay.specs.declared.session.Options.{Options as Serving}
 use Rattle.command_words.specs.Commands.{IsCommand, NoCommand}
 use Rattle.command_words.specs.declared.command.Command.{Command}
-use Rattle.command_words.specs.declared.command.Command.TheVariants.{Check, Dump, Format, Gen, Replay, Soak, Solo, ViewAdd, ViewRemove, WhatIf}
+use Rattle.command_words.specs.declared.command.Command.TheVariants.{Check, Clean, Dump, Format, Gen, Replay, Soak, Solo, ViewAdd, ViewRemove, WhatIf}
 use Rattle.command_words.specs.declared.command.Generated.{Generated}
 use Rattle.command_words.specs.Table.{Named}
 use Rattle.view_commands.specs.declared.order.Verb.{Verb}
 use Rattle.wol_run.specs.Accounted.{RunsAccount}
 use Rattle.wol_run.specs.Causes.{IsCause, replayed_by}
+use Rattle.wol_run.specs.Cleaning.{RunsCleaning}
 use Rattle.wol_run.specs.Commands.{changes_view, uses_config}
 use Rattle.wol_run.specs.Comparing.{RunsWhatIf}
-use Rattle.wol_run.specs.Completing.{HasSoundImages, HaveVersions, IsGoodTrace, seed_lines}
+use Rattle.wol_run.specs.Completing.{HasSoundImages, HaveVersions, HaveVersionsToClean, IsGoodTrace, seed_lines}
 use Rattle.wol_run.specs.Formatting.{RunsFormat}
 use Rattle.wol_run.specs.Generating.{RunsGen}
 use Rattle.wol_run.specs.Headlined.{RunsHeadline}
@@ -69,6 +70,12 @@ module _ {D : Type 0} (tells : Bool) (state : D → State) (before after : Outsi
   IsViewChangeOf (verb, named) =
       RunsViewChange tells state verb named before.config.bytes
       before.config.faults after.config.faults
+      before.bay after.bay before.sink.faults status before.sink.bytes after.sink.bytes
+
+  -- the volumes were cleaned
+  abbrev pub IsCleaningOf : Type 0
+  IsCleaningOf =
+      RunsCleaning tells state before.config.bytes before.config.faults after.config.faults
       before.bay after.bay before.sink.faults status before.sink.bytes after.sink.bytes
 
 -- the images were made anew
@@ -135,6 +142,20 @@ abbrev pub ComesToItsEnd : Command → (status : ℕ) → Type 0
 ComesToItsEnd command status =
     IsDoneOrMemory status ⊎ ((changes_view command ≡ true) × (status ≡ 15))
 
+ReadsInOrder tells (ViewAdd names) before =
+    IsConfigured before.config.bytes × HasSoundImages tells before.config.bytes before.bay
+ReadsInOrder tells (ViewRemove names) before =
+    IsConfigured before.config.bytes × HasSoundImages tells before.config.bytes before.bay
+ReadsInOrder tells Clean before =
+    IsConfigured before.config.bytes
+    × (images : HasSoundImages tells before.config.bytes before.bay)
+    × HaveVersionsToClean before.config.bytes images.entry
+
+-- the command is done, or there was no memory; or a view can't be changed as the words ask
+abbrev pub ComesToItsEnd : Command → (status : ℕ) → Type 0
+ComesToItsEnd command status =
+    IsDoneOrMemory status ⊎ ((changes_view command ≡ true) × (status ≡ 15))
+
 -- ---- The whole
 
 pub record Run {D : Type 0} (tells : Bool) (state : D → State) (words : List (List ℕ))
@@ -168,6 +189,9 @@ pub record Run {D : Type 0} (tells : Bool) (state : D → State) (words : List (
   -- view-add, view-remove: the new view, what the images recover to, or why nothing changed
   pub viewed : (command : Command) → IsCommand words command
       → IfSome (view_change_by command) (IsViewChangeOf tells state before after status)
+  -- clean: a line for each volume with what its cleaning came to, or why it was the last; each image
+  -- recovers to what it recovered to before
+  pub cleaned : IsCommand words Clean → IsCleaningOf tells state before after status
   -- solo: the lines of one volume, on an image of its own
   pub solo : (volume : Volume) → IsCommand words (Solo volume) → IsSoloOf before after status volume
   -- the words are no command: that is told

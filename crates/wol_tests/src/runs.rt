@@ -677,12 +677,59 @@ fn keeps_records_where_reclaim_is_off(rt: HostRuntime) -> Result<(), Fail> {
     try_all(&rt, rt.alloc(), &rows, &mut bay)
 }
 
-// What the volumes have after `OFFLOADS`, once the first was drained. The digests were made outside, of the writes in those lines.
-const CHECKED_HOME: &[u8] =
-    b"usr0 ok sha256 33f8070c09f79108c216b48fa147141d893e50a4d018f1a16b4e9bf0e39d1b87 records 0 segments 0
+// What the volumes have after `OFFLOADS`. The digests were made outside, of the writes in those lines.
+const CHECKED: &[u8] = b"usr0 ok sha256 33f8070c09f79108c216b48fa147141d893e50a4d018f1a16b4e9bf0e39d1b87 records 2 segments 1
 web0 ok sha256 61b45ae54ca39a001efc0780d6e0aadd8fb5fa0b7d9c6d59de4ada0b1d6c3be3 records 0 segments 0
 src0 ok sha256 431c7bfed2499633fc2023ccdc39e2e344e23156fc688cb3947d92b384e10c33 records 1 segments 1
 ";
+
+const CHECKED_CLEAN: &[u8] = b"usr0 ok sha256 33f8070c09f79108c216b48fa147141d893e50a4d018f1a16b4e9bf0e39d1b87 records 1 segments 1
+web0 ok sha256 61b45ae54ca39a001efc0780d6e0aadd8fb5fa0b7d9c6d59de4ada0b1d6c3be3 records 0 segments 0
+src0 ok sha256 431c7bfed2499633fc2023ccdc39e2e344e23156fc688cb3947d92b384e10c33 records 1 segments 1
+";
+
+const CHECKED_HOME: &[u8] = b"usr0 ok sha256 33f8070c09f79108c216b48fa147141d893e50a4d018f1a16b4e9bf0e39d1b87 records 0 segments 0
+web0 ok sha256 61b45ae54ca39a001efc0780d6e0aadd8fb5fa0b7d9c6d59de4ada0b1d6c3be3 records 0 segments 0
+src0 ok sha256 431c7bfed2499633fc2023ccdc39e2e344e23156fc688cb3947d92b384e10c33 records 1 segments 1
+";
+
+const CLEANED: &[u8] = b"clean usr0 records 2 to 1 copied 2
+clean web0 records 0 to 0 copied 0
+clean src0 records 1 to 1 copied 0
+";
+
+const CLEANED_AGAIN: &[u8] = b"clean usr0 records 1 to 1 copied 0
+clean web0 records 0 to 0 copied 0
+clean src0 records 1 to 1 copied 0
+";
+
+#[test]
+fn cleans_volumes(rt: HostRuntime) -> Result<(), Fail> {
+    let three = THREE_VOLUMES.as_bytes();
+    let formatted = b"format usr0 blocks 1066\nformat web0 blocks 1066\nformat src0 blocks 1066\n";
+    let mut bay = MemBay::new(rt.alloc());
+    let rows = [
+        configured("clean", three, 12, b"fault 12 usr0 absent\n"),
+        replayed("format", three, b"", 0, formatted),
+        replayed("replay --each --reclaim off", three, OFFLOADS, 0, KEPT),
+        configured("check", three, 0, CHECKED),
+        configured("clean now", three, 1, b"fault 1 words\n"),
+        configured("clean", b"=", 2, b"fault 2 config not toml\n"),
+        Row {
+            settings: Some(0),
+            ..configured("clean", three, 8, b"fault 8 config\n")
+        },
+        configured("clean", three, 0, CLEANED),
+        configured("check", three, 0, CHECKED_CLEAN),
+        configured("clean", three, 0, CLEANED_AGAIN),
+        Row {
+            sink: Some(0),
+            ..configured("clean", three, 7, b"")
+        },
+        configured("check", three, 0, CHECKED_CLEAN),
+    ];
+    try_all(&rt, rt.alloc(), &rows, &mut bay)
+}
 
 const SMALL_VOLUMES: &[u8] = b"segment_blocks = 16
 awake_mw = 8000

@@ -3,7 +3,7 @@ use Rattle.clap.specs.Words.{Row, Text, found_of, rows_of}
 use Rattle.solo.specs.Volume.{target_of}
 use Rattle.command_words.specs.Commands.{AsksNothing}
 use Rattle.command_words.specs.Values.{NoNames, NoVolume, named_by}
-use Rattle.command_words.specs.declared.command.Command.TheVariants.{Solo, Format, Replay, Check, Dump, Gen, Soak, WhatIf, ViewAdd, ViewRemove}
+use Rattle.command_words.specs.declared.command.Command.TheVariants.{Solo, Format, Replay, Check, Dump, Gen, Soak, WhatIf, ViewAdd, ViewRemove, Clean}
 use Rattle.command_words.proofs.Unique.{apart}
 use Rattle.command_words.proofs.command.read.Goals as goal
 
@@ -18,6 +18,7 @@ no_solo name rows is none (Soak asked options) asks = apart (codes "solo") (code
 no_solo name rows is none WhatIf asks = apart (codes "solo") (codes "whatif") refl refl (sym is ∙ asks.named)
 no_solo name rows is none (ViewAdd names) asks = apart (codes "solo") (codes "view-add") refl refl (sym is ∙ asks.named)
 no_solo name rows is none (ViewRemove names) asks = apart (codes "solo") (codes "view-remove") refl refl (sym is ∙ asks.named)
+no_solo name rows is none Clean asks = apart (codes "solo") (codes "clean") refl refl (sym is ∙ asks.named)
 
 no_view_add : (name : Text) (rows : List Row) → name ≡ codes "view-add" → NoNames rows → AsksNothing name rows
 no_view_add name rows is none (Solo volume) asks = apart (codes "view-add") (codes "solo") refl refl (sym is ∙ asks.named)
@@ -30,6 +31,7 @@ no_view_add name rows is none (Soak asked options) asks = apart (codes "view-add
 no_view_add name rows is none WhatIf asks = apart (codes "view-add") (codes "whatif") refl refl (sym is ∙ asks.named)
 no_view_add name rows is none (ViewAdd names) asks = none (named_by names) asks.values
 no_view_add name rows is none (ViewRemove names) asks = apart (codes "view-add") (codes "view-remove") refl refl (sym is ∙ asks.named)
+no_view_add name rows is none Clean asks = apart (codes "view-add") (codes "clean") refl refl (sym is ∙ asks.named)
 
 no_view_remove : (name : Text) (rows : List Row) → name ≡ codes "view-remove" → NoNames rows → AsksNothing name rows
 no_view_remove name rows is none (Solo volume) asks = apart (codes "view-remove") (codes "solo") refl refl (sym is ∙ asks.named)
@@ -42,6 +44,7 @@ no_view_remove name rows is none (Soak asked options) asks = apart (codes "view-
 no_view_remove name rows is none WhatIf asks = apart (codes "view-remove") (codes "whatif") refl refl (sym is ∙ asks.named)
 no_view_remove name rows is none (ViewAdd names) asks = apart (codes "view-remove") (codes "view-add") refl refl (sym is ∙ asks.named)
 no_view_remove name rows is none (ViewRemove names) asks = none (named_by names) asks.values
+no_view_remove name rows is none Clean asks = apart (codes "view-remove") (codes "clean") refl refl (sym is ∙ asks.named)
 
 pub returns-in_err-volume_of-in-solo-clause-none : goal.returns-in_err-volume_of-in-solo-clause-none
 returns-in_err-volume_of-in-solo-clause-none c =

@@ -8,8 +8,8 @@ use Rattle.wol_run.proofs.viewing.change_view.Goals as goal
 
 -- ---- What it does
 
-pub tell_fault-requires-in-Err-Fault : goal.tell_fault-requires-in-Err-Fault
-tell_fault-requires-in-Err-Fault g c = record { told = λ same. subst CanEnd same (sink_said _ _ _ _ _ _ _ _ _ _ _ (rw c.in-Err-Fault.field-0-is at c.in-Err-Fault.ensures.content)).1 }
+pub tell_fault-in-Err-Fault-requires : goal.tell_fault-in-Err-Fault-requires
+tell_fault-in-Err-Fault-requires g c = record { told = λ same. subst CanEnd same (sink_said _ _ _ _ _ _ _ _ _ _ _ (rw c.in-Err-Fault.field-0-is at c.in-Err-Fault.ensures.content)).1 }
 
 pub returns-in-Err-clause-content : goal.returns-in-Err-clause-content
 returns-in-Err-clause-content g c = inr (not_begun _ _ _ _ _ _ _ _ c.in-Err.fault c.in-Err.ensures.err refl c.tell_fault.ensures.content)
