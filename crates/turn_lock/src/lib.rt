@@ -26,6 +26,7 @@ mod steps;
 mod turns;
 mod view;
 
+pub use chosen::Chosen;
 pub use lock::{NoMemory, Turn, TurnLock};
 pub use lock_name::LockName;
 pub use object::{History, Named, Object};
