@@ -65,6 +65,9 @@ pub fn next_to_go(index: &Index, lanes: &[bool]) -> Option<u64>
         (λ e. can_go lanes.now index.now.entries e ≡ true → v ≤ e.listed.version)
         index.now.entries) }
 {
+    if index.is_empty() {
+        return None;
+    }
     let mut from = 0;
     while let Some(version) = index.first_going(from, lanes) {
         if let Some(found) = going(index, lanes, version) {
@@ -93,6 +96,9 @@ pub fn next_due(index: &Index, lanes: &[bool]) -> Option<u64>
         (λ e. can_go_home lanes.now index.now.entries e ≡ true → v ≤ e.listed.version)
         index.now.entries) }
 {
+    if index.is_empty() {
+        return None;
+    }
     let mut from = 0;
     while let Some(version) = index.first_due(from, lanes) {
         if let Some(found) = due_one(index, lanes, version) {

@@ -2,7 +2,7 @@ use Rattle.std.proofs.Common.{sym, ap, ◌∙◌}
 use Rattle.std.specs.Prelude.{option_map}
 use Rattle.wol_model.specs.Index.{Indexed, listed_in, has_due}
 use Rattle.garbage_list.specs.Least.{can_go_home}
-use Rattle.garbage_list.proofs.Finding.{first_told, none_at, none_through, none_below, none_left, none_last}
+use Rattle.garbage_list.proofs.Finding.{first_told, none_at, none_through, none_below, none_left, none_last, nothing_first}
 use Rattle.garbage_list.proofs.find.next_due.Goals as goal
 
 pub returns-in-Some-due_one-clause-value : goal.returns-in-Some-due_one-clause-value
@@ -29,3 +29,6 @@ loop-version-preserved c = none_through (can_go_home c.args.lanes.now c.args.ind
 
 pub returns-clause-value : goal.returns-clause-value
 returns-clause-value c = ap (option_map (λ (e : Indexed). e.listed.version)) (sym (none_left c.args.lanes.now (λ (e : Indexed). has_due (listed_in c.args.index.now.entries) e.listed) c.loop-version.from c.args.index.now.entries c.loop-version.invariant c.in_default.ensures.none))
+
+pub returns-then-is_empty-clause-value : goal.returns-then-is_empty-clause-value
+returns-then-is_empty-clause-value c = nothing_first (can_go_home c.args.lanes.now c.args.index.now.entries) c.args.index.now.entries (sym c.is_empty.ensures ∙ c.if-is_empty.true)
