@@ -3,3 +3,4 @@ pub mod Piecewise
 pub mod Asked
 pub mod Replies
 pub mod Served
+pub mod Along

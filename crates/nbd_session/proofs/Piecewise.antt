@@ -1,11 +1,13 @@
 -- A range, piece by piece.
-use Rattle.std.proofs.Common.{◌≡◌, ◌<◌, ◌+◌, ◌*◌, ◌/◌, ℕ, zero, suc, List, [], ◌∷◌, ◌++◌, length, take, drop, refl, sym, ◌∙◌, ap, subst, arith, append_assoc, Result, Ok, Err, MatchResult}
+use Rattle.std.proofs.Common.{◌≡◌, ◌<◌, ◌≤◌, ◌+◌, ◌*◌, ◌/◌, ℕ, zero, suc, List, [], ◌∷◌, ◌++◌, length, take, drop, refl, sym, ◌∙◌, ap, subst, arith, append_assoc, length-drop, Result, Ok, Err, MatchResult}
 use Rattle.std.proofs.Math.Seq.{take-add, take-length}
-use Rattle.std.proofs.lemmas.List.{take-append-drop}
+use Rattle.std.proofs.lemmas.List.{length-take-le, take-append-drop}
 use Rattle.std.specs.Simd.{first_chunks}
 use Rattle.wol_disk.specs.Disk.{Block}
 use Rattle.nbd_session.specs.declared.volume.Refusal.{Refusal}
-use Rattle.nbd_session.specs.Ranges.{HasRead, HasWritten, HasNotWritten, ReadsPiece, bytes_of, piece_of}
+use Rattle.std.specs.List.{AllByRecursion}
+use Rattle.std.proofs.lemmas.List.Elements.{All-drop, All-from_recursion, All-take}
+use Rattle.nbd_session.specs.Ranges.{AreWhole, HasRead, HasWritten, HasNotWritten, ReadsPiece, bytes_of, piece_of}
 use Rattle.nbd_session.specs.Turns.{Turn, Wrote, NotWrote}
 
 pub bytes-append : (xs ys : List Block) → bytes_of (xs ++ ys) ≡ bytes_of xs ++ bytes_of ys
@@ -33,6 +35,26 @@ whole_chunks xs count blocks size is =
     let e : length xs / 512 * 512 ≡ length xs = omega arith in
     ap (λ (bs : List Block). bytes_of bs) is ∙ bytes-chunks (length xs / 512) xs ∙ ap (λ (n : ℕ). take n xs) e ∙ take-length xs
 
+-- bytes are cut into whole blocks
+pub chunks_whole : (count : ℕ) (xs : List ℕ) → count * 512 ≤ length xs → AllByRecursion (λ (b : Block). length b ≡ 512) (first_chunks 512 count xs)
+chunks_whole zero xs fits = tt
+chunks_whole (suc count) xs fits =
+    let long : 512 ≤ length xs = omega arith in
+    let rest : count * 512 ≤ length (drop 512 xs) = omega (arith, length-drop 512 xs) in
+    (length-take-le 512 xs long, chunks_whole count (drop 512 xs) rest)
+
+pub whole_of : (xs : List ℕ) (blocks : List Block) → blocks ≡ first_chunks 512 (length xs / 512) xs → AreWhole blocks
+whole_of xs blocks is =
+    let fits : length xs / 512 * 512 ≤ length xs = omega arith in
+    let IsWhole : Block → Type 0 = λ (b : Block). length b ≡ 512 in
+    All-from_recursion IsWhole blocks (subst (λ (bs : List Block). AllByRecursion IsWhole bs) (sym is) (chunks_whole (length xs / 512) xs fits))
+
+-- a piece of whole blocks is one
+whole_part : (done piece : ℕ) (blocks : List Block) → AreWhole blocks → AreWhole (take piece (drop done blocks))
+whole_part done piece blocks whole =
+    let IsWhole : Block → Type 0 = λ (b : Block). length b ≡ 512 in
+    All-take IsWhole piece (drop done blocks) (All-drop IsWhole done blocks whole)
+
 module _ {V : Type 0} (turned : Turn → V → V → Type 0) (most at count : ℕ) (v : V) where
   reads_piece : (done piece : ℕ) (old new : List ℕ) (m w : V) → HasRead turned most at count v done (take (512 * done) old) m → done < count → piece ≡ piece_of most count done → ReadsPiece {T = Unit {0}} turned (at + done) piece done old new m w (Ok tt) → HasRead turned most at count v (done + piece) (take (512 * (done + piece)) new) w
   reads_piece done piece old new m w so more is (blocks, size, took, put) =
@@ -46,16 +68,16 @@ module _ {V : Type 0} (turned : Turn → V → V → Type 0) (most at count : �
       reads_piece done piece old new m w so more is (subst (λ (n : ℕ). ReadsPiece {T = Unit {0}} turned (at + done) n done old new m w (Ok tt)) same read)
 
   -- one more piece was written
-  pub writes_on : (done piece : ℕ) (blocks part : List Block) (m w : V) → HasWritten turned most at count v done (bytes_of (take done blocks)) m → turned (Wrote (at + done) part) m w → part ≡ take piece (drop done blocks) → length (take piece (drop done blocks)) ≡ piece → piece ≡ piece_of most count done → done < count → HasWritten turned most at count v (done + piece) (bytes_of (take (done + piece) blocks)) w
-  writes_on done piece blocks part m w so took same size is more =
+  pub writes_on : (done piece : ℕ) (blocks part : List Block) (m w : V) → HasWritten turned most at count v done (bytes_of (take done blocks)) m → turned (Wrote (at + done) part) m w → part ≡ take piece (drop done blocks) → length (take piece (drop done blocks)) ≡ piece → piece ≡ piece_of most count done → done < count → AreWhole blocks → HasWritten turned most at count v (done + piece) (bytes_of (take (done + piece) blocks)) w
+  writes_on done piece blocks part m w so took same size is more whole =
       let P : ℕ → Type 0 = λ (n : ℕ). HasWritten turned most at count v (done + n) (bytes_of (take done blocks) ++ bytes_of (take piece (drop done blocks))) w in
       let Q : List ℕ → Type 0 = λ (bs : List ℕ). HasWritten turned most at count v (done + piece) bs w in
       let R : List Block → Type 0 = λ (bs : List Block). turned (Wrote (at + done) bs) m w in
-      subst Q (sym (bytes-more blocks done piece)) (subst P size (HasWritten.next done (bytes_of (take done blocks)) m w (take piece (drop done blocks)) so more (size ∙ is) (subst R same took)))
+      subst Q (sym (bytes-more blocks done piece)) (subst P size (HasWritten.next done (bytes_of (take done blocks)) m w (take piece (drop done blocks)) so more (size ∙ is) (whole_part done piece blocks whole) (subst R same took)))
 
   -- a piece was refused
-  pub writes_no_more : (done piece : ℕ) (blocks part : List Block) (m w : V) (refusal : Refusal) → HasWritten turned most at count v done (bytes_of (take done blocks)) m → turned (NotWrote (at + done) part refusal) m w → part ≡ take piece (drop done blocks) → length (take piece (drop done blocks)) ≡ piece → piece ≡ piece_of most count done → done < count → HasNotWritten turned most at count (bytes_of blocks) v w refusal
-  writes_no_more done piece blocks part m w refusal so took same size is more =
+  pub writes_no_more : (done piece : ℕ) (blocks part : List Block) (m w : V) (refusal : Refusal) → HasWritten turned most at count v done (bytes_of (take done blocks)) m → turned (NotWrote (at + done) part refusal) m w → part ≡ take piece (drop done blocks) → length (take piece (drop done blocks)) ≡ piece → piece ≡ piece_of most count done → done < count → AreWhole blocks → HasNotWritten turned most at count (bytes_of blocks) v w refusal
+  writes_no_more done piece blocks part m w refusal so took same size is more whole =
       let R : List Block → Type 0 = λ (bs : List Block). turned (NotWrote (at + done) bs refusal) m w in
       record {
         done = done;
@@ -65,6 +87,7 @@ module _ {V : Type 0} (turned : Turn → V → V → Type 0) (most at count : �
         more = more;
         blocks = take piece (drop done blocks);
         size = size ∙ is;
+        whole = whole_part done piece blocks whole;
         last = subst R same took;
         rest = bytes_of (drop (done + piece) blocks);
         is = bytes-parts blocks done piece;

@@ -1,5 +1,5 @@
 -- A range is read and written in pieces, one turn each.
-use Rattle.std.specs.Prelude.{◌≡◌, ◌+◌, ◌-◌, ◌*◌, ◌++◌, ◌<◌, ℕ, List, [], length, min, take, Result, Ok, Err}
+use Rattle.std.specs.Prelude.{◌≡◌, ◌+◌, ◌-◌, ◌*◌, ◌++◌, ◌<◌, ℕ, List, [], length, min, take, All, Result, Ok, Err}
 use Rattle.std.specs.List.{flat_map}
 use Rattle.nbd_session.specs.declared.volume.Refusal.{Refusal}
 use Rattle.wol_disk.specs.Disk.{Block}
@@ -8,6 +8,10 @@ use Rattle.nbd_session.specs.Turns.{Turn, Read, Wrote, NotRead, NotWrote}
 -- blocks one after another, as bytes
 abbrev pub bytes_of : List Block → List ℕ
 bytes_of blocks = flat_map (λ b. b) blocks
+
+-- each of these blocks has all its bytes
+abbrev pub AreWhole : List Block → Type 0
+AreWhole blocks = All (λ b. length b ≡ 512) blocks
 
 -- the blocks of the next piece of a range of so many blocks, of which some are done
 abbrev pub piece_of : (most count done : ℕ) → ℕ
@@ -21,7 +25,7 @@ pub data HasRead {V : Type 0} (turned : Turn → V → V → Type 0) (most at co
 -- the first blocks of a range were written, piece by piece: they hold these bytes
 pub data HasWritten {V : Type 0} (turned : Turn → V → V → Type 0) (most at count : ℕ) (v : V) : (done : ℕ) → List ℕ → V → Type 0 where
   none : HasWritten turned most at count v 0 [] v
-  next : (done : ℕ) (got : List ℕ) (m w : V) (blocks : List Block) → HasWritten turned most at count v done got m → done < count → length blocks ≡ piece_of most count done → turned (Wrote (at + done) blocks) m w → HasWritten turned most at count v (done + length blocks) (got ++ bytes_of blocks) w
+  next : (done : ℕ) (got : List ℕ) (m w : V) (blocks : List Block) → HasWritten turned most at count v done got m → done < count → length blocks ≡ piece_of most count done → AreWhole blocks → turned (Wrote (at + done) blocks) m w → HasWritten turned most at count v (done + length blocks) (got ++ bytes_of blocks) w
 
 -- the first blocks of a range were read, and then a piece was refused
 pub record HasNotRead {V : Type 0} (turned : Turn → V → V → Type 0) (most at count : ℕ) (v w : V) (refusal : Refusal) : Type 0 where
@@ -41,6 +45,7 @@ pub record HasNotWritten {V : Type 0} (turned : Turn → V → V → Type 0) (mo
   pub more : done < count
   pub blocks : List Block
   pub size : length blocks ≡ piece_of most count done
+  pub whole : AreWhole blocks
   pub last : turned (NotWrote (at + done) blocks refusal) m w
   pub rest : List ℕ
   pub is : given ≡ got ++ bytes_of blocks ++ rest

@@ -1,6 +1,6 @@
 // A range is read and written in pieces, one turn each.
 ghost use Rattle.std.specs.Prelude.{◌≡◌, ◌≤◌, ◌+◌, ◌*◌, ◌/◌, ◌++◌, ◌<◌, ◌^◌, length, take, MatchResult};
-ghost use Rattle.nbd_session.specs.Ranges.{HasRead, HasWritten, HasNotRead, HasNotWritten, ReadsPiece, bytes_of};
+ghost use Rattle.nbd_session.specs.Ranges.{AreWhole, HasRead, HasWritten, HasNotRead, HasNotWritten, ReadsPiece, bytes_of};
 
 use crate::volume::{Refusal, Volume};
 use wol_disk::Block;
@@ -74,6 +74,7 @@ pub(crate) fn read_range<V: Volume>(
 // Writes blocks from place `at` on.
 fn write_blocks<V: Volume>(volume: &mut V, at: u64, blocks: &[Block]) -> Result<(), Refusal>
     requires ready { V.Ready volume.old }
+    requires whole { AreWhole blocks.now }
     requires fits { at + length blocks.now ≤ V.home volume.old }
     requires small { at + length blocks.now < 2 ^ 64 }
     ensures ready { V.Ready volume.new }

@@ -1,6 +1,6 @@
 -- The entry of a write after a drain, and of one whose drain failed.
 use Rattle.std.proofs.Common.{◌≡◌, ◌^◌, ℕ, Bool, true, false, List, [], ◌∷◌, ◌++◌, length, None, Some, Result, Ok, Err, refl, sym, ap, subst, ◌∙◌, inl, inr}
-use Rattle.std.specs.Prelude.{IsSome, is_ok, ◌↔◌}
+use Rattle.std.specs.Prelude.{IsSome, is_some, is_ok, ◌↔◌}
 use Rattle.std.specs.List.{list_any, range_with_len}
 use Rattle.turn_lock.specs.Passes.{pass_number}
 use Rattle.wol_disk.specs.Disk.{State, Block}
@@ -28,6 +28,7 @@ use Rattle.manager.specs.declared.part.StepFault.{StepFault}
 use Rattle.manager.specs.declared.part.StepFault.TheVariants as fault
 use Rattle.manager.specs.declared.part.WriteRefusal.{WriteRefusal}
 use Rattle.manager.specs.declared.part.WriteRefusal.TheVariants.{Full, DiskFault, Down, VersionsSpent, NoMemory}
+use Rattle.request_turns.specs.Causes.{CanTake, IsCauseOfWrite}
 use Rattle.request_turns.specs.Counts.{CountsMore, CountsEntry, IsTakenOff}
 use Rattle.request_turns.specs.Entries.{note_of, written_outcome, refused_as, has_broken, IsWrittenAs}
 use Rattle.request_turns.specs.Turns.{ManagerPass, began, notes_seen, HasLeft, IsBroken, Stays}
@@ -79,6 +80,15 @@ module _ {D : Type 0} (old new : Manager D) (first : ℕ) (blocks : List Block) 
   drain_entry view mine (Err VersionsSpent) at look spent = (refl, ap (λ (k : Look). k.next) look ∙ spent refl)
   drain_entry view mine (Err NoMemory) at look spent = refl
 
+  drain_cause : (view : List ℕ) (before : List Noted) (a : Result Place WriteRefusal) → CanTake before l → old.down ≡ None → IsPlaceOf view a P → ((d : Part) → (a ≡ Err (Down d)) ↔ (old.down ≡ Some d))
+      → ((a ≡ Err VersionsSpent) → old.next ≡ 2 ^ 63) → IsCauseOfWrite before l (written_outcome true a)
+  drain_cause view before (Ok p) takes up at down spent = takes
+  drain_cause view before (Err Full) takes up at down spent = absurd (let no : AtHome ≡ Nowhere = sym at_home ∙ at in cc)
+  drain_cause view before (Err (DiskFault p)) takes up at down spent = takes
+  drain_cause view before (Err (Down p)) takes up at down spent = absurd (let no : true ≡ false = sym (ap is_some ((down p).0 refl)) ∙ ap is_some up in cc)
+  drain_cause view before (Err VersionsSpent) takes up at down spent = (takes.unbroken, ap (λ (k : Look). k.next) (sym bare) ∙ spent refl)
+  drain_cause view before (Err NoMemory) takes up at down spent = takes
+
   drain_stays : (view : List ℕ) (a : Result Place WriteRefusal) → IsPlaceOf view a P → HasLook P w a (look_of_manager old) (look_of_manager new) → written next first blocks a ≡ Kept → Stays l (drain_note a)
   drain_stays view (Ok place.Home) at look kept = absurd (let no : Wrote (w ∷ []) ≡ Kept = kept in cc)
   drain_stays view (Ok (place.Log logger)) at look kept = absurd (let no : Wrote (log_write next first blocks ∷ []) ≡ Kept = kept in cc)
@@ -120,16 +130,18 @@ module _ {D : Type 0} (old new : Manager D) (first : ℕ) (blocks : List Block) 
 
 pub has_drained : {D : Type 0} (tells : Bool) (state : D → State) (old new : Manager D) (first : ℕ) (blocks : List Block) (next : ℕ) (passed view : List ℕ) (a : Result Place WriteRefusal) (p q : ManagerPass D) (done t u : Tally) (failed : Bool) → failed ≡ has_broken a
     → IsTakenOff done (last_look (began p).look (notes_seen p)) (look_of_manager old) → (failed ≡ false → CountsMore done.blocks done.records t u) → (failed ≡ true → u ≡ t)
+    → CanTake (notes_seen p) (last_look (began p).look (notes_seen p)) → old.down ≡ None
     → look_of_manager old ≡ drained (last_look (began p).look (notes_seen p)) → place_of passed (last_look (began p).look (notes_seen p)) (home_write first blocks) ≡ Nowhere
     → IsPlaceOf view a (ruled_place old new first blocks) → HasLook (ruled_place old new first blocks) (home_write first blocks) a (look_of_manager old) (look_of_manager new)
     → ((d : Part) → (a ≡ Err (Down d)) ↔ (old.down ≡ Some d)) → ((a ≡ Err VersionsSpent) ↔ ((old.down ≡ None) × (old.next ≡ 2 ^ 63))) → writing.TellsFault state a old new
     → HasLeft tells (note_of (pass_number p) (written next first blocks a) (look_of_manager new) passed (is_ok a)) p q → (IsSome new.down → IsBroken (notes_seen q)) → (new.down ≡ None → IsBroken (notes_seen q) → ⊥) → HasWritten tells first blocks (written_outcome true a) t u p q
-has_drained tells state old new first blocks next passed view a p q done t u failed is_failed taken add stays bare full at look down spent told left broken unbroken = record {
+has_drained tells state old new first blocks next passed view a p q done t u failed is_failed taken add stays takes up bare full at look down spent told left broken unbroken = record {
   note = note_of (pass_number p) (written next first blocks a) (look_of_manager new) passed (is_ok a);
   left = left;
   ruled = refl;
   entry = drain_entry old new first blocks (pass_number p) next passed (last_look (began p).look (notes_seen p)) bare full view (began p).view a at look (λ e. (spent.0 e).1);
   stays = drain_stays old new first blocks (pass_number p) next passed (last_look (began p).look (notes_seen p)) bare full view a at look;
+  cause = drain_cause old new first blocks (pass_number p) next passed (last_look (began p).look (notes_seen p)) bare full view (notes_seen p) a takes up at down (λ e. (spent.0 e).1);
   fault = write_fault state old new true (notes_seen q) a told down broken
       (was_spent tells state old new (ruled_place old new first blocks) (home_write first blocks) (note_of (pass_number p) (written next first blocks a) (look_of_manager new) passed (is_ok a)) p q refl left a look told spent unbroken);
   counted = drain_counted old new first blocks (pass_number p) next passed (last_look (began p).look (notes_seen p)) bare full done t u taken failed add stays view a is_failed at look;
@@ -146,14 +158,16 @@ broke_stands tells state old new b notes n1 pass (fault.DiskFault p) failed kept
 broke_stands tells state old new b notes n1 pass (fault.Down p) failed kept breaks keeps = absurd failed
 
 pub write_broken : {D : Type 0} (tells : Bool) (new : Manager D) (first : ℕ) (blocks : List Block) (passed : List ℕ) (f : StepFault) (p q : ManagerPass D) (t : Tally) → IsDiskFault f
-    → HasLeft tells (note_of (pass_number p) (Broke []) (look_of_manager new) passed false) p q → (IsSome new.down → IsBroken (notes_seen q)) → IsSome new.down → HasWritten tells first blocks (outcome.NoWrite (refused_as f)) t t p q
-write_broken tells new first blocks passed (fault.DiskFault d) p q t failed left broken down = record {
+    → HasLeft tells (note_of (pass_number p) (Broke []) (look_of_manager new) passed false) p q → (IsSome new.down → IsBroken (notes_seen q)) → IsSome new.down
+    → CanTake (notes_seen p) (last_look (began p).look (notes_seen p)) → HasWritten tells first blocks (outcome.NoWrite (refused_as f)) t t p q
+write_broken tells new first blocks passed (fault.DiskFault d) p q t failed left broken down takes = record {
   note = note_of (pass_number p) (Broke []) (look_of_manager new) passed false;
   left = left;
   ruled = refl;
   entry = ([], refl, inl refl);
   stays = λ kept. absurd (let no : Broke [] ≡ Kept = kept in cc);
+  cause = takes;
   fault = broken down;
   counted = entry_quiet (last_look (began p).look (notes_seen p)) (note_of (pass_number p) (Broke []) (look_of_manager new) passed false) t refl;
 }
-write_broken tells new first blocks passed (fault.Down d) p q t failed left broken down = absurd failed
+write_broken tells new first blocks passed (fault.Down d) p q t failed left broken down takes = absurd failed

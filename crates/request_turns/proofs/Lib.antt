@@ -1,3 +1,5 @@
+pub mod Parts
+pub mod LookNotes
 pub mod WriteNotes
 pub mod DrainNotes
 pub mod Merging

@@ -12,7 +12,7 @@ use Rattle.wol_promise.specs.Ruled.{Noted, entries_of}
 use Rattle.wol_promise.specs.Stands.{HasHistory}
 use Rattle.wol_promise.proofs.ReadCode.{noted_is_back}
 use Rattle.manager.specs.Seen.{down_of}
-use Rattle.manager.specs.Stands.{Stands, StandsCoded, notes_of}
+use Rattle.manager.specs.Stands.{Keeps, Stands, StandsCoded, notes_of}
 use Rattle.manager.specs.declared.base.ManagerBase.{ManagerBase}
 use Rattle.manager.specs.declared.manager.Manager.{Manager}
 use Rattle.manager.specs.declared.part.Part.{Part}
@@ -26,6 +26,24 @@ notes_at es k n is = map-append (λ (e : Entry). noted_of e.0 e.1) es ((k, code_
 pub stands_coded : {D : Type 0} (tells : Bool) (state : D → State) (m : Manager D) (b : ManagerBase) (es : List Entry) (k : ℕ) (n : Noted) → n.entry.pass ≡ k
     → Stands tells state m b (notes_of es ++ n ∷ []) → StandsCoded tells state m b (es ++ (k, code_of n) ∷ [])
 stands_coded tells state m b es k n is s = subst (Stands tells state m b) (sym (notes_at es k n is)) s
+
+is_told : (o : Option Part) → is_some (down_of o) ≡ is_some o
+is_told None = refl
+is_told (Some p) = refl
+
+-- a manager is down exactly where a disk call failed among the entries that it stands for
+module _ {D : Type 0} (tells : Bool) (state : D → State) (m : Manager D) (b : ManagerBase) (notes : List Noted) (k : Keeps tells state m b notes) where
+  pub was_broken : IsSome m.down → IsBroken notes
+  was_broken down = sym k.upholds.is_down ∙ is_told m.down ∙ down
+
+  pub was_down : IsBroken notes → IsSome m.down
+  was_down broken = sym (is_told m.down) ∙ k.upholds.is_down ∙ broken
+
+  pub was_unbroken : m.down ≡ None → IsBroken notes → ⊥
+  was_unbroken up broken =
+      let down : is_some m.down ≡ true = was_down broken in
+      let none : is_some m.down ≡ false = ap is_some up in
+      absurd (cc (down, none))
 
 module _ {D : Type 0} (tells : Bool) (state : D → State) (m : Manager D) (p q : ManagerPass D) (n : Noted) (is : n.entry.pass ≡ pass_number p)
     (s : Stands tells state m (pass_lock p).base (notes_seen p ++ n ∷ [])) (seen : pass_seen q ≡ pass_seen p ++ (pass_number p, code_of n) ∷ []) where
@@ -43,15 +61,8 @@ module _ {D : Type 0} (tells : Bool) (state : D → State) (m : Manager D) (p q 
         (subst (HasHistory (IsTrue tells) (began p)) (sym now_seen) s.keeps.upholds.history);
   }
 
-  is_told : (o : Option Part) → is_some (down_of o) ≡ is_some o
-  is_told None = refl
-  is_told (Some p) = refl
-
   pub is_broken : IsSome m.down → IsBroken (notes_seen q)
-  is_broken down = ap (λ (notes : List Noted). is_some (flight_of (entries_of notes))) now_seen ∙ sym s.keeps.upholds.is_down ∙ is_told m.down ∙ down
+  is_broken down = subst IsBroken (sym now_seen) (was_broken tells state m (pass_lock p).base (notes_seen p ++ n ∷ []) s.keeps down)
 
   pub is_unbroken : m.down ≡ None → IsBroken (notes_seen q) → ⊥
-  is_unbroken up broken =
-      let down : is_some m.down ≡ true = sym (is_told m.down) ∙ s.keeps.upholds.is_down ∙ sym (ap (λ (notes : List Noted). is_some (flight_of (entries_of notes))) now_seen) ∙ broken in
-      let none : is_some m.down ≡ false = ap is_some up in
-      absurd (cc (down, none))
+  is_unbroken up broken = was_unbroken tells state m (pass_lock p).base (notes_seen p ++ n ∷ []) s.keeps up (subst IsBroken now_seen broken)

@@ -24,7 +24,7 @@ use Rattle.request_turns.specs.Entries.{note_of, step_operation, has_failed}
 use Rattle.request_turns.specs.declared.tally.Tally.{Tally}
 
 module _ {D : Type 0} (tells : Bool) (state : D → State) (old new : Manager D) (b : ManagerBase) (notes : List Noted) (pass : ℕ) where
-  kept_stands : IsKeep [] pass (look_of_manager old) (look_of_manager new) → last_look b.volume.began.look notes ≡ look_of_manager old → Keeps tells state new b notes
+  pub kept_stands : IsKeep [] pass (look_of_manager old) (look_of_manager new) → last_look b.volume.began.look notes ≡ look_of_manager old → Keeps tells state new b notes
       → Stands tells state new b (notes ++ note_of pass Kept (look_of_manager new) [] false ∷ [])
   kept_stands keep is k = stands_kept tells state new b notes (note_of pass Kept (look_of_manager new) [] false) []
       (record { operation_is = refl; look_is = refl; passed_is = refl; drain = refl; follows = λ _. (refl, subst (λ (l : Look). IsKeep [] pass l (look_of_manager new)) (sym is) keep) })

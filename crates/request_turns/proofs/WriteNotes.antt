@@ -1,8 +1,8 @@
 -- A write's entry, where a log or home took it or it was refused.
-use Rattle.std.proofs.Common.{◌≡◌, ◌^◌, ℕ, Bool, true, false, List, [], ◌∷◌, ◌++◌, map, Option, None, Some, Result, Ok, Err, refl, sym, ap, subst, ◌∙◌, inl, inr}
+use Rattle.std.proofs.Common.{◌≡◌, ◌<◌, ◌≤◌, ◌^◌, ℕ, Bool, true, false, List, [], ◌∷◌, ◌++◌, map, Option, None, Some, Result, Ok, Err, refl, sym, ap, subst, ◌∙◌, inl, inr, arith}
 use Rattle.std.specs.Prelude.{IsSome, is_some, ◌↔◌}
 use Rattle.wol_disk.specs.Disk.{State, Block}
-use Rattle.turn_lock.specs.Passes.{pass_number, pass_seen}
+use Rattle.turn_lock.specs.Passes.{pass_lock, pass_number, pass_seen}
 use Rattle.wol_model.specs.Blocks.{Write}
 use Rattle.wol_model.specs.ArrayLaws.{unversioned}
 use Rattle.wol_model.specs.History.{Wrote, Kept, Broke}
@@ -27,13 +27,15 @@ use Rattle.manager.specs.declared.part.WriteRefusal.TheVariants.{Full, DiskFault
 use Rattle.manager.specs.Stands.{Keeps, Stands, Leaves}
 use Rattle.manager.specs.declared.base.ManagerBase.{ManagerBase}
 use Rattle.wol_model.specs.History.{worker}
+use Rattle.request_turns.specs.Causes.{CanTake, IsCauseOfWrite, IsUnbroken}
 use Rattle.request_turns.specs.Counts.{CountsEntry}
 use Rattle.request_turns.specs.Entries.{note_of, full_note, written_outcome, is_full, IsWrittenAs, TellsFault, WasSpent}
 use Rattle.request_turns.specs.Turns.{ManagerPass, began, notes_seen, HasLeft, IsBroken, Stays}
 use Rattle.request_turns.specs.Written.{HasWritten}
 use Rattle.request_turns.specs.declared.tally.Tally.{Tally}
 use Rattle.request_turns.proofs.Counting.{entry_same, entry_quiet}
-use Rattle.request_turns.proofs.Noting.{notes_at}
+use Rattle.request_turns.proofs.Noting.{notes_at, was_broken, was_unbroken}
+use Rattle.request_turns.proofs.Parts.{no_part}
 
 -- a part that failed had this payload in flight
 pub one_flight : (next first : ℕ) (blocks : List Block) (p : Part) → unversioned (failed_write next first blocks p) ≡ home_write first blocks
@@ -144,6 +146,65 @@ write_fault state old new drained seen (Err (Down p)) told down broken spent = b
 write_fault state old new drained seen (Err VersionsSpent) told down broken spent = spent refl
 write_fault state old new drained seen (Err NoMemory) told down broken spent = tt
 
+-- ---- Why it came
+
+abbrev pub is_down : Result Place WriteRefusal → Bool
+is_down (Ok p) = false
+is_down (Err Full) = false
+is_down (Err (DiskFault p)) = false
+is_down (Err (Down p)) = true
+is_down (Err VersionsSpent) = false
+is_down (Err NoMemory) = false
+
+abbrev pub is_spent : Result Place WriteRefusal → Bool
+is_spent (Ok p) = false
+is_spent (Err Full) = false
+is_spent (Err (DiskFault p)) = false
+is_spent (Err (Down p)) = false
+is_spent (Err VersionsSpent) = true
+is_spent (Err NoMemory) = false
+
+below_spent : (n : ℕ) → n ≤ 2 ^ 63 → (n ≡ 2 ^ 63 → ⊥) → n < 2 ^ 63
+below_spent n most not = omega (arith, most, not)
+
+-- what the manager was before a write with this answer
+module _ {D : Type 0} (tells : Bool) (state : D → State) (old : Manager D) (b : ManagerBase) (before : List Noted) (keeps : Keeps tells state old b before) (l : Look) (is_l : l ≡ look_of_manager old)
+    (a : Result Place WriteRefusal) (down : (p : Part) → (a ≡ Err (Down p)) ↔ (old.down ≡ Some p)) (spent : (a ≡ Err VersionsSpent) ↔ ((old.down ≡ None) × (old.next ≡ 2 ^ 63))) where
+  was_up : is_down a ≡ false → old.down ≡ None
+  was_up up = no_part old.down (λ p is. absurd (let no : is_down a ≡ true = ap is_down ((down p).1 is) in cc (up, no)))
+
+  is_next : l.next ≡ old.next
+  is_next = ap (λ (k : Look). k.next) is_l
+
+  pub can_take : is_down a ≡ false → is_spent a ≡ false → CanTake before l
+  can_take up left = record {
+    unbroken = was_unbroken tells state old b before keeps (was_up up);
+    left = let below = below_spent old.next keeps.ready.next.1 (λ e. absurd (let no : is_spent a ≡ true = ap is_spent (spent.1 (was_up up, e)) in cc (left, no))) in
+        subst (λ (k : ℕ). k < 2 ^ 63) (sym is_next) below;
+  }
+
+  pub down_before : (p : Part) → a ≡ Err (Down p) → IsBroken before
+  down_before p is = was_broken tells state old b before keeps (ap is_some ((down p).0 is))
+
+  pub spent_before : a ≡ Err VersionsSpent → IsUnbroken before × (l.next ≡ 2 ^ 63)
+  spent_before is = let h = spent.0 is in (was_unbroken tells state old b before keeps h.0, is_next ∙ h.1)
+
+write_cause : {D : Type 0} (tells : Bool) (state : D → State) (old : Manager D) (b : ManagerBase) (before : List Noted) → Keeps tells state old b before → (l : Look) → l ≡ look_of_manager old → (drained : Bool)
+    → (a : Result Place WriteRefusal) → is_full a ≡ false → ((p : Part) → (a ≡ Err (Down p)) ↔ (old.down ≡ Some p)) → ((a ≡ Err VersionsSpent) ↔ ((old.down ≡ None) × (old.next ≡ 2 ^ 63)))
+    → IsCauseOfWrite before l (written_outcome drained a)
+write_cause tells state old b before keeps l is_l drained (Ok p) not_full down spent = can_take tells state old b before keeps l is_l (Ok p) down spent refl refl
+write_cause tells state old b before keeps l is_l drained (Err Full) not_full down spent = absurd (let no : true ≡ false = not_full in cc)
+write_cause tells state old b before keeps l is_l drained (Err (DiskFault p)) not_full down spent = can_take tells state old b before keeps l is_l (Err (DiskFault p)) down spent refl refl
+write_cause tells state old b before keeps l is_l drained (Err (Down p)) not_full down spent = down_before tells state old b before keeps l is_l (Err (Down p)) down spent p refl
+write_cause tells state old b before keeps l is_l drained (Err VersionsSpent) not_full down spent = spent_before tells state old b before keeps l is_l (Err VersionsSpent) down spent refl
+write_cause tells state old b before keeps l is_l drained (Err NoMemory) not_full down spent = can_take tells state old b before keeps l is_l (Err NoMemory) down spent refl refl
+
+-- a write that is refused as full is tried again behind a drain
+pub full_takes : {D : Type 0} (tells : Bool) (state : D → State) (old : Manager D) (b : ManagerBase) (before : List Noted) → Keeps tells state old b before → (l : Look) → l ≡ look_of_manager old
+    → (a : Result Place WriteRefusal) → is_full a ≡ true → ((p : Part) → (a ≡ Err (Down p)) ↔ (old.down ≡ Some p)) → ((a ≡ Err VersionsSpent) ↔ ((old.down ≡ None) × (old.next ≡ 2 ^ 63))) → CanTake before l
+full_takes tells state old b before keeps l is_l a full down spent =
+    can_take tells state old b before keeps l is_l a down spent (ap is_down (full_is a full)) (ap is_spent (full_is a full))
+
 module _ {D : Type 0} (tells : Bool) (state : D → State) (old new : Manager D) (first : ℕ) (blocks : List Block) (a : Result Place WriteRefusal) (next : ℕ) (is_next : next ≡ old.next) where
   abbrev at_next : (pass : ℕ) → Noted
   at_next pass = note_of pass (written next first blocks a) (look_of_manager new) (passed_in new.rooms.items) false
@@ -160,17 +221,18 @@ module _ {D : Type 0} (tells : Bool) (state : D → State) (old new : Manager D)
       (stands b notes (write_note old new first blocks pass a) client (is_write_note old new first blocks pass view a at look (last_look b.volume.began.look notes) is) keeps)
 
   pub has_written : (p q : ManagerPass D) (t : Tally)
-      → is_full a ≡ false → map logger_of old.lanes.items ≡ (began p).view → last_look (began p).look (notes_seen p) ≡ look_of_manager old
+      → is_full a ≡ false → Keeps tells state old (pass_lock p).base (notes_seen p) → map logger_of old.lanes.items ≡ (began p).view → last_look (began p).look (notes_seen p) ≡ look_of_manager old
       → IsPlaceOf (map logger_of old.lanes.items) a (ruled_place old new first blocks) → HasLook (ruled_place old new first blocks) (home_write first blocks) a (look_of_manager old) (look_of_manager new)
       → ((d : Part) → (a ≡ Err (Down d)) ↔ (old.down ≡ Some d)) → ((a ≡ Err VersionsSpent) ↔ ((old.down ≡ None) × (old.next ≡ 2 ^ 63))) → writing.TellsFault state a old new
       → HasLeft tells (note_of (pass_number p) (written next first blocks a) (look_of_manager new) (passed_in new.rooms.items) false) p q → (IsSome new.down → IsBroken (notes_seen q)) → (new.down ≡ None → IsBroken (notes_seen q) → ⊥)
       → HasWritten tells first blocks (written_outcome false a) t t p q
-  has_written p q t not_full view is at look down spent told left broken unbroken = record {
+  has_written p q t not_full keeps view is at look down spent told left broken unbroken = record {
     note = write_note old new first blocks (pass_number p) a;
     left = left_here;
     ruled = refl;
     entry = write_entry old new first blocks (pass_number p) (began p).view a not_full (subst (λ (v : List ℕ). IsPlaceOf v a (ruled_place old new first blocks)) view at) look (λ e. (spent.0 e).1);
     stays = write_stays old new first blocks (pass_number p) a look (last_look (began p).look (notes_seen p)) is;
+    cause = write_cause tells state old (pass_lock p).base (notes_seen p) keeps (last_look (began p).look (notes_seen p)) is false a not_full down spent;
     fault = write_fault state old new false (notes_seen q) a told down broken
         (was_spent tells state old new (ruled_place old new first blocks) (home_write first blocks) (write_note old new first blocks (pass_number p) a) p q refl left_here a look told spent unbroken);
     counted = write_counted old new first blocks (pass_number p) a look (last_look (began p).look (notes_seen p)) is t;
@@ -183,10 +245,6 @@ module _ {D : Type 0} (tells : Bool) (state : D → State) (old new : Manager D)
 
 differ : (p : Part) → (let f : Result Place WriteRefusal = Err Full in let r : Result Place WriteRefusal = Err (Down p) in f ≡ r) → ⊥
 differ p is = absurd (let no : true ≡ false = ap is_full is in cc)
-
-no_part : (o : Option Part) → ((p : Part) → o ≡ Some p → ⊥) → o ≡ None
-no_part None not = refl
-no_part (Some p) not = absurd (not p refl)
 
 module _ {D : Type 0} (old new : Manager D) (first : ℕ) (blocks : List Block) (a : Result Place WriteRefusal) (full : is_full a ≡ true) (k : Look) (is_l : k ≡ look_of_manager old) where
   pub full_place : (view : List ℕ) → IsPlaceOf view a (ruled_place old new first blocks) → place_of (passed_in new.rooms.items) k (home_write first blocks) ≡ Nowhere

@@ -104,6 +104,12 @@ pub record IsReadEntry (r : Request) (mark : ℕ) (sources : Sources) (n : Noted
   pub logged : sources.logged ≡ count_by (is_covered n.look.listed) (range_with_len r.lbn r.count)
   pub all : sources.home + sources.logged ≡ r.count
 
+-- a Read of these blocks; so many of them came from logs as records cover
+pub record IsReadOf (first : ℕ) (blocks : List Block) (sources : Sources) (n : Noted) : Type 0 where
+  pub operation : n.entry.operation ≡ Read first blocks
+  pub logged : sources.logged ≡ count_by (is_covered n.look.listed) (range_with_len first (length blocks))
+  pub all : sources.home + sources.logged ≡ length blocks
+
 -- a write to a log left the newest record on this logger
 abbrev pub IsPlaced : (view : List ℕ) → Place → Look → Type 0
 IsPlaced view place.Home l = ⊤
@@ -142,6 +148,11 @@ IsWrittenAs view w (outcome.Wrote place drained) n = IsWriteEntry view w place d
 IsWrittenAs view w (outcome.NoRead refusal) n = ⊥
 IsWrittenAs view w (outcome.NoWrite refusal) n = IsRefusedWrite w refusal n
 IsWrittenAs view w outcome.NotRun n = ⊥
+
+-- the entry of a read that gave these blocks, or was refused
+abbrev pub IsReadAs : (first : ℕ) → List Block → Result Sources ReadRefusal → Noted → Type 0
+IsReadAs first blocks (Ok sources) n = IsReadOf first blocks sources n
+IsReadAs first blocks (Err refusal) n = IsRefusedRead refusal n
 
 -- the entry of a request with this outcome; `view` has the loggers of the volume's view
 abbrev pub IsEntryOf : (view : List ℕ) → Request → Outcome → Noted → Type 0

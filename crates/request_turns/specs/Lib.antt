@@ -3,7 +3,9 @@ pub mod Requests
 pub mod Entries
 pub mod Answered
 pub mod Counts
+pub mod Causes
 pub mod Written
+pub mod Blocks
 pub mod Closed
 pub mod Helped
 pub mod Begun

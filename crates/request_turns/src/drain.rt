@@ -9,6 +9,7 @@ ghost use Rattle.manager.specs.Answers.{home_write, written};
 ghost use Rattle.manager.specs.Reclaim.{OnKept, OnFailed, KeepsOn, BreaksOff, Always};
 ghost use Rattle.manager.specs.Seen.{look_of_manager};
 ghost use Rattle.manager.specs.Stands.{Keeps, Stands, IsReady, IsHome, IsShared, passed_in};
+ghost use Rattle.request_turns.specs.Causes.{CanTake};
 ghost use Rattle.request_turns.specs.Counts.{HasTaken, IsTakenOff};
 ghost use Rattle.request_turns.specs.Entries.{note_of, full_note, refused_as, has_broken};
 ghost use Rattle.request_turns.specs.Turns.{notes_seen, HasLeft, IsBroken};
@@ -129,6 +130,7 @@ fn write_home<D: Disk, R: Wait, B: Memo>(
     requires done { IsTakenOff done (last_look (pass_lock pass.old).base.volume.began.look (notes_seen pass.old)) (look_of_manager turn.value) }
     requires bare { look_of_manager turn.value ≡ drained (last_look (pass_lock pass.old).base.volume.began.look (notes_seen pass.old)) }
     requires up { turn.value.down ≡ None }
+    requires takes { CanTake (notes_seen pass.old) (last_look (pass_lock pass.old).base.volume.began.look (notes_seen pass.old)) }
     requires ready { IsReady D.state turn.value }
     requires at { IsHome shared.now turn.value }
     requires count { (1 ≤ length from.now) × (length from.now ≤ (pass_lock pass.old).base.volume.began.most) }
@@ -162,6 +164,7 @@ pub(crate) fn drain_and_write<D: Disk, R: Wait, B: Memo>(
     requires full { place_of B.note.passed (last_look (pass_lock pass.old).base.volume.began.look (notes_seen pass.old)) (home_write lbn from.now) ≡ Nowhere }
     requires look { look_of_manager turn.value ≡ last_look (pass_lock pass.old).base.volume.began.look (notes_seen pass.old) }
     requires up { turn.value.down ≡ None }
+    requires takes { CanTake (notes_seen pass.old) (last_look (pass_lock pass.old).base.volume.began.look (notes_seen pass.old)) }
     requires shared { IsShared shared.now (pass_lock pass.old).base }
     requires count { (1 ≤ length from.now) × (length from.now ≤ (pass_lock pass.old).base.volume.began.most) }
     requires fits { lbn + length from.now ≤ (pass_lock pass.old).base.volume.began.home_blocks }

@@ -1,5 +1,5 @@
 // A read in one turn.
-ghost use Rattle.std.specs.Prelude.{ℕ, IsSome, ◌≡◌, ◌++◌, ◌∷◌, [], false};
+ghost use Rattle.std.specs.Prelude.{ℕ, IsSome, ◌≡◌, ◌≤◌, ◌+◌, ◌++◌, ◌∷◌, [], false, length};
 ghost use Rattle.turn_lock.specs.Passes.{pass_lock, pass_number, IsPassOf, IsFree, IsInTurn};
 ghost use Rattle.wol_model.specs.History.{worker};
 ghost use Rattle.manager.specs.Answers.{was_read};
@@ -8,8 +8,10 @@ ghost use Rattle.manager.specs.Stands.{Stands, IsShared};
 ghost use Rattle.request_turns.specs.Entries.{note_of, read_outcome};
 ghost use Rattle.request_turns.specs.Requests.{IsWithin};
 ghost use Rattle.request_turns.specs.Answered.{HasAnswered};
+ghost use Rattle.request_turns.specs.Blocks.{HasReadBlocks};
 ghost use Rattle.request_turns.specs.Counts.{ReclaimsNothing};
 ghost use Rattle.request_turns.specs.Turns.{notes_seen, HasLeft, IsBroken};
+ghost use Rattle.request_turns.specs.Written.{HasRead};
 
 use crate::noted::{Memo, leave_noted};
 use crate::outcome::Outcome;
@@ -57,6 +59,53 @@ fn leave_read<D: Disk, N: Memo>(
     leave_noted::<D, N>(lock, turn, pass);
 }
 
+// Reads within a turn, and ends it.
+fn read_within<D: Disk, R: Wait>(
+    rt: &R,
+    lock: &TurnLock<Manager<D>>,
+    mut turn: Turn<Manager<D>>,
+    pass: &mut Pass<Manager<D>>,
+    shared: &Shared<D>,
+    lbn: u64,
+    out: &mut [Block],
+) -> Result<Sources, ReadRefusal>
+    requires own { IsPassOf lock.now pass.old }
+    requires turn { IsInTurn pass.old }
+    requires client { pass_number pass.old ≡ worker }
+    requires shared { IsShared shared.now (pass_lock pass.old).base }
+    requires count { (1 ≤ length out.old) × (length out.old ≤ (pass_lock pass.old).base.volume.began.most) }
+    requires fits { lbn + length out.old ≤ (pass_lock pass.old).base.volume.began.home_blocks }
+    requires value { Stands D.tells D.state turn.value (pass_lock pass.old).base (notes_seen pass.old) }
+    ensures { HasRead D.tells lbn out.new result pass.old pass.new }
+{
+    let answer = turn.value.read(rt, shared, lbn, out);
+    leave_read::<D, Brand>(lock, turn, pass, lbn, out, &answer);
+    answer
+}
+
+/// Reads blocks from block `lbn` of the volume on, in one turn. After a refusal what stands in `out` is open. `Down` comes
+/// exactly where a disk call had failed before.
+pub fn read_blocks<D: Disk, R: Wait>(
+    rt: &R,
+    lock: &TurnLock<Manager<D>>,
+    pass: &mut Pass<Manager<D>>,
+    shared: &Shared<D>,
+    lbn: u64,
+    out: &mut [Block],
+) -> Result<Sources, ReadRefusal>
+    requires own { IsPassOf lock.now pass.old }
+    requires free { IsFree pass.old }
+    requires client { pass_number pass.old ≡ worker }
+    requires shared { IsShared shared.now (pass_lock pass.old).base }
+    requires count { (1 ≤ length out.old) × (length out.old ≤ (pass_lock pass.old).base.volume.began.most) }
+    requires fits { lbn + length out.old ≤ (pass_lock pass.old).base.volume.began.home_blocks }
+    ensures read { HasReadBlocks D.tells lbn out.new result pass.old pass.new }
+    ensures counted { ReclaimsNothing D.tells pass.old pass.new }
+{
+    let turn = lock.enter(rt, pass);
+    read_within(rt, lock, turn, pass, shared, lbn, out)
+}
+
 /// Reads the blocks of a request in one turn.
 pub fn read_turn<D: Disk, R: Wait>(
     rt: &R,
@@ -75,9 +124,8 @@ pub fn read_turn<D: Disk, R: Wait>(
     ensures answered { HasAnswered D.tells request.now result pass.old pass.new }
     ensures counted { ReclaimsNothing D.tells pass.old pass.new }
 {
-    let mut turn = lock.enter(rt, pass);
+    let turn = lock.enter(rt, pass);
     let out = &mut payload.blocks[..request.count as usize];
-    let answer = turn.value.read(rt, shared, request.lbn, out);
-    leave_read::<D, Brand>(lock, turn, pass, request.lbn, out, &answer);
+    let answer = read_within(rt, lock, turn, pass, shared, request.lbn, out);
     outcome_of(answer, out)
 }

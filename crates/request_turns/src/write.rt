@@ -10,6 +10,7 @@ ghost use Rattle.manager.specs.Stands.{Stands, IsShared, passed_in};
 ghost use Rattle.request_turns.specs.Entries.{note_of, written_outcome, is_full};
 ghost use Rattle.request_turns.specs.Requests.{IsWithin};
 ghost use Rattle.request_turns.specs.Answered.{HasAnswered};
+ghost use Rattle.request_turns.specs.Blocks.{HasWrittenBlocks};
 ghost use Rattle.request_turns.specs.Counts.{HasCounted};
 ghost use Rattle.request_turns.specs.Turns.{notes_seen, HasLeft, IsBroken};
 ghost use Rattle.request_turns.specs.Written.{HasWritten};
@@ -98,6 +99,33 @@ fn write_within<D: Disk, R: Wait, B: Memo>(
     }
     leave_written::<D, B, Brand>(lock, turn, pass, lbn, from, &answer);
     outcome_of(answer, false)
+}
+
+/// Writes blocks from block `lbn` of the volume on, in one turn. Where no log has room, all records are drained first.
+///
+/// A refusal comes in this order: `Down` exactly where a disk call had failed before, `VersionsSpent` exactly where no version
+/// was left then, and else `NoMemory` and `DiskFault`.
+pub fn write_blocks<D: Disk, R: Wait>(
+    rt: &R,
+    lock: &TurnLock<Manager<D>>,
+    pass: &mut Pass<Manager<D>>,
+    shared: &Shared<D>,
+    lbn: u64,
+    from: &[Block],
+    fetch: &mut Fetch,
+    tally: &mut Tally,
+) -> Outcome
+    requires own { IsPassOf lock.now pass.old }
+    requires free { IsFree pass.old }
+    requires client { pass_number pass.old ≡ worker }
+    requires shared { IsShared shared.now (pass_lock pass.old).base }
+    requires count { (1 ≤ length from.now) × (length from.now ≤ (pass_lock pass.old).base.volume.began.most) }
+    requires fits { lbn + length from.now ≤ (pass_lock pass.old).base.volume.began.home_blocks }
+    ensures written { HasWrittenBlocks D.tells lbn from.now result pass.old pass.new }
+    ensures counted { HasCounted D.tells tally.old tally.new pass.old pass.new }
+{
+    let turn = lock.enter(rt, pass);
+    write_within::<D, R, Brand>(rt, lock, turn, pass, shared, lbn, from, fetch, tally)
 }
 
 /// Writes the payload of a request in one turn. Where no log has room, all records are drained first.

@@ -16,7 +16,7 @@ returns-in_err-write-clause-written g c =
     let is : c.min-piece.result ≡ piece_of (g.V.Volume.most c.args.volume.now) (length bs) c.loop-done.done = omega (arith, c.min-piece.ensures, c.most-most.ensures.is) in
     let size : length (take c.min-piece.result (drop c.loop-done.done bs)) ≡ c.min-piece.result = omega (arith, length-take c.min-piece.result (drop c.loop-done.done bs), length-drop c.loop-done.done bs, c.min-piece.ensures) in
     rw (p.1, p.2) (writes_no_more g.V.Volume.Turned (g.V.Volume.most c.args.volume.now) c.args.at (length bs) c.args.volume.now c.loop-done.done c.min-piece.result bs _ c.loop-done.volume c.write.new.self c.in_err-write.field-0.0 i.written
-    c.in_err-write.ensures.turned (grind arith) size is c.loop-done-test.true)
+    c.in_err-write.ensures.turned (grind arith) size is c.loop-done-test.true c.requires.whole)
 
 pub loop-done-preserved : goal.loop-done-preserved
 loop-done-preserved g c =
@@ -29,5 +29,5 @@ loop-done-preserved g c =
       ready = c.in_ok-write.ensures.ready;
       home = c.in_ok-write.ensures.same_home ∙ i.home;
       most = c.in_ok-write.ensures.same_most ∙ i.most;
-      written = writes_on g.V.Volume.Turned (g.V.Volume.most c.args.volume.now) c.args.at (length bs) c.args.volume.now c.loop-done.done c.min-piece.result bs _ c.loop-done.volume c.write.new.self i.written c.in_ok-write.ensures.turned (grind arith) size is c.loop-done-test.true;
+      written = writes_on g.V.Volume.Turned (g.V.Volume.most c.args.volume.now) c.args.at (length bs) c.args.volume.now c.loop-done.done c.min-piece.result bs _ c.loop-done.volume c.write.new.self i.written c.in_ok-write.ensures.turned (grind arith) size is c.loop-done-test.true c.requires.whole;
     }

@@ -1,6 +1,9 @@
 use Rattle.std.proofs.Common.{◌≡◌, length, arith}
-use Rattle.nbd_session.proofs.Piecewise.{whole_chunks, written_bytes}
+use Rattle.nbd_session.proofs.Piecewise.{whole_chunks, whole_of, written_bytes}
 use Rattle.nbd_session.proofs.ranges.write_range.Goals as goal
+
+pub write_blocks-requires-clause-whole : goal.write_blocks-requires-clause-whole
+write_blocks-requires-clause-whole g c = whole_of c.args.bytes.now c.as_chunks.result.0.now c.as_chunks.ensures.front
 
 pub returns-clause-written : goal.returns-clause-written
 returns-clause-written g c =

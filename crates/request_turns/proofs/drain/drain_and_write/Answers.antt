@@ -21,4 +21,4 @@ leave_broken-requires-clause-value g c =
 
 pub returns-in-Err : goal.returns-in-Err
 returns-in-Err g c = let l = c.leave_broken.ensures in
-    rw c.refusal_of.ensures (write_broken _ c.drain.new.m _ _ g.B.Memo.note.passed c.in-Err.fault _ _ _ c.in-Err.ensures.refused l.left l.broken c.in-Err.ensures.down)
+    rw c.refusal_of.ensures (write_broken _ c.drain.new.m _ _ g.B.Memo.note.passed c.in-Err.fault _ _ _ c.in-Err.ensures.refused l.left l.broken c.in-Err.ensures.down c.requires.takes)

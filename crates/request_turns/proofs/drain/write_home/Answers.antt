@@ -11,4 +11,4 @@ leave_drained-requires-clause-value g c =
 pub returns : goal.returns
 returns g c =
     let r = c.write-answer.ensures in let l = c.leave_drained.ensures in
-    rw c.outcome_of.ensures (has_drained _ g.D.Disk.state c.args.turn.value c.write-answer.new.self c.args.lbn c.args.from.now _ _ _ c.write-answer.result c.args.pass.now _ c.args.done _ _ _ c.has_broken.ensures c.requires.done c.add_unless.ensures.done c.add_unless.ensures.failed c.requires.bare c.requires.full r.placed r.look r.down r.versions r.fault l.left l.broken l.unbroken)
+    rw c.outcome_of.ensures (has_drained _ g.D.Disk.state c.args.turn.value c.write-answer.new.self c.args.lbn c.args.from.now _ _ _ c.write-answer.result c.args.pass.now _ c.args.done _ _ _ c.has_broken.ensures c.requires.done c.add_unless.ensures.done c.add_unless.ensures.failed c.requires.takes c.requires.up c.requires.bare c.requires.full r.placed r.look r.down r.versions r.fault l.left l.broken l.unbroken)

@@ -1,0 +1,10 @@
+use Rattle.request_turns.proofs.ReadNotes.{read_blocks_, read_counted_}
+use Rattle.request_turns.proofs.read.read_blocks.Goals as goal
+
+pub returns-clause-read : goal.returns-clause-read
+returns-clause-read g c = let e = c.enter-turn.ensures in
+    read_blocks_ _ _ c.read_within.new.out c.read_within.result c.args.pass.now c.enter-turn.new.pass _ e.same e.seen e.mine e.own c.read_within.ensures
+
+pub returns-clause-counted : goal.returns-clause-counted
+returns-clause-counted g c = let e = c.enter-turn.ensures in
+    read_counted_ _ _ c.read_within.new.out c.read_within.result c.args.pass.now c.enter-turn.new.pass _ e.same e.seen e.mine e.own c.read_within.ensures
