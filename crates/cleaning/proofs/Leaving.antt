@@ -22,10 +22,10 @@ use Rattle.rack.specs.declared.rack.Rack.{Rack}
 use Rattle.rack.proofs.StillThere.{there_left}
 use Rattle.open_rack.specs.Sessions.{OpensAndCloses}
 use Rattle.spin_model.specs.Spindles.{SpindleView}
-use Rattle.replay.specs.Runs.{first_closed}
+use Rattle.open_rack.specs.NotOpened.{first_closed}
 use Rattle.replay.specs.declared.stop.Stop.{Stop}
 use Rattle.replay.specs.declared.stop.Stop.TheVariants as stop
-use Rattle.replay.proofs.AllOut.{recovered_all}
+use Rattle.open_rack.proofs.AllOut.{recovered_all}
 use Rattle.replay.proofs.RacksServed.{a_member, station_count}
 use Rattle.replay.proofs.RunClosed.{quiet_all}
 use Rattle.cleaning.specs.Racks.{CanCleanAll, CleansAll, CleansRack, IsWorked}
@@ -65,12 +65,12 @@ module _ {D : Type 0} (tells : Bool) (state : D → State) (config : Config) (di
         each : (k : ℕ) (d : VolumeConf) → k < length config.volumes.items → MayLeave (at_name (Rattle.std.specs.Prelude.slice_index_or config.volumes.items k d).name t.images) (image_of (images_read config t) k)
         each k d lt =
             let (v, conf) = a_member config.volumes.items k lt in
-            let (i, at, rest, long) = there k v conf (outs k (within k v conf)) in
-            let is_read : image_of (images_read config t) k ≡ Some (reads i.blocks)
+            let was = there k v conf (outs k (within k v conf)) in
+            let is_read : image_of (images_read config t) k ≡ Some (reads was.0.blocks)
             = ap (λ (o : Option (Option (List Block))). unwrap_or o None) (slice_get-map (λ (w : VolumeConf). image_read (at_name w.name t.images)) config.volumes.items k ∙ ap (option_map (λ (w : VolumeConf). image_read (at_name w.name t.images))) conf)
-            ∙ ap image_read at ∙ ap (λ (l : List ℕ). cond (Rattle.std.specs.Prelude.nat_eq (length l) 0) (Some (reads i.blocks)) None) rest in
+            ∙ ap image_read was.1 ∙ ap (λ (l : List ℕ). cond (Rattle.std.specs.Prelude.nat_eq (length l) 0) (Some (reads was.0.blocks)) None) was.2 in
             subst (λ (w : VolumeConf). MayLeave (at_name w.name t.images) (image_of (images_read config t) k)) (sym (get_or_from_slice_get config.volumes.items k v d conf))
-            (subst (λ (o : Option Image). MayLeave o (image_of (images_read config t) k)) (sym at) (subst (λ (c : Option (List Block)). MayLeave (Some i) c) (sym is_read) (rest, image_reads i.blocks)))
+            (subst (λ (o : Option Image). MayLeave o (image_of (images_read config t) k)) (sym was.1) (subst (λ (c : Option (List Block)). MayLeave (Some was.0) c) (sym is_read) (was.2, image_reads was.0.blocks)))
 
     -- no image was kept back
     none_kept : (t y : Told) → HadRefused config session.after.rest.images.items t y
@@ -81,12 +81,14 @@ module _ {D : Type 0} (tells : Bool) (state : D → State) (config : Config) (di
       refused = is_kept_home out;
       cause = λ k v conf home. absurd (not_home k v conf home);
       kept = λ k v conf home. absurd (not_home k v conf home);
-      left = λ images left_ v is_there. (
-        images_read config t,
-        read_left t there,
-        recovered_all config out outs images left_.count v ∙ kept images left_ v (slice_get_within (shapes_of config) v is_there.0 is_there.2)
-            ∙ sym (recovered_all config out outs (images_read config t) (read_left t there).count v),
-      );
+      opened = λ v. false;
+      are_opened = λ v no. absurd (cc no);
+      left = λ images left_ v is_there.
+          let same = kept images left_ v (slice_get_within (shapes_of config) v is_there.0 is_there.2) in (
+            images_read config t,
+            read_left t there,
+            record { but = recovered_all config out outs images left_.count v ∙ same ∙ sym (recovered_all config out outs (images_read config t) (read_left t there).count v); all = λ or. same },
+          );
       there = λ images left_ v was. there_left state config session.after t y (none_kept t y) parts images left_ v was;
     }
 

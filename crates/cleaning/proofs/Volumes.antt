@@ -39,10 +39,10 @@ use Rattle.open_rack.specs.Sessions.{OpensAndCloses}
 use Rattle.open_rack.proofs.RacksAgain.{rest_again}
 use Rattle.open_rack.proofs.Since.{rose_before}
 use Rattle.spin_model.specs.Spindles.{SpindleView}
-use Rattle.replay.specs.Runs.{first_closed}
-use Rattle.replay.proofs.AllOut.{accepted_all, recovered_all, taken_all}
-use Rattle.replay.proofs.FirstClosed.{opened_out}
-use Rattle.replay.proofs.RacksServed.{at_place, each_station, none_closed}
+use Rattle.open_rack.specs.NotOpened.{first_closed}
+use Rattle.open_rack.proofs.AllOut.{accepted_all, recovered_all, taken_all}
+use Rattle.open_rack.proofs.FirstClosed.{none_closed, opened_out}
+use Rattle.replay.proofs.RacksServed.{at_place, each_station}
 use Rattle.log_cleaner.specs.Chunks.{NoneHomed}
 use Rattle.log_cleaner.specs.Cleans.{CanClean, HasCleaned}
 use Rattle.log_cleaner.specs.declared.answer.Cleaned.{Cleaned}

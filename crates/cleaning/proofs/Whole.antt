@@ -26,7 +26,7 @@ use Rattle.rack.specs.Owners.{IsBegun, most_of}
 use Rattle.rack.specs.declared.rack.Rack.{Rack}
 use Rattle.open_rack.specs.Sessions.{OpensAndCloses}
 use Rattle.spin_model.specs.Spindles.{SpindleView}
-use Rattle.replay.specs.Runs.{first_closed}
+use Rattle.open_rack.specs.NotOpened.{first_closed}
 use Rattle.replay.specs.declared.stop.Stop.{Stop}
 use Rattle.replay.proofs.MarksLeft.{told_through}
 use Rattle.replay.proofs.RacksServed.{a_member, station_count}

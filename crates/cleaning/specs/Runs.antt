@@ -23,7 +23,7 @@ use Rattle.volume_images.specs.Volumes.{AreLeft, images_read, shapes_of}
 use Rattle.rack.specs.Closes.{AreListedOf, HasFaultyPart}
 use Rattle.rack.specs.Owners.{IsBegun, most_of}
 use Rattle.rack.specs.declared.volume_fault.VolumeFault.{VolumeFault}
-use Rattle.replay.specs.NotOpened.{IsFirstClosed}
+use Rattle.open_rack.specs.NotOpened.{IsFirstClosed}
 use Rattle.replay.specs.declared.stop.Stop.{Stop}
 use Rattle.replay.specs.declared.stop.Stop.TheVariants as stop
 use Rattle.log_cleaner.specs.Chunks.{IsChunk}

@@ -5,8 +5,7 @@ ghost use Rattle.wol_config.specs.Configs.{IsValid};
 ghost use Rattle.volume_images.specs.Left.{IsTold};
 ghost use Rattle.volume_images.specs.Volumes.{NoneOut};
 ghost use Rattle.rack.specs.Opens.{KeepsOthers};
-ghost use Rattle.replay.specs.NotOpened.{LeavesBay};
-ghost use Rattle.replay.specs.Runs.{first_closed};
+ghost use Rattle.open_rack.specs.NotOpened.{LeavesBay, first_closed};
 ghost use Rattle.replay.specs.declared.stop.Stop.TheVariants.{Fault as fault};
 ghost use Rattle.cleaning.specs.Lines.{fault_of};
 ghost use Rattle.cleaning.specs.Racks.{CanCleanAll, CleansAll, CleansRack, IsWorked};
@@ -15,33 +14,17 @@ ghost use Rattle.cleaning.specs.Runs.{CleansBay, Completes, MayComplete};
 use crate::lines::append_cleaned;
 use crate::station::clean_volume;
 use log_cleaner::CleanFault;
-use open_rack::{Work, with_open};
-use rack::{Rack, VolumeFault};
+use open_rack::{Work, first_closed, with_open};
+use rack::Rack;
 use replay::Stop;
 use report::Fault;
 use std::alloc::Global;
 use std::sync::Wait;
-use troubles::{trouble_of, trouble_of_part};
+use troubles::trouble_of_part;
 use wol_bay::Bay;
 use wol_config::Config;
 use wol_disk::Disk;
 use wol_io::Sink;
-
-// What is told of the first volume that isn't open.
-fn first_closed(faults: &[Option<VolumeFault>]) -> Option<Fault>
-    requires few { length faults.now ≤ 2 ^ 32 }
-    ensures { result ≡ first_closed 0 faults.now }
-{
-    for (volume, fault) in faults.iter().enumerate() {
-        if let Some(fault) = fault {
-            return Some(Fault::Volume {
-                volume: volume as u32,
-                trouble: trouble_of(*fault),
-            });
-        }
-    }
-    None
-}
 
 // What ends the command, by a volume's refusal.
 fn stop_of(volume: u32, refusal: CleanFault) -> Stop
