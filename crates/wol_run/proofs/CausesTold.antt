@@ -221,6 +221,7 @@ module _ {D : Type 0} (tells : Bool) (state : D → State) (words : List (List �
             conf = first.conf;
             conf_is = first.conf_is;
             out = first.out;
+            missing = first.missing;
             fault = f;
             refused = first.refused;
             status_is = refl;
@@ -229,6 +230,9 @@ module _ {D : Type 0} (tells : Bool) (state : D → State) (words : List (List �
           (λ four. first.cause (of_call f _ first.names four))
 
       -- ---- Volumes that were looked at
+
+      none_in : {A : Type 0} (j : ℕ) (x : A) → slice_get [] j ≡ Some x → ⊥
+      none_in j x is = absurd (let no : None ≡ Some x = is in cc)
 
       -- a volume that was told in order was opened
       was_opened : (config : Config) (what : Asked) (told : List Telling) (are : AreTold tells state what config before.bay after.bay told) (j : ℕ) (u : Telling) → slice_get told j ≡ Some u → u.trouble ≡ None
@@ -253,6 +257,7 @@ module _ {D : Type 0} (tells : Bool) (state : D → State) (words : List (List �
               conf = refusal.conf;
               conf_is = refusal.is_conf;
               out = are.out;
+              missing = are.missing (λ empty. none_in k t (rw empty at here));
               fault = refusal.fault;
               refused = refusal.refuses;
               status_is = refl;

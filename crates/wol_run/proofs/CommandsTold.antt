@@ -31,7 +31,7 @@ use Rattle.wol_run.specs.Commands.{uses_trace}
 use Rattle.wol_run.specs.Completing.{HasSoundImages, HaveVersions, IsGoodTrace, seed_lines}
 use Rattle.wol_run.specs.Outside.{LeavesUnused, Outside, Stream}
 use Rattle.wol_run.specs.Replaying.{GivenLines, HasLeft, lines_of, options_as, trace_of}
-use Rattle.wol_run.specs.Run.{IsComparisonOf, IsFormat, IsListingOf, IsLookFor, IsReplayOf, IsViewChangeOf, Run}
+use Rattle.wol_run.specs.Run.{Does, IsComparisonOf, IsFormat, IsListingOf, IsLookFor, IsReplayOf, IsViewChangeOf, Run}
 use Rattle.wol_run.specs.Settings.{IsConfigured}
 use Rattle.wol_run.specs.Tops.{EndsWith, HasCause, IsDoneOrMemory, TellsFault, TellsStatus}
 use Rattle.wol_run.proofs.Asked.{of_asked, uses_alike}
@@ -42,7 +42,7 @@ use Rattle.wol_run.proofs.Endings.{told_done, told_fault}
 use Rattle.wol_run.proofs.FormatEndings.{told_untouched}
 use Rattle.wol_run.proofs.GenEndings.{told_unread}
 use Rattle.wol_run.proofs.LookEndings.{look_untouched}
-use Rattle.wol_run.proofs.Promised.{Does, of_command, of_unread_words}
+use Rattle.wol_run.proofs.Promised.{of_command, of_unread_words}
 use Rattle.wol_run.proofs.ReplayEndings.{at_end, replay_bad_line, replay_more_lines, soak_not_ten, soak_not_three, unreplayed}
 use Rattle.wol_run.proofs.SoloTold.{solo_cause, solo_complete}
 use Rattle.wol_run.proofs.Unread.{not_begun}
@@ -156,7 +156,7 @@ module _ {D : Type 0} (tells : Bool) (state : D → State) (words : List (List �
   abbrev after : Outside
   after = record before { sink = sink }
 
-  does_none : (command : Command) → Does tells state words before after status command
+  does_none : (command : Command) → Does tells state before after status command
   does_none (Solo volume) = told_fault (target_of volume) before.trace.bytes before.trace.bytes before.bay.told before.bay.told before.bay.faults before.bay.faults before.trace.faults before.trace.faults status _ _ _ (Unit {0}) solo_fault.NoMemory tt ends
       (not_made (Unit {0}) bay_fault.NoMemory (target_of volume) before.trace.bytes before.trace.bytes before.bay.told before.bay.told before.sink.bytes refl)
   does_none Format = told_untouched _ _ _ _ _ status _ _ fault.Memory tt refl (inr ends)

@@ -10,6 +10,7 @@ use Rattle.volume_images.specs.Left.{AreNamedApart, IsTold}
 use Rattle.volume_images.specs.Volumes.{images_read}
 use Rattle.rack.specs.Opens.{RefusesVolume}
 use Rattle.rack.specs.Owners.{IsBegun}
+use Rattle.rack.specs.Rests.{image_here}
 use Rattle.rack.specs.declared.rack.ImageRest.{ImageRest}
 use Rattle.rack.specs.declared.volume_fault.VolumeFault.{VolumeFault}
 use Rattle.report.specs.Troubles.{trouble_status}
@@ -43,7 +44,8 @@ pub record AskFor (words : List (List ℕ)) (uses : Command → Bool) : Type 0 w
   pub does : uses command ≡ true
 
 -- The first volume of the configuration that isn't open was refused for a cause of this status.
--- Those before it were opened, of their own images and of those of the loggers of their views.
+-- Those before it were opened, of their own images and of those of the loggers of their views, and
+-- each image that isn't out was refused.
 pub record IsClosedFor {D : Type 0} (tells : Bool) (state : D → State) (before after : Outside)
     (status : ℕ) : Type 0 where
   pub config : Config
@@ -52,6 +54,9 @@ pub record IsClosedFor {D : Type 0} (tells : Bool) (state : D → State) (before
   pub conf : VolumeConf
   pub conf_is : slice_get config.volumes.items volume ≡ Some conf
   pub out : List (Option (ImageRest D))
+  pub missing : (j : ℕ) (v : VolumeConf) → slice_get config.volumes.items j ≡ Some v
+      → image_here out j ≡ None
+      → (f : VolumeFault) × RefusesVolume tells state config out before.bay after.bay j v f
   pub fault : VolumeFault
   pub refused : RefusesVolume tells state config out before.bay after.bay volume conf fault
   pub status_is : trouble_status (trouble_of fault) ≡ status
@@ -66,7 +71,8 @@ replayed_by command trace = None
 
 -- A volume had no version left for a write: its writes that went to logs, fewer than are asked of
 -- it, took all versions from the next one at opening on.
-pub record HasNoVersion (tells : Bool) (words : List (List ℕ)) (before after : Outside) : Type 0 where
+pub record HasNoVersion (tells : Bool) (words : List (List ℕ))
+    (before after : Outside) : Type 0 where
   pub config : Config
   pub has : HasConfig before.config.bytes config
   pub command : Command

@@ -22,15 +22,20 @@ pub record HasSoundImages (tells : Bool) (left : Option (List ℕ)) (bay : BaySt
   pub entry : Told
   pub entry_is : bay.told ≡ Some entry
   pub apart : AreNamedApart entry
-  pub sound : (config : Config) → HasConfig left config → AreSound (shapes_of config) (images_read config entry)
+  pub sound : (config : Config) → HasConfig left config
+      → AreSound (shapes_of config) (images_read config entry)
 
 -- the versions that a volume began with suffice for its writes in these lines
 abbrev pub HasVersions : Config → Base → List (Option TraceLine) → Type 0
-HasVersions config b lines = b.next + writes_to b.owner (requests (most_of config) (targets_of config) lines) ≤ 2 ^ 63
+HasVersions config b lines =
+    b.next + writes_to b.owner (requests (most_of config) (targets_of config) lines) ≤ 2 ^ 63
 
 -- those of each volume do
-abbrev pub HaveVersions : (left : Option (List ℕ)) → (entry : Told) → (lines : Config → List (Option TraceLine)) → Type 0
-HaveVersions left entry lines = (config : Config) → HasConfig left config → (b : Base) → IsBegun config (images_read config entry) b → HasVersions config b (lines config)
+abbrev pub HaveVersions : (left : Option (List ℕ)) → (entry : Told)
+    → (lines : Config → List (Option TraceLine)) → Type 0
+HaveVersions left entry lines =
+    (config : Config) → HasConfig left config → (b : Base)
+    → IsBegun config (images_read config entry) b → HasVersions config b (lines config)
 
 -- a trace that tells, and has these lines alone, none of which is bad
 pub record IsGoodTrace (trace : Option (List ℕ)) (lines : List (Option TraceLine)) : Type 0 where
@@ -41,4 +46,5 @@ pub record IsGoodTrace (trace : Option (List ℕ)) (lines : List (Option TraceLi
 
 -- the lines of a seed that are asked for
 abbrev pub seed_lines : Generated → Config → List (Option TraceLine)
-seed_lines asked config = map (λ k. Some (line (targets_of config) asked.seed k)) (range_with_len 0 asked.lines)
+seed_lines asked config =
+    map (λ k. Some (line (targets_of config) asked.seed k)) (range_with_len 0 asked.lines)

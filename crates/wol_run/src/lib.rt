@@ -4,7 +4,8 @@
 //! line of a run, `status.rt` `solo`'s statuses and lines of faults. Of the commands `formatting.rt` has `format`,
 //! `inspecting.rt` `check` and `dump`, `listing.rt` `gen`, `replaying.rt` `replay` and `soak`, `comparing.rt` `whatif`,
 //! `viewing.rt` `view-add` and `view-remove`.
-//! A further command joins as a further arm of `run`; `IsCommand`, `NoCommand` and `IsCause` then name it.
+//! A further command joins as a further arm of `run`: a row of `Does` says what it does, one of `ReadsInOrder` what it needs, and
+//! those of `IsCause` why it ends.
 #![tactic(auto)]
 
 mod comparing;
