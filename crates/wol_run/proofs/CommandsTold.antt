@@ -136,7 +136,7 @@ module _ {D : Type 0} (tells : Bool) (state : D → State) (words : List (List �
     unused = record { config = λ none. config; trace = λ none. absurd (used refl (none (Solo own) is)); bay = λ none. absurd (used refl (none (Solo own) is)) }
 
     pub solo_fault_promise : (T : Type 0) (e : Fault) (mid : Option (List ℕ)) → TellsStatus e status → TellsFault e status mid after.sink.bytes
-        → HasCause e before.bay.faults after.bay.faults before.trace.faults after.trace.faults
+        → HasCause e before.bay.told after.bay.told before.bay.faults after.bay.faults before.trace.faults after.trace.faults
         → RunsInBay {T = T} (target_of own) before.trace.bytes after.trace.bytes before.bay.told after.bay.told (Err e) before.sink.bytes mid → Run tells state words before after status
     solo_fault_promise T e mid told tells_ cause run = of_command tells state words before after status (Solo own) is
         (told_fault (target_of own) _ _ _ _ _ _ _ _ status _ mid _ T e cause tells_ run)

@@ -9,7 +9,7 @@ use Rattle.msr_trace.specs.declared.format.BadLine.{BadLine}
 use Rattle.solo.specs.Requests.{HasLines, LineRead}
 use Rattle.solo.specs.declared.fault.Fault.{Fault}
 use Rattle.solo.specs.declared.fault.Fault.TheVariants as fault
-use Rattle.solo.specs.Images.{BeginsBlank, LeavesBy, Stores}
+use Rattle.solo.specs.Images.{BeginsBlank, LeavesBy, PartCameBackFaulty, Stores}
 use Rattle.solo.specs.Runs.{EndsBy, Prints}
 use Rattle.wol_run.specs.Statuses.{bad_line_text, fault_text, status_of}
 
@@ -36,15 +36,17 @@ TellsFault fault.Spent status printed new = EndsWith (fault_text fault.Spent) 10
 abbrev pub TellsStatus : Fault → (status : ℕ) → Type 0
 TellsStatus e status = (status ≡ status_of e) ⊎ (status ≡ 7) ⊎ (status ≡ 9)
 
--- what a fault comes of: a count that rose
-abbrev pub HasCause : Fault → (bay bay' source source' : ℕ) → Type 0
-HasCause fault.Bay bay bay' source source' = Rose bay bay'
-HasCause fault.Disk bay bay' source source' = Rose bay bay'
-HasCause fault.Source bay bay' source source' = Rose source source'
-HasCause fault.Sink bay bay' source source' = ⊤
-HasCause fault.NoMemory bay bay' source source' = ⊤
-HasCause fault.Spent bay bay' source source' = ⊤
-HasCause (fault.BadLine line why) bay bay' source source' = ⊤
+-- what a fault comes of: a count that rose, and of a failed call of the image's one part also that
+-- the bay lists it
+abbrev pub HasCause : Fault → (told told' : Option Told) → (bay bay' source source' : ℕ) → Type 0
+HasCause fault.Bay told told' bay bay' source source' = Rose bay bay'
+HasCause fault.Disk told told' bay bay' source source' =
+    Rose bay bay' × PartCameBackFaulty told told'
+HasCause fault.Source told told' bay bay' source source' = Rose source source'
+HasCause fault.Sink told told' bay bay' source source' = ⊤
+HasCause fault.NoMemory told told' bay bay' source source' = ⊤
+HasCause fault.Spent told told' bay bay' source source' = ⊤
+HasCause (fault.BadLine line why) told told' bay bay' source source' = ⊤
 
 -- a run that was done: the whole text was printed, and the image is there
 abbrev pub IsDone : Target → (trace : Option (List ℕ)) → (array : Option (List Block))
@@ -69,7 +71,7 @@ RunsSolo target trace left told told' bay bay' source source' status old new =
     (array : Option (List Block)) × BeginsBlank target told array
     × (values : Option (List (Values Block)))
     × (IsDone target trace array told told' values status old new
-    ⊎ ((e : Fault) × HasCause e bay bay' source source'
+    ⊎ ((e : Fault) × HasCause e told told' bay bay' source source'
     × IsFaulty e target trace left array told told' values status old new))
 
 -- a trace with a bad line, and one with more lines than are run

@@ -59,7 +59,7 @@ pub returns-in-Err-clause-promise : goal.returns-in-Err-clause-promise
 returns-in-Err-clause-promise g c =
     let e = c.in-Err.fault in
     let bay = g.B.Bay.state c.args.bay.now in
-    let cause = has_cause e bay.faults (g.B.Bay.state c.run.new.bay).faults (g.S.Source.faults c.args.trace.now) (g.S.Source.faults c.run.new.trace) (λ is. c.in-Err.ensures.disk (ap Err is)) (λ is. c.in-Err.ensures.bay (ap Err is)) (λ is. c.in-Err.ensures.source (ap Err is)) in
+    let cause = has_cause e bay.told (g.B.Bay.state c.run.new.bay).told bay.faults (g.B.Bay.state c.run.new.bay).faults (g.S.Source.faults c.args.trace.now) (g.S.Source.faults c.run.new.trace) (λ is. (c.in-Err.ensures.disk (ap Err is), c.in-Err.ensures.faulty (ap Err is))) (λ is. c.in-Err.ensures.bay (ap Err is)) (λ is. c.in-Err.ensures.source (ap Err is)) in
     solo_fault_promise _ _ _ _ _ _
     (λ seven. elim (c.tell.ensures.cause seven) [
       | inl is ↦ rose_later _ _ _ (c.in-Err.ensures.cause (ap Err is)) c.tell.ensures.later
