@@ -19,7 +19,7 @@ passed=0
 failed=0
 
 # The commands, each as its words.
-commands=("format" "check" "dump" "replay" "whatif" "gen 7 40" "soak 7 40" "view-add web0 src0" "view-remove usr0 src0" "solo web 0 64")
+commands=("format" "check" "dump" "replay" "whatif" "clean" "gen 7 40" "soak 7 40" "view-add web0 src0" "view-remove usr0 src0" "solo web 0 64")
 
 wol() { timeout 60 "${program[@]}" "$@"; }
 

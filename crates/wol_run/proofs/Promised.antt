@@ -1,5 +1,5 @@
 -- What a run promises, by what each of its commands gives.
-use Rattle.std.proofs.Common.{◌≡◌, ◌⊎◌, inl, inr, ℕ, ◌<◌, Bool, true, List, Option, Some, refl, sym, subst, ◌∙◌, true≢false}
+use Rattle.std.proofs.Common.{◌≡◌, ◌⊎◌, inl, inr, ℕ, ◌<◌, Bool, List, Option, Some, refl, sym, subst, ◌∙◌, true≢false}
 use Rattle.std.specs.Prelude.{IfSome, codes}
 use Rattle.wol_disk.specs.Disk.{Rose, State}
 use Rattle.wol_config.specs.declared.config.Config.{Config}
@@ -10,11 +10,9 @@ use Rattle.inspection.specs.declared.asked.Asked.TheVariants as asked
 use Rattle.replay.specs.declared.session.Options.{Options as Serving}
 use Rattle.command_words.specs.Commands.{IsCommand, NoCommand}
 use Rattle.command_words.specs.declared.command.Command.{Command}
-use Rattle.command_words.specs.declared.command.Command.TheVariants.{Check, Dump, Format, Gen, Replay, Soak, Solo, ViewAdd, ViewRemove, WhatIf}
+use Rattle.command_words.specs.declared.command.Command.TheVariants.{Check, Clean, Dump, Format, Gen, Replay, Soak, Solo, ViewAdd, ViewRemove, WhatIf}
 use Rattle.command_words.specs.declared.command.Generated.{Generated}
-use Rattle.command_words.specs.declared.command.ViewNames.{ViewNames}
 use Rattle.command_words.specs.Table.{Named}
-use Rattle.command_words.specs.Values.{named_by}
 use Rattle.view_commands.specs.declared.order.Verb.{Verb}
 use Rattle.view_commands.specs.declared.order.Verb.TheVariants.{Add, Remove}
 use Rattle.wol_run.specs.Causes.{IsCause, replayed_by}
@@ -22,7 +20,7 @@ use Rattle.wol_run.specs.Causes as row
 use Rattle.wol_run.specs.Formatting.{IsNotBegun}
 use Rattle.wol_run.specs.Outside.{LeavesUnused, NothingFailed, Outside}
 use Rattle.wol_run.specs.Replaying.{GivenLines}
-use Rattle.wol_run.specs.Run.{ComesToItsEnd, Does, IsAccountOf, IsComparisonOf, IsFormat, IsHeadlineOf, IsListingOf, IsLookFor, IsReplayOf, IsUnconfigured, IsViewChangeOf, ReadsInOrder, Run}
+use Rattle.wol_run.specs.Run.{ComesToItsEnd, Does, IsAccountOf, IsCleaningOf, IsComparisonOf, IsFormat, IsHeadlineOf, IsListingOf, IsLookFor, IsReplayOf, IsUnconfigured, IsViewChangeOf, ReadsInOrder, Run}
 use Rattle.wol_run.specs.Settings.{HasConfig, HasNoConfig, IsFaultLine}
 use Rattle.wol_run.specs.Tops.{EndsWith, RunsSolo}
 use Rattle.wol_run.proofs.AccountTold.{runs_account}
@@ -85,6 +83,7 @@ module _ {D : Type 0} (tells : Bool) (state : D → State) (words : List (List �
   of_replayed P gives WhatIf did = tt
   of_replayed P gives (ViewAdd names) did = tt
   of_replayed P gives (ViewRemove names) did = tt
+  of_replayed P gives Clean did = tt
 
   -- ---- .. where the configuration is none
 
@@ -144,6 +143,10 @@ module _ {D : Type 0} (tells : Bool) (state : D → State) (words : List (List �
   view_unconfigured (verb, named) (inl run) bytes told none = absurd (never_had _ bytes told none run.config run.has)
   view_unconfigured (verb, named) (inr unread) bytes told none = not_begun_unconfigured unread bytes told none
 
+  clean_unconfigured : IsCleaningOf tells state before after status → (bytes : List ℕ) → before.config.bytes ≡ Some bytes → HasNoConfig (Some bytes) → TellsNoConfig status
+  clean_unconfigured (inl run) bytes told none = absurd (never_had _ bytes told none run.config run.has)
+  clean_unconfigured (inr unread) bytes told none = not_begun_unconfigured unread bytes told none
+
   unconfigured_of : (command : Command) → Did command → IsUnconfigured command before → TellsNoConfig status
   unconfigured_of (Solo volume) did (uses, bytes, told, none) = absurd (true≢false (sym uses))
   unconfigured_of Format did (uses, bytes, told, none) = format_unconfigured did bytes told none
@@ -155,6 +158,7 @@ module _ {D : Type 0} (tells : Bool) (state : D → State) (words : List (List �
   unconfigured_of WhatIf did (uses, bytes, told, none) = comparison_unconfigured did bytes told none
   unconfigured_of (ViewAdd names) did (uses, bytes, told, none) = view_unconfigured _ did bytes told none
   unconfigured_of (ViewRemove names) did (uses, bytes, told, none) = view_unconfigured _ did bytes told none
+  unconfigured_of Clean did (uses, bytes, told, none) = clean_unconfigured did bytes told none
 
   -- ---- The whole
 

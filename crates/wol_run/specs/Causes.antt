@@ -9,7 +9,7 @@ use Rattle.wol_config.specs.declared.config.VolumeConf.{VolumeConf}
 use Rattle.volume_images.specs.Left.{AreNamedApart, IsTold}
 use Rattle.volume_images.specs.Volumes.{images_read}
 use Rattle.rack.specs.Opens.{RefusesVolume}
-use Rattle.rack.specs.Owners.{IsBegun}
+use Rattle.rack.specs.Owners.{IsBegun, most_of as most_blocks_of}
 use Rattle.rack.specs.Rests.{image_here}
 use Rattle.rack.specs.declared.rack.ImageRest.{ImageRest}
 use Rattle.rack.specs.declared.volume_fault.VolumeFault.{VolumeFault}
@@ -22,10 +22,11 @@ use Rattle.replay.specs.Completes.{writes_to}
 use Rattle.replay.specs.Givens.{HasGiven}
 use Rattle.replay.specs.NotOpened.{IsOpened}
 use Rattle.replay.specs.declared.session.Options.{Options as Serving}
+use Rattle.cleaning.specs.Runs.{LacksVersions}
 use Rattle.command_words.specs.Commands.{IsCommand, NoCommand}
 use Rattle.command_words.specs.Table.{Named}
 use Rattle.command_words.specs.declared.command.Command.{Command}
-use Rattle.command_words.specs.declared.command.Command.TheVariants.{Replay, Soak}
+use Rattle.command_words.specs.declared.command.Command.TheVariants.{Clean, Replay, Soak}
 use Rattle.view_commands.specs.Views.{IsDamagedIn}
 use Rattle.view_commands.specs.declared.order.Order.{Order}
 use Rattle.view_commands.specs.declared.order.Verb.{Verb}
@@ -92,6 +93,17 @@ pub record HasNoVersion (tells : Bool) (words : List (List ℕ))
   pub few : logged < writes_to base.owner (requests (most_of config) (targets_of config) lines)
   pub spent : 2 ^ 63 ≤ base.next + logged
 
+-- A volume had no version left for a copy: the next one at opening, and the number of chunks of what
+-- lies in its logs, come to more than 2^63.
+pub record HasNoVersionToCopy (tells : Bool) (before after : Outside) : Type 0 where
+  pub config : Config
+  pub has : HasConfig before.config.bytes config
+  pub base : Base
+  pub begun : IsTrue tells
+      → IsTold (λ entry exit. IsBegun config (images_read config entry) base)
+      before.bay.told after.bay.told
+  pub lacks : LacksVersions (most_blocks_of config) base
+
 -- A view was to be changed, and that is refused: a word names no volume, or the view can't be
 -- changed so.
 pub record HasRefusal (tells : Bool) (words : List (List ℕ)) (before after : Outside) : Type 0 where
@@ -147,6 +159,8 @@ module _ {D : Type 0} (tells : Bool) (state : D → State) (words : List (List �
     more_lines : AskFor words uses_trace → HasMoreLines before.trace.bytes → IsCause 10
     -- 11: a volume had no version left for a write
     no_version : AskFor words uses_config → HasNoVersion tells words before after → IsCause 11
+    -- 11 too: a volume had no version left for a copy
+    no_version_to_copy : IsCommand words Clean → HasNoVersionToCopy tells before after → IsCause 11
     -- 12: the bay has no image of a volume's name
     no_image : AskFor words uses_config → IsClosedFor tells state before after 12 → IsCause 12
     -- 15: a word is no volume's name, or the view of the volume can't be changed so

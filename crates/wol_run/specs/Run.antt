@@ -9,7 +9,7 @@ use Rattle.inspection.specs.declared.asked.Asked.TheVariants as asked
 use Rattle.replay.specs.declared.session.Options.{Options as Serving}
 use Rattle.command_words.specs.Commands.{IsCommand, NoCommand}
 use Rattle.command_words.specs.declared.command.Command.{Command}
-use Rattle.command_words.specs.declared.command.Command.TheVariants.{Check, Dump, Format, Gen, Replay, Soak, Solo, ViewAdd, ViewRemove, WhatIf}
+use Rattle.command_words.specs.declared.command.Command.TheVariants.{Check, Clean, Dump, Format, Gen, Replay, Soak, Solo, ViewAdd, ViewRemove, WhatIf}
 use Rattle.command_words.specs.declared.command.Generated.{Generated}
 use Rattle.command_words.specs.Table.{Named}
 use Rattle.command_words.specs.Values.{named_by}
@@ -17,9 +17,10 @@ use Rattle.view_commands.specs.declared.order.Verb.{Verb}
 use Rattle.view_commands.specs.declared.order.Verb.TheVariants.{Add, Remove}
 use Rattle.wol_run.specs.Accounted.{RunsAccount}
 use Rattle.wol_run.specs.Causes.{IsCause, replayed_by}
+use Rattle.wol_run.specs.Cleaning.{RunsCleaning}
 use Rattle.wol_run.specs.Commands.{changes_view, uses_config}
 use Rattle.wol_run.specs.Comparing.{RunsWhatIf}
-use Rattle.wol_run.specs.Completing.{HasSoundImages, HaveVersions, IsGoodTrace, seed_lines}
+use Rattle.wol_run.specs.Completing.{HasSoundImages, HaveVersions, HaveVersionsToClean, IsGoodTrace, seed_lines}
 use Rattle.wol_run.specs.Formatting.{RunsFormat}
 use Rattle.wol_run.specs.Generating.{RunsGen}
 use Rattle.wol_run.specs.Headlined.{RunsHeadline}
@@ -65,6 +66,12 @@ module _ {D : Type 0} (tells : Bool) (state : D → State) (before after : Outsi
   IsViewChangeOf (verb, named) =
       RunsViewChange tells state verb named before.config.bytes
       before.config.faults after.config.faults
+      before.bay after.bay before.sink.faults status before.sink.bytes after.sink.bytes
+
+  -- the volumes were cleaned
+  abbrev pub IsCleaningOf : Type 0
+  IsCleaningOf =
+      RunsCleaning tells state before.config.bytes before.config.faults after.config.faults
       before.bay after.bay before.sink.faults status before.sink.bytes after.sink.bytes
 
 -- the images were made anew
@@ -117,6 +124,9 @@ module _ {D : Type 0} (tells : Bool) (state : D → State) (before after : Outsi
   -- view-add, view-remove: the new view, what the images recover to, or why nothing changed
   Does (ViewAdd names) = IsViewChangeOf tells state before after status (Add, named_by names)
   Does (ViewRemove names) = IsViewChangeOf tells state before after status (Remove, named_by names)
+  -- clean: a line for each volume, with what its cleaning came to, or why it was the last; each
+  -- image recovers to what it recovered to before
+  Does Clean = IsCleaningOf tells state before after status
 
 -- ---- What a run needs
 
@@ -150,6 +160,10 @@ ReadsInOrder tells (ViewAdd names) before =
     IsConfigured before.config.bytes × HasSoundImages tells before.config.bytes before.bay
 ReadsInOrder tells (ViewRemove names) before =
     IsConfigured before.config.bytes × HasSoundImages tells before.config.bytes before.bay
+ReadsInOrder tells Clean before =
+    IsConfigured before.config.bytes
+    × (images : HasSoundImages tells before.config.bytes before.bay)
+    × HaveVersionsToClean before.config.bytes images.entry
 
 -- the command is done, or there was no memory; or a view can't be changed as the words ask
 abbrev pub ComesToItsEnd : Command → (status : ℕ) → Type 0
