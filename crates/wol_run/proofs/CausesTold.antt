@@ -228,6 +228,7 @@ module _ {D : Type 0} (tells : Bool) (state : D → State) (words : List (List �
             conf_is = first.conf_is;
             out = first.out;
             missing = first.missing;
+            there = first.there;
             fault = f;
             refused = first.refused;
             status_is = refl;
@@ -264,6 +265,7 @@ module _ {D : Type 0} (tells : Bool) (state : D → State) (words : List (List �
               conf_is = refusal.is_conf;
               out = are.out;
               missing = are.missing (λ empty. none_in k t (rw empty at here));
+              there = are.there (λ empty. none_in k t (rw empty at here));
               fault = refusal.fault;
               refused = refusal.refuses;
               status_is = refl;

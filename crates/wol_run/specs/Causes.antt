@@ -8,7 +8,7 @@ use Rattle.wol_config.specs.declared.config.Config.{Config}
 use Rattle.wol_config.specs.declared.config.VolumeConf.{VolumeConf}
 use Rattle.volume_images.specs.Left.{AreNamedApart, IsTold}
 use Rattle.volume_images.specs.Volumes.{images_read}
-use Rattle.rack.specs.Opens.{RefusesVolume}
+use Rattle.rack.specs.Opens.{RefusesVolume, WereThere}
 use Rattle.rack.specs.Owners.{IsBegun, most_of as most_blocks_of}
 use Rattle.rack.specs.Rests.{image_here}
 use Rattle.rack.specs.declared.rack.ImageRest.{ImageRest}
@@ -45,8 +45,8 @@ pub record AskFor (words : List (List ℕ)) (uses : Command → Bool) : Type 0 w
   pub does : uses command ≡ true
 
 -- The first volume of the configuration that isn't open was refused for a cause of this status.
--- Those before it were opened, of their own images and of those of the loggers of their views, and
--- each image that isn't out was refused.
+-- Those before it were opened, of their own images and of those of the loggers of their views; an
+-- image that is out was there and may be opened, and each other one was refused.
 pub record IsClosedFor {D : Type 0} (tells : Bool) (state : D → State) (before after : Outside)
     (status : ℕ) : Type 0 where
   pub config : Config
@@ -58,6 +58,8 @@ pub record IsClosedFor {D : Type 0} (tells : Bool) (state : D → State) (before
   pub missing : (j : ℕ) (v : VolumeConf) → slice_get config.volumes.items j ≡ Some v
       → image_here out j ≡ None
       → (f : VolumeFault) × RefusesVolume tells state config out before.bay after.bay j v f
+  pub there : IsTrue tells
+      → IfSome before.bay.told (λ t. AreNamedApart t → WereThere config out t)
   pub fault : VolumeFault
   pub refused : RefusesVolume tells state config out before.bay after.bay volume conf fault
   pub status_is : trouble_status (trouble_of fault) ≡ status

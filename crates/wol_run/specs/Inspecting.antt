@@ -1,5 +1,5 @@
 -- What looking at the volumes of the configuration prints, and its exit status.
-use Rattle.std.specs.Prelude.{◌≡◌, ◌≢◌, ℕ, ◌≤◌, ◌⊎◌, Bool, List, [], ◌++◌, length, codes, Option, None, Some, slice_get}
+use Rattle.std.specs.Prelude.{◌≡◌, ◌≢◌, ℕ, ◌≤◌, ◌⊎◌, Bool, List, [], ◌++◌, length, codes, Option, None, Some, slice_get, IfSome, IsTrue}
 use Rattle.wol_disk.specs.Disk.{State}
 use Rattle.wol_bay.specs.Bay.{BayState}
 use Rattle.wol_config.specs.declared.config.Config.{Config}
@@ -9,7 +9,8 @@ use Rattle.inspection.specs.Lines.{Telling, first_trouble, text_of}
 use Rattle.inspection.specs.Runs.{IsToldOf}
 use Rattle.inspection.specs.declared.asked.Asked.{Asked}
 use Rattle.wol_config.specs.declared.config.VolumeConf.{VolumeConf}
-use Rattle.rack.specs.Opens.{RefusesVolume}
+use Rattle.volume_images.specs.Left.{AreNamedApart, IsTold}
+use Rattle.rack.specs.Opens.{KeepsOthers, RefusesVolume, WereThere}
 use Rattle.rack.specs.Rests.{image_here}
 use Rattle.rack.specs.declared.rack.ImageRest.{ImageRest}
 use Rattle.rack.specs.declared.volume_fault.VolumeFault.{VolumeFault}
@@ -23,8 +24,9 @@ abbrev pub status_of_first : Option Trouble → ℕ
 status_of_first None = 0
 status_of_first (Some trouble) = trouble_status trouble
 
--- These volumes, the first ones in order, were told so. Where any was told, an image that isn't out was refused. Each image that is left
--- recovers to what an image at entry did, and sound images stay sound.
+-- These volumes, the first ones in order, were told so. Where any was told, an image that is out was
+-- there and may be opened, and one that isn't was refused. Each image that is left recovers to what
+-- an image at entry did, and sound images stay sound.
 pub record AreTold {D : Type 0} (tells : Bool) (state : D → State) (asked : Asked) (config : Config)
     (old new : BayState) (told : List Telling) : Type 0 where
   pub out : List (Option (ImageRest D))
@@ -32,10 +34,14 @@ pub record AreTold {D : Type 0} (tells : Bool) (state : D → State) (asked : As
   pub missing : told ≢ [] → (k : ℕ) (v : VolumeConf) → slice_get config.volumes.items k ≡ Some v
       → image_here out k ≡ None → (f : VolumeFault)
       × RefusesVolume tells state config out old new k v f
+  pub there : told ≢ [] → IsTrue tells
+      → IfSome old.told (λ t. AreNamedApart t → WereThere config out t)
   pub few : length told ≤ length config.volumes.items
   pub each : (k : ℕ) (t : Telling) → slice_get told k ≡ Some t
       → IsToldOf tells state config asked out old new k t
   pub leaves : LeavesBay tells state config old new
+  -- images of names that aren't configured are as they were
+  pub others : IsTold (KeepsOthers config) old.told new.told
 
 -- Status 0, 4, 5, 6 or 12: the configuration was had, and the text is the lines of all volumes.
 pub record IsLook {D : Type 0} (tells : Bool) (state : D → State) (asked : Asked)
