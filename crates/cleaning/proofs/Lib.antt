@@ -1,0 +1,9 @@
+pub mod Testing
+pub mod Turning
+pub mod Stations
+pub mod Going
+pub mod Histories
+pub mod Volumes
+pub mod Closed
+pub mod Whole
+pub mod Leaving

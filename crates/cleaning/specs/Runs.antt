@@ -1,0 +1,109 @@
+-- What cleaning all volumes of a bay comes to.
+use Rattle.std.specs.Prelude.{◌≡◌, ◌≢◌, ◌⊎◌, ◌≤◌, ◌<◌, ◌+◌, ◌^◌, ◌∷◌, ◌++◌, ℕ, Bool, List, [], map, length, Option, Some, Result, Ok, Err, IsTrue, slice_get}
+use Rattle.std.specs.List.{AllByRecursion}
+use Rattle.std.specs.Io.KnownBytes.{Appends, Keeps}
+use Rattle.wol_disk.specs.Disk.{Rose, State}
+use Rattle.wol_io.specs.Streams.{AppendsFront}
+use Rattle.wol_bay.specs.Bay.{BayState, Told}
+use Rattle.wol_model.specs.History.{worker}
+use Rattle.wol_model.specs.Images.{AreSound, Images, all_segments, recovered_from}
+use Rattle.wol_model.specs.Index.{AreRising, is_covered, listed_in}
+use Rattle.wol_model.specs.Recovered.{extents_of}
+use Rattle.wol_promise.specs.Manager.{Base}
+use Rattle.wol_promise.specs.Ruled.{Noted}
+use Rattle.wol_config.specs.declared.config.Config.{Config}
+use Rattle.manager.specs.Stands.{Stands}
+use Rattle.manager.specs.declared.base.ManagerBase.{ManagerBase}
+use Rattle.manager.specs.declared.manager.Manager.{Manager}
+use Rattle.manager.specs.declared.part.Part.{Part}
+use Rattle.report.specs.declared.fault.Fault.TheVariants.{Memory, Volume}
+use Rattle.troubles.specs.Troubles.{trouble_of}
+use Rattle.volume_images.specs.Left.{AreNamedApart, IsTold}
+use Rattle.volume_images.specs.Volumes.{AreLeft, images_read, shapes_of}
+use Rattle.rack.specs.Closes.{AreListedOf, HasFaultyPart}
+use Rattle.rack.specs.Owners.{IsBegun, most_of}
+use Rattle.rack.specs.declared.volume_fault.VolumeFault.{VolumeFault}
+use Rattle.open_rack.specs.NotOpened.{IsFirstClosed}
+use Rattle.replay.specs.declared.stop.Stop.{Stop}
+use Rattle.replay.specs.declared.stop.Stop.TheVariants as stop
+use Rattle.log_cleaner.specs.Chunks.{IsChunk}
+use Rattle.log_cleaner.specs.Cleans.{HasCleaned}
+use Rattle.log_cleaner.specs.declared.answer.Cleaned.{Cleaned}
+use Rattle.log_cleaner.specs.declared.answer.CleanFault.{CleanFault}
+use Rattle.log_cleaner.specs.declared.answer.CleanFault.TheVariants.{DiskFault, VersionsSpent}
+use Rattle.cleaning.specs.Lines.{fault_of, lines_of}
+use Rattle.cleaning.specs.Turns.{operation_of}
+
+-- The next version of what a volume began with, and the number of its chunks, come to more than 2^63.
+pub record LacksVersions (most : ℕ) (b : Base) : Type 0 where
+  pub chunks : List (ℕ × ℕ)
+  pub each : AllByRecursion (λ c. IsChunk (is_covered b.look.listed) most c.0 c.1) chunks
+  pub apart : AreRising (map (λ (c : ℕ × ℕ). c.0) chunks)
+  pub beyond : 2 ^ 63 < b.next + length chunks
+
+-- Whatever images a crash leaves, the records of this volume that keep a block in them are those of the manager.
+abbrev pub LeavesRecords : {D : Type 0} → Config → (number : ℕ) → Manager D → Told → Type 0
+LeavesRecords config number m left = (images : Images) → AreLeft config left images → AreListedOf (listed_in m.index.entries) (extents_of number (all_segments (shapes_of config) images))
+
+-- A volume was cleaned: `opened` is its manager as the volume was opened of the images as they read, `after` the one that cleaning left,
+-- which stands for the array at opening behind one entry of copies. Where a call of a disk failed the bay's count rose, and a part of the
+-- volume came back with a fault.
+pub record CleansVolume {D : Type 0} (tells : Bool) (state : D → State) (config : Config) (old new : BayState) (number : ℕ) (answer : Result Cleaned CleanFault) : Type 0 where
+  pub base : ManagerBase
+  pub owner : base.volume.began.owner ≡ number
+  pub begun : IsTrue tells → IsTold (λ entry exit. IsBegun config (images_read config entry) base.volume.began) old.told new.told
+  pub opened : Manager D
+  pub stood : Stands tells state opened base []
+  pub after : Manager D
+  pub cleans : HasCleaned tells state (most_of config) opened after answer
+  pub note : Noted
+  pub pass : note.entry.pass ≡ worker
+  pub operation : note.entry.operation ≡ operation_of cleans.copies answer
+  pub stands : Stands tells state after base (note ∷ [])
+  -- unless a call failed, the records that are left are those of the manager that cleaning left
+  pub listed : ((p : Part) → answer ≢ Err (DiskFault p)) → IsTrue tells → IsTold (λ entry exit. LeavesRecords config number after exit) old.told new.told
+  pub cause : (p : Part) → answer ≡ Err (DiskFault p) → Rose old.faults new.faults
+  pub faulty : (p : Part) → answer ≡ Err (DiskFault p) → IsTrue tells → IsTold (HasFaultyPart tells config number base.volume.began.view) old.told new.told
+  pub spent : answer ≡ Err VersionsSpent → LacksVersions (most_of config) base.volume.began
+
+-- Whatever images a crash leaves, each volume recovers to the array that the images before recovered to as they read.
+abbrev pub KeepsArrays : Config → (entry exit : Told) → Type 0
+KeepsArrays config entry exit = (images : Images) → AreLeft config exit images → (v : ℕ) → v < length (shapes_of config)
+    → recovered_from (shapes_of config) images v ≡ recovered_from (shapes_of config) (images_read config entry) v
+
+module _ {D : Type 0} (tells : Bool) (state : D → State) (config : Config) (old new : BayState) (sink sink' : ℕ) (printed printed' : Option (List ℕ)) where
+  -- these first volumes were cleaned
+  abbrev pub AreCleaned : List Cleaned → Type 0
+  AreCleaned told = (length told ≤ length config.volumes.items) × ((k : ℕ) (c : Cleaned) → slice_get told k ≡ Some c → CleansVolume tells state config old new k (Ok c))
+
+  -- All volumes were cleaned; or the next was refused; or there was no memory for its line; or the sink failed at it. The lines are those
+  -- of the answers, in order.
+  pub data EndsFor : Result (Unit {0}) Stop → Type 0 where
+    whole : (told : List Cleaned) → AreCleaned told → length told ≡ length config.volumes.items → sink' ≡ sink → Appends printed printed' (lines_of config told) → EndsFor (Ok tt)
+    refused : (told : List Cleaned) (f : CleanFault) → AreCleaned told → length told < length config.volumes.items → CleansVolume tells state config old new (length told) (Err f) → sink' ≡ sink
+        → Appends printed printed' (lines_of config told) → EndsFor (Err (stop.Fault (fault_of (length told) f)))
+    no_memory : (told : List Cleaned) (c : Cleaned) → AreCleaned (told ++ c ∷ []) → sink' ≡ sink → Appends printed printed' (lines_of config told) → EndsFor (Err (stop.Fault Memory))
+    sink_failed : (told : List Cleaned) (c : Cleaned) → AreCleaned (told ++ c ∷ []) → Rose sink sink' → AppendsFront printed printed' (lines_of config (told ++ c ∷ [])) → EndsFor (Err stop.Sink)
+
+  -- A cleaning over a bay: there was no memory to open its volumes; or one of them couldn't be opened, and none was cleaned; or all were open.
+  pub data CleansBay : Result (Unit {0}) Stop → Type 0 where
+    unopened : sink' ≡ sink → Keeps printed printed' → CleansBay (Err (stop.Fault Memory))
+    closed : (k : ℕ) (f : VolumeFault) → sink' ≡ sink → Keeps printed printed' → IsFirstClosed tells state config old new k f → CleansBay (Err (stop.Fault (Volume k (trouble_of f))))
+    ran : (result : Result (Unit {0}) Stop) → EndsFor result → (IsTrue tells → IsTold (KeepsArrays config) old.told new.told) → CleansBay result
+
+-- ---- When it has to come to its end
+
+-- Nothing stands in the way: the images at entry are sound as they read, no call failed, and each volume has versions for its chunks.
+pub record MayComplete (tells : Bool) (config : Config) (old new : BayState) (sink sink' : ℕ) : Type 0 where
+  pub telling : IsTrue tells
+  pub entry : Told
+  pub entry_is : old.told ≡ Some entry
+  pub apart : AreNamedApart entry
+  pub sound : AreSound (shapes_of config) (images_read config entry)
+  pub bay_calm : Rose old.faults new.faults → ⊥
+  pub sink_calm : Rose sink sink' → ⊥
+  pub versions : (b : Base) → IsBegun config (images_read config entry) b → LacksVersions (most_of config) b → ⊥
+
+-- it came to its end, or there was no memory
+abbrev pub Completes : Result (Unit {0}) Stop → Type 0
+Completes result = (result ≡ Ok tt) ⊎ (result ≡ Err (stop.Fault Memory))

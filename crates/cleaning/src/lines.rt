@@ -1,0 +1,54 @@
+// The line of a volume that was cleaned.
+ghost use Rattle.std.specs.Prelude.{◌≡◌, ◌++◌, OnOk, OnErr};
+ghost use Rattle.cleaning.specs.Lines.{clean_line};
+
+use log_cleaner::Cleaned;
+use report::Word::{Number, Text};
+use report::append_line;
+use wol_disk::NoMemory;
+
+/// Appends the line of a volume: how many records it had and has, how many blocks were copied, and whether room was
+/// missing. `NoMemory` appends nothing.
+pub(crate) fn append_cleaned<'a>(
+    name: &'a [u8],
+    cleaned: &Cleaned,
+    out: &mut Vec<u8>,
+) -> Result<(), NoMemory>
+    ensures ok { OnOk result (out.new.items ≡ out.old.items ++ clean_line name.now cleaned.now) }
+    ensures err { OnErr result (out.new.items ≡ out.old.items) }
+{
+    let name = Text(name);
+    let before = Number(cleaned.before);
+    let after = Number(cleaned.after);
+    let copied = Number(cleaned.copied);
+    if cleaned.full {
+        append_line(
+            &[
+                Text(b"clean"),
+                name,
+                Text(b"records"),
+                before,
+                Text(b"to"),
+                after,
+                Text(b"copied"),
+                copied,
+                Text(b"full"),
+            ],
+            out,
+        )
+    } else {
+        append_line(
+            &[
+                Text(b"clean"),
+                name,
+                Text(b"records"),
+                before,
+                Text(b"to"),
+                after,
+                Text(b"copied"),
+                copied,
+            ],
+            out,
+        )
+    }
+}
