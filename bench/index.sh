@@ -1,9 +1,10 @@
 #!/usr/bin/env bash
 # Prints what calls of the index take at 10^2 to 10^6 records of one block each, in nanoseconds a record: adding it; asking for the
-# newest record of a block; putting it home and giving it up, all by version (put, trim) and as a reclaim does it, the next one that is
-# due and then the next one that may go (due+put, go+trim; reclaim is their sum); a reclaim where newer records cover half of all
-# (covered); and a whole drain, which asks each time what may go and what is due. That program is proved and built in a folder that is
-# removed afterwards. It measures by the clock, so let the machine do nothing else.
+# newest record of a block; putting it home and giving it up, all by version (put, trim), in an order in which each record that goes
+# lies far from the last one (middle), and as a reclaim does it, the next one that is due and then the next one that may go (due+put,
+# go+trim; reclaim is their sum); a reclaim where newer records cover half of all (covered); and a whole drain, which asks each time
+# what may go and what is due. That program is proved and built in a folder that is removed afterwards. It measures by the clock, so
+# let the machine do nothing else.
 # Then, through the program build/wol as `make build` leaves it, on a memory file system: 2,000, 20,000 and 200,000 distinct blocks of
 # one volume are off-loaded one by one with `--reclaim off`; a window that finds all disks awake then reclaims them with
 # `--reclaim between`. Printed is processor time a record of both, and of opening in between, and how it grows.
@@ -16,7 +17,7 @@ folder=$(mktemp -d)
 trap 'rm -rf "$folder"' EXIT
 bench=$folder/crates/index_bench
 mkdir -p "$bench/src" "$bench/specs" "$bench/proofs/steps"
-for crate in wol_disk wol_model version_marks redirect_map garbage_list; do
+for crate in wol_disk wol_model wol_promise version_marks redirect_map garbage_list; do
     mkdir -p "$folder/crates/$crate"
     for part in src specs proofs; do
         cp -r "$top/crates/$crate/$part" "$folder/crates/$crate/"
@@ -32,7 +33,7 @@ cp "$tests/proofs/"*.antt "$bench/proofs/"
 cp -r "$tests/proofs/steps/." "$bench/proofs/steps/"
 find "$bench" -type f -exec sed -i 's/index_tests/index_bench/g' {} +
 # the invariant of each loop over an index: which variable it counts, and which number all versions are below
-for loop in records:version:version put_each:version:count give_each:version:count put_all:step:count give_all:step:count drain:step:count; do
+for loop in records:version:version put_each:version:count give_each:version:count give_scattered:step:count put_all:step:count give_all:step:count drain:step:count; do
     IFS=: read -r name variable below <<<"$loop"
     mkdir -p "$bench/proofs/$name"
     cat >"$bench/proofs/$name/Invariants.antt" <<PROOF
@@ -124,6 +125,17 @@ fn give_each(index: &mut Index, count: u64)
     }
 }
 
+// Each one far from the last one.
+fn give_scattered(index: &mut Index, count: u64)
+    requires few { count ≤ 1000000 }
+    requires below { AreBelow count index.old.entries }
+    ensures { AreBelow count index.new.entries }
+{
+    for step in 0..count {
+        let _ = give_up(index, count, step * 7_919 % count);
+    }
+}
+
 fn put_all(index: &mut Index, count: u64)
     requires { AreBelow count index.old.entries }
     ensures { AreBelow count index.new.entries }
@@ -184,6 +196,20 @@ fn print_each(rt: &HostRuntime, alloc: Global, count: u64) -> io::Result<()>
     print!(rt; "{count} {add} {newest} {put} {trim} {} ", index.len())
 }
 
+// What giving up takes from the middle.
+fn print_middle(rt: &HostRuntime, alloc: Global, count: u64) -> io::Result<()>
+    requires { count ≤ 1000000 }
+{
+    let Ok(mut index) = records(alloc, count, count.max(1)) else {
+        return Ok(());
+    };
+    put_each(&mut index, count);
+    let start = Instant::now(rt)?;
+    give_scattered(&mut index, count);
+    let took = nanoseconds(start.elapsed(rt)?, count);
+    print!(rt; "{took} {} ", index.len())
+}
+
 // What putting home and giving up take, the next one that is due or may go each time.
 fn print_next(rt: &HostRuntime, alloc: Global, count: u64, blocks: u64) -> io::Result<()>
     requires few { count ≤ 1000000 }
@@ -218,6 +244,7 @@ fn print_calls(rt: &HostRuntime, alloc: Global, count: u64) -> io::Result<()>
     requires { count ≤ 1000000 }
 {
     print_each(rt, alloc, count)?;
+    print_middle(rt, alloc, count)?;
     print_next(rt, alloc, count, count.max(1))?;
     print_next(rt, alloc, count, count / 2 + 1)?;
     print_drain(rt, alloc, count)
@@ -236,10 +263,10 @@ done
 sed -i "s/^    COUNTS$/    $calls/" "$bench/src/main.rt"
 cd "$bench"
 rt run >"$folder/out" 2>"$folder/log" || { cat "$folder/log" "$folder/out" >&2; exit 1; }
-awk 'BEGIN { form = "%9s %8s %8s %8s %8s %8s %8s %8s %8s %8s"
-        printf form "  ns a record\n", "records", "add", "newest", "put", "trim", "due+put", "go+trim", "reclaim", "covered", "drain" }
-    NF != 14 || $6 + $9 + $12 + $14 { print "a row that is not whole, or records that are left: " $0; next }
-    { printf form "\n", $1, $2, $3, $4, $5, $7, $8, $7 + $8, $10 + $11, $13; all[$1] = $2 + $7 + $8 }
+awk 'BEGIN { form = "%9s %8s %8s %8s %8s %8s %8s %8s %8s %8s %8s"
+        printf form "  ns a record\n", "records", "add", "newest", "put", "trim", "middle", "due+put", "go+trim", "reclaim", "covered", "drain" }
+    NF != 16 || $6 + $8 + $11 + $14 + $16 { print "a row that is not whole, or records that are left: " $0; next }
+    { printf form "\n", $1, $2, $3, $4, $5, $7, $9, $10, $9 + $10, $12 + $13, $15; all[$1] = $2 + $9 + $10 }
     END { if (all[1000] && all[1000000]) printf "from 10^3 to 10^6 records one costs %.1f times as much to add and reclaim\n", all[1000000] / all[1000] }' "$folder/out"
 
 program=${WOL:-$top/build/wol}

@@ -192,3 +192,8 @@ last_is es k r index within end is = at (slice_get es k) refl (inside es k withi
 pub none_listed : (es : List Indexed) → length es ≡ 0 → AllByRecursion (λ d. d.listed.version ≤ 0) es
 none_listed [] none = tt
 none_listed (x ∷ xs) none = absurd (omega arith)
+
+-- where there is no record, none is found
+pub nothing_first : (test : Indexed → Bool) (es : List Indexed) → eqb (length es) 0 ≡ true → None ≡ first_version test es
+nothing_first test [] none = refl
+nothing_first test (x ∷ xs) none = let e : length (x ∷ xs) ≡ 0 = eqb-true (length (x ∷ xs)) 0 none in absurd (omega arith)

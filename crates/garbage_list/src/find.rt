@@ -10,7 +10,8 @@ use redirect_map::Index;
 // This version, if a block of its record may go and its lane is true.
 fn going(index: &Index, lanes: &[bool], version: u64) -> Option<u64>
     requires { AllByRecursion (HasLane lanes.now) index.now.entries }
-    ensures { IsTold (can_go lanes.now index.now.entries) index.now.entries version result }
+    ensures told { IsTold (can_go lanes.now index.now.entries) index.now.entries version result }
+    ensures index { IsIndex index.now.entries }
 {
     let record = index.find(version)?;
     if !lanes[record.lane as usize] {
@@ -25,7 +26,8 @@ fn going(index: &Index, lanes: &[bool], version: u64) -> Option<u64>
 // This version, if a block of its record is due and its lane is true.
 fn due_one(index: &Index, lanes: &[bool], version: u64) -> Option<u64>
     requires { AllByRecursion (HasLane lanes.now) index.now.entries }
-    ensures { IsTold (can_go_home lanes.now index.now.entries) index.now.entries version result }
+    ensures told { IsTold (can_go_home lanes.now index.now.entries) index.now.entries version result }
+    ensures index { IsIndex index.now.entries }
 {
     let record = index.find(version)?;
     if !lanes[record.lane as usize] {
@@ -39,8 +41,7 @@ fn due_one(index: &Index, lanes: &[bool], version: u64) -> Option<u64>
 
 // The greatest version, or 0 where there is no record.
 fn last_version(index: &Index) -> u64
-    ensures least { AllByRecursion (λ e. e.listed.version ≤ result) index.now.entries }
-    ensures index { IsIndex index.now.entries }
+    ensures { AllByRecursion (λ e. e.listed.version ≤ result) index.now.entries }
 {
     let count = index.len();
     if count == 0 {
@@ -64,12 +65,15 @@ pub fn next_to_go(index: &Index, lanes: &[bool]) -> Option<u64>
         (λ e. can_go lanes.now index.now.entries e ≡ true → v ≤ e.listed.version)
         index.now.entries) }
 {
-    let last = last_version(index);
+    if index.is_empty() {
+        return None;
+    }
     let mut from = 0;
     while let Some(version) = index.first_going(from, lanes) {
         if let Some(found) = going(index, lanes, version) {
             return Some(found);
         }
+        let last = last_version(index);
         if version >= last {
             return None;
         }
@@ -92,12 +96,15 @@ pub fn next_due(index: &Index, lanes: &[bool]) -> Option<u64>
         (λ e. can_go_home lanes.now index.now.entries e ≡ true → v ≤ e.listed.version)
         index.now.entries) }
 {
-    let last = last_version(index);
+    if index.is_empty() {
+        return None;
+    }
     let mut from = 0;
     while let Some(version) = index.first_due(from, lanes) {
         if let Some(found) = due_one(index, lanes, version) {
             return Some(found);
         }
+        let last = last_version(index);
         if version >= last {
             return None;
         }

@@ -100,6 +100,19 @@ fn first_of(list: &[Item], lanes: &[bool], due: bool) -> Option<u64> {
     None
 }
 
+// How many blocks from this one on, at most 200, have the newest record that it has.
+fn run_length(list: &[Item], lbn: u64) -> usize
+    requires { lbn ≤ 1000 }
+{
+    let first = newest(list, lbn);
+    for count in 1..200 {
+        if newest(list, lbn + count as u64) != first {
+            return count;
+        }
+    }
+    200
+}
+
 // Whether both find the same.
 fn find_the_same(index: &Index, list: &[Item], dice: &mut Dice, next: u64) -> bool
     requires { AreBelow next index.now.entries }
@@ -110,6 +123,7 @@ fn find_the_same(index: &Index, list: &[Item], dice: &mut Dice, next: u64) -> bo
     next_to_go(index, &lanes) == first_of(list, &lanes, false)
         && next_due(index, &lanes) == first_of(list, &lanes, true)
         && index.newest(lbn) == newest(list, lbn)
+        && index.newest_run(lbn, 200) == (newest(list, lbn), run_length(list, lbn))
         && index.covered(lbn, count) == covered(list, lbn, count)
         && index.len() == list.len() as u64
 }

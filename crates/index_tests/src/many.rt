@@ -66,6 +66,19 @@ fn drop_all(index: &mut Index, count: u64)
     }
 }
 
+// The same in an order in which each record lies far from those that go before and behind it.
+fn drop_scattered(index: &mut Index, count: u64)
+    requires few { count ≤ 1000000 }
+    requires below { AreBelow count index.old.entries }
+    ensures { AreBelow count index.new.entries }
+{
+    for step in 0..count {
+        let version = step * 7_919 % count;
+        let _ = put_home(index, count, version);
+        let _ = give_up(index, count, version);
+    }
+}
+
 // Gives up what may go, and puts home what is due, the least version first, until neither is left on a lane
 // that is awake. Says how many calls that took.
 fn drain(index: &mut Index, count: u64, lanes: &[bool], most: u64) -> u64
@@ -149,6 +162,15 @@ fn the_oldest_of_100_000_is_read(rt: HostRuntime) -> Result<(), Fail> {
     let mut index = records(rt.alloc(), 100_000)?;
     assert!(rt; is_read(&index, 4_000_000));
     drop_all(&mut index, 100_000);
+    assert!(rt; index.is_empty());
+    Ok(())
+}
+
+// No removal moves the rest of the records.
+#[test]
+fn all_100_000_are_dropped_from_the_middle(rt: HostRuntime) -> Result<(), Fail> {
+    let mut index = records(rt.alloc(), 100_000)?;
+    drop_scattered(&mut index, 100_000);
     assert!(rt; index.is_empty());
     Ok(())
 }

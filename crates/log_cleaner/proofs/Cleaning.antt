@@ -22,8 +22,8 @@ use Rattle.manager.specs.declared.part.StepFault.TheVariants as step
 use Rattle.manager.proofs.RunSources.{same_version}
 use Rattle.log_cleaner.specs.Chunks.{AreTidyBelow, IsChunk, IsTidy, IsUppermost, KeepsJust, KeepsNone, NoneHomed, is_within}
 use Rattle.log_cleaner.specs.Cleans.{CanClean, HasCleaned, IsChunkOf, IsLeftUntidy, IsOfUntidy, copied_blocks, covered_in}
-use Rattle.log_cleaner.specs.Steps.{GivesUp, HasCopied, HasRewritten, HasTidied, IsCopyAt, IsRefused, TellsFault, TidiesUp}
-use Rattle.log_cleaner.specs.Underway.{AreChunks, CleansAll, CleansBy, EndsBy, HasCleanedSome}
+use Rattle.log_cleaner.specs.Steps.{GivesUp, HasCopied, HasRewritten, HasTidied, IsCopyAt, IsRefused, TellsFault, TidiesUp, fault_copies}
+use Rattle.log_cleaner.specs.Underway.{AreChunks, CleansBy, EndsBy, HasCleanedSome}
 use Rattle.log_cleaner.specs.declared.answer.Cleaned.{Cleaned}
 use Rattle.log_cleaner.specs.declared.answer.CleanFault.{CleanFault}
 use Rattle.log_cleaner.specs.declared.answer.CleanFault.TheVariants.{DiskFault, VersionsSpent, NoMemory}
@@ -75,31 +75,37 @@ module _ {D : Type 0} (tells : Bool) (state : D → State) (old mid new : Manage
       (subst (λ (n : ℕ). IsUppermost (listing r.look r.lane r.write) r.look.next first n) r.is_copy.count_is
       (subst (λ (f : ℕ). IsUppermost (listing r.look r.lane r.write) r.look.next f (length r.write.blocks)) r.is_copy.first_is (listing_newest r.look r.lane r.write unhomed below)))
 
-  pub tidied : HasCopied tells state mid new [] → TidiesUp mid new → HasTidied tells state first count old new
-  tidied copied tidies = record {
-    write = r.write;
-    is_copy = r.is_copy;
-    copied = copied_then tells state old mid new (r.write ∷ []) [] can r.copied copied;
-    tidy = tidies r.look.next first count some newest_;
-    others = λ f c le apart t. tidies t.version f c le (subst (λ (es : List Listed). IsUppermost es t.version f c) (sym r.listed_is)
-        (listing_upper r.look r.lane r.write unhomed t.version f c
-        (λ b is. ap (λ (n : ℕ). is_within r.write.first n b) r.is_copy.count_is ∙ ap (λ (n : ℕ). is_within n count b) r.is_copy.first_is ∙ apart b is)
-        (subst (λ (es : List Listed). IsUppermost es t.version f c) (sym r.listed_was) (upper_of_tidy (listed_in old.index.entries) f c t))));
-  }
+  pub tidied : HasCopied tells state mid new [] → TidiesUp mid new → (t : HasTidied tells state first count old new) × (r.write ≡ t.write)
+  tidied copied tidies = (
+    record {
+      write = r.write;
+      is_copy = r.is_copy;
+      copied = copied_then tells state old mid new (r.write ∷ []) [] can r.copied copied;
+      tidy = tidies r.look.next first count some newest_;
+      others = λ f c le apart t. tidies t.version f c le (subst (λ (es : List Listed). IsUppermost es t.version f c) (sym r.listed_is)
+          (listing_upper r.look r.lane r.write unhomed t.version f c
+          (λ b is. ap (λ (n : ℕ). is_within r.write.first n b) r.is_copy.count_is ∙ ap (λ (n : ℕ). is_within n count b) r.is_copy.first_is ∙ apart b is)
+          (subst (λ (es : List Listed). IsUppermost es t.version f c) (sym r.listed_was) (upper_of_tidy (listed_in old.index.entries) f c t))));
+    },
+    refl,
+  )
 
-  pub tidy_failing : (fault : StepFault) (result : CleanFault) → ((p : Part) → fault ≡ step.DiskFault p → result ≡ DiskFault p) → GivesUp tells state mid new (Err fault) → TellsFault tells state first count old new result
-  tidy_failing (step.DiskFault p) result is given = subst (TellsFault tells state first count old new) (sym (is p refl)) (record {
-    copies = r.write ∷ [];
-    one = omega arith;
-    are = (r.is_copy, tt);
-    broken = broken_then tells state old mid new p (r.write ∷ []) [] can r.copied given;
-  })
+  pub tidy_failing : (fault : StepFault) (result : CleanFault) → ((p : Part) → fault ≡ step.DiskFault p → result ≡ DiskFault p) → GivesUp tells state mid new (Err fault) → (f : TellsFault tells state first count old new result) × (r.write ∷ [] ≡ fault_copies tells state first count old new result f)
+  tidy_failing (step.DiskFault p) result is given = subst (λ (x : CleanFault). (f : TellsFault tells state first count old new x) × (r.write ∷ [] ≡ fault_copies tells state first count old new x f)) (sym (is p refl)) (
+    record {
+      copies = r.write ∷ [];
+      one = omega arith;
+      are = (r.is_copy, tt);
+      broken = broken_then tells state old mid new p (r.write ∷ []) [] can r.copied given;
+    },
+    refl,
+  )
   tidy_failing (step.Down p) result is given = absurd given
 
 -- ---- Several chunks
 
 -- one more, above the others
-rising_push : (vs : List ℕ) (v : ℕ) → AreRising vs → AllByRecursion (λ (u : ℕ). u < v) vs → AreRising (vs ++ v ∷ [])
+pub rising_push : (vs : List ℕ) (v : ℕ) → AreRising vs → AllByRecursion (λ (u : ℕ). u < v) vs → AreRising (vs ++ v ∷ [])
 rising_push [] v rising less = (tt, tt)
 rising_push (u ∷ vs) v rising less = (all_push (λ (w : ℕ). u < w) vs v rising.0 less.0, rising_push vs v rising.1 less.1)
 
@@ -132,8 +138,7 @@ pub blocks_more : (copies : List Write) (w : Write) → copied_blocks (copies ++
 blocks_more copies w = let e = sum_by-append (λ (v : Write). length v.blocks) copies (w ∷ []) in omega (arith, e)
 
 -- covered blocks as they were at the beginning, between chunks
-pub record Between {D : Type 0} (tells : Bool) (state : D → State) (most : ℕ) (old now : Manager D) (copied from : ℕ) : Type 0 where
-  pub copies : List Write
+pub record Between {D : Type 0} (tells : Bool) (state : D → State) (most : ℕ) (old now : Manager D) (copied from : ℕ) (copies : List Write) : Type 0 where
   pub done : HasCleanedSome tells state most old now copies
   pub count : copied ≡ copied_blocks copies
   pub few : copied ≤ from
@@ -144,9 +149,8 @@ pub record Between {D : Type 0} (tells : Bool) (state : D → State) (most : ℕ
   pub behind : AllByRecursion (λ (w : Write). w.first < from) copies
   pub stays : (f c : ℕ) → 1 ≤ c → from ≤ f → IsTidy (listed_in old.index.entries) f c → IsTidy (listed_in now.index.entries) f c
 
-pub between_none : {D : Type 0} (tells : Bool) (state : D → State) (most : ℕ) (m : Manager D) → CanClean m → Between tells state most m m 0 0
+pub between_none : {D : Type 0} (tells : Bool) (state : D → State) (most : ℕ) (m : Manager D) → CanClean m → Between tells state most m m 0 0 []
 between_none tells state most m can = record {
-  copies = [];
   done = record { chunks = chunks_none (covered_in m) (listed_in m.index.entries) most m.next; copied = copied_none tells state m can; untouched = λ none. refl };
   count = refl;
   few = omega arith;
@@ -157,7 +161,7 @@ between_none tells state most m can = record {
   stays = λ f c some le t. t;
 }
 
-module _ {D : Type 0} (tells : Bool) (state : D → State) (most : ℕ) (old now : Manager D) (copied from : ℕ) (can : CanClean old) (b : Between tells state most old now copied from)
+module _ {D : Type 0} (tells : Bool) (state : D → State) (most : ℕ) (old now : Manager D) (copied from : ℕ) (can : CanClean old) (copies : List Write) (b : Between tells state most old now copied from copies)
     (ready : IsReady state now) (lbn count : ℕ) (low : from ≤ lbn) (bare : (x : ℕ) → from ≤ x → x < lbn → covered_in now x ≡ false) (here : covered_in now lbn ≡ true)
     (some : 1 ≤ count) (few : count ≤ most) (run : (x : ℕ) → lbn ≤ x → x < lbn + count → covered_in now x ≡ true) (ends : count < most → covered_in now (lbn + count) ≡ false) where
   same_cover : (x : ℕ) → covered_in now x ≡ covered_in old x
@@ -187,15 +191,14 @@ module _ {D : Type 0} (tells : Bool) (state : D → State) (most : ℕ) (old now
   tidy_before x lt is = ⊎_elim (λ l. b.tidy x l is) (λ g. absurd (clash (covered_in old x) is (sym (same_cover x) ∙ bare x g lt))) (cases_lt x from)
 
   -- those that lie before a block lie before a later one
-  behind_later : AllByRecursion (λ (w : Write). w.first < lbn) b.copies
-  behind_later = all_map (λ (w : Write). w.first < from) (λ (w : Write). w.first < lbn) (λ w lt. omega (arith, lt, low)) b.copies b.behind
+  behind_later : AllByRecursion (λ (w : Write). w.first < lbn) copies
+  behind_later = all_map (λ (w : Write). w.first < from) (λ (w : Write). w.first < lbn) (λ w lt. omega (arith, lt, low)) copies b.behind
 
-  behind_end : AllByRecursion (λ (w : Write). w.first < lbn + count) b.copies
-  behind_end = all_map (λ (w : Write). w.first < from) (λ (w : Write). w.first < lbn + count) (λ w lt. omega (arith, lt, low)) b.copies b.behind
+  behind_end : AllByRecursion (λ (w : Write). w.first < lbn + count) copies
+  behind_end = all_map (λ (w : Write). w.first < from) (λ (w : Write). w.first < lbn + count) (λ w lt. omega (arith, lt, low)) copies b.behind
 
-  pub between_tidy : IsTidy (listed_in now.index.entries) lbn count → Between tells state most old now copied (lbn + count)
+  pub between_tidy : IsTidy (listed_in now.index.entries) lbn count → Between tells state most old now copied (lbn + count) copies
   between_tidy t = record {
-    copies = b.copies;
     done = b.done;
     count = b.count;
     few = let f = b.few in omega (arith, f, low);
@@ -211,7 +214,7 @@ module _ {D : Type 0} (tells : Bool) (state : D → State) (most : ℕ) (old now
     untidy_old : IsTidy (listed_in old.index.entries) lbn count → ⊥
     untidy_old t = untidy (b.stays lbn count some low t)
 
-    abbrev left_untidy : new.index.entries ≡ now.index.entries → IsLeftUntidy (covered_in old) most (listed_in new.index.entries) b.copies
+    abbrev left_untidy : new.index.entries ≡ now.index.entries → IsLeftUntidy (covered_in old) most (listed_in new.index.entries) copies
     left_untidy same = record {
       first = lbn;
       count = count;
@@ -221,24 +224,23 @@ module _ {D : Type 0} (tells : Bool) (state : D → State) (most : ℕ) (old now
       untidy = λ t. untidy (subst (λ (es : List Indexed). IsTidy (listed_in es) lbn count) same t);
     }
 
-    next_is : now.next ≡ old.next + length b.copies
+    next_is : now.next ≡ old.next + length copies
     next_is = b.done.copied.next
 
-    pub between_copied : HasTidied tells state lbn count now new → Between tells state most old new (copied + count) (lbn + count)
+    pub between_copied : (t : HasTidied tells state lbn count now new) → Between tells state most old new (copied + count) (lbn + count) (copies ++ t.write ∷ [])
     between_copied t = record {
-      copies = b.copies ++ t.write ∷ [];
       done = record {
-        chunks = chunks_more (covered_in old) (listed_in old.index.entries) most old.next lbn count b.copies (t.write ∷ []) b.done.chunks chunk untidy_old behind_later (omega arith) (subst (λ (n : ℕ). IsCopyAt lbn count n t.write) next_is t.is_copy, tt);
-        copied = copied_then tells state old now new b.copies (t.write ∷ []) can b.done.copied t.copied;
-        untouched = λ none. absurd (some_last b.copies t.write none);
+        chunks = chunks_more (covered_in old) (listed_in old.index.entries) most old.next lbn count copies (t.write ∷ []) b.done.chunks chunk untidy_old behind_later (omega arith) (subst (λ (n : ℕ). IsCopyAt lbn count n t.write) next_is t.is_copy, tt);
+        copied = copied_then tells state old now new copies (t.write ∷ []) can b.done.copied t.copied;
+        untouched = λ none. absurd (some_last copies t.write none);
       };
-      count = let e = blocks_more b.copies t.write in let c = b.count in let n = t.is_copy.count_is in omega (arith, e, c, n);
+      count = let e = blocks_more copies t.write in let c = b.count in let n = t.is_copy.count_is in omega (arith, e, c, n);
       few = let f = b.few in omega (arith, f, low);
       within = end_within;
       tidy = tidy_then (listed_in new.index.entries) (λ x lt is. let o = b.tidy x lt is in
           (o.0, o.1, o.2, o.3, o.4, t.others o.0 o.1 o.2.some (λ y inside. apart_from x lt o.0 o.1 o.2 o.3 o.4 y inside) o.5)) t.tidy;
       cut = cut_then;
-      behind = all_push (λ (w : Write). w.first < lbn + count) b.copies t.write behind_end (let f = t.is_copy.first_is in omega (arith, f, some));
+      behind = all_push (λ (w : Write). w.first < lbn + count) copies t.write behind_end (let f = t.is_copy.first_is in omega (arith, f, some));
       stays = λ f c least le x. t.others f c least (λ y inside. Rattle.log_cleaner.proofs.Tidying.not_so (is_within lbn count y) (λ is.
           let v = inside_of f c y inside in let w = inside_of lbn count y is in let l = v.0 in let h = w.1 in omega (arith, l, h, le))) (b.stays f c least (omega (arith, le, low)) x);
     }
@@ -248,35 +250,33 @@ module _ {D : Type 0} (tells : Bool) (state : D → State) (most : ℕ) (old now
             let v = inside_of f n y inside in let w = inside_of lbn count y is in
             let same = (same_chunk (covered_in old) most f n lbn count y c chunk v.0 v.1 w.0 w.1).0 in omega (arith, lt, l, same, low))
 
-    pub ends_full : IsRefused tells state count now new → CleansBy tells state most old new b.copies (Ok (copied, true))
+    pub ends_full : IsRefused tells state count now new → CleansBy tells state most old new copies (Ok (copied, true))
     ends_full r = (
-      record { chunks = b.done.chunks; copied = subst (HasCopied tells state old new) (append-nil b.copies) (copied_then tells state old now new b.copies [] can b.done.copied r.copied); untouched = λ none. r.entries ∙ b.done.untouched none },
+      record { chunks = b.done.chunks; copied = subst (HasCopied tells state old new) (append-nil copies) (copied_then tells state old now new copies [] can b.done.copied r.copied); untouched = λ none. r.entries ∙ b.done.untouched none },
       b.count,
       λ wrong. absurd (let no_ : true ≡ false = wrong in cc),
       λ yes_. (let e = r.copied.next in let n = r.next in omega (arith, e, n), empty_since old now new b.done.copied.goes_on r.empty, left_untidy r.entries, r.room),
     )
 
-    pub ends_faulty : (fault : CleanFault) → TellsFault tells state lbn count now new fault → (copies : List Write) × EndsBy tells state most old new copies fault
+    pub ends_faulty : (fault : CleanFault) → (f : TellsFault tells state lbn count now new fault) → EndsBy tells state most old new (copies ++ fault_copies tells state lbn count now new fault f) fault
     ends_faulty (DiskFault p) f = (
-      b.copies ++ f.copies,
-      (
-        chunks_more (covered_in old) (listed_in old.index.entries) most old.next lbn count b.copies f.copies b.done.chunks chunk untidy_old behind_later f.one (subst (λ (n : ℕ). AllByRecursion (IsCopyAt lbn count n) f.copies) next_is f.are),
-        broken_then tells state old now new p b.copies f.copies can b.done.copied f.broken,
-      ),
+      chunks_more (covered_in old) (listed_in old.index.entries) most old.next lbn count copies f.copies b.done.chunks chunk untidy_old behind_later f.one (subst (λ (n : ℕ). AllByRecursion (IsCopyAt lbn count n) f.copies) next_is f.are),
+      broken_then tells state old now new p copies f.copies can b.done.copied f.broken,
     )
-    ends_faulty VersionsSpent f = (b.copies, (record { chunks = b.done.chunks; copied = subst (HasCopied tells state old new) (append-nil b.copies) (copied_then tells state old now new b.copies [] can b.done.copied f.0); untouched = λ none. f.2 ∙ b.done.untouched none }, f.1, left_untidy f.2))
-    ends_faulty NoMemory f = (
-      b.copies,
-      (
-        record { chunks = b.done.chunks; copied = subst (HasCopied tells state old new) (append-nil b.copies) (copied_then tells state old now new b.copies [] can b.done.copied f.0); untouched = λ none. f.1 ∙ b.done.untouched none },
-        (lbn, subst (λ (es : List Indexed). AreTidyBelow (covered_in old) most lbn (listed_in es)) (sym f.1) tidy_before, behind_later),
-      ),
+    ends_faulty VersionsSpent f = subst (λ (ws : List Write). EndsBy tells state most old new ws VersionsSpent) (sym (append-nil copies)) (
+      record { chunks = b.done.chunks; copied = subst (HasCopied tells state old new) (append-nil copies) (copied_then tells state old now new copies [] can b.done.copied f.0); untouched = λ none. f.2 ∙ b.done.untouched none },
+      f.1,
+      left_untidy f.2,
+    )
+    ends_faulty NoMemory f = subst (λ (ws : List Write). EndsBy tells state most old new ws NoMemory) (sym (append-nil copies)) (
+      record { chunks = b.done.chunks; copied = subst (HasCopied tells state old new) (append-nil copies) (copied_then tells state old now new copies [] can b.done.copied f.0); untouched = λ none. f.1 ∙ b.done.untouched none },
+      (lbn, subst (λ (es : List Indexed). AreTidyBelow (covered_in old) most lbn (listed_in es)) (sym f.1) tidy_before, behind_later),
     )
 
 -- all are tidy where no block is covered from here on
-pub ends_clean : {D : Type 0} (tells : Bool) (state : D → State) (most : ℕ) (old now : Manager D) (copied from : ℕ) → (b : Between tells state most old now copied from) → IsReady state now → IsIndex now.index.entries
-    → ((x : ℕ) → from ≤ x → x < 2 ^ 32 → covered_in now x ≡ false) → CleansBy tells state most old now b.copies (Ok (copied, false))
-ends_clean tells state most old now copied from b ready index bare = (
+pub ends_clean : {D : Type 0} (tells : Bool) (state : D → State) (most : ℕ) (old now : Manager D) (copied from : ℕ) (copies : List Write) → (b : Between tells state most old now copied from copies) → IsReady state now → IsIndex now.index.entries
+    → ((x : ℕ) → from ≤ x → x < 2 ^ 32 → covered_in now x ≡ false) → CleansBy tells state most old now copies (Ok (copied, false))
+ends_clean tells state most old now copied from copies b ready index bare = (
   b.done,
   b.count,
   λ is. record { each = each; only = only },
@@ -319,56 +319,69 @@ ends_clean tells state most old now copied from b ready index bare = (
 
 -- ---- The whole
 
-module _ {D : Type 0} (tells : Bool) (state : D → State) (most : ℕ) (old new : Manager D) (can : CanClean old) where
-  pub cleaned_ok : (copied : ℕ) (full : Bool) (c : Cleaned) → c.before ≡ length old.index.entries → c.after ≡ length new.index.entries → c.copied ≡ copied → c.full ≡ full → CleansAll tells state most old new (Ok (copied, full)) → HasCleaned tells state most old new (Ok c)
-  cleaned_ok copied full c before after same_copied same_full all = let d = all.1.0 in record {
-    copies = all.0;
-    chunks = d.chunks.chunks;
-    untidy = d.chunks.untidy;
-    in_order = d.chunks.in_order;
-    numbered = d.chunks.numbered;
-    copied = d.copied.copied;
-    tells_ = (
-      d.copied.goes_on,
-      leaves_copies tells state old new all.0 can.up d.copied.keeps,
-      before,
-      after,
-      same_copied ∙ all.1.1,
-      λ is. all.1.2 (sym same_full ∙ is),
-      λ is. all.1.3 (sym same_full ∙ is),
-      d.untouched,
-    );
-  }
+module _ {D : Type 0} (tells : Bool) (state : D → State) (most : ℕ) (old new : Manager D) (can : CanClean old) (copies : List Write) where
+  pub cleaned_ok : (copied : ℕ) (full : Bool) (c : Cleaned) → c.before ≡ length old.index.entries → c.after ≡ length new.index.entries → c.copied ≡ copied → c.full ≡ full → CleansBy tells state most old new copies (Ok (copied, full))
+      → (has : HasCleaned tells state most old new (Ok c)) × (copies ≡ has.copies)
+  cleaned_ok copied full c before after same_copied same_full all = let d = all.0 in (
+    record {
+      copies = copies;
+      chunks = d.chunks.chunks;
+      untidy = d.chunks.untidy;
+      in_order = d.chunks.in_order;
+      numbered = d.chunks.numbered;
+      copied = d.copied.copied;
+      tells_ = (
+        d.copied.goes_on,
+        leaves_copies tells state old new copies can.up d.copied.keeps,
+        before,
+        after,
+        same_copied ∙ all.1,
+        λ is. all.2 (sym same_full ∙ is),
+        λ is. all.3 (sym same_full ∙ is),
+        d.untouched,
+      );
+    },
+    refl,
+  )
 
-  pub cleaned_err : (fault : CleanFault) → CleansAll tells state most old new (Err fault) → HasCleaned tells state most old new (Err fault)
-  cleaned_err (DiskFault p) all = let d = all.1.1 in record {
-    copies = all.0;
-    chunks = all.1.0.chunks;
-    untidy = all.1.0.untidy;
-    in_order = all.1.0.in_order;
-    numbered = all.1.0.numbered;
-    copied = d.copied;
-    tells_ = (d.down, d.rose, d.leaves);
-  }
-  cleaned_err VersionsSpent all = let d = all.1.0 in record {
-    copies = all.0;
-    chunks = d.chunks.chunks;
-    untidy = d.chunks.untidy;
-    in_order = d.chunks.in_order;
-    numbered = d.chunks.numbered;
-    copied = d.copied.copied;
-    tells_ = (d.copied.goes_on, leaves_copies tells state old new all.0 can.up d.copied.keeps, all.1.1, sym d.copied.next ∙ all.1.1, all.1.2, d.untouched);
-  }
-  cleaned_err NoMemory all = let d = all.1.0 in record {
-    copies = all.0;
-    chunks = d.chunks.chunks;
-    untidy = d.chunks.untidy;
-    in_order = d.chunks.in_order;
-    numbered = d.chunks.numbered;
-    copied = d.copied.copied;
-    tells_ = (d.copied.goes_on, leaves_copies tells state old new all.0 can.up d.copied.keeps, d.untouched, all.1.1);
-  }
+  pub cleaned_err : (fault : CleanFault) → CleansBy tells state most old new copies (Err fault) → (has : HasCleaned tells state most old new (Err fault)) × (copies ≡ has.copies)
+  cleaned_err (DiskFault p) all = let d = all.1 in (
+    record {
+      copies = copies;
+      chunks = all.0.chunks;
+      untidy = all.0.untidy;
+      in_order = all.0.in_order;
+      numbered = all.0.numbered;
+      copied = d.copied;
+      tells_ = (d.down, d.rose, d.leaves);
+    },
+    refl,
+  )
+  cleaned_err VersionsSpent all = let d = all.0 in (
+    record {
+      copies = copies;
+      chunks = d.chunks.chunks;
+      untidy = d.chunks.untidy;
+      in_order = d.chunks.in_order;
+      numbered = d.chunks.numbered;
+      copied = d.copied.copied;
+      tells_ = (d.copied.goes_on, leaves_copies tells state old new copies can.up d.copied.keeps, all.1, sym d.copied.next ∙ all.1, all.2, d.untouched);
+    },
+    refl,
+  )
+  cleaned_err NoMemory all = let d = all.0 in (
+    record {
+      copies = copies;
+      chunks = d.chunks.chunks;
+      untidy = d.chunks.untidy;
+      in_order = d.chunks.in_order;
+      numbered = d.chunks.numbered;
+      copied = d.copied.copied;
+      tells_ = (d.copied.goes_on, leaves_copies tells state old new copies can.up d.copied.keeps, d.untouched, all.1);
+    },
+    refl,
+  )
 
-pub cleaned_none : {D : Type 0} (tells : Bool) (state : D → State) (most : ℕ) (m : Manager D) → CanClean m → HasCleaned tells state most m m (Err NoMemory)
-cleaned_none tells state most m can = cleaned_err tells state most m m can NoMemory
-    ([], (record { chunks = chunks_none (covered_in m) (listed_in m.index.entries) most m.next; copied = copied_none tells state m can; untouched = λ none. refl }, (0, (λ x lt is. absurd (omega (arith, lt))), tt)))
+pub cleaned_none : {D : Type 0} (tells : Bool) (state : D → State) (most : ℕ) (m : Manager D) → CanClean m → (has : HasCleaned tells state most m m (Err NoMemory)) × ([] ≡ has.copies)
+cleaned_none tells state most m can = cleaned_err tells state most m m can [] NoMemory
+    (record { chunks = chunks_none (covered_in m) (listed_in m.index.entries) most m.next; copied = copied_none tells state m can; untouched = λ none. refl }, (0, (λ x lt is. absurd (omega (arith, lt))), tt))

@@ -368,25 +368,27 @@ module _ {D : Type 0} (tells : Bool) (state : D → State) (old mid new : Manage
   no_home : (answer : Result Place WriteRefusal) → ruled_place mid new first blocks ≡ AtHome → ⊥
   no_home answer is = never_home tells state mid new read.goes_on.can ready first blocks some covered_mid is
 
-  logged_ends : (logger : ℕ) → WriteTold tells state mid new first blocks (Ok (place_.Log logger)) → HasRewritten tells state first (length blocks) old new
+  logged_ends : (logger : ℕ) → WriteTold tells state mid new first blocks (Ok (place_.Log logger)) → (r : HasRewritten tells state first (length blocks) old new) × (r.write ≡ w)
   logged_ends logger t =
       let lane = t.placed.0 in let is = t.placed.2 in
-      let look = t.look ∙ ap (λ (p : placing.Place). placed p (look_of_manager mid) (home_write first blocks)) is in
-      record {
-        write = w;
-        is_copy = is_copy_at;
-        copied = record {
-          goes_on = goes_then old mid new read.goes_on (write_goes_on tells state mid new read.goes_on.can ready first blocks some covered_mid lane (place_.Log logger) is t.waking t.look t.same (t.fault ∙ read.goes_on.can.up) t.answered);
-          keeps = Rattle.log_cleaner.proofs.Copying.keeps_then tells state old mid new [] (w ∷ []) can.up read.keeps (keeps_wrote tells state mid new w (passed_in new.rooms.items) read.goes_on.can.up t.stands);
-          copied = copies_after_read tells state old mid new w read refl content t.any_moment;
-          next = let e = ap (λ (l : Look). l.next) look in let f = same_next in omega (arith, e, f);
-        };
-        look = look_of_manager mid;
-        lane = lane;
-        listed_was = ap listed_in entries;
-        next_was = same_next;
-        listed_is = ap (λ (l : Look). l.listed) look;
-      }
+      let look = t.look ∙ ap (λ (p : placing.Place). placed p (look_of_manager mid) (home_write first blocks)) is in (
+        record {
+          write = w;
+          is_copy = is_copy_at;
+          copied = record {
+            goes_on = goes_then old mid new read.goes_on (write_goes_on tells state mid new read.goes_on.can ready first blocks some covered_mid lane (place_.Log logger) is t.waking t.look t.same (t.fault ∙ read.goes_on.can.up) t.answered);
+            keeps = Rattle.log_cleaner.proofs.Copying.keeps_then tells state old mid new [] (w ∷ []) can.up read.keeps (keeps_wrote tells state mid new w (passed_in new.rooms.items) read.goes_on.can.up t.stands);
+            copied = copies_after_read tells state old mid new w read refl content t.any_moment;
+            next = let e = ap (λ (l : Look). l.next) look in let f = same_next in omega (arith, e, f);
+          };
+          look = look_of_manager mid;
+          lane = lane;
+          listed_was = ap listed_in entries;
+          next_was = same_next;
+          listed_is = ap (λ (l : Look). l.listed) look;
+        },
+        refl,
+      )
 
   full_ends : WriteTold tells state mid new first blocks (Err refused.Full) → IsRefused tells state (length blocks) old new
   full_ends t =
@@ -411,28 +413,33 @@ module _ {D : Type 0} (tells : Bool) (state : D → State) (old mid new : Manage
       let rest = t.unchanged.rest in
       (copied_then tells state old mid new [] [] can read (unwritten tells state mid new read.goes_on.can ready first blocks some covered_mid (Err refused.NoMemory) t.same t.fault (ap (λ (m : Manager D). m.home_up) rest) (ap (λ (m : Manager D). needs_of m.spindle) rest) (ap (λ (m : Manager D). m.ups.items) rest) (ap (λ (m : Manager D). m.next) rest) t.unchanged.index t.answered t.stands t.any_moment), t.unchanged.index ∙ entries)
 
-  failed_ends : (logger index : ℕ) → WriteTold tells state mid new first blocks (Err (refused.DiskFault (part.Segment logger index))) → Fails tells state first (length blocks) old new (part.Segment logger index)
-  failed_ends logger index t = record {
-    copies = w ∷ [];
-    one = omega arith;
-    are = (is_copy_at, tt);
-    broken = record {
-      down = t.fault.0;
-      rose = (mid, read.goes_on, t.fault.1);
-      leaves = Rattle.log_cleaner.proofs.Copying.leaves_then tells state old mid new [] (w ∷ []) can.up (refl, tt) read.keeps (leaves_broken tells state mid new (w ∷ []) (passed_in new.rooms.items) read.goes_on.can.up t.stands);
-      copied = copies_after_read tells state old mid new w read refl content t.any_moment;
-    };
-  }
+  failed_ends : (logger index : ℕ) → WriteTold tells state mid new first blocks (Err (refused.DiskFault (part.Segment logger index))) → (f : Fails tells state first (length blocks) old new (part.Segment logger index)) × (f.copies ≡ w ∷ [])
+  failed_ends logger index t = (
+    record {
+      copies = w ∷ [];
+      one = omega arith;
+      are = (is_copy_at, tt);
+      broken = record {
+        down = t.fault.0;
+        rose = (mid, read.goes_on, t.fault.1);
+        leaves = Rattle.log_cleaner.proofs.Copying.leaves_then tells state old mid new [] (w ∷ []) can.up (refl, tt) read.keeps (leaves_broken tells state mid new (w ∷ []) (passed_in new.rooms.items) read.goes_on.can.up t.stands);
+        copied = copies_after_read tells state old mid new w read refl content t.any_moment;
+      };
+    },
+    refl,
+  )
 
-  pub write_ends : (answer : Result Place WriteRefusal) → WriteTold tells state mid new first blocks answer → Rewrites tells state first (length blocks) old new (steps.told_of answer)
+  -- with the copy that is noted of it
+  pub write_ends : (answer : Result Place WriteRefusal) → WriteTold tells state mid new first blocks answer
+      → (r : Rewrites tells state first (length blocks) old new (steps.told_of answer)) × (steps.noted answer [] (w ∷ []) ≡ steps.rewritten tells state first (length blocks) old new (steps.told_of answer) r)
   write_ends (Ok place_.Home) t = absurd (no_home (Ok place_.Home) t.placed)
-  write_ends (Ok (place_.Log logger)) t = logged_ends logger t
-  write_ends (Err refused.Full) t = full_ends t
+  write_ends (Ok (place_.Log logger)) t = let l = logged_ends logger t in (l.0, ap (λ (v : Write). v ∷ []) (sym l.1))
+  write_ends (Err refused.Full) t = (full_ends t, refl)
   write_ends (Err (refused.DiskFault (part.Home volume))) t = absurd (no_home (Err (refused.DiskFault (part.Home volume))) t.placed)
-  write_ends (Err (refused.DiskFault (part.Segment logger index))) t = failed_ends logger index t
+  write_ends (Err (refused.DiskFault (part.Segment logger index))) t = let f = failed_ends logger index t in (f.0, sym f.1)
   write_ends (Err (refused.Down p)) t = absurd (let wrong : None ≡ Some p = sym read.goes_on.can.up ∙ t.down p refl in cc)
-  write_ends (Err refused.VersionsSpent) t = spent_ends t
-  write_ends (Err refused.NoMemory) t = memory_ends t
+  write_ends (Err refused.VersionsSpent) t = (spent_ends t, refl)
+  write_ends (Err refused.NoMemory) t = (memory_ends t, refl)
 
 -- ---- A read that was refused
 
@@ -444,11 +451,23 @@ pub read_ends : {D : Type 0} (tells : Bool) (state : D → State) (old new : Man
     → ((p : Part) → refused_as refusal ≡ Err (refused_read.Down p) → old.down ≡ Some p)
     → Leaves tells state old new (was_read lbn reply (Err refusal)) [] worker
     → (IsTrue tells → (b : ManagerBase) (notes : List Noted) → Keeps tells state old b notes → Stops state old new None b notes [])
-    → steps.TellsFault tells state first count old new (steps.fault_of refusal)
-read_ends tells state old new can read first count lbn reply (refused_read.DiskFault p) cause down leaves stops = record {
-  copies = [];
-  one = omega arith;
-  are = tt;
-  broken = let c = cause p refl in read_broken tells state old new can read p c.0 c.1 leaves stops;
-}
+    → (f : steps.TellsFault tells state first count old new (steps.fault_of refusal)) × (steps.fault_copies tells state first count old new (steps.fault_of refusal) f ≡ [])
+read_ends tells state old new can read first count lbn reply (refused_read.DiskFault p) cause down leaves stops = (
+  record {
+    copies = [];
+    one = omega arith;
+    are = tt;
+    broken = let c = cause p refl in read_broken tells state old new can read p c.0 c.1 leaves stops;
+  },
+  refl,
+)
 read_ends tells state old new can read first count lbn reply (refused_read.Down p) cause down leaves stops = absurd (let wrong : None ≡ Some p = sym can.up ∙ down p refl in cc)
+
+-- what is noted behind other copies
+pub noted_behind : (answer : Result Place WriteRefusal) (done : List Write) (w : Write) → steps.noted answer done (done ++ w ∷ []) ≡ done ++ steps.noted answer [] (w ∷ [])
+noted_behind (Ok place) done w = refl
+noted_behind (Err (refused.DiskFault p)) done w = refl
+noted_behind (Err refused.Full) done w = sym (append-nil done)
+noted_behind (Err (refused.Down p)) done w = sym (append-nil done)
+noted_behind (Err refused.VersionsSpent) done w = sym (append-nil done)
+noted_behind (Err refused.NoMemory) done w = sym (append-nil done)

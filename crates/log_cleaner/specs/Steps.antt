@@ -1,5 +1,5 @@
 -- What steps of a cleaning come to.
-use Rattle.std.specs.Prelude.{◌≡◌, ◌<◌, ◌≤◌, ◌+◌, ◌^◌, ◌∷◌, ℕ, Bool, true, false, List, [], length, Some, Result, Ok, Err}
+use Rattle.std.specs.Prelude.{◌≡◌, ◌<◌, ◌≤◌, ◌+◌, ◌^◌, ◌∷◌, ◌++◌, ℕ, Bool, true, false, List, [], length, Some, Result, Ok, Err}
 use Rattle.std.specs.List.{AllByRecursion}
 use Rattle.wol_disk.specs.Disk.{State}
 use Rattle.wol_model.specs.Blocks.{Write}
@@ -114,3 +114,37 @@ abbrev pub CopiesChunk : {D : Type 0} → (tells : Bool) → (D → State) → (
 CopiesChunk tells state first count old new (Ok true) = HasTidied tells state first count old new
 CopiesChunk tells state first count old new (Ok false) = IsRefused tells state count old new
 CopiesChunk tells state first count old new (Err fault) = TellsFault tells state first count old new fault
+
+-- ---- The copies of a step
+
+-- the copies after a write with this answer: with one more where it was done or may be in flight
+abbrev pub noted : Result Place WriteRefusal → (done more : List Write) → List Write
+noted (Ok place) done more = more
+noted (Err (refused.DiskFault p)) done more = more
+noted (Err refused.Full) done more = done
+noted (Err (refused.Down p)) done more = done
+noted (Err refused.VersionsSpent) done more = done
+noted (Err refused.NoMemory) done more = done
+
+module _ {D : Type 0} (tells : Bool) (state : D → State) (first count : ℕ) (old new : Manager D) where
+  abbrev pub fault_copies : (fault : CleanFault) → TellsFault tells state first count old new fault → List Write
+  fault_copies (DiskFault p) f = f.copies
+  fault_copies VersionsSpent f = []
+  fault_copies NoMemory f = []
+
+  abbrev pub rewritten : (result : Result Bool CleanFault) → Rewrites tells state first count old new result → List Write
+  rewritten (Ok true) r = r.write ∷ []
+  rewritten (Ok false) r = []
+  rewritten (Err fault) f = fault_copies fault f
+
+  abbrev pub chunk_copies : (result : Result Bool CleanFault) → CopiesChunk tells state first count old new result → List Write
+  chunk_copies (Ok true) r = r.write ∷ []
+  chunk_copies (Ok false) r = []
+  chunk_copies (Err fault) f = fault_copies fault f
+
+  -- the same, with its copies behind those before it
+  abbrev pub RewritesBehind : (before after : List Write) → Result Bool CleanFault → Type 0
+  RewritesBehind before after result = (r : Rewrites tells state first count old new result) × (after ≡ before ++ rewritten result r)
+
+  abbrev pub CopiesBehind : (before after : List Write) → Result Bool CleanFault → Type 0
+  CopiesBehind before after result = (r : CopiesChunk tells state first count old new result) × (after ≡ before ++ chunk_copies result r)

@@ -35,6 +35,3 @@ abbrev pub CleansBy : {D : Type 0} → (tells : Bool) → (D → State) → (mos
 CleansBy tells state most old new copies (Ok r) = HasCleanedSome tells state most old new copies × (r.0 ≡ copied_blocks copies)
     × (r.1 ≡ false → IsClean (covered_in old) most (listed_in new.index.entries)) × (r.1 ≡ true → (new.next < 2 ^ 63) × FindsAllEmpty old new × (left : IsLeftUntidy (covered_in old) most (listed_in new.index.entries) copies) × NoneHasRoom left.count new)
 CleansBy tells state most old new copies (Err fault) = EndsBy tells state most old new copies fault
-
-abbrev pub CleansAll : {D : Type 0} → (tells : Bool) → (D → State) → (most : ℕ) → (old new : Manager D) → Result (ℕ × Bool) CleanFault → Type 0
-CleansAll tells state most old new result = (copies : List Write) × CleansBy tells state most old new copies result

@@ -1,10 +1,11 @@
 // Chunk after chunk is made tidy.
-ghost use Rattle.std.specs.Prelude.{◌≡◌, ◌≤◌, length};
+ghost use Rattle.std.specs.Prelude.{◌≡◌, ◌≤◌, [], length};
 ghost use Rattle.manager.specs.Stands.{IsReady, IsHome};
 ghost use Rattle.log_cleaner.specs.Cleans.{CanClean, HasCleaned};
-ghost use Rattle.log_cleaner.specs.Underway.{CleansAll};
+ghost use Rattle.log_cleaner.specs.Underway.{CleansBy};
 
 use crate::chunks::{END, chunk_len, is_tidy, next_covered};
+use crate::copies::{Copies, no_copies};
 use crate::copy::copy_chunk;
 use crate::{CleanFault, Cleaned};
 use logger::Shared;
@@ -24,15 +25,17 @@ fn clean_all<R: Wait, D: Disk>(
     shared: &Shared<D>,
     most: u32,
     room: &mut [Block],
+    done: &mut Copies,
 ) -> Result<(u64, bool), CleanFault>
     requires ready { IsReady D.state m.old }
     requires at { IsHome shared.now m.old }
     requires can { CanClean m.old }
     requires most { most ≡ m.old.most }
     requires room { length room.old ≡ 128 }
+    requires none { done.old.value.items ≡ [] }
     ensures ready { IsReady D.state m.new }
     ensures at { IsHome shared.now m.new }
-    ensures cleaned { CleansAll D.tells D.state most m.old m.new result }
+    ensures cleaned { CleansBy D.tells D.state most m.old m.new done.new.value.items result }
 {
     let mut copied = 0;
     let mut from = 0;
@@ -44,7 +47,7 @@ fn clean_all<R: Wait, D: Disk>(
         let count = chunk_len(m.index(), lbn, most);
         if !is_tidy(m.index(), lbn, count) {
             let blocks = &mut room[..count as usize];
-            if !copy_chunk(rt, m, shared, lbn, blocks)? {
+            if !copy_chunk(rt, m, shared, lbn, blocks, done)? {
                 return Ok((copied, true));
             }
             copied += u64::from(count);
@@ -58,15 +61,18 @@ fn clean_all<R: Wait, D: Disk>(
 /// keeps any of them. For each in order its blocks are read, written again to a log, and what may go is given up.
 /// Segments in which no record is left go to their pools.
 ///
-/// `DiskFault` comes only where the part's count of faults rose, and brings the manager down; what was copied may then be
-/// in flight. `VersionsSpent` comes where the next version is 2^63 and a chunk still isn't tidy. After it and after
-/// `NoMemory` what was copied stands.
+/// `done` becomes the copies, in order, also those before a refusal; only contracts read them.
+///
+/// `DiskFault` comes only where the part's count of faults rose in this call, and brings the manager down.
+/// `VersionsSpent` comes where the next version is 2^63 and a chunk still isn't tidy. After it and after `NoMemory` what
+/// was copied stands.
 pub fn clean<R: Wait, D: Disk>(
     rt: &R,
     alloc: Global,
     m: &mut Manager<D>,
     shared: &Shared<D>,
     most: u32,
+    done: &mut Copies,
 ) -> Result<Cleaned, CleanFault>
     requires ready { IsReady D.state m.old }
     requires at { IsHome shared.now m.old }
@@ -74,13 +80,15 @@ pub fn clean<R: Wait, D: Disk>(
     requires most { most ≡ m.old.most }
     ensures ready { IsReady D.state m.new }
     ensures at { IsHome shared.now m.new }
-    ensures cleaned { HasCleaned D.tells D.state most m.old m.new result }
+    ensures cleaned { (has : HasCleaned D.tells D.state most m.old m.new result)
+        × (done.new.value.items ≡ has.copies) }
 {
+    *done = no_copies();
     let before = m.index().len();
     let Ok(mut room) = vec![in alloc; [0; 512]; MOST] else {
         return Err(CleanFault::NoMemory);
     };
-    let (copied, full) = clean_all(rt, m, shared, most, &mut room)?;
+    let (copied, full) = clean_all(rt, m, shared, most, &mut room, done)?;
     Ok(Cleaned {
         before,
         after: m.index().len(),

@@ -4,9 +4,10 @@ ghost use Rattle.manager.specs.Stands.{IsReady, IsHome};
 ghost use Rattle.manager.specs.declared.part.Part.{Part};
 ghost use Rattle.log_cleaner.specs.Chunks.{is_within};
 ghost use Rattle.log_cleaner.specs.Cleans.{CanClean, covered_in};
-ghost use Rattle.log_cleaner.specs.Steps.{CopiesChunk, GivesUp, Rewrites, fault_of, told_of};
+ghost use Rattle.log_cleaner.specs.Steps.{CopiesBehind, GivesUp, RewritesBehind, fault_of, told_of};
 
 use crate::CleanFault;
+use crate::copies::{Copies, noted, with_copy};
 use logger::Shared;
 use manager::{Manager, Place, ReadRefusal, StepFault, WriteRefusal};
 use reclaimer::{Gone, invalidate_one};
@@ -67,13 +68,14 @@ fn give_up<R: Wait, D: Disk>(
     }
 }
 
-// Reads the blocks from `lbn` on and writes them again, to a log. Tells whether one had room.
+// Reads the blocks from `lbn` on and writes them again, to a log, which is one copy more. Tells whether one had room.
 fn rewrite<R: Wait, D: Disk>(
     rt: &R,
     m: &mut Manager<D>,
     shared: &Shared<D>,
     lbn: u64,
     blocks: &mut [Block],
+    done: &mut Copies,
 ) -> Result<bool, CleanFault>
     requires ready { IsReady D.state m.old }
     requires at { IsHome shared.now m.old }
@@ -82,10 +84,16 @@ fn rewrite<R: Wait, D: Disk>(
     requires covered { (b : ℕ) → is_within lbn (length blocks.old) b ≡ true → covered_in m.old b ≡ true }
     ensures ready { IsReady D.state m.new }
     ensures at { IsHome shared.now m.new }
-    ensures rewritten { Rewrites D.tells D.state lbn (length blocks.old) m.old m.new result }
+    ensures rewritten { RewritesBehind D.tells D.state lbn (length blocks.old) m.old m.new
+        done.old.value.items done.new.value.items result }
 {
     match m.read(rt, shared, lbn, blocks) {
-        Ok(_) => told(m.write(rt, shared, lbn, blocks)),
+        Ok(_) => {
+            let more = with_copy(done, m, lbn, blocks);
+            let answer = m.write(rt, shared, lbn, blocks);
+            noted(done, more, &answer);
+            told(answer)
+        }
         Err(refusal) => Err(read_fault(refusal)),
     }
 }
@@ -97,6 +105,7 @@ pub(crate) fn copy_chunk<R: Wait, D: Disk>(
     shared: &Shared<D>,
     lbn: u64,
     blocks: &mut [Block],
+    done: &mut Copies,
 ) -> Result<bool, CleanFault>
     requires ready { IsReady D.state m.old }
     requires at { IsHome shared.now m.old }
@@ -105,9 +114,10 @@ pub(crate) fn copy_chunk<R: Wait, D: Disk>(
     requires covered { (b : ℕ) → is_within lbn (length blocks.old) b ≡ true → covered_in m.old b ≡ true }
     ensures ready { IsReady D.state m.new }
     ensures at { IsHome shared.now m.new }
-    ensures copied { CopiesChunk D.tells D.state lbn (length blocks.old) m.old m.new result }
+    ensures copied { CopiesBehind D.tells D.state lbn (length blocks.old) m.old m.new
+        done.old.value.items done.new.value.items result }
 {
-    let copied = rewrite(rt, m, shared, lbn, blocks)?;
+    let copied = rewrite(rt, m, shared, lbn, blocks, done)?;
     if !copied {
         return Ok(false);
     }

@@ -4,14 +4,17 @@
 //!
 //! `chunks.rt` finds the next chunk, a run of covered blocks of at most so many, and tells whether it is tidy: one
 //! record keeps just its blocks, and no other record keeps any of them. `copy.rt` writes one chunk again and then
-//! gives up what may go, `cleaner.rt` goes from chunk to chunk (`clean`). Of `specs/`: `Chunks` says what a chunk is and
-//! when it is tidy, `Copies` what copies leave in a history and at each moment, `Cleans` what the answers mean.
+//! gives up what may go, `copies.rt` has the copies as contracts see them, `cleaner.rt` goes from chunk to chunk
+//! (`clean`). Of `specs/`: `Chunks` says what a chunk is and when it is tidy, `Copies` what copies leave in a history
+//! and at each moment, `Cleans` what the answers mean.
 #![tactic(auto)]
 
 mod answer;
 mod chunks;
 mod cleaner;
+mod copies;
 mod copy;
 
 pub use answer::{CleanFault, Cleaned};
 pub use cleaner::clean;
+pub use copies::{Copies, Writes, no_copies};

@@ -1,7 +1,7 @@
 //! The manager of a volume: it reads and writes over the volume's home and its segments on the logs of other
 //! volumes, decides where each write goes, and tells after a failed disk call which part it was.
 //!
-//! A request's way: `read.rt` cuts the range into runs of blocks with one source (`run_from`), home or the newest
+//! A request's way: `read.rt` cuts the range into runs of blocks with one source (`newest_run`), home or the newest
 //! record, and reads each (`read_home` by `fetch.rt`, `read_log` by the lane); `write.rt` has the order of refusals
 //! and the loop over the rule of placing, `log.rt` the one call `offer` in which a lane is asked for room and,
 //! where it has it, written to, `home.rt` what is written home and synced. `manager.rt` is the manager itself,

@@ -85,23 +85,6 @@ impl<D: Disk> Manager<D> {
         }
     }
 
-    // Where this block is read, and how many blocks from it on, at most `most`, are read there.
-    fn run_from(&self, lbn: u64, most: usize) -> (Option<Rec>, usize)
-        requires some { 1 ≤ most }
-        requires fits { lbn + most < 2 ^ 64 }
-        ensures source { IsSource self.now.index.entries lbn result.1 result.0 }
-        ensures some { 1 ≤ result.1 }
-        ensures most { result.1 ≤ most }
-    {
-        let source = self.index.newest(lbn);
-        for count in 1..most {
-            if self.index.newest(lbn + count as u64) != source {
-                return (source, count);
-            }
-        }
-        (source, most)
-    }
-
     // Reads blocks that no record covers. The refusal names home.
     fn read_home<R: Wait>(
         &mut self,
@@ -250,7 +233,7 @@ impl<D: Disk> Manager<D> {
         let mut done = 0;
         'runs: while done < out.len() {
             let at = lbn + done as u64;
-            let (source, count) = self.run_from(at, out.len() - done);
+            let (source, count) = self.index.newest_run(at, out.len() - done);
             let run = self.read_run(rt, shared, source, at, &mut out[done..done + count])?;
             sources.home += run.home;
             sources.logged += run.logged;

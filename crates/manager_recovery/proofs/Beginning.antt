@@ -1,5 +1,5 @@
 -- What a volume begins with when it is opened, whether or not its disks tell their content.
-use Rattle.std.proofs.Common.{◌≡◌, ◌+◌, ◌<◌, ◌≤◌, ℕ, zero, suc, Bool, true, false, not, cond, eqb, List, [], ◌∷◌, length, map, Option, Some, option_map, refl, sym, ap, subst, ◌∙◌, arith}
+use Rattle.std.proofs.Common.{◌≡◌, inl, inr, ⊎_elim, ◌+◌, ◌<◌, ◌≤◌, ℕ, zero, suc, Bool, true, false, not, cond, eqb, List, [], ◌∷◌, length, map, Option, Some, option_map, refl, sym, ap, subst, ◌∙◌, arith}
 use Rattle.std.specs.Prelude.{filter, replicate, IsTrue, unwrap_or}
 use Rattle.std.specs.List.{AllByRecursion, AllZip, flat_map}
 use Rattle.std.specs.declared.alloc.Global.{Global}
@@ -11,8 +11,8 @@ use Rattle.wol_disk.proofs.Images.{only_image}
 use Rattle.wol_model.specs.Blocks.{Write, AreApart}
 use Rattle.wol_model.specs.Extents.{Extent, IsValid, with_extents, newest_block}
 use Rattle.wol_model.specs.Heads.{RecordHead, IsViewList}
-use Rattle.wol_model.specs.Index.{Indexed}
-use Rattle.wol_model.specs.Log.{Record, extent_of}
+use Rattle.wol_model.specs.Index.{Indexed, listed_in}
+use Rattle.wol_model.specs.Log.{Record, extent_of, marks_of}
 use Rattle.wol_model.specs.Recovered.{recovered, extents_of}
 use Rattle.wol_model.proofs.Overlay.{overlay_length_from}
 use Rattle.redirect_map.proofs.Seen.{length-marks_of}
@@ -31,23 +31,23 @@ use Rattle.logger.specs.declared.lane.Lane.{Lane}
 use Rattle.logger.specs.declared.shared.Shared.{Shared}
 use Rattle.manager.specs.Seen.{look_of_manager}
 use Rattle.manager.specs.Stands.{nones_in, opened}
-use Rattle.manager_recovery.specs.Owned.{Owned, read_of, all_owned, records_in, writes_in, recovered_of}
+use Rattle.manager_recovery.specs.Owned.{IsListedOf, Owned, read_of, owned_of, all_owned, records_in, writes_in, recovered_of}
 use Rattle.manager_recovery.specs.Left.{HasGiven, IsUsedLane, IsHandedBack}
 use Rattle.manager_recovery.specs.Opened.{Opens, IsInLane, base_at_opening, untold_write}
 use Rattle.manager_recovery.proofs.InLanes.{all_in_lanes}
 use Rattle.manager_recovery.specs.Recovery.{IsRecovered}
-use Rattle.manager_recovery.specs.Scanned.{AreHeld, HoldsItsOwn}
+use Rattle.manager_recovery.specs.Scanned.{AreHeld, HoldsItsOwn, has_some, thinned}
 use Rattle.manager_recovery.specs.declared.opening.Opening.{Opening}
 use Rattle.manager_recovery.specs.declared.opening.OwnedPart.{OwnedPart}
 use Rattle.manager_recovery.specs.declared.volume.Recovered.{Recovered}
-use Rattle.manager_recovery.proofs.ByLogger.{all_among, all_from, among_get, among_at, among_filter, filter_among, among_map, map_among, flat_among, apart_once, rising_counts}
+use Rattle.manager_recovery.proofs.ByLogger.{all_among, all_from, among_get, among_at, contains_among, among_filter, filter_among, among_map, map_among, flat_among, apart_once, rising_counts}
 use Rattle.manager_recovery.proofs.Gathered.{gs, gathered, scanned_still, entry_versions, below_all, below_entry}
 use Rattle.manager_recovery.proofs.OpenedIndex.{entry_for, entry_here, in_volume, kept_among, valid_keeps, one_of_version, versions_once, named_at}
 use Rattle.manager_recovery.proofs.OpenedKeeps.{IsGathered, is_home}
 use Rattle.manager_recovery.proofs.OpenedStands.{IsBeginning, IsKnown, kept_of_all, recs_of, write_of_record, opened_base, opened_stands}
 use Rattle.manager_recovery.proofs.SameNewest.{same_array}
-use Rattle.manager_recovery.proofs.Segs.{Seg, IsSeg, segs_of, records_segs, entries_at, entries_segs}
-use Rattle.manager_recovery.proofs.ToldParts.{IsTold, AreHeads, all_told, records_at, all_records, keeps, kept_thinned, versions_found, records_before, extents_are, next_is}
+use Rattle.manager_recovery.proofs.Segs.{Seg, IsSeg, lane_named, segs_of, records_segs, entries_at, entries_segs}
+use Rattle.manager_recovery.proofs.ToldParts.{IsTold, AreHeads, all_told, records_at, all_records, keeps, kept_thinned, versions_found, records_before, owned_again, extents_are, next_is}
 
 -- ---- Lists
 
@@ -74,6 +74,21 @@ told_segs state id [] ss hs zip = tt
 told_segs state id (o ∷ os) [] hs zip = tt
 told_segs state id (o ∷ os) (s ∷ ss) [] zip = tt
 told_segs state id (o ∷ os) (s ∷ ss) (h ∷ hs) zip = (zip.0, told_segs state id os ss hs zip.1)
+
+part_among : {D : Type 0} (os : List (OwnedPart D)) (ss : List Scan) (hs : List (HeldSegment D)) (g : Seg D) → IsAmong (segs_of os ss hs) g → IsAmong os g.part
+part_among [] ss hs g has = absurd has
+part_among (o ∷ os) [] hs g has = absurd has
+part_among (o ∷ os) (s ∷ ss) [] g has = absurd has
+part_among {D} (o ∷ os) (s ∷ ss) (h ∷ hs) g has = ⊎_elim (λ e. inl (ap (λ (x : Seg D). x.part) e)) (λ more. inr (part_among os ss hs g more)) has
+
+thinned_among : {D : Type 0} (os : List (OwnedPart D)) (ss : List Scan) (p : OwnedPart D) → IsAmong (thinned os ss) p → IsAmong os p
+thinned_among [] ss p has = absurd has
+thinned_among (o ∷ os) [] p has = absurd has
+thinned_among (o ∷ os) (s ∷ ss) p has = at (has_some s) has (thinned_among os ss p)
+  where
+    at : (t : Bool) → IsAmong (cond t (o ∷ thinned os ss) (thinned os ss)) p → (IsAmong (thinned os ss) p → IsAmong os p) → IsAmong (o ∷ os) p
+    at true there rest = ⊎_elim (λ e. inl e) (λ more. inr (rest more)) there
+    at false there rest = inr (rest there)
 
 lanes_through : {D : Type 0} (R S : Lane D → Lane D → Type 0) (T : Lane D → Lane D → Type 0) → ((x y z : Lane D) → R x y → S y z → T x z) → (xs ys zs : List (Lane D)) → AllZip R xs ys → AllZip S ys zs → AllZip T xs zs
 lanes_through R S T so [] [] [] a b = tt
@@ -261,6 +276,39 @@ module _ {D : Type 0} (tells : Bool) (state : D → State) (shared : Shared D) (
     next_told : r.next ≡ next_version (records_in o.want.id (all_owned state o.owned.items))
     next_told = rec.next ∙ (next_is state o.want.id rec.read rec.scans told_read ∙ ap next_version (sym (records_before state o.want.id o.owned.items rec.read rec.settled_)))
 
+    -- a segment that is left was owned, and read the same
+    was_owned : (g : Seg D) → IsAmong all_gs g → IsAmong (all_owned state o.owned.items) (owned_of state g.part)
+    was_owned g has =
+        let here = part_among n.owned.items r.scans.items held.segments g has in
+        let read = thinned_among rec.read rec.scans g.part (subst (λ (l : List (OwnedPart D)). IsAmong l g.part) rec.left here) in
+        subst (λ (l : List Owned). IsAmong l (owned_of state g.part)) (owned_again state o.want.id o.owned.items rec.read rec.same rec.settled_)
+        (among_map (owned_of state) rec.read g.part read)
+
+    listed_at : (e : Indexed) → IsAmong r.index.entries e → IsListedOf o.want.id o.view (all_owned state o.owned.items) e.listed
+    listed_at e has =
+        let h = entry_here state n.lanes.items n.want.id n.want.home n.view all_gs c.all c.order c.view_ok.distinct r.index.entries c.same c.rising e has in let g = h.seg in let f = h.found in
+        let at = (told_at g h.among).found.each h.k f h.there in
+        let q = at.whose in
+        let entry = entry_for state n.lanes.items n.want.id n.want.home n.view all_gs c.all c.order c.view_ok.distinct r.index.entries c.same c.rising g f in
+        let it : IsListedOf n.want.id n.view (all_owned state o.owned.items) entry.listed = record {
+          segment = owned_of state g.part;
+          owned = contains_among (all_owned state o.owned.items) (owned_of state g.part) (was_owned g h.among);
+          lane = lane_named n.view g.part.logger h.is_seg.named;
+          record_ = q;
+          there = contains_among (records_at state n.want.id g.part) q (among_at (records_at state n.want.id g.part) h.k q at.there);
+          version = ap (λ (x : RecordHead). x.version) at.head;
+          first = ap (λ (x : RecordHead). x.first) at.head;
+          keep = ap (λ (x : RecordHead). marks_of x.count x.mask) at.head;
+          homed = ap (λ (x : RecordHead). marks_of x.count 0) at.head;
+        } in
+        subst (λ (l : Indexed). IsListedOf o.want.id o.view (all_owned state o.owned.items) l.listed) (sym h.is)
+        (subst (λ (v : List ℕ). IsListedOf o.want.id v (all_owned state o.owned.items) entry.listed) view
+        (subst (λ (w : Label). IsListedOf w.id n.view (all_owned state o.owned.items) entry.listed) want it))
+
+    listed_told : AllByRecursion (IsListedOf o.want.id o.view (all_owned state o.owned.items)) (listed_in r.index.entries)
+    listed_told = all_mapped (IsListedOf o.want.id o.view (all_owned state o.owned.items)) (λ (e : Indexed). e.listed) r.index.entries
+        (all_from (λ (e : Indexed). IsListedOf o.want.id o.view (all_owned state o.owned.items) e.listed) r.index.entries listed_at)
+
     -- as many are listed
     many_told : length r.index.entries ≡ length first_writes
     many_told =
@@ -317,11 +365,12 @@ module _ {D : Type 0} (tells : Bool) (state : D → State) (shared : Shared D) (
     }
 
     finish : (ws : List Write) (array : List Block) → (b : IsBeginning state n r all_gs tells ws array) → array ≡ arrays → ws ≡ records → (IsTrue tells → array ≡ recovered_of o.want.id (read_of (state_of state o.home)) (all_owned state o.owned.items)) → (IsTrue tells → ws ≡ writes_in o.want.id (all_owned state o.owned.items))
-        → (IsTrue tells → r.next ≡ next_version (records_in o.want.id (all_owned state o.owned.items))) → length r.index.entries ≡ length ws → Opens tells state shared o (opened n.want.id n.home n.spindle lanes r.index r.next n.most)
-    finish ws array b array_is ws_is is_array is_writes is_next many = record {
+        → (IsTrue tells → r.next ≡ next_version (records_in o.want.id (all_owned state o.owned.items))) → length r.index.entries ≡ length ws
+        → (IsTrue tells → AllByRecursion (IsListedOf o.want.id o.view (all_owned state o.owned.items)) (listed_in r.index.entries)) → Opens tells state shared o (opened n.want.id n.home n.spindle lanes r.index r.next n.most)
+    finish ws array b array_is ws_is is_array is_writes is_next many found = record {
       base = opened_base tells state shared n r lanes all_gs c ws array b;
       is_base = same_base ws array b array_is ws_is;
-      begins = record { owner = ap (λ (w : _). w.id) want; home_blocks = ap (λ (w : _). w.home) want; most = most; view = view; array = is_array; records = is_writes; next = is_next; listed = length-map r.index.entries (λ (e : Indexed). e.listed) ∙ many };
+      begins = record { owner = ap (λ (w : _). w.id) want; home_blocks = ap (λ (w : _). w.home) want; most = most; view = view; array = is_array; records = is_writes; next = is_next; listed = length-map r.index.entries (λ (e : Indexed). e.listed) ∙ many; found = found };
       stands = opened_stands tells state shared n r lanes all_gs c ws array b;
       at = is_home state shared n r lanes all_gs c;
       spindle = back.spindle;
@@ -354,5 +403,5 @@ module _ {D : Type 0} (tells : Bool) (state : D → State) (shared : Shared D) (
     plain_writes is = sym (ap (λ (t : Bool). cond t (writes_in o.want.id (all_owned state o.owned.items)) (map untold_write r.index.entries)) is)
 
     pub opens_as : (t : Bool) → tells ≡ t → Opens tells state shared o (opened n.want.id n.home n.spindle lanes r.index r.next n.most)
-    opens_as true is = finish (first_writes sound (told is) home_size) (first_array sound (told is) home_size) (told_beginning sound (told is) home_size) (told_array is) (told_writes is) (λ t. refl) (λ t. refl) (λ t. next_told sound (told is) home_size) (many_told sound (told is) home_size)
-    opens_as false is = finish (map untold_write r.index.entries) (replicate n.want.home []) (plain_beginning is) (plain_array is) (plain_writes is) (λ t. absurd (let bad : false ≡ true = sym is ∙ t in cc)) (λ t. absurd (let bad : false ≡ true = sym is ∙ t in cc)) (λ t. absurd (let bad : false ≡ true = sym is ∙ t in cc)) (sym (length-map r.index.entries untold_write))
+    opens_as true is = finish (first_writes sound (told is) home_size) (first_array sound (told is) home_size) (told_beginning sound (told is) home_size) (told_array is) (told_writes is) (λ t. refl) (λ t. refl) (λ t. next_told sound (told is) home_size) (many_told sound (told is) home_size) (λ t. listed_told sound (told is) home_size)
+    opens_as false is = finish (map untold_write r.index.entries) (replicate n.want.home []) (plain_beginning is) (plain_array is) (plain_writes is) (λ t. absurd (let bad : false ≡ true = sym is ∙ t in cc)) (λ t. absurd (let bad : false ≡ true = sym is ∙ t in cc)) (λ t. absurd (let bad : false ≡ true = sym is ∙ t in cc)) (sym (length-map r.index.entries untold_write)) (λ t. absurd (let bad : false ≡ true = sym is ∙ t in cc))

@@ -16,6 +16,7 @@ use Rattle.log_scan.specs.Scan.{AreFound}
 use Rattle.log_scan.specs.declared.Found.{Found}
 use Rattle.log_scan.specs.declared.Scan.{Scan}
 use Rattle.wol_promise.specs.Stands.{next_version}
+use Rattle.manager_recovery.specs.Left.{IsSameOwned}
 use Rattle.manager_recovery.specs.Owned.{read_of, owned_of, all_owned, records_of, records_in, valid_in, writes_in}
 use Rattle.manager_recovery.specs.Scanned.{IsScanned, IsSettledPart, has_some, keeps_some, thinned, found_in, all_found, lane_of, record_in, next_found, next_of}
 use Rattle.manager_recovery.specs.declared.listing.FoundRecord.{FoundRecord}
@@ -172,6 +173,18 @@ module _ {D : Type 0} (state : D → State) (id : ℕ) where
   records_before [] (p ∷ ps) zip = absurd zip
   records_before (o ∷ os) [] zip = absurd zip
   records_before (o ∷ os) (p ∷ ps) zip = λ i. unwrap_or (read_log id (sym (same_read (state_of state o.part) (state_of state p.part) zip.0.settled_) i)) [] ++ records_before os ps zip.1 i
+
+  -- what was read back says the same
+  pub owned_again : (os ps : List (OwnedPart D)) → AllZip (IsSameOwned state) os ps → AllZip (IsSettledPart state) os ps → all_owned state ps ≡ all_owned state os
+  owned_again [] [] same settled_ = refl
+  owned_again [] (p ∷ ps) same settled_ = absurd same
+  owned_again (o ∷ os) [] same settled_ = absurd same
+  owned_again (o ∷ os) (p ∷ ps) same settled_ = λ i. record {
+    logger = (same.0.0 i).logger;
+    index = (same.0.0 i).index;
+    first = (same.0.0 i).first_block;
+    blocks = same_read (state_of state o.part) (state_of state p.part) settled_.0.settled_ i;
+  } ∷ owned_again os ps same.1 settled_.1 i
 
   pub extents_are : (os : List (OwnedPart D)) → extents_of id (map (λ (s : Rattle.manager_recovery.specs.Owned.Owned). s.blocks) (all_owned state os)) ≡ map extent_of (records_in id (all_owned state os))
   unfolding extents_in

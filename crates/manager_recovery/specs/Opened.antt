@@ -18,14 +18,14 @@ use Rattle.manager.specs.declared.base.LaneBase.{LaneBase}
 use Rattle.manager.specs.declared.base.ManagerBase.{ManagerBase}
 use Rattle.manager.specs.declared.manager.Manager.{Manager}
 use Rattle.logger.specs.declared.shared.Shared.{Shared}
-use Rattle.manager_recovery.specs.Owned.{read_of, all_owned, records_in, writes_in, recovered_of}
+use Rattle.manager_recovery.specs.Owned.{IsListedOf, read_of, all_owned, records_in, writes_in, recovered_of}
 use Rattle.manager_recovery.specs.Refused.{IsNamesAnswer, IsRecoverable}
 use Rattle.manager_recovery.specs.Left.{Fate, HasGiven, LeavesParts, kept_of}
 use Rattle.manager_recovery.specs.declared.opening.Opening.{Opening}
 use Rattle.manager_recovery.specs.declared.opening.OwnedPart.{OwnedPart}
 
 -- What a volume begins with: the array that home and its segments recover to as they read, the records in these that keep blocks,
--- and the version above all of theirs. As many records are listed.
+-- and the version above all of theirs. As many records are listed, each of them one of these.
 pub record Begins {D : Type 0} (tells : Bool) (state : D → State) (o : Opening D) (b : Base) : Type 0 where
   pub owner : b.owner ≡ o.want.id
   pub home_blocks : b.home_blocks ≡ o.want.home
@@ -35,6 +35,7 @@ pub record Begins {D : Type 0} (tells : Bool) (state : D → State) (o : Opening
   pub records : IsTrue tells → b.records ≡ writes_in o.want.id (all_owned state o.owned.items)
   pub next : IsTrue tells → b.next ≡ next_version (records_in o.want.id (all_owned state o.owned.items))
   pub listed : length b.look.listed ≡ length b.records
+  pub found : IsTrue tells → AllByRecursion (IsListedOf o.want.id o.view (all_owned state o.owned.items)) b.look.listed
 
 -- a write of which only the place and the version are told
 abbrev pub untold_write : Indexed → Write

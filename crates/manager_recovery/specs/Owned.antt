@@ -1,8 +1,9 @@
 -- The segments that a volume owns, as they read: what is wrong with them, and what the volume recovers to.
-use Rattle.std.specs.Prelude.{◌≡◌, ◌<◌, ◌≤◌, ◌+◌, ◌==◌, if◌then◌else◌, ℕ, not, List, [], ◌∷◌, ◌++◌, map, filter, take, length, slice_get, unwrap_or, Some, option_map}
+use Rattle.std.specs.Prelude.{◌≡◌, ◌<◌, ◌≤◌, ◌+◌, ◌==◌, if◌then◌else◌, ℕ, not, List, [], ◌∷◌, ◌++◌, map, filter, take, length, slice_get, unwrap_or, Some, option_map, Contains}
 use Rattle.std.specs.List.{AllByRecursion, flat_map}
 use Rattle.wol_disk.specs.Disk.{Block, State, reads}
-use Rattle.wol_model.specs.Log.{Record, IsLog, position_of, extent_of}
+use Rattle.wol_model.specs.Index.{Listed}
+use Rattle.wol_model.specs.Log.{Record, IsLog, position_of, extent_of, marks_of}
 use Rattle.wol_model.specs.Recovered.{read_log, recovered}
 use Rattle.wol_model.specs.Extents.{write_of}
 use Rattle.wol_model.specs.Blocks.{Write}
@@ -124,3 +125,16 @@ writes_in id ss = map (λ r. write_of (extent_of r)) (valid_in id ss)
 -- the array that home and the segments recover to as they read
 abbrev pub recovered_of : (id : ℕ) → (home : List Block) → List Owned → List Block
 recovered_of id home ss = recovered id home (map (λ (s : Owned). s.blocks) ss)
+
+-- A listed record is one of an owned segment that lies on its lane's logger: it has the version, the first block and the kept blocks
+-- of that record's head, and none of its blocks is home yet.
+pub record IsListedOf (id : ℕ) (view : List ℕ) (ss : List Owned) (e : Listed) : Type 0 where
+  pub segment : Owned
+  pub owned : Contains ss segment
+  pub lane : slice_get view e.lane ≡ Some segment.logger
+  pub record_ : Record
+  pub there : Contains (records_of id segment) record_
+  pub version : e.version ≡ record_.head.version
+  pub first : e.first ≡ record_.head.first
+  pub keep : e.keep ≡ marks_of record_.head.count record_.head.mask
+  pub homed : e.homed ≡ marks_of record_.head.count 0

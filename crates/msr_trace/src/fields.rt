@@ -15,12 +15,15 @@ use wol_disk::NoMemory;
 // How many bytes are worth a reader of their own: making one costs as much as reading some hundred lines.
 const WORTH: usize = 1024;
 
-/// Splits lines into their fields. One reader of `csv` serves all lines of a chunk, and one row all lines. A row that it
-/// gives is taken only where it is what the line splits into; else the line is read by a reader of its own.
+/// Splits lines into their fields. One reader of `csv` serves all lines, which it is handed ahead, as many whole ones as are
+/// held, and one row takes them. A row that it gives is taken only where it is what the line splits into; else the line is
+/// read by a reader of its own.
 #[derive(Drop)]
 pub struct Fields {
     alloc: Global,
     reader: Option<Reader<Chunk>>,
+    // how many of the bytes that come next the reader was handed
+    ahead: usize,
     row: ByteRecord,
 }
 
@@ -29,18 +32,31 @@ impl Fields {
         Fields {
             alloc,
             reader: None,
+            ahead: 0,
             row: ByteRecord::new(alloc),
         }
     }
 
-    /// Takes the lines that come next, unless lines that were taken earlier are left.
+    /// Takes the whole lines that come next, unless lines that were taken earlier are left.
     pub fn expect(&mut self, bytes: &[u8]) {
-        if self.reader.is_none() && bytes.len() >= WORTH {
-            let reader = ReaderBuilder::new()
-                .has_headers(false)
-                .from_reader(self.alloc, Chunk::new(bytes));
-            self.reader = Some(reader);
+        if self.ahead > 0 {
+            return;
         }
+        let lines = whole_lines(bytes);
+        if self.reader.is_none() && lines.len() >= WORTH {
+            self.reader = Some(new_reader(self.alloc));
+        }
+        if let Some(reader) = &self.reader {
+            reader.get_ref().hand(lines);
+            self.ahead = lines.len();
+        }
+    }
+
+    /// So many of the bytes that came next were given.
+    pub fn pass(&mut self, count: usize)
+        ensures { self.new.row ≡ self.old.row }
+    {
+        self.ahead = self.ahead.saturating_sub(count);
     }
 
     /// Splits a line. `csv` takes a byte order mark off the front of a text, so a line that may begin with one isn't split
@@ -56,6 +72,7 @@ impl Fields {
             return Ok(());
         }
         let_go(&mut self.reader);
+        self.ahead = 0;
         match split_alone(self.alloc, line) {
             Ok(row) => {
                 self.row = row;
@@ -70,6 +87,23 @@ impl Fields {
         ensures { result.now ≡ self.now.row }
     {
         &self.row
+    }
+}
+
+// A reader that was handed nothing yet.
+#[cold]
+#[inline(never)]
+fn new_reader(alloc: Global) -> Reader<Chunk> {
+    ReaderBuilder::new()
+        .has_headers(false)
+        .from_reader(alloc, Chunk::new())
+}
+
+// The bytes up to the last line feed.
+fn whole_lines(bytes: &[u8]) -> &[u8] {
+    match bytes.iter().rposition(|byte| *byte == b'\n') {
+        Some(last) => &bytes[..=last],
+        None => &[],
     }
 }
 

@@ -8,8 +8,8 @@
 //! `specs/Lines.antt` is the format: where lines end, what a line has, which refusal comes first;
 //! `specs/Spelling.antt` says the same by what is written, and the laws tie the two; `specs/Reading.antt` says what
 //! `Lines` does. Making a reader of `csv` costs as much as reading about a hundred lines with one, so one reader
-//! serves a chunk of up to 8,192 bytes; a row of it is used only where it is compared equal to what the line splits
-//! into, else the line is read by a reader of its own.
+//! serves all lines: it is handed the whole lines that are held, ahead of their turn (`chunk.rt`). A row of it is used
+//! only where it is compared equal to what the line splits into, else the line is read by a reader of its own.
 #![tactic(auto)]
 
 pub mod calls;

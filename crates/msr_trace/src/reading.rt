@@ -153,5 +153,6 @@ fn give_first<S: Source>(
     };
     let taken = held.len().min(end + 1);
     intake.skip(taken);
+    fields.pass(taken);
     Ok(line)
 }

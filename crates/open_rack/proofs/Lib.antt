@@ -1,2 +1,4 @@
 pub mod RacksAgain
 pub mod Since
+pub mod FirstClosed
+pub mod AllOut

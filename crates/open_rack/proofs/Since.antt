@@ -15,7 +15,7 @@ use Rattle.manager.specs.declared.station.Station.{Station}
 use Rattle.manager_recovery.specs.declared.refusal.OpenRefusal.TheVariants.{DiskFault}
 use Rattle.volume_images.specs.Left.{AreNamedApart, IsTold}
 use Rattle.volume_images.specs.Volumes.{NoneOut, images_read, shape_in, shapes_of}
-use Rattle.rack.specs.Closes.{AreLeftOfParts, HasFaultIn, IsQuiet, LeavesOpen, LeavesUnopened, LeavesVolumes, is_kept_home}
+use Rattle.rack.specs.Closes.{AreLeftOfParts, CameBackFaulty, HasFaultAt, HasFaultIn, IsQuiet, LeavesOpen, LeavesUnopened, LeavesVolumes, ListsFaulty, has_station, is_kept_home}
 use Rattle.rack.specs.Closing.{LeavesNoneOut}
 use Rattle.rack.specs.Opens.{AreRefused, BeganWith, HasFaulty, KeepsAllSound, LeavesAll, RefusesVolume, WereThere, out_names}
 use Rattle.rack.specs.Owners.{HadRefused}
@@ -27,6 +27,7 @@ use Rattle.rack.specs.declared.rack.Rest.{Rest}
 use Rattle.rack.specs.declared.volume_fault.VolumeFault.{VolumeFault}
 use Rattle.rack.specs.declared.volume_fault.VolumeFault.TheVariants as fault
 use Rattle.rack.proofs.Asking.{refuses_later, rose_on}
+use Rattle.rack.proofs.FailedParts.{part_came_back, part_failed}
 use Rattle.rack.proofs.NewFaults.{told_each, told_with}
 use Rattle.rack.proofs.StillThere.{there_left}
 use Rattle.rack.proofs.SentNames.{none_named}
@@ -90,7 +91,7 @@ none_here zero = refl
 none_here (suc k) = refl
 
 -- a volume whose image isn't out is refused whatever other images are
-refused_alone : {D : Type 0} (tells : Bool) (state : D → State) (config : Config) (out : List (Option (ImageRest D))) (old new : BayState) (k : ℕ) (v : VolumeConf) (f : VolumeFault) → image_here out k ≡ None
+pub refused_alone : {D : Type 0} (tells : Bool) (state : D → State) (config : Config) (out : List (Option (ImageRest D))) (old new : BayState) (k : ℕ) (v : VolumeConf) (f : VolumeFault) → image_here out k ≡ None
     → RefusesVolume tells state config out old new k v f → RefusesVolume tells state config [] old new k v f
 refused_alone tells state config out old new k v fault.Absent home (not_out, says) = (none_here k, says)
 refused_alone tells state config out old new k v (fault.WrongLength bytes) home (not_out, says) = (none_here k, says)
@@ -100,22 +101,34 @@ refused_alone tells state config out old new k v (fault.Refused r) home (inl ref
 refused_alone tells state config out old new k v (fault.Refused r) home (inr refused) = absurd (let no : true ≡ false = sym refused.is_out ∙ ap is_some home in cc no)
 
 -- the element at a place of a list that was mapped
-unmapped : {X Y : Type 0} (f : X → Y) (xs : List X) (k : ℕ) (y : Y) → slice_get (map f xs) k ≡ Some y → (x : X) × (slice_get xs k ≡ Some x) × (f x ≡ y)
+pub unmapped : {X Y : Type 0} (f : X → Y) (xs : List X) (k : ℕ) (y : Y) → slice_get (map f xs) k ≡ Some y → (x : X) × (slice_get xs k ≡ Some x) × (f x ≡ y)
 unmapped f [] k y is = absurd (cc is)
 unmapped f (x ∷ xs) zero y is = (x, refl, cc is)
 unmapped f (x ∷ xs) (suc k) y is = unmapped f xs k y is
 
 -- of the element at a place
-all_at : {X : Type 0} (P : X → Type 0) (xs : List X) (k : ℕ) (x : X) → All P xs → slice_get xs k ≡ Some x → P x
+pub all_at : {X : Type 0} (P : X → Type 0) (xs : List X) (k : ℕ) (x : X) → All P xs → slice_get xs k ≡ Some x → P x
 all_at P xs k x all is = subst P (get_or_from_slice_get xs k x x is) (all k x (slice_get_within xs k x is))
 
 -- a volume with a station has its image out
-out_of : {D : Type 0} (state : D → State) (config : Config) (b : BayState) (r : Rack D) → IsRack state config b r → (k : ℕ) → Contains (map (λ (w : Station D). w.id) r.stations.items) k → IsImageOut r.rest.images.items k
+pub out_of : {D : Type 0} (state : D → State) (config : Config) (b : BayState) (r : Rack D) → IsRack state config b r → (k : ℕ) → Contains (map (λ (w : Station D). w.id) r.stations.items) k → IsImageOut r.rest.images.items k
 out_of {D} state config b r is k (j, less, at) =
     let (s, there, id) = unmapped (λ (w : Station D). w.id) r.stations.items j k (slice_get-get_or (map (λ (w : Station D). w.id) r.stations.items) j k less ∙ ap (λ (n : ℕ). Some n) at) in
     let station = all_at (λ (w : Station D). IsStation w) r.stations.items j s is.stations there in
     let base = all_at (λ (w : Station D). IsOpenBase config r.shared r.rest.images.items (base_of_station w)) r.stations.items j s is.bases there in
     subst (λ (n : ℕ). IsImageOut r.rest.images.items n) (station.id ∙ id) base.out
+
+-- an image that isn't out was refused
+pub refused_missing : {D : Type 0} (tells : Bool) (state : D → State) (config : Config) (bay old new : BayState) (r : Rack D) → IsRack state config bay r → AreRefused tells state config old new r
+    → (k : ℕ) (v : VolumeConf) → slice_get config.volumes.items k ≡ Some v → image_here r.rest.images.items k ≡ None → (f : VolumeFault) × RefusesVolume tells state config r.rest.images.items old new k v f
+refused_missing tells state config bay old new r is refused k v conf none_out = at (slice_index_or r.faults.items k None) refl
+  where
+    within : k < length (shapes_of config)
+    within = let less = slice_get_within config.volumes.items k v conf in omega (arith, less, length-map config.volumes.items (shape_in config))
+
+    at : (o : Option VolumeFault) → slice_index_or r.faults.items k None ≡ o → (f : VolumeFault) × RefusesVolume tells state config r.rest.images.items old new k v f
+    at None none = absurd (let no : true ≡ false = sym (out_of state config bay r is k ((is.faults k within).0 none)) ∙ ap is_some none_out in cc no)
+    at (Some f) some = (f, refused k v f conf (slice_get-get_or r.faults.items k None (let count = is.fault_count in omega (arith, within, count)) ∙ ap (λ (o : Option VolumeFault). Some o) some))
 
 -- ---- The whole
 
@@ -152,17 +165,7 @@ module _ {D : Type 0} (tells : Bool) (state : D → State) (config : Config) (ol
 
     -- an image that isn't out was refused
     missing : (k : ℕ) (v : VolumeConf) → slice_get config.volumes.items k ≡ Some v → image_here r.rest.images.items k ≡ None → (f : VolumeFault) × RefusesVolume tells state config r.rest.images.items old new k v f
-    missing k v conf none_out = at (slice_index_or r.faults.items k None) refl
-      where
-        within : k < length (shapes_of config)
-        within = let less = slice_get_within config.volumes.items k v conf in omega (arith, less, length-map config.volumes.items (shape_in config))
-
-        at : (o : Option VolumeFault) → slice_index_or r.faults.items k None ≡ o → (f : VolumeFault) × RefusesVolume tells state config r.rest.images.items old new k v f
-        at None none = absurd (let no : true ≡ false = sym (out_of state config bay r opened.rack k ((opened.rack.faults k within).0 none)) ∙ ap is_some none_out in cc no)
-        at (Some f) some = (
-          f,
-          refused_since k v f conf (slice_get-get_or r.faults.items k None (let count = opened.rack.fault_count in omega (arith, within, count)) ∙ ap (λ (o : Option VolumeFault). Some o) some),
-        )
+    missing k v conf none_out = refused_missing tells state config bay old new r opened.rack refused_since k v conf none_out
 
     not_out : (k : ℕ) → is_kept_home r.rest.images.items k ≡ true → image_here r.rest.images.items k ≡ None
     not_out k home = at (image_here r.rest.images.items k) home
@@ -182,12 +185,14 @@ module _ {D : Type 0} (tells : Bool) (state : D → State) (config : Config) (ol
           refused = is_kept_home r.rest.images.items;
           cause = cause;
           kept = λ k v conf home c may. stayed k v conf (not_out k home) c may;
-          left = λ images left v there. all images left v;
+          opened = has_station q;
+          are_opened = all.are_opened;
+          left = λ images left v there. all.each images left v;
           there = λ images left v was. there_left state config q t y stays both.1 images left v was;
         }
 
     pub opens_and_closes : (did : (before after : Rack D) → Type 0) (spindles : List SpindleView) → did r q → IsClosed tells state config bay new q spindles
-        → ((k : ℕ) (p : Part) → slice_get r.faults.items k ≡ Some (Some (fault.Refused (DiskFault p))) → HasFaultIn state r.rest ⊎ Rose old.faults bay.faults)
+        → ((k : ℕ) (p : Part) → slice_get r.faults.items k ≡ Some (Some (fault.Refused (DiskFault p))) → IsImageOut r.rest.images.items k → HasFaultAt state r.rest p)
         → (IsTrue tells → IfSome old.told (λ t. AreNamedApart t → AreSound (shapes_of config) (images_read config t) → (HasFaultIn state r.rest → ⊥) → (Rose old.faults bay.faults → ⊥)
         → (k : ℕ) → k < length (shapes_of config) → slice_get r.faults.items k ≡ Some None))
         → (HasFaultIn state q.rest → Rose bay.faults new.faults)
@@ -208,10 +213,11 @@ module _ {D : Type 0} (tells : Bool) (state : D → State) (config : Config) (ol
       sooner = sooner;
       later = later;
       refused = refused_since;
-      failed = λ k p at. elim (failed k p at) [
+      failed = λ k p at. elim (part_failed tells state config old bay r opened.rack.fault_count refused failed k p at) [
         | inl has ↦ risen_since has
         | inr rose ↦ rose_on old.faults bay.faults new.faults rose later
       ];
+      part = λ k p at. part_came_back tells state config old bay new r opened.rack.fault_count refused_since failed apart opened.faulty lists_first k p at;
       missing = missing;
       kept = λ telling. subst (λ (w : Rest D). IsTold (HadRefused config w.images.items) old.told new.told) (rest_again state config r q again)
           (told_then (HadRefused config q.rest.images.items) (HadRefused config q.rest.images.items) (HadRefused config q.rest.images.items) old.told bay.told new.told (opened.apart telling) (had telling) (kept telling) then_kept);
@@ -228,6 +234,10 @@ module _ {D : Type 0} (tells : Bool) (state : D → State) (config : Config) (ol
           (told_with (λ x y. HadRefused config q.rest.images.items t x → LeavesVolumes config q t y) (λ x y. AreLeftOfParts state config q y) bay.told new.told (volumes t telling began there quiet) (closed.parts telling))) leaves;
     }
       where
+        -- closing lists what was here when the rack was opened
+        lists_first : IsTold (ListsFaulty state config r.rest) bay.told new.told
+        lists_first = subst (λ (w : Rest D). IsTold (ListsFaulty state config w) bay.told new.told) (rest_again state config r q again) closed.lists
+
         risen_since : HasFaultIn state r.rest → Rose old.faults new.faults
         risen_since has = rose_before old.faults bay.faults new.faults sooner (risen (subst (λ (w : Rest D). HasFaultIn state w) (sym (rest_again state config r q again)) has))
 

@@ -11,8 +11,8 @@ use Rattle.manager.specs.declared.part.Part.{Part}
 use Rattle.manager_recovery.specs.declared.refusal.OpenRefusal.TheVariants.{DiskFault}
 use Rattle.volume_images.specs.Left.{AreNamedApart, IsTold}
 use Rattle.volume_images.specs.Volumes.{images_read, shapes_of}
-use Rattle.rack.specs.Closes.{AreLeftOfParts, IsClosedSpindle, IsClosedVolume, IsQuiet, LeavesOpen, LeavesUnopened}
-use Rattle.rack.specs.Opens.{AreRefused, BeganWith, HasFaulty, LeavesAll, RefusesVolume, WereThere}
+use Rattle.rack.specs.Closes.{AreLeftOfParts, CameBackFaulty, IsClosedSpindle, IsClosedVolume, IsQuiet, LeavesOpen, LeavesUnopened, ListsFaulty}
+use Rattle.rack.specs.Opens.{AreRefused, BeganWith, LeavesAll, RefusesVolume, WereThere}
 use Rattle.rack.specs.Owners.{HadRefused}
 use Rattle.rack.specs.Racks.{AreUnused, IsRack, IsUnused}
 use Rattle.rack.specs.Rests.{IsImageOut, image_here}
@@ -32,7 +32,7 @@ pub record IsOpened {D : Type 0} (tells : Bool) (state : D → State) (config : 
   pub there : IsTrue tells → IfSome old.told (λ t. AreNamedApart t → WereThere config r.rest.images.items t)
   pub apart : IsTrue tells → IsTold (λ x y. AreNamedApart y) old.told bay.told
   pub kept : IsTrue tells → IsTold (HadRefused config r.rest.images.items) old.told bay.told
-  -- parts of images came back with a fault; none where all images are out
+  -- the list of parts that came back with a fault only grows; it is the same where all images are out
   pub faulty : IsTold (λ x y. (more : List (Name × ℕ)) × (y.faulty ≡ x.faulty ++ more)) old.told bay.told
   pub unfaulty : ((k : ℕ) → k < length (shapes_of config) → IsImageOut r.rest.images.items k) → IsTold (λ x y. y.faulty ≡ x.faulty) old.told bay.told
 
@@ -42,9 +42,9 @@ pub record IsClosed {D : Type 0} (tells : Bool) (state : D → State) (config : 
   pub each : (k : ℕ) (s : SpindleView) → slice_get spindles k ≡ Some s → IsClosedSpindle r k s
   pub stations : All (IsClosedVolume tells config r.rest.images.items bay new) r.stations.items
   pub parts : IsTrue tells → IsTold (λ x y. AreLeftOfParts state config r y) bay.told new.told
-  -- no two images have one name still, and parts of images came back with a fault
+  -- no two images have one name still, and the parts that came back with a fault are listed
   pub apart : IsTold (λ x y. AreNamedApart y) bay.told new.told
-  pub gained : IsTold HasFaulty bay.told new.told
+  pub lists : IsTold (ListsFaulty state config r.rest) bay.told new.told
 
 -- A rack was opened, this was done with it, and it was closed.
 pub record OpensAndCloses {D : Type 0} (tells : Bool) (state : D → State) (config : Config) (did : (before after : Rack D) → Type 0) (old new : BayState) (spindles : List SpindleView) : Type 0 where
@@ -60,6 +60,8 @@ pub record OpensAndCloses {D : Type 0} (tells : Bool) (state : D → State) (con
   -- a volume without a station was refused for its fault, and that of a disk is counted
   pub refused : AreRefused tells state config old new before
   pub failed : (k : ℕ) (p : Part) → slice_get before.faults.items k ≡ Some (Some (Refused (DiskFault p))) → Rose old.faults new.faults
+  -- and the part that is told came back with a fault
+  pub part : (k : ℕ) (p : Part) → slice_get before.faults.items k ≡ Some (Some (Refused (DiskFault p))) → IsTold (CameBackFaulty config p) old.told new.told
   -- an image that isn't out was refused, and is left only as it might have been left before
   pub missing : (k : ℕ) (v : VolumeConf) → slice_get config.volumes.items k ≡ Some v → image_here before.rest.images.items k ≡ None
       → (f : VolumeFault) × RefusesVolume tells state config before.rest.images.items old new k v f

@@ -4,13 +4,14 @@ use Rattle.std.specs.Prelude.{slice_get, IsSome, is_some}
 use Rattle.std.proofs.lemmas.Bool.{cases_lt}
 use Rattle.std.proofs.lemmas.List.{get_or_append_left, get_or_push, get_or_past, length_push}
 use Rattle.std.proofs.lemmas.Option.{none-some, same_Some, slice_get-map}
-use Rattle.wol_disk.specs.Disk.{State, Rose}
+use Rattle.wol_disk.specs.Disk.{State, Rose, reads}
 use Rattle.wol_model.specs.Heads.{Shape}
-use Rattle.wol_bay.specs.Bay.{Name, Told, BayState, at_name}
+use Rattle.wol_bay.specs.Bay.{Image, Name, Told, BayState, at_name}
 use Rattle.wol_bay.specs.Refusals.{refusal, refusal_of}
 use Rattle.wol_bay.specs.declared.fault.BayFault.{BayFault}
 use Rattle.wol_config.specs.declared.config.Config.{Config}
 use Rattle.wol_config.specs.declared.config.VolumeConf.{VolumeConf}
+use Rattle.volume_images.specs.Accepted.{IsImageFault}
 use Rattle.volume_images.specs.Formatted.{part_sizes}
 use Rattle.volume_images.specs.Left.{AreNamedApart, IsTold}
 use Rattle.volume_images.specs.Volumes.{shape_in, shapes_of}
@@ -71,6 +72,13 @@ rose_on a b c rose le = ⊎_elim (λ (lt : a < b). inl (omega (arith, lt, le))) 
 abbrev pub SameAt : Name → Told → Told → Type 0
 SameAt name old new = AreNamedApart new × (at_name name new.images ≡ at_name name old.images) × HasFaulty old new
 
+-- what the image that is told said
+pub image_said : {D : Type 0} (config : Config) (old new : BayState) (out : List (Option (ImageRest D))) (k : ℕ) (v : VolumeConf) (f : VolumeFault) (t : Told) → old.told ≡ Some t → AreNamedApart t
+    → (r : RefusesImage config out old new k v f) → (i : Image) → at_name v.name t.images ≡ Some i → IsImageFault (length (shapes_of config)) k (shape_in config v) (reads i.blocks) r.image_fault
+image_said config old new out k v f t told apart r i at =
+    let was = r.said t told apart in
+    subst (λ (x : Image). IsImageFault (length (shapes_of config)) k (shape_in config v) (reads x.blocks) r.image_fault) (same_Some was.0 i (sym was.1 ∙ at)) was.2
+
 -- no two images have one name still
 abbrev pub StaysApart : (old new : BayState) → Type 0
 StaysApart old new = IsTold (λ x y. AreNamedApart y) old.told new.told
@@ -114,7 +122,7 @@ module _ {D : Type 0} (tells : Bool) (state : D → State) (config : Config) whe
     not_out = r.not_out;
     image_fault = r.image_fault;
     is_fault = r.is_fault;
-    said = λ t i told apart at. let then = told_there v.name t b.told b1.told told same apart in r.said then.0 i then.1 then.2.0 (then.2.1 ∙ at);
+    said = λ t told apart. (let then = told_there v.name t b.told b1.told told same apart in let was = r.said then.0 then.1 then.2.0 in (was.0, sym then.2.1 ∙ was.1, was.2));
     cause = λ call. rose_since b.faults b1.faults b2.faults le (r.cause call);
     faulty = λ call. fault_since v.name r.image_fault b.told b1.told b2.told
         (told_each (SameAt v.name) (λ x y. AreNamedApart y) b.told b1.told (λ x y s. s.0) same) (told_each (SameAt v.name) HasFaulty b.told b1.told (λ x y s. s.2) same) (r.faulty call);

@@ -28,6 +28,7 @@ use Rattle.rack.specs.declared.rack.Rack.{Rack}
 use Rattle.rack.specs.declared.volume_fault.VolumeFault.{VolumeFault}
 use Rattle.rack.specs.declared.volume_fault.VolumeFault.TheVariants.{Absent, WrongLength, Refused, LabelFault, BayFailed}
 use Rattle.rack.proofs.Members.{of_map, element_at}
+use Rattle.rack.proofs.Asking.{image_said}
 use Rattle.rack.proofs.SoundVolumes.{IsCallRefusal, sound_at, goes_out, no_image_fault, opening_only}
 
 module _ {D : Type 0} (config : Config) (valid : IsValid config) (t : Told) (sound : AreSound (shapes_of config) (images_read config t)) (tells : Bool) (telling : IsTrue tells) (state : D → State) (old new : BayState) (told : old.told ≡ Some t) (apart : AreNamedApart t) (r : Rack D) (rack : IsRack state config new r) (refused : AreRefused tells state config old new r) where
@@ -43,7 +44,7 @@ module _ {D : Type 0} (config : Config) (valid : IsValid config) (t : Told) (sou
   image_only : (k : ℕ) (v : VolumeConf) (f : VolumeFault) → slice_get config.volumes.items k ≡ Some v → RefusesImage config images old new k v f → IsCallRefusal old new f
   image_only k v f at why =
       let x = sound_at config valid t sound k v at in
-      subst (IsCallRefusal old new) (sym why.is_fault) (no_image_fault config valid t sound k v x why.image_fault old new why.cause (why.said t x.image told apart x.there))
+      subst (IsCallRefusal old new) (sym why.is_fault) (no_image_fault config valid t sound k v x why.image_fault old new why.cause (image_said config old new images k v f t told apart why x.image x.there))
 
   not_out_only : (k : ℕ) (v : VolumeConf) (f : VolumeFault) → slice_get config.volumes.items k ≡ Some v → image_here images k ≡ None → RefusesVolume tells state config images old new k v f → IsCallRefusal old new f
   not_out_only k v Absent at none why = none-some bay.Absent (sym (bay_only k v (Some bay.Absent) at why))

@@ -9,6 +9,7 @@ use Rattle.wol_config.specs.Configs.{IsValid}
 use Rattle.wol_config.specs.declared.config.Config.{Config}
 use Rattle.log_layout.specs.declared.segment.SegHead.{SegHead}
 use Rattle.log_layout.specs.declared.segment.SegHead.TheVariants.{Owned}
+use Rattle.manager.specs.declared.part.Part.{Part}
 use Rattle.manager_recovery.specs.Opening.{place_of}
 use Rattle.manager_recovery.specs.declared.opening.Opening.{Opening}
 use Rattle.manager_recovery.specs.declared.opening.OwnedPart.{OwnedPart}
@@ -46,16 +47,16 @@ module _ {D : Type 0} (state : D → State) (config : Config) (valid : IsValid c
       owned_same g h e = ap number e
 
   -- a part of another volume that had a fault is here
-  pub fault_kept : (rooms : Rooms D) (k : ℕ) → k ≢ id → HasFaultOf state said k r.rest → HasFaultOf state said k (record new { rooms = rooms })
-  fault_kept rooms k other had = record {
+  pub fault_kept : (rooms : Rooms D) (k : ℕ) (p : Part) → k ≢ id → HasFaultOf state said k p r.rest → HasFaultOf state said k p (record new { rooms = rooms })
+  fault_kept rooms k p other had = record {
     part = had.part;
     here = ⊎_elim
         (λ home.
         let image = without.image_without state config said id view r.rest new o takes k home.0 home.1 in
-        inl (image.0, image.1, image.2.others other ∙ home.2))
+        inl (image.0, image.1, image.2.others other ∙ home.2, home.3))
         (λ segment.
         let never : Contains (map place_of o.owned.items) (segment.0, segment.1) → ⊥ = λ taken. other (taken_owner k segment.0 segment.1 segment.2 taken) in
-        inr (segment.0, segment.1, segment.2, without.segment_kept state config said id view r.rest new o takes segment.0 segment.1 never ∙ segment.3))
+        inr (segment.0, segment.1, segment.2, without.segment_kept state config said id view r.rest new o takes segment.0 segment.1 never ∙ segment.3, segment.4))
         had.here;
     fault = had.fault;
   }

@@ -1,5 +1,5 @@
 -- Images that are left of those at entry, but for segments that keep the same records: they recover to what one at entry does.
-use Rattle.std.proofs.Common.{◌≡◌, ⊎_elim, ℕ, zero, suc, ◌+◌, ◌-◌, ◌*◌, ◌<◌, ◌≤◌, Bool, true, false, List, [], ◌∷◌, length, map, get_or, take, drop, Option, None, Some, option_map, refl, sym, ap, ◌∙◌, subst, arith}
+use Rattle.std.proofs.Common.{◌≡◌, ◌⊎◌, inl, inr, ⊎_elim, ℕ, zero, suc, ◌+◌, ◌-◌, ◌*◌, ◌<◌, ◌≤◌, Bool, true, false, List, [], ◌∷◌, length, map, get_or, take, drop, Option, None, Some, option_map, refl, sym, ap, ◌∙◌, subst, arith}
 use Rattle.std.specs.Prelude.{slice_get, slice_index_or, slice_range}
 use Rattle.std.specs.List.{range_with_len}
 use Rattle.std.proofs.Math.Nat.{suc-mul, mul-le-mul_right}
@@ -9,7 +9,7 @@ use Rattle.std.proofs.lemmas.List.FromFn.{length-map-range_with_len, get_or-map-
 use Rattle.std.proofs.lemmas.Option.{none-some, same_Some, slice_get_within, slice_get-map, slice_get-get_or}
 use Rattle.wol_disk.specs.Disk.{Block, Values, IsImage}
 use Rattle.wol_model.specs.Heads.{Shape}
-use Rattle.wol_model.specs.Images.{Images, image_of, image_size, home_in, home_of, segment_of}
+use Rattle.wol_model.specs.Images.{Images, image_of, image_size, home_in, home_of, recovered_from, segment_of}
 use Rattle.wol_bay.specs.Bay.{Image, Told, at_name}
 use Rattle.wol_config.specs.declared.config.Config.{Config}
 use Rattle.wol_config.specs.declared.config.VolumeConf.{VolumeConf}
@@ -18,7 +18,7 @@ use Rattle.rack.specs.Owners.{recovered_but}
 use Rattle.rack.proofs.Asking.{some_at}
 use Rattle.rack.proofs.LeftParts.{image_length}
 use Rattle.rack.proofs.Assembled.{assembled, assembled_size, assembled_front, assembled_segment, assembled_image}
-use Rattle.rack.proofs.SameRecovered.{SegmentsKeep, ImagesKeep, recovered_same}
+use Rattle.rack.proofs.SameRecovered.{SegmentsKeep, ImagesKeep, recovered_same, recovered_all}
 
 -- the front of the image that is left of a volume, and each segment of it, goes with one that it might have been at entry
 pub record IsKeptImage (Fronts : (now was : List Block) → Type 0) (Keeps : (i : ℕ) → (now was : List Block) → Type 0) (s : Shape) (entry : Option Image) (image : Option (List Block)) : Type 0 where
@@ -216,8 +216,27 @@ module _ (Fronts : (k : ℕ) → (now was : List Block) → Type 0) (Keeps : (k 
         (λ k s at lt not.
         let conf = conf_at k s at in
         let two = is.two k conf.0 conf.1 not in
-        subst (λ (t : Shape). ImagesKeep v t (image_of images k) (image_of before k)) conf.2
-        (record { now = two.now; was = two.was; now_is = two.now_is; was_is = two.was_is; now_sized = two.now_sized; was_sized = two.was_sized; segments = λ i below. keeps k i (segment_of (shape_in config conf.0) two.now i) (segment_of (shape_in config conf.0) two.was i) (two.segments i below) }))
+        inr (subst (λ (t : Shape). ImagesKeep v t (image_of images k) (image_of before k)) conf.2 (record { now = two.now; was = two.was; now_is = two.now_is; was_is = two.was_is; now_sized = two.now_sized; was_sized = two.was_sized; segments = λ i below. keeps k i (segment_of (shape_in config conf.0) two.now i) (segment_of (shape_in config conf.0) two.was i) (two.segments i below) })))
+
+    -- and where all images give their segments
+    pub before_all : length images ≡ length config.volumes.items → ((k i : ℕ) (c d : List Block) → Keeps k i c d → SegmentsKeep v c d) → recovered_from (shapes_of config) images v ≡ recovered_from (shapes_of config) before v
+    before_all count keeps =
+        recovered_all v (shapes_of config) images before (count ∙ sym is.left.count) same_home
+        (λ k s at lt. let conf = conf_at k s at in by_test k s conf.0 conf.1 conf.2 (refused k) refl)
+      where
+        by_test : (k : ℕ) (s : Shape) (conf : VolumeConf) → slice_get config.volumes.items k ≡ Some conf → shape_in config conf ≡ s → (t : Bool) → refused k ≡ t → (image_of images k ≡ image_of before k) ⊎ ImagesKeep v s (image_of images k) (image_of before k)
+        by_test k s conf at shape true e = inl (sym (is.same k conf at e))
+        by_test k s conf at shape false e =
+            let two = is.two k conf at e in
+            inr (subst (λ (t : Shape). ImagesKeep v t (image_of images k) (image_of before k)) shape (record {
+              now = two.now;
+              was = two.was;
+              now_is = two.now_is;
+              was_is = two.was_is;
+              now_sized = two.now_sized;
+              was_sized = two.was_sized;
+              segments = λ i below. keeps k i (segment_of (shape_in config conf) two.now i) (segment_of (shape_in config conf) two.was i) (two.segments i below);
+            }))
 
 -- each choice that is left recovers to what one at entry did
 pub kept_recovers : (v : ℕ) (config : Config) (old : Told) (refused : ℕ → Bool) (images : Images) → length images ≡ length config.volumes.items

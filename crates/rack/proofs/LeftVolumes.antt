@@ -1,14 +1,16 @@
 -- What every volume recovers to once the rack is closed, where nothing was written since it was opened.
-use Rattle.std.proofs.Common.{◌≡◌, ◌≢◌, ◌⊎◌, inl, inr, ⊎_elim, ℕ, zero, suc, ◌+◌, ◌-◌, ◌*◌, ◌^◌, ◌<◌, ◌≤◌, Bool, true, false, not, cond, List, [], ◌++◌, length, map, take, drop, Option, None, Some, option_map, is_some, refl, sym, ap, ◌∙◌, subst, arith}
+use Rattle.std.proofs.Common.{◌≡◌, ◌≢◌, ◌⊎◌, inl, inr, ⊎_elim, ℕ, zero, suc, ◌+◌, ◌-◌, ◌*◌, ◌^◌, ◌<◌, ◌≤◌, Bool, true, false, not, cond, eqb, ◌||◌, List, [], ◌∷◌, ◌++◌, length, map, take, drop, Option, None, Some, option_map, is_some, refl, sym, ap, ◌∙◌, subst, arith}
 use Rattle.std.specs.Prelude.{Contains, All, IsTrue, slice_get, slice_index_or, slice_range, option_and_then}
 use Rattle.std.proofs.Math.Seq.{drop-append-add}
-use Rattle.std.proofs.lemmas.Bool.{cases_eq, cases_lt}
+use Rattle.std.specs.List.{AllByRecursion, list_any}
+use Rattle.std.proofs.lemmas.Bool.{cases_eq, cases_lt, eqb-true, eq-eqb}
 use Rattle.std.proofs.lemmas.List.{length-map, length-drop, length-take-le, take_all}
 use Rattle.std.proofs.lemmas.Option.{none-some, same_Some, slice_get_within, slice_get-map, slice_get-get_or, get_or_from_slice_get, slice_get_past}
 use Rattle.wol_disk.specs.Disk.{Block, Values, State, IsDisk, TellsContent, IsImage, IsImageOf, reads}
 use Rattle.wol_disk.proofs.Images.{image_reads}
 use Rattle.wol_model.specs.Heads.{Shape}
-use Rattle.wol_model.specs.Images.{Images, image_of, image_size, home_in, home_of, segment_of}
+use Rattle.wol_model.specs.Images.{Images, image_of, image_size, home_in, home_of, recovered_from, segment_of, segments_of}
+use Rattle.wol_model.specs.Log.{Record, IsLog}
 use Rattle.wol_bay.specs.Bay.{Image, Told, BayState, at_name}
 use Rattle.wol_config.specs.Configs.{IsValid}
 use Rattle.wol_config.specs.declared.config.Config.{Config}
@@ -25,10 +27,10 @@ use Rattle.manager.specs.declared.base.ManagerBase.{ManagerBase}
 use Rattle.manager.specs.declared.station.Station.{Station}
 use Rattle.volume_images.specs.Accepted.{head_place}
 use Rattle.volume_images.specs.Volumes.{shape_in, shapes_of, image_read, images_read, MayLeave, AreLeft}
-use Rattle.rack.specs.Closes.{IsQuiet, is_kept_home, recovered_out}
+use Rattle.rack.specs.Closes.{IsQuiet, has_station, is_kept_home, recovered_out}
 use Rattle.rack.specs.Closing.{ClosesStations, RefillsAll, KeepsSpindles, GivesBack}
 use Rattle.rack.specs.Opens.{HadSegmentBefore, BeganWith, WereThere}
-use Rattle.rack.specs.Owners.{HadRefused}
+use Rattle.rack.specs.Owners.{HadRefused, IsBegun, RecoversSame, WasOpened, images_taken}
 use Rattle.rack.specs.Racks.{IsClosable, base_of_station}
 use Rattle.rack.specs.Rests.{image_here, segment_here, held_here, indexes_here, away_with, list_of, IsImageOut, IsSegmentHere, IsRest}
 use Rattle.rack.specs.declared.rack.ImageRest.{ImageRest}
@@ -37,7 +39,7 @@ use Rattle.rack.specs.declared.rack.Rest.{Rest}
 use Rattle.rack.specs.declared.rack.VolumePasses.{VolumePasses}
 use Rattle.rack.proofs.AllBack.{both_slices}
 use Rattle.rack.proofs.Assembled.{assembled, assembled_size, assembled_front, assembled_segment, assembled_image}
-use Rattle.rack.proofs.Choices.{IsChoice, chosen}
+use Rattle.rack.proofs.Choices.{IsChoice, IsChosen, chosen}
 use Rattle.rack.proofs.Closable.{images_rest, images_whole}
 use Rattle.rack.proofs.CutParts.{reads_range}
 use Rattle.rack.proofs.HereOrNot.{here_or_not}
@@ -46,13 +48,40 @@ use Rattle.rack.proofs.KeepsNothing.{KeepsNothing, nothing_same, idle_keeps, oth
 use Rattle.rack.proofs.KeptImages as pieces
 use Rattle.rack.proofs.LeftOfParts.{says_of}
 use Rattle.rack.proofs.LeftParts.{image_length}
-use Rattle.rack.proofs.Members.{a_value, is_member, in_map, of_map, none_in}
+use Rattle.rack.proofs.Members.{a_value, first_in, later_in, of_recursion, of_map}
 use Rattle.rack.proofs.PartsThrough.{IsThrough, image_through}
 use Rattle.rack.proofs.QuietClosed.{left_quiet}
 use Rattle.rack.proofs.RackClosed.{same_out}
-use Rattle.rack.proofs.SameRecovered.{SegmentsKeep}
+use Rattle.rack.proofs.SameRecovered.{SegmentsKeep, recovered_none}
 use Rattle.rack.proofs.SentNames.{names_differ}
 use Rattle.rack.proofs.StationParts.{among, is_station}
+
+-- ---- Stations by number
+
+-- the station of a volume that has one
+station_in : {D : Type 0} (ss : List (Station D)) (v : ℕ) → list_any (λ (s : Station D). eqb s.id v) ss ≡ true → (s : Station D) × Contains ss s × (s.id ≡ v)
+station_in [] v has = absurd (let no : false ≡ true = has in cc no)
+station_in {D} (s ∷ ss) v has = at (eqb s.id v) refl has (station_in ss v)
+  where
+    at : (t : Bool) → eqb s.id v ≡ t → (t || list_any (λ (x : Station D). eqb x.id v) ss) ≡ true → (list_any (λ (x : Station D). eqb x.id v) ss ≡ true → (x : Station D) × Contains ss x × (x.id ≡ v))
+        → (x : Station D) × Contains (s ∷ ss) x × (x.id ≡ v)
+    at true e some rest = (s, first_in s s ss refl, eqb-true s.id v e)
+    at false e some rest = let w = rest some in (w.0, later_in s w.0 ss w.1, w.2)
+
+none_in_list : {D : Type 0} (ss : List (Station D)) (v : ℕ) → list_any (λ (s : Station D). eqb s.id v) ss ≡ false → AllByRecursion (λ (s : Station D). s.id ≢ v) ss
+none_in_list [] v none = tt
+none_in_list {D} (s ∷ ss) v none = at (eqb s.id v) refl none (none_in_list ss v)
+  where
+    at : (t : Bool) → eqb s.id v ≡ t → (t || list_any (λ (x : Station D). eqb x.id v) ss) ≡ false → (list_any (λ (x : Station D). eqb x.id v) ss ≡ false → AllByRecursion (λ (x : Station D). x.id ≢ v) ss)
+        → AllByRecursion (λ (x : Station D). x.id ≢ v) (s ∷ ss)
+    at true e some rest = absurd (let no : true ≡ false = some in cc no)
+    at false e some rest = (λ same. let yes_ = eq-eqb s.id v same in cc (e, yes_), rest some)
+
+pub station_of : {D : Type 0} (r : Rack D) (v : ℕ) → has_station r v ≡ true → (s : Station D) × Contains r.stations.items s × (s.id ≡ v)
+station_of r v has = station_in r.stations.items v has
+
+pub no_station : {D : Type 0} (r : Rack D) (v : ℕ) → has_station r v ≡ false → (s : Station D) → Contains r.stations.items s → s.id ≢ v
+no_station {D} r v none s has = of_recursion (λ (x : Station D). x.id ≢ v) r.stations.items s (none_in_list r.stations.items v none) has
 
 -- ---- Pieces of blocks
 
@@ -229,7 +258,7 @@ module _ {D : Type 0} (state : D → State) (tells : Bool) (told : IsTrue tells)
             sym (pieces.front_home z whole (assembled_size z front piece front_long sized)) ∙ ap (λ (l : List Block). slice_range l 2 (2 + z.home)) (assembled_front z front piece front_long sized)
             ∙ home_behind z label home_was.0 label_long home_long
 
-        out_choice : IsChoice config entry (is_kept_home out) v k conf (image_of images k) (Some whole)
+        out_choice : IsChoice config entry (is_kept_home out) v k conf (image_of images k) (image_of images k) (Some whole)
         unfolding whole
         out_choice = record {
           may = subst (λ (o : Option Image). MayLeave o (Some whole)) (sym there_k) (rest_is, assembled_image z front piece front_long sized before.blocks front_image each_image size);
@@ -243,20 +272,24 @@ module _ {D : Type 0} (state : D → State) (tells : Bool) (told : IsTrue tells)
             segments = λ i lt. subst (λ (c : List Block). SegmentsKeep v (segment_of z now.0 i) c) (sym (assembled_segment z front piece front_long sized i lt)) (each_keeps i lt);
           };
           home = λ same. ap (home_in (Some z)) now.1 ∙ home_was.1.1 same ∙ sym whole_home;
+          same = λ home. absurd (let no : is_kept_home out k ≡ false = ap (λ (x : Option (ImageRest D)). not (is_some x)) here in cc (no, home));
         }
 
-    any_choice : (k : ℕ) (conf : VolumeConf) → slice_get config.volumes.items k ≡ Some conf → (o : Option (List Block)) × IsChoice config entry (is_kept_home out) v k conf (image_of images k) o
+    any_choice : (k : ℕ) (conf : VolumeConf) → slice_get config.volumes.items k ≡ Some conf → (o : Option (List Block)) × IsChoice config entry (is_kept_home out) v k conf (image_of images k) (image_of images k) o
     any_choice k conf at = go (image_here out k) refl
       where
-        go : (x : Option (ImageRest D)) → image_here out k ≡ x → (o : Option (List Block)) × IsChoice config entry (is_kept_home out) v k conf (image_of images k) o
-        go None e = (image_of images k, record { may = still k conf at e; keeps = λ taken. absurd (let yes_ : is_kept_home out k ≡ true = ap (λ (x : Option (ImageRest D)). not (is_some x)) e in cc (yes_, taken)); home = λ same. refl })
+        go : (x : Option (ImageRest D)) → image_here out k ≡ x → (o : Option (List Block)) × IsChoice config entry (is_kept_home out) v k conf (image_of images k) (image_of images k) o
+        go None e = (image_of images k, record { may = still k conf at e; keeps = λ taken. absurd (let yes_ : is_kept_home out k ≡ true = ap (λ (x : Option (ImageRest D)). not (is_some x)) e in cc (yes_, taken)); home = λ same. refl; same = λ home. refl })
         go (Some m) e =
             let t = there k conf at (ap is_some e) in
             (Some (whole k conf at m e t.0 t.1 t.2 t.3), out_choice k conf at m e t.0 t.1 t.2 t.3)
 
     -- a volume without a station
-    pub closed_recovers : (before : Images) × AreLeft config entry before × (recovered_out config out images v ≡ recovered_out config out before v)
-    closed_recovers = chosen config entry (is_kept_home out) v images left.count any_choice
+    closed_choice : (before : Images) × IsChosen config entry (is_kept_home out) v images images left.count any_choice before
+    closed_choice = chosen config entry (is_kept_home out) v images images left.count any_choice
+
+    pub closed_recovers : (before : Images) × AreLeft config entry before × (recovered_from (shapes_of config) images v ≡ recovered_from (shapes_of config) before v)
+    closed_recovers = (closed_choice.0, closed_choice.1.left, closed_choice.1.all (λ k. refl))
 
   -- ---- A volume with a station: as the images read at entry
 
@@ -264,16 +297,17 @@ module _ {D : Type 0} (state : D → State) (tells : Bool) (told : IsTrue tells)
   read_at k conf at = ap (λ (o : Option (Option (List Block))). Rattle.std.specs.Prelude.unwrap_or o None) (slice_get-map (λ (w : VolumeConf). image_read (at_name w.name entry.images)) config.volumes.items k ∙ ap (option_map (λ (w : VolumeConf). image_read (at_name w.name entry.images))) at)
 
   read_choice : (v : ℕ) → IsImageOut out v → (k : ℕ) (conf : VolumeConf) → slice_get config.volumes.items k ≡ Some conf
-      → (o : Option (List Block)) × IsChoice config entry (is_kept_home out) v k conf (image_of (images_read config entry) k) o
+      → (o : Option (List Block)) × IsChoice config entry (is_kept_home out) v k conf (image_of (images_read config entry) k) (image_of images k) o
   read_choice v out_v k conf at = go (image_here out k) refl
     where
-      go : (x : Option (ImageRest D)) → image_here out k ≡ x → (o : Option (List Block)) × IsChoice config entry (is_kept_home out) v k conf (image_of (images_read config entry) k) o
+      go : (x : Option (ImageRest D)) → image_here out k ≡ x → (o : Option (List Block)) × IsChoice config entry (is_kept_home out) v k conf (image_of (images_read config entry) k) (image_of images k) o
       go None e = (
         image_of images k,
         record {
           may = still k conf at e;
           keeps = λ taken. absurd (let yes_ : is_kept_home out k ≡ true = ap (λ (x : Option (ImageRest D)). not (is_some x)) e in cc (yes_, taken));
           home = λ same. absurd (let no : is_some (image_here out k) ≡ false = ap is_some e in let yes_ : is_some (image_here out k) ≡ true = ap (λ (n : ℕ). is_some (image_here out n)) same ∙ out_v in cc (no, yes_));
+          same = λ home. refl;
         },
       )
       go (Some m) e =
@@ -285,23 +319,59 @@ module _ {D : Type 0} (state : D → State) (tells : Bool) (told : IsTrue tells)
               may = subst (λ (o : Option Image). MayLeave o (Some (reads t.0.blocks))) (sym t.1) (t.2, image_reads t.0.blocks);
               keeps = λ taken. record { now = reads t.0.blocks; was = reads t.0.blocks; now_is = is_read; was_is = refl; now_sized = long; was_sized = long; segments = λ i lt n. refl };
               home = λ same. ap (home_in (Some (shape_in config conf))) is_read;
+              same = λ home. absurd (let no : is_kept_home out k ≡ false = ap (λ (x : Option (ImageRest D)). not (is_some x)) e in cc (no, home));
             },
           )
 
-  pub open_recovers : All (λ (s : Station D). IsQuiet s) r.stations.items → (s : Station D) → Contains r.stations.items s → (before : Images) × AreLeft config entry before × (recovered_out config out images s.id ≡ recovered_out config out before s.id)
-  open_recovers quiet s has =
+  open_recovers : All (λ (s : Station D). IsQuiet s) r.stations.items → (s : Station D) → Contains r.stations.items s → (opened : Bool) → opened ≡ true
+      → (before : Images) × AreLeft config entry before × RecoversSame config (is_kept_home out) opened images before s.id
+  open_recovers quiet s has opened is_opened =
       let same = Rattle.std.proofs.lemmas.List.Elements.All-contains (λ (t : Station D). recovered_out config out images t.id ≡ recovered_out config out (images_read config entry) t.id) r.stations.items s
       (left_quiet state tells config b r can first second is closed filled kept told tell_all sound few_volumes entry began quiet old new given images left) has in
       let at : slice_get r.stations.items has.0 ≡ Some s = slice_get-get_or r.stations.items has.0 s has.1 ∙ ap (λ (t : Station D). Some t) has.2 in
       let base = Rattle.rack.proofs.StationParts.is_base state tells config b r can first second is closed filled kept has.0 s at in
       let out_s : IsImageOut out s.id = subst (λ (n : ℕ). IsImageOut out n) (is_station state tells config b r can first second is closed filled kept has.0 s at).id base.out in
-      let x = chosen config entry (is_kept_home out) s.id (images_read config entry) (length-map config.volumes.items (λ (w : VolumeConf). image_read (at_name w.name entry.images))) (read_choice s.id out_s) in
-      (x.0, x.1, same ∙ x.2)
+      let x = chosen config entry (is_kept_home out) s.id (images_read config entry) images (length-map config.volumes.items (λ (w : VolumeConf). image_read (at_name w.name entry.images))) (read_choice s.id out_s) in
+      let but : recovered_out config out images s.id ≡ recovered_out config out x.0 s.id = same ∙ x.1.but in (
+        x.0,
+        x.1.left,
+        record {
+          but = but;
+          all = ⊎_elim (λ no. absurd (cc (is_opened, no))) (λ none.
+              recovered_none s.id (is_kept_home out) (shapes_of config) images none ∙ but
+              ∙ sym (recovered_none s.id (is_kept_home out) (shapes_of config) x.0 (λ k z at_k home.
+              subst (λ (o : Option (List Block)). AllByRecursion (λ bs. (rs : List Record) → IsLog bs s.id rs → ⊥) (segments_of z o)) (sym (x.1.stay k z at_k home)) (none k z at_k home))));
+        },
+      )
 
   -- each volume
-  pub volume_recovers : All (λ (s : Station D). IsQuiet s) r.stations.items → (v : ℕ) → (before : Images) × AreLeft config entry before × (recovered_out config out images v ≡ recovered_out config out before v)
-  volume_recovers quiet v = go (is_member (map (λ (s : Station D). s.id) r.stations.items) v)
+  pub volume_recovers : All (λ (s : Station D). IsQuiet s) r.stations.items → (v : ℕ) → (before : Images) × AreLeft config entry before × RecoversSame config (is_kept_home out) (has_station r v) images before v
+  volume_recovers quiet v = go (has_station r v) refl
     where
-      go : Contains (map (λ (s : Station D). s.id) r.stations.items) v ⊎ (Contains (map (λ (s : Station D). s.id) r.stations.items) v → ⊥) → (before : Images) × AreLeft config entry before × (recovered_out config out images v ≡ recovered_out config out before v)
-      go (inl has) = let s = of_map (λ (t : Station D). t.id) r.stations.items v has in subst (λ (n : ℕ). (before : Images) × AreLeft config entry before × (recovered_out config out images n ≡ recovered_out config out before n)) s.2 (open_recovers quiet s.0 s.1)
-      go (inr never) = closed_recovers v (λ s has e. never (subst (λ (n : ℕ). Contains (map (λ (t : Station D). t.id) r.stations.items) n) (sym e) (in_map (λ (t : Station D). t.id) r.stations.items s has)))
+      go : (t : Bool) → has_station r v ≡ t → (before : Images) × AreLeft config entry before × RecoversSame config (is_kept_home out) t images before v
+      go true has = let s = station_of r v has in subst (λ (n : ℕ). (before : Images) × AreLeft config entry before × RecoversSame config (is_kept_home out) true images before n) s.2 (open_recovers quiet s.0 s.1 true refl)
+      go false none =
+          let others : (s : Station D) → Contains r.stations.items s → v ≢ s.id = λ s has e. no_station r v none s has (sym e) in
+          let x = closed_choice v others in
+          (x.0, x.1.left, record { but = x.1.but; all = λ or. x.1.all (λ k. refl) })
+
+module _ {D : Type 0} (state : D → State) (tells : Bool) (config : Config) (b : BayState) (r : Rack D) (can : IsClosable state config b r) (first second : Rest D) (is : IsRest state config r.shared [] first)
+    (closed : ClosesStations tells state r.stations.items r.rest first)
+    (filled : (k : ℕ) (f : TurnLock (Pool (FreeSegment D)) PoolBase) → slice_get r.shared.pools.items k ≡ Some f → RefillsAll state (lock_id f).base.blocks first k (image_here first.images.items k) (image_here second.images.items k))
+    (kept : KeepsSpindles first second) (entry : Told) (began : BeganWith state config entry r) where
+  -- those with a station were opened
+  pub station_opened : (v : ℕ) → has_station r v ≡ true → WasOpened config (is_kept_home r.rest.images.items) entry v
+  station_opened v has =
+      let s = station_of r v has in
+      let at : slice_get r.stations.items s.1.0 ≡ Some s.0 = slice_get-get_or r.stations.items s.1.0 s.0 s.1.1 ∙ ap (λ (t : Station D). Some t) s.1.2 in
+      let base = Rattle.rack.proofs.StationParts.is_base state tells config b r can first second is closed filled kept s.1.0 s.0 at in
+      record {
+        base = (base_of_station s.0).volume.began;
+        owner = (is_station state tells config b r can first second is closed filled kept s.1.0 s.0 at).id ∙ s.2;
+        begun = Rattle.std.proofs.lemmas.List.Elements.All-contains (λ (t : Station D). IsBegun config (images_taken config r.rest.images.items entry) (base_of_station t).volume.began) r.stations.items s.0 began.stations s.1;
+        loggers = all_taken (base_of_station s.0).volume.began.view base.loggers_out;
+      }
+    where
+      all_taken : (view : List ℕ) → AllByRecursion (IsImageOut r.rest.images.items) view → AllByRecursion (λ l. is_kept_home r.rest.images.items l ≡ false) view
+      all_taken [] all = tt
+      all_taken (l ∷ view) all = (ap not all.0, all_taken view all.1)

@@ -5,6 +5,7 @@ pub mod GivingBack
 pub mod CutParts
 pub mod Asking
 pub mod NewFaults
+pub mod FailedParts
 pub mod OthersKept
 pub mod StillThere
 pub mod SentNames

@@ -4,9 +4,9 @@ use Rattle.std.specs.Prelude.{Contains, slice_get}
 use Rattle.std.proofs.lemmas.Option.{same_Some}
 use Rattle.wol_disk.specs.Disk.{IsAmong}
 use Rattle.wol_model.specs.Extents.{Extent, IsValid, marked}
-use Rattle.wol_model.specs.Index.{Indexed, Listed, listed_in, cover_of}
+use Rattle.wol_model.specs.Index.{AreRising, Indexed, Listed, listed_in, cover_of}
 use Rattle.wol_model.specs.Log.{Record, extent_of}
-use Rattle.wol_promise.specs.Manager.{Held, IsEntryOf, IsFound, IsBacked, IsIndexOf, extents_held}
+use Rattle.wol_promise.specs.Manager.{Held, IsEntryOf, IsFound, IsBacked, IsIndexOf, IsSorted, extents_held}
 use Rattle.rack.specs.Closes.{IsOfExtent, AreListedOf}
 use Rattle.rack.proofs.Members.{first_in, in_cases, in_map, later_in, none_in, of_map, of_recursion}
 
@@ -42,6 +42,10 @@ extent_there [] k r at = absurd (cc at)
 extent_there (x ∷ rs) zero r at = inl (ap extent_of (sym (same_Some x r at)))
 extent_there (x ∷ rs) (suc k) r at = inr (extent_there rs k r at)
 
+versions_in : (indexed : List Indexed) → map (λ (e : Listed). e.version) (listed_in indexed) ≡ map (λ (e : Indexed). e.listed.version) indexed
+versions_in [] = refl
+versions_in (e ∷ indexed) = ap (λ l. e.listed.version ∷ l) (versions_in indexed)
+
 module _ {P : Type 0} where
   -- a record of a held segment has it
   record IsHeldRecord (held : List (Held P)) (x : Extent) : Type 0 where
@@ -71,8 +75,8 @@ module _ {P : Type 0} where
     keeps = λ b. λ i. marked (is.first i) (is.keep i) b;
   }
 
-  pub listed_held : (indexed : List Indexed) (held : List (Held P)) → IsIndexOf indexed held → AreListedOf (listed_in indexed) (extents_held held)
-  listed_held indexed held index = record { each = each; only = only }
+  pub listed_held : (indexed : List Indexed) (held : List (Held P)) → IsIndexOf indexed held → IsSorted indexed → AreListedOf (listed_in indexed) (extents_held held)
+  listed_held indexed held index sorted = record { each = each; only = only; rising = subst AreRising (sym (versions_in indexed)) sorted.rising }
     where
       each : (x : Extent) → IsAmong (extents_held held) x → IsValid x.cover → (e : Listed) × Contains (listed_in indexed) e × IsOfExtent x e
       each x has valid =
@@ -94,4 +98,5 @@ pub listed_same : (listed : List Listed) (xs ys : List Extent) → ((x : Extent)
 listed_same listed xs ys to from are = record {
   each = λ x has valid. are.each x (from x has) valid;
   only = λ e has. let o = are.only e has in (o.0, to o.0 o.1, o.2, o.3);
+  rising = are.rising;
 }

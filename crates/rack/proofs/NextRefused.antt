@@ -41,15 +41,14 @@ module _ {D : Type 0} (tells : Bool) (state : D → State) (config : Config) (b 
   bay_answer answer (Some t) None h = absurd h
   bay_answer answer (Some t) (Some t') h = λ apart. (h apart).0
 
-  gave : (f : ImageFault) (t : Told) (i : Image) (o o' : Option Told) → IsTold (GaveBack volumes k shape v.name f) o o' → o ≡ Some t → AreNamedApart t → at_name v.name t.images ≡ Some i → IsImageFault volumes k shape (reads i.blocks) f
-  gave f t i None o' h is apart at = absurd (cc is)
-  gave f t i (Some u) None h is apart at = absurd h
-  gave f t i (Some u) (Some u') h is apart at =
+  gave : (f : ImageFault) (t : Told) (o o' : Option Told) → IsTold (GaveBack volumes k shape v.name f) o o' → o ≡ Some t → AreNamedApart t
+      → (i : Image) × (at_name v.name t.images ≡ Some i) × IsImageFault volumes k shape (reads i.blocks) f
+  gave f t None o' h is apart = absurd (cc is)
+  gave f t (Some u) None h is apart = absurd h
+  gave f t (Some u) (Some u') h is apart =
       let same : u ≡ t = cc in
       let g = h (subst (λ (x : Told). AreNamedApart x) (sym same) apart) in
-      let one : Some g.before ≡ Some i = sym g.there ∙ ap (λ (x : Told). at_name v.name x.images) same ∙ at in
-      let image : g.before ≡ i = cc in
-      subst (λ (x : Image). IsImageFault volumes k shape (reads x.blocks) f) image g.refused
+      (g.before, sym (ap (λ (x : Told). at_name v.name x.images) same) ∙ g.there, g.refused)
 
   among_places : (f : ImageFault) (places : List ℕ) → IsFaultAt f places → IsFaultAmong v.name f (each_place v.name places)
   among_places (fault.Damaged block) places is = tt
@@ -62,7 +61,7 @@ module _ {D : Type 0} (tells : Bool) (state : D → State) (config : Config) (b 
     not_out = refl;
     image_fault = f;
     is_fault = refl;
-    said = λ t i told apart at. gave f t i b.told b'.told h told apart at;
+    said = λ t told apart. gave f t b.told b'.told h told apart;
     cause = cause;
     faulty = λ call. told_each (GaveBack volumes k shape v.name f) (HasNewFault v.name f) b.told b'.told
         (λ x y g. record { more = each_place v.name g.places; more_is = g.back.faulty; among = among_places f g.places g.fault }) h;

@@ -9,6 +9,7 @@ use Rattle.wol_bay.specs.Bay.{Image, Told, BayState, at_name, outs}
 use Rattle.wol_config.specs.Configs.{IsValid}
 use Rattle.wol_config.specs.declared.config.Config.{Config}
 use Rattle.wol_config.specs.declared.config.VolumeConf.{VolumeConf}
+use Rattle.log_layout.specs.Values.{segment_head}
 use Rattle.turn_lock.specs.Passes.{pass_seen, pass_mine}
 use Rattle.turn_lock.specs.declared.pass.PassOf.{PassOf}
 use Rattle.spin_model.specs.declared.spindle.Spindle.{Spindle}
@@ -25,17 +26,14 @@ use Rattle.manager.specs.declared.part.Part.{Part}
 use Rattle.manager.specs.declared.station.Station.{Station}
 use Rattle.manager_recovery.specs.declared.refusal.OpenRefusal.TheVariants.{DiskFault}
 use Rattle.volume_images.specs.Left.{AreNamedApart, IsTold}
-use Rattle.volume_images.specs.Refusals.{IsCallFault}
 use Rattle.volume_images.specs.Volumes.{shape_in, shapes_of, NoneOut}
-use Rattle.volume_images.specs.declared.reading.ImageFault.{ImageFault}
-use Rattle.volume_images.specs.declared.reading.ImageFault.TheVariants as fault
 use Rattle.rack.specs.Rests.{image_here, segment_here, IsImageOut}
 use Rattle.rack.specs.Making.{AreSettled, AreSpindlesOf}
 use Rattle.rack.specs.Parts.{in_image, segment_in, IsSetUp}
 use Rattle.rack.specs.Owners.{HadRefused}
-use Rattle.rack.specs.Opens.{out_names, fault_in_image, HasFaulty, KeepsOthers, RefusesVolume, WereThere, AreRefused, LeavesAll, KeepsAllSound}
+use Rattle.rack.specs.Opens.{out_names, HasFaulty, KeepsOthers, RefusesVolume, WasAccepted, WereThere, AreRefused, LeavesAll, KeepsAllSound}
 use Rattle.rack.specs.Opening.{IsTaken, StayedSo, HaveFaults, HasFaultOf, AreSameOut}
-use Rattle.rack.specs.Closes.{AreLeftOfParts, is_kept_home, in_flight, IsQuiet, HasFaultIn, LeavesVolumes}
+use Rattle.rack.specs.Closes.{AreLeftOfParts, HasFaultAt, IsNamedHere, has_station, is_kept_home, in_flight, IsQuiet, LeavesVolumes}
 use Rattle.rack.specs.Closing.{LeavesNoneOut}
 use Rattle.rack.specs.Racks.{IsUnused, AreUnused}
 use Rattle.rack.specs.declared.all.Taken.{Taken}
@@ -71,18 +69,12 @@ pub out_after : {D : Type 0} (tells : Bool) (state : D → State) (config : Conf
 out_after tells state config valid b b1 t taken r r2 images_are same_out k =
     same_out_at r2.rest.images.items r.rest.images.items same_out k ∙ ap (λ (x : _). is_some (image_here x.items k)) images_are ∙ alike tells state config valid b b1 t taken k
 
--- a fault of a disk that refuses an image comes of a call that failed
-call_failed : (k : ℕ) (p : Part) (f : ImageFault) → Refused (DiskFault p) ≡ fault_in_image k f → IsCallFault f
-call_failed k p (fault.Damaged block) e = absurd (cc e)
-call_failed k p fault.LabelDiffers e = absurd (cc e)
-call_failed k p fault.LabelFault e = absurd (cc e)
-call_failed k p (fault.SegmentFault index) e = tt
-
--- a part of a volume is a part that is here
-pub fault_here : {D : Type 0} (state : D → State) (said : List (Option Said)) (k : ℕ) (r : Rack D) → HasFaultOf state said k r.rest → HasFaultIn state r.rest
-fault_here {D} state said k r has = record {
+-- the part of a volume is a part that is here
+pub fault_here : {D : Type 0} (state : D → State) (said : List (Option Said)) (k : ℕ) (name : Part) (r : Rack D) → HasFaultOf state said k name r.rest → HasFaultAt state r.rest name
+fault_here {D} state said k name r has = record {
   part = has.part;
-  here = ⊎_elim (λ home. inl (k, home.0, home.1, inr home.2)) (λ own. let at = at_place own.0 own.1 (image_here r.rest.images.items own.0) refl own.3 in inr (own.0, own.1, inl at)) has.here;
+  here = ⊎_elim (λ home. subst (λ (n : Part). IsNamedHere r.rest n has.part) (sym home.3) (home.0, home.1, home.2))
+      (λ own. subst (λ (n : Part). IsNamedHere r.rest n has.part) (sym own.4) (inl (at_place own.0 own.1 (image_here r.rest.images.items own.0) refl own.3))) has.here;
   fault = has.fault;
 }
   where
@@ -132,26 +124,22 @@ module _ {D : Type 0} (tells : Bool) (state : D → State) (config : Config) (va
       same_number : (j k : ℕ) (w v : VolumeConf) → slice_get config.volumes.items j ≡ Some w → slice_get config.volumes.items k ≡ Some v → w.name ≡ v.name → (j ≡ k → ⊥) → ⊥
       same_number j k w v at at' same other = names_differ config valid j k w v at at' other same
 
-  pub opened_failed : (b' : BayState) → AreRefused tells state config b b' r → HaveFaults state t.images.said.items (length config.volumes.items) r
-      → (k : ℕ) (p : Part) → slice_get r.faults.items k ≡ Some (Some (Refused (DiskFault p))) → length r.faults.items ≡ length config.volumes.items → HasFaultIn state r.rest ⊎ Rose b.faults b'.faults
-  opened_failed b' refused have k p at count =
+  pub opened_failed : HaveFaults state t.images.said.items (length config.volumes.items) r → length r.faults.items ≡ length config.volumes.items
+      → (k : ℕ) (p : Part) → slice_get r.faults.items k ≡ Some (Some (Refused (DiskFault p))) → IsImageOut r.rest.images.items k → HasFaultAt state r.rest p
+  opened_failed have count k p at out =
       let lt : k < length config.volumes.items = (let w = slice_get_within r.faults.items k (Some (Refused (DiskFault p))) at in omega (arith, w, count)) in
-      let v = some_at config.volumes.items k lt in
-      ⊎_elim
-      (λ image. inr (image.cause (call_failed k p image.image_fault image.is_fault)))
-      (λ opening. inl (fault_here state t.images.said.items k r (have k p lt opening.is_out (get_or_from_slice_get r.faults.items k (Some (Refused (DiskFault p))) None at))))
-      (refused k v.0 (Refused (DiskFault p)) v.1 at)
+      fault_here state t.images.said.items k p r (have k p lt out (get_or_from_slice_get r.faults.items k (Some (Refused (DiskFault p))) None at))
 
   pub opened_there : IsTrue tells → (old : Told) → b.told ≡ Some old → AreNamedApart old → WereThere config r.rest.images.items old
   opened_there telling old is apart k v at out = go (image_here taken.before.out.items k) refl
     where
-      go : (o : Option (ImageRest D)) → image_here taken.before.out.items k ≡ o → (i : Image) × (at_name v.name old.images ≡ Some i) × (i.rest ≡ []) × (length i.blocks ≡ image_size (shape_in config v))
+      go : (o : Option (ImageRest D)) → image_here taken.before.out.items k ≡ o → WasAccepted config old k v
       go None e = absurd (let none = out_is k ∙ ap is_some e in cc (none, out))
       go (Some q) e =
           let shape : slice_get (shapes_of config) k ≡ Some (shape_in config v) = slice_get-map (shape_in config) config.volumes.items k ∙ ap (option_map (shape_in config)) at in
           let of = taken.asked.out k (shape_in config v) q shape e in
           let was = taken.asked.entry telling old is apart k v of.said q at of.said_is e in
-          (was.image, was.there, was.says.whole, was.says.size)
+          (was.image, was.there, was.says.whole, was.says.size, of.said.view, map segment_head of.said.heads.items, was.says.accepted)
 
 -- the keepers' passes weren't used
 pub fresh_passes : {D : Type 0} (tells : Bool) (state : D → State) (config : Config) (b b1 : BayState) (t : Taken D) (taken : IsTaken tells state config b b1 t)
@@ -256,7 +244,9 @@ module _ {D : Type 0} (tells : Bool) (state : D → State) (config : Config) (va
         refused = is_kept_home r.rest.images.items;
         cause = why_refused;
         kept = λ k v at is c may. kept k v at (none_kept k is) c may;
-        left = λ images left v there. both.0 images left v;
+        opened = has_station r;
+        are_opened = both.0.are_opened;
+        left = λ images left v there. both.0.each images left v;
         there = λ images left v all. there_left state config r old new kept both.1 images left v all;
       })
 

@@ -1,6 +1,7 @@
 -- What a rack began with once one volume more is open.
 use Rattle.std.proofs.Common.{◌≡◌, ◌≢◌, ◌⊎◌, inl, inr, ⊎_elim, ℕ, ◌+◌, ◌<◌, ◌≤◌, Bool, List, [], ◌∷◌, ◌++◌, length, map, Option, None, Some, option_map, refl, sym, ap, ◌∙◌, subst, arith}
 use Rattle.std.specs.Prelude.{slice_get, slice_range, is_some, IsTrue, All, Contains}
+use Rattle.std.specs.List.{AllByRecursion}
 use Rattle.std.specs.declared.alloc.Global.{Global}
 use Rattle.std.specs.declared.vec.Vec.{Vec}
 use Rattle.std.proofs.lemmas.Bool.{cases_lt, cases_eq}
@@ -29,7 +30,7 @@ use Rattle.manager.specs.declared.manager.Manager.{Manager}
 use Rattle.manager.specs.declared.station.Station.{Station}
 use Rattle.manager_recovery.specs.Opened.{Begins}
 use Rattle.manager_recovery.specs.Opening.{place_of}
-use Rattle.manager_recovery.specs.Owned.{read_of, all_owned, records_in, writes_in, heads_in, recovered_of, AreIntact, HaveNoTwins}
+use Rattle.manager_recovery.specs.Owned.{IsListedOf, read_of, all_owned, records_in, writes_in, heads_in, recovered_of, AreIntact, HaveNoTwins}
 use Rattle.manager_recovery.specs.Refused.{IsRecoverable}
 use Rattle.manager_recovery.specs.declared.opening.Opening.{Opening}
 use Rattle.volume_images.specs.Accepted.{head_place}
@@ -77,6 +78,8 @@ begun_of {D} tells state telling config out images id o b each image there of be
       no_twins = subst (λ (v : ℕ). HaveNoTwins (heads_in v segments)) (sym begins.owner) recoverable.1;
       records = begins.records telling ∙ ap (λ (v : ℕ). writes_in v segments) (sym begins.owner);
       listed = begins.listed;
+      found = subst (λ (v : ℕ). AllByRecursion (IsListedOf v b.view segments) b.look.listed) (sym begins.owner)
+          (subst (λ (view : List ℕ). AllByRecursion (IsListedOf o.want.id view segments) b.look.listed) (sym begins.view) (begins.found telling));
       next = begins.next telling ∙ ap (λ (v : ℕ). next_version (records_in v segments)) (sym begins.owner);
       view = λ i is. subst (HasView i) (sym begins.view) (of.view i (sym (ap (image_of images) owner) ∙ is));
       most = begins.most ∙ of.most;

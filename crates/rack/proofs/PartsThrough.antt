@@ -4,8 +4,10 @@ use Rattle.std.specs.Prelude.{Contains, slice_get, slice_index_or, option_and_th
 use Rattle.std.proofs.lemmas.Bool.{cases_lt}
 use Rattle.std.proofs.lemmas.Option.{none-some, slice_get_past, slice_get-get_or}
 use Rattle.wol_disk.specs.Disk.{State}
-use Rattle.wol_bay.specs.Bay.{BayState}
+use Rattle.wol_bay.specs.Bay.{BayState, Told}
+use Rattle.wol_bay.specs.Parts.{faulty_places}
 use Rattle.wol_config.specs.declared.config.Config.{Config}
+use Rattle.wol_config.specs.declared.config.VolumeConf.{VolumeConf}
 use Rattle.turn_lock.specs.Passes.{lock_id}
 use Rattle.turn_lock.specs.declared.lock.TurnLock.{TurnLock}
 use Rattle.spin_model.specs.Spun.{state_of}
@@ -14,11 +16,14 @@ use Rattle.seg_pool.specs.declared.base.PoolBase.{PoolBase}
 use Rattle.seg_pool.specs.declared.pool.Pool.{Pool}
 use Rattle.log_segment.specs.declared.free.FreeSegment.{FreeSegment}
 use Rattle.manager.specs.declared.base.ManagerBase.{ManagerBase}
+use Rattle.manager.specs.declared.part.Part.{Part}
+use Rattle.manager.specs.declared.part.Part.TheVariants as part
 use Rattle.manager.specs.declared.station.Station.{Station}
 use Rattle.rack.specs.Rests.{image_here, segment_here, held_here, pool_pass, away_with, IsSegmentHere, IsRest}
 use Rattle.rack.specs.Racks.{IsClosable, base_of_station}
-use Rattle.rack.specs.Closing.{ClosesStations, KeepsButHome, RefillsAll, KeepsSpindles, HasFaultHere, home_here}
-use Rattle.rack.specs.Closes.{HasFaultIn, IsPartHere}
+use Rattle.rack.specs.Closing.{ClosesStations, GivesBack, KeepsButHome, RefillsAll, KeepsSpindles, HasFaultHere, home_here}
+use Rattle.rack.specs.Closes.{HasFaultAt, HasFaultIn, IsFaultyPart, IsNamedHere, IsPartHere}
+use Rattle.rack.specs.Parts.{IsTogether}
 use Rattle.rack.specs.declared.rack.ImageRest.{ImageRest}
 use Rattle.rack.specs.declared.rack.Rack.{Rack}
 use Rattle.rack.specs.declared.rack.Rest.{Rest}
@@ -26,7 +31,8 @@ use Rattle.rack.specs.declared.rack.VolumePasses.{VolumePasses}
 use Rattle.rack.proofs.Members.{is_there, in_map, of_map, none_in, here_within}
 use Rattle.rack.proofs.Closable.{image_was}
 use Rattle.rack.proofs.FaultyParts.{label_fault, home_fault, segment_fault}
-use Rattle.rack.proofs.StationParts.{image_end, is_station}
+use Rattle.rack.proofs.FinalImages.{volume_at}
+use Rattle.rack.proofs.StationParts.{image_end, is_station, shape_of_image}
 use Rattle.rack.proofs.StationClosed.{fault_here}
 
 module _ {D : Type 0} (state : D → State) (tells : Bool) (config : Config) (b : BayState) (r : Rack D) (can : IsClosable state config b r) (first second : Rest D) (is : IsRest state config r.shared [] first)
@@ -113,3 +119,33 @@ module _ {D : Type 0} (state : D → State) (tells : Bool) (config : Config) (b 
       go : IsPartHere r.rest f.part → HasFaultHere state second.images.items 0
       go (inl x) = in_image x.0 x.1 x.2 x.3
       go (inr x) = in_segment x.0 x.1 x.2
+
+  -- and the bay's list has its name
+  pub listed_through : (old new : Told) (given : GivesBack state config second.images.items 0 old new) (name : Part) → HasFaultAt state r.rest name → IsFaultyPart config name given.more
+  listed_through old new given name f = go name f.here
+    where
+      in_image : (k place : ℕ) (q : ImageRest D) → image_here second.images.items k ≡ Some q → ((disks : List D) → IsTogether q disks → Contains (faulty_places state disks) place)
+          → (v : VolumeConf) × (slice_get config.volumes.items k ≡ Some v) × Contains given.more (v.name, place)
+      in_image k place q here among =
+          let z = shape_of_image state tells config b r can first second is closed filled kept k q here in
+          let v = volume_at config k z.0 z.1 in
+          let back = given.back k v.0 q (omega arith) v.1 here in
+          (v.0, v.1, back.faulty place (among back.disks back.together))
+
+      in_segment : (k i : ℕ) → IsSegmentHere r.rest k i f.part → (v : VolumeConf) × (slice_get config.volumes.items k ≡ Some v) × Contains given.more (v.name, 2 + i)
+      in_segment k i (inl place) =
+          let q = image_through k place.0 place.1 in
+          in_image k (2 + i) q.0 q.1.here (λ disks together. segment_fault state q.0 disks together i f.part (q.1.places i f.part place.2) f.fault)
+      in_segment k i (inr list) = out (image_here r.rest.images.items k) refl
+        where
+          out : (o : Option (ImageRest D)) → image_here r.rest.images.items k ≡ o → (v : VolumeConf) × (slice_get config.volumes.items k ≡ Some v) × Contains given.more (v.name, 2 + i)
+          out None e = absurd (none_in (i, f.part) (subst (λ (xs : List (ℕ × Spun D)). Contains xs (i, f.part)) (can.rest.parts.returned.out list.0 k e) list.1))
+          out (Some m) e =
+              let q = image_through k m e in
+              in_image k (2 + i) q.0 q.1.here (λ disks together. segment_fault state q.0 disks together i f.part (q.1.held list.0 i f.part list.1) f.fault)
+
+      go : (n : Part) → IsNamedHere r.rest n f.part → IsFaultyPart config n given.more
+      go (part.Home volume) x =
+          let q = image_through volume x.0 x.1 in
+          in_image volume 1 q.0 q.1.here (λ disks together. home_fault state q.0 disks together f.part (q.1.home f.part x.2) f.fault)
+      go (part.Segment volume index) x = in_segment volume index x

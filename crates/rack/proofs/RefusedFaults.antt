@@ -44,14 +44,14 @@ module _ {D : Type 0} (state : D → State) (sound : (d : D) → IsDisk (state d
     (away : Rest D) (o : Opening D) (takes : TakesOpening state config r.rest away said id view o) (refusal : OpenRefusal) (n : Opening D)
     (refuses : Refuses tells state o n refusal) (back : IsHandedBack tells state r.shared o n) (all : HandsBackAll state o n refusal) (last : Rest D) (puts : PutsOpening away last id n) where
   -- the refused volume
-  own_fault : (p : Part) → refusal ≡ DiskFault p → HasFaultOf state said id last
+  own_fault : (p : Part) → refusal ≡ DiskFault p → HasFaultOf state said id p last
   own_fault p is = by p (subst (Refuses tells state o n) is refuses)
     where
-      by : (p : Part) → Refuses tells state o n (DiskFault p) → HasFaultOf state said id last
+      by : (p : Part) → Refuses tells state o n (DiskFault p) → HasFaultOf state said id p last
       by (Home volume) why =
           let own_image = image_id state config valid b said id r own ready lt at in
           let y = back_again.image_back state tells config valid b said id r own ready lt at view own_view away o takes n back last puts id own_image.0 own_image.1 in
-          record { part = n.home; here = inl (y.0, y.1, y.2.own_home refl); fault = above_zero _ _ why.2 }
+          record { part = n.home; here = inl (y.0, y.1, y.2.own_home refl, ap (λ (v : ℕ). Home v) (why.1 ∙ takes.id)); fault = above_zero _ _ why.2 }
       by (Segment volume index) why =
           let rose = why.1 in
           let kept : Contains (kept_of back.fates) rose.after = subst (λ (l : List (OwnedPart D)). Contains l rose.after) back.owned rose.is_there in
@@ -60,19 +60,25 @@ module _ {D : Type 0} (state : D → State) (sound : (d : D) → IsDisk (state d
           let place : IsOwnedPlace said id was.0.logger was.0.index = place_at state sound tells config valid b said id r own ready lt at view own_view away o takes refusal n refuses back all last puts was.0.logger was.0.index id was.1.saying was.1.said_is was.1.head in
           record {
             part = rose.after.part;
-            here = inr (rose.after.logger, rose.after.index, subst (λ (q : ℕ × ℕ). IsOwnedPlace said id q.0 q.1) (λ i. (was.2 i, was.3 i)) place, back_again.segment_kept state tells config valid b said id r own ready lt at view own_view away o takes n back last puts rose.after rose.after.logger rose.after.index kept refl);
+            here = inr (
+              rose.after.logger,
+              rose.after.index,
+              subst (λ (q : ℕ × ℕ). IsOwnedPlace said id q.0 q.1) (λ i. (was.2 i, was.3 i)) place,
+              back_again.segment_kept state tells config valid b said id r own ready lt at view own_view away o takes n back last puts rose.after rose.after.logger rose.after.index kept refl,
+              λ i. Segment (rose.named.2 i) (rose.named.3 i),
+            );
             fault = above_zero _ _ rose.rose;
           }
 
   -- another one
-  other_fault : (k : ℕ) → k ≢ id → HasFaultOf state said k r.rest → HasFaultOf state said k last
-  other_fault k other had = record {
+  other_fault : (k : ℕ) (p : Part) → k ≢ id → HasFaultOf state said k p r.rest → HasFaultOf state said k p last
+  other_fault k p other had = record {
     part = had.part;
     here = ⊎_elim
-        (λ home. let y = back_again.image_back state tells config valid b said id r own ready lt at view own_view away o takes n back last puts k home.0 home.1 in inl (y.0, y.1, y.2.other_home other ∙ home.2))
+        (λ home. let y = back_again.image_back state tells config valid b said id r own ready lt at view own_view away o takes n back last puts k home.0 home.1 in inl (y.0, y.1, y.2.other_home other ∙ home.2, home.3))
         (λ segment.
         let never : Contains (map place_of o.owned.items) (segment.0, segment.1) → ⊥ = λ has. other (owner_is state tells config valid b said id r own ready lt at view own_view away o takes n back last puts (named state sound tells config valid b said id r own ready lt at view own_view away o takes refusal n refuses back all last puts) k segment.0 segment.1 segment.2 has) in
-        inr (segment.0, segment.1, segment.2, back_again.segment_other state tells config valid b said id r own ready lt at view own_view away o takes n back last puts segment.0 segment.1 never ∙ segment.3))
+        inr (segment.0, segment.1, segment.2, back_again.segment_other state tells config valid b said id r own ready lt at view own_view away o takes n back last puts segment.0 segment.1 never ∙ segment.3, segment.4))
         had.here;
     fault = had.fault;
   }
@@ -83,8 +89,8 @@ module _ {D : Type 0} (state : D → State) (sound : (d : D) → IsDisk (state d
       (λ (e : k ≡ id).
       let same : volume_fault.Refused refusal ≡ volume_fault.Refused (DiskFault p) = same_Some (volume_fault.Refused refusal) (volume_fault.Refused (DiskFault p)) (sym (fault_own state sound tells config valid b said id r own ready lt at view own_view away o takes refusal n refuses back all last puts faults faults_are names) ∙ ap (fault_at faults.items) (sym e) ∙ is) in
       let why : refusal ≡ DiskFault p = cc same in
-      subst (λ (j : ℕ). HasFaultOf state said j last) (sym e) (own_fault p why))
+      subst (λ (j : ℕ). HasFaultOf state said j p last) (sym e) (own_fault p why))
       (λ (other : k ≡ id → ⊥).
       let before : k < id = ⊎_elim (λ (less : k < id). less) (λ (past : id ≤ k). absurd (other (omega (arith, past, less)))) (cases_lt k id) in
-      other_fault k other (have k p before (out_too last.images.items r.rest.images.items (back_again.out_back state tells config valid b said id r own ready lt at view own_view away o takes n back last puts) k out) (sym (fault_other state sound tells config valid b said id r own ready lt at view own_view away o takes refusal n refuses back all last puts faults faults_are names k other) ∙ is)))
+      other_fault k p other (have k p before (out_too last.images.items r.rest.images.items (back_again.out_back state tells config valid b said id r own ready lt at view own_view away o takes n back last puts) k out) (sym (fault_other state sound tells config valid b said id r own ready lt at view own_view away o takes refusal n refuses back all last puts faults faults_are names k other) ∙ is)))
       (cases_eq k id)

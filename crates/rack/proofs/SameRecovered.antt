@@ -1,7 +1,7 @@
 -- Images whose segments keep the same records recover to the same array.
-use Rattle.std.proofs.Common.{◌≡◌, ℕ, zero, suc, ◌+◌, ◌<◌, ◌≤◌, Bool, true, false, cond, List, [], ◌∷◌, ◌++◌, map, length, Option, None, Some, refl, sym, ap, ◌∙◌, arith}
-use Rattle.std.specs.Prelude.{slice_get}
-use Rattle.std.specs.List.{flat_map, range_with_len}
+use Rattle.std.proofs.Common.{◌≡◌, ◌⊎◌, inl, inr, ⊎_elim, ℕ, zero, suc, ◌+◌, ◌<◌, ◌≤◌, Bool, true, false, cond, List, [], ◌∷◌, ◌++◌, map, length, Option, None, Some, refl, sym, ap, ◌∙◌, arith}
+use Rattle.std.specs.Prelude.{slice_get, unwrap_or}
+use Rattle.std.specs.List.{AllByRecursion, flat_map, range_with_len}
 use Rattle.std.specs.Option.{option_and_then}
 use Rattle.std.proofs.lemmas.Bool.{eq-eqb}
 use Rattle.std.proofs.lemmas.Grind.{flat_map-append}
@@ -9,9 +9,11 @@ use Rattle.wol_disk.specs.Disk.{Block}
 use Rattle.wol_model.specs.Blocks.{block_of, overlaid}
 use Rattle.wol_model.specs.Extents.{Extent, Cover, newer_of, newest, newest_block, with_extents}
 use Rattle.wol_model.specs.Heads.{Shape}
-use Rattle.wol_model.specs.Images.{Images, image_of, image_size, home_in, segment_of, segments_of, accepted, accepted_from, all_segments}
-use Rattle.wol_model.specs.Recovered.{extents_in, extents_of, recovered}
-use Rattle.rack.specs.Owners.{recovered_but}
+use Rattle.wol_model.specs.Images.{Images, image_of, image_size, home_in, segment_of, segments_of, accepted, accepted_from, all_segments, recovered_from}
+use Rattle.wol_model.specs.Log.{Record, IsLog, extent_of}
+use Rattle.wol_model.specs.Recovered.{extents_in, extents_of, read_log, recovered}
+use Rattle.wol_model.proofs.ReadLogs.{log_from}
+use Rattle.rack.specs.Owners.{recovered_but, HasNoLogIn}
 
 -- ---- Extents
 
@@ -42,7 +44,7 @@ keeping_join n (e ∷ es) fs = go (keeping_join n es fs) (e.cover.covers n)
     go rest false = rest
 
 -- extents that keep nothing
-pub keeping_none : (n : ℕ) (es : List Extent) → Rattle.std.specs.List.AllByRecursion (λ (e : Extent). e.cover.covers n ≡ false) es → keeping n es ≡ []
+pub keeping_none : (n : ℕ) (es : List Extent) → AllByRecursion (λ (e : Extent). e.cover.covers n ≡ false) es → keeping n es ≡ []
 unfolding keeping
 keeping_none n [] all = refl
 keeping_none n (e ∷ es) all = ap (λ (t : Bool). cond t (e ∷ keeping n es) (keeping n es)) all.0 ∙ keeping_none n es all.1
@@ -99,7 +101,7 @@ module _ (F : List Extent → List Extent) (join : (es fs : List Extent) → F (
       ∙ sym (ap (λ (o : Option (List Block)). F (extents_of v (segments_of s o))) k.was_is)
 
   pub all_say : (refused : ℕ → Bool) (from : ℕ) (shapes : List Shape) (images before : Images) → length images ≡ length before
-      → ((k : ℕ) (s : Shape) → slice_get shapes k ≡ Some s → k < length images → refused (from + k) ≡ false → ImagesGo SameSaid s (image_of images k) (image_of before k))
+      → ((k : ℕ) (s : Shape) → slice_get shapes k ≡ Some s → k < length images → refused (from + k) ≡ false → (image_of images k ≡ image_of before k) ⊎ ImagesGo SameSaid s (image_of images k) (image_of before k))
       → F (extents_of v (all_segments shapes (accepted_from from refused images))) ≡ F (extents_of v (all_segments shapes (accepted_from from refused before)))
   all_say refused from [] images before count each = refl
   all_say refused from (s ∷ shapes) [] [] count each = refl
@@ -115,7 +117,9 @@ module _ (F : List Extent → List Extent) (join : (es fs : List Extent) → F (
     where
       front : (t : Bool) → refused from ≡ t → F (extents_of v (segments_of s (cond t None c))) ≡ F (extents_of v (segments_of s (cond t None d)))
       front true is = refl
-      front false is = image_says s c d (each 0 s refl (omega arith) (let e : from + 0 ≡ from = omega arith in ap refused e ∙ is))
+      front false is =
+          ⊎_elim (λ (same : c ≡ d). ap (λ (o : Option (List Block)). F (extents_of v (segments_of s o))) same) (λ together. image_says s c d together)
+          (each 0 s refl (omega arith) (let e : from + 0 ≡ from = omega arith in ap refused e ∙ is))
 
       joined : (o : Option (List Block)) (l : List (List Block)) → F (extents_of v (segments_of s o ++ l)) ≡ F (extents_of v (segments_of s o)) ++ F (extents_of v l)
       joined o l = ap F (flat_map-append (extents_in v) (segments_of s o) l) ∙ join (extents_of v (segments_of s o)) (extents_of v l)
@@ -134,7 +138,7 @@ module _ (v : ℕ) where
   -- of the same home they recover to the same
   pub recovered_same : (refused : ℕ → Bool) (shapes : List Shape) (images before : Images) → length images ≡ length before
       → home_in (slice_get shapes v) (image_of images v) ≡ home_in (slice_get shapes v) (image_of before v)
-      → ((k : ℕ) (s : Shape) → slice_get shapes k ≡ Some s → k < length images → refused k ≡ false → ImagesKeep v s (image_of images k) (image_of before k))
+      → ((k : ℕ) (s : Shape) → slice_get shapes k ≡ Some s → k < length images → refused k ≡ false → (image_of images k ≡ image_of before k) ⊎ ImagesKeep v s (image_of images k) (image_of before k))
       → recovered_but shapes refused images v ≡ recovered_but shapes refused before v
   unfolding recovered
   recovered_same refused shapes images before count home each =
@@ -142,8 +146,9 @@ module _ (v : ℕ) where
       ∙ same_kept (home_in (slice_get shapes v) (image_of before v)) (extents_of v (all_segments shapes (accepted refused images))) (extents_of v (all_segments shapes (accepted refused before)))
       (λ n. all_say (keeping n) (keeping_join n) v refused 0 shapes images before count
       (λ k s is lt not.
-      let go = each k s is lt (let e : 0 + k ≡ k = omega arith in ap refused (sym e) ∙ not) in
-      record { now = go.now; was = go.was; now_is = go.now_is; was_is = go.was_is; now_sized = go.now_sized; was_sized = go.was_sized; segments = λ i below. go.segments i below n }))
+      ⊎_elim (λ same. inl same)
+      (λ go. inr (record { now = go.now; was = go.was; now_is = go.now_is; was_is = go.was_is; now_sized = go.now_sized; was_sized = go.was_sized; segments = λ i below. go.segments i below n }))
+      (each k s is lt (let e : 0 + k ≡ k = omega arith in ap refused (sym e) ∙ not))))
 
   none_refused : ℕ → Bool
   none_refused k = false
@@ -153,11 +158,54 @@ module _ (v : ℕ) where
   accepted_all from [] = refl
   accepted_all from (c ∷ images) = ap (λ (l : Images). c ∷ l) (accepted_all (from + 1) images)
 
+  all_but : (shapes : List Shape) (images : Images) → recovered_from shapes images v ≡ recovered_but shapes none_refused images v
+  unfolding recovered_from
+  all_but shapes images = ap (λ (l : Images). recovered v (home_in (slice_get shapes v) (image_of images v)) (all_segments shapes l)) (sym (accepted_all 0 images))
+
+  -- where all images give their segments, an image that is the same too
+  pub recovered_all : (shapes : List Shape) (images before : Images) → length images ≡ length before
+      → home_in (slice_get shapes v) (image_of images v) ≡ home_in (slice_get shapes v) (image_of before v)
+      → ((k : ℕ) (s : Shape) → slice_get shapes k ≡ Some s → k < length images → (image_of images k ≡ image_of before k) ⊎ ImagesKeep v s (image_of images k) (image_of before k))
+      → recovered_from shapes images v ≡ recovered_from shapes before v
+  recovered_all shapes images before count home each = all_but shapes images ∙ recovered_same none_refused shapes images before count home (λ k s at lt not. each k s at lt) ∙ sym (all_but shapes before)
+
+  -- segments without a log of the volume
+  none_in_one : (bs : List Block) → ((rs : List Record) → IsLog bs v rs → ⊥) → (o : Option (List Record)) → read_log v bs ≡ o → extents_in v bs ≡ []
+  unfolding extents_in
+  none_in_one bs never None e = ap (λ (p : Option (List Record)). map extent_of (unwrap_or p [])) e
+  none_in_one bs never (Some rs) e = absurd (never rs (log_from bs v rs e))
+
+  none_given : (bss : List (List Block)) → AllByRecursion (λ bs. (rs : List Record) → IsLog bs v rs → ⊥) bss → extents_of v bss ≡ []
+  none_given [] all = refl
+  none_given (bs ∷ bss) all = ap (λ (l : List Extent). l ++ extents_of v bss) (none_in_one bs all.0 (read_log v bs) refl) ∙ none_given bss all.1
+
+  -- images that give nothing may be refused
+  given_but : (refused : ℕ → Bool) (from : ℕ) (shapes : List Shape) (images : Images) → ((k : ℕ) (s : Shape) → slice_get shapes k ≡ Some s → refused (from + k) ≡ true → extents_of v (segments_of s (image_of images k)) ≡ [])
+      → extents_of v (all_segments shapes images) ≡ extents_of v (all_segments shapes (accepted_from from refused images))
+  given_but refused from [] images none = refl
+  given_but refused from (s ∷ shapes) [] none = refl
+  given_but refused from (s ∷ shapes) (c ∷ images) none =
+      let rest = given_but refused (from + 1) shapes images (λ k t is yes_. none (suc k) t is (let e : from + suc k ≡ from + 1 + k = omega arith in ap refused e ∙ yes_)) in
+      flat_map-append (extents_in v) (segments_of s c) (all_segments shapes images)
+      ∙ ap (λ (l : List Extent). l ++ extents_of v (all_segments shapes images)) (front (refused from) refl)
+      ∙ ap (λ (l : List Extent). extents_of v (segments_of s (cond (refused from) None c)) ++ l) rest
+      ∙ sym (flat_map-append (extents_in v) (segments_of s (cond (refused from) None c)) (all_segments shapes (accepted_from (from + 1) refused images)))
+    where
+      front : (t : Bool) → refused from ≡ t → extents_of v (segments_of s c) ≡ extents_of v (segments_of s (cond (refused from) None c))
+      front true e = none 0 s refl (let z : from + 0 ≡ from = omega arith in ap refused z ∙ e) ∙ sym (ap (λ (t : Bool). extents_of v (segments_of s (cond t None c))) e)
+      front false e = sym (ap (λ (t : Bool). extents_of v (segments_of s (cond t None c))) e)
+
+  -- where the images that are refused have no log of the volume
+  pub recovered_none : (refused : ℕ → Bool) (shapes : List Shape) (images : Images) → HasNoLogIn shapes refused images v → recovered_from shapes images v ≡ recovered_but shapes refused images v
+  unfolding recovered recovered_from
+  recovered_none refused shapes images none = ap (with_extents (home_in (slice_get shapes v) (image_of images v)))
+      (given_but refused 0 shapes images (λ k s at yes_. none_given (segments_of s (image_of images k)) (none k s at (let z : 0 + k ≡ k = omega arith in ap refused (sym z) ∙ yes_))))
+
   -- where each segment has the same extents, all have
   pub same_extents : (shapes : List Shape) (images before : Images) → length images ≡ length before
       → ((k : ℕ) (s : Shape) → slice_get shapes k ≡ Some s → k < length images → ImagesGo (λ now was. extents_in v now ≡ extents_in v was) s (image_of images k) (image_of before k))
       → extents_of v (all_segments shapes images) ≡ extents_of v (all_segments shapes before)
   same_extents shapes images before count each =
       ap (λ (l : Images). extents_of v (all_segments shapes l)) (sym (accepted_all 0 images))
-      ∙ all_say (λ es. es) (λ es fs. refl) v none_refused 0 shapes images before count (λ k s is lt not. each k s is lt)
+      ∙ all_say (λ es. es) (λ es fs. refl) v none_refused 0 shapes images before count (λ k s is lt not. inr (each k s is lt))
       ∙ ap (λ (l : Images). extents_of v (all_segments shapes l)) (accepted_all 0 before)

@@ -39,6 +39,7 @@ use Rattle.rack.proofs.FinalImages.{accepted_at}
 use Rattle.rack.proofs.Members.{in_map}
 use Rattle.rack.proofs.SameOut.{out_bit}
 use Rattle.rack.proofs.SoundOwned.{IsSoundLog, sound_log, sized_here, no_fault, no_twins_in}
+use Rattle.rack.proofs.Asking.{image_said}
 use Rattle.rack.proofs.SoundVolumes.{IsCallRefusal, IsSoundAt, sound_at, goes_out, volumes_known, view_of, never_found, in_middle, has_name, no_image_fault}
 
 -- an image that is taken is one of those
@@ -165,7 +166,7 @@ module _ {D : Type 0} (tells : Bool) (telling : IsTrue tells) (state : D → Sta
     image_of_fault : (k : ℕ) (v : VolumeConf) (f : VolumeFault) → slice_get config.volumes.items k ≡ Some v → RefusesImage config out old new k v f → IsOfFailedCall out old new f
     image_of_fault k v f at why =
         let x = sound_at config valid t sound k v at in
-        of_call out old new f (subst (IsCallRefusal old new) (sym why.is_fault) (no_image_fault config valid t sound k v x why.image_fault old new why.cause (why.said t x.image told apart x.there)))
+        of_call out old new f (subst (IsCallRefusal old new) (sym why.is_fault) (no_image_fault config valid t sound k v x why.image_fault old new why.cause (image_said config old new out k v f t told apart why x.image x.there)))
 
     pub refused_sound : (k : ℕ) (v : VolumeConf) (f : VolumeFault) → slice_get config.volumes.items k ≡ Some v → NamesVolumes (length shapes) f → RefusesVolume tells state config out old new k v f → IsOfFailedCall out old new f
     refused_sound k v Absent at names why = none-some bay.Absent (sym (bay_of k v (Some bay.Absent) at why))

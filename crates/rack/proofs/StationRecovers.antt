@@ -192,4 +192,4 @@ module _ {D : Type 0} (tells : Bool) (state : D → State) (told : IsTrue tells)
           chosen_extents (λ h bs. IsTrue tells × IsImageOf (state_of state h.part).values bs) v held chosen_segments whole_is.logs (chosen held are.each) in
           listed_same (listed_in m.index.entries) (extents_of v chosen_segments) (extents_of v (all_segments shapes images)) (shuffled_to (extents_of v chosen_segments) (extents_of v (all_segments shapes images)) shuffled)
           (shuffled_from (extents_of v chosen_segments) (extents_of v (all_segments shapes images)) shuffled)
-          (subst (λ (xs : List Extent). AreListedOf (listed_in m.index.entries) xs) (sym same) (listed_held m.index.entries held whole_is.index))
+          (subst (λ (xs : List Extent). AreListedOf (listed_in m.index.entries) xs) (sym same) (listed_held m.index.entries held whole_is.index (kp.upholds.calm up).sorted))

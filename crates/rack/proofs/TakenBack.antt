@@ -24,6 +24,7 @@ use Rattle.volume_images.specs.Left.{AreNamedApart, IsTold}
 use Rattle.volume_images.specs.Volumes.{shape_in, shapes_of, MayLeave, AreLeft}
 use Rattle.rack.specs.Rests.{image_here, segment_here}
 use Rattle.rack.specs.Closing.{GivesBack}
+use Rattle.rack.specs.Owners.{RecoversSame}
 use Rattle.rack.specs.Opens.{LeavesAll, KeepsAllSound, HasFaulty, RefusesVolume}
 use Rattle.rack.specs.Opening.{AreAsked, HasSentOut, StayedSo, LeavesNoMore, WasAtEntry, said_at}
 use Rattle.rack.specs.Parts.{IsRestored, Restores}
@@ -34,9 +35,10 @@ use Rattle.rack.specs.declared.volume_fault.VolumeFault.{VolumeFault}
 use Rattle.rack.proofs.AllBack.{both_slices, slice_join}
 use Rattle.rack.proofs.Asking.{some_at, refuses_later}
 use Rattle.rack.proofs.CutParts.{reads_range}
-use Rattle.rack.proofs.KeptImages.{IsKeptImage, AreTwo, IsBefore, kept_before, before_same}
+use Rattle.rack.proofs.KeptImages.{IsKeptImage, AreTwo, IsBefore, kept_before, before_same, before_all}
 use Rattle.rack.proofs.LeftImage.{IsLeftNow, left_image}
 use Rattle.rack.proofs.NewFaults.{told_each}
+use Rattle.rack.proofs.SameRecovered.{SegmentsKeep, keeping}
 use Rattle.rack.proofs.SentNames.{names_differ}
 use Rattle.rack.proofs.SoundBefore.{sound_before}
 use Rattle.rack.proofs.StillThere.{WasThere, conf_there, there_may}
@@ -50,6 +52,10 @@ left_less config old new less images left = record { count = left.count; each = 
 no_one : ℕ → Bool
 no_one k = false
 
+none_opened : {X : Type 0} (v : ℕ) → no_one v ≡ true → X
+unfolding no_one
+none_opened v is = absurd (cc (is))
+
 module _ {D : Type 0} (tells : Bool) (state : D → State) (config : Config) (b b' : BayState) where
   all_less : (old new : Told) → LeavesNoMore old new → LeavesAll tells state config b b' old new
   unfolding no_one
@@ -57,7 +63,9 @@ module _ {D : Type 0} (tells : Bool) (state : D → State) (config : Config) (b 
     refused = no_one;
     cause = λ k v at is. absurd (cc (is));
     kept = λ k v at is. absurd (cc (is));
-    left = λ images left v there. (images, left_less config old new less images left, refl);
+    opened = no_one;
+    are_opened = λ v is. none_opened v is;
+    left = λ images left v there. (images, left_less config old new less images left, record { but = refl; all = λ or. refl });
     there = λ images left v all. all images (left_less config old new less images left);
   }
 
@@ -267,8 +275,16 @@ module _ {D : Type 0} (tells : Bool) (state : D → State) (config : Config) (va
       before : (was : Images) × IsBefore KeepsFront KeepsSegment config t not_taken images kept still was
       before = kept_before KeepsFront KeepsSegment config t not_taken images kept still
 
-      back_recovers : (v : ℕ) → (was : Images) × AreLeft config t was × (Rattle.rack.specs.Owners.recovered_but (shapes_of config) not_taken images v ≡ Rattle.rack.specs.Owners.recovered_but (shapes_of config) not_taken was v)
-      back_recovers v = (before.0, before.1.left, before_same KeepsFront KeepsSegment config t not_taken images kept still before.0 before.1 v (same_front v) left.count (λ k j c d keeps n. ap (λ es. Rattle.rack.proofs.SameRecovered.keeping n es) (keeps_extents v k j c d keeps)))
+      back_recovers : (v : ℕ) → (was : Images) × AreLeft config t was × RecoversSame config not_taken (no_one v) images was v
+      back_recovers v =
+          let keeps : (k i : ℕ) (c d : List Block) → KeepsSegment k i c d → SegmentsKeep v c d = λ k j c d keeps n. ap (λ es. keeping n es) (keeps_extents v k j c d keeps) in (
+            before.0,
+            before.1.left,
+            record {
+              but = before_same KeepsFront KeepsSegment config t not_taken images kept still before.0 before.1 v (same_front v) left.count keeps;
+              all = λ or. before_all KeepsFront KeepsSegment config t not_taken images kept still before.0 before.1 v (same_front v) left.count keeps;
+            },
+          )
 
       back_sound : ((was : Images) → AreLeft config t was → AreSound (shapes_of config) was) → AreSound (shapes_of config) images
       back_sound all =
@@ -303,6 +319,8 @@ module _ {D : Type 0} (tells : Bool) (state : D → State) (config : Config) (va
       refused = not_taken;
       cause = cause;
       kept = refused_kept telling (tell_all telling) sound t t1 t2 is apart stayed given;
+      opened = no_one;
+      are_opened = λ v is_open. none_opened v is_open;
       left = λ images left v there. back_recovers telling (tell_all telling) sound t t1 t2 is apart stayed given images left v;
       there = λ images left v all. back_there telling (tell_all telling) sound t t1 t2 is apart stayed given images left v all;
     })

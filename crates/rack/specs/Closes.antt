@@ -1,13 +1,13 @@
 -- What closing a rack leaves. `state` is that of a part's disk.
-use Rattle.std.specs.Prelude.{false, ◌≡◌, ◌≢◌, ◌<◌, ◌≤◌, ◌+◌, ◌++◌, ◌⊎◌, ℕ, List, [], ◌∷◌, length, Option, None, Some, not, is_some, unwrap_or, slice_get, slice_range, All, Contains, IsTrue}
-use Rattle.std.specs.List.{AllByRecursion}
+use Rattle.std.specs.Prelude.{true, false, Bool, ◌≡◌, ◌==◌, ◌≢◌, ◌<◌, ◌≤◌, ◌+◌, ◌++◌, ◌⊎◌, ℕ, List, [], ◌∷◌, length, map, Option, None, Some, not, is_some, unwrap_or, slice_get, slice_range, All, Contains, IsTrue}
+use Rattle.std.specs.List.{AllByRecursion, list_any}
 use Rattle.wol_disk.specs.Disk.{Block, State, Rose, IsAmong, IsImageOf}
 use Rattle.wol_model.specs.Blocks.{Write, after}
 use Rattle.wol_model.specs.Extents.{AreDistinct, Extent, IsValid, covers_of}
 use Rattle.wol_model.specs.Heads.{Shape}
 use Rattle.wol_model.specs.History.{worker, helper, keeper, writes, flight_of, IsCut}
-use Rattle.wol_model.specs.Images.{Images, image_of, accepted, all_segments, segment_of}
-use Rattle.wol_model.specs.Index.{Listed, cover_of}
+use Rattle.wol_model.specs.Images.{Images, image_of, accepted, all_segments, recovered_from, segment_of}
+use Rattle.wol_model.specs.Index.{AreRising, Listed, cover_of}
 use Rattle.wol_model.specs.Log.{Record, IsLog, IsIdle}
 use Rattle.wol_model.specs.Recovered.{extents_of}
 use Rattle.wol_promise.specs.Manager.{SaysOwnerOrFree}
@@ -27,13 +27,15 @@ use Rattle.spin_model.specs.declared.spun.Spun.{Spun}
 use Rattle.spin_model.specs.declared.spindle.Spindle.{Spindle}
 use Rattle.spin_model.specs.declared.spindle.SpindleBase.{SpindleBase}
 use Rattle.manager.specs.Stands.{notes_of}
+use Rattle.manager.specs.declared.part.Part.{Part}
+use Rattle.manager.specs.declared.part.Part.TheVariants.{Home, Segment}
 use Rattle.manager.specs.declared.station.Station.{Station}
 use Rattle.volume_images.specs.Left.{IsTold}
 use Rattle.volume_images.specs.Volumes.{shape_in, shapes_of, images_read, AreLeft}
 use Rattle.rack.specs.Rests.{image_here, IsImageOut, IsSegmentHere}
 use Rattle.rack.specs.Racks.{base_of_station}
 use Rattle.rack.specs.Closing.{IsAccessBut}
-use Rattle.rack.specs.Owners.{recovered_but}
+use Rattle.rack.specs.Owners.{recovered_but, RecoversSame, WasOpened}
 use Rattle.rack.specs.declared.rack.ImageRest.{ImageRest}
 use Rattle.rack.specs.declared.rack.Rack.{Rack}
 use Rattle.rack.specs.declared.rack.Rest.{Rest}
@@ -58,7 +60,7 @@ in_flight entries = unwrap_or (flight_of (entries_of (notes_of entries))) []
 
 module _ {D : Type 0} where
   -- the image of volume k isn't out with these, so it gives no segments to what is recovered
-  abbrev pub is_kept_home : List (Option (ImageRest D)) → (k : ℕ) → Rattle.std.specs.Prelude.Bool
+  abbrev pub is_kept_home : List (Option (ImageRest D)) → (k : ℕ) → Bool
   is_kept_home out k = not (is_some (image_here out k))
 
   -- the segments of the images that are out with these
@@ -85,7 +87,7 @@ SaysOwnerIn config owner new volume s index = (images : Images) → AreLeft conf
 
 -- Since these, the bay's list of parts that came back with a fault gained a part of volume `owner`: its home, or a segment of a logger
 -- of its view of which a crash leaves only blocks that say this owner or free.
-pub record HasFaultyPart (tells : Rattle.std.specs.Prelude.Bool) (config : Config) (owner : ℕ) (view : List ℕ) (old new : Told) : Type 0 where
+pub record HasFaultyPart (tells : Bool) (config : Config) (owner : ℕ) (view : List ℕ) (old new : Told) : Type 0 where
   pub more : List (Name × ℕ)
   pub more_is : new.faulty ≡ old.faulty ++ more
   pub volume : ℕ
@@ -101,10 +103,11 @@ pub record IsOfExtent (x : Extent) (e : Listed) : Type 0 where
   pub first : e.first ≡ x.first
   pub keeps : (b : ℕ) → (cover_of e).covers b ≡ x.cover.covers b
 
--- the listed records are those of the extents that cover a block
+-- the listed records are those of the extents that cover a block, by rising version
 pub record AreListedOf (listed : List Listed) (extents : List Extent) : Type 0 where
   pub each : (x : Extent) → IsAmong extents x → IsValid x.cover → (e : Listed) × Contains listed e × IsOfExtent x e
   pub only : (e : Listed) → Contains listed e → (x : Extent) × IsAmong extents x × IsValid x.cover × IsOfExtent x e
+  pub rising : AreRising (map (λ (e : Listed). e.version) listed)
 
 -- What images a crash leaves of an open volume, by the entries of its passes: it recovers to what was written to the array at opening,
 -- or to a cut of the writes in flight where a call of a disk had failed; no two of its records in these images have one version; and
@@ -124,7 +127,7 @@ LeavesNoLog config out v new = (images : Images) → AreLeft config new images �
     → image_of images k ≡ Some c → i < s.segments → IsLog (segment_of s c i) v rs → ⊥
 
 -- the entries of a volume, which are those of its passes, and what they leave
-pub record IsClosedVolume {D : Type 0} (tells : Rattle.std.specs.Prelude.Bool) (config : Config) (out : List (Option (ImageRest D))) (old new : BayState) (s : Station D) : Type 0 where
+pub record IsClosedVolume {D : Type 0} (tells : Bool) (config : Config) (out : List (Option (ImageRest D))) (old new : BayState) (s : Station D) : Type 0 where
   pub entries : List Entry
   pub worker_part : IsPartOf entries s.worker
   pub helper_part : IsPartOf entries s.helper
@@ -153,6 +156,40 @@ module _ {D : Type 0} where
     pub part : Spun D
     pub here : IsPartHere r part
     pub fault : 0 < (state_of state part).faults
+
+-- the volume in whose image a part lies, and its place among the parts of that image
+abbrev pub volume_in : Part → ℕ
+volume_in (Home volume) = volume
+volume_in (Segment volume index) = volume
+
+abbrev pub place_in : Part → ℕ
+place_in (Home volume) = 1
+place_in (Segment volume index) = 2 + index
+
+-- the part of this name is here
+abbrev pub IsNamedHere : {D : Type 0} → Rest D → Part → Spun D → Type 0
+IsNamedHere {D} r (Home volume) p = (image : ImageRest D) × (image_here r.images.items volume ≡ Some image) × (image.home ≡ Some p)
+IsNamedHere r (Segment volume index) p = IsSegmentHere r volume index p
+
+-- and had a fault
+pub record HasFaultAt {D : Type 0} (state : D → State) (r : Rest D) (name : Part) : Type 0 where
+  pub part : Spun D
+  pub here : IsNamedHere r name part
+  pub fault : 0 < (state_of state part).faults
+
+-- the part is one of these of images
+abbrev pub IsFaultyPart : Config → Part → List (Name × ℕ) → Type 0
+IsFaultyPart config name parts = (v : VolumeConf) × (slice_get config.volumes.items (volume_in name) ≡ Some v) × Contains parts (v.name, place_in name)
+
+-- since the first it came back with a fault
+abbrev pub CameBackFaulty : Config → Part → (old new : Told) → Type 0
+CameBackFaulty config name old new = (more : List (Name × ℕ)) × (new.faulty ≡ old.faulty ++ more) × IsFaultyPart config name more
+
+-- the parts that came back with a fault since the first, and among them each of these that had one
+pub record ListsFaulty {D : Type 0} (state : D → State) (config : Config) (r : Rest D) (old new : Told) : Type 0 where
+  pub more : List (Name × ℕ)
+  pub more_is : new.faulty ≡ old.faulty ++ more
+  pub each : (name : Part) → HasFaultAt state r name → IsFaultyPart config name more
 
 -- a log of an open volume, whose records lie in it, on a logger of its view
 pub record IsLogOfStation {D : Type 0} (s : Station D) (k : ℕ) (bs : List Block) : Type 0 where
@@ -185,13 +222,18 @@ abbrev pub LeavesOpen : {D : Type 0} → Config → Rack D → (entry new : Told
 LeavesOpen config r entry new = (images : Images) → AreLeft config new images
     → All (λ s. recovered_out config r.rest.images.items images s.id ≡ recovered_out config r.rest.images.items (images_read config entry) s.id) r.stations.items
 
+-- volume v has a station
+abbrev pub has_station : {D : Type 0} → Rack D → (v : ℕ) → Bool
+has_station {D} r v = list_any (λ (s : Station D). s.id == v) r.stations.items
+
 -- the same of every volume: it recovers to what images that a crash might have left at entry recover to
-abbrev pub LeavesVolumes : {D : Type 0} → Config → Rack D → (entry new : Told) → Type 0
-LeavesVolumes config r entry new = (images : Images) → AreLeft config new images → (v : ℕ)
-    → (before : Images) × AreLeft config entry before × (recovered_out config r.rest.images.items images v ≡ recovered_out config r.rest.images.items before v)
+pub record LeavesVolumes {D : Type 0} (config : Config) (r : Rack D) (entry new : Told) : Type 0 where
+  pub are_opened : (v : ℕ) → has_station r v ≡ true → WasOpened config (is_kept_home r.rest.images.items) entry v
+  pub each : (images : Images) → AreLeft config new images → (v : ℕ)
+      → (before : Images) × AreLeft config entry before × RecoversSame config (is_kept_home r.rest.images.items) (has_station r v) images before v
 
 -- Whatever was written, whatever images a crash leaves: a volume without a station recovers to what images that a crash might have
 -- left at entry recover to.
 abbrev pub LeavesUnopened : {D : Type 0} → Config → Rack D → (entry new : Told) → Type 0
 LeavesUnopened {D} config r entry new = (images : Images) → AreLeft config new images → (v : ℕ) → ((s : Station D) → Contains r.stations.items s → v ≢ s.id)
-    → (before : Images) × AreLeft config entry before × (recovered_out config r.rest.images.items images v ≡ recovered_out config r.rest.images.items before v)
+    → (before : Images) × AreLeft config entry before × (recovered_from (shapes_of config) images v ≡ recovered_from (shapes_of config) before v)

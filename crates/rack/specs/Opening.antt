@@ -40,6 +40,7 @@ use Rattle.rack.specs.declared.rack.ImageRest.{ImageRest}
 use Rattle.rack.specs.declared.rack.Rack.{Rack}
 use Rattle.rack.specs.declared.rack.Rest.{Rest}
 use Rattle.manager.specs.declared.part.Part.{Part}
+use Rattle.manager.specs.declared.part.Part.TheVariants.{Home, Segment}
 use Rattle.manager_recovery.specs.declared.refusal.OpenRefusal.TheVariants.{DiskFault}
 use Rattle.rack.specs.declared.volume_fault.VolumeFault.{VolumeFault}
 use Rattle.rack.specs.declared.volume_fault.VolumeFault.TheVariants.{Refused}
@@ -258,15 +259,15 @@ abbrev pub AreRefusedBelow : {D : Type 0} → (tells : Bool) → (D → State) �
 AreRefusedBelow tells state config old new n r = (k : ℕ) (v : VolumeConf) (f : VolumeFault) → (k < n) ⊎ (image_here r.rest.images.items k ≡ None) → slice_get config.volumes.items k ≡ Some v → fault_at r.faults.items k ≡ Some f
     → RefusesVolume tells state config r.rest.images.items old new k v f
 
--- a part of volume k is here and had a fault: its home, or a segment whose head names it
-pub record HasFaultOf {D : Type 0} (state : D → State) (said : List (Option Said)) (k : ℕ) (r : Rest D) : Type 0 where
+-- the part of volume k with this name is here and had a fault: its home, or a segment whose head names the volume
+pub record HasFaultOf {D : Type 0} (state : D → State) (said : List (Option Said)) (k : ℕ) (name : Part) (r : Rest D) : Type 0 where
   pub part : Spun D
-  pub here : ((image : ImageRest D) × (image_here r.images.items k ≡ Some image) × (image.home ≡ Some part)) ⊎ ((j : ℕ) × (i : ℕ) × IsOwnedPlace said k j i × (segment_in r j i ≡ Some part))
+  pub here : ((image : ImageRest D) × (image_here r.images.items k ≡ Some image) × (image.home ≡ Some part) × (name ≡ Home k)) ⊎ ((j : ℕ) × (i : ℕ) × IsOwnedPlace said k j i × (segment_in r j i ≡ Some part) × (name ≡ Segment j i))
   pub fault : 0 < (state_of state part).faults
 
--- each of the first n volumes whose image is out and which is refused for a fault of a disk has such a part
+-- each of the first n volumes whose image is out and which is refused for a fault of a disk has that part
 abbrev pub HaveFaults : {D : Type 0} → (D → State) → (said : List (Option Said)) → (n : ℕ) → Rack D → Type 0
-HaveFaults state said n r = (k : ℕ) (p : Part) → k < n → IsImageOut r.rest.images.items k → fault_at r.faults.items k ≡ Some (Refused (DiskFault p)) → HasFaultOf state said k r.rest
+HaveFaults state said n r = (k : ℕ) (p : Part) → k < n → IsImageOut r.rest.images.items k → fault_at r.faults.items k ≡ Some (Refused (DiskFault p)) → HasFaultOf state said k p r.rest
 
 -- the same images are out
 abbrev pub AreSameOut : {D : Type 0} → (old new : Rack D) → Type 0

@@ -1,7 +1,7 @@
 -- What opening all volumes answers: why a volume is refused, what the others begin with, and what is left of the images.
 use Rattle.std.specs.Prelude.{⊤, ◌≡◌, ◌≢◌, ◌⊎◌, ◌<◌, ◌+◌, ◌++◌, ℕ, List, [], ◌∷◌, length, Contains, Bool, true, Option, None, Some, IfSome, slice_get, slice_range, All, IsTrue}
 use Rattle.wol_disk.specs.Disk.{Block, State, Rose, IsImageOf, reads}
-use Rattle.wol_model.specs.Heads.{Shape, Free, Owned}
+use Rattle.wol_model.specs.Heads.{SegmentHead, Shape, Free, Owned}
 use Rattle.wol_model.specs.Log.{Record}
 use Rattle.wol_bay.specs.Bay.{Name, Image, Told, BayState, at_name}
 use Rattle.wol_bay.specs.Refusals.{refusal}
@@ -17,7 +17,7 @@ use Rattle.manager_recovery.specs.Refused.{Refuses}
 use Rattle.manager_recovery.specs.declared.opening.Opening.{Opening}
 use Rattle.manager_recovery.specs.declared.refusal.OpenRefusal.{OpenRefusal}
 use Rattle.manager_recovery.specs.declared.refusal.OpenRefusal.TheVariants as open_refusal
-use Rattle.volume_images.specs.Accepted.{HasHead, IsImageFault, head_place}
+use Rattle.volume_images.specs.Accepted.{HasHead, IsAccepted, IsImageFault, head_place}
 use Rattle.volume_images.specs.Formatted.{part_sizes}
 use Rattle.volume_images.specs.Refusals.{IsCallFault}
 use Rattle.wol_model.specs.Images.{Images, image_size}
@@ -26,7 +26,7 @@ use Rattle.volume_images.specs.Left.{AreNamedApart, IsTold}
 use Rattle.volume_images.specs.Volumes.{shape_in, shapes_of, MayLeave, AreLeft}
 use Rattle.rack.specs.Rests.{image_here, segment_here, held_here, IsImageOut, IsSegmentHere}
 use Rattle.rack.specs.Racks.{base_of_station}
-use Rattle.rack.specs.Owners.{images_taken, recovered_but, IsBegun, IsOpeningOf}
+use Rattle.rack.specs.Owners.{images_taken, IsBegun, IsOpeningOf, RecoversSame, WasOpened}
 use Rattle.volume_images.specs.declared.opening.ImageRefusal.{ImageRefusal}
 use Rattle.volume_images.specs.declared.opening.ImageRefusal.TheVariants as image_refusal
 use Rattle.rack.specs.declared.rack.ImageRest.{ImageRest}
@@ -60,7 +60,7 @@ fault_of_image id image_refusal.BayFailed = Some BayFailed
 fault_of_image id (image_refusal.Fault f) = Some (fault_in_image id f)
 fault_of_image id image_refusal.NoMemory = None
 
--- parts of images came back with a fault, beside those that had before
+-- the list of parts that came back with a fault only grew
 abbrev pub HasFaulty : (old new : Told) → Type 0
 HasFaulty old new = (more : List (Name × ℕ)) × (new.faulty ≡ old.faulty ++ more)
 
@@ -77,14 +77,14 @@ pub record HasNewFault (name : Name) (f : ImageFault) (old new : Told) : Type 0 
   pub more_is : new.faulty ≡ old.faulty ++ more
   pub among : IsFaultAmong name f more
 
--- the image itself is refused: it isn't out; it said so as it read; and where a call failed the bay's count rose, and the part that
+-- the image itself is refused: it isn't out; it was there, and said so as it read; and where a call failed the bay's count rose, and the part that
 -- is named came back with a fault
 pub record RefusesImage {D : Type 0} (config : Config) (out : List (Option (ImageRest D))) (old new : BayState) (k : ℕ) (v : VolumeConf) (f : VolumeFault) : Type 0 where
   pub not_out : image_here out k ≡ None
   pub image_fault : ImageFault
   pub is_fault : f ≡ fault_in_image k image_fault
-  pub said : (t : Told) (i : Image) → old.told ≡ Some t → AreNamedApart t → at_name v.name t.images ≡ Some i
-      → IsImageFault (length (shapes_of config)) k (shape_in config v) (reads i.blocks) image_fault
+  pub said : (t : Told) → old.told ≡ Some t → AreNamedApart t
+      → (i : Image) × (at_name v.name t.images ≡ Some i) × IsImageFault (length (shapes_of config)) k (shape_in config v) (reads i.blocks) image_fault
   pub cause : IsCallFault image_fault → Rose old.faults new.faults
   pub faulty : IsCallFault image_fault → IsTold (HasNewFault v.name image_fault) old.told new.told
 
@@ -154,25 +154,32 @@ pub record BeganWith {D : Type 0} (state : D → State) (config : Config) (t : T
       → image_here r.rest.images.items k ≡ Some image → i < v.segments → ((p : Spun D) → IsSegmentHere r.rest k i p → ⊥)
       → IsGone (length (shapes_of config)) (shape_in config v) before r.stations.items i
 
--- each image that is out was there with the blocks of its parts
+-- the image of volume k was there with the blocks of its parts, and as it reads it may be opened: it has the volume's own label, a view
+-- and heads of segments
+abbrev pub WasAccepted : Config → Told → (k : ℕ) → VolumeConf → Type 0
+WasAccepted config t k v = (i : Image) × (at_name v.name t.images ≡ Some i) × (i.rest ≡ []) × (length i.blocks ≡ image_size (shape_in config v))
+    × (view : List ℕ) × (heads : List SegmentHead) × IsAccepted (length (shapes_of config)) k (shape_in config v) (reads i.blocks) view heads
+
+-- so was each image that is out
 abbrev pub WereThere : {D : Type 0} → Config → List (Option (ImageRest D)) → Told → Type 0
-WereThere config out t = (k : ℕ) (v : VolumeConf) → slice_get config.volumes.items k ≡ Some v → IsImageOut out k
-    → (i : Image) × (at_name v.name t.images ≡ Some i) × (i.rest ≡ []) × (length i.blocks ≡ image_size (shape_in config v))
+WereThere config out t = (k : ℕ) (v : VolumeConf) → slice_get config.volumes.items k ≡ Some v → IsImageOut out k → WasAccepted config t k v
 
 -- each volume without a station is refused for its fault
 abbrev pub AreRefused : {D : Type 0} → (tells : Bool) → (D → State) → Config → (old new : BayState) → Rack D → Type 0
 AreRefused tells state config old new r = (k : ℕ) (v : VolumeConf) (f : VolumeFault) → slice_get config.volumes.items k ≡ Some v → slice_get r.faults.items k ≡ Some (Some f)
     → RefusesVolume tells state config r.rest.images.items old new k v f
 
--- Whatever images a crash leaves, each volume that is there recovers to what it might have recovered to before, where the images
--- that were refused give no segments.
+-- Whatever images a crash leaves, each volume that is there recovers to what it might have recovered to before: where the images that
+-- were refused give no segments, and also where they do, but for an opened volume of which they have a log.
 pub record LeavesAll {D : Type 0} (tells : Bool) (state : D → State) (config : Config) (b b' : BayState) (old new : Told) : Type 0 where
   pub refused : ℕ → Bool
   pub cause : (k : ℕ) (v : VolumeConf) → slice_get config.volumes.items k ≡ Some v → refused k ≡ true → (f : VolumeFault) × RefusesVolume {D = D} tells state config [] b b' k v f
   -- a refused image may be left only as before
   pub kept : (k : ℕ) (v : VolumeConf) → slice_get config.volumes.items k ≡ Some v → refused k ≡ true → (c : Option (List Block)) → MayLeave (at_name v.name new.images) c → MayLeave (at_name v.name old.images) c
+  pub opened : ℕ → Bool
+  pub are_opened : (v : ℕ) → opened v ≡ true → WasOpened config refused old v
   pub left : (images : Images) → AreLeft config new images → (v : ℕ) → IsThere (shapes_of config) images v
-      → (before : Images) × AreLeft config old before × (recovered_but (shapes_of config) refused images v ≡ recovered_but (shapes_of config) refused before v)
+      → (before : Images) × AreLeft config old before × RecoversSame config refused (opened v) images before v
   -- an image that was there, whatever a crash had left, is there
   pub there : (images : Images) → AreLeft config new images → (v : ℕ) → ((before : Images) → AreLeft config old before → IsThere (shapes_of config) before v) → IsThere (shapes_of config) images v
 

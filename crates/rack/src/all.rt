@@ -1,5 +1,5 @@
 // All volumes of a bay are opened.
-ghost use Rattle.std.specs.Prelude.{ℕ, ◌≡◌, ◌⊎◌, ◌<◌, ◌≤◌, List, length, All, ◌++◌, None, Some, slice_get, option_map, IfOk, OnErr, IfSome, IsTrue};
+ghost use Rattle.std.specs.Prelude.{ℕ, ◌≡◌, ◌<◌, ◌≤◌, List, length, All, ◌++◌, None, Some, slice_get, option_map, IfOk, OnErr, IfSome, IsTrue};
 ghost use Rattle.wol_bay.specs.Bay.{Name, outs};
 ghost use Rattle.wol_config.specs.Configs.{IsValid};
 ghost use Rattle.volume_images.specs.Left.{IsTold, AreNamedApart};
@@ -13,7 +13,7 @@ ghost use Rattle.wol_disk.specs.Disk.{Rose};
 ghost use Rattle.wol_model.specs.Images.{AreSound};
 ghost use Rattle.manager.specs.declared.part.Part.{Part};
 ghost use Rattle.manager_recovery.specs.declared.refusal.OpenRefusal.TheVariants.{DiskFault};
-ghost use Rattle.rack.specs.Closes.{HasFaultIn};
+ghost use Rattle.rack.specs.Closes.{HasFaultAt, HasFaultIn};
 ghost use Rattle.rack.specs.declared.volume_fault.VolumeFault.TheVariants.{Refused};
 
 use crate::closing::close_all;
@@ -101,13 +101,14 @@ pub fn open_all<R: Wait, B: Bay>(
     ensures fresh { IfOk result (λ r. AreUnused r.stations.items) }
     ensures fresh_keepers { IfOk result (λ r. All (λ p. IsUnused p) r.keepers.items) }
     ensures apart { IfOk result (λ r. IsTold (λ old new. AreNamedApart new) (B.state bay.old).told (B.state bay.new).told) }
-    // parts of images that came back; none where all images are out
+    // the list of parts that came back with a fault only grows; it is the same where all images are out
     ensures faulty { IfOk result (λ r. IsTold HasFaulty (B.state bay.old).told (B.state bay.new).told) }
     ensures unfaulty { IfOk result (λ r. ((k : ℕ) → k < length (shapes_of config.now) → IsImageOut r.rest.images.items k)
         → IsTold (λ old new. new.faulty ≡ old.faulty) (B.state bay.old).told (B.state bay.new).told) }
     ensures kept { IfOk result (λ r. IsTrue B.Part.tells → IsTold (HadRefused config.now r.rest.images.items) (B.state bay.old).told (B.state bay.new).told) }
+    // the part that refuses a volume whose image is out is here, and had a fault
     ensures failed { IfOk result (λ r. (k : ℕ) (p : Part) → slice_get r.faults.items k ≡ Some (Some (Refused (DiskFault p)))
-        → HasFaultIn B.Part.state r.rest ⊎ Rose (B.state bay.old).faults (B.state bay.new).faults) }
+        → IsImageOut r.rest.images.items k → HasFaultAt B.Part.state r.rest p) }
     // where the images at entry are sound as they read, and no call failed, each volume is open
     ensures complete { IfOk result (λ r. IsTrue B.Part.tells → IfSome (B.state bay.old).told (λ t. AreNamedApart t → AreSound (shapes_of config.now) (images_read config.now t)
         → (HasFaultIn B.Part.state r.rest → ⊥) → (Rose (B.state bay.old).faults (B.state bay.new).faults → ⊥)

@@ -8,9 +8,9 @@ ghost use Rattle.volume_images.specs.Left.{AreNamedApart, IsTold};
 ghost use Rattle.volume_images.specs.Volumes.{shapes_of};
 ghost use Rattle.rack.specs.Foreign.{AreForeign};
 ghost use Rattle.rack.specs.Racks.{IsClosable};
-ghost use Rattle.rack.specs.Opens.{BeganWith, WereThere, HasFaulty, KeepsOthers, KeepsAllSound};
+ghost use Rattle.rack.specs.Opens.{BeganWith, WereThere, KeepsOthers, KeepsAllSound};
 ghost use Rattle.rack.specs.Owners.{HadRefused};
-ghost use Rattle.rack.specs.Closes.{IsClosedSpindle, IsClosedVolume, IsQuiet, AreLeftOfParts, HasFaultIn, LeavesOpen, LeavesUnopened, LeavesVolumes};
+ghost use Rattle.rack.specs.Closes.{IsClosedSpindle, IsClosedVolume, IsQuiet, AreLeftOfParts, HasFaultIn, ListsFaulty, LeavesOpen, LeavesUnopened, LeavesVolumes};
 ghost use Rattle.rack.specs.Closing.{pool_in, spindle_in, ArePoolsTaken, AreSpindlesTaken, LeavesNoneOut};
 ghost use Rattle.rack.specs.declared.rack.VolumePasses.{VolumePasses};
 
@@ -264,8 +264,8 @@ pub fn close_all<B: Bay>(rack: Rack<B::Part>, bay: &mut B, config: &Config) -> V
     ensures kept { IsTrue B.Part.tells → IsTold (HadRefused config.now rack.rest.images.items) (B.state bay.old).told (B.state bay.new).told }
     ensures apart { IsTold (λ old new. AreNamedApart new) (B.state bay.old).told (B.state bay.new).told }
     ensures others { IsTold (KeepsOthers config.now) (B.state bay.old).told (B.state bay.new).told }
-    // parts that came back with a fault
-    ensures faulty { IsTold HasFaulty (B.state bay.old).told (B.state bay.new).told }
+    // the parts that came back with a fault are listed
+    ensures faulty { IsTold (ListsFaulty B.Part.state config.now rack.rest) (B.state bay.old).told (B.state bay.new).told }
     ensures counts { (B.state bay.old).faults ≤ (B.state bay.new).faults }
     ensures cause { HasFaultIn B.Part.state rack.rest → Rose (B.state bay.old).faults (B.state bay.new).faults }
 {

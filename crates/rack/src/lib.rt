@@ -28,7 +28,7 @@ mod volumes;
 
 pub use all::open_all;
 pub use closing::close_all;
-pub use laws::reopening_laws;
+pub use laws::{reopening_laws, sound_images_laws};
 pub use rack::Rack;
 pub use volume_fault::VolumeFault;
 pub use volume_images::{PartName, RackFault, format};

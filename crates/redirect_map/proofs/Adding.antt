@@ -58,7 +58,7 @@ all_push : (P : ℕ → Type 0) (vs : List ℕ) (v : ℕ) → AllByRecursion P v
 all_push P [] v all here = (here, tt)
 all_push P (w ∷ vs) v all here = (all.0, all_push P vs v all.1 here)
 
-rising_push : (vs : List ℕ) (v : ℕ) → AreRising vs → AllByRecursion (λ w. w < v) vs → AreRising (vs ++ v ∷ [])
+pub rising_push : (vs : List ℕ) (v : ℕ) → AreRising vs → AllByRecursion (λ w. w < v) vs → AreRising (vs ++ v ∷ [])
 rising_push [] v rising below = (tt, tt)
 rising_push (w ∷ vs) v rising below = (all_push (λ x. w < x) vs v rising.0 below.0, rising_push vs v rising.1 below.1)
 
@@ -108,6 +108,13 @@ live_new r (o ∷ os) (n ∷ ns) all live = (
       subst P (sym all.0.same) (facts.0, none_more r os ns (o.record.lbn + i) all.1 facts.1 parts.1)),
   live_new r os ns all.1 live.1,
 )
+
+-- all are older than a record that is newer than all were
+pub below_new : (r : Rec) (old new : List Entry) → AllZip (IsUnhomed r) old new → AllByRecursion (λ (d : Indexed). d.listed.version < r.version) (map seen old) → AllByRecursion (λ (d : Entry). d.record.version < r.version) new
+below_new r [] [] all below = tt
+below_new r [] (n ∷ ns) all below = absurd all
+below_new r (o ∷ os) [] all below = absurd all
+below_new r (o ∷ os) (n ∷ ns) all below = (subst (λ (d : Rec). d.version < r.version) (sym all.0.same) below.0, below_new r os ns all.1 below.1)
 
 -- an index with a further record
 pub entries_added : (r : Rec) (old new : List Entry) → AreEntries old → AllZip (IsUnhomed r) old new → IsNew r → AllByRecursion (λ (d : Indexed). d.listed.version < r.version) (map seen old) → AreEntries (new ++ new_entry r ∷ [])

@@ -212,10 +212,8 @@ index_is items es = record {
 pub record_at : (items : List Entry) (k : ℕ) (e : Entry) → AreEntries items → slice_get items k ≡ Some e → IfSome (option_map seen (slice_get items k)) (λ d. IsRecordOf d e.record)
 record_at items k e es at = rw at (record_seen e (range_at items k e es at))
 
-pub at_is : (items : List Entry) (k : ℕ) (e : Entry) → AreEntries items → k < length (map seen items) → e ≡ get_or items k e → IfSome (slice_get (map seen items) k) (λ d. IsRecordOf d e.record)
-at_is items k e es within is =
-    let inside : k < length items = omega (arith, within, length-map items seen) in
-    rw (slice_get-map seen items k) (record_at items k e es (slice_get-get_or items k e inside ∙ ap Some (sym is)))
+pub at_is : (items : List Entry) (k : ℕ) (e : Entry) → AreEntries items → slice_get items k ≡ Some e → IfSome (slice_get (map seen items) k) (λ d. IsRecordOf d e.record)
+at_is items k e es at = rw (slice_get-map seen items k) (record_at items k e es at)
 
 -- the same, where the entries were read as a slice
 pub place_is : (items now : List Entry) (version k : ℕ) (e : Entry) → now ≡ items → find (is_version version) now ≡ slice_get now k → k < length now → e ≡ get_or items k e → IsAt items version k e

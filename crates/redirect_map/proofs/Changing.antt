@@ -21,7 +21,7 @@ use Rattle.redirect_map.proofs.Answering.{wide, range_at, live_there, live_entry
 
 -- ---- One entry in place of another
 
-versions_set : (items : List Entry) (k : ℕ) (e f : Entry) → slice_get items k ≡ Some e → f.record.version ≡ e.record.version
+pub versions_set : (items : List Entry) (k : ℕ) (e f : Entry) → slice_get items k ≡ Some e → f.record.version ≡ e.record.version
     → map (λ (d : Entry). d.record.version) (set items k f) ≡ map (λ (d : Entry). d.record.version) items
 versions_set [] k e f at same = refl
 versions_set (x ∷ xs) zero e f at same =

@@ -15,3 +15,4 @@ pub mod Stepping
 pub mod Newest
 pub mod Tabling
 pub mod Marked
+pub mod Listing

@@ -1,8 +1,9 @@
 -- The entry that is named as the newest of a block.
-use Rattle.std.proofs.Common.{◌≡◌, ⊎_elim, ◌<◌, ◌+◌, ℕ, zero, suc, Bool, true, false, cond, not, ◌&&◌, List, [], ◌∷◌, map, take, drop, Option, Some, None, get_or, length, find, IsSome, IfSome, is_some, refl, sym, ap, ◌∙◌, subst, ltb}
+use Rattle.std.proofs.Common.{◌≡◌, ⊎_elim, ◌<◌, ◌+◌, ℕ, zero, suc, Bool, true, false, cond, not, ◌&&◌, List, [], ◌∷◌, map, take, drop, Option, Some, None, get_or, length, find, IsSome, IfSome, is_some, refl, sym, ap, ◌∙◌, subst, ltb, ◌^◌, bit_and}
 use Rattle.std.specs.Prelude.{slice_get}
+use Rattle.std.specs.Int.{bit_not, w128}
 use Rattle.std.specs.List.{AllByRecursion, list_any}
-use Rattle.std.proofs.lemmas.Bool.{cases_lt, lt-ltb, le-ltb, or_parts}
+use Rattle.std.proofs.lemmas.Bool.{cases_lt, lt-ltb, le-ltb, or_parts, false≢true}
 use Rattle.std.proofs.lemmas.Option.{slice_get-get_or}
 use Rattle.wol_model.specs.Log.{has_bit}
 use Rattle.wol_model.specs.Extents.{newest, newer_of}
@@ -12,8 +13,8 @@ use Rattle.redirect_map.specs.declared.blocks.Cell.{Cell}
 use Rattle.redirect_map.specs.Masks.{IsMask}
 use Rattle.redirect_map.specs.Index.{cover_at, entry_at, IsAnswer, IsRecordOf}
 use Rattle.redirect_map.specs.Kept.{seen, keeps, one_keeps, is_version, IsInRange, AreEntries}
-use Rattle.redirect_map.specs.Cells.{cell_of, is_held}
-use Rattle.redirect_map.proofs.Bits.{has_bit-above}
+use Rattle.redirect_map.specs.Cells.{cell_of, is_held, version_in}
+use Rattle.redirect_map.proofs.Bits.{has_bit-above, has_bit-zero, has_bit-without}
 use Rattle.redirect_map.proofs.Seen.{IsAt, all_at, all_before_map, covers_seen, in_mask-bit}
 use Rattle.redirect_map.proofs.Answering.{same_version, record_seen, range_at, covered_seen, any_block, of_entry, live_there, older_there}
 use Rattle.redirect_map.proofs.Search.{place_unique}
@@ -72,6 +73,29 @@ answer_some items b c e es is found =
     let same : there.1 ≡ e = cc in
     rw (some_newest items b there.0 there.1 es.rising es.ranges there.2.at there.2.keeps_it there.2.last) (subst (λ (d : Entry). IsRecordOf (seen there.1) d.record) same (record_seen there.1 (range_at items there.0 there.1 es there.2.at)))
 
+-- blocks of one newest version have one answer
+pub same_newest : (items : List Entry) (a b : ℕ) → AreEntries items → version_in (cell_of items a) ≡ version_in (cell_of items b) → newest cover_at (map seen items) a ≡ newest cover_at (map seen items) b
+same_newest items a b es same = at (cell_of items a) (cell_of items b) refl refl same
+  where
+    none : (b : ℕ) → cell_of items b ≡ None → newest cover_at (map seen items) b ≡ None
+    none b is = none_newest items b es.ranges (sym (cell_there items b) ∙ ap (λ (o : Option Cell). is_some o) is)
+
+    some : (b : ℕ) (c : Cell) (e : Entry) → cell_of items b ≡ Some c → find (is_version c.version) items ≡ Some e → newest cover_at (map seen items) b ≡ Some (seen e)
+    some b c e is found =
+        let there = newest_version items b c es is in
+        let f : there.1 ≡ e = cc in
+        some_newest items b there.0 there.1 es.rising es.ranges there.2.at there.2.keeps_it there.2.last ∙ ap (λ (d : Entry). Some (seen d)) f
+
+    at : (x y : Option Cell) → cell_of items a ≡ x → cell_of items b ≡ y → version_in x ≡ version_in y → newest cover_at (map seen items) a ≡ newest cover_at (map seen items) b
+    at None None is_a is_b e = none a is_a ∙ sym (none b is_b)
+    at None (Some d) is_a is_b e = absurd (cc)
+    at (Some c) None is_a is_b e = absurd (cc)
+    at (Some c) (Some d) is_a is_b e =
+        let f : c.version ≡ d.version = cc in
+        let there = newest_version items a c es is_a in
+        let found : find (is_version d.version) items ≡ Some there.1 = subst (λ (v : ℕ). find (is_version v) items ≡ Some there.1) f there.3 in
+        some a c there.1 is_a there.3 ∙ sym (some b d there.1 is_b found)
+
 pub answer_never : (items : List Entry) (b : ℕ) (c : Cell) → AreEntries items → cell_of items b ≡ Some c → find (is_version c.version) items ≡ None → ⊥
 answer_never items b c es is none = let there = newest_version items b c es is in some_none (sym there.3 ∙ none)
   where
@@ -120,3 +144,28 @@ alone_held items version k e mask F es at cells bits = of_entry items version k 
     ∙ ap (λ (t : Bool). t && not (one_keeps (take k items) (e.record.lbn + i))) (held_bit items version k e i es at ∙ live_there items version k e i es at)
     ∙ live_keeps (has_bit e.record.keep i) (not (one_keeps (drop (suc k) items) (e.record.lbn + i))) (one_keeps (take k items) (e.record.lbn + i))
     ∙ sym ((λ j. live_there items version k e i es at j && not (older_there items version k e i es at j))))
+
+-- the older blocks of a record of which all are live: those that aren't its own alone
+pub older_but_alone : (items : List Entry) (version k : ℕ) (e : Entry) (live alone : ℕ) (F : ℕ → Option Cell) → AreEntries items → IsAt items version k e → ((b : ℕ) → F b ≡ cell_of items b)
+    → ((i : ℕ) → has_bit live i ≡ (ltb i e.record.count && is_held e.record.version false (F (e.record.lbn + i))))
+    → ((i : ℕ) → has_bit alone i ≡ (ltb i e.record.count && is_held e.record.version true (F (e.record.lbn + i))))
+    → e.record.keep < 2 ^ 128 → live < 2 ^ 128 → alone < 2 ^ 128 → bit_and e.record.keep (bit_not w128 live) ≡ 0
+    → IfSome (entry_at (map seen items) version) (λ d. IsMask d.listed.first (is_older (listed_in (map seen items)) d.listed) (bit_and e.record.keep (bit_not w128 alone)))
+older_but_alone items version k e live alone F es at cells lives alones keep_fits live_fits alone_fits none =
+    of_entry items version k e (λ d. IsMask d.listed.first (is_older (listed_in (map seen items)) d.listed) (bit_and e.record.keep (bit_not w128 alone))) at
+    (λ i. has_bit-without e.record.keep alone i keep_fits alone_fits ∙ bit (has_bit e.record.keep i) (has_bit live i) (has_bit alone i) (one_keeps (take k items) (e.record.lbn + i)) (here i) (covered i) ∙ sym (older_there items version k e i es at))
+  where
+    here : (i : ℕ) → has_bit alone i ≡ (has_bit live i && not (one_keeps (take k items) (e.record.lbn + i)))
+    here i = alones i ∙ ap (λ (o : Option Cell). ltb i e.record.count && is_held e.record.version true o) (cells (e.record.lbn + i))
+        ∙ ap (λ (t : Bool). ltb i e.record.count && t) (alone_at items k e (e.record.lbn + i) es.rising at.at)
+        ∙ four (ltb i e.record.count) (is_held e.record.version false (cell_of items (e.record.lbn + i))) (one_keeps (take k items) (e.record.lbn + i)) true
+        ∙ ap (λ (t : Bool). t && not (one_keeps (take k items) (e.record.lbn + i))) (sym (lives i ∙ ap (λ (o : Option Cell). ltb i e.record.count && is_held e.record.version false o) (cells (e.record.lbn + i))))
+
+    covered : (i : ℕ) → (has_bit e.record.keep i && not (has_bit live i)) ≡ false
+    covered i = sym (has_bit-without e.record.keep live i keep_fits live_fits) ∙ ap (λ (m : ℕ). has_bit m i) none ∙ has_bit-zero i
+
+    bit : (k l a o : Bool) → a ≡ (l && not o) → (k && not l) ≡ false → (k && not a) ≡ (k && o)
+    bit false l a o is all = refl
+    bit true false a o is all = absurd (false≢true (sym all))
+    bit true true a true is all = ap not is
+    bit true true a false is all = ap not is

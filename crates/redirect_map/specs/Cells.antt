@@ -16,6 +16,11 @@ abbrev pub keepers_of : Option Cell → ℕ
 keepers_of None = 0
 keepers_of (Some c) = c.keepers
 
+-- the version of the newest record that keeps the block
+abbrev pub version_in : Option Cell → Option ℕ
+version_in None = None
+version_in (Some c) = Some c.version
+
 -- a record of this version, above all others, keeps the block too
 abbrev pub one_covers : ℕ → Option Cell → Option Cell
 one_covers v c = Some (record { version = v; keepers = keepers_of c + 1 })

@@ -4,3 +4,4 @@ pub mod Index
 pub mod Kept
 pub mod Cells
 pub mod Marked
+pub mod Listing

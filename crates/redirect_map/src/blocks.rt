@@ -1,11 +1,11 @@
 // Which record has each block: for every block that a record keeps, the version of the newest one that keeps
 // it, and how many keep it.
-ghost use Rattle.std.specs.Prelude.{◌≡◌, ◌<◌, ◌≤◌, ◌^◌, ◌+◌, ◌==◌, ◌&&◌, ◌||◌, nat_eq, nat_lt, ℕ, is_some, if◌then◌else◌};
+ghost use Rattle.std.specs.Prelude.{◌≡◌, ◌<◌, ◌≤◌, ◌^◌, ◌+◌, ◌==◌, ◌&&◌, ◌||◌, nat_eq, nat_lt, ℕ, is_some, true, false, if◌then◌else◌};
 ghost use Rattle.std.specs.List.{list_any, range_with_len};
 ghost use Rattle.std.specs.HashMap.{get, spare};
 ghost use Rattle.wol_model.specs.Log.{has_bit};
 ghost use Rattle.redirect_map.specs.Masks.{in_mask};
-ghost use Rattle.redirect_map.specs.Cells.{is_held, keepers_of, one_covers, covering, take_one};
+ghost use Rattle.redirect_map.specs.Cells.{is_held, keepers_of, version_in, one_covers, covering, take_one};
 
 use crate::record::Rec;
 use std::collections::HashMap;
@@ -26,18 +26,18 @@ pub fn with_bit(mask: u128, i: u32, on: bool) -> u128
     if on { mask | 1 << i } else { mask }
 }
 
-// The version of the newest record that keeps the block.
+// What is known of the block, if a record keeps it.
 pub fn newest_of(blocks: &HashMap<u64, Cell>, lbn: u64) -> Option<Cell>
     ensures { result ≡ get nat_eq blocks.now lbn }
 {
     blocks.get(&lbn).copied()
 }
 
-// Whether the newest record of the block is that of this version, and the only one if `alone`.
-fn holds(blocks: &HashMap<u64, Cell>, lbn: u64, version: u64, alone: bool) -> bool
-    ensures { result ≡ is_held version alone (get nat_eq blocks.now lbn) }
+// Whether the newest record of a block is that of this version, and the only one if `alone`.
+fn holds(known: Option<Cell>, version: u64, alone: bool) -> bool
+    ensures { result ≡ is_held version alone known }
 {
-    match newest_of(blocks, lbn) {
+    match known {
         Some(cell) => cell.version == version && (!alone || cell.keepers == 1),
         None => false,
     }
@@ -52,10 +52,57 @@ pub fn held(blocks: &HashMap<u64, Cell>, one: &Rec, alone: bool) -> u128
 {
     let mut mask = 0;
     for i in 0..one.count {
-        let on = holds(blocks, one.lbn + u64::from(i), one.version, alone);
-        mask = with_bit(mask, i, on);
+        let known = newest_of(blocks, one.lbn + u64::from(i));
+        mask = with_bit(mask, i, holds(known, one.version, alone));
     }
     mask
+}
+
+// The blocks of which the record of this version is the newest, and those of which it is the only one.
+pub fn held_both(blocks: &HashMap<u64, Cell>, one: &Rec) -> (u128, u128)
+    requires count { one.now.count ≤ 128 }
+    requires within { one.now.lbn + one.now.count ≤ 2 ^ 32 }
+    ensures live { (i : ℕ) → has_bit result.0 i
+        ≡ (nat_lt i one.now.count && is_held one.now.version false (get nat_eq blocks.now (one.now.lbn + i))) }
+    ensures alone { (i : ℕ) → has_bit result.1 i
+        ≡ (nat_lt i one.now.count && is_held one.now.version true (get nat_eq blocks.now (one.now.lbn + i))) }
+{
+    let mut live = 0;
+    let mut alone = 0;
+    for i in 0..one.count {
+        let known = newest_of(blocks, one.lbn + u64::from(i));
+        live = with_bit(live, i, holds(known, one.version, false));
+        alone = with_bit(alone, i, holds(known, one.version, true));
+    }
+    (live, alone)
+}
+
+// The version of the newest record that keeps the block.
+fn version_at(blocks: &HashMap<u64, Cell>, lbn: u64) -> Option<u64>
+    ensures { result ≡ version_in (get nat_eq blocks.now lbn) }
+{
+    match newest_of(blocks, lbn) {
+        Some(cell) => Some(cell.version),
+        None => None,
+    }
+}
+
+// How many blocks from this one on, at most `most`, have the newest record that it has.
+pub fn run_length(blocks: &HashMap<u64, Cell>, lbn: u64, most: usize) -> usize
+    requires some { 1 ≤ most }
+    requires fits { lbn + most < 2 ^ 64 }
+    ensures same { (b : ℕ) → lbn ≤ b → b < lbn + result
+        → version_in (get nat_eq blocks.now b) ≡ version_in (get nat_eq blocks.now lbn) }
+    ensures some { 1 ≤ result }
+    ensures most { result ≤ most }
+{
+    let version = version_at(blocks, lbn);
+    for count in 1..most {
+        if version_at(blocks, lbn + count as u64) != version {
+            return count;
+        }
+    }
+    most
 }
 
 // Whether a record keeps a block of the range.

@@ -1,6 +1,5 @@
 // A record of the index with its homed blocks, and lists of these.
 ghost use Rattle.std.specs.Prelude.{◌≡◌, ◌<◌, ◌≤◌, ◌^◌, ◌+◌, ◌-◌, take, drop, ◌==◌, ◌&&◌, true, false, nat_lt, IfSome, IfNone, IsSome, None, find, slice_get, length, map};
-ghost use Rattle.std.specs.VecDeque.{deque_capacity};
 ghost use Rattle.std.specs.List.{AllZip, list_any, range_with_len};
 ghost use Rattle.std.specs.List.Sorted.{IsPartitionPoint};
 ghost use Rattle.wol_model.specs.Log.{has_bit};
@@ -9,6 +8,7 @@ ghost use Rattle.redirect_map.specs.Kept.{is_version, keeps, IsKept, IsUnhomed, 
 ghost use Rattle.redirect_map.specs.Cells.{AreTabled};
 
 use crate::blocks::{Cell, newest_of};
+use crate::list::Entries;
 use crate::mask::moved;
 use crate::record::Rec;
 use std::collections::{HashMap, VecDeque};
@@ -29,8 +29,20 @@ fn below(entries: &VecDeque<Entry>, version: u64) -> usize
     entries.partition_point(|entry| entry.record.version < version)
 }
 
-// The place of this version, if it is there.
-fn position_of(entries: &VecDeque<Entry>, version: u64) -> Option<usize>
+// The place, if this version has it.
+fn if_at(entries: &VecDeque<Entry>, place: usize, version: u64) -> Option<usize>
+    requires { AreRising (map (λ e. e.record.version) entries.now.items) }
+    ensures { IfSome result (λ k. (k < length entries.now.items) × (find (is_version version) entries.now.items ≡ slice_get entries.now.items k)) }
+{
+    if place < entries.len() && entries[place].record.version == version {
+        Some(place)
+    } else {
+        None
+    }
+}
+
+// The place of this version, if it is there, by halving.
+fn searched(entries: &VecDeque<Entry>, version: u64) -> Option<usize>
     requires { AreRising (map (λ e. e.record.version) entries.now.items) }
     ensures found { IfSome result (λ k. (k < length entries.now.items) × (find (is_version version) entries.now.items ≡ slice_get entries.now.items k)) }
     ensures none { IfNone result (find (is_version version) entries.now.items ≡ None) }
@@ -41,6 +53,26 @@ fn position_of(entries: &VecDeque<Entry>, version: u64) -> Option<usize>
     } else {
         None
     }
+}
+
+// The place of this version in a list in which no number is missing before it.
+fn likely_place(entries: &VecDeque<Entry>, version: u64) -> usize {
+    if entries.is_empty() {
+        return 0;
+    }
+    version.saturating_sub(entries[0].record.version) as usize
+}
+
+// The place of this version, if it is there. It is looked for first where it stands if no number is missing.
+fn position_of(entries: &VecDeque<Entry>, version: u64) -> Option<usize>
+    requires { AreRising (map (λ e. e.record.version) entries.now.items) }
+    ensures found { IfSome result (λ k. (k < length entries.now.items) × (find (is_version version) entries.now.items ≡ slice_get entries.now.items k)) }
+    ensures none { IfNone result (find (is_version version) entries.now.items ≡ None) }
+{
+    if let Some(place) = if_at(entries, likely_place(entries, version), version) {
+        return Some(place);
+    }
+    searched(entries, version)
 }
 
 // The place of this version.
@@ -70,28 +102,31 @@ pub fn any_meets(entries: &VecDeque<Entry>, lbn: u64, count: u32) -> bool
 }
 
 // Where the newest entry that keeps the block has it homed, it is homed no more.
-fn unhome_block(entries: &mut VecDeque<Entry>, blocks: &HashMap<u64, Cell>, lbn: u64)
+fn unhome_block(entries: &mut Entries, blocks: &HashMap<u64, Cell>, lbn: u64)
     requires entries { AreEntries entries.old.items }
     requires cells { AreTabled entries.old.items blocks.now }
     ensures zip { AllZip (IsWithout (λ b. b == lbn)) entries.old.items entries.new.items }
-    ensures room { deque_capacity entries.new ≡ deque_capacity entries.old }
+    ensures room { entries.new.room ≡ entries.old.room }
 {
     let Some(cell) = newest_of(blocks, lbn) else {
         return;
     };
-    let place = place_of(entries, cell.version);
-    let bit = lbn - entries[place].record.lbn;
-    entries[place].homed &= !(1 << bit);
+    let Some(mut entry) = entries.get(cell.version) else {
+        return;
+    };
+    let bit = lbn - entry.record.lbn;
+    entry.homed &= !(1 << bit);
+    entries.replace(cell.version, entry);
 }
 
 // Bit i of the record, if the record keeps it.
-fn unhome_bit(entries: &mut VecDeque<Entry>, blocks: &HashMap<u64, Cell>, newer: &Rec, i: u32)
+fn unhome_bit(entries: &mut Entries, blocks: &HashMap<u64, Cell>, newer: &Rec, i: u32)
     requires entries { AreEntries entries.old.items }
     requires cells { AreTabled entries.old.items blocks.now }
     requires bit { i < 128 }
     requires within { newer.now.lbn + i < 2 ^ 32 }
     ensures zip { AllZip (IsWithout (λ b. has_bit newer.now.keep i && (b == newer.now.lbn + i))) entries.old.items entries.new.items }
-    ensures room { deque_capacity entries.new ≡ deque_capacity entries.old }
+    ensures room { entries.new.room ≡ entries.old.room }
 {
     if newer.keep >> i & 1 == 1 {
         unhome_block(entries, blocks, newer.lbn + u64::from(i));
@@ -99,14 +134,14 @@ fn unhome_bit(entries: &mut VecDeque<Entry>, blocks: &HashMap<u64, Cell>, newer:
 }
 
 // Blocks that the record keeps are homed no more.
-pub fn unhome(entries: &mut VecDeque<Entry>, blocks: &HashMap<u64, Cell>, newer: &Rec)
+pub fn unhome(entries: &mut Entries, blocks: &HashMap<u64, Cell>, newer: &Rec)
     requires entries { AreEntries entries.old.items }
     requires cells { AreTabled entries.old.items blocks.now }
     requires count { newer.now.count ≤ 128 }
     requires within { newer.now.lbn + newer.now.count ≤ 2 ^ 32 }
     requires keep_within { newer.now.keep < 2 ^ newer.now.count }
     ensures zip { AllZip (IsUnhomed newer.now) entries.old.items entries.new.items }
-    ensures room { deque_capacity entries.new ≡ deque_capacity entries.old }
+    ensures room { entries.new.room ≡ entries.old.room }
 {
     for i in 0..newer.count {
         unhome_bit(entries, blocks, newer, i);

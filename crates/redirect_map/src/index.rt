@@ -9,14 +9,15 @@ ghost use Rattle.redirect_map.specs.Masks.{IsMask};
 ghost use Rattle.redirect_map.specs.Runs.{runs_of};
 ghost use Rattle.redirect_map.specs.Index.{cover_at, entry_at, HasVersion, entry_of, IsRecordOf, IsAnswer, changed, unhomed, with_homed, given_up, IsIndex};
 
-use crate::blocks::{Cell, any_covered, cover, held, newest_of, uncover};
-use crate::entry::{Entry, any_meets, kept_from, place_of, unhome, with_version};
+use crate::blocks::{Cell, any_covered, cover, held, held_both, newest_of, run_length, uncover};
+use crate::entry::{Entry, unhome};
+use crate::list::Entries;
 use crate::marking::{
     exact_mask, lanes_mask, mark_all_exactly, mark_blocks, new_mask, newest_versions,
 };
 use crate::record::Rec;
 use std::alloc::Global;
-use std::collections::{HashMap, VecDeque};
+use std::collections::HashMap;
 use std::marker::Model;
 use version_marks::VersionMarks;
 use wol_disk::NoMemory;
@@ -27,7 +28,7 @@ use wol_disk::NoMemory;
 /// A block of a record is live where the record keeps it and no newer record does. Only live blocks are homed.
 #[derive(Drop)]
 pub struct Index {
-    entries: VecDeque<Entry>,
+    entries: Entries,
     // For each block that a record keeps, the newest one that does, and how many do.
     blocks: HashMap<u64, Cell>,
     // The versions of which something may be due or may go.
@@ -36,7 +37,6 @@ pub struct Index {
 
 impl Model for Index {
     ghost use Rattle.std.specs.Prelude.{◌-◌, ◌/◌, min, map, nat_eq};
-    ghost use Rattle.std.specs.VecDeque.{deque_len, deque_capacity};
     ghost use Rattle.std.specs.HashMap.{get, spare};
     ghost use Rattle.version_marks.specs.Marks.{mask_of};
     ghost use Rattle.redirect_map.specs.Index.{Contents};
@@ -46,7 +46,7 @@ impl Model for Index {
 
     ghost Value = { Contents };
 
-    ghost view = { λ a. record { entries = map seen a.entries.items; reserved = min (min (deque_capacity a.entries - deque_len a.entries) (spare a.blocks / 128)) a.marks.room } };
+    ghost view = { λ a. record { entries = map seen a.entries.items; reserved = min (min a.entries.room (spare a.blocks / 128)) a.marks.room } };
 
     ghost invariant = { λ a. AreEntries a.entries.items × AreTabled a.entries.items a.blocks
         × AreMarked a.entries.items (get nat_eq a.blocks) (mask_of a.marks) };
@@ -58,7 +58,7 @@ impl Index {
         ensures { result.entries ≡ [] }
     {
         Index {
-            entries: VecDeque::new(alloc),
+            entries: Entries::new(alloc),
             blocks: HashMap::new(alloc),
             marks: VersionMarks::new(alloc),
         }
@@ -105,11 +105,11 @@ impl Index {
         );
         self.marks.push(entry.version, new_mask(entry.lane));
         unhome(&mut self.entries, &self.blocks, &entry);
-        cover(&mut self.blocks, &entry);
-        self.entries.push_back_reserved(Entry {
+        self.entries.push(Entry {
             record: entry,
             homed: 0,
         });
+        cover(&mut self.blocks, &entry);
         mark_all_exactly(
             &mut self.marks,
             &self.entries,
@@ -123,8 +123,23 @@ impl Index {
         ensures { IsAnswer (newest cover_at self.now.entries lbn) result }
     {
         let cell = newest_of(&self.blocks, lbn)?;
-        let entry = with_version(&self.entries, cell.version)?;
+        let entry = self.entries.get(cell.version)?;
         Some(entry.record)
+    }
+
+    /// The newest record that covers the block, as `newest` answers it, and how many blocks from it on, at most `most`,
+    /// have that answer.
+    pub fn newest_run(&self, lbn: u64, most: usize) -> (Option<Rec>, usize)
+        requires some { 1 ≤ most }
+        requires fits { lbn + most < 2 ^ 64 }
+        ensures run { (b : ℕ) → lbn ≤ b → b < lbn + result.1 → IsAnswer (newest cover_at self.now.entries b) result.0 }
+        ensures some { 1 ≤ result.1 }
+        ensures most { result.1 ≤ most }
+    {
+        if self.is_empty() {
+            return (None, most);
+        }
+        (self.newest(lbn), run_length(&self.blocks, lbn, most))
     }
 
     /// Whether a record covers at least one block of the range.
@@ -134,7 +149,7 @@ impl Index {
         if lbn <= 1 << 32 && count as usize <= self.entries.len() {
             any_covered(&self.blocks, lbn, count)
         } else {
-            any_meets(&self.entries, lbn, count)
+            self.entries.any_meets(lbn, count)
         }
     }
 
@@ -143,7 +158,7 @@ impl Index {
         ensures value { IsAnswer (entry_at self.now.entries version) result }
         ensures index { IsIndex self.now.entries }
     {
-        let entry = with_version(&self.entries, version)?;
+        let entry = self.entries.get(version)?;
         Some(entry.record)
     }
 
@@ -153,8 +168,7 @@ impl Index {
         ensures { IfSome (entry_at self.now.entries version)
             (λ e. IsMask e.listed.first (is_live (listed_in self.now.entries) e.listed) result) }
     {
-        let place = place_of(&self.entries, version);
-        let record = self.entries[place].record;
+        let record = self.entries.get(version).unwrap().record;
         held(&self.blocks, &record, false)
     }
 
@@ -164,8 +178,7 @@ impl Index {
         ensures { IfSome (entry_at self.now.entries version)
             (λ e. IsMask e.listed.first (λ b. is_live (listed_in self.now.entries) e.listed b && not (is_older (listed_in self.now.entries) e.listed b)) result) }
     {
-        let place = place_of(&self.entries, version);
-        let record = self.entries[place].record;
+        let record = self.entries.get(version).unwrap().record;
         held(&self.blocks, &record, true)
     }
 
@@ -175,9 +188,12 @@ impl Index {
         ensures { IfSome (entry_at self.now.entries version)
             (λ e. IsMask e.listed.first (is_older (listed_in self.now.entries) e.listed) result) }
     {
-        let place = place_of(&self.entries, version);
-        let record = self.entries[place].record;
-        record.keep & kept_from(&self.entries, 0, place, record.lbn)
+        let one = self.entries.get(version).unwrap().record;
+        let (live, alone) = held_both(&self.blocks, &one);
+        if one.keep & !live == 0 {
+            return one.keep & !alone;
+        }
+        one.keep & self.entries.kept_before(version, one.lbn)
     }
 
     /// The homed blocks of this version's record: those of its live blocks that are noted to be home.
@@ -189,8 +205,7 @@ impl Index {
             (λ e. (i : ℕ) → has_bit result i ≡ true
             → is_live (listed_in self.now.entries) e.listed (e.listed.first + i) ≡ true) }
     {
-        let place = place_of(&self.entries, version);
-        self.entries[place].homed
+        self.entries.get(version).unwrap().homed
     }
 
     /// Notes which blocks of this version's record are home: those of the mask, which are live, and no
@@ -204,11 +219,10 @@ impl Index {
         ensures entries { self.new.entries ≡ changed version (with_homed mask) self.old.entries }
         ensures room { self.new.reserved ≡ self.old.reserved }
     {
-        let place = place_of(&self.entries, version);
-        let mut entry = self.entries[place];
+        let mut entry = self.entries.get(version).unwrap();
         entry.homed = mask;
         self.marks.set(version, exact_mask(&self.blocks, &entry));
-        self.entries[place] = entry;
+        self.entries.replace(version, entry);
     }
 
     /// Gives up the blocks of the mask, which may go, of this version's record. A record that keeps nothing
@@ -224,8 +238,7 @@ impl Index {
             ≡ filter (λ e. keeps_a_block e.listed) (changed version (given_up mask) self.old.entries) }
         ensures room { self.old.reserved ≤ self.new.reserved }
     {
-        let place = place_of(&self.entries, version);
-        let mut entry = self.entries[place];
+        let mut entry = self.entries.get(version).unwrap();
         mark_blocks(
             &mut self.marks,
             &self.entries,
@@ -240,10 +253,10 @@ impl Index {
         entry.homed &= !mask;
         if entry.record.keep == 0 {
             self.marks.set(version, 0);
-            let _ = self.entries.remove(place);
+            self.entries.remove(version);
         } else {
             self.marks.set(version, exact_mask(&self.blocks, &entry));
-            self.entries[place] = entry;
+            self.entries.replace(version, entry);
         }
     }
 
@@ -287,7 +300,7 @@ impl Index {
     pub fn is_empty(&self) -> bool
         ensures { result ≡ (length self.now.entries == 0) }
     {
-        self.entries.is_empty()
+        self.entries.len() == 0
     }
 
     /// The record at this place of the list, which begins at 0.
@@ -295,6 +308,6 @@ impl Index {
         requires { place < length self.now.entries }
         ensures { IfSome (slice_get self.now.entries place) (λ e. IsRecordOf e result) }
     {
-        self.entries[place as usize].record
+        self.entries.at(place as usize).record
     }
 }

@@ -3,14 +3,15 @@
 //! each, a table that names for each kept block its newest record and how many records keep it, and marks of
 //! the versions of which a block may be due or may go, so that the next of these is found without a walk.
 //!
-//! `record.rt` has a record and its place, `entry.rt` a record with its homed blocks, `mask.rt` masks of 128
-//! blocks, `blocks.rt` the table of kept blocks, `marking.rt` the marks, `index.rt` `Index`, where the contracts
-//! stand.
+//! `record.rt` has a record and its place, `entry.rt` a record with its homed blocks, `list.rt` the list of these,
+//! `mask.rt` masks of 128 blocks, `blocks.rt` the table of kept blocks, `marking.rt` the marks, `index.rt` `Index`,
+//! where the contracts stand.
 #![tactic(auto)]
 
 mod blocks;
 mod entry;
 mod index;
+mod list;
 mod marking;
 mod mask;
 mod record;

@@ -8,11 +8,12 @@ ghost use Rattle.redirect_map.specs.Kept.{IsInRange, AreEntries};
 ghost use Rattle.redirect_map.specs.Cells.{AreTabled};
 ghost use Rattle.redirect_map.specs.Marked.{there_bit, lane_bit, is_home, begins, IsMarked, AreMarked, AreThere, AreBegun, KeepsBits};
 
-use crate::blocks::{Cell, held, newest_of, with_bit};
-use crate::entry::{Entry, with_version};
+use crate::blocks::{Cell, held_both, newest_of, with_bit};
+use crate::entry::Entry;
+use crate::list::Entries;
 use crate::mask::moved;
 use crate::record::Rec;
-use std::collections::{HashMap, VecDeque};
+use std::collections::HashMap;
 use version_marks::VersionMarks;
 
 // How many lanes have bits of their own.
@@ -53,8 +54,7 @@ pub fn exact_mask(blocks: &HashMap<u64, Cell>, entry: &Entry) -> u128
     requires { IsInRange entry.now }
     ensures { IsMarked (get nat_eq blocks.now) result entry.now }
 {
-    let live = held(blocks, &entry.record, false);
-    let alone = held(blocks, &entry.record, true);
+    let (live, alone) = held_both(blocks, &entry.record);
     let due = live & !entry.homed != 0;
     let going = (entry.record.keep & !live) | (entry.homed & alone) != 0;
     record_mask(entry.record.lane, due, going)
@@ -89,7 +89,7 @@ fn starts(entry: &Entry, cell: Cell, lbn: u64, covered: bool) -> bool
 // one other record that keeps it gives it up.
 fn mark_newest(
     marks: &mut VersionMarks,
-    entries: &VecDeque<Entry>,
+    entries: &Entries,
     blocks: &HashMap<u64, Cell>,
     lbn: u64,
     covered: bool,
@@ -103,7 +103,7 @@ fn mark_newest(
     let Some(cell) = newest_of(blocks, lbn) else {
         return;
     };
-    let Some(entry) = with_version(entries, cell.version) else {
+    let Some(entry) = entries.get(cell.version) else {
         return;
     };
     if !starts(&entry, cell, lbn, covered) {
@@ -115,7 +115,7 @@ fn mark_newest(
 // The same of bit i of a mask of blocks.
 fn mark_bit(
     marks: &mut VersionMarks,
-    entries: &VecDeque<Entry>,
+    entries: &Entries,
     blocks: &HashMap<u64, Cell>,
     first: u64,
     mask: u128,
@@ -139,7 +139,7 @@ fn mark_bit(
 // The same of all blocks of a mask.
 pub fn mark_blocks(
     marks: &mut VersionMarks,
-    entries: &VecDeque<Entry>,
+    entries: &Entries,
     blocks: &HashMap<u64, Cell>,
     first: u64,
     count: u32,
@@ -179,7 +179,7 @@ pub fn newest_versions(blocks: &HashMap<u64, Cell>, one: &Rec) -> [u64; 128]
 // Makes the marks of this version exact, if there is such a record.
 fn mark_exactly(
     marks: &mut VersionMarks,
-    entries: &VecDeque<Entry>,
+    entries: &Entries,
     blocks: &HashMap<u64, Cell>,
     version: u64,
 )
@@ -188,7 +188,7 @@ fn mark_exactly(
     ensures marked { AreMarked entries.now.items (get nat_eq blocks.now) (mask_of marks.new) }
     ensures room { marks.new.room ≡ marks.old.room }
 {
-    let Some(entry) = with_version(entries, version) else {
+    let Some(entry) = entries.get(version) else {
         return;
     };
     marks.set(version, exact_mask(blocks, &entry));
@@ -197,7 +197,7 @@ fn mark_exactly(
 // The same, unless this version was the last one.
 fn mark_next(
     marks: &mut VersionMarks,
-    entries: &VecDeque<Entry>,
+    entries: &Entries,
     blocks: &HashMap<u64, Cell>,
     last: u64,
     version: u64,
@@ -215,7 +215,7 @@ fn mark_next(
 // Makes the marks of these versions exact. Equal versions in a row are looked at once.
 pub fn mark_all_exactly(
     marks: &mut VersionMarks,
-    entries: &VecDeque<Entry>,
+    entries: &Entries,
     blocks: &HashMap<u64, Cell>,
     versions: &[u64],
 )

@@ -1,12 +1,12 @@
 -- The image of a run: it goes out blank and comes back as the run left it.
-use Rattle.std.proofs.Common.{◌≡◌, inl, inr, ℕ, List, [], ◌∷◌, ◌++◌, Option, None, Some, Result, Ok, Err, refl, sym, ap, ◌∙◌, append-nil, length, take, drop, arith}
+use Rattle.std.proofs.Common.{◌≡◌, inl, inr, ℕ, Bool, true, false, cond, List, [], ◌∷◌, ◌++◌, Option, None, Some, Result, Ok, Err, refl, sym, ap, ◌∙◌, append-nil, length, take, drop, arith}
 use Rattle.std.proofs.lemmas.List.{drop_all, length-map, take_all}
-use Rattle.std.specs.Prelude.{codes, option_map, IfSome}
+use Rattle.std.specs.Prelude.{◌≢◌, codes, nat_lt, option_map, IfSome}
 use Rattle.wol_disk.specs.Disk.{Block, State, Values, only, reads}
 use Rattle.wol_disk.specs.Zeros.{zeros}
 use Rattle.wol_disk.proofs.Images.{reads_only}
-use Rattle.wol_bay.specs.Bay.{Told, came_back, sent_out, stored, without}
-use Rattle.wol_bay.specs.Parts.{AreBlank, IsBlank, blocks_of, joined, sizes_of}
+use Rattle.wol_bay.specs.Bay.{Told, came_back, each_place, sent_out, stored, without}
+use Rattle.wol_bay.specs.Parts.{AreBlank, IsBlank, blocks_of, faulty_from, faulty_places, joined, sizes_of}
 use Rattle.wol_bay.specs.declared.fault.BayFault.{BayFault}
 use Rattle.wol_bay.specs.declared.fault.BayFault.TheVariants as bay
 use Rattle.wol_io.proofs.Appending.{appends_both, appends_kept, front_last, keeps_same}
@@ -15,7 +15,7 @@ use Rattle.solo.specs.declared.fault.Fault.{Fault}
 use Rattle.solo.specs.declared.fault.Fault.TheVariants as fault
 use Rattle.solo.specs.declared.tally.Tally.{Tally}
 use Rattle.solo.specs.Faults.{fault_of_bay}
-use Rattle.solo.specs.Images.{BeginsBlank, IsOnePart, LeavesImages, RunsInBay, RunsOnFirst, Stores, LeavesBy}
+use Rattle.solo.specs.Images.{BeginsBlank, IsOnePart, LeavesImages, PartCameBackFaulty, RunsInBay, RunsOnFirst, Stores, LeavesBy}
 use Rattle.solo.specs.Requests.{asked_of}
 use Rattle.solo.specs.Runs.{Ends, EndsBy, Runs, RunsWhole, StopsBy}
 use Rattle.solo.specs.Served.{IsSettled, LeavesCuts, content_of}
@@ -81,6 +81,11 @@ module _ {D : Type 0} (state : D → State) where
   one_part told n (part ∷ []) blank = (blank.0.sized, blank.0.quiet, zero_settled (state part).values n blank.0.zero)
   one_part told n (part ∷ next ∷ parts) blank = absurd blank.1
 
+  one_long : (told : Option Told) (n : ℕ) (parts : List D) → AreBlank state told (n ∷ []) parts → length parts ≡ 1
+  one_long told n [] blank = absurd blank
+  one_long told n (part ∷ []) blank = refl
+  one_long told n (part ∷ next ∷ parts) blank = absurd blank.1
+
   -- what was run on the part comes back
   pub ran_in_bay : (target : Target) (trace left : Option (List ℕ)) (told mid new : Option Told) (sizes places : List ℕ) (parts parts' : List D) (ran : Result Tally Fault) (old out : Option (List ℕ))
       → AreBlank state told (target.home ∷ []) parts → sizes_of state parts' ≡ sizes_of state parts → mid ≡ option_map (sent_out (codes "solo") sizes) told
@@ -91,6 +96,35 @@ module _ {D : Type 0} (state : D → State) where
   ran_in_bay target trace left told mid new sizes places (part ∷ []) (part' ∷ next ∷ parts') ran old out blank same sent back runs = absurd (cc same)
   ran_in_bay target trace left told mid new sizes places (part ∷ []) (part' ∷ []) ran old out blank same sent back runs =
       (content_of (state part).values, blank_begins target told (state part) blank.0, (state part').values, stores told mid new sizes places (state part').values sent back, runs)
+
+-- ---- The part's fault
+
+-- a bay's refusal isn't a failed call of the part
+pub no_disk : (e : BayFault) → fault_of_bay e ≡ fault.Disk → ⊥
+no_disk bay.Absent is = cc is
+no_disk bay.Failed is = cc is
+no_disk bay.NoMemory is = cc is
+no_disk (bay.WrongLength bytes) is = cc is
+
+module _ {D : Type 0} (state : D → State) where
+  -- of one part the faulty places are none, or its own
+  first_faulty : (n : ℕ) (parts : List D) → length parts ≡ 1 → faulty_from n state parts ≢ [] → faulty_from n state parts ≡ n ∷ []
+  first_faulty n [] one some = absurd (cc one)
+  first_faulty n (part ∷ next ∷ parts) one some = absurd (omega (arith, one))
+  first_faulty n (part ∷ []) one some = at (nat_lt 0 (state part).faults) some
+    where
+      at : (t : Bool) → cond t (n ∷ []) [] ≢ [] → cond t (n ∷ []) [] ≡ n ∷ []
+      at true has = refl
+      at false has = absurd (has refl)
+
+  pub came_faulty : (told mid new : Option Told) (sizes : List ℕ) (n : ℕ) (blocks : Option (List (Values Block))) (parts parts' : List D) → AreBlank state told (n ∷ []) parts
+      → sizes_of state parts' ≡ sizes_of state parts → mid ≡ option_map (sent_out (codes "solo") sizes) told
+      → new ≡ option_map (came_back (codes "solo") blocks (faulty_places state parts')) mid → faulty_places state parts' ≢ [] → PartCameBackFaulty told new
+  came_faulty None mid new sizes n blocks parts parts' blank same sent back some = tt
+  came_faulty (Some t) mid new sizes n blocks parts parts' blank same sent back some =
+      let as_many : length parts' ≡ length parts = sym (length-map parts' (λ (part : D). (state part).size)) ∙ ap (λ (ns : List ℕ). length ns) same ∙ length-map parts (λ (part : D). (state part).size) in
+      let one : length parts ≡ 1 = one_long state (Some t) n parts blank in
+      rw (back, sent) (ap (λ (places : List ℕ). t.faulty ++ each_place (codes "solo") places) (first_faulty 0 parts' (as_many ∙ one) some))
 
 left_by : (e : Fault) (old new : Option Told) (values : Option (List (Values Block))) (target : Target) (trace left : Option (List ℕ)) (array : Option (List Block)) (was now : Option (List ℕ))
     → StopsBy e target trace left array was now values → Stores old new values → LeavesBy e old new values

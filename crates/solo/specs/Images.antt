@@ -1,5 +1,5 @@
 -- The image of a run in its bay.
-use Rattle.std.specs.Prelude.{◌≡◌, ℕ, ◌⊎◌, List, [], ◌∷◌, codes, Option, None, Some, IfSome, Result, MatchResult, ⊤}
+use Rattle.std.specs.Prelude.{◌≡◌, ℕ, ◌⊎◌, List, [], ◌∷◌, ◌++◌, codes, Option, None, Some, IfSome, Result, MatchResult, ⊤}
 use Rattle.wol_disk.specs.Disk.{Block, State, Values}
 use Rattle.wol_disk.specs.Zeros.{zeros}
 use Rattle.wol_bay.specs.Bay.{BayState, Told, stored, without}
@@ -53,3 +53,7 @@ RunsOnFirst state target trace left (part ∷ parts) (part' ∷ parts') result o
 abbrev pub RunsInBay : {T : Type 0} → Target → (trace left : Option (List ℕ)) → (told told' : Option Told) → Result T Fault → (old new : Option (List ℕ)) → Type 0
 RunsInBay target trace left told told' result old new =
     (array : Option (List Block)) × BeginsBlank target told array × (values : Option (List (Values Block))) × LeavesImages result told told' values × Ends target trace left array result old new values
+
+-- the bay lists the one part of the image `solo` as one that came back with a fault
+abbrev pub PartCameBackFaulty : (old new : Option Told) → Type 0
+PartCameBackFaulty old new = IfSome old (λ o. IfSome new (λ n. n.faulty ≡ o.faulty ++ (codes "solo", 0) ∷ []))

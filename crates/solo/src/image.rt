@@ -8,7 +8,7 @@ ghost use Rattle.solo.specs.Texts.{summary_text};
 ghost use Rattle.solo.specs.Runs.{Runs};
 ghost use Rattle.wol_bay.specs.Parts.{faulty_places, sizes_of};
 ghost use Rattle.solo.specs.Faults.{fault_of_bay};
-ghost use Rattle.solo.specs.Images.{IsOnePart, NoneOut, RunsInBay, RunsOnFirst};
+ghost use Rattle.solo.specs.Images.{IsOnePart, NoneOut, PartCameBackFaulty, RunsInBay, RunsOnFirst};
 ghost use Rattle.solo.specs.Summed.{SumsUp};
 
 use crate::fault::Fault;
@@ -126,6 +126,7 @@ pub fn run<S: Source, K: Sink, B: Bay, G: Gate>(
     ensures source { IsErrOf result Fault.Source → Rose (S.faults trace.old) (S.faults trace.new) }
     ensures source_later { S.faults trace.old ≤ S.faults trace.new }
     ensures disk { IsErrOf result Fault.Disk → Rose (B.state bay.old).faults (B.state bay.new).faults }
+    ensures faulty { IsErrOf result Fault.Disk → PartCameBackFaulty (B.state bay.old).told (B.state bay.new).told }
     ensures bay { IsErrOf result Fault.Bay → Rose (B.state bay.old).faults (B.state bay.new).faults }
     ensures bay_later { (B.state bay.old).faults ≤ (B.state bay.new).faults }
     ensures cause { IsErrOf result Fault.Sink → Rose (K.faults out.old) (K.faults out.new) }

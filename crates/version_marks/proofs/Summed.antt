@@ -114,3 +114,26 @@ raised_read nodes node x y even within some summed px py =
     let left : get_or nodes (2 * (node / 2)) 0 ≡ x = get_or_default nodes (2 * (node / 2)) 0 x (omega arith) ∙ sym px in
     let right : get_or nodes (2 * (node / 2) + 1) 0 ≡ y = get_or_default nodes (2 * (node / 2) + 1) 0 y (omega arith) ∙ sym py in
     subst (λ (v : ℕ). IsSummedBut (node / 2) (set nodes (node / 2) v)) (λ i. bit_or (left i) (right i)) (raised nodes node even within some summed)
+
+-- where the node above one has the bits of both already, all is summed
+pub as_it_was : (nodes : List ℕ) (node x y z : ℕ) → length nodes ≡ 2 * (length nodes / 2) → node < length nodes → 0 < node → IsSummedBut node nodes
+    → x ≡ get_or nodes (2 * (node / 2)) x → y ≡ get_or nodes (2 * (node / 2) + 1) y → z ≡ get_or nodes (node / 2) z → z ≡ bit_or x y → IsSummed nodes
+as_it_was nodes node x y z even within some summed px py pz same n inside = ⊎_elim here (λ off. summed n inside (λ s. absurd (off s))) (cases_eq (n / 2) (node / 2))
+  where
+    left : get_or nodes (2 * (node / 2)) 0 ≡ x
+    left = get_or_default nodes (2 * (node / 2)) 0 x (omega arith) ∙ sym px
+
+    right : get_or nodes (2 * (node / 2) + 1) 0 ≡ y
+    right = get_or_default nodes (2 * (node / 2) + 1) 0 y (omega arith) ∙ sym py
+
+    top : get_or nodes (node / 2) 0 ≡ bit_or x y
+    top = get_or_default nodes (node / 2) 0 z (omega arith) ∙ sym pz ∙ same
+
+    child : n / 2 ≡ node / 2 → IsWithin (get_or nodes n 0) (bit_or x y)
+    child up = ⊎_elim
+        (λ here. both_within (get_or nodes n 0) (bit_or x y) x (bit_or x y) (ap (λ (k : ℕ). get_or nodes k 0) here ∙ left) (λ i. bit_or x y) (within_left x y))
+        (λ not_here. let next : n ≡ 2 * (node / 2) + 1 = omega arith in both_within (get_or nodes n 0) (bit_or x y) y (bit_or x y) (ap (λ (k : ℕ). get_or nodes k 0) next ∙ right) (λ i. bit_or x y) (within_right x y))
+        (cases_eq n (2 * (node / 2)))
+
+    here : n / 2 ≡ node / 2 → IsWithin (get_or nodes n 0) (get_or nodes (n / 2) 0)
+    here up = both_within (get_or nodes n 0) (get_or nodes (n / 2) 0) (get_or nodes n 0) (bit_or x y) (λ i. get_or nodes n 0) (ap (λ (k : ℕ). get_or nodes k 0) up ∙ top) (child up)

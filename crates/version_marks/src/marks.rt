@@ -50,7 +50,19 @@ fn below(versions: &[u64], version: u64) -> usize
     if version == 0 {
         return 0;
     }
+    let count = versions.len();
+    if count > 0 && versions[count - 1] < version {
+        return count;
+    }
     versions.partition_point(|other| *other < version)
+}
+
+// The place of a version in a list in which no number is missing before it.
+fn likely_place(versions: &[u64], version: u64) -> usize {
+    if versions.is_empty() {
+        return 0;
+    }
+    version.saturating_sub(versions[0]) as usize
 }
 
 // The place of a version, if it is in the list.
@@ -59,6 +71,10 @@ fn place_of(versions: &[u64], version: u64) -> Option<usize>
     ensures found { IfSome result (λ k. (k < length versions.now) × (slice_index versions.now k ≡ version)) }
     ensures none { IfNone result ((k : ℕ) → k < length versions.now → slice_index versions.now k ≡ version → ⊥) }
 {
+    let likely = likely_place(versions, version);
+    if likely < versions.len() && versions[likely] == version {
+        return Some(likely);
+    }
     let place = below(versions, version);
     if place < versions.len() && versions[place] == version {
         Some(place)

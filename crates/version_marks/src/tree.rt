@@ -3,7 +3,7 @@
 ghost use Rattle.std.specs.Prelude.{◌≡◌, ◌<◌, ◌≤◌, ◌*◌, ◌/◌, ℕ, length, drop, slice_index, slice_set, bit_and};
 ghost use Rattle.version_marks.specs.Marks.{IsSummed, IsSummedBut, AreApart};
 
-// Makes the nodes above a leaf anew.
+// Makes the nodes above a leaf anew, up to the first one that stays as it was.
 fn raise(nodes: &mut Vec<u128>, leaf: usize)
     requires even { length nodes.old.items ≡ 2 * (length nodes.old.items / 2) }
     requires within { leaf < length nodes.old.items }
@@ -15,7 +15,11 @@ fn raise(nodes: &mut Vec<u128>, leaf: usize)
     let mut node = leaf;
     while node > 0 {
         node /= 2;
-        nodes[node] = nodes[2 * node] | nodes[2 * node + 1];
+        let both = nodes[2 * node] | nodes[2 * node + 1];
+        if nodes[node] == both {
+            return;
+        }
+        nodes[node] = both;
     }
 }
 

@@ -9,8 +9,8 @@ use Rattle.garbage_list.proofs.Going.{due_covers}
 use Rattle.garbage_list.proofs.Finding.{answer_there, lane_there, told_none, told_asleep, told_is}
 use Rattle.garbage_list.proofs.find.due_one.Goals as goal
 
-pub returns-in_err-record : goal.returns-in_err-record
-returns-in_err-record c = rw c.from_residual.ensures (told_none _ c.args.version (entry_at c.args.index.now.entries c.args.version) (subst (λ (o : Option Rec). IsAnswer (entry_at c.args.index.now.entries c.args.version) o) c.in_err-record.was c.find.ensures.value))
+pub returns-in_err-record-clause-told : goal.returns-in_err-record-clause-told
+returns-in_err-record-clause-told c = rw c.from_residual.ensures (told_none _ c.args.version (entry_at c.args.index.now.entries c.args.version) (subst (λ (o : Option Rec). IsAnswer (entry_at c.args.index.now.entries c.args.version) o) c.in_err-record.was c.find.ensures.value))
 
 pub bounds-lanes-record : goal.bounds-lanes-record
 bounds-lanes-record c = lane_there c.args.lanes.now c.args.index.now.entries c.args.version c.in_ok-record.record c.requires (subst (λ (o : Option Rec). IsAnswer (entry_at c.args.index.now.entries c.args.version) o) c.in_ok-record.was c.find.ensures.value)
@@ -18,16 +18,19 @@ bounds-lanes-record c = lane_there c.args.lanes.now c.args.index.now.entries c.a
 pub due-requires : goal.due-requires
 due-requires c = answer_there c.args.index.now.entries c.args.version c.in_ok-record.record (subst (λ (o : Option Rec). IsAnswer (entry_at c.args.index.now.entries c.args.version) o) c.in_ok-record.was c.find.ensures.value)
 
-pub returns-then-not-lanes-record : goal.returns-then-not-lanes-record
-returns-then-not-lanes-record c = told_asleep c.args.lanes.now (λ (e : Indexed). list_any (is_due (listed_in c.args.index.now.entries) e.listed) (block_numbers e.listed)) c.args.version (entry_at c.args.index.now.entries c.args.version) c.in_ok-record.record
+pub returns-then-not-lanes-record-clause-told : goal.returns-then-not-lanes-record-clause-told
+returns-then-not-lanes-record-clause-told c = told_asleep c.args.lanes.now (λ (e : Indexed). list_any (is_due (listed_in c.args.index.now.entries) e.listed) (block_numbers e.listed)) c.args.version (entry_at c.args.index.now.entries c.args.version) c.in_ok-record.record
     (subst (λ (o : Option Rec). IsAnswer (entry_at c.args.index.now.entries c.args.version) o) c.in_ok-record.was c.find.ensures.value) c.if-not-lanes-record.true
 
-pub returns-then-due-eq0 : goal.returns-then-due-eq0
-returns-then-due-eq0 c = told_is c.args.lanes.now c.args.version (entry_at c.args.index.now.entries c.args.version) c.in_ok-record.record (is_due (listed_in c.args.index.now.entries)) c.due.result false
+pub returns-then-due-eq0-clause-told : goal.returns-then-due-eq0-clause-told
+returns-then-due-eq0-clause-told c = told_is c.args.lanes.now c.args.version (entry_at c.args.index.now.entries c.args.version) c.in_ok-record.record (is_due (listed_in c.args.index.now.entries)) c.due.result false
     (subst (λ (o : Option Rec). IsAnswer (entry_at c.args.index.now.entries c.args.version) o) c.in_ok-record.was c.find.ensures.value)
     (due_covers (listed_in c.args.index.now.entries)) (omega arith) c.due.ensures.value (and_right _ _ (ap not (eq-eqb c.due.result 0 c.if-due-eq0.true)))
 
-pub returns : goal.returns
-returns c = told_is c.args.lanes.now c.args.version (entry_at c.args.index.now.entries c.args.version) c.in_ok-record.record (is_due (listed_in c.args.index.now.entries)) c.due.result true
+pub returns-clause-told : goal.returns-clause-told
+returns-clause-told c = told_is c.args.lanes.now c.args.version (entry_at c.args.index.now.entries c.args.version) c.in_ok-record.record (is_due (listed_in c.args.index.now.entries)) c.due.result true
     (subst (λ (o : Option Rec). IsAnswer (entry_at c.args.index.now.entries c.args.version) o) c.in_ok-record.was c.find.ensures.value)
     (due_covers (listed_in c.args.index.now.entries)) (omega arith) c.due.ensures.value (and_from _ _ c.if-not-lanes-record.false (ap not (ne_eqb c.due.result 0 c.if-due-eq0.false)))
+
+pub returns-in_err-record-clause-index : goal.returns-in_err-record-clause-index
+returns-in_err-record-clause-index c = c.find.ensures.index

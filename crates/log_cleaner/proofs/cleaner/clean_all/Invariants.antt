@@ -7,7 +7,7 @@ abbrev pub invariant-chunks : goal.invariant-chunks
 invariant-chunks g l = record {
   ready : IsReady g.D.Disk.state l.m;
   at : IsHome l.shared l.m;
-  between : Between g.D.Disk.tells g.D.Disk.state l.most l.initial.m l.m l.copied l.from;
+  between : Between g.D.Disk.tells g.D.Disk.state l.most l.initial.m l.m l.copied l.from l.done.value.items;
 }
 
 abbrev pub decreases-chunks : goal.decreases-chunks

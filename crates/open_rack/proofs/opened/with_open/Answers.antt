@@ -1,5 +1,6 @@
 use Rattle.open_rack.specs.Sessions.{IsClosed, IsOpened}
 use Rattle.open_rack.proofs.RacksAgain.{closable_again, rest_again}
+use Rattle.rack.proofs.FailedParts.{gained_parts}
 use Rattle.rack.proofs.OthersKept.{others_then}
 use Rattle.open_rack.proofs.Since.{home_again, none_out_still, opens_and_closes, sound_since}
 use Rattle.open_rack.proofs.opened.with_open.Goals as goal
@@ -36,8 +37,9 @@ returns-clause-did g c =
     let tells = g.B.Part.Disk.tells in let state = g.B.Part.Disk.state in let config = c.args.config.now in
     let old = g.B.Bay.state c.args.bay.now in let bay = g.B.Bay.state c.open_all.new.bay in let new = g.B.Bay.state c.close_all-spindles.new.bay in
     let opened : IsOpened tells state config old bay c.in_ok-rack.rack = record { rack = o.rack; fresh = o.fresh; fresh_keepers = o.fresh_keepers; began = o.began; there = o.there; apart = λ telling. o.apart; kept = o.kept; faulty = o.faulty; unfaulty = o.unfaulty } in
-    let closed : IsClosed tells state config bay new c.run-answer.new.rack c.close_all-spindles.result.items = record { count = e.count; each = e.spindles; stations = e.stations; parts = e.parts; apart = e.apart; gained = e.faulty } in
-    opens_and_closes tells state config old bay new c.in_ok-rack.rack c.run-answer.new.rack c.run-answer.ensures.again opened o.counts e.counts e.kept o.refused o.apart e.faulty
+    let closed : IsClosed tells state config bay new c.run-answer.new.rack c.close_all-spindles.result.items = record { count = e.count; each = e.spindles; stations = e.stations; parts = e.parts; apart = e.apart; lists = e.faulty } in
+    opens_and_closes tells state config old bay new c.in_ok-rack.rack c.run-answer.new.rack c.run-answer.ensures.again opened o.counts e.counts e.kept o.refused o.apart
+    (gained_parts state config c.run-answer.new.rack.rest bay.told new.told e.faulty)
     _ _ c.run-answer.ensures.did closed o.failed o.complete e.cause e.left e.volumes e.unopened
 
 pub returns-clause-others : goal.returns-clause-others

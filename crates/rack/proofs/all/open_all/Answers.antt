@@ -10,6 +10,7 @@ use Rattle.rack.specs.Opens.{BeganWith}
 use Rattle.rack.specs.Opening.{IsOpeningRack, HasBegun, HaveFaults}
 use Rattle.rack.specs.declared.heads_said.Said.{Said}
 use Rattle.rack.proofs.Complete.{opens_all}
+use Rattle.rack.proofs.FailedParts.{gained_parts, part_failed}
 use Rattle.rack.proofs.Issues.{on_err}
 use Rattle.rack.proofs.OthersKept.{others_same, others_then}
 use Rattle.rack.proofs.TakenBack.{left_back, nothing_done}
@@ -239,12 +240,10 @@ returns-in-Ok-open_volumes-clause-failed g c =
     let opening = taken_opening tells state config c.requires.config b b1 t taken c.requires.home first set_up images_are faults_are in
     let last = c.open_volumes.new.self in
     let out_is = out_after tells state config c.requires.config b b1 t taken first last images_are c.open_volumes.ensures.same_out in
-    λ k p at.
     let rack = c.in-Ok-open_volumes.ensures.rack b1 (subst (λ (l : List (Option Said)). IsOpeningRack state config b1 l 0 first) (sym c.as_slice.ensures.value) opening) in
-    let refused = c.in-Ok-open_volumes.ensures.refused b b1 (λ telling old is apart. (subst (λ (l : List (Option Said)). HasBegun state config old l 0 first) (sym c.as_slice.ensures.value) (begun_first tells state config c.requires.config b b1 t taken first set_up images_are faults_are telling old is apart))) (refused_first tells state config c.requires.config b b1 t taken first set_up images_are faults_are) in
     let said_count = ap (λ (x : _). length x.items) taken.same.0 ∙ taken.asked.said_count in
     let have = subst (λ (n : ℕ). HaveFaults state t.images.said.items n last) said_count (subst (λ (l : List (Option Said)). HaveFaults state l (length l) last) c.as_slice.ensures.value c.in-Ok-open_volumes.ensures.failed) in
-    opened_failed tells state config c.requires.config b b1 t taken last out_is b1 refused have k p at (rack.fault_count ∙ many tells state config c.requires.config b b1 t taken)
+    opened_failed tells state config c.requires.config b b1 t taken last out_is have (rack.fault_count ∙ many tells state config c.requires.config b b1 t taken)
 
 pub close_all-spindles-requires-clause-rack : goal.close_all-spindles-requires-clause-rack
 close_all-spindles-requires-clause-rack g c =
@@ -298,7 +297,7 @@ returns-clause-left g c = λ telling.
     let out_is = out_after tells state config c.requires.config b b1 t taken first last images_are c.open_volumes.ensures.same_out in
     let began : IsTrue tells → (old : Told) → b.told ≡ Some old → AreNamedApart old → BeganWith state config old last = λ telling old is apart.
     c.open_volumes.ensures.began telling old (subst (λ (l : List (Option Said)). HasBegun state config old l 0 first) (sym c.as_slice.ensures.value) (begun_first tells state config c.requires.config b b1 t taken first set_up images_are faults_are telling old is apart)) in
-    closed_left tells state config c.requires.config b b1 (g.B.Bay.state c.close_all-spindles.new.bay) t taken last out_is closed.counts closed.faulty (closed.kept telling) (closed.parts telling)
+    closed_left tells state config c.requires.config b b1 (g.B.Bay.state c.close_all-spindles.new.bay) t taken last out_is closed.counts (gained_parts state config last.rest b1.told (g.B.Bay.state c.close_all-spindles.new.bay).told closed.faulty) (closed.kept telling) (closed.parts telling)
     (λ old is apart. closed.volumes old telling (began telling old is apart) (opened_there tells state config c.requires.config b b1 t taken last out_is telling old is apart) (quiet_stations last.stations.items c.open_volumes.ensures.fresh))
 
 pub returns-clause-sound : goal.returns-clause-sound
@@ -319,7 +318,7 @@ returns-clause-sound g c = λ telling.
     let out_is = out_after tells state config c.requires.config b b1 t taken first last images_are c.open_volumes.ensures.same_out in
     let began : IsTrue tells → (old : Told) → b.told ≡ Some old → AreNamedApart old → BeganWith state config old last = λ telling old is apart.
     c.open_volumes.ensures.began telling old (subst (λ (l : List (Option Said)). HasBegun state config old l 0 first) (sym c.as_slice.ensures.value) (begun_first tells state config c.requires.config b b1 t taken first set_up images_are faults_are telling old is apart)) in
-    closed_sound tells state config c.requires.config b b1 (g.B.Bay.state c.close_all-spindles.new.bay) t taken last out_is closed.counts closed.faulty (closed.kept telling)
+    closed_sound tells state config c.requires.config b b1 (g.B.Bay.state c.close_all-spindles.new.bay) t taken last out_is closed.counts (gained_parts state config last.rest b1.told (g.B.Bay.state c.close_all-spindles.new.bay).told closed.faulty) (closed.kept telling)
     (λ old is apart. closed.sound old telling (began telling old is apart) (opened_there tells state config c.requires.config b b1 t taken last out_is telling old is apart))
 
 pub returns-in-Ok-open_volumes-clause-complete : goal.returns-in-Ok-open_volumes-clause-complete
@@ -328,7 +327,8 @@ returns-in-Ok-open_volumes-clause-complete g c =
     let b1 = g.B.Bay.state c.take_out.new.bay in
     λ telling. told_at b.told (λ old is apart sound no_part calm k lt.
     opens_all c.args.config.now c.requires.config old sound g.B.Part.Disk.tells telling g.B.Part.Disk.state b b1 is apart c.open_volumes.new.self
-    (returns-in-Ok-open_volumes-clause-rack g c) (returns-in-Ok-open_volumes-clause-refused g c) (returns-in-Ok-open_volumes-clause-failed g c) no_part calm k lt)
+    (returns-in-Ok-open_volumes-clause-rack g c) (returns-in-Ok-open_volumes-clause-refused g c)
+    (part_failed g.B.Part.Disk.tells g.B.Part.Disk.state c.args.config.now b b1 c.open_volumes.new.self (returns-in-Ok-open_volumes-clause-rack g c).fault_count (returns-in-Ok-open_volumes-clause-refused g c) (returns-in-Ok-open_volumes-clause-failed g c)) no_part calm k lt)
 
 pub returns-in_err-lists-clause-others : goal.returns-in_err-lists-clause-others
 returns-in_err-lists-clause-others g c = others_same c.args.config.now (g.B.Bay.state c.args.bay.now).told

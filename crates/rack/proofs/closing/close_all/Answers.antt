@@ -7,11 +7,11 @@ use Rattle.volume_images.specs.Volumes.{shapes_of}
 use Rattle.rack.proofs.Closable.{stations_may, pools_may, spindles_may, images_rest, images_whole}
 use Rattle.rack.proofs.RackClosed.{none_out, few, out_there, lists_ended}
 use Rattle.rack.proofs.StationClosed.{closed_volume, told_map}
-use Rattle.rack.proofs.PartsThrough.{fault_through}
+use Rattle.rack.proofs.PartsThrough.{fault_through, listed_through}
 use Rattle.rack.proofs.LeftOfParts.{left_parts}
 use Rattle.rack.proofs.QuietClosed.{left_quiet}
 use Rattle.rack.proofs.LeftSound.{left_sound, left_kept}
-use Rattle.rack.proofs.LeftVolumes.{closed_recovers, volume_recovers}
+use Rattle.rack.proofs.LeftVolumes.{closed_recovers, station_opened, volume_recovers}
 use Rattle.rack.proofs.closing.close_all.Goals as goal
 
 pub close_stations-requires : goal.close_stations-requires
@@ -216,7 +216,10 @@ returns-clause-volumes g c = λ entry told began there quiet.
     let few : length (shapes_of config) ≤ 64 = let n = Rattle.std.proofs.lemmas.List.length-map config.volumes.items (Rattle.volume_images.specs.Volumes.shape_in config) in omega (arith, n, c.requires.config.count) in
     let given = subst (λ w. Rattle.volume_images.specs.Left.IsTold (Rattle.rack.specs.Closing.GivesBack state config w.items 0) old.told new.told) c.close_spindles.ensures.images c.give_back.ensures.back in
     told_map (Rattle.rack.specs.Closing.GivesBack state config second.images.items 0) (λ o n. Rattle.rack.specs.Owners.HadRefused config c.args.rack.rest.images.items entry o → Rattle.rack.specs.Closes.LeavesVolumes config c.args.rack entry n) old.told new.told given
-    (λ o n back had images left v. volume_recovers state g.B.Part.Disk.tells told (g.met.B.Part.Disk.told told) g.met.B.Part.Disk.sound config c.requires.config few old c.args.rack can c.close_stations.new.self second is1 c.close_stations.ensures.closed c.close_pools.ensures.images c.close_pools.ensures.spindles o n back entry began there had images left quiet v)
+    (λ o n back had. record {
+      are_opened = station_opened state g.B.Part.Disk.tells config old c.args.rack can c.close_stations.new.self second is1 c.close_stations.ensures.closed c.close_pools.ensures.images c.close_pools.ensures.spindles entry began;
+      each = λ images left v. volume_recovers state g.B.Part.Disk.tells told (g.met.B.Part.Disk.told told) g.met.B.Part.Disk.sound config c.requires.config few old c.args.rack can c.close_stations.new.self second is1 c.close_stations.ensures.closed c.close_pools.ensures.images c.close_pools.ensures.spindles o n back entry began there had images left quiet v;
+    })
 
 pub returns-clause-unopened : goal.returns-clause-unopened
 returns-clause-unopened g c = λ entry told began there.
@@ -259,13 +262,20 @@ returns-clause-others g c =
 
 pub returns-clause-faulty : goal.returns-clause-faulty
 returns-clause-faulty g c =
+    let can = c.requires.rack in
     let state = g.B.Part.Disk.state in
     let config = c.args.config.now in
+    let shared = c.args.rack.shared in
+    let is1 = c.close_stations.ensures.rest config shared (stations_may state config (g.B.Bay.state c.args.bay.now) c.args.rack can) in
     let second = c.close_pools.new.self in
     let old = g.B.Bay.state c.args.bay.now in
     let new = g.B.Bay.state c.give_back.new.bay in
     let given = subst (λ w. Rattle.volume_images.specs.Left.IsTold (Rattle.rack.specs.Closing.GivesBack state config w.items 0) old.told new.told) c.close_spindles.ensures.images c.give_back.ensures.back in
-    told_map (Rattle.rack.specs.Closing.GivesBack state config second.images.items 0) Rattle.rack.specs.Opens.HasFaulty old.told new.told given (λ o n back. (back.more, back.faulty))
+    told_map (Rattle.rack.specs.Closing.GivesBack state config second.images.items 0) (Rattle.rack.specs.Closes.ListsFaulty state config c.args.rack.rest) old.told new.told given (λ o n back. record {
+      more = back.more;
+      more_is = back.faulty;
+      each = listed_through state g.B.Part.Disk.tells config old c.args.rack can c.close_stations.new.self second is1 c.close_stations.ensures.closed c.close_pools.ensures.images c.close_pools.ensures.spindles o n back;
+    })
 
 pub returns-clause-apart : goal.returns-clause-apart
 returns-clause-apart g c =

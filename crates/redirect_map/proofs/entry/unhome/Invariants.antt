@@ -1,4 +1,4 @@
-use Rattle.std.proofs.Common.{deque_capacity, ◌≡◌, ◌+◌, ◌&&◌, nat_lt}
+use Rattle.std.proofs.Common.{◌≡◌, ◌+◌, ◌&&◌, nat_lt}
 use Rattle.std.specs.List.{AllZip}
 use Rattle.redirect_map.specs.Masks.{in_mask}
 use Rattle.redirect_map.specs.Kept.{IsWithout}
@@ -8,4 +8,4 @@ use Rattle.redirect_map.proofs.entry.unhome.Given as goal
 abbrev pub invariant-loop-i : goal.invariant-loop-i
 invariant-loop-i l =
     AllZip (IsWithout (λ b. in_mask l.newer.lbn l.newer.keep b && nat_lt b (l.newer.lbn + l.i))) l.initial.entries.items l.entries.items
-    × (deque_capacity l.entries ≡ deque_capacity l.initial.entries)
+    × (l.entries.room ≡ l.initial.entries.room)

@@ -1,4 +1,4 @@
-use Rattle.std.proofs.Common.{ltb, rules, ℕ, ⊎_elim, get_or, ◌∙◌, sym, arith}
+use Rattle.std.proofs.Common.{ltb, rules, ℕ, ◌≤◌, ◌-◌, length, ⊎_elim, get_or, ◌∙◌, sym, arith}
 use Rattle.std.proofs.lemmas.Bool.{ltb-true, lt-ltb, false≢true, cases_lt}
 use Rattle.std.proofs.lemmas.List.Sorted.{IsPartitionPoint-from_clause, IsPartitionedBy-ltb}
 use Rattle.version_marks.proofs.Masks.{in_order}
@@ -16,3 +16,8 @@ returns-clause-high c = λ k from within.
     let point = IsPartitionPoint-from_clause (λ (v : ℕ). ltb v c.args.version) _ _ c.partition_point.ensures.partitioned parted (λ a r q f. search rules) in
     ⊎_elim (λ less. absurd (false≢true (sym (point.1 k 0 (omega arith) (omega arith)) ∙ lt-ltb (get_or c.args.versions.now k 0) c.args.version less))) (λ more. more)
     (cases_lt (get_or c.args.versions.now k 0) c.args.version)
+
+pub returns-then-versions-count-clause-low : goal.returns-then-versions-count-clause-low
+returns-then-versions-count-clause-low c = λ k less.
+    let last : get_or c.args.versions.now k 0 ≤ get_or c.args.versions.now (length c.args.versions.now - 1) 0 = in_order c.args.versions.now c.requires k (length c.args.versions.now - 1) 0 (omega arith) (omega arith) in
+    omega arith

@@ -13,8 +13,8 @@ returns-in_err-run-clause-read g c = through_then g.D.Disk.state g.met.D.Disk.so
 
 pub returns-in_err-run-clause-needs : goal.returns-in_err-run-clause-needs
 returns-in_err-run-clause-needs g c =
-    let count = c.run_from-source.result.1 in
-    let within : c.runs.done + count ≤ length c.args.out.now = omega (arith, c.run_from-source.ensures.most) in
+    let count = c.newest_run-source.result.1 in
+    let within : c.runs.done + count ≤ length c.args.out.now = omega (arith, c.newest_run-source.ensures.most) in
     let long = part_length c.runs.done count c.runs.out (omega arith) in
     record {
       blocks = c.runs.done + count;
@@ -30,8 +30,8 @@ returns-in_err-run-clause-cause g c =
 
 pub runs-preserved : goal.runs-preserved
 runs-preserved g c =
-    let count = c.run_from-source.result.1 in
-    let within : c.runs.done + count ≤ length c.args.out.now = omega (arith, c.run_from-source.ensures.most) in
+    let count = c.newest_run-source.result.1 in
+    let within : c.runs.done + count ≤ length c.args.out.now = omega (arith, c.newest_run-source.ensures.most) in
     let long = part_length c.runs.done count c.runs.out (omega arith) in
     run_read g.D.Disk.tells g.D.Disk.state g.met.D.Disk.sound c.args.shared.now c.args.self.now c.args.lbn (length c.args.out.now) c.runs.self c.read_run.new.self c.runs.done count _ long c.runs.out c.read_run.new.out c.runs.sources c.in_ok-run.run'
     c.runs.invariant c.requires.up c.read_run.ensures.ready c.read_run.ensures.at c.read_run.ensures.read c.read_run.ensures.look c.read_run.ensures.needs c.in_ok-run.ensures.content c.in_ok-run.ensures.logged c.in_ok-run.ensures.all c.in_ok-run.ensures.calm

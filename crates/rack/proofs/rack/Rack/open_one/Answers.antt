@@ -312,7 +312,7 @@ returns-clause-failed g c = λ have k p less out is.
     ⊎_elim
     (λ before.
     fault_kept g.D.Disk.state config c.requires.config c.requires.rack.0 c.args.said.now c.args.id c.args.self.now said.0 c.requires.rack.1 (omega (arith, within, long)) said.1 c.args.view c.take_opening.new.self
-    c.in_ok-opening.opening takes (record c.take_opening.new.self.rooms { managers = c.push_reserved.new.self }) k (λ e. omega (arith, e, before)) (have k p before was is))
+    c.in_ok-opening.opening takes (record c.take_opening.new.self.rooms { managers = c.push_reserved.new.self }) k p (λ e. omega (arith, e, before)) (have k p before was is))
     (λ none. absurd (let no = ap is_some none in cc (no, was)))
     (tried_before g.D.Disk.state config c.requires.config c.requires.rack.0 c.args.said.now c.args.id c.args.self.now said.0 c.requires.rack.1 (omega (arith, within, long)) said.1 k (Refused (DiskFault p)) is (inl less))
 

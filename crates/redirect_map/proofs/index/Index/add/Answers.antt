@@ -1,41 +1,45 @@
-use Rattle.std.proofs.Common.{nat_eq, ◌≡◌, ◌<◌, ◌≤◌, ◌∙◌, sym, ap, subst, map, arith, [], ◌∷◌, ◌++◌}
+use Rattle.std.proofs.Common.{nat_eq, ◌≡◌, ◌<◌, ◌≤◌, ◌∙◌, sym, ap, subst, map, length, arith, [], ◌∷◌, ◌++◌}
 use Rattle.std.specs.HashMap.{get}
+use Rattle.std.proofs.lemmas.List.{length-append}
 use Rattle.std.specs.List.{AllByRecursion, AllZip}
 use Rattle.wol_model.specs.Log.{marks_of}
 use Rattle.wol_model.specs.Index.{Indexed}
 use Rattle.redirect_map.specs.Runs.{runs_of}
 use Rattle.redirect_map.specs.Index.{Contents}
 use Rattle.redirect_map.specs.Kept.{seen, AreEntries, IsUnhomed}
-use Rattle.redirect_map.proofs.Adding.{IsNew, new_entry, some_run, entries_added, seen_added, zip_length}
+use Rattle.redirect_map.proofs.Adding.{IsNew, new_entry, below_new, some_run, entries_added, seen_added, zip_length}
 use Rattle.redirect_map.proofs.Tabling.{all_added}
 use Rattle.redirect_map.proofs.Celled.{keepers_few}
 use Rattle.version_marks.specs.Marks.{mask_of}
 use Rattle.redirect_map.proofs.Marked.{marks_added}
 use Rattle.redirect_map.proofs.index.Index.add.Goals as goal
 
-pub push_back_reserved-requires : goal.push_back_reserved-requires
-push_back_reserved-requires c =
+pub push-requires-2-clause-newest : goal.push-requires-2-clause-newest
+push-requires-2-clause-newest c = below_new c.args.entry c.self.inside.entries.items c.unhome.new.entries.items c.unhome.ensures.zip (subst (λ (v : Contents). AllByRecursion (λ (d : Indexed). d.listed.version < c.args.entry.version) v.entries) (sym c.self.view_is) c.requires.newest)
+
+pub push-requires-2-clause-room : goal.push-requires-2-clause-room
+push-requires-2-clause-room c =
     let new : IsNew c.args.entry = record { some = c.requires.some; count = c.requires.count; within = c.requires.within; keeps = c.requires.keeps; keep_within = c.requires.keep_within } in
     let room = subst (λ (v : Contents). runs_of (marks_of c.args.entry.count c.args.entry.keep) ≤ v.reserved) (sym c.self.view_is) c.requires.reserved in
     let one = some_run c.args.entry new in
-    omega (arith, room, one, c.unhome.ensures.room, c.unhome.new.entries.ok.0, c.self.inside.entries.ok.0, zip_length c.args.entry c.self.inside.entries.items c.unhome.new.entries.items c.unhome.ensures.zip)
+    omega (arith, room, one, c.unhome.ensures.room)
 
 pub mark_all_exactly-requires-clause-entries : goal.mark_all_exactly-requires-clause-entries
 unfolding new_entry
-mark_all_exactly-requires-clause-entries c = subst AreEntries (sym c.push_back_reserved.ensures.items) (entries_added c.args.entry c.self.inside.entries.items c.unhome.new.entries.items c.self.invariant.0 c.unhome.ensures.zip (record { some = c.requires.some; count = c.requires.count; within = c.requires.within; keeps = c.requires.keeps; keep_within = c.requires.keep_within }) (subst (λ (v : Contents). AllByRecursion (λ (d : Indexed). d.listed.version < c.args.entry.version) v.entries) (sym c.self.view_is) c.requires.newest))
+mark_all_exactly-requires-clause-entries c = subst AreEntries (sym c.push-2.ensures.items) (entries_added c.args.entry c.self.inside.entries.items c.unhome.new.entries.items c.self.invariant.0 c.unhome.ensures.zip (record { some = c.requires.some; count = c.requires.count; within = c.requires.within; keeps = c.requires.keeps; keep_within = c.requires.keep_within }) (subst (λ (v : Contents). AllByRecursion (λ (d : Indexed). d.listed.version < c.args.entry.version) v.entries) (sym c.self.view_is) c.requires.newest))
 
 pub mark_all_exactly-requires-clause-marked : goal.mark_all_exactly-requires-clause-marked
 unfolding new_entry
-mark_all_exactly-requires-clause-marked c = marks_added c.args.entry c.self.inside.entries.items c.unhome.new.entries.items c.push_back_reserved.new.self.items (get nat_eq c.self.inside.blocks) (get nat_eq c.cover.new.blocks)
-    (mask_of c.self.inside.marks) (mask_of c.mark_blocks.new.marks) (mask_of c.push.new.self) c.new_mask.result c.unhome.ensures.zip c.push_back_reserved.ensures.items
+mark_all_exactly-requires-clause-marked c = marks_added c.args.entry c.self.inside.entries.items c.unhome.new.entries.items c.push-2.new.self.items (get nat_eq c.self.inside.blocks) (get nat_eq c.cover.new.blocks)
+    (mask_of c.self.inside.marks) (mask_of c.mark_blocks.new.marks) (mask_of c.push.new.self) c.new_mask.result c.unhome.ensures.zip c.push-2.ensures.items
     (subst (λ (v : Contents). AllByRecursion (λ (d : Indexed). d.listed.version < c.args.entry.version) v.entries) (sym c.self.view_is) c.requires.newest)
     c.self.invariant.2 c.mark_blocks.ensures.more c.mark_blocks.ensures.begun c.cover.ensures.cells c.push.ensures.masks c.new_mask.ensures.there c.new_mask.ensures.due
 
 pub invariant_of-self : goal.invariant_of-self
 unfolding new_entry
 invariant_of-self c = (
-  subst AreEntries (sym c.push_back_reserved.ensures.items) (entries_added c.args.entry c.self.inside.entries.items c.unhome.new.entries.items c.self.invariant.0 c.unhome.ensures.zip (record { some = c.requires.some; count = c.requires.count; within = c.requires.within; keeps = c.requires.keeps; keep_within = c.requires.keep_within }) (subst (λ (v : Contents). AllByRecursion (λ (d : Indexed). d.listed.version < c.args.entry.version) v.entries) (sym c.self.view_is) c.requires.newest)),
-  all_added c.args.entry c.self.inside.entries.items c.unhome.new.entries.items c.push_back_reserved.new.self.items (get nat_eq c.self.inside.blocks) (get nat_eq c.cover.new.blocks) c.unhome.ensures.zip c.push_back_reserved.ensures.items c.self.invariant.1 c.cover.ensures.cells,
+  subst AreEntries (sym c.push-2.ensures.items) (entries_added c.args.entry c.self.inside.entries.items c.unhome.new.entries.items c.self.invariant.0 c.unhome.ensures.zip (record { some = c.requires.some; count = c.requires.count; within = c.requires.within; keeps = c.requires.keeps; keep_within = c.requires.keep_within }) (subst (λ (v : Contents). AllByRecursion (λ (d : Indexed). d.listed.version < c.args.entry.version) v.entries) (sym c.self.view_is) c.requires.newest)),
+  all_added c.args.entry c.self.inside.entries.items c.unhome.new.entries.items c.push-2.new.self.items (get nat_eq c.self.inside.blocks) (get nat_eq c.cover.new.blocks) c.unhome.ensures.zip c.push-2.ensures.items c.self.invariant.1 c.cover.ensures.cells,
   c.mark_all_exactly.ensures.marked,
 )
 
@@ -48,13 +52,13 @@ push-requires c =
 
 pub returns-clause-entries : goal.returns-clause-entries
 unfolding new_entry
-returns-clause-entries c = rw (← c.self.view_is) (ap (map seen) c.push_back_reserved.ensures.items ∙ seen_added c.args.entry c.self.inside.entries.items c.unhome.new.entries.items (record { some = c.requires.some; count = c.requires.count; within = c.requires.within; keeps = c.requires.keeps; keep_within = c.requires.keep_within }) c.unhome.ensures.zip)
+returns-clause-entries c = rw (← c.self.view_is) (ap (map seen) c.push-2.ensures.items ∙ seen_added c.args.entry c.self.inside.entries.items c.unhome.new.entries.items (record { some = c.requires.some; count = c.requires.count; within = c.requires.within; keeps = c.requires.keeps; keep_within = c.requires.keep_within }) c.unhome.ensures.zip)
 
 pub returns-clause-room : goal.returns-clause-room
 returns-clause-room c =
     let new : IsNew c.args.entry = record { some = c.requires.some; count = c.requires.count; within = c.requires.within; keeps = c.requires.keeps; keep_within = c.requires.keep_within } in
     let one = some_run c.args.entry new in
-    rw (← c.self.view_is, c.push_back_reserved.ensures.capacity, c.push_back_reserved.ensures.len) (omega (arith, one, c.unhome.ensures.room, c.unhome.new.entries.ok.0, c.self.inside.entries.ok.0, zip_length c.args.entry c.self.inside.entries.items c.unhome.new.entries.items c.unhome.ensures.zip, c.cover.ensures.spare, c.requires.count, c.push.ensures.room, c.mark_blocks.ensures.room, c.mark_all_exactly.ensures.room))
+    rw (← c.self.view_is) (omega (arith, one, c.unhome.ensures.room, c.push-2.ensures.room, c.cover.ensures.spare, c.requires.count, c.push.ensures.room, c.mark_blocks.ensures.room, c.mark_all_exactly.ensures.room))
 
 pub cover-requires-clause-spare : goal.cover-requires-clause-spare
 cover-requires-clause-spare c =
@@ -64,9 +68,8 @@ cover-requires-clause-spare c =
     omega (arith, room, one, c.requires.count)
 
 pub cover-requires-clause-few : goal.cover-requires-clause-few
+unfolding new_entry
 cover-requires-clause-few c = λ b.
-    let new : IsNew c.args.entry = record { some = c.requires.some; count = c.requires.count; within = c.requires.within; keeps = c.requires.keeps; keep_within = c.requires.keep_within } in
-    let room = subst (λ (v : Contents). runs_of (marks_of c.args.entry.count c.args.entry.keep) ≤ v.reserved) (sym c.self.view_is) c.requires.reserved in
-    let one = some_run c.args.entry new in
     let few = keepers_few c.self.inside.entries.items b in
-    rw (c.self.invariant.1 b) (omega (arith, few, c.self.inside.entries.ok.0, c.self.inside.entries.small))
+    let same = zip_length c.args.entry c.self.inside.entries.items c.unhome.new.entries.items c.unhome.ensures.zip in
+    rw (c.self.invariant.1 b) (omega (arith, few, same, c.push-2.ensures.few, ap length c.push-2.ensures.items, length-append c.unhome.new.entries.items (new_entry c.args.entry ∷ [])))

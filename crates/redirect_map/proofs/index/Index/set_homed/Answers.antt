@@ -1,43 +1,57 @@
-use Rattle.std.proofs.Common.{◌≡◌, ◌+◌, ℕ, true, sym, ap, subst, refl, ◌∙◌, set, nat_eq}
+use Rattle.std.proofs.Common.{◌≡◌, ◌+◌, ℕ, true, List, Option, IsSome, map, sym, ap, subst, refl, ◌∙◌, set, nat_eq}
 use Rattle.std.specs.Option.{ForSome}
 use Rattle.wol_model.specs.Log.{has_bit}
 use Rattle.wol_model.specs.Index.{listed_in, is_live}
 use Rattle.redirect_map.specs.Index.{Contents, HasVersion, entry_at}
-use Rattle.redirect_map.proofs.Answering.{is_there, place_is}
+use Rattle.redirect_map.proofs.Answering.{is_there}
 use Rattle.redirect_map.proofs.Changing.{homed_entry, entries_homed, changed_homed}
 use Rattle.redirect_map.proofs.Celled.{cell_set_same}
 use Rattle.std.specs.HashMap.{get}
 use Rattle.version_marks.specs.Marks.{mask_of}
-use Rattle.redirect_map.specs.Marked.{there_bit}
+use Rattle.redirect_map.specs.Cells.{AreTabled}
+use Rattle.redirect_map.specs.declared.entry.Entry.{Entry}
+use Rattle.redirect_map.specs.Kept.{seen, AreEntries}
+use Rattle.redirect_map.specs.Marked.{there_bit, AreMarked}
 use Rattle.redirect_map.proofs.Answering.{range_at}
 use Rattle.redirect_map.proofs.Marked.{get_set_here, marks_set}
+use Rattle.redirect_map.specs.Listing.{place_in}
+use Rattle.redirect_map.proofs.Listing.{found_at}
 use Rattle.redirect_map.proofs.index.Index.set_homed.Goals as goal
 
-pub place_of-place-requires-clause-rising : goal.place_of-place-requires-clause-rising
-place_of-place-requires-clause-rising c = c.self.invariant.0.rising
+pub unwrap-entry-requires : goal.unwrap-entry-requires
+unwrap-entry-requires c = subst (λ (o : Option Entry). IsSome o) (sym c.get.ensures) (is_there c.self.inside.entries.items c.args.version (subst (λ (v : Contents). HasVersion v.entries c.args.version) (sym c.self.view_is) c.requires.there))
 
-pub place_of-place-requires-clause-there : goal.place_of-place-requires-clause-there
-place_of-place-requires-clause-there c = (is_there c.self.inside.entries.items c.args.version (subst (λ (v : Contents). HasVersion v.entries c.args.version) (sym c.self.view_is) c.requires.there))
+pub replace-requires-clause-there : goal.replace-requires-clause-there
+replace-requires-clause-there c = is_there c.self.inside.entries.items c.args.version (subst (λ (v : Contents). HasVersion v.entries c.args.version) (sym c.self.view_is) c.requires.there)
+
+pub replace-requires-clause-same : goal.replace-requires-clause-same
+replace-requires-clause-same c = (found_at c.self.inside.entries.items c.args.version c.unwrap-entry.result (sym c.get.ensures ∙ c.unwrap-entry.ensures)).version_is
+
+pub replace-requires-clause-keeps : goal.replace-requires-clause-keeps
+replace-requires-clause-keeps c =
+    let at = found_at c.self.inside.entries.items c.args.version c.unwrap-entry.result (sym c.get.ensures ∙ c.unwrap-entry.ensures) in
+    (range_at c.self.inside.entries.items (place_in c.args.version c.self.inside.entries.items) c.unwrap-entry.result c.self.invariant.0 at.at).keeps
 
 pub exact_mask-requires : goal.exact_mask-requires
 unfolding homed_entry
 exact_mask-requires c =
-    let at = (place_is c.self.inside.entries.items c.self.inside.entries.items c.args.version c.place_of-place.result c.index.result.now refl c.place_of-place.ensures.found c.place_of-place.ensures.within c.index.ensures) in
-    range_at (set c.self.inside.entries.items c.place_of-place.result (homed_entry c.index.result.now c.args.mask)) c.place_of-place.result (homed_entry c.index.result.now c.args.mask)
-    (entries_homed c.self.inside.entries.items c.args.version c.place_of-place.result c.index.result.now c.args.mask c.self.invariant.0 at (subst (λ (v : Contents). ForSome (entry_at v.entries c.args.version) (λ e. (i : ℕ) → has_bit c.args.mask i ≡ true → is_live (listed_in v.entries) e.listed (e.listed.first + i) ≡ true)) (sym c.self.view_is) c.requires.live))
-    (get_set_here c.self.inside.entries.items c.place_of-place.result (homed_entry c.index.result.now c.args.mask) c.index.result.now at.at)
+    let at = (found_at c.self.inside.entries.items c.args.version c.unwrap-entry.result (sym c.get.ensures ∙ c.unwrap-entry.ensures)) in
+    range_at (set c.self.inside.entries.items (place_in c.args.version c.self.inside.entries.items) (homed_entry c.unwrap-entry.result c.args.mask)) (place_in c.args.version c.self.inside.entries.items) (homed_entry c.unwrap-entry.result c.args.mask)
+    (entries_homed c.self.inside.entries.items c.args.version (place_in c.args.version c.self.inside.entries.items) c.unwrap-entry.result c.args.mask c.self.invariant.0 at (subst (λ (v : Contents). ForSome (entry_at v.entries c.args.version) (λ e. (i : ℕ) → has_bit c.args.mask i ≡ true → is_live (listed_in v.entries) e.listed (e.listed.first + i) ≡ true)) (sym c.self.view_is) c.requires.live))
+    (get_set_here c.self.inside.entries.items (place_in c.args.version c.self.inside.entries.items) (homed_entry c.unwrap-entry.result c.args.mask) c.unwrap-entry.result at.at)
 
 pub invariant_of-self : goal.invariant_of-self
 unfolding homed_entry
 invariant_of-self c =
-    let at = (place_is c.self.inside.entries.items c.self.inside.entries.items c.args.version c.place_of-place.result c.index.result.now refl c.place_of-place.ensures.found c.place_of-place.ensures.within c.index.ensures) in (
-      entries_homed c.self.inside.entries.items c.args.version c.place_of-place.result c.index.result.now c.args.mask c.self.invariant.0 at (subst (λ (v : Contents). ForSome (entry_at v.entries c.args.version) (λ e. (i : ℕ) → has_bit c.args.mask i ≡ true → is_live (listed_in v.entries) e.listed (e.listed.first + i) ≡ true)) (sym c.self.view_is) c.requires.live),
-      (λ b. c.self.invariant.1 b ∙ sym (cell_set_same c.self.inside.entries.items c.place_of-place.result c.index.result.now (homed_entry c.index.result.now c.args.mask) b at.at refl refl)),
-      marks_set c.self.inside.entries.items (get nat_eq c.self.inside.blocks) (mask_of c.self.inside.marks) (mask_of c.set.new.self) c.place_of-place.result c.args.version c.exact_mask.result c.index.result.now (homed_entry c.index.result.now c.args.mask)
-          c.self.invariant.0.rising at.at at.version_is at.version_is (ap (λ (v : ℕ). has_bit (mask_of c.self.inside.marks v) there_bit) (sym at.version_is) ∙ (c.self.invariant.2 c.place_of-place.result c.index.result.now at.at).there)
+    let at = (found_at c.self.inside.entries.items c.args.version c.unwrap-entry.result (sym c.get.ensures ∙ c.unwrap-entry.ensures)) in
+    subst (λ (es : List Entry). AreEntries es × AreTabled es c.self.inside.blocks × AreMarked es (get nat_eq c.self.inside.blocks) (mask_of c.set.new.self)) (sym c.replace.ensures.items) (
+      entries_homed c.self.inside.entries.items c.args.version (place_in c.args.version c.self.inside.entries.items) c.unwrap-entry.result c.args.mask c.self.invariant.0 at (subst (λ (v : Contents). ForSome (entry_at v.entries c.args.version) (λ e. (i : ℕ) → has_bit c.args.mask i ≡ true → is_live (listed_in v.entries) e.listed (e.listed.first + i) ≡ true)) (sym c.self.view_is) c.requires.live),
+      (λ b. c.self.invariant.1 b ∙ sym (cell_set_same c.self.inside.entries.items (place_in c.args.version c.self.inside.entries.items) c.unwrap-entry.result (homed_entry c.unwrap-entry.result c.args.mask) b at.at refl refl)),
+      marks_set c.self.inside.entries.items (get nat_eq c.self.inside.blocks) (mask_of c.self.inside.marks) (mask_of c.set.new.self) (place_in c.args.version c.self.inside.entries.items) c.args.version c.exact_mask.result c.unwrap-entry.result (homed_entry c.unwrap-entry.result c.args.mask)
+          c.self.invariant.0.rising at.at at.version_is at.version_is (ap (λ (v : ℕ). has_bit (mask_of c.self.inside.marks v) there_bit) (sym at.version_is) ∙ (c.self.invariant.2 (place_in c.args.version c.self.inside.entries.items) c.unwrap-entry.result at.at).there)
           c.set.ensures.masks c.exact_mask.ensures (λ j d found there. c.self.invariant.2 j d there),
     )
 
 pub returns-clause-entries : goal.returns-clause-entries
 unfolding homed_entry
-returns-clause-entries c = rw (← c.self.view_is) (changed_homed c.self.inside.entries.items c.args.version c.place_of-place.result c.index.result.now c.args.mask c.self.invariant.0 (place_is c.self.inside.entries.items c.self.inside.entries.items c.args.version c.place_of-place.result c.index.result.now refl c.place_of-place.ensures.found c.place_of-place.ensures.within c.index.ensures))
+returns-clause-entries c = rw (← c.self.view_is) (ap (map seen) c.replace.ensures.items ∙ changed_homed c.self.inside.entries.items c.args.version (place_in c.args.version c.self.inside.entries.items) c.unwrap-entry.result c.args.mask c.self.invariant.0 (found_at c.self.inside.entries.items c.args.version c.unwrap-entry.result (sym c.get.ensures ∙ c.unwrap-entry.ensures)))

@@ -5,8 +5,8 @@ use Rattle.redirect_map.specs.declared.entry.Entry.{Entry}
 use Rattle.redirect_map.specs.Kept.{is_version}
 use Rattle.redirect_map.proofs.Answering.{same_version}
 use Rattle.redirect_map.proofs.Search.{not_there}
-use Rattle.redirect_map.proofs.entry.position_of.Goals as goal
-use Rattle.redirect_map.proofs.entry.position_of.Goals.{else-place-len-via-then-place-len+else-index-version, else-place-len-via-else-place-len}
+use Rattle.redirect_map.proofs.entry.searched.Goals as goal
+use Rattle.redirect_map.proofs.entry.searched.Goals.{else-place-len-via-then-place-len+else-index-version, else-place-len-via-else-place-len}
 
 blank : Entry
 blank = record { «record» = record { version = 0; lbn = 0; count = 0; keep = 0; lane = 0; segment = 0; pos = 0 }; homed = 0 }

@@ -1,0 +1,95 @@
+-- The part that refuses a volume: it is here with a fault, or it came back with one.
+use Rattle.std.proofs.Common.{◌≡◌, ◌⊎◌, inl, inr, ⊎_elim, ℕ, ◌+◌, List, ◌++◌, length, Option, None, Some, refl, sym, ap, subst, ◌∙◌, append_assoc, arith}
+use Rattle.std.specs.Prelude.{slice_get, Contains}
+use Rattle.std.proofs.lemmas.List.{length-map}
+use Rattle.std.proofs.lemmas.List.Elements.{Contains-append_right}
+use Rattle.std.proofs.lemmas.Option.{slice_get_within}
+use Rattle.wol_disk.specs.Disk.{State, Rose}
+use Rattle.wol_bay.specs.Bay.{BayState, Name, Told}
+use Rattle.wol_config.specs.declared.config.Config.{Config}
+use Rattle.wol_config.specs.declared.config.VolumeConf.{VolumeConf}
+use Rattle.spin_model.specs.declared.spun.Spun.{Spun}
+use Rattle.manager.specs.declared.part.Part.{Part}
+use Rattle.manager.specs.declared.part.Part.TheVariants as part
+use Rattle.manager_recovery.specs.declared.refusal.OpenRefusal.TheVariants.{DiskFault}
+use Rattle.volume_images.specs.Left.{AreNamedApart, IsTold}
+use Rattle.volume_images.specs.Refusals.{IsCallFault}
+use Rattle.volume_images.specs.Volumes.{shape_in, shapes_of}
+use Rattle.volume_images.specs.declared.reading.ImageFault.{ImageFault}
+use Rattle.volume_images.specs.declared.reading.ImageFault.TheVariants as fault
+use Rattle.rack.specs.Closes.{CameBackFaulty, HasFaultAt, HasFaultIn, IsNamedHere, IsPartHere, ListsFaulty, place_in}
+use Rattle.rack.specs.Opens.{AreRefused, HasFaulty, HasNewFault, RefusesImage, fault_in_image}
+use Rattle.rack.specs.Rests.{IsImageOut}
+use Rattle.rack.specs.declared.rack.Rack.{Rack}
+use Rattle.rack.specs.declared.rack.Rest.{Rest}
+use Rattle.rack.specs.declared.volume_fault.VolumeFault.TheVariants.{Refused}
+use Rattle.rack.proofs.Asking.{some_at}
+use Rattle.rack.proofs.NewFaults.{told_each}
+
+-- a fault of a disk that refuses an image comes of a call that failed
+pub call_failed : (k : ℕ) (p : Part) (f : ImageFault) → Refused (DiskFault p) ≡ fault_in_image k f → IsCallFault f
+call_failed k p (fault.Damaged block) e = absurd (cc e)
+call_failed k p fault.LabelDiffers e = absurd (cc e)
+call_failed k p fault.LabelFault e = absurd (cc e)
+call_failed k p (fault.SegmentFault index) e = tt
+
+-- the part of a name is a part
+pub fault_in : {D : Type 0} (state : D → State) (r : Rest D) (name : Part) → HasFaultAt state r name → HasFaultIn state r
+fault_in {D} state r name has = record { part = has.part; here = go name has.here; fault = has.fault }
+  where
+    go : (n : Part) → IsNamedHere r n has.part → IsPartHere r has.part
+    go (part.Home volume) x = inl (volume, x.0, x.1, inr x.2)
+    go (part.Segment volume index) x = inr (volume, index, x)
+
+-- a volume that is refused for a fault of a disk: a part is here that had one, or the bay's count rose
+pub part_failed : {D : Type 0} (tells : Rattle.std.specs.Prelude.Bool) (state : D → State) (config : Config) (old new : BayState) (r : Rack D) → length r.faults.items ≡ length (shapes_of config) → AreRefused tells state config old new r
+    → ((k : ℕ) (p : Part) → slice_get r.faults.items k ≡ Some (Some (Refused (DiskFault p))) → IsImageOut r.rest.images.items k → HasFaultAt state r.rest p)
+    → (k : ℕ) (p : Part) → slice_get r.faults.items k ≡ Some (Some (Refused (DiskFault p))) → HasFaultIn state r.rest ⊎ Rose old.faults new.faults
+part_failed tells state config old new r count refused failed k p at =
+    let within = slice_get_within r.faults.items k (Some (Refused (DiskFault p))) at in
+    let v = some_at config.volumes.items k (let n = length-map config.volumes.items (shape_in config) in omega (arith, within, count, n)) in
+    ⊎_elim
+    (λ image. inr (image.cause (call_failed k p image.image_fault image.is_fault)))
+    (λ opening. inl (fault_in state r.rest p (failed k p at opening.is_out)))
+    (refused k v.0 (Refused (DiskFault p)) v.1 at)
+
+-- closing lists more parts
+pub gained_parts : {D : Type 0} (state : D → State) (config : Config) (r : Rest D) (o n : Option Told) → IsTold (ListsFaulty state config r) o n → IsTold HasFaulty o n
+gained_parts state config r o n = told_each (ListsFaulty state config r) HasFaulty o n (λ x y l. (l.more, l.more_is))
+
+-- a part of this image that failed came back with a fault
+image_part : (config : Config) (k : ℕ) (p : Part) (v : VolumeConf) (f : ImageFault) (old new : Told) → slice_get config.volumes.items k ≡ Some v → Refused (DiskFault p) ≡ fault_in_image k f → HasNewFault v.name f old new → CameBackFaulty config p old new
+image_part config k p v (fault.Damaged block) old new at e has = absurd (cc e)
+image_part config k p v fault.LabelDiffers old new at e has = absurd (cc e)
+image_part config k p v fault.LabelFault old new at e has = absurd (cc e)
+image_part config k p v (fault.SegmentFault index) old new at e has =
+    let same : p ≡ part.Segment k index = cc e in
+    subst (λ (q : Part). CameBackFaulty config q old new) (sym same) (has.more, has.more_is, (v, at, has.among))
+
+-- The part that refuses a volume came back with a fault, once the rack was closed.
+pub part_came_back : {D : Type 0} (tells : Rattle.std.specs.Prelude.Bool) (state : D → State) (config : Config) (old bay new : BayState) (r : Rack D) → length r.faults.items ≡ length (shapes_of config) → AreRefused tells state config old new r
+    → ((k : ℕ) (p : Part) → slice_get r.faults.items k ≡ Some (Some (Refused (DiskFault p))) → IsImageOut r.rest.images.items k → HasFaultAt state r.rest p)
+    → IsTold (λ x y. AreNamedApart y) old.told bay.told → IsTold HasFaulty old.told bay.told → IsTold (ListsFaulty state config r.rest) bay.told new.told
+    → (k : ℕ) (p : Part) → slice_get r.faults.items k ≡ Some (Some (Refused (DiskFault p))) → IsTold (CameBackFaulty config p) old.told new.told
+part_came_back tells state config old bay new r count refused failed apart first then k p at =
+    let within = slice_get_within r.faults.items k (Some (Refused (DiskFault p))) at in
+    let v = some_at config.volumes.items k (let n = length-map config.volumes.items (shape_in config) in omega (arith, within, count, n)) in
+    ⊎_elim
+    (λ image. told_each (HasNewFault v.0.name image.image_fault) (CameBackFaulty config p) old.told new.told
+    (λ x y has. image_part config k p v.0 image.image_fault x y v.1 image.is_fault has) (image.faulty (call_failed k p image.image_fault image.is_fault)))
+    (λ opening. behind old.told bay.told new.told apart first then (failed k p at opening.is_out))
+    (refused k v.0 (Refused (DiskFault p)) v.1 at)
+  where
+    behind : (e o n : Option Told) → IsTold (λ x y. AreNamedApart y) e o → IsTold HasFaulty e o → IsTold (ListsFaulty state config r.rest) o n → HasFaultAt state r.rest p → IsTold (CameBackFaulty config p) e n
+    behind None None n named had lists has = lists
+    behind None (Some o) n named had lists has = absurd (cc named)
+    behind (Some e) None n named had lists has = absurd named
+    behind (Some e) (Some o) None named had lists has = absurd lists
+    behind (Some e) (Some o) (Some n) named had lists has = λ apart.
+        let before = had apart in
+        let l = lists (named apart) in
+        let x = l.each p has in (
+          before.0 ++ l.more,
+          l.more_is ∙ ap (λ (fs : List (Name × ℕ)). fs ++ l.more) before.1 ∙ append_assoc e.faulty before.0 l.more,
+          (x.0, x.1, Contains-append_right before.0 l.more (x.0.name, place_in p) x.2),
+        )
