@@ -1,5 +1,5 @@
 -- The account holds of the program's runs, by the text and the status that end them.
-use Rattle.std.proofs.Common.{ℕ, Bool, List, ◌++◌, Option, Result, inl, inr}
+use Rattle.std.proofs.Common.{ℕ, Bool, List, ◌++◌, Option, Result, inl, inr, ◌∙◌}
 use Rattle.wol_disk.specs.Disk.{State}
 use Rattle.wol_bay.specs.Bay.{BayState}
 use Rattle.wol_config.specs.declared.config.Config.{Config}
@@ -12,13 +12,13 @@ use Rattle.replay.specs.declared.stop.Stop.{Stop}
 use Rattle.replay.proofs.AccountKept.{keeps_account}
 use Rattle.wol_run.specs.Accounted.{RunsAccount}
 use Rattle.wol_run.specs.Replaying.{EndsReplay, GivenLines, RunsReplay}
-use Rattle.wol_run.proofs.HeadlineTold.{not_begun_ends, of_success, on_told, same_taken}
+use Rattle.wol_run.proofs.HeadlineTold.{not_begun_ends, of_success, on_told, same_status, same_taken}
 
 module _ {D S T : Type 0} (tells : Bool) (state : D → State) (left : S → Option (List ℕ)) (config : Config) (mode : Reclaim) (start now : Given S) (old new : BayState) (result : Result T Stop) (status : ℕ) (taken then taken' : Option (List ℕ)) where
   account_ends : KeepsAccount tells state left config mode start now old new (status_in result) taken then → EndsReplay config result status then taken' → KeepsAccount tells state left config mode start now old new status taken taken'
   account_ends (inl none) ends = inl (not_begun_ends tells state config start now old new result status taken then taken' none ends)
   account_ends (inr keeps) ends = inr (λ telling. on_told
-      (λ entry exit. Account left config mode start now entry (status_in result) taken then) (λ entry exit. Account left config mode start now entry status taken taken') old.told new.told (keeps telling)
+      (λ entry exit. Account left config mode start now entry exit (status_in result) taken then) (λ entry exit. Account left config mode start now entry exit status taken taken') old.told new.told (keeps telling)
       (λ entry exit a. record {
         lines = a.lines;
         given = a.given;
@@ -28,6 +28,9 @@ module _ {D S T : Type 0} (tells : Bool) (state : D → State) (left : S → Opt
         histories = a.histories;
         count = a.count;
         each_volume = a.each_volume;
+        disks = λ not_7 not_9.
+            let same = same_status config result status then taken' ends not_7 not_9 in
+            a.disks (λ is. not_7 (same ∙ is)) (λ is. not_9 (same ∙ is));
         unbroken = λ zero_is. a.unbroken (of_success config result status then taken' ends zero_is);
         printed = λ zero_is. (
             let (before, summary, is, appends) = a.printed (of_success config result status then taken' ends zero_is) in

@@ -65,6 +65,15 @@ of_success config (Err (stop.Fault f)) status then taken' (inl (inr (is, more)))
 of_success config (Err (stop.Fault f)) status then taken' (inr (inl (is, more))) zero_is = absurd (omega (arith, is, zero_is))
 of_success config (Err (stop.Fault f)) status then taken' (inr (inr (is, more))) zero_is = absurd (omega (arith, is, zero_is))
 
+-- a status that isn't the sink's or that of want of memory is that of the run
+pub same_status : {T : Type 0} (config : Config) (result : Result T Stop) (status : ℕ) (then taken' : Option (List ℕ)) → EndsReplay config result status then taken' → status ≢ 7 → status ≢ 9 → status ≡ status_in result
+same_status config (Ok done) status then taken' (is, same) not_7 not_9 = is
+same_status config (Err stop.Sink) status then taken' (is, same) not_7 not_9 = is
+same_status config (Err (stop.Fault f)) status then taken' (inl (inl (is, more))) not_7 not_9 = is
+same_status config (Err (stop.Fault f)) status then taken' (inl (inr (is, more))) not_7 not_9 = absurd (not_7 is)
+same_status config (Err (stop.Fault f)) status then taken' (inr (inl (is, more))) not_7 not_9 = absurd (not_9 is)
+same_status config (Err (stop.Fault f)) status then taken' (inr (inr (is, more))) not_7 not_9 = absurd (not_7 is)
+
 -- behind such a run nothing more was written
 pub same_taken : {T : Type 0} (config : Config) (result : Result T Stop) (status : ℕ) (taken then taken' : Option (List ℕ)) (text : List ℕ) → EndsReplay config result status then taken' → status ≡ 0 → Appends taken then text → Appends taken taken' text
 same_taken config (Ok done) status taken then taken' text (is, same) zero_is appends = subst (λ (t : Option (List ℕ)). Appends taken t text) (sym same) appends
@@ -89,6 +98,7 @@ keeps_ends tells state left config each start now old new result status taken th
 keeps_ends tells state left config each start now old new result status taken then taken' (inr keeps) ends = inr (λ telling. on_told
     (λ entry exit. Headline left config each start now entry exit old.faults new.faults (status_in result) taken then) (λ entry exit. Headline left config each start now entry exit old.faults new.faults status taken taken') old.told new.told (keeps telling)
     (λ entry exit h. record {
+      open_ = h.open_;
       lines = h.lines;
       given = h.given;
       answers = h.answers;

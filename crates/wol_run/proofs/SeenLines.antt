@@ -99,6 +99,9 @@ module _ {S T : Type 0} (tells : Bool) (left : S → Option (List ℕ)) (config 
       summary = is.summary;
       summary_is = summary_seen is.run (is.earlier ++ is.last) is.awake r is.summary is.summary_is;
       prints = is.prints;
+      ahead = is.ahead;
+      open_ = is.open_;
+      disks = is.disks;
     })
 
 -- ---- Sources
