@@ -57,7 +57,7 @@ check_sizes() {
         awk -v document="$document" '
             function end_paragraph() { if (words > 120) print document ":" start ": a paragraph of " words " words"; words = 0 }
             /^```/ { code = !code; end_paragraph(); next }
-            code || /^$/ || /^#/ || /^    [^ ]/ { end_paragraph(); next }
+            code || /^$/ || /^#/ || /^    / { end_paragraph(); next }
             /^[|]/ || /^[-*] / || /^[0-9]+[.] / { end_paragraph() }
             { if (words == 0) start = NR; words += NF }
             END { end_paragraph() }

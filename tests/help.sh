@@ -62,8 +62,8 @@ usage_and_version() {
         wol $words
         expect "[$words]: status" 1 "$status"
         expect "[$words]: output" "fault 1 words" "$(cat "$room/out")"
-        expect "[$words]: lines of the usage" 14 "$(errors | wc -l)"
-        for command in format replay check dump whatif clean gen soak solo view-add view-remove; do
+        expect "[$words]: lines of the usage" 15 "$(errors | wc -l)"
+        for command in format replay check dump whatif clean nbd gen soak solo view-add view-remove; do
             expect "[$words]: the usage has $command" 1 "$(errors | grep -c "^  wol $command")"
         done
     done
@@ -100,6 +100,10 @@ statuses() {
     expect_advice "a full output" 7
     wol view-add usr0 nobody
     expect_advice "no volume of this name" 15
+    timeout 60 "${program[@]}" nbd usr0 <wol.toml >"$room/out" 2>"$room/errors"
+    status=$?
+    expect_advice "a client that sends no requests" 14
+    expect "a client that sends no requests: output" "" "$(cat "$room/out")"
     rm wol.toml
     wol check
     expect_advice "no file wol.toml" 8

@@ -111,6 +111,13 @@ closed_streams() {
         done
     done
     fresh
+    run_with_closed 0 "nbd usr0"
+    expect "[nbd usr0] with {0} closed: status" 8 $?
+    expect "[nbd usr0] with {0} closed: output" "" "$(cat "$room/out")"
+    expect "[nbd usr0] with {0} closed: images" "$(images "$room/model")" "$(images .)"
+    run_with_closed 1 "nbd usr0"
+    expect "[nbd usr0] with {1} closed: status" 7 $?
+    fresh
     run_with_closed 0 "nonsense"
     expect "[nonsense] with {0} closed: status" 1 $?
     run_with_closed 1 "nonsense"

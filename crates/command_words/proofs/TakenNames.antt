@@ -4,10 +4,11 @@ use Rattle.clap.proofs.OnLiterals.{clap_on_literals}
 use Rattle.clap.specs.Simple.{Shape, built}
 use Rattle.clap.specs.Walk.{Held, nothing_held}
 use Rattle.clap.specs.Words.{App, Row, Text, new_app}
-use Rattle.command_words.specs.Application.{the_app, with_names}
-use Rattle.command_words.specs.Laws.{ViewAddIsCommand, ViewRemoveIsCommand}
+use Rattle.command_words.specs.Application.{the_app, with_name, with_names}
+use Rattle.command_words.specs.Laws.{NbdIsCommand, ViewAddIsCommand, ViewRemoveIsCommand}
 use Rattle.command_words.specs.Table.{Named}
-use Rattle.command_words.specs.declared.command.Command.TheVariants.{ViewAdd, ViewRemove}
+use Rattle.command_words.specs.declared.command.Command.TheVariants.{Nbd, ViewAdd, ViewRemove}
+use Rattle.command_words.specs.declared.command.ServedName.{ServedName}
 use Rattle.command_words.specs.declared.command.ViewNames.{ViewNames}
 use Rattle.command_words.proofs.Rows.{given_row}
 use Rattle.command_words.proofs.Steps.{Holds, Leads, by_place, filled, filled_holds, leads_on, standing}
@@ -87,3 +88,32 @@ view_remove_is_command words named is = (
       (takes_remove named.volume named.logger (plain_name named.volume is.volume) (plain_name named.logger is.logger))
       (record { named = refl; values = record { volume = record { text = refl; is = is.volume }; logger = record { text = refl; is = is.logger } } }),
 )
+
+-- ---- `nbd`
+
+abbrev nbd : Shape
+nbd = built_sub (with_name (new_app (codes "nbd")))
+
+enters_nbd : Enters (built the_app) (codes "nbd") (built_sub (with_name (new_app (codes "nbd"))))
+unfolding clap_on_literals
+enters_nbd = record { turn = refl; stops = refl; found = refl; ends = refl }
+
+module _ (name : Text) (plain : IsPlain name) where
+  abbrev nbd_rows : List Row
+  nbd_rows = given_row (codes "NAME") name ∷ []
+
+  abbrev nbd_held : Held
+  nbd_held = filled nbd (codes "NAME") name nothing_held
+
+  nbd_holds : Holds nbd nbd_rows nbd_held
+  nbd_holds = filled_holds nbd (codes "NAME") None (Some 1) true [] nothing_held name (nothing_holds nbd) refl refl
+
+  takes_nbd : Takes (codes "nbd") (name ∷ []) nbd_rows
+  unfolding clap_on_literals
+  takes_nbd = takes (codes "nbd") nbd (name ∷ []) nbd_rows 2 nbd_held enters_nbd refl
+      (by_place nbd (codes "NAME") None (Some 1) true [] nothing_held name (nothing_holds nbd) refl 1 refl plain) nbd_holds refl
+
+pub nbd_is_command : NbdIsCommand
+nbd_is_command words name is =
+    let served : ServedName = record { volume = record { ref_ptr = (0, 0); now = name } } in
+    (served, refl, asks_for words (codes "nbd") (name ∷ []) (nbd_rows name (plain_name name is.named)) (Nbd served) is.spelled (takes_nbd name (plain_name name is.named)) (record { named = refl; values = record { text = refl; is = is.named } }))

@@ -32,6 +32,10 @@ abbrev pub with_names : App → App
 with_names a =
     with_rule (with_rule a (positional_rule (codes "NAME"))) (positional_rule (codes "LOGGER"))
 
+-- the command with the argument that names a volume of the configuration
+abbrev pub with_name : App → App
+with_name a = with_rule a (positional_rule (codes "NAME"))
+
 -- the command with the options of a run over a trace
 abbrev pub with_options : App → App
 with_options a =
@@ -56,7 +60,7 @@ abbrev pub the_app : App
 the_app =
     with_subcommand (with_subcommand (with_subcommand (with_subcommand (with_subcommand
     (with_subcommand (with_subcommand (with_subcommand (with_subcommand (with_subcommand
-    (with_subcommand bare_app
+    (with_subcommand (with_subcommand bare_app
     (with_volume (new_app (codes "solo"))).top)
     (new_app (codes "format")).top)
     (with_options (new_app (codes "replay"))).top)
@@ -67,4 +71,5 @@ the_app =
     (with_names (new_app (codes "view-add"))).top)
     (with_names (new_app (codes "view-remove"))).top)
     (new_app (codes "clean")).top)
+    (with_name (new_app (codes "nbd"))).top)
     (with_options (with_trace (new_app (codes "soak")))).top

@@ -3,9 +3,9 @@ use Rattle.std.specs.Prelude.{◌≡◌, ⊤, List, [], Some, codes}
 use Rattle.clap.specs.Words.{Row, Text, fault_of, subcommand_of}
 use Rattle.solo.specs.Volume.{target_of}
 use Rattle.command_words.specs.Application.{the_app}
-use Rattle.command_words.specs.Values.{HasNames, HasOptions, HasTrace, HasVolume, named_by}
+use Rattle.command_words.specs.Values.{HasNames, HasOptions, HasServed, HasTrace, HasVolume, named_by, served_by}
 use Rattle.command_words.specs.declared.command.Command.{Command}
-use Rattle.command_words.specs.declared.command.Command.TheVariants.{Solo, Format, Replay, Check, Dump, Gen, Soak, WhatIf, ViewAdd, ViewRemove, Clean}
+use Rattle.command_words.specs.declared.command.Command.TheVariants.{Solo, Format, Replay, Check, Dump, Gen, Soak, WhatIf, ViewAdd, ViewRemove, Clean, Nbd}
 
 -- the name of a command
 abbrev pub name_of : Command → Text
@@ -20,6 +20,7 @@ name_of WhatIf = codes "whatif"
 name_of (ViewAdd names) = codes "view-add"
 name_of (ViewRemove names) = codes "view-remove"
 name_of Clean = codes "clean"
+name_of (Nbd name) = codes "nbd"
 
 -- the values are those of the command
 abbrev pub HasValues : List Row → Command → Type 0
@@ -34,6 +35,7 @@ HasValues rows WhatIf = ⊤
 HasValues rows (ViewAdd names) = HasNames rows (named_by names)
 HasValues rows (ViewRemove names) = HasNames rows (named_by names)
 HasValues rows Clean = ⊤
+HasValues rows (Nbd name) = HasServed rows (served_by name)
 
 -- the subcommand of this name with these values is the command
 pub record Asks (name : Text) (rows : List Row) (command : Command) : Type 0 where

@@ -5,13 +5,14 @@ use Rattle.solo.specs.Volume.{target_of}
 use Rattle.solo.specs.declared.volume.Volume.{Volume}
 use Rattle.wol_model.specs.Trace.{Target}
 use Rattle.command_words.specs.Commands.{IsCommand}
-use Rattle.command_words.specs.Table.{IsSolo, IsGen, IsFormat, IsCheck, IsDump, IsReplay, IsSoak, IsWhatIf, IsViewAdd, IsViewRemove, IsClean, Named}
+use Rattle.command_words.specs.Table.{IsSolo, IsGen, IsFormat, IsCheck, IsDump, IsReplay, IsSoak, IsWhatIf, IsViewAdd, IsViewRemove, IsClean, IsNbd, Named}
 use Rattle.command_words.specs.declared.command.Command.{Command}
-use Rattle.command_words.specs.declared.command.Command.TheVariants.{Solo, Format, Replay, Check, Dump, Gen, Soak, WhatIf, ViewAdd, ViewRemove, Clean}
+use Rattle.command_words.specs.declared.command.Command.TheVariants.{Solo, Format, Replay, Check, Dump, Gen, Soak, WhatIf, ViewAdd, ViewRemove, Clean, Nbd}
 use Rattle.command_words.specs.declared.command.Generated.{Generated}
 use Rattle.command_words.specs.declared.command.Options.{Options}
+use Rattle.command_words.specs.declared.command.ServedName.{ServedName}
 use Rattle.command_words.specs.declared.command.ViewNames.{ViewNames}
-use Rattle.command_words.specs.Values.{named_by}
+use Rattle.command_words.specs.Values.{named_by, served_by}
 
 -- each spelling of the table asks for its command
 abbrev pub SoloIsCommand : Type 0
@@ -58,12 +59,18 @@ ViewRemoveIsCommand =
 abbrev pub CleanIsCommand : Type 0
 CleanIsCommand = (words : List Text) → IsClean words → IsCommand words Clean
 
+abbrev pub NbdIsCommand : Type 0
+NbdIsCommand =
+    (words : List Text) (name : Text) → IsNbd words name
+    → (served : ServedName) × (served_by served ≡ name) × IsCommand words (Nbd served)
+
 -- two commands are one, wherever the names in them lie in memory
 pub data AreSame : Command → Command → Type 0 where
   same : {c : Command} → AreSame c c
   solo : {v w : Volume} → target_of v ≡ target_of w → AreSame (Solo v) (Solo w)
   view_add : {v w : ViewNames} → named_by v ≡ named_by w → AreSame (ViewAdd v) (ViewAdd w)
   view_remove : {v w : ViewNames} → named_by v ≡ named_by w → AreSame (ViewRemove v) (ViewRemove w)
+  nbd : {v w : ServedName} → served_by v ≡ served_by w → AreSame (Nbd v) (Nbd w)
 
 -- words ask for no two commands
 abbrev pub CommandsAreOne : Type 0

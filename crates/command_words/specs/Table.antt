@@ -76,6 +76,11 @@ IsViewAdd = IsOfNames (codes "view-add")
 abbrev pub IsViewRemove : List (List ℕ) → Named → Type 0
 IsViewRemove = IsOfNames (codes "view-remove")
 
+-- the words are `nbd NAME`
+pub record IsNbd (words : List (List ℕ)) (name : List ℕ) : Type 0 where
+  pub spelled : words ≡ codes "nbd" ∷ name ∷ []
+  pub named : IsName name
+
 -- ---- The options of a run over a trace
 
 abbrev pub mode_text : Mode → List ℕ

@@ -6,6 +6,7 @@ use Rattle.command_words.specs.Table.{IsHost, IsName, Named, mode_text}
 use Rattle.command_words.specs.declared.command.Generated.{Generated}
 use Rattle.command_words.specs.declared.command.Mode.{Mode}
 use Rattle.command_words.specs.declared.command.Options.{Options}
+use Rattle.command_words.specs.declared.command.ServedName.{ServedName}
 use Rattle.command_words.specs.declared.command.ViewNames.{ViewNames}
 
 -- the argument of this name was given with this text
@@ -58,6 +59,18 @@ pub record HasNames (rows : List Row) (named : Named) : Type 0 where
 -- they are none
 abbrev pub NoNames : List Row → Type 0
 NoNames rows = (named : Named) → ¬ HasNames rows named
+
+-- the name, without where it lies in memory
+abbrev pub served_by : ServedName → Text
+served_by served = served.volume.now
+
+-- the value NAME is this name
+abbrev pub HasServed : List Row → Text → Type 0
+HasServed rows name = HasName rows (codes "NAME") name
+
+-- it is none
+abbrev pub NoServed : List Row → Type 0
+NoServed rows = NoName rows (codes "NAME")
 
 -- so many workers are asked for: one, where the option isn't given
 pub record HasWorkers (rows : List Row) (workers : ℕ) : Type 0 where

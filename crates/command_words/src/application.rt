@@ -2,7 +2,7 @@
 ghost use Rattle.std.specs.Prelude.{◌≡◌, false, IfOk};
 ghost use Rattle.clap.specs.Words.{app_of, rule_of};
 ghost use Rattle.clap.specs.declared.builder.Command.TheViews.{out-Command};
-ghost use Rattle.command_words.specs.Application.{option_rule, positional_rule, the_app, with_names, with_options, with_trace, with_volume};
+ghost use Rattle.command_words.specs.Application.{option_rule, positional_rule, the_app, with_name, with_names, with_options, with_trace, with_volume};
 
 use clap::{Arg, ArgAction, Command};
 use std::alloc::{AllocError, Global};
@@ -27,6 +27,7 @@ pub(crate) fn application<'a>(alloc: Global) -> Result<Command<'a>, AllocError>
         .subcommand(of_view(alloc, Command::new(alloc, "view-add"))?)?
         .subcommand(of_view(alloc, Command::new(alloc, "view-remove"))?)?
         .subcommand(Command::new(alloc, "clean"))?
+        .subcommand(of_name(alloc, Command::new(alloc, "nbd"))?)?
         .subcommand(of_options(alloc, of_trace(alloc, Command::new(alloc, "soak"))?)?)
 }
 
@@ -62,6 +63,15 @@ fn of_view<'a>(alloc: Global, command: Command<'a>) -> Result<Command<'a>, Alloc
     command
         .arg(positional(alloc, "NAME"))?
         .arg(positional(alloc, "LOGGER"))
+}
+
+// The command with the argument that names a volume of the configuration.
+fn of_name<'a>(alloc: Global, command: Command<'a>) -> Result<Command<'a>, AllocError>
+    ensures app { IfOk result (λ made. app_of made ≡ with_name (app_of command.entry)) }
+    ensures globals { IfOk result (λ made.
+        (out-Command made).has_globals ≡ (out-Command command.entry).has_globals) }
+{
+    command.arg(positional(alloc, "NAME"))
 }
 
 // The command with the options of a run over a trace.

@@ -4,7 +4,7 @@ ghost use Rattle.clap.specs.Words.{found_of, kind_of, rows_of};
 ghost use Rattle.command_words.specs.Commands.{Asks, AsksNothing, IsCommand, NoCommand};
 
 use crate::application::application;
-use crate::values::{names_of, options_of, trace_of, volume_of};
+use crate::values::{names_of, options_of, served_of, trace_of, volume_of};
 use clap::error::ErrorKind;
 use clap::{ArgMatches, Error};
 use solo::Volume;
@@ -49,6 +49,13 @@ pub struct ViewNames<'a> {
     pub logger: &'a str,
 }
 
+/// A volume that is to be served.
+#[derive(Clone, Copy)]
+pub struct ServedName<'a> {
+    /// It doesn't begin with a dash.
+    pub volume: &'a str,
+}
+
 /// What the program is asked to do.
 #[derive(Clone, Copy)]
 pub enum Command<'a> {
@@ -74,6 +81,8 @@ pub enum Command<'a> {
     ViewRemove(ViewNames<'a>),
     /// What lies in logs is rewritten as few records.
     Clean,
+    /// A volume is served to a client.
+    Nbd(ServedName<'a>),
 }
 
 /// Why there is no command.
@@ -134,6 +143,7 @@ fn read<'a>(name: &str, matches: &ArgMatches<'a>) -> Option<Command<'a>>
         "view-add" => Some(Command::ViewAdd(names_of(matches)?)),
         "view-remove" => Some(Command::ViewRemove(names_of(matches)?)),
         "clean" => Some(Command::Clean),
+        "nbd" => Some(Command::Nbd(served_of(matches)?)),
         _ => None,
     }
 }

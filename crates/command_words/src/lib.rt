@@ -10,5 +10,7 @@ mod command;
 mod laws;
 mod values;
 
-pub use command::{Command, Generated, Mode, Options, ViewNames, WordsFault, command_of};
+pub use command::{
+    Command, Generated, Mode, Options, ServedName, ViewNames, WordsFault, command_of,
+};
 pub use laws::words_laws;

@@ -3,9 +3,9 @@ ghost use Rattle.std.specs.Prelude.{◌≡◌, ◌↔◌, ◌<◌, ◌≤◌, �
 ghost use Rattle.clap.specs.Words.{first_of, found_of, rows_of};
 ghost use Rattle.solo.specs.Volume.{target_of};
 ghost use Rattle.command_words.specs.Table.{IsHost, IsHostByte};
-ghost use Rattle.command_words.specs.Values.{HasMode, HasName, HasNames, HasOptions, HasTrace, HasVolume, HasWorkers, NoName, NoNames, NoOptions, NoTrace, NoVolume, named_by};
+ghost use Rattle.command_words.specs.Values.{HasMode, HasName, HasNames, HasOptions, HasServed, HasTrace, HasVolume, HasWorkers, NoName, NoNames, NoOptions, NoServed, NoTrace, NoVolume, named_by, served_by};
 
-use crate::command::{Generated, Mode, Options, ViewNames};
+use crate::command::{Generated, Mode, Options, ServedName, ViewNames};
 use clap::ArgMatches;
 use itoa::Buffer;
 use solo::Volume;
@@ -72,6 +72,16 @@ pub(crate) fn names_of<'a>(matches: &ArgMatches<'a>) -> Option<ViewNames<'a>>
         volume: name_at(matches, "NAME")?,
         logger: name_at(matches, "LOGGER")?,
     })
+}
+
+/// The name that the value is: it doesn't begin with a dash. `None` exactly where it is none.
+pub(crate) fn served_of<'a>(matches: &ArgMatches<'a>) -> Option<ServedName<'a>>
+    ensures some { IfSome result (λ served. HasServed (rows_of (found_of matches.now))
+        (served_by served)) }
+    ensures none { IfNone result (NoServed (rows_of (found_of matches.now))) }
+{
+    let volume = name_at(matches, "NAME")?;
+    Some(ServedName { volume })
 }
 
 /// The options that the values are. `None` exactly where they are none.

@@ -13,6 +13,7 @@ usage: wol COMMAND, in the folder that has wol.toml and the images (NAME.vol)
   wol dump                            print the records in logs
   wol whatif < TRACE                  compare four policies on a trace, without images
   wol clean                           rewrite the records in logs as few
+  wol nbd NAME                        serve NAME to an NBD client on the input and output
   wol gen SEED LINES                  print a generated trace
   wol soak SEED LINES [OPTION..]      replay a generated trace without printing it
   wol solo HOST DISK BLOCKS < TRACE   run one disk's lines on a new image, without wol.toml
@@ -26,7 +27,7 @@ Numbers have no sign and no leading zero. README.md and docs/USAGE.md say more.
 pub fn advice(status: u8) -> Option<&'static str>
     ensures done { status ≡ 0 → result ≡ None }
     ensures told { 1 ≤ status → status ≤ 12 → IsSome result }
-    ensures refused { status ≡ 15 → IsSome result }
+    ensures refused { 14 ≤ status → status ≤ 15 → IsSome result }
 {
     Some(match status {
         1 => USAGE,
@@ -58,8 +59,10 @@ pub fn advice(status: u8) -> Option<&'static str>
             "wol: a volume has no version left for a record. wol format begins anew, and erases every volume.\n",
         12 =>
             "wol: an image is missing. Put it back; for new volumes wol format makes all images, and erases every volume.\n",
+        14 =>
+            "wol: the client sent no NBD requests, or went away within one. What was answered is there.\n",
         15 =>
-            "wol: no view was changed. Look for the names of volumes in wol.toml, and for the loggers in the volume's view.\n",
+            "wol: nothing was changed. Look for the names of volumes in wol.toml, and for the loggers in the volume's view.\n",
         _ => return None,
     })
 }

@@ -13,7 +13,7 @@ mod streams;
 
 use crate::advice::{VERSION, advice};
 use crate::progress::Progress;
-use crate::start::begin;
+use crate::start::{are_of_client, begin};
 use crate::streams::{ERRORS, OUTPUT};
 use std::io;
 use std::process::ExitCode;
@@ -44,7 +44,8 @@ fn main(rt: HostRuntime) -> ExitCode {
     let (words, status) = match begin(&rt, alloc, &mut out) {
         Ok(words) => {
             let room = limits::room(&rt, ERRORS, most_bytes);
-            let is_wanted = progress::is_wanted(&rt, &rt.stderr(), room);
+            let is_wanted = progress::is_wanted(&rt, &rt.stderr(), room)
+                && !are_of_client(alloc, &words);
             let mut config = FileSource::new(rt, "wol.toml");
             let input = StdSource::new(rt.reader());
             let mut trace = WatchedSource::new(input, Progress::new(rt, is_wanted));

@@ -28,12 +28,12 @@ fn words(rt: &(impl Env + AllocGlobal), alloc: Global) -> Result<Vec<String>, No
     Ok(words)
 }
 
-// Whether a command reads the trace that it is given.
+// Whether a command uses the input, for a trace or for a client's requests.
 fn uses_trace(command: &Command<'_>) -> bool
     ensures { result ≡ uses_trace command.now }
 {
     match command {
-        Command::Solo(_) | Command::Replay(_) | Command::WhatIf => true,
+        Command::Solo(_) | Command::Replay(_) | Command::WhatIf | Command::Nbd(_) => true,
         Command::Gen(_)
         | Command::Format
         | Command::Check
@@ -45,12 +45,21 @@ fn uses_trace(command: &Command<'_>) -> bool
     }
 }
 
-// Whether the words are a command that reads the trace that it is given.
+// Whether the words are a command that uses the input.
 fn are_of_trace(alloc: Global, words: &[String]) -> bool
     ensures { NoneOf uses_trace (map string_bytes words.now) → result ≡ false }
 {
     match command_of(alloc, words) {
         Ok(command) => uses_trace(&command),
+        Err(_) => false,
+    }
+}
+
+/// Whether the words are a command that serves a client, to whom no text is sent.
+pub fn are_of_client(alloc: Global, words: &[String]) -> bool {
+    match command_of(alloc, words) {
+        Ok(Command::Nbd(_)) => true,
+        Ok(_) => false,
         Err(_) => false,
     }
 }
@@ -68,6 +77,9 @@ pub fn begin<R: Env + AllocGlobal + Print + Input, K: Sink>(
         return Err(end_with(out, NO_MEMORY, 9));
     };
     if are_of_trace(alloc, &words) && !gives_input(rt) {
+        if are_of_client(alloc, &words) {
+            return Err(8);
+        }
         return Err(tell(alloc, out, Fault::Source));
     }
     Ok(words)

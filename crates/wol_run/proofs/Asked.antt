@@ -4,13 +4,15 @@ use Rattle.solo.specs.Volume.{IsVolume, target_of}
 use Rattle.solo.specs.declared.volume.Volume.{Volume}
 use Rattle.command_words.specs.Commands.{IsCommand}
 use Rattle.command_words.specs.declared.command.Command.{Command}
-use Rattle.command_words.specs.declared.command.Command.TheVariants.{Solo, Format, Replay, Check, Dump, Gen, Soak, WhatIf, ViewAdd, ViewRemove, Clean}
+use Rattle.command_words.specs.declared.command.Command.TheVariants.{Solo, Format, Replay, Check, Dump, Gen, Soak, WhatIf, ViewAdd, ViewRemove, Clean, Nbd}
 use Rattle.command_words.specs.declared.command.Generated.{Generated}
 use Rattle.command_words.specs.declared.command.Options.{Options}
+use Rattle.command_words.specs.declared.command.ServedName.{ServedName}
 use Rattle.command_words.specs.declared.command.ViewNames.{ViewNames}
-use Rattle.command_words.specs.Values.{named_by}
-use Rattle.wol_run.specs.Commands.{IsCount, IsInRange, uses_trace}
-use Rattle.command_words.specs.Laws.{AreSame, same, solo, view_add, view_remove}
+use Rattle.command_words.specs.Values.{named_by, served_by}
+use Rattle.wol_run.specs.Commands.{IsCount, IsInRange, runs_trace}
+use Rattle.command_words.specs.Laws.{AreSame}
+use Rattle.command_words.specs.Laws as law
 use Rattle.command_words.proofs.Unique.{commands_are_one}
 
 -- what holds of a command holds of one that names the same volumes
@@ -18,21 +20,23 @@ pub record IsAlike (P : Command → Type 0) : Type 0 where
   pub solo : (own other : Volume) → target_of own ≡ target_of other → P (Solo own) → P (Solo other)
   pub add : (own other : ViewNames) → named_by own ≡ named_by other → P (ViewAdd own) → P (ViewAdd other)
   pub remove : (own other : ViewNames) → named_by own ≡ named_by other → P (ViewRemove own) → P (ViewRemove other)
+  pub nbd : (own other : ServedName) → served_by own ≡ served_by other → P (Nbd own) → P (Nbd other)
 
 -- what holds of the command that was read holds of each that the words ask for
 module _ (P : Command → Type 0) (alike : IsAlike P) where
   of_same : (read asked : Command) → AreSame read asked → P read → P asked
-  of_same read asked same p = p
-  of_same read asked (solo alike_) p = alike.solo _ _ alike_ p
-  of_same read asked (view_add alike_) p = alike.add _ _ alike_ p
-  of_same read asked (view_remove alike_) p = alike.remove _ _ alike_ p
+  of_same read asked law.same p = p
+  of_same read asked (law.solo alike_) p = alike.solo _ _ alike_ p
+  of_same read asked (law.view_add alike_) p = alike.add _ _ alike_ p
+  of_same read asked (law.view_remove alike_) p = alike.remove _ _ alike_ p
+  of_same read asked (law.nbd alike_) p = alike.nbd _ _ alike_ p
 
   pub of_asked : (words : List (List ℕ)) (read asked : Command) → IsCommand words read → IsCommand words asked → P read → P asked
   of_asked words read asked is so p = of_same read asked (commands_are_one words read asked is so) p
 
 -- a command uses what one uses that names the same volumes
-pub uses_alike : IsAlike (λ c. uses_trace c ≡ false)
-uses_alike = record { solo = λ own other same no. no; add = λ own other same no. no; remove = λ own other same no. no }
+pub uses_alike : IsAlike (λ c. runs_trace c ≡ false)
+uses_alike = record { solo = λ own other same no. no; add = λ own other same no. no; remove = λ own other same no. no; nbd = λ own other same no. no }
 
 -- ---- Numbers in range
 
@@ -48,6 +52,7 @@ in_range words WhatIf is = tt
 in_range words (ViewAdd names) is = tt
 in_range words (ViewRemove names) is = tt
 in_range words Clean is = tt
+in_range words (Nbd name) is = tt
 
 pub range_of_solo : (command : Command) (volume : Volume) → command ≡ Solo volume → IsInRange command → IsVolume (target_of volume)
 range_of_solo command volume is h = subst IsInRange is h

@@ -48,21 +48,32 @@ use Rattle.log_cleaner.specs.declared.answer.CleanFault.TheVariants.{DiskFault, 
 use Rattle.cleaning.specs.Lines.{fault_of}
 use Rattle.cleaning.specs.Runs.{CleansBay, CleansVolume, EndsFor as EndsCleaning}
 use Rattle.cleaning.specs.Runs as cleaned
+use Rattle.nbd_session.specs.declared.session.Ended.{Ended}
+use Rattle.nbd_session.specs.declared.session.Ended.TheVariants as nbd_ended
+use Rattle.nbd_session.specs.declared.session.NbdFault.{NbdFault}
+use Rattle.nbd_session.specs.declared.session.NbdFault.TheVariants as nbd_fault
+use Rattle.nbd_serving.specs.Runs.{ServesNamed, ServesOpen}
+use Rattle.nbd_serving.specs.Runs as nbd_case
+use Rattle.nbd_serving.specs.Wires.{answer_of, status_of as status_of_answer}
+use Rattle.nbd_serving.specs.declared.stop.Stop.{Stop as NbdStop}
 use Rattle.command_words.specs.Commands.{IsCommand}
+use Rattle.command_words.specs.Values.{served_by}
 use Rattle.command_words.specs.Table.{Named}
 use Rattle.command_words.specs.declared.command.Command.{Command}
-use Rattle.command_words.specs.declared.command.Command.TheVariants.{Clean, Format, Gen, WhatIf}
+use Rattle.command_words.specs.declared.command.Command.TheVariants.{Clean, Format, Gen, Nbd, WhatIf}
 use Rattle.command_words.specs.declared.command.Generated.{Generated}
+use Rattle.command_words.specs.declared.command.ServedName.{ServedName}
 use Rattle.wol_run.specs.Causes.{AskFor, IsCause, IsClosedFor, replayed_by}
 use Rattle.wol_run.specs.Causes as row
 use Rattle.wol_run.specs.Cleaning.{IsCleaning}
-use Rattle.wol_run.specs.Commands.{changes_view, uses_bay, uses_config, uses_trace}
+use Rattle.wol_run.specs.Commands.{changes_view, runs_trace, serves_client, uses_bay, uses_config}
 use Rattle.wol_run.specs.Inspecting.{AreTold, IsLook, status_of_first}
 use Rattle.wol_run.specs.Outside.{Outside}
 use Rattle.wol_run.specs.Comparing.{IsComparison}
 use Rattle.wol_run.specs.Replaying.{EndsReplay, GivenLines, HasLeft, IsReplay, trace_of}
-use Rattle.wol_run.specs.Run.{IsCleaningOf, IsComparisonOf, IsFormat, IsListingOf, IsLookFor, IsReplayOf, IsViewChangeOf}
-use Rattle.wol_run.specs.Settings.{HasConfig, IsFaultLine}
+use Rattle.wol_run.specs.Run.{IsCleaningOf, IsComparisonOf, IsFormat, IsListingOf, IsLookFor, IsReplayOf, IsServingOf, IsViewChangeOf}
+use Rattle.wol_run.specs.Serving.{wire}
+use Rattle.wol_run.specs.Settings.{HasConfig, IsFaultLine, line_of_fault}
 use Rattle.wol_run.specs.Tops.{EndsWith, HasBadLine, HasMoreLines}
 use Rattle.wol_run.specs.Viewing.{EndsChange, IsViewChange, RefusesChange, view_change_by}
 use Rattle.wol_run.proofs.Asked.{of_asked, uses_alike}
@@ -70,7 +81,8 @@ use Rattle.wol_run.proofs.FormatEndings.{ends_format}
 use Rattle.wol_run.proofs.GenEndings.{ends_gen}
 use Rattle.wol_run.proofs.ReplayEndings.{at_end, bad_of, more_of, of_call}
 use Rattle.wol_run.proofs.Spent.{spent_of}
-use Rattle.wol_run.proofs.Unread.{ends_unread, wanted_or_sink}
+use Rattle.wol_run.proofs.Served.{bad_magic, cut_request}
+use Rattle.wol_run.proofs.Unread.{ends_unread, line_unread, wanted_or_sink}
 use Rattle.wol_run.proofs.WindowFaults.{ends_window}
 
 -- what is told of the images is told of them in other words
@@ -117,8 +129,8 @@ module _ {D : Type 0} (tells : Bool) (state : D → State) (words : List (List �
   at_status k status is cause = subst Cause (sym is) cause
 
   -- the command that was read is done; it uses no trace
-  done_without : (read : Command) → IsCommand words read → uses_trace read ≡ false → Cause 0
-  done_without read is none = row.done read is (λ asks. absurd (true≢false (sym asks.does ∙ of_asked (λ c. uses_trace c ≡ false) uses_alike words read asks.command is asks.is none)))
+  done_without : (read : Command) → IsCommand words read → runs_trace read ≡ false → Cause 0
+  done_without read is none = row.done read is (λ asks. absurd (true≢false (sym asks.does ∙ of_asked (λ c. runs_trace c ≡ false) uses_alike words read asks.command is asks.is none)))
 
   part_cause : AskFor words uses_bay → (p : Part) → Rose before.bay.faults after.bay.faults → Cause (trouble_status (trouble_of_part p))
   part_cause bay (part.Home volume) rose = row.part_failed bay rose
@@ -166,7 +178,7 @@ module _ {D : Type 0} (tells : Bool) (state : D → State) (words : List (List �
     -- ---- Policies that were compared
 
     module _ (is : IsCommand words WhatIf) (source : status ≡ 8 → Rose before.config.faults after.config.faults ⊎ Rose before.trace.faults after.trace.faults) where
-      for_lines : AskFor words uses_trace
+      for_lines : AskFor words runs_trace
       for_lines = record { command = WhatIf; is = is; does = refl }
 
       no_further : (now : GivenLines) (run : List (Option TraceLine)) (refusal : TraceFault) → refusal ≢ trace.NoMemory → Refuses (λ bytes. bytes) refusal (trace_of before.trace.bytes) now run
@@ -275,7 +287,7 @@ module _ {D : Type 0} (tells : Bool) (state : D → State) (words : List (List �
         | inr (inr part) ↦ subst (λ (x : Trouble). Cause (trouble_status x)) (same_Some (trouble_of_part part.part) o (sym part.trouble ∙ is_o)) (part_cause for_bay part.part part.rose)
       ]
 
-      pub look_cause : uses_trace command ≡ false → (what : Asked) → IsLookFor tells state before after status what → Cause status
+      pub look_cause : runs_trace command ≡ false → (what : Asked) → IsLookFor tells state before after status what → Cause status
       look_cause none what run = elim (wanted_or_sink run.text run.wanted status _ _ run.ends) [
         | inr seven ↦ of_sink seven
         | inl same ↦ elim run.allowed [
@@ -291,7 +303,7 @@ module _ {D : Type 0} (tells : Bool) (state : D → State) (words : List (List �
 
       -- ---- A view that was to be changed
 
-      module _ (verb : Verb) (named : Named) (changes : view_change_by command ≡ Some (verb, named)) (again : AskFor words changes_view) (none : uses_trace command ≡ false) where
+      module _ (verb : Verb) (named : Named) (changes : view_change_by command ≡ Some (verb, named)) (again : AskFor words changes_view) (none : runs_trace command ≡ false) where
         module _ (run : IsViewChange tells state verb named before.config.bytes before.bay after.bay before.sink.faults status before.sink.bytes after.sink.bytes) where
           abbrev EndsSo : Result (Unit {0}) ViewStop → Type 0
           EndsSo r = EndsChange run.config run.order r status run.printed_then after.sink.bytes
@@ -399,12 +411,48 @@ module _ {D : Type 0} (tells : Bool) (state : D → State) (words : List (List �
           | inl same ↦ unread_cause for_config unread.text unread.wanted unread.untouched.line_ same
         ]
 
+      -- ---- A volume that was served
+
+      module _ (name : ServedName) (serves_ : IsCommand words (Nbd name)) where
+        for_client : AskFor words serves_client
+        for_client = record { command = Nbd name; is = serves_; does = refl }
+
+        abbrev Session : Config → (volume : ℕ) → Result Ended NbdFault → Type 0
+        Session config volume answer =
+            ServesOpen tells config volume before.bay after.bay (wire before.trace.bytes before.trace.faults before.sink.bytes before.sink.faults)
+            (wire after.trace.bytes after.trace.faults after.sink.bytes after.sink.faults) answer
+
+        of_session : (config : Config) (volume : ℕ) (answer : Result Ended NbdFault) → Session config volume answer → status ≡ status_of_answer (answer_of answer) → Cause status
+        of_session config volume (Ok nbd_ended.Disc) serves same = at_status 0 status same (done_without (Nbd name) serves_ refl)
+        of_session config volume (Ok nbd_ended.End) serves same = at_status 0 status same (done_without (Nbd name) serves_ refl)
+        of_session config volume (Ok (nbd_ended.BadMagic at)) serves same = at_status 14 status same (row.bad_client for_client (bad_magic serves.session))
+        of_session config volume (Ok (nbd_ended.Cut at)) serves same = at_status 14 status same (row.bad_client for_client (cut_request serves.session))
+        of_session config volume (Err nbd_fault.Source) serves same = at_status 8 status same (row.source_failed (inr serves.faults.0))
+        of_session config volume (Err nbd_fault.Sink) serves same = of_sink same
+        of_session config volume (Err nbd_fault.NoMemory) serves same = at_status 9 status same row.no_memory
+
+        of_named : (config : Config) → HasConfig before.config.bytes config → (r : Result Ended NbdStop)
+            → ServesNamed tells state config (served_by name) before.bay after.bay (wire before.trace.bytes before.trace.faults before.sink.bytes before.sink.faults)
+            (wire after.trace.bytes after.trace.faults after.sink.bytes after.sink.faults) r → status ≡ status_of_answer r → Cause status
+        of_named config has r (nbd_case.unknown unknown_ bay same_wire) same = at_status 15 status same (row.unknown_volume (record { config = config; has = has; name = name; is = serves_; unknown = unknown_ }))
+        of_named config has r (nbd_case.no_memory volume is_named leaves same_wire) same = at_status 9 status same row.no_memory
+        of_named config has r (nbd_case.closed volume k f is_named first leaves same_wire) same = at_status (trouble_status (trouble_of f)) status same (closed_cause config has k f first)
+        of_named config has r (nbd_case.served volume answer is_named serves) same = of_session config volume answer serves same
+
+        pub serving_cause : IsServingOf tells state before after status (served_by name) → Cause status
+        serving_cause (inl run) = of_named run.config run.has run.result run.serves run.done
+        serving_cause (inr (inl unread)) = unread_cause for_config (line_of_fault unread.fault) (status_of unread.fault) (line_unread unread.fault _ _ _ unread.cause) unread.told
+        serving_cause (inr (inr none)) = elim (wanted_or_sink _ 9 status _ _ none.ends) [
+          | inl nine ↦ at_status 9 status nine row.no_memory
+          | inr seven_ ↦ of_sink seven_
+        ]
+
       -- ---- Lines that were replayed
 
       module _ (how : Serving) (start : GivenLines) (replays : replayed_by command before.trace.bytes ≡ Some (how, start))
           (source : status ≡ 8 → Rose before.config.faults after.config.faults ⊎ Rose before.trace.faults after.trace.faults)
-          (line : status ≡ 3 → AskFor words uses_trace × HasBadLine before.trace.bytes) (lines : status ≡ 10 → AskFor words uses_trace × HasMoreLines before.trace.bytes)
-          (ended : (now : GivenLines) (run : List (Option TraceLine)) (config : Config) → HasLeft now after.trace.bytes → HasGivenAll (λ bytes. bytes) (targets_of config) start now run → AskFor words uses_trace → IsAtEnd after.trace.bytes) where
+          (line : status ≡ 3 → AskFor words runs_trace × HasBadLine before.trace.bytes) (lines : status ≡ 10 → AskFor words runs_trace × HasMoreLines before.trace.bytes)
+          (ended : (now : GivenLines) (run : List (Option TraceLine)) (config : Config) → HasLeft now after.trace.bytes → HasGivenAll (λ bytes. bytes) (targets_of config) start now run → AskFor words runs_trace → IsAtEnd after.trace.bytes) where
         module _ (run : IsReplay tells state how start before.config.bytes after.trace.bytes before.bay after.bay before.sink.faults status before.sink.bytes after.sink.bytes) where
           abbrev Ends : Result (Unit {0}) Stop → Type 0
           Ends r = EndsReplay run.config r status run.printed_then after.sink.bytes

@@ -14,23 +14,25 @@ use Rattle.report.specs.declared.fault.Fault.TheVariants as fault
 use Rattle.inspection.specs.declared.asked.Asked.TheVariants as asked
 use Rattle.command_words.specs.Commands.{IsCommand}
 use Rattle.command_words.specs.declared.command.Command.{Command}
-use Rattle.command_words.specs.declared.command.Command.TheVariants.{Check, Clean, Dump, Format, Gen, Replay, Soak, Solo, ViewAdd, ViewRemove, WhatIf}
+use Rattle.command_words.specs.declared.command.Command.TheVariants.{Check, Clean, Dump, Format, Gen, Nbd, Replay, Soak, Solo, ViewAdd, ViewRemove, WhatIf}
 use Rattle.command_words.specs.declared.command.Generated.{Generated}
 use Rattle.command_words.specs.declared.command.Options.{Options}
+use Rattle.command_words.specs.declared.command.ServedName.{ServedName}
 use Rattle.command_words.specs.declared.command.ViewNames.{ViewNames}
-use Rattle.command_words.specs.Values.{named_by}
+use Rattle.command_words.specs.Values.{named_by, served_by}
 use Rattle.view_commands.specs.declared.order.Verb.TheVariants.{Add, Remove}
 use Rattle.wol_run.specs.Causes.{AskFor}
 use Rattle.wol_run.specs.Causes as row
-use Rattle.wol_run.specs.Commands.{uses_trace}
+use Rattle.wol_run.specs.Commands.{runs_trace}
 use Rattle.wol_run.specs.Completing.{HasSoundImages, HaveVersions, HaveVersionsToClean, IsGoodTrace, seed_lines}
 use Rattle.wol_run.specs.Outside.{LeavesUnused, Outside, Stream}
 use Rattle.wol_run.specs.Replaying.{lines_of, options_as, trace_of}
-use Rattle.wol_run.specs.Run.{Does, IsCleaningOf, IsComparisonOf, IsFormat, IsListingOf, IsLookFor, IsReplayOf, IsViewChangeOf, Run}
+use Rattle.wol_run.specs.Run.{ComesToItsEnd, Does, IsCleaningOf, IsComparisonOf, IsFormat, IsListingOf, IsLookFor, IsReplayOf, IsServingOf, IsViewChangeOf, Run}
+use Rattle.wol_run.specs.Serving.{EndsAtClient}
 use Rattle.wol_run.specs.Settings.{IsConfigured}
 use Rattle.wol_run.specs.Tops.{EndsWith, HasCause, IsDoneOrMemory, TellsFault, TellsStatus}
 use Rattle.wol_run.proofs.Asked.{of_asked, uses_alike}
-use Rattle.wol_run.proofs.CausesTold.{clean_cause, comparison_cause, format_cause, gen_cause, look_cause, replay_cause, view_cause}
+use Rattle.wol_run.proofs.CausesTold.{clean_cause, comparison_cause, format_cause, gen_cause, look_cause, replay_cause, serving_cause, view_cause}
 use Rattle.wol_run.proofs.Compared.{uncompared}
 use Rattle.wol_run.proofs.Complete.{complete_format, complete_gen}
 use Rattle.wol_run.proofs.Endings.{told_done, told_fault}
@@ -83,7 +85,7 @@ module _ {D : Type 0} (tells : Bool) (state : D → State) (words : List (List �
       (record { config = λ none. absurd (used refl (none (Replay options) is)); trace = λ none. absurd (used refl (none (Replay options) is)); bay = λ none. absurd (used refl (none (Replay options) is)) })
       (λ order calm. inl (complete order.2 order.1 order.4 order.3 order.0 (calm.bay refl) (calm.config refl) (calm.trace refl) calm.sink))
     where
-      for_trace : AskFor words uses_trace
+      for_trace : AskFor words runs_trace
       for_trace = record { command = Replay options; is = is; does = refl }
 
   pub soak_promise : (what : Generated) (options : Options) → IsCommand words (Soak what options) → IsReplayOf tells state before after status (options_as options, lines_of what)
@@ -95,7 +97,7 @@ module _ {D : Type 0} (tells : Bool) (state : D → State) (words : List (List �
       (replay_cause tells state words before after status seven (Soak what options) is refl refl (options_as options) (lines_of what) refl (λ eight. inl (source eight))
       (λ three. absurd (soak_not_three tells state (options_as options) _ _ _ _ _ _ _ status _ _ what run three))
       (λ ten. absurd (soak_not_ten tells state (options_as options) _ _ _ _ _ _ _ status _ _ what run ten))
-      (λ now lines config rest all asks. absurd (used asks.does (of_asked (λ c. uses_trace c ≡ false) uses_alike words (Soak what options) asks.command is asks.is refl))) run) later
+      (λ now lines config rest all asks. absurd (used asks.does (of_asked (λ c. runs_trace c ≡ false) uses_alike words (Soak what options) asks.command is asks.is refl))) run) later
       (record { config = λ none. absurd (used refl (none (Soak what options) is)); trace = λ none. trace; bay = λ none. absurd (used refl (none (Soak what options) is)) })
       (λ order calm. inl (complete order.1 order.2 order.0 (calm.bay refl) (calm.config refl) calm.sink))
 
@@ -109,9 +111,9 @@ module _ {D : Type 0} (tells : Bool) (state : D → State) (words : List (List �
   -- a view was to be changed
   module _ (complete : HasSoundImages tells before.config.bytes before.bay → IsConfigured before.config.bytes → ¬ Rose before.bay.faults after.bay.faults
       → ¬ Rose before.config.faults after.config.faults → ¬ Rose before.sink.faults after.sink.faults → IsDoneOrMemory status ⊎ (status ≡ 15)) (trace : after.trace ≡ before.trace) where
-    view_ends : {b : Bool} → b ≡ true → IsDoneOrMemory status ⊎ (status ≡ 15) → IsDoneOrMemory status ⊎ ((b ≡ true) × (status ≡ 15))
+    view_ends : {b : Bool} {A : Type 0} → b ≡ true → IsDoneOrMemory status ⊎ (status ≡ 15) → IsDoneOrMemory status ⊎ ((b ≡ true) × (status ≡ 15)) ⊎ A
     view_ends changes (inl done) = inl done
-    view_ends changes (inr refused) = inr (changes, refused)
+    view_ends changes (inr refused) = inr (inl (changes, refused))
 
     pub view_add_promise : (names : ViewNames) → IsCommand words (ViewAdd names) → IsViewChangeOf tells state before after status (Add, named_by names) → Run tells state words before after status
     view_add_promise names is run = of_command tells state words before after status (ViewAdd names) is run
@@ -132,6 +134,17 @@ module _ {D : Type 0} (tells : Bool) (state : D → State) (words : List (List �
   clean_promise is run complete trace = of_command tells state words before after status Clean is run (clean_cause tells state words before after status seven Clean is refl refl is run) later
       (record { config = λ none. absurd (used refl (none Clean is)); trace = λ none. trace; bay = λ none. absurd (used refl (none Clean is)) })
       (λ order calm. inl (complete order.1 order.2 order.0 (calm.bay refl) (calm.config refl) calm.sink))
+
+  pub serving_promise : (name : ServedName) → IsCommand words (Nbd name) → IsServingOf tells state before after status (served_by name)
+      → (HasSoundImages tells before.config.bytes before.bay → IsConfigured before.config.bytes → ¬ Rose before.bay.faults after.bay.faults → ¬ Rose before.config.faults after.config.faults
+      → ¬ Rose before.trace.faults after.trace.faults → ¬ Rose before.sink.faults after.sink.faults → EndsAtClient status) → Run tells state words before after status
+  serving_promise name is run complete = of_command tells state words before after status (Nbd name) is run (serving_cause tells state words before after status seven (Nbd name) is refl refl name is run) later
+      (record { config = λ none. absurd (used refl (none (Nbd name) is)); trace = λ none. absurd (used refl (none (Nbd name) is)); bay = λ none. absurd (used refl (none (Nbd name) is)) })
+      (λ order calm. at_client (complete order.1 order.0 (calm.bay refl) (calm.config refl) (calm.trace refl) calm.sink))
+    where
+      at_client : EndsAtClient status → ComesToItsEnd (Nbd name) status
+      at_client (inl done) = inl done
+      at_client (inr other) = inr (inr (refl, other))
 
   -- the lines of one volume were run on an image of its own
   module _ (own : Volume) (is : IsCommand words (Solo own)) (config : after.config ≡ before.config) where
@@ -172,6 +185,7 @@ module _ {D : Type 0} (tells : Bool) (state : D → State) (words : List (List �
   does_none (ViewAdd names) = inr (not_begun _ _ _ _ _ status _ _ fault.Memory tt refl (inr ends))
   does_none (ViewRemove names) = inr (not_begun _ _ _ _ _ status _ _ fault.Memory tt refl (inr ends))
   does_none Clean = inr (not_begun _ _ _ _ _ status _ _ fault.Memory tt refl (inr ends))
+  does_none (Nbd name) = inr (inr (record { bay = refl; source = (refl, refl); ends = ends }))
 
   pub memory_promise : (status ≡ 7 → Rose before.sink.faults sink.faults) → (before.sink.faults < sink.faults → status ≡ 7) → Run tells state words before after status
   memory_promise seven later = of_unread_words tells state words before after status does_none ends seven later (record { config = λ none. refl; trace = λ none. refl; bay = λ none. refl })

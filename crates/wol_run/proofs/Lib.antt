@@ -13,6 +13,7 @@ mod SeenLines
 mod Compared
 mod Viewed
 mod Cleaned
+mod Served
 mod Taken
 mod Unread
 mod HeadlineTold

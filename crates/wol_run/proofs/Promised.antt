@@ -10,9 +10,11 @@ use Rattle.inspection.specs.declared.asked.Asked.TheVariants as asked
 use Rattle.replay.specs.declared.session.Options.{Options as Serving}
 use Rattle.command_words.specs.Commands.{IsCommand, NoCommand}
 use Rattle.command_words.specs.declared.command.Command.{Command}
-use Rattle.command_words.specs.declared.command.Command.TheVariants.{Check, Clean, Dump, Format, Gen, Replay, Soak, Solo, ViewAdd, ViewRemove, WhatIf}
+use Rattle.command_words.specs.declared.command.Command.TheVariants.{Check, Clean, Dump, Format, Gen, Nbd, Replay, Soak, Solo, ViewAdd, ViewRemove, WhatIf}
 use Rattle.command_words.specs.declared.command.Generated.{Generated}
+use Rattle.command_words.specs.declared.command.ServedName.{ServedName}
 use Rattle.command_words.specs.Table.{Named}
+use Rattle.command_words.specs.Values.{served_by}
 use Rattle.view_commands.specs.declared.order.Verb.{Verb}
 use Rattle.view_commands.specs.declared.order.Verb.TheVariants.{Add, Remove}
 use Rattle.wol_run.specs.Causes.{IsCause, replayed_by}
@@ -20,15 +22,16 @@ use Rattle.wol_run.specs.Causes as row
 use Rattle.wol_run.specs.Formatting.{IsNotBegun}
 use Rattle.wol_run.specs.Outside.{LeavesUnused, NothingFailed, Outside}
 use Rattle.wol_run.specs.Replaying.{GivenLines}
-use Rattle.wol_run.specs.Run.{ComesToItsEnd, Does, IsAccountOf, IsCleaningOf, IsComparisonOf, IsFormat, IsHeadlineOf, IsListingOf, IsLookFor, IsReplayOf, IsUnconfigured, IsViewChangeOf, ReadsInOrder, Run}
-use Rattle.wol_run.specs.Settings.{HasConfig, HasNoConfig, IsFaultLine}
+use Rattle.wol_run.specs.Run.{ComesToItsEnd, Does, IsAccountOf, IsCleaningOf, IsComparisonOf, IsFormat, IsHeadlineOf, IsListingOf, IsLookFor, IsReplayOf, IsServingOf, IsUnconfigured, IsViewChangeOf, ReadsInOrder, Run}
+use Rattle.wol_run.specs.Settings.{HasConfig, HasNoConfig, IsFaultLine, line_of_fault}
+use Rattle.report.specs.Faults.{status_of}
 use Rattle.wol_run.specs.Tops.{EndsWith, RunsSolo}
 use Rattle.wol_run.proofs.AccountTold.{runs_account}
 use Rattle.wol_run.proofs.Asked.{IsAlike, of_asked}
 use Rattle.wol_run.proofs.CausesTold.{at_status}
 use Rattle.wol_run.proofs.Complete.{no_both}
 use Rattle.wol_run.proofs.HeadlineTold.{runs_headline}
-use Rattle.wol_run.proofs.Unread.{ends_unread, wanted_or_sink}
+use Rattle.wol_run.proofs.Unread.{ends_unread, line_unread, wanted_or_sink}
 
 -- ---- A configuration that is none
 
@@ -62,6 +65,7 @@ module _ {D : Type 0} (tells : Bool) (state : D → State) (words : List (List �
     solo = solo_alike;
     add = λ own other same does. subst (λ n. IsViewChangeOf tells state before after status (Add, n)) same does;
     remove = λ own other same does. subst (λ n. IsViewChangeOf tells state before after status (Remove, n)) same does;
+    nbd = λ own other same does. subst (λ n. IsServingOf tells state before after status n) same does;
   }
 
   headline_of : (how : Serving × GivenLines) → IsReplayOf tells state before after status how → IsHeadlineOf tells state before after status how
@@ -84,6 +88,7 @@ module _ {D : Type 0} (tells : Bool) (state : D → State) (words : List (List �
   of_replayed P gives (ViewAdd names) did = tt
   of_replayed P gives (ViewRemove names) did = tt
   of_replayed P gives Clean did = tt
+  of_replayed P gives (Nbd name) did = tt
 
   -- ---- .. where the configuration is none
 
@@ -147,6 +152,14 @@ module _ {D : Type 0} (tells : Bool) (state : D → State) (words : List (List �
   clean_unconfigured (inl run) bytes told none = absurd (never_had _ bytes told none run.config run.has)
   clean_unconfigured (inr unread) bytes told none = not_begun_unconfigured unread bytes told none
 
+  serving_unconfigured : (name : List ℕ) → IsServingOf tells state before after status name → (bytes : List ℕ) → before.config.bytes ≡ Some bytes → HasNoConfig (Some bytes) → TellsNoConfig status
+  serving_unconfigured name (inl run) bytes told none = absurd (never_had _ bytes told none run.config run.has)
+  serving_unconfigured name (inr (inl unread)) bytes told none = of_unread _ bytes told none _ _ (line_of_fault unread.fault) (status_of unread.fault) status (line_unread unread.fault _ _ _ unread.cause) unread.told
+  serving_unconfigured name (inr (inr words_)) bytes told none = elim (wanted_or_sink _ 9 status _ _ words_.ends) [
+    | inl nine ↦ inr (inr (inr nine))
+    | inr seven ↦ inr (inl seven)
+  ]
+
   unconfigured_of : (command : Command) → Did command → IsUnconfigured command before → TellsNoConfig status
   unconfigured_of (Solo volume) did (uses, bytes, told, none) = absurd (true≢false (sym uses))
   unconfigured_of Format did (uses, bytes, told, none) = format_unconfigured did bytes told none
@@ -159,6 +172,7 @@ module _ {D : Type 0} (tells : Bool) (state : D → State) (words : List (List �
   unconfigured_of (ViewAdd names) did (uses, bytes, told, none) = view_unconfigured _ did bytes told none
   unconfigured_of (ViewRemove names) did (uses, bytes, told, none) = view_unconfigured _ did bytes told none
   unconfigured_of Clean did (uses, bytes, told, none) = clean_unconfigured did bytes told none
+  unconfigured_of (Nbd name) did (uses, bytes, told, none) = serving_unconfigured (served_by name) did bytes told none
 
   -- ---- The whole
 
@@ -170,6 +184,7 @@ module _ {D : Type 0} (tells : Bool) (state : D → State) (words : List (List �
     solo = λ own other same completes order calm. completes order (record { config = calm.config; trace = calm.trace; bay = calm.bay; sink = calm.sink });
     add = λ own other same completes order calm. completes order (record { config = calm.config; trace = calm.trace; bay = calm.bay; sink = calm.sink });
     remove = λ own other same completes order calm. completes order (record { config = calm.config; trace = calm.trace; bay = calm.bay; sink = calm.sink });
+    nbd = λ own other same completes order calm. completes order (record { config = calm.config; trace = calm.trace; bay = calm.bay; sink = calm.sink });
   }
 
   pub promise : ((command : Command) → IsCommand words command → Did command)

@@ -13,7 +13,7 @@ use Rattle.command_words.specs.Commands.{IsCommand}
 use Rattle.command_words.specs.declared.command.Command.TheVariants.{Solo}
 use Rattle.wol_run.specs.Causes.{AskFor, IsCause}
 use Rattle.wol_run.specs.Causes as row
-use Rattle.wol_run.specs.Commands.{uses_bay, uses_trace}
+use Rattle.wol_run.specs.Commands.{uses_bay, runs_trace}
 use Rattle.wol_run.specs.Outside.{Outside}
 use Rattle.wol_run.specs.Tops.{HasCause, IsDoneOrMemory, IsRunnable, TellsFault, TellsStatus}
 use Rattle.wol_run.proofs.CausesTold.{at_status}
@@ -24,7 +24,7 @@ module _ {D : Type 0} (tells : Bool) (state : D → State) (words : List (List �
   for_bay : AskFor words uses_bay
   for_bay = record { command = Solo own; is = is; does = refl }
 
-  for_trace : AskFor words uses_trace
+  for_trace : AskFor words runs_trace
   for_trace = record { command = Solo own; is = is; does = refl }
 
   abbrev Cause : ℕ → Type 0

@@ -4,6 +4,7 @@ use Rattle.std.specs.Io.KnownBytes.{IsAtEnd}
 use Rattle.wol_disk.specs.Disk.{Rose, State}
 use Rattle.wol_model.specs.Trace.{TraceLine, requests}
 use Rattle.wol_promise.specs.Manager.{Base}
+use Rattle.wol_config.specs.Documents.{names_of, number_named}
 use Rattle.wol_config.specs.declared.config.Config.{Config}
 use Rattle.wol_config.specs.declared.config.VolumeConf.{VolumeConf}
 use Rattle.volume_images.specs.Left.{AreNamedApart, IsTold}
@@ -25,15 +26,18 @@ use Rattle.replay.specs.declared.session.Options.{Options as Serving}
 use Rattle.cleaning.specs.Runs.{LacksVersions}
 use Rattle.command_words.specs.Commands.{IsCommand, NoCommand}
 use Rattle.command_words.specs.Table.{Named}
+use Rattle.command_words.specs.Values.{served_by}
 use Rattle.command_words.specs.declared.command.Command.{Command}
-use Rattle.command_words.specs.declared.command.Command.TheVariants.{Clean, Replay, Soak}
+use Rattle.command_words.specs.declared.command.Command.TheVariants.{Clean, Nbd, Replay, Soak}
+use Rattle.command_words.specs.declared.command.ServedName.{ServedName}
 use Rattle.view_commands.specs.Views.{IsDamagedIn}
 use Rattle.view_commands.specs.declared.order.Order.{Order}
 use Rattle.view_commands.specs.declared.order.Verb.{Verb}
 use Rattle.view_commands.specs.declared.order.ViewRefusal.{ViewRefusal}
-use Rattle.wol_run.specs.Commands.{changes_view, uses_bay, uses_config, uses_trace}
+use Rattle.wol_run.specs.Commands.{changes_view, runs_trace, serves_client, uses_bay, uses_config}
 use Rattle.wol_run.specs.Outside.{Outside}
 use Rattle.wol_run.specs.Replaying.{GivenLines, lines_of, options_as, trace_of}
+use Rattle.wol_run.specs.Serving.{HasBadClient}
 use Rattle.wol_run.specs.Settings.{HasConfig, HasNoConfig}
 use Rattle.wol_run.specs.Tops.{HasBadLine, HasMoreLines}
 use Rattle.wol_run.specs.Viewing.{IsOrder, RefusesChange, view_change_by}
@@ -121,6 +125,14 @@ pub record HasRefusal (tells : Bool) (words : List (List ℕ)) (before after : O
   pub refusal : ViewRefusal
   pub cause : RefusesChange tells config order before.bay after.bay refusal
 
+-- the volume that is to be served isn't configured
+pub record HasUnknownVolume (words : List (List ℕ)) (before : Outside) : Type 0 where
+  pub config : Config
+  pub has : HasConfig before.config.bytes config
+  pub name : ServedName
+  pub is : IsCommand words (Nbd name)
+  pub unknown : number_named (names_of config.volumes.items) (served_by name) ≡ None
+
 -- A block of the label and view of a volume is damaged, as its image reads.
 pub record HasDamagedView (tells : Bool) (before after : Outside) : Type 0 where
   pub config : Config
@@ -136,13 +148,13 @@ module _ {D : Type 0} (tells : Bool) (state : D → State) (words : List (List �
   pub data IsCause : (status : ℕ) → Type 0 where
     -- 0: the command was done; a trace that it uses was read to its end
     done : (command : Command) → IsCommand words command
-        → (AskFor words uses_trace → IsAtEnd after.trace.bytes) → IsCause 0
+        → (AskFor words runs_trace → IsAtEnd after.trace.bytes) → IsCause 0
     -- 1: the words ask for no command
     no_command : NoCommand words → IsCause 1
     -- 2: the configuration is needed, and its bytes are none
     no_config : AskFor words uses_config → HasNoConfig before.config.bytes → IsCause 2
     -- 3: a line is no line of a trace
-    bad_line : AskFor words uses_trace → HasBadLine before.trace.bytes → IsCause 3
+    bad_line : AskFor words runs_trace → HasBadLine before.trace.bytes → IsCause 3
     -- 4: a call of the bay or of a part of an image failed
     part_failed : AskFor words uses_bay → Rose before.bay.faults after.bay.faults → IsCause 4
     -- 5: an image has another length or label, is damaged, has a record twice, or has a segment of
@@ -158,15 +170,20 @@ module _ {D : Type 0} (tells : Bool) (state : D → State) (words : List (List �
     -- 9: there was no memory
     no_memory : IsCause 9
     -- 10: there are more than 2^32 lines
-    more_lines : AskFor words uses_trace → HasMoreLines before.trace.bytes → IsCause 10
+    more_lines : AskFor words runs_trace → HasMoreLines before.trace.bytes → IsCause 10
     -- 11: a volume had no version left for a write
     no_version : AskFor words uses_config → HasNoVersion tells words before after → IsCause 11
     -- 11 too: a volume had no version left for a copy
     no_version_to_copy : IsCommand words Clean → HasNoVersionToCopy tells before after → IsCause 11
     -- 12: the bay has no image of a volume's name
     no_image : AskFor words uses_config → IsClosedFor tells state before after 12 → IsCause 12
+    -- 14: a client's bytes are no requests
+    bad_client : AskFor words serves_client → HasBadClient before.trace.bytes after.trace.bytes
+        → IsCause 14
     -- 15: a word is no volume's name, or the view of the volume can't be changed so
     view_refused : HasRefusal tells words before after → IsCause 15
+    -- 15 too: the volume that is to be served isn't configured
+    unknown_volume : HasUnknownVolume words before → IsCause 15
     -- 5 too: the label or the view of a volume whose view is to be changed is damaged
     damaged_view : AskFor words changes_view → HasDamagedView tells before after → IsCause 5
     -- 5, 6 and 12 too: the image of a volume whose view is to be changed is another as it is handed

@@ -3,7 +3,7 @@ use Rattle.std.specs.Prelude.{◌≡◌, Bool, true, false, ⊤, ℕ, ◌≤◌,
 use Rattle.solo.specs.Volume.{IsVolume, target_of}
 use Rattle.command_words.specs.Commands.{IsCommand}
 use Rattle.command_words.specs.declared.command.Command.{Command}
-use Rattle.command_words.specs.declared.command.Command.TheVariants.{Solo, Replay, Gen, Soak, ViewAdd, ViewRemove, WhatIf}
+use Rattle.command_words.specs.declared.command.Command.TheVariants.{Solo, Nbd, Replay, Gen, Soak, ViewAdd, ViewRemove, WhatIf}
 
 -- whether a command uses the bay
 abbrev pub uses_bay : Command → Bool
@@ -11,12 +11,22 @@ uses_bay (Gen asked) = false
 uses_bay WhatIf = false
 uses_bay command = true
 
--- whether it uses the trace that it is given
+-- whether it runs the lines of the trace that it is given
+abbrev pub runs_trace : Command → Bool
+runs_trace (Solo volume) = true
+runs_trace (Replay options) = true
+runs_trace WhatIf = true
+runs_trace command = false
+
+-- whether it uses the source of the trace, for that or for a client's requests
 abbrev pub uses_trace : Command → Bool
-uses_trace (Solo volume) = true
-uses_trace (Replay options) = true
-uses_trace WhatIf = true
-uses_trace command = false
+uses_trace (Nbd name) = true
+uses_trace command = runs_trace command
+
+-- whether it serves a client
+abbrev pub serves_client : Command → Bool
+serves_client (Nbd name) = true
+serves_client command = false
 
 -- whether it uses the configuration
 abbrev pub uses_config : Command → Bool

@@ -13,5 +13,6 @@ pub mod Completing
 pub mod Headlined
 pub mod Accounted
 pub mod Outside
+pub mod Serving
 pub mod Causes
 pub mod Run

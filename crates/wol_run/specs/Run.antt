@@ -9,16 +9,17 @@ use Rattle.inspection.specs.declared.asked.Asked.TheVariants as asked
 use Rattle.replay.specs.declared.session.Options.{Options as Serving}
 use Rattle.command_words.specs.Commands.{IsCommand, NoCommand}
 use Rattle.command_words.specs.declared.command.Command.{Command}
-use Rattle.command_words.specs.declared.command.Command.TheVariants.{Check, Clean, Dump, Format, Gen, Replay, Soak, Solo, ViewAdd, ViewRemove, WhatIf}
+use Rattle.command_words.specs.declared.command.Command.TheVariants.{Check, Clean, Dump, Format, Gen, Nbd, Replay, Soak, Solo, ViewAdd, ViewRemove, WhatIf}
 use Rattle.command_words.specs.declared.command.Generated.{Generated}
+use Rattle.command_words.specs.declared.command.ServedName.{ServedName}
 use Rattle.command_words.specs.Table.{Named}
-use Rattle.command_words.specs.Values.{named_by}
+use Rattle.command_words.specs.Values.{named_by, served_by}
 use Rattle.view_commands.specs.declared.order.Verb.{Verb}
 use Rattle.view_commands.specs.declared.order.Verb.TheVariants.{Add, Remove}
 use Rattle.wol_run.specs.Accounted.{RunsAccount}
 use Rattle.wol_run.specs.Causes.{IsCause, replayed_by}
 use Rattle.wol_run.specs.Cleaning.{RunsCleaning}
-use Rattle.wol_run.specs.Commands.{changes_view, uses_config}
+use Rattle.wol_run.specs.Commands.{changes_view, serves_client, uses_config}
 use Rattle.wol_run.specs.Comparing.{RunsWhatIf}
 use Rattle.wol_run.specs.Completing.{HasSoundImages, HaveVersions, HaveVersionsToClean, IsGoodTrace, seed_lines}
 use Rattle.wol_run.specs.Formatting.{RunsFormat}
@@ -27,6 +28,7 @@ use Rattle.wol_run.specs.Headlined.{RunsHeadline}
 use Rattle.wol_run.specs.Inspecting.{RunsLook}
 use Rattle.wol_run.specs.Outside.{LeavesUnused, NothingFailed, Outside}
 use Rattle.wol_run.specs.Replaying.{GivenLines, RunsReplay, lines_of, options_as, trace_of}
+use Rattle.wol_run.specs.Serving.{RunsServing, wire}
 use Rattle.wol_run.specs.Settings.{HasNoConfig, IsConfigured}
 use Rattle.wol_run.specs.Tops.{EndsWith, IsDoneOrMemory, IsRunnable, RunsSolo}
 use Rattle.wol_run.specs.Viewing.{RunsViewChange}
@@ -73,6 +75,14 @@ module _ {D : Type 0} (tells : Bool) (state : D → State) (before after : Outsi
   IsCleaningOf =
       RunsCleaning tells state before.config.bytes before.config.faults after.config.faults
       before.bay after.bay before.sink.faults status before.sink.bytes after.sink.bytes
+
+  -- the volume of this name was served to a client
+  abbrev pub IsServingOf : List ℕ → Type 0
+  IsServingOf name =
+      RunsServing tells state name before.config.bytes before.config.faults after.config.faults
+      before.bay after.bay
+      (wire before.trace.bytes before.trace.faults before.sink.bytes before.sink.faults)
+      (wire after.trace.bytes after.trace.faults after.sink.bytes after.sink.faults) status
 
 -- the images were made anew
 abbrev pub IsFormat : (before after : Outside) → (status : ℕ) → Type 0
@@ -127,6 +137,8 @@ module _ {D : Type 0} (tells : Bool) (state : D → State) (before after : Outsi
   -- clean: a line for each volume, with what its cleaning came to, or why it was the last; each
   -- image recovers to what it recovered to before
   Does Clean = IsCleaningOf tells state before after status
+  -- nbd: a session of requests and their replies, and what the images recover to after it
+  Does (Nbd name) = IsServingOf tells state before after status (served_by name)
 
 -- ---- What a run needs
 
@@ -164,11 +176,15 @@ ReadsInOrder tells Clean before =
     IsConfigured before.config.bytes
     × (images : HasSoundImages tells before.config.bytes before.bay)
     × HaveVersionsToClean before.config.bytes images.entry
+ReadsInOrder tells (Nbd name) before =
+    IsConfigured before.config.bytes × HasSoundImages tells before.config.bytes before.bay
 
--- the command is done, or there was no memory; or a view can't be changed as the words ask
+-- the command is done, or there was no memory; or a view can't be changed as the words ask, or a
+-- client's bytes or the volume's name are none
 abbrev pub ComesToItsEnd : Command → (status : ℕ) → Type 0
 ComesToItsEnd command status =
     IsDoneOrMemory status ⊎ ((changes_view command ≡ true) × (status ≡ 15))
+    ⊎ ((serves_client command ≡ true) × ((status ≡ 14) ⊎ (status ≡ 15)))
 
 -- ---- The whole
 
@@ -191,7 +207,7 @@ pub record Run {D : Type 0} (tells : Bool) (state : D → State) (words : List (
   pub refused : NoCommand words
       → EndsWith (codes "fault 1 words\n") 1 status before.sink.bytes after.sink.bytes
       ⊎ EndsWith (codes "fault 9 memory\n") 9 status before.sink.bytes after.sink.bytes
-  -- the status has its cause, which is one of 0 to 12, or 15
+  -- the status has its cause, which is one of 0 to 12, 14 or 15
   pub cause : IsCause tells state words before after status
   -- it is 7 where a call of the sink failed; a count at its last value stands still
   pub sink : before.sink.faults < after.sink.faults → status ≡ 7

@@ -2,7 +2,7 @@ use Rattle.std.proofs.Common.{◌≡◌, ◌∙◌, sym, subst, codes, List}
 use Rattle.clap.specs.Words.{Row, Text, found_of, rows_of}
 use Rattle.solo.specs.Volume.{target_of}
 use Rattle.command_words.specs.Commands.{AsksNothing, HasValues}
-use Rattle.command_words.specs.Values.{NoNames, NoVolume, named_by}
+use Rattle.command_words.specs.Values.{NoNames, NoServed, NoVolume, named_by, served_by}
 use Rattle.command_words.proofs.Unique.{by_name}
 use Rattle.command_words.proofs.command.read.Goals as goal
 
@@ -22,6 +22,11 @@ module _ (name : Text) (rows : List Row) where
       let (names, at) = by_name (codes "view-remove") d (sym is ∙ asks.named) in
       none (named_by names) (subst (HasValues rows) at asks.values)
 
+  no_nbd : name ≡ codes "nbd" → NoServed rows → AsksNothing name rows
+  no_nbd is none d asks =
+      let (served, at) = by_name (codes "nbd") d (sym is ∙ asks.named) in
+      none (served_by served) (subst (HasValues rows) at asks.values)
+
 pub returns-in_err-volume_of-in-solo-clause-none : goal.returns-in_err-volume_of-in-solo-clause-none
 returns-in_err-volume_of-in-solo-clause-none c =
     rw c.from_residual.ensures (no_solo c.args.name.now (rows_of (found_of c.args.matches.now)) c.in-solo.is c.in_err-volume_of-in-solo.ensures.none)
@@ -33,3 +38,7 @@ returns-in_err-names_of-in-text-clause-none c =
 pub returns-in_err-names_of-in-text-2-clause-none : goal.returns-in_err-names_of-in-text-2-clause-none
 returns-in_err-names_of-in-text-2-clause-none c =
     rw c.from_residual-in_err-names_of-in-text-2.ensures (no_view_remove c.args.name.now (rows_of (found_of c.args.matches.now)) c.in-text-2.is c.in_err-names_of-in-text-2.ensures.none)
+
+pub returns-in_err-served_of-in-nbd-clause-none : goal.returns-in_err-served_of-in-nbd-clause-none
+returns-in_err-served_of-in-nbd-clause-none c =
+    rw c.from_residual-in_err-served_of-in-nbd.ensures (no_nbd c.args.name.now (rows_of (found_of c.args.matches.now)) c.in-nbd.is c.in_err-served_of-in-nbd.ensures.none)

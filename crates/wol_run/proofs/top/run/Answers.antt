@@ -1,7 +1,7 @@
 use Rattle.std.proofs.Common.{Err, inl, inr, refl, ap, subst, arith}
 use Rattle.command_words.specs.Commands.{IsCommand}
 use Rattle.wol_run.proofs.Asked.{in_range, range_of_gen, range_of_solo}
-use Rattle.wol_run.proofs.CommandsTold.{check_promise, clean_promise, comparison_promise, dump_promise, format_promise, gen_promise, memory_promise, replay_promise, soak_promise, solo_done_promise, solo_fault_promise, view_add_promise, view_remove_promise}
+use Rattle.wol_run.proofs.CommandsTold.{check_promise, clean_promise, comparison_promise, dump_promise, format_promise, gen_promise, memory_promise, replay_promise, serving_promise, soak_promise, solo_done_promise, solo_fault_promise, view_add_promise, view_remove_promise}
 use Rattle.wol_run.proofs.Completing.{rose_from, rose_later}
 use Rattle.wol_run.proofs.Endings.{has_cause}
 use Rattle.wol_run.proofs.Promised.{of_none}
@@ -53,6 +53,10 @@ returns-in-ViewRemove-clause-promise g c =
 pub returns-in-Clean-clause-promise : goal.returns-in-Clean-clause-promise
 returns-in-Clean-clause-promise g c =
     clean_promise _ _ _ _ _ _ c.clean.ensures.cause c.clean.ensures.calm (subst (IsCommand _) c.in-Clean.is c.in-Ok.ensures.ok) c.clean.ensures.content c.clean.ensures.complete refl
+
+pub returns-in-Nbd-clause-promise : goal.returns-in-Nbd-clause-promise
+returns-in-Nbd-clause-promise g c =
+    serving_promise _ _ _ _ _ _ c.serve.ensures.cause c.serve.ensures.calm c.in-Nbd.name (subst (IsCommand _) c.in-Nbd.is c.in-Ok.ensures.ok) c.serve.ensures.content c.serve.ensures.complete
 
 -- the lines of one volume were run to their end
 pub returns-in-Ok-run-clause-promise : goal.returns-in-Ok-run-clause-promise
