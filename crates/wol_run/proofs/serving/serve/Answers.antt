@@ -11,10 +11,10 @@ returns-clause-content g c =
     inl (record {
       config = c.in-Ok.config;
       has = c.in-Ok.ensures.ok;
-      result = c.serve_volume.result;
-      sound = c.serve_volume.ensures.sound;
-      others = c.serve_volume.ensures.others;
-      serves = c.serve_volume.ensures.content;
+      result = c.serve_volume-answer.result;
+      sound = c.serve_volume-answer.ensures.sound;
+      others = c.serve_volume-answer.ensures.others;
+      serves = c.serve_volume-answer.ensures.content;
       done = c.status_of.ensures;
     })
 
@@ -23,16 +23,16 @@ returns-in-Err-clause-complete g c is configured bay source input sink = inl (un
 
 pub returns-clause-complete : goal.returns-clause-complete
 returns-clause-complete g c is configured bay source input sink =
-    ends_at_client c.serve_volume.result c.status_of.result c.status_of.ensures (c.serve_volume.ensures.complete input (may_look _ _ c.in-Ok.config c.in-Ok.ensures.ok _ _ _ _ is bay sink))
+    ends_at_client c.serve_volume-answer.result c.status_of.result c.status_of.ensures (c.serve_volume-answer.ensures.complete input (may_look _ _ c.in-Ok.config c.in-Ok.ensures.ok _ _ _ _ is bay sink))
 
 pub returns-in-Err-clause-cause : goal.returns-in-Err-clause-cause
 returns-in-Err-clause-cause g c seven = absurd (unserved_not_sink _ _ _ c.status.result c.in-Err.fault c.in-Err.ensures.err c.status.ensures seven)
 
 pub returns-clause-cause : goal.returns-clause-cause
-returns-clause-cause g c seven = seven_of_sink _ _ c.in-Ok.config _ _ _ _ _ c.status_of.result c.serve_volume.result c.serve_volume.ensures.content c.status_of.ensures seven
+returns-clause-cause g c seven = seven_of_sink _ _ c.in-Ok.config _ _ _ _ _ c.status_of.result c.serve_volume-answer.result c.serve_volume-answer.ensures.content c.status_of.ensures seven
 
 pub returns-in-Err-clause-calm : goal.returns-in-Err-clause-calm
 returns-in-Err-clause-calm g c less = absurd (omega (arith, less))
 
 pub returns-clause-calm : goal.returns-clause-calm
-returns-clause-calm g c less = sink_told _ _ c.in-Ok.config _ _ _ _ _ c.status_of.result c.serve_volume.result c.serve_volume.ensures.content c.status_of.ensures less
+returns-clause-calm g c less = sink_told _ _ c.in-Ok.config _ _ _ _ _ c.status_of.result c.serve_volume-answer.result c.serve_volume-answer.ensures.content c.status_of.ensures less
