@@ -4,12 +4,12 @@ usage: kills.py WOL [--kills N] [--seed S] [--folder F]
 
 Each round replays a random trace over small volumes with `--each`, kills the program with SIGKILL at a random moment, and then asks:
 are the lines that it printed those of the plain arrays, in order; is what each volume's images stand for (by a reader of its own, and
-by `wol check`) what the acknowledged writes left, with at most the writes in flight; the next round goes on with these images. N counts
-the kills that found some of the writes done. It prints its counts, and ends with 1 and the folder of the first round that went wrong.
+by `wol check`) what the acknowledged writes left, with at most the writes in flight. Then it kills a command that keeps the volumes'
+content, and they must have it; the next round goes on with these images. N counts the kills of replays that found some of the writes
+done. It prints its counts, and ends with 1 and the folder of the first round that went wrong.
 """
 
 import argparse
-import hashlib
 import random
 import shutil
 import subprocess
@@ -18,7 +18,7 @@ import tempfile
 import time
 from pathlib import Path
 
-from images import Config, read_config, recovered
+from images import ZEROS, Config, Opened, check_text, opened, read_config, recovered
 from model import Request, is_cut, random_trace, read_lines
 
 MODES = ("off", "between", "beside")
@@ -62,18 +62,50 @@ def look(wol: str, folder: Path, config: Config, before: list, asked: list[Reque
     assert stopped or len(printed) == len(expected), "a read line is missing"
     # the lines of a window are printed once the whole window was answered
     through = (int(printed[-1].split()[1]) if printed else 0) if stopped else asked[-1].line if asked else 0
-    after = recovered(folder, config)
+    after, text = recovered(folder, config), check_text(config, opened(folder, config))
     for number, volume in enumerate(config.volumes):
         writes = [it for it in asked if it.volume == number and it.write]
         acknowledged = sum(it.line <= through for it in writes)
         assert is_cut(before[number], writes, acknowledged, after[number]), f"{volume.name} lost or gained something"
     told = call(wol, folder, "check")
-    assert told.returncode == 0, f"check ends with {told.returncode}: {told.stdout}"
-    for volume, array, line in zip(config.volumes, after, told.stdout.splitlines()):
-        digest = hashlib.sha256(b"".join(array)).hexdigest()
-        assert line.startswith(f"{volume.name} ok sha256 {digest} "), f"check says {line}"
+    assert (told.returncode, told.stdout) == (0, text), f"check ends with {told.returncode}: {told.stdout}"
     assert recovered(folder, config) == after, "check changed what the images stand for"
     return after
+
+
+def kill(wol: str, folder: Path, rng: random.Random, *words: str) -> bool:
+    """Kills a short command; whether it was still at work."""
+    run = subprocess.Popen([wol, *words], cwd=folder, stdin=subprocess.DEVNULL, stdout=subprocess.DEVNULL, stderr=subprocess.DEVNULL)
+    time.sleep(rng.uniform(0, 0.02))
+    run.kill()
+    run.wait()
+    assert run.returncode in (0, 15, -9), f"{words} ends with {run.returncode}"
+    return run.returncode == -9
+
+
+def kill_keeping(wol: str, folder: Path, config: Config, rng: random.Random, arrays: list) -> bool:
+    """Kills a command that may change where content lies, and not what it is."""
+    two = [it.name for it in rng.sample(config.volumes, 2)]
+    words = rng.choice((["check"], ["dump"], ["view-add", *two], ["view-remove", *two]))
+    stopped = kill(wol, folder, rng, *words)
+    assert recovered(folder, config) == arrays, f"{words} changed a volume"
+    return stopped
+
+
+def kill_format(wol: str, folder: Path, config: Config, rng: random.Random, arrays: list) -> bool:
+    """Kills a format: an image is as it was, has no label, or is whole."""
+    stopped = kill(wol, folder, rng, "format")
+    volumes = opened(folder, config)
+    told, text = call(wol, folder, "check"), check_text(config, volumes)
+    assert told.stdout == text, f"check says {told.stdout}, and not {text}"
+    for volume, array, it in zip(config.volumes, arrays, volumes):
+        if isinstance(it, Opened):
+            assert it.array == array or it.array == [ZEROS] * len(array), f"{volume.name} is neither old nor new"
+        else:
+            # an image that was emptied, and not yet made long
+            unmade = (f"damaged 0 of {volume.name}", "length 0")
+            assert it.text in unmade or it.text.startswith("logger "), f"{volume.name} {it.text}"
+    return stopped
 
 
 def main() -> int:
@@ -84,7 +116,7 @@ def main() -> int:
     words.add_argument("--folder", help="where images are made; a memory file system and a disk show different stops")
     asked_for = words.parse_args()
     wol, rng = str(Path(asked_for.wol).resolve()), random.Random(asked_for.seed)
-    rounds = stops = within = 0
+    rounds = stops = within = others = 0
     lasts = 0.05
     while within < asked_for.kills:
         folder = Path(tempfile.mkdtemp(prefix="wol-kills-", dir=asked_for.folder))
@@ -102,13 +134,19 @@ def main() -> int:
                 stopped, lines = killed(wol, folder, options, rng.uniform(0, 1.3 * lasts))
                 lasts = 1.2 * lasts if stopped else time.monotonic() - start
                 before, arrays = arrays, look(wol, folder, config, arrays, asked, lines, stopped)
+                others += kill_keeping(wol, folder, config, rng, arrays)
             except (AssertionError, subprocess.TimeoutExpired) as wrong:
                 print(f"round {rounds + 1} of seed {asked_for.seed} went wrong: {wrong}; its folder is {folder}", file=sys.stderr)
                 return 1
             rounds, stops = rounds + 1, stops + stopped
             within += stopped and arrays != before
+        try:
+            others += kill_format(wol, folder, config, rng, arrays)
+        except (AssertionError, subprocess.TimeoutExpired) as wrong:
+            print(f"a format of seed {asked_for.seed} went wrong: {wrong}; its folder is {folder}", file=sys.stderr)
+            return 1
         shutil.rmtree(folder)
-    print(f"{rounds} replays, {stops} killed, {within} of them among writes: each printed line and each array is as it may be")
+    print(f"{rounds} replays, {stops} killed, {within} of them among writes, and {others} other commands: each printed line and each array is as it may be")
     return 0
 
 

@@ -1,6 +1,8 @@
-"""What a trace asks of each volume, and what a volume is after some of it: pieces, payloads and marks as docs/FORMATS.md has them."""
+"""What a trace asks of each volume, and what a volume is after some of it: lines, pieces, payloads and marks as docs/FORMATS.md has
+them."""
 
 import random
+import re
 import struct
 from typing import NamedTuple
 
@@ -82,3 +84,66 @@ def is_cut(before: list[bytes], writes: list[Request], acknowledged: int, after:
             return True
         write_into(array, write)
     return False
+
+
+class Line(NamedTuple):
+    """A line of a trace that is one."""
+
+    host: bytes
+    disk: int
+    write: bool
+    offset: int
+    size: int
+
+
+def read_line(line: bytes) -> Line | str | None:
+    """The line without its line feed, why it is none, or nothing where it is blank."""
+    if len(line) > 4096:
+        return "too long"
+    if b'"' in line or b"\r" in line[:-1]:
+        return "quote"
+    line = line.removesuffix(b"\r")
+    if not line:
+        return None
+    fields = line.split(b",")
+    if len(fields) != 7:
+        return "fields"
+    for number in (1, 3, 4, 5, 6, 7):
+        field = fields[number - 1]
+        if number == 4:
+            if field not in (b"Read", b"Write"):
+                return "kind"
+        elif not re.fullmatch(rb"[0-9]{1,20}", field) or int(field) >= (2**32 if number == 3 else 2**64):
+            return f"number {number}"
+    offset, size = int(fields[4]), int(fields[5])
+    if size > 67_108_864:
+        return "too large"
+    if offset + size >= 2**64:
+        return "past end"
+    return Line(fields[1], int(fields[2]), fields[3] == b"Write", offset, size)
+
+
+def solo_text(trace: bytes, volume: Volume) -> tuple[int, str]:
+    """The status of `solo` on a trace, and what it prints."""
+    marks, text = {}, []
+    blank = skipped = reads = writes = number = 0
+    lines = trace.split(b"\n")
+    for number, raw in enumerate(lines[:-1] if not lines[-1] else lines, 1):
+        line = read_line(raw)
+        if isinstance(line, str):
+            return 3, "".join(text) + f"fault 3 line {number} {line}\n"
+        if line is None:
+            blank += 1
+            continue
+        if line.host != volume.host.encode() or line.disk != volume.disk:
+            skipped += 1
+            continue
+        for lbn, count in pieces(line.offset, line.size, volume, 128):
+            if line.write:
+                writes += 1
+                marks.update((block, number) for block in range(lbn, lbn + count))
+            else:
+                reads += 1
+                mark = sum(marks.get(block, 0) for block in range(lbn, lbn + count)) % 2**64
+                text.append(f"read {number} {lbn} {count} {mark}\n")
+    return 0, "".join(text) + f"solo lines {number} blank {blank} skipped {skipped} reads {reads} writes {writes}\n"
