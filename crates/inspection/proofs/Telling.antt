@@ -183,6 +183,7 @@ module _ {D : Type 0} (tells : Bool) (state : D → State) (config : Config) (as
         fault = fault.fault;
         names = subst (λ (n : ℕ). NamesVolumes n fault.fault) (length-map config.volumes.items (shape_in config)) (session.opened.rack.known k fault.fault fault.is_fault);
         rose = counted k v.0 fault.fault v.1 fault.is_fault;
+        part = λ p disk. session.part k p (fault.is_fault ∙ ap (λ (g : VolumeFault). Some (Some g)) disk);
         refuses = session.refused k v.0 fault.fault v.1 fault.is_fault;
         trouble = fault.trouble;
         text = fault.text;

@@ -24,6 +24,7 @@ pub nothing_told : {D : Type 0} (tells : Bool) (state : D → State) (config : C
 nothing_told tells state config asked old new result faults printed is = record {
   out = [];
   count = λ some. absurd (some refl);
+  there = λ some. absurd (some refl);
   missing = λ some. absurd (some refl);
   told = [];
   few = omega arith;
@@ -39,6 +40,7 @@ pub inspected : {D : Type 0} (tells : Bool) (state : D → State) (config : Conf
 inspected tells state config asked did old new spindles session result faults faults' printed printed' prints = record {
   out = session.before.rest.images.items;
   count = λ some. session.opened.rack.rest.parts.images.0 ∙ length-map config.volumes.items (shape_in config);
+  there = λ some. session.opened.there;
   missing = λ some. session.missing;
   told = prints.told;
   few = prints.are.few;

@@ -12,6 +12,7 @@ use Rattle.manager.specs.Stands.{Stands}
 use Rattle.manager.specs.declared.base.ManagerBase.{ManagerBase}
 use Rattle.manager.specs.declared.manager.Manager.{Manager}
 use Rattle.manager.specs.declared.part.Part.{Part}
+use Rattle.manager_recovery.specs.declared.refusal.OpenRefusal.TheVariants.{DiskFault}
 use Rattle.log_dump.specs.Texts.{check_text}
 use Rattle.log_dump.specs.Volumes.{IsDump, held_segments}
 use Rattle.report.specs.Names.{name_at}
@@ -20,13 +21,14 @@ use Rattle.report.specs.declared.trouble.Trouble.{Trouble}
 use Rattle.troubles.specs.Troubles.{trouble_of, trouble_of_part}
 use Rattle.volume_images.specs.Left.{AreNamedApart, IsTold}
 use Rattle.volume_images.specs.Volumes.{images_read, shapes_of}
-use Rattle.rack.specs.Closes.{HasFaultyPart}
-use Rattle.rack.specs.Opens.{RefusesVolume}
+use Rattle.rack.specs.Closes.{CameBackFaulty, HasFaultyPart}
+use Rattle.rack.specs.Opens.{RefusesVolume, WereThere}
 use Rattle.rack.specs.Owners.{images_taken, IsBegun}
 use Rattle.rack.specs.Racks.{NamesVolumes}
 use Rattle.rack.specs.Rests.{IsImageOut, image_here}
 use Rattle.rack.specs.declared.rack.ImageRest.{ImageRest}
 use Rattle.rack.specs.declared.volume_fault.VolumeFault.{VolumeFault}
+use Rattle.rack.specs.declared.volume_fault.VolumeFault.TheVariants.{Refused}
 use Rattle.inspection.specs.Lines.{Telling, PrintsBy, trouble_line}
 use Rattle.inspection.specs.declared.asked.Asked.{Asked}
 use Rattle.inspection.specs.declared.asked.Asked.TheVariants.{Check, Dump}
@@ -58,8 +60,9 @@ pub record TellsRefusal {D : Type 0} (tells : Bool) (state : D → State) (confi
   pub refuses : RefusesVolume tells state config out old new number conf fault
   -- the volumes that it names are configured
   pub names : NamesVolumes (length config.volumes.items) fault
-  -- that of a disk is counted
+  -- that of a disk is counted, and the part that is told came back with a fault
   pub rose : trouble_status (trouble_of fault) ≡ 4 → Rose old.faults new.faults
+  pub part : (p : Part) → fault ≡ Refused (DiskFault p) → IsTold (CameBackFaulty config p) old.told new.told
   pub trouble : t.trouble ≡ Some (trouble_of fault)
   pub text : t.text ≡ trouble_line config number (trouble_of fault)
 
@@ -90,7 +93,8 @@ pub record Inspects {D : Type 0} (tells : Bool) (state : D → State) (config : 
   pub out : List (Option (ImageRest D))
   pub told : List Telling
   pub count : told ≢ [] → length out ≡ length config.volumes.items
-  -- where any volume was told, an image that isn't out was refused
+  -- where any volume was told, an image that is out was there and may be opened as it reads, and one that isn't was refused
+  pub there : told ≢ [] → IsTrue tells → IfSome old.told (λ t. AreNamedApart t → WereThere config out t)
   pub missing : told ≢ [] → (k : ℕ) (v : VolumeConf) → slice_get config.volumes.items k ≡ Some v → image_here out k ≡ None → (f : VolumeFault) × RefusesVolume tells state config out old new k v f
   pub few : length told ≤ length config.volumes.items
   pub each : (k : ℕ) (t : Telling) → slice_get told k ≡ Some t → IsToldOf tells state config asked out old new k t

@@ -5,7 +5,7 @@ ghost use Rattle.wol_bay.specs.Bay.{outs};
 ghost use Rattle.wol_config.specs.Configs.{IsValid};
 ghost use Rattle.volume_images.specs.Left.{IsTold};
 ghost use Rattle.volume_images.specs.Volumes.{NoneOut};
-ghost use Rattle.rack.specs.Opens.{KeepsAllSound, LeavesAll};
+ghost use Rattle.rack.specs.Opens.{KeepsAllSound, KeepsOthers, LeavesAll};
 ghost use Rattle.inspection.specs.Racks.{CanLook, IsSameRack};
 ghost use Rattle.inspection.specs.Lines.{PrintsVolumes, first_of};
 ghost use Rattle.inspection.specs.Runs.{Completes, Inspects, MayComplete};
@@ -140,6 +140,8 @@ pub fn inspect<R: Wait, K: Sink, B: Bay>(
     // each image left in the bay recovers to what one at entry did, also after a stop within, and where a call of a disk failed
     ensures left { IsTrue B.Part.tells → IsTold (LeavesAll B.Part.tells B.Part.state config.now (B.state bay.old) (B.state bay.new)) (B.state bay.old).told (B.state bay.new).told }
     ensures sound { IsTrue B.Part.tells → IsTold (KeepsAllSound config.now) (B.state bay.old).told (B.state bay.new).told }
+    // images of names that aren't configured are as they were
+    ensures others { IsTold (KeepsOthers config.now) (B.state bay.old).told (B.state bay.new).told }
     ensures complete { MayComplete B.Part.tells config.now (B.state bay.old) (B.state bay.new) (K.faults out.old) (K.faults out.new) → Completes result }
 {
     let work = Inspecting { asked };

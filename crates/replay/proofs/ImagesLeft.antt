@@ -31,7 +31,7 @@ use Rattle.rack.specs.declared.rack.ImageRest.{ImageRest}
 use Rattle.replay.specs.Headline.{IsOneAction, in_flight}
 use Rattle.replay.specs.Histories.{AreHistories, BeginAsRead, History, is_broken, is_broken_at}
 use Rattle.replay.specs.Leaves.{LeavesImages, written_array}
-use Rattle.replay.proofs.AllOut.{recovered_all}
+use Rattle.open_rack.proofs.AllOut.{recovered_all}
 use Rattle.replay.proofs.FlightServed.{HasFlight, IsInFlight, next_write, no_write}
 use Rattle.replay.proofs.HistoriesLeft.{IsHistoryAt}
 use Rattle.replay.proofs.RacksServed.{a_member}

@@ -29,11 +29,9 @@ pub mod CountsLeft
 pub mod LastWindow
 pub mod TracesLeft
 pub mod MarksLeft
-pub mod AllOut
 pub mod CauseServed
 pub mod FlightEnded
 pub mod ImagesLeft
-pub mod FirstClosed
 pub mod RunLeft
 pub mod Statuses
 pub mod RunCounts

@@ -29,7 +29,9 @@ use Rattle.rack.specs.declared.volume_fault.VolumeFault.{VolumeFault}
 use Rattle.request_turns.specs.Helped.{ManagerLock}
 use Rattle.request_workers.specs.Begun.{SpindlePass}
 use Rattle.request_workers.specs.Stations.{AreStations}
-use Rattle.replay.specs.Runs.{CanServe, first_closed, locks_of}
+use Rattle.open_rack.specs.NotOpened.{first_closed}
+use Rattle.open_rack.proofs.FirstClosed.{none_closed}
+use Rattle.replay.specs.Runs.{CanServe, locks_of}
 use Rattle.replay.specs.Served.{AreSamePasses}
 
 -- ---- Places in lists
@@ -103,13 +105,6 @@ in_order m (x ∷ xs) count bounds rising has =
     place (suc j) n there first each = let so = each j n there in omega (arith, so)
 
 -- ---- Serving
-
-pub none_closed : (k : ℕ) (faults : List (Option VolumeFault)) → first_closed k faults ≡ None → (j : ℕ) → slice_index_or faults j None ≡ None
-none_closed k [] none zero = refl
-none_closed k [] none (suc j) = refl
-none_closed k (None ∷ faults) none zero = refl
-none_closed k (None ∷ faults) none (suc j) = none_closed (k + 1) faults none j
-none_closed k (Some f ∷ faults) none j = absurd (cc none)
 
 out_within : {D : Type 0} (images : List (Option (ImageRest D))) (k : ℕ) → IsImageOut images k → k < length images
 out_within [] zero out = absurd (cc out)

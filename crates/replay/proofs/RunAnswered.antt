@@ -13,7 +13,7 @@ use Rattle.manager_recovery.specs.declared.refusal.OpenRefusal.TheVariants as re
 use Rattle.report.specs.Names.{printed_names}
 use Rattle.report.specs.Summaries.{summary_text}
 use Rattle.report.specs.declared.fault.Fault.TheVariants.{Memory}
-use Rattle.rack.specs.Closes.{AreLeftOfParts, HasFaultIn, IsClosedSpindle, IsClosedVolume, IsQuiet, LeavesVolumes}
+use Rattle.rack.specs.Closes.{AreLeftOfParts, HasFaultAt, HasFaultIn, IsClosedSpindle, IsClosedVolume, IsQuiet, LeavesVolumes, ListsFaulty}
 use Rattle.rack.specs.Opens.{AreRefused, BeganWith, HasFaulty, KeepsAllSound, WereThere}
 use Rattle.rack.specs.Owners.{HadRefused}
 use Rattle.rack.specs.Racks.{AreUnused, IsRack, IsUnused}
@@ -27,15 +27,17 @@ use Rattle.request_workers.specs.Stations.{AreStations}
 use Rattle.replay.specs.NotOpened.{LeavesBay}
 use Rattle.replay.specs.Prints.{PrintsText, all_amounts}
 use Rattle.replay.specs.Replays.{Replayed, Replays, ran}
-use Rattle.replay.specs.Runs.{RunsIn, closed, first_closed, locks_of, no_memory, served}
+use Rattle.open_rack.specs.NotOpened.{first_closed}
+use Rattle.replay.specs.Runs.{RunsIn, closed, locks_of, no_memory, served}
 use Rattle.replay.specs.Sessions.{ServesSome, ServesWhole}
 use Rattle.replay.specs.declared.counting.Counted.{Counted}
 use Rattle.replay.specs.declared.given.Given.{Given}
 use Rattle.replay.specs.declared.session.Options.{Options}
 use Rattle.replay.specs.declared.stop.Stop.{Stop}
 use Rattle.replay.specs.declared.stop.Stop.TheVariants as stop
-use Rattle.replay.proofs.FirstClosed.{opened_out}
-use Rattle.replay.proofs.RacksServed.{each_station, none_closed, station_count}
+use Rattle.open_rack.proofs.FirstClosed.{none_closed, opened_out}
+use Rattle.rack.proofs.FailedParts.{gained_parts}
+use Rattle.replay.proofs.RacksServed.{each_station, station_count}
 use Rattle.replay.proofs.RunClosed.{leaves_bay, runs_closed}
 use Rattle.replay.proofs.RunFlown.{began_still, run_sound}
 use Rattle.replay.proofs.RunReplayed.{replays_none, replays_some, replays_whole}
@@ -52,7 +54,8 @@ pub record HasOpened {D : Type 0} (state : D → State) (tells : Bool) (config :
   pub apart : IsTold (λ x y. AreNamedApart y) entry.told opened.told
   pub unfaulty : ((k : ℕ) → k < length (shapes_of config) → IsImageOut r.rest.images.items k) → IsTold (λ x y. y.faulty ≡ x.faulty) entry.told opened.told
   pub kept : IsTrue tells → IsTold (HadRefused config r.rest.images.items) entry.told opened.told
-  pub failed : (k : ℕ) (p : Part) → slice_get r.faults.items k ≡ Some (Some (fault.Refused (refusal.DiskFault p))) → HasFaultIn state r.rest ⊎ Rose entry.faults opened.faults
+  pub failed : (k : ℕ) (p : Part) → slice_get r.faults.items k ≡ Some (Some (fault.Refused (refusal.DiskFault p))) → IsImageOut r.rest.images.items k → HasFaultAt state r.rest p
+  pub gained : IsTold HasFaulty entry.told opened.told
   pub counts : entry.faults ≤ opened.faults
 
 -- what closing says of one
@@ -65,7 +68,7 @@ pub record HasClosedRack {D : Type 0} (state : D → State) (tells : Bool) (conf
   pub sound : (t : Told) → IsTrue tells → BeganWith state config t q → WereThere config q.rest.images.items t → IsTold (λ old new. HadRefused config q.rest.images.items t old → KeepsAllSound config t new) opened.told left_.told
   pub cause : HasFaultIn state q.rest → Rose opened.faults left_.faults
   pub counts : opened.faults ≤ left_.faults
-  pub faulty : IsTold HasFaulty opened.told left_.told
+  pub faulty : IsTold (ListsFaulty state config q.rest) opened.told left_.told
   pub parts : IsTrue tells → IsTold (λ x y. AreLeftOfParts state config q y) opened.told left_.told
 
 module _ {D S : Type 0} (T : Type 0) (state : D → State) (tells : Bool) (left : S → Option (List ℕ)) (config : Config) (options : Options) (start now : Given S) (entry opened left_ : BayState) (r q : Rack D) (Q : Told → Told → Type 0)
@@ -99,7 +102,7 @@ module _ {D S : Type 0} (T : Type 0) (state : D → State) (tells : Bool) (left 
   bay_left : q ≡ r → LeavesBay tells state config entry left_
   bay_left same =
       let closing = subst (λ (x : Rack D). HasClosedRack state tells config opened left_ x Q) same c in
-      leaves_bay tells state config entry opened left_ r o.is o.refused c.counts o.apart c.faulty o.began o.there o.kept o.fresh closing.kept closing.parts closing.volumes closing.sound
+      leaves_bay tells state config entry opened left_ r o.is o.refused c.counts o.apart (gained_parts state config q.rest opened.told left_.told c.faulty) o.began o.there o.kept o.fresh closing.kept closing.parts closing.volumes closing.sound
 
   abbrev Ran : Result T Stop → (faults'' : ℕ) → (printed'' : Option (List ℕ)) → Type 0
   Ran done faults'' printed'' = Replays tells left config options start now entry left_ done faults faults'' printed printed''
@@ -129,7 +132,7 @@ module _ {D S : Type 0} (T : Type 0) (state : D → State) (tells : Bool) (left 
   replayed_err result (closed f first none) e is =
       let same : stop.Fault f ≡ e = cc is in
       subst (λ (x : Stop). Comes (Err x) faults' printed') same
-      (runs_closed {T = T} tells state left config options start now entry opened left_ r q faults faults' printed printed' f o.is o.refused o.failed c.cause o.counts c.counts o.apart c.faulty o.began first none (bay_left none.same))
+      (runs_closed {T = T} tells state left config options start now entry opened left_ r q faults faults' printed printed' f o.is o.refused o.failed c.cause o.counts c.counts o.apart o.gained c.faulty o.began o.there first none (bay_left none.same))
   replayed_err result (no_memory first none) e is = ran (Err e) (served_err result (no_memory first none) e is first)
   replayed_err result (served done first before moved from) e is = ran (Err e) (served_err result (served done first before moved from) e is first)
 

@@ -16,26 +16,29 @@ use Rattle.manager_recovery.specs.declared.refusal.OpenRefusal.TheVariants as re
 use Rattle.report.specs.declared.fault.Fault.{Fault}
 use Rattle.volume_images.specs.Left.{AreNamedApart, IsTold}
 use Rattle.volume_images.specs.Volumes.{shape_in, shapes_of}
-use Rattle.rack.specs.Closes.{AreLeftOfParts, in_flight, HasFaultIn, IsQuiet, LeavesVolumes, is_kept_home}
+use Rattle.rack.specs.Closes.{AreLeftOfParts, in_flight, HasFaultAt, HasFaultIn, IsQuiet, LeavesVolumes, ListsFaulty, has_station, is_kept_home}
 use Rattle.rack.specs.Opens.{AreRefused, BeganWith, HasFaulty, KeepsAllSound, LeavesAll, RefusesVolume, WereThere}
 use Rattle.rack.specs.Owners.{HadRefused}
 use Rattle.rack.specs.Racks.{AreUnused, IsRack}
-use Rattle.rack.specs.Rests.{image_here}
+use Rattle.rack.specs.Rests.{IsImageOut, image_here}
 use Rattle.rack.specs.declared.rack.ImageRest.{ImageRest}
 use Rattle.rack.specs.declared.rack.Rack.{Rack}
 use Rattle.rack.specs.declared.volume_fault.VolumeFault.{VolumeFault}
 use Rattle.rack.specs.declared.volume_fault.VolumeFault.TheVariants as fault
 use Rattle.replay.specs.NotOpened.{LeavesBay}
 use Rattle.replay.specs.Replays.{Replayed, closed}
-use Rattle.replay.specs.Runs.{RunsNone, first_closed}
+use Rattle.open_rack.specs.NotOpened.{first_closed}
+use Rattle.replay.specs.Runs.{RunsNone}
 use Rattle.replay.specs.declared.given.Given.{Given}
 use Rattle.replay.specs.declared.session.Options.{Options}
 use Rattle.replay.specs.declared.stop.Stop.TheVariants as stop
-use Rattle.rack.proofs.Asking.{refuses_later}
+use Rattle.rack.proofs.Asking.{refuses_later, rose_on}
+use Rattle.rack.proofs.FailedParts.{gained_parts, part_came_back, part_failed}
 use Rattle.rack.proofs.NewFaults.{told_each, told_with}
 use Rattle.rack.proofs.StillThere.{there_left}
-use Rattle.replay.proofs.FirstClosed.{first_refused, opened_out}
-use Rattle.replay.proofs.RacksServed.{at_place, there_at}
+use Rattle.open_rack.proofs.FirstClosed.{first_refused}
+use Rattle.open_rack.proofs.Since.{refused_alone, refused_missing}
+use Rattle.replay.proofs.CauseServed.{rose_from}
 use Rattle.replay.proofs.RunFlown.{run_sound}
 
 -- ---- Passes that did nothing
@@ -51,22 +54,6 @@ quiet_all {D} ss unused k d lt =
     unwritten : {es : List Entry} → es ≡ [] → writes (entries_of (notes_of es)) ≡ []
     unwritten none = ap (λ (l : List Entry). writes (entries_of (notes_of l))) none
 
--- ---- Why an image isn't out
-
-none_here : {D : Type 0} (k : ℕ) → image_here {D = D} [] k ≡ None
-none_here zero = refl
-none_here (suc k) = refl
-
--- a volume whose image isn't out is refused whatever other images are
-refused_alone : {D : Type 0} (tells : Bool) (state : D → State) (config : Config) (out : List (Option (ImageRest D))) (old new : BayState) (k : ℕ) (v : VolumeConf) (f : VolumeFault) → image_here out k ≡ None
-    → RefusesVolume tells state config out old new k v f → RefusesVolume tells state config [] old new k v f
-refused_alone tells state config out old new k v fault.Absent home (not_out, says) = (none_here k, says)
-refused_alone tells state config out old new k v (fault.WrongLength bytes) home (not_out, says) = (none_here k, says)
-refused_alone tells state config out old new k v fault.BayFailed home ((not_out, says), rose) = ((none_here k, says), rose)
-refused_alone tells state config out old new k v fault.LabelFault home refused = record { not_out = none_here k; image_fault = refused.image_fault; is_fault = refused.is_fault; said = refused.said; cause = refused.cause; faulty = refused.faulty }
-refused_alone tells state config out old new k v (fault.Refused r) home (inl refused) = inl (record { not_out = none_here k; image_fault = refused.image_fault; is_fault = refused.is_fault; said = refused.said; cause = refused.cause; faulty = refused.faulty })
-refused_alone tells state config out old new k v (fault.Refused r) home (inr refused) = let no : true ≡ false = sym refused.is_out ∙ ap is_some home in absurd (cc no)
-
 -- ---- The bay
 
 module _ {D : Type 0} (tells : Bool) (state : D → State) (config : Config) (entry opened last : BayState) (r : Rack D) (is : IsRack state config opened r) (refused : AreRefused tells state config entry opened r)
@@ -78,20 +65,14 @@ module _ {D : Type 0} (tells : Bool) (state : D → State) (config : Config) (en
       at None so = refl
       at (Some x) so = absurd (cc so)
 
-  cause : (k : ℕ) (v : VolumeConf) → slice_get config.volumes.items k ≡ Some v → is_kept_home r.rest.images.items k ≡ true → (f : VolumeFault) × RefusesVolume {D = D} tells state config [] entry last k v f
-  cause k v conf kept = at (slice_index_or r.faults.items k None) refl
-    where
-      within : k < length (shapes_of config)
-      within = let less = (at_place config.volumes.items k v conf).0 in omega (arith, less, length-map config.volumes.items (shape_in config))
+  refused_last : AreRefused tells state config entry last r
+  refused_last k v f conf at = refuses_later tells state config r.rest.images.items entry opened last k v f closing apart gained (refused k v f conf at)
 
-      at : (o : Option VolumeFault) → slice_index_or r.faults.items k None ≡ o → (f : VolumeFault) × RefusesVolume {D = D} tells state config [] entry last k v f
-      at None none = let no : true ≡ false = sym (opened_out state config opened r is k within none) ∙ ap is_some (not_out k kept) in absurd (cc no)
-      at (Some f) some = (
-        f,
-        refused_alone tells state config r.rest.images.items entry last k v f (not_out k kept)
-            (refuses_later tells state config r.rest.images.items entry opened last k v f closing apart gained
-            (refused k v f conf (there_at r.faults.items k None (omega (arith, within, is.fault_count)) ∙ ap (λ (o : Option VolumeFault). Some o) some))),
-      )
+  cause : (k : ℕ) (v : VolumeConf) → slice_get config.volumes.items k ≡ Some v → is_kept_home r.rest.images.items k ≡ true → (f : VolumeFault) × RefusesVolume {D = D} tells state config [] entry last k v f
+  cause k v conf kept =
+      let none = not_out k kept in
+      let why = refused_missing tells state config opened entry last r is refused_last k v conf none in
+      (why.0, refused_alone tells state config r.rest.images.items entry last k v why.0 none why.1)
 
   abbrev Stays : Told → Told → Type 0
   Stays old new = HadRefused config r.rest.images.items old new
@@ -108,7 +89,9 @@ module _ {D : Type 0} (tells : Bool) (state : D → State) (config : Config) (en
         refused = is_kept_home r.rest.images.items;
         cause = cause;
         kept = λ k v conf out c may. kept named k v conf (not_out k out) c (stays (apart named) k v conf (not_out k out) c may);
-        left = λ images left v is_there. all.0 images left v;
+        opened = has_station r;
+        are_opened = all.0.are_opened;
+        left = λ images left v is_there. all.0.each images left v;
         there = λ images left v was. there_left state config r e n (λ k v conf none c may. kept named k v conf none c (stays (apart named) k v conf none c may)) all.1 images left v was;
       }
 
@@ -126,13 +109,19 @@ module _ {D : Type 0} (tells : Bool) (state : D → State) (config : Config) (en
 -- a volume wasn't open
 pub runs_closed : {D S T : Type 0} (tells : Bool) (state : D → State) (left : S → Option (List ℕ)) (config : Config) (options : Options) (start now : Given S) (entry opened last : BayState) (old new : Rack D) (sink sink' : ℕ) (printed printed' : Option (List ℕ)) (f : Fault)
     → IsRack state config opened old → AreRefused tells state config entry opened old
-    → ((k : ℕ) (p : Part) → slice_get old.faults.items k ≡ Some (Some (fault.Refused (refusal.DiskFault p))) → HasFaultIn state old.rest ⊎ Rose entry.faults opened.faults)
-    → (HasFaultIn state new.rest → Rose opened.faults last.faults) → entry.faults ≤ opened.faults → opened.faults ≤ last.faults → IsTold (λ x y. AreNamedApart y) entry.told opened.told → IsTold HasFaulty opened.told last.told
-    → (IsTrue tells → IfSome entry.told (λ t. AreNamedApart t → BeganWith state config t old)) → first_closed 0 old.faults.items ≡ Some f
+    → ((k : ℕ) (p : Part) → slice_get old.faults.items k ≡ Some (Some (fault.Refused (refusal.DiskFault p))) → IsImageOut old.rest.images.items k → HasFaultAt state old.rest p)
+    → (HasFaultIn state new.rest → Rose opened.faults last.faults) → entry.faults ≤ opened.faults → opened.faults ≤ last.faults → IsTold (λ x y. AreNamedApart y) entry.told opened.told → IsTold HasFaulty entry.told opened.told → IsTold (ListsFaulty state config new.rest) opened.told last.told
+    → (IsTrue tells → IfSome entry.told (λ t. AreNamedApart t → BeganWith state config t old)) → (IsTrue tells → IfSome entry.told (λ t. AreNamedApart t → WereThere config old.rest.images.items t)) → first_closed 0 old.faults.items ≡ Some f
     → RunsNone tells left config options start now old new sink sink' printed printed' → LeavesBay tells state config entry last
     → Replayed {T = T} tells state left config options start now entry last sink sink' printed printed' (Err (stop.Fault f))
-runs_closed {D} {S} {T} tells state left config options start now entry opened last old new sink sink' printed printed' f is refused failed rises opening closing apart gained began first none leaves =
-    let (k, why, told, first_) = first_refused tells state config entry opened last old is refused failed
-    (subst (λ (r : Rack D). HasFaultIn state r.rest → Rose opened.faults last.faults) none.same rises) opening closing apart gained began f first in
+runs_closed {D} {S} {T} tells state left config options start now entry opened last old new sink sink' printed printed' f is refused failed rises opening closing apart first_gained faulty began there first none leaves =
+    let lists = subst (λ (r : Rack D). IsTold (ListsFaulty state config r.rest) opened.told last.told) none.same faulty in
+    let refused_now = refused_last tells state config entry opened last old is refused closing apart (gained_parts state config old.rest opened.told last.told lists) in
+    let (k, why, told, first_) = first_refused state config opened old is tells entry last refused_now
+    (λ k p at. elim (part_failed tells state config entry opened old is.fault_count refused failed k p at) [
+      | inl has ↦ rose_from entry.faults opened.faults last.faults opening (subst (λ (r : Rack D). HasFaultIn state r.rest → Rose opened.faults last.faults) none.same rises has)
+      | inr rose ↦ rose_on entry.faults opened.faults last.faults rose closing
+    ])
+    (part_came_back tells state config entry opened last old is.fault_count refused_now failed apart first_gained lists) began there f first in
     subst (λ (x : Fault). Replayed {T = T} tells state left config options start now entry last sink sink' printed printed' (Err (stop.Fault x))) (sym told)
     (closed k why (record { unread = none.unread; calm = none.calm; kept = none.kept }) first_ leaves)

@@ -16,7 +16,8 @@ use Rattle.rack.specs.declared.rack.Rack.{Rack}
 use Rattle.rack.specs.declared.volume_fault.VolumeFault.{VolumeFault}
 use Rattle.replay.specs.Completes.{Completes, MayComplete}
 use Rattle.replay.specs.Prints.{PrintsText, all_amounts}
-use Rattle.replay.specs.Runs.{RunsIn, first_closed}
+use Rattle.open_rack.specs.NotOpened.{first_closed}
+use Rattle.replay.specs.Runs.{RunsIn}
 use Rattle.replay.specs.declared.counting.Counted.{Counted}
 use Rattle.replay.specs.declared.given.Given.{Given}
 use Rattle.replay.specs.declared.session.Options.{Options}
@@ -24,7 +25,7 @@ use Rattle.replay.specs.declared.stop.Stop.{Stop}
 use Rattle.replay.specs.declared.stop.Stop.TheVariants as stop
 use Rattle.replay.proofs.CauseServed.{rose_from}
 use Rattle.replay.proofs.Completed.{completes_ran}
-use Rattle.replay.proofs.FirstClosed.{rose_to}
+use Rattle.rack.proofs.Asking.{rose_on}
 use Rattle.replay.proofs.RunAnswered.{HasClosedRack, HasOpened, served_err, served_ok}
 
 all_open : (n : ℕ) (faults : List (Option VolumeFault)) → ((k : ℕ) → k < length faults → slice_get faults k ≡ Some None) → first_closed n faults ≡ None
@@ -49,7 +50,7 @@ module _ {D S : Type 0} (T : Type 0) (state : D → State) (tells : Bool) (left 
       → (k : ℕ) → k < length (shapes_of config) → slice_get r.faults.items k ≡ Some None)) m.entry_is (complete m.telling) in
       all_open 0 r.faults.items (λ k lt. each m.apart m.sound
       (λ part. m.bay_calm (rose_from entry.faults opened.faults left_.faults o.counts (c.cause (subst (λ x. HasFaultIn state x) (sym same_rest) part))))
-      (λ rose. m.bay_calm (rose_to entry.faults opened.faults left_.faults rose c.counts)) k (omega (arith, lt, o.is.fault_count)))
+      (λ rose. m.bay_calm (rose_on entry.faults opened.faults left_.faults rose c.counts)) k (omega (arith, lt, o.is.fault_count)))
 
   pub complete_err : (result : Result Counted Stop) → RunsIn tells left config options start now r q faults faults' printed printed' result → (e : Stop) → result ≡ Err e
       → (e ≡ stop.Fault TraceSource → Rose source source') → MayComplete tells left config start now entry left_ faults faults' source source' → Completes {T = T} (Err e)

@@ -26,7 +26,7 @@ use Rattle.request_turns.specs.Helped.{ManagerLock}
 use Rattle.request_workers.specs.Stations.{AreStations}
 use Rattle.replay.specs.Histories.{History, AreHistories, ArePlainMarks, BeginAsRead, next_after}
 use Rattle.replay.specs.Runs.{locks_of}
-use Rattle.replay.proofs.AllOut.{taken_all}
+use Rattle.open_rack.proofs.AllOut.{taken_all}
 use Rattle.replay.proofs.HistoriesLeft.{IsHistoryAt, all_ruled, are_histories, histories_count, histories_of, history_at, passes_numbered}
 use Rattle.replay.proofs.LastWindow.{IsBelow}
 use Rattle.replay.proofs.MarksLeft.{marks_left, told_through}

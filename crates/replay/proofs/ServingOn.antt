@@ -16,7 +16,8 @@ use Rattle.wol_io.proofs.Appending.{keeps_same}
 use Rattle.report.specs.declared.fault.Fault.{Fault}
 use Rattle.report.specs.declared.fault.Fault.TheVariants.{Memory, TraceSource}
 use Rattle.rack.specs.declared.volume_fault.VolumeFault.{VolumeFault}
-use Rattle.replay.specs.Runs.{CanServe, RunsIn, ServesFrom, closed, first_closed, locks_of, new_session, no_memory, served}
+use Rattle.open_rack.specs.NotOpened.{first_closed}
+use Rattle.replay.specs.Runs.{CanServe, RunsIn, ServesFrom, closed, locks_of, new_session, no_memory, served}
 use Rattle.replay.specs.Served.{AreSamePasses}
 use Rattle.replay.specs.Sessions.{AreVolumes, IsSession, ServesSome, ServesWhole}
 use Rattle.replay.specs.declared.counting.Counted.{Counted}

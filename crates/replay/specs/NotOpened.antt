@@ -1,64 +1,10 @@
 -- What a run over a bay comes to where not all of its volumes could be opened.
-use Rattle.std.specs.Prelude.{⊤, ◌≡◌, ◌<◌, ℕ, Bool, List, length, Option, None, Some, IfSome, slice_get, IsTrue}
-use Rattle.std.specs.List.{AllByRecursion}
+use Rattle.std.specs.Prelude.{◌≡◌, ℕ, List, Option}
 use Rattle.std.specs.Io.KnownBytes.{Keeps}
-use Rattle.wol_disk.specs.Disk.{Rose, State}
-use Rattle.wol_bay.specs.Bay.{BayState, Told}
-use Rattle.wol_promise.specs.Manager.{Base}
-use Rattle.wol_config.specs.declared.config.Config.{Config}
-use Rattle.wol_config.specs.declared.config.VolumeConf.{VolumeConf}
-use Rattle.manager_recovery.specs.declared.refusal.OpenRefusal.TheVariants as refusal
-use Rattle.volume_images.specs.Left.{AreNamedApart, IsTold}
-use Rattle.rack.specs.Opens.{KeepsAllSound, LeavesAll, RefusesVolume}
-use Rattle.rack.specs.Owners.{IsBegun, images_taken}
-use Rattle.rack.specs.Racks.{NamesVolumes}
-use Rattle.rack.specs.Rests.{IsImageOut, image_here}
-use Rattle.rack.specs.declared.rack.ImageRest.{ImageRest}
-use Rattle.rack.specs.declared.volume_fault.VolumeFault.{VolumeFault}
-use Rattle.rack.specs.declared.volume_fault.VolumeFault.TheVariants as fault
-
--- the volume isn't open since a call failed
-abbrev pub IsOfCall : VolumeFault → Type 0
-IsOfCall fault.Absent = ⊥
-IsOfCall (fault.WrongLength bytes) = ⊥
-IsOfCall fault.LabelFault = ⊤
-IsOfCall fault.BayFailed = ⊤
-IsOfCall (fault.Refused (refusal.DiskFault part)) = ⊤
-IsOfCall (fault.Refused refusal.LabelDiffers) = ⊥
-IsOfCall (fault.Refused (refusal.LoggerMissing id)) = ⊥
-IsOfCall (fault.Refused (refusal.OutsideView logger segment)) = ⊥
-IsOfCall (fault.Refused (refusal.Damaged volume block)) = ⊥
-IsOfCall (fault.Refused (refusal.Twins first_volume first second_volume second)) = ⊥
-IsOfCall (fault.Refused refusal.NoMemory) = ⊥
-
--- Volume j was opened of these images: its own and those of the loggers of its view were handed out.
-pub record IsOpened {D : Type 0} (config : Config) (out : List (Option (ImageRest D))) (entry : Told) (j : ℕ) : Type 0 where
-  pub base : Base
-  pub owner : base.owner ≡ j
-  pub begun : IsBegun config (images_taken config out entry) base
-  pub loggers : AllByRecursion (IsImageOut out) base.view
-
--- Volume k is the first that isn't open, and is so for its first cause: those before it were opened, and each image that wasn't handed
--- out was refused. Where a call failed the bay's count rose.
-pub record IsFirstClosed {D : Type 0} (tells : Bool) (state : D → State) (config : Config) (old new : BayState) (k : ℕ) (f : VolumeFault) : Type 0 where
-  pub out : List (Option (ImageRest D))
-  pub count : length out ≡ length config.volumes.items
-  pub missing : (j : ℕ) (v : VolumeConf) → slice_get config.volumes.items j ≡ Some v → image_here out j ≡ None → (g : VolumeFault) × RefusesVolume tells state config out old new j v g
-  pub before : (j : ℕ) → j < k → IsImageOut out j × (IsTrue tells → IfSome old.told (λ t. AreNamedApart t → IsOpened config out t j))
-  pub conf : VolumeConf
-  pub conf_is : slice_get config.volumes.items k ≡ Some conf
-  pub refused : RefusesVolume tells state config out old new k conf f
-  -- the volumes that it names are configured
-  pub names : NamesVolumes (length config.volumes.items) f
-  pub cause : IsOfCall f → Rose old.faults new.faults
+pub use Rattle.open_rack.specs.NotOpened.{IsFirstClosed, IsOfCall, IsOpened, LeavesBay}
 
 -- no line was asked for, and nothing was printed
 pub record AsksNone {G : Type 0} (start now : G) (sink sink' : ℕ) (printed printed' : Option (List ℕ)) : Type 0 where
   pub unread : now ≡ start
   pub calm : sink' ≡ sink
   pub kept : Keeps printed printed'
-
--- each image that is left recovers to what an image at entry did, and sound images stay sound
-pub record LeavesBay {D : Type 0} (tells : Bool) (state : D → State) (config : Config) (old new : BayState) : Type 0 where
-  pub left : IsTrue tells → IsTold (LeavesAll tells state config old new) old.told new.told
-  pub sound : IsTrue tells → IsTold (KeepsAllSound config) old.told new.told

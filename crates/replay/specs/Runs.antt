@@ -1,5 +1,5 @@
 -- What replaying a trace on the volumes of a rack comes to.
-use Rattle.std.specs.Prelude.{◌≡◌, ◌+◌, ℕ, Bool, List, [], ◌∷◌, map, Option, None, Some, false, Result, Err, MatchResult}
+use Rattle.std.specs.Prelude.{◌≡◌, ℕ, Bool, List, map, Option, None, Some, false, Result, Err, MatchResult}
 use Rattle.std.specs.Io.KnownBytes.{Keeps}
 use Rattle.std.specs.declared.alloc.Global.{Global}
 use Rattle.std.specs.declared.vec.Vec.{Vec}
@@ -12,10 +12,9 @@ use Rattle.request_workers.specs.Stations.{AreStations, IsMoved}
 use Rattle.request_workers.specs.declared.floor.Floor.{Floor}
 use Rattle.wol_config.specs.declared.config.Config.{Config}
 use Rattle.report.specs.declared.fault.Fault.{Fault}
-use Rattle.report.specs.declared.fault.Fault.TheVariants.{Memory, Volume}
+use Rattle.report.specs.declared.fault.Fault.TheVariants.{Memory}
 use Rattle.rack.specs.declared.rack.Rack.{Rack}
-use Rattle.rack.specs.declared.volume_fault.VolumeFault.{VolumeFault}
-use Rattle.troubles.specs.Troubles.{trouble_of}
+use Rattle.open_rack.specs.NotOpened.{first_closed}
 use Rattle.replay.specs.Counts.{no_totals}
 use Rattle.replay.specs.Served.{AreSamePasses}
 use Rattle.replay.specs.Sessions.{AreVolumes, ServesSome, ServesWhole}
@@ -25,12 +24,6 @@ use Rattle.replay.specs.declared.session.Options.{Options}
 use Rattle.replay.specs.declared.session.Session.{Session}
 use Rattle.replay.specs.declared.stop.Stop.{Stop}
 use Rattle.replay.specs.declared.stop.Stop.TheVariants as stop
-
--- what is told of the first volume, from number k on, that isn't open
-abbrev pub first_closed : (k : ℕ) → List (Option VolumeFault) → Option Fault
-first_closed k [] = None
-first_closed k (None ∷ faults) = first_closed (k + 1) faults
-first_closed k (Some f ∷ faults) = Some (Volume k (trouble_of f))
 
 -- the locks of stations
 abbrev pub locks_of : {D : Type 0} → List (Station D) → List (ManagerLock D)

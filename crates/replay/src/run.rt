@@ -12,41 +12,26 @@ ghost use Rattle.replay.specs.Givens.{IsNew, IsWithin, faults_of, borrow_of};
 ghost use Rattle.replay.specs.Sessions.{AreOptions, IsSession};
 ghost use Rattle.replay.specs.Completes.{Completes, MayComplete};
 ghost use Rattle.replay.specs.Replays.{Replayed, status_in};
-ghost use Rattle.replay.specs.Runs.{first_closed, new_session, CanServe, ServesFrom, RunsIn};
+ghost use Rattle.open_rack.specs.NotOpened.{first_closed};
+ghost use Rattle.replay.specs.Runs.{new_session, CanServe, ServesFrom, RunsIn};
 
 use crate::counting::Counted;
 use crate::given::Given;
 use crate::printing::print_summary;
 use crate::session::{Options, Session};
 use crate::stop::Stop;
-use rack::{Rack, VolumeFault, close_all, open_all};
+use open_rack::first_closed;
+use rack::{Rack, close_all, open_all};
 use report::Fault;
 use request_workers::{Floor, Station, set_up, take_down};
 use std::alloc::Global;
 use std::mem;
 use std::sync::Wait;
 use std::thread::Threads;
-use troubles::trouble_of;
 use wol_bay::Bay;
 use wol_config::Config;
 use wol_disk::{Disk, NoMemory};
 use wol_io::{Gate, Sink, Source};
-
-// What is told of the first volume that isn't open.
-fn first_closed(faults: &[Option<VolumeFault>]) -> Option<Fault>
-    requires few { length faults.now ≤ 2 ^ 32 }
-    ensures { result ≡ first_closed 0 faults.now }
-{
-    for (volume, fault) in faults.iter().enumerate() {
-        if let Some(fault) = fault {
-            return Some(Fault::Volume {
-                volume: volume as u32,
-                trouble: trouble_of(*fault),
-            });
-        }
-    }
-    None
-}
 
 // The stations come back to their rack, which has none.
 fn put_stations<D: Disk>(rack: &mut Rack<D>, stations: Vec<Station<D>>)

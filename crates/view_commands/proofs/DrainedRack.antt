@@ -1,5 +1,5 @@
 -- One volume of a rack is drained: the rack is the same but for the pass of its worker.
-use Rattle.std.proofs.Common.{◌≡◌, ◌<◌, ℕ, Bool, List, [], ◌∷◌, ◌++◌, Some, Result, Ok, Err, get_or, length, arith, refl, sym, ap, subst, ◌∙◌}
+use Rattle.std.proofs.Common.{◌≡◌, ◌<◌, ℕ, Bool, List, [], ◌∷◌, ◌++◌, Option, None, Some, Result, Ok, Err, get_or, length, arith, refl, sym, ap, subst, ◌∙◌}
 use Rattle.std.specs.Prelude.{slice_get, slice_set, Contains}
 use Rattle.std.specs.List.{AllByRecursion}
 use Rattle.std.specs.declared.alloc.Global.{Global}
@@ -27,6 +27,7 @@ use Rattle.inspection.proofs.Unhelped.{all_at, there_is}
 use Rattle.wol_config.specs.declared.config.Config.{Config}
 use Rattle.inspection.proofs.SameRacks.{rack_set}
 use Rattle.view_change.specs.Drained.{HasDrainedAll, drain_operation}
+use Rattle.open_rack.proofs.FirstClosed.{none_closed}
 use Rattle.view_commands.specs.Drains.{AllOpen, IsDrained}
 
 drain_helps : (answer : Result (ℕ × ℕ) StepFault) → IsHelp (drain_operation answer)
@@ -93,6 +94,10 @@ module _ {D : Type 0} (config : Config) (r : Rack D) (place volume : ℕ) (s b :
       subst (λ (u : Station D). IsShared r.shared (pass_lock u.worker).base) (sym is_it)
       (subst (IsShared r.shared) (sym (ap (λ (l : LockId ManagerBase). l.base) stands.0.worker_.own)) stands.1.at)
 
+pub never_some : {X : Type 0} (r : Option X) → ((x : X) → r ≡ Some x → ⊥) → r ≡ None
+never_some None never = refl
+never_some (Some x) never = absurd (never x refl)
+
 -- where all volumes are open, each has a station
 pub has_station : {D : Type 0} (config : Config) (r : Rack D) → CanLook config r → AllOpen r.faults.items → (v : ℕ) → v < length config.volumes.items → Contains (numbers_of r.stations.items) v
-has_station config r can opened v within = let x = there_is r.faults.items v (omega (arith, within, can.count)) in can.open_ v (x.1 ∙ ap Some (opened v x.0 x.1))
+has_station config r can opened v within = let x = there_is r.faults.items v (omega (arith, within, can.count)) in can.open_ v (x.1 ∙ ap Some (sym (get_or_from_slice_get r.faults.items v x.0 None x.1) ∙ none_closed 0 r.faults.items opened v))

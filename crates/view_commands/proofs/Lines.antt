@@ -97,7 +97,9 @@ leaves_same tells state config b b' (Some t) = λ apart. record {
   cause = λ k v at no. absurd (cc no);
   kept = λ k v at no. absurd (cc no);
   there = λ images is v was. was images is;
-  left = λ images is v there. (images, is, refl);
+  opened = λ v. false;
+  are_opened = λ v no. absurd (cc no);
+  left = λ images is v there. (images, is, record { but = refl; all = λ or. refl });
 }
 
 pub others_same : (config : Config) (o : Option Told) → IsTold (KeepsOthers config) o o

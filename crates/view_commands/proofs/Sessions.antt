@@ -3,7 +3,7 @@ use Rattle.std.proofs.Common.{◌≡◌, ◌<◌, ◌++◌, ℕ, Bool, true, fal
 use Rattle.std.specs.Prelude.{slice_get, slice_range, slice_index_or, All, Contains, IfSome, IsSome, IsTrue}
 use Rattle.std.proofs.lemmas.List.{length-map}
 use Rattle.std.proofs.lemmas.List.Elements.{Contains-append_right}
-use Rattle.std.proofs.lemmas.Option.{slice_get-map, slice_get_within}
+use Rattle.std.proofs.lemmas.Option.{slice_get-get_or, slice_get-map, slice_get_within}
 use Rattle.wol_disk.specs.Disk.{Rose, State, reads}
 use Rattle.wol_bay.specs.Bay.{BayState, Name, Told, at_name}
 use Rattle.wol_config.specs.declared.config.Config.{Config}
@@ -34,17 +34,15 @@ use Rattle.rack.specs.declared.rack.Rack.{Rack}
 use Rattle.rack.specs.declared.volume_fault.VolumeFault.{VolumeFault}
 use Rattle.rack.specs.declared.volume_fault.VolumeFault.TheVariants as fault
 use Rattle.open_rack.specs.Sessions.{OpensAndCloses}
-use Rattle.open_rack.proofs.Since.{rose_before}
+use Rattle.open_rack.proofs.Since.{rose_before, unmapped}
 use Rattle.inspection.specs.Racks.{IsSameRack, numbers_of}
-use Rattle.inspection.proofs.Opened.{rose_of}
 use Rattle.inspection.proofs.Quiet.{all_quiet}
 use Rattle.inspection.proofs.SameRacks.{numbers_same}
 use Rattle.inspection.proofs.Unhelped.{all_at, broken_still, there_is}
-use Rattle.replay.specs.NotOpened.{IsFirstClosed, IsOfCall, IsOpened}
-use Rattle.replay.proofs.AllOut.{recovered_all, taken_all}
-use Rattle.replay.proofs.FirstClosed.{opened_out}
-use Rattle.replay.proofs.RacksServed.{there_at, unmapped}
-use Rattle.view_commands.specs.Drains.{AllOpen, IsDrained, TellsClosed, trouble_of_step}
+use Rattle.open_rack.specs.NotOpened.{IsFirstClosed, first_closed}
+use Rattle.open_rack.proofs.AllOut.{recovered_all, taken_all}
+use Rattle.open_rack.proofs.FirstClosed.{first_refused, none_closed, opened_at, opened_out}
+use Rattle.view_commands.specs.Drains.{AllOpen, IsDrained, trouble_of_step}
 use Rattle.view_commands.specs.Runs.{FailsWith}
 use Rattle.view_commands.specs.Runs as runs
 use Rattle.view_commands.specs.Views.{KeepsArrays}
@@ -88,21 +86,7 @@ faulty_since tells config owner view (Some o) (Some m) (Some n) apart gained fau
       of_volume = then.of_volume;
     }
 
--- ---- The status of a failed call
-
-call_status : (f : VolumeFault) → IsOfCall f → trouble_status (trouble_of f) ≡ 4
-call_status fault.Absent call = absurd call
-call_status (fault.WrongLength bytes) call = absurd call
-call_status fault.BayFailed call = refl
-call_status fault.LabelFault call = refl
-call_status (fault.Refused (refusal.DiskFault (part.Home volume))) call = refl
-call_status (fault.Refused (refusal.DiskFault (part.Segment volume index))) call = refl
-call_status (fault.Refused refusal.LabelDiffers) call = absurd call
-call_status (fault.Refused (refusal.LoggerMissing id)) call = absurd call
-call_status (fault.Refused (refusal.OutsideView logger segment)) call = absurd call
-call_status (fault.Refused (refusal.Damaged volume block)) call = absurd call
-call_status (fault.Refused (refusal.Twins first_volume first second_volume second)) call = absurd call
-call_status (fault.Refused refusal.NoMemory) call = absurd call
+-- ---- Parts
 
 pub part_of : StepFault → Part
 part_of (DiskFault p) = p
@@ -123,71 +107,19 @@ module _ {D : Type 0} (tells : Bool) (state : D → State) (config : Config) (di
   shapes_count : length (shapes_of config) ≡ length config.volumes.items
   shapes_count = length-map config.volumes.items (shape_in config)
 
-  -- ---- A volume without a fault
-
-  station_of : (k : ℕ) → k < length (shapes_of config) → slice_index_or before.faults.items k None ≡ None → (at : ℕ) × (s : Station D) × (slice_get before.stations.items at ≡ Some s) × (s.id ≡ k)
-  station_of k lt none =
-      let (at, less, id) = (session.opened.rack.faults k lt).0 none in
-      let (s, there, same) = unmapped (λ (s : Station D). s.id) before.stations.items at k (there_at (map (λ (s : Station D). s.id) before.stations.items) at k less ∙ ap (λ (n : ℕ). Some n) id) in
-      (at, s, there, same)
-
-  opened_at : (t : Told) → BeganWith state config t before → (k : ℕ) → k < length (shapes_of config) → slice_index_or before.faults.items k None ≡ None → IsOpened config before.rest.images.items t k
-  opened_at t began k lt none =
-      let (at, s, there, same) = station_of k lt none in
-      let station = all_at IsStation before.stations.items at s session.opened.rack.stations there in
-      record {
-        base = (base_of_station s).volume.began;
-        owner = station.id ∙ same;
-        begun = all_at (λ (x : Station D). IsBegun config (images_taken config before.rest.images.items t) (base_of_station x).volume.began) before.stations.items at s began.stations there;
-        loggers = (all_at (λ (x : Station D). IsOpenBase config before.shared before.rest.images.items (base_of_station x)) before.stations.items at s session.opened.rack.bases there).loggers_out;
-      }
-
-  out_at : (k : ℕ) → k < length (shapes_of config) → slice_index_or before.faults.items k None ≡ None → IsImageOut before.rest.images.items k
-  out_at k lt none = opened_out state config session.bay before session.opened.rack k lt none
-
   -- ---- The first volume that isn't open
 
-  pub first_closed : (told : Fault) → TellsClosed before.faults.items told → (k : ℕ) × (f : VolumeFault) × (told ≡ Volume k (trouble_of f)) × IsFirstClosed tells state config old new k f
-  first_closed told is =
-      let k = is.volume in
-      let f = is.fault in
-      let within : k < length before.faults.items = slice_get_within before.faults.items k (Some f) is.closed.there in
-      let conf = there_is config.volumes.items k (omega (arith, within, session.opened.rack.fault_count, shapes_count)) in
-      let why = session.refused k conf.0 f conf.1 is.closed.there in (
-        k,
-        f,
-        is.told_is,
-        record {
-          out = before.rest.images.items;
-          count = session.opened.rack.rest.parts.images.0 ∙ shapes_count;
-          missing = session.missing;
-          before = λ j lt.
-              let inside : j < length (shapes_of config) = omega (arith, lt, within, session.opened.rack.fault_count) in
-              let none : slice_index_or before.faults.items j None ≡ None =
-              is.closed.first j (slice_index_or before.faults.items j None) lt (there_at before.faults.items j None (omega (arith, lt, within))) in
-              (out_at j inside none, λ telling. begun_at old.told (session.opened.began telling) j inside none);
-          conf = conf.0;
-          conf_is = conf.1;
-          refused = why;
-          names = subst (λ (n : ℕ). NamesVolumes n f) shapes_count (session.opened.rack.known k f is.closed.there);
-          cause = λ call. rose_of tells state config before.rest.images.items old new k conf.0 f (length (shapes_of config)) (session.opened.rack.known k f is.closed.there) why
-              (λ p disk. session.failed k p (is.closed.there ∙ ap (λ (g : VolumeFault). Some (Some g)) disk)) (call_status f call);
-        },
-      )
-    where
-      begun_at : (o : Option Told) → IfSome o (λ t. AreNamedApart t → BeganWith state config t before) → (j : ℕ) → j < length (shapes_of config) → slice_index_or before.faults.items j None ≡ None
-          → IfSome o (λ t. AreNamedApart t → IsOpened config before.rest.images.items t j)
-      begun_at None all j lt none = tt
-      begun_at (Some t) all j lt none = λ apart. opened_at t (all apart) j lt none
+  pub closed_first : (told : Fault) → first_closed 0 before.faults.items ≡ Some told → (k : ℕ) × (f : VolumeFault) × (told ≡ Volume k (trouble_of f)) × IsFirstClosed tells state config old new k f
+  closed_first told is = first_refused state config session.bay before session.opened.rack tells old new session.refused session.failed session.part session.opened.began session.opened.there told is
 
   -- ---- All volumes were open
 
   module _ (all_open : AllOpen before.faults.items) (same : IsSameRack before after) where
     none_at : (k : ℕ) → k < length (shapes_of config) → slice_index_or before.faults.items k None ≡ None
-    none_at k lt = all_open k (slice_index_or before.faults.items k None) (there_at before.faults.items k None (omega (arith, lt, session.opened.rack.fault_count)))
+    none_at k lt = none_closed 0 before.faults.items all_open k
 
     outs : (k : ℕ) → k < length (shapes_of config) → IsImageOut before.rest.images.items k
-    outs k lt = out_at k lt (none_at k lt)
+    outs k lt = opened_out state config session.bay before session.opened.rack k lt (none_at k lt)
 
     same_images : after.rest.images.items ≡ before.rest.images.items
     same_images = ap (λ (r : Rack D). r.rest.images.items) same.same
@@ -203,7 +135,7 @@ module _ {D : Type 0} (tells : Bool) (state : D → State) (config : Config) (di
     station_after : (k : ℕ) → k < length (shapes_of config) → (at : ℕ) × (s : Station D) × (slice_get after.stations.items at ≡ Some s) × (s.id ≡ k)
     station_after k lt =
         let (at, less, id) = subst (λ (ns : List ℕ). Contains ns k) (sym (numbers_same before.stations.items after.stations.items same.each)) ((session.opened.rack.faults k lt).0 (none_at k lt)) in
-        let (s, there, is) = unmapped (λ (s : Station D). s.id) after.stations.items at k (there_at (numbers_of after.stations.items) at k less ∙ ap (λ (n : ℕ). Some n) id) in
+        let (s, there, is) = unmapped (λ (s : Station D). s.id) after.stations.items at k (slice_get-get_or (numbers_of after.stations.items) at k less ∙ ap (λ (n : ℕ). Some n) id) in
         (at, s, there, is)
 
     arrays_at : (entry mid : Told) → LeavesOpen config after entry mid → KeepsArrays config entry mid
@@ -231,7 +163,7 @@ module _ {D : Type 0} (tells : Bool) (state : D → State) (config : Config) (di
         let shape : slice_get (shapes_of config) k ≡ Some (shape_in config v) = slice_get-map (shape_in config) config.volumes.items k ∙ ap (option_map (shape_in config)) conf in
         let c = parts images left k (shape_in config v) r.0 shape (ap (λ (out : List (Option (ImageRest D))). image_here out k) same_images ∙ r.1) in
         let first = began.left k v was.0 r.0 conf was.1 r.1 in
-        let opened = opened_at entry began k lt (none_at k lt) in
+        let opened = opened_at state config session.bay before session.opened.rack entry began k lt (none_at k lt) in
         let taken = taken_all config before.rest.images.items outs entry in
         let begun : IsBegun config (images_read config entry) opened.base = subst (λ (l : Images). IsBegun config l opened.base) taken opened.begun in
         let reads_are : image_of (images_read config entry) k ≡ Some (reads was.0.blocks) =

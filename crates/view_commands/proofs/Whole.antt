@@ -32,7 +32,7 @@ use Rattle.inspection.proofs.SameRacks.{rack_self}
 use Rattle.view_change.specs.Changes.{id_of}
 use Rattle.view_change.specs.declared.answers.Change.{Change}
 use Rattle.view_change.specs.declared.answers.Change.TheVariants.{Add, Remove}
-use Rattle.view_commands.specs.Drains.{AllOpen, TellsChange, TellsClosed, TellsDrain, TellsRack}
+use Rattle.view_commands.specs.Drains.{AllOpen, TellsChange, TellsDrain, TellsRack}
 use Rattle.view_commands.specs.Drains as drains
 use Rattle.view_commands.specs.Images.{ChangesImage, ChangesInBay, FailsOnImage, IsDamagedAt, IsNotWhole, IsWhole, front_of}
 use Rattle.view_commands.specs.Orders.{IsOfWords}
@@ -45,7 +45,7 @@ use Rattle.view_commands.specs.declared.order.ViewRefusal.{ViewRefusal}
 use Rattle.view_commands.proofs.Changed.{HasNoLog, IsAddition, arrays_left, sound_gone, sound_left, there_kept, there_left, views_kept, views_left}
 use Rattle.view_commands.proofs.Kept.{HasFront, KeepsFronts, entry_reads, front_fault, read_at, read_some, reads_left, view_at_entry}
 use Rattle.view_commands.proofs.Names.{not_named}
-use Rattle.view_commands.proofs.Sessions.{arrays, drain_fails, drain_rose, first_closed, fronts, told_by}
+use Rattle.view_commands.proofs.Sessions.{arrays, drain_fails, drain_rose, closed_first, fronts, told_by}
 
 -- ---- Arrays that are kept are those of images at entry
 
@@ -63,11 +63,14 @@ leaves_all tells state config b b' entry left arrays_are all_there = record {
   refused = λ k. false;
   cause = λ k v at no. absurd (cc no);
   kept = λ k v at no. absurd (cc no);
-  left = λ images is v there. (
-    images_read config entry,
-    reads_left config entry,
-    none_refused config images v ∙ arrays_are images is v (slice_get_within (shapes_of config) v there.0 there.2) ∙ sym (none_refused config (images_read config entry) v),
-  );
+  opened = λ v. false;
+  are_opened = λ v no. absurd (cc no);
+  left = λ images is v there.
+      let same = arrays_are images is v (slice_get_within (shapes_of config) v there.0 there.2) in (
+        images_read config entry,
+        reads_left config entry,
+        record { but = none_refused config images v ∙ same ∙ sym (none_refused config (images_read config entry) v); all = λ or. same },
+      );
 }
 
 -- ---- What is told from entry to exit
@@ -316,7 +319,7 @@ module _ (config : Config) (valid : IsValid config) (volume : ℕ) (v : VolumeCo
         go : TellsRack tells state asked volume before after (Err f) → ChangesVolume tells state config volume asked old new (Err (stop.Fault f))
         go (drains.closed fault is same told) =
             let same_f : f ≡ fault = cc told in
-            let first = first_closed tells state config (λ x y. TellsRack tells state asked volume x y (Err f)) old new spindles session fault is in
+            let first = closed_first tells state config (λ x y. TellsRack tells state asked volume x y (Err f)) old new spindles session fault is in
             subst (λ (g : Fault). ChangesVolume tells state config volume asked old new (Err (stop.Fault g))) (sym (same_f ∙ first.2)) (runs.one_closed first.0 first.1 first.3 (record { left = left_of; sound = sound }))
         go (drains.open_ all_open same tells_change) = behind asked refl tells_change
           where

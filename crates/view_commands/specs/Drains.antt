@@ -1,5 +1,5 @@
 -- What is done with a rack whose volumes are all to be open, one of which may be drained.
-use Rattle.std.specs.Prelude.{◌≡◌, ◌<◌, ℕ, Bool, List, Option, None, Some, Result, Ok, Err, slice_get}
+use Rattle.std.specs.Prelude.{◌≡◌, ℕ, Bool, List, Option, None, Some, Result, Ok, Err, slice_get}
 use Rattle.wol_disk.specs.Disk.{State}
 use Rattle.manager.specs.declared.part.StepFault.{StepFault}
 use Rattle.manager.specs.declared.part.StepFault.TheVariants.{DiskFault, Down}
@@ -8,9 +8,10 @@ use Rattle.request_turns.specs.Turns.{ManagerPass}
 use Rattle.report.specs.declared.fault.Fault.{Fault}
 use Rattle.report.specs.declared.fault.Fault.TheVariants.{Volume, Memory}
 use Rattle.report.specs.declared.trouble.Trouble.{Trouble}
-use Rattle.troubles.specs.Troubles.{trouble_of, trouble_of_part}
+use Rattle.troubles.specs.Troubles.{trouble_of_part}
 use Rattle.rack.specs.declared.rack.Rack.{Rack}
 use Rattle.rack.specs.declared.volume_fault.VolumeFault.{VolumeFault}
+use Rattle.open_rack.specs.NotOpened.{first_closed}
 use Rattle.inspection.specs.Racks.{IsSameRack, IsStationAt}
 use Rattle.view_change.specs.Drained.{HasDrainedAll}
 use Rattle.view_change.specs.declared.answers.Change.{Change}
@@ -18,19 +19,7 @@ use Rattle.view_change.specs.declared.answers.Change.TheVariants.{Add, Remove}
 
 -- all volumes are open
 abbrev pub AllOpen : List (Option VolumeFault) → Type 0
-AllOpen faults = (k : ℕ) (f : Option VolumeFault) → slice_get faults k ≡ Some f → f ≡ None
-
--- this volume is the first that isn't, for this
-pub record IsFirstClosedAt (faults : List (Option VolumeFault)) (k : ℕ) (f : VolumeFault) : Type 0 where
-  pub there : slice_get faults k ≡ Some (Some f)
-  pub first : (j : ℕ) (g : Option VolumeFault) → j < k → slice_get faults j ≡ Some g → g ≡ None
-
--- what is told where a volume isn't open
-pub record TellsClosed (faults : List (Option VolumeFault)) (told : Fault) : Type 0 where
-  pub volume : ℕ
-  pub fault : VolumeFault
-  pub closed : IsFirstClosedAt faults volume fault
-  pub told_is : told ≡ Volume volume (trouble_of fault)
+AllOpen faults = first_closed 0 faults ≡ None
 
 -- what is told of a refused step
 abbrev pub trouble_of_step : StepFault → Trouble
@@ -59,5 +48,5 @@ TellsChange tells state (Remove logger) volume old new told = TellsDrain tells s
 
 -- What is done with a rack: the first volume that isn't open ends it, and then nothing is done.
 pub data TellsRack {D : Type 0} (tells : Bool) (state : D → State) (change : Change) (volume : ℕ) (old new : Rack D) (told : Result (Unit {0}) Fault) : Type 0 where
-  closed : (fault : Fault) → TellsClosed old.faults.items fault → new ≡ old → told ≡ Err fault → TellsRack tells state change volume old new told
+  closed : (fault : Fault) → first_closed 0 old.faults.items ≡ Some fault → new ≡ old → told ≡ Err fault → TellsRack tells state change volume old new told
   open_ : AllOpen old.faults.items → IsSameRack old new → TellsChange tells state change volume old new told → TellsRack tells state change volume old new told

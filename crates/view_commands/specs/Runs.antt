@@ -16,7 +16,7 @@ use Rattle.volume_images.specs.Volumes.{images_read}
 use Rattle.rack.specs.Closes.{HasFaultyPart}
 use Rattle.rack.specs.Owners.{IsBegun}
 use Rattle.rack.specs.declared.volume_fault.VolumeFault.{VolumeFault}
-use Rattle.replay.specs.NotOpened.{IsFirstClosed, LeavesBay}
+use Rattle.open_rack.specs.NotOpened.{IsFirstClosed, LeavesBay}
 use Rattle.view_change.specs.declared.answers.Change.{Change}
 use Rattle.view_commands.specs.Orders.{AreNamed, IsOfWords, change_of, unknown_word}
 use Rattle.view_commands.specs.Printed.{PrintsNothing, PrintsView}

@@ -4,36 +4,19 @@ ghost use Rattle.wol_config.specs.Configs.{IsValid};
 ghost use Rattle.manager.specs.declared.station.Station.{Station};
 ghost use Rattle.report.specs.declared.fault.Fault.TheVariants.{Volume};
 ghost use Rattle.inspection.specs.Racks.{numbers_of, CanLook, IsSameRack, IsStationAt};
-ghost use Rattle.view_commands.specs.Drains.{AllOpen, TellsClosed, TellsDrain, trouble_of_step};
+ghost use Rattle.view_commands.specs.Drains.{TellsDrain, trouble_of_step};
 
 use manager::{Station, StepFault};
-use open_rack::Work;
-use rack::{Rack, VolumeFault};
+use open_rack::{Work, first_closed};
+use rack::Rack;
 use reclaimer::Fetch;
 use report::Fault;
 use std::alloc::Global;
 use std::sync::Wait;
-use troubles::{trouble_of, trouble_of_part};
+use troubles::trouble_of_part;
 use view_change::{Change, drain_all};
 use wol_config::Config;
 use wol_disk::{Disk, NoMemory};
-
-// What is told of the first volume that isn't open.
-fn first_closed(faults: &[Option<VolumeFault>]) -> Option<Fault>
-    requires few { length faults.now ≤ 2 ^ 32 }
-    ensures closed { IfSome result (TellsClosed faults.now) }
-    ensures open_ { IfNone result (AllOpen faults.now) }
-{
-    for (volume, fault) in faults.iter().enumerate() {
-        if let Some(fault) = fault {
-            return Some(Fault::Volume {
-                volume: volume as u32,
-                trouble: trouble_of(*fault),
-            });
-        }
-    }
-    None
-}
 
 // The place of the station of this volume.
 fn place_of<D: Disk>(stations: &[Station<D>], volume: u32) -> usize

@@ -89,6 +89,7 @@ returns-in_err-counted-clause-replays g c =
       unfaulty = opened.unfaulty;
       kept = opened.kept;
       failed = opened.failed;
+      gained = opened.faulty;
       counts = opened.counts;
     })
     (record { stations = closed.stations; told = closed.parts; kept = closed.kept; volumes = closed.volumes; sound = closed.sound; cause = closed.cause; counts = closed.counts; faulty = closed.faulty; parts = closed.parts })
@@ -113,6 +114,7 @@ returns-clause-replays g c =
       unfaulty = opened.unfaulty;
       kept = opened.kept;
       failed = opened.failed;
+      gained = opened.faulty;
       counts = opened.counts;
     })
     (record { stations = closed.stations; told = closed.parts; kept = closed.kept; volumes = closed.volumes; sound = closed.sound; cause = closed.cause; counts = closed.counts; faulty = closed.faulty; parts = closed.parts })
@@ -142,6 +144,7 @@ returns-in_err-counted-clause-complete g c = λ may.
       unfaulty = opened.unfaulty;
       kept = opened.kept;
       failed = opened.failed;
+      gained = opened.faulty;
       counts = opened.counts;
     })
     (record { stations = closed.stations; told = closed.parts; kept = closed.kept; volumes = closed.volumes; sound = closed.sound; cause = closed.cause; counts = closed.counts; faulty = closed.faulty; parts = closed.parts })
@@ -170,6 +173,7 @@ returns-clause-complete g c = λ may.
       unfaulty = opened.unfaulty;
       kept = opened.kept;
       failed = opened.failed;
+      gained = opened.faulty;
       counts = opened.counts;
     })
     (record { stations = closed.stations; told = closed.parts; kept = closed.kept; volumes = closed.volumes; sound = closed.sound; cause = closed.cause; counts = closed.counts; faulty = closed.faulty; parts = closed.parts })

@@ -3,7 +3,7 @@ use Rattle.std.specs.declared.alloc.Global.{Global}
 use Rattle.std.specs.declared.vec.Vec.{Vec}
 use Rattle.manager.specs.declared.station.Station.{Station}
 use Rattle.request_workers.specs.Stations.{IsMoved}
-use Rattle.replay.specs.Runs.{first_closed}
+use Rattle.open_rack.specs.NotOpened.{first_closed}
 use Rattle.replay.proofs.ServingOn.{closed_otherwise, closed_runs, never_some, no_memory_runs, served_runs, session_ready}
 use Rattle.replay.proofs.run.replay_in.Goals as goal
 

@@ -3,7 +3,7 @@ use Rattle.std.proofs.lemmas.Result.{err_from_is_err_and}
 use Rattle.wol_bay.specs.Bay.{IsHome}
 use Rattle.wol_config.specs.declared.config.VolumeConf.{VolumeConf}
 use Rattle.inspection.proofs.Unhelped.{all_at}
-use Rattle.replay.proofs.Closed.{home_outs}
+use Rattle.open_rack.proofs.Since.{none_out_still}
 use Rattle.view_commands.specs.Runs as runs
 use Rattle.view_commands.proofs.Answered.{done_complete, done_content, done_left, done_others, done_sound, refused_complete, refused_content, refused_left}
 use Rattle.view_commands.proofs.calls.change_volume.Goals as goal
@@ -18,7 +18,7 @@ change_image-requires-clause-home g c = λ v conf.
     all_at (λ (w : VolumeConf). IsHome w.name (g.B.Bay.state c.with_open.new.bay)) c.args.config.now.volumes.items c.args.volume v c.with_open.ensures.none_out conf
 
 pub returns-in-Ok-clause-none_out : goal.returns-in-Ok-clause-none_out
-returns-in-Ok-clause-none_out g c = home_outs c.args.config.now (g.B.Bay.state c.with_open.new.bay) (g.B.Bay.state c.change_image.new.bay) c.with_open.ensures.none_out c.change_image.ensures.home
+returns-in-Ok-clause-none_out g c = none_out_still c.args.config.now (g.B.Bay.state c.with_open.new.bay) (g.B.Bay.state c.change_image.new.bay) c.change_image.ensures.home c.with_open.ensures.none_out
 
 pub returns-in-Ok-clause-content : goal.returns-in-Ok-clause-content
 returns-in-Ok-clause-content g c =
