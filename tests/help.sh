@@ -62,8 +62,8 @@ usage_and_version() {
         wol $words
         expect "[$words]: status" 1 "$status"
         expect "[$words]: output" "fault 1 words" "$(cat "$room/out")"
-        expect "[$words]: lines of the usage" 13 "$(errors | wc -l)"
-        for command in format replay check dump whatif gen soak solo view-add view-remove; do
+        expect "[$words]: lines of the usage" 14 "$(errors | wc -l)"
+        for command in format replay check dump whatif clean gen soak solo view-add view-remove; do
             expect "[$words]: the usage has $command" 1 "$(errors | grep -c "^  wol $command")"
         done
     done

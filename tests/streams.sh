@@ -19,7 +19,7 @@ passed=0
 failed=0
 
 # The commands, each as its words.
-commands=("format" "check" "dump" "replay" "gen 7 40" "soak 7 40" "solo web 0 64")
+commands=("format" "check" "dump" "replay" "whatif" "clean" "gen 7 40" "soak 7 40" "view-add web0 src0" "view-remove usr0 src0" "solo web 0 64")
 
 wol() { timeout 60 "${program[@]}" "$@"; }
 
@@ -57,7 +57,7 @@ run_with_closed() { # CLOSED COMMAND: runs it with these of 0, 1 and 2 closed; t
     )
 }
 
-uses_trace() { case $1 in replay* | solo*) true ;; *) false ;; esac; }
+uses_trace() { case $1 in replay* | whatif* | solo*) true ;; *) false ;; esac; }
 
 try_closed() { # CLOSED COMMAND
     local status what="[$2] with {$1} closed"

@@ -12,11 +12,11 @@ use Rattle.solo.specs.Volume.{target_of}
 use Rattle.solo.specs.declared.volume.Volume.{Volume}
 use Rattle.command_words.specs.Application.{bare_app, the_app, with_trace, with_volume}
 use Rattle.command_words.specs.Commands.{Asks, IsCommand}
-use Rattle.command_words.specs.Laws.{CheckIsCommand, DumpIsCommand, FormatIsCommand, GenIsCommand, SoloIsCommand, WhatIfIsCommand}
+use Rattle.command_words.specs.Laws.{CheckIsCommand, CleanIsCommand, DumpIsCommand, FormatIsCommand, GenIsCommand, SoloIsCommand, WhatIfIsCommand}
 use Rattle.wol_model.specs.Trace.{Target}
 use Rattle.command_words.specs.Table.{IsSolo}
 use Rattle.command_words.specs.declared.command.Command.{Command}
-use Rattle.command_words.specs.declared.command.Command.TheVariants.{Solo, Format, Check, Dump, Gen, WhatIf}
+use Rattle.command_words.specs.declared.command.Command.TheVariants.{Solo, Format, Check, Dump, Gen, WhatIf, Clean}
 use Rattle.command_words.proofs.Rows.{given_row}
 use Rattle.command_words.proofs.Steps.{Holds, Leads, by_place, filled, filled_holds, leads_nowhere, leads_on, standing, valued}
 use Rattle.command_words.proofs.Subcommands.{Enters, entered_calm, entered_rows, level_calm, rows_at_end}
@@ -61,6 +61,10 @@ enters_whatif : Enters (built the_app) (codes "whatif") (built_sub (new_app (cod
 unfolding clap_on_literals
 enters_whatif = record { turn = refl; stops = refl; found = refl; ends = refl }
 
+enters_clean : Enters (built the_app) (codes "clean") (built_sub (new_app (codes "clean")))
+unfolding clap_on_literals
+enters_clean = record { turn = refl; stops = refl; found = refl; ends = refl }
+
 module _ (name : Text) (s : Shape) (enters : Enters (built the_app) name s) (named : s.name ≡ name) (bare : s.rules ≡ []) where
   bare_takes : or_else (defaults_fault [] s.rules) (check_fault s (fold with_default [] s.rules) false) ≡ [] → Takes name [] (fold with_default [] s.rules)
   bare_takes = takes name s [] [] 1 nothing_held enters named (leads_nowhere s (standing 1 nothing_held)) (nothing_holds s)
@@ -80,6 +84,10 @@ takes_dump = bare_takes (codes "dump") (built_sub (new_app (codes "dump"))) ente
 takes_whatif : Takes (codes "whatif") [] []
 unfolding clap_on_literals
 takes_whatif = bare_takes (codes "whatif") (built_sub (new_app (codes "whatif"))) enters_whatif refl refl refl
+
+takes_clean : Takes (codes "clean") [] []
+unfolding clap_on_literals
+takes_clean = bare_takes (codes "clean") (built_sub (new_app (codes "clean"))) enters_clean refl refl refl
 
 -- the words ask for the command
 pub asks_for : (words : List Text) (name : Text) (rest : List Text) (rows : List Row) (command : Command) → words ≡ name ∷ rest → Takes name rest rows → Asks name rows command
@@ -103,6 +111,9 @@ dump_is_command words is = asks_for words (codes "dump") [] [] Dump is takes_dum
 
 pub whatif_is_command : WhatIfIsCommand
 whatif_is_command words is = asks_for words (codes "whatif") [] [] WhatIf is takes_whatif (record { named = refl; values = tt })
+
+pub clean_is_command : CleanIsCommand
+clean_is_command words is = asks_for words (codes "clean") [] [] Clean is takes_clean (record { named = refl; values = tt })
 
 -- ---- `solo`
 

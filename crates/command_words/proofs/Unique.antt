@@ -1,6 +1,6 @@
 -- Words ask for one command at most.
-use Rattle.std.proofs.Common.{◌≡◌, ◌∙◌, ◌<◌, ◌^◌, ℕ, Bool, true, false, refl, sym, ap, ap₂, subst, arith, List, [], Option, Some, codes, true≢false, ◌⊎◌, inl, inr}
-use Rattle.std.specs.Prelude.{decimal, unwrap_or, IsTrue, ◌↔◌}
+use Rattle.std.proofs.Common.{◌≡◌, ◌∙◌, ◌<◌, ◌^◌, ℕ, Bool, true, false, refl, sym, ap, ap₂, subst, arith, List, [], Option, Some, codes, true≢false}
+use Rattle.std.specs.Prelude.{cond, decimal, unwrap_or, IsTrue, ◌↔◌, ⊤}
 use Rattle.std.specs.Str.{bytes_eq}
 use Rattle.std.proofs.lemmas.Fmt.{decimal_injective}
 use Rattle.clap.specs.Words.{Row, Text}
@@ -8,11 +8,11 @@ use Rattle.solo.specs.Volume.{target_of}
 use Rattle.solo.specs.declared.volume.Volume.{Volume}
 use Rattle.wol_model.specs.Trace.{Target}
 use Rattle.command_words.specs.Commands.{HasValues, name_of}
-use Rattle.command_words.specs.Laws.{AreSame, CommandsAreOne}
+use Rattle.command_words.specs.Laws.{AreSame, CommandsAreOne, same, solo, view_add, view_remove}
 use Rattle.command_words.specs.Table.{Named, mode_text}
 use Rattle.command_words.specs.Values.{HasNames, HasOptions, HasText, HasTrace, HasVolume, named_by}
 use Rattle.command_words.specs.declared.command.Command.{Command}
-use Rattle.command_words.specs.declared.command.Command.TheVariants.{Solo, Format, Replay, Check, Dump, Gen, Soak, WhatIf, ViewAdd, ViewRemove}
+use Rattle.command_words.specs.declared.command.Command.TheVariants.{Solo, Format, Replay, Check, Dump, Gen, Soak, WhatIf, ViewAdd, ViewRemove, Clean}
 use Rattle.command_words.specs.declared.command.Generated.{Generated}
 use Rattle.command_words.specs.declared.command.Mode.{Mode}
 use Rattle.command_words.specs.declared.command.Mode.TheVariants.{Off, Between, Beside}
@@ -72,107 +72,91 @@ same_options rows o p h k =
     let each = same_test o.each p.each _ h.each k.each in
     λ i. record { workers = workers i; reclaim = reclaim i; each = each i }
 
-same : (rows : List Row) (c d : Command) → name_of c ≡ name_of d → HasValues rows c → HasValues rows d → AreSame c d
-same rows (Solo v) (Solo w) e h k = same_volume rows (target_of v) (target_of w) h k
-same rows (Solo v) Format e h k = absurd (apart (codes "solo") (codes "format") refl refl e)
-same rows (Solo v) (Replay p) e h k = absurd (apart (codes "solo") (codes "replay") refl refl e)
-same rows (Solo v) Check e h k = absurd (apart (codes "solo") (codes "check") refl refl e)
-same rows (Solo v) Dump e h k = absurd (apart (codes "solo") (codes "dump") refl refl e)
-same rows (Solo v) (Gen b) e h k = absurd (apart (codes "solo") (codes "gen") refl refl e)
-same rows (Solo v) (Soak b p) e h k = absurd (apart (codes "solo") (codes "soak") refl refl e)
-same rows (Solo v) WhatIf e h k = absurd (apart (codes "solo") (codes "whatif") refl refl e)
-same rows (Solo v) (ViewAdd w) e h k = absurd (apart (codes "solo") (codes "view-add") refl refl e)
-same rows (Solo v) (ViewRemove w) e h k = absurd (apart (codes "solo") (codes "view-remove") refl refl e)
-same rows Format (Solo w) e h k = absurd (apart (codes "format") (codes "solo") refl refl e)
-same rows Format Format e h k = refl
-same rows Format (Replay p) e h k = absurd (apart (codes "format") (codes "replay") refl refl e)
-same rows Format Check e h k = absurd (apart (codes "format") (codes "check") refl refl e)
-same rows Format Dump e h k = absurd (apart (codes "format") (codes "dump") refl refl e)
-same rows Format (Gen b) e h k = absurd (apart (codes "format") (codes "gen") refl refl e)
-same rows Format (Soak b p) e h k = absurd (apart (codes "format") (codes "soak") refl refl e)
-same rows Format WhatIf e h k = absurd (apart (codes "format") (codes "whatif") refl refl e)
-same rows Format (ViewAdd w) e h k = absurd (apart (codes "format") (codes "view-add") refl refl e)
-same rows Format (ViewRemove w) e h k = absurd (apart (codes "format") (codes "view-remove") refl refl e)
-same rows (Replay o) (Solo w) e h k = absurd (apart (codes "replay") (codes "solo") refl refl e)
-same rows (Replay o) Format e h k = absurd (apart (codes "replay") (codes "format") refl refl e)
-same rows (Replay o) (Replay p) e h k = ap Replay (same_options rows o p h k)
-same rows (Replay o) Check e h k = absurd (apart (codes "replay") (codes "check") refl refl e)
-same rows (Replay o) Dump e h k = absurd (apart (codes "replay") (codes "dump") refl refl e)
-same rows (Replay o) (Gen b) e h k = absurd (apart (codes "replay") (codes "gen") refl refl e)
-same rows (Replay o) (Soak b p) e h k = absurd (apart (codes "replay") (codes "soak") refl refl e)
-same rows (Replay o) WhatIf e h k = absurd (apart (codes "replay") (codes "whatif") refl refl e)
-same rows (Replay o) (ViewAdd w) e h k = absurd (apart (codes "replay") (codes "view-add") refl refl e)
-same rows (Replay o) (ViewRemove w) e h k = absurd (apart (codes "replay") (codes "view-remove") refl refl e)
-same rows Check (Solo w) e h k = absurd (apart (codes "check") (codes "solo") refl refl e)
-same rows Check Format e h k = absurd (apart (codes "check") (codes "format") refl refl e)
-same rows Check (Replay p) e h k = absurd (apart (codes "check") (codes "replay") refl refl e)
-same rows Check Check e h k = refl
-same rows Check Dump e h k = absurd (apart (codes "check") (codes "dump") refl refl e)
-same rows Check (Gen b) e h k = absurd (apart (codes "check") (codes "gen") refl refl e)
-same rows Check (Soak b p) e h k = absurd (apart (codes "check") (codes "soak") refl refl e)
-same rows Check WhatIf e h k = absurd (apart (codes "check") (codes "whatif") refl refl e)
-same rows Check (ViewAdd w) e h k = absurd (apart (codes "check") (codes "view-add") refl refl e)
-same rows Check (ViewRemove w) e h k = absurd (apart (codes "check") (codes "view-remove") refl refl e)
-same rows Dump (Solo w) e h k = absurd (apart (codes "dump") (codes "solo") refl refl e)
-same rows Dump Format e h k = absurd (apart (codes "dump") (codes "format") refl refl e)
-same rows Dump (Replay p) e h k = absurd (apart (codes "dump") (codes "replay") refl refl e)
-same rows Dump Check e h k = absurd (apart (codes "dump") (codes "check") refl refl e)
-same rows Dump Dump e h k = refl
-same rows Dump (Gen b) e h k = absurd (apart (codes "dump") (codes "gen") refl refl e)
-same rows Dump (Soak b p) e h k = absurd (apart (codes "dump") (codes "soak") refl refl e)
-same rows Dump WhatIf e h k = absurd (apart (codes "dump") (codes "whatif") refl refl e)
-same rows Dump (ViewAdd w) e h k = absurd (apart (codes "dump") (codes "view-add") refl refl e)
-same rows Dump (ViewRemove w) e h k = absurd (apart (codes "dump") (codes "view-remove") refl refl e)
-same rows (Gen a) (Solo w) e h k = absurd (apart (codes "gen") (codes "solo") refl refl e)
-same rows (Gen a) Format e h k = absurd (apart (codes "gen") (codes "format") refl refl e)
-same rows (Gen a) (Replay p) e h k = absurd (apart (codes "gen") (codes "replay") refl refl e)
-same rows (Gen a) Check e h k = absurd (apart (codes "gen") (codes "check") refl refl e)
-same rows (Gen a) Dump e h k = absurd (apart (codes "gen") (codes "dump") refl refl e)
-same rows (Gen a) (Gen b) e h k = ap Gen (same_trace rows a b h k)
-same rows (Gen a) (Soak b p) e h k = absurd (apart (codes "gen") (codes "soak") refl refl e)
-same rows (Gen a) WhatIf e h k = absurd (apart (codes "gen") (codes "whatif") refl refl e)
-same rows (Gen a) (ViewAdd w) e h k = absurd (apart (codes "gen") (codes "view-add") refl refl e)
-same rows (Gen a) (ViewRemove w) e h k = absurd (apart (codes "gen") (codes "view-remove") refl refl e)
-same rows (Soak a o) (Solo w) e h k = absurd (apart (codes "soak") (codes "solo") refl refl e)
-same rows (Soak a o) Format e h k = absurd (apart (codes "soak") (codes "format") refl refl e)
-same rows (Soak a o) (Replay p) e h k = absurd (apart (codes "soak") (codes "replay") refl refl e)
-same rows (Soak a o) Check e h k = absurd (apart (codes "soak") (codes "check") refl refl e)
-same rows (Soak a o) Dump e h k = absurd (apart (codes "soak") (codes "dump") refl refl e)
-same rows (Soak a o) (Gen b) e h k = absurd (apart (codes "soak") (codes "gen") refl refl e)
-same rows (Soak a o) (Soak b p) e h k = ap₂ Soak (same_trace rows a b h.0 k.0) (same_options rows o p h.1 k.1)
-same rows (Soak a o) WhatIf e h k = absurd (apart (codes "soak") (codes "whatif") refl refl e)
-same rows (Soak a o) (ViewAdd w) e h k = absurd (apart (codes "soak") (codes "view-add") refl refl e)
-same rows (Soak a o) (ViewRemove w) e h k = absurd (apart (codes "soak") (codes "view-remove") refl refl e)
-same rows WhatIf (Solo w) e h k = absurd (apart (codes "whatif") (codes "solo") refl refl e)
-same rows WhatIf Format e h k = absurd (apart (codes "whatif") (codes "format") refl refl e)
-same rows WhatIf (Replay p) e h k = absurd (apart (codes "whatif") (codes "replay") refl refl e)
-same rows WhatIf Check e h k = absurd (apart (codes "whatif") (codes "check") refl refl e)
-same rows WhatIf Dump e h k = absurd (apart (codes "whatif") (codes "dump") refl refl e)
-same rows WhatIf (Gen b) e h k = absurd (apart (codes "whatif") (codes "gen") refl refl e)
-same rows WhatIf (Soak b p) e h k = absurd (apart (codes "whatif") (codes "soak") refl refl e)
-same rows WhatIf WhatIf e h k = refl
-same rows WhatIf (ViewAdd w) e h k = absurd (apart (codes "whatif") (codes "view-add") refl refl e)
-same rows WhatIf (ViewRemove w) e h k = absurd (apart (codes "whatif") (codes "view-remove") refl refl e)
-same rows (ViewAdd v) (Solo w) e h k = absurd (apart (codes "view-add") (codes "solo") refl refl e)
-same rows (ViewAdd v) Format e h k = absurd (apart (codes "view-add") (codes "format") refl refl e)
-same rows (ViewAdd v) (Replay p) e h k = absurd (apart (codes "view-add") (codes "replay") refl refl e)
-same rows (ViewAdd v) Check e h k = absurd (apart (codes "view-add") (codes "check") refl refl e)
-same rows (ViewAdd v) Dump e h k = absurd (apart (codes "view-add") (codes "dump") refl refl e)
-same rows (ViewAdd v) (Gen b) e h k = absurd (apart (codes "view-add") (codes "gen") refl refl e)
-same rows (ViewAdd v) (Soak b p) e h k = absurd (apart (codes "view-add") (codes "soak") refl refl e)
-same rows (ViewAdd v) WhatIf e h k = absurd (apart (codes "view-add") (codes "whatif") refl refl e)
-same rows (ViewAdd v) (ViewAdd w) e h k = same_names rows (named_by v) (named_by w) h k
-same rows (ViewAdd v) (ViewRemove w) e h k = absurd (apart (codes "view-add") (codes "view-remove") refl refl e)
-same rows (ViewRemove v) (Solo w) e h k = absurd (apart (codes "view-remove") (codes "solo") refl refl e)
-same rows (ViewRemove v) Format e h k = absurd (apart (codes "view-remove") (codes "format") refl refl e)
-same rows (ViewRemove v) (Replay p) e h k = absurd (apart (codes "view-remove") (codes "replay") refl refl e)
-same rows (ViewRemove v) Check e h k = absurd (apart (codes "view-remove") (codes "check") refl refl e)
-same rows (ViewRemove v) Dump e h k = absurd (apart (codes "view-remove") (codes "dump") refl refl e)
-same rows (ViewRemove v) (Gen b) e h k = absurd (apart (codes "view-remove") (codes "gen") refl refl e)
-same rows (ViewRemove v) (Soak b p) e h k = absurd (apart (codes "view-remove") (codes "soak") refl refl e)
-same rows (ViewRemove v) WhatIf e h k = absurd (apart (codes "view-remove") (codes "whatif") refl refl e)
-same rows (ViewRemove v) (ViewAdd w) e h k = absurd (apart (codes "view-remove") (codes "view-add") refl refl e)
-same rows (ViewRemove v) (ViewRemove w) e h k = same_names rows (named_by v) (named_by w) h k
+-- ---- A command by its name
+
+-- which command a name is of, if of any
+pub data Kind : Type 0 where
+  of_solo : Kind
+  of_format : Kind
+  of_replay : Kind
+  of_check : Kind
+  of_dump : Kind
+  of_gen : Kind
+  of_soak : Kind
+  of_whatif : Kind
+  of_view_add : Kind
+  of_view_remove : Kind
+  of_clean : Kind
+  of_none : Kind
+
+abbrev pub kind_of : Text → Kind
+kind_of name =
+    cond (bytes_eq name (codes "solo")) of_solo
+    (cond (bytes_eq name (codes "format")) of_format
+    (cond (bytes_eq name (codes "replay")) of_replay
+    (cond (bytes_eq name (codes "check")) of_check
+    (cond (bytes_eq name (codes "dump")) of_dump
+    (cond (bytes_eq name (codes "gen")) of_gen
+    (cond (bytes_eq name (codes "soak")) of_soak
+    (cond (bytes_eq name (codes "whatif")) of_whatif
+    (cond (bytes_eq name (codes "view-add")) of_view_add
+    (cond (bytes_eq name (codes "view-remove")) of_view_remove
+    (cond (bytes_eq name (codes "clean")) of_clean
+    of_none))))))))))
+
+-- a command of this kind
+abbrev pub IsOf : Kind → Command → Type 0
+IsOf of_solo d = (volume : Volume) × (d ≡ Solo volume)
+IsOf of_format d = d ≡ Format
+IsOf of_replay d = (options : Options) × (d ≡ Replay options)
+IsOf of_check d = d ≡ Check
+IsOf of_dump d = d ≡ Dump
+IsOf of_gen d = (asked : Generated) × (d ≡ Gen asked)
+IsOf of_soak d = (asked : Generated) × (options : Options) × (d ≡ Soak asked options)
+IsOf of_whatif d = d ≡ WhatIf
+IsOf of_view_add d = (names : ViewNames) × (d ≡ ViewAdd names)
+IsOf of_view_remove d = (names : ViewNames) × (d ≡ ViewRemove names)
+IsOf of_clean d = d ≡ Clean
+IsOf of_none d = ⊤
+
+own_kind : (d : Command) → IsOf (kind_of (name_of d)) d
+own_kind (Solo volume) = (volume, refl)
+own_kind Format = refl
+own_kind (Replay options) = (options, refl)
+own_kind Check = refl
+own_kind Dump = refl
+own_kind (Gen asked) = (asked, refl)
+own_kind (Soak asked options) = (asked, options, refl)
+own_kind WhatIf = refl
+own_kind (ViewAdd names) = (names, refl)
+own_kind (ViewRemove names) = (names, refl)
+own_kind Clean = refl
+
+pub by_name : (name : Text) (d : Command) → name ≡ name_of d → IsOf (kind_of name) d
+by_name name d is = subst (λ t. IsOf (kind_of t) d) (sym is) (own_kind d)
+
+-- two commands of one name and with the same values
+module _ (rows : List Row) (d : Command) (k : HasValues rows d) where
+  values_of : (c : Command) → d ≡ c → HasValues rows c
+  values_of c is = subst (HasValues rows) is k
+
+  alike : (c e : Command) → d ≡ e → AreSame c e → AreSame c d
+  alike c e is = subst (AreSame c) (sym is)
+
+  same_at : (c : Command) → HasValues rows c → IsOf (kind_of (name_of c)) d → AreSame c d
+  same_at (Solo v) h (w, is) = alike _ _ is (solo (same_volume rows (target_of v) (target_of w) h (values_of _ is)))
+  same_at Format h is = alike _ _ is same
+  same_at (Replay o) h (p, is) = alike _ _ is (subst (AreSame _) (ap Replay (same_options rows o p h (values_of _ is))) same)
+  same_at Check h is = alike _ _ is same
+  same_at Dump h is = alike _ _ is same
+  same_at (Gen a) h (b, is) = alike _ _ is (subst (AreSame _) (ap Gen (same_trace rows a b h (values_of _ is))) same)
+  same_at (Soak a o) h (b, p, is) =
+      let values = values_of _ is in
+      alike _ _ is (subst (AreSame _) (ap₂ Soak (same_trace rows a b h.0 values.0) (same_options rows o p h.1 values.1)) same)
+  same_at WhatIf h is = alike _ _ is same
+  same_at (ViewAdd v) h (w, is) = alike _ _ is (view_add (same_names rows (named_by v) (named_by w) h (values_of _ is)))
+  same_at (ViewRemove v) h (w, is) = alike _ _ is (view_remove (same_names rows (named_by v) (named_by w) h (values_of _ is)))
+  same_at Clean h is = alike _ _ is same
 
 abbrev found : Option (Text × List Row) → Text × List Row
 found o = unwrap_or o ([], [])
@@ -182,65 +166,4 @@ commands_are_one words c d h k =
     let met : Some (h.name, h.rows) ≡ Some (k.name, k.rows) = sym h.met ∙ k.met in
     let names : h.name ≡ k.name = ap (λ o. (found o).0) met in
     let rows : h.rows ≡ k.rows = ap (λ o. (found o).1) met in
-    same k.rows c d (sym h.asks.named ∙ names ∙ k.asks.named) (subst (λ rs. HasValues rs c) rows h.asks.values) k.asks.values
-
--- ---- what it is to be the same
-
--- two volumes that are named alike
-pub record AreNamedAlike (c d : Command) : Type 0 where
-  pub first : Volume
-  pub second : Volume
-  pub first_is : c ≡ Solo first
-  pub second_is : d ≡ Solo second
-  pub alike : target_of first ≡ target_of second
-
--- two changes of views that name the same volumes
-pub record AreViewedAlike (command : ViewNames → Command) (c d : Command) : Type 0 where
-  pub first : ViewNames
-  pub second : ViewNames
-  pub first_is : c ≡ command first
-  pub second_is : d ≡ command second
-  pub alike : named_by first ≡ named_by second
-
--- two commands are one, or differ in where names lie in memory
-abbrev pub AreOneOrAlike : (c d : Command) → Type 0
-AreOneOrAlike c d = (c ≡ d) ⊎ AreNamedAlike c d ⊎ AreViewedAlike ViewAdd c d ⊎ AreViewedAlike ViewRemove c d
-
-pub equal_or_alike : (c d : Command) → AreSame c d → AreOneOrAlike c d
-equal_or_alike (Solo v) (Solo w) e = inr (inl (record { first = v; second = w; first_is = refl; second_is = refl; alike = e }))
-equal_or_alike (ViewAdd v) (ViewAdd w) e = inr (inr (inl (record { first = v; second = w; first_is = refl; second_is = refl; alike = e })))
-equal_or_alike (ViewRemove v) (ViewRemove w) e = inr (inr (inr (record { first = v; second = w; first_is = refl; second_is = refl; alike = e })))
-equal_or_alike (Solo v) Format e = inl e
-equal_or_alike (Solo v) (Replay options) e = inl e
-equal_or_alike (Solo v) Check e = inl e
-equal_or_alike (Solo v) Dump e = inl e
-equal_or_alike (Solo v) (Gen asked) e = inl e
-equal_or_alike (Solo v) (Soak asked options) e = inl e
-equal_or_alike (Solo v) WhatIf e = inl e
-equal_or_alike (Solo v) (ViewAdd names) e = inl e
-equal_or_alike (Solo v) (ViewRemove names) e = inl e
-equal_or_alike (ViewAdd v) (Solo volume) e = inl e
-equal_or_alike (ViewAdd v) Format e = inl e
-equal_or_alike (ViewAdd v) (Replay options) e = inl e
-equal_or_alike (ViewAdd v) Check e = inl e
-equal_or_alike (ViewAdd v) Dump e = inl e
-equal_or_alike (ViewAdd v) (Gen asked) e = inl e
-equal_or_alike (ViewAdd v) (Soak asked options) e = inl e
-equal_or_alike (ViewAdd v) WhatIf e = inl e
-equal_or_alike (ViewAdd v) (ViewRemove names) e = inl e
-equal_or_alike (ViewRemove v) (Solo volume) e = inl e
-equal_or_alike (ViewRemove v) Format e = inl e
-equal_or_alike (ViewRemove v) (Replay options) e = inl e
-equal_or_alike (ViewRemove v) Check e = inl e
-equal_or_alike (ViewRemove v) Dump e = inl e
-equal_or_alike (ViewRemove v) (Gen asked) e = inl e
-equal_or_alike (ViewRemove v) (Soak asked options) e = inl e
-equal_or_alike (ViewRemove v) WhatIf e = inl e
-equal_or_alike (ViewRemove v) (ViewAdd names) e = inl e
-equal_or_alike Format d e = inl e
-equal_or_alike (Replay options) d e = inl e
-equal_or_alike Check d e = inl e
-equal_or_alike Dump d e = inl e
-equal_or_alike (Gen asked) d e = inl e
-equal_or_alike (Soak asked options) d e = inl e
-equal_or_alike WhatIf d e = inl e
+    same_at k.rows d k.asks.values c (subst (λ rs. HasValues rs c) rows h.asks.values) (by_name _ d (sym h.asks.named ∙ names ∙ k.asks.named))

@@ -18,19 +18,25 @@ flag_rule name = record (option_rule name) { action = Some SetTrue }
 
 -- the command with the arguments that name a volume
 abbrev pub with_volume : App → App
-with_volume a = with_rule (with_rule (with_rule a (positional_rule (codes "HOST"))) (positional_rule (codes "DISK"))) (positional_rule (codes "BLOCKS"))
+with_volume a =
+    with_rule (with_rule (with_rule a (positional_rule (codes "HOST")))
+    (positional_rule (codes "DISK"))) (positional_rule (codes "BLOCKS"))
 
 -- the command with the arguments that name a generated trace
 abbrev pub with_trace : App → App
-with_trace a = with_rule (with_rule a (positional_rule (codes "SEED"))) (positional_rule (codes "LINES"))
+with_trace a =
+    with_rule (with_rule a (positional_rule (codes "SEED"))) (positional_rule (codes "LINES"))
 
 -- the command with the arguments that name a volume and one that logs for it
 abbrev pub with_names : App → App
-with_names a = with_rule (with_rule a (positional_rule (codes "NAME"))) (positional_rule (codes "LOGGER"))
+with_names a =
+    with_rule (with_rule a (positional_rule (codes "NAME"))) (positional_rule (codes "LOGGER"))
 
 -- the command with the options of a run over a trace
 abbrev pub with_options : App → App
-with_options a = with_rule (with_rule (with_rule a (option_rule (codes "workers"))) (option_rule (codes "reclaim"))) (flag_rule (codes "each"))
+with_options a =
+    with_rule (with_rule (with_rule a (option_rule (codes "workers")))
+    (option_rule (codes "reclaim"))) (flag_rule (codes "each"))
 
 -- the program with no subcommand yet: one has to be given, and there is no help and no version
 abbrev pub bare_app : App
@@ -48,7 +54,9 @@ bare_app = record {
 -- the program
 abbrev pub the_app : App
 the_app =
-    with_subcommand (with_subcommand (with_subcommand (with_subcommand (with_subcommand (with_subcommand (with_subcommand (with_subcommand (with_subcommand (with_subcommand bare_app
+    with_subcommand (with_subcommand (with_subcommand (with_subcommand (with_subcommand
+    (with_subcommand (with_subcommand (with_subcommand (with_subcommand (with_subcommand
+    (with_subcommand bare_app
     (with_volume (new_app (codes "solo"))).top)
     (new_app (codes "format")).top)
     (with_options (new_app (codes "replay"))).top)
@@ -58,4 +66,5 @@ the_app =
     (new_app (codes "whatif")).top)
     (with_names (new_app (codes "view-add"))).top)
     (with_names (new_app (codes "view-remove"))).top)
+    (new_app (codes "clean")).top)
     (with_options (with_trace (new_app (codes "soak")))).top

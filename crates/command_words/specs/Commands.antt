@@ -5,7 +5,7 @@ use Rattle.solo.specs.Volume.{target_of}
 use Rattle.command_words.specs.Application.{the_app}
 use Rattle.command_words.specs.Values.{HasNames, HasOptions, HasTrace, HasVolume, named_by}
 use Rattle.command_words.specs.declared.command.Command.{Command}
-use Rattle.command_words.specs.declared.command.Command.TheVariants.{Solo, Format, Replay, Check, Dump, Gen, Soak, WhatIf, ViewAdd, ViewRemove}
+use Rattle.command_words.specs.declared.command.Command.TheVariants.{Solo, Format, Replay, Check, Dump, Gen, Soak, WhatIf, ViewAdd, ViewRemove, Clean}
 
 -- the name of a command
 abbrev pub name_of : Command → Text
@@ -19,6 +19,7 @@ name_of (Soak asked options) = codes "soak"
 name_of WhatIf = codes "whatif"
 name_of (ViewAdd names) = codes "view-add"
 name_of (ViewRemove names) = codes "view-remove"
+name_of Clean = codes "clean"
 
 -- the values are those of the command
 abbrev pub HasValues : List Row → Command → Type 0
@@ -32,6 +33,7 @@ HasValues rows (Soak asked options) = HasTrace rows asked × HasOptions rows opt
 HasValues rows WhatIf = ⊤
 HasValues rows (ViewAdd names) = HasNames rows (named_by names)
 HasValues rows (ViewRemove names) = HasNames rows (named_by names)
+HasValues rows Clean = ⊤
 
 -- the subcommand of this name with these values is the command
 pub record Asks (name : Text) (rows : List Row) (command : Command) : Type 0 where

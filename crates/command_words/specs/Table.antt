@@ -49,6 +49,10 @@ IsDump words = words ≡ codes "dump" ∷ []
 abbrev pub IsWhatIf : List (List ℕ) → Type 0
 IsWhatIf words = words ≡ codes "whatif" ∷ []
 
+-- the words are `clean`
+abbrev pub IsClean : List (List ℕ) → Type 0
+IsClean words = words ≡ codes "clean" ∷ []
+
 -- a word that may be a name: it doesn't begin with a dash
 abbrev pub IsName : List ℕ → Type 0
 IsName word = ¬ (slice_get word 0 ≡ Some 45)

@@ -26,13 +26,15 @@ pub(crate) fn application<'a>(alloc: Global) -> Result<Command<'a>, AllocError>
         .subcommand(Command::new(alloc, "whatif"))?
         .subcommand(of_view(alloc, Command::new(alloc, "view-add"))?)?
         .subcommand(of_view(alloc, Command::new(alloc, "view-remove"))?)?
+        .subcommand(Command::new(alloc, "clean"))?
         .subcommand(of_options(alloc, of_trace(alloc, Command::new(alloc, "soak"))?)?)
 }
 
 // The command with the arguments that name a volume.
 fn of_volume<'a>(alloc: Global, command: Command<'a>) -> Result<Command<'a>, AllocError>
     ensures app { IfOk result (λ made. app_of made ≡ with_volume (app_of command.entry)) }
-    ensures globals { IfOk result (λ made. (out-Command made).has_globals ≡ (out-Command command.entry).has_globals) }
+    ensures globals { IfOk result (λ made.
+        (out-Command made).has_globals ≡ (out-Command command.entry).has_globals) }
 {
     command
         .arg(positional(alloc, "HOST"))?
@@ -43,7 +45,8 @@ fn of_volume<'a>(alloc: Global, command: Command<'a>) -> Result<Command<'a>, All
 // The command with the arguments that name a generated trace.
 fn of_trace<'a>(alloc: Global, command: Command<'a>) -> Result<Command<'a>, AllocError>
     ensures app { IfOk result (λ made. app_of made ≡ with_trace (app_of command.entry)) }
-    ensures globals { IfOk result (λ made. (out-Command made).has_globals ≡ (out-Command command.entry).has_globals) }
+    ensures globals { IfOk result (λ made.
+        (out-Command made).has_globals ≡ (out-Command command.entry).has_globals) }
 {
     command
         .arg(positional(alloc, "SEED"))?
@@ -53,7 +56,8 @@ fn of_trace<'a>(alloc: Global, command: Command<'a>) -> Result<Command<'a>, Allo
 // The command with the arguments that name a volume and one that logs for it.
 fn of_view<'a>(alloc: Global, command: Command<'a>) -> Result<Command<'a>, AllocError>
     ensures app { IfOk result (λ made. app_of made ≡ with_names (app_of command.entry)) }
-    ensures globals { IfOk result (λ made. (out-Command made).has_globals ≡ (out-Command command.entry).has_globals) }
+    ensures globals { IfOk result (λ made.
+        (out-Command made).has_globals ≡ (out-Command command.entry).has_globals) }
 {
     command
         .arg(positional(alloc, "NAME"))?
@@ -63,7 +67,8 @@ fn of_view<'a>(alloc: Global, command: Command<'a>) -> Result<Command<'a>, Alloc
 // The command with the options of a run over a trace.
 fn of_options<'a>(alloc: Global, command: Command<'a>) -> Result<Command<'a>, AllocError>
     ensures app { IfOk result (λ made. app_of made ≡ with_options (app_of command.entry)) }
-    ensures globals { IfOk result (λ made. (out-Command made).has_globals ≡ (out-Command command.entry).has_globals) }
+    ensures globals { IfOk result (λ made.
+        (out-Command made).has_globals ≡ (out-Command command.entry).has_globals) }
 {
     command
         .arg(option(alloc, "workers"))?

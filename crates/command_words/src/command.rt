@@ -72,6 +72,8 @@ pub enum Command<'a> {
     ViewAdd(ViewNames<'a>),
     /// A volume's view loses a logger, after what lies there went home.
     ViewRemove(ViewNames<'a>),
+    /// What lies in logs is rewritten as few records.
+    Clean,
 }
 
 /// Why there is no command.
@@ -86,7 +88,8 @@ pub enum WordsFault {
 /// The command that the words ask for. `NotACommand` comes only where they ask for none, and `NoMemory` where memory ran out.
 pub fn command_of<'a>(alloc: Global, words: &'a [String]) -> Result<Command<'a>, WordsFault>
     ensures ok { IfOk result (IsCommand (map string_bytes words.entry.now)) }
-    ensures refused { IsErrOf result WordsFault.NotACommand → NoCommand (map string_bytes words.entry.now) }
+    ensures refused { IsErrOf result WordsFault.NotACommand
+        → NoCommand (map string_bytes words.entry.now) }
 {
     let Ok(application) = application(alloc) else {
         return Err(WordsFault::NoMemory);
@@ -103,7 +106,8 @@ pub fn command_of<'a>(alloc: Global, words: &'a [String]) -> Result<Command<'a>,
 
 // What a refused parse comes to.
 fn fault_of(error: &Error) -> WordsFault
-    ensures refused { result ≡ WordsFault.NotACommand → ¬ (kind_of error.now ≡ ErrorKind.OutOfMemory) }
+    ensures refused { result ≡ WordsFault.NotACommand
+        → ¬ (kind_of error.now ≡ ErrorKind.OutOfMemory) }
     ensures memory { result ≡ WordsFault.NoMemory → kind_of error.now ≡ ErrorKind.OutOfMemory }
 {
     if error.kind() == ErrorKind::OutOfMemory {
@@ -129,6 +133,7 @@ fn read<'a>(name: &str, matches: &ArgMatches<'a>) -> Option<Command<'a>>
         "whatif" => Some(Command::WhatIf),
         "view-add" => Some(Command::ViewAdd(names_of(matches)?)),
         "view-remove" => Some(Command::ViewRemove(names_of(matches)?)),
+        "clean" => Some(Command::Clean),
         _ => None,
     }
 }

@@ -1,5 +1,5 @@
 // The laws of words.
-ghost use Rattle.command_words.specs.Laws.{CheckIsCommand, CommandsAreOne, DumpIsCommand, FormatIsCommand, GenIsCommand, ReplayIsCommand, SoakIsCommand, SoloIsCommand, ViewAddIsCommand, ViewRemoveIsCommand, WhatIfIsCommand};
+ghost use Rattle.command_words.specs.Laws.{CheckIsCommand, CleanIsCommand, CommandsAreOne, DumpIsCommand, FormatIsCommand, GenIsCommand, ReplayIsCommand, SoakIsCommand, SoloIsCommand, ViewAddIsCommand, ViewRemoveIsCommand, WhatIfIsCommand};
 
 /// Words as the table of the program's words spells them ask for the command that stands there, and words ask for one command at most.
 pub fn words_laws()
@@ -13,5 +13,6 @@ pub fn words_laws()
     ensures whatif { WhatIfIsCommand }
     ensures view_add { ViewAddIsCommand }
     ensures view_remove { ViewRemoveIsCommand }
+    ensures clean { CleanIsCommand }
     ensures one { CommandsAreOne }
 {}

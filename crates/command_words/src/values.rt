@@ -28,7 +28,8 @@ const MOST_WORKERS: u64 = 64;
 /// The volume that the values name: HOST is 1 to 64 bytes from 33 to 126 with no comma, no quotation mark and no dash in front, DISK is
 /// below 2^32, and BLOCKS from 1 to 2^32. `None` exactly where they name none.
 pub(crate) fn volume_of<'a>(matches: &ArgMatches<'a>) -> Option<Volume<'a>>
-    ensures some { IfSome result (λ volume. HasVolume (rows_of (found_of matches.now)) (target_of volume)) }
+    ensures some { IfSome result (λ volume.
+        HasVolume (rows_of (found_of matches.now)) (target_of volume)) }
     ensures none { IfNone result (NoVolume (rows_of (found_of matches.now))) }
 {
     let host = value_at(matches, "HOST")?.as_bytes();
@@ -63,7 +64,8 @@ pub(crate) fn trace_of(matches: &ArgMatches<'_>) -> Option<Generated>
 
 /// The two names that the values are: neither begins with a dash. `None` exactly where they are none.
 pub(crate) fn names_of<'a>(matches: &ArgMatches<'a>) -> Option<ViewNames<'a>>
-    ensures some { IfSome result (λ names. HasNames (rows_of (found_of matches.now)) (named_by names)) }
+    ensures some { IfSome result (λ names.
+        HasNames (rows_of (found_of matches.now)) (named_by names)) }
     ensures none { IfNone result (NoNames (rows_of (found_of matches.now))) }
 {
     Some(ViewNames {
@@ -109,7 +111,8 @@ fn mode_of(matches: &ArgMatches<'_>) -> Option<Mode>
 
 // The number that an argument's value is.
 fn number_at(matches: &ArgMatches<'_>, name: &str) -> Option<u64>
-    ensures { (n : ℕ) → n < 2 ^ 64 → (result ≡ Some n) ↔ (first_of name.now (rows_of (found_of matches.now)) ≡ Some (decimal n)) }
+    ensures { (n : ℕ) → n < 2 ^ 64 → (result ≡ Some n)
+        ↔ (first_of name.now (rows_of (found_of matches.now)) ≡ Some (decimal n)) }
 {
     number(value_at(matches, name)?)
 }
@@ -128,7 +131,8 @@ fn name_at<'a>(matches: &ArgMatches<'a>, name: &str) -> Option<&'a str>
 
 // An argument's value, or the default.
 fn value_or<'a>(matches: &ArgMatches<'a>, name: &str, default: &'a str) -> &'a str
-    ensures { result.now ≡ unwrap_or (first_of name.now (rows_of (found_of matches.now))) default.entry.now }
+    ensures { result.now ≡ unwrap_or (first_of name.now (rows_of (found_of matches.now)))
+        default.entry.now }
 {
     match value_at(matches, name) {
         Some(value) => value,
@@ -138,7 +142,8 @@ fn value_or<'a>(matches: &ArgMatches<'a>, name: &str, default: &'a str) -> &'a s
 
 // An argument's value.
 fn value_at<'a>(matches: &ArgMatches<'a>, name: &str) -> Option<&'a str>
-    ensures { option_map (λ value. value.now) result ≡ first_of name.now (rows_of (found_of matches.now)) }
+    ensures { option_map (λ value. value.now) result ≡ first_of name.now
+        (rows_of (found_of matches.now)) }
 {
     matches.get_str(name)
 }

@@ -44,7 +44,7 @@ impl Fields {
         }
         let lines = whole_lines(bytes);
         if self.reader.is_none() && lines.len() >= WORTH {
-            self.reader = Some(new_reader(self.alloc));
+            make(self.alloc, &mut self.reader);
         }
         if let Some(reader) = &self.reader {
             reader.get_ref().hand(lines);
@@ -90,13 +90,15 @@ impl Fields {
     }
 }
 
-// A reader that was handed nothing yet.
+// Makes a reader that was handed nothing yet. It stands apart so that no line pays for the room of a whole reader, of which a
+// trace needs one.
 #[cold]
 #[inline(never)]
-fn new_reader(alloc: Global) -> Reader<Chunk> {
-    ReaderBuilder::new()
+fn make(alloc: Global, reader: &mut Option<Reader<Chunk>>) {
+    let made = ReaderBuilder::new()
         .has_headers(false)
-        .from_reader(alloc, Chunk::new())
+        .from_reader(alloc, Chunk::new());
+    *reader = Some(made);
 }
 
 // The bytes up to the last line feed.
@@ -107,7 +109,7 @@ fn whole_lines(bytes: &[u8]) -> &[u8] {
     }
 }
 
-// Lets a reader go. It stands apart so that no line pays for the room of a whole reader, which few lines need.
+// Lets a reader go. It stands apart for the same reason.
 #[cold]
 #[inline(never)]
 fn let_go(reader: &mut Option<Reader<Chunk>>) {

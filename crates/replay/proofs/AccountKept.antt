@@ -9,6 +9,7 @@ use Rattle.wol_config.specs.declared.config.Config.{Config}
 use Rattle.volume_images.specs.Left.{IsTold}
 use Rattle.replay.specs.Account.{Account, EndsWithSummary, KeepsAccount}
 use Rattle.replay.specs.Histories.{BeginAsRead, History, IsHistory, answers_in}
+use Rattle.replay.specs.Leaves.{LeavesImages}
 use Rattle.replay.specs.Replays as replays
 use Rattle.replay.specs.Replays.{Replayed, Replays, status_in}
 use Rattle.replay.specs.Served.{ServedWindow}
@@ -29,10 +30,10 @@ summary_printed left config start now lines windows awake (Ok done) text told fa
 summary_printed left config start now lines windows awake (Err stop.Sink) text told faults faults' taken taken' summary prints at_end = absurd (cc at_end)
 summary_printed left config start now lines windows awake (Err (stop.Fault f)) text told faults faults' taken taken' summary prints at_end = absurd (not_success f at_end)
 
-told_once : (P X : Told → Told → Type 0) (a b : Option Told) → IsTold P a b → ((o n : Told) → P o n → X o n) → IsTold X a b
-told_once P X None b p all = p
-told_once P X (Some o) None p all = p
-told_once P X (Some o) (Some n) p all = λ apart. all o n (p apart)
+told_twice : (P Q X : Told → Told → Type 0) (a b : Option Told) → IsTold P a b → IsTold Q a b → ((o n : Told) → P o n → Q o n → X o n) → IsTold X a b
+told_twice P Q X None b p q all = p
+told_twice P Q X (Some o) None p q all = p
+told_twice P Q X (Some o) (Some n) p q all = λ apart. all o n (p apart) (q apart)
 
 module _ {S T : Type 0} (tells : Bool) (left : S → Option (List ℕ)) (config : Config) (options : Options) (start now : Given S) (old new : BayState) (result : Result T Stop) (sink sink' : ℕ) (taken taken' : Option (List ℕ))
     (r : Replays tells left config options start now old new result sink sink' taken taken') (telling : IsTrue tells) where
@@ -45,9 +46,9 @@ module _ {S T : Type 0} (tells : Bool) (left : S → Option (List ℕ)) (config 
     answered = is.answered;
   }
 
-  account_kept : IsTold (λ entry exit. Account left config options.reclaim start now entry (status_in result) taken taken') old.told new.told
-  account_kept = told_once (λ entry exit. BeginAsRead config entry r.histories) (λ entry exit. Account left config options.reclaim start now entry (status_in result) taken taken') old.told new.told (r.begun telling)
-      (λ entry exit begun. record {
+  account_kept : IsTold (λ entry exit. Account left config options.reclaim start now entry exit (status_in result) taken taken') old.told new.told
+  account_kept = told_twice (λ entry exit. BeginAsRead config entry r.histories) (LeavesImages tells config (answers_in (r.earlier ++ r.last)) r.histories) (λ entry exit. Account left config options.reclaim start now entry exit (status_in result) taken taken') old.told new.told (r.begun telling) (r.images telling)
+      (λ entry exit begun leaves. record {
         lines = r.run;
         given = (r.more, r.given);
         windows = r.earlier ++ r.last;
@@ -60,7 +61,9 @@ module _ {S T : Type 0} (tells : Bool) (left : S → Option (List ℕ)) (config 
           history = history_told v h (r.are.each v h here);
           works = r.worked.each v h here;
           alone = λ other. r.reclaims.alone other v h here;
+          left = λ images left. (leaves.distinct v h here images left, λ intact. leaves.listed v h here intact images left);
         };
+        disks = λ not_7. r.disks;
         unbroken = r.unbroken;
         printed = summary_printed left config start now r.run (r.earlier ++ r.last) r.awake result r.summary _ sink sink' taken taken' r.summary_is r.prints;
         placed = r.placed;

@@ -24,10 +24,11 @@ use Rattle.report.specs.Faults.{status_of}
 use Rattle.report.specs.declared.fault.Fault.TheVariants.{Volume}
 use Rattle.trace_gen.specs.Generated.{targets_of}
 use Rattle.troubles.specs.Troubles.{trouble_of}
+use Rattle.rack.proofs.NewFaults.{told_with}
 use Rattle.rack.specs.declared.volume_fault.VolumeFault.{VolumeFault}
 use Rattle.replay.specs.Ended as ended
 use Rattle.replay.specs.Givens.{HasGivenAll}
-use Rattle.replay.specs.Headline.{ArePrinted, HasNotBegun, HasOneHistory, Headline, HistoriesGoOn, KeepsHeadline, in_flight, opened_array, plain_lines}
+use Rattle.replay.specs.Headline.{AreAllOpen, ArePrinted, HasNotBegun, HasOneHistory, Headline, HistoriesGoOn, KeepsHeadline, in_flight, opened_array, plain_lines}
 use Rattle.replay.specs.Histories.{ArePlainMarks, BeginAsRead, History, answers_in, is_broken, is_broken_at}
 use Rattle.replay.specs.Leaves.{LeavesImages}
 use Rattle.replay.specs.NotOpened.{AsksNone, LeavesBay}
@@ -109,9 +110,11 @@ module _ {S T : Type 0} (tells : Bool) (left : S → Option (List ℕ)) (config 
       }
 
   pub headline_kept : IsTold (λ entry exit. Headline left config options.each start now entry exit old.faults new.faults (status_in result) taken taken') old.told new.told
-  headline_kept = told_thrice (λ entry exit. BeginAsRead config entry r.histories) (λ entry exit. ArePlainMarks config answers entry) (LeavesImages tells config answers r.histories)
-      (λ entry exit. Headline left config options.each start now entry exit old.faults new.faults (status_in result) taken taken') old.told new.told (r.begun telling) (r.marks telling) (r.images telling)
-      (λ entry exit begun marks images. record {
+  headline_kept = told_thrice (λ entry exit. AreAllOpen config entry × BeginAsRead config entry r.histories) (λ entry exit. ArePlainMarks config answers entry) (LeavesImages tells config answers r.histories)
+      (λ entry exit. Headline left config options.each start now entry exit old.faults new.faults (status_in result) taken taken') old.told new.told
+      (told_with (λ entry exit. AreAllOpen config entry) (λ entry exit. BeginAsRead config entry r.histories) old.told new.told (r.open_ telling) (r.begun telling)) (r.marks telling) (r.images telling)
+      (λ entry exit opened marks images. record {
+        open_ = opened.0;
         lines = r.run;
         given = (r.more, r.given);
         answers = answers;
@@ -119,7 +122,7 @@ module _ {S T : Type 0} (tells : Bool) (left : S → Option (List ℕ)) (config 
         done = λ is. (to_the_end left config start now r.run r.last old.faults new.faults sink sink' result r.ends is, λ v. r.counts.at_0 v is);
         printed = subst (λ (l : List (List ℕ)). ArePrinted l (status_in result) taken taken') (lines_plain config options.each answers entry marks)
             (printed_kept result (lines_asked config options.each answers) r.summary sink sink' taken taken' r.prints);
-        each_volume = one_history entry exit begun images;
+        each_volume = one_history entry exit opened.1 images;
         sound = images.sound;
       })
 

@@ -10,11 +10,13 @@ use Rattle.wol_model.specs.ArrayLaws.{unversioned}
 use Rattle.wol_model.specs.Blocks.{Write, after}
 use Rattle.wol_model.specs.History as history
 use Rattle.wol_model.specs.History.{IsCut, flight_of, torn, whole, worker, writes}
-use Rattle.wol_model.specs.Images.{Images, recovered_from}
+use Rattle.wol_model.specs.Extents.{AreDistinct, Extent, covers_of}
+use Rattle.wol_model.specs.Images.{Images, all_segments, recovered_from}
+use Rattle.wol_model.specs.Recovered.{extents_of}
 use Rattle.wol_model.specs.Trace.{Request, payload, payloads, write_to}
 use Rattle.wol_model.specs.declared.trace.Kind.TheVariants as kind
 use Rattle.wol_promise.specs.Outcomes.{Answered, of_volume}
-use Rattle.wol_promise.specs.Ruled.{entries_of}
+use Rattle.wol_promise.specs.Ruled.{entries_of, last_look}
 use Rattle.wol_promise.specs.Run.{KeepsSound}
 use Rattle.run_laws.specs.Answers.{answered_count, answers_of, requests_in}
 use Rattle.run_laws.specs.Laws.{AreAnsweredBy}
@@ -24,14 +26,14 @@ use Rattle.wol_config.specs.declared.config.Config.{Config}
 use Rattle.manager.specs.Stands.{notes_of}
 use Rattle.manager.specs.declared.station.Station.{Station}
 use Rattle.volume_images.specs.Volumes.{AreLeft, images_read, shapes_of}
-use Rattle.rack.specs.Closes.{HasFaultyPart, IsClosedVolume, RecoversTo, recovered_out}
+use Rattle.rack.specs.Closes.{AreListedOf, HasFaultyPart, IsClosedVolume, RecoversTo, recovered_out, segments_out}
 use Rattle.rack.specs.Racks.{base_of_station}
 use Rattle.rack.specs.Rests.{IsImageOut}
 use Rattle.rack.specs.declared.rack.ImageRest.{ImageRest}
 use Rattle.replay.specs.Headline.{IsOneAction, in_flight}
 use Rattle.replay.specs.Histories.{AreHistories, BeginAsRead, History, is_broken, is_broken_at}
-use Rattle.replay.specs.Leaves.{LeavesImages, written_array}
-use Rattle.open_rack.proofs.AllOut.{recovered_all}
+use Rattle.replay.specs.Leaves.{LeavesImages, records_in, written_array}
+use Rattle.open_rack.proofs.AllOut.{accepted_all, recovered_all}
 use Rattle.replay.proofs.FlightServed.{HasFlight, IsInFlight, next_write, no_write}
 use Rattle.replay.proofs.HistoriesLeft.{IsHistoryAt}
 use Rattle.replay.proofs.RacksServed.{a_member}
@@ -129,6 +131,19 @@ module _ {D : Type 0} (tells : Bool) (config : Config) (out : List (Option (Imag
         let raw = subst (λ (x : List Block). IsCut (base_of_station station).volume.began.array (writes entries) (in_flight entries) x) (recovered_is images left) ((recovers station hist.closed).cut images left) in
         subst (λ (x : History). IsCut x.base.array (writes (entries_of x.notes)) (in_flight (entries_of x.notes)) (recovered_from (shapes_of config) images v)) (sym hist.is) raw
 
+    -- the records that are left
+    records_are : (images : Images) → AreLeft config left_ images → extents_of station.id (segments_out config out images) ≡ records_in config images v
+    records_are images left = λ i. extents_of (id i) (all_segments (shapes_of config) (accepted_all config out all_out images left.count i))
+
+    distinct_here : (images : Images) → AreLeft config left_ images → AreDistinct (covers_of (records_in config images v))
+    distinct_here images left = subst (λ (es : List Extent). AreDistinct (covers_of es)) (records_are images left) ((recovers station hist.closed).distinct images left)
+
+    listed_here : (IsTrue (is_broken h) → ⊥) → (images : Images) → AreLeft config left_ images → AreListedOf (last_look h.base.look h.notes).listed (records_in config images v)
+    listed_here intact images left =
+        let none : flight_of entries ≡ None = none_or (flight_of entries) (λ some. intact (ap is_broken hist.is ∙ some)) in
+        subst (λ (x : History). AreListedOf (last_look x.base.look x.notes).listed (records_in config images v)) (sym hist.is)
+        (subst (AreListedOf (last_look (base_of_station station).volume.began.look (notes_of hist.closed.entries)).listed) (records_are images left) ((recovers station hist.closed).listed images left none))
+
     -- .. and what was in flight is one action
     action_here : IsOneAction v (drop (answered_count answers v) (requests_in (answers_of v answers))) (in_flight (entries_of h.notes))
     action_here = subst (λ (x : History). IsOneAction v (drop (answered_count answers v) (requests_in (answers_of v answers))) (in_flight (entries_of x.notes))) (sym hist.is) (by (flight_of entries) refl)
@@ -215,5 +230,7 @@ module _ {D : Type 0} (tells : Bool) (config : Config) (out : List (Option (Imag
     };
     action = action_here;
     stopped = stopped_here;
+    distinct = distinct_here;
+    listed = listed_here;
     sound = sound;
   }

@@ -284,6 +284,7 @@ module _ {D S : Type 0} (tells : Bool) (left : S → Option (List ℕ)) (config 
       last = [];
       are = rw (append-nil so.ss, so.whole) so.are;
       whole = λ some. ends_open left config start next so.run (so.more ++ further) (opens_more config so.run so.more further (so.opened (λ none. some (append-nil so.ss ∙ none))));
+      ahead = λ some. absurd (some refl);
       well = so.well;
       middle = s.floor;
       between = s.keepers.items;
@@ -296,9 +297,9 @@ module _ {D S : Type 0} (tells : Bool) (left : S → Option (List ℕ)) (config 
     -- behind a window
     stops_behind : (w : Window) (b : Batched) (next : Given S) (more : List (Option TraceLine)) (e : Stop) (n : Session D) (faults'' : ℕ) (then : Option (List ℕ)) → IsBatchOf (most_of config) (targets_of config) (next_number (most_of config) (targets_of config) so.ws) w b
         → windows (most_of config) (targets_of config) (so.run ++ so.more) ≡ so.ws ++ w ∷ [] → EndsWithWindow left config start next (so.run ++ so.more) more → HasGiven left (targets_of config) start next ((so.run ++ so.more) ++ more)
-        → (h : HasServed tells options b s n) → StopsAfter e config options (record { batch = b; answer = h.answer }) faults' faults'' new then
+        → length more ≤ 1 → (h : HasServed tells options b s n) → StopsAfter e config options (record { batch = b; answer = h.answer }) faults' faults'' new then
         → ServesSome tells left config options start e next f ps n.floor n.keepers.items faults faults'' printed then
-    stops_behind w b next more e n faults'' then of whole last has h stops = record {
+    stops_behind w b next more e n faults'' then of whole last has few h stops = record {
       run = so.run ++ so.more;
       more = more;
       given = has;
@@ -306,6 +307,7 @@ module _ {D S : Type 0} (tells : Bool) (left : S → Option (List ℕ)) (config 
       last = record { batch = b; answer = h.answer } ∷ [];
       are = rw whole (are_more w b of n h);
       whole = λ some. last;
+      ahead = λ some. few;
       well = so.well;
       middle = n.floor;
       between = n.keepers.items;
@@ -318,10 +320,10 @@ module _ {D S : Type 0} (tells : Bool) (left : S → Option (List ℕ)) (config 
     -- in a window that is whole with these lines, or for want of memory before it
     ends_in_window : (w : Window) (b : Batched) (next : Given S) (more : List (Option TraceLine)) (e : Stop) (n : Session D) (faults'' : ℕ) (then : Option (List ℕ)) → IsBatchOf (most_of config) (targets_of config) (next_number (most_of config) (targets_of config) so.ws) w b
         → windows (most_of config) (targets_of config) (so.run ++ so.more) ≡ so.ws ++ w ∷ [] → EndsWithWindow left config start next (so.run ++ so.more) more → HasGiven left (targets_of config) start next ((so.run ++ so.more) ++ more)
-        → EndsIn e tells config options b s n faults' faults'' new then → ServesSome tells left config options start e next f ps n.floor n.keepers.items faults faults'' printed then
-    ends_in_window w b next more e n faults'' then of whole last has (inl (memory, not_run, calm, keeps)) =
+        → length more ≤ 1 → EndsIn e tells config options b s n faults' faults'' new then → ServesSome tells left config options start e next f ps n.floor n.keepers.items faults faults'' printed then
+    ends_in_window w b next more e n faults'' then of whole last has few (inl (memory, not_run, calm, keeps)) =
         rw memory (lacks_memory next more n.floor n.keepers.items faults'' then (subst (λ (ls : List (Option TraceLine)). HasGiven left (targets_of config) start next ls) (append_assoc so.run so.more more) has) not_run calm keeps)
-    ends_in_window w b next more e n faults'' then of whole last has (inr (h, stops)) = stops_behind w b next more e n faults'' then of whole last has h stops
+    ends_in_window w b next more e n faults'' then of whole last has few (inr (h, stops)) = stops_behind w b next more e n faults'' then of whole last has few h stops
 
     pub stops_at_line : (next : Given S) (l : Option TraceLine) (c' : Cutting) (e : Stop) (n : Session D) (faults'' : ℕ) (then : Option (List ℕ)) → StopsAtLine e tells config options (so.run ++ so.more) so.ws l c' s n faults' faults'' new then
         → HasGiven left (targets_of config) start next ((so.run ++ so.more) ++ l ∷ []) → ServesSome tells left config options start e next f ps n.floor n.keepers.items faults faults'' printed then
@@ -329,7 +331,7 @@ module _ {D S : Type 0} (tells : Bool) (left : S → Option (List ℕ)) (config 
         rw (memory, same) (lacks_memory next (l ∷ []) s.floor s.keepers.items faults'' then (longer next l has) (not_run_same tells s.floor) calm keeps)
     stops_at_line next l c' e n faults'' then (inr (w, b, (of, cut), ends)) has =
         ends_in_window w b next (l ∷ []) e n faults'' then of (closed (most_of config) (targets_of config) (so.run ++ so.more) so.ws w l c c' so.cut cut)
-        (ends_open left config start next (so.run ++ so.more) (l ∷ []) (opened_by w l c' cut)) has ends
+        (ends_open left config start next (so.run ++ so.more) (l ∷ []) (opened_by w l c' cut)) has (omega arith) ends
 
     -- in the last window
     pub stops_last : (next : Given S) (e : Stop) (n : Session D) (faults'' : ℕ) (then : Option (List ℕ)) → EndsWithWindow left config start next (so.run ++ so.more) [] → 0 < c.current.lines → EndsIn e tells config options c.current s n faults' faults'' new then
@@ -338,7 +340,7 @@ module _ {D S : Type 0} (tells : Bool) (left : S → Option (List ℕ)) (config 
       where
         at : (last : Option Window) → AreWindows (most_of config) (targets_of config) (windows (most_of config) (targets_of config) (so.run ++ so.more)) so.ws last c.current → ServesSome tells left config options start e next f ps n.floor n.keepers.items faults faults'' printed then
         at None (none, no_given, here) = absurd (omega (arith, some, ap (λ (x : Batched). x.lines) here))
-        at (Some w) (is, of) = ends_in_window w c.current next [] e n faults'' then of is last (rw (append-nil (so.run ++ so.more)) has) ends
+        at (Some w) (is, of) = ends_in_window w c.current next [] e n faults'' then of is last (rw (append-nil (so.run ++ so.more)) has) (omega arith) ends
 
     -- ---- All lines were run
 
@@ -401,6 +403,7 @@ module _ {D S : Type 0} (tells : Bool) (left : S → Option (List ℕ)) (config 
           last = [];
           are = rw (append-nil a.all) a.are_all;
           whole = λ some. at_refusal e other refuses;
+          ahead = λ some. absurd (some refl);
           well = a.all_well;
           middle = n.floor;
           between = n.keepers.items;

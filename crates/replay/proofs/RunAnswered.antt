@@ -24,6 +24,7 @@ use Rattle.rack.specs.declared.volume_fault.VolumeFault.TheVariants as fault
 use Rattle.spin_model.specs.Spindles.{SpindleView}
 use Rattle.request_workers.specs.Begun.{SpindlePass}
 use Rattle.request_workers.specs.Stations.{AreStations}
+use Rattle.replay.specs.Headline.{AreAllOpen}
 use Rattle.replay.specs.NotOpened.{LeavesBay}
 use Rattle.replay.specs.Prints.{PrintsText, all_amounts}
 use Rattle.replay.specs.Replays.{Replayed, Replays, ran}
@@ -37,7 +38,7 @@ use Rattle.replay.specs.declared.stop.Stop.{Stop}
 use Rattle.replay.specs.declared.stop.Stop.TheVariants as stop
 use Rattle.open_rack.proofs.FirstClosed.{none_closed, opened_out}
 use Rattle.rack.proofs.FailedParts.{gained_parts}
-use Rattle.replay.proofs.RacksServed.{each_station, station_count}
+use Rattle.replay.proofs.RacksServed.{at_place, each_station, station_count}
 use Rattle.replay.proofs.RunClosed.{leaves_bay, runs_closed}
 use Rattle.replay.proofs.RunFlown.{began_still, run_sound}
 use Rattle.replay.proofs.RunReplayed.{replays_none, replays_some, replays_whole}
@@ -70,6 +71,9 @@ pub record HasClosedRack {D : Type 0} (state : D → State) (tells : Bool) (conf
   pub counts : opened.faults ≤ left_.faults
   pub faulty : IsTold (ListsFaulty state config q.rest) opened.told left_.told
   pub parts : IsTrue tells → IsTold (λ x y. AreLeftOfParts state config q y) opened.told left_.told
+  pub spindles : List SpindleView
+  pub count : length spindles ≡ length (shapes_of config)
+  pub each : (k : ℕ) (s : SpindleView) → slice_get spindles k ≡ Some s → IsClosedSpindle q k s
 
 module _ {D S : Type 0} (T : Type 0) (state : D → State) (tells : Bool) (left : S → Option (List ℕ)) (config : Config) (options : Options) (start now : Given S) (entry opened left_ : BayState) (r q : Rack D) (Q : Told → Told → Type 0)
     (o : HasOpened state tells config entry opened r) (c : HasClosedRack state tells config opened left_ q Q) (faults faults' : ℕ) (printed printed' : Option (List ℕ)) where
@@ -88,6 +92,14 @@ module _ {D S : Type 0} (T : Type 0) (state : D → State) (tells : Bool) (left 
 
     some : 1 ≤ length r.stations.items
     some = let n = count in let m = length-map config.volumes.items (shape_in config) in let at = o.some in omega (arith, n, m, at)
+
+    -- each image was there, and was accepted
+    all_open : IsTrue tells → IfSome entry.told (λ t. AreNamedApart t → AreAllOpen config t)
+    all_open telling = at entry.told (o.there telling)
+      where
+        at : (told : Option Told) → IfSome told (λ t. AreNamedApart t → WereThere config r.rest.images.items t) → IfSome told (λ t. AreNamedApart t → AreAllOpen config t)
+        at None there = tt
+        at (Some t) there = λ apart k v conf. there apart k v conf (all_out k (let less = (at_place config.volumes.items k v conf).0 in omega (arith, less, length-map config.volumes.items (shape_in config))))
 
     -- sound images stay sound, over a rack with the same rest and locks
     sound_still : q.rest ≡ r.rest → locks_of q.stations.items ≡ locks_of r.stations.items → AreStations q.stations.items → IsTrue tells → IsTold (KeepsAllSound config) entry.told left_.told
@@ -116,7 +128,7 @@ module _ {D S : Type 0} (T : Type 0) (state : D → State) (tells : Bool) (left 
       let news : AreStations q.stations.items = subst (λ (x : Rack D). AreStations x.stations.items) (sym none.same) (stations first) in
       subst (λ (x : Stop). Ran (Err x) faults' printed') same
       (replays_none T state tells left config options start now entry opened left_ r q o.is (count first) (some first) (all_out first) o.began (λ telling. o.apart) Q c.told o.counts c.stations o.fresh (o.unfaulty (all_out first))
-      (sound_still first rest (ap (λ (x : Rack D). locks_of x.stations.items) none.same) news) faults faults' printed printed' none news)
+      (sound_still first rest (ap (λ (x : Rack D). locks_of x.stations.items) none.same) news) (all_open first) faults faults' printed printed' none news)
   served_err result (served done first before moved from) e is open_ = at done from.served is
     where
       at : (x : Result Counted Stop) → MatchResult x (λ d. ServesWhole tells left config options start now before r.keepers.items from.after q.keepers.items d faults faults' printed printed')
@@ -126,7 +138,7 @@ module _ {D S : Type 0} (T : Type 0) (state : D → State) (tells : Bool) (left 
           let same : y ≡ e = cc is in
           subst (λ (x : Stop). Ran (Err x) faults' printed') same
           (replays_some T state tells left config options start now entry opened left_ r q o.is (count first) (some first) (all_out first) o.began (λ telling. o.apart) Q c.told o.counts c.stations o.fresh (o.unfaulty (all_out first))
-          (sound_still first (ap (λ (x : Rack D). x.rest) from.only) (from.locks ∙ moved.locks) from.can.each) faults faults' printed printed' before moved done from y w)
+          (sound_still first (ap (λ (x : Rack D). x.rest) from.only) (from.locks ∙ moved.locks) from.can.each) (all_open first) faults faults' printed printed' before moved done from y w c.spindles c.count (c.count ∙ length-map config.volumes.items (shape_in config)) c.each o.fresh_keepers)
 
   pub replayed_err : (result : Result Counted Stop) → RunsIn tells left config options start now r q faults faults' printed printed' result → (e : Stop) → result ≡ Err e → Comes (Err e) faults' printed'
   replayed_err result (closed f first none) e is =
@@ -151,7 +163,7 @@ module _ {D S : Type 0} (T : Type 0) (state : D → State) (tells : Bool) (left 
           let same : d ≡ counted = cc is in
           let here = subst (λ (x : Counted). ServesWhole tells left config options start now before r.keepers.items from.after q.keepers.items x faults faults' printed printed') same w in
           replays_whole T state tells left config options start now entry opened left_ r q o.is (count first) (some first) (all_out first) o.began (λ telling. o.apart) Q c.told o.counts c.stations o.fresh (o.unfaulty (all_out first))
-          (sound_still first (ap (λ (x : Rack D). x.rest) from.only) (from.locks ∙ moved.locks) from.can.each) faults faults' printed printed' before moved whole from counted here spindles sized each closed_ o.fresh_keepers done faults'' printed'' prints
+          (sound_still first (ap (λ (x : Rack D). x.rest) from.only) (from.locks ∙ moved.locks) from.can.each) (all_open first) faults faults' printed printed' before moved whole from counted here spindles sized each closed_ o.fresh_keepers done faults'' printed'' prints
 
   pub replayed_ok : (result : Result Counted Stop) → RunsIn tells left config options start now r q faults faults' printed printed' result → (counted : Counted) → result ≡ Ok counted → (spindles : List SpindleView)
       → length spindles ≡ length (shapes_of config) → length spindles ≡ length config.volumes.items → ((k : ℕ) (s : SpindleView) → slice_get spindles k ≡ Some s → IsClosedSpindle q k s) → (done : Result T Stop) (faults'' : ℕ) (printed'' : Option (List ℕ))

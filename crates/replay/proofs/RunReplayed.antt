@@ -1,11 +1,12 @@
 -- Replaying a trace on a rack all of whose volumes are open.
-use Rattle.std.proofs.Common.{◌≡◌, ◌≢◌, ◌<◌, ◌≤◌, ◌^◌, ℕ, Bool, false, List, [], ◌∷◌, ◌++◌, length, Option, Some, Result, Ok, Err, refl, sym, ap, subst, ◌∙◌, append-nil, inl, inr, arith}
+use Rattle.std.proofs.Common.{◌≡◌, ◌≢◌, ◌<◌, ◌≤◌, ◌^◌, ℕ, Bool, false, List, [], ◌∷◌, ◌++◌, length, Option, None, Some, Result, Ok, Err, refl, sym, ap, subst, ◌∙◌, append-nil, inl, inr, arith}
 use Rattle.std.specs.List.{AllByRecursion}
 use Rattle.std.specs.Prelude.{All, IfSome, IsTrue, slice_get, slice_index_or}
 use Rattle.std.proofs.lemmas.List.{length-map}
 use Rattle.wol_io.proofs.Appending.{appends_none}
 use Rattle.wol_bay.specs.Bay.{BayState, Told}
 use Rattle.wol_disk.specs.Disk.{State}
+use Rattle.wol_model.specs.Journal.{new_spindle}
 use Rattle.wol_model.specs.Trace.{Target, TraceLine, requests, windows}
 use Rattle.wol_config.specs.declared.config.Config.{Config}
 use Rattle.volume_images.specs.Left.{AreNamedApart, IsTold}
@@ -29,6 +30,7 @@ use Rattle.rack.specs.Opens.{BeganWith, KeepsAllSound}
 use Rattle.rack.specs.Racks.{AreUnused, IsRack, IsUnused, base_of_station}
 use Rattle.rack.specs.Rests.{IsImageOut}
 use Rattle.rack.specs.declared.rack.Rack.{Rack}
+use Rattle.spin_model.specs.Operations.{uses_of}
 use Rattle.spin_model.specs.Spindles.{SpindleView}
 use Rattle.request_workers.specs.Begun.{SpindlePass}
 use Rattle.request_workers.specs.Stations.{AreStations, IsMoved}
@@ -37,13 +39,14 @@ use Rattle.request_workers.specs.declared.request.Reclaim.{Reclaim}
 use Rattle.request_workers.specs.declared.request.Reclaim.TheVariants as reclaim
 use Rattle.replay.specs.Ended.{memory}
 use Rattle.replay.specs.Givens.{HasGiven}
+use Rattle.replay.specs.Headline.{AreAllOpen}
 use Rattle.replay.specs.Histories.{CountAnswered, History, answers_in, is_broken_at, next_at}
 use Rattle.replay.specs.Prints.{CutsLines, PrintsText, all_amounts}
 use Rattle.replay.specs.Replays.{Replays, status_in}
 use Rattle.replay.specs.Runs.{RunsNone, ServesFrom}
 use Rattle.replay.specs.Served.{ServedFromStart, ServedWindow}
 use Rattle.replay.specs.Sessions.{AreWindowsOf, EndsBy, ServesSome, ServesWhole, WentWell, at_end, lines_of_window}
-use Rattle.replay.specs.Summed.{PrintsRun, lines_asked, of_all, of_none}
+use Rattle.replay.specs.Summed.{HaveAccounts, PrintsRun, lines_asked, of_all, of_none}
 use Rattle.replay.specs.declared.counting.Counted.{Counted}
 use Rattle.replay.specs.declared.given.Given.{Given}
 use Rattle.replay.specs.declared.session.Options.{Options}
@@ -58,7 +61,7 @@ use Rattle.replay.proofs.RacksServed.{at_place, closable_after, rack_closable}
 use Rattle.replay.proofs.Statuses.{not_success}
 use Rattle.replay.proofs.RunEnded.{TellsRise, ends_stopped, ends_summed, prints_stopped, prints_summed}
 use Rattle.replay.proofs.RunWorked.{none_worked, run_unbroken, run_worked, told_awake, told_is}
-use Rattle.replay.proofs.ToldAwake.{WasTold, all_told, column, served_told}
+use Rattle.replay.proofs.ToldAwake.{WasTold, all_told, column, served_told, timeout_of}
 use Rattle.replay.proofs.WorksServed.{awake_in}
 use Rattle.replay.proofs.RunKept.{RunKept, kept_is, kept_none, kept_served, none_is}
 use Rattle.replay.proofs.PassesRuled.{IsRuled}
@@ -68,13 +71,14 @@ use Rattle.replay.specs.Placed.{CountsPlaced, CountsReclaimed}
 use Rattle.replay.specs.Works.{AreWorked}
 use Rattle.request_turns.specs.Turns.{began as pass_began}
 use Rattle.turn_lock.specs.Histories.{Entry}
-use Rattle.turn_lock.specs.Passes.{IsFree, IsPartOf, lock_id, pass_lock}
+use Rattle.turn_lock.specs.Passes.{IsFree, IsPartOf, lock_id, pass_lock, pass_number}
 use Rattle.wol_promise.specs.Report.{HasNoHelp}
 use Rattle.wol_promise.specs.Stands.{HasHistory}
 use Rattle.run_laws.specs.Answers.{answers_of}
+use Rattle.run_laws.specs.Journals.{answers_by}
 use Rattle.run_laws.specs.Laws.{AreAllAnswered}
 use Rattle.replay.proofs.StationsRan.{AreNumbered, EndsOn}
-use Rattle.replay.proofs.SummaryKept.{summary_now}
+use Rattle.replay.proofs.SummaryKept.{accounts_of, summary_now}
 
 -- ---- Without a line
 
@@ -113,6 +117,15 @@ module _ {D S : Type 0} (T : Type 0) (tells : Bool) (left : S → Option (List �
   ends_on e [] (calm, keeps, inr (is, not_run)) = inr not_run
   ends_on e (s ∷ []) (floor, passes, stops) = inl floor
   ends_on e (s ∷ t ∷ rest) ends = absurd ends
+
+  -- no further window began, unless memory ran out
+  none_further : (e : Stop) (last : List ServedWindow) (ends : EndsBy tells left config options start e now run more last h ms g qs faults faults' printed new) → status_in {T = T} (Err e) ≢ 9
+      → (floor : g ≡ h) × (ends_on e last ends ≡ inl floor) × (qs ≡ ms)
+  unfolding ends_on
+  none_further e [] (calm, keeps, inl (refusal, other, is, none_more, refuses, floor, passes)) not_9 = (floor, refl, passes)
+  none_further e [] (calm, keeps, inr (is, not_run)) not_9 = absurd (not_9 (ap (λ (x : Stop). status_in {T = T} (Err x)) is))
+  none_further e (s ∷ []) (floor, passes, stops) not_9 = (floor, refl, passes)
+  none_further e (s ∷ t ∷ rest) ends not_9 = absurd ends
 
   one_last : (e : Stop) (last : List ServedWindow) → EndsBy tells left config options start e now run more last h ms g qs faults faults' printed new → length last ≤ 1
   one_last e [] ends = omega arith
@@ -181,6 +194,13 @@ module _ (tells : Bool) (config : Config) (mode : Reclaim) (entry opened left_ :
     drained = counts_drained mode (earlier ++ last) awake kept.kept worked kept.sized kept.within (λ v h here. (kept.are.each v h here).legal.helpers);
   }
 
+-- ---- What was at entry
+
+told_first : (P : Told → Told → Type 0) (X : Told → Type 0) (a b : Option Told) → IsTold P a b → IfSome a (λ t. AreNamedApart t → X t) → IsTold (λ o n. X o) a b
+told_first P X None b p x = p
+told_first P X (Some o) None p x = p
+told_first P X (Some o) (Some n) p x = x
+
 -- ---- The whole
 
 numbered_all : {D : Type 0} (ss : List (Station D)) → AreStations ss → (v : ℕ) (s : Station D) → slice_get ss v ≡ Some s → AreNumbered s
@@ -194,7 +214,7 @@ module _ {D S : Type 0} (T : Type 0) (state : D → State) (tells : Bool) (left 
     (began : IsTrue tells → IfSome entry.told (λ t. AreNamedApart t → BeganWith state config t r)) (told_open : IsTrue tells → IsTold (λ old new. AreNamedApart new) entry.told opened.told)
     (Q : Told → Told → Type 0) (told_left : IsTrue tells → IsTold Q opened.told left_.told) (opening : entry.faults ≤ opened.faults)
     (closed : All (IsClosedVolume tells config q.rest.images.items opened left_) q.stations.items) (fresh : AreUnused r.stations.items)
-    (unfaulty : IsTold (λ x y. y.faulty ≡ x.faulty) entry.told opened.told) (sound : IsTrue tells → IsTold (KeepsAllSound config) entry.told left_.told) (faults faults' : ℕ) (printed printed' : Option (List ℕ)) where
+    (unfaulty : IsTold (λ x y. y.faulty ≡ x.faulty) entry.told opened.told) (sound : IsTrue tells → IsTold (KeepsAllSound config) entry.told left_.told) (open_ : IsTrue tells → IfSome entry.told (λ t. AreNamedApart t → AreAllOpen config t)) (faults faults' : ℕ) (printed printed' : Option (List ℕ)) where
   -- there was no memory to serve
   pub replays_none : RunsNone tells left config options start now r q faults faults' printed printed' → AreStations q.stations.items → Replays {T = T} tells left config options start now entry left_ (Err (stop.Fault Memory)) faults faults' printed printed'
   replays_none runs stations =
@@ -210,6 +230,7 @@ module _ {D S : Type 0} (T : Type 0) (state : D → State) (tells : Bool) (left 
         windows_ = no_windows config;
         one = omega arith;
         whole = λ some. absurd (some refl);
+        ahead = λ some. absurd (some refl);
         well = tt;
         asked = kept.asked;
         ends = memory;
@@ -218,6 +239,7 @@ module _ {D S : Type 0} (T : Type 0) (state : D → State) (tells : Bool) (left 
         cause = λ v broken. rose_from entry.faults opened.faults left_.faults opening (kept.cause v broken);
         part = λ v t is. (let no : stop.Fault Memory ≡ stop.Fault (Volume v t) = cc is in absurd (cc no));
         spent = λ v is. (let no : stop.Fault Memory ≡ stop.Fault (Versions v) = cc is in absurd (cc no));
+        open_ = λ telling. told_first (KeepsAllSound config) (AreAllOpen config) entry.told left_.told (sound telling) (open_ telling);
         begun = kept.begun;
         counts = counts_whole [] [] kept.kept kept.well 9 (λ v. tt);
         placed = placed_by tells config options.reclaim entry opened left_ [] [] [] kept [] (worked is_none runs stations);
@@ -226,6 +248,7 @@ module _ {D S : Type 0} (T : Type 0) (state : D → State) (tells : Bool) (left 
         reclaims = kept.reclaims;
         awake = [];
         worked = worked is_none runs stations;
+        disks = λ not_9. absurd (not_9 refl);
         unbroken = λ is. absurd (cc is);
         marks = kept.marks;
         images = kept.images;
@@ -304,11 +327,33 @@ module _ {D S : Type 0} (T : Type 0) (state : D → State) (tells : Bool) (left 
     worked_by ss middle ms served ends owned =
         run_worked tells options.reclaim config q.rest.images.items opened left_ r.stations.items q.stations.items closed before middle from.after r.keepers.items ms moved from.moved_back ss served ends fresh numbers new_numbers free looks stations_same some owned
 
-    awake_by : (ss : List ServedWindow) (ms : List SpindlePass) (served : ServedFromStart tells options.reclaim ss before r.keepers.items from.after ms)
-        → told_by ss from.after ms served (inl refl) ≡ awake_in tells options.reclaim ss before r.keepers.items from.after ms served
-    unfolding told_by
-    awake_by ss ms served =
-        told_is tells options.reclaim config q.rest.images.items opened left_ r.stations.items q.stations.items closed before from.after from.after r.keepers.items ms moved from.moved_back ss served (inl refl) fresh numbers new_numbers free looks stations_same some refl refl
+    module _ (ss : List ServedWindow) (middle : Floor D) (ms : List SpindlePass) (served : ServedFromStart tells options.reclaim ss before r.keepers.items middle ms) (ends : EndsOn tells middle from.after) (floor : from.after ≡ middle) (none_more : ends ≡ inl floor)
+        (passes : q.keepers.items ≡ ms) (unused : All (λ (p : SpindlePass). IsUnused p) r.keepers.items) where
+      awake_by : told_by ss middle ms served ends ≡ awake_in tells options.reclaim ss before r.keepers.items middle ms served
+      unfolding told_by
+      awake_by =
+          told_is tells options.reclaim config q.rest.images.items opened left_ r.stations.items q.stations.items closed before middle from.after r.keepers.items ms moved from.moved_back ss served ends fresh numbers new_numbers free looks stations_same some floor none_more
+
+      -- what the keepers were told is what the spindles' journals say
+      keepers_told : (k : ℕ) (p : SpindlePass) (entries : List Entry) → k < length r.keepers.items → slice_get q.keepers.items k ≡ Some p → IsPartOf entries p
+          → answers_by (timeout_of p) new_spindle (pass_number p) (uses_of entries) ≡ column k (told_by ss middle ms served ends)
+      keepers_told k p entries lt there part =
+          let here : slice_index_or ms k p ≡ p = ap (λ (l : List SpindlePass). slice_index_or l k p) (sym passes) ∙ (at_place q.keepers.items k p there).1 p in
+          all_told (column k (told_by ss middle ms served ends)) (slice_index_or r.keepers.items k p) p entries (unused k p lt)
+          (subst (λ (l : List (List Bool)). WasTold (column k l) (slice_index_or r.keepers.items k p) p) (sym awake_by)
+          (subst (λ (x : SpindlePass). WasTold (column k (awake_in tells options.reclaim ss before r.keepers.items middle ms served)) (slice_index_or r.keepers.items k p) x) here
+          (served_told tells options.reclaim k ss before r.keepers.items middle ms p served lt))) part
+
+      -- the accounts of the disks, where no further window began
+      disks_by : (lines : List (Option TraceLine)) → AreWindowsOf config lines ss → (spindles : List SpindleView) → length spindles ≡ length (shapes_of config) → length spindles ≡ length config.volumes.items
+          → ((k : ℕ) (s : SpindleView) → slice_get spindles k ≡ Some s → IsClosedSpindle q k s) → HaveAccounts config lines ss (told_by ss middle ms served ends)
+      disks_by lines are spindles count sized each = record {
+        spindles = spindles;
+        count = sized;
+        each = accounts_of state tells left config options start now opened r q faults faults' printed printed' is unused (told_by ss middle ms served ends) lines ss are before middle
+            (subst (λ (l : List SpindlePass). ServedFromStart tells options.reclaim ss before r.keepers.items middle l) (sym passes) served)
+            (closable_after state config opened r q (rack_closable state config opened r is) from.only from.can (from.locks ∙ moved.locks) from.same) spindles count each keepers_told;
+      }
 
     unbroken_by : (ss : List ServedWindow) (ms : List SpindlePass) → ServedFromStart tells options.reclaim ss before r.keepers.items from.after ms → AreOwned options.reclaim (histories_of tells config q.rest.images.items opened left_ q.stations.items closed)
         → AllByRecursion WentWell ss → (v : ℕ) → is_broken_at (histories_of tells config q.rest.images.items opened left_ q.stations.items closed) v ≡ false
@@ -329,9 +374,10 @@ module _ {D S : Type 0} (T : Type 0) (state : D → State) (tells : Bool) (left 
     part_by e run more earlier (s ∷ u ∷ rest) h ms then_ ends served are v t named = absurd ends
 
     -- the trace wasn't served to its end
-    pub replays_some : (e : Stop) → ServesSome tells left config options start e now before r.keepers.items from.after q.keepers.items faults faults' printed printed'
+    pub replays_some : (e : Stop) → ServesSome tells left config options start e now before r.keepers.items from.after q.keepers.items faults faults' printed printed' → (spindles : List SpindleView)
+        → length spindles ≡ length (shapes_of config) → length spindles ≡ length config.volumes.items → ((k : ℕ) (s : SpindleView) → slice_get spindles k ≡ Some s → IsClosedSpindle q k s) → All (λ (p : SpindlePass). IsUnused p) r.keepers.items
         → Replays {T = T} tells left config options start now entry left_ (Err e) faults faults' printed printed'
-    replays_some e w =
+    replays_some e w spindles count sized each unused =
         let one = one_last T tells left config options start now entry opened left_ w.run w.more w.earlier w.middle w.between from.after q.keepers.items faults faults' w.then printed' e w.last w.ends in
         let on = ends_on T tells left config options start now entry opened left_ w.run w.more w.earlier w.middle w.between from.after q.keepers.items faults faults' w.then printed' e w.last w.ends in
         let kept = kept_served state tells config entry opened left_ r q rest_same counted_stations all_out began told_open Q told_left closed from.can.each fresh unfaulty sound options.reclaim before w.middle from.after r.keepers.items w.between moved from.moved_back from.locks numbers
@@ -350,6 +396,7 @@ module _ {D S : Type 0} (T : Type 0) (state : D → State) (tells : Bool) (left 
           windows_ = w.are;
           one = one;
           whole = w.whole;
+          ahead = w.ahead;
           well = w.well;
           asked = kept.asked;
           ends = ends_stopped T tells left config options start now e w.run w.more w.last w.middle w.between from.after q.keepers.items faults faults' w.then printed' entry.faults left_.faults w.ends
@@ -359,6 +406,7 @@ module _ {D S : Type 0} (T : Type 0) (state : D → State) (tells : Bool) (left 
           cause = λ v broken. rose_from entry.faults opened.faults left_.faults opening (kept.cause v broken);
           part = λ v t is. (subst (λ (hs : List History). IsTrue (is_broken_at hs v)) (sym is_kept) (part_by e w.run w.more w.earlier w.last w.middle w.between w.then w.ends w.from_start w.are v t (cc is)));
           spent = λ v is. spent_some T tells left config options start now entry opened left_ w.run w.more w.earlier w.middle w.between from.after q.keepers.items faults faults' w.then printed' e w.last w.ends kept v (cc is);
+          open_ = λ telling. told_first (KeepsAllSound config) (AreAllOpen config) entry.told left_.told (sound telling) (open_ telling);
           begun = kept.begun;
           counts = counts_some T tells left config options start now entry opened left_ w.run w.more w.earlier w.middle w.between from.after q.keepers.items faults faults' w.then printed' e w.last w.ends kept;
           placed = placed_by tells config options.reclaim entry opened left_ w.run w.earlier w.last kept awake worked;
@@ -366,6 +414,9 @@ module _ {D S : Type 0} (T : Type 0) (state : D → State) (tells : Bool) (left 
           reclaims = kept.reclaims;
           awake = awake;
           worked = worked;
+          disks = λ not_9. (
+              let (floor, none_more, passes) = none_further T tells left config options start now entry opened left_ w.run w.more w.earlier w.middle w.between from.after q.keepers.items faults faults' w.then printed' e w.last w.ends not_9 in
+              disks_by (w.earlier ++ w.last) w.middle w.between w.from_start on floor none_more passes unused w.run w.are spindles count sized each);
           unbroken = λ is. absurd (stop_some T e is);
           marks = kept.marks;
           images = kept.images;
@@ -395,13 +446,9 @@ module _ {D S : Type 0} (T : Type 0) (state : D → State) (tells : Bool) (left 
         let all_asked = subst (λ (ss : List ServedWindow). AreAllCounted (requests (most_of config) (targets_of config) w.lines) ss) all_windows
         (all_counted_asked (requests (most_of config) (targets_of config) w.lines) (w.served ++ []) kept.kept kept.sized kept.within kept.asked (λ v h here. (kept.are.each v h here).answered)
         (λ v. subst (λ (ss : List ServedWindow). AreAllAnswered (answers_of v (answers_in ss))) (sym all_windows) (kept.well v))) in
-        let answers = λ (k : ℕ) (p : SpindlePass) (entries : List Entry) (lt : k < length r.keepers.items) (there : slice_get q.keepers.items k ≡ Some p) (part : IsPartOf entries p).
-        all_told (column k awake) (slice_index_or r.keepers.items k p) p entries (unused k p lt)
-        (subst (λ (l : List (List Bool)). WasTold (column k l) (slice_index_or r.keepers.items k p) p) (sym (awake_by (w.served ++ []) q.keepers.items from_start))
-        (subst (λ (x : SpindlePass). WasTold (column k (awake_in tells options.reclaim (w.served ++ []) before r.keepers.items from.after q.keepers.items from_start)) (slice_index_or r.keepers.items k p) x) ((at_place q.keepers.items k p there).1 p)
-        (served_told tells options.reclaim k (w.served ++ []) before r.keepers.items from.after q.keepers.items p from_start lt))) part in
         let summary = summary_now state tells left config options start now opened r q faults faults' printed printed' is unused awake before from.after counted w
-        (closable_after state config opened r q (rack_closable state config opened r is) from.only from.can (from.locks ∙ moved.locks) from.same) spindles count each answers all_asked sized in
+        (closable_after state config opened r q (rack_closable state config opened r is) from.only from.can (from.locks ∙ moved.locks) from.same) spindles count each
+        (keepers_told (w.served ++ []) from.after q.keepers.items from_start (inl refl) refl refl refl unused) all_asked sized in
         record {
           run = w.lines;
           more = [];
@@ -411,6 +458,7 @@ module _ {D S : Type 0} (T : Type 0) (state : D → State) (tells : Bool) (left 
           windows_ = are;
           one = omega arith;
           whole = λ some. at_end w.all;
+          ahead = λ some. absurd (some refl);
           well = w.well;
           asked = kept.asked;
           ends = ends_summed left config start now w.lines [] entry.faults left_.faults text done faults faults' faults'' printed' printed'' refl w.all w.calm prints;
@@ -419,6 +467,7 @@ module _ {D S : Type 0} (T : Type 0) (state : D → State) (tells : Bool) (left 
           cause = λ v broken. rose_from entry.faults opened.faults left_.faults opening (kept.cause v broken);
           part = λ v t is. absurd (text_other done text faults' faults'' printed' printed'' v t prints is);
           spent = λ v is. absurd (text_versions done text faults' faults'' printed' printed'' v prints is);
+          open_ = λ telling. told_first (KeepsAllSound config) (AreAllOpen config) entry.told left_.told (sound telling) (open_ telling);
           begun = kept.begun;
           counts = counts_whole w.served [] kept.kept kept.well (status_in done) (λ v. tt);
           placed = placed_by tells config options.reclaim entry opened left_ w.lines w.served [] kept awake worked;
@@ -426,6 +475,7 @@ module _ {D S : Type 0} (T : Type 0) (state : D → State) (tells : Bool) (left 
           reclaims = kept.reclaims;
           awake = awake;
           worked = worked;
+          disks = λ not_9. disks_by (w.served ++ []) from.after q.keepers.items from_start (inl refl) refl refl refl unused w.lines are spindles count sized each;
           unbroken = λ is v. subst (λ (hs : List History). is_broken_at hs v ≡ false) (sym is_kept)
               (unbroken_by (w.served ++ []) q.keepers.items from_start owned (subst (λ (ss : List ServedWindow). AllByRecursion WentWell ss) (sym all_windows) w.well) v);
           marks = kept.marks;

@@ -12,27 +12,32 @@ use Rattle.std.specs.Prelude.{⊤, ◌≡◌, ◌≢◌, ◌⊎◌, ◌++◌, �
 use Rattle.std.specs.Io.KnownBytes.{Appends}
 use Rattle.wol_disk.specs.Disk.{State}
 use Rattle.wol_bay.specs.Bay.{BayState, Told}
+use Rattle.wol_model.specs.Extents.{AreDistinct, covers_of}
+use Rattle.wol_model.specs.Images.{Images}
 use Rattle.wol_model.specs.Trace.{TraceLine}
 use Rattle.wol_promise.specs.Report.{HasNoHelp}
+use Rattle.wol_promise.specs.Ruled.{last_look}
 use Rattle.wol_config.specs.declared.config.Config.{Config}
 use Rattle.volume_images.specs.Left.{IsTold}
-use Rattle.volume_images.specs.Volumes.{images_read, shapes_of}
+use Rattle.volume_images.specs.Volumes.{AreLeft, images_read, shapes_of}
+use Rattle.rack.specs.Closes.{AreListedOf}
 use Rattle.rack.specs.Owners.{IsBegun}
 use Rattle.trace_gen.specs.Generated.{targets_of}
 use Rattle.request_workers.specs.declared.request.Reclaim.{Reclaim}
 use Rattle.request_workers.specs.declared.request.Reclaim.TheVariants as reclaim
 use Rattle.replay.specs.Givens.{HasGiven}
 use Rattle.replay.specs.Headline.{HasNotBegun}
-use Rattle.replay.specs.Histories.{History, IsHistory, answers_in, is_broken_at}
+use Rattle.replay.specs.Histories.{History, IsHistory, answers_in, is_broken, is_broken_at}
+use Rattle.replay.specs.Leaves.{records_in}
 use Rattle.replay.specs.Placed.{CountsPlaced, CountsReclaimed}
 use Rattle.replay.specs.Served.{ServedWindow}
 use Rattle.replay.specs.Sessions.{AreWindowsOf}
-use Rattle.replay.specs.Summed.{IsSummary}
+use Rattle.replay.specs.Summed.{HaveAccounts, IsSummary}
 use Rattle.replay.specs.Works.{WorksAs}
 use Rattle.replay.specs.declared.given.Given.{Given}
 
 -- Volume v, by its entries with the looks that they left.
-pub record FollowsPolicy (config : Config) (entry : Told) (mode : Reclaim) (windows : List ServedWindow) (awake : List (List Bool)) (v : ℕ) (h : History) : Type 0 where
+pub record FollowsPolicy (config : Config) (entry exit : Told) (mode : Reclaim) (windows : List ServedWindow) (awake : List (List Bool)) (v : ℕ) (h : History) : Type 0 where
   -- it was opened with the records that the images have
   pub begun : IsBegun config (images_read config entry) h.base
   -- its entries are one legal history, in which the answered requests were read and written; each follows the rules
@@ -42,12 +47,15 @@ pub record FollowsPolicy (config : Config) (entry : Told) (mode : Reclaim) (wind
   pub works : WorksAs mode windows awake v h
   -- a helper works beside the requests or not at all
   pub alone : mode ≢ reclaim.Beside → HasNoHelp h.notes
+  -- the records that are left in the images have each a version of its own; where no call failed they are those that it lists in the end
+  pub left : (images : Images) → AreLeft config exit images → AreDistinct (covers_of (records_in config images v))
+      × ((IsTrue (is_broken h) → ⊥) → AreListedOf (last_look h.base.look h.notes).listed (records_in config images v))
 
 -- the output ended with the summary of these lines and windows: the counts, and the time and energy of each disk
 abbrev pub EndsWithSummary : Config → List (Option TraceLine) → List ServedWindow → (awake : List (List Bool)) → (taken taken' : Option (List ℕ)) → Type 0
 EndsWithSummary config lines windows awake taken taken' = (before : List ℕ) × (summary : List ℕ) × IsSummary config lines windows awake summary × Appends taken taken' (before ++ summary)
 
-pub record Account {S : Type 0} (left : S → Option (List ℕ)) (config : Config) (mode : Reclaim) (start now : Given S) (entry : Told) (status : ℕ) (taken taken' : Option (List ℕ)) : Type 0 where
+pub record Account {S : Type 0} (left : S → Option (List ℕ)) (config : Config) (mode : Reclaim) (start now : Given S) (entry exit : Told) (status : ℕ) (taken taken' : Option (List ℕ)) : Type 0 where
   -- for every trace: some first lines of it were run, in these windows
   pub lines : List (Option TraceLine)
   pub given : (more : List (Option TraceLine)) × HasGiven left (targets_of config) start now (lines ++ more)
@@ -58,7 +66,10 @@ pub record Account {S : Type 0} (left : S → Option (List ℕ)) (config : Confi
   -- each volume's one history follows the rules
   pub histories : List History
   pub count : length histories ≡ length (shapes_of config)
-  pub each_volume : (v : ℕ) (h : History) → slice_get histories v ≡ Some h → FollowsPolicy config entry mode windows awake v h
+  pub each_volume : (v : ℕ) (h : History) → slice_get histories v ≡ Some h → FollowsPolicy config entry exit mode windows awake v h
+  -- each disk's journal is that of its uses, and says that it was awake where the keepers were told so; where memory ran out a window
+  -- may have begun at some disks alone
+  pub disks : status ≢ 7 → status ≢ 9 → HaveAccounts config lines windows awake
   -- at the end of the trace no call of a disk had failed, and the summary was printed
   pub unbroken : status ≡ 0 → (v : ℕ) → is_broken_at histories v ≡ false
   pub printed : status ≡ 0 → EndsWithSummary config lines windows awake taken taken'
@@ -70,4 +81,4 @@ pub record Account {S : Type 0} (left : S → Option (List ℕ)) (config : Confi
 -- that the bay tells had one name.
 abbrev pub KeepsAccount : {D S : Type 0} → (tells : Bool) → (D → State) → (S → Option (List ℕ)) → Config → Reclaim → (start now : Given S) → (old new : BayState) → (status : ℕ) → (taken taken' : Option (List ℕ)) → Type 0
 KeepsAccount tells state left config mode start now old new status taken taken' =
-    HasNotBegun tells state config start now old new status taken taken' ⊎ (IsTrue tells → IsTold (λ entry exit. Account left config mode start now entry status taken taken') old.told new.told)
+    HasNotBegun tells state config start now old new status taken taken' ⊎ (IsTrue tells → IsTold (λ entry exit. Account left config mode start now entry exit status taken taken') old.told new.told)

@@ -8,7 +8,7 @@
 -- `config` is the configuration; `start` and `now` are where the lines come from, before and after the run; `entry` and `exit` what the
 -- bay told of its images then, `faults` and `faults'` how many of its calls had failed, `taken` and `taken'` the bytes that the sink had
 -- taken; `status` is what the run ended with. Read `Headline` first, then `HasOneHistory`.
-use Rattle.std.specs.Prelude.{◌≡◌, ◌≢◌, ◌<◌, ◌⊎◌, ◌++◌, ℕ, Bool, true, false, List, [], length, map, take, drop, Option, None, unwrap_or, IsTrue}
+use Rattle.std.specs.Prelude.{◌≡◌, ◌≢◌, ◌<◌, ◌⊎◌, ◌++◌, ℕ, Bool, true, false, List, [], length, map, take, drop, Option, None, Some, slice_get, unwrap_or, IsTrue}
 use Rattle.std.specs.Io.KnownBytes.{Appends}
 use Rattle.wol_disk.specs.Disk.{Block, Rose, State}
 use Rattle.wol_io.specs.Streams.{AppendsFront}
@@ -22,8 +22,10 @@ use Rattle.wol_promise.specs.Outcomes.{Answered, AreOutcomes, answered_in, of_vo
 use Rattle.wol_promise.specs.Run.{KeepsSound, joined_lines, read_lines}
 use Rattle.run_laws.specs.Answers.{answered_count, answers_of, requests_in}
 use Rattle.wol_config.specs.declared.config.Config.{Config}
+use Rattle.wol_config.specs.declared.config.VolumeConf.{VolumeConf}
 use Rattle.volume_images.specs.Left.{IsTold}
 use Rattle.volume_images.specs.Volumes.{AreLeft, images_read, shapes_of}
+use Rattle.rack.specs.Opens.{WasAccepted}
 use Rattle.trace_gen.specs.Generated.{targets_of}
 use Rattle.trace_windows.specs.Requests.{most_of}
 use Rattle.replay.specs.Givens.{HasGiven, HasGivenAll}
@@ -82,7 +84,13 @@ pub record ArePrinted (lines : List (List ℕ)) (status : ℕ) (taken taken' : O
 
 -- ---- The headline
 
+-- the image of each volume was there, of its length and with its own label, and nothing in it was refused
+abbrev pub AreAllOpen : Config → (entry : Told) → Type 0
+AreAllOpen config entry = (k : ℕ) (v : VolumeConf) → slice_get config.volumes.items k ≡ Some v → WasAccepted config entry k v
+
 pub record Headline {S : Type 0} (left : S → Option (List ℕ)) (config : Config) (each : Bool) (start now : Given S) (entry exit : Told) (faults faults' status : ℕ) (taken taken' : Option (List ℕ)) : Type 0 where
+  -- once all volumes are open
+  pub open_ : AreAllOpen config entry
   -- for every trace: some first lines of it were run, and these are their requests, each with its outcome
   pub lines : List (Option TraceLine)
   pub given : (more : List (Option TraceLine)) × HasGiven left (targets_of config) start now (lines ++ more)

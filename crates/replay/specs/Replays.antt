@@ -16,13 +16,14 @@ use Rattle.troubles.specs.Troubles.{trouble_of}
 use Rattle.rack.specs.declared.volume_fault.VolumeFault.{VolumeFault}
 use Rattle.replay.specs.Ended.{EndsFor}
 use Rattle.replay.specs.Givens.{HasGiven}
+use Rattle.replay.specs.Headline.{AreAllOpen}
 use Rattle.replay.specs.Histories.{History, AreHistories, ArePlainMarks, BeginAsRead, CountAnswered, LeavesReclaimed, answers_in, is_broken_at, next_at}
 use Rattle.replay.specs.Leaves.{LeavesImages}
 use Rattle.replay.specs.NotOpened.{AsksNone, IsFirstClosed, LeavesBay}
 use Rattle.replay.specs.Placed.{CountsPlaced, CountsReclaimed}
 use Rattle.replay.specs.Served.{ServedWindow}
 use Rattle.replay.specs.Sessions.{AreWindowsOf, EndsWithWindow, WentWell}
-use Rattle.replay.specs.Summed.{IsSummaryOf, PrintsRun, lines_asked}
+use Rattle.replay.specs.Summed.{HaveAccounts, IsSummaryOf, PrintsRun, lines_asked}
 use Rattle.replay.specs.Works.{AreWorked}
 use Rattle.replay.specs.declared.given.Given.{Given}
 use Rattle.replay.specs.declared.session.Options.{Options}
@@ -48,8 +49,9 @@ pub record Replays {S T : Type 0} (tells : Bool) (left : S → Option (List ℕ)
   pub last : List ServedWindow
   pub windows_ : AreWindowsOf config run (earlier ++ last)
   pub one : length last ≤ 1
-  -- the last window that was served is whole
+  -- the last window that was served is whole, and behind the one in which the run ended at most one line was read
   pub whole : earlier ++ last ≢ [] → EndsWithWindow left config start now run more
+  pub ahead : last ≢ [] → length more ≤ 1
   pub well : AllByRecursion WentWell earlier
   -- the requests of the windows are those of the lines
   pub asked : requests_in (answers_in (earlier ++ last)) ≡ requests (most_of config) (targets_of config) run
@@ -62,6 +64,8 @@ pub record Replays {S T : Type 0} (tells : Bool) (left : S → Option (List ℕ)
   pub part : (v : ℕ) (t : Trouble) → result ≡ Err (stop.Fault (Volume v t)) → IsTrue (is_broken_at histories v)
   -- where versions ended a run, a volume's writes to logs took all of them, whatever failed afterwards
   pub spent : (v : ℕ) → result ≡ Err (stop.Fault (Versions v)) → 2 ^ 63 ≤ next_at histories v
+  -- each volume was opened of an image that was accepted, and began with what the images recovered to
+  pub open_ : IsTrue tells → IsTold (λ entry left_. AreAllOpen config entry) old.told new.told
   pub begun : IsTrue tells → IsTold (λ entry left_. BeginAsRead config entry histories) old.told new.told
   pub counts : CountAnswered (answers_in earlier) (answers_in (earlier ++ last)) (status_in result) histories
   -- the writes that are counted are those of the histories
@@ -72,6 +76,8 @@ pub record Replays {S T : Type 0} (tells : Bool) (left : S → Option (List ℕ)
   -- what the worker and the keeper of each volume did, window by window; `awake` has what the spindles answered
   pub awake : List (List Bool)
   pub worked : AreWorked options.reclaim (earlier ++ last) awake histories
+  -- each disk was awake as its journal says, where memory didn't run out: then a window may have begun of which nothing was run
+  pub disks : status_in result ≢ 9 → HaveAccounts config run (earlier ++ last) awake
   -- at the end of the trace no call of a disk of a volume had failed
   pub unbroken : status_in result ≡ 0 → (v : ℕ) → is_broken_at histories v ≡ false
   pub marks : IsTrue tells → IsTold (λ entry left_. ArePlainMarks config (answers_in (earlier ++ last)) entry) old.told new.told

@@ -208,8 +208,9 @@ module _ {D S : Type 0} (tells : Bool) (left : S → Option (List ℕ)) (config 
     pub earlier : List ServedWindow
     pub last : List ServedWindow
     pub are : AreWindowsOf config run (earlier ++ last)
-    -- the last window that was served is whole
+    -- the last window that was served is whole, and behind the one that ended the run at most one line was read
     pub whole : earlier ++ last ≢ [] → EndsWithWindow left config start now run more
+    pub ahead : last ≢ [] → length more ≤ 1
     pub well : AllByRecursion WentWell earlier
     pub middle : Floor D
     pub between : List SpindlePass

@@ -3,7 +3,7 @@ use Rattle.std.specs.Prelude.{◌≡◌, ◌≢◌, ◌⊎◌, ◌++◌, ◌-◌
 use Rattle.std.specs.Io.KnownBytes.{Appends}
 use Rattle.wol_disk.specs.Disk.{Rose}
 use Rattle.wol_io.specs.Streams.{AppendsFront}
-use Rattle.wol_model.specs.Journal.{Use, AreUses, new_spindle, spindle_after}
+use Rattle.wol_model.specs.Journal.{Use, AreUses, needs_after, new_spindle, spindle_after}
 use Rattle.wol_model.specs.Trace.{Request, TraceLine, ended, requests, started, timed}
 use Rattle.wol_promise.specs.Outcomes.{Answered}
 use Rattle.wol_promise.specs.Run.{joined_lines}
@@ -30,7 +30,8 @@ use Rattle.replay.specs.declared.stop.Stop.TheVariants as stop
 -- ---- The account
 
 -- The journal of the disk of volume k, with the configured timeout, is that of its uses: the keeper began the account and each window, and
--- was told then whether the disk was awake; all other passes made accesses alone. Without a window the keeper did nothing.
+-- was told then whether the disk was awake; all other passes made accesses alone, each of which ended. Without a window the keeper did
+-- nothing.
 pub record IsAccount (config : Config) (k start : ℕ) (moments : List ℕ) (awake : List (List Bool)) (s : SpindleView) : Type 0 where
   pub volume : s.volume ≡ k
   pub timeout_is : s.timeout ≡ config.timeout
@@ -40,7 +41,14 @@ pub record IsAccount (config : Config) (k start : ℕ) (moments : List ℕ) (awa
   pub keeper : ℕ
   pub kept : ((moments ≢ []) × (uses_by keeper uses ≡ keeper_uses start moments)) ⊎ ((moments ≡ []) × (uses_by keeper uses ≡ []))
   pub others : OthersAccess keeper uses
+  pub done : (n : ℕ) → n ≢ keeper → needs_after false (uses_by n uses) ≡ false
   pub answers : answers_by s.timeout new_spindle keeper uses ≡ map (λ (a : List Bool). slice_index_or a k false) awake
+
+-- The disks of a run of these lines in these windows, each with its account from the first moment on.
+pub record HaveAccounts (config : Config) (lines : List (Option TraceLine)) (windows : List ServedWindow) (awake : List (List Bool)) : Type 0 where
+  pub spindles : List SpindleView
+  pub count : length spindles ≡ length config.volumes.items
+  pub each : (k : ℕ) (s : SpindleView) → slice_get spindles k ≡ Some s → IsAccount config k (started (timed lines)) (map (λ (w : ServedWindow). w.batch.moment) windows) awake s
 
 -- The summary of these lines and the windows that were served of them: what is counted, and what each disk used from the start of the
 -- account to its end.

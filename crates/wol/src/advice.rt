@@ -12,6 +12,7 @@ usage: wol COMMAND, in the folder that has wol.toml and the images (NAME.vol)
   wol check                           print each volume's state and the SHA-256 of its content
   wol dump                            print the records in logs
   wol whatif < TRACE                  compare four policies on a trace, without images
+  wol clean                           rewrite the records in logs as few
   wol gen SEED LINES                  print a generated trace
   wol soak SEED LINES [OPTION..]      replay a generated trace without printing it
   wol solo HOST DISK BLOCKS < TRACE   run one disk's lines on a new image, without wol.toml
@@ -54,7 +55,7 @@ pub fn advice(status: u8) -> Option<&'static str>
         10 =>
             "wol: the trace has more than 4294967296 lines; those were run. Split it and replay the rest.\n",
         11 =>
-            "wol: a volume has no version left for a write. wol format begins anew, and erases every volume.\n",
+            "wol: a volume has no version left for a record. wol format begins anew, and erases every volume.\n",
         12 =>
             "wol: an image is missing. Put it back; for new volumes wol format makes all images, and erases every volume.\n",
         15 =>

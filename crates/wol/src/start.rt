@@ -40,7 +40,8 @@ fn uses_trace(command: &Command<'_>) -> bool
         | Command::Dump
         | Command::Soak(..)
         | Command::ViewAdd(_)
-        | Command::ViewRemove(_) => false,
+        | Command::ViewRemove(_)
+        | Command::Clean => false,
     }
 }
 

@@ -4,13 +4,14 @@ use Rattle.solo.specs.Volume.{IsVolume, target_of}
 use Rattle.solo.specs.declared.volume.Volume.{Volume}
 use Rattle.command_words.specs.Commands.{IsCommand}
 use Rattle.command_words.specs.declared.command.Command.{Command}
-use Rattle.command_words.specs.declared.command.Command.TheVariants.{Solo, Format, Replay, Check, Dump, Gen, Soak, WhatIf, ViewAdd, ViewRemove}
+use Rattle.command_words.specs.declared.command.Command.TheVariants.{Solo, Format, Replay, Check, Dump, Gen, Soak, WhatIf, ViewAdd, ViewRemove, Clean}
 use Rattle.command_words.specs.declared.command.Generated.{Generated}
 use Rattle.command_words.specs.declared.command.Options.{Options}
 use Rattle.command_words.specs.declared.command.ViewNames.{ViewNames}
 use Rattle.command_words.specs.Values.{named_by}
 use Rattle.wol_run.specs.Commands.{IsCount, IsInRange, uses_trace}
-use Rattle.command_words.proofs.Unique.{commands_are_one, equal_or_alike}
+use Rattle.command_words.specs.Laws.{AreSame, same, solo, view_add, view_remove}
+use Rattle.command_words.proofs.Unique.{commands_are_one}
 
 -- what holds of a command holds of one that names the same volumes
 pub record IsAlike (P : Command → Type 0) : Type 0 where
@@ -19,13 +20,15 @@ pub record IsAlike (P : Command → Type 0) : Type 0 where
   pub remove : (own other : ViewNames) → named_by own ≡ named_by other → P (ViewRemove own) → P (ViewRemove other)
 
 -- what holds of the command that was read holds of each that the words ask for
-pub of_asked : (P : Command → Type 0) → IsAlike P → (words : List (List ℕ)) (read asked : Command) → IsCommand words read → IsCommand words asked → P read → P asked
-of_asked P alike words read asked is so p = elim (equal_or_alike read asked (commands_are_one words read asked is so)) [
-  | inl same ↦ subst P same p
-  | inr (inl two) ↦ subst P (sym two.second_is) (alike.solo two.first two.second two.alike (subst P two.first_is p))
-  | inr (inr (inl two)) ↦ subst P (sym two.second_is) (alike.add two.first two.second two.alike (subst P two.first_is p))
-  | inr (inr (inr two)) ↦ subst P (sym two.second_is) (alike.remove two.first two.second two.alike (subst P two.first_is p))
-]
+module _ (P : Command → Type 0) (alike : IsAlike P) where
+  of_same : (read asked : Command) → AreSame read asked → P read → P asked
+  of_same read asked same p = p
+  of_same read asked (solo alike_) p = alike.solo _ _ alike_ p
+  of_same read asked (view_add alike_) p = alike.add _ _ alike_ p
+  of_same read asked (view_remove alike_) p = alike.remove _ _ alike_ p
+
+  pub of_asked : (words : List (List ℕ)) (read asked : Command) → IsCommand words read → IsCommand words asked → P read → P asked
+  of_asked words read asked is so p = of_same read asked (commands_are_one words read asked is so) p
 
 -- a command uses what one uses that names the same volumes
 pub uses_alike : IsAlike (λ c. uses_trace c ≡ false)
@@ -44,6 +47,7 @@ in_range words (Soak asked options) is = (omega (arith, is.asks.values.0.most), 
 in_range words WhatIf is = tt
 in_range words (ViewAdd names) is = tt
 in_range words (ViewRemove names) is = tt
+in_range words Clean is = tt
 
 pub range_of_solo : (command : Command) (volume : Volume) → command ≡ Solo volume → IsInRange command → IsVolume (target_of volume)
 range_of_solo command volume is h = subst IsInRange is h

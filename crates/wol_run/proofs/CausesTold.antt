@@ -43,19 +43,25 @@ use Rattle.view_commands.specs.declared.order.Stop.{Stop as ViewStop}
 use Rattle.view_commands.specs.declared.order.Stop.TheVariants as view_stop
 use Rattle.view_commands.specs.declared.order.Verb.{Verb}
 use Rattle.view_commands.specs.declared.order.ViewRefusal.{ViewRefusal}
+use Rattle.log_cleaner.specs.declared.answer.CleanFault.{CleanFault}
+use Rattle.log_cleaner.specs.declared.answer.CleanFault.TheVariants.{DiskFault, VersionsSpent, NoMemory}
+use Rattle.cleaning.specs.Lines.{fault_of}
+use Rattle.cleaning.specs.Runs.{CleansBay, CleansVolume, EndsFor as EndsCleaning}
+use Rattle.cleaning.specs.Runs as cleaned
 use Rattle.command_words.specs.Commands.{IsCommand}
 use Rattle.command_words.specs.Table.{Named}
 use Rattle.command_words.specs.declared.command.Command.{Command}
-use Rattle.command_words.specs.declared.command.Command.TheVariants.{Format, Gen, WhatIf}
+use Rattle.command_words.specs.declared.command.Command.TheVariants.{Clean, Format, Gen, WhatIf}
 use Rattle.command_words.specs.declared.command.Generated.{Generated}
 use Rattle.wol_run.specs.Causes.{AskFor, IsCause, IsClosedFor, replayed_by}
 use Rattle.wol_run.specs.Causes as row
+use Rattle.wol_run.specs.Cleaning.{IsCleaning}
 use Rattle.wol_run.specs.Commands.{changes_view, uses_bay, uses_config, uses_trace}
 use Rattle.wol_run.specs.Inspecting.{AreTold, IsLook, status_of_first}
 use Rattle.wol_run.specs.Outside.{Outside}
 use Rattle.wol_run.specs.Comparing.{IsComparison}
 use Rattle.wol_run.specs.Replaying.{EndsReplay, GivenLines, HasLeft, IsReplay, trace_of}
-use Rattle.wol_run.specs.Run.{IsComparisonOf, IsFormat, IsListingOf, IsLookFor, IsReplayOf, IsViewChangeOf}
+use Rattle.wol_run.specs.Run.{IsCleaningOf, IsComparisonOf, IsFormat, IsListingOf, IsLookFor, IsReplayOf, IsViewChangeOf}
 use Rattle.wol_run.specs.Settings.{HasConfig, IsFaultLine}
 use Rattle.wol_run.specs.Tops.{EndsWith, HasBadLine, HasMoreLines}
 use Rattle.wol_run.specs.Viewing.{EndsChange, IsViewChange, RefusesChange, view_change_by}
@@ -221,6 +227,8 @@ module _ {D : Type 0} (tells : Bool) (state : D → State) (words : List (List �
             conf = first.conf;
             conf_is = first.conf_is;
             out = first.out;
+            missing = first.missing;
+            there = first.there;
             fault = f;
             refused = first.refused;
             status_is = refl;
@@ -229,6 +237,9 @@ module _ {D : Type 0} (tells : Bool) (state : D → State) (words : List (List �
           (λ four. first.cause (of_call f _ first.names four))
 
       -- ---- Volumes that were looked at
+
+      none_in : {A : Type 0} (j : ℕ) (x : A) → slice_get [] j ≡ Some x → ⊥
+      none_in j x is = absurd (let no : None ≡ Some x = is in cc)
 
       -- a volume that was told in order was opened
       was_opened : (config : Config) (what : Asked) (told : List Telling) (are : AreTold tells state what config before.bay after.bay told) (j : ℕ) (u : Telling) → slice_get told j ≡ Some u → u.trouble ≡ None
@@ -253,6 +264,8 @@ module _ {D : Type 0} (tells : Bool) (state : D → State) (words : List (List �
               conf = refusal.conf;
               conf_is = refusal.is_conf;
               out = are.out;
+              missing = are.missing (λ empty. none_in k t (rw empty at here));
+              there = are.there (λ empty. none_in k t (rw empty at here));
               fault = refusal.fault;
               refused = refusal.refuses;
               status_is = refl;
@@ -354,6 +367,34 @@ module _ {D : Type 0} (tells : Bool) (state : D → State) (words : List (List �
         pub view_cause : IsViewChangeOf tells state before after status (verb, named) → Cause status
         view_cause (inl run) = of_change run run.result run.changes run.ends
         view_cause (inr unread) = elim (wanted_or_sink unread.text unread.wanted status _ _ unread.ends) [
+          | inr seven ↦ of_sink seven
+          | inl same ↦ unread_cause for_config unread.text unread.wanted unread.untouched.line_ same
+        ]
+
+      -- ---- Volumes that were cleaned
+
+      module _ (cleans_ : IsCommand words Clean) where
+        module _ (run : IsCleaning tells state before.config.bytes before.bay after.bay before.sink.faults status before.sink.bytes after.sink.bytes) where
+          of_clean_fault : (n : ℕ) (f : CleanFault) → CleansVolume tells state run.config before.bay after.bay n (Err f) → status ≡ status_of (fault_of n f) → Cause status
+          of_clean_fault n (DiskFault p) cleans same = at_status (trouble_status (trouble_of_part p)) status same (part_cause for_bay p (cleans.cause p refl))
+          of_clean_fault n VersionsSpent cleans same = at_status 11 status same (row.no_version_to_copy cleans_ (record { config = run.config; has = run.has; base = cleans.base.volume.began; begun = cleans.begun; lacks = cleans.spent refl }))
+          of_clean_fault n NoMemory cleans same = at_status 9 status same row.no_memory
+
+          of_cleaned : (r : Result (Unit {0}) Stop) → EndsCleaning tells state run.config before.bay after.bay before.sink.faults run.sink_then before.sink.bytes run.printed_then r → EndsReplay run.config r status run.printed_then after.sink.bytes → Cause status
+          of_cleaned r (cleaned.whole told are all calm more) ends = at_status 0 status ends.0 (done_without Clean cleans_ refl)
+          of_cleaned r (cleaned.refused told f are less cleans calm more) ends = told_cause _ (fault_of _ f) run.printed_then ends (of_clean_fault _ f cleans)
+          of_cleaned r (cleaned.no_memory told c are calm more) ends = told_cause _ fault.Memory run.printed_then ends (λ nine. at_status 9 status nine row.no_memory)
+          of_cleaned r (cleaned.sink_failed told c are rose front) ends = of_sink ends.0
+
+          of_bay : (r : Result (Unit {0}) Stop) → CleansBay tells state run.config before.bay after.bay before.sink.faults run.sink_then before.sink.bytes run.printed_then r → EndsReplay run.config r status run.printed_then after.sink.bytes → Cause status
+          of_bay r (cleaned.unopened calm kept) ends = told_cause _ fault.Memory run.printed_then ends (λ nine. at_status 9 status nine row.no_memory)
+          of_bay r (cleaned.closed k f calm kept first) ends =
+              told_cause _ (fault.Volume k (trouble_of f)) run.printed_then ends (λ same. at_status (trouble_status (trouble_of f)) status same (closed_cause run.config run.has k f first))
+          of_bay r (cleaned.ran x ended arrays) ends = of_cleaned x ended ends
+
+        pub clean_cause : IsCleaningOf tells state before after status → Cause status
+        clean_cause (inl run) = of_bay run run.result run.cleans run.ends
+        clean_cause (inr unread) = elim (wanted_or_sink unread.text unread.wanted status _ _ unread.ends) [
           | inr seven ↦ of_sink seven
           | inl same ↦ unread_cause for_config unread.text unread.wanted unread.untouched.line_ same
         ]

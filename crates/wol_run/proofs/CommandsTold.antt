@@ -1,10 +1,8 @@
 -- What a run promises, command by command.
-use Rattle.std.proofs.Common.{◌≡◌, ◌⊎◌, inl, inr, ℕ, ◌<◌, Bool, true, false, List, Option, Err, Ok, refl, sym, subst, ◌∙◌, true≢false}
+use Rattle.std.proofs.Common.{◌≡◌, ◌⊎◌, inl, inr, ℕ, ◌<◌, Bool, true, false, List, Option, Err, Ok, refl, sym, ◌∙◌, true≢false}
 use Rattle.std.specs.Prelude.{codes}
 use Rattle.std.specs.Io.KnownBytes.{IsAtEnd}
 use Rattle.wol_disk.specs.Disk.{Rose, State}
-use Rattle.wol_model.specs.Trace.{TraceLine}
-use Rattle.wol_config.specs.declared.config.Config.{Config}
 use Rattle.solo.proofs.Imaging.{not_made}
 use Rattle.solo.specs.Images.{RunsInBay}
 use Rattle.solo.specs.Volume.{target_of}
@@ -13,13 +11,10 @@ use Rattle.solo.specs.declared.fault.Fault.TheVariants as solo_fault
 use Rattle.solo.specs.declared.volume.Volume.{Volume}
 use Rattle.wol_bay.specs.declared.fault.BayFault.TheVariants as bay_fault
 use Rattle.report.specs.declared.fault.Fault.TheVariants as fault
-use Rattle.trace_gen.specs.Generated.{targets_of}
 use Rattle.inspection.specs.declared.asked.Asked.TheVariants as asked
-use Rattle.replay.specs.Givens.{HasGivenAll}
-use Rattle.replay.specs.declared.given.Given.TheVariants as given
 use Rattle.command_words.specs.Commands.{IsCommand}
 use Rattle.command_words.specs.declared.command.Command.{Command}
-use Rattle.command_words.specs.declared.command.Command.TheVariants.{Check, Dump, Format, Gen, Replay, Soak, Solo, ViewAdd, ViewRemove, WhatIf}
+use Rattle.command_words.specs.declared.command.Command.TheVariants.{Check, Clean, Dump, Format, Gen, Replay, Soak, Solo, ViewAdd, ViewRemove, WhatIf}
 use Rattle.command_words.specs.declared.command.Generated.{Generated}
 use Rattle.command_words.specs.declared.command.Options.{Options}
 use Rattle.command_words.specs.declared.command.ViewNames.{ViewNames}
@@ -28,21 +23,21 @@ use Rattle.view_commands.specs.declared.order.Verb.TheVariants.{Add, Remove}
 use Rattle.wol_run.specs.Causes.{AskFor}
 use Rattle.wol_run.specs.Causes as row
 use Rattle.wol_run.specs.Commands.{uses_trace}
-use Rattle.wol_run.specs.Completing.{HasSoundImages, HaveVersions, IsGoodTrace, seed_lines}
+use Rattle.wol_run.specs.Completing.{HasSoundImages, HaveVersions, HaveVersionsToClean, IsGoodTrace, seed_lines}
 use Rattle.wol_run.specs.Outside.{LeavesUnused, Outside, Stream}
-use Rattle.wol_run.specs.Replaying.{GivenLines, HasLeft, lines_of, options_as, trace_of}
-use Rattle.wol_run.specs.Run.{IsComparisonOf, IsFormat, IsListingOf, IsLookFor, IsReplayOf, IsViewChangeOf, Run}
+use Rattle.wol_run.specs.Replaying.{lines_of, options_as, trace_of}
+use Rattle.wol_run.specs.Run.{Does, IsCleaningOf, IsComparisonOf, IsFormat, IsListingOf, IsLookFor, IsReplayOf, IsViewChangeOf, Run}
 use Rattle.wol_run.specs.Settings.{IsConfigured}
 use Rattle.wol_run.specs.Tops.{EndsWith, HasCause, IsDoneOrMemory, TellsFault, TellsStatus}
 use Rattle.wol_run.proofs.Asked.{of_asked, uses_alike}
-use Rattle.wol_run.proofs.CausesTold.{comparison_cause, format_cause, gen_cause, look_cause, replay_cause, view_cause}
+use Rattle.wol_run.proofs.CausesTold.{clean_cause, comparison_cause, format_cause, gen_cause, look_cause, replay_cause, view_cause}
 use Rattle.wol_run.proofs.Compared.{uncompared}
 use Rattle.wol_run.proofs.Complete.{complete_format, complete_gen}
 use Rattle.wol_run.proofs.Endings.{told_done, told_fault}
 use Rattle.wol_run.proofs.FormatEndings.{told_untouched}
 use Rattle.wol_run.proofs.GenEndings.{told_unread}
 use Rattle.wol_run.proofs.LookEndings.{look_untouched}
-use Rattle.wol_run.proofs.Promised.{Does, of_command, of_unread_words}
+use Rattle.wol_run.proofs.Promised.{of_command, of_unread_words}
 use Rattle.wol_run.proofs.ReplayEndings.{at_end, replay_bad_line, replay_more_lines, soak_not_ten, soak_not_three, unreplayed}
 use Rattle.wol_run.proofs.SoloTold.{solo_cause, solo_complete}
 use Rattle.wol_run.proofs.Unread.{not_begun}
@@ -130,13 +125,21 @@ module _ {D : Type 0} (tells : Bool) (state : D → State) (words : List (List �
         (record { config = λ none. absurd (used refl (none (ViewRemove names) is)); trace = λ none. trace; bay = λ none. absurd (used refl (none (ViewRemove names) is)) })
         (λ order calm. view_ends refl (complete order.1 order.0 (calm.bay refl) (calm.config refl) calm.sink))
 
+  pub clean_promise : IsCommand words Clean → IsCleaningOf tells state before after status
+      → ((images : HasSoundImages tells before.config.bytes before.bay) → HaveVersionsToClean before.config.bytes images.entry → IsConfigured before.config.bytes
+      → ¬ Rose before.bay.faults after.bay.faults → ¬ Rose before.config.faults after.config.faults → ¬ Rose before.sink.faults after.sink.faults → IsDoneOrMemory status)
+      → after.trace ≡ before.trace → Run tells state words before after status
+  clean_promise is run complete trace = of_command tells state words before after status Clean is run (clean_cause tells state words before after status seven Clean is refl refl is run) later
+      (record { config = λ none. absurd (used refl (none Clean is)); trace = λ none. trace; bay = λ none. absurd (used refl (none Clean is)) })
+      (λ order calm. inl (complete order.1 order.2 order.0 (calm.bay refl) (calm.config refl) calm.sink))
+
   -- the lines of one volume were run on an image of its own
   module _ (own : Volume) (is : IsCommand words (Solo own)) (config : after.config ≡ before.config) where
     unused : LeavesUnused words before after
     unused = record { config = λ none. config; trace = λ none. absurd (used refl (none (Solo own) is)); bay = λ none. absurd (used refl (none (Solo own) is)) }
 
     pub solo_fault_promise : (T : Type 0) (e : Fault) (mid : Option (List ℕ)) → TellsStatus e status → TellsFault e status mid after.sink.bytes
-        → HasCause e before.bay.faults after.bay.faults before.trace.faults after.trace.faults
+        → HasCause e before.bay.told after.bay.told before.bay.faults after.bay.faults before.trace.faults after.trace.faults
         → RunsInBay {T = T} (target_of own) before.trace.bytes after.trace.bytes before.bay.told after.bay.told (Err e) before.sink.bytes mid → Run tells state words before after status
     solo_fault_promise T e mid told tells_ cause run = of_command tells state words before after status (Solo own) is
         (told_fault (target_of own) _ _ _ _ _ _ _ _ status _ mid _ T e cause tells_ run)
@@ -156,7 +159,7 @@ module _ {D : Type 0} (tells : Bool) (state : D → State) (words : List (List �
   abbrev after : Outside
   after = record before { sink = sink }
 
-  does_none : (command : Command) → Does tells state words before after status command
+  does_none : (command : Command) → Does tells state before after status command
   does_none (Solo volume) = told_fault (target_of volume) before.trace.bytes before.trace.bytes before.bay.told before.bay.told before.bay.faults before.bay.faults before.trace.faults before.trace.faults status _ _ _ (Unit {0}) solo_fault.NoMemory tt ends
       (not_made (Unit {0}) bay_fault.NoMemory (target_of volume) before.trace.bytes before.trace.bytes before.bay.told before.bay.told before.sink.bytes refl)
   does_none Format = told_untouched _ _ _ _ _ status _ _ fault.Memory tt refl (inr ends)
@@ -168,6 +171,7 @@ module _ {D : Type 0} (tells : Bool) (state : D → State) (words : List (List �
   does_none WhatIf = uncompared _ _ _ _ _ _ _ _ _ fault.Memory tt refl (inr ends)
   does_none (ViewAdd names) = inr (not_begun _ _ _ _ _ status _ _ fault.Memory tt refl (inr ends))
   does_none (ViewRemove names) = inr (not_begun _ _ _ _ _ status _ _ fault.Memory tt refl (inr ends))
+  does_none Clean = inr (not_begun _ _ _ _ _ status _ _ fault.Memory tt refl (inr ends))
 
   pub memory_promise : (status ≡ 7 → Rose before.sink.faults sink.faults) → (before.sink.faults < sink.faults → status ≡ 7) → Run tells state words before after status
   memory_promise seven later = of_unread_words tells state words before after status does_none ends seven later (record { config = λ none. refl; trace = λ none. refl; bay = λ none. refl })

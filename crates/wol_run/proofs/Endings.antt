@@ -6,20 +6,20 @@ use Rattle.wol_bay.specs.Bay.{Told}
 use Rattle.wol_model.specs.Trace.{Target}
 use Rattle.solo.specs.declared.fault.Fault.{Fault}
 use Rattle.solo.specs.declared.fault.Fault.TheVariants as fault
-use Rattle.solo.specs.Images.{RunsInBay}
+use Rattle.solo.specs.Images.{PartCameBackFaulty, RunsInBay}
 use Rattle.solo.specs.Requests.{asked_of}
 use Rattle.solo.specs.Runs.{EndsBy}
 use Rattle.wol_run.specs.Tops.{HasBadLine, HasCause, HasMoreLines, RunsSolo, TellsFault, TellsStatus}
 
 -- what a fault comes of
-pub has_cause : (e : Fault) (bay bay' source source' : ℕ) → (e ≡ fault.Disk → Rose bay bay') → (e ≡ fault.Bay → Rose bay bay') → (e ≡ fault.Source → Rose source source') → HasCause e bay bay' source source'
-has_cause fault.Bay bay bay' source source' disk image trace = image refl
-has_cause fault.Disk bay bay' source source' disk image trace = disk refl
-has_cause fault.Source bay bay' source source' disk image trace = trace refl
-has_cause fault.Sink bay bay' source source' disk image trace = tt
-has_cause fault.NoMemory bay bay' source source' disk image trace = tt
-has_cause fault.Spent bay bay' source source' disk image trace = tt
-has_cause (fault.BadLine line why) bay bay' source source' disk image trace = tt
+pub has_cause : (e : Fault) (told told' : Option Told) (bay bay' source source' : ℕ) → (e ≡ fault.Disk → Rose bay bay' × PartCameBackFaulty told told') → (e ≡ fault.Bay → Rose bay bay') → (e ≡ fault.Source → Rose source source') → HasCause e told told' bay bay' source source'
+has_cause fault.Bay told told' bay bay' source source' disk image trace = image refl
+has_cause fault.Disk told told' bay bay' source source' disk image trace = disk refl
+has_cause fault.Source told told' bay bay' source source' disk image trace = trace refl
+has_cause fault.Sink told told' bay bay' source source' disk image trace = tt
+has_cause fault.NoMemory told told' bay bay' source source' disk image trace = tt
+has_cause fault.Spent told told' bay bay' source source' disk image trace = tt
+has_cause (fault.BadLine line why) told told' bay bay' source source' disk image trace = tt
 
 -- ---- Texts
 
@@ -30,7 +30,7 @@ no_memory_instead line why target trace left array old new values (lines, more, 
     (lines, Err why ∷ more, has, (asked_of target lines, [], (sym (append-nil (asked_of target lines)), cuts), answered))
 
 module _ (target : Target) (trace left : Option (List ℕ)) (told told' : Option Told) (bay bay' source source' status : ℕ) (old mid new : Option (List ℕ)) where
-  pub told_fault : (T : Type 0) (e : Fault) → HasCause e bay bay' source source' → TellsFault e status mid new → RunsInBay {T = T} target trace left told told' (Err e) old mid → RunsSolo target trace left told told' bay bay' source source' status old new
+  pub told_fault : (T : Type 0) (e : Fault) → HasCause e told told' bay bay' source source' → TellsFault e status mid new → RunsInBay {T = T} target trace left told told' (Err e) old mid → RunsSolo target trace left told told' bay bay' source source' status old new
   told_fault T (fault.BadLine line why) cause (inl tells) (array, begins, values, images, ends) = (array, begins, values, inr (fault.BadLine line why, tt, (images, mid, ends, tells)))
   told_fault T (fault.BadLine line why) cause (inr tells) (array, begins, values, images, ends) =
       (array, begins, values, inr (fault.NoMemory, tt, (inr images, mid, no_memory_instead line why target trace left array old mid values ends, tells)))

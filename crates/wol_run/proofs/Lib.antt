@@ -12,6 +12,7 @@ mod ReplayFaults
 mod SeenLines
 mod Compared
 mod Viewed
+mod Cleaned
 mod Taken
 mod Unread
 mod HeadlineTold

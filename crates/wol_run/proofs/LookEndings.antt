@@ -16,6 +16,8 @@ use Rattle.inspection.specs.Runs.{Inspects}
 use Rattle.inspection.specs.declared.asked.Asked.{Asked}
 use Rattle.inspection.specs.declared.calls.Stop.{Stop}
 use Rattle.inspection.specs.declared.calls.Stop.TheVariants.{Sink, Memory}
+use Rattle.volume_images.specs.Left.{IsTold}
+use Rattle.rack.specs.Opens.{KeepsOthers}
 use Rattle.wol_run.specs.Inspecting.{AreTold, IsCutLook, RunsLook, status_of_first}
 use Rattle.wol_run.specs.Settings.{HasConfig, IsUnread, line_of_fault}
 use Rattle.wol_run.specs.Tops.{EndsWith}
@@ -40,7 +42,7 @@ module _ {D : Type 0} (tells : Bool) (state : D → State) (asked : Asked) (left
     ends = ends;
   }
 
-  module _ (config : Config) (has : HasConfig left config) (leaves : LeavesBay tells state config old new) where
+  module _ (config : Config) (has : HasConfig left config) (leaves : LeavesBay tells state config old new) (others : IsTold (KeepsOthers config) old.told new.told) where
     module _ (told : List Telling) (are : AreTold tells state asked config old new told) where
       look_told : (first : Option Trouble) → length told ≡ length config.volumes.items → first ≡ first_trouble told → Appends printed now (text_of told) → status ≡ status_of_first first
           → RunsLook tells state asked left faults faults' old new status printed now
@@ -75,7 +77,7 @@ module _ {D : Type 0} (tells : Bool) (state : D → State) (asked : Asked) (left
       }
 
     are_told : (result : Result (Option Trouble) Stop) (sink sink' : ℕ) (mid : Option (List ℕ)) → (i : Inspects tells state config asked old new result sink sink' printed mid) → AreTold tells state asked config old new i.told
-    are_told result sink sink' mid i = record { out = i.out; count = i.count; missing = i.missing; few = i.few; each = i.each; leaves = leaves }
+    are_told result sink sink' mid i = record { out = i.out; count = i.count; missing = i.missing; there = i.there; few = i.few; each = i.each; leaves = leaves; others = others }
 
     -- all volumes were told
     pub look_whole : (first : Option Trouble) (sink sink' : ℕ) → Inspects tells state config asked old new (Ok first) sink sink' printed now → status ≡ status_of_first first

@@ -1,5 +1,5 @@
 -- What a run promises, by what each of its commands gives.
-use Rattle.std.proofs.Common.{◌≡◌, ◌⊎◌, inl, inr, ℕ, ◌<◌, Bool, true, List, Option, Some, refl, sym, subst, ◌∙◌, true≢false}
+use Rattle.std.proofs.Common.{◌≡◌, ◌⊎◌, inl, inr, ℕ, ◌<◌, Bool, List, Option, Some, refl, sym, subst, ◌∙◌, true≢false}
 use Rattle.std.specs.Prelude.{IfSome, codes}
 use Rattle.wol_disk.specs.Disk.{Rose, State}
 use Rattle.wol_config.specs.declared.config.Config.{Config}
@@ -7,24 +7,22 @@ use Rattle.solo.specs.Volume.{target_of}
 use Rattle.solo.specs.declared.volume.Volume.{Volume}
 use Rattle.inspection.specs.declared.asked.Asked.{Asked}
 use Rattle.inspection.specs.declared.asked.Asked.TheVariants as asked
+use Rattle.replay.specs.declared.session.Options.{Options as Serving}
 use Rattle.command_words.specs.Commands.{IsCommand, NoCommand}
 use Rattle.command_words.specs.declared.command.Command.{Command}
-use Rattle.command_words.specs.declared.command.Command.TheVariants.{Check, Dump, Format, Gen, Replay, Soak, Solo, ViewAdd, ViewRemove, WhatIf}
+use Rattle.command_words.specs.declared.command.Command.TheVariants.{Check, Clean, Dump, Format, Gen, Replay, Soak, Solo, ViewAdd, ViewRemove, WhatIf}
 use Rattle.command_words.specs.declared.command.Generated.{Generated}
-use Rattle.command_words.specs.declared.command.ViewNames.{ViewNames}
 use Rattle.command_words.specs.Table.{Named}
-use Rattle.command_words.specs.Values.{named_by}
 use Rattle.view_commands.specs.declared.order.Verb.{Verb}
 use Rattle.view_commands.specs.declared.order.Verb.TheVariants.{Add, Remove}
 use Rattle.wol_run.specs.Causes.{IsCause, replayed_by}
 use Rattle.wol_run.specs.Causes as row
 use Rattle.wol_run.specs.Formatting.{IsNotBegun}
 use Rattle.wol_run.specs.Outside.{LeavesUnused, NothingFailed, Outside}
-use Rattle.wol_run.specs.Replaying.{lines_of, options_as, trace_of}
-use Rattle.wol_run.specs.Run.{ComesToItsEnd, IsAccountOf, IsComparisonOf, IsFormat, IsHeadlineOf, IsListingOf, IsLookFor, IsReplayOf, IsSoloOf, IsUnconfigured, IsViewChangeOf, ReadsInOrder, Run, looked_at_by}
+use Rattle.wol_run.specs.Replaying.{GivenLines}
+use Rattle.wol_run.specs.Run.{ComesToItsEnd, Does, IsAccountOf, IsCleaningOf, IsComparisonOf, IsFormat, IsHeadlineOf, IsListingOf, IsLookFor, IsReplayOf, IsUnconfigured, IsViewChangeOf, ReadsInOrder, Run}
 use Rattle.wol_run.specs.Settings.{HasConfig, HasNoConfig, IsFaultLine}
 use Rattle.wol_run.specs.Tops.{EndsWith, RunsSolo}
-use Rattle.wol_run.specs.Viewing.{view_change_by}
 use Rattle.wol_run.proofs.AccountTold.{runs_account}
 use Rattle.wol_run.proofs.Asked.{IsAlike, of_asked}
 use Rattle.wol_run.proofs.CausesTold.{at_status}
@@ -52,88 +50,40 @@ module _ (left : Option (List ℕ)) (bytes : List ℕ) (told : left ≡ Some byt
 -- ---- The command that the words ask for
 
 module _ {D : Type 0} (tells : Bool) (state : D → State) (words : List (List ℕ)) (before after : Outside) (status : ℕ) where
-  -- what a command does
-  abbrev pub Does : Command → Type 0
-  Does (Solo volume) = IsSoloOf before after status volume
-  Does Format = IsFormat before after status
-  Does (Replay options) = IsReplayOf tells state before after status (options_as options, trace_of before.trace.bytes)
-  Does Check = IsLookFor tells state before after status asked.Check
-  Does Dump = IsLookFor tells state before after status asked.Dump
-  Does (Gen what) = IsListingOf before after status what
-  Does (Soak what options) = IsReplayOf tells state before after status (options_as options, lines_of what)
-  Does WhatIf = IsComparisonOf before after status
-  Does (ViewAdd names) = IsViewChangeOf tells state before after status (Add, named_by names)
-  Does (ViewRemove names) = IsViewChangeOf tells state before after status (Remove, named_by names)
+  -- what the command does, by its row
+  abbrev Did : Command → Type 0
+  Did command = Does tells state before after status command
 
-  solo_alike : (own volume : Volume) → target_of own ≡ target_of volume → Does (Solo own) → Does (Solo volume)
+  solo_alike : (own volume : Volume) → target_of own ≡ target_of volume → Did (Solo own) → Did (Solo volume)
   solo_alike own volume same does = subst (λ t. RunsSolo t before.trace.bytes after.trace.bytes before.bay.told after.bay.told before.bay.faults after.bay.faults before.trace.faults after.trace.faults status before.sink.bytes after.sink.bytes) same does
 
-  does_alike : IsAlike Does
+  does_alike : IsAlike Did
   does_alike = record {
     solo = solo_alike;
     add = λ own other same does. subst (λ n. IsViewChangeOf tells state before after status (Add, n)) same does;
     remove = λ own other same does. subst (λ n. IsViewChangeOf tells state before after status (Remove, n)) same does;
   }
 
-  headline_of : (command : Command) → Does command → IfSome (replayed_by command before.trace.bytes) (IsHeadlineOf tells state before after status)
-  headline_of (Solo volume) does = tt
-  headline_of Format does = tt
-  headline_of (Replay options) does = runs_headline tells state (options_as options) _ _ _ _ _ _ _ _ _ _ _ does
-  headline_of Check does = tt
-  headline_of Dump does = tt
-  headline_of (Gen what) does = tt
-  headline_of (Soak what options) does = runs_headline tells state (options_as options) _ _ _ _ _ _ _ _ _ _ _ does
-  headline_of WhatIf does = tt
-  headline_of (ViewAdd names) does = tt
-  headline_of (ViewRemove names) does = tt
+  headline_of : (how : Serving × GivenLines) → IsReplayOf tells state before after status how → IsHeadlineOf tells state before after status how
+  headline_of (how, start) run = runs_headline tells state how _ _ _ _ _ _ _ _ _ _ _ run
 
-  account_of : (command : Command) → Does command → IfSome (replayed_by command before.trace.bytes) (IsAccountOf tells state before after status)
-  account_of (Solo volume) does = tt
-  account_of Format does = tt
-  account_of (Replay options) does = runs_account tells state (options_as options) _ _ _ _ _ _ _ _ _ _ _ does
-  account_of Check does = tt
-  account_of Dump does = tt
-  account_of (Gen what) does = tt
-  account_of (Soak what options) does = runs_account tells state (options_as options) _ _ _ _ _ _ _ _ _ _ _ does
-  account_of WhatIf does = tt
-  account_of (ViewAdd names) does = tt
-  account_of (ViewRemove names) does = tt
+  account_of : (how : Serving × GivenLines) → IsReplayOf tells state before after status how → IsAccountOf tells state before after status how
+  account_of (how, start) run = runs_account tells state how _ _ _ _ _ _ _ _ _ _ _ run
 
-  replay_of : (command : Command) → Does command → IfSome (replayed_by command before.trace.bytes) (IsReplayOf tells state before after status)
-  replay_of (Solo volume) does = tt
-  replay_of Format does = tt
-  replay_of (Replay options) does = does
-  replay_of Check does = tt
-  replay_of Dump does = tt
-  replay_of (Gen what) does = tt
-  replay_of (Soak what options) does = does
-  replay_of WhatIf does = tt
-  replay_of (ViewAdd names) does = tt
-  replay_of (ViewRemove names) does = tt
-
-  look_of : (command : Command) → Does command → IfSome (looked_at_by command) (IsLookFor tells state before after status)
-  look_of (Solo volume) does = tt
-  look_of Format does = tt
-  look_of (Replay options) does = tt
-  look_of Check does = does
-  look_of Dump does = does
-  look_of (Gen what) does = tt
-  look_of (Soak what options) does = tt
-  look_of WhatIf does = tt
-  look_of (ViewAdd names) does = tt
-  look_of (ViewRemove names) does = tt
-
-  view_of : (command : Command) → Does command → IfSome (view_change_by command) (IsViewChangeOf tells state before after status)
-  view_of (Solo volume) does = tt
-  view_of Format does = tt
-  view_of (Replay options) does = tt
-  view_of Check does = tt
-  view_of Dump does = tt
-  view_of (Gen what) does = tt
-  view_of (Soak what options) does = tt
-  view_of WhatIf does = tt
-  view_of (ViewAdd names) does = does
-  view_of (ViewRemove names) does = does
+  -- what holds of lines that were replayed holds of those of each command that replays
+  of_replayed : (P : Serving × GivenLines → Type 0) → ((how : Serving × GivenLines) → IsReplayOf tells state before after status how → P how)
+      → (command : Command) → Did command → IfSome (replayed_by command before.trace.bytes) P
+  of_replayed P gives (Solo volume) did = tt
+  of_replayed P gives Format did = tt
+  of_replayed P gives (Replay options) did = gives _ did
+  of_replayed P gives Check did = tt
+  of_replayed P gives Dump did = tt
+  of_replayed P gives (Gen what) did = tt
+  of_replayed P gives (Soak what options) did = gives _ did
+  of_replayed P gives WhatIf did = tt
+  of_replayed P gives (ViewAdd names) did = tt
+  of_replayed P gives (ViewRemove names) did = tt
+  of_replayed P gives Clean did = tt
 
   -- ---- .. where the configuration is none
 
@@ -193,17 +143,22 @@ module _ {D : Type 0} (tells : Bool) (state : D → State) (words : List (List �
   view_unconfigured (verb, named) (inl run) bytes told none = absurd (never_had _ bytes told none run.config run.has)
   view_unconfigured (verb, named) (inr unread) bytes told none = not_begun_unconfigured unread bytes told none
 
-  unconfigured_of : (command : Command) → Does command → IsUnconfigured command before → TellsNoConfig status
-  unconfigured_of (Solo volume) does (uses, bytes, told, none) = absurd (true≢false (sym uses))
-  unconfigured_of Format does (uses, bytes, told, none) = format_unconfigured does bytes told none
-  unconfigured_of (Replay options) does (uses, bytes, told, none) = replay_unconfigured _ does bytes told none
-  unconfigured_of Check does (uses, bytes, told, none) = look_unconfigured asked.Check does bytes told none
-  unconfigured_of Dump does (uses, bytes, told, none) = look_unconfigured asked.Dump does bytes told none
-  unconfigured_of (Gen what) does (uses, bytes, told, none) = gen_unconfigured what does bytes told none
-  unconfigured_of (Soak what options) does (uses, bytes, told, none) = replay_unconfigured _ does bytes told none
-  unconfigured_of WhatIf does (uses, bytes, told, none) = comparison_unconfigured does bytes told none
-  unconfigured_of (ViewAdd names) does (uses, bytes, told, none) = view_unconfigured _ does bytes told none
-  unconfigured_of (ViewRemove names) does (uses, bytes, told, none) = view_unconfigured _ does bytes told none
+  clean_unconfigured : IsCleaningOf tells state before after status → (bytes : List ℕ) → before.config.bytes ≡ Some bytes → HasNoConfig (Some bytes) → TellsNoConfig status
+  clean_unconfigured (inl run) bytes told none = absurd (never_had _ bytes told none run.config run.has)
+  clean_unconfigured (inr unread) bytes told none = not_begun_unconfigured unread bytes told none
+
+  unconfigured_of : (command : Command) → Did command → IsUnconfigured command before → TellsNoConfig status
+  unconfigured_of (Solo volume) did (uses, bytes, told, none) = absurd (true≢false (sym uses))
+  unconfigured_of Format did (uses, bytes, told, none) = format_unconfigured did bytes told none
+  unconfigured_of (Replay options) did (uses, bytes, told, none) = replay_unconfigured _ did bytes told none
+  unconfigured_of Check did (uses, bytes, told, none) = look_unconfigured asked.Check did bytes told none
+  unconfigured_of Dump did (uses, bytes, told, none) = look_unconfigured asked.Dump did bytes told none
+  unconfigured_of (Gen what) did (uses, bytes, told, none) = gen_unconfigured what did bytes told none
+  unconfigured_of (Soak what options) did (uses, bytes, told, none) = replay_unconfigured _ did bytes told none
+  unconfigured_of WhatIf did (uses, bytes, told, none) = comparison_unconfigured did bytes told none
+  unconfigured_of (ViewAdd names) did (uses, bytes, told, none) = view_unconfigured _ did bytes told none
+  unconfigured_of (ViewRemove names) did (uses, bytes, told, none) = view_unconfigured _ did bytes told none
+  unconfigured_of Clean did (uses, bytes, told, none) = clean_unconfigured did bytes told none
 
   -- ---- The whole
 
@@ -217,20 +172,14 @@ module _ {D : Type 0} (tells : Bool) (state : D → State) (words : List (List �
     remove = λ own other same completes order calm. completes order (record { config = calm.config; trace = calm.trace; bay = calm.bay; sink = calm.sink });
   }
 
-  pub promise : ((command : Command) → IsCommand words command → Does command)
+  pub promise : ((command : Command) → IsCommand words command → Did command)
       → (NoCommand words → EndsWith (codes "fault 1 words\n") 1 status before.sink.bytes after.sink.bytes ⊎ EndsWith (codes "fault 9 memory\n") 9 status before.sink.bytes after.sink.bytes)
       → IsCause tells state words before after status → (before.sink.faults < after.sink.faults → status ≡ 7) → LeavesUnused words before after → ((command : Command) → IsCommand words command → Completes command)
       → Run tells state words before after status
   promise does refused cause sink unused complete = record {
-    headline = λ command is. headline_of command (does command is);
-    account = λ command is. account_of command (does command is);
-    replayed = λ command is. replay_of command (does command is);
-    looked = λ command is. look_of command (does command is);
-    formatted = λ is. does Format is;
-    generated = λ what is. does (Gen what) is;
-    compared = λ is. does WhatIf is;
-    viewed = λ command is. view_of command (does command is);
-    solo = λ volume is. does (Solo volume) is;
+    headline = λ command is. of_replayed (IsHeadlineOf tells state before after status) headline_of command (does command is);
+    account = λ command is. of_replayed (IsAccountOf tells state before after status) account_of command (does command is);
+    does = does;
     refused = refused;
     cause = cause;
     sink = sink;
@@ -240,10 +189,10 @@ module _ {D : Type 0} (tells : Bool) (state : D → State) (words : List (List �
   }
 
   -- the words are a command, which was read
-  pub of_command : (read : Command) → IsCommand words read → Does read → IsCause tells state words before after status → (before.sink.faults < after.sink.faults → status ≡ 7) → LeavesUnused words before after
+  pub of_command : (read : Command) → IsCommand words read → Did read → IsCause tells state words before after status → (before.sink.faults < after.sink.faults → status ≡ 7) → LeavesUnused words before after
       → (ReadsInOrder tells read before → NothingFailed read before after → ComesToItsEnd read status) → Run tells state words before after status
   of_command read is does cause sink unused complete = promise
-      (λ command so. of_asked Does does_alike words read command is so does)
+      (λ command so. of_asked Did does_alike words read command is so does)
       (λ none. absurd (none read is)) cause sink unused
       (λ command so. of_asked Completes completes_alike words read command is so complete)
 
@@ -257,7 +206,7 @@ module _ {D : Type 0} (tells : Bool) (state : D → State) (words : List (List �
       ]) sink unused (λ command is. absurd (none command is))
 
   -- there was no memory to read them
-  pub of_unread_words : ((command : Command) → Does command) → EndsWith (codes "fault 9 memory\n") 9 status before.sink.bytes after.sink.bytes → (status ≡ 7 → Rose before.sink.faults after.sink.faults)
+  pub of_unread_words : ((command : Command) → Did command) → EndsWith (codes "fault 9 memory\n") 9 status before.sink.bytes after.sink.bytes → (status ≡ 7 → Rose before.sink.faults after.sink.faults)
       → (before.sink.faults < after.sink.faults → status ≡ 7) → LeavesUnused words before after → Run tells state words before after status
   of_unread_words does ends rose sink unused = promise (λ command is. does command) (λ _. inr ends)
       (elim (wanted_or_sink _ 9 status _ _ ends) [

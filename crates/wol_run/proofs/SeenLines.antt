@@ -6,6 +6,8 @@ use Rattle.wol_model.specs.Trace.{Target, TraceLine}
 use Rattle.wol_config.specs.declared.config.Config.{Config}
 use Rattle.msr_trace.specs.declared.format.TraceFault.{TraceFault}
 use Rattle.trace_gen.specs.Generated.{targets_of}
+use Rattle.volume_images.specs.Left.{IsTold}
+use Rattle.rack.specs.Opens.{KeepsOthers}
 use Rattle.replay.specs.Ended.{EndsFor, whole, no_line, refused, memory, sink_failed}
 use Rattle.replay.specs.Givens.{HasGiven, HasGivenAll, Refuses, faults_of}
 use Rattle.replay.specs.NotOpened.{AsksNone}
@@ -138,9 +140,9 @@ seed_calm faults (Generated g n) (Generated k m) other others (inr most) = omega
 
 -- a replay over a configuration that was had, and its end
 pub is_replay : {D S : Type 0} (tells : Bool) (state : D → State) (left : S → Option (List ℕ)) (config : Config) (options : Options) (start now : Given S) (old new : BayState) (sink sink' : ℕ) (printed then printed' : Option (List ℕ)) (status : ℕ)
-    (result : Result (Unit {0}) Stop) → Replayed tells state left config options start now old new sink sink' printed then result → EndsReplay config result status then printed'
+    (result : Result (Unit {0}) Stop) → IsTold (KeepsOthers config) old.told new.told → Replayed tells state left config options start now old new sink sink' printed then result → EndsReplay config result status then printed'
     → (bytes rest : Option (List ℕ)) → HasConfig bytes config → HasLeft (seen left now) rest → IsReplay tells state options (seen left start) bytes rest old new sink status printed printed'
-is_replay tells state left config options start now old new sink sink' printed then printed' status result replayed ends bytes rest has left_is = record {
+is_replay tells state left config options start now old new sink sink' printed then printed' status result others replayed ends bytes rest has left_is = record {
   config = config;
   has = has;
   now = seen left now;
@@ -148,6 +150,7 @@ is_replay tells state left config options start now old new sink sink' printed t
   result = result;
   sink_then = sink';
   printed_then = then;
+  others = others;
   replayed = replayed_seen tells left config start now old new sink sink' options printed then state result replayed;
   ends = ends;
 }

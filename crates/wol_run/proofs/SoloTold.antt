@@ -30,14 +30,14 @@ module _ {D : Type 0} (tells : Bool) (state : D → State) (words : List (List �
   abbrev Cause : ℕ → Type 0
   Cause k = IsCause tells state words before after k
 
-  pub solo_cause : (e : Fault) → TellsStatus e status → HasCause e before.bay.faults after.bay.faults before.trace.faults after.trace.faults
+  pub solo_cause : (e : Fault) → TellsStatus e status → HasCause e before.bay.told after.bay.told before.bay.faults after.bay.faults before.trace.faults after.trace.faults
       → RunsInBay {T = T} (target_of own) before.trace.bytes after.trace.bytes before.bay.told after.bay.told (Err e) before.sink.bytes mid → Cause status
   solo_cause e (inr (inl seven)) cause runs = at_status tells state words before after 7 status seven (row.sink_failed (sink seven))
   solo_cause e (inr (inr nine)) cause runs = at_status tells state words before after 9 status nine row.no_memory
   solo_cause (fault.BadLine line why) (inl same) cause runs =
       at_status tells state words before after 3 status same (row.bad_line for_trace (comes_of_bad_line T (fault.BadLine line why) status (target_of own) before.trace.bytes after.trace.bytes before.bay.told after.bay.told before.sink.bytes mid (inl same) same runs))
   solo_cause fault.Bay (inl same) cause runs = at_status tells state words before after 4 status same (row.part_failed for_bay cause)
-  solo_cause fault.Disk (inl same) cause runs = at_status tells state words before after 4 status same (row.part_failed for_bay cause)
+  solo_cause fault.Disk (inl same) cause runs = at_status tells state words before after 4 status same (row.part_failed for_bay cause.0)
   solo_cause fault.Sink (inl same) cause runs = at_status tells state words before after 7 status same (row.sink_failed (sink same))
   solo_cause fault.Source (inl same) cause runs = at_status tells state words before after 8 status same (row.source_failed (inr cause))
   solo_cause fault.NoMemory (inl same) cause runs = at_status tells state words before after 9 status same row.no_memory
@@ -47,12 +47,12 @@ module _ {D : Type 0} (tells : Bool) (state : D → State) (words : List (List �
 -- it is done where no call failed and the trace can be run to its end, or there was no memory
 module _ (T : Type 0) (target : Target) (trace left : Option (List ℕ)) (told told' : Option Told) (old mid : Option (List ℕ)) (bay bay' source source' status : ℕ)
     (bay_calm : ¬ Rose bay bay') (source_calm : ¬ Rose source source') (sink_calm : status ≡ 7 → ⊥) (order : IsRunnable trace) where
-  pub solo_complete : (e : Fault) → TellsStatus e status → HasCause e bay bay' source source' → RunsInBay {T = T} target trace left told told' (Err e) old mid → IsDoneOrMemory status
+  pub solo_complete : (e : Fault) → TellsStatus e status → HasCause e told told' bay bay' source source' → RunsInBay {T = T} target trace left told told' (Err e) old mid → IsDoneOrMemory status
   solo_complete e (inr (inl seven)) cause runs = absurd (sink_calm seven)
   solo_complete e (inr (inr nine)) cause runs = inr nine
   solo_complete (fault.BadLine line why) (inl same) cause runs = absurd (order.good (comes_of_bad_line T (fault.BadLine line why) status target trace left told told' old mid (inl same) same runs))
   solo_complete fault.Bay (inl same) cause runs = absurd (bay_calm cause)
-  solo_complete fault.Disk (inl same) cause runs = absurd (bay_calm cause)
+  solo_complete fault.Disk (inl same) cause runs = absurd (bay_calm cause.0)
   solo_complete fault.Sink (inl same) cause runs = absurd (sink_calm same)
   solo_complete fault.Source (inl same) cause runs = absurd (source_calm cause)
   solo_complete fault.NoMemory (inl same) cause runs = inr same

@@ -7,7 +7,7 @@ use Rattle.wol_bay.specs.Bay.{BayState}
 use Rattle.wol_config.specs.declared.config.Config.{Config}
 use Rattle.report.specs.declared.fault.Fault.{Fault}
 use Rattle.report.specs.declared.fault.Fault.TheVariants as fault
-use Rattle.rack.specs.Opens.{KeepsAllSound, LeavesAll}
+use Rattle.rack.specs.Opens.{KeepsAllSound, KeepsOthers, LeavesAll}
 use Rattle.volume_images.specs.Left.{IsTold}
 use Rattle.view_change.specs.declared.answers.Change.{Change}
 use Rattle.view_commands.specs.Printed.{PrintsView}
@@ -57,9 +57,9 @@ module _ {D : Type 0} (tells : Bool) (state : D → State) (config : Config) (or
 -- a change over a configuration that was had, and its end
 pub is_view_change : {D : Type 0} (tells : Bool) (state : D → State) (config : Config) (order : Order) (old new : BayState) (sink sink' : ℕ) (printed then printed' : Option (List ℕ)) (status : ℕ) (result : Result (Unit {0}) Stop)
     → (IsTrue tells → IsTold (LeavesAll tells state config old new) old.told new.told) → (IsTrue tells → IsTold (KeepsAllSound config) old.told new.told)
-    → ChangesView tells state config order old new sink sink' printed then result → EndsChange config order result status then printed' → (bytes : Option (List ℕ)) → HasConfig bytes config
+    → (IsTrue tells → IsTold (KeepsOthers config) old.told new.told) → ChangesView tells state config order old new sink sink' printed then result → EndsChange config order result status then printed' → (bytes : Option (List ℕ)) → HasConfig bytes config
     → (named : _) → IsOrder order.verb named order → IsViewChange tells state order.verb named bytes old new sink status printed printed'
-is_view_change tells state config order old new sink sink' printed then printed' status result left_ sound changes ends bytes has named is = record {
+is_view_change tells state config order old new sink sink' printed then printed' status result left_ sound others changes ends bytes has named is = record {
   config = config;
   has = has;
   order = order;
@@ -69,6 +69,7 @@ is_view_change tells state config order old new sink sink' printed then printed'
   printed_then = then;
   left_ = left_;
   sound = sound;
+  others = others;
   changes = changes;
   ends = ends;
 }

@@ -8,8 +8,9 @@ use Rattle.wol_config.specs.declared.config.Config.{Config}
 use Rattle.wol_config.specs.declared.config.VolumeConf.{VolumeConf}
 use Rattle.volume_images.specs.Left.{AreNamedApart, IsTold}
 use Rattle.volume_images.specs.Volumes.{images_read}
-use Rattle.rack.specs.Opens.{RefusesVolume}
-use Rattle.rack.specs.Owners.{IsBegun}
+use Rattle.rack.specs.Opens.{RefusesVolume, WereThere}
+use Rattle.rack.specs.Owners.{IsBegun, most_of as most_blocks_of}
+use Rattle.rack.specs.Rests.{image_here}
 use Rattle.rack.specs.declared.rack.ImageRest.{ImageRest}
 use Rattle.rack.specs.declared.volume_fault.VolumeFault.{VolumeFault}
 use Rattle.report.specs.Troubles.{trouble_status}
@@ -21,10 +22,11 @@ use Rattle.replay.specs.Completes.{writes_to}
 use Rattle.replay.specs.Givens.{HasGiven}
 use Rattle.replay.specs.NotOpened.{IsOpened}
 use Rattle.replay.specs.declared.session.Options.{Options as Serving}
+use Rattle.cleaning.specs.Runs.{LacksVersions}
 use Rattle.command_words.specs.Commands.{IsCommand, NoCommand}
 use Rattle.command_words.specs.Table.{Named}
 use Rattle.command_words.specs.declared.command.Command.{Command}
-use Rattle.command_words.specs.declared.command.Command.TheVariants.{Replay, Soak}
+use Rattle.command_words.specs.declared.command.Command.TheVariants.{Clean, Replay, Soak}
 use Rattle.view_commands.specs.Views.{IsDamagedIn}
 use Rattle.view_commands.specs.declared.order.Order.{Order}
 use Rattle.view_commands.specs.declared.order.Verb.{Verb}
@@ -43,7 +45,8 @@ pub record AskFor (words : List (List ℕ)) (uses : Command → Bool) : Type 0 w
   pub does : uses command ≡ true
 
 -- The first volume of the configuration that isn't open was refused for a cause of this status.
--- Those before it were opened, of their own images and of those of the loggers of their views.
+-- Those before it were opened, of their own images and of those of the loggers of their views; an
+-- image that is out was there and may be opened, and each other one was refused.
 pub record IsClosedFor {D : Type 0} (tells : Bool) (state : D → State) (before after : Outside)
     (status : ℕ) : Type 0 where
   pub config : Config
@@ -52,6 +55,11 @@ pub record IsClosedFor {D : Type 0} (tells : Bool) (state : D → State) (before
   pub conf : VolumeConf
   pub conf_is : slice_get config.volumes.items volume ≡ Some conf
   pub out : List (Option (ImageRest D))
+  pub missing : (j : ℕ) (v : VolumeConf) → slice_get config.volumes.items j ≡ Some v
+      → image_here out j ≡ None
+      → (f : VolumeFault) × RefusesVolume tells state config out before.bay after.bay j v f
+  pub there : IsTrue tells
+      → IfSome before.bay.told (λ t. AreNamedApart t → WereThere config out t)
   pub fault : VolumeFault
   pub refused : RefusesVolume tells state config out before.bay after.bay volume conf fault
   pub status_is : trouble_status (trouble_of fault) ≡ status
@@ -66,7 +74,8 @@ replayed_by command trace = None
 
 -- A volume had no version left for a write: its writes that went to logs, fewer than are asked of
 -- it, took all versions from the next one at opening on.
-pub record HasNoVersion (tells : Bool) (words : List (List ℕ)) (before after : Outside) : Type 0 where
+pub record HasNoVersion (tells : Bool) (words : List (List ℕ))
+    (before after : Outside) : Type 0 where
   pub config : Config
   pub has : HasConfig before.config.bytes config
   pub command : Command
@@ -85,6 +94,17 @@ pub record HasNoVersion (tells : Bool) (words : List (List ℕ)) (before after :
   pub logged : ℕ
   pub few : logged < writes_to base.owner (requests (most_of config) (targets_of config) lines)
   pub spent : 2 ^ 63 ≤ base.next + logged
+
+-- A volume had no version left for a copy: the next one at opening, and the number of chunks of what
+-- lies in its logs, come to more than 2^63.
+pub record HasNoVersionToCopy (tells : Bool) (before after : Outside) : Type 0 where
+  pub config : Config
+  pub has : HasConfig before.config.bytes config
+  pub base : Base
+  pub begun : IsTrue tells
+      → IsTold (λ entry exit. IsBegun config (images_read config entry) base)
+      before.bay.told after.bay.told
+  pub lacks : LacksVersions (most_blocks_of config) base
 
 -- A view was to be changed, and that is refused: a word names no volume, or the view can't be
 -- changed so.
@@ -141,6 +161,8 @@ module _ {D : Type 0} (tells : Bool) (state : D → State) (words : List (List �
     more_lines : AskFor words uses_trace → HasMoreLines before.trace.bytes → IsCause 10
     -- 11: a volume had no version left for a write
     no_version : AskFor words uses_config → HasNoVersion tells words before after → IsCause 11
+    -- 11 too: a volume had no version left for a copy
+    no_version_to_copy : IsCommand words Clean → HasNoVersionToCopy tells before after → IsCause 11
     -- 12: the bay has no image of a volume's name
     no_image : AskFor words uses_config → IsClosedFor tells state before after 12 → IsCause 12
     -- 15: a word is no volume's name, or the view of the volume can't be changed so

@@ -8,7 +8,8 @@ use Rattle.wol_run.specs.Settings.{HasConfig, IsFaultLine}
 use Rattle.wol_run.specs.Tops.{EndsWith}
 
 -- the configuration was had, and these lines were run by each policy
-pub record IsComparison (start : GivenLines) (left left_of_trace : Option (List ℕ)) (sink status : ℕ) (printed printed' : Option (List ℕ)) : Type 0 where
+pub record IsComparison (start : GivenLines) (left left_of_trace : Option (List ℕ))
+    (sink status : ℕ) (printed printed' : Option (List ℕ)) : Type 0 where
   pub config : Config
   pub has : HasConfig left config
   pub now : GivenLines
@@ -16,11 +17,13 @@ pub record IsComparison (start : GivenLines) (left left_of_trace : Option (List 
   pub result : Result (Unit {0}) Stop
   pub sink_then : ℕ
   pub printed_then : Option (List ℕ)
-  pub compares : Compares (λ bytes. bytes) config start now sink sink_then printed printed_then result
+  pub compares : Compares (λ bytes. bytes) config start now sink sink_then printed printed_then
+      result
   pub ends : EndsReplay config result status printed_then printed'
 
 -- the configuration wasn't had: the text says why, and the trace is as it was
-pub record IsUncompared (start : GivenLines) (left left_of_trace : Option (List ℕ)) (faults faults' : ℕ) (status : ℕ) (printed printed' : Option (List ℕ)) : Type 0 where
+pub record IsUncompared (start : GivenLines) (left left_of_trace : Option (List ℕ))
+    (faults faults' : ℕ) (status : ℕ) (printed printed' : Option (List ℕ)) : Type 0 where
   pub text : List ℕ
   pub wanted : ℕ
   pub line_ : IsFaultLine left faults faults' text wanted
@@ -29,6 +32,9 @@ pub record IsUncompared (start : GivenLines) (left left_of_trace : Option (List 
 
 -- a run of `whatif`, by the bytes of the configuration, its count of faults, the bytes that are left of the trace, the sink's count of
 -- faults at entry, the status, and what the sink took
-abbrev pub RunsWhatIf : (start : GivenLines) → (left : Option (List ℕ)) → (faults faults' : ℕ) → (left_of_trace : Option (List ℕ)) → (sink status : ℕ) → (printed printed' : Option (List ℕ)) → Type 0
+abbrev pub RunsWhatIf : (start : GivenLines) → (left : Option (List ℕ)) → (faults faults' : ℕ)
+    → (left_of_trace : Option (List ℕ)) → (sink status : ℕ) → (printed printed' : Option (List ℕ))
+    → Type 0
 RunsWhatIf start left faults faults' left_of_trace sink status printed printed' =
-    IsComparison start left left_of_trace sink status printed printed' ⊎ IsUncompared start left left_of_trace faults faults' status printed printed'
+    IsComparison start left left_of_trace sink status printed printed'
+    ⊎ IsUncompared start left left_of_trace faults faults' status printed printed'

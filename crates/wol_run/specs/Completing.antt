@@ -8,11 +8,12 @@ use Rattle.wol_promise.specs.Manager.{Base}
 use Rattle.wol_config.specs.declared.config.Config.{Config}
 use Rattle.volume_images.specs.Left.{AreNamedApart}
 use Rattle.volume_images.specs.Volumes.{images_read, shapes_of}
-use Rattle.rack.specs.Owners.{IsBegun}
+use Rattle.rack.specs.Owners.{IsBegun, most_of as most_blocks_of}
 use Rattle.solo.specs.Requests.{HasLines}
 use Rattle.trace_gen.specs.Generated.{line, targets_of}
 use Rattle.trace_windows.specs.Requests.{most_of}
 use Rattle.replay.specs.Completes.{writes_to}
+use Rattle.cleaning.specs.Runs.{LacksVersions}
 use Rattle.command_words.specs.declared.command.Generated.{Generated}
 use Rattle.wol_run.specs.Settings.{HasConfig}
 
@@ -22,15 +23,26 @@ pub record HasSoundImages (tells : Bool) (left : Option (List ℕ)) (bay : BaySt
   pub entry : Told
   pub entry_is : bay.told ≡ Some entry
   pub apart : AreNamedApart entry
-  pub sound : (config : Config) → HasConfig left config → AreSound (shapes_of config) (images_read config entry)
+  pub sound : (config : Config) → HasConfig left config
+      → AreSound (shapes_of config) (images_read config entry)
 
 -- the versions that a volume began with suffice for its writes in these lines
 abbrev pub HasVersions : Config → Base → List (Option TraceLine) → Type 0
-HasVersions config b lines = b.next + writes_to b.owner (requests (most_of config) (targets_of config) lines) ≤ 2 ^ 63
+HasVersions config b lines =
+    b.next + writes_to b.owner (requests (most_of config) (targets_of config) lines) ≤ 2 ^ 63
 
 -- those of each volume do
-abbrev pub HaveVersions : (left : Option (List ℕ)) → (entry : Told) → (lines : Config → List (Option TraceLine)) → Type 0
-HaveVersions left entry lines = (config : Config) → HasConfig left config → (b : Base) → IsBegun config (images_read config entry) b → HasVersions config b (lines config)
+abbrev pub HaveVersions : (left : Option (List ℕ)) → (entry : Told)
+    → (lines : Config → List (Option TraceLine)) → Type 0
+HaveVersions left entry lines =
+    (config : Config) → HasConfig left config → (b : Base)
+    → IsBegun config (images_read config entry) b → HasVersions config b (lines config)
+
+-- those of each volume suffice for a copy of each chunk of what lies in its logs
+abbrev pub HaveVersionsToClean : (left : Option (List ℕ)) → (entry : Told) → Type 0
+HaveVersionsToClean left entry =
+    (config : Config) → HasConfig left config → (b : Base)
+    → IsBegun config (images_read config entry) b → ¬ LacksVersions (most_blocks_of config) b
 
 -- a trace that tells, and has these lines alone, none of which is bad
 pub record IsGoodTrace (trace : Option (List ℕ)) (lines : List (Option TraceLine)) : Type 0 where
@@ -41,4 +53,5 @@ pub record IsGoodTrace (trace : Option (List ℕ)) (lines : List (Option TraceLi
 
 -- the lines of a seed that are asked for
 abbrev pub seed_lines : Generated → Config → List (Option TraceLine)
-seed_lines asked config = map (λ k. Some (line (targets_of config) asked.seed k)) (range_with_len 0 asked.lines)
+seed_lines asked config =
+    map (λ k. Some (line (targets_of config) asked.seed k)) (range_with_len 0 asked.lines)

@@ -24,7 +24,8 @@ use Rattle.wol_run.specs.Tops.{EndsWith}
 
 -- the lines of formatted volumes: one for each, with the number of blocks of its image
 abbrev pub format_lines : Config → List ℕ
-format_lines config = flat_map (λ v. format_text v.name (image_size (shape_in config v))) config.volumes.items
+format_lines config =
+    flat_map (λ v. format_text v.name (image_size (shape_in config v))) config.volumes.items
 
 -- what is told of a part of a volume a call of which failed
 abbrev pub trouble_of : (volume : ℕ) → PartName → Trouble
@@ -41,16 +42,20 @@ fault_of NoMemory = fault.Memory
 -- What a format with this result leaves of a bay. Where all volumes are formatted, whatever images a crash leaves are
 -- sound, and each volume recovers to zeros. At each exit an image is as it was, has no label or is whole. The count of
 -- faults rises exactly where a part failed.
-pub record Formats (config : Config) (result : Result (Unit {0}) RackFault) (old new : BayState) : Type 0 where
+pub record Formats (config : Config) (result : Result (Unit {0}) RackFault)
+    (old new : BayState) : Type 0 where
   pub images : IsTold (LeavesImages config result) old.told new.told
   pub any_exit : IsTold (LosesNone config) old.told new.told
   pub sound : OnOk result (IsTold (LeavesSound config) old.told new.told)
   pub zeros_ : OnOk result (IsTold (LeavesZeros config) old.told new.told)
-  pub cause : (n : ℕ) (part : PartName) → IsErrOf result (Failed n part) → Rose old.faults new.faults
-  pub calm : ((n : ℕ) (part : PartName) → IsErrOf result (Failed n part) → ⊥) → new.faults ≡ old.faults
+  pub cause : (n : ℕ) (part : PartName) → IsErrOf result (Failed n part)
+      → Rose old.faults new.faults
+  pub calm : ((n : ℕ) (part : PartName) → IsErrOf result (Failed n part) → ⊥)
+      → new.faults ≡ old.faults
 
 -- Status 0: the configuration was had, all volumes are formatted, and the text is a line for each.
-pub record IsWhole (left : Option (List ℕ)) (old new : BayState) (text : List ℕ) (status : ℕ) : Type 0 where
+pub record IsWhole (left : Option (List ℕ)) (old new : BayState) (text : List ℕ)
+    (status : ℕ) : Type 0 where
   pub config : Config
   pub has : HasConfig left config
   pub formats : Formats config (Ok tt) old new
@@ -58,18 +63,21 @@ pub record IsWhole (left : Option (List ℕ)) (old new : BayState) (text : List 
   pub done : status ≡ 0
 
 -- Status 4: the configuration was had, a part of a volume failed, and the text is the line that names it.
-pub record IsPartFault (left : Option (List ℕ)) (old new : BayState) (text : List ℕ) (status : ℕ) : Type 0 where
+pub record IsPartFault (left : Option (List ℕ)) (old new : BayState) (text : List ℕ)
+    (status : ℕ) : Type 0 where
   pub config : Config
   pub has : HasConfig left config
   pub volume : ℕ
   pub part : PartName
   pub known : volume < length config.volumes.items
   pub formats : Formats config (Err (Failed volume part)) old new
-  pub line_ : text ≡ fault_text (printed_names config.volumes.items) (fault.Volume volume (trouble_of volume part))
+  pub line_ : text ≡ fault_text (printed_names config.volumes.items)
+      (fault.Volume volume (trouble_of volume part))
   pub failed : status ≡ 4
 
 -- Status 9: the configuration was had, and there was no memory to go on, or to say what the format came to.
-pub record IsOutOfMemory (left : Option (List ℕ)) (old new : BayState) (text : List ℕ) (status : ℕ) : Type 0 where
+pub record IsOutOfMemory (left : Option (List ℕ)) (old new : BayState) (text : List ℕ)
+    (status : ℕ) : Type 0 where
   pub config : Config
   pub has : HasConfig left config
   pub result : Result (Unit {0}) RackFault
@@ -78,21 +86,25 @@ pub record IsOutOfMemory (left : Option (List ℕ)) (old new : BayState) (text :
   pub memory : status ≡ 9
 
 -- Status 2, 8 or 9: the configuration wasn't had, the text says why, and the bay is as it was.
-pub record IsUntouched (left : Option (List ℕ)) (faults faults' : ℕ) (old new : BayState) (text : List ℕ) (status : ℕ) : Type 0 where
+pub record IsUntouched (left : Option (List ℕ)) (faults faults' : ℕ) (old new : BayState)
+    (text : List ℕ) (status : ℕ) : Type 0 where
   pub line_ : IsFaultLine left faults faults' text status
   pub bay : new ≡ old
 
 -- the configuration wasn't had: the text says why, and the bay is as it was
-pub record IsNotBegun (left : Option (List ℕ)) (faults faults' : ℕ) (old new : BayState) (status : ℕ) (printed printed' : Option (List ℕ)) : Type 0 where
+pub record IsNotBegun (left : Option (List ℕ)) (faults faults' : ℕ) (old new : BayState)
+    (status : ℕ) (printed printed' : Option (List ℕ)) : Type 0 where
   pub text : List ℕ
   pub wanted : ℕ
   pub untouched : IsUntouched left faults faults' old new text wanted
   pub ends : EndsWith text wanted status printed printed'
 
 -- a run of `format`: one of these texts was printed whole, or a front of it to a sink that failed
-pub record RunsFormat (left : Option (List ℕ)) (faults faults' : ℕ) (bay bay' : BayState) (status : ℕ) (printed new : Option (List ℕ)) : Type 0 where
+pub record RunsFormat (left : Option (List ℕ)) (faults faults' : ℕ) (bay bay' : BayState)
+    (status : ℕ) (printed new : Option (List ℕ)) : Type 0 where
   pub text : List ℕ
   pub wanted : ℕ
-  pub allowed : IsWhole left bay bay' text wanted ⊎ IsPartFault left bay bay' text wanted ⊎ IsOutOfMemory left bay bay' text wanted
+  pub allowed : IsWhole left bay bay' text wanted ⊎ IsPartFault left bay bay' text wanted
+      ⊎ IsOutOfMemory left bay bay' text wanted
       ⊎ IsUntouched left faults faults' bay bay' text wanted
   pub ends : EndsWith text wanted status printed new

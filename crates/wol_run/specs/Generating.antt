@@ -16,25 +16,32 @@ abbrev pub first_lines : Config → (seed count : ℕ) → List ℕ
 first_lines config seed count = text_of (lines (targets_of config) seed count)
 
 -- what printing lines makes of a sink: it took all of them; or it failed, and took a front of them; or there was no memory, and it took some first ones
-abbrev pub Prints : {T : Type 0} → Result T Stop → Config → (seed count : ℕ) → (faults faults' : ℕ) → (printed new : Option (List ℕ)) → Type 0
-Prints (Ok _) config seed count faults faults' printed new = (faults' ≡ faults) × Appends printed new (first_lines config seed count)
-Prints (Err Sink) config seed count faults faults' printed new = Rose faults faults' × AppendsFront printed new (first_lines config seed count)
+abbrev pub Prints : {T : Type 0} → Result T Stop → Config → (seed count : ℕ) → (faults faults' : ℕ)
+    → (printed new : Option (List ℕ)) → Type 0
+Prints (Ok _) config seed count faults faults' printed new =
+    (faults' ≡ faults) × Appends printed new (first_lines config seed count)
+Prints (Err Sink) config seed count faults faults' printed new =
+    Rose faults faults' × AppendsFront printed new (first_lines config seed count)
 Prints (Err Memory) config seed count faults faults' printed new =
-    (faults' ≡ faults) × ((some : ℕ) × (some ≤ count) × Appends printed new (first_lines config seed some))
+    (faults' ≡ faults) × ((some : ℕ) × (some ≤ count)
+    × Appends printed new (first_lines config seed some))
 
 -- a text was handed on to a sink, or it stays as it was
 abbrev pub HandsOn : (printed new : Option (List ℕ)) → (text left : List ℕ) → Type 0
-HandsOn printed new text left = ((left ≡ text) × Keeps printed new) ⊎ ((left ≡ []) × Appends printed new text)
+HandsOn printed new text left =
+    ((left ≡ text) × Keeps printed new) ⊎ ((left ≡ []) × Appends printed new text)
 
 -- Status 0: the configuration was had, and the text is all lines that were asked for.
-pub record IsListing (asked : Generated) (left : Option (List ℕ)) (text : List ℕ) (status : ℕ) : Type 0 where
+pub record IsListing (asked : Generated) (left : Option (List ℕ)) (text : List ℕ)
+    (status : ℕ) : Type 0 where
   pub config : Config
   pub has : HasConfig left config
   pub lines_ : text ≡ first_lines config asked.seed asked.lines
   pub done : status ≡ 0
 
 -- Status 9: the configuration was had, and behind some first lines there was no memory.
-pub record IsCutShort (asked : Generated) (left : Option (List ℕ)) (text : List ℕ) (status : ℕ) : Type 0 where
+pub record IsCutShort (asked : Generated) (left : Option (List ℕ)) (text : List ℕ)
+    (status : ℕ) : Type 0 where
   pub config : Config
   pub has : HasConfig left config
   pub some : ℕ
@@ -43,8 +50,10 @@ pub record IsCutShort (asked : Generated) (left : Option (List ℕ)) (text : Lis
   pub memory : status ≡ 9
 
 -- a run of `gen`: one of these texts was printed whole, or a front of it to a sink that failed
-pub record RunsGen (asked : Generated) (left : Option (List ℕ)) (faults faults' : ℕ) (status : ℕ) (printed new : Option (List ℕ)) : Type 0 where
+pub record RunsGen (asked : Generated) (left : Option (List ℕ)) (faults faults' : ℕ) (status : ℕ)
+    (printed new : Option (List ℕ)) : Type 0 where
   pub text : List ℕ
   pub wanted : ℕ
-  pub allowed : IsListing asked left text wanted ⊎ IsCutShort asked left text wanted ⊎ IsFaultLine left faults faults' text wanted
+  pub allowed : IsListing asked left text wanted ⊎ IsCutShort asked left text wanted
+      ⊎ IsFaultLine left faults faults' text wanted
   pub ends : EndsWith text wanted status printed new

@@ -1,5 +1,5 @@
 -- What looking at the volumes of the configuration prints, and its exit status.
-use Rattle.std.specs.Prelude.{◌≡◌, ◌≢◌, ℕ, ◌≤◌, ◌⊎◌, Bool, List, [], ◌++◌, length, codes, Option, None, Some, slice_get}
+use Rattle.std.specs.Prelude.{◌≡◌, ◌≢◌, ℕ, ◌≤◌, ◌⊎◌, Bool, List, [], ◌++◌, length, codes, Option, None, Some, slice_get, IfSome, IsTrue}
 use Rattle.wol_disk.specs.Disk.{State}
 use Rattle.wol_bay.specs.Bay.{BayState}
 use Rattle.wol_config.specs.declared.config.Config.{Config}
@@ -9,7 +9,8 @@ use Rattle.inspection.specs.Lines.{Telling, first_trouble, text_of}
 use Rattle.inspection.specs.Runs.{IsToldOf}
 use Rattle.inspection.specs.declared.asked.Asked.{Asked}
 use Rattle.wol_config.specs.declared.config.VolumeConf.{VolumeConf}
-use Rattle.rack.specs.Opens.{RefusesVolume}
+use Rattle.volume_images.specs.Left.{AreNamedApart, IsTold}
+use Rattle.rack.specs.Opens.{KeepsOthers, RefusesVolume, WereThere}
 use Rattle.rack.specs.Rests.{image_here}
 use Rattle.rack.specs.declared.rack.ImageRest.{ImageRest}
 use Rattle.rack.specs.declared.volume_fault.VolumeFault.{VolumeFault}
@@ -23,18 +24,28 @@ abbrev pub status_of_first : Option Trouble → ℕ
 status_of_first None = 0
 status_of_first (Some trouble) = trouble_status trouble
 
--- These volumes, the first ones in order, were told so. Where any was told, an image that isn't out was refused. Each image that is left
--- recovers to what an image at entry did, and sound images stay sound.
-pub record AreTold {D : Type 0} (tells : Bool) (state : D → State) (asked : Asked) (config : Config) (old new : BayState) (told : List Telling) : Type 0 where
+-- These volumes, the first ones in order, were told so. Where any was told, an image that is out was
+-- there and may be opened, and one that isn't was refused. Each image that is left recovers to what
+-- an image at entry did, and sound images stay sound.
+pub record AreTold {D : Type 0} (tells : Bool) (state : D → State) (asked : Asked) (config : Config)
+    (old new : BayState) (told : List Telling) : Type 0 where
   pub out : List (Option (ImageRest D))
   pub count : told ≢ [] → length out ≡ length config.volumes.items
-  pub missing : told ≢ [] → (k : ℕ) (v : VolumeConf) → slice_get config.volumes.items k ≡ Some v → image_here out k ≡ None → (f : VolumeFault) × RefusesVolume tells state config out old new k v f
+  pub missing : told ≢ [] → (k : ℕ) (v : VolumeConf) → slice_get config.volumes.items k ≡ Some v
+      → image_here out k ≡ None → (f : VolumeFault)
+      × RefusesVolume tells state config out old new k v f
+  pub there : told ≢ [] → IsTrue tells
+      → IfSome old.told (λ t. AreNamedApart t → WereThere config out t)
   pub few : length told ≤ length config.volumes.items
-  pub each : (k : ℕ) (t : Telling) → slice_get told k ≡ Some t → IsToldOf tells state config asked out old new k t
+  pub each : (k : ℕ) (t : Telling) → slice_get told k ≡ Some t
+      → IsToldOf tells state config asked out old new k t
   pub leaves : LeavesBay tells state config old new
+  -- images of names that aren't configured are as they were
+  pub others : IsTold (KeepsOthers config) old.told new.told
 
 -- Status 0, 4, 5, 6 or 12: the configuration was had, and the text is the lines of all volumes.
-pub record IsLook {D : Type 0} (tells : Bool) (state : D → State) (asked : Asked) (left : Option (List ℕ)) (old new : BayState) (text : List ℕ) (status : ℕ) : Type 0 where
+pub record IsLook {D : Type 0} (tells : Bool) (state : D → State) (asked : Asked)
+    (left : Option (List ℕ)) (old new : BayState) (text : List ℕ) (status : ℕ) : Type 0 where
   pub config : Config
   pub has : HasConfig left config
   pub told : List Telling
@@ -44,7 +55,8 @@ pub record IsLook {D : Type 0} (tells : Bool) (state : D → State) (asked : Ask
   pub done : status ≡ status_of_first (first_trouble told)
 
 -- Status 9: the configuration was had, and behind the lines of some first volumes there was no memory.
-pub record IsCutLook {D : Type 0} (tells : Bool) (state : D → State) (asked : Asked) (left : Option (List ℕ)) (old new : BayState) (text : List ℕ) (status : ℕ) : Type 0 where
+pub record IsCutLook {D : Type 0} (tells : Bool) (state : D → State) (asked : Asked)
+    (left : Option (List ℕ)) (old new : BayState) (text : List ℕ) (status : ℕ) : Type 0 where
   pub config : Config
   pub has : HasConfig left config
   pub told : List Telling
@@ -53,9 +65,12 @@ pub record IsCutLook {D : Type 0} (tells : Bool) (state : D → State) (asked : 
   pub memory : status ≡ 9
 
 -- a run of `check` or `dump`: one of these texts was printed whole, or a front of it to a sink that failed
-pub record RunsLook {D : Type 0} (tells : Bool) (state : D → State) (asked : Asked) (left : Option (List ℕ)) (faults faults' : ℕ) (bay bay' : BayState) (status : ℕ) (printed new : Option (List ℕ)) : Type 0 where
+pub record RunsLook {D : Type 0} (tells : Bool) (state : D → State) (asked : Asked)
+    (left : Option (List ℕ)) (faults faults' : ℕ) (bay bay' : BayState) (status : ℕ)
+    (printed new : Option (List ℕ)) : Type 0 where
   pub text : List ℕ
   pub wanted : ℕ
-  pub allowed : IsLook tells state asked left bay bay' text wanted ⊎ IsCutLook tells state asked left bay bay' text wanted
+  pub allowed : IsLook tells state asked left bay bay' text wanted
+      ⊎ IsCutLook tells state asked left bay bay' text wanted
       ⊎ IsUntouched left faults faults' bay bay' text wanted
   pub ends : EndsWith text wanted status printed new

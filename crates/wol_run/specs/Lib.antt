@@ -7,6 +7,7 @@ pub mod Formatting
 pub mod Inspecting
 pub mod Replaying
 pub mod Comparing
+pub mod Cleaning
 pub mod Viewing
 pub mod Completing
 pub mod Headlined

@@ -5,6 +5,8 @@ use Rattle.wol_bay.specs.Bay.{BayState}
 use Rattle.wol_config.specs.declared.config.Config.{Config}
 use Rattle.report.specs.Faults.{fault_text, status_of}
 use Rattle.report.specs.Names.{printed_names}
+use Rattle.volume_images.specs.Left.{IsTold}
+use Rattle.rack.specs.Opens.{KeepsOthers}
 use Rattle.replay.specs.Replays.{Replayed}
 use Rattle.replay.specs.declared.given.Given.{Given}
 use Rattle.replay.specs.declared.given.Given.TheVariants as given
@@ -36,7 +38,8 @@ lines_of asked = given.Generated (record { seed = asked.seed; given = 0 }) asked
 
 -- lines of any source are seen so
 abbrev pub seen : {S : Type 0} → (S → Option (List ℕ)) → Given S → GivenLines
-seen left (given.Trace r) = given.Trace (record { source = left r.source; held = r.held; given = r.given; live = r.live })
+seen left (given.Trace r) =
+    given.Trace (record { source = left r.source; held = r.held; given = r.given; live = r.live })
 seen left (given.Generated g count) = given.Generated g count
 
 -- they come of a source
@@ -57,18 +60,27 @@ reclaim_of mode.Beside = reclaim.Beside
 
 -- the options of a replay, as they are asked for
 abbrev pub options_as : Options → Serving
-options_as options = record { workers = options.workers; sharing = WherePays; reclaim = reclaim_of options.reclaim; each = options.each }
+options_as options = record {
+  workers = options.workers;
+  sharing = WherePays;
+  reclaim = reclaim_of options.reclaim;
+  each = options.each;
+}
 
 -- Behind what a replay printed nothing more is written at its end and where the sink failed; else the line of its fault, or, where there
 -- was no memory for that, the line of want of memory.
-abbrev pub EndsReplay : {T : Type 0} → Config → Result T Stop → (status : ℕ) → (printed new : Option (List ℕ)) → Type 0
+abbrev pub EndsReplay : {T : Type 0} → Config → Result T Stop → (status : ℕ)
+    → (printed new : Option (List ℕ)) → Type 0
 EndsReplay config (Ok done) status printed new = (status ≡ 0) × (new ≡ printed)
 EndsReplay config (Err stop.Sink) status printed new = (status ≡ 7) × (new ≡ printed)
 EndsReplay config (Err (stop.Fault f)) status printed new =
-    EndsWith (fault_text (printed_names config.volumes.items) f) (status_of f) status printed new ⊎ EndsWith (codes "fault 9 memory\n") 9 status printed new
+    EndsWith (fault_text (printed_names config.volumes.items) f) (status_of f) status printed new
+    ⊎ EndsWith (codes "fault 9 memory\n") 9 status printed new
 
 -- the configuration was had, and these lines were replayed on its volumes
-pub record IsReplay {D : Type 0} (tells : Bool) (state : D → State) (options : Serving) (start : GivenLines) (left left_of_trace : Option (List ℕ)) (old new : BayState) (sink status : ℕ) (printed printed' : Option (List ℕ)) : Type 0 where
+pub record IsReplay {D : Type 0} (tells : Bool) (state : D → State) (options : Serving)
+    (start : GivenLines) (left left_of_trace : Option (List ℕ)) (old new : BayState)
+    (sink status : ℕ) (printed printed' : Option (List ℕ)) : Type 0 where
   pub config : Config
   pub has : HasConfig left config
   pub now : GivenLines
@@ -76,11 +88,16 @@ pub record IsReplay {D : Type 0} (tells : Bool) (state : D → State) (options :
   pub result : Result (Unit {0}) Stop
   pub sink_then : ℕ
   pub printed_then : Option (List ℕ)
-  pub replayed : Replayed tells state (λ bytes. bytes) config options start now old new sink sink_then printed printed_then result
+  -- images of names that aren't configured are as they were
+  pub others : IsTold (KeepsOthers config) old.told new.told
+  pub replayed : Replayed tells state (λ bytes. bytes) config options start now old new sink
+      sink_then printed printed_then result
   pub ends : EndsReplay config result status printed_then printed'
 
 -- the configuration wasn't had: the text says why, and the bay and the trace are as they were
-pub record IsUnreplayed (start : GivenLines) (left left_of_trace : Option (List ℕ)) (faults faults' : ℕ) (old new : BayState) (status : ℕ) (printed printed' : Option (List ℕ)) : Type 0 where
+pub record IsUnreplayed (start : GivenLines) (left left_of_trace : Option (List ℕ))
+    (faults faults' : ℕ) (old new : BayState) (status : ℕ)
+    (printed printed' : Option (List ℕ)) : Type 0 where
   pub text : List ℕ
   pub wanted : ℕ
   pub untouched : IsUntouched left faults faults' old new text wanted
@@ -89,7 +106,11 @@ pub record IsUnreplayed (start : GivenLines) (left left_of_trace : Option (List 
 
 -- a run of `replay` or `soak`, by the bytes of the configuration, its count of faults, the bytes that are left of the trace, the bay,
 -- the sink's count of faults at entry, the status, and what the sink took
-abbrev pub RunsReplay : {D : Type 0} → (tells : Bool) → (D → State) → (options : Serving) → (start : GivenLines) → (left : Option (List ℕ)) → (faults faults' : ℕ) → (left_of_trace : Option (List ℕ)) → (old new : BayState) → (sink status : ℕ)
+abbrev pub RunsReplay : {D : Type 0} → (tells : Bool) → (D → State) → (options : Serving)
+    → (start : GivenLines) → (left : Option (List ℕ)) → (faults faults' : ℕ)
+    → (left_of_trace : Option (List ℕ)) → (old new : BayState) → (sink status : ℕ)
     → (printed printed' : Option (List ℕ)) → Type 0
-RunsReplay tells state options start left faults faults' left_of_trace old new sink status printed printed' =
-    IsReplay tells state options start left left_of_trace old new sink status printed printed' ⊎ IsUnreplayed start left left_of_trace faults faults' old new status printed printed'
+RunsReplay tells state options start left faults faults' left_of_trace old new sink status printed
+    printed' =
+    IsReplay tells state options start left left_of_trace old new sink status printed printed'
+    ⊎ IsUnreplayed start left left_of_trace faults faults' old new status printed printed'

@@ -1,6 +1,6 @@
 -- What a run of the program promises, by the words, by what was outside before and after it, and by
 -- its status.
-use Rattle.std.specs.Prelude.{◌≡◌, ◌<◌, ◌⊎◌, ℕ, Bool, true, List, Option, None, Some, IfSome, codes}
+use Rattle.std.specs.Prelude.{◌≡◌, ◌<◌, ◌⊎◌, ℕ, Bool, true, List, Some, IfSome, codes}
 use Rattle.wol_disk.specs.Disk.{State}
 use Rattle.solo.specs.Volume.{target_of}
 use Rattle.solo.specs.declared.volume.Volume.{Volume}
@@ -9,30 +9,27 @@ use Rattle.inspection.specs.declared.asked.Asked.TheVariants as asked
 use Rattle.replay.specs.declared.session.Options.{Options as Serving}
 use Rattle.command_words.specs.Commands.{IsCommand, NoCommand}
 use Rattle.command_words.specs.declared.command.Command.{Command}
-use Rattle.command_words.specs.declared.command.Command.TheVariants.{Check, Dump, Format, Gen, Replay, Soak, Solo, ViewAdd, ViewRemove, WhatIf}
+use Rattle.command_words.specs.declared.command.Command.TheVariants.{Check, Clean, Dump, Format, Gen, Replay, Soak, Solo, ViewAdd, ViewRemove, WhatIf}
 use Rattle.command_words.specs.declared.command.Generated.{Generated}
 use Rattle.command_words.specs.Table.{Named}
+use Rattle.command_words.specs.Values.{named_by}
 use Rattle.view_commands.specs.declared.order.Verb.{Verb}
+use Rattle.view_commands.specs.declared.order.Verb.TheVariants.{Add, Remove}
 use Rattle.wol_run.specs.Accounted.{RunsAccount}
 use Rattle.wol_run.specs.Causes.{IsCause, replayed_by}
+use Rattle.wol_run.specs.Cleaning.{RunsCleaning}
 use Rattle.wol_run.specs.Commands.{changes_view, uses_config}
 use Rattle.wol_run.specs.Comparing.{RunsWhatIf}
-use Rattle.wol_run.specs.Completing.{HasSoundImages, HaveVersions, IsGoodTrace, seed_lines}
+use Rattle.wol_run.specs.Completing.{HasSoundImages, HaveVersions, HaveVersionsToClean, IsGoodTrace, seed_lines}
 use Rattle.wol_run.specs.Formatting.{RunsFormat}
 use Rattle.wol_run.specs.Generating.{RunsGen}
 use Rattle.wol_run.specs.Headlined.{RunsHeadline}
 use Rattle.wol_run.specs.Inspecting.{RunsLook}
 use Rattle.wol_run.specs.Outside.{LeavesUnused, NothingFailed, Outside}
-use Rattle.wol_run.specs.Replaying.{GivenLines, RunsReplay, trace_of}
+use Rattle.wol_run.specs.Replaying.{GivenLines, RunsReplay, lines_of, options_as, trace_of}
 use Rattle.wol_run.specs.Settings.{HasNoConfig, IsConfigured}
 use Rattle.wol_run.specs.Tops.{EndsWith, IsDoneOrMemory, IsRunnable, RunsSolo}
-use Rattle.wol_run.specs.Viewing.{RunsViewChange, view_change_by}
-
--- what a command looks at the volumes for; none of another command
-abbrev pub looked_at_by : Command → Option Asked
-looked_at_by Check = Some asked.Check
-looked_at_by Dump = Some asked.Dump
-looked_at_by command = None
+use Rattle.wol_run.specs.Viewing.{RunsViewChange}
 
 -- ---- What each command does, of what is outside
 
@@ -71,6 +68,12 @@ module _ {D : Type 0} (tells : Bool) (state : D → State) (before after : Outsi
       before.config.faults after.config.faults
       before.bay after.bay before.sink.faults status before.sink.bytes after.sink.bytes
 
+  -- the volumes were cleaned
+  abbrev pub IsCleaningOf : Type 0
+  IsCleaningOf =
+      RunsCleaning tells state before.config.bytes before.config.faults after.config.faults
+      before.bay after.bay before.sink.faults status before.sink.bytes after.sink.bytes
+
 -- the images were made anew
 abbrev pub IsFormat : (before after : Outside) → (status : ℕ) → Type 0
 IsFormat before after status =
@@ -96,6 +99,34 @@ IsComparisonOf before after status =
     RunsWhatIf (trace_of before.trace.bytes) before.config.bytes
     before.config.faults after.config.faults after.trace.bytes
     before.sink.faults status before.sink.bytes after.sink.bytes
+
+module _ {D : Type 0} (tells : Bool) (state : D → State) (before after : Outside) (status : ℕ) where
+  -- what a command does: a row for each
+  abbrev pub Does : Command → Type 0
+  -- solo: the lines of one volume were run on an image of its own
+  Does (Solo volume) = IsSoloOf before after status volume
+  -- format: each image is as it was, has no label or is whole; at status 0 all recover to zeros
+  Does Format = IsFormat before after status
+  -- replay, soak: how many requests were answered, what was printed, what the images recover to,
+  -- and what the policy and the disks did
+  Does (Replay options) =
+      IsReplayOf tells state before after status (options_as options, trace_of before.trace.bytes)
+  Does (Soak what options) =
+      IsReplayOf tells state before after status (options_as options, lines_of what)
+  -- check, dump: a line or more for each volume, by what its image and the others say as they read,
+  -- or by its first fault
+  Does Check = IsLookFor tells state before after status asked.Check
+  Does Dump = IsLookFor tells state before after status asked.Dump
+  -- gen: the first lines of the seed
+  Does (Gen what) = IsListingOf before after status what
+  -- whatif: what each policy would use for the trace, or why no further line came
+  Does WhatIf = IsComparisonOf before after status
+  -- view-add, view-remove: the new view, what the images recover to, or why nothing changed
+  Does (ViewAdd names) = IsViewChangeOf tells state before after status (Add, named_by names)
+  Does (ViewRemove names) = IsViewChangeOf tells state before after status (Remove, named_by names)
+  -- clean: a line for each volume, with what its cleaning came to, or why it was the last; each
+  -- image recovers to what it recovered to before
+  Does Clean = IsCleaningOf tells state before after status
 
 -- ---- What a run needs
 
@@ -129,6 +160,10 @@ ReadsInOrder tells (ViewAdd names) before =
     IsConfigured before.config.bytes × HasSoundImages tells before.config.bytes before.bay
 ReadsInOrder tells (ViewRemove names) before =
     IsConfigured before.config.bytes × HasSoundImages tells before.config.bytes before.bay
+ReadsInOrder tells Clean before =
+    IsConfigured before.config.bytes
+    × (images : HasSoundImages tells before.config.bytes before.bay)
+    × HaveVersionsToClean before.config.bytes images.entry
 
 -- the command is done, or there was no memory; or a view can't be changed as the words ask
 abbrev pub ComesToItsEnd : Command → (status : ℕ) → Type 0
@@ -149,27 +184,9 @@ pub record Run {D : Type 0} (tells : Bool) (state : D → State) (words : List (
   pub account : (command : Command) → IsCommand words command
       → IfSome (replayed_by command before.trace.bytes)
       (IsAccountOf tells state before after status)
-  -- replay, soak: how many requests were answered, what was printed, what the images recover to,
-  -- and what the policy and the disks did
-  pub replayed : (command : Command) → IsCommand words command
-      → IfSome (replayed_by command before.trace.bytes)
-      (IsReplayOf tells state before after status)
-  -- check, dump: a line or more for each volume, by what its image and the others say as they read,
-  -- or by its first fault
-  pub looked : (command : Command) → IsCommand words command
-      → IfSome (looked_at_by command) (IsLookFor tells state before after status)
-  -- format: each image is as it was, has no label or is whole; at status 0 all recover to zeros
-  pub formatted : IsCommand words Format → IsFormat before after status
-  -- gen: the first lines of the seed
-  pub generated : (what : Generated) → IsCommand words (Gen what)
-      → IsListingOf before after status what
-  -- whatif: what each policy would use for the trace, or why no further line came
-  pub compared : IsCommand words WhatIf → IsComparisonOf before after status
-  -- view-add, view-remove: the new view, what the images recover to, or why nothing changed
-  pub viewed : (command : Command) → IsCommand words command
-      → IfSome (view_change_by command) (IsViewChangeOf tells state before after status)
-  -- solo: the lines of one volume, on an image of its own
-  pub solo : (volume : Volume) → IsCommand words (Solo volume) → IsSoloOf before after status volume
+  -- the command does what its row says
+  pub does : (command : Command) → IsCommand words command
+      → Does tells state before after status command
   -- the words are no command: that is told
   pub refused : NoCommand words
       → EndsWith (codes "fault 1 words\n") 1 status before.sink.bytes after.sink.bytes

@@ -14,12 +14,15 @@ use Rattle.report.specs.Names.{printed_names}
 -- bytes that were taken of a source that tells are all that was left; or they are its first ones, and too many
 abbrev pub IsTaken : (left : Option (List ℕ)) → (bytes : List ℕ) → Type 0
 IsTaken None bytes = ⊤
-IsTaken (Some all) bytes = ((all ≡ bytes) × (length bytes ≤ byte_limit)) ⊎ ((rest : List ℕ) × (all ≡ bytes ++ rest) × (byte_limit < length bytes))
+IsTaken (Some all) bytes =
+    ((all ≡ bytes) × (length bytes ≤ byte_limit))
+    ⊎ ((rest : List ℕ) × (all ≡ bytes ++ rest) × (byte_limit < length bytes))
 
 -- what is left of a source, where it tells, is a document of this configuration
 abbrev pub HasConfig : (left : Option (List ℕ)) → Config → Type 0
 HasConfig None config = ⊤
-HasConfig (Some bytes) config = (document : Members) × IsDocument bytes document × IsConfigOf document config
+HasConfig (Some bytes) config =
+    (document : Members) × IsDocument bytes document × IsConfigOf document config
 
 -- a source that tells, and has a configuration
 pub record IsConfigured (left : Option (List ℕ)) : Type 0 where
@@ -51,7 +54,8 @@ abbrev pub line_of_fault : Fault → List ℕ
 line_of_fault e = fault_text (printed_names []) e
 
 -- Status 2, 8 or 9: the configuration wasn't had, and the text is the line that says why.
-pub record IsFaultLine (left : Option (List ℕ)) (faults faults' : ℕ) (text : List ℕ) (status : ℕ) : Type 0 where
+pub record IsFaultLine (left : Option (List ℕ)) (faults faults' : ℕ) (text : List ℕ)
+    (status : ℕ) : Type 0 where
   pub fault : Fault
   pub cause : IsUnread fault left faults faults'
   pub line_ : text ≡ line_of_fault fault

@@ -9,61 +9,81 @@ use Rattle.msr_trace.specs.declared.format.BadLine.{BadLine}
 use Rattle.solo.specs.Requests.{HasLines, LineRead}
 use Rattle.solo.specs.declared.fault.Fault.{Fault}
 use Rattle.solo.specs.declared.fault.Fault.TheVariants as fault
-use Rattle.solo.specs.Images.{BeginsBlank, LeavesBy, Stores}
+use Rattle.solo.specs.Images.{BeginsBlank, LeavesBy, PartCameBackFaulty, Stores}
 use Rattle.solo.specs.Runs.{EndsBy, Prints}
 use Rattle.wol_run.specs.Statuses.{bad_line_text, fault_text, status_of}
 
 -- a text was written at the end, or a front of it to a sink that failed
-abbrev pub EndsWith : (text : List ℕ) → (wanted status : ℕ) → (printed new : Option (List ℕ)) → Type 0
-EndsWith text wanted status printed new = ((status ≡ wanted) × Appends printed new text) ⊎ ((status ≡ 7) × AppendsFront printed new text)
+abbrev pub EndsWith : (text : List ℕ) → (wanted status : ℕ) → (printed new : Option (List ℕ))
+    → Type 0
+EndsWith text wanted status printed new =
+    ((status ≡ wanted) × Appends printed new text) ⊎ ((status ≡ 7) × AppendsFront printed new text)
 
 -- the line of a fault was written; where there was no memory for that of a bad line, that of want of memory
 abbrev pub TellsFault : Fault → (status : ℕ) → (printed new : Option (List ℕ)) → Type 0
 TellsFault (fault.BadLine line why) status printed new =
-    EndsWith (bad_line_text line why) 3 status printed new ⊎ EndsWith (fault_text fault.NoMemory) 9 status printed new
+    EndsWith (bad_line_text line why) 3 status printed new
+    ⊎ EndsWith (fault_text fault.NoMemory) 9 status printed new
 TellsFault fault.Bay status printed new = EndsWith (fault_text fault.Bay) 4 status printed new
 TellsFault fault.Disk status printed new = EndsWith (fault_text fault.Disk) 4 status printed new
 TellsFault fault.Sink status printed new = EndsWith (fault_text fault.Sink) 7 status printed new
 TellsFault fault.Source status printed new = EndsWith (fault_text fault.Source) 8 status printed new
-TellsFault fault.NoMemory status printed new = EndsWith (fault_text fault.NoMemory) 9 status printed new
+TellsFault fault.NoMemory status printed new =
+    EndsWith (fault_text fault.NoMemory) 9 status printed new
 TellsFault fault.Spent status printed new = EndsWith (fault_text fault.Spent) 10 status printed new
 
 -- the status that is told of a fault
 abbrev pub TellsStatus : Fault → (status : ℕ) → Type 0
 TellsStatus e status = (status ≡ status_of e) ⊎ (status ≡ 7) ⊎ (status ≡ 9)
 
--- what a fault comes of: a count that rose
-abbrev pub HasCause : Fault → (bay bay' source source' : ℕ) → Type 0
-HasCause fault.Bay bay bay' source source' = Rose bay bay'
-HasCause fault.Disk bay bay' source source' = Rose bay bay'
-HasCause fault.Source bay bay' source source' = Rose source source'
-HasCause fault.Sink bay bay' source source' = ⊤
-HasCause fault.NoMemory bay bay' source source' = ⊤
-HasCause fault.Spent bay bay' source source' = ⊤
-HasCause (fault.BadLine line why) bay bay' source source' = ⊤
+-- what a fault comes of: a count that rose, and of a failed call of the image's one part also that
+-- the bay lists it
+abbrev pub HasCause : Fault → (told told' : Option Told) → (bay bay' source source' : ℕ) → Type 0
+HasCause fault.Bay told told' bay bay' source source' = Rose bay bay'
+HasCause fault.Disk told told' bay bay' source source' =
+    Rose bay bay' × PartCameBackFaulty told told'
+HasCause fault.Source told told' bay bay' source source' = Rose source source'
+HasCause fault.Sink told told' bay bay' source source' = ⊤
+HasCause fault.NoMemory told told' bay bay' source source' = ⊤
+HasCause fault.Spent told told' bay bay' source source' = ⊤
+HasCause (fault.BadLine line why) told told' bay bay' source source' = ⊤
 
 -- a run that was done: the whole text was printed, and the image is there
-abbrev pub IsDone : Target → (trace : Option (List ℕ)) → (array : Option (List Block)) → (told told' : Option Told) → (values : Option (List (Values Block))) → (status : ℕ) → (old new : Option (List ℕ)) → Type 0
-IsDone target trace array told told' values status old new = (status ≡ 0) × Stores told told' values × Prints target trace array old new values
+abbrev pub IsDone : Target → (trace : Option (List ℕ)) → (array : Option (List Block))
+    → (told told' : Option Told) → (values : Option (List (Values Block))) → (status : ℕ)
+    → (old new : Option (List ℕ)) → Type 0
+IsDone target trace array told told' values status old new =
+    (status ≡ 0) × Stores told told' values × Prints target trace array old new values
 
 -- a run that a fault ended: what was printed before it, and then its line
-abbrev pub IsFaulty : Fault → Target → (trace left : Option (List ℕ)) → (array : Option (List Block)) → (told told' : Option Told) → (values : Option (List (Values Block))) → (status : ℕ) → (old new : Option (List ℕ)) → Type 0
+abbrev pub IsFaulty : Fault → Target → (trace left : Option (List ℕ))
+    → (array : Option (List Block)) → (told told' : Option Told)
+    → (values : Option (List (Values Block))) → (status : ℕ) → (old new : Option (List ℕ)) → Type 0
 IsFaulty e target trace left array told told' values status old new =
-    LeavesBy e told told' values × (printed : Option (List ℕ)) × EndsBy e target trace left array old printed values × EndsWith (fault_text e) (status_of e) status printed new
+    LeavesBy e told told' values × (printed : Option (List ℕ))
+    × EndsBy e target trace left array old printed values
+    × EndsWith (fault_text e) (status_of e) status printed new
 
 -- a run of `solo`
-abbrev pub RunsSolo : Target → (trace left : Option (List ℕ)) → (told told' : Option Told) → (bay bay' source source' : ℕ) → (status : ℕ) → (old new : Option (List ℕ)) → Type 0
+abbrev pub RunsSolo : Target → (trace left : Option (List ℕ)) → (told told' : Option Told)
+    → (bay bay' source source' : ℕ) → (status : ℕ) → (old new : Option (List ℕ)) → Type 0
 RunsSolo target trace left told told' bay bay' source source' status old new =
-    (array : Option (List Block)) × BeginsBlank target told array × (values : Option (List (Values Block)))
+    (array : Option (List Block)) × BeginsBlank target told array
+    × (values : Option (List (Values Block)))
     × (IsDone target trace array told told' values status old new
-    ⊎ ((e : Fault) × HasCause e bay bay' source source' × IsFaulty e target trace left array told told' values status old new))
+    ⊎ ((e : Fault) × HasCause e told told' bay bay' source source'
+    × IsFaulty e target trace left array told told' values status old new))
 
 -- a trace with a bad line, and one with more lines than are run
 abbrev pub HasBadLine : (trace : Option (List ℕ)) → Type 0
-HasBadLine trace = (lines : List (Option TraceLine)) × (why : BadLine) × (more : List LineRead) × HasLines trace lines (Err why ∷ more)
+HasBadLine trace =
+    (lines : List (Option TraceLine)) × (why : BadLine) × (more : List LineRead)
+    × HasLines trace lines (Err why ∷ more)
 
 abbrev pub HasMoreLines : (trace : Option (List ℕ)) → Type 0
-HasMoreLines trace = (lines : List (Option TraceLine)) × (next : LineRead) × (more : List LineRead) × HasLines trace lines (next ∷ more) × (length lines ≡ 2 ^ 32)
+HasMoreLines trace =
+    (lines : List (Option TraceLine)) × (next : LineRead) × (more : List LineRead)
+    × HasLines trace lines (next ∷ more) × (length lines ≡ 2 ^ 32)
 
 -- a trace that can be run to its end: it has no bad line, and no more lines than are run
 pub record IsRunnable (trace : Option (List ℕ)) : Type 0 where

@@ -7,7 +7,7 @@ use Rattle.report.specs.Faults.{fault_text, status_of}
 use Rattle.report.specs.Names.{printed_names}
 use Rattle.volume_images.specs.Left.{IsTold}
 use Rattle.volume_images.specs.Volumes.{images_read}
-use Rattle.rack.specs.Opens.{KeepsAllSound, LeavesAll}
+use Rattle.rack.specs.Opens.{KeepsAllSound, KeepsOthers, LeavesAll}
 use Rattle.command_words.specs.Table.{Named}
 use Rattle.command_words.specs.Values.{named_by}
 use Rattle.command_words.specs.declared.command.Command.{Command}
@@ -39,29 +39,38 @@ pub record IsOrder (verb : Verb) (named : Named) (order : Order) : Type 0 where
   pub logger : order.logger.now ≡ named.logger
 
 -- the view that the volume had at entry can't be changed so, for this
-pub record RefusesView (config : Config) (volume : ℕ) (change : Change) (entry : Told) (refusal : ViewRefusal) : Type 0 where
+pub record RefusesView (config : Config) (volume : ℕ) (change : Change) (entry : Told)
+    (refusal : ViewRefusal) : Type 0 where
   pub ids : List ℕ
   pub at_entry : HasViewIn (images_read config entry) volume ids
   pub cause : MayNotChange volume change ids refusal
 
 -- why a change is refused: a word names no volume, or the view can't be changed so
-abbrev pub RefusesChange : (tells : Bool) → Config → Order → (old new : BayState) → ViewRefusal → Type 0
+abbrev pub RefusesChange : (tells : Bool) → Config → Order → (old new : BayState) → ViewRefusal
+    → Type 0
 RefusesChange tells config order old new refusal =
     (unknown_word config order ≡ Some refusal)
     ⊎ ((volume : ℕ) × (logger : ℕ) × AreNamed config order volume logger
-    × (IsTrue tells → IsTold (λ entry left. RefusesView config volume (change_of order.verb logger) entry refusal) old.told new.told))
+    × (IsTrue tells → IsTold (λ entry left. RefusesView config volume (change_of order.verb logger)
+    entry refusal) old.told new.told))
 
 -- Behind what a change printed nothing more is written at its end and where the sink failed; else the line of its fault or refusal,
 -- or, where there was no memory for that, the line of want of memory.
-abbrev pub EndsChange : {T : Type 0} → Config → Order → Result T Stop → (status : ℕ) → (printed new : Option (List ℕ)) → Type 0
+abbrev pub EndsChange : {T : Type 0} → Config → Order → Result T Stop → (status : ℕ)
+    → (printed new : Option (List ℕ)) → Type 0
 EndsChange config order (Ok done) status printed new = (status ≡ 0) × (new ≡ printed)
 EndsChange config order (Err stop.Sink) status printed new = (status ≡ 7) × (new ≡ printed)
-EndsChange config order (Err (stop.Refused r)) status printed new = EndsWith (refusal_text order r) 15 status printed new ⊎ EndsWith (codes "fault 9 memory\n") 9 status printed new
+EndsChange config order (Err (stop.Refused r)) status printed new =
+    EndsWith (refusal_text order r) 15 status printed new
+    ⊎ EndsWith (codes "fault 9 memory\n") 9 status printed new
 EndsChange config order (Err (stop.Fault f)) status printed new =
-    EndsWith (fault_text (printed_names config.volumes.items) f) (status_of f) status printed new ⊎ EndsWith (codes "fault 9 memory\n") 9 status printed new
+    EndsWith (fault_text (printed_names config.volumes.items) f) (status_of f) status printed new
+    ⊎ EndsWith (codes "fault 9 memory\n") 9 status printed new
 
 -- the configuration was had, and the view of one of its volumes was to be changed
-pub record IsViewChange {D : Type 0} (tells : Bool) (state : D → State) (verb : Verb) (named : Named) (left : Option (List ℕ)) (old new : BayState) (sink status : ℕ) (printed printed' : Option (List ℕ)) : Type 0 where
+pub record IsViewChange {D : Type 0} (tells : Bool) (state : D → State) (verb : Verb)
+    (named : Named) (left : Option (List ℕ)) (old new : BayState) (sink status : ℕ)
+    (printed printed' : Option (List ℕ)) : Type 0 where
   pub config : Config
   pub has : HasConfig left config
   pub order : Order
@@ -72,11 +81,17 @@ pub record IsViewChange {D : Type 0} (tells : Bool) (state : D → State) (verb 
   -- each image that is left recovers to what an image at entry did, and sound images stay sound
   pub left_ : IsTrue tells → IsTold (LeavesAll tells state config old new) old.told new.told
   pub sound : IsTrue tells → IsTold (KeepsAllSound config) old.told new.told
-  pub changes : ChangesView tells state config order old new sink sink_then printed printed_then result
+  -- images of names that aren't configured are as they were
+  pub others : IsTrue tells → IsTold (KeepsOthers config) old.told new.told
+  pub changes : ChangesView tells state config order old new sink sink_then printed printed_then
+      result
   pub ends : EndsChange config order result status printed_then printed'
 
 -- a run of `view-add` or `view-remove`, by the bytes of the configuration, its count of faults, the bay, the sink's count of faults at
 -- entry, the status, and what the sink took
-abbrev pub RunsViewChange : {D : Type 0} → (tells : Bool) → (D → State) → Verb → Named → (left : Option (List ℕ)) → (faults faults' : ℕ) → (old new : BayState) → (sink status : ℕ) → (printed printed' : Option (List ℕ)) → Type 0
+abbrev pub RunsViewChange : {D : Type 0} → (tells : Bool) → (D → State) → Verb → Named
+    → (left : Option (List ℕ)) → (faults faults' : ℕ) → (old new : BayState) → (sink status : ℕ)
+    → (printed printed' : Option (List ℕ)) → Type 0
 RunsViewChange tells state verb named left faults faults' old new sink status printed printed' =
-    IsViewChange tells state verb named left old new sink status printed printed' ⊎ IsNotBegun left faults faults' old new status printed printed'
+    IsViewChange tells state verb named left old new sink status printed printed'
+    ⊎ IsNotBegun left faults faults' old new status printed printed'

@@ -30,10 +30,15 @@ pub fn compare<C: Source, S: Source, K: Sink>(
     trace: &mut S,
     out: &mut K,
 ) -> u8
-    ensures content { RunsWhatIf (trace_of (S.left trace.old)) (C.left source.old) (C.faults source.old) (C.faults source.new) (S.left trace.new) (K.faults out.old) result (K.taken out.old) (K.taken out.new) }
-    ensures source { result ≡ 8 → Rose (C.faults source.old) (C.faults source.new) ⊎ Rose (S.faults trace.old) (S.faults trace.new) }
-    ensures complete { (lines : _) → IsGoodTrace (S.left trace.old) lines → IsConfigured (C.left source.old) → ¬ Rose (C.faults source.old) (C.faults source.new)
-        → ¬ Rose (S.faults trace.old) (S.faults trace.new) → ¬ Rose (K.faults out.old) (K.faults out.new) → IsDoneOrMemory result }
+    ensures content { RunsWhatIf (trace_of (S.left trace.old)) (C.left source.old)
+        (C.faults source.old) (C.faults source.new) (S.left trace.new) (K.faults out.old) result
+        (K.taken out.old) (K.taken out.new) }
+    ensures source { result ≡ 8 → Rose (C.faults source.old) (C.faults source.new)
+        ⊎ Rose (S.faults trace.old) (S.faults trace.new) }
+    ensures complete { (lines : _) → IsGoodTrace (S.left trace.old) lines
+        → IsConfigured (C.left source.old) → ¬ Rose (C.faults source.old) (C.faults source.new)
+        → ¬ Rose (S.faults trace.old) (S.faults trace.new)
+        → ¬ Rose (K.faults out.old) (K.faults out.new) → IsDoneOrMemory result }
     ensures cause { result ≡ 7 → Rose (K.faults out.old) (K.faults out.new) }
     ensures later { K.faults out.old ≤ K.faults out.new }
     ensures calm { K.faults out.old < K.faults out.new → result ≡ 7 }
@@ -59,10 +64,12 @@ fn compare_lines<S: Source, K: Sink>(
     requires none { lines.given ≡ 0 }
     requires live { lines.live ≡ true }
     ensures content { (left : _) → HasConfig left config.now
-        → IsComparison (seen S.left (Given.Trace lines)) left (S.left result.1.source) (K.faults out.old) result.0 (K.taken out.old) (K.taken out.new) }
+        → IsComparison (seen S.left (Given.Trace lines)) left (S.left result.1.source)
+        (K.faults out.old) result.0 (K.taken out.old) (K.taken out.new) }
     ensures source { result.0 ≡ 8 → Rose (S.faults lines.source) (S.faults result.1.source) }
-    ensures complete { MayCompare S.left (Given.Trace lines) (Given.Trace result.1) (K.faults out.old) (K.faults out.new)
-        (S.faults lines.source) (S.faults result.1.source) → IsDoneOrMemory result.0 }
+    ensures complete { MayCompare S.left (Given.Trace lines) (Given.Trace result.1)
+        (K.faults out.old) (K.faults out.new) (S.faults lines.source) (S.faults result.1.source)
+        → IsDoneOrMemory result.0 }
     ensures same_borrow { S.borrow result.1.source ≡ S.borrow lines.source }
     ensures cause { result.0 ≡ 7 → Rose (K.faults out.old) (K.faults out.new) }
     ensures later { K.faults out.old ≤ K.faults out.new }
@@ -86,9 +93,12 @@ fn compare_given<S: Source, K: Sink>(
 ) -> u8
     requires valid { IsValid config.now }
     requires new { IsNew given.old }
-    ensures content { (left rest : _) → HasConfig left config.now → HasLeft (seen S.left given.new) rest
-        → IsComparison (seen S.left given.old) left rest (K.faults out.old) result (K.taken out.old) (K.taken out.new) }
-    ensures source { result ≡ 8 → Rose (faults_of S.faults given.old) (faults_of S.faults given.new) }
+    ensures content { (left rest : _) → HasConfig left config.now
+        → HasLeft (seen S.left given.new) rest
+        → IsComparison (seen S.left given.old) left rest (K.faults out.old) result (K.taken out.old)
+        (K.taken out.new) }
+    ensures source { result ≡ 8 → Rose (faults_of S.faults given.old)
+        (faults_of S.faults given.new) }
     ensures complete { MayCompare S.left given.old given.new (K.faults out.old) (K.faults out.new)
         (faults_of S.faults given.old) (faults_of S.faults given.new) → IsDoneOrMemory result }
     ensures source_kept { HasSource given.old → HasSource given.new }

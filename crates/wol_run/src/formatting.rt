@@ -31,7 +31,8 @@ pub fn format<C: Source, K: Sink, B: Bay>(
 ) -> u8
     requires home { NoneOut (B.state bay.old) }
     ensures home { NoneOut (B.state bay.new) }
-    ensures content { RunsFormat (C.left source.old) (C.faults source.old) (C.faults source.new) (B.state bay.old) (B.state bay.new) result (K.taken out.old) (K.taken out.new) }
+    ensures content { RunsFormat (C.left source.old) (C.faults source.old) (C.faults source.new)
+        (B.state bay.old) (B.state bay.new) result (K.taken out.old) (K.taken out.new) }
     ensures cause { result ≡ 7 → Rose (K.faults out.old) (K.faults out.new) }
     ensures later { K.faults out.old ≤ K.faults out.new }
     ensures calm { K.faults out.old < K.faults out.new → result ≡ 7 }

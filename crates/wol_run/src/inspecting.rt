@@ -31,9 +31,14 @@ pub fn inspect<R: Wait, C: Source, K: Sink, B: Bay>(
 ) -> u8
     requires home { NoneOut (B.state bay.old) }
     ensures home { NoneOut (B.state bay.new) }
-    ensures content { RunsLook B.Part.tells B.Part.state asked (C.left source.old) (C.faults source.old) (C.faults source.new) (B.state bay.old) (B.state bay.new) result (K.taken out.old) (K.taken out.new) }
-    ensures complete { HasSoundImages B.Part.tells (C.left source.old) (B.state bay.old) → IsConfigured (C.left source.old) → ¬ Rose (B.state bay.old).faults (B.state bay.new).faults
-        → ¬ Rose (C.faults source.old) (C.faults source.new) → ¬ Rose (K.faults out.old) (K.faults out.new) → IsDoneOrMemory result }
+    ensures content { RunsLook B.Part.tells B.Part.state asked (C.left source.old)
+        (C.faults source.old) (C.faults source.new) (B.state bay.old) (B.state bay.new) result
+        (K.taken out.old) (K.taken out.new) }
+    ensures complete { HasSoundImages B.Part.tells (C.left source.old) (B.state bay.old)
+        → IsConfigured (C.left source.old)
+        → ¬ Rose (B.state bay.old).faults (B.state bay.new).faults
+        → ¬ Rose (C.faults source.old) (C.faults source.new)
+        → ¬ Rose (K.faults out.old) (K.faults out.new) → IsDoneOrMemory result }
     ensures cause { result ≡ 7 → Rose (K.faults out.old) (K.faults out.new) }
     ensures later { K.faults out.old ≤ K.faults out.new }
     ensures calm { K.faults out.old < K.faults out.new → result ≡ 7 }

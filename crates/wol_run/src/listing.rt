@@ -55,7 +55,8 @@ pub fn generate<C: Source, K: Sink>(
     out: &mut K,
 ) -> u8
     requires few { asked.lines ≤ 2 ^ 31 }
-    ensures content { RunsGen asked (C.left source.old) (C.faults source.old) (C.faults source.new) result (K.taken out.old) (K.taken out.new) }
+    ensures content { RunsGen asked (C.left source.old) (C.faults source.old) (C.faults source.new)
+        result (K.taken out.old) (K.taken out.new) }
     ensures cause { result ≡ 7 → Rose (K.faults out.old) (K.faults out.new) }
     ensures later { K.faults out.old ≤ K.faults out.new }
     ensures calm { K.faults out.old < K.faults out.new → result ≡ 7 }
@@ -81,7 +82,8 @@ fn print_lines<K: Sink>(
     requires valid { IsValid config.now }
     requires few { asked.lines ≤ 2 ^ 31 }
     ensures later { K.faults out.old ≤ K.faults out.new }
-    ensures content { Prints result config.now asked.seed asked.lines (K.faults out.old) (K.faults out.new) (K.taken out.old) (K.taken out.new) }
+    ensures content { Prints result config.now asked.seed asked.lines (K.faults out.old)
+        (K.faults out.new) (K.taken out.old) (K.taken out.new) }
 {
     let mut generator = Gen::new(asked.seed);
     let mut text = Vec::new(alloc);
@@ -96,7 +98,8 @@ fn print_lines<K: Sink>(
 
 // Writes a text that has so many bytes to the sink, and empties it. A shorter one stays as it is.
 fn hand_on<K: Sink>(out: &mut K, text: &mut Vec<u8>, least: usize) -> Result<(), Failed>
-    ensures ok { OnOk result (HandsOn (K.taken out.old) (K.taken out.new) text.old.items text.new.items) }
+    ensures ok { OnOk result (HandsOn (K.taken out.old) (K.taken out.new) text.old.items
+        text.new.items) }
     ensures left { OnOk result ((length text.new.items < least) ⊎ (text.new.items ≡ [])) }
     ensures err { OnErr result (AppendsFront (K.taken out.old) (K.taken out.new) text.old.items) }
     ensures later { K.faults out.old ≤ K.faults out.new }

@@ -46,10 +46,19 @@ where
     requires options { IsCount options.workers }
     requires home { NoneOut (B.state bay.old) }
     ensures home { NoneOut (B.state bay.new) }
-    ensures content { RunsReplay B.Part.tells B.Part.state (options_as options) (trace_of (S.left trace.old)) (C.left source.old) (C.faults source.old) (C.faults source.new) (S.left trace.new) (B.state bay.old) (B.state bay.new) (K.faults out.old) result (K.taken out.old) (K.taken out.new) }
-    ensures source { result ≡ 8 → Rose (C.faults source.old) (C.faults source.new) ⊎ Rose (S.faults trace.old) (S.faults trace.new) }
-    ensures complete { (lines : _) (images : HasSoundImages B.Part.tells (C.left source.old) (B.state bay.old)) → HaveVersions (C.left source.old) images.entry (λ c. lines) → IsGoodTrace (S.left trace.old) lines
-        → IsConfigured (C.left source.old) → ¬ Rose (B.state bay.old).faults (B.state bay.new).faults → ¬ Rose (C.faults source.old) (C.faults source.new) → ¬ Rose (S.faults trace.old) (S.faults trace.new)
+    ensures content { RunsReplay B.Part.tells B.Part.state (options_as options)
+        (trace_of (S.left trace.old)) (C.left source.old) (C.faults source.old)
+        (C.faults source.new) (S.left trace.new) (B.state bay.old) (B.state bay.new)
+        (K.faults out.old) result (K.taken out.old) (K.taken out.new) }
+    ensures source { result ≡ 8 → Rose (C.faults source.old) (C.faults source.new)
+        ⊎ Rose (S.faults trace.old) (S.faults trace.new) }
+    ensures complete { (lines : _)
+        (images : HasSoundImages B.Part.tells (C.left source.old) (B.state bay.old))
+        → HaveVersions (C.left source.old) images.entry (λ c. lines)
+        → IsGoodTrace (S.left trace.old) lines → IsConfigured (C.left source.old)
+        → ¬ Rose (B.state bay.old).faults (B.state bay.new).faults
+        → ¬ Rose (C.faults source.old) (C.faults source.new)
+        → ¬ Rose (S.faults trace.old) (S.faults trace.new)
         → ¬ Rose (K.faults out.old) (K.faults out.new) → IsDoneOrMemory result }
     ensures cause { result ≡ 7 → Rose (K.faults out.old) (K.faults out.new) }
     ensures later { K.faults out.old ≤ K.faults out.new }
@@ -82,10 +91,17 @@ where
     requires options { IsCount options.workers }
     requires home { NoneOut (B.state bay.old) }
     ensures home { NoneOut (B.state bay.new) }
-    ensures content { (rest : _) → RunsReplay B.Part.tells B.Part.state (options_as options) (lines_of asked) (C.left source.old) (C.faults source.old) (C.faults source.new) rest (B.state bay.old) (B.state bay.new) (K.faults out.old) result (K.taken out.old) (K.taken out.new) }
+    ensures content { (rest : _) → RunsReplay B.Part.tells B.Part.state (options_as options)
+        (lines_of asked) (C.left source.old) (C.faults source.old) (C.faults source.new) rest
+        (B.state bay.old) (B.state bay.new) (K.faults out.old) result (K.taken out.old)
+        (K.taken out.new) }
     ensures source { result ≡ 8 → Rose (C.faults source.old) (C.faults source.new) }
-    ensures complete { (images : HasSoundImages B.Part.tells (C.left source.old) (B.state bay.old)) → HaveVersions (C.left source.old) images.entry (seed_lines asked) → IsConfigured (C.left source.old)
-        → ¬ Rose (B.state bay.old).faults (B.state bay.new).faults → ¬ Rose (C.faults source.old) (C.faults source.new) → ¬ Rose (K.faults out.old) (K.faults out.new) → IsDoneOrMemory result }
+    ensures complete { (images : HasSoundImages B.Part.tells (C.left source.old) (B.state bay.old))
+        → HaveVersions (C.left source.old) images.entry (seed_lines asked)
+        → IsConfigured (C.left source.old)
+        → ¬ Rose (B.state bay.old).faults (B.state bay.new).faults
+        → ¬ Rose (C.faults source.old) (C.faults source.new)
+        → ¬ Rose (K.faults out.old) (K.faults out.new) → IsDoneOrMemory result }
     ensures cause { result ≡ 7 → Rose (K.faults out.old) (K.faults out.new) }
     ensures later { K.faults out.old ≤ K.faults out.new }
     ensures calm { K.faults out.old < K.faults out.new → result ≡ 7 }
@@ -121,10 +137,14 @@ where
     requires home { NoneOut (B.state bay.old) }
     ensures home { NoneOut (B.state bay.new) }
     ensures content { (left : _) → HasConfig left config.now
-        → IsReplay B.Part.tells B.Part.state (options_as options) (seen S.left (Given.Trace lines)) left (S.left result.1.source) (B.state bay.old) (B.state bay.new) (K.faults out.old) result.0 (K.taken out.old) (K.taken out.new) }
+        → IsReplay B.Part.tells B.Part.state (options_as options) (seen S.left (Given.Trace lines))
+        left (S.left result.1.source) (B.state bay.old) (B.state bay.new) (K.faults out.old)
+        result.0 (K.taken out.old) (K.taken out.new) }
     ensures source { result.0 ≡ 8 → Rose (S.faults lines.source) (S.faults result.1.source) }
-    ensures complete { MayComplete B.Part.tells S.left config.now (Given.Trace lines) (Given.Trace result.1) (B.state bay.old) (B.state bay.new) (K.faults out.old) (K.faults out.new)
-        (S.faults lines.source) (S.faults result.1.source) → IsDoneOrMemory result.0 }
+    ensures complete { MayComplete B.Part.tells S.left config.now (Given.Trace lines)
+        (Given.Trace result.1) (B.state bay.old) (B.state bay.new) (K.faults out.old)
+        (K.faults out.new) (S.faults lines.source) (S.faults result.1.source)
+        → IsDoneOrMemory result.0 }
     ensures same_borrow { S.borrow result.1.source ≡ S.borrow lines.source }
     ensures cause { result.0 ≡ 7 → Rose (K.faults out.old) (K.faults out.new) }
     ensures later { K.faults out.old ≤ K.faults out.new }
@@ -156,10 +176,15 @@ where
     requires options { IsCount options.workers }
     requires home { NoneOut (B.state bay.old) }
     ensures home { NoneOut (B.state bay.new) }
-    ensures content { (left rest : _) → HasConfig left config.now → HasLeft (seen S.left given.new) rest
-        → IsReplay B.Part.tells B.Part.state (options_as options) (seen S.left given.old) left rest (B.state bay.old) (B.state bay.new) (K.faults out.old) result (K.taken out.old) (K.taken out.new) }
-    ensures source { result ≡ 8 → Rose (faults_of S.faults given.old) (faults_of S.faults given.new) }
-    ensures complete { MayComplete B.Part.tells S.left config.now given.old given.new (B.state bay.old) (B.state bay.new) (K.faults out.old) (K.faults out.new)
+    ensures content { (left rest : _) → HasConfig left config.now
+        → HasLeft (seen S.left given.new) rest
+        → IsReplay B.Part.tells B.Part.state (options_as options) (seen S.left given.old) left rest
+        (B.state bay.old) (B.state bay.new) (K.faults out.old) result (K.taken out.old)
+        (K.taken out.new) }
+    ensures source { result ≡ 8 → Rose (faults_of S.faults given.old)
+        (faults_of S.faults given.new) }
+    ensures complete { MayComplete B.Part.tells S.left config.now given.old given.new
+        (B.state bay.old) (B.state bay.new) (K.faults out.old) (K.faults out.new)
         (faults_of S.faults given.old) (faults_of S.faults given.new) → IsDoneOrMemory result }
     ensures within { IsWithin given.new }
     ensures source_kept { HasSource given.old → HasSource given.new }

@@ -18,7 +18,8 @@ const PIECE_BYTES: usize = 8_192;
 pub fn config_of<C: Source>(alloc: Global, source: &mut C) -> Result<Config, Fault>
     ensures ok { IfOk result (HasConfig (C.left source.old)) }
     ensures valid { IfOk result IsValid }
-    ensures err { IfErr result (λ e. IsUnread e (C.left source.old) (C.faults source.old) (C.faults source.new)) }
+    ensures err { IfErr result (λ e. IsUnread e (C.left source.old) (C.faults source.old)
+        (C.faults source.new)) }
 {
     let bytes = bytes_of(alloc, source)?;
     match read_config(alloc, &bytes) {
@@ -31,7 +32,8 @@ pub fn config_of<C: Source>(alloc: Global, source: &mut C) -> Result<Config, Fau
 // All bytes of a source, or its first ones where they are more than a configuration may have.
 fn bytes_of<C: Source>(alloc: Global, source: &mut C) -> Result<Vec<u8>, Fault>
     ensures ok { IfOk result (λ bytes. IsTaken (C.left source.old) bytes.items) }
-    ensures err { IfErr result (λ e. IsUnread e (C.left source.old) (C.faults source.old) (C.faults source.new)) }
+    ensures err { IfErr result (λ e. IsUnread e (C.left source.old) (C.faults source.old)
+        (C.faults source.new)) }
 {
     let mut bytes = Vec::new(alloc);
     let mut piece = [0; PIECE_BYTES];

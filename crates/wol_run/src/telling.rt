@@ -48,7 +48,8 @@ pub fn tell<K: Sink>(alloc: Global, out: &mut K, fault: Fault) -> u8
 
 // Writes the line of a bad line's fault, or where there is no memory to make it the line of that.
 fn tell_line<K: Sink>(alloc: Global, out: &mut K, line: u64, why: BadLine) -> u8
-    ensures content { TellsFault (Fault.BadLine line why) result (K.taken out.old) (K.taken out.new) }
+    ensures content { TellsFault (Fault.BadLine line why) result (K.taken out.old)
+        (K.taken out.new) }
     ensures status { (result ≡ 3) ⊎ (result ≡ 7) ⊎ (result ≡ 9) }
     ensures cause { result ≡ 7 → Rose (K.faults out.old) (K.faults out.new) }
     ensures later { K.faults out.old ≤ K.faults out.new }
@@ -69,7 +70,8 @@ pub fn tell_fault<K: Sink>(
     fault: &ReportFault,
 ) -> u8
     requires told { fault.now ≢ ReportFault.Config ConfigFault.NoMemory }
-    ensures content { EndsWith (fault_text (printed_names volumes.now) fault.now) (status_of_report fault.now) result (K.taken out.old) (K.taken out.new)
+    ensures content { EndsWith (fault_text (printed_names volumes.now) fault.now)
+        (status_of_report fault.now) result (K.taken out.old) (K.taken out.new)
         ⊎ EndsWith (codes "fault 9 memory\n") 9 result (K.taken out.old) (K.taken out.new) }
     ensures cause { result ≡ 7 → Rose (K.faults out.old) (K.faults out.new) }
     ensures later { K.faults out.old ≤ K.faults out.new }

@@ -4,6 +4,7 @@ ghost use Rattle.solo.specs.Images.{NoneOut};
 ghost use Rattle.wol_run.specs.Outside.{outside};
 ghost use Rattle.wol_run.specs.Run.{Run};
 
+use crate::cleanup::clean;
 use crate::comparing::compare;
 use crate::formatting::format;
 use crate::inspecting::inspect;
@@ -30,17 +31,17 @@ use wol_io::{Gate, Sink, Source};
 /// volumes of the configuration, window by window, by so many workers, and `soak SEED LINES` the lines that SEED generates; the
 /// requests of a volume are answered in order, and what they wrote is there after any stop. `whatif` prints what each of four
 /// policies would use for the trace, without an image. `view-add NAME LOGGER` lets a volume log for another, and
-/// `view-remove NAME LOGGER` brings all of a volume home and then lets the other log for it no more. Which words are a command is
-/// what `clap` makes of them.
+/// `view-remove NAME LOGGER` brings all of a volume home and then lets the other log for it no more. `clean` writes what lies in
+/// logs anew as few records, volume after volume. Which words are a command is what `clap` makes of them.
 ///
 /// 0: done; a trace that was run was read to its end. 1: the words aren't a command. 2: the configuration's bytes are none.
 /// 3: a line is no line of a trace; all lines before it were run. 4: the bay or a part of an image failed. 5: an image isn't what
 /// the configuration says, is damaged, or has a segment or a record that it shouldn't have. 6: a view names a logger that isn't
 /// configured or whose image was refused. 7: the sink failed, and nothing more is written to it. 8: the source of the
 /// configuration or of the trace failed; the whole lines before were run. 9: there was no memory. 10: there are more than 2^32
-/// lines. 11: a volume has no version left for a write. 12: an image isn't there. 15: a view can't be changed as the
+/// lines. 11: a volume has no version left for a write or a copy. 12: an image isn't there. 15: a view can't be changed as the
 /// words ask. Where volumes are looked at it is the status of the first that isn't in order; where one isn't open, no line of a
-/// trace is run and no view is changed.
+/// trace is run, no view is changed and nothing is cleaned.
 pub fn run<R: Threads + Wait + Sync, C: Source, S: Source, K: Sink, B: Bay, G: Gate + Sync>(
     rt: &R,
     alloc: Global,
@@ -85,5 +86,6 @@ where
         Command::WhatIf => compare(alloc, config, trace, out),
         Command::ViewAdd(names) => change_view(rt, alloc, Verb::Add, names, config, out, bay),
         Command::ViewRemove(names) => change_view(rt, alloc, Verb::Remove, names, config, out, bay),
+        Command::Clean => clean(rt, alloc, config, out, bay),
     }
 }

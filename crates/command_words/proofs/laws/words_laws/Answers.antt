@@ -1,5 +1,5 @@
 use Rattle.command_words.proofs.laws.words_laws.Goals as goal
-use Rattle.command_words.proofs.Taken.{check_is_command, dump_is_command, format_is_command, gen_is_command, solo_is_command, whatif_is_command}
+use Rattle.command_words.proofs.Taken.{check_is_command, clean_is_command, dump_is_command, format_is_command, gen_is_command, solo_is_command, whatif_is_command}
 use Rattle.command_words.proofs.TakenNames.{view_add_is_command, view_remove_is_command}
 use Rattle.command_words.proofs.TakenOptions.{replay_is_command, soak_is_command}
 use Rattle.command_words.proofs.Unique.{commands_are_one}
@@ -33,6 +33,9 @@ returns-clause-view_add c = view_add_is_command
 
 pub returns-clause-view_remove : goal.returns-clause-view_remove
 returns-clause-view_remove c = view_remove_is_command
+
+pub returns-clause-clean : goal.returns-clause-clean
+returns-clause-clean c = clean_is_command
 
 pub returns-clause-one : goal.returns-clause-one
 returns-clause-one c = commands_are_one

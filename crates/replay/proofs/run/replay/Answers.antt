@@ -92,7 +92,20 @@ returns-in_err-counted-clause-replays g c =
       gained = opened.faulty;
       counts = opened.counts;
     })
-    (record { stations = closed.stations; told = closed.parts; kept = closed.kept; volumes = closed.volumes; sound = closed.sound; cause = closed.cause; counts = closed.counts; faulty = closed.faulty; parts = closed.parts })
+    (record {
+      stations = closed.stations;
+      told = closed.parts;
+      kept = closed.kept;
+      volumes = closed.volumes;
+      sound = closed.sound;
+      cause = closed.cause;
+      counts = closed.counts;
+      faulty = closed.faulty;
+      parts = closed.parts;
+      spindles = c.close_all-spindles.result.items;
+      count = closed.count;
+      each = closed.spindles;
+    })
     (g.K.Sink.faults c.args.out.now) (g.K.Sink.faults run.new.out) (g.K.Sink.taken c.args.out.now) (g.K.Sink.taken run.new.out) run.result run.ensures.runs e is) c.in_err-counted.was c.from_residual.ensures.1
 
 pub returns-clause-replays : goal.returns-clause-replays
@@ -117,7 +130,20 @@ returns-clause-replays g c =
       gained = opened.faulty;
       counts = opened.counts;
     })
-    (record { stations = closed.stations; told = closed.parts; kept = closed.kept; volumes = closed.volumes; sound = closed.sound; cause = closed.cause; counts = closed.counts; faulty = closed.faulty; parts = closed.parts })
+    (record {
+      stations = closed.stations;
+      told = closed.parts;
+      kept = closed.kept;
+      volumes = closed.volumes;
+      sound = closed.sound;
+      cause = closed.cause;
+      counts = closed.counts;
+      faulty = closed.faulty;
+      parts = closed.parts;
+      spindles = c.close_all-spindles.result.items;
+      count = closed.count;
+      each = closed.spindles;
+    })
     (g.K.Sink.faults c.args.out.now) (g.K.Sink.faults run.new.out) (g.K.Sink.taken c.args.out.now) (g.K.Sink.taken run.new.out) run.result run.ensures.runs c.in_ok-counted.counted c.in_ok-counted.was c.deref.result.now
     (ap length c.deref.ensures.value ∙ closed.count) (ap length c.deref.ensures.value ∙ closed.count ∙ length-map c.args.config.now.volumes.items (shape_in c.args.config.now))
     (rw c.deref.ensures.value closed.spindles) c.print_summary.result (g.K.Sink.faults c.print_summary.new.out) (g.K.Sink.taken c.print_summary.new.out) c.print_summary.ensures.prints
@@ -147,7 +173,20 @@ returns-in_err-counted-clause-complete g c = λ may.
       gained = opened.faulty;
       counts = opened.counts;
     })
-    (record { stations = closed.stations; told = closed.parts; kept = closed.kept; volumes = closed.volumes; sound = closed.sound; cause = closed.cause; counts = closed.counts; faulty = closed.faulty; parts = closed.parts })
+    (record {
+      stations = closed.stations;
+      told = closed.parts;
+      kept = closed.kept;
+      volumes = closed.volumes;
+      sound = closed.sound;
+      cause = closed.cause;
+      counts = closed.counts;
+      faulty = closed.faulty;
+      parts = closed.parts;
+      spindles = c.close_all-spindles.result.items;
+      count = closed.count;
+      each = closed.spindles;
+    })
     (same_rest g.B.Part.Disk.state g.B.Part.Disk.tells g.S.Source.left c.args.config.now c.args.options c.args.given.now run.new.given (g.B.Bay.state c.open_all.new.bay) c.in-Ok.rack run.new.rack
     (g.K.Sink.faults c.args.out.now) (g.K.Sink.faults run.new.out) (g.K.Sink.taken c.args.out.now) (g.K.Sink.taken run.new.out) opened.rack run.result run.ensures.runs)
     (g.K.Sink.faults c.args.out.now) (g.K.Sink.faults run.new.out) (g.K.Sink.taken c.args.out.now) (g.K.Sink.taken run.new.out)
@@ -176,7 +215,20 @@ returns-clause-complete g c = λ may.
       gained = opened.faulty;
       counts = opened.counts;
     })
-    (record { stations = closed.stations; told = closed.parts; kept = closed.kept; volumes = closed.volumes; sound = closed.sound; cause = closed.cause; counts = closed.counts; faulty = closed.faulty; parts = closed.parts })
+    (record {
+      stations = closed.stations;
+      told = closed.parts;
+      kept = closed.kept;
+      volumes = closed.volumes;
+      sound = closed.sound;
+      cause = closed.cause;
+      counts = closed.counts;
+      faulty = closed.faulty;
+      parts = closed.parts;
+      spindles = c.close_all-spindles.result.items;
+      count = closed.count;
+      each = closed.spindles;
+    })
     (same_rest g.B.Part.Disk.state g.B.Part.Disk.tells g.S.Source.left c.args.config.now c.args.options c.args.given.now run.new.given (g.B.Bay.state c.open_all.new.bay) c.in-Ok.rack run.new.rack
     (g.K.Sink.faults c.args.out.now) (g.K.Sink.faults run.new.out) (g.K.Sink.taken c.args.out.now) (g.K.Sink.taken run.new.out) opened.rack run.result run.ensures.runs)
     (g.K.Sink.faults c.args.out.now) (g.K.Sink.faults run.new.out) (g.K.Sink.taken c.args.out.now) (g.K.Sink.taken run.new.out)

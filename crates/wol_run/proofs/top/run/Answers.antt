@@ -1,7 +1,7 @@
 use Rattle.std.proofs.Common.{Err, inl, inr, refl, ap, subst, arith}
 use Rattle.command_words.specs.Commands.{IsCommand}
 use Rattle.wol_run.proofs.Asked.{in_range, range_of_gen, range_of_solo}
-use Rattle.wol_run.proofs.CommandsTold.{check_promise, comparison_promise, dump_promise, format_promise, gen_promise, memory_promise, replay_promise, soak_promise, solo_done_promise, solo_fault_promise, view_add_promise, view_remove_promise}
+use Rattle.wol_run.proofs.CommandsTold.{check_promise, clean_promise, comparison_promise, dump_promise, format_promise, gen_promise, memory_promise, replay_promise, soak_promise, solo_done_promise, solo_fault_promise, view_add_promise, view_remove_promise}
 use Rattle.wol_run.proofs.Completing.{rose_from, rose_later}
 use Rattle.wol_run.proofs.Endings.{has_cause}
 use Rattle.wol_run.proofs.Promised.{of_none}
@@ -50,6 +50,10 @@ returns-in-ViewRemove-clause-promise g c =
     view_remove_promise _ _ _ _ _ _ c.change_view-in-ViewRemove.ensures.cause c.change_view-in-ViewRemove.ensures.calm c.change_view-in-ViewRemove.ensures.complete refl c.in-ViewRemove.names
     (subst (IsCommand _) c.in-ViewRemove.is c.in-Ok.ensures.ok) c.change_view-in-ViewRemove.ensures.content
 
+pub returns-in-Clean-clause-promise : goal.returns-in-Clean-clause-promise
+returns-in-Clean-clause-promise g c =
+    clean_promise _ _ _ _ _ _ c.clean.ensures.cause c.clean.ensures.calm (subst (IsCommand _) c.in-Clean.is c.in-Ok.ensures.ok) c.clean.ensures.content c.clean.ensures.complete refl
+
 -- the lines of one volume were run to their end
 pub returns-in-Ok-run-clause-promise : goal.returns-in-Ok-run-clause-promise
 returns-in-Ok-run-clause-promise g c = solo_done_promise _ _ _ _ _ (λ less. absurd (let same = c.in-Ok-run.ensures.calm in omega (arith, same, less))) c.in-Solo.volume (subst (IsCommand _) c.in-Solo.is c.in-Ok.ensures.ok) refl c.in-Ok-run.ensures.end (tt {0}) c.in-Ok-run.ensures.content
@@ -59,7 +63,7 @@ pub returns-in-Err-clause-promise : goal.returns-in-Err-clause-promise
 returns-in-Err-clause-promise g c =
     let e = c.in-Err.fault in
     let bay = g.B.Bay.state c.args.bay.now in
-    let cause = has_cause e bay.faults (g.B.Bay.state c.run.new.bay).faults (g.S.Source.faults c.args.trace.now) (g.S.Source.faults c.run.new.trace) (λ is. c.in-Err.ensures.disk (ap Err is)) (λ is. c.in-Err.ensures.bay (ap Err is)) (λ is. c.in-Err.ensures.source (ap Err is)) in
+    let cause = has_cause e bay.told (g.B.Bay.state c.run.new.bay).told bay.faults (g.B.Bay.state c.run.new.bay).faults (g.S.Source.faults c.args.trace.now) (g.S.Source.faults c.run.new.trace) (λ is. (c.in-Err.ensures.disk (ap Err is), c.in-Err.ensures.faulty (ap Err is))) (λ is. c.in-Err.ensures.bay (ap Err is)) (λ is. c.in-Err.ensures.source (ap Err is)) in
     solo_fault_promise _ _ _ _ _ _
     (λ seven. elim (c.tell.ensures.cause seven) [
       | inl is ↦ rose_later _ _ _ (c.in-Err.ensures.cause (ap Err is)) c.tell.ensures.later

@@ -1,0 +1,60 @@
+use Rattle.std.proofs.Common.{Err, arith, inl, inr, refl, subst}
+use Rattle.report.specs.Names.{printed_names}
+use Rattle.wol_run.proofs.Cleaned.{as_run, is_cleaning, may_clean, sink_said}
+use Rattle.wol_run.proofs.Completing.{complete_unread, replay_memory, replay_not_sink, rose_from, rose_later, told_memory}
+use Rattle.wol_run.proofs.ReplayFaults.{CanEnd}
+use Rattle.wol_run.proofs.Unread.{not_begun}
+use Rattle.wol_run.proofs.cleanup.clean.Goals as goal
+
+-- ---- What it does
+
+pub tell_fault-requires-in-Err-Fault : goal.tell_fault-requires-in-Err-Fault
+tell_fault-requires-in-Err-Fault g c = record { told = λ same. subst CanEnd same (sink_said _ _ _ _ _ _ _ _ _ _ (rw c.in-Err-Fault.field-0-is at c.in-Err-Fault.ensures.cleans)).1 }
+
+pub returns-in-Err-clause-content : goal.returns-in-Err-clause-content
+returns-in-Err-clause-content g c = inr (not_begun _ _ _ _ _ _ _ _ c.in-Err.fault c.in-Err.ensures.err refl c.tell_fault.ensures.content)
+
+pub returns-in-Ok-clean_volumes-clause-content : goal.returns-in-Ok-clean_volumes-clause-content
+returns-in-Ok-clean_volumes-clause-content g c =
+    inl (is_cleaning _ _ c.in-Ok.config _ _ _ _ _ _ _ _ _ c.in-Ok-clean_volumes.ensures.leaves c.in-Ok-clean_volumes.ensures.others c.in-Ok-clean_volumes.ensures.cleans (refl, refl) _ c.in-Ok.ensures.ok)
+
+pub returns-in-Err-Sink-clause-content : goal.returns-in-Err-Sink-clause-content
+returns-in-Err-Sink-clause-content g c =
+    inl (is_cleaning _ _ c.in-Ok.config _ _ _ _ _ _ _ _ _ c.in-Err-Sink.ensures.leaves c.in-Err-Sink.ensures.others (rw c.in-Err-Sink.field-0-is at c.in-Err-Sink.ensures.cleans) (refl, refl) _ c.in-Ok.ensures.ok)
+
+pub returns-clause-content : goal.returns-clause-content
+returns-clause-content g c =
+    inl (is_cleaning _ _ c.in-Ok.config _ _ _ _ _ _ _ _ _ c.in-Err-Fault.ensures.leaves c.in-Err-Fault.ensures.others (rw c.in-Err-Fault.field-0-is at c.in-Err-Fault.ensures.cleans) (rw c.deref.ensures.value at c.tell_fault-in-Err-Fault.ensures.content) _ c.in-Ok.ensures.ok)
+
+-- ---- It comes to its end
+
+pub returns-in-Err-clause-complete : goal.returns-in-Err-clause-complete
+returns-in-Err-clause-complete g c is versions configured bay source sink =
+    complete_unread _ _ _ c.tell_fault.result _ _ c.in-Err.fault c.in-Err.ensures.err configured source (λ seven. sink (c.tell_fault.ensures.cause seven)) c.tell_fault.ensures.content
+
+pub returns-in-Ok-clean_volumes-clause-complete : goal.returns-in-Ok-clean_volumes-clause-complete
+returns-in-Ok-clean_volumes-clause-complete g c is versions configured bay source sink = inl refl
+
+pub returns-in-Err-Sink-clause-complete : goal.returns-in-Err-Sink-clause-complete
+returns-in-Err-Sink-clause-complete g c is versions configured bay source sink =
+    absurd (replay_not_sink (Err c.in-Err-Sink.field-0) c.in-Err-Sink.field-0 refl c.in-Err-Sink.field-0-is
+    (as_run _ (c.in-Err-Sink.ensures.complete (may_clean _ _ c.in-Ok.config c.in-Ok.ensures.ok _ _ _ _ is versions bay sink))))
+
+pub returns-clause-complete : goal.returns-clause-complete
+returns-clause-complete g c is versions configured bay source sink =
+    let may = may_clean _ _ c.in-Ok.config c.in-Ok.ensures.ok _ _ _ _ is versions bay (λ rose. sink (rose_later _ _ _ rose c.tell_fault-in-Err-Fault.ensures.later)) in
+    let memory = replay_memory (Err c.in-Err-Fault.field-0) c.in-Err-Fault.field-0 c.in-Err-Fault.fault refl c.in-Err-Fault.field-0-is (as_run _ (c.in-Err-Fault.ensures.complete may)) in
+    told_memory (printed_names c.deref.result.now) c.in-Err-Fault.fault c.tell_fault-in-Err-Fault.result _ _ memory (λ seven. sink (rose_from _ _ _ c.in-Err-Fault.ensures.later (c.tell_fault-in-Err-Fault.ensures.cause seven))) c.tell_fault-in-Err-Fault.ensures.content
+
+-- ---- The sink
+
+pub returns-in-Err-Sink-clause-cause : goal.returns-in-Err-Sink-clause-cause
+returns-in-Err-Sink-clause-cause g c seven = sink_said _ _ _ _ _ _ _ _ _ _ (rw c.in-Err-Sink.field-0-is at c.in-Err-Sink.ensures.cleans)
+
+pub returns-in-Ok-clean_volumes-clause-calm : goal.returns-in-Ok-clean_volumes-clause-calm
+returns-in-Ok-clean_volumes-clause-calm g c less = absurd (let same = sink_said _ _ _ _ _ _ _ _ _ _ c.in-Ok-clean_volumes.ensures.cleans in omega (arith, same, less))
+
+pub returns-clause-calm : goal.returns-clause-calm
+returns-clause-calm g c rose =
+    let calm = (sink_said _ _ _ _ _ _ _ _ _ _ (rw c.in-Err-Fault.field-0-is at c.in-Err-Fault.ensures.cleans)).0 in
+    c.tell_fault-in-Err-Fault.ensures.calm (rw calm rose)

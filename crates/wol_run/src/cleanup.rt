@@ -1,0 +1,55 @@
+// The volumes of the configuration, cleaned.
+ghost use Rattle.std.specs.Prelude.{◌≡◌, ◌≤◌, ◌<◌};
+ghost use Rattle.wol_disk.specs.Disk.{Rose};
+ghost use Rattle.solo.specs.Images.{NoneOut};
+ghost use Rattle.wol_run.specs.Cleaning.{RunsCleaning};
+ghost use Rattle.wol_run.specs.Completing.{HasSoundImages, HaveVersionsToClean};
+ghost use Rattle.wol_run.specs.Settings.{IsConfigured};
+ghost use Rattle.wol_run.specs.Tops.{IsDoneOrMemory};
+
+use crate::settings::config_of;
+use crate::telling::tell_fault;
+use cleaning::clean_volumes;
+use replay::Stop;
+use std::alloc::Global;
+use std::sync::Wait;
+use wol_bay::Bay;
+use wol_io::{Sink, Source};
+
+/// Cleans the volumes of the configuration that a source has, prints a line for each, and answers the status.
+///
+/// 0: all volumes were cleaned; one whose logs have no room for the next copy is told so, and is no fault. 2: the source's bytes
+/// are no configuration. 4, 5, 6, 12: that of the first volume that isn't open, or 4, where a call of a disk failed. 7: the sink
+/// failed. 8: the source failed. 9: there was no memory. 11: a volume has no version left for a copy. At 4, 9 and 11 the lines of
+/// the volumes before were printed. Where the configuration isn't had the bay is as it was.
+pub fn clean<R: Wait, C: Source, K: Sink, B: Bay>(
+    rt: &R,
+    alloc: Global,
+    source: &mut C,
+    out: &mut K,
+    bay: &mut B,
+) -> u8
+    requires home { NoneOut (B.state bay.old) }
+    ensures home { NoneOut (B.state bay.new) }
+    ensures content { RunsCleaning B.Part.tells B.Part.state (C.left source.old)
+        (C.faults source.old) (C.faults source.new) (B.state bay.old) (B.state bay.new)
+        (K.faults out.old) result (K.taken out.old) (K.taken out.new) }
+    ensures complete { (images : HasSoundImages B.Part.tells (C.left source.old) (B.state bay.old))
+        → HaveVersionsToClean (C.left source.old) images.entry → IsConfigured (C.left source.old)
+        → ¬ Rose (B.state bay.old).faults (B.state bay.new).faults
+        → ¬ Rose (C.faults source.old) (C.faults source.new)
+        → ¬ Rose (K.faults out.old) (K.faults out.new) → IsDoneOrMemory result }
+    ensures cause { result ≡ 7 → Rose (K.faults out.old) (K.faults out.new) }
+    ensures later { K.faults out.old ≤ K.faults out.new }
+    ensures calm { K.faults out.old < K.faults out.new → result ≡ 7 }
+{
+    let config = match config_of(alloc, source) {
+        Ok(config) => config,
+        Err(fault) => return tell_fault(alloc, out, &[], &fault),
+    };
+    match clean_volumes(rt, alloc, &config, bay, out) {
+        Ok(()) => 0,
+        Err(Stop::Sink) => 7,
+        Err(Stop::Fault(fault)) => tell_fault(alloc, out, &config.volumes, &fault),
+    }
+}
