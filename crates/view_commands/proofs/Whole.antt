@@ -24,6 +24,7 @@ use Rattle.rack.specs.Owners.{recovered_but}
 use Rattle.rack.specs.declared.rack.Rack.{Rack}
 use Rattle.rack.proofs.SoundBefore.{some_image}
 use Rattle.open_rack.specs.Sessions.{OpensAndCloses}
+use Rattle.open_rack.proofs.FirstClosed.{first_is}
 use Rattle.open_rack.proofs.Since.{rose_before}
 use Rattle.inspection.specs.Racks.{IsSameRack}
 use Rattle.inspection.specs.Runs.{MayComplete}
@@ -345,8 +346,9 @@ module _ (config : Config) (valid : IsValid config) (volume : ℕ) (v : VolumeCo
 
         go : TellsRack tells state asked volume before after (Err f) → Completes {T = List ℕ} (Err (stop.Fault f))
         go (drains.closed fault is same told) =
-            let within = slice_get_within before.faults.items is.volume (Some is.fault) is.closed.there in
-            absurd (cc (sym (open_ is.volume (omega (arith, within, session.opened.rack.fault_count))) ∙ is.closed.there))
+            let first = first_is 0 before.faults.items fault is in
+            let within = slice_get_within before.faults.items first.k (Some first.fault_) first.here in
+            absurd (cc (sym (open_ first.k (omega (arith, within, session.opened.rack.fault_count))) ∙ first.here))
         go (drains.open_ all_open same tells_change) = behind asked tells_change
           where
             behind : (c : Change) → TellsChange tells state c volume before after (Err f) → Completes {T = List ℕ} (Err (stop.Fault f))

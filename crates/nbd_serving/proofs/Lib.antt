@@ -1,0 +1,4 @@
+pub mod Placed
+pub mod Recovered
+pub mod Sessions
+pub mod Whole

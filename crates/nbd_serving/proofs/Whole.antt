@@ -1,0 +1,84 @@
+-- What serving a volume of a bay comes to, from what was done with its rack.
+use Rattle.std.proofs.Common.{◌≡◌, ◌<◌, ℕ, Bool, List, length, Option, None, Some, Result, Ok, Err, refl, sym, ◌∙◌, subst, arith}
+use Rattle.std.specs.Prelude.{slice_get, IfSome, IsTrue}
+use Rattle.std.proofs.lemmas.Option.{slice_get_within}
+use Rattle.wol_disk.specs.Disk.{Rose, State}
+use Rattle.wol_bay.specs.Bay.{BayState, Told}
+use Rattle.wol_config.specs.Documents.{names_of, number_named}
+use Rattle.wol_config.specs.declared.config.Config.{Config}
+use Rattle.wol_model.specs.Images.{AreSound}
+use Rattle.report.specs.declared.fault.Fault.{Fault}
+use Rattle.spin_model.specs.Spindles.{SpindleView}
+use Rattle.volume_images.specs.Left.{AreNamedApart, IsTold}
+use Rattle.volume_images.specs.Volumes.{images_read, shapes_of}
+use Rattle.rack.specs.Opens.{KeepsAllSound, KeepsOthers, LeavesAll}
+use Rattle.rack.specs.declared.rack.Rack.{Rack}
+use Rattle.open_rack.specs.Sessions.{OpensAndCloses}
+use Rattle.open_rack.proofs.FirstClosed.{first_is, first_refused}
+use Rattle.inspection.specs.Racks.{IsSameRack}
+use Rattle.inspection.specs.Runs.{MayComplete}
+use Rattle.inspection.proofs.Quiet.{all_quiet}
+use Rattle.inspection.proofs.SameRacks.{rack_self}
+use Rattle.nbd_session.specs.Sessions.{CountsFaults}
+use Rattle.nbd_session.specs.declared.session.Ended.{Ended}
+use Rattle.nbd_session.specs.declared.session.NbdFault.{NbdFault}
+use Rattle.nbd_session.specs.declared.session.NbdFault.TheVariants as fault
+use Rattle.nbd_serving.specs.Racks.{ServesRack}
+use Rattle.nbd_serving.specs.Racks as racks
+use Rattle.nbd_serving.specs.Runs.{Completes, ServesNamed}
+use Rattle.nbd_serving.specs.Runs as runs
+use Rattle.nbd_serving.specs.Wires.{Wire, answer_of}
+use Rattle.nbd_serving.specs.declared.stop.Stop.{Stop}
+use Rattle.nbd_serving.specs.declared.stop.Stop.TheVariants as stop
+use Rattle.nbd_serving.proofs.Sessions.{serves_open}
+
+-- what isn't touched is as it was
+pub others_same : (config : Config) (o : Option Told) → IsTold (KeepsOthers config) o o
+others_same config None = refl
+others_same config (Some t) = λ apart name differs. refl
+
+pub sound_same : (config : Config) (o : Option Told) → IsTold (KeepsAllSound config) o o
+sound_same config None = refl
+sound_same config (Some t) = λ apart all images left. all images left
+
+module _ {D : Type 0} (tells : Bool) (state : D → State) (config : Config) (name : List ℕ) (volume : ℕ) (named : number_named (names_of config.volumes.items) name ≡ Some volume) (old new : BayState) (wire wire' : Wire) (spindles : List SpindleView)
+    (answer : Result Ended Stop) (session : OpensAndCloses tells state config (λ before after. ServesRack tells config volume before after wire wire' answer) old new spindles) where
+  abbrev did : Rack D → Rack D → Type 0
+  did = λ before after. ServesRack tells config volume before after wire wire' answer
+
+  untouched : session.after ≡ session.before → IsTrue tells → IsTold (LeavesAll tells state config old new) old.told new.told
+  untouched same telling = session.left telling (all_quiet session.before.stations.items session.after.stations.items (subst (IsSameRack session.before) (sym same) (rack_self session.before)).each session.opened.fresh)
+
+  pub serves_named : (IsTrue tells → IsTold (KeepsAllSound config) old.told new.told) → ServesNamed tells state config name old new wire wire' answer
+  serves_named sound = go answer session.done
+    where
+      go : (a : Result Ended Stop) → ServesRack tells config volume session.before session.after wire wire' a → ServesNamed tells state config name old new wire wire' a
+      go a (racks.closed fault is same calm) =
+          let first = first_refused state config session.bay session.before session.opened.rack tells old new session.refused session.failed session.part session.opened.began session.opened.there fault is in
+          subst (λ (f : Fault). ServesNamed tells state config name old new wire wire' (Err (stop.Fault f))) (sym first.2)
+          (runs.closed volume first.0 first.1 named first.3 (record { left = untouched same; sound = sound }) calm)
+      go a (racks.open_ r all_open serves) = runs.served volume r named (serves_open tells state config did old new spindles session all_open volume wire wire' r serves)
+
+  -- ---- Completeness
+
+  all_there : MayComplete tells config old new wire.sink_faults wire'.sink_faults → (k : ℕ) → k < length (shapes_of config) → slice_get session.before.faults.items k ≡ Some None
+  all_there m =
+      let each = subst (λ (x : Option Told). IfSome x (λ t. AreNamedApart t → AreSound (shapes_of config) (images_read config t) → (Rose old.faults new.faults → ⊥)
+      → (k : ℕ) → k < length (shapes_of config) → slice_get session.before.faults.items k ≡ Some None)) m.entry_is (session.complete m.telling) in
+      each m.apart m.sound m.bay_calm
+
+  pub serves_complete : (Rose wire.source_faults wire'.source_faults → ⊥) → MayComplete tells config old new wire.sink_faults wire'.sink_faults → Completes answer
+  serves_complete calm m = go answer session.done
+    where
+      by : (r : Result Ended NbdFault) → CountsFaults wire.source_faults wire'.source_faults wire.sink_faults wire'.sink_faults r → Completes (answer_of r)
+      by (Ok e) counts = tt
+      by (Err fault.Source) counts = absurd (calm counts.0)
+      by (Err fault.Sink) counts = absurd (m.sink_calm counts.1)
+      by (Err fault.NoMemory) counts = refl
+
+      go : (a : Result Ended Stop) → ServesRack tells config volume session.before session.after wire wire' a → Completes a
+      go a (racks.closed fault is same unread) =
+          let one = first_is 0 session.before.faults.items fault is in
+          let within = slice_get_within session.before.faults.items one.k (Some one.fault_) one.here in
+          absurd (cc (sym (all_there m one.k (omega (arith, within, session.opened.rack.fault_count))) ∙ one.here))
+      go a (racks.open_ r all_open serves) = by r serves.faults

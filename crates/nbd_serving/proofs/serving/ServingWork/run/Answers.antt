@@ -1,0 +1,24 @@
+use Rattle.std.proofs.Common.{refl, sym, ap, ◌∙◌}
+use Rattle.inspection.proofs.Opened.{can_look}
+use Rattle.open_rack.specs.NotOpened.{first_closed}
+use Rattle.nbd_serving.specs.Racks as racks
+use Rattle.nbd_serving.proofs.Placed.{has_station, never_some, rack_again}
+use Rattle.nbd_serving.proofs.serving.ServingWork.run.Goals as goal
+
+pub returns-in-Some-clause-again : goal.returns-in-Some-clause-again
+returns-in-Some-clause-again g c = rack_again _
+
+pub returns-in-Some-clause-did : goal.returns-in-Some-clause-did
+returns-in-Some-clause-did g c = racks.closed c.in-Some.fault (ap (first_closed 0) (sym c.as_slice.ensures.value) ∙ sym c.first_closed.ensures ∙ c.in-Some.is) refl refl
+
+pub serve_open-requires-clause-rack : goal.serve_open-requires-clause-rack
+serve_open-requires-clause-rack g c = can_look _ _ _ _ c.requires.rack.1
+
+pub serve_open-requires-clause-there : goal.serve_open-requires-clause-there
+serve_open-requires-clause-there g c =
+    has_station c.args.config.now c.args.rack.now (can_look _ _ _ _ c.requires.rack.1) (ap (first_closed 0) (sym c.as_slice.ensures.value) ∙ sym c.first_closed.ensures ∙ never_some c.first_closed.result c.in_default.not-Some) c.args.self.volume c.requires.ready
+
+pub returns-clause-did : goal.returns-clause-did
+returns-clause-did g c =
+    rw c.answer_of.ensures
+    (racks.open_ c.serve_open.result (ap (first_closed 0) (sym c.as_slice.ensures.value) ∙ sym c.first_closed.ensures ∙ never_some c.first_closed.result c.in_default.not-Some) c.serve_open.ensures.serves)

@@ -1,0 +1,80 @@
+-- What serving a volume of a bay comes to.
+use Rattle.std.specs.Prelude.{◌≡◌, ◌≢◌, ◌<◌, ℕ, Bool, List, [], length, None, Some, Result, Ok, Err, IfSome, IsSome, IsTrue, slice_get, unwrap_or}
+use Rattle.wol_disk.specs.Disk.{Rose, State}
+use Rattle.wol_bay.specs.Bay.{BayState, Told}
+use Rattle.wol_config.specs.Documents.{names_of, number_named}
+use Rattle.wol_config.specs.declared.config.Config.{Config}
+use Rattle.wol_config.specs.declared.config.VolumeConf.{VolumeConf}
+use Rattle.wol_model.specs.History.{IsCut}
+use Rattle.wol_model.specs.Images.{Images, recovered_from}
+use Rattle.wol_promise.specs.Manager.{Base}
+use Rattle.wol_promise.specs.Stands.{IsOpening}
+use Rattle.report.specs.declared.fault.Fault.TheVariants.{Memory, Volume}
+use Rattle.troubles.specs.Troubles.{trouble_of}
+use Rattle.volume_images.specs.Left.{AreNamedApart, IsTold}
+use Rattle.volume_images.specs.Volumes.{AreLeft, images_read, shapes_of}
+use Rattle.rack.specs.Owners.{IsBegun, most_of}
+use Rattle.rack.specs.declared.volume_fault.VolumeFault.{VolumeFault}
+use Rattle.open_rack.specs.NotOpened.{IsFirstClosed, LeavesBay}
+use Rattle.nbd_session.specs.Sessions.{CountsFaults, IsSession}
+use Rattle.nbd_session.specs.declared.session.Ended.{Ended}
+use Rattle.nbd_session.specs.declared.session.NbdFault.{NbdFault}
+use Rattle.nbd_station.specs.Pieces.{IsTurnAt, Pieces, pieces_of}
+use Rattle.nbd_serving.specs.Wires.{Wire, answer_of}
+use Rattle.nbd_serving.specs.declared.stop.Stop.{Stop}
+use Rattle.nbd_serving.specs.declared.stop.Stop.TheVariants as stop
+
+-- ---- Images
+
+-- whatever images a crash leaves, the volume recovers to its array at entry after the pieces that stand, or with what was in
+-- flight when a call of a disk failed
+abbrev pub LeavesServed : Config → (volume : ℕ) → (end : Pieces) → (entry left : Told) → Type 0
+LeavesServed config volume end entry left = (images : Images) → AreLeft config left images
+    → IsCut (recovered_from (shapes_of config) (images_read config entry) volume) end.stand (unwrap_or end.flight []) (recovered_from (shapes_of config) images volume)
+
+-- and each other volume to its array at entry
+abbrev pub LeavesOthers : Config → (volume : ℕ) → (entry left : Told) → Type 0
+LeavesOthers config volume entry left = (images : Images) → AreLeft config left images
+    → (v : ℕ) → v < length (shapes_of config) → v ≢ volume → recovered_from (shapes_of config) images v ≡ recovered_from (shapes_of config) (images_read config entry) v
+
+-- ---- The session
+
+-- All volumes were open, and this one was served: the session was one at a volume that begins with its array at entry, and
+-- with the version that the images give next.
+pub record ServesOpen (tells : Bool) (config : Config) (volume : ℕ) (old new : BayState) (wire wire' : Wire) (answer : Result Ended NbdFault) : Type 0 where
+  pub conf : VolumeConf
+  pub conf_is : slice_get config.volumes.items volume ≡ Some conf
+  pub base : Base
+  pub owner : base.owner ≡ volume
+  pub begun : IsTrue tells → IfSome old.told (λ entry. AreNamedApart entry → IsBegun config (images_read config entry) base)
+  pub opening : IsOpening base
+  pub end : Pieces
+  pub session : IsSession (IsTurnAt (IsTrue tells) base.array) conf.home (most_of config) (pieces_of base.look []) end wire.left wire'.left wire.taken wire'.taken answer
+  pub faults : CountsFaults wire.source_faults wire'.source_faults wire.sink_faults wire'.sink_faults answer
+  -- a call of a disk that failed is counted
+  pub cause : IsSome end.flight → Rose old.faults new.faults
+  pub images : IsTrue tells → IsTold (LeavesServed config volume end) old.told new.told
+  pub others : IsTrue tells → IsTold (LeavesOthers config volume) old.told new.told
+
+-- ---- The command
+
+-- A volume was to be served: no volume has the name; or there was no memory to open the volumes; or one of them couldn't be
+-- opened; or all were open.
+pub data ServesNamed {D : Type 0} (tells : Bool) (state : D → State) (config : Config) (name : List ℕ) (old new : BayState) (wire wire' : Wire) : Result Ended Stop → Type 0 where
+  unknown : number_named (names_of config.volumes.items) name ≡ None → new ≡ old → wire' ≡ wire → ServesNamed tells state config name old new wire wire' (Err stop.Unknown)
+  no_memory : (volume : ℕ) → number_named (names_of config.volumes.items) name ≡ Some volume → LeavesBay tells state config old new → wire' ≡ wire
+      → ServesNamed tells state config name old new wire wire' (Err (stop.Fault Memory))
+  closed : (volume k : ℕ) (f : VolumeFault) → number_named (names_of config.volumes.items) name ≡ Some volume → IsFirstClosed tells state config old new k f → LeavesBay tells state config old new → wire' ≡ wire
+      → ServesNamed tells state config name old new wire wire' (Err (stop.Fault (Volume k (trouble_of f))))
+  served : (volume : ℕ) (answer : Result Ended NbdFault) → number_named (names_of config.volumes.items) name ≡ Some volume → ServesOpen tells config volume old new wire wire' answer
+      → ServesNamed tells state config name old new wire wire' (answer_of answer)
+
+-- ---- Completeness
+
+-- the session ended, or no volume has the name, or there was no memory
+abbrev pub Completes : Result Ended Stop → Type 0
+Completes (Ok e) = Unit {0}
+Completes (Err stop.Unknown) = Unit {0}
+Completes (Err (stop.Fault f)) = f ≡ Memory
+Completes (Err stop.Source) = ⊥
+Completes (Err stop.Sink) = ⊥

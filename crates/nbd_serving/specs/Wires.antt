@@ -1,0 +1,35 @@
+-- The source and the sink of a client, and what a command answers.
+use Rattle.std.specs.Prelude.{ℕ, List, Option, Result, Ok, Err}
+use Rattle.nbd_session.specs.declared.session.Ended.{Ended}
+use Rattle.nbd_session.specs.declared.session.Ended.TheVariants as ended
+use Rattle.nbd_session.specs.declared.session.NbdFault.{NbdFault}
+use Rattle.nbd_session.specs.declared.session.NbdFault.TheVariants as fault
+use Rattle.report.specs.Faults as report
+use Rattle.report.specs.declared.fault.Fault.TheVariants.{Memory}
+use Rattle.nbd_serving.specs.declared.stop.Stop.{Stop}
+use Rattle.nbd_serving.specs.declared.stop.Stop.TheVariants as stop
+
+-- what the source has left and the sink has taken, and how many of their calls failed
+pub record Wire : Type 0 where
+  pub left : Option (List ℕ)
+  pub source_faults : ℕ
+  pub taken : Option (List ℕ)
+  pub sink_faults : ℕ
+
+-- the answer of a command whose session came to this
+abbrev pub answer_of : Result Ended NbdFault → Result Ended Stop
+answer_of (Ok e) = Ok e
+answer_of (Err fault.Source) = Err stop.Source
+answer_of (Err fault.Sink) = Err stop.Sink
+answer_of (Err fault.NoMemory) = Err (stop.Fault Memory)
+
+-- its exit status
+abbrev pub status_of : Result Ended Stop → ℕ
+status_of (Ok ended.Disc) = 0
+status_of (Ok ended.End) = 0
+status_of (Ok (ended.BadMagic request)) = 14
+status_of (Ok (ended.Cut request)) = 14
+status_of (Err stop.Unknown) = 15
+status_of (Err (stop.Fault f)) = report.status_of f
+status_of (Err stop.Source) = 8
+status_of (Err stop.Sink) = 7

@@ -1,0 +1,92 @@
+// A volume of a bay is served.
+ghost use Rattle.std.specs.Prelude.{◌≡◌, ◌<◌, ◌≤◌, length, IfSome, IsTrue, position};
+ghost use Rattle.std.specs.Str.{bytes_eq};
+ghost use Rattle.wol_bay.specs.Bay.{outs};
+ghost use Rattle.wol_config.specs.Configs.{IsValid};
+ghost use Rattle.wol_config.specs.Documents.{names_of, number_named};
+ghost use Rattle.wol_disk.specs.Disk.{Rose};
+ghost use Rattle.volume_images.specs.Left.{IsTold};
+ghost use Rattle.volume_images.specs.Volumes.{NoneOut};
+ghost use Rattle.rack.specs.Opens.{KeepsAllSound, KeepsOthers};
+ghost use Rattle.inspection.specs.Runs.{MayComplete};
+ghost use Rattle.nbd_serving.specs.Runs.{Completes, ServesNamed};
+
+use crate::serving::Serving;
+use crate::stop::Stop;
+use nbd_session::Ended;
+use open_rack::{Closed, with_open};
+use std::alloc::Global;
+use std::sync::Wait;
+use wol_bay::Bay;
+use wol_config::{Config, VolumeConf};
+use wol_io::{Sink, Source};
+
+// The number of the volume of this name.
+fn number_named(volumes: &[VolumeConf], name: &[u8]) -> Option<usize>
+    ensures found { result ≡ number_named (names_of volumes.now) name.now }
+    ensures within { IfSome result (λ number. number < length volumes.now) }
+{
+    place_named(volumes, name)
+}
+
+// The place of the volume of this name.
+fn place_named(volumes: &[VolumeConf], name: &[u8]) -> Option<usize>
+    ensures found { result ≡ position (λ v. bytes_eq v.name name.now) volumes.now }
+    ensures within { IfSome result (λ place. place < length volumes.now) }
+{
+    volumes.iter().position(|volume| is_named(volume, name))
+}
+
+fn is_named(volume: &VolumeConf, name: &[u8]) -> bool
+    ensures { result ≡ bytes_eq volume.now.name name.now }
+{
+    volume.name.as_bytes() == name
+}
+
+/// Serves the volume of this name to a client, whose requests the source gives and whose replies the sink takes. All volumes
+/// are opened first, and closed when the session has ended; the session is the one client of the volume, and nothing is
+/// reclaimed within it but where no log has room for a write. A write is durable before its reply is begun.
+///
+/// A disk's fault in the session is an error of a reply, and ends nothing. `Unknown`: no volume has the name, which is told
+/// before anything is opened. `Fault`: the first volume that isn't open, or want of memory before the first request was looked
+/// at. `Source`, `Sink`: a call of it failed. At each exit every image is back in the bay.
+pub fn serve_volume<R: Wait, S: Source, K: Sink, B: Bay>(
+    rt: &R,
+    alloc: Global,
+    name: &str,
+    config: &Config,
+    bay: &mut B,
+    input: &mut S,
+    out: &mut K,
+) -> Result<Ended, Stop>
+    requires config { IsValid config.now }
+    requires home { NoneOut config.now (B.state bay.old) }
+    // each exit
+    ensures none_out { NoneOut config.now (B.state bay.new) }
+    ensures home { outs (B.state bay.new) ≡ outs (B.state bay.old) }
+    ensures counts { (B.state bay.old).faults ≤ (B.state bay.new).faults }
+    ensures content { ServesNamed B.Part.tells B.Part.state config.now name.now (B.state bay.old) (B.state bay.new)
+        (record { left = S.left input.old; source_faults = S.faults input.old; taken = K.taken out.old; sink_faults = K.faults out.old })
+        (record { left = S.left input.new; source_faults = S.faults input.new; taken = K.taken out.new; sink_faults = K.faults out.new })
+        result }
+    // images of names that aren't configured are as they were
+    ensures others { IsTrue B.Part.tells
+        → IsTold (KeepsOthers config.now) (B.state bay.old).told (B.state bay.new).told }
+    ensures sound { IsTrue B.Part.tells
+        → IsTold (KeepsAllSound config.now) (B.state bay.old).told (B.state bay.new).told }
+    ensures complete { (Rose (S.faults input.old) (S.faults input.new) → ⊥)
+        → MayComplete B.Part.tells config.now (B.state bay.old) (B.state bay.new) (K.faults out.old) (K.faults out.new)
+        → Completes result }
+{
+    let Some(volume) = number_named(&config.volumes, name.as_bytes()) else {
+        return Err(Stop::Unknown);
+    };
+    let work = Serving {
+        volume: volume as u32,
+    };
+    let Closed {
+        answer,
+        spindles: _spindles,
+    } = with_open(rt, alloc, config, bay, work, input, out)?;
+    answer
+}

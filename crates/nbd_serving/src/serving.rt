@@ -1,0 +1,115 @@
+// All volumes are open: one of them is served.
+ghost use Rattle.std.specs.Prelude.{◌≡◌, ◌<◌, ◌≤◌, Contains, length};
+ghost use Rattle.wol_config.specs.Configs.{IsValid};
+ghost use Rattle.manager.specs.declared.station.Station.{Station};
+ghost use Rattle.inspection.specs.Racks.{numbers_of, CanLook, IsStationAt};
+ghost use Rattle.open_rack.specs.Again.{IsRackAgain};
+ghost use Rattle.rack.specs.Owners.{most_of};
+ghost use Rattle.nbd_serving.specs.Racks.{ServesStation};
+
+use crate::stop::{Stop, answer_of};
+use manager::Station;
+use nbd_session::{Ended, NbdFault};
+use nbd_station::serve_station;
+use open_rack::{Work, first_closed};
+use rack::Rack;
+use std::alloc::Global;
+use std::sync::Wait;
+use wol_config::Config;
+use wol_disk::Disk;
+use wol_io::{Sink, Source};
+
+/// The most blocks of one turn, whatever the segments' length.
+const MOST_BLOCKS: u32 = 128;
+
+// The place of the station of this volume.
+fn place_of<D: Disk>(stations: &[Station<D>], volume: u32) -> usize
+    requires { Contains (numbers_of stations.now) volume }
+    ensures { (s : Station _) × IsStationAt stations.now volume result s }
+{
+    for place in 0..stations.len() {
+        if stations[place].id == volume {
+            return place;
+        }
+    }
+    unreachable!()
+}
+
+// The most blocks of one turn: a record lies in one segment, behind the segment's head and its own.
+fn most_of(config: &Config) -> u32
+    requires { IsValid config.now }
+    ensures most { result ≡ most_of config.now }
+    ensures some { 1 ≤ result }
+    ensures few { result ≤ 128 }
+{
+    MOST_BLOCKS.min(config.segment_blocks - 2)
+}
+
+// Serves a volume that has a station.
+fn serve_open<R: Wait, D: Disk, S: Source, K: Sink>(
+    rt: &R,
+    alloc: Global,
+    rack: &mut Rack<D>,
+    config: &Config,
+    volume: u32,
+    input: &mut S,
+    out: &mut K,
+) -> Result<Ended, NbdFault>
+    requires valid { IsValid config.now }
+    requires rack { CanLook config.now rack.old }
+    requires there { Contains (numbers_of rack.old.stations.items) volume }
+    requires volume { volume < length config.now.volumes.items }
+    ensures again { IsRackAgain rack.old rack.new }
+    ensures serves { ServesStation D.tells config.now rack.old rack.new volume
+        (record { left = S.left input.old; source_faults = S.faults input.old; taken = K.taken out.old; sink_faults = K.faults out.old })
+        (record { left = S.left input.new; source_faults = S.faults input.new; taken = K.taken out.new; sink_faults = K.faults out.new })
+        result }
+{
+    let home = config.volumes[volume as usize].home;
+    let place = place_of(&rack.stations, volume);
+    serve_station(
+        rt,
+        alloc,
+        &mut rack.stations[place],
+        &rack.shared,
+        home,
+        most_of(config),
+        input,
+        out,
+    )
+}
+
+/// Sees that all volumes are open, and serves one of them.
+#[derive(Drop)]
+pub(crate) struct Serving {
+    pub volume: u32,
+}
+
+impl<R: Wait, D: Disk, S: Source, K: Sink> Work<R, D, S, K> for Serving {
+    ghost use Rattle.std.specs.Prelude.{◌<◌, length};
+    ghost use Rattle.nbd_serving.specs.Racks.{ServesRack};
+
+    type Answer = Result<Ended, Stop>;
+
+    ghost Ready = { λ work config given out. work.volume < length config.volumes.items };
+
+    ghost Did = { λ work config before after given rest out now answer. ServesRack D.tells config work.volume before after
+        (record { left = S.left given; source_faults = S.faults given; taken = K.taken out; sink_faults = K.faults out })
+        (record { left = S.left rest; source_faults = S.faults rest; taken = K.taken now; sink_faults = K.faults now })
+        answer };
+
+    fn run(
+        self,
+        rt: &R,
+        alloc: Global,
+        config: &Config,
+        rack: &mut Rack<D>,
+        given: &mut S,
+        out: &mut K,
+    ) -> Result<Ended, Stop> {
+        if let Some(fault) = first_closed(rack.faults.as_slice()) {
+            return Err(Stop::Fault(fault));
+        }
+        answer_of(serve_open(rt, alloc, rack, config, self.volume, given, out))
+    }
+}
