@@ -1,0 +1,11 @@
+//! Tests of sessions of NBD: at a plain volume in memory whose turns fail as planned, and at volumes of a bay in memory.
+#![tactic(auto)]
+
+#[cfg(test)]
+mod plain;
+#[cfg(test)]
+mod requests;
+#[cfg(test)]
+mod sessions;
+#[cfg(test)]
+mod volumes;
