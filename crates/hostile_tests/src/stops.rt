@@ -112,7 +112,7 @@ fn are_last(row: &Row<'_>, places: &[usize]) -> bool {
     row.lines
         .iter()
         .zip(places)
-        .all(|(fronts, place)| *place + 1 == fronts.len())
+        .all(|(fronts, place)| fronts.len().checked_sub(1) == Some(*place))
 }
 
 // A text without its last line.
