@@ -67,10 +67,12 @@ test:
 	@cp crates/wol/out/wol build/wol
 	@for script in tests/*.sh; do echo "$$script"; "$$script" || exit 1; done
 
-# Kills among writes, refusals of the system and of memory, and spoiled input, in their long form: under an hour.
+# Kills among writes, clients that leave, refused calls, losses of power, no memory, and spoiled input, in their long form: under an hour.
 hostile: build
 	python3 tests/hostile/kills.py build/wol --kills 1000
+	python3 tests/hostile/sessions.py build/wol --sessions 2000 --kills 200
 	python3 tests/hostile/files.py build/wol --rounds 20
+	python3 tests/hostile/calls.py build/wol --tries 100 --rounds 5
 	python3 tests/hostile/memory.py build/wol --tries 100
 	python3 tests/hostile/mutations.py build/wol --images 100000 --lines 1000000 --configs 20000
 

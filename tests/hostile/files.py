@@ -3,11 +3,11 @@
 usage: files.py WOL [--rounds N] [--seed S] [--folder F]
 
 Each round makes sound images with records in their logs, and then: replays on a full file system of a random size; runs each command
-under random limits on open files and on the length of files, with an image that may only be read, with a folder, a pipe, a link to
-nowhere or a device in an image's place, and beside a process that holds the images. Each run ends by itself with a status that
-docs/USAGE.md has for it and says why; every image is what it was, or, after a replay, what the answered writes left, with at most
-those in flight. It prints its counts, and ends with 1 and the folder of the first round that went wrong. The full file system needs a
-mount namespace; where there is none that part is skipped, which is said.
+under random limits on open files and on the length of files, with a small stack, with an image that may only be read, with a folder, a
+pipe, a link to nowhere or a device in an image's place, and beside a process that holds the images. Each run ends by itself with a
+status that docs/USAGE.md has for it and says why; every image is what it was, or, after a replay, what the answered writes left, with at
+most those in flight. It prints its counts, and ends with 1 and the folder of the first round that went wrong. The full file system needs
+a mount namespace; where there is none that part is skipped, which is said.
 """
 
 import argparse
@@ -16,6 +16,7 @@ import random
 import resource
 import shutil
 import socket
+import struct
 import subprocess
 import sys
 import tempfile
@@ -28,7 +29,10 @@ from kills import call, random_config
 from model import Request, is_cut, random_trace, read_lines
 
 NOBODY = 65534
-COMMANDS = ("format", "check", "dump", "replay", "soak 7 40", "view-add {0} {1}", "view-remove {0} {1}", "gen 7 40", "whatif")
+COMMANDS = ("format", "check", "dump", "replay", "soak 7 40", "view-add {0} {1}", "view-remove {0} {1}", "clean", "nbd {0}", "gen 7 40")
+COMMANDS += ("whatif",)
+# A READ of a block and a FLUSH for `nbd`.
+CLIENT = b"".join(b"\x25\x60\x95\x13" + struct.pack(">HHQQI", 0, *it) for it in ((0, 1, 512, 512), (3, 2, 0, 0)))
 TOUCHES_NONE = ("gen", "whatif")
 
 
@@ -54,6 +58,10 @@ class Round:
         names = [it.name for it in self.config.volumes]
         return command.format(*self.rng.sample(names, 2)).split()
 
+    def given(self, words: list[str]) -> bytes:
+        """What a command gets as its input."""
+        return CLIENT if words[0] == "nbd" else self.trace
+
     def arrays(self) -> list[list[bytes]]:
         return recovered(self.folder, self.config)
 
@@ -67,7 +75,7 @@ def told(ran: subprocess.CompletedProcess, *statuses: int) -> None:
     assert ran.returncode in statuses, f"{command} ends with {ran.returncode}: {text!r}"
     last = text.splitlines()[-1:]
     looks = ran.args[1] in ("check", "dump") and ran.returncode in (4, 5, 6, 12)
-    silent = ran.returncode in (0, 7) or looks
+    silent = ran.returncode in (0, 7) or looks or ran.args[1] == "nbd"
     assert silent or last and last[0].startswith(f"fault {ran.returncode} "), f"{command} ends with {ran.returncode}, and {text!r}"
 
 
@@ -101,7 +109,7 @@ def every_command(it: Round, statuses: tuple[int, ...], counts: Counter, what: s
         if words[0] == "replay":
             ran = replay_and_look(it, statuses, **how)
         else:
-            ran = it.run(*words, given=it.trace, **how)
+            ran = it.run(*words, given=it.given(words), **how)
             told(ran, *statuses, 15)
         if keeps:
             assert it.arrays() == before, f"{words} changed a volume"
@@ -135,6 +143,10 @@ def lengths_of_files(it: Round, counts: Counter) -> None:
         every_command(it, (0, 4, 6, 7), counts, "under a limit on lengths", preexec_fn=limited(resource.RLIMIT_FSIZE, most))
 
 
+def small_stacks(it: Round, counts: Counter) -> None:
+    every_command(it, (0,), counts, "with a stack of 256 KiB", preexec_fn=limited(resource.RLIMIT_STACK, 262_144))
+
+
 # ---- Images that can't be had
 
 
@@ -154,12 +166,12 @@ def images_without(it: Round, name: str, counts: Counter, what: str, text: str, 
         words = it.words(command)
         if words[0] in TOUCHES_NONE or words[0] == "format":
             continue
-        ran = it.run(*words, given=it.trace, **how)
+        ran = it.run(*words, given=it.given(words), **how)
         told(ran, status, 6)
         if words[0] in ("check", "dump"):
             assert f"{name} {text}\n" in ran.stdout.decode(), f"{words} doesn't say {name} {text}"
         else:
-            assert len(ran.stdout.decode().splitlines()) == 1, f"{words} did something"
+            assert ran.stdout.count(b"\n") == (words[0] != "nbd"), f"{words} did something"
         assert it.bytes_of_images() == before, f"{words} wrote an image"
         counts[what] += 1
 
@@ -234,10 +246,12 @@ def second_process(it: Round, counts: Counter) -> None:
             time.sleep(0.01)
         held = quiet(it)
         for command in COMMANDS:
-            ran = it.run(*it.words(command), given=it.trace)
+            words_of = it.words(command)
+            ran = it.run(*words_of, given=it.given(words_of))
             touches = ran.args[1] not in TOUCHES_NONE
             told(ran, *((4, 6) if touches else (0,)))
-            assert not touches or b" disk bay" in ran.stdout or b" missing" in ran.stdout, f"{ran.args[1:]} says {ran.stdout!r}"
+            names = b" disk bay" in ran.stdout or b" missing" in ran.stdout or words_of[0] == "nbd"
+            assert not touches or names, f"{ran.args[1:]} says {ran.stdout!r}"
             assert it.bytes_of_images() == held, f"{ran.args[1:]} wrote an image that another process has"
             counts["beside another process"] += 1
         text = first.communicate(b"".join(lines[len(lines) // 2 :]), timeout=120)[0]
@@ -279,7 +293,7 @@ def full_file_systems(wol: str, seed: str, rounds: int, folder: Path) -> Counter
 
 
 def one_round(wol: str, folder: Path, rng: random.Random, counts: Counter) -> None:
-    for number, part in enumerate((open_files, lengths_of_files, read_only, odd_files, second_process)):
+    for number, part in enumerate((open_files, lengths_of_files, small_stacks, read_only, odd_files, second_process)):
         place = folder / str(number)
         place.mkdir()
         it = Round(wol, place, rng)

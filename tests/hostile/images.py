@@ -6,6 +6,7 @@ A volume's array is its home, and over it each block of the newest record that k
 import hashlib
 import struct
 import tomllib
+from functools import lru_cache
 from pathlib import Path
 from typing import NamedTuple
 
@@ -45,7 +46,7 @@ class Volume(NamedTuple):
 
 class Config(NamedTuple):
     segment_blocks: int
-    volumes: list[Volume]
+    volumes: tuple[Volume, ...]
 
     @property
     def most(self) -> int:
@@ -64,16 +65,14 @@ class Refused(NamedTuple):
 
 
 class Opened(NamedTuple):
-    """A volume in order: its array, its valid records by rising version, how many segments hold them, and its next version."""
+    """A volume in order: its array, its valid records by rising version, how many segments hold them, its next version, and the digest
+    of the array."""
 
     array: list[bytes]
     records: list[tuple[Record, Place]]
     segments: int
     next_version: int
-
-    @property
-    def digest(self) -> str:
-        return hashlib.sha256(b"".join(self.array)).hexdigest()
+    digest: str
 
 
 class Image(NamedTuple):
@@ -85,8 +84,8 @@ class Image(NamedTuple):
 def read_config(text: str) -> Config:
     """A configuration that `wol` accepts."""
     said = tomllib.loads(text)
-    volumes = [Volume(v["name"], v["host"], v["disk"], v["home_blocks"], v["segments"]) for v in said["volume"]]
-    return Config(said["segment_blocks"], volumes)
+    volumes = (Volume(v["name"], v["host"], v["disk"], v["home_blocks"], v["segments"]) for v in said["volume"])
+    return Config(said["segment_blocks"], tuple(volumes))
 
 
 def padded(spelled: bytes) -> bytes:
@@ -154,13 +153,11 @@ def records_of(segment: list[bytes], owner: int, home_blocks: int) -> list[tuple
     return found
 
 
-def read_image(folder: Path, config: Config, number: int) -> Image | Refused:
+def read_image(config: Config, number: int, data: bytes | None) -> Image | Refused:
     """An image by itself: its length, label, view and the heads of its segments."""
     volume = config.volumes[number]
-    path = folder / f"{volume.name}.vol"
-    if not path.is_file():
+    if data is None:
         return Refused("absent", 12)
-    data = path.read_bytes()
     if len(data) != BLOCK * config.first_block(number, volume.segments):
         return Refused(f"length {len(data)}", 5)
     blocks = [data[at : at + BLOCK] for at in range(0, len(data), BLOCK)]
@@ -216,21 +213,29 @@ def open_volume(config: Config, images: list[Image | Refused], number: int) -> O
         for i in range(one.count):
             if one.mask >> i & 1:
                 array[one.lbn + i] = one.blocks[i]
-    return Opened(array, valid, len({(it.logger, it.segment) for _, it in valid}), top + 1)
+    digest = hashlib.sha256(b"".join(array)).hexdigest()
+    return Opened(array, valid, len({(it.logger, it.segment) for _, it in valid}), top + 1, digest)
 
 
-def opened(folder: Path, config: Config) -> list[Opened | Refused]:
-    """Each volume, as opening them all finds it."""
-    images = [read_image(folder, config, number) for number in range(len(config.volumes))]
-    return [open_volume(config, images, number) for number in range(len(config.volumes))]
+@lru_cache(maxsize=2)
+def opened_of(config: Config, files: tuple[bytes | None, ...]) -> tuple[Opened | Refused, ...]:
+    """Each volume, as opening all finds it in these images."""
+    images = [read_image(config, number, data) for number, data in enumerate(files)]
+    return tuple(open_volume(config, images, number) for number in range(len(images)))
 
 
-def first_refused(config: Config, volumes: list[Opened | Refused]) -> tuple[str, Refused] | None:
+def opened(folder: Path, config: Config) -> tuple[Opened | Refused, ...]:
+    """Each volume, as opening them all finds it. What is found is read once for images that stay the same: change none of it."""
+    paths = [folder / f"{it.name}.vol" for it in config.volumes]
+    return opened_of(config, tuple(it.read_bytes() if it.is_file() else None for it in paths))
+
+
+def first_refused(config: Config, volumes: tuple[Opened | Refused, ...]) -> tuple[str, Refused] | None:
     """The first volume that isn't in order, if there is one: its name and what is wrong."""
     return next(((v.name, it) for v, it in zip(config.volumes, volumes) if isinstance(it, Refused)), None)
 
 
-def check_text(config: Config, volumes: list[Opened | Refused]) -> str:
+def check_text(config: Config, volumes: tuple[Opened | Refused, ...]) -> str:
     """What `check` prints of volumes that were opened so."""
     lines = []
     for volume, it in zip(config.volumes, volumes):
@@ -239,7 +244,7 @@ def check_text(config: Config, volumes: list[Opened | Refused]) -> str:
     return "".join(lines)
 
 
-def dump_text(config: Config, volumes: list[Opened | Refused]) -> str:
+def dump_text(config: Config, volumes: tuple[Opened | Refused, ...]) -> str:
     """What `dump` prints of volumes that were opened so."""
     lines = []
     for volume, it in zip(config.volumes, volumes):
@@ -260,4 +265,4 @@ def recovered(folder: Path, config: Config) -> list[list[bytes]]:
     volumes = opened(folder, config)
     if wrong := first_refused(config, volumes):
         raise AssertionError(f"{wrong[0]} {wrong[1].text}")
-    return [it.array for it in volumes]
+    return [list(it.array) for it in volumes]

@@ -1,6 +1,6 @@
 """Kills replays at random moments and looks at what they left.
 
-usage: kills.py WOL [--kills N] [--seed S] [--folder F]
+usage: kills.py WOL [--kills N] [--jobs J] [--seed S] [--folder F]
 
 Each round replays a random trace over small volumes with `--each`, kills the program with SIGKILL at a random moment, and then asks:
 are the lines that it printed those of the plain arrays, in order; is what each volume's images stand for (by a reader of its own, and
@@ -10,12 +10,16 @@ done. It prints its counts, and ends with 1 and the folder of the first round th
 """
 
 import argparse
+import os
 import random
 import shutil
 import subprocess
 import sys
 import tempfile
 import time
+from collections import Counter
+from concurrent.futures import ProcessPoolExecutor
+from functools import partial
 from pathlib import Path
 
 from images import ZEROS, Config, Opened, check_text, opened, read_config, recovered
@@ -86,7 +90,7 @@ def kill(wol: str, folder: Path, rng: random.Random, *words: str) -> bool:
 def kill_keeping(wol: str, folder: Path, config: Config, rng: random.Random, arrays: list) -> bool:
     """Kills a command that may change where content lies, and not what it is."""
     two = [it.name for it in rng.sample(config.volumes, 2)]
-    words = rng.choice((["check"], ["dump"], ["view-add", *two], ["view-remove", *two]))
+    words = rng.choice((["check"], ["dump"], ["clean"], ["clean"], ["view-add", *two], ["view-remove", *two]))
     stopped = kill(wol, folder, rng, *words)
     assert recovered(folder, config) == arrays, f"{words} changed a volume"
     return stopped
@@ -108,45 +112,75 @@ def kill_format(wol: str, folder: Path, config: Config, rng: random.Random, arra
     return stopped
 
 
+# How long a replay lasts, as far as this process has seen.
+LASTS = [0.05]
+
+
+def one_round(wol: str, folder: Path, config: Config, rng: random.Random, arrays: list, counts: Counter) -> list:
+    """A replay that is killed at a random moment, and then a command that keeps what it left; the arrays afterwards."""
+    trace, asked = random_trace(rng, config, rng.choice((20, 200, 1500)))
+    (folder / "trace.csv").write_bytes(trace)
+    options = ["--workers", rng.choice("14"), "--reclaim", rng.choice(MODES)]
+    start = time.monotonic()
+    stopped, lines = killed(wol, folder, options, rng.uniform(0, 1.3 * LASTS[0]))
+    LASTS[0] = 1.2 * LASTS[0] if stopped else time.monotonic() - start
+    after = look(wol, folder, config, arrays, asked, lines, stopped)
+    counts["replays"] += 1
+    counts["replays killed"] += stopped
+    counts["kills among writes"] += stopped and after != arrays
+    counts["other commands killed"] += kill_keeping(wol, folder, config, rng, after)
+    return after
+
+
+def one_folder(wol: str, seed: int, root: str | None, number: int) -> tuple[Counter, str]:
+    """Replays over one folder of images, each over what the one before left: what was counted, or what went wrong."""
+    rng, counts = random.Random(f"{seed} {number}"), Counter()
+    folder = Path(tempfile.mkdtemp(prefix="wol-kills-", dir=root))
+    text = random_config(rng)
+    config = read_config(text)
+    (folder / "wol.toml").write_text(text)
+    try:
+        assert call(wol, folder, "format").returncode == 0
+        arrays = recovered(folder, config)
+        for _ in range(8):
+            arrays = one_round(wol, folder, config, rng, arrays, counts)
+        counts["formats killed"] += kill_format(wol, folder, config, rng, arrays)
+    except (AssertionError, subprocess.TimeoutExpired) as wrong:
+        return Counter(), f"folder {number} of seed {seed} went wrong: {wrong}; it is {folder}"
+    shutil.rmtree(folder)
+    return counts, ""
+
+
+def until(goals: dict[str, int], jobs: int, work) -> Counter | None:
+    """Works on numbered folders side by side until so much was counted; nothing where one went wrong, which is said."""
+    counts, first = Counter(), 0
+    with ProcessPoolExecutor(jobs) as pool:
+        while any(counts[what] < goal for what, goal in goals.items()):
+            for found, wrong in pool.map(work, range(first, first + 2 * jobs)):
+                if wrong:
+                    pool.shutdown(cancel_futures=True)
+                    print(wrong, file=sys.stderr)
+                    return None
+                counts += found
+            first += 2 * jobs
+    return counts
+
+
 def main() -> int:
     words = argparse.ArgumentParser()
     words.add_argument("wol")
     words.add_argument("--kills", type=int, default=50)
+    words.add_argument("--jobs", type=int, default=os.cpu_count())
     words.add_argument("--seed", type=int, default=1)
     words.add_argument("--folder", help="where images are made; a memory file system and a disk show different stops")
     asked_for = words.parse_args()
-    wol, rng = str(Path(asked_for.wol).resolve()), random.Random(asked_for.seed)
-    rounds = stops = within = others = 0
-    lasts = 0.05
-    while within < asked_for.kills:
-        folder = Path(tempfile.mkdtemp(prefix="wol-kills-", dir=asked_for.folder))
-        text = random_config(rng)
-        config = read_config(text)
-        (folder / "wol.toml").write_text(text)
-        assert call(wol, folder, "format").returncode == 0
-        arrays = recovered(folder, config)
-        for _ in range(8):
-            trace, asked = random_trace(rng, config, rng.choice((20, 200, 1500)))
-            (folder / "trace.csv").write_bytes(trace)
-            options = ["--workers", rng.choice("14"), "--reclaim", rng.choice(MODES)]
-            start = time.monotonic()
-            try:
-                stopped, lines = killed(wol, folder, options, rng.uniform(0, 1.3 * lasts))
-                lasts = 1.2 * lasts if stopped else time.monotonic() - start
-                before, arrays = arrays, look(wol, folder, config, arrays, asked, lines, stopped)
-                others += kill_keeping(wol, folder, config, rng, arrays)
-            except (AssertionError, subprocess.TimeoutExpired) as wrong:
-                print(f"round {rounds + 1} of seed {asked_for.seed} went wrong: {wrong}; its folder is {folder}", file=sys.stderr)
-                return 1
-            rounds, stops = rounds + 1, stops + stopped
-            within += stopped and arrays != before
-        try:
-            others += kill_format(wol, folder, config, rng, arrays)
-        except (AssertionError, subprocess.TimeoutExpired) as wrong:
-            print(f"a format of seed {asked_for.seed} went wrong: {wrong}; its folder is {folder}", file=sys.stderr)
-            return 1
-        shutil.rmtree(folder)
-    print(f"{rounds} replays, {stops} killed, {within} of them among writes, and {others} other commands: each printed line and each array is as it may be")
+    wol = str(Path(asked_for.wol).resolve())
+    work = partial(one_folder, wol, asked_for.seed, asked_for.folder)
+    counts = until({"kills among writes": asked_for.kills}, asked_for.jobs, work)
+    if counts is None:
+        return 1
+    told = ", ".join(f"{count} {what}" for what, count in counts.items())
+    print(f"{told}: each printed line and each array is as it may be")
     return 0
 
 

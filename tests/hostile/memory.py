@@ -22,13 +22,24 @@ from pathlib import Path
 from files import Round, look_after, told
 from images import Opened, Refused, check_text, opened
 
-COMMANDS = ("check", "dump", "gen 7 40", "whatif", "view-add {0} {1}", "view-remove {0} {1}", "replay --each", "replay --each --workers 4")
-COMMANDS += ("soak 7 40", "solo a 0 40", "format", "nonsense", "solo a 00 40", "replay --workers 65")
-KEEPING = ("check", "dump", "gen", "whatif", "view-add", "view-remove", "solo", "nonsense")
+COMMANDS = ("check", "dump", "gen 7 40", "whatif", "view-add {0} {1}", "view-remove {0} {1}", "clean", "nbd {0}", "replay --each")
+COMMANDS += ("replay --each --workers 4", "soak 7 40", "solo a 0 40", "format", "nonsense", "solo a 00 40", "replay --workers 65")
+KEEPING = ("check", "dump", "gen", "whatif", "view-add", "view-remove", "clean", "nbd", "solo", "nonsense")
+# A reply of `nbd` may have the error of memory in place of its data, and its status prints nothing.
+FREE = ("replay", "soak", "nbd")
 
 
-def refusing(library: Path, at: int, all_later: bool, count: Path) -> dict:
-    env = {**os.environ, "LD_PRELOAD": str(library), "REFUSE_AT": str(at), "REFUSE_COUNT": str(count)}
+def made_library(folder: Path) -> Path | None:
+    """refuse.c as the program can load it, where there is a C compiler."""
+    if not shutil.which("cc"):
+        return None
+    library = folder / "refuse.so"
+    subprocess.run(["cc", "-O2", "-shared", "-fPIC", "-o", library, Path(__file__).with_name("refuse.c"), "-ldl"], check=True)
+    return library
+
+
+def refusing(library: Path, at: int, all_later: bool, count: Path, **more: str) -> dict:
+    env = {**os.environ, "LD_PRELOAD": str(library), "REFUSE_AT": str(at), "REFUSE_COUNT": str(count), **more}
     return {"env": env | ({"REFUSE_FROM": "1"} if all_later else {})}
 
 
@@ -40,18 +51,19 @@ def remake(folder: Path, images: dict[str, bytes]) -> None:
 
 
 def formatted_partly(volumes: list) -> bool:
-    """Each volume is in order, or has no label, or logs on one that has none."""
-    return all(isinstance(it, Opened) or isinstance(it, Refused) and it.text.split()[0] in ("damaged", "logger") for it in volumes)
+    """Each volume is in order, or is empty or has no label, or logs on one that has none."""
+    texts = ("damaged", "length", "logger", "absent")
+    return all(isinstance(it, Opened) or isinstance(it, Refused) and it.text.split()[0] in texts for it in volumes)
 
 
 def try_one(it: Round, words: list[str], usual: subprocess.CompletedProcess, how: dict) -> int:
     """One run with memory refused: its status."""
     before = it.arrays()
-    ran = it.run(*words, given=it.trace, **how)
+    ran = it.run(*words, given=it.given(words), **how)
     text = ran.stdout.decode(errors="replace")
     assert ran.returncode in (9, usual.returncode), f"{words} ends with {ran.returncode}: {text!r}"
-    assert ran.returncode == 9 or ran.stdout == usual.stdout or words[0] in ("replay", "soak"), f"{words} says {text!r}"
-    assert ran.returncode != 9 or text.endswith("fault 9 memory\n"), f"{words} ends with 9 and {text!r}"
+    assert ran.returncode == 9 or ran.stdout == usual.stdout or words[0] in FREE, f"{words} says {text!r}"
+    assert ran.returncode != 9 or words[0] == "nbd" or text.endswith("fault 9 memory\n"), f"{words} ends with 9 and {text!r}"
     if words[0] == "replay" and not usual.returncode:
         look_after(it.config, before, it.asked, ran, it.arrays())
     elif words[0] in KEEPING:
@@ -65,10 +77,10 @@ def try_one(it: Round, words: list[str], usual: subprocess.CompletedProcess, how
 def one_command(it: Round, command: str, library: Path, tries: int, counts: Counter) -> None:
     words, images = it.words(command), it.bytes_of_images()
     count = it.folder / "count"
-    usual = it.run(*words, given=it.trace, **refusing(library, 0, False, count))
+    usual = it.run(*words, given=it.given(words), **refusing(library, 0, False, count))
     made = int.from_bytes(count.read_bytes(), "little")
     remake(it.folder, images)
-    assert usual.returncode == it.run(*words, given=it.trace).returncode, f"{words}: refuse.c alone changes the status"
+    assert usual.returncode == it.run(*words, given=it.given(words)).returncode, f"{words}: refuse.c alone changes the status"
     chosen = range(1, made + 1) if made <= tries else sorted(it.rng.sample(range(1, made + 1), tries))
     for at in chosen:
         for all_later in (False, True):
@@ -90,11 +102,10 @@ def main() -> int:
     asked_for = words.parse_args()
     wol, counts = str(Path(asked_for.wol).resolve()), Counter()
     folder = Path(tempfile.mkdtemp(prefix="wol-memory-", dir=asked_for.folder))
-    library = folder / "refuse.so"
-    if not shutil.which("cc"):
+    library = made_library(folder)
+    if not library:
         print("skipped: no C compiler (cc) for refuse.c")
         return 0
-    subprocess.run(["cc", "-O2", "-shared", "-fPIC", "-o", library, Path(__file__).with_name("refuse.c")], check=True)
     place = folder / "at"
     place.mkdir()
     it = Round(wol, place, random.Random(asked_for.seed))

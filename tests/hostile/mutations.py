@@ -4,10 +4,10 @@ usage: mutations.py WOL [--images N] [--lines N] [--configs N] [--jobs J] [--see
 
 It makes sound images with records in their logs and spoils N of them, in copies: bits, blocks of zeros, blocks from elsewhere, heads
 with another owner, version, place or mask, cut and grown files. Of each copy `check`, `dump`, a replay and a last `check` have to
-print what a reader of this folder's own (images.py) and plain arrays (model.py) make of it. It spoils N lines of traces, of which
-`solo` has to print what model.py makes of them, and N configurations, of which `gen` has to say whether and why they are none. The
-program always ends by itself. A seed gives the same inputs each time, whatever J is. It prints its counts, and ends with 1 and the
-folder of the first input that went wrong.
+print what a reader of this folder's own (images.py) and plain arrays (model.py) make of it, and of each fourth `clean` has to keep the
+arrays. It spoils N lines of traces, of which `solo` has to print what model.py makes of them, and N configurations, of which `gen` has
+to say whether and why they are none. The program always ends by itself. A seed gives the same inputs each time, whatever J is. It
+prints its counts, and ends with 1 and the folder of the first input that went wrong.
 """
 
 import argparse
@@ -118,7 +118,7 @@ def try_replay(wol: str, folder: Path, config: Config, rng: random.Random) -> No
     if wrong := first_refused(config, volumes):
         expect("replay", (wrong[1].status, f"fault {wrong[1].status} {wrong[0]} {wrong[1].text}\n"), ran)
         return
-    before = [it.array for it in volumes]
+    before = [list(it.array) for it in volumes]
     printed = [it for it in ran[1].splitlines() if it.startswith("read ")]
     wanted = read_lines(config, before, asked)
     if all(has_versions(it, number, asked) for number, it in enumerate(volumes)):
@@ -149,6 +149,18 @@ def look(wol: str, folder: Path, config: Config, command: str) -> None:
     assert check_text(config, opened(folder, config)) == check_text(config, volumes), f"{command} changed what a volume is"
 
 
+def try_clean(wol: str, folder: Path, config: Config) -> None:
+    """A cleaning is refused for the first volume that isn't in order, or leaves each array, as far as versions go."""
+    volumes, ran = opened(folder, config), call(wol, folder, "clean")
+    if wrong := first_refused(config, volumes):
+        expect("clean", (wrong[1].status, f"fault {wrong[1].status} {wrong[0]} {wrong[1].text}\n"), (ran.returncode, ran.stdout))
+        return
+    assert ran.returncode in (0, 11), f"clean ends with {ran.returncode}"
+    assert ran.returncode == 0 or any(2 * it.next_version > VERSIONS for it in volumes), "clean says that versions are spent"
+    after = opened(folder, config)
+    assert not first_refused(config, after) and [it.array for it in after] == [it.array for it in volumes], "clean changed a volume"
+
+
 def spoiled_images(wol: str, seed: str, folder: Path) -> Counter:
     """Copies of one folder of sound images, each spoiled."""
     rng, counts = random.Random(seed), Counter()
@@ -169,6 +181,8 @@ def spoiled_images(wol: str, seed: str, folder: Path) -> Counter:
         look(wol, folder, config, "check")
         look(wol, folder, config, "dump")
         opens = not first_refused(config, opened(folder, config))
+        if rng.random() < 0.25:
+            try_clean(wol, folder, config)
         try_replay(wol, folder, config, rng)
         look(wol, folder, config, "check")
         counts["images"] += sum(data != it for data, it in zip(images, whole))

@@ -56,10 +56,10 @@ def spoiled_line(rng: random.Random) -> bytes:
     if rng.random() < 0.03:
         return rng.choice((b"", b"\r", b" ", b"\r\r", b"\x00", b",,,,,,", b"," * 4096))
     fields = sound_fields(rng)
-    if rng.random() < 0.7:
+    if rng.random() < 0.35:
         spoil_fields(rng, fields)
     line = bytearray(b",".join(fields))
-    if rng.random() < 0.25:
+    if rng.random() < 0.12:
         spoil_bytes(rng, line)
     if rng.random() < 0.1:
         line += b"\r"
