@@ -1,6 +1,7 @@
 // Runs of the top call over streams and a bay in memory. The expected outputs were worked out by hand from the formats.
 ghost use Rattle.solo.specs.Images.{NoneOut};
 
+use fixtures::{DRAINING, DRAINS, OFFLOADS, ONE_BLOCK_EACH, THREE};
 use std::alloc::{AllocError, Global};
 use std::process::Abort;
 use std::sync::Wait;
@@ -13,34 +14,6 @@ use wol_run::run;
 
 const WRITE_AND_READ: &[u8] =
     b"128166372003061629,usr,0,Write,0,512,100\n128166372003061630,usr,0,Read,0,512,100\n";
-
-const THREE_VOLUMES: &str = r#"segment_blocks = 16
-timeout_ms = 60000
-awake_mw = 8000
-standby_mw = 1000
-wake_mj = 50000
-[[volume]]
-name = "usr0"
-host = "usr"
-disk = 0
-home_blocks = 1000
-segments = 4
-view = ["web0"]
-[[volume]]
-name = "web0"
-host = "web"
-disk = 0
-home_blocks = 1000
-segments = 4
-view = []
-[[volume]]
-name = "src0"
-host = "src"
-disk = 0
-home_blocks = 1000
-segments = 4
-view = ["web0", "usr0"]
-"#;
 
 const TWO_VOLUMES: &[u8] = b"segment_blocks = 4
 awake_mw = 1
@@ -271,7 +244,7 @@ fn configured<'a>(words: &'a str, config: &'a [u8], status: u8, text: &'a [u8]) 
 
 #[test]
 fn prints_generated_lines(rt: HostRuntime) -> Result<(), Fail> {
-    let three = THREE_VOLUMES.as_bytes();
+    let three = THREE.as_bytes();
     let line = b"128166372000147231,web,0,Write,227328,6144,1000\n";
     let rows = [
         configured("gen 0 1", three, 0, line),
@@ -353,20 +326,6 @@ fn makes_images_anew(rt: HostRuntime) -> Result<(), Fail> {
     Ok(())
 }
 
-const OFFLOADS: &[u8] = b"128166372000000000,usr,0,Write,0,4096,100
-128166372000000000,web,0,Write,8192,1024,100
-128166372500000000,web,0,Read,8192,1024,100
-128166373000000000,web,0,Write,0,512,100
-128166373005000000,usr,0,Write,0,1024,100
-128166373200000000,usr,0,Read,0,1024,100
-128166373500000000,src,0,Write,5120,512,100
-128166374000000000,usr,0,Read,1024,1024,100
-128166374300000000,usr,0,Write,0,512,100
-128166375000000000,web,0,Read,0,512,100
-128166375200000000,src,0,Read,5120,512,100
-128166376000000000,src,0,Read,5120,1024,100
-";
-
 const OFFLOADED: &[u8] = b"read 3 web0 16 2 4
 read 6 usr0 0 2 10
 read 8 usr0 2 2 2
@@ -393,24 +352,6 @@ volume usr0 wakes 0 sleeps 0 awake 0 standby 0 energy 0
 volume web0 wakes 0 sleeps 0 awake 0 standby 0 energy 0
 volume src0 wakes 0 sleeps 0 awake 0 standby 0 energy 0
 total wakes 0 sleeps 0 energy 0
-";
-
-const DRAINING: &[u8] = b"segment_blocks = 4
-timeout_ms = 60000
-awake_mw = 8000
-standby_mw = 1000
-wake_mj = 50000
-volume = [
-  { name = \"a\", host = \"a\", disk = 0, home_blocks = 100, segments = 0, view = [\"b\"] },
-  { name = \"b\", host = \"b\", disk = 0, home_blocks = 100, segments = 1, view = [] },
-]
-";
-
-const DRAINS: &[u8] = b"128166372000000000,b,0,Read,0,512,100
-128166372500000000,b,0,Read,0,512,100
-128166373000000000,a,0,Write,0,512,100
-128166373000000000,a,0,Write,0,512,100
-128166373000000000,a,0,Read,0,512,100
 ";
 
 const DRAINED: &[u8] = b"read 1 b 0 1 0
@@ -441,7 +382,7 @@ fn replayed<'a>(
 
 #[test]
 fn replays_traces(rt: HostRuntime) -> Result<(), Fail> {
-    let three = THREE_VOLUMES.as_bytes();
+    let three = THREE.as_bytes();
     let mut bay = MemBay::new(rt.alloc());
     let formatted = b"format usr0 blocks 1066\nformat web0 blocks 1066\nformat src0 blocks 1066\n";
     let absent = b"fault 12 usr0 absent\n";
@@ -509,7 +450,7 @@ all wakes 0 sleeps 0 energy 0
 
 #[test]
 fn compares_policies(rt: HostRuntime) -> Result<(), Fail> {
-    let three = THREE_VOLUMES.as_bytes();
+    let three = THREE.as_bytes();
     let mut bay = MemBay::new(rt.alloc());
     let rows = [
         replayed("whatif", three, OFFLOADS, 0, COMPARED),
@@ -594,12 +535,12 @@ fn drains_a_full_log(rt: HostRuntime) -> Result<(), Fail> {
     let rows = [
         replayed(
             "format",
-            DRAINING,
+            DRAINING.as_bytes(),
             b"",
             0,
             b"format a blocks 102\nformat b blocks 106\n",
         ),
-        replayed("replay --each", DRAINING, DRAINS, 0, DRAINED),
+        replayed("replay --each", DRAINING.as_bytes(), DRAINS, 0, DRAINED),
     ];
     try_all(&rt, rt.alloc(), &rows, &mut bay)?;
     Ok(())
@@ -625,7 +566,7 @@ fn last_version() -> [Block; 1066] {
 
 #[test]
 fn no_version_comes_after_the_last(rt: HostRuntime) -> Result<(), Fail> {
-    let three = THREE_VOLUMES.as_bytes();
+    let three = THREE.as_bytes();
     let mut bay = MemBay::new(rt.alloc());
     let formatted = b"format usr0 blocks 1066\nformat web0 blocks 1066\nformat src0 blocks 1066\n";
     let format = replayed("format", three, b"", 0, formatted);
@@ -666,7 +607,7 @@ record 1 10 1 on web0 segment 1 block 1 live 00000000000000000000000000000001 ho
 
 #[test]
 fn keeps_records_where_reclaim_is_off(rt: HostRuntime) -> Result<(), Fail> {
-    let three = THREE_VOLUMES.as_bytes();
+    let three = THREE.as_bytes();
     let formatted = b"format usr0 blocks 1066\nformat web0 blocks 1066\nformat src0 blocks 1066\n";
     let mut bay = MemBay::new(rt.alloc());
     let rows = [
@@ -684,20 +625,9 @@ web0 ok sha256 61b45ae54ca39a001efc0780d6e0aadd8fb5fa0b7d9c6d59de4ada0b1d6c3be3 
 src0 ok sha256 431c7bfed2499633fc2023ccdc39e2e344e23156fc688cb3947d92b384e10c33 records 1 segments 1
 ";
 
-const SMALL_VOLUMES: &[u8] = b"segment_blocks = 16
-awake_mw = 8000
-standby_mw = 1000
-wake_mj = 50000
-volume = [
-  { name = \"a\", host = \"a\", disk = 0, home_blocks = 1, segments = 1, view = [\"b\"] },
-  { name = \"b\", host = \"b\", disk = 0, home_blocks = 1, segments = 1, view = [] },
-  { name = \"c\", host = \"c\", disk = 0, home_blocks = 1, segments = 1, view = [] },
-]
-";
-
 #[test]
 fn changes_views(rt: HostRuntime) -> Result<(), Fail> {
-    let small = SMALL_VOLUMES;
+    let small = ONE_BLOCK_EACH.as_bytes();
     let formatted = b"format a blocks 19\nformat b blocks 19\nformat c blocks 19\n";
     let mut bay = MemBay::new(rt.alloc());
     let rows = [
@@ -730,7 +660,7 @@ fn changes_views(rt: HostRuntime) -> Result<(), Fail> {
 
 #[test]
 fn drains_before_a_logger_leaves(rt: HostRuntime) -> Result<(), Fail> {
-    let three = THREE_VOLUMES.as_bytes();
+    let three = THREE.as_bytes();
     let formatted = b"format usr0 blocks 1066\nformat web0 blocks 1066\nformat src0 blocks 1066\n";
     let mut bay = MemBay::new(rt.alloc());
     let rows = [
