@@ -13,6 +13,7 @@ use Rattle.report.specs.declared.fault.Fault.TheVariants.{Memory, Volume}
 use Rattle.troubles.specs.Troubles.{trouble_of}
 use Rattle.volume_images.specs.Left.{AreNamedApart, IsTold}
 use Rattle.volume_images.specs.Volumes.{AreLeft, images_read, shapes_of}
+use Rattle.rack.specs.Closes.{HasFaultyPart}
 use Rattle.rack.specs.Owners.{IsBegun, most_of}
 use Rattle.rack.specs.declared.volume_fault.VolumeFault.{VolumeFault}
 use Rattle.open_rack.specs.NotOpened.{IsFirstClosed, LeavesBay}
@@ -51,8 +52,9 @@ pub record ServesOpen (tells : Bool) (config : Config) (volume : ℕ) (old new :
   pub end : Pieces
   pub session : IsSession (IsTurnAt (IsTrue tells) base.array) conf.home (most_of config) (pieces_of base.look []) end wire.left wire'.left wire.taken wire'.taken answer
   pub faults : CountsFaults wire.source_faults wire'.source_faults wire.sink_faults wire'.sink_faults answer
-  -- a call of a disk that failed is counted
+  -- a call of a disk that failed is counted, and was one of a part of this volume
   pub cause : IsSome end.flight → Rose old.faults new.faults
+  pub faulty : IsSome end.flight → IsTrue tells → IsTold (HasFaultyPart tells config volume base.view) old.told new.told
   pub images : IsTrue tells → IsTold (LeavesServed config volume end) old.told new.told
   pub others : IsTrue tells → IsTold (LeavesOthers config volume) old.told new.told
 

@@ -4,8 +4,8 @@
 //! `command.rt` has `serve_volume`; `serving.rt` what is done while the volumes are open: the first that isn't open ends it,
 //! else the volume is served; `stop.rt` why the command ended without the end of a session, and its status. Of `specs/`:
 //! `Wires` has source and sink as contracts see them, `Racks` what is done with a rack, `Runs` what the command comes to, told
-//! of the bay before and behind it. In `proofs/`: `Placed` (the station of the volume among all), `Closed` (what the volumes
-//! recover to), `Sessions` (the session at the bay).
+//! of the bay before and behind it. In `proofs/`: `Placed` (the station of the volume among all), `Recovered` (what images
+//! recover to, as pieces), `Sessions` (the session at the bay), `Whole` (what the command comes to).
 #![tactic(auto)]
 
 mod command;
