@@ -24,5 +24,6 @@ mod volume;
 
 pub use error::NbdError;
 pub use header::{Command, Header};
+pub use intake::{fill_room, take_data};
 pub use session::{Ended, NbdFault, serve};
 pub use volume::{Refusal, Volume};
