@@ -4,7 +4,7 @@
 PREFIX ?= /usr/local
 DESTDIR ?=
 
-.PHONY: look build demo week test hostile bench install clean
+.PHONY: look build demo week test hostile clients bench install clean
 
 # Four policies on a sample trace, compiled by `rt try` with no proof. It runs in an empty folder, which is removed.
 look:
@@ -75,6 +75,10 @@ hostile: build
 	python3 tests/hostile/calls.py build/wol --tries 100 --rounds 5
 	python3 tests/hostile/memory.py build/wol --tries 100
 	python3 tests/hostile/mutations.py build/wol --images 100000 --lines 1000000 --configs 20000
+
+# Real NBD clients, those that are installed, against `wol serve`, and 100 kills among writes. It fails on none that is missing.
+clients: build
+	python3 tests/clients.py build/wol
 
 bench: build
 	bench/all.sh

@@ -2,7 +2,7 @@
 _wol() {
     local word=${COMP_WORDS[COMP_CWORD]} before=${COMP_WORDS[COMP_CWORD - 1]}
     if [ "$COMP_CWORD" -eq 1 ]; then
-        mapfile -t COMPREPLY < <(compgen -W "format replay check dump whatif clean nbd gen soak view-add view-remove solo --help --version" -- "$word")
+        mapfile -t COMPREPLY < <(compgen -W "format replay check dump whatif clean serve nbd gen soak view-add view-remove solo --help --version" -- "$word")
         return
     fi
     case $before in

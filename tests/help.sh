@@ -62,8 +62,8 @@ usage_and_version() {
         wol $words
         expect "[$words]: status" 1 "$status"
         expect "[$words]: output" "fault 1 words" "$(cat "$room/out")"
-        expect "[$words]: lines of the usage" 15 "$(errors | wc -l)"
-        for command in format replay check dump whatif clean nbd gen soak solo view-add view-remove; do
+        expect "[$words]: lines of the usage" 16 "$(errors | wc -l)"
+        for command in format replay check dump whatif clean serve nbd gen soak solo view-add view-remove; do
             expect "[$words]: the usage has $command" 1 "$(errors | grep -c "^  wol $command")"
         done
     done
@@ -104,6 +104,14 @@ statuses() {
     status=$?
     expect_advice "a client that sends no requests" 14
     expect "a client that sends no requests: output" "" "$(cat "$room/out")"
+    timeout 60 "${program[@]}" serve usr0 <wol.toml >"$room/out" 2>"$room/errors"
+    status=$?
+    expect_advice "a client that sends no handshake" 14
+    expect "a client that sends no handshake: output" "NBDMAGICIHAVEOPT" "$(head -c 16 "$room/out")"
+    timeout 60 "${program[@]}" serve nobody <wol.toml >"$room/out" 2>"$room/errors"
+    status=$?
+    expect_advice "no volume of this name to serve" 15
+    expect "no volume of this name to serve: output" "" "$(cat "$room/out")"
     rm wol.toml
     wol check
     expect_advice "no file wol.toml" 8

@@ -117,6 +117,9 @@ closed_streams() {
     expect "[nbd usr0] with {0} closed: images" "$(images "$room/model")" "$(images .)"
     run_with_closed 1 "nbd usr0"
     expect "[nbd usr0] with {1} closed: status" 7 $?
+    run_with_closed 0 "serve usr0"
+    expect "[serve usr0] with {0} closed: status" 8 $?
+    expect "[serve usr0] with {0} closed: output" "" "$(cat "$room/out")"
     fresh
     run_with_closed 0 "nonsense"
     expect "[nonsense] with {0} closed: status" 1 $?

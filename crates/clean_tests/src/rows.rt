@@ -32,6 +32,33 @@ volume = [
 ]
 "#;
 
+// The first volume logs on the segments of the second, in each of which there is room for a chunk of six blocks.
+const MANY_SEGMENTS: &str = r#"segment_blocks = 8
+timeout_ms = 60000
+awake_mw = 8000
+standby_mw = 1000
+wake_mj = 50000
+volume = [
+  { name = "a", host = "a", disk = 0, home_blocks = 32, segments = 0, view = ["b"] },
+  { name = "b", host = "b", disk = 0, home_blocks = 1, segments = 16, view = [] },
+]
+"#;
+
+// Blocks 0 to 15 of the first volume. The third record lies under the fourth one, and the fifth one reaches from the
+// first chunk, where newer ones keep all its blocks, into the second one.
+const LAYERS: &[u8] = b"128166372000000000,b,0,Read,0,512,100
+128166372500000000,b,0,Read,0,512,100
+128166373000000000,a,0,Write,0,2048,100
+128166373000000000,a,0,Write,1024,2048,100
+128166373000000000,a,0,Write,2048,1024,100
+128166373000000000,a,0,Write,2048,1536,100
+128166373000000000,a,0,Write,2048,3072,100
+128166373000000000,a,0,Write,1536,1536,100
+128166373000000000,a,0,Write,5120,2048,100
+128166373000000000,a,0,Write,6144,2048,100
+128166373000000000,a,0,Write,5632,2048,100
+";
+
 /// Blocks 0 and 1 of the first volume, and then blocks 1 and 2, while its disk sleeps.
 pub(crate) const OVERLAPPING: &[u8] = b"128166372000000000,b,0,Read,0,512,100
 128166372500000000,b,0,Read,0,512,100
@@ -165,4 +192,27 @@ clean b records 0 to 0 copied 0
     let after = checked(&rt, alloc, &config, &mut bay)?;
     assert_eq!(&rt; before.as_slice(), after.as_slice());
     Ok(())
+}
+
+#[test]
+fn layers_become_a_record_for_each_chunk(rt: HostRuntime) -> Result<(), Fail> {
+    let alloc = rt.alloc();
+    let config = read_config(alloc, MANY_SEGMENTS.as_bytes())?;
+    let mut bay = offloaded(&rt, alloc, &config, LAYERS)?;
+    let before = checked(&rt, alloc, &config, &mut bay)?;
+    let first = b"clean a records 9 to 3 copied 16
+clean b records 0 to 0 copied 0
+";
+    try_lines(&rt, alloc, &config, &mut bay, first)?;
+    let after = checked(&rt, alloc, &config, &mut bay)?;
+    // a line is the name, ` ok sha256 `, 64 digits, and the numbers
+    assert_eq!(&rt; before.get(..76), after.get(..76));
+    assert_eq!(&rt;
+        after.get(76..98),
+        Some(b" records 3 segments 3\n".as_slice())
+    );
+    let second = b"clean a records 3 to 3 copied 0
+clean b records 0 to 0 copied 0
+";
+    try_lines(&rt, alloc, &config, &mut bay, second)
 }

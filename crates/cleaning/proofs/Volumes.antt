@@ -142,6 +142,12 @@ module _ {D : Type 0} (tells : Bool) (state : D → State) (config : Config) (di
         ∙ (begun_of t with).array
         ∙ ap (λ (n : ℕ). recovered_from (shapes_of config) (images_read config t) n) owner
 
+    -- its records in all images
+    listed_all : (records : List Listed) (images : Images) → length images ≡ length config.volumes.items → AreListedOf records (extents_of s.id (segments_out config after.rest.images.items images)) → AreListedOf records (extents_of v (all_segments (shapes_of config) images))
+    listed_all records images count listed =
+        subst (λ (is : Images). AreListedOf records (extents_of v (all_segments (shapes_of config) is))) (accepted_all config after.rest.images.items all_out_after images count)
+        (subst (λ (n : ℕ). AreListedOf records (extents_of n (segments_out config after.rest.images.items images))) number listed)
+
     -- a volume that had no turn
     module _ (unworked : pass_mine pass ≡ []) (its : pass_number pass ≡ worker) where
       none : ends.entries ≡ []
@@ -152,6 +158,13 @@ module _ {D : Type 0} (tells : Bool) (state : D → State) (config : Config) (di
       untouched_kept t y with recovers = array_kept t y with (λ images left_. none_cut (base_of_station s).volume.began.array _
           (subst (λ (es : List Entry). Rattle.wol_model.specs.History.IsCut (base_of_station s).volume.began.array (Rattle.wol_model.specs.History.writes (entries_of (notes_of es))) (unwrap_or (flight_of (entries_of (notes_of es))) [])
           (recovered_out config after.rest.images.items images s.id)) none (recovers.cut images left_)))
+
+      -- the records that are left are those with which it was opened
+      pub records_kept : (y : Told) → RecoversTo config after.rest.images.items (record s { worker = pass }) ends.entries y → LeavesRecords config v (base_of_station s).volume.began.look.listed y
+      records_kept y recovers images left_ =
+          let told = recovers.listed images left_ (ap (λ (es : List Entry). flight_of (entries_of (notes_of es))) none) in
+          listed_all (base_of_station s).volume.began.look.listed images left_.count
+          (subst (λ (es : List Entry). AreListedOf (last_look (base_of_station s).volume.began.look (notes_of es)).listed (extents_of s.id (segments_out config after.rest.images.items images))) none told)
 
     -- a volume that was cleaned
     module _ (result : Result Cleaned CleanFault) (c : CleansIn tells state (most_of config) s.worker pass result) where
@@ -194,14 +207,13 @@ module _ {D : Type 0} (tells : Bool) (state : D → State) (config : Config) (di
           (recovered_out config after.rest.images.items images s.id)) notes (recovers.cut images left_)))
 
       -- where none failed, the records that are left are those of the manager
-      pub records_left : ((p : Part) → result ≢ Err (DiskFault p)) → (y : Told) → RecoversTo config after.rest.images.items (record s { worker = pass }) ends.entries y → LeavesRecords config v c.after y
+      pub records_left : ((p : Part) → result ≢ Err (DiskFault p)) → (y : Told) → RecoversTo config after.rest.images.items (record s { worker = pass }) ends.entries y → LeavesRecords config v (listed_in c.after.index.entries) y
       records_left sure y recovers images left_ =
           let calm = note_done c.note done.0.copies result operation sure in
           let told = recovers.listed images left_ (ap (λ (ns : List Noted). flight_of (entries_of ns)) notes ∙ calm) in
           let noted = subst (λ (ns : List Noted). AreListedOf (last_look (base_of_station s).volume.began.look ns).listed (extents_of s.id (segments_out config after.rest.images.items images))) notes told in
           let looked = subst (λ (l : Look). AreListedOf l.listed (extents_of s.id (segments_out config after.rest.images.items images))) stands.look noted in
-          let its_own = subst (λ (n : ℕ). AreListedOf (listed_in c.after.index.entries) (extents_of n (segments_out config after.rest.images.items images))) number looked in
-          subst (λ (is : Images). AreListedOf (listed_in c.after.index.entries) (extents_of v (all_segments (shapes_of config) is))) (accepted_all config after.rest.images.items all_out_after images left_.count) its_own
+          listed_all (listed_in c.after.index.entries) images left_.count looked
 
       -- where a call of a disk failed
       broke : (copies : List Write) → c.note.entry.operation ≡ Broke copies → flight_of (entries_of (notes_of ends.entries)) ≡ None → ⊥

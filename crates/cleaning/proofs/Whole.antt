@@ -1,5 +1,5 @@
 -- All volumes of a bay were cleaned: what was done with its rack is told of the bay.
-use Rattle.std.proofs.Common.{◌≡◌, ◌⊎◌, inl, inr, ◌<◌, ◌≤◌, ℕ, zero, suc, Bool, List, [], ◌∷◌, ◌++◌, length, map, Option, None, Some, Result, Ok, Err, refl, sym, ap, subst, ◌∙◌, arith, length-append}
+use Rattle.std.proofs.Common.{◌≡◌, ◌+◌, ◌⊎◌, inl, inr, ◌<◌, ◌≤◌, ℕ, zero, suc, Bool, List, [], ◌∷◌, ◌++◌, length, map, Option, None, Some, Result, Ok, Err, refl, sym, ap, subst, ◌∙◌, arith, length-append}
 use Rattle.std.specs.Prelude.{IfSome, IsTrue, slice_get}
 use Rattle.std.specs.List.{AllByRecursion}
 use Rattle.std.proofs.lemmas.Bool.{cases_lt}
@@ -8,7 +8,8 @@ use Rattle.wol_disk.specs.Disk.{State}
 use Rattle.wol_bay.specs.Bay.{BayState, Told}
 use Rattle.wol_model.specs.Blocks.{Write}
 use Rattle.wol_model.specs.Images.{Images, recovered_from}
-use Rattle.wol_model.specs.Index.{AreRising, is_covered}
+use Rattle.wol_model.specs.Index.{AreRising, is_covered, listed_in}
+use Rattle.wol_promise.specs.Manager.{Base}
 use Rattle.wol_promise.specs.Policy.{Look}
 use Rattle.wol_promise.specs.Stands.{IsOpening}
 use Rattle.wol_promise.proofs.Lists.{all_mapped, all_push}
@@ -19,7 +20,7 @@ use Rattle.manager.specs.declared.manager.Manager.{Manager}
 use Rattle.manager.specs.declared.part.Part.{Part}
 use Rattle.manager.specs.declared.station.Station.{Station}
 use Rattle.volume_images.specs.Left.{AreNamedApart, IsTold}
-use Rattle.volume_images.specs.Volumes.{AreLeft, images_read, shapes_of}
+use Rattle.volume_images.specs.Volumes.{AreLeft, images_read, shape_in, shapes_of}
 use Rattle.rack.specs.Closes.{AreLeftOfParts, HasFaultyPart, RecoversTo}
 use Rattle.rack.specs.Opens.{BeganWith}
 use Rattle.rack.specs.Owners.{IsBegun, most_of}
@@ -38,7 +39,7 @@ use Rattle.log_cleaner.specs.declared.answer.CleanFault.TheVariants.{DiskFault, 
 use Rattle.log_cleaner.proofs.Cleaning.{rising_push}
 use Rattle.cleaning.specs.Racks.{CleansAll, CleansFirst, CleansRack, CleansStation, all_ok}
 use Rattle.cleaning.specs.Racks as racks
-use Rattle.cleaning.specs.Runs.{AreCleaned, CleansBay, CleansVolume, Completes, EndsFor, KeepsArrays, LacksVersions, LeavesRecords, MayComplete}
+use Rattle.cleaning.specs.Runs.{AreCleaned, CleansBay, CleansVolume, Completes, EndsFor, KeepsArrays, LacksVersions, LeavesFrom, LeavesRecords, LeavesVolume, MayComplete}
 use Rattle.cleaning.specs.Runs as runs
 use Rattle.cleaning.specs.Turns.{operation_of}
 use Rattle.cleaning.proofs.Going.{ok_at, ok_length}
@@ -128,8 +129,8 @@ module _ {D : Type 0} (tells : Bool) (state : D → State) (config : Config) (di
       pass = volumes.its tells state config did old new spindles session open_ k s c.there c.pass c.now answer c.cleans;
       operation = volumes.operation tells state config did old new spindles session open_ k s c.there c.pass c.now answer c.cleans;
       stands = volumes.stands tells state config did old new spindles session open_ k s c.there c.pass c.now answer c.cleans;
-      listed = λ sure telling. later_told (LeavesRecords config k c.cleans.after) old.told session.bay.told new.told (session.opened.apart telling)
-          (told_of (λ y. RecoversTo config session.after.rest.images.items (record s { worker = c.pass }) (volumes.ends tells state config did old new spindles session open_ k s c.there c.pass c.now).entries y) (LeavesRecords config k c.cleans.after)
+      listed = λ sure telling. later_told (LeavesRecords config k (listed_in c.cleans.after.index.entries)) old.told session.bay.told new.told (session.opened.apart telling)
+          (told_of (λ y. RecoversTo config session.after.rest.images.items (record s { worker = c.pass }) (volumes.ends tells state config did old new spindles session open_ k s c.there c.pass c.now).entries y) (LeavesRecords config k (listed_in c.cleans.after.index.entries))
           (volumes.records_left tells state config did old new spindles session open_ k s c.there c.pass c.now answer c.cleans sure)
           session.bay.told new.told ((volumes.ends tells state config did old new spindles session open_ k s c.there c.pass c.now).recovers telling));
       cause = λ p is. volumes.rose tells state config did old new spindles session open_ k s c.there c.pass c.now answer c.cleans c.cleans.copies (broke p is);
@@ -140,6 +141,33 @@ module _ {D : Type 0} (tells : Bool) (state : D → State) (config : Config) (di
           (volumes.ends tells state config did old new spindles session open_ k s c.there c.pass c.now).opening
           (subst (HasCleaned tells state (most_of config) c.cleans.opened c.cleans.after) is (volumes.done tells state config did old new spindles session open_ k s c.there c.pass c.now answer c.cleans).0);
     }
+
+  -- ---- A volume that wasn't cleaned
+
+  module _ (v : ℕ) (s : Station D) (there : slice_get session.before.stations.items v ≡ Some s) (now : slice_get session.after.stations.items v ≡ Some (record s { worker = s.worker })) where
+    abbrev left_base : Base
+    left_base = (Rattle.rack.specs.Racks.base_of_station s).volume.began
+
+    pub leaves_volume : LeavesVolume tells config old new v
+    leaves_volume = record {
+      base = left_base;
+      owner = volumes.owner tells state config did old new spindles session open_ v s there s.worker now;
+      begun = λ telling. told_through (λ x y. AreNamedApart y) (λ x y. AreLeftOfParts state config session.after y) (λ t n. IsBegun config (images_read config t) left_base) old.told session.bay.told new.told
+          (session.opened.apart telling) (session.closed.parts telling) (λ t n is apart. volumes.begun_of tells state config did old new spindles session open_ v s there s.worker now t
+          (subst (λ (o : Option Told). IfSome o (λ x. AreNamedApart x → BeganWith state config x session.before)) is (session.opened.began telling) apart));
+      listed = λ telling. later_told (LeavesRecords config v left_base.look.listed) old.told session.bay.told new.told (session.opened.apart telling)
+          (told_of (λ y. RecoversTo config session.after.rest.images.items (record s { worker = s.worker }) (volumes.ends tells state config did old new spindles session open_ v s there s.worker now).entries y) (LeavesRecords config v left_base.look.listed)
+          (volumes.records_kept tells state config did old new spindles session open_ v s there s.worker now (volumes.unused tells state config did old new spindles session open_ v s there s.worker now).0.mine
+          (volumes.station tells state config did old new spindles session open_ v s there s.worker now).worker_.number_is)
+          session.bay.told new.told ((volumes.ends tells state config did old new spindles session open_ v s there s.worker now).recovers telling));
+    }
+
+  -- those behind the ones with answers
+  rest_left : (answers : List (Result Cleaned CleanFault)) (n : ℕ) → length answers ≤ n → CleansFirst tells state config session.before session.after answers → LeavesFrom tells state config old new 0 0 None None n
+  rest_left answers n few first v least lt =
+      let count = station_count state config session.bay session.before session.opened.rack open_ in
+      let s = a_member session.before.stations.items v (omega (arith, lt, count, length-map config.volumes.items (shape_in config))) in
+      leaves_volume v s.0 s.1 (first.others v s.0 (omega (arith, few, least)) s.1)
 
   -- ---- The arrays
 
@@ -194,6 +222,9 @@ module _ {D : Type 0} (tells : Bool) (state : D → State) (config : Config) (di
     λ k c is. cleans_volume k (Ok c) (first.each k (Ok c) (ok_at told k c is)),
   )
 
+  one_more : (told : List Cleaned) (c : Cleaned) → length (all_ok (told ++ c ∷ [])) ≤ length told + 1
+  one_more told c = omega (arith, ok_length (told ++ c ∷ []), length-append told (c ∷ []))
+
   -- those before a refused one
   before_last : (told : List Cleaned) (f : CleanFault) → CleansFirst tells state config session.before session.after (all_ok told ++ Err f ∷ []) → (AreCleaned tells state config old new 0 0 None None told) × (length told < length config.volumes.items) × CleansVolume tells state config old new (length told) (Err f)
   before_last told f first =
@@ -215,9 +246,9 @@ module _ {D : Type 0} (tells : Bool) (state : D → State) (config : Config) (di
   module _ (sink sink' : ℕ) (printed printed' : Option (List ℕ)) where
     pub ends_for : (answer : Result (Unit {0}) Stop) → CleansAll tells state config session.before session.after sink sink' printed printed' answer → EndsFor tells state config old new sink sink' printed printed' answer
     ends_for answer (racks.whole told first all calm prints) = runs.whole told (first_of told first) all calm prints
-    ends_for answer (racks.refused told f first calm prints) = let b = before_last told f first in runs.refused told f b.0 b.1 b.2 calm prints
-    ends_for answer (racks.no_memory told c first calm prints) = runs.no_memory told c (first_of (told ++ c ∷ []) first) calm prints
-    ends_for answer (racks.sink_failed told c first rose front) = runs.sink_failed told c (first_of (told ++ c ∷ []) first) rose front
+    ends_for answer (racks.refused told f first calm prints) = let b = before_last told f first in runs.refused told f b.0 (b.1, rest_left (all_ok told ++ Err f ∷ []) (length told + 1) (omega (arith, length-append (all_ok told) (Err f ∷ []), ok_length told)) first) b.2 calm prints
+    ends_for answer (racks.no_memory told c first calm prints) = runs.no_memory told c (first_of (told ++ c ∷ []) first, rest_left (all_ok (told ++ c ∷ [])) (length told + 1) (one_more told c) first) calm prints
+    ends_for answer (racks.sink_failed told c first rose front) = runs.sink_failed told c (first_of (told ++ c ∷ []) first, rest_left (all_ok (told ++ c ∷ [])) (length told + 1) (one_more told c) first) rose front
 
     -- which volumes were cleaned, however it ended
     first_in : (answer : Result (Unit {0}) Stop) → CleansAll tells state config session.before session.after sink sink' printed printed' answer → (answers : List (Result Cleaned CleanFault)) × CleansFirst tells state config session.before session.after answers

@@ -7,7 +7,7 @@ use Rattle.wol_io.specs.Streams.{AppendsFront}
 use Rattle.wol_bay.specs.Bay.{BayState, Told}
 use Rattle.wol_model.specs.History.{worker}
 use Rattle.wol_model.specs.Images.{AreSound, Images, all_segments, recovered_from}
-use Rattle.wol_model.specs.Index.{AreRising, is_covered, listed_in}
+use Rattle.wol_model.specs.Index.{AreRising, Listed, is_covered, listed_in}
 use Rattle.wol_model.specs.Recovered.{extents_of}
 use Rattle.wol_promise.specs.Manager.{Base}
 use Rattle.wol_promise.specs.Ruled.{Noted}
@@ -41,9 +41,16 @@ pub record LacksVersions (most : ℕ) (b : Base) : Type 0 where
   pub apart : AreRising (map (λ (c : ℕ × ℕ). c.0) chunks)
   pub beyond : 2 ^ 63 < b.next + length chunks
 
--- Whatever images a crash leaves, the records of this volume that keep a block in them are those of the manager.
-abbrev pub LeavesRecords : {D : Type 0} → Config → (number : ℕ) → Manager D → Told → Type 0
-LeavesRecords config number m left = (images : Images) → AreLeft config left images → AreListedOf (listed_in m.index.entries) (extents_of number (all_segments (shapes_of config) images))
+-- whatever images a crash leaves, the records of this volume that keep a block in them are these
+abbrev pub LeavesRecords : Config → (number : ℕ) → List Listed → Told → Type 0
+LeavesRecords config number records left = (images : Images) → AreLeft config left images → AreListedOf records (extents_of number (all_segments (shapes_of config) images))
+
+-- A volume wasn't cleaned: the records that are left are those with which it was opened.
+pub record LeavesVolume (tells : Bool) (config : Config) (old new : BayState) (number : ℕ) : Type 0 where
+  pub base : Base
+  pub owner : base.owner ≡ number
+  pub begun : IsTrue tells → IsTold (λ entry exit. IsBegun config (images_read config entry) base) old.told new.told
+  pub listed : IsTrue tells → IsTold (λ entry exit. LeavesRecords config number base.look.listed exit) old.told new.told
 
 -- A volume was cleaned: `opened` is its manager as the volume was opened of the images as they read, `after` the one that cleaning left,
 -- which stands for the array at opening behind one entry of copies. Where a call of a disk failed the bay's count rose, and a part of the
@@ -61,7 +68,7 @@ pub record CleansVolume {D : Type 0} (tells : Bool) (state : D → State) (confi
   pub operation : note.entry.operation ≡ operation_of cleans.copies answer
   pub stands : Stands tells state after base (note ∷ [])
   -- unless a call failed, the records that are left are those of the manager that cleaning left
-  pub listed : ((p : Part) → answer ≢ Err (DiskFault p)) → IsTrue tells → IsTold (λ entry exit. LeavesRecords config number after exit) old.told new.told
+  pub listed : ((p : Part) → answer ≢ Err (DiskFault p)) → IsTrue tells → IsTold (λ entry exit. LeavesRecords config number (listed_in after.index.entries) exit) old.told new.told
   pub cause : (p : Part) → answer ≡ Err (DiskFault p) → Rose old.faults new.faults
   pub faulty : (p : Part) → answer ≡ Err (DiskFault p) → IsTrue tells → IsTold (HasFaultyPart tells config number base.volume.began.view) old.told new.told
   pub spent : answer ≡ Err VersionsSpent → LacksVersions (most_of config) base.volume.began
@@ -76,14 +83,18 @@ module _ {D : Type 0} (tells : Bool) (state : D → State) (config : Config) (ol
   abbrev pub AreCleaned : List Cleaned → Type 0
   AreCleaned told = (length told ≤ length config.volumes.items) × ((k : ℕ) (c : Cleaned) → slice_get told k ≡ Some c → CleansVolume tells state config old new k (Ok c))
 
-  -- All volumes were cleaned; or the next was refused; or there was no memory for its line; or the sink failed at it. The lines are those
-  -- of the answers, in order.
+  -- the volumes from this number on weren't
+  abbrev pub LeavesFrom : (n : ℕ) → Type 0
+  LeavesFrom n = (v : ℕ) → n ≤ v → v < length config.volumes.items → LeavesVolume tells config old new v
+
+  -- All volumes were cleaned; or the next was refused; or there was no memory for its line; or the sink failed at it, and no further one was
+  -- cleaned. The lines are those of the answers, in order.
   pub data EndsFor : Result (Unit {0}) Stop → Type 0 where
     whole : (told : List Cleaned) → AreCleaned told → length told ≡ length config.volumes.items → sink' ≡ sink → Appends printed printed' (lines_of config told) → EndsFor (Ok tt)
-    refused : (told : List Cleaned) (f : CleanFault) → AreCleaned told → length told < length config.volumes.items → CleansVolume tells state config old new (length told) (Err f) → sink' ≡ sink
+    refused : (told : List Cleaned) (f : CleanFault) → AreCleaned told → (length told < length config.volumes.items) × LeavesFrom (length told + 1) → CleansVolume tells state config old new (length told) (Err f) → sink' ≡ sink
         → Appends printed printed' (lines_of config told) → EndsFor (Err (stop.Fault (fault_of (length told) f)))
-    no_memory : (told : List Cleaned) (c : Cleaned) → AreCleaned (told ++ c ∷ []) → sink' ≡ sink → Appends printed printed' (lines_of config told) → EndsFor (Err (stop.Fault Memory))
-    sink_failed : (told : List Cleaned) (c : Cleaned) → AreCleaned (told ++ c ∷ []) → Rose sink sink' → AppendsFront printed printed' (lines_of config (told ++ c ∷ [])) → EndsFor (Err stop.Sink)
+    no_memory : (told : List Cleaned) (c : Cleaned) → AreCleaned (told ++ c ∷ []) × LeavesFrom (length told + 1) → sink' ≡ sink → Appends printed printed' (lines_of config told) → EndsFor (Err (stop.Fault Memory))
+    sink_failed : (told : List Cleaned) (c : Cleaned) → AreCleaned (told ++ c ∷ []) × LeavesFrom (length told + 1) → Rose sink sink' → AppendsFront printed printed' (lines_of config (told ++ c ∷ [])) → EndsFor (Err stop.Sink)
 
   -- A cleaning over a bay: there was no memory to open its volumes; or one of them couldn't be opened, and none was cleaned; or all were open.
   pub data CleansBay : Result (Unit {0}) Stop → Type 0 where

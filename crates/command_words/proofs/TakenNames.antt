@@ -5,9 +5,9 @@ use Rattle.clap.specs.Simple.{Shape, built}
 use Rattle.clap.specs.Walk.{Held, nothing_held}
 use Rattle.clap.specs.Words.{App, Row, Text, new_app}
 use Rattle.command_words.specs.Application.{the_app, with_name, with_names}
-use Rattle.command_words.specs.Laws.{NbdIsCommand, ViewAddIsCommand, ViewRemoveIsCommand}
+use Rattle.command_words.specs.Laws.{NbdIsCommand, ServeIsCommand, ViewAddIsCommand, ViewRemoveIsCommand}
 use Rattle.command_words.specs.Table.{Named}
-use Rattle.command_words.specs.declared.command.Command.TheVariants.{Nbd, ViewAdd, ViewRemove}
+use Rattle.command_words.specs.declared.command.Command.TheVariants.{Nbd, Serve, ViewAdd, ViewRemove}
 use Rattle.command_words.specs.declared.command.ServedName.{ServedName}
 use Rattle.command_words.specs.declared.command.ViewNames.{ViewNames}
 use Rattle.command_words.proofs.Rows.{given_row}
@@ -117,3 +117,32 @@ pub nbd_is_command : NbdIsCommand
 nbd_is_command words name is =
     let served : ServedName = record { volume = record { ref_ptr = (0, 0); now = name } } in
     (served, refl, asks_for words (codes "nbd") (name ∷ []) (nbd_rows name (plain_name name is.named)) (Nbd served) is.spelled (takes_nbd name (plain_name name is.named)) (record { named = refl; values = record { text = refl; is = is.named } }))
+
+-- ---- `serve`
+
+abbrev serve : Shape
+serve = built_sub (with_name (new_app (codes "serve")))
+
+enters_serve : Enters (built the_app) (codes "serve") (built_sub (with_name (new_app (codes "serve"))))
+unfolding clap_on_literals
+enters_serve = record { turn = refl; stops = refl; found = refl; ends = refl }
+
+module _ (name : Text) (plain : IsPlain name) where
+  abbrev serve_rows : List Row
+  serve_rows = given_row (codes "NAME") name ∷ []
+
+  abbrev serve_held : Held
+  serve_held = filled serve (codes "NAME") name nothing_held
+
+  serve_holds : Holds serve serve_rows serve_held
+  serve_holds = filled_holds serve (codes "NAME") None (Some 1) true [] nothing_held name (nothing_holds serve) refl refl
+
+  takes_serve : Takes (codes "serve") (name ∷ []) serve_rows
+  unfolding clap_on_literals
+  takes_serve = takes (codes "serve") serve (name ∷ []) serve_rows 2 serve_held enters_serve refl
+      (by_place serve (codes "NAME") None (Some 1) true [] nothing_held name (nothing_holds serve) refl 1 refl plain) serve_holds refl
+
+pub serve_is_command : ServeIsCommand
+serve_is_command words name is =
+    let served : ServedName = record { volume = record { ref_ptr = (0, 0); now = name } } in
+    (served, refl, asks_for words (codes "serve") (name ∷ []) (serve_rows name (plain_name name is.named)) (Serve served) is.spelled (takes_serve name (plain_name name is.named)) (record { named = refl; values = record { text = refl; is = is.named } }))

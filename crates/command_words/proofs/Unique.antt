@@ -8,11 +8,11 @@ use Rattle.solo.specs.Volume.{target_of}
 use Rattle.solo.specs.declared.volume.Volume.{Volume}
 use Rattle.wol_model.specs.Trace.{Target}
 use Rattle.command_words.specs.Commands.{HasValues, name_of}
-use Rattle.command_words.specs.Laws.{AreSame, CommandsAreOne, nbd, same, solo, view_add, view_remove}
+use Rattle.command_words.specs.Laws.{AreSame, CommandsAreOne, nbd, same, serve, solo, view_add, view_remove}
 use Rattle.command_words.specs.Table.{Named, mode_text}
 use Rattle.command_words.specs.Values.{HasNames, HasOptions, HasText, HasTrace, HasVolume, named_by, served_by}
 use Rattle.command_words.specs.declared.command.Command.{Command}
-use Rattle.command_words.specs.declared.command.Command.TheVariants.{Solo, Format, Replay, Check, Dump, Gen, Soak, WhatIf, ViewAdd, ViewRemove, Clean, Nbd}
+use Rattle.command_words.specs.declared.command.Command.TheVariants.{Solo, Format, Replay, Check, Dump, Gen, Soak, WhatIf, ViewAdd, ViewRemove, Clean, Nbd, Serve}
 use Rattle.command_words.specs.declared.command.Generated.{Generated}
 use Rattle.command_words.specs.declared.command.Mode.{Mode}
 use Rattle.command_words.specs.declared.command.Mode.TheVariants.{Off, Between, Beside}
@@ -89,6 +89,7 @@ pub data Kind : Type 0 where
   of_view_remove : Kind
   of_clean : Kind
   of_nbd : Kind
+  of_serve : Kind
   of_none : Kind
 
 abbrev pub kind_of : Text → Kind
@@ -105,7 +106,8 @@ kind_of name =
     (cond (bytes_eq name (codes "view-remove")) of_view_remove
     (cond (bytes_eq name (codes "clean")) of_clean
     (cond (bytes_eq name (codes "nbd")) of_nbd
-    of_none)))))))))))
+    (cond (bytes_eq name (codes "serve")) of_serve
+    of_none))))))))))))
 
 -- a command of this kind
 abbrev pub IsOf : Kind → Command → Type 0
@@ -121,6 +123,7 @@ IsOf of_view_add d = (names : ViewNames) × (d ≡ ViewAdd names)
 IsOf of_view_remove d = (names : ViewNames) × (d ≡ ViewRemove names)
 IsOf of_clean d = d ≡ Clean
 IsOf of_nbd d = (served : ServedName) × (d ≡ Nbd served)
+IsOf of_serve d = (served : ServedName) × (d ≡ Serve served)
 IsOf of_none d = ⊤
 
 own_kind : (d : Command) → IsOf (kind_of (name_of d)) d
@@ -136,6 +139,7 @@ own_kind (ViewAdd names) = (names, refl)
 own_kind (ViewRemove names) = (names, refl)
 own_kind Clean = refl
 own_kind (Nbd served) = (served, refl)
+own_kind (Serve served) = (served, refl)
 
 pub by_name : (name : Text) (d : Command) → name ≡ name_of d → IsOf (kind_of name) d
 by_name name d is = subst (λ t. IsOf (kind_of t) d) (sym is) (own_kind d)
@@ -163,6 +167,7 @@ module _ (rows : List Row) (d : Command) (k : HasValues rows d) where
   same_at (ViewRemove v) h (w, is) = alike _ _ is (view_remove (same_names rows (named_by v) (named_by w) h (values_of _ is)))
   same_at Clean h is = alike _ _ is same
   same_at (Nbd v) h (w, is) = alike _ _ is (nbd (one_text rows (codes "NAME") (served_by v) (served_by w) h.text (values_of _ is).text))
+  same_at (Serve v) h (w, is) = alike _ _ is (serve (one_text rows (codes "NAME") (served_by v) (served_by w) h.text (values_of _ is).text))
 
 abbrev found : Option (Text × List Row) → Text × List Row
 found o = unwrap_or o ([], [])

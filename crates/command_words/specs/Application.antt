@@ -60,7 +60,7 @@ abbrev pub the_app : App
 the_app =
     with_subcommand (with_subcommand (with_subcommand (with_subcommand (with_subcommand
     (with_subcommand (with_subcommand (with_subcommand (with_subcommand (with_subcommand
-    (with_subcommand (with_subcommand bare_app
+    (with_subcommand (with_subcommand (with_subcommand bare_app
     (with_volume (new_app (codes "solo"))).top)
     (new_app (codes "format")).top)
     (with_options (new_app (codes "replay"))).top)
@@ -72,4 +72,5 @@ the_app =
     (with_names (new_app (codes "view-remove"))).top)
     (new_app (codes "clean")).top)
     (with_name (new_app (codes "nbd"))).top)
+    (with_name (new_app (codes "serve"))).top)
     (with_options (with_trace (new_app (codes "soak")))).top

@@ -5,7 +5,7 @@ use Rattle.solo.specs.Volume.{target_of}
 use Rattle.command_words.specs.Application.{the_app}
 use Rattle.command_words.specs.Values.{HasNames, HasOptions, HasServed, HasTrace, HasVolume, named_by, served_by}
 use Rattle.command_words.specs.declared.command.Command.{Command}
-use Rattle.command_words.specs.declared.command.Command.TheVariants.{Solo, Format, Replay, Check, Dump, Gen, Soak, WhatIf, ViewAdd, ViewRemove, Clean, Nbd}
+use Rattle.command_words.specs.declared.command.Command.TheVariants.{Solo, Format, Replay, Check, Dump, Gen, Soak, WhatIf, ViewAdd, ViewRemove, Clean, Nbd, Serve}
 
 -- the name of a command
 abbrev pub name_of : Command → Text
@@ -21,6 +21,7 @@ name_of (ViewAdd names) = codes "view-add"
 name_of (ViewRemove names) = codes "view-remove"
 name_of Clean = codes "clean"
 name_of (Nbd name) = codes "nbd"
+name_of (Serve name) = codes "serve"
 
 -- the values are those of the command
 abbrev pub HasValues : List Row → Command → Type 0
@@ -36,6 +37,7 @@ HasValues rows (ViewAdd names) = HasNames rows (named_by names)
 HasValues rows (ViewRemove names) = HasNames rows (named_by names)
 HasValues rows Clean = ⊤
 HasValues rows (Nbd name) = HasServed rows (served_by name)
+HasValues rows (Serve name) = HasServed rows (served_by name)
 
 -- the subcommand of this name with these values is the command
 pub record Asks (name : Text) (rows : List Row) (command : Command) : Type 0 where

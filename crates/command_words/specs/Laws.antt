@@ -5,9 +5,9 @@ use Rattle.solo.specs.Volume.{target_of}
 use Rattle.solo.specs.declared.volume.Volume.{Volume}
 use Rattle.wol_model.specs.Trace.{Target}
 use Rattle.command_words.specs.Commands.{IsCommand}
-use Rattle.command_words.specs.Table.{IsSolo, IsGen, IsFormat, IsCheck, IsDump, IsReplay, IsSoak, IsWhatIf, IsViewAdd, IsViewRemove, IsClean, IsNbd, Named}
+use Rattle.command_words.specs.Table.{IsSolo, IsGen, IsFormat, IsCheck, IsDump, IsReplay, IsSoak, IsWhatIf, IsViewAdd, IsViewRemove, IsClean, IsNbd, IsServe, Named}
 use Rattle.command_words.specs.declared.command.Command.{Command}
-use Rattle.command_words.specs.declared.command.Command.TheVariants.{Solo, Format, Replay, Check, Dump, Gen, Soak, WhatIf, ViewAdd, ViewRemove, Clean, Nbd}
+use Rattle.command_words.specs.declared.command.Command.TheVariants.{Solo, Format, Replay, Check, Dump, Gen, Soak, WhatIf, ViewAdd, ViewRemove, Clean, Nbd, Serve}
 use Rattle.command_words.specs.declared.command.Generated.{Generated}
 use Rattle.command_words.specs.declared.command.Options.{Options}
 use Rattle.command_words.specs.declared.command.ServedName.{ServedName}
@@ -64,6 +64,11 @@ NbdIsCommand =
     (words : List Text) (name : Text) → IsNbd words name
     → (served : ServedName) × (served_by served ≡ name) × IsCommand words (Nbd served)
 
+abbrev pub ServeIsCommand : Type 0
+ServeIsCommand =
+    (words : List Text) (name : Text) → IsServe words name
+    → (served : ServedName) × (served_by served ≡ name) × IsCommand words (Serve served)
+
 -- two commands are one, wherever the names in them lie in memory
 pub data AreSame : Command → Command → Type 0 where
   same : {c : Command} → AreSame c c
@@ -71,6 +76,7 @@ pub data AreSame : Command → Command → Type 0 where
   view_add : {v w : ViewNames} → named_by v ≡ named_by w → AreSame (ViewAdd v) (ViewAdd w)
   view_remove : {v w : ViewNames} → named_by v ≡ named_by w → AreSame (ViewRemove v) (ViewRemove w)
   nbd : {v w : ServedName} → served_by v ≡ served_by w → AreSame (Nbd v) (Nbd w)
+  serve : {v w : ServedName} → served_by v ≡ served_by w → AreSame (Serve v) (Serve w)
 
 -- words ask for no two commands
 abbrev pub CommandsAreOne : Type 0

@@ -81,6 +81,11 @@ pub record IsNbd (words : List (List ℕ)) (name : List ℕ) : Type 0 where
   pub spelled : words ≡ codes "nbd" ∷ name ∷ []
   pub named : IsName name
 
+-- the words are `serve NAME`
+pub record IsServe (words : List (List ℕ)) (name : List ℕ) : Type 0 where
+  pub spelled : words ≡ codes "serve" ∷ name ∷ []
+  pub named : IsName name
+
 -- ---- The options of a run over a trace
 
 abbrev pub mode_text : Mode → List ℕ

@@ -28,6 +28,7 @@ pub(crate) fn application<'a>(alloc: Global) -> Result<Command<'a>, AllocError>
         .subcommand(of_view(alloc, Command::new(alloc, "view-remove"))?)?
         .subcommand(Command::new(alloc, "clean"))?
         .subcommand(of_name(alloc, Command::new(alloc, "nbd"))?)?
+        .subcommand(of_name(alloc, Command::new(alloc, "serve"))?)?
         .subcommand(of_options(alloc, of_trace(alloc, Command::new(alloc, "soak"))?)?)
 }
 

@@ -83,6 +83,8 @@ pub enum Command<'a> {
     Clean,
     /// A volume is served to a client.
     Nbd(ServedName<'a>),
+    /// A volume is served to a client, behind a handshake.
+    Serve(ServedName<'a>),
 }
 
 /// Why there is no command.
@@ -144,6 +146,7 @@ fn read<'a>(name: &str, matches: &ArgMatches<'a>) -> Option<Command<'a>>
         "view-remove" => Some(Command::ViewRemove(names_of(matches)?)),
         "clean" => Some(Command::Clean),
         "nbd" => Some(Command::Nbd(served_of(matches)?)),
+        "serve" => Some(Command::Serve(served_of(matches)?)),
         _ => None,
     }
 }

@@ -22,7 +22,7 @@ use Rattle.manager.specs.declared.part.StepFault.TheVariants as step
 use Rattle.manager.proofs.RunSources.{same_version}
 use Rattle.log_cleaner.specs.Chunks.{AreTidyBelow, IsChunk, IsTidy, IsUppermost, KeepsJust, KeepsNone, NoneHomed, is_within}
 use Rattle.log_cleaner.specs.Cleans.{CanClean, HasCleaned, IsChunkOf, IsLeftUntidy, IsOfUntidy, copied_blocks, covered_in}
-use Rattle.log_cleaner.specs.Steps.{GivesUp, HasCopied, HasRewritten, HasTidied, IsCopyAt, IsRefused, TellsFault, TidiesUp, fault_copies}
+use Rattle.log_cleaner.specs.Steps.{GivesUp, HasCopied, HasRewritten, HasTidied, IsCopyAt, IsRefused, KeepsTidy, TellsFault, TidiesUp, fault_copies}
 use Rattle.log_cleaner.specs.Underway.{AreChunks, CleansBy, EndsBy, HasCleanedSome}
 use Rattle.log_cleaner.specs.declared.answer.Cleaned.{Cleaned}
 use Rattle.log_cleaner.specs.declared.answer.CleanFault.{CleanFault}
@@ -30,7 +30,7 @@ use Rattle.log_cleaner.specs.declared.answer.CleanFault.TheVariants.{DiskFault, 
 use Rattle.log_cleaner.proofs.Chunking.{IsCutAt, chunk_at, cut_behind, cut_next, same_chunk}
 use Rattle.log_cleaner.proofs.Copying.{leaves_copies}
 use Rattle.log_cleaner.proofs.Stepping.{broken_then, copied_none, copied_then, empty_since}
-use Rattle.log_cleaner.proofs.Tidying.{clash, covers, listing_newest, listing_upper, member_unmap, upper_of_tidy, within_first}
+use Rattle.log_cleaner.proofs.Tidying.{clash, covers, listing_newest, listing_tidy, member_unmap, within_first}
 
 -- ---- Within
 
@@ -75,22 +75,22 @@ module _ {D : Type 0} (tells : Bool) (state : D → State) (old mid new : Manage
       (subst (λ (n : ℕ). IsUppermost (listing r.look r.lane r.write) r.look.next first n) r.is_copy.count_is
       (subst (λ (f : ℕ). IsUppermost (listing r.look r.lane r.write) r.look.next f (length r.write.blocks)) r.is_copy.first_is (listing_newest r.look r.lane r.write unhomed below)))
 
-  pub tidied : HasCopied tells state mid new [] → TidiesUp mid new → (t : HasTidied tells state first count old new) × (r.write ≡ t.write)
-  tidied copied tidies = (
+  pub tidied : HasCopied tells state mid new [] → KeepsTidy mid new → TidiesUp first count mid new → (t : HasTidied tells state first count old new) × (r.write ≡ t.write)
+  tidied copied keeps tidies = (
     record {
       write = r.write;
       is_copy = r.is_copy;
       copied = copied_then tells state old mid new (r.write ∷ []) [] can r.copied copied;
-      tidy = tidies r.look.next first count some newest_;
-      others = λ f c le apart t. tidies t.version f c le (subst (λ (es : List Listed). IsUppermost es t.version f c) (sym r.listed_is)
-          (listing_upper r.look r.lane r.write unhomed t.version f c
+      tidy = tidies r.look.next newest_;
+      others = λ f c le apart t. keeps.tidy f c le (subst (λ (es : List Listed). IsTidy es f c) (sym r.listed_is)
+          (listing_tidy r.look r.lane r.write unhomed f c
           (λ b is. ap (λ (n : ℕ). is_within r.write.first n b) r.is_copy.count_is ∙ ap (λ (n : ℕ). is_within n count b) r.is_copy.first_is ∙ apart b is)
-          (subst (λ (es : List Listed). IsUppermost es t.version f c) (sym r.listed_was) (upper_of_tidy (listed_in old.index.entries) f c t))));
+          (subst (λ (es : List Listed). IsTidy es f c) (sym r.listed_was) t)));
     },
     refl,
   )
 
-  pub tidy_failing : (fault : StepFault) (result : CleanFault) → ((p : Part) → fault ≡ step.DiskFault p → result ≡ DiskFault p) → GivesUp tells state mid new (Err fault) → (f : TellsFault tells state first count old new result) × (r.write ∷ [] ≡ fault_copies tells state first count old new result f)
+  pub tidy_failing : (fault : StepFault) (result : CleanFault) → ((p : Part) → fault ≡ step.DiskFault p → result ≡ DiskFault p) → GivesUp tells state first count mid new (Err fault) → (f : TellsFault tells state first count old new result) × (r.write ∷ [] ≡ fault_copies tells state first count old new result f)
   tidy_failing (step.DiskFault p) result is given = subst (λ (x : CleanFault). (f : TellsFault tells state first count old new x) × (r.write ∷ [] ≡ fault_copies tells state first count old new x f)) (sym (is p refl)) (
     record {
       copies = r.write ∷ [];

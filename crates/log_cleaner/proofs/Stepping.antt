@@ -1,7 +1,8 @@
 -- Steps of a cleaning, one after another.
 use Rattle.std.proofs.Common.{◌≡◌, ◌⊎◌, inl, inr, ◌<◌, ◌≤◌, ℕ, zero, suc, Bool, true, false, List, [], ◌∷◌, ◌++◌, length, Option, None, Some, Result, Ok, Err, refl, sym, ap, subst, ◌∙◌, arith, append_assoc, length-append}
-use Rattle.std.specs.Prelude.{Contains, IsTrue, slice_get, slice_set, slice_index_or}
+use Rattle.std.specs.Prelude.{◌↔◌, Contains, IfSome, IsTrue, slice_get, slice_set, slice_index_or}
 use Rattle.std.specs.List.{AllByRecursion, AllZip, list_any, range_with_len}
+use Rattle.std.specs.Option.{ForSome}
 use Rattle.std.proofs.Math.ListN.{length-set}
 use Rattle.std.proofs.lemmas.Bool.{cases_lt}
 use Rattle.std.proofs.lemmas.Option.{same_Some, slice_get_within}
@@ -14,13 +15,15 @@ use Rattle.seg_pool.specs.Operations.{operation_of}
 use Rattle.logger.specs.Lanes.{pool_of}
 use Rattle.logger.specs.declared.lane.Lane.{Lane}
 use Rattle.wol_model.specs.Blocks.{Write}
-use Rattle.wol_model.specs.Index.{Listed, Indexed, listed_in, is_covered, goes}
+use Rattle.wol_model.specs.Index.{Listed, Indexed, listed_in, is_covered, goes, has_going}
 use Rattle.wol_promise.proofs.Lists.{all_mapped, all_map}
-use Rattle.redirect_map.specs.Index.{entry_at}
+use Rattle.redirect_map.specs.Index.{Contents, IsAnswer, entry_at}
+use Rattle.redirect_map.specs.declared.record.Rec.{Rec}
+use Rattle.garbage_list.proofs.Nexts.{answered}
 use Rattle.manager.specs.Causes.{PartRose, PartRoseOrClaimed}
 use Rattle.manager.specs.Offers.{ChangesLane}
 use Rattle.manager.specs.Reading.{needs_of}
-use Rattle.manager.specs.Reclaim.{TellsStep, KeepsOn, Always, HasDropped, IsTrimmedLane, given_of}
+use Rattle.manager.specs.Reclaim.{OnFailed, OnTried, TellsStep, KeepsOn, Always, HasDropped, IsTrimmedLane, given_of}
 use Rattle.manager.specs.Stands.{Keeps, entries_at}
 use Rattle.manager.specs.declared.manager.Manager.{Manager}
 use Rattle.manager.specs.declared.part.Part.{Part}
@@ -34,13 +37,13 @@ use Rattle.reclaimer.specs.Steps.{HasGivenUp, StopsWithin}
 use Rattle.reclaimer.specs.declared.answers.Gone.{Gone}
 use Rattle.reclaimer.specs.declared.answers.Gone.TheVariants as gone
 use Rattle.reclaimer.proofs.Idle.{idle}
-use Rattle.log_cleaner.specs.Chunks.{IsUppermost, NoneHomed}
+use Rattle.log_cleaner.specs.Chunks.{IsTidy, IsUppermost, NoneHomed}
 use Rattle.log_cleaner.specs.Cleans.{AllAwake, CanClean, FindsAllEmpty, GoesOn}
-use Rattle.log_cleaner.specs.Steps.{GivesUp, HasBroken, HasCopied, TidiesUp}
+use Rattle.log_cleaner.specs.Steps.{GivesSome, GivesUp, HasBroken, HasCopied, KeepsTidy, TidiesUp}
 use Rattle.log_cleaner.specs.Copies.{HoldFewer, indexes_of}
 use Rattle.log_cleaner.proofs.Claiming.{members}
 use Rattle.log_cleaner.proofs.Copying.{copies_none, copies_plain, copies_then, keeps_none, keeps_then, leaves_then}
-use Rattle.log_cleaner.proofs.Tidying.{given_covered, given_unhomed, given_upper, none_goes, tidy_of_upper}
+use Rattle.log_cleaner.proofs.Tidying.{given_covered, given_tidy, given_unhomed, given_upper, none_goes, tidy_of_upper}
 
 -- ---- Entries of a pass
 
@@ -187,13 +190,20 @@ module _ {D : Type 0} (old new : Manager D) (version : ℕ) (e : Indexed) {T : T
     pools = drop_pools;
   }
 
--- what giving up keeps of uppermost records
-abbrev pub KeepsUppermost : {D : Type 0} → (old new : Manager D) → Type 0
-KeepsUppermost old new = (u first count : ℕ) → 1 ≤ count → IsUppermost (listed_in old.index.entries) u first count → IsUppermost (listed_in new.index.entries) u first count
+-- ---- What stays tidy
+
+pub tidy_none : {D : Type 0} (m : Manager D) → KeepsTidy m m
+tidy_none m = record { tidy = λ f c some t. t; upper = λ v f c some x. x }
+
+pub tidy_then : {D : Type 0} (old mid new : Manager D) → KeepsTidy old mid → KeepsTidy mid new → KeepsTidy old new
+tidy_then old mid new first second = record {
+  tidy = λ f c some t. second.tidy f c some (first.tidy f c some t);
+  upper = λ v f c some x. second.upper v f c some (first.upper v f c some x);
+}
 
 module _ {D : Type 0} (tells : Bool) (state : D → State) (old new : Manager D) (can : CanClean old) where
   pub gave_one : {T : Type 0} (version : ℕ) (e : Indexed) (res : Result T StepFault) → HasDropped version e old new res → new.down ≡ None → new.index.entries ≡ given_of version old.index.entries → KeepsOn tells state old new Always
-      → (IsTrue tells → StopsWithin tells state old new Always) → HasCopied tells state old new [] × KeepsUppermost old new
+      → (IsTrue tells → StopsWithin tells state old new Always) → HasCopied tells state old new [] × KeepsTidy old new
   gave_one version e res dropped up entries keeps stops = (
     record {
       goes_on = drop_goes_on old new version e res can dropped up entries;
@@ -201,43 +211,74 @@ module _ {D : Type 0} (tells : Bool) (state : D → State) (old new : Manager D)
       copied = copies_plain tells state old new can.up (λ told. (None, drop_fewer old new version e res can dropped, λ b notes k. stops told b notes tt k));
       next = let e = ap (λ (m : Manager D). m.next) dropped.rest in omega (arith, e);
     },
-    λ u first count some x. subst (λ (es : List Indexed). IsUppermost (listed_in es) u first count) (sym entries) (given_upper old.index.entries version can.unhomed u first count some x),
+    record {
+      tidy = λ first count some t. subst (λ (es : List Indexed). IsTidy (listed_in es) first count) (sym entries) (given_tidy old.index.entries version can.unhomed first count some t);
+      upper = λ u first count some x. subst (λ (es : List Indexed). IsUppermost (listed_in es) u first count) (sym entries) (given_upper old.index.entries version can.unhomed u first count some x);
+    },
   )
 
   -- by what a step of reclaim answers
   pub gave_more : (answer : Gone) → (answer ≡ gone.Nothing → ⊥) → HasGivenUp (Ok answer) old new → TellsStep state (Ok answer) old new → KeepsOn tells state old new Always
-      → (IsTrue tells → StopsWithin tells state old new Always) → HasCopied tells state old new [] × KeepsUppermost old new
+      → (IsTrue tells → StopsWithin tells state old new Always) → HasCopied tells state old new [] × KeepsTidy old new
   gave_more (gone.Version version) some given told keeps stops = by_entry (going_entry old) given
     where
-      by_entry : (o : Option Indexed) → Rattle.std.specs.Prelude.IsSomeAnd o (λ e. (version ≡ e.listed.version) × Rattle.std.specs.Prelude.IsNone (entry_at new.index.entries version) × HasDropped version e old new (Ok (gone.Version version))) → HasCopied tells state old new [] × KeepsUppermost old new
+      by_entry : (o : Option Indexed) → Rattle.std.specs.Prelude.IsSomeAnd o (λ e. (version ≡ e.listed.version) × Rattle.std.specs.Prelude.IsNone (entry_at new.index.entries version) × HasDropped version e old new (Ok (gone.Version version))) → HasCopied tells state old new [] × KeepsTidy old new
       by_entry None h = absurd h
       by_entry (Some e) h = gave_one version e (Ok (gone.Version version)) h.2 told.1 h.2.ok keeps stops
   gave_more (gone.Trimmed version) some given told keeps stops = by_entry (going_entry old) given
     where
-      by_entry : (o : Option Indexed) → Rattle.std.specs.Prelude.IsSomeAnd o (λ e. (version ≡ e.listed.version) × Rattle.std.specs.Prelude.IsSome (entry_at new.index.entries version) × HasDropped version e old new (Ok (gone.Trimmed version))) → HasCopied tells state old new [] × KeepsUppermost old new
+      by_entry : (o : Option Indexed) → Rattle.std.specs.Prelude.IsSomeAnd o (λ e. (version ≡ e.listed.version) × Rattle.std.specs.Prelude.IsSome (entry_at new.index.entries version) × HasDropped version e old new (Ok (gone.Trimmed version))) → HasCopied tells state old new [] × KeepsTidy old new
       by_entry None h = absurd h
       by_entry (Some e) h = gave_one version e (Ok (gone.Trimmed version)) h.2 told.1 h.2.ok keeps stops
   gave_more gone.Nothing some given told keeps stops = absurd (some refl)
 
-  -- a step that failed
-  pub gave_failing : (fault : StepFault) → TellsStep {T = Gone} state (Err fault) old new → Rattle.manager.specs.Reclaim.OnFailed {T = Gone} (Err fault) (Rattle.manager.specs.Reclaim.BreaksOff tells state old new Always)
-      → HasGivenUp (Err fault) old new → (IsTrue tells → StopsWithin tells state old new Always) → GivesUp tells state old new (Err fault)
-  gave_failing (step.DiskFault p) told broke given stops = record {
+  -- a call of this part failed while a record was to give up blocks
+  gave_broken : {T : Type 0} (version : ℕ) (e : Indexed) (p : Part) → TellsStep {T = T} state (Err (step.DiskFault p)) old new → Rattle.manager.specs.Reclaim.BreaksOff tells state old new Always
+      → HasDropped {T = T} version e old new (Err (step.DiskFault p)) → (IsTrue tells → StopsWithin tells state old new Always) → HasBroken tells state old new p []
+  gave_broken {T} version e p told broke dropped stops = record {
     down = told.1;
     rose = (old, goes_none old can, rose_of state old new p told.2);
     leaves = λ b notes n client note k. broke b notes n tt note k;
-    copied = copies_plain tells state old new can.up (λ t. (None, fewer (going_entry old) given, λ b notes k. stops t b notes tt k));
+    copied = copies_plain tells state old new can.up (λ t. (None, drop_fewer old new version e {T = T} (Err (step.DiskFault p)) can dropped, λ b notes k. stops t b notes tt k));
   }
+
+  -- a step that failed
+  pub gave_failing : (fault : StepFault) → TellsStep {T = Gone} state (Err fault) old new → OnFailed {T = Gone} (Err fault) (Rattle.manager.specs.Reclaim.BreaksOff tells state old new Always)
+      → HasGivenUp (Err fault) old new → (IsTrue tells → StopsWithin tells state old new Always) → GivesSome tells state old new (Err fault)
+  gave_failing (step.DiskFault p) told broke given stops = by_entry (going_entry old) given
     where
-      fewer : (o : Option Indexed) → Rattle.std.specs.Prelude.IsSomeAnd o (λ e. HasDropped {T = Gone} e.listed.version e old new (Err (step.DiskFault p))) → HoldFewer old.lanes.items new.lanes.items
-      fewer None h = absurd h
-      fewer (Some e) h = drop_fewer old new e.listed.version e {T = Gone} (Err (step.DiskFault p)) can h
+      by_entry : (o : Option Indexed) → Rattle.std.specs.Prelude.IsSomeAnd o (λ e. HasDropped {T = Gone} e.listed.version e old new (Err (step.DiskFault p))) → HasBroken tells state old new p []
+      by_entry None h = absurd h
+      by_entry (Some e) h = gave_broken {T = Gone} e.listed.version e p told broke h stops
   gave_failing (step.Down p) told broke given stops = absurd (let wrong : None ≡ Some p = sym can.up ∙ told.0 in cc)
 
--- after copies, a step that failed
-pub given_failing : {D : Type 0} (tells : Bool) (state : D → State) (old mid new : Manager D) (fault : StepFault) → CanClean old → HasCopied tells state old mid [] → GivesUp tells state mid new (Err fault) → GivesUp tells state old new (Err fault)
-given_failing tells state old mid new (step.DiskFault p) can copied given = broken_then tells state old mid new p [] [] can copied given
-given_failing tells state old mid new (step.Down p) can copied given = absurd given
+  -- and a record that couldn't
+  pub gave_no_version : (version : ℕ) (e : Indexed) → entry_at old.index.entries version ≡ Some e → (fault : StepFault) → TellsStep {T = Bool} state (Err fault) old new → OnFailed {T = Bool} (Err fault) (Rattle.manager.specs.Reclaim.BreaksOff tells state old new Always)
+      → OnTried {T = Bool} (Err fault) (ForSome (entry_at old.index.entries version) (λ e. HasDropped {T = Bool} version e old new (Err fault))) → (IsTrue tells → StopsWithin tells state old new Always) → GivesSome tells state old new (Err fault)
+  gave_no_version version e there (step.DiskFault p) told broke dropped stops = gave_broken {T = Bool} version e p told broke (dropped e there) stops
+  gave_no_version version e there (step.Down p) told broke dropped stops = absurd (let wrong : None ≡ Some p = sym can.up ∙ told.0 in cc)
+
+module _ {D : Type 0} (tells : Bool) (state : D → State) (old mid new : Manager D) (can : CanClean old) (copied : HasCopied tells state old mid []) (keeps : KeepsTidy old mid) where
+  -- after some records gave up what may go, others did
+  pub gave_then : (res : Result (Unit {0}) StepFault) → GivesSome tells state mid new res → GivesSome tells state old new res
+  gave_then (Ok done) given = (copied_then tells state old mid new [] [] can copied given.0, tidy_then old mid new keeps given.1)
+  gave_then (Err (step.DiskFault p)) given = broken_then tells state old mid new p [] [] can copied given
+  gave_then (Err (step.Down p)) given = absurd given
+
+  -- or others did until the chunk was tidy
+  pub gave_up_then : (first count : ℕ) → 1 ≤ count → (res : Result (Unit {0}) StepFault) → GivesUp tells state first count mid new res → GivesUp tells state first count old new res
+  gave_up_then first count some (Ok done) given = (
+    copied_then tells state old mid new [] [] can copied given.0,
+    tidy_then old mid new keeps given.1,
+    λ version x. given.2 version (keeps.upper version first count some x),
+  )
+  gave_up_then first count some (Err (step.DiskFault p)) given = broken_then tells state old mid new p [] [] can copied given
+  gave_up_then first count some (Err (step.Down p)) given = absurd given
+
+-- a step that failed, where the chunk was to become tidy
+pub gives_up_failing : {D : Type 0} (tells : Bool) (state : D → State) (old new : Manager D) (first count : ℕ) (fault : StepFault) → GivesSome tells state old new (Err fault) → GivesUp tells state first count old new (Err fault)
+gives_up_failing tells state old new first count (step.DiskFault p) given = given
+gives_up_failing tells state old new first count (step.Down p) given = given
 
 -- ---- Where nothing more may go
 
@@ -262,11 +303,23 @@ pub lanes_within : {D : Type 0} (state : D → State) (m : Manager D) → Rattle
 lanes_within state m ready up = all_map (Rattle.manager.specs.Stands.IsPlacedIn m.lanes.items) (λ (e : Indexed). e.listed.lane < length m.ups.items)
     (λ e placed. let lt = slice_get_within m.lanes.items e.listed.lane placed.lane placed.lane_is in let f = ready.ready.flags in omega (arith, lt, f)) m.index.entries (ready.up up).placed
 
-pub tidies_up : {D : Type 0} (state : D → State) (old new : Manager D) → Rattle.manager.specs.Stands.IsReady state new → CanClean new → going_entry new ≡ None → KeepsUppermost old new → TidiesUp old new
-tidies_up state old new ready can none upper u first count some x =
-    tidy_of_upper (listed_in new.index.entries) u first count (none_left new can.awake (lanes_within state new ready can.up) none) (upper u first count some x)
+pub tidies_up : {D : Type 0} (state : D → State) (old new : Manager D) (first count : ℕ) → 1 ≤ count → Rattle.manager.specs.Stands.IsReady state new → CanClean new → going_entry new ≡ None → KeepsTidy old new → TidiesUp first count old new
+tidies_up state old new first count some ready can none keeps version x =
+    tidy_of_upper (listed_in new.index.entries) version first count (none_left new can.awake (lanes_within state new ready can.up) none) (keeps.upper version first count some x)
 
 pub lowers_of : {D : Type 0} (answer : Gone) (old new : Manager D) → (answer ≡ gone.Nothing → ⊥) → Rattle.reclaimer.specs.Counts.LowersGone (Ok answer) old new → Rattle.wol_model.specs.Index.left (listed_in new.index.entries) < Rattle.wol_model.specs.Index.left (listed_in old.index.entries)
 lowers_of (gone.Version version) old new some lower = lower
 lowers_of (gone.Trimmed version) old new some lower = lower
 lowers_of gone.Nothing old new some lower = absurd (some refl)
+
+-- ---- One record
+
+-- the entry of a record that was found
+pub entry_found : (i index : Contents) → i ≡ index → (version : ℕ) (r : Rec) → IsAnswer (entry_at i.entries version) (Some r) → (e : Indexed) × (entry_at index.entries version ≡ Some e)
+entry_found i index same version r is = let a = answered (entry_at i.entries version) r is in (a.entry, subst (λ (j : Contents). entry_at j.entries version ≡ Some a.entry) same a.is)
+
+-- it has a block that goes, by the mask of these
+pub goes_where : (i index : Contents) → i ≡ index → (version mask : ℕ) → (mask ≡ 0 → ⊥) → IfSome (entry_at i.entries version) (λ e. (0 < mask) ↔ (has_going (listed_in i.entries) e.listed ≡ true))
+    → ForSome (entry_at index.entries version) (λ e. has_going (listed_in index.entries) e.listed ≡ true)
+goes_where i index same version mask some told = subst (λ (j : Contents). ForSome (entry_at j.entries version) (λ e. has_going (listed_in j.entries) e.listed ≡ true)) same
+    (λ e is. (subst (λ (o : Option Indexed). IfSome o (λ d. (0 < mask) ↔ (has_going (listed_in i.entries) d.listed ≡ true))) is told).0 (omega (arith, some)))

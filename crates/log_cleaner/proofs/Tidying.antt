@@ -236,6 +236,19 @@ given_upper es version unhomed u first count some x =
           (given_of version es) (given_from es version unhomed));
     }
 
+-- a chunk that is tidy stays so
+pub given_tidy : (es : List Indexed) (version : ℕ) → NoneHomed (listed_in es) → (first count : ℕ) → 1 ≤ count → IsTidy (listed_in es) first count → IsTidy (listed_in (given_of version es)) first count
+given_tidy es version unhomed first count some t = record {
+  version = t.version;
+  one = (given_upper es version unhomed t.version first count some (upper_of_tidy (listed_in es) first count t)).one;
+  alone = all_mapped (λ (d : Listed). (d.version ≡ t.version → ⊥) → KeepsNone d first count) (λ (d : Indexed). d.listed) (given_of version es)
+      (all_map (From es version unhomed) (λ (d : Indexed). (d.listed.version ≡ t.version → ⊥) → KeepsNone d.listed first count) (λ d f other b inside. not_so (covers d.listed b) (λ is.
+      clash (covers f.0.listed b) (then_fewer es version unhomed f.0 b (subst (λ (y : Indexed). covers y.listed b ≡ true) f.2 is))
+      (all_member (λ (y : Listed). (y.version ≡ t.version → ⊥) → KeepsNone y first count) (listed_in es) f.0.listed t.alone (member_map (λ (y : Indexed). y.listed) es f.0 f.1)
+      (λ same. other (ap (λ (y : Indexed). y.listed.version) f.2 ∙ then_version es version unhomed f.0 ∙ same)) b inside)))
+      (given_of version es) (given_from es version unhomed));
+}
+
 -- where nothing goes, uppermost records are alone
 pub tidy_of_upper : (es : List Listed) (u first count : ℕ) → AllByRecursion (λ (e : Listed). (b : ℕ) → goes es e b ≡ false) es → IsUppermost es u first count → IsTidy es first count
 tidy_of_upper es u first count none x = record {
@@ -327,6 +340,16 @@ module _ (l : Look) (lane : ℕ) (w : Write) (unhomed : NoneHomed l.listed) wher
     above = all_push (λ (e : Listed). u < e.version → KeepsNone e first count) (map older l.listed) newest_
         (all_mapped (λ (e : Listed). u < e.version → KeepsNone e first count) older l.listed x.above)
         (λ less b inside. marked_full w.first (length w.blocks) b ∙ apart b inside);
+  }
+
+  -- and stays tidy
+  pub listing_tidy : (first count : ℕ) → ((b : ℕ) → is_within first count b ≡ true → is_within w.first (length w.blocks) b ≡ false) → IsTidy l.listed first count → IsTidy (listing l lane w) first count
+  listing_tidy first count apart t = record {
+    version = t.version;
+    one = (listing_upper t.version first count apart (upper_of_tidy l.listed first count t)).one;
+    alone = all_push (λ (e : Listed). (e.version ≡ t.version → ⊥) → KeepsNone e first count) (map older l.listed) newest_
+        (all_mapped (λ (e : Listed). (e.version ≡ t.version → ⊥) → KeepsNone e first count) older l.listed t.alone)
+        (λ other b inside. marked_full w.first (length w.blocks) b ∙ apart b inside);
   }
 
   -- and its own has the record of the write

@@ -15,7 +15,7 @@ use Rattle.manager.specs.declared.part.WriteRefusal.{WriteRefusal}
 use Rattle.manager.specs.declared.part.WriteRefusal.TheVariants as refused
 use Rattle.manager.specs.declared.part.StepFault.{StepFault}
 use Rattle.manager.specs.declared.part.StepFault.TheVariants as step
-use Rattle.log_cleaner.specs.Chunks.{IsTidy, is_within}
+use Rattle.log_cleaner.specs.Chunks.{IsTidy, IsUppermost, is_within}
 use Rattle.log_cleaner.specs.Copies.{AreCopies, KeepsCopies, LeavesEntry}
 use Rattle.log_cleaner.specs.Cleans.{FindsAllEmpty, GoesOn, NoneHasRoom, RoseSince}
 use Rattle.log_cleaner.specs.declared.answer.CleanFault.{CleanFault}
@@ -54,15 +54,26 @@ pub record IsCopyAt (first count version : ℕ) (w : Write) : Type 0 where
   pub count_is : length w.blocks ≡ count
   pub version_is : w.version ≡ Some version
 
--- nothing more may go: each chunk whose uppermost record keeps just its blocks is tidy
-abbrev pub TidiesUp : {D : Type 0} → (old new : Manager D) → Type 0
-TidiesUp old new = (version first count : ℕ) → 1 ≤ count → Rattle.log_cleaner.specs.Chunks.IsUppermost (listed_in old.index.entries) version first count → IsTidy (listed_in new.index.entries) first count
+-- chunks that are tidy stay so, and so do records that are the uppermost to keep just some blocks
+pub record KeepsTidy {D : Type 0} (old new : Manager D) : Type 0 where
+  pub tidy : (first count : ℕ) → 1 ≤ count → IsTidy (listed_in old.index.entries) first count → IsTidy (listed_in new.index.entries) first count
+  pub upper : (version first count : ℕ) → 1 ≤ count → IsUppermost (listed_in old.index.entries) version first count → IsUppermost (listed_in new.index.entries) version first count
 
--- giving up what may go
-abbrev pub GivesUp : {D : Type 0} → (tells : Bool) → (D → State) → (old new : Manager D) → Result (Unit {0}) StepFault → Type 0
-GivesUp tells state old new (Ok done) = HasCopied tells state old new [] × TidiesUp old new
-GivesUp tells state old new (Err (step.DiskFault p)) = HasBroken tells state old new p []
-GivesUp tells state old new (Err (step.Down p)) = ⊥
+-- some records gave up what may go
+abbrev pub GivesSome : {D : Type 0} → (tells : Bool) → (D → State) → (old new : Manager D) → Result (Unit {0}) StepFault → Type 0
+GivesSome tells state old new (Ok done) = HasCopied tells state old new [] × KeepsTidy old new
+GivesSome tells state old new (Err (step.DiskFault p)) = HasBroken tells state old new p []
+GivesSome tells state old new (Err (step.Down p)) = ⊥
+
+-- the chunk is tidy whose uppermost record keeps just its blocks
+abbrev pub TidiesUp : {D : Type 0} → (first count : ℕ) → (old new : Manager D) → Type 0
+TidiesUp first count old new = (version : ℕ) → IsUppermost (listed_in old.index.entries) version first count → IsTidy (listed_in new.index.entries) first count
+
+-- giving up what may go, until the chunk is tidy
+abbrev pub GivesUp : {D : Type 0} → (tells : Bool) → (D → State) → (first count : ℕ) → (old new : Manager D) → Result (Unit {0}) StepFault → Type 0
+GivesUp tells state first count old new (Ok done) = HasCopied tells state old new [] × KeepsTidy old new × TidiesUp first count old new
+GivesUp tells state first count old new (Err (step.DiskFault p)) = HasBroken tells state old new p []
+GivesUp tells state first count old new (Err (step.Down p)) = ⊥
 
 -- no log had room
 pub record IsRefused {D : Type 0} (tells : Bool) (state : D → State) (count : ℕ) (old new : Manager D) : Type 0 where

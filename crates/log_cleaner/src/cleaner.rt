@@ -47,7 +47,7 @@ fn clean_all<R: Wait, D: Disk>(
         let count = chunk_len(m.index(), lbn, most);
         if !is_tidy(m.index(), lbn, count) {
             let blocks = &mut room[..count as usize];
-            if !copy_chunk(rt, m, shared, lbn, blocks, done)? {
+            if !copy_chunk(rt, m, shared, lbn, blocks, done, copied == 0)? {
                 return Ok((copied, true));
             }
             copied += u64::from(count);

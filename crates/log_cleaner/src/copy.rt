@@ -1,16 +1,16 @@
 // One chunk is written again.
-ghost use Rattle.std.specs.Prelude.{◌≡◌, ◌≤◌, ℕ, true, length, IfErr, Some};
+ghost use Rattle.std.specs.Prelude.{◌≡◌, ◌≤◌, ◌<◌, ◌^◌, ℕ, true, length};
 ghost use Rattle.manager.specs.Stands.{IsReady, IsHome};
 ghost use Rattle.manager.specs.declared.part.Part.{Part};
 ghost use Rattle.log_cleaner.specs.Chunks.{is_within};
 ghost use Rattle.log_cleaner.specs.Cleans.{CanClean, covered_in};
-ghost use Rattle.log_cleaner.specs.Steps.{CopiesBehind, GivesUp, RewritesBehind, fault_of, told_of};
+ghost use Rattle.log_cleaner.specs.Steps.{CopiesBehind, RewritesBehind, fault_of, told_of};
 
 use crate::CleanFault;
 use crate::copies::{Copies, noted, with_copy};
+use crate::giving::{give_up, newest_versions};
 use logger::Shared;
 use manager::{Manager, Place, ReadRefusal, StepFault, WriteRefusal};
-use reclaimer::{Gone, invalidate_one};
 use std::sync::Wait;
 use wol_disk::{Block, Disk};
 
@@ -48,26 +48,6 @@ fn told(answer: Result<Place, WriteRefusal>) -> Result<bool, CleanFault>
     }
 }
 
-// Gives up what may go, record by record, until nothing more may go.
-fn give_up<R: Wait, D: Disk>(
-    rt: &R,
-    m: &mut Manager<D>,
-    shared: &Shared<D>,
-) -> Result<(), StepFault>
-    requires ready { IsReady D.state m.old }
-    requires at { IsHome shared.now m.old }
-    requires can { CanClean m.old }
-    ensures ready { IsReady D.state m.new }
-    ensures at { IsHome shared.now m.new }
-    ensures given { GivesUp D.tells D.state m.old m.new result }
-{
-    'steps: loop {
-        if let Gone::Nothing = invalidate_one(rt, m, shared)? {
-            return Ok(());
-        }
-    }
-}
-
 // Reads the blocks from `lbn` on and writes them again, to a log, which is one copy more. Tells whether one had room.
 fn rewrite<R: Wait, D: Disk>(
     rt: &R,
@@ -98,7 +78,8 @@ fn rewrite<R: Wait, D: Disk>(
     }
 }
 
-/// Writes the blocks of a chunk again, and then gives up what may go. Tells whether a log had room.
+/// Writes the blocks of a chunk again, and then gives up what may go of the records that keep any of them. With the
+/// first chunk all records go whose blocks newer ones keep. Tells whether a log had room.
 pub(crate) fn copy_chunk<R: Wait, D: Disk>(
     rt: &R,
     m: &mut Manager<D>,
@@ -106,22 +87,27 @@ pub(crate) fn copy_chunk<R: Wait, D: Disk>(
     lbn: u64,
     blocks: &mut [Block],
     done: &mut Copies,
+    is_first: bool,
 ) -> Result<bool, CleanFault>
     requires ready { IsReady D.state m.old }
     requires at { IsHome shared.now m.old }
     requires can { CanClean m.old }
+    requires within { lbn < 2 ^ 32 }
     requires count { (1 ≤ length blocks.old) × (length blocks.old ≤ m.old.most) }
+    requires few { length blocks.old ≤ 128 }
     requires covered { (b : ℕ) → is_within lbn (length blocks.old) b ≡ true → covered_in m.old b ≡ true }
     ensures ready { IsReady D.state m.new }
     ensures at { IsHome shared.now m.new }
     ensures copied { CopiesBehind D.tells D.state lbn (length blocks.old) m.old m.new
         done.old.value.items done.new.value.items result }
 {
+    let count = blocks.len() as u32;
+    let versions = newest_versions(m.index(), lbn, count);
     let copied = rewrite(rt, m, shared, lbn, blocks, done)?;
     if !copied {
         return Ok(false);
     }
-    match give_up(rt, m, shared) {
+    match give_up(rt, m, shared, lbn, count, &versions, is_first) {
         Ok(()) => Ok(true),
         Err(fault) => Err(step_fault(fault)),
     }

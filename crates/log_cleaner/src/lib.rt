@@ -3,10 +3,10 @@
 //! see stays as it was at each moment of it.
 //!
 //! `chunks.rt` finds the next chunk, a run of covered blocks of at most so many, and tells whether it is tidy: one
-//! record keeps just its blocks, and no other record keeps any of them. `copy.rt` writes one chunk again and then
-//! gives up what may go, `copies.rt` has the copies as contracts see them, `cleaner.rt` goes from chunk to chunk
-//! (`clean`). Of `specs/`: `Chunks` says what a chunk is and when it is tidy, `Copies` what copies leave in a history
-//! and at each moment, `Cleans` what the answers mean.
+//! record keeps just its blocks, and no other record keeps any of them. `copy.rt` writes one chunk again, `giving.rt`
+//! then gives up what may go of the records that keep its blocks, `copies.rt` has the copies as contracts see them,
+//! `cleaner.rt` goes from chunk to chunk (`clean`). Of `specs/`: `Chunks` says what a chunk is and when it is tidy,
+//! `Copies` what copies leave in a history and at each moment, `Cleans` what the answers mean.
 #![tactic(auto)]
 
 mod answer;
@@ -14,6 +14,7 @@ mod chunks;
 mod cleaner;
 mod copies;
 mod copy;
+mod giving;
 
 pub use answer::{CleanFault, Cleaned};
 pub use cleaner::clean;

@@ -14,6 +14,7 @@ use Rattle.wol_promise.proofs.OneMore.{entries_more}
 use Rattle.spin_model.specs.Spun.{state_of}
 use Rattle.logger.specs.declared.shared.Shared.{Shared}
 use Rattle.manager.specs.Answers.{was_read}
+use Rattle.manager.specs.Causes.{NoneRose}
 use Rattle.manager.specs.Reading.{HasOnlyRead, IsReadThrough}
 use Rattle.manager.specs.Seen.{look_of_manager}
 use Rattle.manager.specs.Stands.{Keeps, Stands, IsReady, IsHome, IsNote, Leaves, nones_at}
@@ -22,6 +23,7 @@ use Rattle.manager.specs.declared.manager.Manager.{Manager}
 use Rattle.manager.specs.declared.part.Part.{Part}
 use Rattle.manager.specs.declared.part.ReadRefusal.{ReadRefusal}
 use Rattle.manager.specs.declared.part.ReadRefusal.TheVariants as read
+use Rattle.manager.proofs.Calm.{none_home, none_then}
 use Rattle.manager.proofs.Frames.{none_passed, stands_kept}
 use Rattle.manager.proofs.ReadKeeps.{keeps_read}
 use Rattle.manager.proofs.ReadThrough.{through_self, through_then}
@@ -62,6 +64,7 @@ pub record HasDigested {D : Type 0} (tells : Bool) (state : D → State) (shared
   pub ready : IsReady state now
   pub home : IsHome shared now
   pub read : IsReadThrough state first now
+  pub calm : NoneRose state first now
   pub within : at ≤ (state_of state first.home).size
   pub message : IsTrue tells → (b : ManagerBase) (notes : List Noted) → Keeps tells state first b notes → Holds256 hasher (bytes_of (take at (array_of b notes)))
 
@@ -71,6 +74,7 @@ module _ {D : Type 0} (tells : Bool) (state : D → State) (sound : (d : D) → 
     ready = ready;
     home = home;
     read = through_self state sound first;
+    calm = none_home state first first ready refl refl;
     within = omega arith;
     message = λ told b notes k. holds;
   }
@@ -103,12 +107,13 @@ module _ {D : Type 0} (tells : Bool) (state : D → State) (sound : (d : D) → 
       then_only_read only = subst (λ (down : Option Part). IsReadThrough state first (record next { down = down })) h.read.down (through_then state sound first now (record next { down = now.down }) h.read only)
 
       -- one read more
-      pub digested_more : (count : ℕ) (hasher' : Sha256) (reply : List Block) → IsReady state next → IsHome shared next → HasOnlyRead state now next → next.down ≡ None → Leaves tells state now next (Read at reply) [] worker
+      pub digested_more : (count : ℕ) (hasher' : Sha256) (reply : List Block) → IsReady state next → IsHome shared next → HasOnlyRead state now next → NoneRose state now next → next.down ≡ None → Leaves tells state now next (Read at reply) [] worker
           → at + count ≤ (state_of state first.home).size → length reply ≡ count → ((message : List ℕ) → Holds256 hasher message → Holds256 hasher' (message ++ bytes_of reply)) → HasDigested tells state shared first next (at + count) hasher'
-      digested_more count hasher' reply ready home only up' leaves within long feeds = record {
+      digested_more count hasher' reply ready home only calm up' leaves within long feeds = record {
         ready = ready;
         home = home;
         read = through_then state sound first now next h.read (subst (IsReadThrough state now) (λ i. record next { down = same i }) only);
+        calm = none_then state first now next h.read h.calm calm;
         within = within;
         message = λ told b notes k.
             let a = array_of b notes in

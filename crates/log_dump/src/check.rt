@@ -1,16 +1,18 @@
 // The line of `check`.
-ghost use Rattle.std.specs.Prelude.{◌≡◌, ◌↔◌, ◌++◌, ◌<◌, ℕ, List, [], length, IfOk, OnOk, OnErr, IsTrue, IsSome, None, Some};
+ghost use Rattle.std.specs.Prelude.{◌≡◌, ◌↔◌, ◌++◌, ◌<◌, ℕ, List, [], length, map, IfOk, OnOk, OnErr, IsTrue, IsSome, None, Some};
+ghost use Rattle.hex.specs.Hex.{encode_lower};
 ghost use Rattle.wol_model.specs.History.{worker};
 ghost use Rattle.wol_config.specs.Configs.{IsValid};
 ghost use Rattle.wol_config.specs.Documents.{names_of};
 ghost use Rattle.report.specs.Names.{name_at};
 ghost use Rattle.wol_promise.specs.Ruled.{Noted};
-ghost use Rattle.manager.specs.Causes.{PartRose};
+ghost use Rattle.manager.specs.Causes.{NoneRose, PartRose};
 ghost use Rattle.manager.specs.Reading.{HasOnlyRead};
 ghost use Rattle.manager.specs.Stands.{Keeps, IsReady, IsHome, IsSameManager, Leaves};
 ghost use Rattle.manager.specs.declared.base.ManagerBase.{ManagerBase};
 ghost use Rattle.manager.specs.declared.part.Part.{Part};
 ghost use Rattle.log_dump.specs.Faults.{was_told};
+ghost use Rattle.log_dump.specs.Segments.{HasDifferent, place_of};
 ghost use Rattle.log_dump.specs.Texts.{check_line, check_text};
 ghost use Rattle.log_dump.specs.Volumes.{IsVolumeOf, array_of, held_segments};
 
@@ -47,6 +49,10 @@ pub fn check_line<D: Disk, R: Wait>(
     ensures at { IsHome shared.now manager.new }
     ensures same { IsSameManager manager.old manager.new }
     ensures stands { Leaves D.tells D.state manager.old manager.new (was_told result) [] worker }
+    // A line of this volume, of a digest, of all records and of the segments in which they lie, whether or not disks tell anything.
+    ensures line { OnOk result ((digest : List ℕ) × (segments : ℕ) × (length digest ≡ 32)
+        × HasDifferent (map place_of manager.old.index.entries) segments
+        × (out.new.items ≡ out.old.items ++ check_line (name_at (names_of config.now.volumes.items) volume) (encode_lower digest) (length manager.old.index.entries) segments)) }
     // Where the disks tell their content the array is the one that the manager stands for.
     ensures content { IsTrue D.tells → (b : ManagerBase) (notes : List Noted) → Keeps D.tells D.state manager.old b notes
         → OnOk result (out.new.items ≡ out.old.items
@@ -56,6 +62,7 @@ pub fn check_line<D: Disk, R: Wait>(
     ensures unchanged { IsSome manager.old.down → manager.new ≡ manager.old }
     ensures cause { (p : Part) → result ≡ Err (DumpFault.DiskFault p) → (manager.new.down ≡ Some p) × PartRose D.state manager.old manager.new p }
     ensures up { OnOk result (manager.new.down ≡ None) }
+    ensures calm { OnOk result (NoneRose D.state manager.old manager.new) }
     ensures read { HasOnlyRead D.state manager.old manager.new }
 {
     if let Some(part) = manager.down() {

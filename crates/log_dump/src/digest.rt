@@ -5,7 +5,7 @@ ghost use Rattle.sha2.specs.Sha256.{sha256};
 ghost use Rattle.spin_model.specs.Spun.{state_of};
 ghost use Rattle.wol_model.specs.History.{worker};
 ghost use Rattle.wol_promise.specs.Ruled.{Noted};
-ghost use Rattle.manager.specs.Causes.{PartRose};
+ghost use Rattle.manager.specs.Causes.{NoneRose, PartRose};
 ghost use Rattle.manager.specs.Reading.{HasOnlyRead};
 ghost use Rattle.manager.specs.Stands.{Keeps, IsReady, IsHome, Leaves};
 ghost use Rattle.manager.specs.declared.base.ManagerBase.{ManagerBase};
@@ -41,6 +41,8 @@ pub(crate) fn digest_of<D: Disk, R: Wait>(
     ensures read { HasOnlyRead D.state manager.old manager.new }
     ensures stands { Leaves D.tells D.state manager.old manager.new (was_told result) [] worker }
     ensures up { OnOk result (manager.new.down ≡ None) }
+    ensures size { IfOk result (λ digest. length digest ≡ 32) }
+    ensures calm { OnOk result (NoneRose D.state manager.old manager.new) }
     ensures content { IsTrue D.tells → (b : ManagerBase) (notes : List Noted) → Keeps D.tells D.state manager.old b notes
         → IfOk result (λ digest. digest ≡ sha256 (bytes_of (array_of b notes))) }
     ensures cause { (p : Part) → result ≡ Err (DumpFault.DiskFault p) → (manager.new.down ≡ Some p) × PartRose D.state manager.old manager.new p }

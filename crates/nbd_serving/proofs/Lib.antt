@@ -1,3 +1,4 @@
+pub mod Begun
 pub mod Placed
 pub mod Recovered
 pub mod Sessions

@@ -1,12 +1,10 @@
 -- All volumes were opened, one was served, and all were closed: what is told of the bay.
-use Rattle.std.proofs.Common.{◌≡◌, ◌≢◌, ◌<◌, ℕ, zero, suc, Bool, true, false, List, [], length, map, Option, None, Some, Result, refl, sym, ap, ◌∙◌, subst, arith, append-nil}
+use Rattle.std.proofs.Common.{◌≡◌, ◌≢◌, ◌<◌, ◌++◌, ℕ, zero, suc, Bool, true, false, List, [], length, map, Option, None, Some, Result, refl, sym, ap, ◌∙◌, subst, arith, append-nil}
 use Rattle.std.specs.Prelude.{slice_get, slice_index_or, unwrap_or, IfSome, IsSome, IsTrue}
-use Rattle.std.specs.Option.{option_map}
 use Rattle.std.proofs.lemmas.Option.{same_Some, slice_get-get_or}
 use Rattle.wol_disk.specs.Disk.{Block, State}
 use Rattle.wol_bay.specs.Bay.{BayState, Told}
 use Rattle.wol_config.specs.declared.config.Config.{Config}
-use Rattle.wol_model.specs.ArrayLaws.{unversioned}
 use Rattle.wol_model.specs.Blocks.{Write, after}
 use Rattle.wol_model.specs.History.{IsCut, worker, helper, keeper, writes, flight_of}
 use Rattle.wol_model.specs.Images.{Images, recovered_from}
@@ -24,7 +22,7 @@ use Rattle.request_turns.specs.Turns.{began}
 use Rattle.spin_model.specs.Spindles.{SpindleView}
 use Rattle.volume_images.specs.Left.{AreNamedApart, IsTold}
 use Rattle.volume_images.specs.Volumes.{AreLeft, images_read, shapes_of}
-use Rattle.rack.specs.Closes.{IsClosedVolume, RecoversTo, recovered_out}
+use Rattle.rack.specs.Closes.{HasFaultyPart, IsClosedVolume, RecoversTo, recovered_out}
 use Rattle.rack.specs.Opens.{BeganWith}
 use Rattle.rack.specs.Owners.{IsBegun, images_taken, most_of}
 use Rattle.rack.specs.Racks.{IsStation, IsUnused, base_of_station}
@@ -58,9 +56,20 @@ third P h k more (suc zero) other = h
 third P h k more (suc (suc zero)) other = k
 third P h k more (suc (suc (suc n))) other = more (suc (suc (suc n))) other (λ is. omega (arith, is)) (λ is. omega (arith, is))
 
-flight_some : (o : Option (List Write)) → IsSome (option_map (map unversioned) o) → o ≡ None → ⊥
+flight_some : (o : Option (List Write)) → IsSome o → o ≡ None → ⊥
 flight_some None is none = absurd (let no : false ≡ true = is in cc)
 flight_some (Some ws) is none = absurd (let no : Some ws ≡ None = none in cc)
+
+-- parts that came back with a fault since opening did so since entry, where none had before
+faulty_same : (tells : Bool) (config : Config) (owner : ℕ) (view : List ℕ) (e o n : Option Told) → IsTold (λ x y. AreNamedApart y) e o → IsTold (λ x y. y.faulty ≡ x.faulty) e o → IsTold (HasFaultyPart tells config owner view) o n
+    → IsTold (HasFaultyPart tells config owner view) e n
+faulty_same tells config owner view None None n apart same faulty = faulty
+faulty_same tells config owner view None (Some o) n apart same faulty = absurd (cc apart)
+faulty_same tells config owner view (Some e) None n apart same faulty = absurd apart
+faulty_same tells config owner view (Some e) (Some o) None apart same faulty = absurd faulty
+faulty_same tells config owner view (Some e) (Some o) (Some n) apart same faulty = λ named.
+    let f = faulty (apart named) in
+    record { more = f.more; more_is = f.more_is ∙ ap (λ l. l ++ f.more) (same named); volume = f.volume; conf = f.conf; conf_is = f.conf_is; place = f.place; among = f.among; of_volume = f.of_volume }
 
 module _ {D : Type 0} (tells : Bool) (state : D → State) (config : Config) (did : Rack D → Rack D → Type 0) (old new : BayState) (spindles : List SpindleView) (session : OpensAndCloses tells state config did old new spindles)
     (all_open : first_closed 0 session.before.faults.items ≡ None) (volume : ℕ) (wire wire' : Wire) (answer : Result Ended NbdFault) (serves : ServesStation tells config session.before session.after volume wire wire' answer) where
@@ -263,6 +272,9 @@ module _ {D : Type 0} (tells : Bool) (state : D → State) (config : Config) (di
     faults = serves.faults;
     cause = λ broken. rose_before old.faults session.bay.faults new.faults session.sooner
         (closed.cause (flight_some (flight_of (entries_of (notes_of es))) (subst (λ (p : Pieces). IsSome p.flight) (sym end_is) broken)));
+    faulty = λ broken telling. faulty_same tells config volume base.view old.told session.bay.told new.told (session.opened.apart telling) (session.opened.unfaulty outs)
+        (subst (λ (n : ℕ). IsTold (HasFaultyPart tells config n base.view) session.bay.told new.told) serves.is_station.id
+        (closed.faulty (flight_some (flight_of (entries_of (notes_of es))) (subst (λ (p : Pieces). IsSome p.flight) (sym end_is) broken))));
     images = through (LeavesServed config volume (made serves.pass)) (λ entry mid is recovers. served_left entry mid is (recovers t serves.place there_now));
     others = through (LeavesOthers config volume) others_left;
   }

@@ -19,6 +19,7 @@ use Rattle.inspection.specs.Racks.{IsSameRack}
 use Rattle.inspection.specs.Runs.{MayComplete}
 use Rattle.inspection.proofs.Quiet.{all_quiet}
 use Rattle.inspection.proofs.SameRacks.{rack_self}
+use Rattle.nbd_handshake.specs.declared.ending.Shaken.{Shaken}
 use Rattle.nbd_session.specs.Sessions.{CountsFaults}
 use Rattle.nbd_session.specs.declared.session.Ended.{Ended}
 use Rattle.nbd_session.specs.declared.session.NbdFault.{NbdFault}
@@ -28,8 +29,10 @@ use Rattle.nbd_serving.specs.Racks as racks
 use Rattle.nbd_serving.specs.Runs.{Completes, ServesNamed}
 use Rattle.nbd_serving.specs.Runs as runs
 use Rattle.nbd_serving.specs.Wires.{Wire, answer_of}
+use Rattle.nbd_serving.specs.declared.serving.Beginning.{Beginning}
 use Rattle.nbd_serving.specs.declared.stop.Stop.{Stop}
 use Rattle.nbd_serving.specs.declared.stop.Stop.TheVariants as stop
+use Rattle.nbd_serving.proofs.Begun.{counts_behind, faults_begun}
 use Rattle.nbd_serving.proofs.Sessions.{serves_open}
 
 -- what isn't touched is as it was
@@ -41,23 +44,25 @@ pub sound_same : (config : Config) (o : Option Told) → IsTold (KeepsAllSound c
 sound_same config None = refl
 sound_same config (Some t) = λ apart all images left. all images left
 
-module _ {D : Type 0} (tells : Bool) (state : D → State) (config : Config) (name : List ℕ) (volume : ℕ) (named : number_named (names_of config.volumes.items) name ≡ Some volume) (old new : BayState) (wire wire' : Wire) (spindles : List SpindleView)
-    (answer : Result Ended Stop) (session : OpensAndCloses tells state config (λ before after. ServesRack tells config volume before after wire wire' answer) old new spindles) where
+module _ {D : Type 0} (tells : Bool) (state : D → State) (config : Config) (begins : Beginning) (name : List ℕ) (volume : ℕ) (named : number_named (names_of config.volumes.items) name ≡ Some volume) (old new : BayState) (wire wire' : Wire) (spindles : List SpindleView)
+    (answer : Result Ended Stop) (session : OpensAndCloses tells state config (λ before after. ServesRack tells config volume begins before after wire wire' answer) old new spindles) where
   abbrev did : Rack D → Rack D → Type 0
-  did = λ before after. ServesRack tells config volume before after wire wire' answer
+  did = λ before after. ServesRack tells config volume begins before after wire wire' answer
 
   untouched : session.after ≡ session.before → IsTrue tells → IsTold (LeavesAll tells state config old new) old.told new.told
   untouched same telling = session.left telling (all_quiet session.before.stations.items session.after.stations.items (subst (IsSameRack session.before) (sym same) (rack_self session.before)).each session.opened.fresh)
 
-  pub serves_named : (IsTrue tells → IsTold (KeepsAllSound config) old.told new.told) → ServesNamed tells state config name old new wire wire' answer
+  pub serves_named : (IsTrue tells → IsTold (KeepsAllSound config) old.told new.told) → ServesNamed tells state config begins name old new wire wire' answer
   serves_named sound = go answer session.done
     where
-      go : (a : Result Ended Stop) → ServesRack tells config volume session.before session.after wire wire' a → ServesNamed tells state config name old new wire wire' a
+      go : (a : Result Ended Stop) → ServesRack tells config volume begins session.before session.after wire wire' a → ServesNamed tells state config begins name old new wire wire' a
       go a (racks.closed fault is same calm) =
           let first = first_refused state config session.bay session.before session.opened.rack tells old new session.refused session.failed session.part session.opened.began session.opened.there fault is in
-          subst (λ (f : Fault). ServesNamed tells state config name old new wire wire' (Err (stop.Fault f))) (sym first.2)
+          subst (λ (f : Fault). ServesNamed tells state config begins name old new wire wire' (Err (stop.Fault f))) (sym first.2)
           (runs.closed volume first.0 first.1 named first.3 (record { left = untouched same; sound = sound }) calm)
-      go a (racks.open_ r all_open serves) = runs.served volume r named (serves_open tells state config did old new spindles session all_open volume wire wire' r serves)
+      go a (racks.unagreed why is begins_ same) = runs.unagreed volume why named begins_ (record { left = untouched same; sound = sound })
+      go a (racks.unbegun f is begins_ same) = runs.unbegun volume f named begins_ (record { left = untouched same; sound = sound })
+      go a (racks.open_ begun r all_open begins_ serves) = runs.served volume begun r named begins_ (serves_open tells state config did old new spindles session all_open volume begun wire' r serves)
 
   -- ---- Completeness
 
@@ -76,9 +81,16 @@ module _ {D : Type 0} (tells : Bool) (state : D → State) (config : Config) (na
       by (Err fault.Sink) counts = absurd (m.sink_calm counts.1)
       by (Err fault.NoMemory) counts = refl
 
-      go : (a : Result Ended Stop) → ServesRack tells config volume session.before session.after wire wire' a → Completes a
+      broke : (f : NbdFault) → CountsFaults {T = Shaken} wire.source_faults wire'.source_faults wire.sink_faults wire'.sink_faults (Err f) → Completes (answer_of (Err f))
+      broke fault.Source counts = absurd (calm counts.0)
+      broke fault.Sink counts = absurd (m.sink_calm counts.1)
+      broke fault.NoMemory counts = refl
+
+      go : (a : Result Ended Stop) → ServesRack tells config volume begins session.before session.after wire wire' a → Completes a
       go a (racks.closed fault is same unread) =
           let one = first_is 0 session.before.faults.items fault is in
           let within = slice_get_within session.before.faults.items one.k (Some one.fault_) one.here in
           absurd (cc (sym (all_there m one.k (omega (arith, within, session.opened.rack.fault_count))) ∙ one.here))
-      go a (racks.open_ r all_open serves) = by r serves.faults
+      go a (racks.unagreed why is begins_ same) = tt
+      go a (racks.unbegun f is begins_ same) = broke f (faults_begun config volume begins wire wire' f begins_)
+      go a (racks.open_ begun r all_open begins_ serves) = by r (counts_behind config volume begins wire begun wire' r begins_ serves.faults)

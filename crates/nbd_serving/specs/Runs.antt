@@ -13,14 +13,19 @@ use Rattle.report.specs.declared.fault.Fault.TheVariants.{Memory, Volume}
 use Rattle.troubles.specs.Troubles.{trouble_of}
 use Rattle.volume_images.specs.Left.{AreNamedApart, IsTold}
 use Rattle.volume_images.specs.Volumes.{AreLeft, images_read, shapes_of}
+use Rattle.rack.specs.Closes.{HasFaultyPart}
 use Rattle.rack.specs.Owners.{IsBegun, most_of}
 use Rattle.rack.specs.declared.volume_fault.VolumeFault.{VolumeFault}
 use Rattle.open_rack.specs.NotOpened.{IsFirstClosed, LeavesBay}
+use Rattle.nbd_handshake.specs.declared.ending.Shaken.TheVariants.{Agreed, Unagreed as NotAgreed}
+use Rattle.nbd_handshake.specs.declared.ending.Unagreed.{Unagreed}
 use Rattle.nbd_session.specs.Sessions.{CountsFaults, IsSession}
 use Rattle.nbd_session.specs.declared.session.Ended.{Ended}
 use Rattle.nbd_session.specs.declared.session.NbdFault.{NbdFault}
 use Rattle.nbd_station.specs.Pieces.{IsTurnAt, Pieces, pieces_of}
+use Rattle.nbd_serving.specs.Racks.{Begins}
 use Rattle.nbd_serving.specs.Wires.{Wire, answer_of}
+use Rattle.nbd_serving.specs.declared.serving.Beginning.{Beginning}
 use Rattle.nbd_serving.specs.declared.stop.Stop.{Stop}
 use Rattle.nbd_serving.specs.declared.stop.Stop.TheVariants as stop
 
@@ -51,30 +56,36 @@ pub record ServesOpen (tells : Bool) (config : Config) (volume : ℕ) (old new :
   pub end : Pieces
   pub session : IsSession (IsTurnAt (IsTrue tells) base.array) conf.home (most_of config) (pieces_of base.look []) end wire.left wire'.left wire.taken wire'.taken answer
   pub faults : CountsFaults wire.source_faults wire'.source_faults wire.sink_faults wire'.sink_faults answer
-  -- a call of a disk that failed is counted
+  -- a call of a disk that failed is counted, and was one of a part of this volume
   pub cause : IsSome end.flight → Rose old.faults new.faults
+  pub faulty : IsSome end.flight → IsTrue tells → IsTold (HasFaultyPart tells config volume base.view) old.told new.told
   pub images : IsTrue tells → IsTold (LeavesServed config volume end) old.told new.told
   pub others : IsTrue tells → IsTold (LeavesOthers config volume) old.told new.told
 
 -- ---- The command
 
 -- A volume was to be served: no volume has the name; or there was no memory to open the volumes; or one of them couldn't be
--- opened; or all were open.
-pub data ServesNamed {D : Type 0} (tells : Bool) (state : D → State) (config : Config) (name : List ℕ) (old new : BayState) (wire wire' : Wire) : Result Ended Stop → Type 0 where
-  unknown : number_named (names_of config.volumes.items) name ≡ None → new ≡ old → wire' ≡ wire → ServesNamed tells state config name old new wire wire' (Err stop.Unknown)
+-- opened; or all were open, and no session began, or the volume was served.
+pub data ServesNamed {D : Type 0} (tells : Bool) (state : D → State) (config : Config) (begins : Beginning) (name : List ℕ) (old new : BayState) (wire wire' : Wire) : Result Ended Stop → Type 0 where
+  unknown : number_named (names_of config.volumes.items) name ≡ None → new ≡ old → wire' ≡ wire → ServesNamed tells state config begins name old new wire wire' (Err stop.Unknown)
   no_memory : (volume : ℕ) → number_named (names_of config.volumes.items) name ≡ Some volume → LeavesBay tells state config old new → wire' ≡ wire
-      → ServesNamed tells state config name old new wire wire' (Err (stop.Fault Memory))
+      → ServesNamed tells state config begins name old new wire wire' (Err (stop.Fault Memory))
   closed : (volume k : ℕ) (f : VolumeFault) → number_named (names_of config.volumes.items) name ≡ Some volume → IsFirstClosed tells state config old new k f → LeavesBay tells state config old new → wire' ≡ wire
-      → ServesNamed tells state config name old new wire wire' (Err (stop.Fault (Volume k (trouble_of f))))
-  served : (volume : ℕ) (answer : Result Ended NbdFault) → number_named (names_of config.volumes.items) name ≡ Some volume → ServesOpen tells config volume old new wire wire' answer
-      → ServesNamed tells state config name old new wire wire' (answer_of answer)
+      → ServesNamed tells state config begins name old new wire wire' (Err (stop.Fault (Volume k (trouble_of f))))
+  unagreed : (volume : ℕ) (why : Unagreed) → number_named (names_of config.volumes.items) name ≡ Some volume → Begins config volume begins wire wire' (Ok (NotAgreed why)) → LeavesBay tells state config old new
+      → ServesNamed tells state config begins name old new wire wire' (Err (stop.Unagreed why))
+  unbegun : (volume : ℕ) (f : NbdFault) → number_named (names_of config.volumes.items) name ≡ Some volume → Begins config volume begins wire wire' (Err f) → LeavesBay tells state config old new
+      → ServesNamed tells state config begins name old new wire wire' (answer_of (Err f))
+  served : (volume : ℕ) (begun : Wire) (answer : Result Ended NbdFault) → number_named (names_of config.volumes.items) name ≡ Some volume → Begins config volume begins wire begun (Ok Agreed) → ServesOpen tells config volume old new begun wire' answer
+      → ServesNamed tells state config begins name old new wire wire' (answer_of answer)
 
 -- ---- Completeness
 
--- the session ended, or no volume has the name, or there was no memory
+-- the session ended or the handshake did, or no volume has the name, or there was no memory
 abbrev pub Completes : Result Ended Stop → Type 0
 Completes (Ok e) = Unit {0}
 Completes (Err stop.Unknown) = Unit {0}
 Completes (Err (stop.Fault f)) = f ≡ Memory
+Completes (Err (stop.Unagreed why)) = Unit {0}
 Completes (Err stop.Source) = ⊥
 Completes (Err stop.Sink) = ⊥

@@ -1,5 +1,7 @@
 -- The source and the sink of a client, and what a command answers.
 use Rattle.std.specs.Prelude.{ℕ, List, Option, Result, Ok, Err}
+use Rattle.nbd_handshake.specs.declared.ending.Unagreed.{Unagreed}
+use Rattle.nbd_handshake.specs.declared.ending.Unagreed.TheVariants as unagreed
 use Rattle.nbd_session.specs.declared.session.Ended.{Ended}
 use Rattle.nbd_session.specs.declared.session.Ended.TheVariants as ended
 use Rattle.nbd_session.specs.declared.session.NbdFault.{NbdFault}
@@ -23,6 +25,17 @@ answer_of (Err fault.Source) = Err stop.Source
 answer_of (Err fault.Sink) = Err stop.Sink
 answer_of (Err fault.NoMemory) = Err (stop.Fault Memory)
 
+-- the exit status behind a handshake without a session: 0 where the client went away between two options
+abbrev pub unagreed_status : Unagreed → ℕ
+unagreed_status unagreed.Aborted = 0
+unagreed_status unagreed.End = 0
+unagreed_status unagreed.Cut = 14
+unagreed_status unagreed.BadFlags = 14
+unagreed_status unagreed.BadMagic = 14
+unagreed_status unagreed.TooLong = 14
+unagreed_status unagreed.TooMany = 14
+unagreed_status unagreed.Unoffered = 14
+
 -- its exit status
 abbrev pub status_of : Result Ended Stop → ℕ
 status_of (Ok ended.Disc) = 0
@@ -31,5 +44,6 @@ status_of (Ok (ended.BadMagic request)) = 14
 status_of (Ok (ended.Cut request)) = 14
 status_of (Err stop.Unknown) = 15
 status_of (Err (stop.Fault f)) = report.status_of f
+status_of (Err (stop.Unagreed why)) = unagreed_status why
 status_of (Err stop.Source) = 8
 status_of (Err stop.Sink) = 7

@@ -11,7 +11,7 @@ ghost use Rattle.rack.specs.Opens.{KeepsAllSound, KeepsOthers};
 ghost use Rattle.inspection.specs.Runs.{MayComplete};
 ghost use Rattle.nbd_serving.specs.Runs.{Completes, ServesNamed};
 
-use crate::serving::Serving;
+use crate::serving::{Beginning, Serving};
 use crate::stop::Stop;
 use nbd_session::Ended;
 use open_rack::{Closed, with_open};
@@ -43,16 +43,19 @@ fn is_named(volume: &VolumeConf, name: &[u8]) -> bool
     volume.name.as_bytes() == name
 }
 
-/// Serves the volume of this name to a client, whose requests the source gives and whose replies the sink takes. All volumes
-/// are opened first, and closed when the session has ended; the session is the one client of the volume, and nothing is
-/// reclaimed within it but where no log has room for a write. A write is durable before its reply is begun.
+/// Serves the volume of this name to a client, whose requests the source gives and whose replies the sink takes, at once or
+/// behind a handshake on the same source and sink. All volumes are opened first, so that a client that is told of the volume
+/// finds it open, and closed when the session has ended; the session is the one client of the volume, and nothing is reclaimed
+/// within it but where no log has room for a write. A write is durable before its reply is begun.
 ///
 /// A disk's fault in the session is an error of a reply, and ends nothing. `Unknown`: no volume has the name, which is told
-/// before anything is opened. `Fault`: the first volume that isn't open, or want of memory before the first request was looked
-/// at. `Source`, `Sink`: a call of it failed. At each exit every image is back in the bay.
+/// before anything is opened. `Fault`: the first volume that isn't open, or want of memory in the handshake or before the first
+/// request was looked at. `Unagreed`: the handshake ended without a session. `Source`, `Sink`: a call of it failed. At each exit
+/// every image is back in the bay.
 pub fn serve_volume<R: Wait, S: Source, K: Sink, B: Bay>(
     rt: &R,
     alloc: Global,
+    beginning: Beginning,
     name: &str,
     config: &Config,
     bay: &mut B,
@@ -65,7 +68,7 @@ pub fn serve_volume<R: Wait, S: Source, K: Sink, B: Bay>(
     ensures none_out { NoneOut config.now (B.state bay.new) }
     ensures home { outs (B.state bay.new) ≡ outs (B.state bay.old) }
     ensures counts { (B.state bay.old).faults ≤ (B.state bay.new).faults }
-    ensures content { ServesNamed B.Part.tells B.Part.state config.now name.now (B.state bay.old) (B.state bay.new)
+    ensures content { ServesNamed B.Part.tells B.Part.state config.now beginning name.now (B.state bay.old) (B.state bay.new)
         (record { left = S.left input.old; source_faults = S.faults input.old; taken = K.taken out.old; sink_faults = K.faults out.old })
         (record { left = S.left input.new; source_faults = S.faults input.new; taken = K.taken out.new; sink_faults = K.faults out.new })
         result }
@@ -83,6 +86,7 @@ pub fn serve_volume<R: Wait, S: Source, K: Sink, B: Bay>(
     };
     let work = Serving {
         volume: volume as u32,
+        beginning,
     };
     let Closed {
         answer,

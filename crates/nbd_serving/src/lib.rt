@@ -1,11 +1,11 @@
 //! The command that serves one volume of a bay to a client: all volumes are opened, a session of `nbd_session` runs at the
-//! station of one, and all are closed.
+//! station of one, at once or behind a handshake of `nbd_handshake`, and all are closed.
 //!
 //! `command.rt` has `serve_volume`; `serving.rt` what is done while the volumes are open: the first that isn't open ends it,
 //! else the volume is served; `stop.rt` why the command ended without the end of a session, and its status. Of `specs/`:
 //! `Wires` has source and sink as contracts see them, `Racks` what is done with a rack, `Runs` what the command comes to, told
-//! of the bay before and behind it. In `proofs/`: `Placed` (the station of the volume among all), `Closed` (what the volumes
-//! recover to), `Sessions` (the session at the bay).
+//! of the bay before and behind it. In `proofs/`: `Placed` (the station of the volume among all), `Recovered` (what images
+//! recover to, as pieces), `Sessions` (the session at the bay), `Whole` (what the command comes to).
 #![tactic(auto)]
 
 mod command;
@@ -13,4 +13,5 @@ mod serving;
 mod stop;
 
 pub use command::serve_volume;
+pub use serving::Beginning;
 pub use stop::{Stop, status_of};

@@ -5,10 +5,11 @@ ghost use Rattle.manager.specs.declared.station.Station.{Station};
 ghost use Rattle.inspection.specs.Racks.{numbers_of, CanLook, IsStationAt};
 ghost use Rattle.open_rack.specs.Again.{IsRackAgain};
 ghost use Rattle.rack.specs.Owners.{most_of};
-ghost use Rattle.nbd_serving.specs.Racks.{ServesStation};
+ghost use Rattle.nbd_serving.specs.Racks.{Begins, ServesStation};
 
 use crate::stop::{Stop, answer_of};
 use manager::Station;
+use nbd_handshake::{Export, Shaken, shake};
 use nbd_session::{Ended, NbdFault};
 use nbd_station::serve_station;
 use open_rack::{Work, first_closed};
@@ -21,6 +22,15 @@ use wol_io::{Sink, Source};
 
 /// The most blocks of one turn, whatever the segments' length.
 const MOST_BLOCKS: u32 = 128;
+
+/// How a session begins.
+#[derive(Clone, Copy, Debug, PartialEq, Eq)]
+pub enum Beginning {
+    /// At once: client and server have agreed before.
+    AtOnce,
+    /// Behind a handshake, in which they agree on the volume.
+    Handshake,
+}
 
 // The place of the station of this volume.
 fn place_of<D: Disk>(stations: &[Station<D>], volume: u32) -> usize
@@ -79,10 +89,40 @@ fn serve_open<R: Wait, D: Disk, S: Source, K: Sink>(
     )
 }
 
+// What comes before the session at a volume.
+fn begin<S: Source, K: Sink>(
+    alloc: Global,
+    config: &Config,
+    volume: u32,
+    beginning: Beginning,
+    input: &mut S,
+    out: &mut K,
+) -> Result<Shaken, NbdFault>
+    requires valid { IsValid config.now }
+    requires volume { volume < length config.now.volumes.items }
+    ensures { Begins config.now volume beginning
+        (record { left = S.left input.old; source_faults = S.faults input.old; taken = K.taken out.old; sink_faults = K.faults out.old })
+        (record { left = S.left input.new; source_faults = S.faults input.new; taken = K.taken out.new; sink_faults = K.faults out.new })
+        result }
+{
+    match beginning {
+        Beginning::AtOnce => Ok(Shaken::Agreed),
+        Beginning::Handshake => {
+            let conf = &config.volumes[volume as usize];
+            let export = Export {
+                name: conf.name.as_bytes(),
+                blocks: conf.home,
+            };
+            shake(alloc, &export, input, out)
+        }
+    }
+}
+
 /// Sees that all volumes are open, and serves one of them.
 #[derive(Drop)]
 pub(crate) struct Serving {
     pub volume: u32,
+    pub beginning: Beginning,
 }
 
 impl<R: Wait, D: Disk, S: Source, K: Sink> Work<R, D, S, K> for Serving {
@@ -93,7 +133,7 @@ impl<R: Wait, D: Disk, S: Source, K: Sink> Work<R, D, S, K> for Serving {
 
     ghost Ready = { λ work config given out. work.volume < length config.volumes.items };
 
-    ghost Did = { λ work config before after given rest out now answer. ServesRack D.tells config work.volume before after
+    ghost Did = { λ work config before after given rest out now answer. ServesRack D.tells config work.volume work.beginning before after
         (record { left = S.left given; source_faults = S.faults given; taken = K.taken out; sink_faults = K.faults out })
         (record { left = S.left rest; source_faults = S.faults rest; taken = K.taken now; sink_faults = K.faults now })
         answer };
@@ -110,6 +150,13 @@ impl<R: Wait, D: Disk, S: Source, K: Sink> Work<R, D, S, K> for Serving {
         if let Some(fault) = first_closed(rack.faults.as_slice()) {
             return Err(Stop::Fault(fault));
         }
-        answer_of(serve_open(rt, alloc, rack, config, self.volume, given, out))
+        match begin(alloc, config, self.volume, self.beginning, given, out) {
+            Ok(Shaken::Agreed) => {
+                let session = serve_open(rt, alloc, rack, config, self.volume, given, out);
+                answer_of(session)
+            }
+            Ok(Shaken::Unagreed(why)) => Err(Stop::Unagreed(why)),
+            Err(fault) => answer_of(Err(fault)),
+        }
     }
 }

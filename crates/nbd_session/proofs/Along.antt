@@ -14,10 +14,10 @@ use Rattle.nbd_session.specs.Turns.{Turn, Read, NotRead, Wrote, NotWrote, look_t
 module _ {V W : Type 0} (turned : Turn → V → V → Type 0) (seen : Turn → W → W → Type 0) (as_seen : V → W) (Fits : V → Type 0) (step : (t : Turn) (v w : V) → Fits w → turned t v w → Fits v × seen t (as_seen v) (as_seen w)) (home most : ℕ) where
   read_along : (at count : ℕ) (v : V) (done : ℕ) (got : List ℕ) (w : V) → HasRead turned most at count v done got w → Fits w → Fits v × HasRead seen most at count (as_seen v) done got (as_seen w)
   read_along at count v done got w HasRead.none fits = (fits, HasRead.none)
-  read_along at count v done got w (HasRead.next now had m n blocks before more size last) fits =
+  read_along at count v done got w (HasRead.next now had m n blocks before more size whole last) fits =
       let s = step (Read (at + now) blocks) m n fits last in
       let b = read_along at count v now had m before s.0 in
-      (b.0, HasRead.next now had (as_seen m) (as_seen n) blocks b.1 more size s.1)
+      (b.0, HasRead.next now had (as_seen m) (as_seen n) blocks b.1 more size whole s.1)
 
   written_along : (at count : ℕ) (v : V) (done : ℕ) (got : List ℕ) (w : V) → HasWritten turned most at count v done got w → Fits w → Fits v × HasWritten seen most at count (as_seen v) done got (as_seen w)
   written_along at count v done got w HasWritten.none fits = (fits, HasWritten.none)

@@ -57,10 +57,10 @@ whole_part done piece blocks whole =
 
 module _ {V : Type 0} (turned : Turn → V → V → Type 0) (most at count : ℕ) (v : V) where
   reads_piece : (done piece : ℕ) (old new : List ℕ) (m w : V) → HasRead turned most at count v done (take (512 * done) old) m → done < count → piece ≡ piece_of most count done → ReadsPiece {T = Unit {0}} turned (at + done) piece done old new m w (Ok tt) → HasRead turned most at count v (done + piece) (take (512 * (done + piece)) new) w
-  reads_piece done piece old new m w so more is (blocks, size, took, put) =
+  reads_piece done piece old new m w so more is (blocks, size, whole, took, put) =
       let P : ℕ → Type 0 = λ (n : ℕ). HasRead turned most at count v (done + n) (take (512 * done) old ++ bytes_of blocks) w in
       let Q : List ℕ → Type 0 = λ (bs : List ℕ). HasRead turned most at count v (done + piece) bs w in
-      subst Q (sym put) (subst P size (HasRead.next done (take (512 * done) old) m w blocks so more (size ∙ is) took))
+      subst Q (sym put) (subst P size (HasRead.next done (take (512 * done) old) m w blocks so more (size ∙ is) whole took))
 
   -- one more piece was read, into room of so many blocks
   pub reads_on : (done len piece : ℕ) (old new : List ℕ) (m w : V) → HasRead turned most at count v done (take (512 * done) old) m → ReadsPiece {T = Unit {0}} turned (at + done) len done old new m w (Ok tt) → done < count → piece ≡ piece_of most count done → len ≡ piece → HasRead turned most at count v (done + piece) (take (512 * (done + piece)) new) w

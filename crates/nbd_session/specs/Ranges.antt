@@ -20,7 +20,7 @@ piece_of most count done = min most (count - done)
 -- the first blocks of a range were read, piece by piece: they hold these bytes
 pub data HasRead {V : Type 0} (turned : Turn → V → V → Type 0) (most at count : ℕ) (v : V) : (done : ℕ) → List ℕ → V → Type 0 where
   none : HasRead turned most at count v 0 [] v
-  next : (done : ℕ) (got : List ℕ) (m w : V) (blocks : List Block) → HasRead turned most at count v done got m → done < count → length blocks ≡ piece_of most count done → turned (Read (at + done) blocks) m w → HasRead turned most at count v (done + length blocks) (got ++ bytes_of blocks) w
+  next : (done : ℕ) (got : List ℕ) (m w : V) (blocks : List Block) → HasRead turned most at count v done got m → done < count → length blocks ≡ piece_of most count done → AreWhole blocks → turned (Read (at + done) blocks) m w → HasRead turned most at count v (done + length blocks) (got ++ bytes_of blocks) w
 
 -- the first blocks of a range were written, piece by piece: they hold these bytes
 pub data HasWritten {V : Type 0} (turned : Turn → V → V → Type 0) (most at count : ℕ) (v : V) : (done : ℕ) → List ℕ → V → Type 0 where
@@ -52,5 +52,5 @@ pub record HasNotWritten {V : Type 0} (turned : Turn → V → V → Type 0) (mo
 
 -- a piece of so many blocks was read, and stands in these bytes behind as many as were done; or it was refused
 abbrev pub ReadsPiece : {V T : Type 0} → (turned : Turn → V → V → Type 0) → (at count done : ℕ) → (old new : List ℕ) → (v w : V) → Result T Refusal → Type 0
-ReadsPiece turned at count done old new v w (Ok x) = (blocks : List Block) × (length blocks ≡ count) × turned (Read at blocks) v w × (take (512 * (done + count)) new ≡ take (512 * done) old ++ bytes_of blocks)
+ReadsPiece turned at count done old new v w (Ok x) = (blocks : List Block) × (length blocks ≡ count) × AreWhole blocks × turned (Read at blocks) v w × (take (512 * (done + count)) new ≡ take (512 * done) old ++ bytes_of blocks)
 ReadsPiece turned at count done old new v w (Err refusal) = turned (NotRead at count refusal) v w

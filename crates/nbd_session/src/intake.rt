@@ -24,7 +24,7 @@ fn read_behind<S: Source>(input: &mut S, room: &mut [u8], held: usize) -> Result
 }
 
 /// Fills a room with the next bytes of a source as far as it has any, and answers how many they are.
-pub(crate) fn fill_room<S: Source>(input: &mut S, room: &mut [u8]) -> Result<usize, Failed>
+pub fn fill_room<S: Source>(input: &mut S, room: &mut [u8]) -> Result<usize, Failed>
     ensures content { FillsRoom (S.left input.old) (S.left input.new) result room.new }
     ensures later { S.faults input.old ≤ S.faults input.new }
     ensures cause { OnErr result (Rose (S.faults input.old) (S.faults input.new)) }
@@ -76,11 +76,7 @@ pub(crate) fn skip<S: Source>(input: &mut S, room: &mut [u8], count: usize) -> R
 }
 
 /// Takes so many bytes from a source into the front of a room. Answers whether it had them all.
-pub(crate) fn take_data<S: Source>(
-    input: &mut S,
-    room: &mut [u8],
-    count: usize,
-) -> Result<bool, Failed>
+pub fn take_data<S: Source>(input: &mut S, room: &mut [u8], count: usize) -> Result<bool, Failed>
     requires { count ≤ length room.old }
     ensures content { TakesData (S.left input.old) (S.left input.new) result count room.new }
     ensures later { S.faults input.old ≤ S.faults input.new }

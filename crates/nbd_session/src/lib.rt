@@ -9,7 +9,8 @@
 //! request has before the volume is asked), `Turns` (what is asked of a volume), `Ranges` (a range in pieces), `Answers`
 //! (what becomes of one request) and `Sessions` (requests one after another, and how a session ends). `Intake` and `Taking`
 //! serve the functions within. In `proofs/`: `Intakes` for bytes taken call by call, `Piecewise` for ranges, `Asked` for
-//! what a volume was asked, `Replies` for what a sink takes, `Served` for requests one after another.
+//! what a volume was asked, `Replies` for what a sink takes, `Served` for requests one after another, `Along` for a session seen at another
+//! volume.
 #![tactic(auto)]
 
 mod answer;
@@ -23,5 +24,6 @@ mod volume;
 
 pub use error::NbdError;
 pub use header::{Command, Header};
+pub use intake::{fill_room, take_data};
 pub use session::{Ended, NbdFault, serve};
 pub use volume::{Refusal, Volume};

@@ -11,7 +11,8 @@ pub(crate) const BLOCK_BYTES: usize = 512;
 // Puts blocks into bytes, behind as many blocks as are done.
 fn put_blocks(bytes: &mut [u8], done: usize, blocks: &[Block])
     requires { 512 * (done + length blocks.now) ≤ length bytes.old }
-    ensures { take (512 * (done + length blocks.now)) bytes.new ≡ take (512 * done) bytes.old ++ bytes_of blocks.now }
+    ensures put { take (512 * (done + length blocks.now)) bytes.new ≡ take (512 * done) bytes.old ++ bytes_of blocks.now }
+    ensures whole { AreWhole blocks.now }
 {
     let from = BLOCK_BYTES * done;
     let to = BLOCK_BYTES * (done + blocks.len());

@@ -21,7 +21,7 @@ use Rattle.request_turns.specs.Turns.{ManagerPass, began, notes_seen, coded, Has
 use Rattle.request_turns.proofs.Noting.{notes_at}
 use Rattle.nbd_session.specs.Turns.{Turn, Looked, NotLooked, Read, NotRead, Wrote, NotWrote}
 use Rattle.nbd_session.specs.declared.volume.Refusal.{Refusal}
-use Rattle.nbd_station.specs.Pieces.{Pieces, TakesWrites, IsTurnAt, RefusesRead, RefusesWrite, StandsMore, piece, pieces_of}
+use Rattle.nbd_station.specs.Pieces.{BreaksWith, Pieces, TakesWrites, IsTurnAt, RefusesRead, RefusesWrite, StandsMore, piece, pieces_of}
 use Rattle.nbd_station.specs.Turns.{MakesTurn}
 use Rattle.nbd_station.proofs.Alone.{AreOf, all_begins, own_all}
 use Rattle.nbd_station.proofs.Noting.{is_broken, is_up, kept_same, read_same, read_told, wrote_more, broke_with}
@@ -113,7 +113,7 @@ module _ {D : Type 0} (tells : Bool) (lock : LockId ManagerBase) (es : List Entr
       )
   step (NotRead at count r) p q fits (refused_read.DiskFault d, open_, h, long, is) =
       let P : Refusal → Type 0 = λ (x : Refusal). RefusesRead x (pieces_of (base_in lock).look (notes_of h.before)) (pieces_of (base_in lock).look (notes_of h.before ++ h.note ∷ [])) in
-      so p q h.before h.note h.turned fits (NotRead at count r) (subst P (sym is) (is_up (base_in lock).look (notes_of h.before) h.cause, broke_with (base_in lock).look (notes_of h.before) h.note [] [] h.entry refl h.cause))
+      so p q h.before h.note h.turned fits (NotRead at count r) (subst P (sym is) (is_up (base_in lock).look (notes_of h.before) h.cause, broke_with (base_in lock).look (notes_of h.before) h.note [] h.entry h.cause))
   step (NotRead at count r) p q fits (refused_read.Down d, open_, h, long, is) =
       let P : Refusal → Type 0 = λ (x : Refusal). RefusesRead x (pieces_of (base_in lock).look (notes_of h.before)) (pieces_of (base_in lock).look (notes_of h.before ++ h.note ∷ [])) in
       so p q h.before h.note h.turned fits (NotRead at count r) (subst P (sym is) (is_broken (base_in lock).look (notes_of h.before) h.cause, kept_at p q h.before h.note h.turned fits h.entry (h.stays h.entry)))
@@ -127,8 +127,8 @@ module _ {D : Type 0} (tells : Bool) (lock : LockId ManagerBase) (es : List Entr
       so p q h.before h.note h.turned fits (NotWrote at blocks r) (subst P (sym is) (
         takes_at p q h.before h.note h.turned fits h.cause,
         elim h.entry.2 [
-          | inl none ↦ inl (broke_with (base_in lock).look (notes_of h.before) h.note h.entry.0 [] h.entry.1 (ap (map unversioned) none) h.cause.unbroken)
-          | inr (v, one, same) ↦ inr (broke_with (base_in lock).look (notes_of h.before) h.note h.entry.0 (piece at blocks ∷ []) h.entry.1 (ap (map unversioned) one ∙ ap (λ (x : Write). x ∷ []) same) h.cause.unbroken)
+          | inl none ↦ inl (subst (λ (ws : List Write). BreaksWith ws (pieces_of (base_in lock).look (notes_of h.before)) (pieces_of (base_in lock).look (notes_of h.before ++ h.note ∷ []))) none (broke_with (base_in lock).look (notes_of h.before) h.note h.entry.0 h.entry.1 h.cause.unbroken))
+          | inr (v, one, same) ↦ inr (v, same, subst (λ (ws : List Write). BreaksWith ws (pieces_of (base_in lock).look (notes_of h.before)) (pieces_of (base_in lock).look (notes_of h.before ++ h.note ∷ []))) one (broke_with (base_in lock).look (notes_of h.before) h.note h.entry.0 h.entry.1 h.cause.unbroken))
         ],
       ))
   step (NotWrote at blocks r) p q fits (refused_write.Down d, h, is) =

@@ -1,7 +1,7 @@
 -- One entry more, as pieces.
 use Rattle.std.proofs.Common.{◌≡◌, ◌≢◌, ◌+◌, ◌++◌, ◌∷◌, [], ℕ, Bool, List, length, map, Option, None, Some, refl, sym, ap, subst, ◌∙◌, inl, inr, append-nil}
 use Rattle.std.specs.Prelude.{◌⊎◌, IsSome, IsTrue, is_some, slice_range}
-use Rattle.std.specs.Option.{option_map, option_or}
+use Rattle.std.specs.Option.{option_or}
 use Rattle.std.proofs.lemmas.List.{map-append}
 use Rattle.wol_disk.specs.Disk.{Block}
 use Rattle.wol_model.specs.ArrayLaws.{unversioned}
@@ -31,12 +31,8 @@ ruled_last l (m ∷ notes) n all ruled = ruled_last m.look notes n all.1 ruled
 -- ---- Whether a call of a disk had failed
 
 module _ (l : Look) (notes : List Noted) where
-  broken_flight : (o : Option (List Write)) → is_some (option_map (map unversioned) o) ≡ is_some o
-  broken_flight None = refl
-  broken_flight (Some ws) = refl
-
   pub is_broken : IsBroken notes → IsSome (pieces_of l notes).flight
-  is_broken broken = broken_flight (flight_of (entries_of notes)) ∙ broken
+  is_broken broken = broken
 
   none_of : (o : Option (List Write)) → (is_some o ≡ Bool.true → ⊥) → o ≡ None
   none_of None not = refl
@@ -46,7 +42,7 @@ module _ (l : Look) (notes : List Noted) where
   no_flight unbroken = none_of (flight_of (entries_of notes)) unbroken
 
   pub is_up : (IsBroken notes → ⊥) → IsUp (pieces_of l notes)
-  is_up unbroken = ap (option_map (map unversioned)) (no_flight unbroken)
+  is_up unbroken = no_flight unbroken
 
 -- ---- The next version
 
@@ -74,7 +70,7 @@ module _ (l : Look) (notes : List Noted) (n : Noted) where
   same_pieces o does nothing calm same =
       let wrote : writes (entries_of (notes ++ n ∷ [])) ≡ writes (entries_of notes) = writes_then notes n o does ∙ ap (λ (ws : List Write). writes (entries_of notes) ++ ws) nothing ∙ append-nil (writes (entries_of notes)) in
       let flew : flight_of (entries_of (notes ++ n ∷ [])) ≡ flight_of (entries_of notes) = flight_then notes n o does ∙ ap (λ (f : Option (List Write)). option_or (flight_of (entries_of notes)) f) calm ∙ or_nothing (flight_of (entries_of notes)) in
-      (λ i. record { stand = map unversioned (wrote i); flight = option_map (map unversioned) (flew i); next = (next_is ∙ same) i })
+      (λ i. record { stand = map unversioned (wrote i); flight = flew i; next = (next_is ∙ same) i })
     where
       or_nothing : (o : Option (List Write)) → option_or o None ≡ o
       or_nothing None = refl
@@ -111,13 +107,13 @@ module _ (l : Look) (notes : List Noted) (n : Noted) where
     pub wrote_more : (v w : Write) → n.entry.operation ≡ Wrote (w ∷ []) → unversioned w ≡ v → (IsBroken notes → ⊥) → (new.stand ≡ old.stand ++ v ∷ []) × (new.flight ≡ None) × ((new.next ≡ old.next) ⊎ (new.next ≡ old.next + 1))
     wrote_more v w does same unbroken = (
       ap (map unversioned) (writes_then notes n (Wrote (w ∷ [])) does) ∙ map-append unversioned (writes (entries_of notes)) (w ∷ []) ∙ ap (λ (x : Write). map unversioned (writes (entries_of notes)) ++ x ∷ []) same,
-      ap (option_map (map unversioned)) (flight_then notes n (Wrote (w ∷ [])) does ∙ ap (λ (f : Option (List Write)). option_or f None) (no_flight l notes unbroken)),
+      flight_then notes n (Wrote (w ∷ [])) does ∙ ap (λ (f : Option (List Write)). option_or f None) (no_flight l notes unbroken),
       subst (λ (k : ℕ). (k ≡ old.next) ⊎ (k ≡ old.next + 1)) (sym next_is) (wrote_next w does),
     )
 
   -- a call of a disk failed
-  pub broke_with : (ws vs : List Write) → n.entry.operation ≡ Broke ws → map unversioned ws ≡ vs → (IsBroken notes → ⊥) → BreaksWith vs old new
-  broke_with ws vs does same unbroken = record {
+  pub broke_with : (ws : List Write) → n.entry.operation ≡ Broke ws → (IsBroken notes → ⊥) → BreaksWith ws old new
+  broke_with ws does unbroken = record {
     stand_ = ap (map unversioned) (writes_then notes n (Broke ws) does ∙ append-nil (writes (entries_of notes)));
-    flight_ = ap (option_map (map unversioned)) (flight_then notes n (Broke ws) does ∙ ap (λ (f : Option (List Write)). option_or f (Some ws)) (no_flight l notes unbroken)) ∙ ap (λ (x : List Write). Some x) same;
+    flight_ = flight_then notes n (Broke ws) does ∙ ap (λ (f : Option (List Write)). option_or f (Some ws)) (no_flight l notes unbroken);
   }

@@ -1,6 +1,5 @@
 -- What a client knows of a volume that it has for itself: the array that it began with, and what was made of it since.
 use Rattle.std.specs.Prelude.{◌≡◌, ◌⊎◌, ◌<◌, ◌+◌, ◌++◌, ◌∷◌, ◌^◌, ℕ, List, [], length, map, Option, None, Some, slice_range, IsSome}
-use Rattle.std.specs.Option.{option_map}
 use Rattle.wol_disk.specs.Disk.{Block}
 use Rattle.wol_model.specs.ArrayLaws.{unversioned}
 use Rattle.wol_model.specs.Blocks.{Write, after}
@@ -11,8 +10,8 @@ use Rattle.nbd_session.specs.Turns.{Turn, Looked, NotLooked, Read, NotRead, Wrot
 use Rattle.nbd_session.specs.declared.volume.Refusal.{Refusal}
 use Rattle.nbd_session.specs.declared.volume.Refusal.TheVariants as refusal
 
--- The pieces that stand, in order; what was in flight when a call of a disk failed, where one did; and the version that the
--- next write to a log gets.
+-- The pieces that stand, in order; what was in flight when a call of a disk failed, where one did, under its version; and the
+-- version that the next write to a log gets.
 pub record Pieces : Type 0 where
   pub stand : List Write
   pub flight : Option (List Write)
@@ -26,7 +25,7 @@ piece at blocks = record { first = at; blocks = blocks; version = None }
 abbrev pub pieces_of : Look → List Noted → Pieces
 pieces_of l notes = record {
   stand = map unversioned (writes (entries_of notes));
-  flight = option_map (map unversioned) (flight_of (entries_of notes));
+  flight = flight_of (entries_of notes);
   next = (last_look l notes).next;
 }
 
@@ -51,12 +50,13 @@ RefusesRead refusal.VersionsSpent old new = ⊥
 RefusesRead refusal.NoMemory old new = ⊥
 RefusesRead refusal.Broke old new = IsUp old × BreaksWith [] old new
 
--- a write of this piece was: its cause is the first that applies
+-- a write of this piece was: its cause is the first that applies. In flight was nothing or the piece, under its version where it went
+-- to a log
 abbrev pub RefusesWrite : Write → Refusal → (old new : Pieces) → Type 0
 RefusesWrite w refusal.Down old new = IsSome old.flight × (new ≡ old)
 RefusesWrite w refusal.VersionsSpent old new = IsUp old × (old.next ≡ 2 ^ 63) × (new ≡ old)
 RefusesWrite w refusal.NoMemory old new = TakesWrites old × (new ≡ old)
-RefusesWrite w refusal.Broke old new = TakesWrites old × (BreaksWith [] old new ⊎ BreaksWith (w ∷ []) old new)
+RefusesWrite w refusal.Broke old new = TakesWrites old × (BreaksWith [] old new ⊎ ((v : Write) × (unversioned v ≡ w) × BreaksWith (v ∷ []) old new))
 
 -- one piece more stands, which took a version or none
 pub record StandsMore (w : Write) (old new : Pieces) : Type 0 where

@@ -130,6 +130,7 @@ module _ {D : Type 0} (state : D → State) (config : Config) (r : Rack D) (ks :
     left = began.left;
     held = began.held;
     gone = λ k i v before image conf at here lt none. gone_with (shape_in config v) before i (began.gone k i v before image conf at here lt none);
+    pools = began.pools;
   }
 
 module _ {D : Type 0} (state : D → State) (config : Config) (r q : Rack D) (again : IsRackAgain r q) where

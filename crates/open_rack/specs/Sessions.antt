@@ -11,7 +11,7 @@ use Rattle.manager.specs.declared.part.Part.{Part}
 use Rattle.manager_recovery.specs.declared.refusal.OpenRefusal.TheVariants.{DiskFault}
 use Rattle.volume_images.specs.Left.{AreNamedApart, IsTold}
 use Rattle.volume_images.specs.Volumes.{images_read, shapes_of}
-use Rattle.rack.specs.Closes.{AreLeftOfParts, CameBackFaulty, IsClosedSpindle, IsClosedVolume, IsQuiet, LeavesOpen, LeavesUnopened, ListsFaulty}
+use Rattle.rack.specs.Closes.{AreLeftOfParts, CameBackFaulty, IsClosedSpindle, IsClosedVolume, IsQuiet, LeavesOpen, LeavesUnopened, ListsFaulty, SharePools}
 use Rattle.rack.specs.Opens.{AreRefused, BeganWith, LeavesAll, RefusesVolume, WereThere}
 use Rattle.rack.specs.Owners.{HadRefused}
 use Rattle.rack.specs.Racks.{AreUnused, IsRack, IsUnused}
@@ -41,6 +41,7 @@ pub record IsClosed {D : Type 0} (tells : Bool) (state : D → State) (config : 
   pub count : length spindles ≡ length (shapes_of config)
   pub each : (k : ℕ) (s : SpindleView) → slice_get spindles k ≡ Some s → IsClosedSpindle r k s
   pub stations : All (IsClosedVolume tells config r.rest.images.items bay new) r.stations.items
+  pub pools : SharePools tells config bay new r stations
   pub parts : IsTrue tells → IsTold (λ x y. AreLeftOfParts state config r y) bay.told new.told
   -- no two images have one name still, and the parts that came back with a fault are listed
   pub apart : IsTold (λ x y. AreNamedApart y) bay.told new.told

@@ -10,7 +10,7 @@ use Rattle.wol_disk.specs.Disk.{Block, State, IsDisk, TellsContent, IsImageOf}
 use Rattle.wol_model.specs.Heads.{Shape}
 use Rattle.wol_model.specs.Images.{Images, image_of, home_in, segment_of, accepted_from, accepted}
 use Rattle.wol_model.specs.Index.{Listed, listed_in}
-use Rattle.wol_model.specs.Log.{Record}
+use Rattle.wol_model.specs.Log.{Record, IsLog}
 use Rattle.wol_model.specs.Blocks.{after}
 use Rattle.wol_model.specs.Extents.{AreDistinct, covers_of}
 use Rattle.wol_model.specs.History.{writes, flight_of, IsCut}
@@ -40,7 +40,7 @@ use Rattle.manager.specs.declared.base.ManagerBase.{ManagerBase}
 use Rattle.manager.specs.declared.station.Station.{Station}
 use Rattle.volume_images.specs.Volumes.{shapes_of, AreLeft}
 use Rattle.rack.specs.Foreign.{IsForeign}
-use Rattle.rack.specs.Closes.{AreListedOf, segments_out, recovered_out}
+use Rattle.rack.specs.Closes.{AreListedOf, IsOnLogger, segments_out, recovered_out}
 use Rattle.rack.specs.Rests.{image_here, segment_here, held_here, away_with, IsImageOut, IsSegmentHere, IsRest}
 use Rattle.rack.specs.Racks.{IsClosable, IsOpenBase, base_of_station}
 use Rattle.rack.specs.Parts.{HasBack, held_parts}
@@ -55,7 +55,7 @@ use Rattle.rack.proofs.Closable.{blocks_at, image_was, images_rest, images_whole
 use Rattle.rack.proofs.RackClosed.{same_out}
 use Rattle.rack.proofs.StationParts.{zip_at, among, is_base, is_station, image_end, shape_of_image, home_there, lane_there}
 use Rattle.rack.proofs.HeldSegments.{no_log, not_of_other, each_held, of_held}
-use Rattle.rack.proofs.StationRecovers.{blocks_in, IsThereNow, AreLeftNow, cut_now, whole_now, distinct_now, listed_now, sound_now}
+use Rattle.rack.proofs.StationRecovers.{blocks_in, IsThereNow, AreLeftNow, cut_now, whole_now, distinct_now, listed_now, on_loggers_now, sound_now}
 
 -- ---- Images without those that were refused
 
@@ -67,6 +67,10 @@ pub accepted_at : (n : ℕ) (refused : ℕ → Bool) (images : Images) (k : ℕ)
 accepted_at n refused [] k = no_image (refused (n + k))
 accepted_at n refused (x ∷ images) zero = ap (λ (m : ℕ). cond (refused m) None x) (omega arith)
 accepted_at n refused (x ∷ images) (suc k) = accepted_at (n + 1) refused images k ∙ ap (λ (m : ℕ). cond (refused m) None (image_of images k)) (omega arith)
+
+taken_image : (t : Bool) (o : Option (List Block)) (c : List Block) → cond t None o ≡ Some c → o ≡ Some c
+taken_image true o c is = absurd (cc is)
+taken_image false o c is = is
 
 module _ {D : Type 0} (state : D → State) (tells : Bool) (told : IsTrue tells) (tell_all : (d : D) → TellsContent (state d)) (sound : (d : D) → IsDisk (state d)) (config : Config) (few_volumes : length (shapes_of config) ≤ 64)
     (b : BayState) (r : Rack D) (can : IsClosable state config b r) (first second : Rest D) (is : IsRest state config r.shared [] first)
@@ -325,6 +329,27 @@ module _ {D : Type 0} (state : D → State) (tells : Bool) (told : IsTrue tells)
         let look : listed_in c.manager.index.entries ≡ (last_look base.volume.began.look notes).listed = sym (ap (λ (k : Look). k.listed) ic.stands.look) in
         subst (λ (v : ℕ). AreListedOf (last_look base.volume.began.look notes).listed (extents_of v (segments_out config r.rest.images.items images))) owner_is
         (subst (λ (es : List Listed). AreListedOf es (extents_of owner (segments_out config r.rest.images.items images))) look now)
+
+    -- and lie on their lanes' loggers
+    pub on_loggers_left : flight_of (entries_of notes) ≡ None → (e : Listed) → Contains (last_look base.volume.began.look notes).listed e → IsOnLogger (shapes_of config) images s.id base.volume.began.view e
+    on_loggers_left up e has =
+        let look : listed_in c.manager.index.entries ≡ (last_look base.volume.began.look notes).listed = sym (ap (λ (k : Look). k.listed) ic.stands.look) in
+        let o = on_loggers_now tells state told c.manager base notes ic.stands.keeps open_base.apart (shapes_of config) taken home are_left up e (subst (λ (es : List Listed). Contains es e) (sym look) has) in
+        record {
+          logger = o.logger;
+          lane = o.lane;
+          shape = o.shape;
+          shape_is = o.shape_is;
+          image = o.image;
+          there = taken_image (refused (0 + o.logger)) (image_of images o.logger) o.image (sym (accepted_at 0 refused images o.logger) ∙ o.there);
+          index = o.index;
+          within = o.within;
+          records = o.records;
+          log = subst (λ (v : ℕ). IsLog (segment_of o.shape o.image o.index) v o.records) owner_is o.log;
+          record_ = o.record_;
+          among = o.among;
+          is_its = o.is_its;
+        }
 
     -- each of its segments is sound
     pub sound_left : (l : Lane D) (h : HeldSegment D) → Contains c.manager.lanes.items l → Contains (held_in l) h → (z : Shape) (bs : List Block) → slice_get (shapes_of config) (logger_of l) ≡ Some z → image_of images (logger_of l) ≡ Some bs

@@ -45,7 +45,7 @@ there_at (x ∷ xs) zero lt = (x, refl)
 there_at (x ∷ xs) (suc k) lt = there_at xs k (omega (arith, lt))
 
 -- an element of a mapped list comes from one of the list
-from_map : {X Y : Type 0} (f : X → Y) (xs : List X) (k : ℕ) (y : Y) → slice_get (map f xs) k ≡ Some y → (x : X) × (slice_get xs k ≡ Some x) × (f x ≡ y)
+pub from_map : {X Y : Type 0} (f : X → Y) (xs : List X) (k : ℕ) (y : Y) → slice_get (map f xs) k ≡ Some y → (x : X) × (slice_get xs k ≡ Some x) × (f x ≡ y)
 from_map f [] k y is = absurd (none-some y is)
 from_map f (x ∷ xs) zero y is = (x, refl, same_Some (f x) y is)
 from_map f (x ∷ xs) (suc k) y is = from_map f xs k y is

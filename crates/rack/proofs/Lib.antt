@@ -65,6 +65,7 @@ pub mod HereOrNot
 pub mod FaultyParts
 pub mod StationParts
 pub mod StationClosed
+pub mod PoolsShared
 pub mod PartsThrough
 pub mod Unbroken
 pub mod LeftOfParts

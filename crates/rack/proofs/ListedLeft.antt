@@ -68,7 +68,7 @@ module _ {P : Type 0} where
       (in_cases y s held has)
 
   -- an entry of a record is of its extent
-  of_record : (s : Held P) (k : ℕ) (r : Record) (e : Indexed) → IsEntryOf s k r e → IsOfExtent (extent_of r) e.listed
+  pub of_record : (s : Held P) (k : ℕ) (r : Record) (e : Indexed) → IsEntryOf s k r e → IsOfExtent (extent_of r) e.listed
   of_record s k r e is = record {
     version = is.version;
     first = is.first;

@@ -257,6 +257,7 @@ module _ {D : Type 0} (tells : Bool) (state : D → State) (config : Config) (va
       left = still_left;
       held = λ w k i v before p conf there has. absurd (none_in (i, p) (subst (λ (xs : List (ℕ × Spun D)). Contains xs (i, p)) (none_held w k) has));
       gone = λ k i v before y conf there now within none. still_gone stations are k i v before y conf there now within (λ p here. none p (inl (y, now, here)));
+      pools = λ k v l y conf lock now. (let w = less k y now in begun.began.pools k v l w.was conf lock w.here);
     };
     cut = record {
       says = begun.cut.says;

@@ -27,7 +27,7 @@ use Rattle.log_segment.specs.Segment.{IsBlank, free_part}
 use Rattle.log_segment.specs.declared.free.FreeSegment.{FreeSegment}
 use Rattle.rack.specs.Rests.{image_here, segment_here, pool_pass, held_here, indexes_here, IsHolding, IsHeldHere, IsRow}
 use Rattle.rack.specs.Parts.{HasPlaces, EmptiesInto, IsRefilled, IsBlankPart, IsSameBut, KeepsImage, segment_in, item_part, either_part}
-use Rattle.rack.specs.Closing.{CanClosePool, CanPutAllHeld, PutsAllHeld, ArePoolsTaken, RefillsAll, IsRefilledAll}
+use Rattle.rack.specs.Closing.{CanClosePool, IsClosedPool, CanPutAllHeld, PutsAllHeld, ArePoolsTaken, RefillsAll, IsRefilledAll}
 use Rattle.rack.specs.declared.rack.ImageRest.{ImageRest}
 use Rattle.rack.specs.declared.rack.Rest.{Rest}
 use Rattle.rack.specs.declared.rack.VolumePasses.{VolumePasses}
@@ -180,6 +180,15 @@ module _ {D : Type 0} (state : D → State) (volumes k : ℕ) (z : Shape) (lock 
               let row = some_element old.passes.items v h in
               same_Some (pass_of v below) (get_or ps v d) (sym (can.passes v below).1
               ∙ ap (λ (o : Option (VolumePasses D)). option_and_then (λ q. slice_index_or q.pools.items k None) o) (slice_get-get_or old.passes.items v row h) ∙ (taken.each v row d h).there)
+
+  -- the entries are legal, and those of each pass that is here are among them
+  pub closed_pool : IsClosedPool lock old k entries
+  closed_pool = record {
+    legal = stands.legal;
+    mine = λ v p here.
+        let below = row_within v p here in
+        own_is v below ∙ ap (λ (q : PassOf (Pool (FreeSegment D)) PoolBase). pass_mine q) (same_Some (pass_of v below) p (sym (can.passes v below).1 ∙ here));
+  }
 
   -- a segment that someone has lies in the image
   pub has_within : (i : ℕ) (n : ImageRest D) → image_here old.images.items k ≡ Some n → has_then i ≢ Elsewhere → i < length n.segments.items

@@ -10,10 +10,11 @@ use Rattle.spin_model.specs.declared.spun.Spun.{Spun}
 use Rattle.seg_pool.specs.declared.base.PoolBase.{PoolBase}
 use Rattle.seg_pool.specs.declared.pool.Pool.{Pool}
 use Rattle.log_segment.specs.declared.free.FreeSegment.{FreeSegment}
+use Rattle.turn_lock.specs.Histories.{Entry}
 use Rattle.turn_lock.specs.Passes.{lock_id}
 use Rattle.turn_lock.specs.declared.lock.TurnLock.{TurnLock}
 use Rattle.rack.specs.Rests.{image_here, segment_here, held_here, indexes_here, IsHeldHere, IsPart}
-use Rattle.rack.specs.Closing.{CanClosePool, RefillsAll, KeepsLogger, KeepsSpindles}
+use Rattle.rack.specs.Closing.{CanClosePool, IsClosedPool, RefillsAll, KeepsLogger, KeepsSpindles}
 use Rattle.rack.specs.declared.rack.ImageRest.{ImageRest}
 use Rattle.rack.specs.declared.rack.Rest.{Rest}
 
@@ -96,6 +97,7 @@ module _ {D : Type 0} (state : D → State) where
   module _ (all : List (TurnLock (Pool (FreeSegment D)) PoolBase)) (init : Rest D) where
     pub record ArePoolsClosed (n : ℕ) (cur : Rest D) : Type 0 where
       pub images : (k : ℕ) (f : TurnLock (Pool (FreeSegment D)) PoolBase) → n ≤ k → slice_get all k ≡ Some f → RefillsAll state (lock_id f).base.blocks init k (image_here init.images.items k) (image_here cur.images.items k)
+      pub uses : (k : ℕ) (f : TurnLock (Pool (FreeSegment D)) PoolBase) → n ≤ k → slice_get all k ≡ Some f → (entries : List Entry) × IsClosedPool f init k entries
       pub held : (v k : ℕ) → n ≤ k → k < length all → held_here cur v k ≡ []
       pub before : (k : ℕ) → k < n → KeepsLogger init cur k
       pub behind : (k : ℕ) → length all ≤ k → KeepsLogger init cur k
@@ -104,6 +106,7 @@ module _ {D : Type 0} (state : D → State) where
     pub no_pool_closed : ArePoolsClosed (length all) init
     no_pool_closed = record {
       images = λ k f from at. absurd (let below = slice_get_within all k f at in omega (arith, below, from));
+      uses = λ k f from at. absurd (let below = slice_get_within all k f at in omega (arith, below, from));
       held = λ v k from below. absurd (omega (arith, from, below));
       before = λ k less. logger_same init k;
       behind = λ k past. logger_same init k;
@@ -111,11 +114,12 @@ module _ {D : Type 0} (state : D → State) where
     }
 
     module _ (n : ℕ) (lock : TurnLock (Pool (FreeSegment D)) PoolBase) (at : slice_get all n ≡ Some lock) (cur new : Rest D) (so_far : ArePoolsClosed (n + 1) cur)
-        (image : RefillsAll state (lock_id lock).base.blocks cur n (image_here cur.images.items n) (image_here new.images.items n)) (held : (v : ℕ) → held_here new v n ≡ [])
+        (image : RefillsAll state (lock_id lock).base.blocks cur n (image_here cur.images.items n) (image_here new.images.items n)) (uses : (entries : List Entry) × IsClosedPool lock cur n entries) (held : (v : ℕ) → held_here new v n ≡ [])
         (others : (k : ℕ) → k ≢ n → KeepsLogger cur new k) (spindles : KeepsSpindles cur new) where
       pub one_pool_more : ArePoolsClosed n new
       one_pool_more = record {
         images = λ k f from is. image_of k f from is (cases_eq k n);
+        uses = λ k f from is. uses_at k f from is (cases_eq k n);
         held = λ v k from below. list_of_volume v k from below (cases_eq k n);
         before = λ k less. logger_then init cur new k (so_far.before k (omega (arith, less))) (others k (λ e. absurd (omega (arith, less, e))));
         behind = λ k past. logger_then init cur new k (so_far.behind k past) (others k (λ e. absurd (let below = slice_get_within all n lock at in omega (arith, past, e, below))));
@@ -130,6 +134,16 @@ module _ {D : Type 0} (state : D → State) where
               (subst (λ (x : TurnLock (Pool (FreeSegment D)) PoolBase). RefillsAll state (lock_id x).base.blocks init n (image_here init.images.items n) (image_here new.images.items n)) same one)
           image_of k f from is (inr differs) =
               subst (λ (o : Option (ImageRest D)). RefillsAll state (lock_id f).base.blocks init k (image_here init.images.items k) o) (sym (others k differs).image) (so_far.images k f (omega (arith, from, differs)) is)
+
+          -- the passes of pool n are as they were
+          at_first : IsClosedPool lock init n uses.0
+          at_first = record { legal = uses.1.legal; mine = λ v p here. uses.1.mine v p ((so_far.before n (omega arith)).pools v ∙ here) }
+
+          uses_at : (k : ℕ) (f : TurnLock (Pool (FreeSegment D)) PoolBase) → n ≤ k → slice_get all k ≡ Some f → (k ≡ n) ⊎ (k ≡ n → ⊥) → (entries : List Entry) × IsClosedPool f init k entries
+          uses_at k f from is (inl e) =
+              let same : lock ≡ f = same_Some lock f (sym at ∙ ap (slice_get all) (sym e) ∙ is) in
+              (uses.0, subst (λ (j : ℕ). IsClosedPool f init j uses.0) (sym e) (subst (λ (x : TurnLock (Pool (FreeSegment D)) PoolBase). IsClosedPool x init n uses.0) same at_first))
+          uses_at k f from is (inr differs) = so_far.uses k f (omega (arith, from, differs)) is
 
           list_of_volume : (v k : ℕ) → n ≤ k → k < length all → (k ≡ n) ⊎ (k ≡ n → ⊥) → held_here new v k ≡ []
           list_of_volume v k from below (inl e) = subst (λ (j : ℕ). held_here new v j ≡ []) (sym e) (held v)

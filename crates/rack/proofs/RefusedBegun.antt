@@ -130,6 +130,9 @@ module _ {D : Type 0} (state : D → State) (sound : (d : D) → IsDisk (state d
         left = left;
         held = λ w k i v before p conf there has. absurd (none_in (i, p) (subst (λ (l : List (ℕ × Spun D)). Contains l (i, p)) (back_again.held_none state tells config valid b said id r own ready lt at view own_view away o takes n back last puts w k) has));
         gone = gone;
+        pools = λ k v l y conf lock now.
+            let w = image_before state sound tells config valid b said id r own ready lt at view own_view away o takes refusal n refuses back all last puts k y now in
+            begun.began.pools k v l w.0 conf lock w.1;
       };
       cut = cut;
     }

@@ -111,4 +111,5 @@ module _ {D : Type 0} (state : D → State) (config : Config) where
         left = λ k v before image at there here. old.left k v before image at there (sym (image_same r.rest new same k) ∙ here);
         held = λ w k i v before p at there has. old.held w k i v before p at there (subst (λ (l : List (ℕ × Spun D)). Contains l (i, p)) (same.places w k).held has);
         gone = λ k i v before image at there here within none. old.gone k i v before image at there (sym (image_same r.rest new same k) ∙ here) within (λ p is. none p (segment_same r.rest new same k i p is));
+        pools = λ k v l image at lock here. old.pools k v l image at lock (sym (image_same r.rest new same k) ∙ here);
       }

@@ -43,7 +43,7 @@ use Rattle.rack.proofs.Closable.{images_whole}
 use Rattle.rack.proofs.HeldSegments.{each_held, of_held}
 use Rattle.rack.proofs.FaultyParts.{together_of, home_fault, segment_fault}
 use Rattle.rack.proofs.StationParts.{zip_at, is_station, home_there, lane_there, shape_of_image}
-use Rattle.rack.proofs.FinalImages.{volume_at, left_now, cut_left, whole_left, distinct_left, listed_left}
+use Rattle.rack.proofs.FinalImages.{volume_at, left_now, cut_left, whole_left, distinct_left, listed_left, on_loggers_left}
 use Rattle.rack.proofs.EmptiedLeft.{no_log_left}
 
 pub told_map : (P Q : Told → Told → Type 0) (a b : Option Told) → IsTold P a b → ((o n : Told) → P o n → Q o n) → IsTold Q a b
@@ -158,35 +158,40 @@ module _ {D : Type 0} (state : D → State) (tells : Bool) (config : Config) (b 
       cut = λ images left. cut_left state tells told tell_all sound config few b r can first second is closed filled kept old new given images left n s c s_at c_at ic;
       whole = λ images left up. whole_left state tells told tell_all sound config few b r can first second is closed filled kept old new given images left n s c s_at c_at ic up;
       listed = λ images left up. listed_left state tells told tell_all sound config few b r can first second is closed filled kept old new given images left n s c s_at c_at ic up;
+      on_loggers = λ images left up. on_loggers_left state tells told tell_all sound config few b r can first second is closed filled kept old new given images left n s c s_at c_at ic up;
       distinct = λ images left. distinct_left state tells told tell_all sound config few b r can first second is closed filled kept old new given images left n s c s_at c_at ic;
     }
 
-  -- what is said of a volume
+  pub station_there : (s : Station D) (has : Contains r.stations.items s) → slice_get r.stations.items has.0 ≡ Some s
+  station_there s has = slice_get-get_or r.stations.items has.0 s has.1 ∙ ap (λ (t : Station D). Some t) has.2
+
+  -- how a station's lock was closed
+  pub closing_of : (s : Station D) (has : Contains r.stations.items s) → (c : Closing D) × (slice_get closed.closings has.0 ≡ Some c) × IsClosing tells state first s c
+  closing_of s has = zip_at (IsClosing tells state first) r.stations.items closed.closings has.0 s closed.each (station_there s has)
+
+  -- what is said of a volume, by the entries that its lock was closed with
   pub closed_volume : ((told : IsTrue tells) → (d : D) → TellsContent (state d)) → ((d : D) → IsDisk (state d)) → length (shapes_of config) ≤ 64
       → (x y : BayState) → IsTold (GivesBack state config second.images.items 0) x.told y.told → (HasFaultHere state second.images.items 0 → Rose x.faults y.faults)
-      → (s : Station D) → Contains r.stations.items s → IsClosedVolume tells config r.rest.images.items x y s
-  closed_volume tell_all sound few x y given cause s has = record {
-    entries = c.0.entries;
-    worker_part = c.2.whole.parts 0 s.worker (omega arith);
-    helper_part = c.2.whole.parts 1 s.worker (omega arith);
-    keeper_part = c.2.whole.parts 2 s.worker (omega arith);
-    no_more = λ m w h k. c.2.whole.no_more m
-        (All-from_recursion (λ p. pass_number p ≢ m) (s.worker ∷ s.helper ∷ s.keeper ∷ [])
-        (λ e. w (sym e ∙ station.worker_.number_is), (λ e. h (sym e ∙ station.helper_.number_is), (λ e. k (sym e ∙ station.keeper_.number_is), tt))));
-    opening = c.2.stands.keeps.upholds.began;
-    history = c.2.stands.keeps.upholds.history;
-    cause = λ broke. let part = broken has.0 s c.0 at c.1 c.2 broke in cause (fault_here part.volume part.place part.image part.here part.among);
-    faulty = λ broke. told_map (GivesBack state config second.images.items 0) (HasFaultyPart tells config s.id (base_of_station s).volume.began.view) x.told y.told given (λ old new back. faulty_part has.0 s c.0 at c.1 c.2 tell_all sound few old new back (broken has.0 s c.0 at c.1 c.2 broke));
-    recovers = λ told. told_map (GivesBack state config second.images.items 0) (λ o n. RecoversTo config r.rest.images.items s c.0.entries n) x.told y.told given (λ old new back. recovers has.0 s c.0 at c.1 c.2 told (tell_all told) sound few old new back);
-    emptied = λ told up none. told_map (GivesBack state config second.images.items 0) (λ o n. LeavesNoLog config r.rest.images.items s.id n) x.told y.told given
-        (λ old new back. λ images left. no_log_left state tells told (tell_all told) sound config few b r can first second is closed filled kept old new back images left has.0 s c.0 at c.1 c.2 up none);
-  }
-    where
-      at : slice_get r.stations.items has.0 ≡ Some s
-      at = slice_get-get_or r.stations.items has.0 s has.1 ∙ ap (λ (t : Station D). Some t) has.2
-
-      c : (c : Closing D) × (slice_get closed.closings has.0 ≡ Some c) × IsClosing tells state first s c
-      c = zip_at (IsClosing tells state first) r.stations.items closed.closings has.0 s closed.each at
-
-      station : Rattle.rack.specs.Racks.IsStation s
-      station = is_station state tells config b r can first second is closed filled kept has.0 s at
+      → (s : Station D) (has : Contains r.stations.items s) → (v : IsClosedVolume tells config r.rest.images.items x y s) × (v.entries ≡ (closing_of s has).0.entries)
+  closed_volume tell_all sound few x y given cause s has =
+      let at = station_there s has in
+      let c = closing_of s has in
+      let station = is_station state tells config b r can first second is closed filled kept has.0 s at in (
+        record {
+          entries = c.0.entries;
+          worker_part = c.2.whole.parts 0 s.worker (omega arith);
+          helper_part = c.2.whole.parts 1 s.worker (omega arith);
+          keeper_part = c.2.whole.parts 2 s.worker (omega arith);
+          no_more = λ m w h k. c.2.whole.no_more m
+              (All-from_recursion (λ p. pass_number p ≢ m) (s.worker ∷ s.helper ∷ s.keeper ∷ [])
+              (λ e. w (sym e ∙ station.worker_.number_is), (λ e. h (sym e ∙ station.helper_.number_is), (λ e. k (sym e ∙ station.keeper_.number_is), tt))));
+          opening = c.2.stands.keeps.upholds.began;
+          history = c.2.stands.keeps.upholds.history;
+          cause = λ broke. let part = broken has.0 s c.0 at c.1 c.2 broke in cause (fault_here part.volume part.place part.image part.here part.among);
+          faulty = λ broke. told_map (GivesBack state config second.images.items 0) (HasFaultyPart tells config s.id (base_of_station s).volume.began.view) x.told y.told given (λ old new back. faulty_part has.0 s c.0 at c.1 c.2 tell_all sound few old new back (broken has.0 s c.0 at c.1 c.2 broke));
+          recovers = λ told. told_map (GivesBack state config second.images.items 0) (λ o n. RecoversTo config r.rest.images.items s c.0.entries n) x.told y.told given (λ old new back. recovers has.0 s c.0 at c.1 c.2 told (tell_all told) sound few old new back);
+          emptied = λ told up none. told_map (GivesBack state config second.images.items 0) (λ o n. LeavesNoLog config r.rest.images.items s.id n) x.told y.told given
+              (λ old new back. λ images left. no_log_left state tells told (tell_all told) sound config few b r can first second is closed filled kept old new back images left has.0 s c.0 at c.1 c.2 up none);
+        },
+        refl,
+      )

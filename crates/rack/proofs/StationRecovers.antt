@@ -1,6 +1,6 @@
 -- What images of a station's parts recover to, among all segments.
 use Rattle.std.proofs.Common.{◌≡◌, ◌≢◌, ◌<◌, ◌≤◌, ◌⊎◌, inl, inr, ℕ, Bool, List, [], ◌∷◌, length, map, Option, Some, None, refl, sym, ap, ◌∙◌, subst, arith}
-use Rattle.std.specs.Prelude.{All, AllPairs, IsTrue, is_some, slice_get, unwrap_or}
+use Rattle.std.specs.Prelude.{All, AllPairs, Contains, IsTrue, is_some, slice_get, unwrap_or}
 use Rattle.std.specs.List.{AllByRecursion, AllZip}
 use Rattle.std.proofs.lemmas.Bool.{cases_lt}
 use Rattle.std.proofs.lemmas.Option.{slice_get_within, get_or_from_slice_get}
@@ -11,9 +11,10 @@ use Rattle.wol_model.specs.Extents.{AreDistinct, Extent, covers_of, with_extents
 use Rattle.wol_model.specs.Heads.{Shape}
 use Rattle.wol_model.specs.History.{writes, flight_of, IsCut}
 use Rattle.wol_model.specs.Images.{Images, image_of, image_size, segment_of, all_segments}
-use Rattle.wol_model.specs.Index.{listed_in}
+use Rattle.wol_model.specs.Index.{Indexed, Listed, listed_in}
+use Rattle.wol_model.specs.Log.{IsLog, extent_of}
 use Rattle.wol_model.specs.Recovered.{extents_in, extents_of, recovered}
-use Rattle.wol_promise.specs.Manager.{Held, extents_held}
+use Rattle.wol_promise.specs.Manager.{Held, IsBacked, extents_held}
 use Rattle.wol_promise.specs.Ruled.{Noted, entries_of}
 use Rattle.wol_promise.specs.Stands.{place_in, ApartFrom, AreApartPlaces, IsHeldBy, IsWhole, IsSoundOf, AreSoundOf}
 use Rattle.wol_promise.proofs.Choices.{chosen_extents, recovers_from}
@@ -25,8 +26,9 @@ use Rattle.manager.specs.Stands.{Keeps}
 use Rattle.manager.specs.declared.base.ManagerBase.{ManagerBase}
 use Rattle.manager.specs.declared.manager.Manager.{Manager}
 use Rattle.manager_recovery.proofs.SameNewest.{same_array}
-use Rattle.rack.specs.Closes.{AreListedOf}
-use Rattle.rack.proofs.ListedLeft.{listed_held, listed_same}
+use Rattle.rack.specs.Closes.{AreListedOf, IsOfExtent, IsOnLogger}
+use Rattle.rack.proofs.ListedLeft.{listed_held, listed_same, of_record}
+use Rattle.rack.proofs.Members.{of_map, of_recursion}
 use Rattle.rack.proofs.SameSegments.{Placed, AreApartPlaced, AreThese, Shuffled, same_extents, shuffled_same, shuffled_distinct, shuffled_to, shuffled_from, once}
 
 -- the blocks of a segment of these images
@@ -193,3 +195,28 @@ module _ {D : Type 0} (tells : Bool) (state : D → State) (told : IsTrue tells)
           listed_same (listed_in m.index.entries) (extents_of v chosen_segments) (extents_of v (all_segments shapes images)) (shuffled_to (extents_of v chosen_segments) (extents_of v (all_segments shapes images)) shuffled)
           (shuffled_from (extents_of v chosen_segments) (extents_of v (all_segments shapes images)) shuffled)
           (subst (λ (xs : List Extent). AreListedOf (listed_in m.index.entries) xs) (sym same) (listed_held m.index.entries held whole_is.index (kp.upholds.calm up).sorted))
+
+      -- and each lies on its lane's logger
+      pub on_loggers_now : (e : Listed) → Contains (listed_in m.index.entries) e → IsOnLogger shapes images v b.volume.began.view e
+      on_loggers_now e has =
+          let d = of_map (λ (x : Indexed). x.listed) m.index.entries e has in
+          let k : IsBacked held d.0 = of_recursion (IsBacked held) m.index.entries d.0 whole_is.index.only d.1 in
+          let h = k.segment in
+          let t : IsThereNow h = of_recursion IsThereNow held h are.each k.is_held in
+          let placed : IsHeldBy (parts_of tells state) b.volume.began h = of_recursion (IsHeldBy (parts_of tells state) b.volume.began) held h kp.upholds.places.each k.is_held in
+          let logs = of_recursion (λ (s : Held (Spun D)). (bs : List Block) → IsTrue tells × IsImageOf (state_of state s.part).values bs → IsLog bs v s.records) held h whole_is.logs k.is_held in
+          record {
+            logger = volume_of h.part;
+            lane = ap (slice_get b.volume.began.view) (ap (λ (l : Listed). l.lane) (sym d.2) ∙ k.is_its.lane) ∙ placed.logger;
+            shape = t.shape;
+            shape_is = t.shape_is;
+            image = t.image;
+            there = t.image_is;
+            index = h.index;
+            within = t.within;
+            records = h.records;
+            log = logs (segment_of t.shape t.image h.index) (told, t.left);
+            record_ = k.record_;
+            among = (k.k, slice_get_within h.records k.k k.record_ k.is_there, get_or_from_slice_get h.records k.k k.record_ k.record_ k.is_there);
+            is_its = subst (λ (l : Listed). IsOfExtent (extent_of k.record_) l) d.2 (of_record h k.k k.record_ d.0 k.is_its);
+          }

@@ -1,5 +1,5 @@
 -- What a rack that was set up of what was taken out began with, and why its other volumes are refused.
-use Rattle.std.proofs.Common.{◌≡◌, inl, ⊎_elim, ℕ, ◌+◌, ◌<◌, ◌≤◌, Bool, List, [], length, Option, None, Some, option_map, refl, sym, ap, ◌∙◌, subst, arith}
+use Rattle.std.proofs.Common.{◌≡◌, inl, ⊎_elim, ℕ, ◌+◌, ◌<◌, ◌≤◌, Bool, List, [], length, map, Option, None, Some, option_map, refl, sym, ap, ◌∙◌, subst, arith}
 use Rattle.std.specs.Prelude.{slice_get, slice_range, Contains, IsTrue, All}
 use Rattle.std.proofs.lemmas.Bool.{cases_lt}
 use Rattle.std.proofs.lemmas.List.{get_or_past}
@@ -14,6 +14,12 @@ use Rattle.wol_config.specs.declared.config.VolumeConf.{VolumeConf}
 use Rattle.log_layout.specs.Values.{segment_head}
 use Rattle.log_layout.specs.declared.segment.SegHead.{SegHead}
 use Rattle.log_layout.specs.declared.segment.SegHead.TheVariants.{Free, Owned}
+use Rattle.turn_lock.specs.Passes.{lock_id}
+use Rattle.turn_lock.specs.declared.lock.TurnLock.{TurnLock}
+use Rattle.seg_pool.specs.Holders.{holder}
+use Rattle.seg_pool.specs.declared.base.PoolBase.{PoolBase}
+use Rattle.seg_pool.specs.declared.pool.Pool.{Pool}
+use Rattle.log_segment.specs.declared.free.FreeSegment.{FreeSegment}
 use Rattle.manager.specs.declared.station.Station.{Station}
 use Rattle.spin_model.specs.declared.spun.Spun.{Spun}
 use Rattle.volume_images.specs.Accepted.{head_place}
@@ -24,9 +30,11 @@ use Rattle.rack.specs.Opens.{IsAsRead, IsLeftHere, IsGone, RefusesVolume}
 use Rattle.rack.specs.Owners.{images_taken}
 use Rattle.rack.specs.Racks.{base_of_station}
 use Rattle.rack.specs.Rests.{image_here, segment_here, IsSegmentHere}
-use Rattle.rack.specs.Parts.{IsSetUp}
+use Rattle.rack.specs.Parts.{IsSetUp, holder_by, of_head}
+use Rattle.rack.specs.PoolUses.{HadSegments, holder_of}
 use Rattle.rack.specs.declared.all.Taken.{Taken}
 use Rattle.rack.specs.declared.heads_said.Said.{Said}
+use Rattle.rack.specs.declared.locks.Issued.{Issued}
 use Rattle.rack.specs.declared.rack.ImageRest.{ImageRest}
 use Rattle.rack.specs.declared.rack.Rack.{Rack}
 use Rattle.rack.specs.declared.volume_fault.VolumeFault.{VolumeFault}
@@ -34,6 +42,7 @@ use Rattle.rack.specs.declared.volume_fault.VolumeFault.TheVariants.{Absent, Wro
 use Rattle.rack.proofs.Asking.{some_at}
 use Rattle.rack.proofs.CutParts.{reads_range}
 use Rattle.rack.proofs.FirstOpening.{some_of}
+use Rattle.rack.proofs.FirstRest.{from_map}
 use Rattle.rack.proofs.Members.{none_in}
 use Rattle.rack.proofs.TakenReady.{IsLess, less, none_before, silent, same_said, says, still}
 
@@ -46,6 +55,11 @@ refused_with tells state config out b b1 k v BayFailed none r = ((none, r.0.1), 
 refused_with tells state config out b b1 k v LabelFault none r = record { not_out = none; image_fault = r.image_fault; is_fault = r.is_fault; said = r.said; cause = r.cause; faulty = r.faulty }
 refused_with tells state config out b b1 k v (Refused why) none r =
     ⊎_elim (λ i. inl (record { not_out = none; image_fault = i.image_fault; is_fault = i.is_fault; said = i.said; cause = i.cause; faulty = i.faulty })) (λ o. absurd (cc o.is_out)) r
+
+head_said : (o : Option SegHead) → of_head o ≡ holder_of (option_map segment_head o)
+head_said None = refl
+head_said (Some Free) = refl
+head_said (Some (Owned owner)) = refl
 
 module _ {D : Type 0} (tells : Bool) (state : D → State) (config : Config) (valid : IsValid config) (b b1 : BayState) (t : Taken D) (taken : IsTaken tells state config b b1 t)
     (r : Rack D) (set_up : IsSetUp t.spindles.items t.pools.items (length t.spindles.items) r) (images_are : r.rest.images ≡ t.images.out) (faults_are : r.faults ≡ t.images.faults) where
@@ -86,6 +100,24 @@ module _ {D : Type 0} (tells : Bool) (state : D → State) (config : Config) (va
         absurd (none-some p (sym (get_or_past n.segments.items i None (omega (arith, past, a, c, d))) ∙ there)))
         (cases_lt i (length e.less.own.heads.items))
 
+    -- the pools began with what the heads say
+    had_segments : (k : ℕ) (v : VolumeConf) (l : TurnLock (Pool (FreeSegment D)) PoolBase) (n : ImageRest D) → slice_get config.volumes.items k ≡ Some v → slice_get r.shared.pools.items k ≡ Some l
+        → image_here r.rest.images.items k ≡ Some n → HadSegments config old k v (lock_id l).base.holders
+    had_segments k v l n at lock here =
+        let e = entered k v n at (sym (now k) ∙ here) in
+        let i = from_map (λ (x : Issued (Pool (FreeSegment D)) PoolBase). x.lock) t.pools.items k l (sym (ap (λ (ls : List (TurnLock (Pool (FreeSegment D)) PoolBase)). slice_get ls k) set_up.pool_locks) ∙ lock) in
+        let issued = taken.pools k (shape_in config v) i.0 (shape_of_volume k v at) i.1 in
+        let own_is : said_at taken.before.said.items k ≡ Some e.less.own = sym (same_said tells state config valid b b1 t taken k) ∙ e.less.own_is in
+        record {
+          image = e.entry.image;
+          there = e.entry.there;
+          view = e.less.own.view;
+          heads = map segment_head e.less.own.heads.items;
+          accepted = e.entry.says.accepted;
+          each = λ j. ap (λ (x : TurnLock (Pool (FreeSegment D)) PoolBase). holder (lock_id x).base.holders j) (sym i.2) ∙ issued.holders j ∙ ap (λ (s : Option Said). holder_by s j) own_is
+              ∙ head_said (slice_get e.less.own.heads.items j) ∙ sym (ap holder_of (slice_get-map segment_head e.less.own.heads.items j));
+        }
+
     pub begun_first : HasBegun state config old t.images.said.items 0 r
     begun_first = record {
       began = record {
@@ -107,6 +139,7 @@ module _ {D : Type 0} (tells : Bool) (state : D → State) (config : Config) (va
             let count = (says tells state config valid b b1 t taken k (shape_in config v) image e.less).count in
             let head = some_at e.less.own.heads.items i (omega (arith, lt, count)) in
             subst (λ (j : Image). IsGone (length (shapes_of config)) (shape_in config v) j r.stations.items i) same (gone k i v image e here none head.0 head.1);
+        pools = had_segments;
       };
       cut = record {
         says = λ k v own at said_is. says_at k v own at said_is;

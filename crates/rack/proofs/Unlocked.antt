@@ -353,4 +353,5 @@ module _ {D : Type 0} (tells : Bool) (state : D → State) (config : Config) (va
               record { label = λ c im. old.label c (subst (λ (p : Spun D). IsImageOf (state_of state p).values c) w.label im); home = home_had k v before y at_k there here; segments = λ i p seg. old.segments i p (w.segments i p seg) };
           held = list_had;
           gone = gone_now;
+          pools = λ k v l y at_k lock here. (let w = was k y here in begun.began.pools k v l w.image at_k lock w.here);
         }

@@ -1,5 +1,5 @@
 -- What closing a rack leaves. `state` is that of a part's disk.
-use Rattle.std.specs.Prelude.{true, false, Bool, ◌≡◌, ◌==◌, ◌≢◌, ◌<◌, ◌≤◌, ◌+◌, ◌++◌, ◌⊎◌, ℕ, List, [], ◌∷◌, length, map, Option, None, Some, not, is_some, unwrap_or, slice_get, slice_range, All, Contains, IsTrue}
+use Rattle.std.specs.Prelude.{true, false, Bool, ◌≡◌, ◌==◌, ◌≢◌, ◌<◌, ◌≤◌, ◌+◌, ◌++◌, ◌⊎◌, ℕ, List, [], ◌∷◌, length, map, Option, None, Some, not, is_some, unwrap_or, slice_get, slice_index_or, slice_range, All, Contains, IsTrue}
 use Rattle.std.specs.List.{AllByRecursion, list_any}
 use Rattle.wol_disk.specs.Disk.{Block, State, Rose, IsAmong, IsImageOf}
 use Rattle.wol_model.specs.Blocks.{Write, after}
@@ -8,7 +8,7 @@ use Rattle.wol_model.specs.Heads.{Shape}
 use Rattle.wol_model.specs.History.{worker, helper, keeper, writes, flight_of, IsCut}
 use Rattle.wol_model.specs.Images.{Images, image_of, accepted, all_segments, recovered_from, segment_of}
 use Rattle.wol_model.specs.Index.{AreRising, Listed, cover_of}
-use Rattle.wol_model.specs.Log.{Record, IsLog, IsIdle}
+use Rattle.wol_model.specs.Log.{Record, IsLog, IsIdle, extent_of}
 use Rattle.wol_model.specs.Recovered.{extents_of}
 use Rattle.wol_promise.specs.Manager.{SaysOwnerOrFree}
 use Rattle.wol_promise.specs.Ruled.{entries_of, last_look}
@@ -26,6 +26,11 @@ use Rattle.spin_model.specs.Spun.{state_of}
 use Rattle.spin_model.specs.declared.spun.Spun.{Spun}
 use Rattle.spin_model.specs.declared.spindle.Spindle.{Spindle}
 use Rattle.spin_model.specs.declared.spindle.SpindleBase.{SpindleBase}
+use Rattle.seg_pool.specs.Holders.{ArePoolUses}
+use Rattle.seg_pool.specs.Operations.{uses_of}
+use Rattle.seg_pool.specs.declared.base.PoolBase.{PoolBase}
+use Rattle.seg_pool.specs.declared.pool.Pool.{Pool}
+use Rattle.log_segment.specs.declared.free.FreeSegment.{FreeSegment}
 use Rattle.manager.specs.Stands.{notes_of}
 use Rattle.manager.specs.declared.part.Part.{Part}
 use Rattle.manager.specs.declared.part.Part.TheVariants.{Home, Segment}
@@ -36,6 +41,7 @@ use Rattle.rack.specs.Rests.{image_here, IsImageOut, IsSegmentHere}
 use Rattle.rack.specs.Racks.{base_of_station}
 use Rattle.rack.specs.Closing.{IsAccessBut}
 use Rattle.rack.specs.Owners.{recovered_but, RecoversSame, WasOpened}
+use Rattle.rack.specs.PoolUses.{PassesEmpty}
 use Rattle.rack.specs.declared.rack.ImageRest.{ImageRest}
 use Rattle.rack.specs.declared.rack.Rack.{Rack}
 use Rattle.rack.specs.declared.rack.Rest.{Rest}
@@ -109,9 +115,25 @@ pub record AreListedOf (listed : List Listed) (extents : List Extent) : Type 0 w
   pub only : (e : Listed) → Contains listed e → (x : Extent) × IsAmong extents x × IsValid x.cover × IsOfExtent x e
   pub rising : AreRising (map (λ (e : Listed). e.version) listed)
 
+-- a listed record of volume v lies on its lane's logger: a log of these images there has it
+pub record IsOnLogger (shapes : List Shape) (images : Images) (v : ℕ) (view : List ℕ) (e : Listed) : Type 0 where
+  pub logger : ℕ
+  pub lane : slice_get view e.lane ≡ Some logger
+  pub shape : Shape
+  pub shape_is : slice_get shapes logger ≡ Some shape
+  pub image : List Block
+  pub there : image_of images logger ≡ Some image
+  pub index : ℕ
+  pub within : index < shape.segments
+  pub records : List Record
+  pub log : IsLog (segment_of shape image index) v records
+  pub record_ : Record
+  pub among : Contains records record_
+  pub is_its : IsOfExtent (extent_of record_) e
+
 -- What images a crash leaves of an open volume, by the entries of its passes: it recovers to what was written to the array at opening,
 -- or to a cut of the writes in flight where a call of a disk had failed; no two of its records in these images have one version; and
--- where none had failed those that keep a block are the ones that its last look lists.
+-- where none had failed those that keep a block are the ones that its last look lists, each on the logger of its lane.
 pub record RecoversTo {D : Type 0} (config : Config) (out : List (Option (ImageRest D))) (s : Station D) (entries : List Entry) (new : Told) : Type 0 where
   pub cut : (images : Images) → AreLeft config new images
       → IsCut (base_of_station s).volume.began.array (writes (entries_of (notes_of entries))) (unwrap_or (flight_of (entries_of (notes_of entries))) []) (recovered_out config out images s.id)
@@ -120,6 +142,8 @@ pub record RecoversTo {D : Type 0} (config : Config) (out : List (Option (ImageR
   pub distinct : (images : Images) → AreLeft config new images → AreDistinct (covers_of (extents_of s.id (segments_out config out images)))
   pub listed : (images : Images) → AreLeft config new images → flight_of (entries_of (notes_of entries)) ≡ None
       → AreListedOf (last_look (base_of_station s).volume.began.look (notes_of entries)).listed (extents_of s.id (segments_out config out images))
+  pub on_loggers : (images : Images) → AreLeft config new images → flight_of (entries_of (notes_of entries)) ≡ None → (e : Listed) → Contains (last_look (base_of_station s).volume.began.look (notes_of entries)).listed e
+      → IsOnLogger (shapes_of config) images s.id (base_of_station s).volume.began.view e
 
 -- whatever images a crash leaves, no segment of an image that is out is a log of volume v
 abbrev pub LeavesNoLog : {D : Type 0} → Config → List (Option (ImageRest D)) → (v : ℕ) → Told → Type 0
@@ -142,6 +166,17 @@ pub record IsClosedVolume {D : Type 0} (tells : Bool) (config : Config) (out : L
   -- where no call failed and the last look lists no record, no log of the volume is left
   pub emptied : IsTrue tells → flight_of (entries_of (notes_of entries)) ≡ None → (last_look (base_of_station s).volume.began.look (notes_of entries)).listed ≡ []
       → IsTold (λ o n. LeavesNoLog config out s.id n) old.told new.told
+
+-- The pools of a rack whose volumes were closed so: each has the entries of its lock, by the passes of all volumes, in which each use
+-- could be made where it stands. No more of a volume's entries passed over a pool than its pass found that pool empty.
+pub record SharePools {D : Type 0} (tells : Bool) (config : Config) (old new : BayState) (r : Rack D) (all : All (IsClosedVolume tells config r.rest.images.items old new) r.stations.items) : Type 0 where
+  pub pools : (k : ℕ) → List Entry
+  pub legal : (k : ℕ) (l : TurnLock (Pool (FreeSegment D)) PoolBase) → slice_get r.shared.pools.items k ≡ Some l → ArePoolUses (lock_id l).base.holders (uses_of (pools k))
+  pub passed : (n : ℕ) (d : Station D) (within : n < length r.stations.items) → PassesEmpty pools (base_of_station (slice_index_or r.stations.items n d)).volume.began (notes_of (all n d within).entries)
+
+-- the volumes of a rack are closed, and so are the pools that they shared
+abbrev pub AreClosedVolumes : {D : Type 0} → (tells : Bool) → Config → (old new : BayState) → Rack D → Type 0
+AreClosedVolumes tells config old new r = (all : All (IsClosedVolume tells config r.rest.images.items old new) r.stations.items) × SharePools tells config old new r all
 
 -- ---- The parts of images
 

@@ -18,7 +18,8 @@ use Rattle.spin_model.specs.Spindles.{SpindleView, StandsFor}
 use Rattle.spin_model.specs.declared.spun.Spun.{Spun}
 use Rattle.spin_model.specs.declared.spindle.Spindle.{Spindle}
 use Rattle.spin_model.specs.declared.spindle.SpindleBase.{SpindleBase}
-use Rattle.seg_pool.specs.Holders.{holder}
+use Rattle.seg_pool.specs.Holders.{holder, ArePoolUses}
+use Rattle.seg_pool.specs.Operations.{uses_of}
 use Rattle.seg_pool.specs.declared.base.Holder.TheVariants.{Elsewhere, HeldBy}
 use Rattle.seg_pool.specs.declared.base.PoolBase.{PoolBase}
 use Rattle.seg_pool.specs.declared.pool.Pool.{Pool}
@@ -108,6 +109,11 @@ pub record CanClosePool {D : Type 0} (state : D → State) (volumes k : ℕ) (s 
   pub once : (v : ℕ) → AreApart (indexes_here r v k)
   pub parts : (v : ℕ) → All (λ (h : ℕ × Spun D). IsPart state k s.segment_blocks h.1) (held_here r v k)
   pub out : (v : ℕ) → image_here r.images.items k ≡ None → held_here r v k ≡ []
+
+-- it was closed with these entries, among which are those of each pass that was here: each use could be made where it stands
+pub record IsClosedPool {D : Type 0} (l : TurnLock (Pool (FreeSegment D)) PoolBase) (r : Rest D) (k : ℕ) (entries : List Entry) : Type 0 where
+  pub legal : ArePoolUses (lock_id l).base.holders (uses_of entries)
+  pub mine : (v : ℕ) (p : PassOf (Pool (FreeSegment D)) PoolBase) → pool_pass r v k ≡ Some p → own v entries ≡ pass_mine p
 
 -- all of the image of volume k is here: what was, what came back with lanes, and blank segments from the pool
 pub record IsRefilledAll {D : Type 0} (state : D → State) (blocks : ℕ) (old : Rest D) (k : ℕ) (r n : ImageRest D) : Type 0 where

@@ -2,6 +2,7 @@ pub mod Rests
 pub mod Making
 pub mod Racks
 pub mod Owners
+pub mod PoolUses
 pub mod Opens
 pub mod Parts
 pub mod Foreign

@@ -8,6 +8,11 @@ use Rattle.wol_bay.specs.Refusals.{refusal}
 use Rattle.wol_bay.specs.declared.fault.BayFault.TheVariants as bay
 use Rattle.wol_config.specs.declared.config.Config.{Config}
 use Rattle.wol_config.specs.declared.config.VolumeConf.{VolumeConf}
+use Rattle.turn_lock.specs.Passes.{lock_id}
+use Rattle.turn_lock.specs.declared.lock.TurnLock.{TurnLock}
+use Rattle.seg_pool.specs.declared.base.PoolBase.{PoolBase}
+use Rattle.seg_pool.specs.declared.pool.Pool.{Pool}
+use Rattle.log_segment.specs.declared.free.FreeSegment.{FreeSegment}
 use Rattle.spin_model.specs.Spun.{state_of}
 use Rattle.spin_model.specs.declared.spun.Spun.{Spun}
 use Rattle.manager.specs.declared.part.Part.TheVariants.{Segment}
@@ -27,6 +32,7 @@ use Rattle.volume_images.specs.Volumes.{shape_in, shapes_of, MayLeave, AreLeft}
 use Rattle.rack.specs.Rests.{image_here, segment_here, held_here, IsImageOut, IsSegmentHere}
 use Rattle.rack.specs.Racks.{base_of_station}
 use Rattle.rack.specs.Owners.{images_taken, IsBegun, IsOpeningOf, RecoversSame, WasOpened}
+use Rattle.rack.specs.PoolUses.{HadSegments}
 use Rattle.volume_images.specs.declared.opening.ImageRefusal.{ImageRefusal}
 use Rattle.volume_images.specs.declared.opening.ImageRefusal.TheVariants as image_refusal
 use Rattle.rack.specs.declared.rack.ImageRest.{ImageRest}
@@ -153,6 +159,9 @@ pub record BeganWith {D : Type 0} (state : D → State) (config : Config) (t : T
   pub gone : (k i : ℕ) (v : VolumeConf) (before : Image) (image : ImageRest D) → slice_get config.volumes.items k ≡ Some v → at_name v.name t.images ≡ Some before
       → image_here r.rest.images.items k ≡ Some image → i < v.segments → ((p : Spun D) → IsSegmentHere r.rest k i p → ⊥)
       → IsGone (length (shapes_of config)) (shape_in config v) before r.stations.items i
+  -- the pools of images that are out began with the segments that were free, and know who held the others
+  pub pools : (k : ℕ) (v : VolumeConf) (l : TurnLock (Pool (FreeSegment D)) PoolBase) (image : ImageRest D) → slice_get config.volumes.items k ≡ Some v → slice_get r.shared.pools.items k ≡ Some l
+      → image_here r.rest.images.items k ≡ Some image → HadSegments config t k v (lock_id l).base.holders
 
 -- the image of volume k was there with the blocks of its parts, and as it reads it may be opened: it has the volume's own label, a view
 -- and heads of segments

@@ -10,7 +10,7 @@ ghost use Rattle.rack.specs.Foreign.{AreForeign};
 ghost use Rattle.rack.specs.Racks.{IsClosable};
 ghost use Rattle.rack.specs.Opens.{BeganWith, WereThere, KeepsOthers, KeepsAllSound};
 ghost use Rattle.rack.specs.Owners.{HadRefused};
-ghost use Rattle.rack.specs.Closes.{IsClosedSpindle, IsClosedVolume, IsQuiet, AreLeftOfParts, HasFaultIn, ListsFaulty, LeavesOpen, LeavesUnopened, LeavesVolumes};
+ghost use Rattle.rack.specs.Closes.{IsClosedSpindle, AreClosedVolumes, IsQuiet, AreLeftOfParts, HasFaultIn, ListsFaulty, LeavesOpen, LeavesUnopened, LeavesVolumes};
 ghost use Rattle.rack.specs.Closing.{pool_in, spindle_in, ArePoolsTaken, AreSpindlesTaken, LeavesNoneOut};
 ghost use Rattle.rack.specs.declared.rack.VolumePasses.{VolumePasses};
 
@@ -30,6 +30,7 @@ use wol_disk::Disk;
 
 impl<D: Disk> Rest<D> {
     ghost use Rattle.std.specs.Prelude.{◌≡◌, ◌≢◌, ◌<◌, ◌≤◌, ◌+◌, ◌++◌, ◌∷◌, ℕ, List, [], length, vec_capacity, Some, slice_get};
+    ghost use Rattle.turn_lock.specs.Histories.{Entry};
     ghost use Rattle.turn_lock.specs.Passes.{lock_id};
     ghost use Rattle.turn_lock.specs.declared.lock.TurnLock.{TurnLock};
     ghost use Rattle.seg_pool.specs.declared.base.PoolBase.{PoolBase};
@@ -40,7 +41,7 @@ impl<D: Disk> Rest<D> {
     ghost use Rattle.logger.specs.declared.shared.Shared.{Shared};
     ghost use Rattle.manager.specs.declared.station.Station.{Station};
     ghost use Rattle.rack.specs.Rests.{spindle_pass, image_here, held_here, OnlyAccess, IsRest};
-    ghost use Rattle.rack.specs.Closing.{CanCloseStations, ClosesStation, ClosesStations, CanClosePool, CanClosePools, CanPutAllHeld, PutsAllHeld, RefillsAll, KeepsLogger, KeepsSpindles, KeepsOtherRows, HasSpindlePasses, StandsClosed, CanCloseSpindles, AreClosed};
+    ghost use Rattle.rack.specs.Closing.{CanCloseStations, ClosesStation, ClosesStations, CanClosePool, CanClosePools, IsClosedPool, CanPutAllHeld, PutsAllHeld, RefillsAll, KeepsLogger, KeepsSpindles, KeepsOtherRows, HasSpindlePasses, StandsClosed, CanCloseSpindles, AreClosed};
 
     // Each station's lock is closed, and what its manager had comes back.
     fn close_stations(&mut self, stations: Vec<Station<D>>)
@@ -90,6 +91,7 @@ impl<D: Disk> Rest<D> {
         requires empty { room.items ≡ [] }
         requires room { length self.old.passes.items ≤ vec_capacity room }
         ensures image { RefillsAll D.state (lock_id lock).base.blocks self.old id (image_here self.old.images.items id) (image_here self.new.images.items id) }
+        ensures uses { (entries : List Entry) × IsClosedPool lock self.old id entries }
         ensures held { (v : ℕ) → held_here self.new v id ≡ [] }
         ensures others { (k : ℕ) → k ≢ id → KeepsLogger self.old self.new k }
         ensures spindles { KeepsSpindles self.old self.new }
@@ -117,6 +119,7 @@ impl<D: Disk> Rest<D> {
     fn close_pools(&mut self, locks: Vec<TurnLock<Pool<FreeSegment<D>>>>)
         requires { (config : Config) × CanClosePools D.state config locks.items self.old }
         ensures images { (k : ℕ) (lock : TurnLock (Pool (FreeSegment D)) PoolBase) → slice_get locks.items k ≡ Some lock → RefillsAll D.state (lock_id lock).base.blocks self.old k (image_here self.old.images.items k) (image_here self.new.images.items k) }
+        ensures uses { (k : ℕ) (lock : TurnLock (Pool (FreeSegment D)) PoolBase) → slice_get locks.items k ≡ Some lock → (entries : List Entry) × IsClosedPool lock self.old k entries }
         ensures held { (v k : ℕ) → k < length locks.items → held_here self.new v k ≡ [] }
         ensures others { (k : ℕ) → length locks.items ≤ k → KeepsLogger self.old self.new k }
         ensures spindles { KeepsSpindles self.old self.new }
@@ -246,7 +249,8 @@ pub fn close_all<B: Bay>(rack: Rack<B::Part>, bay: &mut B, config: &Config) -> V
     ensures home { LeavesNoneOut config.now rack.rest.images.items (outs (B.state bay.old)) (outs (B.state bay.new)) }
     ensures count { length result.items ≡ length (shapes_of config.now) }
     ensures spindles { (k : ℕ) (s : SpindleView) → slice_get result.items k ≡ Some s → IsClosedSpindle rack k s }
-    ensures stations { All (IsClosedVolume B.Part.tells config.now rack.rest.images.items (B.state bay.old) (B.state bay.new)) rack.stations.items }
+    // and the pools that they shared
+    ensures stations { AreClosedVolumes B.Part.tells config.now (B.state bay.old) (B.state bay.new) rack }
     ensures parts { IsTrue B.Part.tells → IsTold (λ old new. AreLeftOfParts B.Part.state config.now rack new) (B.state bay.old).told (B.state bay.new).told }
     // since the rack was opened, where nothing was written
     ensures left { (entry : Told) → IsTrue B.Part.tells → BeganWith B.Part.state config.now entry rack → All (λ s. IsQuiet s) rack.stations.items

@@ -7,6 +7,7 @@ use Rattle.wol_model.specs.Trace.{TraceLine}
 use Rattle.wol_promise.specs.Run.{joined_lines}
 use Rattle.wol_config.specs.declared.config.Config.{Config}
 use Rattle.volume_images.specs.Left.{IsTold}
+use Rattle.rack.specs.PoolUses.{ArePools}
 use Rattle.replay.specs.Account.{Account, EndsWithSummary, KeepsAccount}
 use Rattle.replay.specs.Histories.{BeginAsRead, History, IsHistory, answers_in}
 use Rattle.replay.specs.Leaves.{LeavesImages}
@@ -47,21 +48,26 @@ module _ {S T : Type 0} (tells : Bool) (left : S → Option (List ℕ)) (config 
   }
 
   account_kept : IsTold (λ entry exit. Account left config options.reclaim start now entry exit (status_in result) taken taken') old.told new.told
-  account_kept = told_twice (λ entry exit. BeginAsRead config entry r.histories) (LeavesImages tells config (answers_in (r.earlier ++ r.last)) r.histories) (λ entry exit. Account left config options.reclaim start now entry exit (status_in result) taken taken') old.told new.told (r.begun telling) (r.images telling)
-      (λ entry exit begun leaves. record {
+  account_kept = told_twice (λ entry exit. BeginAsRead config entry r.histories × ArePools config entry r.pools) (LeavesImages tells config (answers_in (r.earlier ++ r.last)) r.histories) (λ entry exit. Account left config options.reclaim start now entry exit (status_in result) taken taken') old.told new.told
+      (told_twice (λ entry exit. BeginAsRead config entry r.histories) (λ entry exit. ArePools config entry r.pools) (λ entry exit. BeginAsRead config entry r.histories × ArePools config entry r.pools) old.told new.told (r.begun telling) (r.are_pools telling) (λ o n begun pools. (begun, pools)))
+      (r.images telling)
+      (λ entry exit first leaves. record {
         lines = r.run;
         given = (r.more, r.given);
         windows = r.earlier ++ r.last;
         are = r.windows_;
         awake = r.awake;
+        pools = r.pools;
+        shared = first.1;
         histories = r.histories;
         count = r.are.count;
         each_volume = λ v h here. record {
-          begun = begun v h here;
+          begun = first.0 v h here;
           history = history_told v h (r.are.each v h here);
+          passed = r.passed v h here;
           works = r.worked.each v h here;
           alone = λ other. r.reclaims.alone other v h here;
-          left = λ images left. (leaves.distinct v h here images left, λ intact. leaves.listed v h here intact images left);
+          left = λ images left. (leaves.distinct v h here images left, λ intact. (leaves.listed v h here intact images left, leaves.on_loggers v h here intact images left));
         };
         disks = λ not_7. r.disks;
         unbroken = r.unbroken;

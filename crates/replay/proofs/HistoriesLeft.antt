@@ -1,12 +1,13 @@
 -- The histories of the volumes of a rack that was closed.
-use Rattle.std.proofs.Common.{◌≡◌, ℕ, zero, suc, Bool, List, [], ◌∷◌, length, map, refl, sym, ap, subst, ◌∙◌, Option, Some, arith}
-use Rattle.std.specs.Prelude.{All, IsTrue, slice_get}
+use Rattle.std.proofs.Common.{◌≡◌, ◌<◌, ℕ, zero, suc, Bool, List, [], ◌∷◌, length, map, refl, sym, ap, subst, ◌∙◌, Option, Some, arith}
+use Rattle.std.specs.Prelude.{All, IsTrue, slice_get, slice_index_or}
 use Rattle.std.specs.List.{AllByRecursion}
 use Rattle.turn_lock.specs.Histories.{own}
 use Rattle.turn_lock.specs.Passes.{pass_number, pass_mine}
 use Rattle.wol_bay.specs.Bay.{BayState}
 use Rattle.wol_model.specs.History as history
 use Rattle.wol_model.specs.History.{helper, keeper, worker, Operation}
+use Rattle.wol_promise.specs.Manager.{Base}
 use Rattle.wol_promise.specs.Outcomes.{Answered, AreOutcomes, answered_in}
 use Rattle.wol_promise.specs.Ruled.{Noted, entries_of}
 use Rattle.run_laws.specs.Answers.{AreFirst, answers_of}
@@ -40,6 +41,15 @@ module _ {D : Type 0} (tells : Bool) (config : Config) (out : List (Option (Imag
   unfolding histories_of
   histories_count [] all = refl
   histories_count (s ∷ ss) all = ap suc (histories_count ss (λ k d lt. all (suc k) d (omega (arith, lt))))
+
+  -- what holds of each closed volume, by its place, holds of each history
+  pub each_closed : (P : Base → List Noted → Type 0) (ss : List (Station D)) (all : All (IsClosedVolume tells config out old new) ss)
+      → ((n : ℕ) (d : Station D) (within : n < length ss) → P (base_of_station (slice_index_or ss n d)).volume.began (notes_of (all n d within).entries))
+      → (v : ℕ) (h : History) → slice_get (histories_of ss all) v ≡ Some h → P h.base h.notes
+  unfolding histories_of
+  each_closed P [] all each v h here = absurd (cc here)
+  each_closed P (s ∷ ss) all each zero h here = let same : history_of s (all 0 s (omega arith)) ≡ h = cc here in subst (λ (x : History). P x.base x.notes) same (each 0 s _)
+  each_closed P (s ∷ ss) all each (suc v) h here = each_closed P ss (λ k d lt. all (suc k) d (omega (arith, lt))) (λ n d within. each (suc n) d _) v h here
 
   -- a history is that of the station at its place
   pub record IsHistoryAt (ss : List (Station D)) (v : ℕ) (h : History) : Type 0 where

@@ -1,6 +1,6 @@
 -- What images a run leaves: each volume recovers to what its answered requests wrote, or to a cut of the next one.
 use Rattle.std.proofs.Common.{◌≡◌, ◌<◌, ◌⊎◌, ◌++◌, ℕ, zero, suc, Bool, true, false, cond, List, [], ◌∷◌, length, map, take, drop, refl, sym, ap, subst, ◌∙◌, Option, None, Some, is_some, inl, inr, append-nil, arith}
-use Rattle.std.specs.Prelude.{IsTrue, slice_get, unwrap_or}
+use Rattle.std.specs.Prelude.{Contains, IsTrue, slice_get, unwrap_or}
 use Rattle.std.specs.List.{AllByRecursion, cons_option}
 use Rattle.std.specs.Option.{option_map_or}
 use Rattle.std.proofs.lemmas.Bool.{cases_lt, eq-eqb}
@@ -11,6 +11,7 @@ use Rattle.wol_model.specs.Blocks.{Write, after}
 use Rattle.wol_model.specs.History as history
 use Rattle.wol_model.specs.History.{IsCut, flight_of, torn, whole, worker, writes}
 use Rattle.wol_model.specs.Extents.{AreDistinct, Extent, covers_of}
+use Rattle.wol_model.specs.Index.{Listed}
 use Rattle.wol_model.specs.Images.{Images, all_segments, recovered_from}
 use Rattle.wol_model.specs.Recovered.{extents_of}
 use Rattle.wol_model.specs.Trace.{Request, payload, payloads, write_to}
@@ -26,7 +27,7 @@ use Rattle.wol_config.specs.declared.config.Config.{Config}
 use Rattle.manager.specs.Stands.{notes_of}
 use Rattle.manager.specs.declared.station.Station.{Station}
 use Rattle.volume_images.specs.Volumes.{AreLeft, images_read, shapes_of}
-use Rattle.rack.specs.Closes.{AreListedOf, HasFaultyPart, IsClosedVolume, RecoversTo, recovered_out, segments_out}
+use Rattle.rack.specs.Closes.{AreListedOf, HasFaultyPart, IsClosedVolume, IsOnLogger, RecoversTo, recovered_out, segments_out}
 use Rattle.rack.specs.Racks.{base_of_station}
 use Rattle.rack.specs.Rests.{IsImageOut}
 use Rattle.rack.specs.declared.rack.ImageRest.{ImageRest}
@@ -144,6 +145,12 @@ module _ {D : Type 0} (tells : Bool) (config : Config) (out : List (Option (Imag
         subst (λ (x : History). AreListedOf (last_look x.base.look x.notes).listed (records_in config images v)) (sym hist.is)
         (subst (AreListedOf (last_look (base_of_station station).volume.began.look (notes_of hist.closed.entries)).listed) (records_are images left) ((recovers station hist.closed).listed images left none))
 
+    on_loggers_here : (IsTrue (is_broken h) → ⊥) → (images : Images) → AreLeft config left_ images → (e : Listed) → Contains (last_look h.base.look h.notes).listed e → IsOnLogger (shapes_of config) images v h.base.view e
+    on_loggers_here intact images left =
+        let none : flight_of entries ≡ None = none_or (flight_of entries) (λ some. intact (ap is_broken hist.is ∙ some)) in
+        subst (λ (x : History). (e : Listed) → Contains (last_look x.base.look x.notes).listed e → IsOnLogger (shapes_of config) images v x.base.view e) (sym hist.is)
+        (λ e has. subst (λ (n : ℕ). IsOnLogger (shapes_of config) images n (base_of_station station).volume.began.view e) id ((recovers station hist.closed).on_loggers images left none e has))
+
     -- .. and what was in flight is one action
     action_here : IsOneAction v (drop (answered_count answers v) (requests_in (answers_of v answers))) (in_flight (entries_of h.notes))
     action_here = subst (λ (x : History). IsOneAction v (drop (answered_count answers v) (requests_in (answers_of v answers))) (in_flight (entries_of x.notes))) (sym hist.is) (by (flight_of entries) refl)
@@ -232,5 +239,6 @@ module _ {D : Type 0} (tells : Bool) (config : Config) (out : List (Option (Imag
     stopped = stopped_here;
     distinct = distinct_here;
     listed = listed_here;
+    on_loggers = on_loggers_here;
     sound = sound;
   }

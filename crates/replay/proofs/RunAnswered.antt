@@ -1,5 +1,5 @@
 -- What replaying a trace over a bay comes to, by what opening, serving and closing its rack say.
-use Rattle.std.proofs.Common.{◌≡◌, ◌<◌, ◌≤◌, ◌⊎◌, ℕ, Bool, List, length, Option, None, Some, Result, Ok, Err, sym, ap, subst, ◌∙◌, arith}
+use Rattle.std.proofs.Common.{◌≡◌, ◌<◌, ◌≤◌, ℕ, Bool, List, length, Option, None, Some, Result, Ok, Err, sym, ap, subst, ◌∙◌, arith}
 use Rattle.std.specs.Prelude.{All, IfSome, IsTrue, MatchResult, slice_get}
 use Rattle.wol_bay.specs.Bay.{BayState, Told}
 use Rattle.wol_disk.specs.Disk.{Rose, State}
@@ -13,7 +13,7 @@ use Rattle.manager_recovery.specs.declared.refusal.OpenRefusal.TheVariants as re
 use Rattle.report.specs.Names.{printed_names}
 use Rattle.report.specs.Summaries.{summary_text}
 use Rattle.report.specs.declared.fault.Fault.TheVariants.{Memory}
-use Rattle.rack.specs.Closes.{AreLeftOfParts, HasFaultAt, HasFaultIn, IsClosedSpindle, IsClosedVolume, IsQuiet, LeavesVolumes, ListsFaulty}
+use Rattle.rack.specs.Closes.{AreClosedVolumes, AreLeftOfParts, HasFaultAt, HasFaultIn, IsClosedSpindle, IsQuiet, LeavesVolumes, ListsFaulty}
 use Rattle.rack.specs.Opens.{AreRefused, BeganWith, HasFaulty, KeepsAllSound, WereThere}
 use Rattle.rack.specs.Owners.{HadRefused}
 use Rattle.rack.specs.Racks.{AreUnused, IsRack, IsUnused}
@@ -61,7 +61,7 @@ pub record HasOpened {D : Type 0} (state : D → State) (tells : Bool) (config :
 
 -- what closing says of one
 pub record HasClosedRack {D : Type 0} (state : D → State) (tells : Bool) (config : Config) (opened left_ : BayState) (q : Rack D) (Q : Told → Told → Type 0) : Type 0 where
-  pub stations : All (IsClosedVolume tells config q.rest.images.items opened left_) q.stations.items
+  pub stations : AreClosedVolumes tells config opened left_ q
   pub told : IsTrue tells → IsTold Q opened.told left_.told
   pub kept : IsTrue tells → IsTold (HadRefused config q.rest.images.items) opened.told left_.told
   pub volumes : (t : Told) → IsTrue tells → BeganWith state config t q → WereThere config q.rest.images.items t → All (λ (s : Station D). IsQuiet s) q.stations.items
@@ -102,14 +102,14 @@ module _ {D S : Type 0} (T : Type 0) (state : D → State) (tells : Bool) (left 
         at (Some t) there = λ apart k v conf. there apart k v conf (all_out k (let less = (at_place config.volumes.items k v conf).0 in omega (arith, less, length-map config.volumes.items (shape_in config))))
 
     -- sound images stay sound, over a rack with the same rest and locks
-    sound_still : q.rest ≡ r.rest → locks_of q.stations.items ≡ locks_of r.stations.items → AreStations q.stations.items → IsTrue tells → IsTold (KeepsAllSound config) entry.told left_.told
-    sound_still rest locks news telling =
+    sound_still : q.rest ≡ r.rest → q.shared ≡ r.shared → locks_of q.stations.items ≡ locks_of r.stations.items → AreStations q.stations.items → IsTrue tells → IsTold (KeepsAllSound config) entry.told left_.told
+    sound_still rest shared locks news telling =
         run_sound state config q Q entry opened left_ (still entry.told (o.began telling)) (subst (λ (x : Rest D). IfSome entry.told (λ t. AreNamedApart t → WereThere config x.images.items t)) (sym rest) (o.there telling))
         (subst (λ (x : Rest D). IsTold (HadRefused config x.images.items) entry.told opened.told) (sym rest) (o.kept telling)) o.apart (c.told telling) (λ t with was. c.sound t telling with was)
       where
         still : (told : Option Told) → IfSome told (λ t. AreNamedApart t → BeganWith state config t r) → IfSome told (λ t. AreNamedApart t → BeganWith state config t q)
         still None began = tt
-        still (Some t) began = λ apart. began_still state config r q rest locks stations news t (began apart)
+        still (Some t) began = λ apart. began_still state config r q rest shared locks stations news t (began apart)
 
   bay_left : q ≡ r → LeavesBay tells state config entry left_
   bay_left same =
@@ -127,8 +127,8 @@ module _ {D S : Type 0} (T : Type 0) (state : D → State) (tells : Bool) (left 
       let rest : q.rest ≡ r.rest = ap (λ (x : Rack D). x.rest) none.same in
       let news : AreStations q.stations.items = subst (λ (x : Rack D). AreStations x.stations.items) (sym none.same) (stations first) in
       subst (λ (x : Stop). Ran (Err x) faults' printed') same
-      (replays_none T state tells left config options start now entry opened left_ r q o.is (count first) (some first) (all_out first) o.began (λ telling. o.apart) Q c.told o.counts c.stations o.fresh (o.unfaulty (all_out first))
-      (sound_still first rest (ap (λ (x : Rack D). locks_of x.stations.items) none.same) news) (all_open first) faults faults' printed printed' none news)
+      (replays_none T state tells left config options start now entry opened left_ r q o.is (count first) (some first) (all_out first) o.began (λ telling. o.apart) Q c.told o.counts c.stations.0 c.stations.1 o.fresh (o.unfaulty (all_out first))
+      (sound_still first rest (ap (λ (x : Rack D). x.shared) none.same) (ap (λ (x : Rack D). locks_of x.stations.items) none.same) news) (all_open first) faults faults' printed printed' none news)
   served_err result (served done first before moved from) e is open_ = at done from.served is
     where
       at : (x : Result Counted Stop) → MatchResult x (λ d. ServesWhole tells left config options start now before r.keepers.items from.after q.keepers.items d faults faults' printed printed')
@@ -137,8 +137,8 @@ module _ {D S : Type 0} (T : Type 0) (state : D → State) (tells : Bool) (left 
       at (Err y) w is =
           let same : y ≡ e = cc is in
           subst (λ (x : Stop). Ran (Err x) faults' printed') same
-          (replays_some T state tells left config options start now entry opened left_ r q o.is (count first) (some first) (all_out first) o.began (λ telling. o.apart) Q c.told o.counts c.stations o.fresh (o.unfaulty (all_out first))
-          (sound_still first (ap (λ (x : Rack D). x.rest) from.only) (from.locks ∙ moved.locks) from.can.each) (all_open first) faults faults' printed printed' before moved done from y w c.spindles c.count (c.count ∙ length-map config.volumes.items (shape_in config)) c.each o.fresh_keepers)
+          (replays_some T state tells left config options start now entry opened left_ r q o.is (count first) (some first) (all_out first) o.began (λ telling. o.apart) Q c.told o.counts c.stations.0 c.stations.1 o.fresh (o.unfaulty (all_out first))
+          (sound_still first (ap (λ (x : Rack D). x.rest) from.only) (ap (λ (x : Rack D). x.shared) from.only) (from.locks ∙ moved.locks) from.can.each) (all_open first) faults faults' printed printed' before moved done from y w c.spindles c.count (c.count ∙ length-map config.volumes.items (shape_in config)) c.each o.fresh_keepers)
 
   pub replayed_err : (result : Result Counted Stop) → RunsIn tells left config options start now r q faults faults' printed printed' result → (e : Stop) → result ≡ Err e → Comes (Err e) faults' printed'
   replayed_err result (closed f first none) e is =
@@ -162,8 +162,8 @@ module _ {D S : Type 0} (T : Type 0) (state : D → State) (tells : Bool) (left 
       at (Ok d) w is =
           let same : d ≡ counted = cc is in
           let here = subst (λ (x : Counted). ServesWhole tells left config options start now before r.keepers.items from.after q.keepers.items x faults faults' printed printed') same w in
-          replays_whole T state tells left config options start now entry opened left_ r q o.is (count first) (some first) (all_out first) o.began (λ telling. o.apart) Q c.told o.counts c.stations o.fresh (o.unfaulty (all_out first))
-          (sound_still first (ap (λ (x : Rack D). x.rest) from.only) (from.locks ∙ moved.locks) from.can.each) (all_open first) faults faults' printed printed' before moved whole from counted here spindles sized each closed_ o.fresh_keepers done faults'' printed'' prints
+          replays_whole T state tells left config options start now entry opened left_ r q o.is (count first) (some first) (all_out first) o.began (λ telling. o.apart) Q c.told o.counts c.stations.0 c.stations.1 o.fresh (o.unfaulty (all_out first))
+          (sound_still first (ap (λ (x : Rack D). x.rest) from.only) (ap (λ (x : Rack D). x.shared) from.only) (from.locks ∙ moved.locks) from.can.each) (all_open first) faults faults' printed printed' before moved whole from counted here spindles sized each closed_ o.fresh_keepers done faults'' printed'' prints
 
   pub replayed_ok : (result : Result Counted Stop) → RunsIn tells left config options start now r q faults faults' printed printed' result → (counted : Counted) → result ≡ Ok counted → (spindles : List SpindleView)
       → length spindles ≡ length (shapes_of config) → length spindles ≡ length config.volumes.items → ((k : ℕ) (s : SpindleView) → slice_get spindles k ≡ Some s → IsClosedSpindle q k s) → (done : Result T Stop) (faults'' : ℕ) (printed'' : Option (List ℕ))

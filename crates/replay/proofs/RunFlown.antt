@@ -9,6 +9,7 @@ use Rattle.wol_model.specs.Log.{Record}
 use Rattle.wol_config.specs.declared.config.Config.{Config}
 use Rattle.wol_config.specs.declared.config.VolumeConf.{VolumeConf}
 use Rattle.spin_model.specs.declared.spun.Spun.{Spun}
+use Rattle.logger.specs.declared.shared.Shared.{Shared}
 use Rattle.manager.specs.declared.base.ManagerBase.{ManagerBase}
 use Rattle.manager.specs.declared.station.Station.{Station}
 use Rattle.manager_recovery.specs.Left.{HasNothing}
@@ -45,7 +46,7 @@ run_flew tells mode ss olds news before middle after ps qs moved back same numbe
 -- ---- Sound images
 
 -- what a rack began with stays, whatever its passes did since
-module _ {D : Type 0} (state : D → State) (config : Config) (r q : Rack D) (rest : q.rest ≡ r.rest) (locks : locks_of q.stations.items ≡ locks_of r.stations.items) (olds : AreStations r.stations.items) (news : AreStations q.stations.items) where
+module _ {D : Type 0} (state : D → State) (config : Config) (r q : Rack D) (rest : q.rest ≡ r.rest) (shared : q.shared ≡ r.shared) (locks : locks_of q.stations.items ≡ locks_of r.stations.items) (olds : AreStations r.stations.items) (news : AreStations q.stations.items) where
   same_count : length q.stations.items ≡ length r.stations.items
   same_count = sym (length-map q.stations.items (λ (s : Station D). s.lock)) ∙ ap length locks ∙ length-map r.stations.items (λ (s : Station D). s.lock)
 
@@ -84,6 +85,7 @@ module _ {D : Type 0} (state : D → State) (config : Config) (r q : Rack D) (re
         → Contains (held_here x w k) (i, p) → HadSegmentBefore state before (head_place (shape_in config v) i) (head_place (shape_in config v) (i + 1)) p) (sym rest) with.held;
     gone = λ k i v before image conf at here lt none. gone_still (shape_in config v) before i
         (with.gone k i v before image conf at (subst (λ (x : Rest D). image_here x.images.items k ≡ Some image) rest here) lt (λ p is. none p (subst (λ (x : Rest D). IsSegmentHere x k i p) (sym rest) is)));
+    pools = λ k v l image conf lock here. with.pools k v l image conf (ap (λ (x : Shared D). slice_get x.pools.items k) (sym shared) ∙ lock) (subst (λ (x : Rest D). image_here x.images.items k ≡ Some image) rest here);
   }
 
 -- sound images stay sound

@@ -13,6 +13,7 @@ use Rattle.volume_images.specs.Left.{AreNamedApart, IsTold}
 use Rattle.volume_images.specs.Volumes.{shape_in, shapes_of}
 use Rattle.trace_gen.specs.Generated.{target_of, targets_of}
 use Rattle.trace_windows.specs.Requests.{most_of}
+use Rattle.logger.specs.declared.shared.Shared.{Shared}
 use Rattle.manager.specs.declared.station.Station.{Station}
 use Rattle.report.specs.Faults.{status_of}
 use Rattle.report.specs.Names.{printed_names}
@@ -24,11 +25,13 @@ use Rattle.msr_trace.specs.declared.format.TraceFault.{TraceFault}
 use Rattle.msr_trace.specs.declared.format.TraceFault.TheVariants as trace
 use Rattle.replay.specs.Stops.{fault_of_trace}
 use Rattle.replay.specs.Endings.{fault_of_window}
-use Rattle.replay.proofs.HistoriesLeft.{histories_of}
-use Rattle.rack.specs.Closes.{IsClosedSpindle, IsClosedVolume}
+use Rattle.replay.proofs.HistoriesLeft.{each_closed, histories_of}
+use Rattle.rack.specs.Closes.{IsClosedSpindle, IsClosedVolume, SharePools}
 use Rattle.rack.specs.Opens.{BeganWith, KeepsAllSound}
+use Rattle.rack.specs.PoolUses.{ArePools, PassesEmpty}
 use Rattle.rack.specs.Racks.{AreUnused, IsRack, IsUnused, base_of_station}
-use Rattle.rack.specs.Rests.{IsImageOut}
+use Rattle.rack.specs.Rests.{IsImageOut, image_here}
+use Rattle.rack.proofs.Members.{a_value}
 use Rattle.rack.specs.declared.rack.Rack.{Rack}
 use Rattle.spin_model.specs.Operations.{uses_of}
 use Rattle.spin_model.specs.Spindles.{SpindleView}
@@ -57,7 +60,7 @@ use Rattle.replay.proofs.CauseServed.{named_breaks, rises, rose_from}
 use Rattle.replay.proofs.CountsLeft.{counts_cut, counts_refused, counts_whole}
 use Rattle.replay.proofs.DrainsCounted.{counts_drained}
 use Rattle.replay.proofs.Giving.{none_given}
-use Rattle.replay.proofs.RacksServed.{at_place, closable_after, rack_closable}
+use Rattle.replay.proofs.RacksServed.{a_member, at_place, closable_after, rack_closable}
 use Rattle.replay.proofs.Statuses.{not_success}
 use Rattle.replay.proofs.RunEnded.{TellsRise, ends_stopped, ends_summed, prints_stopped, prints_summed}
 use Rattle.replay.proofs.RunWorked.{none_worked, run_unbroken, run_worked, told_awake, told_is}
@@ -213,8 +216,29 @@ module _ {D S : Type 0} (T : Type 0) (state : D → State) (tells : Bool) (left 
     (is : IsRack state config opened r) (counted_stations : length r.stations.items ≡ length (shapes_of config)) (some : 1 ≤ length r.stations.items) (all_out : (k : ℕ) → k < length (shapes_of config) → IsImageOut r.rest.images.items k)
     (began : IsTrue tells → IfSome entry.told (λ t. AreNamedApart t → BeganWith state config t r)) (told_open : IsTrue tells → IsTold (λ old new. AreNamedApart new) entry.told opened.told)
     (Q : Told → Told → Type 0) (told_left : IsTrue tells → IsTold Q opened.told left_.told) (opening : entry.faults ≤ opened.faults)
-    (closed : All (IsClosedVolume tells config q.rest.images.items opened left_) q.stations.items) (fresh : AreUnused r.stations.items)
+    (closed : All (IsClosedVolume tells config q.rest.images.items opened left_) q.stations.items) (shared : SharePools tells config opened left_ q closed) (fresh : AreUnused r.stations.items)
     (unfaulty : IsTold (λ x y. y.faulty ≡ x.faulty) entry.told opened.told) (sound : IsTrue tells → IsTold (KeepsAllSound config) entry.told left_.told) (open_ : IsTrue tells → IfSome entry.told (λ t. AreNamedApart t → AreAllOpen config t)) (faults faults' : ℕ) (printed printed' : Option (List ℕ)) where
+  -- the pools began with the segments as the images had them
+  pools_at : q.shared ≡ r.shared → (t : Told) → BeganWith state config t r → ArePools config t shared.pools
+  pools_at same t with k v conf =
+      let less = (at_place config.volumes.items k v conf).0 in
+      let within : k < length (shapes_of config) = omega (arith, less, length-map config.volumes.items (shape_in config)) in
+      let (l, lock) = a_member r.shared.pools.items k (omega (arith, within, is.locks.pool_count)) in
+      let (image, here) = a_value (image_here r.rest.images.items k) (all_out k within) in
+      record { holders = (lock_id l).base.holders; had = with.pools k v l image conf lock here; legal = shared.legal k l (ap (λ (x : Shared D). slice_get x.pools.items k) same ∙ lock) }
+
+  pools_began : q.shared ≡ r.shared → IsTrue tells → IsTold (λ entry_ exit. ArePools config entry_ shared.pools) entry.told left_.told
+  pools_began same telling = told_first (KeepsAllSound config) (λ t. ArePools config t shared.pools) entry.told left_.told (sound telling) (at entry.told (began telling))
+    where
+      at : (o : Option Told) → IfSome o (λ t. AreNamedApart t → BeganWith state config t r) → IfSome o (λ t. AreNamedApart t → ArePools config t shared.pools)
+      at None with = tt
+      at (Some t) with = λ apart. pools_at same t (with apart)
+
+  -- no pool was passed over more often than it was found empty
+  passed_by : (hs : List History) → hs ≡ histories_of tells config q.rest.images.items opened left_ q.stations.items closed → (v : ℕ) (h : History) → slice_get hs v ≡ Some h → PassesEmpty shared.pools h.base h.notes
+  passed_by hs same v h here =
+      each_closed tells config q.rest.images.items opened left_ (λ b notes. PassesEmpty shared.pools b notes) q.stations.items closed shared.passed v h (ap (λ (l : List History). slice_get l v) (sym same) ∙ here)
+
   -- there was no memory to serve
   pub replays_none : RunsNone tells left config options start now r q faults faults' printed printed' → AreStations q.stations.items → Replays {T = T} tells left config options start now entry left_ (Err (stop.Fault Memory)) faults faults' printed printed'
   replays_none runs stations =
@@ -241,6 +265,9 @@ module _ {D S : Type 0} (T : Type 0) (state : D → State) (tells : Bool) (left 
         spent = λ v is. (let no : stop.Fault Memory ≡ stop.Fault (Versions v) = cc is in absurd (cc no));
         open_ = λ telling. told_first (KeepsAllSound config) (AreAllOpen config) entry.told left_.told (sound telling) (open_ telling);
         begun = kept.begun;
+        pools = shared.pools;
+        are_pools = pools_began (ap (λ (x : Rack D). x.shared) runs.same);
+        passed = passed_by kept.kept is_none;
         counts = counts_whole [] [] kept.kept kept.well 9 (λ v. tt);
         placed = placed_by tells config options.reclaim entry opened left_ [] [] [] kept [] (worked is_none runs stations);
         reclaimed = subst (λ (hs : List History). CountsReclaimed [] hs) (sym is_none) (none_reclaimed tells config q.rest.images.items opened left_ q.stations.items closed (numbered_all q.stations.items stations)
@@ -408,6 +435,9 @@ module _ {D S : Type 0} (T : Type 0) (state : D → State) (tells : Bool) (left 
           spent = λ v is. spent_some T tells left config options start now entry opened left_ w.run w.more w.earlier w.middle w.between from.after q.keepers.items faults faults' w.then printed' e w.last w.ends kept v (cc is);
           open_ = λ telling. told_first (KeepsAllSound config) (AreAllOpen config) entry.told left_.told (sound telling) (open_ telling);
           begun = kept.begun;
+          pools = shared.pools;
+          are_pools = pools_began (ap (λ (x : Rack D). x.shared) from.only);
+          passed = passed_by kept.kept is_kept;
           counts = counts_some T tells left config options start now entry opened left_ w.run w.more w.earlier w.middle w.between from.after q.keepers.items faults faults' w.then printed' e w.last w.ends kept;
           placed = placed_by tells config options.reclaim entry opened left_ w.run w.earlier w.last kept awake worked;
           reclaimed = subst (λ (hs : List History). CountsReclaimed (w.earlier ++ w.last) hs) (sym is_kept) (reclaimed_by (w.earlier ++ w.last) w.middle w.between w.from_start on (subst (λ (hs : List History). (v : ℕ) (h : History) → slice_get hs v ≡ Some h → HasHistory (IsTrue tells) h.base h.notes × AllByRecursion IsRuled h.notes) (is_kept) (λ v h here. ((kept.are.each v h here).legal, kept.ruled v h here))));
@@ -469,6 +499,9 @@ module _ {D S : Type 0} (T : Type 0) (state : D → State) (tells : Bool) (left 
           spent = λ v is. absurd (text_versions done text faults' faults'' printed' printed'' v prints is);
           open_ = λ telling. told_first (KeepsAllSound config) (AreAllOpen config) entry.told left_.told (sound telling) (open_ telling);
           begun = kept.begun;
+          pools = shared.pools;
+          are_pools = pools_began (ap (λ (x : Rack D). x.shared) from.only);
+          passed = passed_by kept.kept is_kept;
           counts = counts_whole w.served [] kept.kept kept.well (status_in done) (λ v. tt);
           placed = placed_by tells config options.reclaim entry opened left_ w.lines w.served [] kept awake worked;
           reclaimed = subst (λ (hs : List History). CountsReclaimed (w.served ++ []) hs) (sym is_kept) (reclaimed_by (w.served ++ []) from.after q.keepers.items from_start (inl refl) (subst (λ (hs : List History). (v : ℕ) (h : History) → slice_get hs v ≡ Some h → HasHistory (IsTrue tells) h.base h.notes × AllByRecursion IsRuled h.notes) (is_kept) (λ v h here. ((kept.are.each v h here).legal, kept.ruled v h here))));

@@ -1,10 +1,11 @@
 -- What images a run over open volumes leaves in a bay, where it tells them.
-use Rattle.std.specs.Prelude.{◌≡◌, ◌<◌, ℕ, Bool, List, length, take, drop, Some, slice_get, IsTrue}
+use Rattle.std.specs.Prelude.{◌≡◌, ◌<◌, ℕ, Bool, List, length, take, drop, Contains, Some, slice_get, IsTrue}
 use Rattle.wol_disk.specs.Disk.{Block}
 use Rattle.wol_bay.specs.Bay.{Told}
 use Rattle.wol_model.specs.Blocks.{after}
 use Rattle.wol_model.specs.History.{IsCut, writes}
 use Rattle.wol_model.specs.Extents.{AreDistinct, Extent, covers_of}
+use Rattle.wol_model.specs.Index.{Listed}
 use Rattle.wol_model.specs.Images.{Images, all_segments, recovered_from}
 use Rattle.wol_model.specs.Recovered.{extents_of}
 use Rattle.wol_model.specs.Trace.{payloads}
@@ -13,7 +14,7 @@ use Rattle.wol_promise.specs.Ruled.{entries_of, last_look}
 use Rattle.wol_promise.specs.Run.{KeepsSound, LeavesCuts}
 use Rattle.run_laws.specs.Answers.{answered_count, answers_of, requests_in}
 use Rattle.wol_config.specs.declared.config.Config.{Config}
-use Rattle.rack.specs.Closes.{AreListedOf, HasFaultyPart}
+use Rattle.rack.specs.Closes.{AreListedOf, HasFaultyPart, IsOnLogger}
 use Rattle.volume_images.specs.Volumes.{AreLeft, images_read, shapes_of}
 use Rattle.replay.specs.Headline.{IsOneAction, in_flight}
 use Rattle.replay.specs.Histories.{History, is_broken, is_broken_at}
@@ -44,5 +45,8 @@ pub record LeavesImages (tells : Bool) (config : Config) (answers : List Answere
   pub distinct : (v : ℕ) (h : History) → slice_get histories v ≡ Some h → (images : Images) → AreLeft config new images → AreDistinct (covers_of (records_in config images v))
   pub listed : (v : ℕ) (h : History) → slice_get histories v ≡ Some h → (IsTrue (is_broken h) → ⊥) → (images : Images) → AreLeft config new images
       → AreListedOf (last_look h.base.look h.notes).listed (records_in config images v)
+  -- .. each on the logger of its lane
+  pub on_loggers : (v : ℕ) (h : History) → slice_get histories v ≡ Some h → (IsTrue (is_broken h) → ⊥) → (images : Images) → AreLeft config new images
+      → (e : Listed) → Contains (last_look h.base.look h.notes).listed e → IsOnLogger (shapes_of config) images v h.base.view e
   -- sound images stay sound
   pub sound : KeepsSound (shapes_of config) (AreLeft config entry) (AreLeft config new)

@@ -1,11 +1,12 @@
 -- What replaying a trace on all volumes of a bay comes to, where all of them are open.
-use Rattle.std.specs.Prelude.{◌≡◌, ◌≢◌, ◌≤◌, ◌^◌, ◌++◌, ℕ, Bool, false, List, [], length, Option, Result, Ok, Err, IsTrue}
+use Rattle.std.specs.Prelude.{◌≡◌, ◌≢◌, ◌≤◌, ◌^◌, ◌++◌, ℕ, Bool, false, List, [], length, Option, Result, Ok, Err, Some, IsTrue, slice_get}
 use Rattle.std.specs.List.{AllByRecursion}
 use Rattle.wol_disk.specs.Disk.{Rose, State}
 use Rattle.wol_bay.specs.Bay.{BayState}
 use Rattle.wol_model.specs.Trace.{TraceLine, requests}
 use Rattle.run_laws.specs.Answers.{requests_in}
 use Rattle.wol_config.specs.declared.config.Config.{Config}
+use Rattle.turn_lock.specs.Histories.{Entry}
 use Rattle.volume_images.specs.Left.{IsTold}
 use Rattle.report.specs.Faults.{status_of}
 use Rattle.report.specs.declared.fault.Fault.TheVariants.{Memory, Versions, Volume}
@@ -13,6 +14,7 @@ use Rattle.report.specs.declared.trouble.Trouble.{Trouble}
 use Rattle.trace_gen.specs.Generated.{targets_of}
 use Rattle.trace_windows.specs.Requests.{most_of}
 use Rattle.troubles.specs.Troubles.{trouble_of}
+use Rattle.rack.specs.PoolUses.{ArePools, PassesEmpty}
 use Rattle.rack.specs.declared.volume_fault.VolumeFault.{VolumeFault}
 use Rattle.replay.specs.Ended.{EndsFor}
 use Rattle.replay.specs.Givens.{HasGiven}
@@ -67,6 +69,11 @@ pub record Replays {S T : Type 0} (tells : Bool) (left : S → Option (List ℕ)
   -- each volume was opened of an image that was accepted, and began with what the images recovered to
   pub open_ : IsTrue tells → IsTold (λ entry left_. AreAllOpen config entry) old.told new.told
   pub begun : IsTrue tells → IsTold (λ entry left_. BeginAsRead config entry histories) old.told new.told
+  -- the pools of free segments, by the entries of their locks since the volumes were opened: no more of a volume's entries passed over a
+  -- pool than its pass found that pool empty
+  pub pools : (k : ℕ) → List Entry
+  pub are_pools : IsTrue tells → IsTold (λ entry left_. ArePools config entry pools) old.told new.told
+  pub passed : (v : ℕ) (h : History) → slice_get histories v ≡ Some h → PassesEmpty pools h.base h.notes
   pub counts : CountAnswered (answers_in earlier) (answers_in (earlier ++ last)) (status_in result) histories
   -- the writes that are counted are those of the histories
   pub placed : CountsPlaced (earlier ++ last) histories

@@ -13,7 +13,8 @@ usage: wol COMMAND, in the folder that has wol.toml and the images (NAME.vol)
   wol dump                            print the records in logs
   wol whatif < TRACE                  compare four policies on a trace, without images
   wol clean                           rewrite the records in logs as few
-  wol nbd NAME                        serve NAME to an NBD client on the input and output
+  wol serve NAME                      serve NAME to an NBD client on the input and output
+  wol nbd NAME                        the same without NBD's handshake
   wol gen SEED LINES                  print a generated trace
   wol soak SEED LINES [OPTION..]      replay a generated trace without printing it
   wol solo HOST DISK BLOCKS < TRACE   run one disk's lines on a new image, without wol.toml
@@ -60,7 +61,7 @@ pub fn advice(status: u8) -> Option<&'static str>
         12 =>
             "wol: an image is missing. Put it back; for new volumes wol format makes all images, and erases every volume.\n",
         14 =>
-            "wol: the client sent no NBD requests, or went away within one. What was answered is there.\n",
+            "wol: the client sent no NBD requests or handshake, or went away within one. What was answered is there.\n",
         15 =>
             "wol: nothing was changed. Look for the names of volumes in wol.toml, and for the loggers in the volume's view.\n",
         _ => return None,

@@ -33,7 +33,11 @@ fn uses_trace(command: &Command<'_>) -> bool
     ensures { result ≡ uses_trace command.now }
 {
     match command {
-        Command::Solo(_) | Command::Replay(_) | Command::WhatIf | Command::Nbd(_) => true,
+        Command::Solo(_)
+        | Command::Replay(_)
+        | Command::WhatIf
+        | Command::Nbd(_)
+        | Command::Serve(_) => true,
         Command::Gen(_)
         | Command::Format
         | Command::Check
@@ -58,7 +62,7 @@ fn are_of_trace(alloc: Global, words: &[String]) -> bool
 /// Whether the words are a command that serves a client, to whom no text is sent.
 pub fn are_of_client(alloc: Global, words: &[String]) -> bool {
     match command_of(alloc, words) {
-        Ok(Command::Nbd(_)) => true,
+        Ok(Command::Nbd(_) | Command::Serve(_)) => true,
         Ok(_) => false,
         Err(_) => false,
     }

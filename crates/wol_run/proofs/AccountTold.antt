@@ -25,6 +25,8 @@ module _ {D S T : Type 0} (tells : Bool) (state : D → State) (left : S → Opt
         windows = a.windows;
         are = a.are;
         awake = a.awake;
+        pools = a.pools;
+        shared = a.shared;
         histories = a.histories;
         count = a.count;
         each_volume = a.each_volume;

@@ -52,27 +52,33 @@ use Rattle.nbd_session.specs.declared.session.Ended.{Ended}
 use Rattle.nbd_session.specs.declared.session.Ended.TheVariants as nbd_ended
 use Rattle.nbd_session.specs.declared.session.NbdFault.{NbdFault}
 use Rattle.nbd_session.specs.declared.session.NbdFault.TheVariants as nbd_fault
+use Rattle.nbd_session.specs.Sessions.{CountsFaults}
+use Rattle.nbd_handshake.specs.declared.ending.Shaken.{Shaken}
+use Rattle.nbd_handshake.specs.declared.ending.Shaken.TheVariants.{Agreed, Unagreed as NotAgreed}
+use Rattle.nbd_handshake.specs.declared.ending.Unagreed.{Unagreed}
+use Rattle.nbd_handshake.specs.declared.ending.Unagreed.TheVariants as unagreed
+use Rattle.nbd_serving.proofs.Begun.{counts_behind, faults_begun}
+use Rattle.nbd_serving.specs.Racks.{Begins}
+use Rattle.nbd_serving.specs.declared.serving.Beginning.{Beginning}
 use Rattle.nbd_serving.specs.Runs.{ServesNamed, ServesOpen}
 use Rattle.nbd_serving.specs.Runs as nbd_case
-use Rattle.nbd_serving.specs.Wires.{answer_of, status_of as status_of_answer}
+use Rattle.nbd_serving.specs.Wires.{Wire, answer_of, status_of as status_of_answer, unagreed_status}
 use Rattle.nbd_serving.specs.declared.stop.Stop.{Stop as NbdStop}
 use Rattle.command_words.specs.Commands.{IsCommand}
-use Rattle.command_words.specs.Values.{served_by}
 use Rattle.command_words.specs.Table.{Named}
 use Rattle.command_words.specs.declared.command.Command.{Command}
-use Rattle.command_words.specs.declared.command.Command.TheVariants.{Clean, Format, Gen, Nbd, WhatIf}
+use Rattle.command_words.specs.declared.command.Command.TheVariants.{Clean, Format, Gen, WhatIf}
 use Rattle.command_words.specs.declared.command.Generated.{Generated}
-use Rattle.command_words.specs.declared.command.ServedName.{ServedName}
 use Rattle.wol_run.specs.Causes.{AskFor, IsCause, IsClosedFor, replayed_by}
 use Rattle.wol_run.specs.Causes as row
 use Rattle.wol_run.specs.Cleaning.{IsCleaning}
-use Rattle.wol_run.specs.Commands.{changes_view, runs_trace, serves_client, uses_bay, uses_config}
+use Rattle.wol_run.specs.Commands.{changes_view, runs_trace, uses_bay, uses_config}
 use Rattle.wol_run.specs.Inspecting.{AreTold, IsLook, status_of_first}
 use Rattle.wol_run.specs.Outside.{Outside}
 use Rattle.wol_run.specs.Comparing.{IsComparison}
 use Rattle.wol_run.specs.Replaying.{EndsReplay, GivenLines, HasLeft, IsReplay, trace_of}
 use Rattle.wol_run.specs.Run.{IsCleaningOf, IsComparisonOf, IsFormat, IsListingOf, IsLookFor, IsReplayOf, IsServingOf, IsViewChangeOf}
-use Rattle.wol_run.specs.Serving.{wire}
+use Rattle.wol_run.specs.Serving.{HasBadBytes, served_as, wire}
 use Rattle.wol_run.specs.Settings.{HasConfig, IsFaultLine, line_of_fault}
 use Rattle.wol_run.specs.Tops.{EndsWith, HasBadLine, HasMoreLines}
 use Rattle.wol_run.specs.Viewing.{EndsChange, IsViewChange, RefusesChange, view_change_by}
@@ -81,7 +87,7 @@ use Rattle.wol_run.proofs.FormatEndings.{ends_format}
 use Rattle.wol_run.proofs.GenEndings.{ends_gen}
 use Rattle.wol_run.proofs.ReplayEndings.{at_end, bad_of, more_of, of_call}
 use Rattle.wol_run.proofs.Spent.{spent_of}
-use Rattle.wol_run.proofs.Served.{bad_magic, cut_request}
+use Rattle.wol_run.proofs.Served.{bad_behind, bad_handshake, bad_magic, cut_request, fault_of_any}
 use Rattle.wol_run.proofs.Unread.{ends_unread, line_unread, wanted_or_sink}
 use Rattle.wol_run.proofs.WindowFaults.{ends_window}
 
@@ -413,36 +419,52 @@ module _ {D : Type 0} (tells : Bool) (state : D → State) (words : List (List �
 
       -- ---- A volume that was served
 
-      module _ (name : ServedName) (serves_ : IsCommand words (Nbd name)) where
-        for_client : AskFor words serves_client
-        for_client = record { command = Nbd name; is = serves_; does = refl }
+      module _ (begins : Beginning) (name : List ℕ) (serves_ : served_as command ≡ Some (begins, name)) (none : runs_trace command ≡ false) where
+        abbrev from : Wire
+        from = wire before.trace.bytes before.trace.faults before.sink.bytes before.sink.faults
 
-        abbrev Session : Config → (volume : ℕ) → Result Ended NbdFault → Type 0
-        Session config volume answer =
-            ServesOpen tells config volume before.bay after.bay (wire before.trace.bytes before.trace.faults before.sink.bytes before.sink.faults)
-            (wire after.trace.bytes after.trace.faults after.sink.bytes after.sink.faults) answer
+        abbrev to : Wire
+        to = wire after.trace.bytes after.trace.faults after.sink.bytes after.sink.faults
 
-        of_session : (config : Config) (volume : ℕ) (answer : Result Ended NbdFault) → Session config volume answer → status ≡ status_of_answer (answer_of answer) → Cause status
-        of_session config volume (Ok nbd_ended.Disc) serves same = at_status 0 status same (done_without (Nbd name) serves_ refl)
-        of_session config volume (Ok nbd_ended.End) serves same = at_status 0 status same (done_without (Nbd name) serves_ refl)
-        of_session config volume (Ok (nbd_ended.BadMagic at)) serves same = at_status 14 status same (row.bad_client for_client (bad_magic serves.session))
-        of_session config volume (Ok (nbd_ended.Cut at)) serves same = at_status 14 status same (row.bad_client for_client (cut_request serves.session))
-        of_session config volume (Err nbd_fault.Source) serves same = at_status 8 status same (row.source_failed (inr serves.faults.0))
-        of_session config volume (Err nbd_fault.Sink) serves same = of_sink same
-        of_session config volume (Err nbd_fault.NoMemory) serves same = at_status 9 status same row.no_memory
+        bad_client : HasBadBytes begins before.trace.bytes after.trace.bytes → Cause 14
+        bad_client bad = row.bad_client (record { command = command; is = is; begins = begins; name = name; serves = serves_; bad = bad })
 
-        of_named : (config : Config) → HasConfig before.config.bytes config → (r : Result Ended NbdStop)
-            → ServesNamed tells state config (served_by name) before.bay after.bay (wire before.trace.bytes before.trace.faults before.sink.bytes before.sink.faults)
-            (wire after.trace.bytes after.trace.faults after.sink.bytes after.sink.faults) r → status ≡ status_of_answer r → Cause status
-        of_named config has r (nbd_case.unknown unknown_ bay same_wire) same = at_status 15 status same (row.unknown_volume (record { config = config; has = has; name = name; is = serves_; unknown = unknown_ }))
+        of_fault : (f : NbdFault) → CountsFaults {T = Ended} from.source_faults to.source_faults from.sink_faults to.sink_faults (Err f) → status ≡ status_of_answer (answer_of (Err f)) → Cause status
+        of_fault nbd_fault.Source counts same = at_status 8 status same (row.source_failed (inr counts.0))
+        of_fault nbd_fault.Sink counts same = of_sink same
+        of_fault nbd_fault.NoMemory counts same = at_status 9 status same row.no_memory
+
+        module _ (config : Config) (volume : ℕ) where
+          of_session : (begun : Wire) (answer : Result Ended NbdFault) → Begins config volume begins from begun (Ok Agreed) → ServesOpen tells config volume before.bay after.bay begun to answer → status ≡ status_of_answer (answer_of answer) → Cause status
+          of_session begun (Ok nbd_ended.Disc) begins_ serves same = at_status 0 status same (done_without command is none)
+          of_session begun (Ok nbd_ended.End) begins_ serves same = at_status 0 status same (done_without command is none)
+          of_session begun (Ok (nbd_ended.BadMagic at)) begins_ serves same = at_status 14 status same (bad_client (bad_behind config volume begins from begun to begins_ (bad_magic serves.session)))
+          of_session begun (Ok (nbd_ended.Cut at)) begins_ serves same = at_status 14 status same (bad_client (bad_behind config volume begins from begun to begins_ (cut_request serves.session)))
+          of_session begun (Err f) begins_ serves same = of_fault f (counts_behind {T = Ended} config volume begins from begun to (Err f) begins_ serves.faults) same
+
+          of_unagreed : (why : Unagreed) → Begins config volume begins from to (Ok (NotAgreed why)) → status ≡ unagreed_status why → Cause status
+          of_unagreed unagreed.Aborted begins_ same = at_status 0 status same (done_without command is none)
+          of_unagreed unagreed.End begins_ same = at_status 0 status same (done_without command is none)
+          of_unagreed unagreed.Cut begins_ same = at_status 14 status same (bad_client (bad_handshake config volume begins from to unagreed.Cut begins_ refl))
+          of_unagreed unagreed.BadFlags begins_ same = at_status 14 status same (bad_client (bad_handshake config volume begins from to unagreed.BadFlags begins_ refl))
+          of_unagreed unagreed.BadMagic begins_ same = at_status 14 status same (bad_client (bad_handshake config volume begins from to unagreed.BadMagic begins_ refl))
+          of_unagreed unagreed.TooLong begins_ same = at_status 14 status same (bad_client (bad_handshake config volume begins from to unagreed.TooLong begins_ refl))
+          of_unagreed unagreed.TooMany begins_ same = at_status 14 status same (bad_client (bad_handshake config volume begins from to unagreed.TooMany begins_ refl))
+          of_unagreed unagreed.Unoffered begins_ same = at_status 14 status same (bad_client (bad_handshake config volume begins from to unagreed.Unoffered begins_ refl))
+
+        of_named : (config : Config) → HasConfig before.config.bytes config → (r : Result Ended NbdStop) → ServesNamed tells state config begins name before.bay after.bay from to r → status ≡ status_of_answer r → Cause status
+        of_named config has r (nbd_case.unknown unknown_ bay same_wire) same =
+            at_status 15 status same (row.unknown_volume (record { config = config; has = has; command = command; is = is; begins = begins; name = name; serves = serves_; unknown = unknown_ }))
         of_named config has r (nbd_case.no_memory volume is_named leaves same_wire) same = at_status 9 status same row.no_memory
         of_named config has r (nbd_case.closed volume k f is_named first leaves same_wire) same = at_status (trouble_status (trouble_of f)) status same (closed_cause config has k f first)
-        of_named config has r (nbd_case.served volume answer is_named serves) same = of_session config volume answer serves same
+        of_named config has r (nbd_case.unagreed volume why is_named begins_ leaves) same = of_unagreed config volume why begins_ same
+        of_named config has r (nbd_case.unbegun volume f is_named begins_ leaves) same = of_fault f (fault_of_any Shaken Ended from.source_faults to.source_faults from.sink_faults to.sink_faults f (faults_begun config volume begins from to f begins_)) same
+        of_named config has r (nbd_case.served volume begun answer is_named begins_ serves) same = of_session config volume begun answer begins_ serves same
 
-        pub serving_cause : IsServingOf tells state before after status (served_by name) → Cause status
+        pub serving_cause : IsServingOf tells state before after status (begins, name) → Cause status
         serving_cause (inl run) = of_named run.config run.has run.result run.serves run.done
         serving_cause (inr (inl unread)) = unread_cause for_config (line_of_fault unread.fault) (status_of unread.fault) (line_unread unread.fault _ _ _ unread.cause) unread.told
-        serving_cause (inr (inr none)) = elim (wanted_or_sink _ 9 status _ _ none.ends) [
+        serving_cause (inr (inr none_)) = elim (wanted_or_sink _ 9 status _ _ none_.ends) [
           | inl nine ↦ at_status 9 status nine row.no_memory
           | inr seven_ ↦ of_sink seven_
         ]

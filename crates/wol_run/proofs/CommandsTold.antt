@@ -14,10 +14,11 @@ use Rattle.report.specs.declared.fault.Fault.TheVariants as fault
 use Rattle.inspection.specs.declared.asked.Asked.TheVariants as asked
 use Rattle.command_words.specs.Commands.{IsCommand}
 use Rattle.command_words.specs.declared.command.Command.{Command}
-use Rattle.command_words.specs.declared.command.Command.TheVariants.{Check, Clean, Dump, Format, Gen, Nbd, Replay, Soak, Solo, ViewAdd, ViewRemove, WhatIf}
+use Rattle.command_words.specs.declared.command.Command.TheVariants.{Check, Clean, Dump, Format, Gen, Nbd, Replay, Serve, Soak, Solo, ViewAdd, ViewRemove, WhatIf}
 use Rattle.command_words.specs.declared.command.Generated.{Generated}
 use Rattle.command_words.specs.declared.command.Options.{Options}
 use Rattle.command_words.specs.declared.command.ServedName.{ServedName}
+use Rattle.nbd_serving.specs.declared.serving.Beginning.TheVariants.{AtOnce, Handshake}
 use Rattle.command_words.specs.declared.command.ViewNames.{ViewNames}
 use Rattle.command_words.specs.Values.{named_by, served_by}
 use Rattle.view_commands.specs.declared.order.Verb.TheVariants.{Add, Remove}
@@ -27,7 +28,7 @@ use Rattle.wol_run.specs.Commands.{runs_trace}
 use Rattle.wol_run.specs.Completing.{HasSoundImages, HaveVersions, HaveVersionsToClean, IsGoodTrace, seed_lines}
 use Rattle.wol_run.specs.Outside.{LeavesUnused, Outside, Stream}
 use Rattle.wol_run.specs.Replaying.{lines_of, options_as, trace_of}
-use Rattle.wol_run.specs.Run.{ComesToItsEnd, Does, IsCleaningOf, IsComparisonOf, IsFormat, IsListingOf, IsLookFor, IsReplayOf, IsServingOf, IsViewChangeOf, Run}
+use Rattle.wol_run.specs.Run.{Does, IsCleaningOf, IsComparisonOf, IsFormat, IsListingOf, IsLookFor, IsReplayOf, IsServingOf, IsViewChangeOf, Run}
 use Rattle.wol_run.specs.Serving.{EndsAtClient}
 use Rattle.wol_run.specs.Settings.{IsConfigured}
 use Rattle.wol_run.specs.Tops.{EndsWith, HasCause, IsDoneOrMemory, TellsFault, TellsStatus}
@@ -135,16 +136,24 @@ module _ {D : Type 0} (tells : Bool) (state : D → State) (words : List (List �
       (record { config = λ none. absurd (used refl (none Clean is)); trace = λ none. trace; bay = λ none. absurd (used refl (none Clean is)) })
       (λ order calm. inl (complete order.1 order.2 order.0 (calm.bay refl) (calm.config refl) calm.sink))
 
-  pub serving_promise : (name : ServedName) → IsCommand words (Nbd name) → IsServingOf tells state before after status (served_by name)
-      → (HasSoundImages tells before.config.bytes before.bay → IsConfigured before.config.bytes → ¬ Rose before.bay.faults after.bay.faults → ¬ Rose before.config.faults after.config.faults
-      → ¬ Rose before.trace.faults after.trace.faults → ¬ Rose before.sink.faults after.sink.faults → EndsAtClient status) → Run tells state words before after status
-  serving_promise name is run complete = of_command tells state words before after status (Nbd name) is run (serving_cause tells state words before after status seven (Nbd name) is refl refl name is run) later
-      (record { config = λ none. absurd (used refl (none (Nbd name) is)); trace = λ none. absurd (used refl (none (Nbd name) is)); bay = λ none. absurd (used refl (none (Nbd name) is)) })
-      (λ order calm. at_client (complete order.1 order.0 (calm.bay refl) (calm.config refl) (calm.trace refl) calm.sink))
-    where
-      at_client : EndsAtClient status → ComesToItsEnd (Nbd name) status
-      at_client (inl done) = inl done
-      at_client (inr other) = inr (inr (refl, other))
+  -- a volume was to be served
+  module _ (complete : HasSoundImages tells before.config.bytes before.bay → IsConfigured before.config.bytes → ¬ Rose before.bay.faults after.bay.faults → ¬ Rose before.config.faults after.config.faults
+      → ¬ Rose before.trace.faults after.trace.faults → ¬ Rose before.sink.faults after.sink.faults → EndsAtClient status) where
+    at_client : {A : Type 0} {b : Bool} → b ≡ true → EndsAtClient status → IsDoneOrMemory status ⊎ A ⊎ ((b ≡ true) × ((status ≡ 14) ⊎ (status ≡ 15)))
+    at_client serves (inl done) = inl done
+    at_client serves (inr other) = inr (inr (serves, other))
+
+    pub nbd_promise : (name : ServedName) → IsCommand words (Nbd name) → IsServingOf tells state before after status (AtOnce, served_by name) → Run tells state words before after status
+    nbd_promise name is run = of_command tells state words before after status (Nbd name) is run
+        (serving_cause tells state words before after status seven (Nbd name) is refl refl AtOnce (served_by name) refl refl run) later
+        (record { config = λ none. absurd (used refl (none (Nbd name) is)); trace = λ none. absurd (used refl (none (Nbd name) is)); bay = λ none. absurd (used refl (none (Nbd name) is)) })
+        (λ order calm. at_client refl (complete order.1 order.0 (calm.bay refl) (calm.config refl) (calm.trace refl) calm.sink))
+
+    pub serve_promise : (name : ServedName) → IsCommand words (Serve name) → IsServingOf tells state before after status (Handshake, served_by name) → Run tells state words before after status
+    serve_promise name is run = of_command tells state words before after status (Serve name) is run
+        (serving_cause tells state words before after status seven (Serve name) is refl refl Handshake (served_by name) refl refl run) later
+        (record { config = λ none. absurd (used refl (none (Serve name) is)); trace = λ none. absurd (used refl (none (Serve name) is)); bay = λ none. absurd (used refl (none (Serve name) is)) })
+        (λ order calm. at_client refl (complete order.1 order.0 (calm.bay refl) (calm.config refl) (calm.trace refl) calm.sink))
 
   -- the lines of one volume were run on an image of its own
   module _ (own : Volume) (is : IsCommand words (Solo own)) (config : after.config ≡ before.config) where
@@ -186,6 +195,7 @@ module _ {D : Type 0} (tells : Bool) (state : D → State) (words : List (List �
   does_none (ViewRemove names) = inr (not_begun _ _ _ _ _ status _ _ fault.Memory tt refl (inr ends))
   does_none Clean = inr (not_begun _ _ _ _ _ status _ _ fault.Memory tt refl (inr ends))
   does_none (Nbd name) = inr (inr (record { bay = refl; source = (refl, refl); ends = ends }))
+  does_none (Serve name) = inr (inr (record { bay = refl; source = (refl, refl); ends = ends }))
 
   pub memory_promise : (status ≡ 7 → Rose before.sink.faults sink.faults) → (before.sink.faults < sink.faults → status ≡ 7) → Run tells state words before after status
   memory_promise seven later = of_unread_words tells state words before after status does_none ends seven later (record { config = λ none. refl; trace = λ none. refl; bay = λ none. refl })

@@ -1,5 +1,5 @@
 -- What a comparison of the policies ended with, and what became of the sink.
-use Rattle.std.proofs.Common.{◌≡◌, ◌≢◌, ◌⊎◌, inl, inr, ℕ, List, Option, Result, Ok, Err, refl, ap, subst}
+use Rattle.std.proofs.Common.{◌≡◌, ◌⊎◌, inl, inr, ℕ, List, Option, Result, Ok, Err, refl, subst}
 use Rattle.std.specs.Prelude.{codes}
 use Rattle.wol_disk.specs.Disk.{Rose}
 use Rattle.wol_model.specs.Trace.{TraceLine}

@@ -10,9 +10,10 @@ use Rattle.inspection.specs.declared.asked.Asked.TheVariants as asked
 use Rattle.replay.specs.declared.session.Options.{Options as Serving}
 use Rattle.command_words.specs.Commands.{IsCommand, NoCommand}
 use Rattle.command_words.specs.declared.command.Command.{Command}
-use Rattle.command_words.specs.declared.command.Command.TheVariants.{Check, Clean, Dump, Format, Gen, Nbd, Replay, Soak, Solo, ViewAdd, ViewRemove, WhatIf}
+use Rattle.command_words.specs.declared.command.Command.TheVariants.{Check, Clean, Dump, Format, Gen, Nbd, Replay, Serve, Soak, Solo, ViewAdd, ViewRemove, WhatIf}
 use Rattle.command_words.specs.declared.command.Generated.{Generated}
-use Rattle.command_words.specs.declared.command.ServedName.{ServedName}
+use Rattle.nbd_serving.specs.declared.serving.Beginning.{Beginning}
+use Rattle.nbd_serving.specs.declared.serving.Beginning.TheVariants.{AtOnce, Handshake}
 use Rattle.command_words.specs.Table.{Named}
 use Rattle.command_words.specs.Values.{served_by}
 use Rattle.view_commands.specs.declared.order.Verb.{Verb}
@@ -65,7 +66,8 @@ module _ {D : Type 0} (tells : Bool) (state : D → State) (words : List (List �
     solo = solo_alike;
     add = λ own other same does. subst (λ n. IsViewChangeOf tells state before after status (Add, n)) same does;
     remove = λ own other same does. subst (λ n. IsViewChangeOf tells state before after status (Remove, n)) same does;
-    nbd = λ own other same does. subst (λ n. IsServingOf tells state before after status n) same does;
+    nbd = λ own other same does. subst (λ n. IsServingOf tells state before after status (AtOnce, n)) same does;
+    serve = λ own other same does. subst (λ n. IsServingOf tells state before after status (Handshake, n)) same does;
   }
 
   headline_of : (how : Serving × GivenLines) → IsReplayOf tells state before after status how → IsHeadlineOf tells state before after status how
@@ -89,6 +91,7 @@ module _ {D : Type 0} (tells : Bool) (state : D → State) (words : List (List �
   of_replayed P gives (ViewRemove names) did = tt
   of_replayed P gives Clean did = tt
   of_replayed P gives (Nbd name) did = tt
+  of_replayed P gives (Serve name) did = tt
 
   -- ---- .. where the configuration is none
 
@@ -152,10 +155,10 @@ module _ {D : Type 0} (tells : Bool) (state : D → State) (words : List (List �
   clean_unconfigured (inl run) bytes told none = absurd (never_had _ bytes told none run.config run.has)
   clean_unconfigured (inr unread) bytes told none = not_begun_unconfigured unread bytes told none
 
-  serving_unconfigured : (name : List ℕ) → IsServingOf tells state before after status name → (bytes : List ℕ) → before.config.bytes ≡ Some bytes → HasNoConfig (Some bytes) → TellsNoConfig status
-  serving_unconfigured name (inl run) bytes told none = absurd (never_had _ bytes told none run.config run.has)
-  serving_unconfigured name (inr (inl unread)) bytes told none = of_unread _ bytes told none _ _ (line_of_fault unread.fault) (status_of unread.fault) status (line_unread unread.fault _ _ _ unread.cause) unread.told
-  serving_unconfigured name (inr (inr words_)) bytes told none = elim (wanted_or_sink _ 9 status _ _ words_.ends) [
+  serving_unconfigured : (how : Beginning × List ℕ) → IsServingOf tells state before after status how → (bytes : List ℕ) → before.config.bytes ≡ Some bytes → HasNoConfig (Some bytes) → TellsNoConfig status
+  serving_unconfigured how (inl run) bytes told none = absurd (never_had _ bytes told none run.config run.has)
+  serving_unconfigured how (inr (inl unread)) bytes told none = of_unread _ bytes told none _ _ (line_of_fault unread.fault) (status_of unread.fault) status (line_unread unread.fault _ _ _ unread.cause) unread.told
+  serving_unconfigured how (inr (inr words_)) bytes told none = elim (wanted_or_sink _ 9 status _ _ words_.ends) [
     | inl nine ↦ inr (inr (inr nine))
     | inr seven ↦ inr (inl seven)
   ]
@@ -172,7 +175,8 @@ module _ {D : Type 0} (tells : Bool) (state : D → State) (words : List (List �
   unconfigured_of (ViewAdd names) did (uses, bytes, told, none) = view_unconfigured _ did bytes told none
   unconfigured_of (ViewRemove names) did (uses, bytes, told, none) = view_unconfigured _ did bytes told none
   unconfigured_of Clean did (uses, bytes, told, none) = clean_unconfigured did bytes told none
-  unconfigured_of (Nbd name) did (uses, bytes, told, none) = serving_unconfigured (served_by name) did bytes told none
+  unconfigured_of (Nbd name) did (uses, bytes, told, none) = serving_unconfigured (AtOnce, served_by name) did bytes told none
+  unconfigured_of (Serve name) did (uses, bytes, told, none) = serving_unconfigured (Handshake, served_by name) did bytes told none
 
   -- ---- The whole
 
@@ -185,6 +189,7 @@ module _ {D : Type 0} (tells : Bool) (state : D → State) (words : List (List �
     add = λ own other same completes order calm. completes order (record { config = calm.config; trace = calm.trace; bay = calm.bay; sink = calm.sink });
     remove = λ own other same completes order calm. completes order (record { config = calm.config; trace = calm.trace; bay = calm.bay; sink = calm.sink });
     nbd = λ own other same completes order calm. completes order (record { config = calm.config; trace = calm.trace; bay = calm.bay; sink = calm.sink });
+    serve = λ own other same completes order calm. completes order (record { config = calm.config; trace = calm.trace; bay = calm.bay; sink = calm.sink });
   }
 
   pub promise : ((command : Command) → IsCommand words command → Did command)

@@ -16,7 +16,6 @@ use Rattle.rack.specs.declared.volume_fault.VolumeFault.{VolumeFault}
 use Rattle.rack.specs.declared.volume_fault.VolumeFault.TheVariants as closed_for
 use Rattle.rack.specs.Racks.{NamesVolumes}
 use Rattle.report.specs.Troubles.{trouble_status}
-use Rattle.replay.specs.Ended.{memory}
 use Rattle.replay.specs.Givens.{HasGivenAll, Refuses}
 use Rattle.replay.specs.NotOpened.{IsOfCall}
 use Rattle.replay.specs.Stops.{fault_of_trace}

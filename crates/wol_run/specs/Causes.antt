@@ -26,18 +26,17 @@ use Rattle.replay.specs.declared.session.Options.{Options as Serving}
 use Rattle.cleaning.specs.Runs.{LacksVersions}
 use Rattle.command_words.specs.Commands.{IsCommand, NoCommand}
 use Rattle.command_words.specs.Table.{Named}
-use Rattle.command_words.specs.Values.{served_by}
 use Rattle.command_words.specs.declared.command.Command.{Command}
-use Rattle.command_words.specs.declared.command.Command.TheVariants.{Clean, Nbd, Replay, Soak}
-use Rattle.command_words.specs.declared.command.ServedName.{ServedName}
+use Rattle.command_words.specs.declared.command.Command.TheVariants.{Clean, Replay, Soak}
+use Rattle.nbd_serving.specs.declared.serving.Beginning.{Beginning}
 use Rattle.view_commands.specs.Views.{IsDamagedIn}
 use Rattle.view_commands.specs.declared.order.Order.{Order}
 use Rattle.view_commands.specs.declared.order.Verb.{Verb}
 use Rattle.view_commands.specs.declared.order.ViewRefusal.{ViewRefusal}
-use Rattle.wol_run.specs.Commands.{changes_view, runs_trace, serves_client, uses_bay, uses_config}
+use Rattle.wol_run.specs.Commands.{changes_view, runs_trace, uses_bay, uses_config}
 use Rattle.wol_run.specs.Outside.{Outside}
 use Rattle.wol_run.specs.Replaying.{GivenLines, lines_of, options_as, trace_of}
-use Rattle.wol_run.specs.Serving.{HasBadClient}
+use Rattle.wol_run.specs.Serving.{HasBadBytes, served_as}
 use Rattle.wol_run.specs.Settings.{HasConfig, HasNoConfig}
 use Rattle.wol_run.specs.Tops.{HasBadLine, HasMoreLines}
 use Rattle.wol_run.specs.Viewing.{IsOrder, RefusesChange, view_change_by}
@@ -129,9 +128,21 @@ pub record HasRefusal (tells : Bool) (words : List (List ℕ)) (before after : O
 pub record HasUnknownVolume (words : List (List ℕ)) (before : Outside) : Type 0 where
   pub config : Config
   pub has : HasConfig before.config.bytes config
-  pub name : ServedName
-  pub is : IsCommand words (Nbd name)
-  pub unknown : number_named (names_of config.volumes.items) (served_by name) ≡ None
+  pub command : Command
+  pub is : IsCommand words command
+  pub begins : Beginning
+  pub name : List ℕ
+  pub serves : served_as command ≡ Some (begins, name)
+  pub unknown : number_named (names_of config.volumes.items) name ≡ None
+
+-- a volume was to be served, and what the client sent is no handshake or no requests
+pub record HasBadClient (words : List (List ℕ)) (before after : Outside) : Type 0 where
+  pub command : Command
+  pub is : IsCommand words command
+  pub begins : Beginning
+  pub name : List ℕ
+  pub serves : served_as command ≡ Some (begins, name)
+  pub bad : HasBadBytes begins before.trace.bytes after.trace.bytes
 
 -- A block of the label and view of a volume is damaged, as its image reads.
 pub record HasDamagedView (tells : Bool) (before after : Outside) : Type 0 where
@@ -177,9 +188,8 @@ module _ {D : Type 0} (tells : Bool) (state : D → State) (words : List (List �
     no_version_to_copy : IsCommand words Clean → HasNoVersionToCopy tells before after → IsCause 11
     -- 12: the bay has no image of a volume's name
     no_image : AskFor words uses_config → IsClosedFor tells state before after 12 → IsCause 12
-    -- 14: a client's bytes are no requests
-    bad_client : AskFor words serves_client → HasBadClient before.trace.bytes after.trace.bytes
-        → IsCause 14
+    -- 14: a client's bytes are no handshake or no requests
+    bad_client : HasBadClient words before after → IsCause 14
     -- 15: a word is no volume's name, or the view of the volume can't be changed so
     view_refused : HasRefusal tells words before after → IsCause 15
     -- 15 too: the volume that is to be served isn't configured

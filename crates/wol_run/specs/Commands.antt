@@ -3,7 +3,7 @@ use Rattle.std.specs.Prelude.{◌≡◌, Bool, true, false, ⊤, ℕ, ◌≤◌,
 use Rattle.solo.specs.Volume.{IsVolume, target_of}
 use Rattle.command_words.specs.Commands.{IsCommand}
 use Rattle.command_words.specs.declared.command.Command.{Command}
-use Rattle.command_words.specs.declared.command.Command.TheVariants.{Solo, Nbd, Replay, Gen, Soak, ViewAdd, ViewRemove, WhatIf}
+use Rattle.command_words.specs.declared.command.Command.TheVariants.{Solo, Nbd, Serve, Replay, Gen, Soak, ViewAdd, ViewRemove, WhatIf}
 
 -- whether a command uses the bay
 abbrev pub uses_bay : Command → Bool
@@ -21,11 +21,13 @@ runs_trace command = false
 -- whether it uses the source of the trace, for that or for a client's requests
 abbrev pub uses_trace : Command → Bool
 uses_trace (Nbd name) = true
+uses_trace (Serve name) = true
 uses_trace command = runs_trace command
 
 -- whether it serves a client
 abbrev pub serves_client : Command → Bool
 serves_client (Nbd name) = true
+serves_client (Serve name) = true
 serves_client command = false
 
 -- whether it uses the configuration

@@ -9,11 +9,12 @@ use Rattle.inspection.specs.declared.asked.Asked.TheVariants as asked
 use Rattle.replay.specs.declared.session.Options.{Options as Serving}
 use Rattle.command_words.specs.Commands.{IsCommand, NoCommand}
 use Rattle.command_words.specs.declared.command.Command.{Command}
-use Rattle.command_words.specs.declared.command.Command.TheVariants.{Check, Clean, Dump, Format, Gen, Nbd, Replay, Soak, Solo, ViewAdd, ViewRemove, WhatIf}
+use Rattle.command_words.specs.declared.command.Command.TheVariants.{Check, Clean, Dump, Format, Gen, Nbd, Replay, Serve, Soak, Solo, ViewAdd, ViewRemove, WhatIf}
 use Rattle.command_words.specs.declared.command.Generated.{Generated}
-use Rattle.command_words.specs.declared.command.ServedName.{ServedName}
 use Rattle.command_words.specs.Table.{Named}
 use Rattle.command_words.specs.Values.{named_by, served_by}
+use Rattle.nbd_serving.specs.declared.serving.Beginning.{Beginning}
+use Rattle.nbd_serving.specs.declared.serving.Beginning.TheVariants.{AtOnce, Handshake}
 use Rattle.view_commands.specs.declared.order.Verb.{Verb}
 use Rattle.view_commands.specs.declared.order.Verb.TheVariants.{Add, Remove}
 use Rattle.wol_run.specs.Accounted.{RunsAccount}
@@ -76,10 +77,10 @@ module _ {D : Type 0} (tells : Bool) (state : D → State) (before after : Outsi
       RunsCleaning tells state before.config.bytes before.config.faults after.config.faults
       before.bay after.bay before.sink.faults status before.sink.bytes after.sink.bytes
 
-  -- the volume of this name was served to a client
-  abbrev pub IsServingOf : List ℕ → Type 0
-  IsServingOf name =
-      RunsServing tells state name before.config.bytes before.config.faults after.config.faults
+  -- the volume of this name was served to a client, at once or behind a handshake
+  abbrev pub IsServingOf : Beginning × List ℕ → Type 0
+  IsServingOf (begins, name) =
+      RunsServing tells state begins name before.config.bytes before.config.faults after.config.faults
       before.bay after.bay
       (wire before.trace.bytes before.trace.faults before.sink.bytes before.sink.faults)
       (wire after.trace.bytes after.trace.faults after.sink.bytes after.sink.faults) status
@@ -138,7 +139,9 @@ module _ {D : Type 0} (tells : Bool) (state : D → State) (before after : Outsi
   -- image recovers to what it recovered to before
   Does Clean = IsCleaningOf tells state before after status
   -- nbd: a session of requests and their replies, and what the images recover to after it
-  Does (Nbd name) = IsServingOf tells state before after status (served_by name)
+  Does (Nbd name) = IsServingOf tells state before after status (AtOnce, served_by name)
+  -- serve: the same behind a handshake on the volume, of which nothing is told before it is open
+  Does (Serve name) = IsServingOf tells state before after status (Handshake, served_by name)
 
 -- ---- What a run needs
 
@@ -177,6 +180,8 @@ ReadsInOrder tells Clean before =
     × (images : HasSoundImages tells before.config.bytes before.bay)
     × HaveVersionsToClean before.config.bytes images.entry
 ReadsInOrder tells (Nbd name) before =
+    IsConfigured before.config.bytes × HasSoundImages tells before.config.bytes before.bay
+ReadsInOrder tells (Serve name) before =
     IsConfigured before.config.bytes × HasSoundImages tells before.config.bytes before.bay
 
 -- the command is done, or there was no memory; or a view can't be changed as the words ask, or a

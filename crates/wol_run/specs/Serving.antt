@@ -1,5 +1,5 @@
 -- What serving a volume of the configuration to a client comes to, and its exit status.
-use Rattle.std.specs.Prelude.{◌≡◌, ◌≢◌, ℕ, ◌⊎◌, ◌≤◌, ◌++◌, Bool, IsTrue, List, [], length, codes, Option, Result}
+use Rattle.std.specs.Prelude.{◌≡◌, ◌≢◌, ℕ, ◌⊎◌, ◌≤◌, ◌++◌, Bool, IsTrue, List, [], length, codes, Option, None, Some, Result, Ok}
 use Rattle.std.specs.Io.KnownBytes.{Consumes, IsAtEnd}
 use Rattle.wol_disk.specs.Disk.{State}
 use Rattle.wol_bay.specs.Bay.{BayState}
@@ -13,11 +13,25 @@ use Rattle.nbd_session.specs.Sessions.{IsCut}
 use Rattle.nbd_session.specs.declared.header.Command.TheVariants as command
 use Rattle.nbd_session.specs.declared.header.Header.{Header}
 use Rattle.nbd_session.specs.declared.session.Ended.{Ended}
+use Rattle.nbd_handshake.specs.Shakes.{IsShake}
+use Rattle.nbd_handshake.specs.declared.ending.Shaken.TheVariants.{Agreed, Unagreed as NotAgreed}
+use Rattle.nbd_handshake.specs.declared.ending.Unagreed.{Unagreed}
+use Rattle.command_words.specs.Values.{served_by}
+use Rattle.command_words.specs.declared.command.Command.{Command}
+use Rattle.command_words.specs.declared.command.Command.TheVariants.{Nbd, Serve}
 use Rattle.nbd_serving.specs.Runs.{ServesNamed}
-use Rattle.nbd_serving.specs.Wires.{Wire, status_of as status_of_answer}
+use Rattle.nbd_serving.specs.Wires.{Wire, status_of as status_of_answer, unagreed_status}
+use Rattle.nbd_serving.specs.declared.serving.Beginning.{Beginning}
+use Rattle.nbd_serving.specs.declared.serving.Beginning.TheVariants as beginning
 use Rattle.nbd_serving.specs.declared.stop.Stop.{Stop}
 use Rattle.wol_run.specs.Settings.{HasConfig, IsUnread}
 use Rattle.wol_run.specs.Tops.{EndsWith, IsDoneOrMemory}
+
+-- how a command serves a client, and the volume of which name; none of another command
+abbrev pub served_as : Command → Option (Beginning × List ℕ)
+served_as (Nbd name) = Some (beginning.AtOnce, served_by name)
+served_as (Serve name) = Some (beginning.Handshake, served_by name)
+served_as command = None
 
 -- a client's source and sink
 abbrev pub wire : (left : Option (List ℕ)) → (source_faults : ℕ) → (taken : Option (List ℕ))
@@ -26,15 +40,16 @@ wire left source_faults taken sink_faults =
     record { left = left; source_faults = source_faults; taken = taken; sink_faults = sink_faults }
 
 -- the configuration was had, and the volume of this name was to be served
-pub record IsServing {D : Type 0} (tells : Bool) (state : D → State) (name : List ℕ)
-    (left : Option (List ℕ)) (old new : BayState) (wire_ wire' : Wire) (status : ℕ) : Type 0 where
+pub record IsServing {D : Type 0} (tells : Bool) (state : D → State) (begins : Beginning)
+    (name : List ℕ) (left : Option (List ℕ)) (old new : BayState) (wire_ wire' : Wire)
+    (status : ℕ) : Type 0 where
   pub config : Config
   pub has : HasConfig left config
   pub result : Result Ended Stop
   -- sound images stay sound, and images of names that aren't configured are as they were
   pub sound : IsTrue tells → IsTold (KeepsAllSound config) old.told new.told
   pub others : IsTrue tells → IsTold (KeepsOthers config) old.told new.told
-  pub serves : ServesNamed tells state config name old new wire_ wire' result
+  pub serves : ServesNamed tells state config begins name old new wire_ wire' result
   pub done : status ≡ status_of_answer result
 
 -- the configuration wasn't had: the status says why, and all else is as it was
@@ -52,18 +67,18 @@ pub record HasNoWords (old new : BayState) (wire_ wire' : Wire) (status : ℕ) :
   pub source : (wire'.left ≡ wire_.left) × (wire'.source_faults ≡ wire_.source_faults)
   pub ends : EndsWith (codes "fault 9 memory\n") 9 status wire_.taken wire'.taken
 
--- a run of `nbd`, by the bytes of the configuration, its count of faults, the bay, the client's
--- source and sink, and the status
-abbrev pub RunsServing : {D : Type 0} → (tells : Bool) → (D → State) → (name : List ℕ)
-    → (left : Option (List ℕ)) → (faults faults' : ℕ) → (old new : BayState)
+-- a run of `nbd` or `serve`, by the bytes of the configuration, its count of faults, the bay, the
+-- client's source and sink, and the status
+abbrev pub RunsServing : {D : Type 0} → (tells : Bool) → (D → State) → (begins : Beginning)
+    → (name : List ℕ) → (left : Option (List ℕ)) → (faults faults' : ℕ) → (old new : BayState)
     → (wire_ wire' : Wire) → (status : ℕ) → Type 0
-RunsServing tells state name left faults faults' old new wire_ wire' status =
-    IsServing tells state name left old new wire_ wire' status
+RunsServing tells state begins name left faults faults' old new wire_ wire' status =
+    IsServing tells state begins name left old new wire_ wire' status
     ⊎ IsUnserved left faults faults' old new wire_ wire' status
     ⊎ HasNoWords old new wire_ wire' status
 
--- the client ended the session, or its bytes are no requests, or no volume has the name; or there
--- was no memory
+-- the client ended the session, or its bytes are none, or no volume has the name; or there was no
+-- memory
 abbrev pub EndsAtClient : (status : ℕ) → Type 0
 EndsAtClient status = IsDoneOrMemory status ⊎ (status ≡ 14) ⊎ (status ≡ 15)
 
@@ -77,9 +92,23 @@ pub data AreRequests : List ℕ → Type 0 where
 
 -- What a client's source gave were whole requests, and then bytes that begin with another magic, or
 -- a request within which the source ends.
-pub record HasBadClient (left left' : Option (List ℕ)) : Type 0 where
+pub record HasBadRequests (left left' : Option (List ℕ)) : Type 0 where
   pub requests : List ℕ
   pub whole : AreRequests requests
   pub last : List ℕ
   pub took : Consumes left left' (requests ++ last)
   pub bad : ((4 ≤ length last) × (HasMagic last → ⊥)) ⊎ (IsCut last × IsAtEnd left')
+
+-- .. or they were no handshake that can be agreed on, or what follows one that was are no requests
+pub data HasBadHandshake (left left' : Option (List ℕ)) : Type 0 where
+  no_handshake : (name : List ℕ) (blocks : ℕ) (taken taken' : Option (List ℕ)) (why : Unagreed)
+      → IsShake name blocks left left' taken taken' (Ok (NotAgreed why)) → unagreed_status why ≡ 14
+      → HasBadHandshake left left'
+  no_requests : (name : List ℕ) (blocks : ℕ) (begun taken taken' : Option (List ℕ))
+      → IsShake name blocks left begun taken taken' (Ok Agreed) → HasBadRequests begun left'
+      → HasBadHandshake left left'
+
+-- what a client sent is bad for a command that begins so
+abbrev pub HasBadBytes : Beginning → (left left' : Option (List ℕ)) → Type 0
+HasBadBytes beginning.AtOnce left left' = HasBadRequests left left'
+HasBadBytes beginning.Handshake left left' = HasBadHandshake left left'

@@ -1,4 +1,4 @@
-// A volume of the configuration, served to a client.
+// A volume of the configuration, served to a client, at once or behind a handshake.
 ghost use Rattle.std.specs.Prelude.{◌≡◌, ◌≤◌, ◌<◌};
 ghost use Rattle.wol_disk.specs.Disk.{Rose};
 ghost use Rattle.solo.specs.Images.{NoneOut};
@@ -9,22 +9,23 @@ ghost use Rattle.wol_run.specs.Settings.{IsConfigured};
 
 use crate::settings::config_of;
 use command_words::ServedName;
-use nbd_serving::{serve_volume, status_of};
+use nbd_serving::{Beginning, serve_volume, status_of};
 use std::alloc::Global;
 use std::sync::Wait;
 use wol_bay::Bay;
 use wol_io::{Sink, Source};
 
 /// Serves a volume of the configuration that a source has to a client, whose requests the second source gives and whose replies
-/// the sink takes, and answers the status. Nothing but replies is printed.
+/// the sink takes, at once or behind a handshake on both, and answers the status. Nothing but replies is printed.
 ///
 /// 0: the client ended the session. 2: the first source's bytes are no configuration. 4, 5, 6, 12: that of the first volume that
 /// isn't open; a disk's fault within the session is an error of a reply. 7: the sink failed. 8: a source failed. 9: there was no
-/// memory. 14: the client's bytes are no requests. 15: no volume has the name. Where the configuration isn't had the bay, the
-/// second source and the sink are as they were.
+/// memory. 14: the client's bytes are no requests, or no handshake that can be agreed on. 15: no volume has the name. Where the
+/// configuration isn't had the bay, the second source and the sink are as they were.
 pub fn serve<R: Wait, C: Source, S: Source, K: Sink, B: Bay>(
     rt: &R,
     alloc: Global,
+    beginning: Beginning,
     name: ServedName<'_>,
     source: &mut C,
     input: &mut S,
@@ -33,7 +34,7 @@ pub fn serve<R: Wait, C: Source, S: Source, K: Sink, B: Bay>(
 ) -> u8
     requires home { NoneOut (B.state bay.old) }
     ensures home { NoneOut (B.state bay.new) }
-    ensures content { RunsServing B.Part.tells B.Part.state (served_by name.entry)
+    ensures content { RunsServing B.Part.tells B.Part.state beginning (served_by name.entry)
         (C.left source.old) (C.faults source.old) (C.faults source.new)
         (B.state bay.old) (B.state bay.new)
         (wire (S.left input.old) (S.faults input.old) (K.taken out.old) (K.faults out.old))
@@ -51,6 +52,6 @@ pub fn serve<R: Wait, C: Source, S: Source, K: Sink, B: Bay>(
         Ok(config) => config,
         Err(fault) => return fault.status(),
     };
-    let answer = serve_volume(rt, alloc, name.volume, &config, bay, input, out);
+    let answer = serve_volume(rt, alloc, beginning, name.volume, &config, bay, input, out);
     status_of(&answer)
 }

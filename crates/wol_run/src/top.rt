@@ -15,6 +15,7 @@ use crate::telling::{NO_MEMORY, end_with, tell};
 use crate::viewing::change_view;
 use command_words::{Command, WordsFault, command_of};
 use inspection::Asked;
+use nbd_serving::Beginning;
 use std::alloc::Global;
 use std::sync::Wait;
 use std::thread::Threads;
@@ -34,7 +35,7 @@ use wol_io::{Gate, Sink, Source};
 /// policies would use for the trace, without an image. `view-add NAME LOGGER` lets a volume log for another, and
 /// `view-remove NAME LOGGER` brings all of a volume home and then lets the other log for it no more. `clean` writes what lies in
 /// logs anew as few records, volume after volume. `nbd NAME` serves a volume to a client, whose requests come where a trace comes
-/// from. Which words are a command is what `clap` makes of them.
+/// from, and `serve NAME` does so behind a handshake. Which words are a command is what `clap` makes of them.
 ///
 /// 0: done; a trace that was run was read to its end. 1: the words aren't a command. 2: the configuration's bytes are none.
 /// 3: a line is no line of a trace; all lines before it were run. 4: the bay or a part of an image failed. 5: an image isn't what
@@ -42,7 +43,7 @@ use wol_io::{Gate, Sink, Source};
 /// configured or whose image was refused. 7: the sink failed, and nothing more is written to it. 8: the source of the
 /// configuration or of the trace failed; the whole lines before were run. 9: there was no memory. 10: there are more than 2^32
 /// lines. 11: a volume has no version left for a write or a copy. 12: an image isn't there. 14: a client's bytes are no
-/// requests. 15: a word names no volume, or a view can't be changed as the words ask. Where volumes are looked at it is the status of the first that isn't in order; where one isn't open, no line of a
+/// requests or no handshake. 15: a word names no volume, or a view can't be changed as the words ask. Where volumes are looked at it is the status of the first that isn't in order; where one isn't open, no line of a
 /// trace is run, no view is changed and nothing is cleaned.
 pub fn run<R: Threads + Wait + Sync, C: Source, S: Source, K: Sink, B: Bay, G: Gate + Sync>(
     rt: &R,
@@ -89,6 +90,16 @@ where
         Command::ViewAdd(names) => change_view(rt, alloc, Verb::Add, names, config, out, bay),
         Command::ViewRemove(names) => change_view(rt, alloc, Verb::Remove, names, config, out, bay),
         Command::Clean => clean(rt, alloc, config, out, bay),
-        Command::Nbd(name) => serve(rt, alloc, name, config, trace, out, bay),
+        Command::Nbd(name) => serve(rt, alloc, Beginning::AtOnce, name, config, trace, out, bay),
+        Command::Serve(name) => serve(
+            rt,
+            alloc,
+            Beginning::Handshake,
+            name,
+            config,
+            trace,
+            out,
+            bay,
+        ),
     }
 }

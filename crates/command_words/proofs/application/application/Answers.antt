@@ -20,8 +20,9 @@ returns c =
     let view_add : app_of c.in_ok-of_view.field-0 ≡ with_names (new_app (codes "view-add")) = c.in_ok-of_view.ensures.app ∙ ap with_names c.new-9.ensures.app in
     let view_remove : app_of c.in_ok-of_view-2.field-0 ≡ with_names (new_app (codes "view-remove")) = c.in_ok-of_view-2.ensures.app ∙ ap with_names c.new-10.ensures.app in
     let nbd : app_of c.in_ok-of_name.field-0 ≡ with_name (new_app (codes "nbd")) = c.in_ok-of_name.ensures.app ∙ ap with_name c.new-12.ensures.app in
+    let serve : app_of c.in_ok-of_name-2.field-0 ≡ with_name (new_app (codes "serve")) = c.in_ok-of_name-2.ensures.app ∙ ap with_name c.new-13.ensures.app in
     let soak : app_of c.in_ok-of_options-2.field-0 ≡ with_options (with_trace (new_app (codes "soak"))) =
-    c.in_ok-of_options-2.ensures.app ∙ ap with_options (c.in_ok-of_trace-2.ensures.app ∙ ap with_trace c.new-13.ensures.app) in
+    c.in_ok-of_options-2.ensures.app ∙ ap with_options (c.in_ok-of_trace-2.ensures.app ∙ ap with_trace c.new-14.ensures.app) in
     let one = c.in_ok-subcommand.ensures.shape (c.in_ok-of_volume.ensures.globals ∙ c.new-2.ensures.local) ∙ ap₂ with_subcommand bare (ap (λ (a : App). a.top) solo) in
     let two = c.in_ok-subcommand-2.ensures.shape c.new-3.ensures.local ∙ ap₂ with_subcommand one (ap (λ (a : App). a.top) c.new-3.ensures.app) in
     let three = c.in_ok-subcommand-3.ensures.shape (c.in_ok-of_options.ensures.globals ∙ c.new-4.ensures.local) ∙ ap₂ with_subcommand two (ap (λ (a : App). a.top) replay) in
@@ -33,6 +34,7 @@ returns c =
     let nine = c.in_ok-subcommand-9.ensures.shape (c.in_ok-of_view-2.ensures.globals ∙ c.new-10.ensures.local) ∙ ap₂ with_subcommand eight (ap (λ (a : App). a.top) view_remove) in
     let ten = c.in_ok-subcommand-10.ensures.shape c.new-11.ensures.local ∙ ap₂ with_subcommand nine (ap (λ (a : App). a.top) c.new-11.ensures.app) in
     let eleven = c.in_ok-subcommand-11.ensures.shape (c.in_ok-of_name.ensures.globals ∙ c.new-12.ensures.local) ∙ ap₂ with_subcommand ten (ap (λ (a : App). a.top) nbd) in
-    IfOk-weaker c.subcommand-12.result _ _
-    (λ made h. h.shape (c.in_ok-of_options-2.ensures.globals ∙ c.in_ok-of_trace-2.ensures.globals ∙ c.new-13.ensures.local) ∙ ap₂ with_subcommand eleven (ap (λ (a : App). a.top) soak))
-    c.subcommand-12.ensures
+    let twelve = c.in_ok-subcommand-12.ensures.shape (c.in_ok-of_name-2.ensures.globals ∙ c.new-13.ensures.local) ∙ ap₂ with_subcommand eleven (ap (λ (a : App). a.top) serve) in
+    IfOk-weaker c.subcommand-13.result _ _
+    (λ made h. h.shape (c.in_ok-of_options-2.ensures.globals ∙ c.in_ok-of_trace-2.ensures.globals ∙ c.new-14.ensures.local) ∙ ap₂ with_subcommand twelve (ap (λ (a : App). a.top) soak))
+    c.subcommand-13.ensures

@@ -27,6 +27,11 @@ module _ (name : Text) (rows : List Row) where
       let (served, at) = by_name (codes "nbd") d (sym is ∙ asks.named) in
       none (served_by served) (subst (HasValues rows) at asks.values)
 
+  no_serve : name ≡ codes "serve" → NoServed rows → AsksNothing name rows
+  no_serve is none d asks =
+      let (served, at) = by_name (codes "serve") d (sym is ∙ asks.named) in
+      none (served_by served) (subst (HasValues rows) at asks.values)
+
 pub returns-in_err-volume_of-in-solo-clause-none : goal.returns-in_err-volume_of-in-solo-clause-none
 returns-in_err-volume_of-in-solo-clause-none c =
     rw c.from_residual.ensures (no_solo c.args.name.now (rows_of (found_of c.args.matches.now)) c.in-solo.is c.in_err-volume_of-in-solo.ensures.none)
@@ -42,3 +47,7 @@ returns-in_err-names_of-in-text-2-clause-none c =
 pub returns-in_err-served_of-in-nbd-clause-none : goal.returns-in_err-served_of-in-nbd-clause-none
 returns-in_err-served_of-in-nbd-clause-none c =
     rw c.from_residual-in_err-served_of-in-nbd.ensures (no_nbd c.args.name.now (rows_of (found_of c.args.matches.now)) c.in-nbd.is c.in_err-served_of-in-nbd.ensures.none)
+
+pub returns-in_err-served_of-in-serve-clause-none : goal.returns-in_err-served_of-in-serve-clause-none
+returns-in_err-served_of-in-serve-clause-none c =
+    rw c.from_residual-in_err-served_of-in-serve.ensures (no_serve c.args.name.now (rows_of (found_of c.args.matches.now)) c.in-serve.is c.in_err-served_of-in-serve.ensures.none)

@@ -1,6 +1,6 @@
 use Rattle.command_words.proofs.laws.words_laws.Goals as goal
 use Rattle.command_words.proofs.Taken.{check_is_command, clean_is_command, dump_is_command, format_is_command, gen_is_command, solo_is_command, whatif_is_command}
-use Rattle.command_words.proofs.TakenNames.{nbd_is_command, view_add_is_command, view_remove_is_command}
+use Rattle.command_words.proofs.TakenNames.{nbd_is_command, serve_is_command, view_add_is_command, view_remove_is_command}
 use Rattle.command_words.proofs.TakenOptions.{replay_is_command, soak_is_command}
 use Rattle.command_words.proofs.Unique.{commands_are_one}
 
@@ -39,6 +39,9 @@ returns-clause-clean c = clean_is_command
 
 pub returns-clause-nbd : goal.returns-clause-nbd
 returns-clause-nbd c = nbd_is_command
+
+pub returns-clause-serve : goal.returns-clause-serve
+returns-clause-serve c = serve_is_command
 
 pub returns-clause-one : goal.returns-clause-one
 returns-clause-one c = commands_are_one

@@ -11,7 +11,7 @@ returns-in-Ok-clause-copied g c =
     let done = c.args.done.now.value.items in let then = c.rewrite.new.done.value.items in
     let r = subst (λ (t : Bool). RewritesBehind g.D.Disk.tells g.D.Disk.state c.args.lbn (length c.args.blocks.now) c.args.m.now c.rewrite.new.m done then (Ok t)) is c.in_ok-copied.ensures.rewritten in
     let given = c.in-Ok.ensures.given in
-    let t = tidied g.D.Disk.tells g.D.Disk.state c.args.m.now c.rewrite.new.m c.give_up.new.m c.args.lbn (length c.args.blocks.now) c.requires.can c.requires.ready c.requires.count.0 r.0 given.0 given.1 in
+    let t = tidied g.D.Disk.tells g.D.Disk.state c.args.m.now c.rewrite.new.m c.give_up.new.m c.args.lbn (length c.args.blocks.now) c.requires.can c.requires.ready c.requires.count.0 r.0 given.0 given.1 given.2 in
     (t.0, r.1 ∙ ap (λ (w : Write). done ++ w ∷ []) t.1)
 
 pub returns-in-Err-clause-copied : goal.returns-in-Err-clause-copied

@@ -1,4 +1,4 @@
-use Rattle.std.proofs.Common.{◌≡◌, [], length, None, Err, sym, ap, subst, ◌∙◌, arith}
+use Rattle.std.proofs.Common.{◌≡◌, ℕ, List, [], length, None, Err, sym, ap, subst, ◌∙◌, arith}
 use Rattle.std.proofs.lemmas.Option.{slice_get_within}
 use Rattle.std.proofs.lemmas.Result.{err_from_is_err_and}
 use Rattle.hex.specs.Hex.{encode_lower}
@@ -58,3 +58,14 @@ returns-clause-content g c told b notes k =
     let records : c.len-records.result ≡ length m.index.entries = rw c.index.ensures at c.len-records.ensures.value in
     let segments : c.in_ok-segments.segments ≡ held_segments m = count_held g.D.Disk.tells g.D.Disk.state m b notes k up told c.in_ok-segments.segments (rw c.index-2.ensures at c.in_ok-segments.ensures.value) in
     rw (name, digits, records, segments) at c.in_ok-append_check.ensures.ok
+
+pub returns-clause-line : goal.returns-clause-line
+returns-clause-line g c =
+    let m = c.args.manager.now in
+    let items = c.args.config.now.volumes.items in
+    let serves = c.requires.serves in
+    let is = read_at items c.args.volume serves.volume c.index-configured.result.now serves.there c.index-configured.ensures in
+    let name : c.as_bytes.result.now ≡ name_at (names_of items) c.args.volume = c.as_bytes.ensures ∙ ap (λ (v : VolumeConf). v.name) is ∙ sym (name_of_volume items c.args.volume serves.volume serves.there) in
+    let digits : c.as_bytes-2.result.now ≡ encode_lower c.as_slice.result.now = c.as_bytes-2.ensures.value ∙ c.in-Ok.ensures in
+    let records : c.len-records.result ≡ length m.index.entries = rw c.index.ensures at c.len-records.ensures.value in
+    (c.as_slice.result.now, c.in_ok-segments.segments, ap (λ (bytes : List ℕ). length bytes) c.as_slice.ensures ∙ c.in_ok-digest.ensures.size, rw c.index-2.ensures at c.in_ok-segments.ensures.value, rw (name, digits, records) at c.in_ok-append_check.ensures.ok)

@@ -55,7 +55,7 @@ reading-preserved g c =
     let long : length c.read.new.out ≡ count = c.read.auto.out ∙ length-take-le count c.deref_mut.result.now (omega (arith, c.deref_mut.ensures.len, c.reading.invariant.room)) in
     record {
       digested = digested_more g.D.Disk.tells g.D.Disk.state g.met.D.Disk.sound c.args.shared.now c.args.manager.now c.reading.manager c.reading.at c.reading.hasher c.requires.up c.reading.invariant.digested c.read.new.self count c.feed.new.hasher c.read.new.out
-          c.read.ensures.ready c.read.ensures.at c.read.ensures.read c.in_ok-read.ensures.up c.in_ok-read.ensures.stands (omega (arith, c.requires.blocks)) long c.feed.ensures;
+          c.read.ensures.ready c.read.ensures.at c.read.ensures.read c.in_ok-read.ensures.calm c.in_ok-read.ensures.up c.in_ok-read.ensures.stands (omega (arith, c.requires.blocks)) long c.feed.ensures;
       room = c.reading.invariant.room;
     }
 

@@ -39,7 +39,7 @@ returns-in_err-answer-clause-complete g c =
 pub returns-clause-content : goal.returns-clause-content
 returns-clause-content g c =
     let found : c.number_named.result ≡ number_named (names_of c.args.config.now.volumes.items) c.args.name.now = rw (c.deref.ensures.value, c.as_bytes.ensures.value) at c.number_named.ensures.found in
-    serves_named g.B.Part.Disk.tells g.B.Part.Disk.state c.args.config.now c.args.name.now c.in-Some.volume (sym found ∙ c.in-Some.is) (g.B.Bay.state c.args.bay.now) (g.B.Bay.state c.with_open.new.bay) _ _ _
+    serves_named g.B.Part.Disk.tells g.B.Part.Disk.state c.args.config.now c.args.beginning c.args.name.now c.in-Some.volume (sym found ∙ c.in-Some.is) (g.B.Bay.state c.args.bay.now) (g.B.Bay.state c.with_open.new.bay) _ _ _
     c.in_ok-answer.field-0.answer c.in_ok-answer.ensures.did c.with_open.ensures.sound
 
 pub returns-clause-others : goal.returns-clause-others
@@ -48,5 +48,5 @@ returns-clause-others g c = λ telling. c.with_open.ensures.others
 pub returns-clause-complete : goal.returns-clause-complete
 returns-clause-complete g c =
     let found : c.number_named.result ≡ number_named (names_of c.args.config.now.volumes.items) c.args.name.now = rw (c.deref.ensures.value, c.as_bytes.ensures.value) at c.number_named.ensures.found in
-    serves_complete g.B.Part.Disk.tells g.B.Part.Disk.state c.args.config.now c.args.name.now c.in-Some.volume (sym found ∙ c.in-Some.is) (g.B.Bay.state c.args.bay.now) (g.B.Bay.state c.with_open.new.bay) _ _ _
+    serves_complete g.B.Part.Disk.tells g.B.Part.Disk.state c.args.config.now c.args.beginning c.args.name.now c.in-Some.volume (sym found ∙ c.in-Some.is) (g.B.Bay.state c.args.bay.now) (g.B.Bay.state c.with_open.new.bay) _ _ _
     c.in_ok-answer.field-0.answer c.in_ok-answer.ensures.did

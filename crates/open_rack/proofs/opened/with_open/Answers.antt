@@ -37,7 +37,7 @@ returns-clause-did g c =
     let tells = g.B.Part.Disk.tells in let state = g.B.Part.Disk.state in let config = c.args.config.now in
     let old = g.B.Bay.state c.args.bay.now in let bay = g.B.Bay.state c.open_all.new.bay in let new = g.B.Bay.state c.close_all-spindles.new.bay in
     let opened : IsOpened tells state config old bay c.in_ok-rack.rack = record { rack = o.rack; fresh = o.fresh; fresh_keepers = o.fresh_keepers; began = o.began; there = o.there; apart = λ telling. o.apart; kept = o.kept; faulty = o.faulty; unfaulty = o.unfaulty } in
-    let closed : IsClosed tells state config bay new c.run-answer.new.rack c.close_all-spindles.result.items = record { count = e.count; each = e.spindles; stations = e.stations; parts = e.parts; apart = e.apart; lists = e.faulty } in
+    let closed : IsClosed tells state config bay new c.run-answer.new.rack c.close_all-spindles.result.items = record { count = e.count; each = e.spindles; stations = e.stations.0; pools = e.stations.1; parts = e.parts; apart = e.apart; lists = e.faulty } in
     opens_and_closes tells state config old bay new c.in_ok-rack.rack c.run-answer.new.rack c.run-answer.ensures.again opened o.counts e.counts e.kept o.refused o.apart
     (gained_parts state config c.run-answer.new.rack.rest bay.told new.told e.faulty)
     _ _ c.run-answer.ensures.did closed o.failed o.complete e.cause e.left e.volumes e.unopened

@@ -6,7 +6,8 @@ use Rattle.spin_model.specs.declared.spindle.SpindleBase.{SpindleBase}
 use Rattle.volume_images.specs.Volumes.{shapes_of}
 use Rattle.rack.proofs.Closable.{stations_may, pools_may, spindles_may, images_rest, images_whole}
 use Rattle.rack.proofs.RackClosed.{none_out, few, out_there, lists_ended}
-use Rattle.rack.proofs.StationClosed.{closed_volume, told_map}
+use Rattle.rack.proofs.PoolsShared.{volumes_closed}
+use Rattle.rack.proofs.StationClosed.{told_map}
 use Rattle.rack.proofs.PartsThrough.{fault_through, listed_through}
 use Rattle.rack.proofs.LeftOfParts.{left_parts}
 use Rattle.rack.proofs.QuietClosed.{left_quiet}
@@ -142,9 +143,8 @@ returns-clause-stations g c =
     let same = c.close_spindles.ensures.images in
     let given = subst (λ w. Rattle.volume_images.specs.Left.IsTold (Rattle.rack.specs.Closing.GivesBack state config w.items 0) old.told new.told) same c.give_back.ensures.back in
     let cause = subst (λ w. Rattle.rack.specs.Closing.HasFaultHere state w.items 0 → Rattle.wol_disk.specs.Disk.Rose old.faults new.faults) same c.give_back.ensures.cause in
-    Rattle.rack.proofs.Members.all_member (Rattle.rack.specs.Closes.IsClosedVolume g.B.Part.Disk.tells config c.args.rack.rest.images.items old new) c.args.rack.stations.items
-    (closed_volume state g.B.Part.Disk.tells config old c.args.rack can c.close_stations.new.self second is1 c.close_stations.ensures.closed c.close_pools.ensures.images c.close_pools.ensures.spindles
-    (λ told d. g.met.B.Part.Disk.told told d) g.met.B.Part.Disk.sound few old new given cause)
+    volumes_closed state g.B.Part.Disk.tells config old c.args.rack can c.close_stations.new.self second is1 c.close_stations.ensures.closed c.close_pools.ensures.images c.close_pools.ensures.spindles c.close_pools.ensures.uses
+    (λ told d. g.met.B.Part.Disk.told told d) g.met.B.Part.Disk.sound few old new given cause
 
 pub returns-clause-cause : goal.returns-clause-cause
 returns-clause-cause g c = λ fault.

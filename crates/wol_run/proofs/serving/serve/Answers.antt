@@ -29,10 +29,10 @@ pub returns-in-Err-clause-cause : goal.returns-in-Err-clause-cause
 returns-in-Err-clause-cause g c seven = absurd (unserved_not_sink _ _ _ c.status.result c.in-Err.fault c.in-Err.ensures.err c.status.ensures seven)
 
 pub returns-clause-cause : goal.returns-clause-cause
-returns-clause-cause g c seven = seven_of_sink _ _ c.in-Ok.config _ _ _ _ _ c.status_of.result c.serve_volume-answer.result c.serve_volume-answer.ensures.content c.status_of.ensures seven
+returns-clause-cause g c seven = seven_of_sink _ _ c.in-Ok.config _ _ _ _ _ _ c.status_of.result c.serve_volume-answer.result c.serve_volume-answer.ensures.content c.status_of.ensures seven
 
 pub returns-in-Err-clause-calm : goal.returns-in-Err-clause-calm
 returns-in-Err-clause-calm g c less = absurd (omega (arith, less))
 
 pub returns-clause-calm : goal.returns-clause-calm
-returns-clause-calm g c less = sink_told _ _ c.in-Ok.config _ _ _ _ _ c.status_of.result c.serve_volume-answer.result c.serve_volume-answer.ensures.content c.status_of.ensures less
+returns-clause-calm g c less = sink_told _ _ c.in-Ok.config _ _ _ _ _ _ c.status_of.result c.serve_volume-answer.result c.serve_volume-answer.ensures.content c.status_of.ensures less

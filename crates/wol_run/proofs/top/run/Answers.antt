@@ -1,7 +1,7 @@
 use Rattle.std.proofs.Common.{Err, inl, inr, refl, ap, subst, arith}
 use Rattle.command_words.specs.Commands.{IsCommand}
 use Rattle.wol_run.proofs.Asked.{in_range, range_of_gen, range_of_solo}
-use Rattle.wol_run.proofs.CommandsTold.{check_promise, clean_promise, comparison_promise, dump_promise, format_promise, gen_promise, memory_promise, replay_promise, serving_promise, soak_promise, solo_done_promise, solo_fault_promise, view_add_promise, view_remove_promise}
+use Rattle.wol_run.proofs.CommandsTold.{check_promise, clean_promise, comparison_promise, dump_promise, format_promise, gen_promise, memory_promise, nbd_promise, replay_promise, serve_promise, soak_promise, solo_done_promise, solo_fault_promise, view_add_promise, view_remove_promise}
 use Rattle.wol_run.proofs.Completing.{rose_from, rose_later}
 use Rattle.wol_run.proofs.Endings.{has_cause}
 use Rattle.wol_run.proofs.Promised.{of_none}
@@ -56,7 +56,11 @@ returns-in-Clean-clause-promise g c =
 
 pub returns-in-Nbd-clause-promise : goal.returns-in-Nbd-clause-promise
 returns-in-Nbd-clause-promise g c =
-    serving_promise _ _ _ _ _ _ c.serve.ensures.cause c.serve.ensures.calm c.in-Nbd.name (subst (IsCommand _) c.in-Nbd.is c.in-Ok.ensures.ok) c.serve.ensures.content c.serve.ensures.complete
+    nbd_promise _ _ _ _ _ _ c.serve.ensures.cause c.serve.ensures.calm c.serve.ensures.complete c.in-Nbd.name (subst (IsCommand _) c.in-Nbd.is c.in-Ok.ensures.ok) c.serve.ensures.content
+
+pub returns-in-Serve-clause-promise : goal.returns-in-Serve-clause-promise
+returns-in-Serve-clause-promise g c =
+    serve_promise _ _ _ _ _ _ c.serve-in-Serve.ensures.cause c.serve-in-Serve.ensures.calm c.serve-in-Serve.ensures.complete c.in-Serve.name (subst (IsCommand _) c.in-Serve.is c.in-Ok.ensures.ok) c.serve-in-Serve.ensures.content
 
 -- the lines of one volume were run to their end
 pub returns-in-Ok-run-clause-promise : goal.returns-in-Ok-run-clause-promise

@@ -10,7 +10,7 @@ use Rattle.rack.specs.declared.rack.ImageRest.{ImageRest}
 use Rattle.rack.specs.declared.rack.VolumePasses.{VolumePasses}
 use Rattle.rack.proofs.Gathering.{pool_at_row, pools_gathered, pools_kept, spindles_stay, lists_stay, rows_stay}
 use Rattle.rack.proofs.Members.{is_there}
-use Rattle.rack.proofs.PoolBack.{lists_go, places_empty, all_back}
+use Rattle.rack.proofs.PoolBack.{closed_pool, lists_go, places_empty, all_back}
 use Rattle.rack.proofs.rack.Rest.close_pool.Goals as goal
 
 pub gather_pools-room-requires-clause-there : goal.gather_pools-room-requires-clause-there
@@ -69,6 +69,16 @@ returns-clause-image g c =
     (sym (get_or-set_same c.put_all_held.new.self.images.items c.args.id c.empty_pool.new.image None within))
     (all_back g.D.Disk.state c.requires.pool.0 c.args.id c.requires.pool.1 c.args.lock c.args.self.now c.requires.pool.2 c.close-pool.result c.close-pool.ensures.0 new ps taken c.close-pool.ensures.1 c.close-pool.ensures.2
     _ c.put_all_held.new.self refl (λ v. rw items (lists_stay c.args.id rows new ps taken v c.args.id)) c.put_all_held.ensures c.empty_pool.new.image emptied)
+
+pub returns-clause-uses : goal.returns-clause-uses
+returns-clause-uses g c =
+    let rows = c.args.self.now.passes.items in
+    let new = c.gather_pools-room.new.passes in
+    let ps = c.gather_pools-room.result.items in
+    let taken : ArePoolsTaken c.args.id rows new ps = subst (λ (l : List (VolumePasses g.row.D.Denot)). ArePoolsTaken c.args.id l new ps) c.deref_mut.ensures.value c.gather_pools-room.ensures in (
+      c.close-pool.ensures.0,
+      closed_pool g.D.Disk.state c.requires.pool.0 c.args.id c.requires.pool.1 c.args.lock c.args.self.now c.requires.pool.2 c.close-pool.result c.close-pool.ensures.0 new ps taken c.close-pool.ensures.1 c.close-pool.ensures.2,
+    )
 
 pub returns-clause-others : goal.returns-clause-others
 returns-clause-others g c =

@@ -82,7 +82,7 @@ loop-lock-preserved g c =
     let now = one_pool_more g.D.Disk.state c.args.locks.items c.args.self.now c.len.result c.in-Some.lock (subst (λ (n : ℕ). slice_get c.args.locks.items n ≡ Some c.in-Some.lock) number there) c.loop-lock.self new so_far
     (refills_same g.D.Disk.state (lock_id c.in-Some.lock).base.blocks c.loop-lock.self (record c.loop-lock.self { rooms = record c.loop-lock.self.rooms { pools = c.pop-in-Some.new.self } }) c.len.result
     (record { image = refl; pools = λ v. refl; held = λ v. refl }) (image_here new.images.items c.len.result) c.close_pool.ensures.image)
-    c.close_pool.ensures.held
+    (c.close_pool.ensures.uses.0, record { legal = c.close_pool.ensures.uses.1.legal; mine = c.close_pool.ensures.uses.1.mine }) c.close_pool.ensures.held
     (λ k differs. let x = c.close_pool.ensures.others k differs in record { image = x.image; pools = x.pools; held = x.held })
     (let x = c.close_pool.ensures.spindles in record { count = x.count; image_count = x.image_count; rows = x.rows; spindles = x.spindles }) in
     record {
@@ -98,6 +98,11 @@ pub returns-clause-images : goal.returns-clause-images
 returns-clause-images g c =
     let none : length c.loop-lock.locks.items ≡ 0 = omega (arith, c.in_default.ensures.cases, c.loop-lock.locks.ok.0) in
     λ k lock at. c.loop-lock.invariant.closed.images k lock (omega (arith, none)) at
+
+pub returns-clause-uses : goal.returns-clause-uses
+returns-clause-uses g c =
+    let none : length c.loop-lock.locks.items ≡ 0 = omega (arith, c.in_default.ensures.cases, c.loop-lock.locks.ok.0) in
+    λ k lock at. c.loop-lock.invariant.closed.uses k lock (omega (arith, none)) at
 
 pub returns-clause-held : goal.returns-clause-held
 returns-clause-held g c =

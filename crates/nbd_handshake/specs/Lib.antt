@@ -1,0 +1,3 @@
+pub mod Options
+pub mod Taking
+pub mod Shakes
