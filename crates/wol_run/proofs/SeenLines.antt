@@ -87,6 +87,9 @@ module _ {S T : Type 0} (tells : Bool) (left : S → Option (List ℕ)) (config 
       part = is.part;
       spent = is.spent;
       begun = is.begun;
+      pools = is.pools;
+      are_pools = is.are_pools;
+      passed = is.passed;
       counts = is.counts;
       placed = is.placed;
       reclaimed = is.reclaimed;
