@@ -106,11 +106,11 @@ statuses() {
     expect "a client that sends no requests: output" "" "$(cat "$room/out")"
     timeout 60 "${program[@]}" serve usr0 <wol.toml >"$room/out" 2>"$room/errors"
     status=$?
-    expect_advice "a client that sends no handshake" 14
+    expect "a client that sends no handshake: status" 14 "$status"
     expect "a client that sends no handshake: output" "NBDMAGICIHAVEOPT" "$(head -c 16 "$room/out")"
     timeout 60 "${program[@]}" serve nobody <wol.toml >"$room/out" 2>"$room/errors"
     status=$?
-    expect_advice "no volume of this name to serve" 15
+    expect "no volume of this name to serve: status" 15 "$status"
     expect "no volume of this name to serve: output" "" "$(cat "$room/out")"
     rm wol.toml
     wol check
