@@ -23,9 +23,10 @@ use Rattle.manager_recovery.specs.Opening.{place_of}
 use Rattle.manager_recovery.specs.declared.opening.Opening.{Opening}
 use Rattle.manager_recovery.specs.declared.opening.OwnedPart.{OwnedPart}
 use Rattle.volume_images.specs.Volumes.{shapes_of}
+use Rattle.part_store.specs.Passes.{volumes_of, IsSquare}
 use Rattle.rack.specs.Opening.{IsOpeningRack}
 use Rattle.rack.specs.Parts.{TakesOpening, PutsOpening, HasBack, IsSameBut, segment_in, with_home, loggers_out}
-use Rattle.rack.specs.Rests.{image_here, segment_here, pool_pass, spindle_pass, held_here, IsRow}
+use Rattle.rack.specs.Rests.{image_here, segment_here, pool_pass, spindle_pass, held_here}
 use Rattle.rack.specs.declared.heads_said.Said.{Said}
 use Rattle.rack.specs.declared.rack.ImageRest.{ImageRest}
 use Rattle.rack.specs.declared.rack.Rack.{Rack}
@@ -237,11 +238,11 @@ module _ {D : Type 0} (state : D → State) (tells : Bool) (config : Config) (va
   pub rooms_back : last.rooms ≡ r.rest.rooms
   rooms_back = puts.owned.rooms ∙ puts.lanes.rooms ∙ puts.home.rooms ∙ takes.home.rooms ∙ takes.owned.rooms ∙ takes.lanes.passes.rooms
 
-  pub rows_back : length last.passes.items ≡ length r.rest.passes.items
-  rows_back = ap (λ x. length x.items) puts.owned.passes ∙ puts.lanes.rows.count ∙ puts.home.rows.count ∙ without.rows_without state config said id view r.rest away o takes
+  pub rows_back : volumes_of last.passes ≡ volumes_of r.rest.passes
+  rows_back = ap volumes_of puts.owned.passes ∙ puts.lanes.rows.count ∙ puts.home.rows.count ∙ without.rows_without state config said id view r.rest away o takes
 
-  pub each_row : All (λ p. IsRow (length (shapes_of config)) p) last.passes.items
-  each_row = subst (λ x. All (λ p. IsRow (length (shapes_of config)) p) x.items) (sym puts.owned.passes)
+  pub each_row : IsSquare (length (shapes_of config)) last.passes
+  each_row = subst (λ x. IsSquare (length (shapes_of config)) x) (sym puts.owned.passes)
       (puts.lanes.rows.rows (length (shapes_of config)) (puts.home.rows.rows (length (shapes_of config))
       (Rattle.rack.proofs.MayReturn.away_rows state tells config valid b said id r own ready lt at view own_view away o takes n back)))
 

@@ -16,6 +16,7 @@ use Rattle.seg_pool.specs.declared.pool.Pool.{Pool}
 use Rattle.log_segment.specs.declared.free.FreeSegment.{FreeSegment}
 use Rattle.logger.specs.declared.shared.Shared.{Shared}
 use Rattle.volume_images.specs.Volumes.{shapes_of}
+use Rattle.part_store.specs.Passes.{volumes_of}
 use Rattle.rack.specs.Rests.{image_here, segment_here, pool_pass, spindle_pass, held_here, IsImageOut, IsPart, IsImageRest, AreImageRests, IsPassAt, AreLocks, OnlyAccess, IsRest}
 use Rattle.rack.specs.Racks.{IsClosable, AreKeepers, AreOut}
 use Rattle.rack.specs.Closing.{CanCloseStations, CanClosePool, CanClosePools, CanCloseSpindles, KeepsSpindles, RefillsAll, AreComplete}
@@ -74,6 +75,9 @@ module _ {D : Type 0} (state : D → State) (config : Config) where
       passes = λ k l p at has.
           let lock = locks.spindles k l at in
           record {
+            volumes = volumes;
+            rows = kept.rows volumes is.parts.rows;
+            below = let lt = slice_get_within shared.spindles.items k l at in omega (arith, lt, locks.spindle_count);
             count = lock.passes ∙ ap (λ (n : ℕ). n + 1) (sym (kept.count ∙ is.parts.count));
             each = λ v less.
                 let x = a_value (spindle_pass rest v k) ((is.parts.spindles.here v k (omega (arith, less, kept.count)) (slice_get_within shared.spindles.items k l at)).1 (nobody_there v k)) in
@@ -83,7 +87,7 @@ module _ {D : Type 0} (state : D → State) (config : Config) where
             settled = λ v q there. is.parts.spindles.settled v k q (sym (kept.spindles v k) ∙ there);
           };
       room_count = ap (λ r. length r.spindles.items) rooms ∙ is.rooms.spindle_count ∙ sym locks.spindle_count;
-      rooms = subst (λ r. All (λ row. (row.items ≡ []) × (length cur.passes.items + 1 ≤ Rattle.std.specs.Prelude.vec_capacity row)) r.spindles.items) (sym rooms)
+      rooms = subst (λ r. All (λ row. (row.items ≡ []) × (volumes_of cur.passes + 1 ≤ Rattle.std.specs.Prelude.vec_capacity row)) r.spindles.items) (sym rooms)
           (subst (λ (n : ℕ). All (λ row. (row.items ≡ []) × (n + 1 ≤ Rattle.std.specs.Prelude.vec_capacity row)) rest.rooms.spindles.items) (sym (kept.count ∙ is.parts.count)) is.rooms.spindles);
       closed = subst (λ r. length r.closed.items + length shared.spindles.items ≤ Rattle.std.specs.Prelude.vec_capacity r.closed) (sym rooms)
           (let none = ap length is.rooms.closed.0 in omega (arith, none, is.rooms.closed.1, locks.spindle_count));

@@ -1,5 +1,5 @@
 -- The rest of a rack before a volume is opened.
-use Rattle.std.proofs.Common.{◌≡◌, ◌≢◌, ◌<◌, ◌≤◌, ◌+◌, ⊎_elim, ℕ, zero, suc, true, false, List, [], ◌∷◌, length, map, Option, None, Some, option_and_then, is_some, refl, sym, ap, subst, ◌∙◌, arith}
+use Rattle.std.proofs.Common.{◌≡◌, ◌≢◌, ◌<◌, ◌≤◌, ◌+◌, ⊎_elim, ℕ, zero, suc, true, false, List, [], ◌∷◌, length, map, Option, None, Some, is_some, refl, sym, ap, subst, ◌∙◌, arith}
 use Rattle.std.specs.Prelude.{All, Contains, IsSome, slice_get, slice_index_or}
 use Rattle.std.proofs.lemmas.Bool.{cases_lt, false≢true, eq-eqb, eqb-true}
 use Rattle.std.proofs.lemmas.List.{length-map, get_or_past}
@@ -27,22 +27,18 @@ use Rattle.log_segment.specs.declared.free.FreeSegment.{FreeSegment}
 use Rattle.log_layout.specs.declared.segment.SegHead.{SegHead}
 use Rattle.log_layout.specs.declared.segment.SegHead.TheVariants.{Free, Owned}
 use Rattle.volume_images.specs.Volumes.{shapes_of}
+use Rattle.part_store.specs.Passes.{volumes_of}
 use Rattle.rack.specs.Making.{IsInOrder, AreSettled, AreSpindlesOf}
-use Rattle.rack.specs.Rests.{IsPart, IsRow, image_here, segment_here, pool_pass, spindle_pass, away_with, AreImageRests, IsPoolLock, IsSpindleLock, ArePoolPasses, AreSpindlePasses, AreHandedBack, ArePlaced, IsHeldHere, AreLocks, IsRest}
+use Rattle.rack.specs.Rests.{IsPart, image_here, segment_here, pool_pass, spindle_pass, away_with, AreImageRests, IsPoolLock, IsSpindleLock, ArePoolPasses, AreSpindlePasses, AreHandedBack, ArePlaced, IsHeldHere, AreLocks, IsRest}
 use Rattle.rack.specs.Racks.{AreKeepers}
 use Rattle.rack.specs.Parts.{of_head, holder_by, IsIssuedPool, IsSetUp}
 use Rattle.rack.specs.declared.heads_said.Said.{Said}
 use Rattle.rack.specs.declared.locks.Issued.{Issued}
 use Rattle.rack.specs.declared.rack.ImageRest.{ImageRest}
 use Rattle.rack.specs.declared.rack.Rack.{Rack}
-use Rattle.rack.specs.declared.rack.VolumePasses.{VolumePasses}
 use Rattle.rack.proofs.Returned.{here_within}
-use Rattle.rack.proofs.Rows.{all_read}
-
-there_at : {X : Type 0} (xs : List X) (k : ℕ) → k < length xs → (x : X) × (slice_get xs k ≡ Some x)
-there_at [] k lt = absurd (omega (arith, lt))
-there_at (x ∷ xs) zero lt = (x, refl)
-there_at (x ∷ xs) (suc k) lt = there_at xs k (omega (arith, lt))
+use Rattle.rack.proofs.Members.{element_at}
+use Rattle.part_store.proofs.Square.{item_within}
 
 -- an element of a mapped list comes from one of the list
 from_map : {X Y : Type 0} (f : X → Y) (xs : List X) (k : ℕ) (y : Y) → slice_get (map f xs) k ≡ Some y → (x : X) × (slice_get xs k ≡ Some x) × (f x ≡ y)
@@ -107,7 +103,7 @@ module _ {D : Type 0} (state : D → State) (config : Config) (spindles : List (
         → (i : Issued (Pool (FreeSegment D)) PoolBase) × (slice_get pools k ≡ Some i) × (i.lock ≡ l) × ((s : Shape) × (slice_get (shapes_of config) k ≡ Some s) × IsIssuedPool volumes k s (saying k) i)
     pool_at k l is =
         let f = from_map (λ (i : Issued (Pool (FreeSegment D)) PoolBase). i.lock) pools k l (ap (λ (ls : List (TurnLock (Pool (FreeSegment D)) PoolBase)). slice_get ls k) (sym first.set_up.pool_locks) ∙ is) in
-        let s = there_at (shapes_of config) k (let w = slice_get_within pools k f.0 f.1 in omega (arith, w, first.pool_count)) in
+        let s = element_at (shapes_of config) k (let w = slice_get_within pools k f.0 f.1 in omega (arith, w, first.pool_count)) in
         (f.0, f.1, f.2, (s.0, s.1, first.pools_are k s.0 f.0 s.1 f.1))
 
     spindle_at : (k : ℕ) (l : TurnLock Spindle SpindleBase) → slice_get r.shared.spindles.items k ≡ Some l → (i : Issued Spindle SpindleBase) × (slice_get spindles k ≡ Some i) × (i.lock ≡ l)
@@ -117,38 +113,26 @@ module _ {D : Type 0} (state : D → State) (config : Config) (spindles : List (
     pub pool_new : (v k : ℕ) (l : TurnLock (Pool (FreeSegment D)) PoolBase) (p : PassOf (Pool (FreeSegment D)) PoolBase) → slice_get r.shared.pools.items k ≡ Some l → pool_pass r.rest v k ≡ Some p → IsNewPass l v p
     pool_new v k l p lock here =
         let at = pool_at k l lock in
-        let lt : v < volumes = row_within v (λ gone. none-some p (sym (past_pool gone) ∙ here)) in
+        let lt : v < volumes = (item_within r.rest.passes.pools volumes k v p first.set_up.rows.pools here).1 in
         let is : slice_get at.0.passes.items v ≡ Some p = sym (first.set_up.pool_passes v k at.0 lt at.1) ∙ here in
         let new = at.3.2.passes v p (slice_get_within at.0.passes.items v p is) in
         subst (λ (x : TurnLock (Pool (FreeSegment D)) PoolBase). IsNewPass x v p) at.2
         (subst (IsNewPass at.0.lock v) (get_or_from_slice_get at.0.passes.items v p p is) new)
-      where
-        row_within : (w : ℕ) → (length r.rest.passes.items ≤ w → ⊥) → w < volumes
-        row_within w other = ⊎_elim (λ lt. omega (arith, lt, first.set_up.count)) (λ past. absurd (other past)) (cases_lt w (length r.rest.passes.items))
-
-        past_pool : length r.rest.passes.items ≤ v → pool_pass r.rest v k ≡ None
-        past_pool past = ap (option_and_then (λ (p : VolumePasses D). slice_index_or p.pools.items k None)) (slice_get_past r.rest.passes.items v past)
 
     pub spindle_in : (v k : ℕ) (l : TurnLock Spindle SpindleBase) (p : PassOf Spindle SpindleBase) → slice_get r.shared.spindles.items k ≡ Some l → spindle_pass r.rest v k ≡ Some p
         → (i : Issued Spindle SpindleBase) × (slice_get spindles k ≡ Some i) × (i.lock ≡ l) × (v < volumes) × (slice_get i.passes.items v ≡ Some p)
     spindle_in v k l p lock here =
         let at = spindle_at k l lock in
-        let lt : v < volumes = row_within v (λ gone. none-some p (sym (past_spindle gone) ∙ here)) in
+        let lt : v < volumes = (item_within r.rest.passes.spindles volumes k v p first.set_up.rows.spindles here).1 in
         (at.0, at.1, at.2, lt, sym (first.set_up.spindle_passes v k at.0 lt at.1) ∙ here)
-      where
-        row_within : (w : ℕ) → (length r.rest.passes.items ≤ w → ⊥) → w < volumes
-        row_within w other = ⊎_elim (λ lt. omega (arith, lt, first.set_up.count)) (λ past. absurd (other past)) (cases_lt w (length r.rest.passes.items))
-
-        past_spindle : length r.rest.passes.items ≤ v → spindle_pass r.rest v k ≡ None
-        past_spindle past = ap (option_and_then (λ (p : VolumePasses D). slice_index_or p.spindles.items k None)) (slice_get_past r.rest.passes.items v past)
 
     pools_here : ArePoolPasses r.shared (away_with []) r.rest
     pools_here = record {
       here = λ v k row within.
-          let i = there_at pools k (let e = ap length first.set_up.pool_locks in let m = length-map pools (λ (j : Issued (Pool (FreeSegment D)) PoolBase). j.lock) in omega (arith, within, e, m)) in
-          let s = there_at (shapes_of config) k (let w = slice_get_within pools k i.0 i.1 in omega (arith, w, first.pool_count)) in
+          let i = element_at pools k (let e = ap length first.set_up.pool_locks in let m = length-map pools (λ (j : Issued (Pool (FreeSegment D)) PoolBase). j.lock) in omega (arith, within, e, m)) in
+          let s = element_at (shapes_of config) k (let w = slice_get_within pools k i.0 i.1 in omega (arith, w, first.pool_count)) in
           let lt : v < volumes = omega (arith, row, first.set_up.count) in
-          let p = there_at i.0.passes.items v (let c = (first.pools_are k s.0 i.0 s.1 i.1).count in omega (arith, c, lt)) in
+          let p = element_at i.0.passes.items v (let c = (first.pools_are k s.0 i.0 s.1 i.1).count in omega (arith, c, lt)) in
           (λ some. nothing_in (v, k), λ none. ap is_some (first.set_up.pool_passes v k i.0 lt i.1 ∙ p.1));
       each = λ v k l p lock here. (let new = pool_new v k l p lock here in record { own = new.own; free = new.free; number_is = new.number });
     }
@@ -156,10 +140,10 @@ module _ {D : Type 0} (state : D → State) (config : Config) (spindles : List (
     spindles_here : AreSpindlePasses r.shared (away_with []) r.rest
     spindles_here = record {
       here = λ v k row within.
-          let i = there_at spindles k (let e = ap length first.set_up.spindle_locks in let m = length-map spindles (λ (j : Issued Spindle SpindleBase). j.lock) in omega (arith, within, e, m)) in
+          let i = element_at spindles k (let e = ap length first.set_up.spindle_locks in let m = length-map spindles (λ (j : Issued Spindle SpindleBase). j.lock) in omega (arith, within, e, m)) in
           let lt : v < volumes = omega (arith, row, first.set_up.count) in
           let size = spindle_size k i.0 i.1 in
-          let p = there_at i.0.passes.items v (omega (arith, size, lt)) in
+          let p = element_at i.0.passes.items v (omega (arith, size, lt)) in
           (λ some. λ out. ⊎_elim (nothing_in (v, k)) (λ own. nothing_in v own.1) out, λ none. ap is_some (first.set_up.spindle_passes v k i.0 lt i.1 ∙ p.1));
       each = λ v k l p lock here.
           let at = spindle_in v k l p lock here in
@@ -191,17 +175,10 @@ module _ {D : Type 0} (state : D → State) (config : Config) (spindles : List (
 
         -- a spindle whose pass is here has its lock
         lock_there : (v k : ℕ) (p : PassOf Spindle SpindleBase) → spindle_pass r.rest v k ≡ Some p → (l : TurnLock Spindle SpindleBase) × (slice_get r.shared.spindles.items k ≡ Some l)
-        lock_there v k p here = there_at r.shared.spindles.items k (⊎_elim (λ lt. lt) (λ past. absurd (none-some p (sym (gone past) ∙ here))) (cases_lt k (length r.shared.spindles.items)))
-          where
-            gone : length r.shared.spindles.items ≤ k → spindle_pass r.rest v k ≡ None
-            gone past = by_row (slice_get r.rest.passes.items v) refl
-              where
-                by_row : (o : Option (VolumePasses D)) → slice_get r.rest.passes.items v ≡ o → option_and_then (λ (q : VolumePasses D). slice_index_or q.spindles.items k None) o ≡ None
-                by_row None is = refl
-                by_row (Some q) is =
-                    let row = all_read (λ (x : VolumePasses D). IsRow volumes x) r.rest.passes.items v q is first.set_up.rows in
-                    let e = ap length first.set_up.spindle_locks in let m = length-map spindles (λ (j : Issued Spindle SpindleBase). j.lock) in
-                    get_or_past q.spindles.items k None (omega (arith, row.spindles, e, m, first.spindle_count, past))
+        lock_there v k p here =
+            let lt = (item_within r.rest.passes.spindles volumes k v p first.set_up.rows.spindles here).0 in
+            let e = ap length first.set_up.spindle_locks in let m = length-map spindles (λ (j : Issued Spindle SpindleBase). j.lock) in
+            element_at r.shared.spindles.items k (omega (arith, lt, e, m, first.spindle_count))
 
     -- who holds a segment of an image when its lock is made
     pub holder_is : (k i : ℕ) (l : TurnLock (Pool (FreeSegment D)) PoolBase) → slice_get r.shared.pools.items k ≡ Some l → holder (lock_id l).base.holders i ≡ holder_by (saying k) i
@@ -221,13 +198,13 @@ module _ {D : Type 0} (state : D → State) (config : Config) (spindles : List (
     pool_lock_at k image is =
         let lt = here_within r.rest.images.items k image is in
         let e = ap length first.set_up.pool_locks in let m = length-map pools (λ (j : Issued (Pool (FreeSegment D)) PoolBase). j.lock) in
-        there_at r.shared.pools.items k (omega (arith, lt, e, m, first.images.0, first.pool_count))
+        element_at r.shared.pools.items k (omega (arith, lt, e, m, first.images.0, first.pool_count))
 
     placed : ArePlaced r.shared (away_with []) r.rest
     placed = record {
       known = λ k i l image lock is within.
           let o = first.out k image is in
-          let h = there_at o.0.heads.items i (omega (arith, within, o.2.count)) in
+          let h = element_at o.0.heads.items i (omega (arith, within, o.2.count)) in
           λ gone. some_head h.0 (sym (ap of_head h.1) ∙ sym (ap (λ (s : Option Said). holder_by s i) o.1) ∙ sym (holder_is k i l lock) ∙ gone);
       known_passes = λ k i n l lock held.
           let at = pool_at k l lock in
@@ -237,7 +214,7 @@ module _ {D : Type 0} (state : D → State) (config : Config) (spindles : List (
       here = λ k i image is within.
           let o = first.out k image is in
           let l = pool_lock_at k image is in
-          let h = there_at o.0.heads.items i (omega (arith, within, o.2.count)) in (
+          let h = element_at o.0.heads.items i (omega (arith, within, o.2.count)) in (
             λ some. (owned_here k i image is o.0 o.1 o.2 l.0 l.1 h.0 h.1 some, nothing_in (k, i)),
             λ both.
                 let v = both.0.0 in let hold = both.0.1 in
@@ -262,7 +239,7 @@ module _ {D : Type 0} (state : D → State) (config : Config) (spindles : List (
         owned_here k i image is s said_is supplier l lock (Owned owner) head some =
             let at = pool_at k l lock in
             let below : owner < volumes = (supplier.owned i owner head).1 in
-            let p = there_at at.0.passes.items owner (let c = at.3.2.count in omega (arith, c, below)) in
+            let p = element_at at.0.passes.items owner (let c = at.3.2.count in omega (arith, c, below)) in
             let here : pool_pass r.rest owner k ≡ Some p.0 = first.set_up.pool_passes owner k at.0 below at.1 ∙ p.1 in
             let holding = new_holds owner k i l p.0 lock here ∙ ap (λ (x : Option Said). is_held_by owner (holder_by x i)) said_is ∙ owner_held (slice_get s.heads.items i) owner head in
             (owner, (p.0, here, holding), λ has. nothing_in i (subst (λ (hs : List (ℕ × Spun D)). Contains (map (λ (h : ℕ × Spun D). h.0) hs) i) (first.set_up.held owner k) has))
@@ -323,19 +300,7 @@ module _ {D : Type 0} (state : D → State) (config : Config) (spindles : List (
 
     -- a pass that is here has its lock
     pub spindle_there : (v k : ℕ) (p : PassOf Spindle SpindleBase) → spindle_pass r.rest v k ≡ Some p → (l : TurnLock Spindle SpindleBase) × (slice_get r.shared.spindles.items k ≡ Some l)
-    spindle_there v k p here = there_at r.shared.spindles.items k (by_row (slice_get r.rest.passes.items v) refl here)
-      where
-        by_row : (o : Option (VolumePasses D)) → slice_get r.rest.passes.items v ≡ o → option_and_then (λ (q : VolumePasses D). slice_index_or q.spindles.items k None) o ≡ Some p → k < length r.shared.spindles.items
-        by_row None is none = absurd (none-some p none)
-        by_row (Some q) is some =
-            let row = all_read (λ (x : VolumePasses D). IsRow volumes x) r.rest.passes.items v q is first.set_up.rows in
-            ⊎_elim (λ lt. omega (arith, lt, row.spindles, first_locks.spindle_count)) (λ past. absurd (none-some p (sym (get_or_past q.spindles.items k None past) ∙ some))) (cases_lt k (length q.spindles.items))
+    spindle_there v k p here = element_at r.shared.spindles.items k (let lt = (item_within r.rest.passes.spindles volumes k v p first.set_up.rows.spindles here).0 in omega (arith, lt, first_locks.spindle_count))
 
     pub pool_there : (v k : ℕ) (p : PassOf (Pool (FreeSegment D)) PoolBase) → pool_pass r.rest v k ≡ Some p → (l : TurnLock (Pool (FreeSegment D)) PoolBase) × (slice_get r.shared.pools.items k ≡ Some l)
-    pool_there v k p here = there_at r.shared.pools.items k (by_row (slice_get r.rest.passes.items v) refl here)
-      where
-        by_row : (o : Option (VolumePasses D)) → slice_get r.rest.passes.items v ≡ o → option_and_then (λ (q : VolumePasses D). slice_index_or q.pools.items k None) o ≡ Some p → k < length r.shared.pools.items
-        by_row None is none = absurd (none-some p none)
-        by_row (Some q) is some =
-            let row = all_read (λ (x : VolumePasses D). IsRow volumes x) r.rest.passes.items v q is first.set_up.rows in
-            ⊎_elim (λ lt. omega (arith, lt, row.pools, first_locks.pool_count)) (λ past. absurd (none-some p (sym (get_or_past q.pools.items k None past) ∙ some))) (cases_lt k (length q.pools.items))
+    pool_there v k p here = element_at r.shared.pools.items k (let lt = (item_within r.rest.passes.pools volumes k v p first.set_up.rows.pools here).0 in omega (arith, lt, first_locks.pool_count))

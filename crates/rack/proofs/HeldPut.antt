@@ -1,23 +1,27 @@
--- The segments that came back with a lane go to their places.
-use Rattle.std.proofs.Common.{◌≡◌, ◌≢◌, ◌<◌, ◌+◌, ℕ, List, [], ◌∷◌, ◌++◌, suc, length, map, Option, None, Some, option_and_then, refl, sym, ap, subst, ◌∙◌, arith}
-use Rattle.std.specs.Prelude.{All, Contains, slice_get, slice_set, slice_index_or}
+-- Segments that came back with a lane go to their places, the last first.
+use Rattle.std.proofs.Common.{◌≡◌, ◌≢◌, ◌<◌, ℕ, List, [], ◌∷◌, ◌++◌, suc, length, map, Option, None, Some, refl, sym, ap, subst, ◌∙◌, arith}
+use Rattle.std.specs.Prelude.{All, Contains, slice_index_or, IfSome, IsSome}
 use Rattle.std.specs.List.{AllByRecursion}
 use Rattle.std.specs.declared.alloc.Global.{Global}
 use Rattle.std.specs.declared.vec.Vec.{Vec}
-use Rattle.std.specs.Vec.{with_item}
-use Rattle.std.proofs.lemmas.List.{append_assoc, append-nil, map-append, length-append, length-set}
+use Rattle.std.proofs.lemmas.List.{append_assoc, append-nil, map-append, length-set, get_or-set_same, get_or-set_other}
 use Rattle.std.proofs.lemmas.List.Elements.{All-nil, All-cons, All-head, All-tail, All-pop, All-from_recursion}
 use Rattle.wol_model.specs.Blocks.{AreApart}
 use Rattle.spin_model.specs.declared.spun.Spun.{Spun}
-use Rattle.manager.proofs.Lanes.{get_other, get_set}
-use Rattle.rack.specs.Rests.{IsRow, list_of, image_here, segment_here, pool_pass, spindle_pass, held_here, indexes_here}
-use Rattle.rack.specs.Parts.{KeepsRows, KeepsImage, segment_in, in_image, CanPutHeld, PutsHeld, PopsHeld}
+use Rattle.part_store.specs.Passes.{IsSquare, volumes_of, segments_in, with_returned}
+use Rattle.part_store.specs.Rows.{item_at}
+use Rattle.part_store.specs.declared.passes.PassStore.{PassStore}
+use Rattle.part_store.proofs.Laws.{item_set, item_other}
+use Rattle.part_store.proofs.Square.{returned_square}
+use Rattle.rack.specs.Making.{IsFilled}
+use Rattle.rack.specs.Rests.{image_here, segment_here, held_here}
+use Rattle.rack.specs.Parts.{KeepsImage, in_image, indexes_of, CanPutSegments, PutsSegments, HasPlace, PutsHeld}
 use Rattle.rack.specs.declared.rack.ImageRest.{ImageRest}
 use Rattle.rack.specs.declared.rack.Rest.{Rest}
-use Rattle.rack.specs.declared.rack.VolumePasses.{VolumePasses}
-use Rattle.rack.proofs.LanesPut.{all_both, rows_same, rows_then, place_then}
-use Rattle.rack.proofs.Returned.{PutsOne, keeps_image_then}
-use Rattle.rack.proofs.Rows.{IsRowBut, row_set, at_changed}
+use Rattle.rack.proofs.LanesPut.{all_both}
+use Rattle.rack.proofs.Members.{a_value}
+use Rattle.rack.proofs.Returned.{keeps_image_then}
+use Rattle.rack.proofs.Rows.{slot_of_list}
 
 -- the last of different numbers is none of those before it, and these are different
 pub apart_last : (xs : List ℕ) (x : ℕ) → AreApart (xs ++ x ∷ []) → AreApart xs × AllByRecursion (λ y. y ≢ x) xs
@@ -39,96 +43,43 @@ module _ {D : Type 0} where
   index_of h = h.0
 
   -- some of the segments are left, and the others are in their places
-  pub record AreHeldSoFar (old new : Rest D) (v k : ℕ) : Type 0 where
+  pub record ArePutSoFar (old new : Option (ImageRest D)) (all left : List (ℕ × Spun D)) : Type 0 where
     pub done : List (ℕ × Spun D)
-    pub kept : held_here old v k ≡ held_here new v k ++ done
-    pub can : CanPutHeld new v k
-    pub rooms : new.rooms ≡ old.rooms
-    pub rows : KeepsRows old new
-    pub count : length new.images.items ≡ length old.images.items
-    pub image : KeepsImage (image_here old.images.items k) (image_here new.images.items k)
-    pub images : (j : ℕ) → j ≢ k → image_here new.images.items j ≡ image_here old.images.items j
-    pub back : All (λ (h : ℕ × Spun D). segment_in new k h.0 ≡ Some h.1) done
-    pub far : All (λ (h : ℕ × Spun D). All (λ (m : ℕ × Spun D). m.0 ≢ h.0) (held_here new v k)) done
-    pub others : (i : ℕ) → (Contains (map index_of done) i → ⊥) → segment_in new k i ≡ segment_in old k i
-    pub held_others : (w j : ℕ) → (w ≡ v → j ≢ k) → held_here new w j ≡ held_here old w j
-    pub pools : (w j : ℕ) → pool_pass new w j ≡ pool_pass old w j
-    pub spindles : (w j : ℕ) → spindle_pass new w j ≡ spindle_pass old w j
+    pub kept : all ≡ left ++ done
+    pub can : CanPutSegments new left
+    pub puts : PutsSegments old new done
+    pub far : All (λ (h : ℕ × Spun D). All (λ (m : ℕ × Spun D). m.0 ≢ h.0) left) done
 
-  keeps_same : (r : Rest D) (k : ℕ) (image : ImageRest D) → image_here r.images.items k ≡ Some image → KeepsImage (image_here r.images.items k) (image_here r.images.items k)
-  keeps_same r k image out = subst (λ (o : Option (ImageRest D)). KeepsImage o o) (sym out) (image, refl, record { label = refl; home = refl; count = refl; row = refl; room = refl })
+  -- an image as it is
+  pub keeps_same : (o : Option (ImageRest D)) → KeepsImage o o
+  keeps_same None = refl
+  keeps_same (Some r) = (r, refl, record { label = refl; home = refl; count = refl; row = refl; room = refl })
 
-  pub held_none : (r : Rest D) (v k : ℕ) → CanPutHeld r v k → AreHeldSoFar r r v k
-  held_none r v k can = record {
-    done = [];
-    kept = sym (append-nil (held_here r v k));
-    can = can;
-    rooms = refl;
-    rows = rows_same r;
-    count = refl;
-    image = keeps_same r k can.image can.out;
-    images = λ j other. refl;
-    back = All-nil (λ (h : ℕ × Spun D). segment_in r k h.0 ≡ Some h.1);
-    far = All-nil (λ (h : ℕ × Spun D). All (λ (m : ℕ × Spun D). m.0 ≢ h.0) (held_here r v k));
-    others = λ i other. refl;
-    held_others = λ w j other. refl;
-    pools = λ w j. refl;
-    spindles = λ w j. refl;
-  }
+  pub puts_none : (o : Option (ImageRest D)) → PutsSegments o o []
+  puts_none o = record { image = keeps_same o; back = All-nil (λ (h : ℕ × Spun D). in_image o h.0 ≡ Some h.1); others = λ i none. refl }
 
-  -- a row with another list at place k
-  abbrev pub row_held : VolumePasses D → (k : ℕ) → Vec (ℕ × Spun D) Global → VolumePasses D
-  row_held row k held = record { pools = row.pools; spindles = row.spindles; held = with_item row.held k held }
+  pub put_none : (o : Option (ImageRest D)) (all : List (ℕ × Spun D)) → CanPutSegments o all → ArePutSoFar o o all all
+  put_none o all can = record { done = []; kept = sym (append-nil all); can = can; puts = puts_none o; far = All-nil (λ (h : ℕ × Spun D). All (λ (m : ℕ × Spun D). m.0 ≢ h.0) all) }
 
-  row_but : (row : VolumePasses D) (k : ℕ) (held : Vec (ℕ × Spun D) Global) → IsRowBut row (row_held row k held) k
-  row_but row k held = record {
-    pools = λ j other. refl;
-    spindles = λ j other. refl;
-    held = λ j other. get_other row.held.items k j held other;
-    size = λ n is. record { pools = is.pools; spindles = is.spindles; held = length-set row.held.items k held ∙ is.held };
-  }
+  module _ (old new newer : Option (ImageRest D)) (all left : List (ℕ × Spun D)) (h : ℕ × Spun D) (so_far : ArePutSoFar old new all (left ++ h ∷ [])) where
+    abbrev r : ImageRest D
+    r = so_far.can.image
 
-  -- the list at a place
-  pub held_is : (r : Rest D) (v k : ℕ) (row : VolumePasses D) (list : Vec (ℕ × Spun D) Global) → slice_get r.passes.items v ≡ Some row → slice_get row.held.items k ≡ Some list → held_here r v k ≡ list.items
-  held_is r v k row list is at = ap list_of (ap (option_and_then (λ (p : VolumePasses D). slice_get p.held.items k)) is ∙ at)
+    indexes_were : indexes_of (left ++ h ∷ []) ≡ map index_of left ++ h.0 ∷ []
+    indexes_were = map-append index_of left (h ∷ [])
 
-  -- a list lost its last segment
-  pub held_popped : (old new : Rest D) (v k : ℕ) (row : VolumePasses D) (list left : Vec (ℕ × Spun D) Global) (h : ℕ × Spun D)
-      → slice_get old.passes.items v ≡ Some row → slice_get row.held.items k ≡ Some list → list.items ≡ left.items ++ h ∷ []
-      → new.images ≡ old.images → new.rooms ≡ old.rooms → new.passes.items ≡ slice_set old.passes.items v (row_held row k left) → PopsHeld old new v k h
-  held_popped old new v k row list left h is at popped images rooms set =
-      let done = row_set old new v k row (row_held row k left) is set (row_but row k left) in
-      let now : held_here new v k ≡ left.items = done.held ∙ ap list_of (get_set row.held.items k list left at) in
-      record {
-        images = images;
-        rooms = rooms;
-        rows = done.rows;
-        held = ap list_of (ap (option_and_then (λ (p : VolumePasses D). slice_get p.held.items k)) is ∙ at) ∙ popped ∙ ap (λ (l : List (ℕ × Spun D)). l ++ h ∷ []) (sym now);
-        held_others = λ w j other. (done.others w j other).held;
-        pools = λ w j. ap (λ (ps : List (VolumePasses D)). option_and_then (λ (p : VolumePasses D). slice_index_or p.pools.items j None) (slice_get ps w)) set
-            ∙ at_changed (λ (p : VolumePasses D). slice_index_or p.pools.items j None) old.passes.items v row (row_held row k left) is w (λ same. refl);
-        spindles = λ w j. ap (λ (ps : List (VolumePasses D)). option_and_then (λ (p : VolumePasses D). slice_index_or p.spindles.items j None) (slice_get ps w)) set
-            ∙ at_changed (λ (p : VolumePasses D). slice_index_or p.spindles.items j None) old.passes.items v row (row_held row k left) is w (λ same. refl);
-      }
+    both_within : All (λ i. i < length r.segments.items) (map index_of left) × (h.0 < length r.segments.items)
+    both_within = All-pop (λ i. i < length r.segments.items) (map index_of left ++ h.0 ∷ []) (map index_of left) (Some h.0) refl (subst (All (λ i. i < length r.segments.items)) indexes_were so_far.can.within)
 
-  -- the last segment goes to its place
-  module _ (old new mid : Rest D) (v k : ℕ) (so_far : AreHeldSoFar old new v k) (h : ℕ × Spun D) (pops : PopsHeld new mid v k h) where
-    abbrev left : List (ℕ × Spun D)
-    left = held_here mid v k
+    both_free : All (λ i. segment_here r i ≡ None) (map index_of left) × (segment_here r h.0 ≡ None)
+    both_free = All-pop (λ i. segment_here r i ≡ None) (map index_of left ++ h.0 ∷ []) (map index_of left) (Some h.0) refl (subst (All (λ i. segment_here r i ≡ None)) indexes_were so_far.can.empty)
 
-    indexes_was : indexes_here new v k ≡ map index_of left ++ h.0 ∷ []
-    indexes_was = ap (map index_of) pops.held ∙ map-append index_of left (h ∷ [])
-
-    pub place_within : h.0 < length so_far.can.image.segments.items
-    place_within = (All-pop (λ i. i < length so_far.can.image.segments.items) (map index_of left ++ h.0 ∷ []) (map index_of left) (Some h.0) refl
-        (subst (All (λ i. i < length so_far.can.image.segments.items)) indexes_was so_far.can.within)).1
-
-    pub place_free : segment_here so_far.can.image h.0 ≡ None
-    place_free = (All-pop (λ i. segment_here so_far.can.image i ≡ None) (map index_of left ++ h.0 ∷ []) (map index_of left) (Some h.0) refl
-        (subst (All (λ i. segment_here so_far.can.image i ≡ None)) indexes_was so_far.can.empty)).1
+    -- the last of them may go
+    pub last_may : IfSome new (λ m. (h.0 < length m.segments.items) × (segment_here m h.0 ≡ None))
+    last_may = subst (λ (o : Option (ImageRest D)). IfSome o (λ m. (h.0 < length m.segments.items) × (segment_here m h.0 ≡ None))) (sym so_far.can.out) (both_within.1, both_free.1)
 
     apart : AreApart (map index_of left) × AllByRecursion (λ y. y ≢ h.0) (map index_of left)
-    apart = apart_last (map index_of left) h.0 (subst AreApart indexes_was so_far.can.apart)
+    apart = apart_last (map index_of left) h.0 (subst AreApart indexes_were so_far.can.apart)
 
     left_other : All (λ i. i ≢ h.0) (map index_of left)
     left_other = All-from_recursion (λ i. i ≢ h.0) (map index_of left) apart.1
@@ -141,96 +92,76 @@ module _ {D : Type 0} where
         from_map (m ∷ ms) all = All-cons (λ (m : ℕ × Spun D). m.0 ≢ h.0) m ms (All-head (λ i. i ≢ h.0) m.0 (map index_of ms) all)
             (from_map ms (All-tail (λ i. i ≢ h.0) m.0 (map index_of ms) all))
 
-    done_far : All (λ (d : ℕ × Spun D). h.0 ≢ d.0) so_far.done
-    done_far j d within =
-        (All-pop (λ (m : ℕ × Spun D). m.0 ≢ (slice_index_or so_far.done j d).0) (left ++ h ∷ []) left (Some h) refl
-        (subst (All (λ (m : ℕ × Spun D). m.0 ≢ (slice_index_or so_far.done j d).0)) pops.held (so_far.far j d within))).1
+    far_split : (j : ℕ) (d : ℕ × Spun D) → j < length so_far.done → All (λ (m : ℕ × Spun D). m.0 ≢ (slice_index_or so_far.done j d).0) left × (h.0 ≢ (slice_index_or so_far.done j d).0)
+    far_split j d within = All-pop (λ (m : ℕ × Spun D). m.0 ≢ (slice_index_or so_far.done j d).0) (left ++ h ∷ []) left (Some h) refl (so_far.far j d within)
 
-    mid_images : mid.images.items ≡ new.images.items
-    mid_images = ap (λ (x : Vec (Option (ImageRest D)) Global). x.items) pops.images
+    -- it went
+    module _ (n : ImageRest D) (out : newer ≡ Some n) (filled : IsFilled r n h.0 h.1) where
+      stays : (i : ℕ) → i ≢ h.0 → segment_here n i ≡ segment_here r i
+      stays i other = ap (λ (l : List (Option (Spun D))). slice_index_or l i None) filled.segments ∙ get_or-set_other r.segments.items h.0 i (Some h.1) None other
 
-    pub mid_out : image_here mid.images.items k ≡ Some so_far.can.image
-    mid_out = ap (λ (is : List (Option (ImageRest D))). image_here is k) mid_images ∙ so_far.can.out
+      sized : length n.segments.items ≡ length r.segments.items
+      sized = ap length filled.segments ∙ length-set r.segments.items h.0 (Some h.1)
 
-    same_segment : (i : ℕ) → segment_in mid k i ≡ segment_in new k i
-    same_segment i = ap (λ (is : List (Option (ImageRest D))). in_image (image_here is k) i) mid_images
+      stays_in : (i : ℕ) → i ≢ h.0 → in_image newer i ≡ in_image new i
+      stays_in i other = ap (λ (o : Option (ImageRest D)). in_image o i) out ∙ stays i other ∙ sym (ap (λ (o : Option (ImageRest D)). in_image o i) so_far.can.out)
 
-    pub held_next : (newer : Rest D) → newer.passes ≡ mid.passes → newer.rooms ≡ mid.rooms → PutsOne mid newer k h.0 h.1 → AreHeldSoFar old newer v k
-    held_next newer passes rooms one =
-        let done = h ∷ so_far.done in
-        let keeps = subst (λ (o : Option (ImageRest D)). KeepsImage o (image_here newer.images.items k)) mid_out (one.images k) in
-        let now : held_here newer v k ≡ left = ap (λ (ps : Vec (VolumePasses D) Global). list_of (option_and_then (λ (p : VolumePasses D). slice_get p.held.items k) (slice_get ps.items v))) passes in
-        let indexes_now : indexes_here newer v k ≡ map index_of left = ap (map index_of) now in
-        let read : (i : ℕ) → i ≢ h.0 → segment_here so_far.can.image i ≡ None → segment_here keeps.0 i ≡ None = λ i other empty.
-        sym (ap (λ (o : Option (ImageRest D)). in_image o i) keeps.1) ∙ one.others k i (λ e. other) ∙ ap (λ (o : Option (ImageRest D)). in_image o i) mid_out ∙ empty in
-        record {
-          done = done;
-          kept = so_far.kept ∙ ap (λ (l : List (ℕ × Spun D)). l ++ so_far.done) pops.held ∙ append_assoc left (h ∷ []) so_far.done
-              ∙ ap (λ (l : List (ℕ × Spun D)). l ++ done) (sym now);
-          can = record {
-            place = place_then new newer v k rows_new so_far.can.place;
-            image = keeps.0;
-            out = keeps.1;
-            within = subst (All (λ i. i < length keeps.0.segments.items)) (sym indexes_now)
-                (subst (λ (n : ℕ). All (λ i. i < n) (map index_of left)) (sym keeps.2.count)
-                (All-pop (λ i. i < length so_far.can.image.segments.items) (map index_of left ++ h.0 ∷ []) (map index_of left) (Some h.0) refl
-                (subst (All (λ i. i < length so_far.can.image.segments.items)) indexes_was so_far.can.within)).0);
-            empty = subst (All (λ i. segment_here keeps.0 i ≡ None)) (sym indexes_now)
-                (all_both (λ i. i ≢ h.0) (λ i. segment_here so_far.can.image i ≡ None) (λ i. segment_here keeps.0 i ≡ None) (map index_of left) read left_other
-                (All-pop (λ i. segment_here so_far.can.image i ≡ None) (map index_of left ++ h.0 ∷ []) (map index_of left) (Some h.0) refl
-                (subst (All (λ i. segment_here so_far.can.image i ≡ None)) indexes_was so_far.can.empty)).0);
-            apart = subst AreApart (sym indexes_now) apart.0;
-          };
-          rooms = rooms ∙ pops.rooms ∙ so_far.rooms;
-          rows = rows_then old new newer so_far.rows rows_new;
-          count = one.count ∙ ap length mid_images ∙ so_far.count;
-          image = keeps_image_then (image_here old.images.items k) (image_here new.images.items k) (image_here newer.images.items k) so_far.image
-              (subst (λ (is : List (Option (ImageRest D))). KeepsImage (image_here is k) (image_here newer.images.items k)) mid_images (one.images k));
-          images = λ j other. one.image_others j other ∙ ap (λ (is : List (Option (ImageRest D))). image_here is j) mid_images ∙ so_far.images j other;
-          back = All-cons (λ (d : ℕ × Spun D). segment_in newer k d.0 ≡ Some d.1) h so_far.done one.back
-              (all_both (λ (d : ℕ × Spun D). segment_in new k d.0 ≡ Some d.1) (λ (d : ℕ × Spun D). h.0 ≢ d.0) (λ (d : ℕ × Spun D). segment_in newer k d.0 ≡ Some d.1) so_far.done
-              (λ d back other. one.others k d.0 (λ same e. other (sym e)) ∙ same_segment d.0 ∙ back) so_far.back done_far);
-          far = subst (λ (l : List (ℕ × Spun D)). All (λ (d : ℕ × Spun D). All (λ (m : ℕ × Spun D). m.0 ≢ d.0) l) done) (sym now)
-              (All-cons (λ (d : ℕ × Spun D). All (λ (m : ℕ × Spun D). m.0 ≢ d.0) left) h so_far.done left_others
-              (λ j d within. (All-pop (λ (m : ℕ × Spun D). m.0 ≢ (slice_index_or so_far.done j d).0) (left ++ h ∷ []) left (Some h) refl
-              (subst (All (λ (m : ℕ × Spun D). m.0 ≢ (slice_index_or so_far.done j d).0)) pops.held (so_far.far j d within))).0));
+      zero_within : (m : ℕ) → 0 < suc m
+      zero_within m = omega arith
+
+      suc_within : (m i : ℕ) → i < m → suc i < suc m
+      suc_within m i lt = omega (arith, lt)
+
+      pub put_next : ArePutSoFar old newer all left
+      put_next = record {
+        done = h ∷ so_far.done;
+        kept = so_far.kept ∙ append_assoc left (h ∷ []) so_far.done;
+        can = record {
+          image = n;
+          out = out;
+          within = subst (λ (m : ℕ). All (λ i. i < m) (map index_of left)) (sym sized) both_within.0;
+          empty = all_both (λ i. i ≢ h.0) (λ i. segment_here r i ≡ None) (λ i. segment_here n i ≡ None) (map index_of left) (λ i other free. stays i other ∙ free) left_other both_free.0;
+          apart = apart.0;
+        };
+        puts = record {
+          image = keeps_image_then old new newer so_far.puts.image (subst (λ (o : Option (ImageRest D)). KeepsImage o newer) (sym so_far.can.out)
+              (n, out, record { label = filled.label; home = filled.home; count = sized; row = filled.row; room = filled.room }));
+          back = All-cons (λ (d : ℕ × Spun D). in_image newer d.0 ≡ Some d.1) h so_far.done
+              (ap (λ (o : Option (ImageRest D)). in_image o h.0) out ∙ ap (λ (l : List (Option (Spun D))). slice_index_or l h.0 None) filled.segments ∙ get_or-set_same r.segments.items h.0 (Some h.1) None both_within.1)
+              (all_both (λ (d : ℕ × Spun D). in_image new d.0 ≡ Some d.1) (λ (d : ℕ × Spun D). h.0 ≢ d.0) (λ (d : ℕ × Spun D). in_image newer d.0 ≡ Some d.1) so_far.done
+              (λ d back other. stays_in d.0 (λ e. other (sym e)) ∙ back) so_far.puts.back (λ j d within. (far_split j d within).1));
           others = λ i other.
-              one.others k i (λ same e. other (0, zero_within, sym e)) ∙ same_segment i
-              ∙ so_far.others i (λ has. other (suc has.0, suc_within (length (map index_of so_far.done)) has.0 has.1, has.2));
-          held_others = λ w j other. ap (λ (ps : Vec (VolumePasses D) Global). list_of (option_and_then (λ (p : VolumePasses D). slice_get p.held.items j) (slice_get ps.items w))) passes
-              ∙ pops.held_others w j other ∙ so_far.held_others w j other;
-          pools = λ w j. ap (λ (ps : Vec (VolumePasses D) Global). option_and_then (λ (p : VolumePasses D). slice_index_or p.pools.items j None) (slice_get ps.items w)) passes ∙ pops.pools w j ∙ so_far.pools w j;
-          spindles = λ w j. ap (λ (ps : Vec (VolumePasses D) Global). option_and_then (λ (p : VolumePasses D). slice_index_or p.spindles.items j None) (slice_get ps.items w)) passes ∙ pops.spindles w j ∙ so_far.spindles w j;
-        }
-      where
-        rows_new : KeepsRows new newer
-        rows_new = record {
-          count = ap (λ (ps : Vec (VolumePasses D) Global). length ps.items) passes ∙ pops.rows.count;
-          rows = λ n all. subst (λ (ps : Vec (VolumePasses D) Global). All (λ (p : VolumePasses D). IsRow n p) ps.items) (sym passes) (pops.rows.rows n all);
-        }
-
-        zero_within : 0 < suc (length (map index_of so_far.done))
-        zero_within = omega arith
-
-        suc_within : (n i : ℕ) → i < n → suc i < suc n
-        suc_within n i lt = omega (arith, lt)
-
-    pub one_less : length (held_here new v k) ≡ length (held_here mid v k) + 1
-    one_less = ap length pops.held ∙ length-append left (h ∷ [])
-
-  pub held_all : (old new : Rest D) (v k : ℕ) → AreHeldSoFar old new v k → held_here new v k ≡ [] → PutsHeld old new v k
-  held_all old new v k so_far none =
-      let whole : held_here old v k ≡ so_far.done = so_far.kept ∙ ap (λ (l : List (ℕ × Spun D)). l ++ so_far.done) none in
-      record {
-        rooms = so_far.rooms;
-        rows = so_far.rows;
-        count = so_far.count;
-        image = so_far.image;
-        images = so_far.images;
-        back = subst (All (λ (h : ℕ × Spun D). segment_in new k h.0 ≡ Some h.1)) (sym whole) so_far.back;
-        others = λ i other. so_far.others i (λ has. other (subst (λ (l : List (ℕ × Spun D)). Contains (map index_of l) i) (sym whole) has));
-        held = none;
-        held_others = so_far.held_others;
-        pools = so_far.pools;
-        spindles = so_far.spindles;
+              stays_in i (λ e. other (0, zero_within (length (map index_of so_far.done)), sym e))
+              ∙ so_far.puts.others i (λ has. other (suc has.0, suc_within (length (map index_of so_far.done)) has.0 has.1, has.2));
+        };
+        far = All-cons (λ (d : ℕ × Spun D). All (λ (m : ℕ × Spun D). m.0 ≢ d.0) left) h so_far.done left_others (λ j d within. (far_split j d within).0);
       }
+
+    -- by what a call said of it
+    pub put_by : IsSome newer → IfSome new (λ m. IfSome newer (λ n. IsFilled m n h.0 h.1)) → ArePutSoFar old newer all left
+    put_by there filled =
+        let n = a_value newer there in
+        put_next n.0 n.1 (subst (λ (o : Option (ImageRest D)). IfSome o (λ q. IsFilled r q h.0 h.1)) n.1 (subst (λ (o : Option (ImageRest D)). IfSome o (λ m. IfSome newer (λ q. IsFilled m q h.0 h.1))) so_far.can.out filled))
+
+  pub put_all : (old new : Option (ImageRest D)) (all left : List (ℕ × Spun D)) → ArePutSoFar old new all left → left ≡ [] → PutsSegments old new all
+  put_all old new all left so_far none =
+      subst (PutsSegments old new) (sym (so_far.kept ∙ ap (λ (l : List (ℕ × Spun D)). l ++ so_far.done) none)) so_far.puts
+
+  -- ---- In a rest
+
+  pub held_went : (r : Rest D) (images : Vec (Option (ImageRest D)) Global) (passes : PassStore D) (v k : ℕ) → HasPlace r v k → passes ≡ with_returned v k None r.passes
+      → length images.items ≡ length r.images.items → ((j : ℕ) → j ≢ k → image_here images.items j ≡ image_here r.images.items j) → PutsSegments (image_here r.images.items k) (image_here images.items k) (held_here r v k)
+      → PutsHeld r (record { images = images; passes = passes; rooms = r.rooms }) v k
+  held_went r images passes v k place is count others puts = record {
+    rooms = refl;
+    rows = record { count = ap volumes_of is; rows = λ n sq. subst (IsSquare n) (sym is) (returned_square n r.passes sq v k None) };
+    count = count;
+    image = puts.image;
+    images = others;
+    back = puts.back;
+    others = puts.others;
+    held = ap (λ (x : PassStore D). segments_in (item_at x.returned k v)) is ∙ ap segments_in (item_set r.passes.returned k v None (slot_of_list r v k place));
+    held_others = λ w j other. ap (λ (x : PassStore D). segments_in (item_at x.returned j w)) is ∙ ap segments_in (item_other r.passes.returned k v j w None (λ e same. other same e));
+    pools = λ w j. ap (λ (x : PassStore D). item_at x.pools j w) is;
+    spindles = λ w j. ap (λ (x : PassStore D). item_at x.spindles j w) is;
+  }

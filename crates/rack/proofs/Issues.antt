@@ -21,6 +21,7 @@ use Rattle.rack.specs.Parts.{of_head, IsBlankPart, CanIssue, IsIssuedPool, Suppl
 use Rattle.rack.specs.declared.heads_said.Said.{Said}
 use Rattle.rack.specs.declared.locks.Issued.{Issued}
 use Rattle.rack.specs.declared.rack.ImageRest.{ImageRest}
+use Rattle.rack.proofs.Members.{element_at}
 
 -- the segments of each volume have the configuration's size
 pub shape_blocks : (config : Config) (k : ℕ) (s : Shape) → slice_get (shapes_of config) k ≡ Some s → s.segment_blocks ≡ config.segment_blocks
@@ -111,11 +112,6 @@ module _ {D : Type 0} (state : D → State) (volumes id : ℕ) (s : Shape) where
 
 -- ---- All of them
 
-there_at : {X : Type 0} (xs : List X) (k : ℕ) → k < length xs → (x : X) × (slice_get xs k ≡ Some x)
-there_at [] k lt = absurd (omega (arith, lt))
-there_at (x ∷ xs) zero lt = (x, refl)
-there_at (x ∷ xs) (suc k) lt = there_at xs k (omega (arith, lt))
-
 module _ {D : Type 0} (state : D → State) (config : Config) (volumes : ℕ) (said : List (Option Said)) where
   abbrev saying : ℕ → Option Said
   saying k = slice_index_or said k None
@@ -145,7 +141,7 @@ module _ {D : Type 0} (state : D → State) (config : Config) (volumes : ℕ) (s
       → ((k : ℕ) (s : Shape) → slice_get (shapes_of config) k ≡ Some s → CanIssue state volumes k s (saying k) (image_of old k))
       → (k : ℕ) → Restores state k config.segment_blocks (saying k) (image_of old k) (image_of old k)
   kept_at old shapes sayings can k = ⊎_elim
-      (λ lt. let shape = there_at (shapes_of config) k (omega (arith, lt, shapes)) in
+      (λ lt. let shape = element_at (shapes_of config) k (omega (arith, lt, shapes)) in
       subst (λ (b : ℕ). Restores state k b (saying k) (image_of old k) (image_of old k)) (shape_blocks config k shape.0 shape.1) (unchanged state volumes k shape.0 (saying k) (image_of old k) (can k shape.0 shape.1)))
       (λ past. subst (λ (o : Option Said). Restores state k config.segment_blocks o (image_of old k) (image_of old k)) (sym (get_or_past said k None (omega (arith, past, sayings)))) refl)
       (cases_lt k (length old))
@@ -202,7 +198,7 @@ module _ {D : Type 0} (state : D → State) (config : Config) (volumes : ℕ) (s
     may_end image shapes k i is =
         let lt : k < n = let w = slice_get_within made k i is in omega (arith, w, so_far.count) in
         let other : k ≢ n = λ e. absurd (omega (arith, e, lt)) in
-        let shape = there_at (shapes_of config) k (omega (arith, lt, within, shapes)) in
+        let shape = element_at (shapes_of config) k (omega (arith, lt, within, shapes)) in
         subst (CanEnd i) (sym (get_or-set_other now n k image None other))
         (can_end state volumes k shape.0 (saying k) (image_of old k) (image_of now k) i (can k shape.0 shape.1) (so_far.supplies k lt) (so_far.issued k shape.0 i shape.1 is))
 
@@ -216,8 +212,8 @@ module _ {D : Type 0} (state : D → State) (config : Config) (volumes : ℕ) (s
       where
         before : k < n → Restores state k config.segment_blocks (saying k) (image_of old k) (image_of last k)
         before lt =
-            let shape = there_at (shapes_of config) k (omega (arith, lt, within, shapes)) in
-            let i = there_at made k (omega (arith, lt, so_far.count)) in
+            let shape = element_at (shapes_of config) k (omega (arith, lt, within, shapes)) in
+            let i = element_at made k (omega (arith, lt, so_far.count)) in
             let other : k ≢ n = λ e. absurd (omega (arith, e, lt)) in
             let ended = subst (λ (o : Option (ImageRest D)). EndsInto state (lock_id i.0.lock).base o (image_of last k)) (get_or-set_other now n k image None other) (ends k i.0 i.1) in
             subst (λ (b : ℕ). Restores state k b (saying k) (image_of old k) (image_of last k)) (shape_blocks config k shape.0 shape.1)

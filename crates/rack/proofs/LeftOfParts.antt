@@ -106,7 +106,7 @@ module _ {D : Type 0} (state : D → State) (tells : Bool) (told : IsTrue tells)
       x = left_now state tells told tell_all sound config few_volumes b r can first second is closed filled kept old new given images left k z q.0 at q.1.here
 
       segment : (i : ℕ) → i < z.segments → ComesFrom state r k i (segment_of z x.0 i)
-      segment i within = by_place (here_or_not r.rest k i m here)
+      segment i within = by_place (here_or_not (length (shapes_of config)) r.rest can.rest.parts.rows k i m here)
         where
           p : (p : Spun D) × (segment_here q.0 i ≡ Some p)
           p =

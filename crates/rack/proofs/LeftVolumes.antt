@@ -32,11 +32,10 @@ use Rattle.rack.specs.Closing.{ClosesStations, RefillsAll, KeepsSpindles, GivesB
 use Rattle.rack.specs.Opens.{HadSegmentBefore, BeganWith, WereThere}
 use Rattle.rack.specs.Owners.{HadRefused, IsBegun, RecoversSame, WasOpened, images_taken}
 use Rattle.rack.specs.Racks.{IsClosable, base_of_station}
-use Rattle.rack.specs.Rests.{image_here, segment_here, held_here, indexes_here, away_with, list_of, IsImageOut, IsSegmentHere, IsRest}
+use Rattle.rack.specs.Rests.{image_here, segment_here, held_here, indexes_here, away_with, IsImageOut, IsSegmentHere, IsRest}
 use Rattle.rack.specs.declared.rack.ImageRest.{ImageRest}
 use Rattle.rack.specs.declared.rack.Rack.{Rack}
 use Rattle.rack.specs.declared.rack.Rest.{Rest}
-use Rattle.rack.specs.declared.rack.VolumePasses.{VolumePasses}
 use Rattle.rack.proofs.AllBack.{both_slices}
 use Rattle.rack.proofs.Assembled.{assembled, assembled_size, assembled_front, assembled_segment, assembled_image}
 use Rattle.rack.proofs.Choices.{IsChoice, IsChosen, chosen}
@@ -170,7 +169,7 @@ module _ {D : Type 0} (state : D → State) (tells : Bool) (told : IsTrue tells)
 
       -- each segment goes with one that it might have been at entry
       segment_was : (i : ℕ) → i < z.segments → (was : List Block) × (IsImage (slice_range before.blocks (head_place z i) (head_place z (i + 1))) was × SegmentsKeep v (segment_of z now.0 i) was)
-      segment_was i lt = go (here_or_not r.rest k i m here)
+      segment_was i lt = go (here_or_not (length (shapes_of config)) r.rest can.rest.parts.rows k i m here)
         where
           had_before : (p : Spun D) → IsSegmentHere r.rest k i p → HadSegmentBefore state before (head_place z i) (head_place z (i + 1)) p
           had_before p place =

@@ -1,5 +1,4 @@
 pub mod Issuing
-pub mod Gathering
 pub mod OutNames
 pub mod GivingBack
 pub mod CutParts
@@ -21,20 +20,17 @@ pub mod PoolBack
 pub mod ListsBack
 pub mod BackInTurn
 pub mod Rows
-pub mod LanePut
 pub mod Together
 pub mod LanesPut
 pub mod Slots
 pub mod Emptying
 pub mod OwnedSegments
 pub mod UsedPass
-pub mod HomeMoved
 pub mod Filling
 pub mod Supplying
 pub mod Returned
 pub mod HeldPut
 pub mod Ended
-pub mod LaneTaken
 pub mod AllBack
 pub mod StationsInTurn
 pub mod PoolsInTurn
@@ -43,7 +39,6 @@ pub mod LeftParts
 pub mod SpindlesInTurn
 pub mod Setting
 pub mod Issues
-pub mod Dealing
 pub mod SetUp
 pub mod Taking
 pub mod LanesTaken
@@ -119,3 +114,4 @@ pub mod SoundAgain
 pub mod SoundRefusals
 pub mod Complete
 mod Reopening
+pub mod Gathered

@@ -6,12 +6,13 @@ use Rattle.std.proofs.lemmas.Option.{slice_get_past}
 use Rattle.std.proofs.lemmas.List.Elements.{All-contains}
 use Rattle.wol_model.specs.Blocks.{AreApart}
 use Rattle.spin_model.specs.declared.spun.Spun.{Spun}
-use Rattle.rack.specs.Rests.{image_here, segment_here, pool_pass, spindle_pass, held_here, indexes_here, list_of, IsImageOut}
+use Rattle.part_store.specs.Passes.{volumes_of, segments_in, IsSquare}
+use Rattle.part_store.proofs.Square.{square_count, past_slots}
+use Rattle.rack.specs.Rests.{image_here, segment_here, pool_pass, spindle_pass, held_here, indexes_here, IsImageOut}
 use Rattle.rack.specs.Parts.{KeepsRows, KeepsImage, CanPutHeld, PutsHeld, segment_in}
 use Rattle.rack.specs.Closing.{CanPutAllHeld, PutsAllHeld}
 use Rattle.rack.specs.declared.rack.ImageRest.{ImageRest}
 use Rattle.rack.specs.declared.rack.Rest.{Rest}
-use Rattle.rack.specs.declared.rack.VolumePasses.{VolumePasses}
 use Rattle.rack.proofs.Members.{a_value, all_member, in_map, none_in, segment_in_image}
 
 keeps_itself : {D : Type 0} (o : Option (ImageRest D)) → KeepsImage o o
@@ -66,18 +67,19 @@ module _ {D : Type 0} (k : ℕ) (init : Rest D) where
     spindles = λ v j. refl;
   }
 
-  past_held : (r : Rest D) (v : ℕ) → length r.passes.items ≤ v → held_here r v k ≡ []
-  past_held r v past = ap (λ (o : Option (VolumePasses D)). list_of (option_and_then (λ p. slice_get p.held.items k) o)) (slice_get_past r.passes.items v past)
+  past_held : (r : Rest D) (n v : ℕ) → IsSquare n r.passes → volumes_of r.passes ≤ v → held_here r v k ≡ []
+  past_held r n v square past = ap segments_in (past_slots r.passes.returned n k v square.returned (inr (let c = square_count n r.passes square in omega (arith, c, past))))
 
   module _ (can : CanPutAllHeld init k) where
     -- the next list may go
-    pub next_may : (n : ℕ) (cur : Rest D) → AreBackOf n cur → n < length cur.passes.items → IsImageOut init.images.items k → CanPutHeld cur n k
+    pub next_may : (n : ℕ) (cur : Rest D) → AreBackOf n cur → n < volumes_of cur.passes → IsImageOut init.images.items k → CanPutHeld cur n k
     next_may n cur so_far below out =
         let r = a_value (image_here init.images.items k) out in
         let m = subst (λ (o : Option (ImageRest D)). KeepsImage o (image_here cur.images.items k)) r.1 so_far.image in
         let same = so_far.left n (omega arith) in
         record {
           place = record { row = below; volumes = can.volumes; rows = so_far.rows.rows can.volumes can.rows; within = can.within.0 };
+          segments = record {
           image = m.0;
           out = m.1;
           within = all_member (λ i. i < length m.0.segments.items) (indexes_here cur n k) (λ i has.
@@ -87,6 +89,7 @@ module _ {D : Type 0} (k : ℕ) (init : Rest D) where
               sym (segment_in_image cur k m.0 m.1 i) ∙ so_far.others i (λ v less earlier. can.apart v n i (λ e. absurd (omega (arith, less, e))) earlier was)
               ∙ segment_in_image init k r.0 r.1 i ∙ (can.indexes n i r.0 r.1 was).1);
           apart = subst (λ (xs : List (ℕ × Spun D)). AreApart (map (λ (h : ℕ × Spun D). h.0) xs)) (sym same) (can.once n);
+          };
         }
       where
         was_listed : held_here cur n k ≡ held_here init n k → (i : ℕ) → Contains (indexes_here cur n k) i → Contains (indexes_here init n k) i
@@ -134,7 +137,7 @@ module _ {D : Type 0} (k : ℕ) (init : Rest D) where
                 ∙ so_far.back v i p (omega (arith, less, differs)) has
 
     -- all of them went
-    pub all_went : (n : ℕ) (cur : Rest D) → AreBackOf n cur → length cur.passes.items ≤ n → PutsAllHeld init cur k
+    pub all_went : (n : ℕ) (cur : Rest D) → AreBackOf n cur → volumes_of cur.passes ≤ n → PutsAllHeld init cur k
     all_went n cur so_far all = record {
       rooms = so_far.rooms;
       rows = so_far.rows;
@@ -155,7 +158,7 @@ module _ {D : Type 0} (k : ℕ) (init : Rest D) where
             go : (v < n) ⊎ (n ≤ v) → v < n
             go (inl less) = less
             go (inr past) =
-                let none = past_held init v (omega (arith, past, all, so_far.rows.count)) in
+                let none = past_held init can.volumes v can.rows (omega (arith, past, all, so_far.rows.count)) in
                 absurd (none_in (i, p) (subst (λ (xs : List (ℕ × Spun D)). Contains xs (i, p)) none has))
 
         held : (v : ℕ) → held_here cur v k ≡ []
@@ -163,7 +166,7 @@ module _ {D : Type 0} (k : ℕ) (init : Rest D) where
           where
             go : (v < n) ⊎ (n ≤ v) → held_here cur v k ≡ []
             go (inl less) = so_far.gone v less
-            go (inr past) = past_held cur v (omega (arith, past, all))
+            go (inr past) = past_held cur can.volumes v (so_far.rows.rows can.volumes can.rows) (omega (arith, past, all))
 
     -- there are none where the image isn't out
     pub none_went : image_here init.images.items k ≡ None → PutsAllHeld init init k

@@ -33,6 +33,7 @@ use Rattle.manager.specs.declared.base.ManagerBase.{ManagerBase}
 use Rattle.manager.specs.declared.manager.Manager.{Manager}
 use Rattle.manager.specs.declared.manager.ManagerParts.{ManagerParts}
 use Rattle.volume_images.specs.Volumes.{shapes_of}
+use Rattle.part_store.specs.Passes.{volumes_of}
 use Rattle.rack.specs.Rests.{image_here, segment_here, pool_pass, spindle_pass, held_here, indexes_here, away_with, IsImageOut, IsPassAt, IsPart, IsImageRest, IsHolding, IsHeldHere, AreLocks, OnlyAccess, IsRestBut}
 use Rattle.rack.specs.Racks.{IsOpenBase}
 use Rattle.rack.specs.Parts.{HasPlace, IsBarePlace, HasBack, KeepsPlace, CanPutLanes, IsHomeAway, PutsManager, held_parts, with_home}
@@ -95,7 +96,7 @@ module _ {D : Type 0} (state : D → State) (tells : Rattle.std.specs.Prelude.Bo
       let n = (lane_shared l has).pool_in in
       omega (arith, e, n, shared.pools.ok.0)
 
-  id_below : id < length old.passes.items
+  id_below : id < volumes_of old.passes
   id_below =
       let n = open_base.at.spindle_in in
       omega (arith, n, owner_is, shared.spindles.ok.0, locks.spindle_count, parts.count)
@@ -282,10 +283,10 @@ module _ {D : Type 0} (state : D → State) (tells : Rattle.std.specs.Prelude.Bo
 
     -- ---- The passes of pools
 
-    pools_here : (v k : ℕ) → v < length new.passes.items → k < length shared.pools.items → IsSome (pool_pass new v k) ↔ (Contains (away_with bases).lanes (v, k) → ⊥)
+    pools_here : (v k : ℕ) → v < volumes_of new.passes → k < length shared.pools.items → IsSome (pool_pass new v k) ↔ (Contains (away_with bases).lanes (v, k) → ⊥)
     pools_here v k row below = go (at_place v k)
       where
-        row_old : v < length old.passes.items
+        row_old : v < volumes_of old.passes
         row_old = omega (arith, row, put.rows.count)
 
         go : AtPlace v k → IsSome (pool_pass new v k) ↔ (Contains (away_with bases).lanes (v, k) → ⊥)
@@ -327,11 +328,11 @@ module _ {D : Type 0} (state : D → State) (tells : Rattle.std.specs.Prelude.Bo
         go (as_before never pool held) (inl e) (inr f) = other_spindle never (λ same. f) (other_place v k never (λ same. f)).spindle
         go (as_before never pool held) (inr e) y = other_spindle never (λ same. absurd (e same)) (other_place v k never (λ same. absurd (e same))).spindle
 
-    spindles_here : (v k : ℕ) → v < length new.passes.items → k < length shared.spindles.items
+    spindles_here : (v k : ℕ) → v < volumes_of new.passes → k < length shared.spindles.items
         → IsSome (spindle_pass new v k) ↔ ((Contains (away_with bases).lanes (v, k) ⊎ ((v ≡ k) × Contains (away_with bases).homes v)) → ⊥)
     spindles_here v k row below = go (at_spindle v k)
       where
-        row_old : v < length old.passes.items
+        row_old : v < volumes_of old.passes
         row_old = omega (arith, row, put.rows.count)
 
         front_not : v ≡ b.volume.began.owner → Contains (away_with bases).lanes (v, k) ⊎ ((v ≡ k) × Contains (away_with bases).homes v) → ⊥

@@ -16,9 +16,10 @@ use Rattle.manager_recovery.specs.Opening.{AreInOrder, IsBefore, place_of}
 use Rattle.manager_recovery.specs.declared.opening.Opening.{Opening}
 use Rattle.manager_recovery.specs.declared.opening.OwnedPart.{OwnedPart}
 use Rattle.volume_images.specs.Volumes.{shapes_of}
+use Rattle.part_store.specs.Passes.{IsSquare}
 use Rattle.rack.specs.Opening.{IsOpeningRack}
 use Rattle.rack.specs.Parts.{TakesOpening, IsNewLane, IsBarePlace, CanPutLanes, IsOwedPlace, CanPutOwned, HasPlace, loggers_out, segments_of}
-use Rattle.rack.specs.Rests.{image_here, segment_here, IsRow}
+use Rattle.rack.specs.Rests.{image_here, segment_here}
 use Rattle.rack.specs.declared.heads_said.Said.{Said}
 use Rattle.rack.specs.declared.rack.Rack.{Rack}
 use Rattle.rack.specs.declared.rack.Rest.{Rest}
@@ -114,8 +115,8 @@ module _ {D : Type 0} (state : D → State) (tells : Bool) (config : Config) (va
       let before = lane_to from.0 from.1 in
       (before.0, from.0, before.1, sym before.1.used.same.logger ∙ from.2, from.2)
 
-  pub away_rows : All (λ p. IsRow (length (shapes_of config)) p) away.passes.items
-  away_rows = takes.home.rows.rows (length (shapes_of config)) (subst (λ x. All (λ p. IsRow (length (shapes_of config)) p) x.items) (sym takes.owned.passes) (takes.lanes.passes.rows.rows (length (shapes_of config)) (parts state config valid b said id r own ready lt at).rows))
+  pub away_rows : IsSquare (length (shapes_of config)) away.passes
+  away_rows = takes.home.rows.rows (length (shapes_of config)) (subst (λ x. IsSquare (length (shapes_of config)) x) (sym takes.owned.passes) (takes.lanes.passes.rows.rows (length (shapes_of config)) (parts state config valid b said id r own ready lt at).rows))
 
   place : (k : ℕ) → k < length (shapes_of config) → HasPlace away id k
   place k within = record {

@@ -23,7 +23,8 @@ use Rattle.manager.specs.declared.station.Station.{Station}
 use Rattle.manager_recovery.specs.Opening.{place_of}
 use Rattle.manager_recovery.specs.declared.opening.Opening.{Opening}
 use Rattle.volume_images.specs.Volumes.{shapes_of}
-use Rattle.rack.specs.Rests.{image_here, segment_here, pool_pass, spindle_pass, held_here, indexes_here, away_with, IsRestBut, IsImageRest, IsPart, IsRow, IsHeldHere}
+use Rattle.part_store.specs.Passes.{volumes_of, IsSquare}
+use Rattle.rack.specs.Rests.{image_here, segment_here, pool_pass, spindle_pass, held_here, indexes_here, away_with, IsRestBut, IsImageRest, IsPart, IsHeldHere}
 use Rattle.rack.specs.Racks.{base_of_station}
 use Rattle.rack.specs.Parts.{TakesOpening, IsTakenOf, IsOwnedPlace, loggers_out, segment_in}
 use Rattle.rack.specs.Opening.{IsOpeningRack}
@@ -156,7 +157,7 @@ module _ {D : Type 0} (state : D → State) (config : Config) (valid : IsValid c
   pool_gone : (v k : ℕ) → v ≡ id → Contains view k → pool_pass new v k ≡ None
   pool_gone v k same there = ap (λ (n : ℕ). pool_pass new n k) same ∙ without.pool_gone state config said id view r.rest new o takes k (out k there)
 
-  pools_here : (v k : ℕ) → v < length new.passes.items → k < length r.shared.pools.items → IsSome (pool_pass new v k) ↔ (Contains (away_with (bases ++ m ∷ [])).lanes (v, k) → ⊥)
+  pools_here : (v k : ℕ) → v < volumes_of new.passes → k < length r.shared.pools.items → IsSome (pool_pass new v k) ↔ (Contains (away_with (bases ++ m ∷ [])).lanes (v, k) → ⊥)
   pools_here v k row within =
       ⊎_elim
       (λ is.
@@ -200,7 +201,7 @@ module _ {D : Type 0} (state : D → State) (config : Config) (valid : IsValid c
       (cases_eq k id))
       (mine v k)
 
-  spindles_here : (v k : ℕ) → v < length new.passes.items → k < length r.shared.spindles.items
+  spindles_here : (v k : ℕ) → v < volumes_of new.passes → k < length r.shared.spindles.items
       → IsSome (spindle_pass new v k) ↔ ((Contains (away_with (bases ++ m ∷ [])).lanes (v, k) ⊎ ((v ≡ k) × Contains (away_with (bases ++ m ∷ [])).homes v)) → ⊥)
   spindles_here v k row within = go (place_of_pass v k)
     where
@@ -289,7 +290,7 @@ module _ {D : Type 0} (state : D → State) (config : Config) (valid : IsValid c
     images = images;
     homes = homes;
     count = without.rows_without state config said id view r.rest new o takes ∙ old.count;
-    rows = takes.home.rows.rows (length (shapes_of config)) (subst (λ x. All (λ p. IsRow (length (shapes_of config)) p) x.items) (sym takes.owned.passes) (takes.lanes.passes.rows.rows (length (shapes_of config)) old.rows));
+    rows = takes.home.rows.rows (length (shapes_of config)) (subst (λ x. IsSquare (length (shapes_of config)) x) (sym takes.owned.passes) (takes.lanes.passes.rows.rows (length (shapes_of config)) old.rows));
     pools = record { here = pools_here; each = λ v k l p lock here. old.pools.each v k l p lock (pool_was v k p here).0 };
     spindles = record {
       here = spindles_here;

@@ -30,7 +30,8 @@ use Rattle.manager_recovery.specs.declared.opening.Opening.{Opening}
 use Rattle.manager_recovery.specs.declared.opening.OwnedPart.{OwnedPart}
 use Rattle.volume_images.specs.Accepted.{head_place}
 use Rattle.volume_images.specs.Volumes.{shapes_of}
-use Rattle.rack.specs.Rests.{image_here, segment_here, away_with, IsRestBut, IsPart, IsRow}
+use Rattle.part_store.specs.Passes.{volumes_of, IsSquare}
+use Rattle.rack.specs.Rests.{image_here, segment_here, away_with, IsRestBut, IsPart}
 use Rattle.rack.specs.Racks.{base_of_station}
 use Rattle.manager.specs.declared.station.Station.{Station}
 use Rattle.rack.specs.Parts.{TakesOpening, IsNewLane, IsTakenOf, loggers_out, segments_of, segment_in, holder_by, holder_said, IsOwnedPlace, IsHomeAway, IsSameBut, with_home}
@@ -312,14 +313,14 @@ module _ {D : Type 0} (state : D → State) (config : Config) (valid : IsValid c
       let was : image_here takes.without_lanes.images.items id ≡ Some image.0 = ap (λ x. image_here x.items id) lanes.images ∙ image.1 in
       let kept = MatchOption-at_some (image_here takes.without_owned.images.items id ≡ None) (λ (x : ImageRest D). (n : ImageRest D) × (image_here takes.without_owned.images.items id ≡ Some n) × IsSameBut x n) image.0 was (takes.owned.images id) in
       let a = rows.count in
-      let p = ap (λ x. length x.items) takes.owned.passes in
+      let p = ap volumes_of takes.owned.passes in
       let q = lanes.rows.count in
       let s = here.count in
       record {
         place = record {
           row = omega (arith, a, p, q, s, lt);
           volumes = length (shapes_of config);
-          rows = rows.rows (length (shapes_of config)) (subst (λ x. All (λ p. IsRow (length (shapes_of config)) p) x.items) (sym takes.owned.passes) (lanes.rows.rows (length (shapes_of config)) here.rows));
+          rows = rows.rows (length (shapes_of config)) (subst (λ x. IsSquare (length (shapes_of config)) x) (sym takes.owned.passes) (lanes.rows.rows (length (shapes_of config)) here.rows));
           within = lt;
         };
         image = record kept.0 { home = None };

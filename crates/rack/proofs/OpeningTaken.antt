@@ -10,12 +10,14 @@ use Rattle.wol_config.specs.declared.config.Config.{Config}
 use Rattle.spin_model.specs.declared.spun.Spun.{Spun}
 use Rattle.logger.specs.declared.lane.Lane.{Lane}
 use Rattle.manager_recovery.specs.declared.opening.OwnedPart.{OwnedPart}
-use Rattle.rack.specs.Rests.{IsRow, image_here, spindle_pass}
+use Rattle.part_store.specs.Passes.{volumes_of, IsSquare}
+use Rattle.part_store.specs.Rows.{item_at}
+use Rattle.part_store.specs.declared.passes.PassStore.{PassStore}
+use Rattle.rack.specs.Rests.{image_here, spindle_pass}
 use Rattle.rack.specs.Parts.{HasPlace, KeepsPlace, KeepsImage, AreOwnedHere, TakesLanes, TakesOwned, CanTake, loggers_out, in_image}
 use Rattle.rack.specs.declared.heads_said.Said.{Said}
 use Rattle.rack.specs.declared.rack.ImageRest.{ImageRest}
 use Rattle.rack.specs.declared.rack.Rest.{Rest}
-use Rattle.rack.specs.declared.rack.VolumePasses.{VolumePasses}
 use Rattle.rack.proofs.LanesPut.{place_then}
 
 module _ {D : Type 0} where
@@ -48,14 +50,14 @@ module _ {D : Type 0} where
     home_place =
         let at_mid = place_then old mid v v takes.passes.rows can.own in
         record {
-          row = subst (λ (x : Vec (VolumePasses D) Global). v < length x.items) (sym owned.passes) at_mid.row;
+          row = subst (λ (x : PassStore D). v < volumes_of x) (sym owned.passes) at_mid.row;
           volumes = at_mid.volumes;
-          rows = subst (λ (x : Vec (VolumePasses D) Global). All (λ p. IsRow at_mid.volumes p) x.items) (sym owned.passes) at_mid.rows;
+          rows = subst (IsSquare at_mid.volumes) (sym owned.passes) at_mid.rows;
           within = at_mid.within;
         }
 
     pub spindle_same : spindle_pass last v v ≡ spindle_pass old v v
-    spindle_same = ap (λ (x : Vec (VolumePasses D) Global). option_and_then (λ (p : VolumePasses D). slice_index_or p.spindles.items v None) (slice_get x.items v)) owned.passes ∙ own.spindle
+    spindle_same = ap (λ (x : PassStore D). item_at x.spindles v v) owned.passes ∙ own.spindle
 
     pub image_mid : image_here mid.images.items v ≡ Some can.image
     image_mid = ap (λ (is : List (Option (ImageRest D))). image_here is v) same_images ∙ can.out

@@ -16,16 +16,12 @@ use Rattle.rack.specs.Parts.{count_owners, owned_in, TakesOwners, TakesOwnedIn}
 use Rattle.rack.specs.declared.heads_said.Said.{Said}
 use Rattle.rack.specs.declared.rack.ImageRest.{ImageRest}
 use Rattle.rack.specs.declared.rack.Rest.{Rest}
-
-there_at : {X : Type 0} (xs : List X) (k : ℕ) → k < length xs → (x : X) × (slice_get xs k ≡ Some x)
-there_at [] k lt = absurd (omega (arith, lt))
-there_at (x ∷ xs) zero lt = (x, refl)
-there_at (x ∷ xs) (suc k) lt = there_at xs k (omega (arith, lt))
+use Rattle.rack.proofs.Members.{element_at}
 
 -- the shape of a volume of the configuration
 pub shape_at : (config : Config) (k : ℕ) (s : Shape) → k < length config.volumes.items → ((d : VolumeConf) → s ≡ shape_in config (slice_index_or config.volumes.items k d)) → slice_get (shapes_of config) k ≡ Some s
 shape_at config k s lt is =
-    let v = there_at config.volumes.items k lt in
+    let v = element_at config.volumes.items k lt in
     slice_get-map (shape_in config) config.volumes.items k ∙ ap (option_map (shape_in config)) v.1
     ∙ ap (λ (x : Shape). Some x) (ap (shape_in config) (sym (get_or_from_slice_get config.volumes.items k v.0 v.0 v.1)) ∙ sym (is v.0))
 

@@ -19,6 +19,8 @@ use Rattle.manager.specs.declared.base.ManagerBase.{ManagerBase}
 use Rattle.manager.specs.declared.part.Part.{Part}
 use Rattle.manager.specs.declared.part.Part.TheVariants as part
 use Rattle.manager.specs.declared.station.Station.{Station}
+use Rattle.part_store.specs.Passes.{volumes_of}
+use Rattle.part_store.proofs.Square.{item_within}
 use Rattle.rack.specs.Rests.{image_here, segment_here, held_here, pool_pass, away_with, IsSegmentHere, IsRest}
 use Rattle.rack.specs.Racks.{IsClosable, base_of_station}
 use Rattle.rack.specs.Closing.{ClosesStations, GivesBack, KeepsButHome, RefillsAll, KeepsSpindles, HasFaultHere, home_here}
@@ -27,7 +29,6 @@ use Rattle.rack.specs.Parts.{IsTogether}
 use Rattle.rack.specs.declared.rack.ImageRest.{ImageRest}
 use Rattle.rack.specs.declared.rack.Rack.{Rack}
 use Rattle.rack.specs.declared.rack.Rest.{Rest}
-use Rattle.rack.specs.declared.rack.VolumePasses.{VolumePasses}
 use Rattle.rack.proofs.Members.{is_there, in_map, of_map, none_in, here_within}
 use Rattle.rack.proofs.Closable.{image_was}
 use Rattle.rack.proofs.FaultyParts.{label_fault, home_fault, segment_fault}
@@ -66,16 +67,13 @@ module _ {D : Type 0} (state : D → State) (tells : Bool) (config : Config) (b 
       holding : Rattle.rack.specs.Rests.IsHolding r.rest v k i
       holding = can.rest.parts.returned.held v k i (in_map (λ (h : ℕ × Spun D). h.0) (held_here r.rest v k) (i, p) has)
 
-      row : (v < length r.rest.passes.items) ⊎ (length r.rest.passes.items ≤ v) → v < length r.rest.passes.items
-      row (inl less) = less
-      row (inr past) =
-          let none : slice_get r.rest.passes.items v ≡ None = slice_get_past r.rest.passes.items v past in
-          absurd (none-some holding.0 (sym (ap (λ (o : Option (VolumePasses D)). option_and_then (λ q. slice_index_or q.pools.items k None) o) none) ∙ holding.1))
+      row : v < volumes_of r.rest.passes
+      row = let lt = (item_within r.rest.passes.pools (length (shapes_of config)) k v holding.0 can.rest.parts.rows.pools holding.1).1 in omega (arith, lt, can.rest.parts.count)
 
       away : Contains (away_with (map (λ (u : Station D). base_of_station u) r.stations.items)).lanes (v, k) → ⊥
       away =
           let within = here_within r.rest.images.items k m here in
-          (can.rest.parts.pools.here v k (row (cases_lt v (length r.rest.passes.items))) (omega (arith, within, can.rest.parts.images.0, can.locks.pool_count))).0 (is_there (pool_pass r.rest v k) holding.0 holding.1)
+          (can.rest.parts.pools.here v k row (omega (arith, within, can.rest.parts.images.0, can.locks.pool_count))).0 (is_there (pool_pass r.rest v k) holding.0 holding.1)
 
   pub image_through : (k : ℕ) (m : ImageRest D) → image_here r.rest.images.items k ≡ Some m → (q : ImageRest D) × IsThrough k m q
   image_through k m here =

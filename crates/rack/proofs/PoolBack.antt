@@ -1,11 +1,11 @@
 -- The segments of a pool that is closed are all in their places again.
 use Rattle.std.proofs.Common.{◌≡◌, ◌≢◌, ◌<◌, ◌≤◌, ◌⊎◌, inl, inr, ℕ, zero, suc, true, List, [], ◌∷◌, length, get_or, set, map, Option, Some, None, is_some, refl, sym, ap, ◌∙◌, subst, arith}
-use Rattle.std.specs.Prelude.{Contains, All, IsSome, slice_get, slice_index_or, option_and_then}
+use Rattle.std.specs.Prelude.{Contains, All, IsSome, slice_get, slice_index_or}
 use Rattle.std.proofs.lemmas.Bool.{cases_eq, cases_lt}
 use Rattle.std.proofs.lemmas.Bool.Decides.{nat_tests}
-use Rattle.std.proofs.lemmas.List.{get_or_past, get_or-set_same, get_or-set_other}
+use Rattle.std.proofs.lemmas.List.{get_or_default, length-map, get_or_past, get_or-set_same, get_or-set_other}
 use Rattle.std.proofs.lemmas.List.Elements.{All-contains}
-use Rattle.std.proofs.lemmas.Option.{none-some, same_Some, slice_get-get_or, slice_get_past}
+use Rattle.std.proofs.lemmas.Option.{none-some, same_Some}
 use Rattle.wol_disk.specs.Disk.{State}
 use Rattle.wol_model.specs.Heads.{Shape}
 use Rattle.turn_lock.specs.Histories.{Entry, own}
@@ -25,13 +25,15 @@ use Rattle.seg_pool.proofs.Holding.{holder_own, is_holder}
 use Rattle.seg_pool.proofs.Using.{has_index}
 use Rattle.log_segment.specs.Segment.{IsBlank, free_part}
 use Rattle.log_segment.specs.declared.free.FreeSegment.{FreeSegment}
-use Rattle.rack.specs.Rests.{image_here, segment_here, pool_pass, held_here, indexes_here, IsHolding, IsHeldHere, IsRow}
+use Rattle.part_store.specs.Passes.{volumes_of, IsSquare}
+use Rattle.part_store.specs.Rows.{row_at}
+use Rattle.rack.specs.Rests.{image_here, segment_here, pool_pass, held_here, indexes_here, IsHolding, IsHeldHere}
 use Rattle.rack.specs.Parts.{HasPlaces, EmptiesInto, IsRefilled, IsBlankPart, IsSameBut, KeepsImage, segment_in, item_part, either_part}
-use Rattle.rack.specs.Closing.{CanClosePool, CanPutAllHeld, PutsAllHeld, ArePoolsTaken, RefillsAll, IsRefilledAll}
+use Rattle.rack.specs.Closing.{CanClosePool, CanPutAllHeld, PutsAllHeld, RefillsAll, IsRefilledAll}
 use Rattle.rack.specs.declared.rack.ImageRest.{ImageRest}
 use Rattle.rack.specs.declared.rack.Rest.{Rest}
-use Rattle.rack.specs.declared.rack.VolumePasses.{VolumePasses}
-use Rattle.rack.proofs.Gathering.{some_element}
+use Rattle.part_store.proofs.Laws.{item_of_all}
+use Rattle.part_store.proofs.Square.{item_within, pool_row}
 use Rattle.rack.proofs.Members.{no_value, a_value, is_there, in_map, of_map, is_member, all_member}
 
 -- ---- Who has a segment, as passes use the pool
@@ -97,7 +99,7 @@ listed r k i (suc n) = go (is_member (indexes_here r n k) i) (listed r k i n)
             pick (inr differs) = none v (omega (arith, less, differs)) has
 
 module _ {D : Type 0} (state : D → State) (volumes k : ℕ) (z : Shape) (lock : TurnLock (Pool (FreeSegment D)) PoolBase) (old : Rest D) (can : CanClosePool state volumes k z lock old)
-    (pool : Pool (FreeSegment D)) (entries : List Entry) (rows : List (VolumePasses D)) (ps : List (PassOf (Pool (FreeSegment D)) PoolBase)) (taken : ArePoolsTaken k old.passes.items rows ps)
+    (pool : Pool (FreeSegment D)) (entries : List Entry) (ps : List (PassOf (Pool (FreeSegment D)) PoolBase)) (taken : map Some ps ≡ row_at old.passes.pools k)
     (stands : StandsFor (IsBlank state) pool (lock_id lock).base entries) (whole : AreWhole entries ps) where
   abbrev base : PoolBase
   base = (lock_id lock).base
@@ -107,26 +109,19 @@ module _ {D : Type 0} (state : D → State) (volumes k : ℕ) (z : Shape) (lock 
   has_then i = holder (holders_after base entries) i
 
   row_within : (v : ℕ) (p : PassOf (Pool (FreeSegment D)) PoolBase) → pool_pass old v k ≡ Some p → v < volumes
-  row_within v p here = go (cases_lt v volumes)
-    where
-      go : (v < volumes) ⊎ (volumes ≤ v) → v < volumes
-      go (inl less) = less
-      go (inr past) =
-          let none : slice_get old.passes.items v ≡ None = slice_get_past old.passes.items v (omega (arith, past, can.count)) in
-          absurd (none-some p (sym (ap (λ (o : Option (VolumePasses D)). option_and_then (λ q. slice_index_or q.pools.items k None) o) none) ∙ here))
+  row_within v p here = (item_within old.passes.pools volumes k v p can.rows.pools here).1
 
   abbrev pass_of : (v : ℕ) → v < volumes → PassOf (Pool (FreeSegment D)) PoolBase
   pass_of v below = (can.passes v below).0
 
+  went : (v : ℕ) (below : v < volumes) → (v < length ps) × (get_or ps v (pass_of v below) ≡ pass_of v below)
+  went v below = item_of_all ps v (pass_of v below) (ap (λ (row : List (Option (PassOf (Pool (FreeSegment D)) PoolBase))). slice_index_or row v None) taken ∙ (can.passes v below).1)
+
   among : (v : ℕ) (below : v < volumes) → Contains ps (pass_of v below)
-  among v below =
-      let h : v < length old.passes.items = omega (arith, below, can.count) in
-      let d = some_element old.passes.items v h in
-      let within : v < length ps = omega (arith, h, taken.taken) in
-      let p = pass_of v below in
-      let same : p ≡ get_or ps v p = same_Some p (get_or ps v p) (sym (can.passes v below).1
-      ∙ ap (λ (o : Option (VolumePasses D)). option_and_then (λ q. slice_index_or q.pools.items k None) o) (slice_get-get_or old.passes.items v d h) ∙ (taken.each v d p h).there) in
-      (v, within, sym same)
+  among v below = (v, (went v below).0, (went v below).1)
+
+  gathered : length ps ≡ volumes
+  gathered = sym (length-map ps Some) ∙ ap length taken ∙ pool_row volumes old.passes can.rows k can.below
 
   own_is : (v : ℕ) (below : v < volumes) → own v entries ≡ pass_mine (pass_of v below)
   own_is v below =
@@ -169,17 +164,14 @@ module _ {D : Type 0} (state : D → State) (volumes k : ℕ) (z : Shape) (lock 
       go : (n < volumes) ⊎ (volumes ≤ n) → n < volumes
       go (inl less) = less
       go (inr past) = numbered (λ v d within. λ same.
-          let below : v < volumes = omega (arith, within, taken.taken, can.count) in
+          let below : v < volumes = omega (arith, within, gathered) in
           let number = (can.passes v below).2.number_is in
           let is_it : pass_of v below ≡ get_or ps v d = same_pass v d within below in
           absurd (omega (arith, past, below, sym (ap (λ p. pass_number p) is_it) ∙ number, same)))
         where
           same_pass : (v : ℕ) (d : PassOf (Pool (FreeSegment D)) PoolBase) → v < length ps → (below : v < volumes) → pass_of v below ≡ get_or ps v d
           same_pass v d within below =
-              let h : v < length old.passes.items = omega (arith, below, can.count) in
-              let row = some_element old.passes.items v h in
-              same_Some (pass_of v below) (get_or ps v d) (sym (can.passes v below).1
-              ∙ ap (λ (o : Option (VolumePasses D)). option_and_then (λ q. slice_index_or q.pools.items k None) o) (slice_get-get_or old.passes.items v row h) ∙ (taken.each v row d h).there)
+              sym (get_or_default ps v d (pass_of v below) within ∙ (went v below).1)
 
   -- a segment that someone has lies in the image
   pub has_within : (i : ℕ) (n : ImageRest D) → image_here old.images.items k ≡ Some n → has_then i ≢ Elsewhere → i < length n.segments.items
@@ -220,7 +212,7 @@ module _ {D : Type 0} (state : D → State) (volumes k : ℕ) (z : Shape) (lock 
       let same : h.0 ≡ v = one_holder h.0 v (has_then i) (holding_has h.0 i h.1) (holding_has v i (can.held v i has)) in
       h.2 (subst (λ (w : ℕ). Contains (indexes_here old w k) i) (sym same) has))
 
-  pub lists_go : (mid : Rest D) → mid.images ≡ old.images → ((v : ℕ) → held_here mid v k ≡ held_here old v k) → All (λ p. IsRow volumes p) mid.passes.items → CanPutAllHeld mid k
+  pub lists_go : (mid : Rest D) → mid.images ≡ old.images → ((v : ℕ) → held_here mid v k ≡ held_here old v k) → IsSquare volumes mid.passes → CanPutAllHeld mid k
   lists_go mid images held mid_rows = record {
     volumes = volumes;
     rows = mid_rows;

@@ -14,14 +14,13 @@ use Rattle.seg_pool.specs.declared.pool.Pool.{Pool}
 use Rattle.log_segment.specs.declared.free.FreeSegment.{FreeSegment}
 use Rattle.volume_images.specs.Formatted.{part_sizes}
 use Rattle.volume_images.specs.Volumes.{shape_in}
-use Rattle.rack.specs.Rests.{image_here, held_here, list_of, IsImageOut, IsRow, IsRest}
+use Rattle.rack.specs.Rests.{image_here, held_here, IsImageOut, IsRest}
 use Rattle.rack.specs.Racks.{IsClosable}
 use Rattle.rack.specs.Opens.{out_names}
-use Rattle.rack.specs.Closing.{KeepsButHome, ClosesStations, RefillsAll, KeepsSpindles, KeepsOtherRows, LeavesNoneOut}
+use Rattle.rack.specs.Closing.{KeepsButHome, ClosesStations, RefillsAll, KeepsSpindles, LeavesNoneOut}
 use Rattle.rack.specs.declared.rack.ImageRest.{ImageRest}
 use Rattle.rack.specs.declared.rack.Rack.{Rack}
 use Rattle.rack.specs.declared.rack.Rest.{Rest}
-use Rattle.rack.specs.declared.rack.VolumePasses.{VolumePasses}
 use Rattle.rack.proofs.Members.{element_at}
 
 -- the same names are out where the same images are
@@ -34,18 +33,6 @@ out_same config (v ∷ vs) (None ∷ xs) (None ∷ ys) count same = out_same con
 out_same config (v ∷ vs) (Some x ∷ xs) (Some y ∷ ys) count same = ap (λ l. (v.name, part_sizes (shape_in config v)) ∷ l) (out_same config vs xs ys (omega (arith, count)) (λ k. same (suc k)))
 out_same config (v ∷ vs) (None ∷ xs) (Some y ∷ ys) count same = let first = same 0 in absurd (cc first)
 out_same config (v ∷ vs) (Some x ∷ xs) (None ∷ ys) count same = let first = same 0 in absurd (cc first)
-
--- all lists of lanes are empty
-pub lists_ended : {D : Type 0} (volumes : ℕ) (cur new : Rest D) → length cur.passes.items ≡ volumes → All (λ p. IsRow volumes p) cur.passes.items → KeepsOtherRows cur new → ((v k : ℕ) → k < volumes → held_here cur v k ≡ [])
-    → All (λ (p : VolumePasses D). All (λ list. list.items ≡ []) p.held.items) new.passes.items
-lists_ended {D} volumes cur new count rows kept empty v d within k e below =
-    let old : v < length cur.passes.items = omega (arith, within, kept.count) in
-    let same : (get_or new.passes.items v d).held ≡ (get_or cur.passes.items v d).held = ap (λ (p : VolumePasses D). p.held) (kept.each v d old) in
-    let below_old : k < length (get_or cur.passes.items v d).held.items = subst (λ h. k < length h.items) same below in
-    let row = rows v d old in
-    let list : held_here cur v k ≡ (get_or (get_or cur.passes.items v d).held.items k e).items =
-    ap (λ (o : Option (VolumePasses D)). list_of (option_and_then (λ p. slice_get p.held.items k) o)) (slice_get-get_or cur.passes.items v d old) ∙ ap list_of (slice_get-get_or (get_or cur.passes.items v d).held.items k e below_old) in
-    ap (λ h. (get_or h.items k e).items) same ∙ sym list ∙ empty v k (omega (arith, below_old, row.held))
 
 module _ {D : Type 0} (state : D → State) (tells : Bool) (config : Config) (b : BayState) (r : Rack D) (can : IsClosable state config b r) (first second : Rest D) (is : IsRest state config r.shared [] first)
     (closed : ClosesStations tells state r.stations.items r.rest first)

@@ -29,6 +29,7 @@ use Rattle.manager_recovery.specs.Left.{IsHandedBack, freed_on}
 use Rattle.manager_recovery.specs.Opening.{place_of}
 use Rattle.manager_recovery.specs.declared.opening.Opening.{Opening}
 use Rattle.volume_images.specs.Volumes.{shapes_of}
+use Rattle.part_store.specs.Passes.{volumes_of}
 use Rattle.rack.specs.Opening.{IsOpeningRack}
 use Rattle.rack.specs.Parts.{TakesOpening, PutsOpening, IsOwnedPlace, loggers_out}
 use Rattle.rack.specs.Racks.{base_of_station}
@@ -113,7 +114,7 @@ module _ {D : Type 0} (state : D → State) (tells : Bool) (config : Config) (va
 
   -- ---- Passes
 
-  pools_here : (v k : ℕ) → v < length last.passes.items → k < length r.shared.pools.items → IsSome (pool_pass last v k) ↔ (Contains (away_with bases).lanes (v, k) → ⊥)
+  pools_here : (v k : ℕ) → v < volumes_of last.passes → k < length r.shared.pools.items → IsSome (pool_pass last v k) ↔ (Contains (away_with bases).lanes (v, k) → ⊥)
   pools_here v k row within = ⊎_elim
       (λ is.
       let lane = back_again.lane_of state tells config valid b said id r own ready lt at view own_view away o takes n back last puts k is.1 in (
@@ -138,7 +139,7 @@ module _ {D : Type 0} (state : D → State) (tells : Bool) (config : Config) (va
   spindle_was_lane : (x m : Lane D) (k : ℕ) → back_again.Returns state tells config valid b said id r own ready lt at view own_view away o takes n back last puts x m → logger_of x ≡ k → spindle_pass r.rest id k ≡ Some (spindle_of x)
   spindle_was_lane x m k is same = ap (λ (j : ℕ). spindle_pass r.rest id j) (sym same) ∙ is.taken.spindle
 
-  spindles_here : (v k : ℕ) → v < length last.passes.items → k < length r.shared.spindles.items
+  spindles_here : (v k : ℕ) → v < volumes_of last.passes → k < length r.shared.spindles.items
       → IsSome (spindle_pass last v k) ↔ ((Contains (away_with bases).lanes (v, k) ⊎ ((v ≡ k) × Contains (away_with bases).homes v)) → ⊥)
   spindles_here v k row within = ⊎_elim
       (λ is.

@@ -1,10 +1,10 @@
 -- The rack before a volume is opened.
-use Rattle.std.proofs.Common.{◌≡◌, ◌<◌, ◌≤◌, ◌+◌, ℕ, zero, suc, List, [], ◌∷◌, length, map, take, Option, None, Some, option_and_then, option_map, refl, sym, ap, subst, ◌∙◌, arith}
+use Rattle.std.proofs.Common.{◌≡◌, ◌<◌, ◌≤◌, ◌+◌, ℕ, zero, suc, List, [], ◌∷◌, length, map, take, replicate, Option, None, Some, option_map, refl, sym, ap, subst, ◌∙◌, arith}
 use Rattle.std.specs.Prelude.{All, slice_get, slice_index_or, vec_capacity}
 use Rattle.std.specs.declared.alloc.Global.{Global}
 use Rattle.std.specs.declared.vec.Vec.{Vec}
-use Rattle.std.proofs.lemmas.List.{length-map, length-take}
-use Rattle.std.proofs.lemmas.List.Elements.{All-nil}
+use Rattle.std.proofs.lemmas.List.{length-map, length-take, length-replicate}
+use Rattle.std.proofs.lemmas.List.Elements.{All-nil, All-head, All-tail}
 use Rattle.std.proofs.lemmas.Option.{slice_get-map, slice_get_within, get_or_from_slice_get}
 use Rattle.turn_lock.specs.declared.lock.TurnLock.{TurnLock}
 use Rattle.turn_lock.specs.declared.pass.PassOf.{PassOf}
@@ -19,21 +19,18 @@ use Rattle.manager.specs.declared.base.ManagerBase.{ManagerBase}
 use Rattle.manager.specs.declared.manager.Manager.{Manager}
 use Rattle.manager.specs.declared.station.Station.{Station}
 use Rattle.manager_recovery.proofs.Lists.{zip_get, zip_length}
-use Rattle.rack.specs.Making.{AreLists, AreEmptyPasses}
-use Rattle.rack.specs.Rests.{IsRow, AreRooms, held_here, list_of}
-use Rattle.rack.specs.Parts.{PutsSpindles, PutsPools, CanDeal, Deals, IsSetUp}
+use Rattle.part_store.specs.Passes.{IsSquare, volumes_of, segments_in}
+use Rattle.part_store.specs.Rows.{item_at}
+use Rattle.part_store.specs.declared.passes.PassStore.{PassStore}
+use Rattle.part_store.proofs.Square.{square_count}
+use Rattle.rack.specs.Making.{AreLists}
+use Rattle.rack.specs.Rests.{AreRooms, held_here}
+use Rattle.rack.specs.Parts.{PutsSpindles, PutsPools, IsSetUp, spindle_slots, pool_slots}
 use Rattle.rack.specs.declared.lists.Lists.{Lists}
 use Rattle.rack.specs.declared.locks.Issued.{Issued}
 use Rattle.rack.specs.declared.rack.Rack.{Rack}
 use Rattle.rack.specs.declared.rack.Rooms.{Rooms}
-use Rattle.rack.specs.declared.rack.VolumePasses.{VolumePasses}
-use Rattle.rack.proofs.Rows.{all_read}
-use Rattle.rack.proofs.Dealing.{get_take}
-
-there_at : {X : Type 0} (xs : List X) (k : ℕ) → k < length xs → (x : X) × (slice_get xs k ≡ Some x)
-there_at [] k lt = absurd (omega (arith, lt))
-there_at (x ∷ xs) zero lt = (x, refl)
-there_at (x ∷ xs) (suc k) lt = there_at xs k (omega (arith, lt))
+use Rattle.rack.proofs.Members.{element_at}
 
 -- an element of a mapped list
 map_read : {X Y : Type 0} (f : X → Y) (xs : List X) (k : ℕ) (x : X) (d : Y) → slice_get xs k ≡ Some x → slice_index_or (map f xs) k d ≡ f x
@@ -53,6 +50,41 @@ module _ {D : Type 0} (n : ℕ) (pools : List (Issued (Pool (FreeSegment D)) Poo
     subst (λ (m : ℕ). m ≤ vec_capacity b.rooms.pools) (sym pool_count) (subst (λ (m : ℕ). n ≤ m) (sym (ap (λ (v : Vec (Vec (PassOf (Pool (FreeSegment D)) PoolBase) Global) Global). vec_capacity v) same_rooms)) lists.rooms.pools.1),
   )
 
+get_take : {T : Type 0} (xs : List T) (n i : ℕ) → i < n → slice_get (take n xs) i ≡ slice_get xs i
+get_take xs zero i lt = absurd (omega (arith, lt))
+get_take [] (suc n) i lt = refl
+get_take (x ∷ xs) (suc n) zero lt = refl
+get_take (x ∷ xs) (suc n) (suc i) lt = get_take xs n i (omega (arith, lt))
+
+-- what a row shows of which all slots hold an item
+all_shown : {T : Type 0} (xs : List T) (v : ℕ) → slice_index_or (map Some xs) v None ≡ slice_get xs v
+all_shown [] v = refl
+all_shown (x ∷ xs) zero = refl
+all_shown (x ∷ xs) (suc v) = all_shown xs v
+
+nothing_at : {T : Type 0} (m v : ℕ) → slice_index_or (replicate m (None {A = T})) v None ≡ None
+nothing_at zero v = refl
+nothing_at (suc m) zero = refl
+nothing_at (suc m) (suc v) = nothing_at m v
+
+nothing_there : {T : Type 0} (n m k v : ℕ) → item_at (replicate n (replicate m (None {A = T}))) k v ≡ None
+nothing_there zero m k v = refl
+nothing_there (suc n) m zero v = nothing_at m v
+nothing_there (suc n) m (suc k) v = nothing_there n m k v
+
+-- each row has one size
+sizes : {X Y : Type 0} (P : X → Type 0) (g : X → List Y) (xs : List X) (m : ℕ) → ((x : X) → P x → length (g x) ≡ m) → All P xs → map length (map g xs) ≡ replicate (length xs) m
+sizes P g [] m one all = refl
+sizes P g (x ∷ xs) m one all = ap (λ (k : ℕ). k ∷ map length (map g xs)) (one x (All-head P x xs all)) ∙ ap (λ (l : List ℕ). m ∷ l) (sizes P g xs m one (All-tail P x xs all))
+
+sizes_of_empty : {T : Type 0} (n m : ℕ) → map length (replicate m (replicate n (None {A = T}))) ≡ replicate m n
+sizes_of_empty n zero = refl
+sizes_of_empty {T} n (suc m) = ap (λ (k : ℕ). k ∷ map length (replicate m (replicate n (None {A = T})))) (length-replicate n None) ∙ ap (λ (l : List ℕ). n ∷ l) (sizes_of_empty n m)
+
+-- what a filled row shows at a slot
+row_shows : {T : Type 0} (n v : ℕ) (xs : List T) → v < n → slice_index_or (map Some (take n xs)) v None ≡ slice_get xs v
+row_shows n v xs lt = all_shown (take n xs) v ∙ get_take xs n v lt
+
 module _ {D : Type 0} (spindles : List (Issued Spindle SpindleBase)) (pools : List (Issued (Pool (FreeSegment D)) PoolBase)) (a b c : Lists D)
     (lists : AreLists (length spindles) a) (spindle_sizes : All (λ (i : Issued Spindle SpindleBase). length i.passes.items ≡ length spindles + 1) spindles)
     (pool_count : length pools ≡ length spindles) (pool_sizes : All (λ (i : Issued (Pool (FreeSegment D)) PoolBase). length i.passes.items ≡ length spindles) pools)
@@ -66,144 +98,62 @@ module _ {D : Type 0} (spindles : List (Issued Spindle SpindleBase)) (pools : Li
   abbrev SpindleRow : Type 0
   SpindleRow = Vec (PassOf Spindle SpindleBase) Global
 
-  passes_same : c.passes ≡ a.passes
-  passes_same = puts_pools.passes ∙ puts.passes
+  pool_rows : c.passes.pools ≡ map pool_slots pools
+  pool_rows = puts_pools.rows
 
-  count_is : length c.passes.items ≡ n
-  count_is = ap (λ (v : Vec (VolumePasses D) Global). length v.items) passes_same ∙ lists.count
+  spindle_rows : c.passes.spindles ≡ map (spindle_slots n) spindles
+  spindle_rows = puts_pools.spindle_passes ∙ puts.rows
 
-  spindle_rows : c.rooms.spindles.items ≡ b.rooms.spindles.items
-  spindle_rows = ap (λ (v : Vec SpindleRow Global). v.items) puts_pools.spindle_rooms
+  returned_rows : c.passes.returned ≡ replicate n (replicate n None)
+  returned_rows = puts_pools.returned ∙ puts.returned ∙ lists.passes.returned
 
-  abbrev row_of : Issued (Pool (FreeSegment D)) PoolBase → PoolRow
-  row_of i = i.passes
-
-  pool_row_size : All (λ (row : PoolRow). length row.items ≡ n) (map row_of pools)
-  pool_row_size k d within =
-      let lt : k < length pools = let m = length-map pools row_of in omega (arith, within, m) in
-      let i = there_at pools k lt in
-      ap (λ (r : PoolRow). length r.items) (map_read row_of pools k i.0 d i.1) ∙ all_read (λ (j : Issued (Pool (FreeSegment D)) PoolBase). length j.passes.items ≡ n) pools k i.0 i.1 pool_sizes
-
-  spindle_row_count : length b.rooms.spindles.items ≡ n
-  spindle_row_count = zip_length (λ (j : Issued Spindle SpindleBase) (x : SpindleRow). (x.items ≡ take (length spindles) j.passes.items) × (length spindles + 1 ≤ vec_capacity x)) spindles b.rooms.spindles.items puts.rows
-
-  spindle_row_size : All (λ (row : SpindleRow). length row.items ≡ n) b.rooms.spindles.items
-  spindle_row_size k d within =
-      let i = there_at spindles k (omega (arith, within, spindle_row_count)) in
-      let row = there_at b.rooms.spindles.items k within in
-      let fact = zip_get (λ (j : Issued Spindle SpindleBase) (x : SpindleRow). (x.items ≡ take (length spindles) j.passes.items) × (length spindles + 1 ≤ vec_capacity x)) spindles b.rooms.spindles.items k i.0 row.0 i.1 row.1 puts.rows in
-      let size = all_read (λ (j : Issued Spindle SpindleBase). length j.passes.items ≡ n + 1) spindles k i.0 i.1 spindle_sizes in
-      let len = length-take n i.0.passes.items in
-      ap (λ (r : SpindleRow). length r.items) (get_or_from_slice_get b.rooms.spindles.items k row.0 d row.1) ∙ ap length fact.0 ∙ (omega (arith, len, size))
-
-  pub can_deal : CanDeal c
-  can_deal = record {
-    pools = subst (λ (l : List PoolRow). All (λ (row : PoolRow). length row.items ≡ length c.passes.items) l) (sym puts_pools.rows)
-        (subst (λ (m : ℕ). All (λ (row : PoolRow). length row.items ≡ m) (map row_of pools)) (sym count_is) pool_row_size);
-    pool_count = ap length puts_pools.rows ∙ length-map pools row_of ∙ pool_count ∙ sym count_is;
-    spindles = subst (λ (l : List SpindleRow). All (λ (row : SpindleRow). length row.items ≡ length c.passes.items) l) (sym spindle_rows)
-        (subst (λ (m : ℕ). All (λ (row : SpindleRow). length row.items ≡ m) b.rooms.spindles.items) (sym count_is) spindle_row_size);
-    spindle_count = ap length spindle_rows ∙ spindle_row_count ∙ sym count_is;
-    passes = subst (λ (m : ℕ). All (AreEmptyPasses m) c.passes.items) (sym count_is) (subst (λ (v : Vec (VolumePasses D) Global). All (AreEmptyPasses n) v.items) (sym passes_same) lists.passes);
+  square : IsSquare n c.passes
+  square = record {
+    pools = ap (map length) pool_rows ∙ sizes (λ (i : Issued (Pool (FreeSegment D)) PoolBase). length i.passes.items ≡ n) pool_slots pools n (λ i size. length-map i.passes.items Some ∙ size) pool_sizes ∙ ap (λ (m : ℕ). replicate m n) pool_count;
+    spindles = ap (map length) spindle_rows
+        ∙ sizes (λ (i : Issued Spindle SpindleBase). length i.passes.items ≡ n + 1) (spindle_slots n) spindles n (λ i size. let t = length-take n i.passes.items in let m = length-map (take n i.passes.items) (λ (p : PassOf Spindle SpindleBase). Some p) in omega (arith, t, m, size)) spindle_sizes;
+    returned = ap (map length) returned_rows ∙ sizes_of_empty n n;
   }
 
-  module _ (d : Lists D) (deals : Deals c d) (r : Rack D) (shared : r.shared ≡ d.shared) (keepers : r.keepers ≡ d.keepers) (stations : r.stations ≡ d.stations)
-      (passes : r.rest.passes ≡ d.passes) (rooms : r.rest.rooms ≡ d.rooms) where
-    rows_are : r.rest.passes.items ≡ d.passes.items
-    rows_are = ap (λ (v : Vec (VolumePasses D) Global). v.items) passes
-
-    row_count : length r.rest.passes.items ≡ n
-    row_count = ap length rows_are ∙ deals.count ∙ count_is
-
-    row_at : (v : ℕ) → v < n → (p : VolumePasses D) × (slice_get r.rest.passes.items v ≡ Some p)
-    row_at v lt = there_at r.rest.passes.items v (omega (arith, lt, row_count))
-
-    in_d : (v : ℕ) (p : VolumePasses D) → slice_get r.rest.passes.items v ≡ Some p → slice_get d.passes.items v ≡ Some p
-    in_d v p is = ap (λ (l : List (VolumePasses D)). slice_get l v) (sym rows_are) ∙ is
-
-    was : (v : ℕ) (p : VolumePasses D) → slice_get d.passes.items v ≡ Some p → (o : VolumePasses D) × (slice_get c.passes.items v ≡ Some o) × (p.held ≡ o.held) × AreEmptyPasses n o
-    was v p is =
-        let o = there_at c.passes.items v (let w = slice_get_within d.passes.items v p is in omega (arith, w, deals.count)) in
-        (o.0, o.1, deals.held v o.0 p o.1 is, subst (λ (m : ℕ). AreEmptyPasses m o.0) count_is (all_read (AreEmptyPasses (length c.passes.items)) c.passes.items v o.0 o.1 can_deal.passes))
-
-    row_size : (v : ℕ) (p : VolumePasses D) → slice_get d.passes.items v ≡ Some p → IsRow n p
-    row_size v p is =
-        let o = was v p is in
-        record {
-          pools = ap length (deals.pools v p is) ∙ length-map c.rooms.pools.items (λ (row : PoolRow). slice_get row.items v) ∙ can_deal.pool_count ∙ count_is;
-          spindles = ap length (deals.spindles v p is) ∙ length-map c.rooms.spindles.items (λ (row : SpindleRow). slice_get row.items v) ∙ can_deal.spindle_count ∙ count_is;
-          held = ap (λ (l : Vec (Vec (ℕ × Spun D) Global) Global). length l.items) o.2 ∙ o.3.held_count;
-        }
-
+  module _ (r : Rack D) (shared : r.shared ≡ c.shared) (keepers : r.keepers ≡ c.keepers) (stations : r.stations ≡ c.stations) (passes : r.rest.passes ≡ c.passes) (rooms : r.rest.rooms ≡ c.rooms) where
     none_held : (v k : ℕ) → held_here r.rest v k ≡ []
-    none_held v k = by_row (slice_get r.rest.passes.items v) refl
-      where
-        by_list : (o : VolumePasses D) → AreEmptyPasses n o → (l : Option (Vec (ℕ × Spun D) Global)) → slice_get o.held.items k ≡ l → list_of l ≡ []
-        by_list o empty None is = refl
-        by_list o empty (Some l) is = all_read (λ (x : Vec (ℕ × Spun D) Global). x.items ≡ []) o.held.items k l is empty.held
-
-        by_row : (o : Option (VolumePasses D)) → slice_get r.rest.passes.items v ≡ o → list_of (option_and_then (λ (p : VolumePasses D). slice_get p.held.items k) o) ≡ []
-        by_row None is = refl
-        by_row (Some p) is =
-            let o = was v p (in_d v p is) in
-            ap list_of (ap (λ (l : Vec (Vec (ℕ × Spun D) Global) Global). slice_get l.items k) o.2) ∙ by_list o.0 o.3 (slice_get o.0.held.items k) refl
+    none_held v k = ap segments_in (ap (λ (s : PassStore D). item_at s.returned k v) passes ∙ ap (λ (l : List (List (Option (Vec (ℕ × Spun D) Global)))). item_at l k v) returned_rows ∙ nothing_there n n k v)
 
     rooms_are : AreRooms n 0 r.rest.rooms
     rooms_are = subst (AreRooms n 0) (sym rooms) (record {
-      pool_count = deals.pool_rows.count ∙ can_deal.pool_count ∙ count_is;
-      pools = λ k e within.
-          let in_c : k < length c.rooms.pools.items = omega (arith, within, deals.pool_rows.count) in
-          let size = can_deal.pools k e in_c in
-          let cap = (slice_index_or c.rooms.pools.items k e).ok.1 in let len = (slice_index_or c.rooms.pools.items k e).ok.0 in
-          let same = deals.pool_rows.rooms k e in_c in
-          (deals.pool_rows.empty k e within, omega (arith, size, cap, len, same, count_is));
-      spindle_count = deals.spindle_rows.count ∙ can_deal.spindle_count ∙ count_is;
-      spindles = λ k e within.
-          let in_c : k < length c.rooms.spindles.items = omega (arith, within, deals.spindle_rows.count) in
-          let in_b : k < length b.rooms.spindles.items = subst (λ (l : List SpindleRow). k < length l) spindle_rows in_c in
-          let i = there_at spindles k (omega (arith, in_b, spindle_row_count)) in
-          let row = there_at b.rooms.spindles.items k in_b in
-          let fact = zip_get (λ (j : Issued Spindle SpindleBase) (x : SpindleRow). (x.items ≡ take (length spindles) j.passes.items) × (length spindles + 1 ≤ vec_capacity x)) spindles b.rooms.spindles.items k i.0 row.0 i.1 row.1 puts.rows in
-          let same = deals.spindle_rows.rooms k e in_c in
-          let at : slice_index_or c.rooms.spindles.items k e ≡ row.0 = ap (λ (l : List SpindleRow). slice_index_or l k e) spindle_rows ∙ get_or_from_slice_get b.rooms.spindles.items k row.0 e row.1 in
-          (deals.spindle_rows.empty k e within, subst (λ (m : ℕ). n + 1 ≤ m) (sym (same ∙ ap (λ (x : SpindleRow). vec_capacity x) at)) fact.1);
+      pool_count = puts_pools.row_count ∙ pool_count;
+      pools = subst (λ (m : ℕ). All (λ (row : PoolRow). (row.items ≡ []) × (m ≤ vec_capacity row)) c.rooms.pools.items) pool_count puts_pools.row_rooms;
+      spindle_count = ap (λ (v : Vec SpindleRow Global). length v.items) puts_pools.spindle_rooms ∙ puts.row_count;
+      spindles = subst (λ (v : Vec SpindleRow Global). All (λ (row : SpindleRow). (row.items ≡ []) × (n + 1 ≤ vec_capacity row)) v.items) (sym puts_pools.spindle_rooms) puts.row_rooms;
       manager_count = ap (λ (v : Vec (Vec (PassOf (Manager D) ManagerBase) Global) Global). length v.items) managers_same ∙ ap length lists.rooms.managers.0;
       managers = subst (λ (l : List (Vec (PassOf (Manager D) ManagerBase) Global)). All (λ (row : Vec (PassOf (Manager D) ManagerBase) Global). (row.items ≡ []) × (3 ≤ vec_capacity row)) l) (sym (ap (λ (v : Vec (Vec (PassOf (Manager D) ManagerBase) Global) Global). v.items) managers_same ∙ lists.rooms.managers.0)) (All-nil (λ (row : Vec (PassOf (Manager D) ManagerBase) Global). (row.items ≡ []) × (3 ≤ vec_capacity row)));
-      closed = subst (λ (v : Vec Spindle Global). (v.items ≡ []) × (n ≤ vec_capacity v)) (sym (deals.closed ∙ puts_pools.closed ∙ puts.closed)) lists.rooms.closed;
+      closed = subst (λ (v : Vec Spindle Global). (v.items ≡ []) × (n ≤ vec_capacity v)) (sym (puts_pools.closed ∙ puts.closed)) lists.rooms.closed;
     })
       where
-        managers_same : d.rooms.managers ≡ a.rooms.managers
-        managers_same = deals.managers ∙ puts_pools.managers ∙ puts.managers
+        managers_same : c.rooms.managers ≡ a.rooms.managers
+        managers_same = puts_pools.managers ∙ puts.managers
 
     pub set_up : IsSetUp spindles pools n r
     set_up = record {
-      pool_locks = ap (λ (x : Shared D). x.pools.items) (shared ∙ deals.shared) ∙ puts_pools.locks;
-      spindle_locks = ap (λ (x : Shared D). x.spindles.items) (shared ∙ deals.shared) ∙ ap (λ (v : Vec (TurnLock Spindle SpindleBase) Global). v.items) puts_pools.spindles ∙ puts.locks;
+      pool_locks = ap (λ (x : Shared D). x.pools.items) shared ∙ puts_pools.locks;
+      spindle_locks = ap (λ (x : Shared D). x.spindles.items) shared ∙ ap (λ (v : Vec (TurnLock Spindle SpindleBase) Global). v.items) puts_pools.spindles ∙ puts.locks;
       keeper_count = ap (λ (v : Vec (PassOf Spindle SpindleBase) Global). length v.items) keepers_same ∙ zip_length (λ (j : Issued Spindle SpindleBase) (x : PassOf Spindle SpindleBase). slice_get j.passes.items (length spindles) ≡ Some x) spindles b.keepers.items puts.keepers;
       keepers = λ k i is.
-          let p = there_at b.keepers.items k (let w = slice_get_within spindles k i is in let z = zip_length (λ (j : Issued Spindle SpindleBase) (x : PassOf Spindle SpindleBase). slice_get j.passes.items (length spindles) ≡ Some x) spindles b.keepers.items puts.keepers in omega (arith, w, z)) in
+          let p = element_at b.keepers.items k (let w = slice_get_within spindles k i is in let z = zip_length (λ (j : Issued Spindle SpindleBase) (x : PassOf Spindle SpindleBase). slice_get j.passes.items (length spindles) ≡ Some x) spindles b.keepers.items puts.keepers in omega (arith, w, z)) in
           ap (λ (v : Vec (PassOf Spindle SpindleBase) Global). slice_get v.items k) keepers_same ∙ p.1 ∙ sym (zip_get (λ (j : Issued Spindle SpindleBase) (x : PassOf Spindle SpindleBase). slice_get j.passes.items (length spindles) ≡ Some x) spindles b.keepers.items k i p.0 is p.1 puts.keepers);
-      stations = subst (λ (v : Vec (Station D) Global). (v.items ≡ []) × (n ≤ vec_capacity v)) (sym (stations ∙ deals.stations ∙ puts_pools.stations ∙ puts.stations)) lists.stations;
-      count = row_count;
-      rows = λ v e within. let p = row_at v (omega (arith, within, row_count)) in
-          subst (IsRow n) (sym (get_or_from_slice_get r.rest.passes.items v p.0 e p.1)) (row_size v p.0 (in_d v p.0 p.1));
+      stations = subst (λ (v : Vec (Station D) Global). (v.items ≡ []) × (n ≤ vec_capacity v)) (sym (stations ∙ puts_pools.stations ∙ puts.stations)) lists.stations;
+      count = ap volumes_of passes ∙ square_count n c.passes square;
+      rows = subst (IsSquare n) (sym passes) square;
       pool_passes = λ v k i lt is.
-          let p = row_at v lt in
-          ap (option_and_then (λ (q : VolumePasses D). slice_index_or q.pools.items k None)) p.1
-          ∙ ap (λ (l : List (Option (PassOf (Pool (FreeSegment D)) PoolBase))). slice_index_or l k None) (deals.pools v p.0 (in_d v p.0 p.1) ∙ ap (map (λ (row : PoolRow). slice_get row.items v)) puts_pools.rows)
-          ∙ map_read (λ (row : PoolRow). slice_get row.items v) (map row_of pools) k i.passes None (slice_get-map row_of pools k ∙ ap (option_map row_of) is);
+          ap (λ (s : PassStore D). item_at s.pools k v) passes ∙ ap (λ (l : List (List (Option (PassOf (Pool (FreeSegment D)) PoolBase)))). item_at l k v) pool_rows
+          ∙ ap (λ (row : List (Option (PassOf (Pool (FreeSegment D)) PoolBase))). slice_index_or row v None) (map_read pool_slots pools k i [] is) ∙ all_shown i.passes.items v;
       spindle_passes = λ v k i lt is.
-          let p = row_at v lt in
-          let row = there_at b.rooms.spindles.items k (let w = slice_get_within spindles k i is in omega (arith, w, spindle_row_count)) in
-          let fact = zip_get (λ (j : Issued Spindle SpindleBase) (x : SpindleRow). (x.items ≡ take (length spindles) j.passes.items) × (length spindles + 1 ≤ vec_capacity x)) spindles b.rooms.spindles.items k i row.0 is row.1 puts.rows in
-          ap (option_and_then (λ (q : VolumePasses D). slice_index_or q.spindles.items k None)) p.1
-          ∙ ap (λ (l : List (Option (PassOf Spindle SpindleBase))). slice_index_or l k None) (deals.spindles v p.0 (in_d v p.0 p.1) ∙ ap (map (λ (x : SpindleRow). slice_get x.items v)) spindle_rows)
-          ∙ map_read (λ (x : SpindleRow). slice_get x.items v) b.rooms.spindles.items k row.0 None row.1
-          ∙ ap (λ (l : List (PassOf Spindle SpindleBase)). slice_get l v) fact.0 ∙ get_take i.passes.items n v lt;
+          ap (λ (s : PassStore D). item_at s.spindles k v) passes ∙ ap (λ (l : List (List (Option (PassOf Spindle SpindleBase)))). item_at l k v) spindle_rows
+          ∙ ap (λ (row : List (Option (PassOf Spindle SpindleBase))). slice_index_or row v None) (map_read (spindle_slots n) spindles k i [] is) ∙ row_shows n v i.passes.items lt;
       held = none_held;
       rooms = rooms_are;
-      managers = subst (λ (x : Rooms D). n ≤ vec_capacity x.managers) (sym rooms) (subst (λ (v : Vec (Vec (PassOf (Manager D) ManagerBase) Global) Global). n ≤ vec_capacity v) (sym (deals.managers ∙ puts_pools.managers ∙ puts.managers)) lists.rooms.managers.1);
+      managers = subst (λ (x : Rooms D). n ≤ vec_capacity x.managers) (sym rooms) (subst (λ (v : Vec (Vec (PassOf (Manager D) ManagerBase) Global) Global). n ≤ vec_capacity v) (sym (puts_pools.managers ∙ puts.managers)) lists.rooms.managers.1);
     }
       where
         keepers_same : r.keepers ≡ b.keepers
-        keepers_same = keepers ∙ deals.keepers ∙ puts_pools.keepers
+        keepers_same = keepers ∙ puts_pools.keepers

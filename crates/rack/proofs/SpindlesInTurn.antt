@@ -9,9 +9,10 @@ use Rattle.turn_lock.specs.declared.pass.PassOf.{PassOf}
 use Rattle.spin_model.specs.Spindles.{SpindleView}
 use Rattle.spin_model.specs.declared.spindle.Spindle.{Spindle}
 use Rattle.spin_model.specs.declared.spindle.SpindleBase.{SpindleBase}
+use Rattle.part_store.specs.Passes.{volumes_of}
+use Rattle.part_store.specs.declared.passes.PassStore.{PassStore}
 use Rattle.rack.specs.Closing.{CanCloseSpindles, HasSpindlePasses, StandsClosed, KeepsOtherRows}
 use Rattle.rack.specs.declared.rack.Rest.{Rest}
-use Rattle.rack.specs.declared.rack.VolumePasses.{VolumePasses}
 use Rattle.rack.proofs.Members.{get_left}
 
 at_end : {X : Type 0} (xs : List X) (x : X) → slice_get (xs ++ x ∷ []) (length xs) ≡ Some x
@@ -27,7 +28,7 @@ module _ {D : Type 0} (locks : List (TurnLock Spindle SpindleBase)) (l : TurnLoc
 
   -- the others may be closed as before
   pub others_may : (new : Rest D) → KeepsOtherRows cur new → ((v k : ℕ) → k ≢ length locks → Rattle.rack.specs.Rests.spindle_pass new v k ≡ Rattle.rack.specs.Rests.spindle_pass cur v k)
-      → length new.rooms.spindles.items ≡ length locks → All (λ row. (row.items ≡ []) × (length cur.passes.items + 1 ≤ vec_capacity row)) new.rooms.spindles.items
+      → length new.rooms.spindles.items ≡ length locks → All (λ row. (row.items ≡ []) × (volumes_of cur.passes + 1 ≤ vec_capacity row)) new.rooms.spindles.items
       → length new.rooms.closed.items + length locks ≤ vec_capacity new.rooms.closed → CanCloseSpindles locks keepers new
   others_may new rows others room_count rooms closed = record {
     keeper_count = same_count;
@@ -35,26 +36,32 @@ module _ {D : Type 0} (locks : List (TurnLock Spindle SpindleBase)) (l : TurnLoc
         let x = can.passes k f q (get_left locks (l ∷ []) k f at_lock) (get_left keepers (p ∷ []) k q at_keeper) in
         let below = slice_get_within locks k f at_lock in
         record {
-          count = x.count ∙ ap (λ (n : ℕ). n + 1) (sym rows.count);
-          each = λ v less. let y = x.each v (omega (arith, less, rows.count)) in (y.0, others v k (λ e. absurd (omega (arith, e, below))) ∙ y.1, y.2);
-          keeper_ = subst (λ (n : ℕ). Rattle.rack.specs.Rests.IsPassAt f n q) (sym rows.count) x.keeper_;
+          volumes = x.volumes;
+          rows = rows.rows x.volumes x.rows;
+          below = x.below;
+          count = x.count ∙ ap (λ (n : ℕ). n + 1) (sym same);
+          each = λ v less. let y = x.each v (omega (arith, less, same)) in (y.0, others v k (λ e. absurd (omega (arith, e, below))) ∙ y.1, y.2);
+          keeper_ = subst (λ (n : ℕ). Rattle.rack.specs.Rests.IsPassAt f n q) (sym same) x.keeper_;
           accesses = λ v y there. x.accesses v y (sym (others v k (λ e. absurd (omega (arith, e, below)))) ∙ there);
           settled = λ v y there. x.settled v y (sym (others v k (λ e. absurd (omega (arith, e, below)))) ∙ there);
         };
     room_count = room_count;
-    rooms = subst (λ (n : ℕ). All (λ row. (row.items ≡ []) × (n + 1 ≤ vec_capacity row)) new.rooms.spindles.items) (sym rows.count) rooms;
+    rooms = subst (λ (n : ℕ). All (λ row. (row.items ≡ []) × (n + 1 ≤ vec_capacity row)) new.rooms.spindles.items) (sym same) rooms;
     closed = closed;
   }
+    where
+      same : volumes_of new.passes ≡ volumes_of cur.passes
+      same = ap volumes_of rows.others
 
 -- rows stay as they are but for the passes of spindles
 pub rows_then : {D : Type 0} (a b c : Rest D) → KeepsOtherRows a b → KeepsOtherRows b c → KeepsOtherRows a c
 rows_then {D} a b c first then = record {
-  count = then.count ∙ first.count;
-  each = λ v d less. then.each v d (omega (arith, less, first.count)) ∙ ap (λ (q : VolumePasses D). record q { spindles = (slice_index_or c.passes.items v d).spindles }) (first.each v d less);
+  others = then.others ∙ ap (λ (s : PassStore D). record s { spindles = c.passes.spindles }) first.others;
+  rows = λ n square. then.rows n (first.rows n square);
 }
 
 pub rows_same : {D : Type 0} (a : Rest D) → KeepsOtherRows a a
-rows_same a = record { count = refl; each = λ v d less. refl }
+rows_same a = record { others = refl; rows = λ n square. square }
 
 -- one spindle more stands behind the closed ones
 pub one_more_closed : (n m : ℕ) (closed : List SpindleView) (s : SpindleView) (locks : List (TurnLock Spindle SpindleBase)) (keepers : List (PassOf Spindle SpindleBase)) (l : TurnLock Spindle SpindleBase) (p : PassOf Spindle SpindleBase)

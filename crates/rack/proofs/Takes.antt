@@ -16,6 +16,7 @@ use Rattle.spin_model.specs.declared.spun.Spun.{Spun}
 use Rattle.manager.specs.declared.base.ManagerBase.{ManagerBase}
 use Rattle.manager.specs.declared.station.Station.{Station}
 use Rattle.volume_images.specs.Volumes.{shapes_of}
+use Rattle.part_store.specs.Passes.{volumes_of}
 use Rattle.rack.specs.Rests.{image_here, segment_here, pool_pass, spindle_pass, away_with, IsRestBut}
 use Rattle.rack.specs.Racks.{base_of_station}
 use Rattle.rack.specs.Parts.{HasPlace, IsUsablePlace, CanTake, IsOwnedPlace, segments_of, segment_in}
@@ -90,7 +91,7 @@ module _ {D : Type 0} (state : D → State) (config : Config) (valid : IsValid c
   pub usable : (k : ℕ) → k < length (shapes_of config) → k ≢ id → IsUsablePlace r.rest id k (segments_of config k)
   usable k within other =
       let locks = ready.closable.locks in
-      let row : id < length r.rest.passes.items = omega (arith, lt, parts.count) in
+      let row : id < volumes_of r.rest.passes = omega (arith, lt, parts.count) in
       let pool_in : k < length r.shared.pools.items = omega (arith, within, locks.pool_count) in
       let spindle_in : k < length r.shared.spindles.items = omega (arith, within, locks.spindle_count) in
       let p = some_of (pool_pass r.rest id k) ((parts.pools.here id k row pool_in).1 (no_lane k)) in

@@ -9,6 +9,7 @@ use Rattle.wol_config.specs.declared.config.Config.{Config}
 use Rattle.spin_model.specs.declared.spun.Spun.{Spun}
 use Rattle.manager_recovery.specs.Opening.{place_of}
 use Rattle.manager_recovery.specs.declared.opening.Opening.{Opening}
+use Rattle.part_store.specs.Passes.{volumes_of}
 use Rattle.rack.specs.Rests.{image_here, segment_here, pool_pass, spindle_pass, held_here}
 use Rattle.rack.specs.Parts.{TakesOpening, IsSameBut, loggers_out, segment_in, with_home}
 use Rattle.rack.specs.declared.heads_said.Said.{Said}
@@ -60,8 +61,8 @@ module _ {D : Type 0} (state : D → State) (config : Config) (said : List (Opti
   pub count_without : length new.images.items ≡ length old.images.items
   count_without = takes.home.count ∙ takes.owned.count ∙ ap (λ x. length x.items) takes.lanes.passes.images
 
-  pub rows_without : (length new.passes.items ≡ length old.passes.items)
-  rows_without = takes.home.rows.count ∙ ap (λ x. length x.items) takes.owned.passes ∙ takes.lanes.passes.rows.count
+  pub rows_without : (volumes_of new.passes ≡ volumes_of old.passes)
+  rows_without = takes.home.rows.count ∙ ap volumes_of takes.owned.passes ∙ takes.lanes.passes.rows.count
 
   -- ---- Passes
 

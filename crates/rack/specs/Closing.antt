@@ -30,13 +30,13 @@ use Rattle.manager.specs.declared.manager.Manager.{Manager}
 use Rattle.manager.specs.declared.station.Station.{Station}
 use Rattle.volume_images.specs.Left.{AreNamedApart}
 use Rattle.volume_images.specs.Volumes.{shapes_of}
-use Rattle.rack.specs.Rests.{image_here, segment_here, pool_pass, spindle_pass, held_here, indexes_here, away_with, IsImageOut, IsPassAt, IsPoolLock, IsRow, IsImageRest, IsPart, IsHeldHere, IsHolding, AreLocks, OnlyAccess, IsRest}
+use Rattle.part_store.specs.Passes.{volumes_of, IsSquare}
+use Rattle.rack.specs.Rests.{image_here, segment_here, pool_pass, spindle_pass, held_here, indexes_here, away_with, IsImageOut, IsPassAt, IsPoolLock, IsImageRest, IsPart, IsHeldHere, IsHolding, AreLocks, OnlyAccess, IsRest}
 use Rattle.rack.specs.Racks.{base_of_station, IsOpenBase, IsStation, AreRising}
 use Rattle.rack.specs.Parts.{IsSameBut, IsTogether, IsBlankPart, HasBack, KeepsPlace, KeepsRows, KeepsImage, segment_in}
 use Rattle.rack.specs.Opens.{out_names}
 use Rattle.rack.specs.declared.rack.ImageRest.{ImageRest}
 use Rattle.rack.specs.declared.rack.Rest.{Rest}
-use Rattle.rack.specs.declared.rack.VolumePasses.{VolumePasses}
 
 -- ---- Stations
 
@@ -94,8 +94,8 @@ pub record CanCloseStations {D : Type 0} (state : D → State) (config : Config)
 -- the pool of volume k, whose lock is this, has all its passes, and each of its segments is in one place
 pub record CanClosePool {D : Type 0} (state : D → State) (volumes k : ℕ) (s : Shape) (l : TurnLock (Pool (FreeSegment D)) PoolBase) (r : Rest D) : Type 0 where
   pub lock : IsPoolLock volumes k s l
-  pub count : length r.passes.items ≡ volumes
-  pub rows : All (λ p. IsRow volumes p) r.passes.items
+  pub count : volumes_of r.passes ≡ volumes
+  pub rows : IsSquare volumes r.passes
   pub below : k < volumes
   pub image_count : length r.images.items ≡ volumes
   pub passes : (v : ℕ) → v < volumes → (p : PassOf (Pool (FreeSegment D)) PoolBase) × (pool_pass r v k ≡ Some p) × IsPassAt l v p
@@ -125,7 +125,7 @@ RefillsAll {D} state blocks old k (Some r) after = (n : ImageRest D) × (after �
 -- the segments of volume k that came back with lanes may go to their places, where its image is out, and there are none where it isn't
 pub record CanPutAllHeld {D : Type 0} (r : Rest D) (k : ℕ) : Type 0 where
   pub volumes : ℕ
-  pub rows : All (λ p. IsRow volumes p) r.passes.items
+  pub rows : IsSquare volumes r.passes
   pub within : (k < volumes) × (k < length r.images.items)
   pub indexes : (v i : ℕ) (n : ImageRest D) → image_here r.images.items k ≡ Some n → Contains (indexes_here r v k) i → (i < length n.segments.items) × (segment_here n i ≡ None)
   pub once : (v : ℕ) → AreApart (indexes_here r v k)
@@ -152,18 +152,17 @@ pub record KeepsLogger {D : Type 0} (old new : Rest D) (k : ℕ) : Type 0 where
   pub pools : (v : ℕ) → pool_pass new v k ≡ pool_pass old v k
   pub held : (v : ℕ) → held_here new v k ≡ held_here old v k
 
--- the rows are as many, and the passes of spindles as they were
+-- each volume has its slots, and the passes of spindles are as they were
 pub record KeepsSpindles {D : Type 0} (old new : Rest D) : Type 0 where
-  pub count : length new.passes.items ≡ length old.passes.items
+  pub count : volumes_of new.passes ≡ volumes_of old.passes
   pub image_count : length new.images.items ≡ length old.images.items
-  pub rows : (n : ℕ) → All (λ p. IsRow n p) old.passes.items → All (λ p. IsRow n p) new.passes.items
+  pub rows : (n : ℕ) → IsSquare n old.passes → IsSquare n new.passes
   pub spindles : (v k : ℕ) → spindle_pass new v k ≡ spindle_pass old v k
 
--- the rows of passes are as many, and all but the passes of spindles is as it was
+-- all but the passes of spindles is as it was, and each volume has its slots
 pub record KeepsOtherRows {D : Type 0} (old new : Rest D) : Type 0 where
-  pub count : length new.passes.items ≡ length old.passes.items
-  pub each : (v : ℕ) (d : VolumePasses D) → v < length old.passes.items
-      → slice_index_or new.passes.items v d ≡ record (slice_index_or old.passes.items v d) { spindles = (slice_index_or new.passes.items v d).spindles }
+  pub others : new.passes ≡ record old.passes { spindles = new.passes.spindles }
+  pub rows : (n : ℕ) → IsSquare n old.passes → IsSquare n new.passes
 
 -- the first pools have all their passes, and there is room to close them
 pub record CanClosePools {D : Type 0} (state : D → State) (config : Config) (locks : List (TurnLock (Pool (FreeSegment D)) PoolBase)) (r : Rest D) : Type 0 where
@@ -172,43 +171,6 @@ pub record CanClosePools {D : Type 0} (state : D → State) (config : Config) (l
       → CanClosePool state (length (shapes_of config)) k s l r
   pub room_count : length r.rooms.pools.items ≡ length locks
   pub rooms : All (λ row. (row.items ≡ []) × (length (shapes_of config) ≤ vec_capacity row)) r.rooms.pools.items
-
--- ---- Passes that are gathered
-
-module _ {D : Type 0} where
-  -- the pass of a volume's row at the pool of volume k
-  abbrev pub pool_in : VolumePasses D → (k : ℕ) → Option (PassOf (Pool (FreeSegment D)) PoolBase)
-  pool_in p k = slice_index_or p.pools.items k None
-
-  -- this pass went from the row
-  pub record IsPoolTaken (k : ℕ) (old new : VolumePasses D) (p : PassOf (Pool (FreeSegment D)) PoolBase) : Type 0 where
-    pub there : pool_in old k ≡ Some p
-    pub others : (j : ℕ) → j ≢ k → pool_in new j ≡ pool_in old j
-    pub count : length new.pools.items ≡ length old.pools.items
-    pub spindles : new.spindles ≡ old.spindles
-    pub held : new.held ≡ old.held
-
-  -- one went from each row, in order
-  pub record ArePoolsTaken (k : ℕ) (old new : List (VolumePasses D)) (ps : List (PassOf (Pool (FreeSegment D)) PoolBase)) : Type 0 where
-    pub count : length new ≡ length old
-    pub taken : length ps ≡ length old
-    pub each : (v : ℕ) (d : VolumePasses D) (e : PassOf (Pool (FreeSegment D)) PoolBase) → v < length old → IsPoolTaken k (slice_index_or old v d) (slice_index_or new v d) (slice_index_or ps v e)
-
-  -- the pass of a volume's row at the spindle of volume k
-  abbrev pub spindle_in : VolumePasses D → (k : ℕ) → Option (PassOf Spindle SpindleBase)
-  spindle_in p k = slice_index_or p.spindles.items k None
-
-  -- this pass went from the row
-  pub record IsSpindleTaken (k : ℕ) (old new : VolumePasses D) (p : PassOf Spindle SpindleBase) : Type 0 where
-    pub there : spindle_in old k ≡ Some p
-    pub others : (j : ℕ) → j ≢ k → spindle_in new j ≡ spindle_in old j
-    pub rest : new ≡ record old { spindles = new.spindles }
-
-  -- one went from each row, in order
-  pub record AreSpindlesTaken (k : ℕ) (old new : List (VolumePasses D)) (ps : List (PassOf Spindle SpindleBase)) : Type 0 where
-    pub count : length new ≡ length old
-    pub taken : length ps ≡ length old
-    pub each : (v : ℕ) (d : VolumePasses D) (e : PassOf Spindle SpindleBase) → v < length old → IsSpindleTaken k (slice_index_or old v d) (slice_index_or new v d) (slice_index_or ps v e)
 
 -- ---- Spindles
 
@@ -228,9 +190,12 @@ pub record StandsClosed (l : TurnLock Spindle SpindleBase) (keeper : PassOf Spin
 
 -- the passes of the lock of spindle k: one in each row, and the keeper's
 pub record HasSpindlePasses {D : Type 0} (r : Rest D) (k : ℕ) (l : TurnLock Spindle SpindleBase) (keeper : PassOf Spindle SpindleBase) : Type 0 where
-  pub count : lock_passes l ≡ length r.passes.items + 1
-  pub each : (v : ℕ) → v < length r.passes.items → (p : PassOf Spindle SpindleBase) × (spindle_pass r v k ≡ Some p) × IsPassAt l v p
-  pub keeper_ : IsPassAt l (length r.passes.items) keeper
+  pub volumes : ℕ
+  pub rows : IsSquare volumes r.passes
+  pub below : k < volumes
+  pub count : lock_passes l ≡ volumes_of r.passes + 1
+  pub each : (v : ℕ) → v < volumes_of r.passes → (p : PassOf Spindle SpindleBase) × (spindle_pass r v k ≡ Some p) × IsPassAt l v p
+  pub keeper_ : IsPassAt l (volumes_of r.passes) keeper
   pub accesses : (v : ℕ) (p : PassOf Spindle SpindleBase) → spindle_pass r v k ≡ Some p → AreAccesses (pass_mine p)
   pub settled : (v : ℕ) (p : PassOf Spindle SpindleBase) → spindle_pass r v k ≡ Some p → has_token (pass_mine p) ≡ false
 
@@ -239,7 +204,7 @@ pub record CanCloseSpindles {D : Type 0} (locks : List (TurnLock Spindle Spindle
   pub keeper_count : length keepers ≡ length locks
   pub passes : (k : ℕ) (l : TurnLock Spindle SpindleBase) (p : PassOf Spindle SpindleBase) → slice_get locks k ≡ Some l → slice_get keepers k ≡ Some p → HasSpindlePasses r k l p
   pub room_count : length r.rooms.spindles.items ≡ length locks
-  pub rooms : All (λ row. (row.items ≡ []) × (length r.passes.items + 1 ≤ vec_capacity row)) r.rooms.spindles.items
+  pub rooms : All (λ row. (row.items ≡ []) × (volumes_of r.passes + 1 ≤ vec_capacity row)) r.rooms.spindles.items
   pub closed : length r.rooms.closed.items + length locks ≤ vec_capacity r.rooms.closed
 
 -- the closed spindles, the last first

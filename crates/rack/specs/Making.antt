@@ -8,6 +8,7 @@ use Rattle.spin_model.specs.declared.spindle.SpindleBase.{SpindleBase}
 use Rattle.spin_model.specs.declared.spun.Spun.{Spun}
 use Rattle.logger.specs.Lanes.{AreAccesses}
 use Rattle.logger.specs.declared.shared.Shared.{Shared}
+use Rattle.part_store.specs.Passes.{IsEmptyStore, HasNoSegment}
 use Rattle.rack.specs.Rests.{IsSpindleLock}
 use Rattle.rack.specs.declared.heads_said.Said.{Said}
 use Rattle.rack.specs.declared.images.Images.{Images}
@@ -16,7 +17,6 @@ use Rattle.rack.specs.declared.lists.Lists.{Lists}
 use Rattle.rack.specs.declared.locks.Issued.{Issued}
 use Rattle.rack.specs.declared.rack.ImageRest.{ImageRest}
 use Rattle.rack.specs.declared.rack.Rooms.{Rooms}
-use Rattle.rack.specs.declared.rack.VolumePasses.{VolumePasses}
 
 -- ---- Locks with all of their passes
 
@@ -55,19 +55,12 @@ pub record AreNewRooms {D : Type 0} (volumes : ℕ) (r : Rooms D) : Type 0 where
   pub managers : (r.managers.items ≡ []) × (volumes ≤ vec_capacity r.managers)
   pub closed : (r.closed.items ≡ []) × (volumes ≤ vec_capacity r.closed)
 
--- room for a volume's pass of each lock
-pub record AreEmptyPasses {D : Type 0} (volumes : ℕ) (p : VolumePasses D) : Type 0 where
-  pub pools : (p.pools.items ≡ []) × (volumes ≤ vec_capacity p.pools)
-  pub spindles : (p.spindles.items ≡ []) × (volumes ≤ vec_capacity p.spindles)
-  pub held_count : length p.held.items ≡ volumes
-  pub held : All (λ list. list.items ≡ []) p.held.items
-
 pub record AreLists {D : Type 0} (volumes : ℕ) (l : Lists D) : Type 0 where
   pub shared : IsEmptyShared volumes l.shared
   pub keepers : (l.keepers.items ≡ []) × (volumes ≤ vec_capacity l.keepers)
   pub stations : (l.stations.items ≡ []) × (volumes ≤ vec_capacity l.stations)
-  pub count : length l.passes.items ≡ volumes
-  pub passes : All (AreEmptyPasses volumes) l.passes.items
+  pub passes : IsEmptyStore volumes l.passes
+  pub ended : HasNoSegment l.passes
   pub rooms : AreNewRooms volumes l.rooms
 
 -- ---- Parts that come back

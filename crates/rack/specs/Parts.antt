@@ -36,16 +36,15 @@ use Rattle.manager_recovery.specs.declared.opening.OwnedPart.{OwnedPart}
 use Rattle.volume_images.specs.Accepted.{head_place}
 use Rattle.volume_images.specs.Volumes.{shapes_of}
 use Rattle.volume_images.specs.declared.attach.OutImage.{OutImage}
-use Rattle.rack.specs.Making.{AreEmptyPasses}
+use Rattle.part_store.specs.Passes.{volumes_of, IsSquare}
 use Rattle.rack.specs.Owners.{most_of}
-use Rattle.rack.specs.Rests.{IsPart, IsPoolLock, IsRow, AreRooms, image_here, segment_here, pool_pass, spindle_pass, held_here, indexes_here}
+use Rattle.rack.specs.Rests.{IsPart, IsPoolLock, AreRooms, image_here, segment_here, pool_pass, spindle_pass, held_here, indexes_here}
 use Rattle.rack.specs.declared.heads_said.Said.{Said}
 use Rattle.rack.specs.declared.lists.Lists.{Lists}
 use Rattle.rack.specs.declared.locks.Issued.{Issued}
 use Rattle.rack.specs.declared.rack.ImageRest.{ImageRest}
 use Rattle.rack.specs.declared.rack.Rack.{Rack}
 use Rattle.rack.specs.declared.rack.Rest.{Rest}
-use Rattle.rack.specs.declared.rack.VolumePasses.{VolumePasses}
 
 -- ---- An image is laid out, and put together
 
@@ -229,65 +228,41 @@ EndsInto {D} state b old new = MatchOption old (new ≡ None) (λ r. (n : ImageR
 
 -- ---- A rack before a volume is opened
 
--- the locks of the spindles and their rows of passes are there, but the keepers' passes stand in a list of their own
+-- the passes of a spindle but the keeper's, as they stand in their slots
+abbrev pub spindle_slots : (volumes : ℕ) → Issued Spindle SpindleBase → List (Option (PassOf Spindle SpindleBase))
+spindle_slots volumes i = map Some (take volumes i.passes.items)
+
+-- those of a pool
+abbrev pub pool_slots : {D : Type 0} → Issued (Pool (FreeSegment D)) PoolBase → List (Option (PassOf (Pool (FreeSegment D)) PoolBase))
+pool_slots i = map Some i.passes.items
+
+-- the locks of the spindles and their passes are there, but the keepers' passes stand in a list of their own
 pub record PutsSpindles {D : Type 0} (spindles : List (Issued Spindle SpindleBase)) (old new : Lists D) : Type 0 where
   pub locks : new.shared.spindles.items ≡ map (λ (i : Issued Spindle SpindleBase). i.lock) spindles
   pub keepers : AllZip (λ (i : Issued Spindle SpindleBase) p. slice_get i.passes.items (length spindles) ≡ Some p) spindles new.keepers.items
-  pub rows : AllZip (λ (i : Issued Spindle SpindleBase) (row : Vec (PassOf Spindle SpindleBase) Global). (row.items ≡ take (length spindles) i.passes.items) × (length spindles + 1 ≤ vec_capacity row)) spindles new.rooms.spindles.items
+  pub rows : new.passes.spindles ≡ map (spindle_slots (length spindles)) spindles
+  pub row_count : length new.rooms.spindles.items ≡ length spindles
+  pub row_rooms : All (λ (row : Vec (PassOf Spindle SpindleBase) Global). (row.items ≡ []) × (length spindles + 1 ≤ vec_capacity row)) new.rooms.spindles.items
   pub pools : new.shared.pools ≡ old.shared.pools
   pub stations : new.stations ≡ old.stations
-  pub passes : new.passes ≡ old.passes
+  pub pool_passes : new.passes.pools ≡ old.passes.pools
+  pub returned : new.passes.returned ≡ old.passes.returned
   pub pool_rooms : new.rooms.pools ≡ old.rooms.pools
   pub managers : new.rooms.managers ≡ old.rooms.managers
   pub closed : new.rooms.closed ≡ old.rooms.closed
 
--- the locks of the pools and their rows of passes are there
+-- the locks of the pools and their passes are there
 pub record PutsPools {D : Type 0} (pools : List (Issued (Pool (FreeSegment D)) PoolBase)) (old new : Lists D) : Type 0 where
   pub locks : new.shared.pools.items ≡ map (λ (i : Issued (Pool (FreeSegment D)) PoolBase). i.lock) pools
-  pub rows : new.rooms.pools.items ≡ map (λ (i : Issued (Pool (FreeSegment D)) PoolBase). i.passes) pools
+  pub rows : new.passes.pools ≡ map pool_slots pools
+  pub row_count : length new.rooms.pools.items ≡ length pools
+  pub row_rooms : All (λ (row : Vec (PassOf (Pool (FreeSegment D)) PoolBase) Global). (row.items ≡ []) × (length pools ≤ vec_capacity row)) new.rooms.pools.items
   pub spindles : new.shared.spindles ≡ old.shared.spindles
   pub keepers : new.keepers ≡ old.keepers
   pub stations : new.stations ≡ old.stations
-  pub passes : new.passes ≡ old.passes
+  pub spindle_passes : new.passes.spindles ≡ old.passes.spindles
+  pub returned : new.passes.returned ≡ old.passes.returned
   pub spindle_rooms : new.rooms.spindles ≡ old.rooms.spindles
-  pub managers : new.rooms.managers ≡ old.rooms.managers
-  pub closed : new.rooms.closed ≡ old.rooms.closed
-
--- the last element of a row
-abbrev pub last_of : {T : Type 0} → Vec T Global → Option T
-last_of row = slice_get row.items (length row.items - 1)
-
--- each row lost its last element
-pub record ArePopped {T : Type 0} (old new : List (Vec T Global)) : Type 0 where
-  pub count : length new ≡ length old
-  pub each : (k : ℕ) (d : Vec T Global) → k < length old → (slice_index_or new k d).items ≡ take (length (slice_index_or old k d).items - 1) (slice_index_or old k d).items
-  pub rooms : (k : ℕ) (d : Vec T Global) → k < length old → vec_capacity (slice_index_or new k d) ≡ vec_capacity (slice_index_or old k d)
-
--- each row has a pass for each volume, and there is room for it
-pub record CanDeal {D : Type 0} (l : Lists D) : Type 0 where
-  pub pools : All (λ row. length row.items ≡ length l.passes.items) l.rooms.pools.items
-  pub pool_count : length l.rooms.pools.items ≡ length l.passes.items
-  pub spindles : All (λ row. length row.items ≡ length l.passes.items) l.rooms.spindles.items
-  pub spindle_count : length l.rooms.spindles.items ≡ length l.passes.items
-  pub passes : All (AreEmptyPasses (length l.passes.items)) l.passes.items
-
--- the rows are empty, and have the room that they had
-pub record AreEmptied {T : Type 0} (old new : List (Vec T Global)) : Type 0 where
-  pub count : length new ≡ length old
-  pub empty : All (λ row. row.items ≡ []) new
-  pub rooms : (k : ℕ) (d : Vec T Global) → k < length old → vec_capacity (slice_index_or new k d) ≡ vec_capacity (slice_index_or old k d)
-
--- volume v has the pass at place v of each row, and the rows are empty
-pub record Deals {D : Type 0} (old new : Lists D) : Type 0 where
-  pub count : length new.passes.items ≡ length old.passes.items
-  pub pools : (v : ℕ) (p : VolumePasses D) → slice_get new.passes.items v ≡ Some p → p.pools.items ≡ map (λ (row : Vec (PassOf (Pool (FreeSegment D)) PoolBase) Global). slice_get row.items v) old.rooms.pools.items
-  pub spindles : (v : ℕ) (p : VolumePasses D) → slice_get new.passes.items v ≡ Some p → p.spindles.items ≡ map (λ (row : Vec (PassOf Spindle SpindleBase) Global). slice_get row.items v) old.rooms.spindles.items
-  pub held : (v : ℕ) (p q : VolumePasses D) → slice_get old.passes.items v ≡ Some p → slice_get new.passes.items v ≡ Some q → q.held ≡ p.held
-  pub pool_rows : AreEmptied old.rooms.pools.items new.rooms.pools.items
-  pub spindle_rows : AreEmptied old.rooms.spindles.items new.rooms.spindles.items
-  pub shared : new.shared ≡ old.shared
-  pub keepers : new.keepers ≡ old.keepers
-  pub stations : new.stations ≡ old.stations
   pub managers : new.rooms.managers ≡ old.rooms.managers
   pub closed : new.rooms.closed ≡ old.rooms.closed
 
@@ -298,8 +273,8 @@ pub record IsSetUp {D : Type 0} (spindles : List (Issued Spindle SpindleBase)) (
   pub keeper_count : length r.keepers.items ≡ volumes
   pub keepers : (k : ℕ) (i : Issued Spindle SpindleBase) → slice_get spindles k ≡ Some i → slice_get r.keepers.items k ≡ slice_get i.passes.items volumes
   pub stations : (r.stations.items ≡ []) × (volumes ≤ vec_capacity r.stations)
-  pub count : length r.rest.passes.items ≡ volumes
-  pub rows : All (λ p. IsRow volumes p) r.rest.passes.items
+  pub count : volumes_of r.rest.passes ≡ volumes
+  pub rows : IsSquare volumes r.rest.passes
   pub pool_passes : (v k : ℕ) (i : Issued (Pool (FreeSegment D)) PoolBase) → v < volumes → slice_get pools k ≡ Some i → pool_pass r.rest v k ≡ slice_get i.passes.items v
   pub spindle_passes : (v k : ℕ) (i : Issued Spindle SpindleBase) → v < volumes → slice_get spindles k ≡ Some i → spindle_pass r.rest v k ≡ slice_get i.passes.items v
   pub held : (v k : ℕ) → held_here r.rest v k ≡ []
@@ -350,16 +325,16 @@ module _ {D : Type 0} where
     pub spindle : spindle_pass new v k ≡ spindle_pass old v k
     pub held : held_here new v k ≡ held_here old v k
 
-  -- there are as many rows, and each has its places
+  -- each volume has its slots
   pub record KeepsRows (old new : Rest D) : Type 0 where
-    pub count : length new.passes.items ≡ length old.passes.items
-    pub rows : (n : ℕ) → All (λ p. IsRow n p) old.passes.items → All (λ p. IsRow n p) new.passes.items
+    pub count : volumes_of new.passes ≡ volumes_of old.passes
+    pub rows : (n : ℕ) → IsSquare n old.passes → IsSquare n new.passes
 
-  -- volume v has a row with a place for k
+  -- volume v has slots at k
   pub record HasPlace (r : Rest D) (v k : ℕ) : Type 0 where
-    pub row : v < length r.passes.items
+    pub row : v < volumes_of r.passes
     pub volumes : ℕ
-    pub rows : All (λ p. IsRow volumes p) r.passes.items
+    pub rows : IsSquare volumes r.passes
     pub within : k < volumes
 
   -- neither of the passes is here, and no segment came back
@@ -473,24 +448,28 @@ module _ {D : Type 0} where
     pub places : All (IsOwedPlace r) os
     pub apart : AllPairs (λ (o p : OwnedPart D). place_of o ≢ place_of p) os
 
+  -- the indexes of segments
+  abbrev pub indexes_of : List (ℕ × Spun D) → List ℕ
+  indexes_of segments = map (λ (h : ℕ × Spun D). h.0) segments
+
+  -- these segments may go to their places in an image that is out
+  pub record CanPutSegments (o : Option (ImageRest D)) (segments : List (ℕ × Spun D)) : Type 0 where
+    pub image : ImageRest D
+    pub out : o ≡ Some image
+    pub within : All (λ i. i < length image.segments.items) (indexes_of segments)
+    pub empty : All (λ i. segment_here image i ≡ None) (indexes_of segments)
+    pub apart : AreApart (indexes_of segments)
+
+  -- they are there
+  pub record PutsSegments (old new : Option (ImageRest D)) (segments : List (ℕ × Spun D)) : Type 0 where
+    pub image : KeepsImage old new
+    pub back : All (λ (h : ℕ × Spun D). in_image new h.0 ≡ Some h.1) segments
+    pub others : (i : ℕ) → (Contains (indexes_of segments) i → ⊥) → in_image new i ≡ in_image old i
+
   -- the segments that came back with a lane of volume v at logger k may go to their places
   pub record CanPutHeld (r : Rest D) (v k : ℕ) : Type 0 where
     pub place : HasPlace r v k
-    pub image : ImageRest D
-    pub out : image_here r.images.items k ≡ Some image
-    pub within : All (λ i. i < length image.segments.items) (indexes_here r v k)
-    pub empty : All (λ i. segment_here image i ≡ None) (indexes_here r v k)
-    pub apart : AreApart (indexes_here r v k)
-
-  -- the last of them went out
-  pub record PopsHeld (old new : Rest D) (v k : ℕ) (h : ℕ × Spun D) : Type 0 where
-    pub images : new.images ≡ old.images
-    pub rooms : new.rooms ≡ old.rooms
-    pub rows : KeepsRows old new
-    pub held : held_here old v k ≡ held_here new v k ++ h ∷ []
-    pub held_others : (w j : ℕ) → (w ≡ v → j ≢ k) → held_here new w j ≡ held_here old w j
-    pub pools : (w j : ℕ) → pool_pass new w j ≡ pool_pass old w j
-    pub spindles : (w j : ℕ) → spindle_pass new w j ≡ spindle_pass old w j
+    pub segments : CanPutSegments (image_here r.images.items k) (held_here r v k)
 
   -- they are there
   pub record PutsHeld (old new : Rest D) (v k : ℕ) : Type 0 where

@@ -1,8 +1,6 @@
 -- What the rest of a rack keeps: parts of images, and passes. `state` is that of a part's disk.
-use Rattle.std.specs.Prelude.{◌≡◌, ◌≢◌, ◌↔◌, ◌⊎◌, ◌<◌, ◌≤◌, ◌+◌, ℕ, true, false, List, [], length, map, vec_capacity, Option, None, Some, IfSome, option_and_then, slice_get, slice_index_or, Contains, IsSome, All}
+use Rattle.std.specs.Prelude.{◌≡◌, ◌≢◌, ◌↔◌, ◌⊎◌, ◌<◌, ◌≤◌, ◌+◌, ℕ, true, false, List, [], length, map, vec_capacity, Option, None, Some, IfSome, slice_get, slice_index_or, Contains, IsSome, All}
 use Rattle.std.specs.List.{flat_map}
-use Rattle.std.specs.declared.alloc.Global.{Global}
-use Rattle.std.specs.declared.vec.Vec.{Vec}
 use Rattle.wol_disk.specs.Disk.{State}
 use Rattle.wol_model.specs.Blocks.{AreApart}
 use Rattle.wol_model.specs.Heads.{Shape}
@@ -25,10 +23,11 @@ use Rattle.logger.specs.Lanes.{AreAccesses}
 use Rattle.logger.specs.declared.shared.Shared.{Shared}
 use Rattle.manager.specs.declared.base.ManagerBase.{ManagerBase}
 use Rattle.volume_images.specs.Volumes.{shapes_of}
+use Rattle.part_store.specs.Passes.{segments_in, volumes_of, IsSquare}
+use Rattle.part_store.specs.Rows.{item_at}
 use Rattle.rack.specs.declared.rack.ImageRest.{ImageRest}
 use Rattle.rack.specs.declared.rack.Rest.{Rest}
 use Rattle.rack.specs.declared.rack.Rooms.{Rooms}
-use Rattle.rack.specs.declared.rack.VolumePasses.{VolumePasses}
 
 -- ---- What is where
 
@@ -47,20 +46,15 @@ module _ {D : Type 0} where
 
   -- the pass of volume v at the pool of volume k, where it is here
   abbrev pub pool_pass : Rest D → (v k : ℕ) → Option (PassOf (Pool (FreeSegment D)) PoolBase)
-  pool_pass r v k = option_and_then (λ p. slice_index_or p.pools.items k None) (slice_get r.passes.items v)
+  pool_pass r v k = item_at r.passes.pools k v
 
   -- the same at the spindle of volume k
   abbrev pub spindle_pass : Rest D → (v k : ℕ) → Option (PassOf Spindle SpindleBase)
-  spindle_pass r v k = option_and_then (λ p. slice_index_or p.spindles.items k None) (slice_get r.passes.items v)
-
-  -- the list of a row at this place, or an empty one
-  abbrev pub list_of : Option (Vec (ℕ × Spun D) Global) → List (ℕ × Spun D)
-  list_of None = []
-  list_of (Some list) = list.items
+  spindle_pass r v k = item_at r.passes.spindles k v
 
   -- the segments of volume k that a lane of volume v had, with their indexes, where the lane came back
   abbrev pub held_here : Rest D → (v k : ℕ) → List (ℕ × Spun D)
-  held_here r v k = list_of (option_and_then (λ p. slice_get p.held.items k) (slice_get r.passes.items v))
+  held_here r v k = segments_in (item_at r.passes.returned k v)
 
   -- their indexes
   abbrev pub indexes_here : Rest D → (v k : ℕ) → List ℕ
@@ -137,21 +131,15 @@ pub record AreLocks {D : Type 0} (config : Config) (shared : Shared D) : Type 0 
 
 -- ---- The passes
 
--- the row of a volume has a place for each of so many
-pub record IsRow {D : Type 0} (volumes : ℕ) (p : VolumePasses D) : Type 0 where
-  pub pools : length p.pools.items ≡ volumes
-  pub spindles : length p.spindles.items ≡ volumes
-  pub held : length p.held.items ≡ volumes
-
 -- Each volume's pass at each pool is here but where its lane is away; it has the number of its volume.
 pub record ArePoolPasses {D : Type 0} (shared : Shared D) (away : Away) (r : Rest D) : Type 0 where
-  pub here : (v k : ℕ) → v < length r.passes.items → k < length shared.pools.items → IsSome (pool_pass r v k) ↔ (Contains away.lanes (v, k) → ⊥)
+  pub here : (v k : ℕ) → v < volumes_of r.passes → k < length shared.pools.items → IsSome (pool_pass r v k) ↔ (Contains away.lanes (v, k) → ⊥)
   pub each : (v k : ℕ) (l : TurnLock (Pool (FreeSegment D)) PoolBase) (p : PassOf (Pool (FreeSegment D)) PoolBase) → slice_get shared.pools.items k ≡ Some l → pool_pass r v k ≡ Some p
       → IsPassAt l v p
 
 -- The same at the spindles; of its own a volume's manager uses its home. No token is out.
 pub record AreSpindlePasses {D : Type 0} (shared : Shared D) (away : Away) (r : Rest D) : Type 0 where
-  pub here : (v k : ℕ) → v < length r.passes.items → k < length shared.spindles.items → IsSome (spindle_pass r v k) ↔ ((Contains away.lanes (v, k) ⊎ ((v ≡ k) × Contains away.homes v)) → ⊥)
+  pub here : (v k : ℕ) → v < volumes_of r.passes → k < length shared.spindles.items → IsSome (spindle_pass r v k) ↔ ((Contains away.lanes (v, k) ⊎ ((v ≡ k) × Contains away.homes v)) → ⊥)
   pub each : (v k : ℕ) (l : TurnLock Spindle SpindleBase) (p : PassOf Spindle SpindleBase) → slice_get shared.spindles.items k ≡ Some l → spindle_pass r v k ≡ Some p
       → IsPassAt l v p
   pub settled : (v k : ℕ) (p : PassOf Spindle SpindleBase) → spindle_pass r v k ≡ Some p → has_token (pass_mine p) ≡ false
@@ -206,8 +194,8 @@ pub record AreRooms {D : Type 0} (volumes stations : ℕ) (rooms : Rooms D) : Ty
 pub record IsRestBut {D : Type 0} (state : D → State) (config : Config) (shared : Shared D) (away : Away) (r : Rest D) : Type 0 where
   pub images : AreImageRests state config r.images.items
   pub homes : (k : ℕ) (image : ImageRest D) → image_here r.images.items k ≡ Some image → IsSome image.home ↔ (Contains away.homes k → ⊥)
-  pub count : length r.passes.items ≡ length (shapes_of config)
-  pub rows : All (λ p. IsRow (length (shapes_of config)) p) r.passes.items
+  pub count : volumes_of r.passes ≡ length (shapes_of config)
+  pub rows : IsSquare (length (shapes_of config)) r.passes
   pub pools : ArePoolPasses shared away r
   pub spindles : AreSpindlePasses shared away r
   pub returned : AreHandedBack state config r

@@ -1,5 +1,5 @@
 // A rack is closed.
-ghost use Rattle.std.specs.Prelude.{◌≡◌, ◌<◌, ◌≤◌, ◌++◌, ℕ, List, [], length, vec_capacity, Some, IsSome, All, IsTrue, slice_get, slice_index_or};
+ghost use Rattle.std.specs.Prelude.{◌≡◌, ◌≤◌, ℕ, length, Some, All, IsTrue, slice_get};
 ghost use Rattle.wol_disk.specs.Disk.{Rose};
 ghost use Rattle.wol_bay.specs.Bay.{Name, Told, outs, at_name, IsHome};
 ghost use Rattle.wol_config.specs.Configs.{IsValid};
@@ -11,16 +11,15 @@ ghost use Rattle.rack.specs.Racks.{IsClosable};
 ghost use Rattle.rack.specs.Opens.{BeganWith, WereThere, KeepsOthers, KeepsAllSound};
 ghost use Rattle.rack.specs.Owners.{HadRefused};
 ghost use Rattle.rack.specs.Closes.{IsClosedSpindle, IsClosedVolume, IsQuiet, AreLeftOfParts, HasFaultIn, ListsFaulty, LeavesOpen, LeavesUnopened, LeavesVolumes};
-ghost use Rattle.rack.specs.Closing.{pool_in, spindle_in, ArePoolsTaken, AreSpindlesTaken, LeavesNoneOut};
-ghost use Rattle.rack.specs.declared.rack.VolumePasses.{VolumePasses};
+ghost use Rattle.rack.specs.Closing.{LeavesNoneOut};
 
-use crate::lists::end_passes;
 use crate::pools::empty_pool;
-use crate::rack::{PoolPass, Rack, Rest, VolumePasses};
+use crate::rack::{Rack, Rest};
 use crate::rest::give_back;
 use log_segment::FreeSegment;
 use logger::Shared;
 use manager::Station;
+use part_store::PoolPass;
 use seg_pool::Pool;
 use spin_model::Spindle;
 use turn_lock::{Pass, TurnLock};
@@ -39,6 +38,7 @@ impl<D: Disk> Rest<D> {
     ghost use Rattle.wol_config.specs.declared.config.Config.{Config};
     ghost use Rattle.logger.specs.declared.shared.Shared.{Shared};
     ghost use Rattle.manager.specs.declared.station.Station.{Station};
+    ghost use Rattle.part_store.specs.Passes.{volumes_of};
     ghost use Rattle.rack.specs.Rests.{spindle_pass, image_here, held_here, OnlyAccess, IsRest};
     ghost use Rattle.rack.specs.Closing.{CanCloseStations, ClosesStation, ClosesStations, CanClosePool, CanClosePools, CanPutAllHeld, PutsAllHeld, RefillsAll, KeepsLogger, KeepsSpindles, KeepsOtherRows, HasSpindlePasses, StandsClosed, CanCloseSpindles, AreClosed};
 
@@ -88,14 +88,14 @@ impl<D: Disk> Rest<D> {
     )
         requires pool { (volumes : ℕ) × (s : Shape) × CanClosePool D.state volumes id s lock self.old }
         requires empty { room.items ≡ [] }
-        requires room { length self.old.passes.items ≤ vec_capacity room }
+        requires room { volumes_of self.old.passes ≤ vec_capacity room }
         ensures image { RefillsAll D.state (lock_id lock).base.blocks self.old id (image_here self.old.images.items id) (image_here self.new.images.items id) }
         ensures held { (v : ℕ) → held_here self.new v id ≡ [] }
         ensures others { (k : ℕ) → k ≢ id → KeepsLogger self.old self.new k }
         ensures spindles { KeepsSpindles self.old self.new }
         ensures rooms { self.new.rooms ≡ self.old.rooms }
     {
-        let room = gather_pools(&mut self.passes, id, room);
+        let room = self.passes.take_pools(id, room);
         let pool = lock.close(room);
         self.put_all_held(id);
         empty_pool(pool, &mut self.images[id]);
@@ -107,7 +107,7 @@ impl<D: Disk> Rest<D> {
         ensures { PutsAllHeld self.old self.new id }
     {
         if self.images[id].is_some() {
-            for volume in 0..self.passes.len() {
+            for volume in 0..self.passes.volumes() {
                 self.put_held(volume, id);
             }
         }
@@ -142,14 +142,14 @@ impl<D: Disk> Rest<D> {
     ) -> Spindle
         requires passes { HasSpindlePasses self.old id lock keeper }
         requires empty { room.items ≡ [] }
-        requires room { length self.old.passes.items + 1 ≤ vec_capacity room }
+        requires room { volumes_of self.old.passes + 1 ≤ vec_capacity room }
         ensures spindle { StandsClosed lock keeper result }
         ensures images { self.new.images ≡ self.old.images }
         ensures rooms { self.new.rooms ≡ self.old.rooms }
         ensures rows { KeepsOtherRows self.old self.new }
         ensures others { (v k : ℕ) → k ≢ id → spindle_pass self.new v k ≡ spindle_pass self.old v k }
     {
-        let mut room = gather_spindles(&mut self.passes, id, room);
+        let mut room = self.passes.take_spindles(id, room);
         room.push_reserved(keeper);
         lock.close(room)
     }
@@ -172,70 +172,6 @@ impl<D: Disk> Rest<D> {
         }
         locks.destroy_empty();
     }
-}
-
-impl<D: Disk> VolumePasses<D> {
-    ghost use Rattle.std.specs.Prelude.{◌≡◌, IsSome};
-    ghost use Rattle.rack.specs.Closing.{pool_in, spindle_in, IsPoolTaken, IsSpindleTaken};
-
-    // The pass of the pool of volume `id` goes.
-    fn take_pool(&mut self, id: usize) -> PoolPass<D>
-        requires { IsSome (pool_in self.old id) }
-        ensures { IsPoolTaken id self.old self.new result }
-    {
-        let Some(pass) = self.pools[id].take() else {
-            unreachable!()
-        };
-        pass
-    }
-
-    // The pass of the spindle of volume `id` goes.
-    fn take_spindle(&mut self, id: usize) -> Pass<Spindle>
-        requires { IsSome (spindle_in self.old id) }
-        ensures { IsSpindleTaken id self.old self.new result }
-    {
-        let Some(pass) = self.spindles[id].take() else {
-            unreachable!()
-        };
-        pass
-    }
-}
-
-// Takes the pass of the pool of volume `id` from each row, in order.
-fn gather_pools<D: Disk>(
-    passes: &mut [VolumePasses<D>],
-    id: usize,
-    room: Vec<PoolPass<D>>,
-) -> Vec<PoolPass<D>>
-    requires there { (v : ℕ) (d : VolumePasses D) → v < length passes.old → IsSome (pool_in (slice_index_or passes.old v d) id) }
-    requires empty { room.items ≡ [] }
-    requires room { length passes.old ≤ vec_capacity room }
-    ensures { ArePoolsTaken id passes.old passes.new result.items }
-{
-    let mut room = room;
-    for volume in passes.iter_mut() {
-        room.push_reserved(volume.take_pool(id));
-    }
-    room
-}
-
-// Takes the pass of the spindle of volume `id` from each row, in order.
-fn gather_spindles<D: Disk>(
-    passes: &mut [VolumePasses<D>],
-    id: usize,
-    room: Vec<Pass<Spindle>>,
-) -> Vec<Pass<Spindle>>
-    requires there { (v : ℕ) (d : VolumePasses D) → v < length passes.old → IsSome (spindle_in (slice_index_or passes.old v d) id) }
-    requires empty { room.items ≡ [] }
-    requires room { length passes.old ≤ vec_capacity room }
-    ensures taken { AreSpindlesTaken id passes.old passes.new result.items }
-    ensures capacity { vec_capacity result ≡ vec_capacity room }
-{
-    let mut room = room;
-    for volume in passes.iter_mut() {
-        room.push_reserved(volume.take_spindle(id));
-    }
-    room
 }
 
 /// Closes a rack that `open_all` opened over this bay with this configuration. Each part goes back to its image, and each image
@@ -285,7 +221,7 @@ pub fn close_all<B: Bay>(rack: Rack<B::Part>, bay: &mut B, config: &Config) -> V
         passes,
         rooms,
     } = rest;
-    end_passes(passes);
+    passes.end();
     give_back(bay, config, images);
     let mut closed = rooms.closed;
     closed.reverse();

@@ -1,81 +1,25 @@
 // The lists that a rack keeps are made, and filled.
-ghost use Rattle.std.specs.Prelude.{ℕ, ◌≡◌, ◌≤◌, [], length, map, IfOk, All, vec_capacity};
-ghost use Rattle.rack.specs.Parts.{last_of, ArePopped};
-ghost use Rattle.rack.specs.Making.{IsEmptyShared, AreNewRooms, AreEmptyPasses};
+ghost use Rattle.std.specs.Prelude.{ℕ, IfOk};
+ghost use Rattle.rack.specs.Making.{IsEmptyShared, AreNewRooms};
 
 use crate::VolumeFault;
 use crate::locks::{Issued, IssuedPool};
-use crate::rack::{ImageRest, Rack, Rest, Rooms, VolumePasses};
+use crate::rack::{ImageRest, Rack, Rest, Rooms};
 use logger::Shared;
 use manager::Station;
+use part_store::PassStore;
 use spin_model::Spindle;
 use std::alloc::Global;
 use turn_lock::Pass;
 use wol_disk::{Disk, NoMemory};
 
-/// Empty lists for what a rack keeps, but its images and faults. `passes` has an entry for each volume, both of whose lists
-/// are empty.
+/// Empty lists for what a rack keeps, but its images and faults.
 pub(crate) struct Lists<D: Disk> {
     shared: Shared<D>,
     keepers: Vec<Pass<Spindle>>,
     stations: Vec<Station<D>>,
-    passes: Vec<VolumePasses<D>>,
+    passes: PassStore<D>,
     rooms: Rooms<D>,
-}
-
-// Empty lists of the passes of so many volumes.
-fn new_passes<D: Disk>(alloc: Global, volumes: usize) -> Result<Vec<VolumePasses<D>>, NoMemory>
-    ensures count { IfOk result (λ ps. length ps.items ≡ volumes) }
-    ensures empty { IfOk result (λ ps. All (AreEmptyPasses volumes) ps.items) }
-{
-    let mut passes = Vec::with_capacity(alloc, volumes)?;
-    for _volume in 0..volumes {
-        match new_row(alloc, volumes) {
-            Ok(row) => passes.push_reserved(row),
-            Err(NoMemory) => {
-                end_passes(passes);
-                return Err(NoMemory);
-            }
-        }
-    }
-    Ok(passes)
-}
-
-// Those of one volume.
-fn new_row<D: Disk>(alloc: Global, volumes: usize) -> Result<VolumePasses<D>, NoMemory>
-    ensures { IfOk result (AreEmptyPasses volumes) }
-{
-    let pools = Vec::with_capacity(alloc, volumes)?;
-    let spindles = Vec::with_capacity(alloc, volumes)?;
-    let mut held = Vec::with_capacity(alloc, volumes)?;
-    for _logger in 0..volumes {
-        held.push_reserved(Vec::new(alloc));
-    }
-    Ok(VolumePasses {
-        pools,
-        spindles,
-        held,
-    })
-}
-
-/// Ends the lists of volumes where no segment is in them.
-pub(crate) fn end_passes<D: Disk>(mut passes: Vec<VolumePasses<D>>)
-    requires { All (λ p. All (λ list. list.items ≡ []) p.held.items) passes.items }
-{
-    while let Some(
-        VolumePasses {
-            pools: _,
-            spindles: _,
-            mut held,
-        },
-    ) = passes.pop()
-    {
-        while let Some(list) = held.pop() {
-            list.destroy_empty();
-        }
-        held.destroy_empty();
-    }
-    passes.destroy_empty();
 }
 
 fn new_rooms<D: Disk>(alloc: Global, volumes: usize) -> Result<Rooms<D>, NoMemory>
@@ -114,22 +58,10 @@ fn destroy_shared<D: Disk>(shared: Shared<D>)
     spindles.destroy_empty();
 }
 
-// The last element of each row goes behind those of this list.
-fn deal_one<T>(rows: &mut [Vec<T>], places: &mut Vec<Option<T>>)
-    requires empty { places.old.items ≡ [] }
-    requires room { length rows.old ≤ vec_capacity places.old }
-    ensures places { places.new.items ≡ map last_of rows.old }
-    ensures rows { ArePopped rows.old rows.new }
-{
-    for row in 0..rows.len() {
-        places.push_reserved(rows[row].pop());
-    }
-}
-
 impl<D: Disk> Lists<D> {
-    ghost use Rattle.std.specs.Prelude.{◌≡◌, ◌≤◌, ◌+◌, ℕ, [], length, IfOk, All, vec_capacity};
+    ghost use Rattle.std.specs.Prelude.{◌≡◌, ◌≤◌, ◌+◌, ℕ, [], length, replicate, None, IfOk, All, vec_capacity};
     ghost use Rattle.rack.specs.Making.{AreLists};
-    ghost use Rattle.rack.specs.Parts.{PutsSpindles, PutsPools, CanDeal, Deals, IsSetUp};
+    ghost use Rattle.rack.specs.Parts.{PutsSpindles, PutsPools, IsSetUp};
 
     /// Lists with room for so many volumes.
     pub(crate) fn new(alloc: Global, volumes: usize) -> Result<Lists<D>, NoMemory>
@@ -137,13 +69,13 @@ impl<D: Disk> Lists<D> {
     {
         let keepers = Vec::with_capacity(alloc, volumes)?;
         let rooms = new_rooms(alloc, volumes)?;
-        let passes = new_passes(alloc, volumes)?;
+        let passes = PassStore::empty(alloc, volumes)?;
         let Ok(shared) = new_shared(alloc, volumes) else {
-            end_passes(passes);
+            passes.end();
             return Err(NoMemory);
         };
         let Ok(stations) = Vec::with_capacity(alloc, volumes) else {
-            end_passes(passes);
+            passes.end();
             destroy_shared(shared);
             return Err(NoMemory);
         };
@@ -166,12 +98,12 @@ impl<D: Disk> Lists<D> {
             passes,
             rooms: _,
         } = self;
-        end_passes(passes);
+        passes.end();
         destroy_shared(shared);
         stations.destroy_empty();
     }
 
-    // The locks of the spindles and their rows of passes, of which the keepers' are taken.
+    // The locks of the spindles and their passes, of which the keepers' are taken.
     fn put_spindles(&mut self, mut spindles: Vec<Issued<Spindle>>)
         requires lists { AreLists (length spindles.items) self.old }
         requires spindles { All (λ i. length i.passes.items ≡ length spindles.items + 1) spindles.items }
@@ -182,6 +114,7 @@ impl<D: Disk> Lists<D> {
             let Some(keeper) = passes.pop() else {
                 unreachable!()
             };
+            self.passes.put_spindles(self.keepers.len(), &mut passes);
             self.shared.spindles.push_reserved(lock);
             self.keepers.push_reserved(keeper);
             self.rooms.spindles.push_reserved(passes);
@@ -189,32 +122,21 @@ impl<D: Disk> Lists<D> {
         spindles.destroy_empty();
     }
 
-    // The locks of the pools and their rows of passes.
+    // The locks of the pools and their passes.
     fn put_pools(&mut self, mut pools: Vec<IssuedPool<D>>)
         requires shared { (self.old.shared.pools.items ≡ []) × (length pools.items ≤ vec_capacity self.old.shared.pools) }
+        requires passes { self.old.passes.pools ≡ replicate (length pools.items) (replicate (length pools.items) None) }
+        requires counts { All (λ i. length i.passes.items ≡ length pools.items) pools.items }
         requires rooms { (self.old.rooms.pools.items ≡ []) × (length pools.items ≤ vec_capacity self.old.rooms.pools) }
         ensures { PutsPools pools.items self.old self.new }
     {
         pools.reverse();
-        while let Some(Issued { lock, passes }) = pools.pop() {
+        while let Some(Issued { lock, mut passes }) = pools.pop() {
+            self.passes.put_pools(self.rooms.pools.len(), &mut passes);
             self.shared.pools.push_reserved(lock);
             self.rooms.pools.push_reserved(passes);
         }
         pools.destroy_empty();
-    }
-
-    // The last pass of each row is dealt to the last volume, and so on: the rows are empty then.
-    fn deal(&mut self)
-        requires { CanDeal self.old }
-        ensures { Deals self.old self.new }
-    {
-        let mut left = self.passes.len();
-        while left > 0 {
-            left -= 1;
-            let volume = &mut self.passes[left];
-            deal_one(&mut self.rooms.pools, &mut volume.pools);
-            deal_one(&mut self.rooms.spindles, &mut volume.spindles);
-        }
     }
 
     /// The rack before a volume is opened: all parts of the images are in its rest or in the pools.
@@ -236,7 +158,6 @@ impl<D: Disk> Lists<D> {
         let mut lists = self;
         lists.put_spindles(spindles);
         lists.put_pools(pools);
-        lists.deal();
         let Lists {
             shared,
             keepers,

@@ -1,15 +1,11 @@
 // The volumes of a bay, opened.
 use crate::VolumeFault;
-use log_segment::FreeSegment;
 use logger::Shared;
 use manager::{Manager, Station};
-use seg_pool::Pool;
+use part_store::{PassStore, PoolPass};
 use spin_model::{Spindle, Spun};
 use turn_lock::Pass;
 use wol_disk::Disk;
-
-/// A pass of a pool's lock.
-pub(crate) type PoolPass<D> = Pass<Pool<FreeSegment<D>>>;
 
 /// All volumes of a configuration, opened over one bay. `close_all` ends it.
 pub struct Rack<D: Disk> {
@@ -29,8 +25,8 @@ pub struct Rack<D: Disk> {
 pub(crate) struct Rest<D: Disk> {
     /// For each volume what is here of its image, where that is out.
     pub images: Vec<Option<ImageRest<D>>>,
-    /// The passes of each volume.
-    pub passes: Vec<VolumePasses<D>>,
+    /// The passes that no lane has, and the segments that came back with lanes.
+    pub passes: PassStore<D>,
     pub rooms: Rooms<D>,
 }
 
@@ -44,17 +40,6 @@ pub(crate) struct ImageRest<D: Disk> {
     /// Room for all segments in a row, and for all parts.
     pub row: Vec<Spun<D>>,
     pub room: Vec<D>,
-}
-
-/// The passes that are meant for one volume and that no lane has, by the number of the lock's volume. Each has the volume's
-/// number. Of its own spindle the volume uses its home, and its own pool's it keeps, since no view names its own volume.
-#[derive(Drop)]
-pub(crate) struct VolumePasses<D: Disk> {
-    pub pools: Vec<Option<PoolPass<D>>>,
-    pub spindles: Vec<Option<Pass<Spindle>>>,
-    /// The segments of each lane that came back, with their indexes. They go to their places when the pool's lock is closed, since
-    /// only then it is known that no two passes hold one.
-    pub held: Vec<Vec<(u32, Spun<D>)>>,
 }
 
 /// Empty lists with room for the passes of each lock, and for the spindles when all are closed.

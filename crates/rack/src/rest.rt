@@ -9,9 +9,9 @@ ghost use Rattle.logger.specs.Lanes.{IsLane, logger_of, taken_in};
 ghost use Rattle.volume_images.specs.Formatted.{part_sizes};
 ghost use Rattle.volume_images.specs.Left.{IsTold};
 ghost use Rattle.volume_images.specs.Volumes.{shape_in, shapes_of};
-ghost use Rattle.rack.specs.Rests.{segment_here, image_here, held_here, IsImageOut, IsImageRest};
+ghost use Rattle.rack.specs.Rests.{segment_here, image_here, IsImageOut, IsImageRest};
 ghost use Rattle.rack.specs.Making.{IsFilled};
-ghost use Rattle.rack.specs.Parts.{HasPlace, IsBarePlace, CanPutLanes, PutsLane, PutsLanes, CanPutHeld, PutsHeld, PopsHeld, IsHomeAway, with_home, ChangesHome, PutsManager, CanPutOwned, PutsOpening};
+ghost use Rattle.rack.specs.Parts.{IsBarePlace, CanPutLanes, PutsLane, PutsLanes, CanPutSegments, PutsSegments, CanPutHeld, PutsHeld, IsHomeAway, with_home, ChangesHome, PutsManager, CanPutOwned, PutsOpening};
 ghost use Rattle.rack.specs.Closing.{IsComplete, AreComplete, IsImageBack, GivesBack, HasFaultHere, LeavesNoneOut};
 ghost use Rattle.rack.specs.declared.rack.ImageRest.{ImageRest};
 
@@ -19,6 +19,7 @@ use crate::rack::{ImageRest, Rest};
 use logger::{Lane, LaneParts};
 use manager::ManagerParts;
 use manager_recovery::{Opening, OwnedPart};
+use part_store::Returned;
 use spin_model::{Spindle, Spun};
 use std::mem;
 use turn_lock::Pass;
@@ -45,6 +46,17 @@ pub(crate) fn put_segment<D: Disk>(image: &mut Option<ImageRest<D>>, index: u32,
 {
     let Some(image) = image else { unreachable!() };
     image.put(index, part);
+}
+
+// Segments of an image come back to what is here of it.
+fn put_segments<D: Disk>(image: &mut Option<ImageRest<D>>, mut segments: Returned<D>)
+    requires { CanPutSegments image.old segments.items }
+    ensures { PutsSegments image.old image.new segments.items }
+{
+    while let Some((index, part)) = segments.pop() {
+        put_segment(image, index, part);
+    }
+    segments.destroy_empty();
 }
 
 // The home comes back to what is here of its image.
@@ -82,12 +94,10 @@ impl<D: Disk> Rest<D> {
             pool,
             spindle,
         } = lane.release();
-        let logger = logger as usize;
-        let passes = &mut self.passes[id as usize];
-        fill(&mut passes.pools[logger], pool);
-        fill(&mut passes.spindles[logger], spindle);
-        let none = mem::replace(&mut passes.held[logger], held);
-        none.destroy_empty();
+        let (id, logger) = (id as usize, logger as usize);
+        self.passes.put_pool(id, logger, pool);
+        self.passes.put_spindle(id, logger, spindle);
+        self.passes.put_returned(id, logger, held);
     }
 
     /// The segments that came back with a lane of volume `id` go to their places in the image of the logger.
@@ -95,23 +105,9 @@ impl<D: Disk> Rest<D> {
         requires { CanPutHeld self.old id logger }
         ensures { PutsHeld self.old self.new id logger }
     {
-        for _segment in 0..self.passes[id].held[logger].len() {
-            let (index, part) = self.pop_held(id, logger);
-            put_segment(&mut self.images[logger], index, part);
+        if let Some(segments) = self.passes.take_returned(id, logger) {
+            put_segments(&mut self.images[logger], segments);
         }
-    }
-
-    // The last of them goes out.
-    fn pop_held(&mut self, id: usize, logger: usize) -> (u32, Spun<D>)
-        requires place { HasPlace self.old id logger }
-        requires some { 0 < length (held_here self.old id logger) }
-        ensures { PopsHeld self.old self.new id logger result }
-    {
-        let passes = &mut self.passes[id];
-        let Some(held) = passes.held[logger].pop() else {
-            unreachable!()
-        };
-        held
     }
 
     /// Lanes of volume `id` come back.
@@ -131,9 +127,9 @@ impl<D: Disk> Rest<D> {
         requires { IsHomeAway self.old id }
         ensures { ChangesHome self.old self.new id (Some home) (Some spindle) }
     {
-        put_home(&mut self.images[id as usize], home);
-        let passes = &mut self.passes[id as usize];
-        fill(&mut passes.spindles[id as usize], spindle);
+        let id = id as usize;
+        put_home(&mut self.images[id], home);
+        self.passes.put_spindle(id, id, spindle);
     }
 
     /// What volume `id` was opened with comes back.

@@ -67,18 +67,14 @@ impl<D: Disk> Rest<D> {
         ensures same { OnErr result (IsSameRest self.old self.new) }
     {
         let segments = config.volumes[logger as usize].segments;
-        let passes = &mut self.passes[id as usize];
-        let Some(pool) = passes.pools[logger as usize].take() else {
-            unreachable!()
-        };
-        let Some(spindle) = passes.spindles[logger as usize].take() else {
-            unreachable!()
-        };
+        let (volume, place) = (id as usize, logger as usize);
+        let pool = self.passes.take_pool(volume, place);
+        let spindle = self.passes.take_spindle(volume, place);
         match Lane::new(alloc, logger, id, segments, pool, spindle) {
             Ok(lane) => Ok(lane),
             Err((pool, spindle, NoMemory)) => {
-                passes.pools[logger as usize] = Some(pool);
-                passes.spindles[logger as usize] = Some(spindle);
+                self.passes.put_pool(volume, place, pool);
+                self.passes.put_spindle(volume, place, spindle);
                 Err(NoMemory)
             }
         }
@@ -197,12 +193,9 @@ impl<D: Disk> Rest<D> {
         ensures spindle { spindle_pass self.old id id ≡ Some result.1 }
         ensures rest { ChangesHome self.old self.new id None None }
     {
-        let home = take_home(&mut self.images[id as usize]);
-        let passes = &mut self.passes[id as usize];
-        let Some(spindle) = passes.spindles[id as usize].take() else {
-            unreachable!()
-        };
-        (home, spindle)
+        let id = id as usize;
+        let home = take_home(&mut self.images[id]);
+        (home, self.passes.take_spindle(id, id))
     }
 
     // What the volume is opened of. Where there is no memory all is here as it was.

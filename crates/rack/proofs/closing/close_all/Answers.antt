@@ -4,8 +4,11 @@ use Rattle.turn_lock.specs.declared.pass.PassOf.{PassOf}
 use Rattle.spin_model.specs.declared.spindle.Spindle.{Spindle}
 use Rattle.spin_model.specs.declared.spindle.SpindleBase.{SpindleBase}
 use Rattle.volume_images.specs.Volumes.{shapes_of}
+use Rattle.part_store.specs.Passes.{segments_in}
+use Rattle.part_store.specs.Rows.{item_at}
+use Rattle.part_store.proofs.Square.{may_end}
 use Rattle.rack.proofs.Closable.{stations_may, pools_may, spindles_may, images_rest, images_whole}
-use Rattle.rack.proofs.RackClosed.{none_out, few, out_there, lists_ended}
+use Rattle.rack.proofs.RackClosed.{none_out, few, out_there}
 use Rattle.rack.proofs.StationClosed.{closed_volume, told_map}
 use Rattle.rack.proofs.PartsThrough.{fault_through, listed_through}
 use Rattle.rack.proofs.LeftOfParts.{left_parts}
@@ -47,16 +50,17 @@ close_spindles-requires-clause-empty g c =
     let is1 = c.close_stations.ensures.rest config shared (stations_may state config (g.B.Bay.state c.args.bay.now) c.args.rack can) in
     ap (λ r. r.closed.items) c.close_pools.ensures.rooms ∙ is1.rooms.closed.0
 
-pub end_passes-requires : goal.end_passes-requires
-end_passes-requires g c =
+pub end-requires : goal.end-requires
+end-requires g c =
     let can = c.requires.rack in
     let state = g.B.Part.Disk.state in
     let config = c.args.config.now in
     let shared = c.args.rack.shared in
     let is1 = c.close_stations.ensures.rest config shared (stations_may state config (g.B.Bay.state c.args.bay.now) c.args.rack can) in
     let kept = c.close_pools.ensures.spindles in
-    lists_ended (length (shapes_of config)) c.close_pools.new.self c.close_spindles.new.self (kept.count ∙ is1.parts.count) (kept.rows (length (shapes_of config)) is1.parts.rows) c.close_spindles.ensures.rows
-    (λ v k below. c.close_pools.ensures.held v k (omega (arith, below, can.locks.pool_count)))
+    let rows = c.close_spindles.ensures.rows in
+    may_end (length (shapes_of config)) c.close_spindles.new.self.passes (rows.rows (length (shapes_of config)) (kept.rows (length (shapes_of config)) is1.parts.rows))
+    (λ v k below. ap (λ s. segments_in (item_at s.returned k v)) rows.others ∙ c.close_pools.ensures.held v k (omega (arith, below, can.locks.pool_count)))
 
 pub give_back-requires-clause-count : goal.give_back-requires-clause-count
 give_back-requires-clause-count g c =

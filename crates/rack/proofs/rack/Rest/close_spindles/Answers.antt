@@ -7,6 +7,7 @@ use Rattle.turn_lock.specs.declared.pass.PassOf.{PassOf}
 use Rattle.spin_model.specs.Spindles.{SpindleView}
 use Rattle.spin_model.specs.declared.spindle.Spindle.{Spindle}
 use Rattle.spin_model.specs.declared.spindle.SpindleBase.{SpindleBase}
+use Rattle.part_store.specs.Passes.{volumes_of}
 use Rattle.rack.specs.Closing.{CanCloseSpindles, HasSpindlePasses, StandsClosed, KeepsOtherRows}
 use Rattle.rack.proofs.Members.{all_front, all_last, front_less, front_last}
 use Rattle.rack.proofs.SpindlesInTurn.{same_count, next_passes, others_may, rows_then, one_more_closed}
@@ -20,17 +21,17 @@ close_spindle-spindle-requires-clause-passes g c =
     let x = next_passes c.pop.new.self.items c.in-Some.lock c.pop-in-Some.new.self.items c.in-Some-Some.keeper c.loop-lock.self can in
     let number : length c.pop.new.self.items ≡ c.len.result = omega (arith, c.len.ensures, c.pop.new.self.ok.0) in
     let y : HasSpindlePasses c.loop-lock.self c.len.result c.in-Some.lock c.in-Some-Some.keeper = subst (λ (n : ℕ). HasSpindlePasses c.loop-lock.self n c.in-Some.lock c.in-Some-Some.keeper) number x in
-    record { count = y.count; each = y.each; keeper_ = y.keeper_; accesses = y.accesses; settled = y.settled }
+    record { volumes = y.volumes; rows = y.rows; below = y.below; count = y.count; each = y.each; keeper_ = y.keeper_; accesses = y.accesses; settled = y.settled }
 
 pub close_spindle-spindle-requires-clause-empty : goal.close_spindle-spindle-requires-clause-empty
 close_spindle-spindle-requires-clause-empty g c =
-    (all_last (λ row. (row.items ≡ []) × (length c.loop-lock.self.passes.items + 1 ≤ vec_capacity row)) c.pop-in-Some-2.new.self.items c.in-Some-Some.room
-    (subst (λ l. All (λ row. (row.items ≡ []) × (length c.loop-lock.self.passes.items + 1 ≤ vec_capacity row)) l) c.in-Some-Some.ensures'.items c.loop-lock.invariant.left.rooms)).0
+    (all_last (λ row. (row.items ≡ []) × (volumes_of c.loop-lock.self.passes + 1 ≤ vec_capacity row)) c.pop-in-Some-2.new.self.items c.in-Some-Some.room
+    (subst (λ l. All (λ row. (row.items ≡ []) × (volumes_of c.loop-lock.self.passes + 1 ≤ vec_capacity row)) l) c.in-Some-Some.ensures'.items c.loop-lock.invariant.left.rooms)).0
 
 pub close_spindle-spindle-requires-clause-room : goal.close_spindle-spindle-requires-clause-room
 close_spindle-spindle-requires-clause-room g c =
-    (all_last (λ row. (row.items ≡ []) × (length c.loop-lock.self.passes.items + 1 ≤ vec_capacity row)) c.pop-in-Some-2.new.self.items c.in-Some-Some.room
-    (subst (λ l. All (λ row. (row.items ≡ []) × (length c.loop-lock.self.passes.items + 1 ≤ vec_capacity row)) l) c.in-Some-Some.ensures'.items c.loop-lock.invariant.left.rooms)).1
+    (all_last (λ row. (row.items ≡ []) × (volumes_of c.loop-lock.self.passes + 1 ≤ vec_capacity row)) c.pop-in-Some-2.new.self.items c.in-Some-Some.room
+    (subst (λ l. All (λ row. (row.items ≡ []) × (volumes_of c.loop-lock.self.passes + 1 ≤ vec_capacity row)) l) c.in-Some-Some.ensures'.items c.loop-lock.invariant.left.rooms)).1
 
 pub loop-lock-preserved : goal.loop-lock-preserved
 loop-lock-preserved g c =
@@ -51,19 +52,19 @@ loop-lock-preserved g c =
     let closed_count : length c.push_reserved.new.self.items ≡ length c.loop-lock.self.rooms.closed.items + 1 = ap length closed_items ∙ length_push c.loop-lock.self.rooms.closed.items c.close_spindle-spindle.result in
     let capacity : vec_capacity c.push_reserved.new.self ≡ vec_capacity c.loop-lock.self.rooms.closed = c.push_reserved.ensures.capacity ∙ ap (λ v. vec_capacity v) closed in
     let number : c.len.result ≡ length locks = omega (arith, c.len.ensures, c.pop.new.self.ok.0) in
-    let rows : KeepsOtherRows c.loop-lock.self c.close_spindle-spindle.new.self = record { count = c.close_spindle-spindle.ensures.rows.count; each = c.close_spindle-spindle.ensures.rows.each } in
+    let rows : KeepsOtherRows c.loop-lock.self c.close_spindle-spindle.new.self = record { others = c.close_spindle-spindle.ensures.rows.others; rows = c.close_spindle-spindle.ensures.rows.rows } in
     let rows_now = rows_then c.args.self.now c.loop-lock.self c.close_spindle-spindle.new.self i.rows rows in
     record {
       front = front_less c.args.locks.items c.loop-lock.locks.items locks c.in-Some.lock i.front c.in-Some.ensures.items;
       keepers_front = front_less c.args.keepers.items c.loop-lock.keepers.items keepers c.in-Some-Some.keeper keepers_front c.in-Some-Some.ensures.items ∙ ap (λ (n : ℕ). take n c.args.keepers.items) counts;
       few = omega (arith, all_locks, i.few);
       left = others_may locks c.in-Some.lock keepers c.in-Some-Some.keeper c.loop-lock.self can _
-          (record { count = rows.count; each = rows.each })
+          (record { others = rows.others; rows = rows.rows })
           (λ v k differs. c.close_spindle-spindle.ensures.others v k (λ e. differs (e ∙ number)))
           (ap length spindles ∙ omega (arith, rows_left, i.left.room_count, all_locks))
-          (subst (λ l. All (λ row. (row.items ≡ []) × (length c.loop-lock.self.passes.items + 1 ≤ vec_capacity row)) l) (sym spindles)
-          (all_front (λ row. (row.items ≡ []) × (length c.loop-lock.self.passes.items + 1 ≤ vec_capacity row)) c.pop-in-Some-2.new.self.items c.in-Some-Some.room
-          (subst (λ l. All (λ row. (row.items ≡ []) × (length c.loop-lock.self.passes.items + 1 ≤ vec_capacity row)) l) c.in-Some-Some.ensures'.items i.left.rooms)))
+          (subst (λ l. All (λ row. (row.items ≡ []) × (volumes_of c.loop-lock.self.passes + 1 ≤ vec_capacity row)) l) (sym spindles)
+          (all_front (λ row. (row.items ≡ []) × (volumes_of c.loop-lock.self.passes + 1 ≤ vec_capacity row)) c.pop-in-Some-2.new.self.items c.in-Some-Some.room
+          (subst (λ l. All (λ row. (row.items ≡ []) × (volumes_of c.loop-lock.self.passes + 1 ≤ vec_capacity row)) l) c.in-Some-Some.ensures'.items i.left.rooms)))
           (omega (arith, closed_count, capacity, i.left.closed, all_locks));
       count = omega (arith, closed_count, i.count, all_locks);
       closed = λ k f p d from at_lock at_keeper.
@@ -73,7 +74,7 @@ loop-lock-preserved g c =
           c.close_spindle-spindle.ensures.spindle (λ j h q e behind. i.closed j h q e (omega (arith, behind, all_locks)))
           k f p d (slice_get_within c.args.locks.items k f at_lock) from at_lock at_keeper);
       images = c.close_spindle-spindle.ensures.images ∙ i.images;
-      rows = record { count = rows_now.count; each = rows_now.each };
+      rows = record { others = rows_now.others; rows = rows_now.rows };
     }
 
 pub returns-clause-closed : goal.returns-clause-closed

@@ -1,61 +1,20 @@
-use Rattle.std.proofs.Common.{◌≡◌, ◌<◌, Some, None, Option, is_some, length, refl, sym, ap, subst, ◌∙◌, arith}
-use Rattle.std.specs.Prelude.{IfSome, slice_get}
-use Rattle.std.specs.Vec.{with_item}
-use Rattle.std.proofs.lemmas.List.{nil_from_length, get_or_read}
-use Rattle.std.proofs.lemmas.Option.{slice_get_read}
-use Rattle.rack.specs.Making.{IsFilled}
-use Rattle.rack.specs.Rests.{held_here, segment_here}
-use Rattle.rack.specs.declared.rack.ImageRest.{ImageRest}
-use Rattle.rack.specs.declared.rack.Rest.{Rest}
-use Rattle.rack.proofs.HeldPut.{held_none, held_is, place_within, place_free, mid_out, held_next, one_less, held_all}
-use Rattle.rack.proofs.Returned.{here_within, one_put_at}
-use Rattle.rack.proofs.Rows.{size_of}
+use Rattle.std.proofs.Common.{◌≡◌, ◌<◌, Some, None, length, refl, sym, ap, subst, ◌∙◌}
+use Rattle.std.proofs.lemmas.List.{get_or_read, get_or-set_same, get_or-set_other, length-set}
+use Rattle.part_store.specs.Passes.{segments_in}
+use Rattle.rack.specs.Rests.{image_here, held_here}
+use Rattle.rack.specs.Parts.{CanPutSegments, PutsSegments}
+use Rattle.rack.proofs.HeldPut.{puts_none, held_went}
+use Rattle.rack.proofs.Returned.{here_within}
+use Rattle.rack.proofs.Rows.{slot_of_list}
 use Rattle.rack.proofs.rack.Rest.put_held.Goals as goal
 
-pub loop-segment-init : goal.loop-segment-init
-loop-segment-init g c = record { put = held_none c.args.self.now c.args.id c.args.logger c.requires; left = omega arith }
+pub take_returned-requires : goal.take_returned-requires
+take_returned-requires g c = record { slot = slot_of_list c.args.self.now c.args.id c.args.logger c.requires.place }
 
-pub pop_held-index-requires-clause-some : goal.pop_held-index-requires-clause-some
-pop_held-index-requires-clause-some g c =
-    let r = c.args.self.now in let v = c.args.id in let k = c.args.logger in let row = c.index.result.now in let list = c.index-2.result.now in
-    let is : slice_get r.passes.items v ≡ Some row = slice_get_read r.passes.items (length r.passes.items) v row refl (omega (arith, c.requires.place.row)) c.index.ensures in
-    let size = size_of r v k row c.requires.place is in
-    let at : slice_get row.held.items k ≡ Some list = slice_get_read row.held.items (length row.held.items) k list refl (omega (arith, size.1.held, size.2)) c.index-2.ensures in
-    let e = ap length (held_is r v k row list is at) in
-    omega (arith, e, c.len-segment-end.ensures, list.ok.0, c.loop-segment.invariant.left, c.loop-segment-test.true)
-
-pub put_segment-requires : goal.put_segment-requires
-put_segment-requires g c =
-    let h = c.pop_held-index.result in let mid = c.pop_held-index.new.self in let k = c.args.logger in let put = c.loop-segment.invariant.put in let n = c.loop-segment.self in
-    let out = mid_out c.args.self.now n mid c.args.id k put h c.pop_held-index.ensures in
-    let at : c.index_mut.result.now ≡ Some put.can.image = get_or_read mid.images.items k c.index_mut.result.now (here_within mid.images.items k put.can.image out) c.index_mut.ensures.value None ∙ out in
-    record {
-      there = ap is_some at;
-      here = subst (λ (x : Option (ImageRest g.row.D.Denot)). IfSome x (λ r. (h.0 < length r.segments.items) × (segment_here r h.0 ≡ None))) (sym at)
-          (place_within c.args.self.now n mid c.args.id k put h c.pop_held-index.ensures, place_free c.args.self.now n mid c.args.id k put h c.pop_held-index.ensures);
-    }
-
-pub loop-segment-preserved : goal.loop-segment-preserved
-loop-segment-preserved g c =
-    let h = c.pop_held-index.result in let mid = c.pop_held-index.new.self in let k = c.args.logger in let put = c.loop-segment.invariant.put in let n = c.loop-segment.self in
-    let out = mid_out c.args.self.now n mid c.args.id k put h c.pop_held-index.ensures in
-    let at : c.index_mut.result.now ≡ Some put.can.image = get_or_read mid.images.items k c.index_mut.result.now (here_within mid.images.items k put.can.image out) c.index_mut.ensures.value None ∙ out in
-    let newer : Rest g.row.D.Denot = record { images = with_item mid.images k c.put_segment.new.image; passes = mid.passes; rooms = mid.rooms } in
-    let less = one_less c.args.self.now n mid c.args.id k put h c.pop_held-index.ensures in
-    record {
-      put = held_next c.args.self.now n mid c.args.id k put h c.pop_held-index.ensures newer refl refl
-          (one_put_at mid newer k h.0 put.can.image c.put_segment.new.image h.1 refl out c.put_segment.ensures.there
-          (subst (λ (x : Option (ImageRest g.row.D.Denot)). IfSome x (λ r. IfSome c.put_segment.new.image (λ m. IsFilled r m h.0 h.1))) at c.put_segment.ensures.filled)
-          (place_within c.args.self.now n mid c.args.id k put h c.pop_held-index.ensures));
-      left = omega (arith, less, c.loop-segment.invariant.left);
-    }
-
-pub returns : goal.returns
-returns g c =
-    let r = c.args.self.now in let v = c.args.id in let k = c.args.logger in let row = c.index.result.now in let list = c.index-2.result.now in
-    let is : slice_get r.passes.items v ≡ Some row = slice_get_read r.passes.items (length r.passes.items) v row refl (omega (arith, c.requires.place.row)) c.index.ensures in
-    let size = size_of r v k row c.requires.place is in
-    let at : slice_get row.held.items k ≡ Some list = slice_get_read row.held.items (length row.held.items) k list refl (omega (arith, size.1.held, size.2)) c.index-2.ensures in
-    let e = ap length (held_is r v k row list is at) in
-    held_all r c.loop-segment.self v k c.loop-segment.invariant.put
-    (nil_from_length (held_here c.loop-segment.self v k) (omega (arith, e, c.len-segment-end.ensures, list.ok.0, c.loop-segment.invariant.left, c.loop-segment-test.false)))
+pub put_segments-requires : goal.put_segments-requires
+put_segments-requires g c =
+    let r = c.args.self.now in let k = c.args.logger in
+    let is : held_here r c.args.id k ≡ c.in-Some.segments.items = ap segments_in (sym c.take_returned.ensures.segments ∙ c.in-Some.is) in
+    let within : k < length r.images.items = here_within r.images.items k c.requires.segments.image c.requires.segments.out in
+    let was : c.index_mut.result.now ≡ image_here r.images.items k = get_or_read r.images.items k c.index_mut.result.now within c.index_mut.ensures.value None in
+    subst (λ o. CanPutSegments o c.in-Some.segments.items) (sym was) (subst (CanPutSegments (image_here r.images.items k)) is c.requires.segments)

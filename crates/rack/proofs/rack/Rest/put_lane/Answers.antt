@@ -1,33 +1,39 @@
-use Rattle.std.proofs.Common.{◌≡◌, ℕ, Some, length, refl, ap, subst, ◌∙◌, arith}
-use Rattle.std.specs.Prelude.{slice_get}
-use Rattle.std.specs.declared.alloc.Global.{Global}
-use Rattle.std.specs.declared.vec.Vec.{Vec}
-use Rattle.spin_model.specs.declared.spun.Spun.{Spun}
-use Rattle.std.proofs.lemmas.Option.{slice_get_read}
-use Rattle.logger.specs.Lanes.{logger_of}
-use Rattle.rack.proofs.LanePut.{lane_put, held_bare}
-use Rattle.rack.proofs.Rows.{size_of}
+use Rattle.std.proofs.Common.{◌≡◌, Some, None, refl, sym, ap, subst, ◌∙◌}
+use Rattle.part_store.specs.Passes.{segments_in, with_pool, with_spindle, with_returned}
+use Rattle.part_store.specs.Rows.{item_at, HasSlot}
+use Rattle.part_store.specs.declared.passes.PassStore.{PassStore}
+use Rattle.rack.proofs.Rows.{slot_of_pool, slot_of_spindle, slot_of_list, lane_put}
 use Rattle.rack.proofs.rack.Rest.put_lane.Goals as goal
 
-pub destroy_empty-requires : goal.destroy_empty-requires
-destroy_empty-requires g c =
-    let row = c.index_mut-passes.result.now in
-    let r = c.args.self.now in
-    let k = logger_of c.args.lane in
-    let x = c.index_mut-3.result.now in
-    let is : slice_get r.passes.items c.args.id ≡ Some row = slice_get_read r.passes.items (length r.passes.items) c.args.id row refl (omega (arith, c.requires.bare.place.row)) c.index_mut-passes.ensures.value in
-    let size = size_of r c.args.id k row c.requires.bare.place is in
-    let at : slice_get row.held.items c.release-logger.result.logger ≡ Some x = slice_get_read row.held.items (length row.held.items) c.release-logger.result.logger x refl
-    (omega (arith, size.1.held, size.2, c.release-logger.ensures.logger)) c.index_mut-3.ensures.value in
-    let here : slice_get row.held.items k ≡ Some x = subst (λ (n : ℕ). slice_get row.held.items n ≡ Some x) c.release-logger.ensures.logger at in
-    let none = held_bare r c.args.id k row x is here c.requires.bare.held in
-    ap (λ (x : Vec (ℕ × Spun g.row.D.Denot) Global). x.len) c.replace-none.ensures.value ∙ (x.ok.0 ∙ ap length none)
+pub put_pool-requires-clause-slot : goal.put_pool-requires-clause-slot
+put_pool-requires-clause-slot g c = subst (λ k. HasSlot c.args.self.now.passes.pools k c.args.id) (sym c.release-logger.ensures.logger) (slot_of_pool c.args.self.now c.args.id _ c.requires.bare.place)
+
+pub put_pool-requires-clause-empty : goal.put_pool-requires-clause-empty
+put_pool-requires-clause-empty g c = ap (λ k. item_at c.args.self.now.passes.pools k c.args.id) c.release-logger.ensures.logger ∙ c.requires.bare.pool
+
+pub put_spindle-requires-clause-slot : goal.put_spindle-requires-clause-slot
+put_spindle-requires-clause-slot g c =
+    subst (λ (s : PassStore g.row.D.Denot). HasSlot s.spindles c.release-logger.result.logger c.args.id) (sym c.put_pool.ensures)
+    (subst (λ k. HasSlot c.args.self.now.passes.spindles k c.args.id) (sym c.release-logger.ensures.logger) (slot_of_spindle c.args.self.now c.args.id _ c.requires.bare.place))
+
+pub put_spindle-requires-clause-empty : goal.put_spindle-requires-clause-empty
+put_spindle-requires-clause-empty g c =
+    ap (λ (s : PassStore g.row.D.Denot). item_at s.spindles c.release-logger.result.logger c.args.id) c.put_pool.ensures
+    ∙ ap (λ k. item_at c.args.self.now.passes.spindles k c.args.id) c.release-logger.ensures.logger ∙ c.requires.bare.spindle
+
+pub put_returned-requires-clause-slot : goal.put_returned-requires-clause-slot
+put_returned-requires-clause-slot g c =
+    subst (λ (s : PassStore g.row.D.Denot). HasSlot s.returned c.release-logger.result.logger c.args.id) (sym (c.put_spindle.ensures ∙ ap (with_spindle c.args.id c.release-logger.result.logger (Some c.release-logger.result.spindle)) c.put_pool.ensures))
+    (subst (λ k. HasSlot c.args.self.now.passes.returned k c.args.id) (sym c.release-logger.ensures.logger) (slot_of_list c.args.self.now c.args.id _ c.requires.bare.place))
+
+pub put_returned-requires-clause-none : goal.put_returned-requires-clause-none
+put_returned-requires-clause-none g c =
+    ap (λ (s : PassStore g.row.D.Denot). segments_in (item_at s.returned c.release-logger.result.logger c.args.id)) (c.put_spindle.ensures ∙ ap (with_spindle c.args.id c.release-logger.result.logger (Some c.release-logger.result.spindle)) c.put_pool.ensures)
+    ∙ ap (λ k. segments_in (item_at c.args.self.now.passes.returned k c.args.id)) c.release-logger.ensures.logger ∙ c.requires.bare.held
 
 pub returns : goal.returns
 returns g c =
-    let row = c.index_mut-passes.result.now in
-    let r = c.args.self.now in
-    let is : slice_get r.passes.items c.args.id ≡ Some row = slice_get_read r.passes.items (length r.passes.items) c.args.id row refl (omega (arith, c.requires.bare.place.row)) c.index_mut-passes.ensures.value in
-    lane_put r c.args.id row c.args.lane c.release-logger.result.logger c.fill.new.place c.fill-2.new.place c.replace-none.new.dest
-    c.release-logger.ensures.logger is c.requires.bare.place (c.fill.ensures ∙ ap Some c.release-logger.ensures.pool) (c.fill-2.ensures ∙ ap Some c.release-logger.ensures.spindle)
-    (ap (λ (x : Vec (ℕ × Spun g.row.D.Denot) Global). x.items) c.replace-none.ensures.after ∙ c.release-logger.ensures.held)
+    lane_put c.args.self.now c.put_returned.new.self c.args.id c.args.lane c.release-logger.result.logger c.release-logger.result.pool c.release-logger.result.spindle c.release-logger.result.held
+    c.release-logger.ensures.logger c.requires.bare.place c.release-logger.ensures.pool c.release-logger.ensures.spindle c.release-logger.ensures.held
+    (c.put_returned.ensures ∙ ap (with_returned c.args.id c.release-logger.result.logger (Some c.release-logger.result.held))
+    (c.put_spindle.ensures ∙ ap (with_spindle c.args.id c.release-logger.result.logger (Some c.release-logger.result.spindle)) c.put_pool.ensures))

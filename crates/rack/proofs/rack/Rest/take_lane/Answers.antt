@@ -1,44 +1,67 @@
-use Rattle.std.proofs.Common.{◌≡◌, ◌<◌, Some, None, length, refl, sym, ap, ◌∙◌, arith}
-use Rattle.std.specs.Prelude.{slice_get, slice_index_or}
-use Rattle.std.proofs.lemmas.List.{get_or_read}
+use Rattle.std.proofs.Common.{◌≡◌, Some, None, length, refl, sym, ap, subst, ◌∙◌, arith}
+use Rattle.std.specs.Prelude.{IsSome}
 use Rattle.std.proofs.lemmas.Option.{slice_get_read}
+use Rattle.part_store.specs.Passes.{with_pool, with_spindle}
+use Rattle.part_store.specs.Rows.{item_at, HasSlot, with_slot}
+use Rattle.part_store.specs.declared.passes.PassStore.{PassStore}
+use Rattle.part_store.proofs.Laws.{item_set}
 use Rattle.rack.specs.Rests.{pool_pass, spindle_pass}
-use Rattle.rack.proofs.LaneTaken.{segments_are, lane_gone, lane_back, pool_read, spindle_read}
-use Rattle.rack.proofs.Rows.{size_of}
+use Rattle.rack.proofs.Members.{is_there}
+use Rattle.rack.proofs.Rows.{segments_are, slot_of_pool, slot_of_spindle, slot_of_pool_then, slot_of_spindle_then, passes_back, lane_gone, same_passes}
 use Rattle.rack.proofs.rack.Rest.take_lane.Goals as goal
+
+pub take_spindle-spindle-requires : goal.take_spindle-spindle-requires
+take_spindle-spindle-requires g c = record {
+  here = subst (λ (s : PassStore g.row.D.Denot). IsSome (item_at s.spindles c.args.logger c.args.id)) (sym c.take_pool-pool.ensures.rest) (is_there (spindle_pass c.args.self.now c.args.id c.args.logger) c.requires.place.spindle c.requires.place.spindle_here);
+}
 
 pub returns-in-Ok-clause-lane : goal.returns-in-Ok-clause-lane
 returns-in-Ok-clause-lane g c =
-    let r = c.args.self.now in let v = c.args.id in let k = c.args.logger in let row = c.index_mut-passes.result.now in let place = c.requires.place.place in let l = c.in-Ok.lane in
-    let is : slice_get r.passes.items v ≡ Some row = slice_get_read r.passes.items (length r.passes.items) v row refl (omega (arith, place.row)) c.index_mut-passes.ensures.value in
-    let size = size_of r v k row place is in
-    let in_pools : k < length row.pools.items = omega (arith, size.1.pools, size.2) in
-    let in_spindles : k < length row.spindles.items = omega (arith, size.1.spindles, size.2) in
-    let pool : slice_index_or row.pools.items k None ≡ Some c.in-Some.pool = sym (get_or_read row.pools.items k c.index_mut.result.now in_pools c.index_mut.ensures.value None) ∙ sym c.take.ensures.value ∙ c.in-Some.is in
-    let spindle : slice_index_or row.spindles.items k None ≡ Some c.in-Some-take.spindle = sym (get_or_read row.spindles.items k c.index_mut-2.result.now in_spindles c.index_mut-2.ensures.value None) ∙ sym c.take-2.ensures.value ∙ c.in-Some-take.is in
+    let r = c.args.self.now in let v = c.args.id in let k = c.args.logger in
     record {
       lane = c.in-Ok.ensures.lane;
       owner = c.in-Ok.ensures.owner;
       size = c.in-Ok.ensures.segments ∙ sym (segments_are c.args.config.now k c.index.result.now (slice_get_read c.args.config.now.volumes.items (length c.args.config.now.volumes.items) k c.index.result.now refl (omega (arith, c.requires.within, c.args.config.now.volumes.ok.0)) c.index.ensures));
       bare = c.in-Ok.ensures.held;
       untaken = c.in-Ok.ensures.taken;
-      pool = ap (pool_pass r v) c.in-Ok.ensures.logger ∙ pool_read r v k row is ∙ pool ∙ ap Some (sym c.in-Ok.ensures.pool);
-      spindle = ap (spindle_pass r v) c.in-Ok.ensures.logger ∙ spindle_read r v k row is ∙ spindle ∙ ap Some (sym c.in-Ok.ensures.spindle);
+      pool = ap (pool_pass r v) c.in-Ok.ensures.logger ∙ c.take_pool-pool.ensures.pass ∙ ap Some (sym c.in-Ok.ensures.pool);
+      spindle = ap (spindle_pass r v) c.in-Ok.ensures.logger ∙ sym (ap (λ (s : PassStore g.row.D.Denot). item_at s.spindles k v) c.take_pool-pool.ensures.rest) ∙ c.take_spindle-spindle.ensures.pass ∙ ap Some (sym c.in-Ok.ensures.spindle);
     }
 
 pub returns-in-Ok-clause-taken : goal.returns-in-Ok-clause-taken
 returns-in-Ok-clause-taken g c =
-    let r = c.args.self.now in let v = c.args.id in let row = c.index_mut-passes.result.now in let place = c.requires.place.place in
-    let is : slice_get r.passes.items v ≡ Some row = slice_get_read r.passes.items (length r.passes.items) v row refl (omega (arith, place.row)) c.index_mut-passes.ensures.value in
-    lane_gone r v c.args.logger row c.take.new.self c.take-2.new.self is place c.requires.place.held c.take.ensures.after c.take-2.ensures.after
+    lane_gone c.args.self.now c.take_spindle-spindle.new.self c.args.id c.args.logger c.requires.place.place c.requires.place.held
+    (c.take_spindle-spindle.ensures.rest ∙ ap (with_spindle c.args.id c.args.logger None) c.take_pool-pool.ensures.rest)
+
+pub put_pool-requires-clause-slot : goal.put_pool-requires-clause-slot
+put_pool-requires-clause-slot g c =
+    let v = c.args.id in let k = c.args.logger in
+    subst (λ (s : PassStore g.row.D.Denot). HasSlot s.pools k v) (sym (c.take_spindle-spindle.ensures.rest ∙ ap (with_spindle v k None) c.take_pool-pool.ensures.rest)) (slot_of_pool_then c.args.self.now v k None c.requires.place.place)
+
+pub put_pool-requires-clause-empty : goal.put_pool-requires-clause-empty
+put_pool-requires-clause-empty g c =
+    let v = c.args.id in let k = c.args.logger in
+    ap (λ (s : PassStore g.row.D.Denot). item_at s.pools k v) (c.take_spindle-spindle.ensures.rest ∙ ap (with_spindle v k None) c.take_pool-pool.ensures.rest)
+    ∙ item_set c.args.self.now.passes.pools k v None (slot_of_pool c.args.self.now v k c.requires.place.place)
+
+pub put_spindle-requires-clause-slot : goal.put_spindle-requires-clause-slot
+put_spindle-requires-clause-slot g c =
+    let v = c.args.id in let k = c.args.logger in
+    subst (λ (s : PassStore g.row.D.Denot). HasSlot s.spindles k v)
+    (sym (c.put_pool.ensures ∙ ap (with_pool v k (Some c.in-Err.pool)) (c.take_spindle-spindle.ensures.rest ∙ ap (with_spindle v k None) c.take_pool-pool.ensures.rest)))
+    (slot_of_spindle_then c.args.self.now v k None c.requires.place.place)
+
+pub put_spindle-requires-clause-empty : goal.put_spindle-requires-clause-empty
+put_spindle-requires-clause-empty g c =
+    let v = c.args.id in let k = c.args.logger in
+    ap (λ (s : PassStore g.row.D.Denot). item_at s.spindles k v) (c.put_pool.ensures ∙ ap (with_pool v k (Some c.in-Err.pool)) (c.take_spindle-spindle.ensures.rest ∙ ap (with_spindle v k None) c.take_pool-pool.ensures.rest))
+    ∙ item_set c.args.self.now.passes.spindles k v None (slot_of_spindle c.args.self.now v k c.requires.place.place)
 
 pub returns-in-Err-clause-same : goal.returns-in-Err-clause-same
 returns-in-Err-clause-same g c =
-    let r = c.args.self.now in let v = c.args.id in let k = c.args.logger in let row = c.index_mut-passes.result.now in let place = c.requires.place.place in
-    let is : slice_get r.passes.items v ≡ Some row = slice_get_read r.passes.items (length r.passes.items) v row refl (omega (arith, place.row)) c.index_mut-passes.ensures.value in
-    let size = size_of r v k row place is in
-    let in_pools : k < length row.pools.items = omega (arith, size.1.pools, size.2) in
-    let in_spindles : k < length row.spindles.items = omega (arith, size.1.spindles, size.2) in
-    let pool : slice_index_or row.pools.items k None ≡ Some c.in-Some.pool = sym (get_or_read row.pools.items k c.index_mut.result.now in_pools c.index_mut.ensures.value None) ∙ sym c.take.ensures.value ∙ c.in-Some.is in
-    let spindle : slice_index_or row.spindles.items k None ≡ Some c.in-Some-take.spindle = sym (get_or_read row.spindles.items k c.index_mut-2.result.now in_spindles c.index_mut-2.ensures.value None) ∙ sym c.take-2.ensures.value ∙ c.in-Some-take.is in
-    lane_back r v k row c.take.new.self (Some c.in-Err.pool) c.take-2.new.self (Some c.in-Err.spindle) is place (ap Some c.in-Err.ensures.unchanged.0 ∙ sym pool) (ap Some c.in-Err.ensures.unchanged.1 ∙ sym spindle)
+    let v = c.args.id in let k = c.args.logger in let s = c.args.self.now.passes in
+    let pool = c.take_pool-pool.ensures.pass ∙ ap Some (sym c.in-Err.ensures.unchanged.0) in
+    let spindle = sym (ap (λ (x : PassStore g.row.D.Denot). item_at x.spindles k v) c.take_pool-pool.ensures.rest) ∙ c.take_spindle-spindle.ensures.pass ∙ ap Some (sym c.in-Err.ensures.unchanged.1) in
+    same_passes c.args.self.now c.put_spindle.new.self
+    (c.put_spindle.ensures ∙ ap (with_spindle v k (Some c.in-Err.spindle)) (c.put_pool.ensures ∙ ap (with_pool v k (Some c.in-Err.pool)) (c.take_spindle-spindle.ensures.rest ∙ ap (with_spindle v k None) c.take_pool-pool.ensures.rest))
+    ∙ passes_back s v k c.in-Err.pool c.in-Err.spindle pool spindle)
