@@ -22,6 +22,7 @@
 
 mod base;
 mod fetch;
+mod group;
 mod home;
 mod log;
 mod manager;
@@ -31,6 +32,7 @@ mod put;
 mod read;
 mod reclaim;
 mod record;
+mod run;
 mod station;
 mod write;
 

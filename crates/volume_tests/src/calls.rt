@@ -3,6 +3,7 @@ ghost use Rattle.std.specs.Prelude.{◌≤◌, ◌+◌, length};
 ghost use Rattle.volume_tests.specs.Rigs.{IsRig};
 
 use crate::rig::Rig;
+use log_segment::Item;
 use manager::{Place, ReadRefusal, Sources, StepFault, WriteRefusal};
 use reclaimer::{Drain, Fetched, Gone, drain_step, fetch, invalidate_one, put_home};
 use std::sync::Wait;
@@ -29,6 +30,19 @@ impl Rig {
         ensures { IsRig self.new }
     {
         self.manager.write(rt, &self.shared, lbn, from)
+    }
+
+    /// Writes some first ones of the items.
+    pub fn write_run<R: Wait>(
+        &mut self,
+        rt: &R,
+        items: &[Item],
+        from: &[Block],
+    ) -> Result<(u32, Place), WriteRefusal>
+        requires rig { IsRig self.old }
+        ensures { IsRig self.new }
+    {
+        self.manager.write_run(rt, &self.shared, items, from)
     }
 
     pub fn read<R: Wait>(
