@@ -152,7 +152,7 @@ module _ {D : Type 0} (tells : Bool) (state : D → State) (m : Manager D) (b : 
           ending.upheld_with (unbroken tells state m b notes kp up) refl size volume new_records client
           (λ bs is. subst (λ (v : ℕ). IsLog bs v all_records) owned (image_is_log state n.segment all_records bs (ok ending.records (ending.holds is.0)) is.1))
           (let e = long in omega arith) (is_up tells state m b notes kp up) (wrote ∙ ap Wrote (sym (group_written (lane_owner old) m.next items from)))
-          (group_fits (disk_of state n.segment).size (end_of ending.records) (lane_owner old) m.next items from (let e = ending.ends in let w = was_held.shape.size in let z = size in let p = was_held.shape.place.0 in let c = group_some items some are in omega (arith, space, e, w, z, p, c, some)))
+          (group_fits (disk_of state n.segment).size (end_of ending.records) (lane_owner old) m.next items from (let e = ending.ends in let w = was_held.shape.size in let z = size in let p = was_held.shape.place.0 in let c = group_some m.most (state_of state m.home).size items some are in omega (arith, space, e, w, z, p, c, some)))
           step (look ∙ (λ t. record { home_up = m.home_up; ups = ups; next = sym next_is t; listed = listed_in (indexed_is t) }))
 
       abbrev now_seen : ManagerSeen (Spun D)

@@ -224,8 +224,8 @@ module _ {D : Type 0} (tells : Bool) (state : D → State) (m : Manager D) (b : 
           }
           at false untold = record { part_ = part_of n.segment; size = refl; lies_on = refl; logs = λ bs is. absurd (let no : false ≡ true = sym untold ∙ is.0 in cc) }
 
-      abbrev s : Held (Spun D)
-      s = empty_segment claim.part_ k n.index
+      abbrev unused : Held (Spun D)
+      unused = empty_segment claim.part_ k n.index
 
       abbrev now : Held (Spun D)
       now = record { part = part_of n.segment; lane = k; index = n.index; broken = false; records = rs }
@@ -233,14 +233,14 @@ module _ {D : Type 0} (tells : Bool) (state : D → State) (m : Manager D) (b : 
       now_is : all_held 0 (slice_set m.lanes.items k new) (ends.lists rs) ≡ ends.front ++ now ∷ ends.back
       now_is = ends.then_is new n rs held ∙ (λ t. ends.front ++ record { part = part_of n.segment; lane = k; index = n.index; broken = whole t; records = rs } ∷ ends.back)
 
-      indexed_is : entered_all m.index.entries recs ≡ indexed_by m.index.entries s (part_of n.segment) rs
-      indexed_is = ap (entered_all m.index.entries) recs_is ∙ group_indexed (lane_owner old) m.next items from m.index.entries s (part_of n.segment) enough
+      indexed_is : entered_all m.index.entries recs ≡ indexed_by m.index.entries unused (part_of n.segment) rs
+      indexed_is = ap (entered_all m.index.entries) recs_is ∙ group_indexed (lane_owner old) m.next items from m.index.entries unused (part_of n.segment) enough
 
       next_is : m.next + length rs ≡ m.next + length items
       next_is = ap (λ (c : ℕ). m.next + c) long
 
       abbrev with_all : ManagerSeen (Spun D)
-      with_all = record { home = m.home; held = ends.front ++ now ∷ ends.back; taken = all_taken 0 m.lanes.items; indexed = indexed_by m.index.entries s (part_of n.segment) rs; next = m.next + length rs; home_up = m.home_up; ups = ups; down = down_of m.down }
+      with_all = record { home = m.home; held = ends.front ++ now ∷ ends.back; taken = all_taken 0 m.lanes.items; indexed = indexed_by m.index.entries unused (part_of n.segment) rs; next = m.next + length rs; home_up = m.home_up; ups = ups; down = down_of m.down }
 
       stood : StandsFor (parts_of tells state) b.volume.began with_all (notes ++ nt ∷ [])
       stood = claimed_group_more (parts_of tells state) b.volume.began (seen m kp.logs) m.home_up ups (length-set m.ups.items k true) notes nt ends.front ends.back k n.index rs some_records
@@ -271,18 +271,18 @@ module _ {D : Type 0} (tells : Bool) (state : D → State) (m : Manager D) (b : 
     -- a call of its disk failed
     module _ (sound : (d : D) → IsDisk (state d)) (f : FreeSegment D) (any_moment : IsTrue tells → LeavesOnly (free_disk state f) (disk_of state n.segment) (λ c. IsIdle c ⊎ HasFirstOf c (lane_owner old) [] rs))
         (broken : IsBroken n.segment) (cause : Rose (free_disk state f).faults (disk_of state n.segment).faults) (broke : nt.entry.operation ≡ Broke (log_writes m.next items from)) (unruled : nt.after_drain ≡ false) where
-      abbrev t : Held (Spun D)
-      t = broken_segment (part_of n.segment) k n.index
+      abbrev fallen : Held (Spun D)
+      fallen = broken_segment (part_of n.segment) k n.index
 
       images : (bs : List Block) → IsTrue tells × may_be state (part_of n.segment) bs → IsIdle bs ⊎ ((c : ℕ) × (c ≤ length rs) × IsLog bs b.volume.began.owner (take c rs))
       images bs is = ⊎_elim (λ idle. inl idle) (λ first. inr (first.count, first.within, subst (λ (v : ℕ). IsLog bs v (take first.count rs)) (owner tells state m b notes kp k old lane) first.log))
           (now_leaves (any_moment is.0) (sound n.segment.part.inner) bs is.1)
 
-      broken_is : all_held 0 (slice_set m.lanes.items k new) (ends.lists []) ≡ ends.front ++ t ∷ ends.back
+      broken_is : all_held 0 (slice_set m.lanes.items k new) (ends.lists []) ≡ ends.front ++ fallen ∷ ends.back
       broken_is = ends.then_is new n [] held ∙ (λ i. ends.front ++ record { part = part_of n.segment; lane = k; index = n.index; broken = broken i; records = [] } ∷ ends.back)
 
       abbrev failed_one : ManagerSeen (Spun D)
-      failed_one = record (seen m kp.logs) { held = ends.front ++ t ∷ ends.back; down = Some (SegmentPart (logger_of old) n.index) }
+      failed_one = record (seen m kp.logs) { held = ends.front ++ fallen ∷ ends.back; down = Some (SegmentPart (logger_of old) n.index) }
 
       fell : StandsFor (parts_of tells state) b.volume.began failed_one (notes ++ nt ∷ [])
       fell = claimed_group_breaks (parts_of tells state) b.volume.began (seen m kp.logs) m.home_up m.ups.items refl notes nt ends.front ends.back k n.index rs some_records

@@ -178,7 +178,7 @@ module _ {D : Type 0} (state : D → State) (m : Manager D) (k : ℕ) (old new :
       there = subst (λ (hs : List (HeldSegment D)). Contains hs n) (sym held) (member_of (slice_set (held_in old) i n) n i (get_set (held_in old) i o n at));
       index = grown.index ∙ sym is.0;
       behind = let p = was.shape.place.0 in let e = is.1 in omega arith;
-      within = let e = is.1 in let b = blocks_same o n i at held in let c = group_some items some are in let p = was.shape.place.0 in omega (arith, room, e, b, c, p, some);
+      within = let e = is.1 in let b = blocks_same o n i at held in let c = group_some m.most (state_of state m.home).size items some are in let p = was.shape.place.0 in omega (arith, room, e, b, c, p, some);
     }
       where
         was : IsHeld state (logger_of old) (lane_owner old) (segments_in old) (pool_of old) o

@@ -20,20 +20,22 @@ use Rattle.offload_policy.specs.declared.Room.TheVariants.{Unknown}
 use Rattle.logger.specs.Lanes.{logger_of, first_count}
 use Rattle.logger.specs.declared.shared.Shared.{Shared}
 use Rattle.manager.specs.Answers.{home_write, log_write, written}
-use Rattle.manager.specs.Offers.{HasTakenWrite, ChangesLane}
+use Rattle.manager.specs.Offers.{HasTakenWrite, ChangesLane, IsOn}
 use Rattle.manager.specs.Seen.{look_of_manager}
 use Rattle.manager.specs.Stands.{Keeps, Stands, Leaves, IsNote, nones_at, passed_in}
 use Rattle.manager.specs.Stops.{Stops, TellsClaim}
 use Rattle.manager.specs.Writing.{IsHomeAnswer, IsLogAnswer, in_flight, ruled_place, was_tried}
 use Rattle.manager.specs.declared.base.ManagerBase.{ManagerBase}
 use Rattle.manager.specs.declared.manager.Manager.{Manager}
+use Rattle.manager.specs.declared.part.Part.{Part}
 use Rattle.manager.specs.declared.part.Part.TheVariants as part
 use Rattle.manager.specs.declared.part.Place.{Place}
 use Rattle.manager.specs.declared.part.Place.TheVariants as place
 use Rattle.manager.specs.declared.part.WriteRefusal.{WriteRefusal}
 use Rattle.manager.specs.declared.part.WriteRefusal.TheVariants.{Full, DiskFault, Down, VersionsSpent, NoMemory}
 use Rattle.manager.proofs.Asking.{Asking}
-use Rattle.manager.proofs.Placed.{look_same, claimed_before, stops_before, passed_log}
+use Rattle.manager.proofs.Claims.{no_more_same}
+use Rattle.manager.proofs.Placed.{look_same, claimed_before, stops_before, passed_log, passed_unplaced}
 use Rattle.manager.specs.Joining.{GoTogether}
 use Rattle.manager.specs.Groups.{first_lbn, first_blocks, home_writes, run_writes, run_written, ruled_run, AreTried, HasRun}
 use Rattle.manager.specs.Groups.{AreItemsOf, log_writes, placed_all}
@@ -183,6 +185,23 @@ module _ {D : Type 0} (tells : Bool) (state : D → State) (shared : Shared D) (
       any_moment = λ told b notes k. subst (Stops state old new None b notes) (sym (home_flight old.next answer is)) (moments told b notes k);
     }
 
+    -- what `write_home` leaves of the manager as it was asked is what the run leaves
+    pub home_run : new ≡ record now { home = new.home; spindle = new.spindle; home_up = true; down = new.down }
+        → ((b : ManagerBase) (notes : List Noted) (ps : List ℕ) (n : Noted) → n.entry.pass ≡ worker → IsNote (last_look b.volume.began.look notes) (written now.next i.lbn blocks answer) ps (look_of_manager new) n
+            → HasPassed (nones_at new.lanes.items b.lanes) (notes ++ n ∷ []) → Keeps tells state now b notes → Stands tells state new b (notes ++ n ∷ []))
+        → (IsTrue tells → (b : ManagerBase) (notes : List Noted) → Keeps tells state now b notes → Stops state now new None b notes (in_flight now.next i.lbn blocks answer))
+        → HasRun tells state items from 1 answer (ruled_run old new items from) old new
+    home_run u leaves moments = run_home
+        (λ b notes n client note k. leaves b notes (passed_in new.rooms.items) n client
+            (subst (λ (v : ℕ). IsNote (last_look b.volume.began.look notes) (written v i.lbn blocks answer) (passed_in new.rooms.items) (look_of_manager new) n) (sym next_same) note)
+            (subst (λ (m : Manager D). HasPassed (nones_at m.lanes.items b.lanes) (notes ++ n ∷ [])) (sym u)
+            (passed_unplaced tells state shared (first_lbn items) (first_blocks items from) old now a b notes n (note.passed_is ∙ ap (λ (m : Manager D). passed_in m.rooms.items) u) k))
+            (a.keeps b notes k))
+        (ap look_of_manager u ∙ ap (λ (l : Look). placed AtHome l w) (look_same tells state shared (first_lbn items) (first_blocks items from) old now a))
+        (claimed_before tells state shared (first_lbn items) (first_blocks items from) old now a (IsOk answer) new None (no_more_same now.lanes.items new.lanes.items (ap (λ (m : Manager D). m.lanes.items) u)))
+        (λ told b notes k. subst (λ (v : ℕ). Stops state old new None b notes (in_flight v i.lbn blocks answer)) next_same
+            (stops_before tells state shared (first_lbn items) (first_blocks items from) old now a new None b notes (in_flight now.next i.lbn blocks answer) (moments told b notes (a.keeps b notes k))))
+
 -- ---- Nowhere
 
 module _ {D : Type 0} (tells : Bool) (state : D → State) (items : List Item) (from : List Block) (old new : Manager D) where
@@ -204,3 +223,8 @@ module _ {D : Type 0} (tells : Bool) (state : D → State) (items : List Item) (
 pub first_blocks_long : (items : List Item) (from : List Block) → count_of items ≤ length from → length (first_blocks items from) ≡ first_count items
 first_blocks_long [] from enough = refl
 first_blocks_long (i ∷ items) from enough = first_long i items from enough
+
+-- what failed on a segment were writes to a log
+pub failed_run : (view : List ℕ) (k next : ℕ) (items : List Item) (from : List Block) (p : Part) → IsOn view k p → run_writes next items from (Err (DiskFault p)) ≡ log_writes next items from
+failed_run view k next items from (part.Home volume) on = absurd on
+failed_run view k next items from (part.Segment logger index) on = refl

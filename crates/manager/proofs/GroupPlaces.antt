@@ -33,11 +33,11 @@ asleep l = not l.0 && l.1
 -- what is found behind a place isn't at it
 behind : (p : Bool × Bool → Bool) (xs : List (Bool × Bool)) (a b : ℕ) → position_from p a xs ≡ Some b → b < a → ⊥
 behind p [] a b is lt = none-some b is
-behind p (x ∷ xs) a b is lt = at (p x) is
+behind p (x ∷ xs) a b is lt = at (p x) (λ later. behind p xs (a + 1) b later (omega arith)) is
   where
-    at : (t : Bool) → cond t (Some a) (position_from p (a + 1) xs) ≡ Some b → ⊥
-    at true is = (let e : a ≡ b = same_Some a b is in omega arith)
-    at false is = behind p xs (a + 1) b is (omega arith)
+    at : (t : Bool) → (position_from p (a + 1) xs ≡ Some b → ⊥) → cond t (Some a) (position_from p (a + 1) xs) ≡ Some b → ⊥
+    at true rest is = (let e : a ≡ b = same_Some a b is in omega arith)
+    at false rest is = rest is
 
 -- once it is awake it is found still
 found_still : (a k : ℕ) (ups rooms : List Bool) → position_from awake a (zip ups rooms) ≡ Some (a + k) → position_from awake a (zip (slice_set ups k true) rooms) ≡ Some (a + k)
@@ -49,14 +49,15 @@ found_still a zero (u ∷ ups) (r ∷ rooms) is = at u r is
     at : (s t : Bool) → cond (s && t) (Some a) (position_from awake (a + 1) (zip ups rooms)) ≡ Some (a + 0) → cond (true && t) (Some a) (position_from awake (a + 1) (zip ups rooms)) ≡ Some (a + 0)
     at true t is = is
     at false t is = absurd (behind awake (zip ups rooms) (a + 1) (a + 0) is (omega arith))
-found_still a (suc k) (u ∷ ups) (r ∷ rooms) is = at (u && r) is
+found_still a (suc k) (u ∷ ups) (r ∷ rooms) is = at (u && r) (λ later. found_still (a + 1) k ups rooms later) is
   where
     next : a + suc k ≡ a + 1 + k
     next = omega arith
 
-    at : (t : Bool) → cond t (Some a) (position_from awake (a + 1) (zip ups rooms)) ≡ Some (a + suc k) → cond t (Some a) (position_from awake (a + 1) (zip (slice_set ups k true) rooms)) ≡ Some (a + suc k)
-    at true is = absurd (let e : a ≡ a + suc k = same_Some a (a + suc k) is in omega arith)
-    at false is = found_still (a + 1) k ups rooms (is ∙ ap Some next) ∙ ap Some (sym next)
+    at : (t : Bool) → (position_from awake (a + 1) (zip ups rooms) ≡ Some (a + 1 + k) → position_from awake (a + 1) (zip (slice_set ups k true) rooms) ≡ Some (a + 1 + k))
+        → cond t (Some a) (position_from awake (a + 1) (zip ups rooms)) ≡ Some (a + suc k) → cond t (Some a) (position_from awake (a + 1) (zip (slice_set ups k true) rooms)) ≡ Some (a + suc k)
+    at true rest is = absurd (let e : a ≡ a + suc k = same_Some a (a + suc k) is in omega arith)
+    at false rest is = rest (is ∙ ap Some next) ∙ ap Some (sym next)
 
 -- and so it is where it was woken, since no other was awake with room
 woken_found : (a k : ℕ) (ups rooms : List Bool) → position_from awake a (zip ups rooms) ≡ None → position_from asleep a (zip ups rooms) ≡ Some (a + k) → position_from awake a (zip (slice_set ups k true) rooms) ≡ Some (a + k)
@@ -71,16 +72,17 @@ woken_found a zero (u ∷ ups) (r ∷ rooms) none is = at u r none is
     at true false none is = absurd (behind asleep (zip ups rooms) (a + 1) (a + 0) is (omega arith))
     at false true none is = is
     at false false none is = absurd (behind asleep (zip ups rooms) (a + 1) (a + 0) is (omega arith))
-woken_found a (suc k) (u ∷ ups) (r ∷ rooms) none is = at (u && r) (not u && r) none is
+woken_found a (suc k) (u ∷ ups) (r ∷ rooms) none is = at (u && r) (not u && r) (λ without later. woken_found (a + 1) k ups rooms without later) none is
   where
     next : a + suc k ≡ a + 1 + k
     next = omega arith
 
-    at : (s t : Bool) → cond s (Some a) (position_from awake (a + 1) (zip ups rooms)) ≡ None → cond t (Some a) (position_from asleep (a + 1) (zip ups rooms)) ≡ Some (a + suc k)
+    at : (s t : Bool) → (position_from awake (a + 1) (zip ups rooms) ≡ None → position_from asleep (a + 1) (zip ups rooms) ≡ Some (a + 1 + k) → position_from awake (a + 1) (zip (slice_set ups k true) rooms) ≡ Some (a + 1 + k))
+        → cond s (Some a) (position_from awake (a + 1) (zip ups rooms)) ≡ None → cond t (Some a) (position_from asleep (a + 1) (zip ups rooms)) ≡ Some (a + suc k)
         → cond s (Some a) (position_from awake (a + 1) (zip (slice_set ups k true) rooms)) ≡ Some (a + suc k)
-    at true t none is = absurd (let no : Some a ≡ None = none in cc)
-    at false true none is = absurd (let e : a ≡ a + suc k = same_Some a (a + suc k) is in omega arith)
-    at false false none is = woken_found (a + 1) k ups rooms none (is ∙ ap Some next) ∙ ap Some (sym next)
+    at true t rest none is = absurd (let no : Some a ≡ None = none in cc)
+    at false true rest none is = absurd (let e : a ≡ a + suc k = same_Some a (a + suc k) is in omega arith)
+    at false false rest none is = rest none (is ∙ ap Some next) ∙ ap Some (sym next)
 
 -- ---- One write behind another
 
@@ -196,46 +198,45 @@ covers_more es before l k i w first long c = record {
       (λ b le lt. covered_now l k w b (omega arith) (omega arith));
 }
 
+or_true : (s : Bool) → (s || true) ≡ true
+or_true true = refl
+or_true false = refl
+
+-- a range with a block that was covered has one that is covered
+any_still : (p q : ℕ → Bool) → ((b : ℕ) → p b ≡ true → q b ≡ true) → (a n : ℕ) → list_any p (range_with_len a n) ≡ true → list_any q (range_with_len a n) ≡ true
+any_still p q so a zero is = is
+any_still p q so a (suc n) is = at (p a) refl (λ later. any_still p q so (a + 1) n later) is
+  where
+    at : (t : Bool) → p a ≡ t → (list_any p (range_with_len (a + 1) n) ≡ true → list_any q (range_with_len (a + 1) n) ≡ true) → (t || list_any p (range_with_len (a + 1) n)) ≡ true → (q a || list_any q (range_with_len (a + 1) n)) ≡ true
+    at true here rest is = ap (λ (s : Bool). s || list_any q (range_with_len (a + 1) n)) (so a here)
+    at false here rest is = ap (λ (s : Bool). q a || s) (rest is) ∙ or_true (q a)
+
+-- an item that meets a covered one has a covered block
+met_covered : (q : ℕ → Bool) (i j : Item) → 1 ≤ i.count → 1 ≤ j.count → ((b : ℕ) → j.lbn ≤ b → b < j.lbn + j.count → q b ≡ true) → meets j i ≡ true → list_any q (range_with_len i.lbn i.count) ≡ true
+met_covered q i j some one has met = at (leb j.lbn i.lbn) refl met
+  where
+    at : (t : Bool) → leb j.lbn i.lbn ≡ t → cond t (ltb i.lbn (j.lbn + j.count)) (ltb j.lbn (i.lbn + i.count)) ≡ true → list_any q (range_with_len i.lbn i.count) ≡ true
+    at true le lt = let before_ : j.lbn ≤ i.lbn = leb-true j.lbn i.lbn le in let inside : i.lbn < j.lbn + j.count = ltb-true i.lbn (j.lbn + j.count) lt in
+        any_within q i.lbn i.count i.lbn (omega arith) (omega arith) (has i.lbn before_ inside)
+    at false not_le lt = let behind_ : i.lbn < j.lbn = leb-false j.lbn i.lbn not_le in let inside : j.lbn < i.lbn + i.count = ltb-true j.lbn (i.lbn + i.count) lt in
+        any_within q i.lbn i.count j.lbn (omega arith) inside (has j.lbn (omega arith) (omega arith))
+
+some_met : (q : ℕ → Bool) (i : Item) (js : List Item) → 1 ≤ i.count → AllByRecursion (λ (j : Item). 1 ≤ j.count) js → AllByRecursion (λ (j : Item). (b : ℕ) → j.lbn ≤ b → b < j.lbn + j.count → q b ≡ true) js → list_any (λ j. meets j i) js ≡ true
+    → list_any q (range_with_len i.lbn i.count) ≡ true
+some_met q i [] some ones has met = absurd (false≢true met)
+some_met q i (j ∷ js) some ones has met = at (meets j i) refl (λ later. some_met q i js some ones.1 has.1 later) met
+  where
+    at : (t : Bool) → meets j i ≡ t → (list_any (λ x. meets x i) js ≡ true → list_any q (range_with_len i.lbn i.count) ≡ true) → (t || list_any (λ x. meets x i) js) ≡ true → list_any q (range_with_len i.lbn i.count) ≡ true
+    at true here rest met = met_covered q i j some ones.0 has.0 here
+    at false here rest met = rest met
+
 -- an item that is covered behind others has a block that is covered then
 is_away : (es : List Listed) (before : List Item) (l : Look) (i : Item) → 1 ≤ i.count → AllByRecursion (λ (j : Item). 1 ≤ j.count) before → Covers es before l → is_covered_behind es before i ≡ true → list_any (is_covered l.listed) (range_with_len i.lbn i.count) ≡ true
-is_away es before l i some each c is = either (list_any (is_covered es) (range_with_len i.lbn i.count)) refl is
+is_away es before l i some each c is = at (list_any (is_covered es) (range_with_len i.lbn i.count)) refl is
   where
-    more : (a n : ℕ) → list_any (is_covered es) (range_with_len a n) ≡ true → list_any (is_covered l.listed) (range_with_len a n) ≡ true
-    more a zero is = is
-    more a (suc n) is = at (is_covered es a) refl is
-      where
-        at : (t : Bool) → is_covered es a ≡ t → (t || list_any (is_covered es) (range_with_len (a + 1) n)) ≡ true → list_any (is_covered l.listed) (range_with_len a (suc n)) ≡ true
-        at true here is = ap (λ (s : Bool). s || list_any (is_covered l.listed) (range_with_len (a + 1) n)) (c.old a here)
-        at false here is = ap (λ (s : Bool). is_covered l.listed a || s) (more (a + 1) n is) ∙ or_true (is_covered l.listed a)
-          where
-            or_true : (s : Bool) → (s || true) ≡ true
-            or_true true = refl
-            or_true false = refl
-
-    block : (j : Item) → 1 ≤ j.count → ((b : ℕ) → j.lbn ≤ b → b < j.lbn + j.count → is_covered l.listed b ≡ true) → meets j i ≡ true → list_any (is_covered l.listed) (range_with_len i.lbn i.count) ≡ true
-    block j one has met = at (leb j.lbn i.lbn) refl met
-      where
-        at : (t : Bool) → leb j.lbn i.lbn ≡ t → cond t (ltb i.lbn (j.lbn + j.count)) (ltb j.lbn (i.lbn + i.count)) ≡ true → list_any (is_covered l.listed) (range_with_len i.lbn i.count) ≡ true
-        at true le lt = let before_ : j.lbn ≤ i.lbn = leb-true j.lbn i.lbn le in let inside : i.lbn < j.lbn + j.count = ltb-true i.lbn (j.lbn + j.count) lt in
-            any_within (is_covered l.listed) i.lbn i.count i.lbn (omega arith) (omega arith) (has i.lbn before_ inside)
-        at false not_le lt = let inside : j.lbn < i.lbn + i.count = ltb-true j.lbn (i.lbn + i.count) lt in
-            any_within (is_covered l.listed) i.lbn i.count j.lbn (later (i.lbn) (j.lbn) not_le) inside (has j.lbn (omega arith) (omega arith))
-          where
-            later : (x y : ℕ) → leb y x ≡ false → x ≤ y
-            later x y no = let lt = leb-false y x no in omega arith
-
-    some_item : (js : List Item) → AllByRecursion (λ (j : Item). 1 ≤ j.count) js → AllByRecursion (λ (j : Item). (b : ℕ) → j.lbn ≤ b → b < j.lbn + j.count → is_covered l.listed b ≡ true) js → list_any (λ j. meets j i) js ≡ true
-        → list_any (is_covered l.listed) (range_with_len i.lbn i.count) ≡ true
-    some_item [] ones has met = absurd (false≢true met)
-    some_item (j ∷ js) ones has met = at (meets j i) refl met
-      where
-        at : (t : Bool) → meets j i ≡ t → (t || list_any (λ x. meets x i) js) ≡ true → list_any (is_covered l.listed) (range_with_len i.lbn i.count) ≡ true
-        at true here met = block j ones.0 has.0 here
-        at false here met = some_item js ones.1 has.1 met
-
-    either : (t : Bool) → list_any (is_covered es) (range_with_len i.lbn i.count) ≡ t → (t || list_any (λ j. meets j i) before) ≡ true → list_any (is_covered l.listed) (range_with_len i.lbn i.count) ≡ true
-    either true here is = more i.lbn i.count here
-    either false here is = some_item before each c.items is
+    at : (t : Bool) → list_any (is_covered es) (range_with_len i.lbn i.count) ≡ t → (t || list_any (λ j. meets j i) before) ≡ true → list_any (is_covered l.listed) (range_with_len i.lbn i.count) ≡ true
+    at true here is = any_still (is_covered es) (is_covered l.listed) c.old i.lbn i.count here
+    at false here is = some_met (is_covered l.listed) i before some each c.items is
 
 -- ---- All of them
 

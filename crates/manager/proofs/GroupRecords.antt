@@ -57,9 +57,9 @@ group_new owner version most size home_blocks (i ∷ items) from are same enough
 )
 
 -- a group with an item has a block
-pub group_some : {most size : ℕ} (items : List Item) → 1 ≤ length items → AreItemsOf most size items → 1 ≤ count_of items
-group_some [] some are = absurd (omega arith)
-group_some (i ∷ items) some are = let e = count_more i items in let c = are.0.some in omega arith
+pub group_some : (most size : ℕ) (items : List Item) → 1 ≤ length items → AreItemsOf most size items → 1 ≤ count_of items
+group_some most size [] some are = absurd (omega arith)
+group_some most size (i ∷ items) some are = let e = count_more i items in let c = are.0.some in omega arith
 
 pub group_fits : (size end owner version : ℕ) (items : List Item) (from : List Block) → end + length items + count_of items ≤ size → FitBehind size end (group_of owner version items from)
 group_fits size end owner version [] from fits = tt

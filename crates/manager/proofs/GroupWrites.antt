@@ -350,18 +350,18 @@ module _ {P : Type 0} (parts : Parts P) (base : Base) (m : ManagerSeen P) (home_
     says : (bs : List Block) → parts.may_be part bs → SaysOwnerOrFree base.owner bs
     says bs is = let first = images bs is in says_owner base.owner bs (s.records ++ take first.0 rs) first.2
 
-    abbrev Logs : Held P → Type 0
-    Logs v = (bs : List Block) → parts.may_be v.part bs → IsLog bs base.owner v.records
+    abbrev Logged : Held P → Type 0
+    Logged v = (bs : List Block) → parts.may_be v.part bs → IsLog bs base.owner v.records
 
-    old_extents : extents_held (front ++ s ∷ back) ≡ (extents_held front ++ map extent_of s.records) ++ extents_held back
-    old_extents = around front s back ∙ sym (append_assoc (extents_held front) (map extent_of s.records) (extents_held back))
+    extents_before : extents_held (front ++ s ∷ back) ≡ (extents_held front ++ map extent_of s.records) ++ extents_held back
+    extents_before = around front s back ∙ sym (append_assoc (extents_held front) (map extent_of s.records) (extents_held back))
 
     -- with some first ones no two have one version
     apart : parts.told → (k : ℕ) → AreDistinct (covers_of (extents_held front ++ (map extent_of (s.records ++ take k rs) ++ extents_held back)))
     apart told k = subst (λ (l : List Extent). AreDistinct (covers_of l)) (sym joined)
         (group_distinct m.next (extents_held front ++ map extent_of s.records) (extents_held back) (map extent_of (take k rs))
-        (subst (λ (l : List Extent). AreDistinct (covers_of l)) old_extents (calm.whole told).distinct)
-        (subst (AllByRecursion (λ (x : Extent). x.cover.version < m.next)) old_extents (low_extents m.next (front ++ s ∷ back) (all_below base m.next ws (front ++ s ∷ back) u.versioned (known told))))
+        (subst (λ (l : List Extent). AreDistinct (covers_of l)) extents_before (calm.whole told).distinct)
+        (subst (AllByRecursion (λ (x : Extent). x.cover.version < m.next)) extents_before (low_extents m.next (front ++ s ∷ back) (all_below base m.next ws (front ++ s ∷ back) u.versioned (known told))))
         (front_row base.home_blocks m.next k rs new))
       where
         joined : extents_held front ++ (map extent_of (s.records ++ take k rs) ++ extents_held back) ≡ (extents_held front ++ map extent_of s.records) ++ (map extent_of (take k rs) ++ extents_held back)
@@ -374,12 +374,12 @@ module _ {P : Type 0} (parts : Parts P) (base : Base) (m : ManagerSeen P) (home_
         (lie_flying base.home_blocks base.records ws flight u.lie (all_lie base.home_blocks m.next rs new)) refl refl known_t
         (places_with_segment parts base m.home front s t back ups refl refl size volume says places)
         (part, (t, member_mid front t back, named, refl, refl), rose)
-        (λ told. let sides = all_parts Logs front s back (calm.whole told).logs in
+        (λ told. let sides = all_parts Logged front s back (calm.whole told).logs in
         let within = all_parts (LieInHome base.home_blocks) front s back (known told).within in let own = all_mid (LieInHome base.home_blocks) front s back (known told).within in
         one_sound (λ v. parts.may_be v.part) base.owner base.home_blocks front back t sides.0 sides.1 within.0 within.1 (λ bs is. let first = images bs is in
         sound_log base.owner base.home_blocks front back bs (s.records ++ take first.0 rs) first.2
         (all_joined (LiesInHome base.home_blocks) s.records (take first.0 rs) own (all_lie_in_home base.home_blocks m.next first.0 rs new)) (apart told first.0)))
-        (λ told. let whole = calm.whole told in let sides = all_parts Logs front s back whole.logs in
+        (λ told. let whole = calm.whole told in let sides = all_parts Logged front s back whole.logs in
         subst (λ (vs : List Write). Recovers (parts.may_be m.home) (λ v. parts.may_be v.part) base.owner (front ++ t ∷ back) (IsCut base.array ws vs)) (extents_of_new rs)
         (group_stops (parts.may_be m.home) (λ v. parts.may_be v.part) base.owner base.array ws m.next (is_homed_in m.indexed) front back t sides.0 sides.1 (map extent_of s.records) (map extent_of rs) (in_a_row base.home_blocks m.next rs new)
         (λ home is. subst (λ (l : List Extent). Holds base.array ws m.next home l (is_homed_in m.indexed)) (around front s back) (whole.holds home is))

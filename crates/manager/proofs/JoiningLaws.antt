@@ -1,5 +1,5 @@
 -- Items that go to a log together: one more, and what the rule makes of them.
-use Rattle.std.proofs.Common.{◌≡◌, ◌⊎◌, inl, inr, ⊎_elim, ◌<◌, ◌≤◌, ◌+◌, ◌-◌, ℕ, zero, suc, Bool, true, false, not, cond, List, [], ◌∷◌, ◌++◌, length, take, drop, get_or, None, Some, refl, sym, ap, subst, ◌∙◌, arith, length-drop}
+use Rattle.std.proofs.Common.{◌≡◌, ◌⊎◌, inl, inr, ⊎_elim, ◌<◌, ◌≤◌, ◌+◌, ◌-◌, ℕ, zero, suc, Bool, true, false, not, ◌||◌, cond, List, [], ◌∷◌, ◌++◌, length, take, drop, get_or, None, Some, refl, sym, ap, subst, ◌∙◌, arith, length-drop}
 use Rattle.std.specs.Prelude.{slice_get}
 use Rattle.std.specs.List.{list_any, filter, range_with_len}
 use Rattle.std.proofs.lemmas.Bool.{false≢true}
@@ -16,7 +16,7 @@ use Rattle.offload_policy.specs.Placing.{may_hold}
 use Rattle.offload_policy.specs.declared.Room.{Room}
 use Rattle.offload_policy.specs.declared.Room.TheVariants.{Unknown, Yes, No}
 use Rattle.manager.specs.Stands.{passed_in}
-use Rattle.manager.specs.Joining.{is_covered_behind, AreCoveredBehind, AreAsLong}
+use Rattle.manager.specs.Joining.{is_covered_behind, AreCoveredBehind, AreAsLong, GoTogether}
 
 -- ---- One item more
 
@@ -74,12 +74,12 @@ none_no : (rooms : List Room) → list_any (λ r. not (may_hold r)) rooms ≡ fa
 none_no [] none k = refl
 none_no (r ∷ rooms) none zero = at (not (may_hold r)) (list_any (λ s. not (may_hold s)) rooms) none
   where
-    at : (s t : Bool) → (cond s true t) ≡ false → s ≡ false
+    at : (s t : Bool) → (s || t) ≡ false → s ≡ false
     at true t is = absurd (false≢true (sym is))
     at false t is = refl
 none_no (r ∷ rooms) none (suc k) = none_no rooms (at (not (may_hold r)) (list_any (λ s. not (may_hold s)) rooms) none) k
   where
-    at : (s t : Bool) → (cond s true t) ≡ false → t ≡ false
+    at : (s t : Bool) → (s || t) ≡ false → t ≡ false
     at true t is = absurd (false≢true (sym is))
     at false t is = is
 
@@ -94,21 +94,13 @@ take_front (suc n) zero xs le = absurd (omega arith)
 take_front (suc n) (suc m) [] le = refl
 take_front (suc n) (suc m) (x ∷ xs) le = λ i. x ∷ take_front n m xs (omega arith) i
 
+take_none : (n : ℕ) → take {A = Block} n [] ≡ []
+take_none zero = refl
+take_none (suc n) = refl
+
 drop_front : (n m : ℕ) (xs : List Block) → drop n (take (n + m) xs) ≡ take m (drop n xs)
 drop_front zero m xs = (let e : 0 + m ≡ m = omega arith in ap (λ (k : ℕ). take k xs) e)
-drop_front (suc n) m [] = nothing m
-  where
-    nothing : (k : ℕ) → take (suc n + k) [] ≡ take k []
-    nothing zero = none (suc n + 0)
-      where
-        none : (l : ℕ) → take {A = Block} l [] ≡ []
-        none zero = refl
-        none (suc l) = refl
-    nothing (suc k) = none (suc n + suc k)
-      where
-        none : (l : ℕ) → take {A = Block} l [] ≡ []
-        none zero = refl
-        none (suc l) = refl
+drop_front (suc n) m [] = ap (drop (suc n)) (take_none (suc n + m)) ∙ sym (take_none m)
 drop_front (suc n) m (x ∷ xs) = (let e : suc n + m ≡ suc (n + m) = omega arith in ap (λ (k : ℕ). drop (suc n) (take k (x ∷ xs))) e) ∙ drop_front n m xs
 
 -- the records of a group are those of its own blocks
@@ -133,3 +125,10 @@ pub items_front : (n : ℕ) (items : List Item) → AreItems items → AreItems 
 items_front zero items are = tt
 items_front (suc n) [] are = tt
 items_front (suc n) (i ∷ items) are = (are.0, items_front n items are.1)
+
+-- fewer of them go together too
+pub joins_fewer : (home_up : Bool) (es : List Listed) (passed : List ℕ) (items : List Item) (n k : ℕ) → k ≤ n → GoTogether home_up es passed items n → GoTogether home_up es passed items k
+joins_fewer home_up es passed items n k le joins = record {
+  away = λ up j i one lt at. joins.away up j i one (omega arith) at;
+  long = ⊎_elim (λ none. inl none) (λ long. inr (λ j i lt at. long j i (omega arith) at)) joins.long;
+}

@@ -11,7 +11,7 @@ ghost use Rattle.log_segment.specs.Records.{count_of};
 ghost use Rattle.logger.specs.Lanes.{logger_of, first_count};
 ghost use Rattle.manager.specs.Answers.{IsPlaceOf};
 ghost use Rattle.manager.specs.Causes.{PartRoseOrClaimed, NoneRose};
-ghost use Rattle.manager.specs.Groups.{AreItemsOf, HasRun, AreTried, log_writes, offered_group, run_writes, run_written, placed_all, place_told, ruled_run, tried_by, told_of};
+ghost use Rattle.manager.specs.Groups.{AreItemsOf, HasRun, log_writes, first_lbn, first_blocks, offered_group, run_writes, run_written, placed_all, place_told, ruled_run, tried_by, told_of};
 ghost use Rattle.manager.specs.Joining.{GoTogether};
 ghost use Rattle.manager.specs.Offers.{IsTurnedAway, HasTakenWrite, ChangesLane, IsOn};
 ghost use Rattle.manager.specs.Seen.{look_of_manager};
@@ -189,7 +189,7 @@ impl<D: Disk> Manager<D> {
         requires some { 1 ≤ length items.now }
         requires items { AreItemsOf self.old.most (state_of D.state self.old.home).size items.now }
         requires blocks { count_of items.now ≤ length from.now }
-        requires covered { covered ≡ list_any (is_covered (listed_in self.old.index.entries)) (range_with_len (first_lbn items.now) (first_count items.now)) }
+        requires covered { covered ≡ list_any (is_covered (listed_in self.old.index.entries)) (range_with_len (first_lbn items.now) (length (first_blocks items.now from.now))) }
         requires next { self.old.next + length items.now ≤ 2 ^ 63 }
         requires reserved { length items.now ≤ self.old.index.reserved }
         ensures ready { IsReady D.state self.new }
@@ -198,7 +198,7 @@ impl<D: Disk> Manager<D> {
         ensures answer { IsPlacedAnswer result.answer }
         ensures run { HasRun D.tells D.state items.now from.now result.items result.answer (ruled_run self.old self.new items.now from.now) self.old self.new }
         ensures placed { IsPlaceOf (map logger_of self.old.lanes.items) result.answer (ruled_run self.old self.new items.now from.now) }
-        ensures answered { HaveAnswered (first_count items.now) (takes_at (ruled_run self.old self.new items.now from.now) result.answer) self.new.rooms.items self.old.lanes.items self.new.lanes.items }
+        ensures answered { HaveAnswered (length (first_blocks items.now from.now)) (takes_at (ruled_run self.old self.new items.now from.now) result.answer) self.new.rooms.items self.old.lanes.items self.new.lanes.items }
         ensures waking { NeedsHome (ruled_run self.old self.new items.now from.now) result.answer self.old self.new }
         ensures fault { TellsFault D.state result.answer self.old self.new }
         ensures calm { OnOk result.answer (NoneRose D.state self.old self.new) }

@@ -1,0 +1,71 @@
+-- A run of which fewer items were given on, and one before which the notes of rooms and the room of the index changed.
+use Rattle.std.proofs.Common.{◌≡◌, ◌≤◌, ◌×◌, ℕ, zero, suc, Bool, List, [], ◌∷◌, length, take, Result, refl, sym, ap, subst, arith}
+use Rattle.std.specs.Prelude.{OnOk, replicate}
+use Rattle.std.proofs.lemmas.List.{length-take-le}
+use Rattle.wol_disk.specs.Disk.{State, Block}
+use Rattle.wol_model.specs.History.{worker}
+use Rattle.wol_model.specs.Index.{listed_in}
+use Rattle.wol_model.specs.Placing as placing
+use Rattle.wol_promise.specs.Policy.{Look, place_of, AreWrites, IsGroup}
+use Rattle.log_segment.specs.declared.item.Item.{Item}
+use Rattle.offload_policy.specs.declared.Room.{Room}
+use Rattle.offload_policy.specs.declared.Room.TheVariants.{Unknown}
+use Rattle.redirect_map.specs.Index.{Contents}
+use Rattle.manager.specs.Answers.{home_write}
+use Rattle.manager.specs.Seen.{look_of_manager}
+use Rattle.manager.specs.Stands.{Leaves, passed_in}
+use Rattle.manager.specs.Stops.{Stops}
+use Rattle.manager.specs.Writing.{ruled_place}
+use Rattle.manager.specs.declared.manager.Manager.{Manager}
+use Rattle.manager.specs.declared.part.Place.{Place}
+use Rattle.manager.specs.declared.part.WriteRefusal.{WriteRefusal}
+use Rattle.manager.proofs.Refused.{keeps_then}
+use Rattle.manager.specs.Groups.{first_lbn, first_blocks, run_writes, run_written, ruled_run, HasRun}
+use Rattle.manager.specs.Groups.{placed_all}
+use Rattle.manager.proofs.JoiningLaws.{take_front}
+
+-- the first item is the first of each front
+first_front : (m : ℕ) (items : List Item) (from : List Block) → 1 ≤ m → (first_lbn (take m items) ≡ first_lbn items) × (first_blocks (take m items) from ≡ first_blocks items from)
+first_front zero items from one = absurd (omega arith)
+first_front (suc m) [] from one = (refl, refl)
+first_front (suc m) (i ∷ items) from one = (refl, refl)
+
+module _ {D : Type 0} (tells : Bool) (state : D → State) (items : List Item) (from : List Block) (old new : Manager D) (answer : Result Place WriteRefusal) (n : ℕ) where
+  module _ (m : ℕ) (one : 1 ≤ m) (few : m ≤ length items) where
+    rule_front : ruled_run old new (take m items) from ≡ ruled_run old new items from
+    rule_front = let first = first_front m items from one in λ t. ruled_place old new (first.0 t) (first.1 t)
+
+    pub run_front : HasRun tells state (take m items) from n answer (ruled_run old new (take m items) from) old new → HasRun tells state items from n answer (ruled_run old new items from) old new
+    run_front run =
+        let long : length (take m items) ≡ m = length-take-le m items few in
+        let le : n ≤ m = (let w = run.are.within in omega (arith, w, long)) in
+        let same : take n (take m items) ≡ take n items = take_front n m items le in record {
+          are = record { within = omega (arith, le, few); some = run.are.some; home = run.are.home };
+          stands = subst (λ (gs : List Item). Leaves tells state old new (run_written (run_writes old.next gs from answer) answer) (passed_in new.rooms.items) worker) same run.stands;
+          rule = subst (λ (gs : List Item). OnOk answer (AreWrites (passed_in new.rooms.items) (look_of_manager old) (run_writes old.next gs from answer) (look_of_manager new))) same run.rule;
+          look = subst (λ (p : placing.Place). OnOk answer (look_of_manager new ≡ placed_all p (look_of_manager old) (run_writes old.next (take n items) from answer))) rule_front
+              (subst (λ (gs : List Item). OnOk answer (look_of_manager new ≡ placed_all (ruled_run old new (take m items) from) (look_of_manager old) (run_writes old.next gs from answer))) same run.look);
+          group = subst (λ (gs : List Item). IsGroup (passed_in new.rooms.items) (run_writes old.next gs from answer)) same run.group;
+          claimed = run.claimed;
+          claims = run.claims;
+          any_moment = λ told b notes k. subst (λ (gs : List Item). Stops state old new run.claimed b notes (run_writes old.next gs from answer)) same (run.any_moment told b notes k);
+        }
+
+  module _ (rooms : List Room) (is : rooms ≡ replicate (length old.lanes.items) Unknown) (index : Contents) (entries : index.entries ≡ old.index.entries) where
+    abbrev asked : Manager D
+    asked = record old { rooms = record { items = rooms }; index = index }
+
+    asked_look : look_of_manager asked ≡ look_of_manager old
+    asked_look = λ i. record { home_up = old.home_up; ups = old.ups.items; next = old.next; listed = listed_in (entries i) }
+
+    pub run_then : HasRun tells state items from n answer (ruled_run asked new items from) asked new → HasRun tells state items from n answer (ruled_run old new items from) old new
+    run_then run = record {
+      are = run.are;
+      stands = λ b notes nt client note k. run.stands b notes nt client note (keeps_then tells state old rooms is index entries b notes k);
+      rule = subst (λ (l : Look). OnOk answer (AreWrites (passed_in new.rooms.items) l (run_writes old.next (take n items) from answer) (look_of_manager new))) asked_look run.rule;
+      look = subst (λ (l : Look). OnOk answer (look_of_manager new ≡ placed_all (place_of (passed_in new.rooms.items) l (home_write (first_lbn items) (first_blocks items from))) l (run_writes old.next (take n items) from answer))) asked_look run.look;
+      group = run.group;
+      claimed = run.claimed;
+      claims = run.claims;
+      any_moment = λ told b notes k. run.any_moment told b notes (keeps_then tells state old rooms is index entries b notes k);
+    }
