@@ -1,9 +1,11 @@
--- A run of which fewer items were given on, and one before which the notes of rooms and the room of the index changed.
-use Rattle.std.proofs.Common.{◌≡◌, ◌≤◌, ◌×◌, ℕ, zero, suc, Bool, List, [], ◌∷◌, length, take, Result, refl, sym, ap, subst, arith}
+-- A run of which fewer items were given on, and one before which the notes of rooms and the room of the index changed; and one that was refused.
+use Rattle.std.proofs.Common.{◌≡◌, ⊎_elim, ◌≤◌, ℕ, zero, suc, Bool, true, false, List, [], ◌∷◌, length, take, None, Result, Ok, Err, refl, sym, ap, subst, ◌∙◌, arith}
 use Rattle.std.specs.Prelude.{OnOk, replicate}
+use Rattle.std.proofs.lemmas.Bool.{false≢true}
 use Rattle.std.proofs.lemmas.List.{length-take-le}
-use Rattle.wol_disk.specs.Disk.{State, Block}
-use Rattle.wol_model.specs.History.{worker}
+use Rattle.wol_disk.specs.Disk.{State, Block, IsDisk}
+use Rattle.wol_model.specs.Blocks.{Write}
+use Rattle.wol_model.specs.History.{Operation, Kept, worker}
 use Rattle.wol_model.specs.Index.{listed_in}
 use Rattle.wol_model.specs.Placing as placing
 use Rattle.wol_promise.specs.Policy.{Look, place_of, AreWrites, IsGroup}
@@ -15,11 +17,15 @@ use Rattle.manager.specs.Answers.{home_write}
 use Rattle.manager.specs.Seen.{look_of_manager}
 use Rattle.manager.specs.Stands.{Leaves, passed_in}
 use Rattle.manager.specs.Stops.{Stops}
-use Rattle.manager.specs.Writing.{ruled_place}
+use Rattle.manager.specs.Writing.{ruled_place, was_tried}
 use Rattle.manager.specs.declared.manager.Manager.{Manager}
+use Rattle.manager.specs.declared.part.Part.TheVariants as part
 use Rattle.manager.specs.declared.part.Place.{Place}
+use Rattle.manager.specs.declared.part.Place.TheVariants as place
 use Rattle.manager.specs.declared.part.WriteRefusal.{WriteRefusal}
-use Rattle.manager.proofs.Refused.{keeps_then}
+use Rattle.manager.specs.declared.part.WriteRefusal.TheVariants.{Full, DiskFault, Down, VersionsSpent, NoMemory}
+use Rattle.manager.proofs.Claims.{no_more_same}
+use Rattle.manager.proofs.Refused.{keeps_then, stands_refused, stops_at_rest}
 use Rattle.manager.specs.Groups.{first_lbn, first_blocks, run_writes, run_written, ruled_run, HasRun}
 use Rattle.manager.specs.Groups.{placed_all}
 use Rattle.manager.proofs.JoiningLaws.{take_front}
@@ -29,6 +35,14 @@ first_front : (m : ℕ) (items : List Item) (from : List Block) → 1 ≤ m → 
 first_front zero items from one = absurd (omega arith)
 first_front (suc m) [] from one = (refl, refl)
 first_front (suc m) (i ∷ items) from one = (refl, refl)
+
+none_written : (next : ℕ) (from : List Block) (e : WriteRefusal) → run_writes next [] from (Err e) ≡ []
+none_written next from (DiskFault (part.Home volume)) = refl
+none_written next from (DiskFault (part.Segment logger index)) = refl
+none_written next from Full = refl
+none_written next from (Down p) = refl
+none_written next from VersionsSpent = refl
+none_written next from NoMemory = refl
 
 module _ {D : Type 0} (tells : Bool) (state : D → State) (items : List Item) (from : List Block) (old new : Manager D) (answer : Result Place WriteRefusal) (n : ℕ) where
   module _ (m : ℕ) (one : 1 ≤ m) (few : m ≤ length items) where
@@ -68,4 +82,22 @@ module _ {D : Type 0} (tells : Bool) (state : D → State) (items : List Item) (
       claimed = run.claimed;
       claims = run.claims;
       any_moment = λ told b notes k. run.any_moment told b notes (keeps_then tells state old rooms is index entries b notes k);
+    }
+
+    -- where nothing was tried
+    pub run_kept : ((d : D) → IsDisk (state d)) → (e : WriteRefusal) → was_tried (Err e) ≡ false → run_written [] (Err e) ≡ Kept → HasRun tells state items from 0 (Err e) (ruled_run old asked items from) old asked
+    run_kept sound e untried kept = let none = none_written old.next from e in record {
+      are = record {
+        within = omega arith;
+        some = λ tried. absurd (false≢true (sym untried ∙ tried));
+        home = ⊎_elim (λ t. let no : Err e ≡ Ok place.Home = t in cc) (λ f. absurd (false≢true (sym untried ∙ ap was_tried f.1)));
+      };
+      stands = subst (λ (o : Operation). Leaves tells state old asked o (passed_in rooms) worker) (sym (ap (λ (ws : List Write). run_written ws (Err e)) none ∙ kept))
+          (λ b notes nt client note k. stands_refused tells state old rooms is index entries b notes nt note k);
+      rule = tt;
+      look = tt;
+      group = subst (IsGroup (passed_in rooms)) (sym none) tt;
+      claimed = None;
+      claims = no_more_same old.lanes.items old.lanes.items refl;
+      any_moment = λ told b notes k. subst (Stops state old asked None b notes) (sym none) (stops_at_rest tells state sound told old b notes k);
     }
