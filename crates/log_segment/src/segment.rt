@@ -274,13 +274,12 @@ impl<D: Disk> Segment<D> {
         }
     }
 
-    /// Gives the segment up, none of whose records keeps a block: it is free then.
+    /// Gives the segment up with all its records, by one write of its head: it is free then.
     /// `Failed` is the disk's. The refusal carries the segment, which is broken: it may be free or owned.
     pub fn retire(self, token: &Awake) -> Result<FreeSegment<D>, (Failed, Segment<D>)>
         requires shape { IsSegment D.state self }
         requires whole { IsWhole self }
         requires volume { token_volume token.now ≡ segment_volume self }
-        requires bare { valid_of self ≡ 0 }
         ensures shape { IfOk result (IsFree D.state) }
         ensures volume { IfOk result (λ f. free_volume f ≡ segment_volume self) }
         ensures blocks { IfOk result (λ f. free_blocks f ≡ blocks_of self) }

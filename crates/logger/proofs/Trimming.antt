@@ -17,7 +17,7 @@ use Rattle.log_segment.specs.Records.{trimmed}
 use Rattle.log_segment.specs.Segment.{IsSegment, IsBlank, IsSame, Holds, disk_of, segment_volume, owner_of, blocks_of, place_of, valid_of}
 use Rattle.log_segment.specs.declared.free.FreeSegment.{FreeSegment}
 use Rattle.logger.specs.Lanes.{IsHeld, CutDown, GaveUp, Stayed, Trimmed, in_place, not_freed, IsHeadAt, IsBareAfter, held_in, pool_of}
-use Rattle.logger.specs.Trims.{Freed, NotFreed, Cut, stays, freed, could_not}
+use Rattle.logger.specs.Trims.{Freed, NotFreed, StaysAt, Cut, stays, freed, could_not}
 use Rattle.logger.specs.declared.lane.HeldSegment.{HeldSegment}
 use Rattle.logger.specs.declared.lane.Lane.{Lane}
 use Rattle.logger.specs.declared.lane.Spot.{Spot}
@@ -114,6 +114,9 @@ module _ {D : Type 0} (state : D → State) where
       failed : {T E : Type 0} (w : Result T E) → is_ok w ≡ false → IsErr w
       failed (Ok x) is = cc
       failed (Err x) is = refl
+
+  pub changed_still : (hs hs' : List (HeldSegment D)) (place : ℕ) → StaysAt state hs hs' place → IsChanged hs hs' place
+  changed_still hs hs' place st = record { old = st.segment; new = st.after; there = st.there; held = st.held; shape = st.stays.shape; index = st.stays.index; same = st.stays.same }
 
   -- the lane's segments where one of them changed
   pub each_changed : (logger owner m n : ℕ) (pool : PassOf (Pool (FreeSegment D)) PoolBase) (items items' : List (HeldSegment D)) (p : ℕ) → IsChanged items items' p → n ≡ m → AllByRecursion (IsHeld state logger owner m pool) items → AllByRecursion (IsHeld state logger owner n pool) items'

@@ -1,24 +1,27 @@
 -- The steps of giving up blocks of a held segment, whose lane is in the midst of a call.
-use Rattle.std.specs.Prelude.{◌≡◌, ◌<◌, ℕ, List, slice_get, slice_set, remove, Option, None, Some, Result, Ok, IfOk, IsErr}
+use Rattle.std.specs.Prelude.{◌≡◌, ◌<◌, ◌∷◌, ◌++◌, ℕ, List, [], slice_get, slice_set, remove, Option, None, Some, Result, Ok, IfOk, IsOk, IsErr}
 use Rattle.wol_disk.specs.Disk.{State, LeavesOnly, Rose}
 use Rattle.wol_disk.specs.declared.disk.Failed.{Failed}
 use Rattle.wol_model.specs.Heads.{RecordHead}
 use Rattle.wol_model.specs.Log.{Record}
+use Rattle.turn_lock.specs.Passes.{pass_mine, pass_number}
+use Rattle.seg_pool.specs.Holders.{Gave}
+use Rattle.seg_pool.specs.Operations as pool
 use Rattle.log_segment.specs.Kept.{IsKeptOrIdle}
-use Rattle.log_segment.specs.Segment.{IsSegment, IsWhole, IsBroken, IsBlank, IsSame, Holds, disk_of, free_disk, segment_volume, owner_of, blocks_of, place_of, valid_of}
+use Rattle.log_segment.specs.Segment.{IsSegment, IsWhole, IsBroken, IsBlank, IsSame, Holds, disk_of, free_disk, segment_volume, owner_of, blocks_of, place_of}
 use Rattle.log_segment.specs.declared.free.FreeSegment.{FreeSegment}
-use Rattle.logger.specs.Lanes.{CutDown, GaveUp, Stayed}
+use Rattle.logger.specs.Lanes.{CutDown, GaveUp, Stayed, held_in, pool_of}
 use Rattle.logger.specs.declared.lane.HeldSegment.{HeldSegment}
+use Rattle.logger.specs.declared.lane.Lane.{Lane}
 
 module _ {D : Type 0} (state : D → State) where
-  -- the segment at this place is of this volume, whole, and no record of it keeps a block
-  pub record IsBareAt (on : ℕ) (hs : List (HeldSegment D)) (place : ℕ) : Type 0 where
+  -- the segment at this place is of this volume, and no call of it failed
+  pub record IsWholeAt (on : ℕ) (hs : List (HeldSegment D)) (place : ℕ) : Type 0 where
     pub segment : HeldSegment D
     pub there : slice_get hs place ≡ Some segment
     pub shape : IsSegment state segment.segment
     pub whole : IsWhole segment.segment
     pub volume : segment_volume segment.segment ≡ on
-    pub bare : valid_of segment.segment ≡ 0
 
   -- a held segment that was freed
   pub record Freed (old : HeldSegment D) (free : FreeSegment D) : Type 0 where
@@ -66,3 +69,20 @@ module _ {D : Type 0} (state : D → State) where
     stays : (o n : HeldSegment D) → slice_get hs place ≡ Some o → hs' ≡ slice_set hs place n → IsSegment state n.segment → IfOk res (λ freed. freed ≡ None) → CutDown state o n pos head keep res → Cut hs hs' place pos head keep res
     freed : (o : HeldSegment D) (free : FreeSegment D) → slice_get hs place ≡ Some o → hs' ≡ remove hs place → res ≡ Ok (Some free) → GaveUp state o (blocks_of o.segment) free pos head keep → Cut hs hs' place pos head keep res
     could_not : (o n : HeldSegment D) → slice_get hs place ≡ Some o → hs' ≡ slice_set hs place n → IsSegment state n.segment → IsErr res → Stayed state o n pos head keep → Cut hs hs' place pos head keep res
+
+-- ---- A segment that is given up with all its records
+
+-- the segment of this index is held, and no call of it failed
+pub record IsRetirable {D : Type 0} (l : Lane D) (index : ℕ) : Type 0 where
+  pub place : ℕ
+  pub segment : HeldSegment D
+  pub there : slice_get (held_in l) place ≡ Some segment
+  pub named : segment.index ≡ index
+  pub whole : IsWhole segment.segment
+
+-- What giving up a segment did: it went to the pool; or it could not be freed, and is held still.
+pub data Retired {D T E : Type 0} (state : D → State) (old new : Lane D) (index : ℕ) (res : Result T E) : Type 0 where
+  gone : (k : ℕ) (o : HeldSegment D) (given : FreeSegment D) → slice_get (held_in old) k ≡ Some o → o.index ≡ index → held_in new ≡ remove (held_in old) k
+      → pass_mine (pool_of new) ≡ pass_mine (pool_of old) ++ (pass_number (pool_of old), pool.operation_of (Gave index)) ∷ [] → IsOk res → Freed state o given → Retired state old new index res
+  held_still : (k : ℕ) (o n : HeldSegment D) → slice_get (held_in old) k ≡ Some o → o.index ≡ index → held_in new ≡ slice_set (held_in old) k n → pass_mine (pool_of new) ≡ pass_mine (pool_of old)
+      → IsErr res → NotFreed state o n → Retired state old new index res

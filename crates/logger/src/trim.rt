@@ -6,7 +6,7 @@ ghost use Rattle.spin_model.specs.Spun.{token_volume};
 ghost use Rattle.log_layout.specs.Values.{record_head};
 ghost use Rattle.log_segment.specs.Records.{IsProperPart};
 ghost use Rattle.logger.specs.Lanes.{IsLane, HoldsAll, IsAt, IsSameLane, HasUsed, IsTrimmable, Trimmed, lane_owner, taken_in};
-ghost use Rattle.logger.specs.Trims.{IsBareAt, IsCuttable, FreedAt, StaysAt, Cut};
+ghost use Rattle.logger.specs.Trims.{IsWholeAt, IsCuttable, IsRetirable, FreedAt, StaysAt, Cut, Retired};
 
 use crate::lane::{HeldSegment, Lane, Spot};
 use crate::read::place_of_index;
@@ -24,7 +24,7 @@ fn free_held<D: Disk>(
     place: usize,
     token: &Awake,
 ) -> Result<FreeSegment<D>, Failed>
-    requires segment { IsBareAt D.state (token_volume token.now) held.old.items place }
+    requires segment { IsWholeAt D.state (token_volume token.now) held.old.items place }
     ensures ok { IfOk result (λ f. FreedAt D.state held.old.items held.new.items place f) }
     ensures err { OnErr result (StaysAt D.state held.old.items held.new.items place) }
     ensures room { vec_capacity held.new ≡ vec_capacity held.old }
@@ -102,6 +102,40 @@ impl<D: Disk> Lane<D> {
                 Ok(())
             }
             Ok(None) => Ok(()),
+            Err(failed) => Err(failed),
+        }
+    }
+
+    /// Gives up the held segment of this index with all its records, by one write of its head, and gives it to the pool.
+    /// `Failed` is the disk's; the segment is broken then and stays in the lane.
+    pub fn retire<R: Wait>(
+        &mut self,
+        rt: &R,
+        shared: &Shared<D>,
+        segment: u32,
+    ) -> Result<(), Failed>
+        requires lane { IsLane D.state self.old }
+        requires at { IsAt shared.now self.old }
+        requires segment { IsRetirable self.old segment }
+        ensures lane { IsLane D.state self.new }
+        ensures same { IsSameLane self.old self.new }
+        ensures all { HoldsAll self.old → HoldsAll self.new }
+        ensures at { IsAt shared.now self.new }
+        ensures taken { taken_in self.new ≡ taken_in self.old }
+        ensures used { HasUsed self.old self.new }
+        ensures retired { Retired D.state self.old self.new segment result }
+    {
+        let lock = &shared.spindles[self.logger as usize];
+        let place = place_of_index(&self.held, segment);
+        let token = take_token(rt, lock, &mut self.spindle);
+        let freed = free_held(&mut self.held, place, &token);
+        give_token(rt, lock, &mut self.spindle, token);
+        match freed {
+            Ok(free) => {
+                let pool = &shared.pools[self.logger as usize];
+                give_item(rt, pool, &mut self.pool, segment, free);
+                Ok(())
+            }
             Err(failed) => Err(failed),
         }
     }

@@ -80,7 +80,7 @@ held_is_listed {P} held indexed c is has valid = at held is.each has
 
 -- ---- What goes by the index may go by the records
 
-newer_held : {P : Type 0} (held : List (Held P)) (indexed : List Indexed) (v b : ℕ) → IsIndexOf indexed held → has_newer (listed_covers (listed_in indexed)) v b ≡ true → has_newer (covers_of (extents_held held)) v b ≡ true
+pub newer_held : {P : Type 0} (held : List (Held P)) (indexed : List Indexed) (v b : ℕ) → IsIndexOf indexed held → has_newer (listed_covers (listed_in indexed)) v b ≡ true → has_newer (covers_of (extents_held held)) v b ≡ true
 newer_held held indexed v b is newer =
     let found = any_found (λ (c : Cover). c.covers b && ltb v c.version) (listed_covers (listed_in indexed)) newer in
     any_member (λ (c : Cover). c.covers b && ltb v c.version) (covers_of (extents_held held)) found.item (listed_is_held held indexed found.item is found.among) found.passes

@@ -25,14 +25,14 @@ use Rattle.wol_promise.proofs.Trims.{trimmed, index_trimmed, index_dropped}
 -- ---- Fewer covers and marks in the index
 
 -- an entry of before with the same version, at least these blocks and at least these marks of home
-record From (old : List Indexed) (d : Indexed) : Type 0 where
-  before : Indexed
-  among : Contains old before
-  version : before.listed.version ≡ d.listed.version
-  covers : (b : ℕ) → (cover_of d.listed).covers b ≡ true → (cover_of before.listed).covers b ≡ true
-  homed : (b : ℕ) → is_homed d.listed b ≡ true → is_homed before.listed b ≡ true
+pub record From (old : List Indexed) (d : Indexed) : Type 0 where
+  pub before : Indexed
+  pub among : Contains old before
+  pub version : before.listed.version ≡ d.listed.version
+  pub covers : (b : ℕ) → (cover_of d.listed).covers b ≡ true → (cover_of before.listed).covers b ≡ true
+  pub homed : (b : ℕ) → is_homed d.listed b ≡ true → is_homed before.listed b ≡ true
 
-newer_in : (es : List Indexed) (v b : ℕ) → has_newer (listed_covers (listed_in es)) v b ≡ list_any (λ (d : Indexed). (cover_of d.listed).covers b && ltb v d.listed.version) es
+pub newer_in : (es : List Indexed) (v b : ℕ) → has_newer (listed_covers (listed_in es)) v b ≡ list_any (λ (d : Indexed). (cover_of d.listed).covers b && ltb v d.listed.version) es
 newer_in [] v b = refl
 newer_in (e ∷ es) v b = λ i. ((cover_of e.listed).covers b && ltb v e.listed.version) || newer_in es v b i
 
@@ -52,10 +52,10 @@ module _ (old new : List Indexed) (from : (d : Indexed) → Contains new d → F
       at true newer none = absurd (let no : true ≡ false = sym (newer_before d.version b newer) ∙ none in cc)
       at false newer none = newer
 
-  listed_still : (d : Indexed) → IsListed (listed_in old) d.listed → IsListed (listed_in new) d.listed
+  pub listed_still : (d : Indexed) → IsListed (listed_in old) d.listed → IsListed (listed_in new) d.listed
   listed_still d is = record { marks = is.marks; homed_are_live = λ b homed. live_still d.listed b (is.homed_are_live b homed) }
 
-  homed_before : (b : ℕ) → is_homed_in new b ≡ true → is_homed_in old b ≡ true
+  pub homed_before : (b : ℕ) → is_homed_in new b ≡ true → is_homed_in old b ≡ true
   homed_before b is = let found = any_found (λ (d : Indexed). is_homed d.listed b) new is in let was = from found.item found.among in any_member (λ (d : Indexed). is_homed d.listed b) old was.before was.among (was.homed b found.passes)
 
 rising_drop : (front : List Indexed) (e : Indexed) (back : List Indexed) → AreRising (map (λ (d : Indexed). d.listed.version) (front ++ e ∷ back)) → AreRising (map (λ (d : Indexed). d.listed.version) (front ++ back))

@@ -13,6 +13,7 @@ pub mod Covers
 pub mod Trims
 pub mod GiveUps
 pub mod Retires
+pub mod Wholes
 pub mod SegmentBreaks
 pub mod ClaimBreaks
 pub mod ReadBreaks

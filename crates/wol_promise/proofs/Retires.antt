@@ -31,7 +31,7 @@ forgotten : (a : List Block) (ws : List Write) (next : ℕ) (home : List Block) 
 forgotten a ws next home front [] back homed none holds = holds
 forgotten a ws next home front (r ∷ rs) back homed none holds = forgotten a ws next home front rs back homed none.1 (empty_step a ws next home front (map extent_of rs ++ back) homed (extent_of r) holds none.0)
 
-places_without : {P : Type 0} (front : List (Held P)) (t : Held P) (back : List (Held P)) → AreApartPlaces (map place_in (front ++ t ∷ back)) → AreApartPlaces (map place_in (front ++ back))
+pub places_without : {P : Type 0} (front : List (Held P)) (t : Held P) (back : List (Held P)) → AreApartPlaces (map place_in (front ++ t ∷ back)) → AreApartPlaces (map place_in (front ++ back))
 places_without [] t back apart = apart.1
 places_without {P} (u ∷ front) t back apart = (at front apart.0, places_without front t back apart.1)
   where
@@ -39,7 +39,7 @@ places_without {P} (u ∷ front) t back apart = (at front apart.0, places_withou
     at [] all = all.1
     at (v ∷ l) all = (all.0, at l all.1)
 
-member_without : {X : Type 0} (front : List X) (s : X) (back : List X) (x : X) → Contains (front ++ s ∷ back) x → Contains (front ++ back) x ⊎ (s ≡ x)
+pub member_without : {X : Type 0} (front : List X) (s : X) (back : List X) (x : X) → Contains (front ++ s ∷ back) x → Contains (front ++ back) x ⊎ (s ≡ x)
 member_without [] s back x has = ⊎_elim (λ same. inr same) (λ there. inl there) (member_front s back x has)
 member_without (y ∷ front) s back x has = ⊎_elim
     (λ same. inl (0, omega arith, same))

@@ -41,7 +41,6 @@ free_held-requires g c =
         shape = a.shape;
         whole = k.whole;
         volume = a.same.volume ∙ (ap (λ (h : HeldSegment g.row.D.Denot). segment_volume h.segment) (same_Some o s.segment (sym there ∙ s.there)) ∙ s.volume);
-        bare = omega (arith, c.valid.ensures, c.if-valid-gt0.false);
       };
     }
 
