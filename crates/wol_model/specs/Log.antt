@@ -1,5 +1,5 @@
 -- Segments: idle ones, and logs of records.
-use Rattle.std.specs.Prelude.{⊤, ◌≡◌, ◌<◌, ◌≤◌, ◌^◌, ◌+◌, ◌==◌, ℕ, Bool, List, [], ◌∷◌, ◌++◌, map, length, take}
+use Rattle.std.specs.Prelude.{⊤, ◌≡◌, ◌⊎◌, ◌<◌, ◌≤◌, ◌^◌, ◌+◌, ◌==◌, ℕ, Bool, List, [], ◌∷◌, ◌++◌, map, length, take}
 use Rattle.std.specs.List.{flat_map, AllByRecursion, range_with_len}
 use Rattle.std.specs.Int.{bit_at}
 use Rattle.wol_disk.specs.Disk.{Block}
@@ -53,6 +53,10 @@ pub record StandsBehind (bs : List Block) (p owner : ℕ) (rs : List Record) : T
   pub named : AllByRecursion (IsNamed owner) rs
   pub front : take p bs ≡ owned_block owner ∷ flat_map written rs
   pub within : p ≤ length bs
+
+-- a place where a head is looked for
+abbrev pub IsHeadPlace : List Block → (p : ℕ) → Type 0
+IsHeadPlace bs p = (p ≡ 0) ⊎ ((owner : ℕ) × (rs : List Record) × StandsBehind bs p owner rs)
 
 -- a log of these records and of some first ones of a group
 pub record HasFirstOf (bs : List Block) (owner : ℕ) (rs group : List Record) : Type 0 where
