@@ -4,7 +4,7 @@ use Rattle.request_turns.specs.Entries.{note_of, step_operation}
 use Rattle.manager.specs.Reclaim.{Always}
 use Rattle.manager.specs.Seen.{look_of_manager}
 use Rattle.request_turns.proofs.Counting.{counted_turn}
-use Rattle.request_turns.proofs.HelpNotes.{same_keep, help_stands, has_helped, step_kept, same_counted, data_left}
+use Rattle.request_turns.proofs.HelpNotes.{same_keep, help_stands, has_helped, step_kept, same_counted, data_left, down_at}
 use Rattle.request_turns.proofs.Taking.{home_at}
 use Rattle.request_turns.proofs.help.fetch_turn.Goals as goal
 
@@ -44,3 +44,6 @@ returns-in-Ok-Some-clause-kept g c = step_kept _ _ c.enter-turn.new.pass _ _ _ c
 
 pub returns-in-Ok-Nothing-clause-kept : goal.returns-in-Ok-Nothing-clause-kept
 returns-in-Ok-Nothing-clause-kept g c = step_kept _ _ c.enter-turn.new.pass _ _ _ c.fetch-answer.result _ c.in-Ok-Nothing.is c.has_failed.ensures c.enter-turn.ensures.mine c.leave_step.ensures.left
+
+pub returns-in-Err-clause-cause : goal.returns-in-Err-clause-cause
+returns-in-Err-clause-cause g c = c.leave_step.ensures.broken _ (down_at g.D.Disk.state c.enter-turn.result.value c.fetch-answer.new.m c.fetch-answer.result c.in-Err.fault c.in-Err.is c.fetch-answer.ensures.fault)
