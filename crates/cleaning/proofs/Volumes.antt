@@ -1,5 +1,6 @@
 -- A volume of a rack all of whose volumes were open: what it began with, what its history is, and what it recovers to.
 use Rattle.std.proofs.Common.{◌≡◌, ◌≢◌, ◌⊎◌, inl, inr, ◌<◌, ◌≤◌, ◌+◌, ℕ, Bool, true, false, List, [], ◌∷◌, ◌++◌, length, map, Option, None, Some, is_some, Result, Ok, Err, refl, sym, ap, subst, ◌∙◌, arith, append_assoc}
+use Rattle.std.proofs.lemmas.Option.{same_Some}
 use Rattle.std.specs.Prelude.{All, IfSome, IsSome, IsTrue, slice_get, unwrap_or}
 use Rattle.std.specs.List.{AllByRecursion}
 use Rattle.wol_disk.specs.Disk.{Block, Rose, State}
@@ -18,7 +19,7 @@ use Rattle.wol_promise.specs.Ruled.{Noted, entries_of, last_look}
 use Rattle.wol_promise.specs.Stands.{IsOpened as IsOpenedRecord, IsOpening}
 use Rattle.wol_promise.proofs.Lists.{all_map}
 use Rattle.wol_config.specs.declared.config.Config.{Config}
-use Rattle.manager.specs.Seen.{look_of_manager}
+use Rattle.manager.specs.Seen.{down_of, look_of_manager, name_of}
 use Rattle.manager.specs.Stands.{Stands, notes_of}
 use Rattle.manager.specs.declared.base.ManagerBase.{ManagerBase}
 use Rattle.manager.specs.declared.manager.Manager.{Manager}
@@ -28,7 +29,7 @@ use Rattle.request_turns.specs.Turns.{ManagerPass, coded}
 use Rattle.request_turns.proofs.Noting.{notes_at}
 use Rattle.volume_images.specs.Left.{IsTold}
 use Rattle.volume_images.specs.Volumes.{AreLeft, images_read, shapes_of}
-use Rattle.rack.specs.Closes.{AreListedOf, HasFaultyPart, IsClosedVolume, RecoversTo, recovered_out, segments_out}
+use Rattle.rack.specs.Closes.{AreListedOf, CameBackFaulty, HasFaultyPart, IsClosedVolume, RecoversTo, part_named, recovered_out, segments_out}
 use Rattle.rack.specs.Opens.{BeganWith}
 use Rattle.rack.specs.Owners.{IsBegun, images_taken, most_of}
 use Rattle.rack.specs.Racks.{IsStation, IsUnused, base_of_station}
@@ -44,7 +45,7 @@ use Rattle.open_rack.proofs.AllOut.{accepted_all, recovered_all, taken_all}
 use Rattle.open_rack.proofs.FirstClosed.{none_closed, opened_out}
 use Rattle.replay.proofs.RacksServed.{at_place, each_station}
 use Rattle.log_cleaner.specs.Chunks.{NoneHomed}
-use Rattle.log_cleaner.specs.Cleans.{CanClean, HasCleaned}
+use Rattle.log_cleaner.specs.Cleans.{CanClean, HasCleaned, TellsCleaned}
 use Rattle.log_cleaner.specs.declared.answer.Cleaned.{Cleaned}
 use Rattle.log_cleaner.specs.declared.answer.CleanFault.{CleanFault}
 use Rattle.log_cleaner.specs.declared.answer.CleanFault.TheVariants.{DiskFault}
@@ -225,3 +226,13 @@ module _ {D : Type 0} (tells : Bool) (state : D → State) (config : Config) (di
       -- a part of it came back with a fault
       pub faulty : (copies : List Write) → c.note.entry.operation ≡ Broke copies → IsTold (HasFaultyPart tells config v (base_of_station s).volume.began.view) session.bay.told new.told
       faulty copies is = subst (λ (n : ℕ). IsTold (HasFaultyPart tells config n (base_of_station s).volume.began.view) session.bay.told new.told) number (ends.faulty (broke copies is))
+
+      -- .. and that is the part that is told
+      pub came : (p : Part) → result ≡ Err (DiskFault p) → IsTold (CameBackFaulty config (part_named v (name_of p))) session.bay.told new.told
+      came p is =
+          let (name, last, told) = ends.named (broke done.0.copies (operation ∙ ap (operation_of done.0.copies) is)) in
+          let cleaned_ = subst (TellsCleaned tells state (most_of config) c.opened c.after done.0.copies) is done.0.tells_ in
+          let down : (last_look (base_of_station s).volume.began.look (notes_of ends.entries)).down ≡ Some (name_of p)
+          = ap (λ (ns : List Noted). (last_look (base_of_station s).volume.began.look ns).down) notes ∙ ap (λ (l : Look). l.down) stands.look ∙ ap down_of cleaned_.0 in
+          let same : name ≡ name_of p = same_Some name (name_of p) (sym last ∙ down) in
+          subst (λ (q : Part). IsTold (CameBackFaulty config q) session.bay.told new.told) (ap (λ (n : ℕ). part_named n name) number ∙ ap (part_named v) same) told

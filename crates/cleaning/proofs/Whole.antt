@@ -16,12 +16,14 @@ use Rattle.wol_promise.proofs.Lists.{all_mapped, all_push}
 use Rattle.wol_config.specs.declared.config.Config.{Config}
 use Rattle.manager.specs.Stands.{Stands}
 use Rattle.manager.specs.declared.base.ManagerBase.{ManagerBase}
+use Rattle.manager.specs.Seen.{name_of}
 use Rattle.manager.specs.declared.manager.Manager.{Manager}
 use Rattle.manager.specs.declared.part.Part.{Part}
 use Rattle.manager.specs.declared.station.Station.{Station}
 use Rattle.volume_images.specs.Left.{AreNamedApart, IsTold}
 use Rattle.volume_images.specs.Volumes.{AreLeft, images_read, shape_in, shapes_of}
-use Rattle.rack.specs.Closes.{AreLeftOfParts, HasFaultyPart, RecoversTo}
+use Rattle.rack.specs.Closes.{AreLeftOfParts, HasFaultyPart, RecoversTo, part_named}
+use Rattle.rack.proofs.FailedParts.{came_back_since}
 use Rattle.rack.specs.Opens.{BeganWith}
 use Rattle.rack.specs.Owners.{IsBegun, most_of}
 use Rattle.rack.specs.declared.rack.Rack.{Rack}
@@ -137,6 +139,8 @@ module _ {D : Type 0} (tells : Bool) (state : D → State) (config : Config) (di
       faulty = λ p is telling. faulty_same tells config k base.volume.began.view old.told session.bay.told new.told (session.opened.apart telling)
           (session.opened.unfaulty (volumes.all_out tells state config did old new spindles session open_))
           (volumes.faulty tells state config did old new spindles session open_ k s c.there c.pass c.now answer c.cleans c.cleans.copies (broke p is));
+      came = λ p is telling. came_back_since config (part_named k (name_of p)) old.told session.bay.told new.told (session.opened.apart telling) session.opened.faulty
+          (volumes.came tells state config did old new spindles session open_ k s c.there c.pass c.now answer c.cleans p is);
       spent = λ is. lacks_versions tells state (most_of config) c.cleans.opened c.cleans.after base (volumes.stood tells state config did old new spindles session open_ k s c.there c.pass c.now answer c.cleans)
           (volumes.ends tells state config did old new spindles session open_ k s c.there c.pass c.now).opening
           (subst (HasCleaned tells state (most_of config) c.cleans.opened c.cleans.after) is (volumes.done tells state config did old new spindles session open_ k s c.there c.pass c.now answer c.cleans).0);

@@ -12,6 +12,7 @@ use Rattle.wol_model.specs.Recovered.{extents_of}
 use Rattle.wol_promise.specs.Manager.{Base}
 use Rattle.wol_promise.specs.Ruled.{Noted}
 use Rattle.wol_config.specs.declared.config.Config.{Config}
+use Rattle.manager.specs.Seen.{name_of}
 use Rattle.manager.specs.Stands.{Stands}
 use Rattle.manager.specs.declared.base.ManagerBase.{ManagerBase}
 use Rattle.manager.specs.declared.manager.Manager.{Manager}
@@ -20,7 +21,7 @@ use Rattle.report.specs.declared.fault.Fault.TheVariants.{Memory, Volume}
 use Rattle.troubles.specs.Troubles.{trouble_of}
 use Rattle.volume_images.specs.Left.{AreNamedApart, IsTold}
 use Rattle.volume_images.specs.Volumes.{AreLeft, images_read, shapes_of}
-use Rattle.rack.specs.Closes.{AreListedOf, HasFaultyPart}
+use Rattle.rack.specs.Closes.{AreListedOf, CameBackFaulty, HasFaultyPart, part_named}
 use Rattle.rack.specs.Owners.{IsBegun, most_of}
 use Rattle.rack.specs.declared.volume_fault.VolumeFault.{VolumeFault}
 use Rattle.open_rack.specs.NotOpened.{IsFirstClosed}
@@ -71,6 +72,8 @@ pub record CleansVolume {D : Type 0} (tells : Bool) (state : D → State) (confi
   pub listed : ((p : Part) → answer ≢ Err (DiskFault p)) → IsTrue tells → IsTold (λ entry exit. LeavesRecords config number (listed_in after.index.entries) exit) old.told new.told
   pub cause : (p : Part) → answer ≡ Err (DiskFault p) → Rose old.faults new.faults
   pub faulty : (p : Part) → answer ≡ Err (DiskFault p) → IsTrue tells → IsTold (HasFaultyPart tells config number base.volume.began.view) old.told new.told
+  -- .. and that is the part that is told
+  pub came : (p : Part) → answer ≡ Err (DiskFault p) → IsTrue tells → IsTold (CameBackFaulty config (part_named number (name_of p))) old.told new.told
   pub spent : answer ≡ Err VersionsSpent → LacksVersions (most_of config) base.volume.began
 
 -- Whatever images a crash leaves, each volume recovers to the array that the images before recovered to as they read.

@@ -1,6 +1,6 @@
 -- One turn in which a volume is looked at.
 use Rattle.std.proofs.Common.{◌≡◌, ℕ, Bool, false, List, [], ◌∷◌, ◌++◌, Some, Result, Ok, Err, refl, sym, ap, subst, ◌∙◌, arith, rules}
-use Rattle.std.specs.Prelude.{IsTrue, IsSome, OnOk, is_some}
+use Rattle.std.specs.Prelude.{IsTrue, OnOk}
 use Rattle.std.specs.List.{AllByRecursion}
 use Rattle.wol_disk.specs.Disk.{State}
 use Rattle.turn_lock.specs.Histories.{Entry, own, Begins}
@@ -15,7 +15,7 @@ use Rattle.manager.specs.Stands.{Stands, IsNote, notes_of}
 use Rattle.manager.specs.declared.base.ManagerBase.{ManagerBase}
 use Rattle.manager.specs.declared.manager.Manager.{Manager}
 use Rattle.manager.specs.declared.part.Part.{Part}
-use Rattle.request_turns.specs.Turns.{ManagerPass, coded, notes_seen, HasLeft, IsBroken}
+use Rattle.request_turns.specs.Turns.{ManagerPass, coded, notes_seen, HasLeft, WasDown}
 use Rattle.request_turns.proofs.Noting.{notes_at}
 use Rattle.log_dump.specs.Faults.{was_told}
 use Rattle.log_dump.specs.declared.fault.DumpFault.{DumpFault}
@@ -26,7 +26,7 @@ use Rattle.inspection.specs.declared.asked.Asked.{Asked}
 pub is_note : (l : Look) (operation : Operation) (look : Look) (pass : ℕ) → IsNote l operation [] look (note_told pass operation look)
 is_note l operation look pass = record { operation_is = refl; look_is = refl; passed_is = refl; drain = refl; follows = λ no. absurd (let f : false ≡ Rattle.std.proofs.Common.true = no in cc) }
 
-breaks : (answer : Result (Unit {0}) DumpFault) (notes : List Noted) → ((p : Part) → answer ≡ Err (DiskFault p) → IsBroken notes) → ((p : Part) → answer ≡ Err (Down p) → IsBroken notes) → BreaksIn answer notes
+breaks : (answer : Result (Unit {0}) DumpFault) (notes : List Noted) → ((p : Part) → answer ≡ Err (DiskFault p) → WasDown p notes) → ((p : Part) → answer ≡ Err (Down p) → WasDown p notes) → BreaksIn answer notes
 breaks (Ok done) notes failed down = tt
 breaks (Err (DiskFault p)) notes failed down = failed p refl
 breaks (Err (Down p)) notes failed down = down p refl
@@ -38,7 +38,7 @@ pub has_looked : {D : Type 0} (tells : Bool) (state : D → State) (config : Con
     → Stands tells state old (pass_lock i).base (notes_seen i)
     → (IsTrue tells → OnOk answer (AppendsAsked config asked number old (pass_lock i).base (notes_seen i) before after))
     → HasLeft tells (note_told (pass_number i) (was_told answer) (look_of_manager new)) i q
-    → (IsSome new.down → IsBroken (notes_seen q)) → ((d : Part) → answer ≡ Err (DiskFault d) → new.down ≡ Some d) → ((d : Part) → answer ≡ Err (Down d) → new.down ≡ Some d)
+    → ((d : Part) → new.down ≡ Some d → WasDown d (notes_seen q)) → ((d : Part) → answer ≡ Err (DiskFault d) → new.down ≡ Some d) → ((d : Part) → answer ≡ Err (Down d) → new.down ≡ Some d)
     → LooksAt tells state config asked number p q answer before after
 has_looked {D} tells state config asked number old new p i q answer before after same begins mine owns stands content left broken failed down = record {
   before = pass_seen i;
@@ -56,7 +56,7 @@ has_looked {D} tells state config asked number old new p i q answer before after
   manager = old;
   stands = subst (λ (l : LockId ManagerBase). Stands tells state old l.base (notes_seen i)) same.0 stands;
   content = subst (λ (l : LockId ManagerBase). IsTrue tells → OnOk answer (AppendsAsked config asked number old l.base (notes_seen i) before after)) same.0 content;
-  broken = breaks answer (notes_seen q) (λ d is. broken (ap is_some (failed d is))) (λ d is. broken (ap is_some (down d is)));
+  broken = breaks answer (notes_seen q) (λ d is. broken d (failed d is)) (λ d is. broken d (down d is));
 }
 
 -- ---- Its entry changes no content

@@ -2,10 +2,11 @@
 use Rattle.std.proofs.Common.{◌≡◌, ◌≢◌, ◌⊎◌, inl, inr, ◌<◌, ◌≤◌, ℕ, Bool, List, [], ◌∷◌, ◌++◌, length, Option, None, Some, Result, Ok, Err, refl, sym, ap, subst, ◌∙◌, arith}
 use Rattle.std.specs.Prelude.{slice_get, IfSome, IsTrue}
 use Rattle.std.proofs.lemmas.List.{length-map}
+use Rattle.std.proofs.lemmas.Option.{same_Some}
 use Rattle.std.proofs.lemmas.List.Elements.{Contains-append_right}
 use Rattle.turn_lock.specs.Histories.{Entry, own}
 use Rattle.turn_lock.specs.LockIds.{LockId}
-use Rattle.turn_lock.specs.Passes.{pass_lock, pass_seen}
+use Rattle.turn_lock.specs.Passes.{pass_lock, pass_mine, pass_seen}
 use Rattle.wol_disk.specs.Disk.{Block, State, Rose}
 use Rattle.wol_bay.specs.Bay.{BayState, Name, Told}
 use Rattle.wol_config.specs.declared.config.Config.{Config}
@@ -13,9 +14,11 @@ use Rattle.wol_config.specs.declared.config.VolumeConf.{VolumeConf}
 use Rattle.wol_config.specs.Documents.{names_of}
 use Rattle.wol_model.specs.Images.{recovered_from}
 use Rattle.wol_model.proofs.Overlay.{after_none}
-use Rattle.wol_promise.specs.Policy.{Look}
-use Rattle.wol_promise.specs.Ruled.{Noted}
+use Rattle.wol_promise.specs.Policy.{Look, PartName}
+use Rattle.wol_promise.specs.Ruled.{Noted, last_look}
+use Rattle.manager.specs.Seen.{name_of}
 use Rattle.manager.specs.Stands.{Stands, notes_of}
+use Rattle.manager.specs.declared.part.Part.{Part}
 use Rattle.manager.specs.declared.base.ManagerBase.{ManagerBase}
 use Rattle.manager.specs.declared.manager.Manager.{Manager}
 use Rattle.manager.specs.declared.station.Station.{Station}
@@ -25,11 +28,16 @@ use Rattle.log_dump.specs.declared.fault.DumpFault.{DumpFault}
 use Rattle.log_dump.specs.declared.fault.DumpFault.TheVariants as dump
 use Rattle.report.specs.Names.{name_at}
 use Rattle.report.specs.Troubles.{trouble_status}
-use Rattle.troubles.specs.Troubles.{trouble_of}
-use Rattle.request_turns.specs.Turns.{IsBroken, coded}
+use Rattle.report.specs.declared.trouble.Trouble.{Trouble}
+use Rattle.troubles.specs.Troubles.{trouble_of, trouble_of_part}
+use Rattle.troubles.proofs.Named.{named_alike}
+use Rattle.request_turns.specs.Turns.{IsBroken, WasDown, coded}
+use Rattle.request_turns.proofs.Gaining.{down_breaks}
+use Rattle.request_turns.proofs.Noting.{notes_at}
 use Rattle.volume_images.specs.Left.{AreNamedApart, IsTold}
 use Rattle.volume_images.specs.Volumes.{shape_in, shapes_of}
-use Rattle.rack.specs.Closes.{HasFaultyPart, IsClosedVolume}
+use Rattle.rack.specs.Closes.{CameBackFaulty, HasFaultyPart, IsClosedVolume, part_named}
+use Rattle.rack.proofs.FailedParts.{came_back_since}
 use Rattle.rack.specs.Opens.{BeganWith}
 use Rattle.rack.specs.Owners.{IsBegun, images_taken}
 use Rattle.rack.specs.Racks.{IsOpenBase, IsStation, IsUnused, NamesVolumes, base_of_station}
@@ -39,12 +47,12 @@ use Rattle.open_rack.specs.Sessions.{OpensAndCloses}
 use Rattle.open_rack.proofs.Since.{rose_before}
 use Rattle.spin_model.specs.Spindles.{SpindleView}
 use Rattle.inspection.specs.Looks.{AppendsAsked, BreaksIn}
-use Rattle.inspection.specs.Lines.{Telling, TellsFailed, IsTelling, LooksAtVolume}
+use Rattle.inspection.specs.Lines.{Telling, TellsFailed, IsTelling, LooksAtVolume, trouble_line}
 use Rattle.inspection.specs.Runs.{AreLinesOf, IsInOrder, IsToldOf}
 use Rattle.inspection.specs.declared.asked.Asked.{Asked}
 use Rattle.inspection.specs.declared.asked.Asked.TheVariants.{Check, Dump}
 use Rattle.inspection.proofs.Opened.{rose_of}
-use Rattle.inspection.proofs.Unhelped.{all_at, broken_still, none_before, there_is}
+use Rattle.inspection.proofs.Unhelped.{all_at, broken_still, none_before, one_down, only_one, there_is}
 
 -- a part that came back with a fault since opening did so since entry
 faulty_since : (tells : Bool) (config : Config) (owner : ℕ) (view : List ℕ) (o m n : Option Told) → IsTold (λ x y. AreNamedApart y) o m → IsTold (λ x y. (more : List (Name × ℕ)) × (y.faulty ≡ x.faulty ++ more)) o m
@@ -121,6 +129,35 @@ module _ {D : Type 0} (tells : Bool) (state : D → State) (config : Config) (as
     base_is : IsOpenBase config before.shared before.rest.images.items (base_of_station s)
     base_is = all_at (λ (w : Station D). IsOpenBase config before.shared before.rest.images.items (base_of_station w)) before.stations.items look.place s session.opened.rack.bases look.is_station.there
 
+    -- its turn is all that was done
+    seen_is : pass_seen look.pass ≡ coded look.looks.note ∷ []
+    seen_is = look.looks.added.seen ∙ ap (λ (es : List Entry). es ++ coded look.looks.note ∷ []) nothing
+
+    only : ends.entries ≡ coded look.looks.note ∷ []
+    only =
+        let unused = all_at (λ (u : Station D). IsUnused u.worker × IsUnused u.helper × IsUnused u.keeper) before.stations.items look.place s session.opened.fresh look.is_station.there in
+        let more = ends.worker_part.seen in
+        let added = look.looks.added in
+        only_one (coded look.looks.note) more.0 ends.entries (ap (λ (es : List Entry). es ++ more.0) (sym seen_is) ∙ more.1) (added.number ∙ station.worker_.number_is)
+        (subst (λ (n : ℕ). own n ends.entries ≡ pass_mine look.pass) (added.same.1 ∙ station.worker_.number_is) ends.worker_part.mine ∙ added.mine ∙ ap (λ (es : List Entry). es ++ coded look.looks.note ∷ []) unused.0.mine)
+        (subst (λ (n : ℕ). own n ends.entries ≡ []) station.helper_.number_is (ends.helper_part.mine ∙ unused.1.mine))
+        (subst (λ (n : ℕ). own n ends.entries ≡ []) station.keeper_.number_is (ends.keeper_part.mine ∙ unused.2.mine))
+        ends.no_more
+
+    -- so the part that was down is the one that came back with a fault
+    came : (p : Part) → WasDown p (notes_of (pass_seen look.pass)) → (q : Part) × (trouble_of_part p ≡ trouble_of_part q) × (IsTrue tells → IsTold (CameBackFaulty config q) old.told new.told)
+    came p was =
+        let n = look.looks.note in
+        let one : notes_of (coded n ∷ []) ≡ n ∷ [] = notes_at [] n.entry.pass n refl in
+        let down : n.look.down ≡ Some (name_of p) = one_down p n (subst (WasDown p) (ap notes_of seen_is ∙ one) was) in
+        let (name, last, told) = ends.named (broken_still (pass_seen look.pass) ends.entries ends.worker_part.seen (down_breaks p (notes_of (pass_seen look.pass)) was)) in
+        let same : name ≡ name_of p = same_Some name (name_of p)
+        (sym last ∙ ap (λ (ns : List Noted). (last_look (base_of_station s).volume.began.look ns).down) (ap notes_of only ∙ one) ∙ down) in (
+          part_named s.id name,
+          named_alike s.id p ∙ ap (λ (x : PartName). trouble_of_part (part_named s.id x)) (sym same),
+          λ telling. came_back_since config (part_named s.id name) old.told session.bay.told new.told (session.opened.apart telling) session.opened.faulty told,
+        )
+
     -- and a part of it came back with a fault
     faulty : IsBroken (notes_of (pass_seen look.pass)) → IsTrue tells → IsTold (HasFaultyPart tells config (base_of_station s).volume.began.owner (base_of_station s).volume.began.view) old.told new.told
     faulty broken told =
@@ -166,13 +203,13 @@ module _ {D : Type 0} (tells : Bool) (state : D → State) (config : Config) (as
   if_told None k text look told is = tt
   if_told (Some t) k text look told is = λ apart. in_order k text look t told (is apart)
 
-  broke : (k : ℕ) (answer : Result (Unit {0}) DumpFault) (part : _) → (answer ≡ Err (dump.DiskFault part)) ⊎ (answer ≡ Err (dump.Down part)) → (notes : List Noted) → BreaksIn answer notes → IsBroken notes
-  broke k answer part (inl is) notes b = subst (λ (a : Result (Unit {0}) DumpFault). BreaksIn a notes) is b
-  broke k answer part (inr is) notes b = subst (λ (a : Result (Unit {0}) DumpFault). BreaksIn a notes) is b
+  was_down : (k : ℕ) (answer : Result (Unit {0}) DumpFault) (part : _) → (answer ≡ Err (dump.DiskFault part)) ⊎ (answer ≡ Err (dump.Down part)) → (notes : List Noted) → BreaksIn answer notes → WasDown part notes
+  was_down k answer part (inl is) notes b = subst (λ (a : Result (Unit {0}) DumpFault). BreaksIn a notes) is b
+  was_down k answer part (inr is) notes b = subst (λ (a : Result (Unit {0}) DumpFault). BreaksIn a notes) is b
 
   -- a volume a call of whose disks failed
   pub part_rose : (k : ℕ) (t : Telling) → TellsFailed tells state config asked before after k t → Rose old.faults new.faults
-  part_rose k t is = failed k is.answer [] is.looked (broke k is.answer is.part is.is_answer _ is.looked.looks.broken)
+  part_rose k t is = failed k is.answer [] is.looked (down_breaks is.part _ (was_down k is.answer is.part is.is_answer _ is.looked.looks.broken))
 
   -- what was told of a volume
   pub told_of : (k : ℕ) (t : Telling) → k < length config.volumes.items → IsTelling tells state config asked before after k t → IsToldOf tells state config asked before.rest.images.items old new k t
@@ -193,13 +230,17 @@ module _ {D : Type 0} (tells : Bool) (state : D → State) (config : Config) (as
     trouble = order.trouble;
   }))
   told_of k t within (inr (inr is)) = inr (inr (record {
-    part = is.part;
+    part = (came_of is).0;
     base = (base_of_station is.looked.station).volume.began;
     owner = owner k is.answer [] is.looked;
     began = base_began k is.answer [] is.looked;
     loggers_out = (base_is k is.answer [] is.looked).loggers_out;
-    faulty = faulty k is.answer [] is.looked (broke k is.answer is.part is.is_answer _ is.looked.looks.broken);
+    faulty = faulty k is.answer [] is.looked (down_breaks is.part _ (was_down k is.answer is.part is.is_answer _ is.looked.looks.broken));
+    came = (came_of is).2;
     rose = part_rose k t is;
-    trouble = is.trouble;
-    text = is.text;
+    trouble = is.trouble ∙ ap (λ (x : Trouble). Some x) (came_of is).1;
+    text = is.text ∙ ap (trouble_line config k) (came_of is).1;
   }))
+    where
+      came_of : (x : TellsFailed tells state config asked before after k t) → (q : Part) × (trouble_of_part x.part ≡ trouble_of_part q) × (IsTrue tells → IsTold (CameBackFaulty config q) old.told new.told)
+      came_of x = came k x.answer [] x.looked x.part (was_down k x.answer x.part x.is_answer _ x.looked.looks.broken)

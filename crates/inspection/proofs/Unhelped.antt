@@ -1,5 +1,5 @@
 -- A history of a volume in which nobody but the worker did anything, and the worker only looked at it.
-use Rattle.std.proofs.Common.{◌≡◌, ◌≢◌, ◌⊎◌, inl, inr, ◌<◌, ℕ, zero, suc, Bool, true, false, List, [], ◌∷◌, ◌++◌, length, Option, None, Some, map, refl, sym, ap, subst, ◌∙◌, arith}
+use Rattle.std.proofs.Common.{◌≡◌, ◌≢◌, ◌⊎◌, inl, inr, ◌<◌, ℕ, zero, suc, Bool, true, false, cond, List, [], ◌∷◌, ◌++◌, length, Option, None, Some, map, refl, sym, ap, subst, ◌∙◌, arith}
 use Rattle.std.specs.Prelude.{slice_get, All, is_some, ◌==◌}
 use Rattle.std.proofs.lemmas.Bool.{eq-eqb}
 use Rattle.std.proofs.lemmas.List.{map-append}
@@ -11,8 +11,10 @@ use Rattle.wol_model.specs.History as history
 use Rattle.wol_model.specs.History.{worker, helper, keeper, flight_of, flight_from, Operation}
 use Rattle.wol_promise.specs.Ruled.{Noted, entries_of}
 use Rattle.wol_promise.specs.Code.{noted_of}
+use Rattle.manager.specs.Seen.{name_of}
 use Rattle.manager.specs.Stands.{notes_of}
-use Rattle.request_turns.specs.Turns.{IsBroken}
+use Rattle.manager.specs.declared.part.Part.{Part}
+use Rattle.request_turns.specs.Turns.{IsBroken, WasDown}
 
 -- of the element at a place
 pub all_at : {X : Type 0} (P : X → Type 0) (xs : List X) (k : ℕ) (x : X) → All P xs → slice_get xs k ≡ Some x → P x
@@ -42,7 +44,7 @@ same_number n = eq-eqb n n refl
 no_entry : (xs : List Entry) → ((n : ℕ) → own n xs ≡ []) → xs ≡ []
 no_entry [] none = refl
 no_entry (e ∷ es) none =
-    let first : own e.0 (e ∷ es) ≡ e ∷ own e.0 es = ap (λ (b : Bool). Rattle.std.proofs.Common.cond b (e ∷ own e.0 es) (own e.0 es)) (same_number e.0) in
+    let first : own e.0 (e ∷ es) ≡ e ∷ own e.0 es = ap (λ (b : Bool). cond b (e ∷ own e.0 es) (own e.0 es)) (same_number e.0) in
     absurd (let no : e ∷ own e.0 es ≡ [] = sym first ∙ none e.0 in cc)
 
 which : (n : ℕ) → (n ≡ worker) ⊎ (n ≡ helper) ⊎ (n ≡ keeper) ⊎ ((n ≢ worker) × (n ≢ helper) × (n ≢ keeper))
@@ -62,6 +64,43 @@ none_before xs es begins worked helped kept no_more = no_entry xs by
       | inr (inr (inl is)) ↦ subst (λ (k : ℕ). own k xs ≡ []) (sym is) (own_before keeper xs es begins kept)
       | inr (inr (inr (a, b, d))) ↦ own_before n xs es begins (no_more n a b d)
     ]
+
+-- a pass whose only entry is the first, or that has none, has none behind it
+behind_none : (n : ℕ) (e : Entry) (es : List Entry) → own n (e ∷ es) ≡ [] → own n es ≡ []
+behind_none n e es = go (e.0 == n)
+  where
+    go : (b : Bool) → cond b (e ∷ own n es) (own n es) ≡ [] → own n es ≡ []
+    go true is = absurd (cc is)
+    go false is = is
+
+behind_one : (n : ℕ) (e : Entry) (es : List Entry) → e.0 ≡ n → own n (e ∷ es) ≡ e ∷ [] → own n es ≡ []
+behind_one n e es same is =
+    let first : own n (e ∷ es) ≡ e ∷ own n es = ap (λ (b : Bool). cond b (e ∷ own n es) (own n es)) (eq-eqb e.0 n same) in
+    let both : e ∷ own n es ≡ e ∷ [] = sym first ∙ is in cc
+
+-- so nothing is behind a worker's one entry
+pub only_one : (e : Entry) (more es : List Entry) → e ∷ more ≡ es → e.0 ≡ worker → own worker es ≡ e ∷ [] → own helper es ≡ [] → own keeper es ≡ [] → ((n : ℕ) → n ≢ worker → n ≢ helper → n ≢ keeper → own n es ≡ []) → es ≡ e ∷ []
+only_one e more es whole number worked helped kept no_more = sym whole ∙ ap (λ (xs : List Entry). e ∷ xs) (no_entry more by)
+  where
+    by : (n : ℕ) → own n more ≡ []
+    by n = elim (which n) [
+      | inl is ↦ subst (λ (k : ℕ). own k more ≡ []) (sym is) (behind_one worker e more number (ap (own worker) whole ∙ worked))
+      | inr (inl is) ↦ subst (λ (k : ℕ). own k more ≡ []) (sym is) (behind_none helper e more (ap (own helper) whole ∙ helped))
+      | inr (inr (inl is)) ↦ subst (λ (k : ℕ). own k more ≡ []) (sym is) (behind_none keeper e more (ap (own keeper) whole ∙ kept))
+      | inr (inr (inr (a, b, d))) ↦ behind_none n e more (ap (own n) whole ∙ no_more n a b d)
+    ]
+
+-- and what was down is down behind that one
+none_joined : (front : List Noted) (m : Noted) (later : List Noted) → [] ≡ front ++ m ∷ later → ⊥
+none_joined [] m later is = absurd (cc is)
+none_joined (k ∷ front) m later is = absurd (cc is)
+
+pub one_down : (p : Part) (n : Noted) → WasDown p (n ∷ []) → n.look.down ≡ Some (name_of p)
+one_down p n was = go was.front was.note was.later was.notes_are was.down
+  where
+    go : (front : List Noted) (m : Noted) (later : List Noted) → n ∷ [] ≡ front ++ m ∷ later → m.look.down ≡ Some (name_of p) → n.look.down ≡ Some (name_of p)
+    go [] m later is down = let same : n ≡ m = cc is in ap (λ (k : Noted). k.look.down) same ∙ down
+    go (k ∷ front) m later is down = absurd (none_joined front m later (let rest : [] ≡ front ++ m ∷ later = cc is in rest))
 
 -- ---- A failed call stays in the history
 

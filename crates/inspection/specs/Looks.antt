@@ -14,7 +14,7 @@ use Rattle.logger.specs.declared.shared.Shared.{Shared}
 use Rattle.manager.specs.Stands.{Stands, IsShared, notes_of}
 use Rattle.manager.specs.declared.base.ManagerBase.{ManagerBase}
 use Rattle.manager.specs.declared.manager.Manager.{Manager}
-use Rattle.request_turns.specs.Turns.{ManagerPass, coded, IsBroken}
+use Rattle.request_turns.specs.Turns.{ManagerPass, coded, WasDown}
 use Rattle.log_dump.specs.Faults.{was_told}
 use Rattle.log_dump.specs.Texts.{check_text}
 use Rattle.log_dump.specs.Volumes.{IsDump, array_of, held_segments}
@@ -54,11 +54,11 @@ pub record HasAdded {D : Type 0} (p q : ManagerPass D) (before : List Entry) (n 
   pub seen : pass_seen q ≡ before ++ coded n ∷ []
   pub mine : pass_mine q ≡ pass_mine p ++ coded n ∷ []
 
--- a volume wasn't in order where a call of a disk failed in its history
+-- a volume wasn't in order where the part that is told was down
 abbrev pub BreaksIn : Result (Unit {0}) DumpFault → List Noted → Type 0
 BreaksIn (Ok done) notes = Unit {0}
-BreaksIn (Err (DiskFault part)) notes = IsBroken notes
-BreaksIn (Err (Down part)) notes = IsBroken notes
+BreaksIn (Err (DiskFault part)) notes = WasDown part notes
+BreaksIn (Err (Down part)) notes = WasDown part notes
 BreaksIn (Err NoMemory) notes = Unit {0}
 
 -- A volume was looked at in one turn: by the manager that stood for the entries before it.

@@ -66,7 +66,7 @@ pub record TellsRefusal {D : Type 0} (tells : Bool) (state : D → State) (confi
   pub trouble : t.trouble ≡ Some (trouble_of fault)
   pub text : t.text ≡ trouble_line config number (trouble_of fault)
 
--- A volume a call of whose disks failed, with the line of a part: it had been opened, and a part of it came back with a fault.
+-- A volume a call of whose disks failed, with the line of a part: it had been opened, and that part of it came back with a fault.
 pub record TellsPart {D : Type 0} (tells : Bool) (config : Config) (out : List (Option (ImageRest D))) (old new : BayState) (number : ℕ) (t : Telling) : Type 0 where
   pub part : Part
   pub base : Base
@@ -74,6 +74,7 @@ pub record TellsPart {D : Type 0} (tells : Bool) (config : Config) (out : List (
   pub began : IsTrue tells → IfSome old.told (λ images. AreNamedApart images → IsBegun config (images_taken config out images) base)
   pub loggers_out : AllByRecursion (λ l. IsImageOut out l) base.view
   pub faulty : IsTrue tells → IsTold (HasFaultyPart tells config base.owner base.view) old.told new.told
+  pub came : IsTrue tells → IsTold (CameBackFaulty config part) old.told new.told
   pub rose : Rose old.faults new.faults
   pub trouble : t.trouble ≡ Some (trouble_of_part part)
   pub text : t.text ≡ trouble_line config number (trouble_of_part part)

@@ -1,5 +1,5 @@
 // A volume is looked at in one turn.
-ghost use Rattle.std.specs.Prelude.{◌≡◌, ◌⊎◌, ◌++◌, ◌∷◌, ℕ, List, [], length, Some, Err, IsTrue, IsSome, OnOk, OnErr};
+ghost use Rattle.std.specs.Prelude.{◌≡◌, ◌⊎◌, ◌++◌, ◌∷◌, ℕ, List, [], length, Some, Err, IsTrue, OnOk, OnErr};
 ghost use Rattle.turn_lock.specs.Passes.{pass_lock, pass_number, IsPassOf, IsFree, IsInTurn};
 ghost use Rattle.wol_config.specs.Configs.{IsValid};
 ghost use Rattle.wol_model.specs.History.{worker};
@@ -8,7 +8,7 @@ ghost use Rattle.manager.specs.Seen.{look_of_manager};
 ghost use Rattle.manager.specs.Stands.{Keeps, Stands, IsReady, IsHome, Leaves};
 ghost use Rattle.manager.specs.declared.base.ManagerBase.{ManagerBase};
 ghost use Rattle.manager.specs.declared.part.Part.{Part};
-ghost use Rattle.request_turns.specs.Turns.{notes_seen, HasLeft, IsBroken};
+ghost use Rattle.request_turns.specs.Turns.{notes_seen, HasLeft, WasDown};
 ghost use Rattle.log_dump.specs.Faults.{was_told};
 ghost use Rattle.log_dump.specs.Volumes.{IsVolumeOf};
 ghost use Rattle.report.specs.Names.{printed_names};
@@ -68,7 +68,7 @@ fn leave_told<D: Disk, N: Memo>(
     requires note { N.note ≡ note_told (pass_number pass.old) (was_told answer.now) (look_of_manager turn.value) }
     requires value { Stands D.tells D.state turn.value (pass_lock pass.old).base (notes_seen pass.old ++ N.note ∷ []) }
     ensures left { HasLeft D.tells (note_told (pass_number pass.old) (was_told answer.now) (look_of_manager turn.value)) pass.old pass.new }
-    ensures broken { IsSome turn.value.down → IsBroken (notes_seen pass.new) }
+    ensures broken { (p : Part) → turn.value.down ≡ Some p → WasDown p (notes_seen pass.new) }
 {
     let _ = answer;
     leave_noted::<D, N>(lock, turn, pass);

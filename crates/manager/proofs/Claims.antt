@@ -1,5 +1,5 @@
 -- What a write claimed.
-use Rattle.std.proofs.Common.{◌≡◌, ⊎_elim, ◌≤◌, ℕ, Bool, true, List, [], ◌∷◌, ◌++◌, map, Option, None, Some, Result, Ok, Err, OnOk, is_ok, refl, sym, ap, subst, ◌∙◌}
+use Rattle.std.proofs.Common.{◌≡◌, ⊎_elim, ℕ, Bool, List, [], ◌∷◌, ◌++◌, map, Option, None, Some, Result, Ok, Err, OnOk, sym, ap, ◌∙◌}
 use Rattle.std.specs.Prelude.{slice_get, slice_set, IsTrue, IsOk}
 use Rattle.std.specs.List.{AllZip}
 use Rattle.std.proofs.lemmas.Bool.{false≢true}
@@ -14,7 +14,7 @@ use Rattle.logger.specs.declared.lane.HeldSegment.{HeldSegment}
 use Rattle.logger.specs.declared.lane.Lane.{Lane}
 use Rattle.logger.specs.declared.lane.Spot.{Spot}
 use Rattle.manager.specs.Puts.{PutIn, to_held, to_new}
-use Rattle.manager.specs.Stops.{HoldNoMore, WasClaimed, TellsClaim}
+use Rattle.manager.specs.Stops.{HoldNoMore, TellsClaim}
 use Rattle.manager.proofs.Lanes.{get_set, get_other, map_set}
 use Rattle.manager.proofs.ReadThrough.{zip_get, zip_back}
 use Rattle.manager.proofs.ReadyLanes.{same_or_not}

@@ -1,5 +1,5 @@
 -- A record that was just written: all its blocks are kept, and its entry in the index is that of the promise.
-use Rattle.std.proofs.Common.{◌≡◌, ◌<◌, ◌≤◌, ◌+◌, ◌-◌, ◌^◌, ⊎_elim, ℕ, zero, suc, Bool, true, false, not, ◌&&◌, List, [], ◌∷◌, ◌++◌, map, length, refl, sym, ap, ◌∙◌, arith, eqb, leb, ltb, get_or, replicate}
+use Rattle.std.proofs.Common.{◌≡◌, ◌<◌, ◌≤◌, ◌+◌, ◌-◌, ◌^◌, ⊎_elim, ℕ, zero, suc, Bool, true, false, not, ◌&&◌, List, [], ◌∷◌, ◌++◌, map, Option, length, refl, sym, ap, ◌∙◌, arith, eqb, leb, ltb, get_or, replicate}
 use Rattle.std.specs.Prelude.{slice_set}
 use Rattle.std.specs.List.{range_with_len}
 use Rattle.std.proofs.lemmas.Bool.{leb-true, lt-ltb, le-ltb, cases_lt}
@@ -18,7 +18,7 @@ use Rattle.redirect_map.specs.Index.{entry_of, unhomed, cover_at}
 use Rattle.redirect_map.specs.Runs.{runs_after, runs_of}
 use Rattle.redirect_map.specs.declared.record.Rec.{Rec}
 use Rattle.wol_promise.specs.Manager.{Held}
-use Rattle.wol_promise.specs.Policy.{Look, placed, is_in}
+use Rattle.wol_promise.specs.Policy.{Look, PartName, placed, is_in}
 use Rattle.wol_promise.proofs.Index.{cleared, indexed_with}
 use Rattle.manager.specs.Answers.{log_write}
 
@@ -92,10 +92,10 @@ module _ (owner version lbn : ℕ) (from : List Block) where
       ∙ (λ i. map (cleared (extent_of r).cover.covers) es ++ record { listed = record { version = version; first = lbn; keep = marks_of (length from) (2 ^ length from - 1); lane = s.lane; homed = no_marks (length from) i }; index = s.index; pos = end_of s.records } ∷ [])
 
   -- and the look is that of a write placed there
-  pub look_so : (rec : Rec) (es : List Indexed) (home_up : Bool) (ups : List Bool) (lane segment pos : ℕ) → rec ≡ rec_at version lbn from lane segment pos
-      → (let l : Look = record { home_up = home_up; ups = slice_set ups lane true; next = version + 1; listed = listed_in (entered es rec) } in l)
-      ≡ placed (Log lane) (record { home_up = home_up; ups = ups; next = version; listed = listed_in es }) (log_write version lbn from)
-  look_so rec es home_up ups lane segment pos is = λ i. record { home_up = home_up; ups = slice_set ups lane true; next = version + 1; listed = (ap (λ (q : Rec). listed_in (entered es q)) is ∙ listed_then es ∙ marks) i }
+  pub look_so : (rec : Rec) (es : List Indexed) (home_up : Bool) (ups : List Bool) (down : Option PartName) (lane segment pos : ℕ) → rec ≡ rec_at version lbn from lane segment pos
+      → (let l : Look = record { home_up = home_up; ups = slice_set ups lane true; next = version + 1; listed = listed_in (entered es rec); down = down } in l)
+      ≡ placed (Log lane) (record { home_up = home_up; ups = ups; next = version; listed = listed_in es; down = down }) (log_write version lbn from)
+  look_so rec es home_up ups down lane segment pos is = λ i. record { home_up = home_up; ups = slice_set ups lane true; next = version + 1; listed = (ap (λ (q : Rec). listed_in (entered es q)) is ∙ listed_then es ∙ marks) i; down = down }
     where
       new : (keep homed : List Bool) → Listed
       new keep homed = record { version = version; first = lbn; keep = keep; lane = lane; homed = homed }

@@ -23,7 +23,7 @@ use Rattle.turn_lock.specs.LockIds.{LockId}
 use Rattle.turn_lock.specs.Passes.{pass_mine, pass_number}
 use Rattle.seg_pool.specs.declared.base.PoolBase.{PoolBase}
 use Rattle.log_segment.specs.Records.{new_record}
-use Rattle.log_segment.specs.Segment.{IsWhole, Holds, blocks_of, valid_of, free_part}
+use Rattle.log_segment.specs.Segment.{IsWhole, Holds, blocks_of, valid_of}
 use Rattle.log_segment.specs.declared.free.FreeSegment.{FreeSegment}
 use Rattle.redirect_map.specs.Index.{Contents, entry_of, unhomed, cover_at}
 use Rattle.redirect_map.specs.declared.record.Rec.{Rec}
@@ -298,7 +298,7 @@ module _ {D : Type 0} (state : D → State) (m : Manager D) (k : ℕ) (old new :
       (b : ManagerBase) (notes : List Noted) (nt : Noted) (client : nt.entry.pass ≡ worker) (kp : Keeps tells state m b notes) where
     -- answered
     module _ (spot : Spot) (rec : Rec) (rec_is : rec ≡ rec_at m.next lbn from k spot.segment spot.pos) (wrote : nt.entry.operation ≡ Wrote (log_write m.next lbn from ∷ [])) (step : IsTrue nt.ruled → IsStep nt nt.entry.pass nt.entry.operation (last_look b.volume.began.look notes) nt.look)
-        (look : nt.look ≡ (let l : Look = record { home_up = m.home_up; ups = slice_set m.ups.items k true; next = m.next + 1; listed = listed_in (entered m.index.entries rec) } in l)) where
+        (look : nt.look ≡ (let l : Look = record { home_up = m.home_up; ups = slice_set m.ups.items k true; next = m.next + 1; listed = listed_in (entered m.index.entries rec); down = down_of m.down } in l)) where
       written_pieces : PutIn state old new (length from) (r ∷ []) (Ok spot) → Pieces tells state m b (notes ++ nt ∷ []) (slice_set m.lanes.items k new) (entered m.index.entries rec) (m.next + 1) (slice_set m.ups.items k true) m.down
       written_pieces (to_held i o n at space held grown is) = put_written tells state m b notes kp up k old new lane is_lane same i o n at held grown.index lbn from count.0 fits nt client untaken space room grown.ok grown.whole
           (all_at (λ (h : HeldSegment D). IsWhole h.segment) (held_in old) i o at was_whole) rec (rec_is ∙ (λ j. rec_at m.next lbn from k (is.0 j) (is.1 j))) wrote step look
@@ -312,7 +312,7 @@ module _ {D : Type 0} (state : D → State) (m : Manager D) (k : ℕ) (old new :
       stands_written put v index ups lanes entries flags is_ready passed = stands_so tells b notes nt kp v index (m.next + 1) ups m.down lanes (taken_same old new took)
           (subst (λ (u : List Bool). Pieces tells state m b (notes ++ nt ∷ []) (slice_set m.lanes.items k new) index.entries (m.next + 1) u m.down) (sym flags)
           (subst (λ (es : List Indexed). Pieces tells state m b (notes ++ nt ∷ []) (slice_set m.lanes.items k new) es (m.next + 1) (slice_set m.ups.items k true) m.down) (sym entries) (written_pieces put)))
-          is_ready passed (look ∙ (λ j. record { home_up = m.home_up; ups = sym flags j; next = m.next + 1; listed = listed_in (sym entries j) }))
+          is_ready passed (look ∙ (λ j. record { home_up = m.home_up; ups = sym flags j; next = m.next + 1; listed = listed_in (sym entries j); down = down_of m.down }))
 
     -- a call failed
     module _ (refusal : ℕ × Failed) (broke : nt.entry.operation ≡ Broke (log_write m.next lbn from ∷ [])) (unruled : nt.after_drain ≡ false) where
@@ -323,7 +323,7 @@ module _ {D : Type 0} (state : D → State) (m : Manager D) (k : ℕ) (old new :
           (claim_failed tells state m b notes kp up k old new lane is_lane same untaken n held lbn from count.0 count.1 fits nt client sound f (λ t. claimed.any_moment (told t f.part.inner).0 (told t f.part.inner).1) claimed.broken claimed.cause broke unruled)
 
       pub stands_failed : PutIn state old new (length from) (r ∷ []) (Err refusal) → (v : Vec (Lane D) Global) → v.items ≡ slice_set m.lanes.items k new
-          → IsReady state (record m { lanes = v; down = Some (part.Segment (logger_of old) refusal.0) }) → HasPassed (nones_at v.items b.lanes) (notes ++ nt ∷ []) → nt.look ≡ look_of_manager m
+          → IsReady state (record m { lanes = v; down = Some (part.Segment (logger_of old) refusal.0) }) → HasPassed (nones_at v.items b.lanes) (notes ++ nt ∷ []) → nt.look ≡ look_of_manager (record m { down = Some (part.Segment (logger_of old) refusal.0) })
           → Stands tells state (record m { lanes = v; down = Some (part.Segment (logger_of old) refusal.0) }) b (notes ++ nt ∷ [])
       stands_failed put v lanes is_ready passed look = stands_so tells b notes nt kp v m.index m.next m.ups.items (Some (part.Segment (logger_of old) refusal.0)) lanes (taken_same old new took) (failed_pieces put) is_ready passed look
 

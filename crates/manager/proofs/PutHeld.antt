@@ -113,7 +113,7 @@ module _ {D : Type 0} (tells : Bool) (state : D → State) (m : Manager D) (b : 
     module _ (space : length from ≤ room_of o.segment) (next_room : m.next < 2 ^ 63) (ok : (rs : List Record) → Holds state o.segment rs → Holds state n.segment (rs ++ r ∷ [])) (whole : IsWhole n.segment) (was_whole : IsWhole o.segment)
         (rec : Rec) (rec_is : rec ≡ rec_at m.next lbn from k o.index (place_of o.segment)) (wrote : nt.entry.operation ≡ Wrote (log_write m.next lbn from ∷ []))
         (step : IsTrue nt.ruled → IsStep nt nt.entry.pass nt.entry.operation (last_look b.volume.began.look notes) nt.look)
-        (look : nt.look ≡ (let l : Look = record { home_up = m.home_up; ups = slice_set m.ups.items k true; next = m.next + 1; listed = listed_in (entered m.index.entries rec) } in l)) where
+        (look : nt.look ≡ (let l : Look = record { home_up = m.home_up; ups = slice_set m.ups.items k true; next = m.next + 1; listed = listed_in (entered m.index.entries rec); down = down_of m.down } in l)) where
       abbrev s : Held (Spun D)
       s = held_as k o ending.records
 
@@ -132,7 +132,7 @@ module _ {D : Type 0} (tells : Bool) (state : D → State) (m : Manager D) (b : 
           (λ bs is. subst (λ (v : ℕ). IsLog bs v (ending.records ++ r ∷ [])) owned (image_is_log state n.segment (ending.records ++ r ∷ []) bs (ok ending.records (ending.holds is.0)) is.1))
           (new_valid (lane_owner old) m.next lbn from some) next_room (is_up tells state m b notes kp up) wrote
           (let e = ending.ends in let w = was_held.shape.size in let z = size in omega arith)
-          step (look ∙ (λ j. record { home_up = m.home_up; ups = slice_set m.ups.items k true; next = m.next + 1; listed = listed_in (indexed_is j) }))
+          step (look ∙ (λ j. record { home_up = m.home_up; ups = slice_set m.ups.items k true; next = m.next + 1; listed = listed_in (indexed_is j); down = down_of m.down }))
 
       abbrev now_seen : ManagerSeen (Spun D)
       now_seen = record { home = m.home; held = all_held 0 (slice_set m.lanes.items k new) (split.lists (ending.records ++ r ∷ [])); taken = all_taken 0 (slice_set m.lanes.items k new); indexed = entered m.index.entries rec; next = m.next + 1; home_up = m.home_up; ups = slice_set m.ups.items k true; down = down_of m.down }

@@ -131,7 +131,7 @@ module _ {D : Type 0} (tells : Bool) (state : D → State) (m : Manager D) (b : 
     module _ (next_room : m.next < 2 ^ 63) (claimed : IsTrue tells → (s : Segment D) × IsSegment state s × IsSame s n.segment × Holds state s []) (ok : IsTrue tells → Holds state n.segment (r ∷ [])) (whole : IsWhole n.segment)
         (rec : Rec) (rec_is : rec ≡ rec_at m.next lbn from k n.index 1) (wrote : nt.entry.operation ≡ Wrote (log_write m.next lbn from ∷ []))
         (step : IsTrue nt.ruled → IsStep nt nt.entry.pass nt.entry.operation (last_look b.volume.began.look notes) nt.look)
-        (look : nt.look ≡ (let l : Look = record { home_up = m.home_up; ups = slice_set m.ups.items k true; next = m.next + 1; listed = listed_in (entered m.index.entries rec) } in l)) where
+        (look : nt.look ≡ (let l : Look = record { home_up = m.home_up; ups = slice_set m.ups.items k true; next = m.next + 1; listed = listed_in (entered m.index.entries rec); down = down_of m.down } in l)) where
       -- the part between its claim and its record, or any where content isn't told
       record Claim : Type 0 where
         part_ : Spun D
@@ -170,7 +170,7 @@ module _ {D : Type 0} (tells : Bool) (state : D → State) (m : Manager D) (b : 
           claim.part_ (part_of n.segment) (by false claim.part_ (sym claim.size) (sym claim.lies_on) (λ bs is. says_owner b.volume.began.owner bs [] (claim.logs bs is))) claim.size claim.lies_on claim.logs
           (λ bs is. subst (λ (v : ℕ). IsLog bs v (r ∷ [])) owned (image_is_log state n.segment (r ∷ []) bs (ok is.0) is.1))
           (new_valid (lane_owner old) m.next lbn from some) next_room wrote (let l = long in let w = kp.locks.most_ in omega arith)
-          step (look ∙ (λ j. record { home_up = m.home_up; ups = slice_set m.ups.items k true; next = m.next + 1; listed = listed_in (indexed_is j) }))
+          step (look ∙ (λ j. record { home_up = m.home_up; ups = slice_set m.ups.items k true; next = m.next + 1; listed = listed_in (indexed_is j); down = down_of m.down }))
 
       abbrev then_seen : ManagerSeen (Spun D)
       then_seen = record { home = m.home; held = all_held 0 (slice_set m.lanes.items k new) (ends.lists (r ∷ [])); taken = all_taken 0 (slice_set m.lanes.items k new); indexed = entered m.index.entries rec; next = m.next + 1; home_up = m.home_up; ups = slice_set m.ups.items k true; down = down_of m.down }

@@ -20,7 +20,7 @@ use Rattle.logger.specs.Lanes.{HasUsed, spindle_of}
 use Rattle.logger.specs.declared.lane.Lane.{Lane}
 use Rattle.manager.specs.Answers.{home_write}
 use Rattle.manager.specs.Causes.{PartRoseOrClaimed, NoneRose}
-use Rattle.manager.specs.Seen.{all_held, look_of_manager}
+use Rattle.manager.specs.Seen.{all_held, down_of, look_of_manager}
 use Rattle.manager.specs.Stands.{Keeps, Stands, IsReady, IsNote, passed_in}
 use Rattle.manager.specs.Stops.{ImageSince, HeldSince, Stops}
 use Rattle.manager.specs.Writing.{HasAnswered, HaveAnswered, HasLook, NeedsLogs, TellsFault, IsUntouched, ruled_place, takes_at}
@@ -83,7 +83,7 @@ module _ {D : Type 0} (tells : Bool) (state : D → State) (old : Manager D) (ro
 
   module _ (new : Manager D) (r : Result Place WriteRefusal) (first : ℕ) (blocks : List Block) where
     same_look : look_of_manager (record old { rooms = record { items = rooms }; index = index }) ≡ look_of_manager old
-    same_look = λ i. record { home_up = old.home_up; ups = old.ups.items; next = old.next; listed = listed_in (entries i) }
+    same_look = λ i. record { home_up = old.home_up; ups = old.ups.items; next = old.next; listed = listed_in (entries i); down = down_of old.down }
 
     same_rule : ruled_place (record old { rooms = record { items = rooms }; index = index }) new first blocks ≡ ruled_place old new first blocks
     same_rule = ap (λ (l : Look). place_of (passed_in new.rooms.items) l (home_write first blocks)) same_look

@@ -220,7 +220,7 @@ module _ {D : Type 0} (tells : Bool) (state : D → State) (m : Manager D) (b : 
     }
 
     -- a disk call failed
-    pub put_fails : (n : Noted) → IsNote (last_look b.volume.began.look notes) (Broke []) [] (look_of_manager (record m { home_up = true })) n
+    pub put_fails : (n : Noted) → IsNote (last_look b.volume.began.look notes) (Broke []) [] (look_of_manager (record m { home_up = true; down = Some (Home m.id) })) n
         → ((c : List Block) → IsImageOf (state_of state part).values c → IsPartlyPut (state_of state m.home).values (put_block e.listed.first mask blocks) c) → Rose (state_of state m.home).faults (state_of state part).faults
         → IsReady state (record m { home = part; spindle = spindle; home_up = true; down = Some (Home m.id) })
         → Stands tells state (record m { home = part; spindle = spindle; home_up = true; down = Some (Home m.id) }) b (notes ++ n ∷ [])

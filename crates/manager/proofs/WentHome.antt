@@ -145,7 +145,7 @@ module _ {D : Type 0} (tells : Bool) (state : D → State) (m : Manager D) (b : 
     }
 
     -- a disk call failed
-    pub home_fails : (ps : List ℕ) → IsNote (last_look b.volume.began.look notes) (Broke (home_write first blocks ∷ [])) ps (look_of_manager (record m { home_up = true })) n
+    pub home_fails : (ps : List ℕ) → IsNote (last_look b.volume.began.look notes) (Broke (home_write first blocks ∷ [])) ps (look_of_manager (record m { home_up = true; down = Some (Home m.id) })) n
         → ((c : List Block) → IsImageOf (state_of state part).values c → IsTornFrom (state_of state m.home).values first blocks c) → Rose (state_of state m.home).faults (state_of state part).faults
         → IsReady state (record m { home = part; spindle = spindle; home_up = true; down = Some (Home m.id) })
         → Stands tells state (record m { home = part; spindle = spindle; home_up = true; down = Some (Home m.id) }) b (notes ++ n ∷ [])

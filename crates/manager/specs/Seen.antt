@@ -92,6 +92,6 @@ seen m logs = record {
   down = down_of m.down;
 }
 
--- its look: flags, next version and listed records
+-- its look: flags, next version and listed records, and the part at which a call failed
 abbrev pub look_of_manager : {D : Type 0} → Manager D → Look
 look_of_manager m = look_of (seen m [])

@@ -190,6 +190,7 @@ module _ {D : Type 0} (tells : Bool) (state : D → State) (shared : Shared D) (
   is_opening = record {
     home_up = refl;
     ups = all_replicate (λ up. up ≡ true) (length lanes.items) true refl;
+    up = refl;
     lanes = long-replicate (length lanes.items) true ∙ (sym (long-map logger_of lanes.items) ∙ ap length c.loggers);
     next = refl;
     rising = subst AreRising (sym (listed_versions r.index.entries)) c.rising;

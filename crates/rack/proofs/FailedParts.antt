@@ -57,6 +57,20 @@ part_failed tells state config old new r count refused failed k p at =
 pub gained_parts : {D : Type 0} (state : D → State) (config : Config) (r : Rest D) (o n : Option Told) → IsTold (ListsFaulty state config r) o n → IsTold HasFaulty o n
 gained_parts state config r o n = told_each (ListsFaulty state config r) HasFaulty o n (λ x y l. (l.more, l.more_is))
 
+-- a part that came back with a fault since opening did so since entry
+pub came_back_since : (config : Config) (p : Part) (e o n : Option Told) → IsTold (λ x y. AreNamedApart y) e o → IsTold HasFaulty e o → IsTold (CameBackFaulty config p) o n → IsTold (CameBackFaulty config p) e n
+came_back_since config p None None n named had came = came
+came_back_since config p None (Some o) n named had came = absurd (cc named)
+came_back_since config p (Some e) None n named had came = absurd named
+came_back_since config p (Some e) (Some o) None named had came = absurd came
+came_back_since config p (Some e) (Some o) (Some n) named had came = λ apart.
+    let before = had apart in
+    let then = came (named apart) in (
+      before.0 ++ then.0,
+      then.1 ∙ ap (λ (fs : List (Name × ℕ)). fs ++ then.0) before.1 ∙ append_assoc e.faulty before.0 then.0,
+      (then.2.0, then.2.1, Contains-append_right before.0 then.0 (then.2.0.name, place_in p) then.2.2),
+    )
+
 -- a part of this image that failed came back with a fault
 image_part : (config : Config) (k : ℕ) (p : Part) (v : VolumeConf) (f : ImageFault) (old new : Told) → slice_get config.volumes.items k ≡ Some v → Refused (DiskFault p) ≡ fault_in_image k f → HasNewFault v.name f old new → CameBackFaulty config p old new
 image_part config k p v (fault.Damaged block) old new at e has = absurd (cc e)

@@ -1,7 +1,7 @@
 -- A volume that was closed: its entries, and the parts that had a fault.
 use Rattle.std.proofs.Common.{◌≡◌, ◌≢◌, ◌<◌, ◌≤◌, ◌+◌, ◌⊎◌, inl, inr, ℕ, Bool, true, List, [], ◌∷◌, length, Option, Some, None, is_some, refl, sym, ap, ◌∙◌, subst, arith}
 use Rattle.std.specs.Prelude.{Contains, IsTrue, slice_get}
-use Rattle.std.proofs.lemmas.Option.{slice_get-get_or}
+use Rattle.std.proofs.lemmas.Option.{same_Some, slice_get-get_or}
 use Rattle.std.proofs.lemmas.List.Elements.{All-from_recursion}
 use Rattle.wol_disk.specs.Disk.{Block, State, Rose, IsDisk, TellsContent, IsImageOf}
 use Rattle.wol_model.specs.Blocks.{Write}
@@ -9,6 +9,7 @@ use Rattle.wol_model.specs.Heads.{Shape}
 use Rattle.wol_model.specs.History.{flight_of}
 use Rattle.wol_model.specs.Images.{segment_of}
 use Rattle.wol_promise.specs.Manager.{PartName, HomePart, SegmentPart, Held, IsPartOf, SaysOwnerOrFree}
+use Rattle.wol_promise.specs.Policy.{Look}
 use Rattle.wol_promise.specs.Ruled.{entries_of}
 use Rattle.wol_promise.specs.Stands.{IsHeldBy}
 use Rattle.wol_bay.specs.Bay.{Told, BayState}
@@ -16,7 +17,7 @@ use Rattle.wol_bay.specs.Parts.{faulty_places}
 use Rattle.wol_config.specs.declared.config.Config.{Config}
 use Rattle.turn_lock.specs.Passes.{lock_id, pass_number}
 use Rattle.turn_lock.specs.declared.lock.TurnLock.{TurnLock}
-use Rattle.spin_model.specs.Spun.{state_of}
+use Rattle.spin_model.specs.Spun.{state_of, volume_of}
 use Rattle.spin_model.specs.declared.spun.Spun.{Spun}
 use Rattle.seg_pool.specs.declared.base.PoolBase.{PoolBase}
 use Rattle.seg_pool.specs.declared.pool.Pool.{Pool}
@@ -34,7 +35,7 @@ use Rattle.rack.specs.Rests.{image_here, segment_here, IsRest}
 use Rattle.rack.specs.Racks.{IsClosable, base_of_station}
 use Rattle.rack.specs.Parts.{IsTogether}
 use Rattle.rack.specs.Closing.{Closing, IsClosing, ClosesStations, RefillsAll, KeepsSpindles, GivesBack, HasFaultHere}
-use Rattle.rack.specs.Closes.{RecoversTo, IsClosedVolume, HasFaultyPart, SaysOwnerIn, LeavesNoLog}
+use Rattle.rack.specs.Closes.{RecoversTo, IsClosedVolume, HasFaultyPart, CameBackFaulty, SaysOwnerIn, LeavesNoLog, part_named, place_in, volume_in}
 use Rattle.rack.specs.declared.rack.ImageRest.{ImageRest}
 use Rattle.rack.specs.declared.rack.Rack.{Rack}
 use Rattle.rack.specs.declared.rack.Rest.{Rest}
@@ -71,14 +72,16 @@ module _ {D : Type 0} (state : D → State) (tells : Bool) (config : Config) (b 
       pub part_is : segment_here image index ≡ Some part
       pub says : IsTrue tells → (bs : List Block) → IsImageOf (state_of state part).values bs → SaysOwnerOrFree s.id bs
 
-    -- a part of the volume that had a fault, and its place in its image
-    pub record IsFaulty : Type 0 where
+    -- the part of this name, which had a fault, and its place in its image
+    pub record IsFaulty (name : PartName) : Type 0 where
       pub volume : ℕ
       pub image : ImageRest D
       pub here : image_here second.images.items volume ≡ Some image
       pub place : ℕ
       pub among : (disks : List D) → IsTogether image disks → Contains (faulty_places state disks) place
       pub of_volume : ((volume ≡ s.id) × (place ≡ 1)) ⊎ IsOfLane volume image place
+      pub in_volume : volume_in (part_named s.id name) ≡ volume
+      pub at_place : place_in (part_named s.id name) ≡ place
 
     -- a segment of a lane says the owner or free
     says_owner : IsTrue tells → (l : Lane D) (h : HeldSegment D) → Contains c.manager.lanes.items l → Contains (held_in l) h → (bs : List Block) → IsImageOf (state_of state (part_of h.segment)).values bs → SaysOwnerOrFree s.id bs
@@ -89,9 +92,9 @@ module _ {D : Type 0} (state : D → State) (tells : Bool) (config : Config) (b 
         (λ i rs broken x. x.owned bs (told, is_image)))
 
     abbrev in_lane : Held (Spun D) → Type 0
-    in_lane h = (l : Lane D) × (g : HeldSegment D) × Contains c.manager.lanes.items l × Contains (held_in l) g × (part_of g.segment ≡ h.part)
+    in_lane h = (l : Lane D) × (g : HeldSegment D) × Contains c.manager.lanes.items l × Contains (held_in l) g × (part_of g.segment ≡ h.part) × (g.index ≡ h.index)
 
-    named : (name : PartName) (p : Spun D) → IsPartOf (base_of_station s).volume.began.view (seen c.manager ic.stands.keeps.logs) name p → 0 < (state_of state p).faults → IsFaulty
+    named : (name : PartName) (p : Spun D) → IsPartOf (base_of_station s).volume.began.view (seen c.manager ic.stands.keeps.logs) name p → 0 < (state_of state p).faults → IsFaulty name
     named HomePart p home fault =
         let q = home_there state tells config b r can first second is closed filled kept n s c s_at ic in
         record {
@@ -101,12 +104,17 @@ module _ {D : Type 0} (state : D → State) (tells : Bool) (config : Config) (b 
           place = 1;
           among = λ disks together. home_fault state q.0 disks together p (q.2 ∙ ap (λ (x : Spun D). Some x) home) fault;
           of_volume = inl ((is_station state tells config b r can first second is closed filled kept n s s_at).id, refl);
+          in_volume = sym (is_station state tells config b r can first second is closed filled kept n s s_at).id;
+          at_place = refl;
         }
     named (SegmentPart logger index) p held fault =
-        let all = each_held in_lane 0 c.manager.lanes.items ic.stands.keeps.logs (λ i l g rs broken in_lanes in_held. (l, g, in_lanes, in_held, refl)) in
+        let all = each_held in_lane 0 c.manager.lanes.items ic.stands.keeps.logs (λ i l g rs broken in_lanes in_held. (l, g, in_lanes, in_held, refl, refl)) in
         let x = of_recursion in_lane (all_held 0 c.manager.lanes.items ic.stands.keeps.logs) held.0 all held.1 in
         let t = lane_there state tells config b r can first second is closed filled kept n s c s_at ic x.0 x.1 x.2 x.3 in
         let part : part_of x.1.segment ≡ p = x.4 ∙ held.4 in
+        let places = ic.stands.keeps.upholds.places in
+        let by = of_recursion (IsHeldBy (parts_of tells state) (base_of_station s).volume.began) (all_held 0 c.manager.lanes.items ic.stands.keeps.logs) held.0 places.each held.1 in
+        let lies : logger ≡ volume_of held.0.part = same_Some logger (volume_of held.0.part) (sym held.2 ∙ by.logger) in
         record {
           volume = logger_of x.0;
           image = t.1;
@@ -121,22 +129,25 @@ module _ {D : Type 0} (state : D → State) (tells : Bool) (config : Config) (b 
             part_is = t.3;
             says = λ told. says_owner told x.0 x.1 x.2 x.3;
           });
+          in_volume = lies ∙ ap (λ (q : Spun D). volume_of q) (sym x.4) ∙ t.0;
+          at_place = ap (λ (i : ℕ). 2 + i) (sym held.3 ∙ sym x.5);
         }
 
-    pub broken : (flight_of (entries_of (notes_of c.entries)) ≡ None → ⊥) → IsFaulty
+    -- where a call failed, the part that is down
+    pub broken : (flight_of (entries_of (notes_of c.entries)) ≡ None → ⊥) → (name : PartName) × (down_of c.manager.down ≡ Some name) × IsFaulty name
     broken broke =
         let u = ic.stands.keeps.upholds in
         let name = a_value (down_of c.manager.down) (u.is_down ∙ some (flight_of (entries_of (notes_of c.entries))) refl) in
         let p = u.failed name.0 name.1 in
-        named name.0 p.0 p.1 p.2
+        (name.0, name.1, named name.0 p.0 p.1 p.2)
       where
         some : (o : Option (List Write)) → flight_of (entries_of (notes_of c.entries)) ≡ o → is_some (flight_of (entries_of (notes_of c.entries))) ≡ true
         some None e = absurd (broke e)
         some (Some ws) e = ap is_some e
 
     pub faulty_part : ((told : IsTrue tells) → (d : D) → TellsContent (state d)) → ((d : D) → IsDisk (state d)) → length (shapes_of config) ≤ 64
-        → (old new : Told) → GivesBack state config second.images.items 0 old new → IsFaulty → HasFaultyPart tells config s.id (base_of_station s).volume.began.view old new
-    faulty_part tell_all sound few old new given part =
+        → (old new : Told) → GivesBack state config second.images.items 0 old new → (name : PartName) → IsFaulty name → HasFaultyPart tells config s.id (base_of_station s).volume.began.view old new
+    faulty_part tell_all sound few old new given name part =
         let z = shape_of_image state tells config b r can first second is closed filled kept part.volume part.image part.here in
         let v = volume_at config part.volume z.0 z.1 in
         let back = given.back part.volume v.0 part.image (omega arith) v.1 part.here in
@@ -151,6 +162,20 @@ module _ {D : Type 0} (state : D → State) (tells : Bool) (config : Config) (b 
             → ((part.volume ≡ s.id) × (part.place ≡ 1)) ⊎ (Contains (base_of_station s).volume.began.view part.volume × (index : ℕ) × (part.place ≡ 2 + index) × (IsTrue tells → SaysOwnerIn config s.id new part.volume y index))
         of (inl home) z at same = inl home
         of (inr lane) z at same = inr (lane.in_view, lane.index, lane.place_is, λ told. subst (λ (y : Shape). SaysOwnerIn config s.id new part.volume y lane.index) (sym same) (left_of lane z at told))
+
+    pub came_back : (old new : Told) → GivesBack state config second.images.items 0 old new → (name : PartName) → IsFaulty name → CameBackFaulty config (part_named s.id name) old new
+    came_back old new given name part =
+        let z = shape_of_image state tells config b r can first second is closed filled kept part.volume part.image part.here in
+        let v = volume_at config part.volume z.0 z.1 in
+        let back = given.back part.volume v.0 part.image (omega arith) v.1 part.here in (
+          given.more,
+          given.faulty,
+          (
+            v.0,
+            ap (λ (k : ℕ). slice_get config.volumes.items k) part.in_volume ∙ v.1,
+            subst (λ (k : ℕ). Contains given.more (v.0.name, k)) (sym part.at_place) (back.faulty part.place (part.among back.disks back.together)),
+          ),
+        )
 
     pub recovers : (told : IsTrue tells) → ((d : D) → TellsContent (state d)) → ((d : D) → IsDisk (state d)) → length (shapes_of config) ≤ 64 → (old new : Told) → GivesBack state config second.images.items 0 old new
         → RecoversTo config r.rest.images.items s c.entries new
@@ -187,8 +212,14 @@ module _ {D : Type 0} (state : D → State) (tells : Bool) (config : Config) (b 
               (λ e. w (sym e ∙ station.worker_.number_is), (λ e. h (sym e ∙ station.helper_.number_is), (λ e. k (sym e ∙ station.keeper_.number_is), tt))));
           opening = c.2.stands.keeps.upholds.began;
           history = c.2.stands.keeps.upholds.history;
-          cause = λ broke. let part = broken has.0 s c.0 at c.1 c.2 broke in cause (fault_here part.volume part.place part.image part.here part.among);
-          faulty = λ broke. told_map (GivesBack state config second.images.items 0) (HasFaultyPart tells config s.id (base_of_station s).volume.began.view) x.told y.told given (λ old new back. faulty_part has.0 s c.0 at c.1 c.2 tell_all sound few old new back (broken has.0 s c.0 at c.1 c.2 broke));
+          cause = λ broke. let part = (broken has.0 s c.0 at c.1 c.2 broke).2 in cause (fault_here part.volume part.place part.image part.here part.among);
+          faulty = λ broke. told_map (GivesBack state config second.images.items 0) (HasFaultyPart tells config s.id (base_of_station s).volume.began.view) x.told y.told given (λ old new back. let b = broken has.0 s c.0 at c.1 c.2 broke in faulty_part has.0 s c.0 at c.1 c.2 tell_all sound few old new back b.0 b.2);
+          named = λ broke.
+              let b = broken has.0 s c.0 at c.1 c.2 broke in (
+                b.0,
+                ap (λ (l : Look). l.down) c.2.stands.look ∙ b.1,
+                told_map (GivesBack state config second.images.items 0) (CameBackFaulty config (part_named s.id b.0)) x.told y.told given (λ old new back. came_back has.0 s c.0 at c.1 c.2 old new back b.0 b.2),
+              );
           recovers = λ told. told_map (GivesBack state config second.images.items 0) (λ o n. RecoversTo config r.rest.images.items s c.0.entries n) x.told y.told given (λ old new back. recovers has.0 s c.0 at c.1 c.2 told (tell_all told) sound few old new back);
           emptied = λ told up none. told_map (GivesBack state config second.images.items 0) (λ o n. LeavesNoLog config r.rest.images.items s.id n) x.told y.told given
               (λ old new back. λ images left. no_log_left state tells told (tell_all told) sound config few b r can first second is closed filled kept old new back images left has.0 s c.0 at c.1 c.2 up none);

@@ -11,6 +11,7 @@ use Rattle.wol_model.specs.Index.{AreRising, Listed, cover_of}
 use Rattle.wol_model.specs.Log.{Record, IsLog, IsIdle, extent_of}
 use Rattle.wol_model.specs.Recovered.{extents_of}
 use Rattle.wol_promise.specs.Manager.{SaysOwnerOrFree}
+use Rattle.wol_promise.specs.Policy.{PartName, HomePart, SegmentPart}
 use Rattle.wol_promise.specs.Ruled.{entries_of, last_look}
 use Rattle.wol_promise.specs.Stands.{HasHistory, IsOpening}
 use Rattle.wol_bay.specs.Bay.{Name, Told, BayState}
@@ -87,6 +88,28 @@ module _ {D : Type 0} where
   IsQuiet s =
       ((in_flight (pass_mine s.worker) ≡ []) × (in_flight (pass_mine s.helper) ≡ []) × (in_flight (pass_mine s.keeper) ≡ [])) × ((writes (entries_of (notes_of (pass_mine s.worker))) ≡ []) × (writes (entries_of (notes_of (pass_mine s.helper))) ≡ []) × (writes (entries_of (notes_of (pass_mine s.keeper))) ≡ []))
 
+-- the volume in whose image a part lies, and its place among the parts of that image
+abbrev pub volume_in : Part → ℕ
+volume_in (Home volume) = volume
+volume_in (Segment volume index) = volume
+
+abbrev pub place_in : Part → ℕ
+place_in (Home volume) = 1
+place_in (Segment volume index) = 2 + index
+
+-- the part is one of these of images
+abbrev pub IsFaultyPart : Config → Part → List (Name × ℕ) → Type 0
+IsFaultyPart config name parts = (v : VolumeConf) × (slice_get config.volumes.items (volume_in name) ≡ Some v) × Contains parts (v.name, place_in name)
+
+-- since the first it came back with a fault
+abbrev pub CameBackFaulty : Config → Part → (old new : Told) → Type 0
+CameBackFaulty config name old new = (more : List (Name × ℕ)) × (new.faulty ≡ old.faulty ++ more) × IsFaultyPart config name more
+
+-- the part of volume v that has this name
+abbrev pub part_named : (v : ℕ) → PartName → Part
+part_named v HomePart = Home v
+part_named v (SegmentPart logger index) = Segment logger index
+
 -- whatever images a crash leaves, segment `index` of that of the volume says this owner or free
 abbrev pub SaysOwnerIn : Config → (owner : ℕ) → Told → (volume : ℕ) → Shape → (index : ℕ) → Type 0
 SaysOwnerIn config owner new volume s index = (images : Images) → AreLeft config new images → (c : List Block) × (image_of images volume ≡ Some c) × SaysOwnerOrFree owner (segment_of s c index)
@@ -162,6 +185,9 @@ pub record IsClosedVolume {D : Type 0} (tells : Bool) (config : Config) (out : L
   -- a failed call has its cause
   pub cause : (flight_of (entries_of (notes_of entries)) ≡ None → ⊥) → Rose old.faults new.faults
   pub faulty : (flight_of (entries_of (notes_of entries)) ≡ None → ⊥) → IsTold (HasFaultyPart tells config s.id (base_of_station s).volume.began.view) old.told new.told
+  -- the part that is down at the end came back with a fault
+  pub named : (flight_of (entries_of (notes_of entries)) ≡ None → ⊥)
+      → (name : PartName) × ((last_look (base_of_station s).volume.began.look (notes_of entries)).down ≡ Some name) × IsTold (CameBackFaulty config (part_named s.id name)) old.told new.told
   pub recovers : IsTrue tells → IsTold (λ o n. RecoversTo config out s entries n) old.told new.told
   -- where no call failed and the last look lists no record, no log of the volume is left
   pub emptied : IsTrue tells → flight_of (entries_of (notes_of entries)) ≡ None → (last_look (base_of_station s).volume.began.look (notes_of entries)).listed ≡ []
@@ -192,15 +218,6 @@ module _ {D : Type 0} where
     pub here : IsPartHere r part
     pub fault : 0 < (state_of state part).faults
 
--- the volume in whose image a part lies, and its place among the parts of that image
-abbrev pub volume_in : Part → ℕ
-volume_in (Home volume) = volume
-volume_in (Segment volume index) = volume
-
-abbrev pub place_in : Part → ℕ
-place_in (Home volume) = 1
-place_in (Segment volume index) = 2 + index
-
 -- the part of this name is here
 abbrev pub IsNamedHere : {D : Type 0} → Rest D → Part → Spun D → Type 0
 IsNamedHere {D} r (Home volume) p = (image : ImageRest D) × (image_here r.images.items volume ≡ Some image) × (image.home ≡ Some p)
@@ -211,14 +228,6 @@ pub record HasFaultAt {D : Type 0} (state : D → State) (r : Rest D) (name : Pa
   pub part : Spun D
   pub here : IsNamedHere r name part
   pub fault : 0 < (state_of state part).faults
-
--- the part is one of these of images
-abbrev pub IsFaultyPart : Config → Part → List (Name × ℕ) → Type 0
-IsFaultyPart config name parts = (v : VolumeConf) × (slice_get config.volumes.items (volume_in name) ≡ Some v) × Contains parts (v.name, place_in name)
-
--- since the first it came back with a fault
-abbrev pub CameBackFaulty : Config → Part → (old new : Told) → Type 0
-CameBackFaulty config name old new = (more : List (Name × ℕ)) × (new.faulty ≡ old.faulty ++ more) × IsFaultyPart config name more
 
 -- the parts that came back with a fault since the first, and among them each of these that had one
 pub record ListsFaulty {D : Type 0} (state : D → State) (config : Config) (r : Rest D) (old new : Told) : Type 0 where

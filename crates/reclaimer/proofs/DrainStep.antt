@@ -17,10 +17,11 @@ use Rattle.redirect_map.specs.Index.{Contents, entry_at, changed, HasVersion, Is
 use Rattle.redirect_map.specs.Masks.{IsMask, in_mask}
 use Rattle.redirect_map.specs.declared.record.Rec.{Rec}
 use Rattle.garbage_list.specs.Least.{HasLane}
-use Rattle.manager.specs.Reclaim.{OnTried, TellsStep, HasFetched, HasDropped, with_kept, with_put, given_of}
-use Rattle.manager.specs.Seen.{look_of_manager}
+use Rattle.manager.specs.Reclaim.{OnTried, OnKept, TellsStep, HasFetched, HasDropped, with_kept, with_put, given_of}
+use Rattle.manager.specs.Seen.{down_of, look_of_manager}
 use Rattle.manager.specs.Stands.{IsReady}
 use Rattle.manager.specs.declared.manager.Manager.{Manager}
+use Rattle.manager.specs.declared.part.Part.{Part}
 use Rattle.manager.specs.declared.part.StepFault.{StepFault}
 use Rattle.manager.specs.declared.part.StepFault.TheVariants.{DiskFault, Down}
 use Rattle.manager.proofs.Entries.{entry_of_version, among, entry_in}
@@ -98,25 +99,17 @@ module _ {D : Type 0} (state : D → State) (old new : Manager D) (r : Rec) (ind
         let lower = given_lowers (listed_in old.index.entries) g.first.spot.place g.entry.listed g.first.spot.there g.first.passes in
         omega (arith, lower, l)
 
-    pub given_look : is_ok res ≡ true → drained (look_of_manager new) ≡ drained (look_of_manager old)
-    given_look done = ap (λ (k : Manager D). drained (look_of_manager k)) d.rest
-        ∙ drained_same old.home_up old.home_up old.ups.items old.next (listed_in old.index.entries) (listed_in new.index.entries) g.entry.listed.lane within (lane_here (listed_in old.index.entries) g.first.spot.place g.entry.listed g.first.spot.there)
+    pub given_look : is_ok res ≡ true → new.down ≡ old.down → drained (look_of_manager new) ≡ drained (look_of_manager old)
+    given_look done same = ap (λ (k : Manager D). drained (look_of_manager k)) d.rest
+        ∙ ap (λ (p : Option Part). drained (record { home_up = old.home_up; ups = slice_set old.ups.items g.entry.listed.lane true; next = old.next; listed = listed_in new.index.entries; down = down_of p })) same
+        ∙ drained_same old.home_up old.home_up old.ups.items old.next (listed_in old.index.entries) (listed_in new.index.entries) (down_of old.down) g.entry.listed.lane within (lane_here (listed_in old.index.entries) g.first.spot.place g.entry.listed g.first.spot.there)
         (λ k other. ap (list_any (λ (x : Listed). eqb x.lane k)) (listed_given (done_then _ res done d.ok))
         ∙ others_given (listed_in old.index.entries) g.first.spot.place g.entry.listed (keeping (listed_in old.index.entries) g.entry.listed) g.first.spot.there refl (all_keep old.index.entries index) k other)
 
-    pub refused_look : is_ok res ≡ false → drained (look_of_manager new) ≡ drained (look_of_manager old)
-    refused_look failed = ap (λ (k : Manager D). drained (look_of_manager k)) d.rest
-        ∙ drained_same old.home_up old.home_up old.ups.items old.next (listed_in old.index.entries) (listed_in new.index.entries) g.entry.listed.lane within (lane_here (listed_in old.index.entries) g.first.spot.place g.entry.listed g.first.spot.there)
-        (λ k other. ap (λ (i : Contents). list_any (λ (x : Listed). eqb x.lane k) (listed_in i.entries)) (failed_then _ res failed d.err))
-      where
-        failed_then : {T E : Type 0} (P : Type 0) (r : Result T E) → is_ok r ≡ false → Rattle.std.specs.Prelude.OnErr r P → P
-        failed_then P (Ok x) fails err = absurd (let wrong : true ≡ false = fails in cc)
-        failed_then P (Err e) fails err = err
-
   -- after a refusal
   pub drop_refused : (fault : StepFault) → old.down ≡ None → TellsStep {T = Bool} state (Err fault) old new → OnTried {T = Bool} (Err fault) ((e : Indexed) → entry_at old.index.entries r.version ≡ Some e → HasDropped {T = Bool} r.version e old new (Err fault))
-      → Drains state old new (Err fault) × (drained (look_of_manager new) ≡ drained (look_of_manager old))
-  drop_refused (DiskFault p) up told dropped = let was : Result Bool StepFault = Err (DiskFault p) in (given_drains was dropped (Err (DiskFault p)) refl tt, refused_look was dropped refl)
+      → Drains state old new (Err fault) × OnKept {T = Drain} (Err fault) (drained (look_of_manager new) ≡ drained (look_of_manager old))
+  drop_refused (DiskFault p) up told dropped = let was : Result Bool StepFault = Err (DiskFault p) in (given_drains was dropped (Err (DiskFault p)) refl tt, tt)
   drop_refused (Down p) up told dropped = absurd (none-some p (sym up ∙ told.0))
 
 -- ---- what is put home
@@ -146,7 +139,7 @@ module _ {D : Type 0} (state : D → State) (old new : Manager D) (r : Rec) (ind
       let l = ap left (listed_put mask stored) in
       omega (arith, lower, l)
 
-  moves : (res : Result Drain StepFault) → HasMoved state g.entry old new res → Lowers res old new × (drained (look_of_manager new) ≡ drained (look_of_manager old))
+  moves : (res : Result Drain StepFault) → HasMoved state g.entry old new res → Lowers res old new × (new.down ≡ old.down → drained (look_of_manager new) ≡ drained (look_of_manager old))
   moves res (put read mask blocks fetched is stored told) = (lowers res stored.ok, look)
     where
       same_read : read.index ≡ old.index
@@ -163,10 +156,11 @@ module _ {D : Type 0} (state : D → State) (old new : Manager D) (r : Rec) (ind
           ∙ others_homed (listed_in old.index.entries) spot.place g.entry.listed (homing (in_mask g.entry.listed.first mask) g.entry.listed) spot.there refl k
       others (Err fault) ok err k = ap (λ (i : Contents). list_any (λ (x : Listed). eqb x.lane k) (listed_in i.entries)) (err ∙ same_read)
 
-      look : drained (look_of_manager new) ≡ drained (look_of_manager old)
-      look = ap (λ (k : Manager D). drained (look_of_manager k)) stored.rest
-          ∙ ap (λ (k : Manager D). drained (record { home_up = true; ups = k.ups.items; next = k.next; listed = listed_in new.index.entries })) fetched.rest
-          ∙ drained_same old.home_up true old.ups.items old.next (listed_in old.index.entries) (listed_in new.index.entries) g.entry.listed.lane (within_ups read fetched) (lane_here (listed_in old.index.entries) spot.place g.entry.listed spot.there)
+      look : new.down ≡ old.down → drained (look_of_manager new) ≡ drained (look_of_manager old)
+      look same = ap (λ (k : Manager D). drained (look_of_manager k)) stored.rest
+          ∙ ap (λ (k : Manager D). drained (record { home_up = true; ups = k.ups.items; next = k.next; listed = listed_in new.index.entries; down = down_of new.down })) fetched.rest
+          ∙ ap (λ (p : Option Part). drained (record { home_up = true; ups = slice_set old.ups.items g.entry.listed.lane true; next = old.next; listed = listed_in new.index.entries; down = down_of p })) same
+          ∙ drained_same old.home_up true old.ups.items old.next (listed_in old.index.entries) (listed_in new.index.entries) (down_of old.down) g.entry.listed.lane (within_ups read fetched) (lane_here (listed_in old.index.entries) spot.place g.entry.listed spot.there)
           (λ k other. others res stored.ok stored.err k)
   moves res (not_read failed fetched) = (lowers res failed, look)
     where
@@ -174,12 +168,13 @@ module _ {D : Type 0} (state : D → State) (old new : Manager D) (r : Rec) (ind
       lowers (Ok x) fails = absurd (let wrong : false ≡ true = fails in cc)
       lowers (Err fault) fails = tt
 
-      look : drained (look_of_manager new) ≡ drained (look_of_manager old)
-      look = ap (λ (k : Manager D). drained (look_of_manager k)) fetched.rest
-          ∙ drained_same old.home_up old.home_up old.ups.items old.next (listed_in old.index.entries) (listed_in old.index.entries) g.entry.listed.lane (within_ups new fetched) (lane_here (listed_in old.index.entries) spot.place g.entry.listed spot.there) (λ k other. refl)
+      look : new.down ≡ old.down → drained (look_of_manager new) ≡ drained (look_of_manager old)
+      look same = ap (λ (k : Manager D). drained (look_of_manager k)) fetched.rest
+          ∙ ap (λ (p : Option Part). drained (record { home_up = old.home_up; ups = slice_set old.ups.items g.entry.listed.lane true; next = old.next; listed = listed_in old.index.entries; down = down_of p })) same
+          ∙ drained_same old.home_up old.home_up old.ups.items old.next (listed_in old.index.entries) (listed_in old.index.entries) (down_of old.down) g.entry.listed.lane (within_ups new fetched) (lane_here (listed_in old.index.entries) spot.place g.entry.listed spot.there) (λ k other. refl)
 
   pub moved_drains : (res : Result Drain StepFault) → old.down ≡ None → TellsStep state res old new → OnTried res (IsSomeAnd (entry_at old.index.entries r.version) (λ e. HasMoved state e old new res))
-      → Drains state old new res × Lowers res old new × (drained (look_of_manager new) ≡ drained (look_of_manager old))
-  moved_drains (Ok x) up told moved = let h = and_of _ (entry_at old.index.entries r.version) g.entry moved g.is in let both = moves (Ok x) h in (put_home g.entry no_going g.next h, both.0, both.1)
-  moved_drains (Err (DiskFault p)) up told moved = let h = and_of _ (entry_at old.index.entries r.version) g.entry moved g.is in let both = moves (Err (DiskFault p)) h in (put_home g.entry no_going g.next h, both.0, both.1)
+      → Drains state old new res × Lowers res old new × OnKept res (drained (look_of_manager new) ≡ drained (look_of_manager old))
+  moved_drains (Ok x) up told moved = let h = and_of _ (entry_at old.index.entries r.version) g.entry moved g.is in let both = moves (Ok x) h in (put_home g.entry no_going g.next h, both.0, both.1 (told.1 ∙ sym told.0))
+  moved_drains (Err (DiskFault p)) up told moved = let h = and_of _ (entry_at old.index.entries r.version) g.entry moved g.is in let both = moves (Err (DiskFault p)) h in (put_home g.entry no_going g.next h, both.0, tt)
   moved_drains (Err (Down p)) up told moved = absurd (none-some p (sym up ∙ told.0))

@@ -1,5 +1,5 @@
 -- A step of a drain: what it lowers, and the look that it leads to.
-use Rattle.std.proofs.Common.{◌≡◌, ◌≢◌, ⊎_elim, ◌<◌, ◌≤◌, ℕ, zero, suc, Bool, true, false, cond, not, ◌&&◌, ◌||◌, List, [], ◌∷◌, ◌++◌, map, length, None, Some, refl, sym, ap, subst, ◌∙◌, arith, eqb}
+use Rattle.std.proofs.Common.{◌≡◌, ◌≢◌, ⊎_elim, ◌<◌, ◌≤◌, ℕ, zero, suc, Bool, true, false, cond, not, ◌&&◌, ◌||◌, List, [], ◌∷◌, ◌++◌, map, length, Option, None, Some, refl, sym, ap, subst, ◌∙◌, arith, eqb}
 use Rattle.std.specs.Prelude.{find, filter, slice_get, slice_set, slice_index_or}
 use Rattle.std.specs.List.{AllByRecursion, list_any, range_with_len}
 use Rattle.std.proofs.lemmas.Bool.{eq-eqb, ne_eqb, cases_eq}
@@ -8,7 +8,7 @@ use Rattle.std.proofs.Math.ListN.{length-set}
 use Rattle.wol_model.specs.Extents.{Cover}
 use Rattle.wol_model.specs.Index.{Listed, Indexed, listed_in, listed_covers, cover_of, is_homed, is_due, goes, has_due, has_going, keeps_a_block, homing, keeping, block_numbers, left}
 use Rattle.wol_model.proofs.Live.{least_goes}
-use Rattle.wol_promise.specs.Policy.{drained}
+use Rattle.wol_promise.specs.Policy.{PartName, drained}
 use Rattle.wol_promise.proofs.Covers.{any_found, any_member}
 use Rattle.wol_promise.proofs.Lists.{all_map, all_mapped, member_of}
 use Rattle.redirect_map.specs.Index.{IsEntry, IsIndex}
@@ -62,10 +62,10 @@ set_other (x ∷ xs) (suc k) (suc j) other = set_other xs k j (λ same. other (a
 -- ---- looks
 
 -- the look of which all is drained stays, where a disk of a listed record woke and no other lane's records came or went
-pub drained_same : (home_up home_up' : Bool) (ups : List Bool) (next : ℕ) (listed listed' : List Listed) (lane : ℕ) → lane < length ups → list_any (λ (d : Listed). eqb d.lane lane) listed ≡ true
+pub drained_same : (home_up home_up' : Bool) (ups : List Bool) (next : ℕ) (listed listed' : List Listed) (down : Option PartName) (lane : ℕ) → lane < length ups → list_any (λ (d : Listed). eqb d.lane lane) listed ≡ true
     → ((k : ℕ) → k ≢ lane → list_any (λ (d : Listed). eqb d.lane k) listed' ≡ list_any (λ (d : Listed). eqb d.lane k) listed)
-    → drained (record { home_up = home_up'; ups = slice_set ups lane true; next = next; listed = listed' }) ≡ drained (record { home_up = home_up; ups = ups; next = next; listed = listed })
-drained_same home_up home_up' ups next listed listed' lane within here others = λ i. record { home_up = true; ups = flags i; next = next; listed = [] }
+    → drained (record { home_up = home_up'; ups = slice_set ups lane true; next = next; listed = listed'; down = down }) ≡ drained (record { home_up = home_up; ups = ups; next = next; listed = listed; down = down })
+drained_same home_up home_up' ups next listed listed' down lane within here others = λ i. record { home_up = true; ups = flags i; next = next; listed = []; down = down }
   where
     flag : (k : ℕ) → (slice_index_or (slice_set ups lane true) k false || list_any (λ (d : Listed). eqb d.lane k) listed') ≡ (slice_index_or ups k false || list_any (λ (d : Listed). eqb d.lane k) listed)
     flag k = ⊎_elim

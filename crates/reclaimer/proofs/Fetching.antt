@@ -15,14 +15,15 @@ use Rattle.redirect_map.specs.Index.{Contents, entry_at, HasVersion, IsAnswer, I
 use Rattle.redirect_map.specs.Masks.{in_mask}
 use Rattle.redirect_map.specs.declared.record.Rec.{Rec}
 use Rattle.garbage_list.specs.Least.{can_go_home}
-use Rattle.manager.specs.Reclaim.{OnTried, TellsStep, HasFetched}
-use Rattle.manager.specs.Seen.{look_of_manager}
+use Rattle.manager.specs.Reclaim.{OnTried, OnKept, TellsStep, HasFetched}
+use Rattle.manager.specs.Seen.{down_of, look_of_manager}
 use Rattle.manager.specs.declared.manager.Manager.{Manager}
 use Rattle.manager.specs.declared.part.StepFault.{StepFault}
 use Rattle.manager.specs.declared.part.StepFault.TheVariants.{DiskFault, Down}
 use Rattle.reclaimer.specs.Fetches.{IsFetchOf, FindsDue, due_entry, goes_home, home_count}
 use Rattle.reclaimer.specs.Records.{FetchedRecord, record_of}
 use Rattle.reclaimer.specs.Steps.{HasFetchedNext}
+use Rattle.reclaimer.specs.declared.answers.Fetched.{Fetched}
 use Rattle.reclaimer.specs.declared.answers.Fetched.TheVariants as fetched
 use Rattle.reclaimer.specs.declared.room.Filled.{Filled}
 use Rattle.reclaimer.proofs.GiveUp.{some_and, set_same}
@@ -101,8 +102,13 @@ some_goes m e f up there fetch some =
 -- ---- the step
 
 -- of a lane that was awake no flag changed
-pub fetched_look : {D : Type 0} (old new : Manager D) (lane : ℕ) → slice_index_or old.ups.items lane false ≡ true → HasFetched lane old new → look_of_manager new ≡ look_of_manager old
-fetched_look old new lane awake f = ap look_of_manager f.rest ∙ (λ i. record { home_up = old.home_up; ups = set_same old.ups.items lane awake i; next = old.next; listed = listed_in old.index.entries })
+pub fetched_look : {D : Type 0} (old new : Manager D) (lane : ℕ) → slice_index_or old.ups.items lane false ≡ true → HasFetched lane old new → new.down ≡ old.down → look_of_manager new ≡ look_of_manager old
+fetched_look old new lane awake f down = ap look_of_manager f.rest ∙ (λ i. record { home_up = old.home_up; ups = set_same old.ups.items lane awake i; next = old.next; listed = listed_in old.index.entries; down = down_of (down i) })
+
+-- nor did one where the manager was down
+pub look_of_fault : {D : Type 0} (state : D → State) (old new : Manager D) (T : Type 0) (fault : StepFault) → TellsStep {T = T} state (Err fault) old new → OnKept {T = Fetched} (Err fault) (look_of_manager new ≡ look_of_manager old)
+look_of_fault state old new T (DiskFault p) told = tt
+look_of_fault state old new T (Down p) told = ap look_of_manager told.1
 
 module _ {D : Type 0} (state : D → State) (old new : Manager D) (r : Rec) (d : DueNext old r) where
   pub next_fetched : (f : Filled) (blocks : List Block) (into : Option FetchedRecord) → into ≡ record_of (Some f) blocks
@@ -127,8 +133,3 @@ module _ {D : Type 0} (state : D → State) (old new : Manager D) (r : Rec) (d :
       → OnTried {T = T} (Err fault) ((e : Indexed) → entry_at old.index.entries r.version ≡ Some e → HasFetched e.listed.lane old new) → HasFetchedNext (Err fault) old new into
   not_fetched T (DiskFault p) into none told was = (none, some_and _ (due_entry old) d.entry d.next (was d.entry d.is))
   not_fetched T (Down p) into none told was = (none, told.1)
-
-  pub look_of_fault : (T : Type 0) (fault : StepFault) → TellsStep {T = T} state (Err fault) old new
-      → OnTried {T = T} (Err fault) ((e : Indexed) → entry_at old.index.entries r.version ≡ Some e → HasFetched e.listed.lane old new) → look_of_manager new ≡ look_of_manager old
-  look_of_fault T (DiskFault p) told was = fetched_look old new d.entry.listed.lane d.awake (was d.entry d.is)
-  look_of_fault T (Down p) told was = ap look_of_manager told.1

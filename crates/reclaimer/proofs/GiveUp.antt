@@ -10,7 +10,7 @@ use Rattle.redirect_map.specs.Index.{Contents, entry_at, changed, HasVersion, Is
 use Rattle.redirect_map.specs.declared.record.Rec.{Rec}
 use Rattle.garbage_list.specs.Least.{can_go}
 use Rattle.manager.specs.Reclaim.{OnTried, TellsStep, HasDropped, with_kept, given_of}
-use Rattle.manager.specs.Seen.{look_of_manager}
+use Rattle.manager.specs.Seen.{down_of, look_of_manager}
 use Rattle.manager.specs.declared.manager.Manager.{Manager}
 use Rattle.manager.specs.declared.part.StepFault.{StepFault}
 use Rattle.manager.specs.declared.part.StepFault.TheVariants.{DiskFault, Down}
@@ -96,8 +96,8 @@ module _ {D : Type 0} (state : D → State) (old new : Manager D) (r : Rec) (g :
     given_part some = some_and _ (going_entry old) g.entry g.next (g.version, some_of (entry_at new.index.entries r.version) some, dropped_as r.version g.entry old new res (Ok (Trimmed r.version)) (sym done) (dropped g.entry g.is))
 
     -- the look goes on by a step of reclaim
-    pub reclaims : IsReclaim (look_of_manager old) (look_of_manager new)
-    reclaims =
+    pub reclaims : new.down ≡ old.down → IsReclaim (look_of_manager old) (look_of_manager new)
+    reclaims down =
         let d = dropped g.entry g.is in
         let spot = g.first.spot in
         let awake = (and_parts (slice_index_or old.ups.items g.entry.listed.lane false) (has_going (listed_in old.index.entries) g.entry.listed) g.first.passes).0 in
@@ -106,7 +106,7 @@ module _ {D : Type 0} (state : D → State) (old new : Manager D) (r : Rec) (g :
         ∙ filter_listed (changed g.entry.listed.version (with_kept old.index.entries) old.index.entries)
         ∙ ap (filter keeps_a_block) (spot.then_is (with_kept old.index.entries)) in
         gives_up spot.place g.entry.listed (least_of _ old.index.entries g.entry g.first) spot.there
-        (ap look_of_manager d.rest ∙ (λ i. record { home_up = old.home_up; ups = set_same old.ups.items g.entry.listed.lane awake i; next = old.next; listed = listed i }))
+        (ap look_of_manager d.rest ∙ (λ i. record { home_up = old.home_up; ups = set_same old.ups.items g.entry.listed.lane awake i; next = old.next; listed = listed i; down = down_of (down i) }))
 
   -- a disk call failed
   pub given_fails : (fault : StepFault) → TellsStep {T = Bool} state (Err fault) old new → OnTried {T = Bool} (Err fault) ((e : Indexed) → entry_at old.index.entries r.version ≡ Some e → HasDropped {T = Bool} r.version e old new (Err fault)) → HasGivenUp (Err fault) old new

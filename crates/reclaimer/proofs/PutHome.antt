@@ -116,8 +116,8 @@ module _ {D : Type 0} (state : D → State) (m : Manager D) (f : Filled) (blocks
             at (Some e) is_some_ some_ = (e, is_some_)
 
         -- the look goes on by a step of reclaim
-        pub was_reclaimed : IsReclaim (look_of_manager m) (look_of_manager new)
-        was_reclaimed = put_reclaims state f.version put (take f.count lent) m new r done h up sound_still entry.0 entry.1 (due_bits entry.0 entry.1)
+        pub was_reclaimed : new.down ≡ m.down → IsReclaim (look_of_manager m) (look_of_manager new)
+        was_reclaimed down = put_reclaims state f.version put (take f.count lent) m new r done h down up sound_still entry.0 entry.1 (due_bits entry.0 entry.1)
 
         marked : new.index.entries ≡ changed f.version (with_put put) m.index.entries
         marked = done_then _ r done h.ok

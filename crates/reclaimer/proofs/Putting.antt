@@ -19,7 +19,7 @@ use Rattle.redirect_map.specs.declared.record.Rec.{Rec}
 use Rattle.redirect_map.proofs.Bits.{has_bit-zero}
 use Rattle.redirect_map.proofs.Seen.{in_mask-bit}
 use Rattle.manager.specs.Reclaim.{HasStored, with_put}
-use Rattle.manager.specs.Seen.{look_of_manager}
+use Rattle.manager.specs.Seen.{down_of, look_of_manager}
 use Rattle.manager.specs.declared.manager.Manager.{Manager}
 use Rattle.manager.specs.declared.part.StepFault.{StepFault}
 use Rattle.manager.proofs.StoreHome.{bit_of}
@@ -127,10 +127,10 @@ stored_as state version mask blocks old new r s like h = record {
 }
 
 -- the look goes on by a step of reclaim
-pub put_reclaims : {D T : Type 0} (state : D → State) (version mask : ℕ) (blocks : List Block) (old new : Manager D) (r : Result T StepFault) → is_ok r ≡ true → HasStored state version mask blocks old new r → old.home_up ≡ true → IsIndex old.index.entries
+pub put_reclaims : {D T : Type 0} (state : D → State) (version mask : ℕ) (blocks : List Block) (old new : Manager D) (r : Result T StepFault) → is_ok r ≡ true → HasStored state version mask blocks old new r → new.down ≡ old.down → old.home_up ≡ true → IsIndex old.index.entries
     → (e : Indexed) → entry_at old.index.entries version ≡ Some e → ((i : ℕ) → has_bit mask i ≡ true → is_due (listed_in old.index.entries) e.listed (e.listed.first + i) ≡ true) → IsReclaim (look_of_manager old) (look_of_manager new)
-put_reclaims state version mask blocks old new r done h up index e is due =
+put_reclaims state version mask blocks old new r done h down up index e is due =
     let spot = spot_of_version old.index.entries version e index.rising is in
     let listed = ap listed_in (done_then _ r done h.ok) ∙ spot.then_is (with_put mask) in
     puts_home spot.place (in_mask e.listed.first mask) e.listed up spot.there (bit_of e.listed.first mask (λ b. is_due (listed_in old.index.entries) e.listed b ≡ true) due)
-    (ap look_of_manager h.rest ∙ (λ i. record { home_up = sym up i; ups = old.ups.items; next = old.next; listed = listed i }))
+    (ap look_of_manager h.rest ∙ (λ i. record { home_up = sym up i; ups = old.ups.items; next = old.next; listed = listed i; down = down_of (down i) }))

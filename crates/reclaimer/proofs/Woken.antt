@@ -9,7 +9,7 @@ use Rattle.wol_promise.specs.Policy.{drained}
 use Rattle.manager.specs.Causes.{NoneRose}
 use Rattle.manager.specs.Reading.{IsReadThrough}
 use Rattle.manager.specs.Reclaim.{OnTried, OnKept, OnFailed, TellsStep, KeepsOn, BreaksOff, StopsSince, Always}
-use Rattle.manager.specs.Seen.{look_of_manager}
+use Rattle.manager.specs.Seen.{down_of, look_of_manager}
 use Rattle.manager.specs.Stands.{IsReady}
 use Rattle.manager.specs.declared.manager.Manager.{Manager}
 use Rattle.manager.specs.declared.part.StepFault.{StepFault}
@@ -70,8 +70,13 @@ module _ {D : Type 0} (tells : Bool) (state : D → State) (sound : (d : D) → 
       let b = bare_step state w n res drains bare in
       let empty : m.index.entries ≡ [] = ap (λ (k : Manager D). k.index.entries) (sym woken.rest) ∙ b.0 in
       ap look_of_manager (b.1 ∙ woken.rest)
-      ∙ (λ i. record { home_up = true; ups = sym (bare_drained m.ups.items) i; next = m.next; listed = listed_in (empty i) })
-      ∙ sym (λ i. record { home_up = true; ups = map (λ k. slice_index_or m.ups.items k false || list_any (λ (d : Listed). eqb d.lane k) (listed_in (empty i))) (range_with_len 0 (length m.ups.items)); next = m.next; listed = [] })
+      ∙ (λ i. record { home_up = true; ups = sym (bare_drained m.ups.items) i; next = m.next; listed = listed_in (empty i); down = down_of m.down })
+      ∙ sym (λ i. record { home_up = true; ups = map (λ k. slice_index_or m.ups.items k false || list_any (λ (d : Listed). eqb d.lane k) (listed_in (empty i))) (range_with_len 0 (length m.ups.items)); next = m.next; listed = []; down = down_of m.down })
+
+  pub step_look : HasWoken m w → (res : Result Drain StepFault) → OnKept res (drained (look_of_manager n) ≡ drained (look_of_manager w)) → OnKept res (drained (look_of_manager n) ≡ drained (look_of_manager m))
+  step_look woken (Ok x) look = look ∙ ap (λ (k : Manager D). drained (look_of_manager k)) woken.rest
+  step_look woken (Err (DiskFault p)) look = tt
+  step_look woken (Err (Down p)) look = look ∙ ap (λ (k : Manager D). drained (look_of_manager k)) woken.rest
 
   pub step_keeps : (res : Result Drain StepFault) → OnKept res (KeepsOn tells state w n Always) → OnKept res (KeepsOn tells state m n Always)
   step_keeps (Ok x) keeps = keeps_both tells state sound m w n Always ready up through ready_w (λ b notes k. tt) keeps

@@ -74,7 +74,7 @@ fn drain_awake<R: Wait, D: Disk>(
     ensures drains { Drains D.state m.old m.new result }
     ensures index { IsIndex m.old.index.entries }
     ensures lowers { Lowers result m.old m.new }
-    ensures look { drained (look_of_manager m.new) ≡ drained (look_of_manager m.old) }
+    ensures look { OnKept result (drained (look_of_manager m.new) ≡ drained (look_of_manager m.old)) }
     ensures keeps { OnKept result (KeepsOn D.tells D.state m.old m.new Always) }
     ensures broke { OnFailed result (BreaksOff D.tells D.state m.old m.new Always) }
     ensures any_moment { OnTried result (IsTrue D.tells → StopsSince D.tells D.state m.old m.new Always) }
@@ -125,7 +125,7 @@ pub fn drain_step<R: Wait, D: Disk>(
     ensures counted { CountsMoved result (look_of_manager m.old) (look_of_manager m.new) }
 
     // It goes on to the look of which all is drained, whose flags a step sets as far as it woke disks.
-    ensures look { drained (look_of_manager m.new) ≡ drained (look_of_manager m.old) }
+    ensures look { OnKept result (drained (look_of_manager m.new) ≡ drained (look_of_manager m.old)) }
     ensures bare_look { result ≡ Ok Drain.Bare → look_of_manager m.new ≡ drained (look_of_manager m.old) }
     ensures waking { OnTried result (m.new.home_up ≡ true) }
 

@@ -41,7 +41,7 @@ pub fn fetch<R: Wait, D: Disk>(
 
     // What was fetched stays the data of its version, whatever is written later (`fetch_laws`).
     ensures content { (b : ManagerBase) (notes : List Noted) → Keeps D.tells D.state m.old b notes → HasData D.tells into.new b notes }
-    ensures look { look_of_manager m.new ≡ look_of_manager m.old }
+    ensures look { OnKept result (look_of_manager m.new ≡ look_of_manager m.old) }
     ensures keeps { OnKept result (KeepsOn D.tells D.state m.old m.new Always) }
     ensures broke { OnFailed result (BreaksOff D.tells D.state m.old m.new Always) }
     ensures any_moment { IsTrue D.tells → StopsWithin D.tells D.state m.old m.new Always }

@@ -1,6 +1,6 @@
 -- Where the fault of a part ended a run, the count of the bay rose.
-use Rattle.std.proofs.Common.{◌≡◌, ◌<◌, ◌≤◌, ◌++◌, ℕ, Bool, false, List, [], ◌∷◌, length, map, sym, ap, subst, ◌∙◌, Option, Some, inl, inr, append-nil, arith}
-use Rattle.std.specs.Prelude.{All, IsTrue}
+use Rattle.std.proofs.Common.{◌≡◌, ◌<◌, ◌≤◌, ◌++◌, ℕ, Bool, List, [], ◌∷◌, length, map, sym, ap, subst, ◌∙◌, Option, Some, inl, inr, append-nil, arith}
+use Rattle.std.specs.Prelude.{All}
 use Rattle.std.specs.List.{AllByRecursion, flat_map}
 use Rattle.std.proofs.lemmas.List.{length-map}
 use Rattle.std.proofs.lemmas.List.Concat.{flat_map-append}
@@ -13,11 +13,9 @@ use Rattle.manager.specs.Stands.{notes_of}
 use Rattle.manager.specs.declared.station.Station.{Station}
 use Rattle.report.specs.declared.fault.Fault.{Fault}
 use Rattle.report.specs.declared.trouble.Trouble.{Trouble}
-use Rattle.std.specs.Option.{option_map_or}
 use Rattle.turn_lock.specs.Histories.{Begins, Entry}
 use Rattle.turn_lock.specs.Passes.{pass_seen}
-use Rattle.request_turns.specs.Turns.{IsBroken}
-use Rattle.replay.specs.Histories.{History, is_broken, is_broken_at}
+use Rattle.replay.specs.Histories.{History}
 use Rattle.report.specs.declared.fault.Fault.TheVariants.{Versions, Volume}
 use Rattle.trace_gen.specs.Generated.{targets_of}
 use Rattle.trace_windows.proofs.Counting.{windows_have_requests}
@@ -42,7 +40,8 @@ use Rattle.replay.proofs.RunEnded.{TellsRise}
 use Rattle.replay.proofs.SpentServed.{window_spent}
 use Rattle.replay.proofs.HistoriesLeft.{histories_count, histories_of, history_at}
 use Rattle.replay.proofs.RunCauses.{run_cause}
-use Rattle.replay.proofs.WindowBroken.{station_breaks, window_breaks}
+use Rattle.replay.proofs.PartNamed.{HasDownAt, breaks_at}
+use Rattle.replay.proofs.WindowBroken.{HasDown, station_down, window_down}
 use Rattle.replay.proofs.Serving.{served_requests}
 
 -- ---- The window behind all others
@@ -111,18 +110,18 @@ module _ {D : Type 0} (tells : Bool) (mode : Reclaim) (config : Config) (out : L
     back_there : (k : ℕ) → k < length after.desks.items → k < length ran.0.desks.items
     back_there k lt = let many = desks_count olds before moved in let many_after = desks_count news after back in ran.2 k (omega (arith, lt, many, many_after, same))
 
-    -- where a part is at fault, a call of the named volume failed
-    pub named_breaks : (v : ℕ) (t : Trouble) → fault_of_window s.batch.requests s.answer ≡ Some (Volume v t) → IsTrue (is_broken_at (histories_of tells config out old new news all) v)
-    named_breaks v t fault =
-        let (station, there, broken) = station_breaks news after back v (window_breaks tells s.batch.requests mode ran.0 after s.answer ran.1 v t fault inside back_there) in
+    -- where a part is at fault, it was down in the history of the named volume
+    pub named_down : (v : ℕ) (t : Trouble) → fault_of_window s.batch.requests s.answer ≡ Some (Volume v t) → HasDownAt (histories_of tells config out old new news all) v t
+    named_down v t fault =
+        let (station, there, down) = station_down news after back v t (window_down tells s.batch.requests mode ran.0 after s.answer ran.1 v t fault inside back_there) in
         let less = (at_place news v station there).0 in
         let sized = histories_count tells config out old new news all in
         let (h, here) = a_member (histories_of tells config out old new news all) v (omega (arith, less, sized)) in
         let one = history_at tells config out old new news all v h here in
         let both : Some station ≡ Some one.station = sym there ∙ one.there in
         let alike : station ≡ one.station = cc both in
-        let broke = subst (λ (x : Station D). (es : List Entry) → Begins (pass_seen x.worker) es → Begins (pass_seen x.helper) es → IsBroken (notes_of es)) alike broken one.closed.entries one.closed.worker_part.seen one.closed.helper_part.seen in
-        ap (λ (o : Option History). option_map_or is_broken o false) here ∙ ap is_broken one.is ∙ broke
+        let was = subst (λ (x : Station D). (es : List Entry) → Begins (pass_seen x.worker) es → Begins (pass_seen x.helper) es → HasDown t (notes_of es)) alike down one.closed.entries one.closed.worker_part.seen one.closed.helper_part.seen in
+        record { history = h; there = here; down = subst (λ (x : History). HasDown t x.notes) (sym one.is) was }
 
     pub last_spent : (v : ℕ) → fault_of_window s.batch.requests s.answer ≡ Some (Versions v) → HasRefusedWrite v s
     last_spent v fault = window_spent tells mode ran.0 after s ran.1 v fault inside
@@ -133,6 +132,6 @@ module _ {D : Type 0} (tells : Bool) (mode : Reclaim) (config : Config) (out : L
       let are_one = subst (λ (l : List ServedWindow). AreWindowsOf config run (earlier ++ l)) only are in
       let served_one = subst (λ (l : List ServedWindow). ServedFromStart tells mode (earlier ++ l) before ps after qs) only served_ in (
         λ part. rose_from bay old.faults new.faults le (run_cause tells config out old new news all part.0
-            (named_breaks run earlier s ps qs are_one served_one part.0 part.1 (subst (λ (x : Fault). fault_of_window s.batch.requests s.answer ≡ Some x) part.2 fault))),
+            (breaks_at (histories_of tells config out old new news all) part.0 part.1 (named_down run earlier s ps qs are_one served_one part.0 part.1 (subst (λ (x : Fault). fault_of_window s.batch.requests s.answer ≡ Some x) part.2 fault)))),
         λ v is. last_spent run earlier s ps qs are_one served_one v (subst (λ (x : Fault). fault_of_window s.batch.requests s.answer ≡ Some x) is fault),
       )

@@ -20,7 +20,7 @@ use Rattle.request_turns.specs.Entries.{AreMade, TellsFault}
 use Rattle.request_turns.specs.Turns.{ManagerPass, IsBroken, coded, notes_seen}
 use Rattle.request_turns.specs.declared.outcome.Outcome.{Outcome}
 use Rattle.request_turns.specs.declared.outcome.Outcome.TheVariants as outcome
-use Rattle.request_turns.proofs.Gaining.{broken_more, gains_turn, notes_joined}
+use Rattle.request_turns.proofs.Gaining.{broken_more, down_breaks, gains_turn, notes_joined}
 use Rattle.request_workers.specs.Closed.{IsClosed}
 use Rattle.request_workers.specs.Requests.{answers_to, own_requests, outcomes_of, StopsAtRefusal}
 use Rattle.request_workers.specs.Worked.{HasWorked}
@@ -57,11 +57,11 @@ all_unless view seen most few whole (r ∷ rs) (outcome.Read mark sources ∷ os
     (refl, all_unless view seen most few whole rs os rest others stops.1 faults.1 memory (part_right (IsBelow most) first rest (subst (λ l. AllByRecursion (IsBelow most) l) same below)))
 all_unless view seen most few whole (r ∷ rs) (outcome.Wrote place drained ∷ os) notes (first, rest, same, entries, others) stops faults memory below =
     (refl, all_unless view seen most few whole rs os rest others stops.1 faults.1 memory (part_right (IsBelow most) first rest (subst (λ l. AllByRecursion (IsBelow most) l) same below)))
-all_unless view seen most few whole (r ∷ rs) (outcome.NoRead (read.DiskFault p) ∷ os) notes made stops faults memory below = absurd (whole faults.0)
-all_unless view seen most few whole (r ∷ rs) (outcome.NoRead (read.Down p) ∷ os) notes made stops faults memory below = absurd (whole faults.0)
+all_unless view seen most few whole (r ∷ rs) (outcome.NoRead (read.DiskFault p) ∷ os) notes made stops faults memory below = absurd (whole (down_breaks p seen faults.0))
+all_unless view seen most few whole (r ∷ rs) (outcome.NoRead (read.Down p) ∷ os) notes made stops faults memory below = absurd (whole (down_breaks p seen faults.0))
 all_unless view seen most few whole (r ∷ rs) (outcome.NoWrite write.Full ∷ os) notes (first, rest, same, (n, one, full), others) stops faults memory below = absurd full.1
-all_unless view seen most few whole (r ∷ rs) (outcome.NoWrite (write.DiskFault p) ∷ os) notes made stops faults memory below = absurd (whole faults.0)
-all_unless view seen most few whole (r ∷ rs) (outcome.NoWrite (write.Down p) ∷ os) notes made stops faults memory below = absurd (whole faults.0)
+all_unless view seen most few whole (r ∷ rs) (outcome.NoWrite (write.DiskFault p) ∷ os) notes made stops faults memory below = absurd (whole (down_breaks p seen faults.0))
+all_unless view seen most few whole (r ∷ rs) (outcome.NoWrite (write.Down p) ∷ os) notes made stops faults memory below = absurd (whole (down_breaks p seen faults.0))
 all_unless view seen most few whole (r ∷ rs) (outcome.NoWrite write.VersionsSpent ∷ os) notes (first, rest, same, (n, one, spent), others) stops faults memory below =
     let here : AllByRecursion (IsBelow most) (n ∷ []) = subst (λ l. AllByRecursion (IsBelow most) l) one (part_left (IsBelow most) first rest (subst (λ l. AllByRecursion (IsBelow most) l) same below)) in
     let low : n.look.next ≤ most = here.0 in

@@ -22,6 +22,7 @@ pub mod PassesRuled
 pub mod EntriesOwn
 pub mod StationsRan
 pub mod HistoriesLeft
+pub mod PartNamed
 pub mod VersionsLeft
 pub mod SpentLeft
 pub mod RequestsServed

@@ -13,8 +13,8 @@ use Rattle.wol_promise.proofs.ReadCode.{noted_is_back}
 use Rattle.manager.specs.Stands.{notes_of}
 use Rattle.manager.specs.declared.part.StepFault.{StepFault}
 use Rattle.request_turns.specs.Closed.{HasClosed}
-use Rattle.request_turns.specs.Turns.{ManagerPass, IsBroken, coded}
-use Rattle.request_turns.proofs.Gaining.{broken_more, last_joined, notes_joined, pass_kept}
+use Rattle.request_turns.specs.Turns.{ManagerPass, IsBroken, coded, faulty_part}
+use Rattle.request_turns.proofs.Gaining.{broken_more, down_breaks, last_joined, notes_joined, pass_kept}
 use Rattle.request_workers.specs.Closed.{IsClosed}
 use Rattle.request_workers.specs.Worked.{HelpedIn}
 use Rattle.request_workers.specs.declared.floor.Floor.{Floor}
@@ -53,7 +53,7 @@ closed_idle {D} tells mode some fault p q closed look es mine seen whole = at mo
         idle : (f : Option StepFault) → fault ≡ f → LeavesIdle look (notes_of es)
         idle None is = last_idle look es (pass_mine p) c.note (mine ∙ c.turned.mine) (c.idle is)
         idle (Some f) is =
-            let broken : IsBroken (notes_of es) = subst IsBroken (sym (ap notes_of (sym seen.1) ∙ notes_joined (pass_seen q) seen.0)) (broken_more (notes_of (pass_seen q)) (notes_of seen.0) (c.cause f is)) in
+            let broken : IsBroken (notes_of es) = subst IsBroken (sym (ap notes_of (sym seen.1) ∙ notes_joined (pass_seen q) seen.0)) (broken_more (notes_of (pass_seen q)) (notes_of seen.0) (down_breaks (faulty_part f) (notes_of (pass_seen q)) (c.cause f is))) in
             absurd (whole broken)
 
     at : (m : Reclaim) → m ≢ reclaim.Off → IsClosed tells m fault p q → LeavesIdle look (notes_of es)

@@ -27,12 +27,14 @@ use Rattle.replay.specs.Stops.{fault_of_trace}
 use Rattle.replay.specs.Endings.{fault_of_window}
 use Rattle.replay.proofs.HistoriesLeft.{each_closed, histories_of}
 use Rattle.rack.specs.Closes.{IsClosedSpindle, IsClosedVolume, SharePools}
-use Rattle.rack.specs.Opens.{BeganWith, KeepsAllSound}
+use Rattle.rack.specs.Opens.{BeganWith, HasFaulty, KeepsAllSound}
 use Rattle.rack.specs.PoolUses.{ArePools, PassesEmpty}
 use Rattle.rack.specs.Racks.{AreUnused, IsRack, IsUnused, base_of_station}
 use Rattle.rack.specs.Rests.{IsImageOut, image_here}
 use Rattle.rack.proofs.Members.{a_value}
 use Rattle.rack.specs.declared.rack.Rack.{Rack}
+use Rattle.rack.proofs.FailedParts.{came_back_since}
+use Rattle.rack.proofs.NewFaults.{none_faulty, told_each}
 use Rattle.spin_model.specs.Operations.{uses_of}
 use Rattle.spin_model.specs.Spindles.{SpindleView}
 use Rattle.request_workers.specs.Begun.{SpindlePass}
@@ -43,7 +45,7 @@ use Rattle.request_workers.specs.declared.request.Reclaim.TheVariants as reclaim
 use Rattle.replay.specs.Ended.{memory}
 use Rattle.replay.specs.Givens.{HasGiven}
 use Rattle.replay.specs.Headline.{AreAllOpen}
-use Rattle.replay.specs.Histories.{CountAnswered, History, answers_in, is_broken_at, next_at}
+use Rattle.replay.specs.Histories.{AreHistories, CountAnswered, History, answers_in, is_broken_at, next_at}
 use Rattle.replay.specs.Prints.{CutsLines, PrintsText, all_amounts}
 use Rattle.replay.specs.Replays.{Replays, status_in}
 use Rattle.replay.specs.Runs.{RunsNone, ServesFrom}
@@ -56,7 +58,8 @@ use Rattle.replay.specs.declared.session.Options.{Options}
 use Rattle.replay.specs.declared.stop.Stop.{Stop}
 use Rattle.replay.specs.declared.stop.Stop.TheVariants as stop
 use Rattle.replay.proofs.AllAsked.{AreAllCounted, all_counted_asked}
-use Rattle.replay.proofs.CauseServed.{named_breaks, rises, rose_from}
+use Rattle.replay.proofs.PartNamed.{HasDownAt, breaks_at, came_at}
+use Rattle.replay.proofs.CauseServed.{named_down, rises, rose_from}
 use Rattle.replay.proofs.CountsLeft.{counts_cut, counts_refused, counts_whole}
 use Rattle.replay.proofs.DrainsCounted.{counts_drained}
 use Rattle.replay.proofs.Giving.{none_given}
@@ -262,6 +265,7 @@ module _ {D S : Type 0} (T : Type 0) (state : D → State) (tells : Bool) (left 
         are = kept.are;
         cause = λ v broken. rose_from entry.faults opened.faults left_.faults opening (kept.cause v broken);
         part = λ v t is. (let no : stop.Fault Memory ≡ stop.Fault (Volume v t) = cc is in absurd (cc no));
+        named = λ v t is. (let no : stop.Fault Memory ≡ stop.Fault (Volume v t) = cc is in absurd (cc no));
         spent = λ v is. (let no : stop.Fault Memory ≡ stop.Fault (Versions v) = cc is in absurd (cc no));
         open_ = λ telling. told_first (KeepsAllSound config) (AreAllOpen config) entry.told left_.told (sound telling) (open_ telling);
         begun = kept.begun;
@@ -387,18 +391,18 @@ module _ {D S : Type 0} (T : Type 0) (state : D → State) (tells : Bool) (left 
     unbroken_by ss ms served owned well =
         run_unbroken tells options.reclaim config q.rest.images.items opened left_ r.stations.items q.stations.items closed before from.after from.after r.keepers.items ms moved from.moved_back ss served (inl refl) fresh numbers new_numbers free looks stations_same some owned well refl
 
-    -- where a part is at fault, the history of the named volume broke
-    part_by : (e : Stop) (run more : List (Option TraceLine)) (earlier last : List ServedWindow) (h : Floor D) (ms : List SpindlePass) (then_ : Option (List ℕ))
+    -- where a part is at fault, it was down in the history of the named volume
+    down_by : (e : Stop) (run more : List (Option TraceLine)) (earlier last : List ServedWindow) (h : Floor D) (ms : List SpindlePass) (then_ : Option (List ℕ))
         → EndsBy tells left config options start e now run more last h ms from.after q.keepers.items faults faults' then_ printed' → ServedFromStart tells options.reclaim (earlier ++ last) before r.keepers.items h ms
-        → AreWindowsOf config run (earlier ++ last) → (v : ℕ) (t : Trouble) → e ≡ stop.Fault (Volume v t) → IsTrue (is_broken_at (histories_of tells config q.rest.images.items opened left_ q.stations.items closed) v)
-    part_by e run more earlier [] h ms then_ (calm, keeps, inl (refusal, other, is, none_more, refuses, floor, passes)) served are v t named = absurd (trace_other refusal v t (sym is ∙ named))
-    part_by e run more earlier [] h ms then_ (calm, keeps, inr (is, not_run)) served are v t named = let no : stop.Fault Memory ≡ stop.Fault (Volume v t) = sym is ∙ named in absurd (cc no)
-    part_by e run more earlier (s ∷ []) h ms then_ (floor, passes, inl (f, told, is, calm, prints)) served are v t named =
+        → AreWindowsOf config run (earlier ++ last) → (v : ℕ) (t : Trouble) → e ≡ stop.Fault (Volume v t) → HasDownAt (histories_of tells config q.rest.images.items opened left_ q.stations.items closed) v t
+    down_by e run more earlier [] h ms then_ (calm, keeps, inl (refusal, other, is, none_more, refuses, floor, passes)) served are v t named = absurd (trace_other refusal v t (sym is ∙ named))
+    down_by e run more earlier [] h ms then_ (calm, keeps, inr (is, not_run)) served are v t named = let no : stop.Fault Memory ≡ stop.Fault (Volume v t) = sym is ∙ named in absurd (cc no)
+    down_by e run more earlier (s ∷ []) h ms then_ (floor, passes, inl (f, told, is, calm, prints)) served are v t named =
         let same : f ≡ Volume v t = cc (sym is ∙ named) in
-        named_breaks tells options.reclaim config q.rest.images.items opened left_ r.stations.items q.stations.items closed before from.after moved from.moved_back targets_same stations_same run earlier s r.keepers.items ms are
+        named_down tells options.reclaim config q.rest.images.items opened left_ r.stations.items q.stations.items closed before from.after moved from.moved_back targets_same stations_same run earlier s r.keepers.items ms are
         (subst (λ (x : Floor D). ServedFromStart tells options.reclaim (earlier ++ s ∷ []) before r.keepers.items x ms) (sym floor) served) v t (subst (λ (x : Fault). fault_of_window s.batch.requests s.answer ≡ Some x) same told)
-    part_by e run more earlier (s ∷ []) h ms then_ (floor, passes, inr cuts) served are v t named = absurd (cut_other e _ faults faults' then_ printed' v t cuts named)
-    part_by e run more earlier (s ∷ u ∷ rest) h ms then_ ends served are v t named = absurd ends
+    down_by e run more earlier (s ∷ []) h ms then_ (floor, passes, inr cuts) served are v t named = absurd (cut_other e _ faults faults' then_ printed' v t cuts named)
+    down_by e run more earlier (s ∷ u ∷ rest) h ms then_ ends served are v t named = absurd ends
 
     -- the trace wasn't served to its end
     pub replays_some : (e : Stop) → ServesSome tells left config options start e now before r.keepers.items from.after q.keepers.items faults faults' printed printed' → (spindles : List SpindleView)
@@ -431,7 +435,11 @@ module _ {D S : Type 0} (T : Type 0) (state : D → State) (tells : Bool) (left 
           histories = kept.kept;
           are = kept.are;
           cause = λ v broken. rose_from entry.faults opened.faults left_.faults opening (kept.cause v broken);
-          part = λ v t is. (subst (λ (hs : List History). IsTrue (is_broken_at hs v)) (sym is_kept) (part_by e w.run w.more w.earlier w.last w.middle w.between w.then w.ends w.from_start w.are v t (cc is)));
+          part = λ v t is. (subst (λ (hs : List History). IsTrue (is_broken_at hs v)) (sym is_kept) (breaks_at _ v t (down_by e w.run w.more w.earlier w.last w.middle w.between w.then w.ends w.from_start w.are v t (cc is))));
+          named = λ v t is. (
+              let one = came_at tells config q.rest.images.items opened left_ q.stations.items closed (answers_in (w.earlier ++ w.last)) (subst (λ (hs : List History). AreHistories (IsTrue tells) config (answers_in (w.earlier ++ w.last)) hs) is_kept kept.are)
+              v t (down_by e w.run w.more w.earlier w.last w.middle w.between w.then w.ends w.from_start w.are v t (cc is)) in
+              (one.0, one.1, λ telling. came_back_since config one.0 entry.told opened.told left_.told (told_open telling) (told_each (λ x y. y.faulty ≡ x.faulty) HasFaulty entry.told opened.told none_faulty unfaulty) one.2));
           spent = λ v is. spent_some T tells left config options start now entry opened left_ w.run w.more w.earlier w.middle w.between from.after q.keepers.items faults faults' w.then printed' e w.last w.ends kept v (cc is);
           open_ = λ telling. told_first (KeepsAllSound config) (AreAllOpen config) entry.told left_.told (sound telling) (open_ telling);
           begun = kept.begun;
@@ -496,6 +504,7 @@ module _ {D S : Type 0} (T : Type 0) (state : D → State) (tells : Bool) (left 
           are = kept.are;
           cause = λ v broken. rose_from entry.faults opened.faults left_.faults opening (kept.cause v broken);
           part = λ v t is. absurd (text_other done text faults' faults'' printed' printed'' v t prints is);
+          named = λ v t is. absurd (text_other done text faults' faults'' printed' printed'' v t prints is);
           spent = λ v is. absurd (text_versions done text faults' faults'' printed' printed'' v prints is);
           open_ = λ telling. told_first (KeepsAllSound config) (AreAllOpen config) entry.told left_.told (sound telling) (open_ telling);
           begun = kept.begun;

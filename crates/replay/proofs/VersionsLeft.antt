@@ -50,7 +50,7 @@ reclaims_next l m (policy.more x k y first rest) = reclaims_next k m rest ∙ re
 
 keep_next : (passed : List ℕ) (pass : ℕ) (l m : Look) → IsKeep passed pass l m → m.next ≡ l.next
 keep_next passed pass l m (ruled.same is) = ap (λ (x : Look). x.next) is
-keep_next passed pass l m (ruled.refused w drain) = ap (λ (x : Look). x.next) drain.bare
+keep_next passed pass l m (ruled.refused w client drain) = ap (λ (x : Look). x.next) drain.bare
 keep_next passed pass l m (ruled.flags is long so) = ap (λ (x : Look). x.next) so
 keep_next passed pass l m (ruled.helped is step) = reclaim_next l m step
 keep_next passed pass l m (ruled.reclaimed is steps) = reclaims_next l m steps

@@ -1,4 +1,4 @@
--- Where a part of a volume is at fault in a window, a disk call of a volume had failed.
+-- Where a part of a volume is at fault in a window, it was down among the entries of the volume.
 use Rattle.std.proofs.Common.{◌≡◌, ◌==◌, ◌<◌, ◌+◌, ℕ, zero, suc, Bool, true, false, cond, List, [], ◌∷◌, ◌++◌, length, map, refl, sym, ap, subst, ◌∙◌, Option, None, Some, is_some, arith}
 use Rattle.std.specs.Prelude.{slice_get, slice_index_or, if◌then◌else◌}
 use Rattle.std.specs.List.{list_any, AllByRecursion}
@@ -12,6 +12,7 @@ use Rattle.wol_promise.specs.Ruled.{Noted, entries_of}
 use Rattle.turn_lock.specs.Histories.{Begins, Entry}
 use Rattle.turn_lock.specs.Passes.{pass_seen}
 use Rattle.manager.specs.Stands.{notes_of}
+use Rattle.manager.specs.declared.part.Part.{Part}
 use Rattle.manager.specs.declared.part.StepFault.{StepFault}
 use Rattle.manager.specs.declared.part.StepFault.TheVariants as step
 use Rattle.manager.specs.declared.part.ReadRefusal.TheVariants as read
@@ -20,13 +21,14 @@ use Rattle.manager.specs.declared.station.Station.{Station}
 use Rattle.report.specs.declared.fault.Fault.{Fault}
 use Rattle.report.specs.declared.fault.Fault.TheVariants.{Memory, Volume}
 use Rattle.report.specs.declared.trouble.Trouble.{Trouble}
+use Rattle.troubles.specs.Troubles.{trouble_of_part}
 use Rattle.trace_windows.specs.declared.request.Request.{Request}
 use Rattle.request_turns.specs.Closed.{HasClosed}
 use Rattle.request_turns.specs.Entries.{TellsFault}
-use Rattle.request_turns.specs.Turns.{IsBroken, ManagerPass, notes_seen}
+use Rattle.request_turns.specs.Turns.{IsBroken, ManagerPass, WasDown, faulty_part, notes_seen}
 use Rattle.request_turns.specs.declared.outcome.Outcome.{Outcome}
 use Rattle.request_turns.specs.declared.outcome.Outcome.TheVariants as outcome
-use Rattle.request_turns.proofs.Gaining.{notes_joined}
+use Rattle.request_turns.proofs.Gaining.{down_more, notes_joined}
 use Rattle.request_workers.specs.Closed.{IsClosed}
 use Rattle.request_workers.specs.Floors.{HasRun}
 use Rattle.request_workers.specs.Requests.{outcomes_of}
@@ -72,19 +74,27 @@ broken_in xs es (more, same) broken = subst (λ (l : List Entry). is_some (fligh
 pub not_none : (notes : List Noted) → IsBroken notes → flight_of (entries_of notes) ≡ None → ⊥
 not_none notes broken none = let no : true ≡ false = sym broken ∙ ap is_some none in absurd (cc no)
 
+-- a part of this trouble was down behind one of these entries
+abbrev pub HasDown : Trouble → List Noted → Type 0
+HasDown t notes = (p : Part) × (t ≡ trouble_of_part p) × WasDown p notes
+
+-- what a pass saw stays
+pub down_in : (t : Trouble) (xs es : List Entry) → Begins xs es → HasDown t (notes_of xs) → HasDown t (notes_of es)
+down_in t xs es (more, same) (p, is, was) = (p, is, subst (WasDown p) (sym (notes_joined xs more) ∙ ap notes_of same) (down_more p (notes_of xs) (notes_of more) was))
+
 -- ---- Requests
 
-outcome_breaks : (o : Outcome) (w v : ℕ) (t : Trouble) → fault_of_outcome w o ≡ Some (Volume v t) → (seen : List Noted) → TellsFault seen o → IsBroken seen
-outcome_breaks (outcome.Read mark sources) w v t is seen told = absurd (cc is)
-outcome_breaks (outcome.Wrote place drained) w v t is seen told = absurd (cc is)
-outcome_breaks (outcome.NoRead (read.DiskFault p)) w v t is seen told = told
-outcome_breaks (outcome.NoRead (read.Down p)) w v t is seen told = told
-outcome_breaks (outcome.NoWrite write.Full) w v t is seen told = absurd (cc is)
-outcome_breaks (outcome.NoWrite (write.DiskFault p)) w v t is seen told = told
-outcome_breaks (outcome.NoWrite (write.Down p)) w v t is seen told = told
-outcome_breaks (outcome.NoWrite write.VersionsSpent) w v t is seen told = absurd (cc is)
-outcome_breaks (outcome.NoWrite write.NoMemory) w v t is seen told = absurd (cc is)
-outcome_breaks outcome.NotRun w v t is seen told = absurd (cc is)
+outcome_down : (o : Outcome) (w v : ℕ) (t : Trouble) → fault_of_outcome w o ≡ Some (Volume v t) → (seen : List Noted) → TellsFault seen o → HasDown t seen
+outcome_down (outcome.Read mark sources) w v t is seen told = absurd (cc is)
+outcome_down (outcome.Wrote place drained) w v t is seen told = absurd (cc is)
+outcome_down (outcome.NoRead (read.DiskFault p)) w v t is seen told = (p, cc is, told)
+outcome_down (outcome.NoRead (read.Down p)) w v t is seen told = (p, cc is, told)
+outcome_down (outcome.NoWrite write.Full) w v t is seen told = absurd (cc is)
+outcome_down (outcome.NoWrite (write.DiskFault p)) w v t is seen told = (p, cc is, told)
+outcome_down (outcome.NoWrite (write.Down p)) w v t is seen told = (p, cc is, told)
+outcome_down (outcome.NoWrite write.VersionsSpent) w v t is seen told = absurd (cc is)
+outcome_down (outcome.NoWrite write.NoMemory) w v t is seen told = absurd (cc is)
+outcome_down outcome.NotRun w v t is seen told = absurd (cc is)
 
 outcome_volume : (o : Outcome) (w v : ℕ) (t : Trouble) → fault_of_outcome w o ≡ Some (Volume v t) → w ≡ v
 outcome_volume (outcome.Read mark sources) w v t is = absurd (cc is)
@@ -98,38 +108,38 @@ outcome_volume (outcome.NoWrite write.VersionsSpent) w v t is = absurd (cc is)
 outcome_volume (outcome.NoWrite write.NoMemory) w v t is = absurd (cc is)
 outcome_volume outcome.NotRun w v t is = absurd (cc is)
 
-refused_breaks : (n : ℕ) (rs : List Request) (os : List Outcome) (v : ℕ) (t : Trouble) → first_refused rs os ≡ Some (Volume v t) → AllByRecursion (λ (r : Request). r.volume < n) rs
-    → (seen : (k : ℕ) → k < n → List Noted) → ((k : ℕ) (lt : k < n) → AllByRecursion (TellsFault (seen k lt)) (outcomes_of k rs os)) → (k : ℕ) × (lt : k < n) × IsBroken (seen k lt) × (k ≡ v)
-refused_breaks n [] os v t refused within seen tells = absurd (cc refused)
-refused_breaks n (r ∷ rs) [] v t refused within seen tells = absurd (cc refused)
-refused_breaks n (r ∷ rs) (o ∷ os) v t refused within seen tells =
-    at (fault_of_outcome r.volume o) refl refused (λ rest. refused_breaks n rs os v t rest within.1 seen (λ k lt. behind k lt (r.volume == k) (tells k lt)))
+refused_down : (n : ℕ) (rs : List Request) (os : List Outcome) (v : ℕ) (t : Trouble) → first_refused rs os ≡ Some (Volume v t) → AllByRecursion (λ (r : Request). r.volume < n) rs
+    → (seen : (k : ℕ) → k < n → List Noted) → ((k : ℕ) (lt : k < n) → AllByRecursion (TellsFault (seen k lt)) (outcomes_of k rs os)) → (k : ℕ) × (lt : k < n) × HasDown t (seen k lt) × (k ≡ v)
+refused_down n [] os v t refused within seen tells = absurd (cc refused)
+refused_down n (r ∷ rs) [] v t refused within seen tells = absurd (cc refused)
+refused_down n (r ∷ rs) (o ∷ os) v t refused within seen tells =
+    at (fault_of_outcome r.volume o) refl refused (λ rest. refused_down n rs os v t rest within.1 seen (λ k lt. behind k lt (r.volume == k) (tells k lt)))
   where
     behind : (k : ℕ) (lt : k < n) (b : Bool) → AllByRecursion (TellsFault (seen k lt)) (cond b (o ∷ outcomes_of k rs os) (outcomes_of k rs os)) → AllByRecursion (TellsFault (seen k lt)) (outcomes_of k rs os)
     behind k lt true all = all.1
     behind k lt false all = all
 
     at : (x : Option Fault) → fault_of_outcome r.volume o ≡ x → option_or x (first_refused rs os) ≡ Some (Volume v t)
-        → (first_refused rs os ≡ Some (Volume v t) → (k : ℕ) × (lt : k < n) × IsBroken (seen k lt) × (k ≡ v)) → (k : ℕ) × (lt : k < n) × IsBroken (seen k lt) × (k ≡ v)
+        → (first_refused rs os ≡ Some (Volume v t) → (k : ℕ) × (lt : k < n) × HasDown t (seen k lt) × (k ≡ v)) → (k : ℕ) × (lt : k < n) × HasDown t (seen k lt) × (k ≡ v)
     at None is rest others = others rest
     at (Some f) is here others =
         let all = subst (λ (b : Bool). AllByRecursion (TellsFault (seen r.volume within.0)) (cond b (o ∷ outcomes_of r.volume rs os) (outcomes_of r.volume rs os))) (eq-eqb r.volume r.volume refl) (tells r.volume within.0) in
-        (r.volume, within.0, outcome_breaks o r.volume v t (is ∙ here) (seen r.volume within.0) all.0, outcome_volume o r.volume v t (is ∙ here))
+        (r.volume, within.0, outcome_down o r.volume v t (is ∙ here) (seen r.volume within.0) all.0, outcome_volume o r.volume v t (is ∙ here))
 
 -- ---- A reclaim turn
 
-turn_seen : {D : Type 0} (tells : Bool) (fault : Option StepFault) (p q : ManagerPass D) → HasClosed tells fault p q → IsBroken (notes_seen p) → IsBroken (notes_seen q)
-turn_seen tells fault p q closed broken =
-    let first = broken_in (pass_seen p) closed.before closed.turned.begins broken in
-    broken_in closed.before (pass_seen q) (_, sym closed.turned.seen) first
+turn_seen : {D : Type 0} (tells : Bool) (fault : Option StepFault) (p q : ManagerPass D) (t : Trouble) → HasClosed tells fault p q → HasDown t (notes_seen p) → HasDown t (notes_seen q)
+turn_seen tells fault p q t closed down =
+    let first = down_in t (pass_seen p) closed.before closed.turned.begins down in
+    down_in t closed.before (pass_seen q) (_, sym closed.turned.seen) first
 
 -- what was seen before it stays
-closed_seen : {D : Type 0} (tells : Bool) (mode : Reclaim) (fault : Option StepFault) (p q : ManagerPass D) → IsClosed tells mode fault p q → IsBroken (notes_seen p) → IsBroken (notes_seen q)
-closed_seen tells reclaim.Off fault p q closed broken = subst (λ x. IsBroken (notes_seen x)) (sym closed.0) broken
-closed_seen tells reclaim.Between fault p q closed broken = turn_seen tells fault p q closed broken
-closed_seen tells reclaim.Beside fault p q closed broken = turn_seen tells fault p q closed broken
+closed_seen : {D : Type 0} (tells : Bool) (mode : Reclaim) (fault : Option StepFault) (p q : ManagerPass D) (t : Trouble) → IsClosed tells mode fault p q → HasDown t (notes_seen p) → HasDown t (notes_seen q)
+closed_seen tells reclaim.Off fault p q t closed down = subst (λ x. HasDown t (notes_seen x)) (sym closed.0) down
+closed_seen tells reclaim.Between fault p q t closed down = turn_seen tells fault p q t closed down
+closed_seen tells reclaim.Beside fault p q t closed down = turn_seen tells fault p q t closed down
 
-closed_cause : {D : Type 0} (tells : Bool) (mode : Reclaim) (f : StepFault) (fault : Option StepFault) (p q : ManagerPass D) → IsClosed tells mode fault p q → fault ≡ Some f → IsBroken (notes_seen q)
+closed_cause : {D : Type 0} (tells : Bool) (mode : Reclaim) (f : StepFault) (fault : Option StepFault) (p q : ManagerPass D) → IsClosed tells mode fault p q → fault ≡ Some f → WasDown (faulty_part f) (notes_seen q)
 closed_cause tells reclaim.Off f fault p q closed is = let no : None ≡ Some f = sym closed.1 ∙ is in absurd (cc no)
 closed_cause tells reclaim.Between f fault p q closed is = closed.cause f is
 closed_cause tells reclaim.Beside f fault p q closed is = closed.cause f is
@@ -146,75 +156,79 @@ first_at {D} start (e ∷ es) k f first = at e.fault refl first (λ rest. first_
 
 -- ---- A window
 
--- a disk call of volume k failed, as its worker or its helper saw
-pub data BreaksIn {D : Type 0} (g : Floor D) (k : ℕ) : Type 0 where
-  by_worker : (e : Desk D) → slice_get g.desks.items k ≡ Some e → IsBroken (notes_seen e.worker) → BreaksIn g k
-  by_helper : (p : ManagerPass D) → slice_get g.helpers.items k ≡ Some p → IsBroken (notes_seen p) → BreaksIn g k
+-- a part of volume k of this trouble was down, as its worker or its helper saw
+pub data IsDownIn {D : Type 0} (g : Floor D) (k : ℕ) (t : Trouble) : Type 0 where
+  by_worker : (e : Desk D) → slice_get g.desks.items k ≡ Some e → HasDown t (notes_seen e.worker) → IsDownIn g k t
+  by_helper : (p : ManagerPass D) → slice_get g.helpers.items k ≡ Some p → HasDown t (notes_seen p) → IsDownIn g k t
 
 module _ {D : Type 0} (tells : Bool) (rs : List Request) (mode : Reclaim) (f g : Floor D) (w : Window) (run : HasRun tells rs mode f g w) where
   there : (k : ℕ) (d : Desk D) → k < length f.desks.items → slice_get g.desks.items k ≡ Some (slice_index_or g.desks.items k d)
   there k d lt = there_at g.desks.items k d (desk_there tells rs w.outcomes.items mode f.desks.items g.desks.items k d (λ (x : Desk D). run.worked k x lt) lt)
 
-  of_requests : (v : ℕ) (t : Trouble) → first_refused rs w.outcomes.items ≡ Some (Volume v t) → AllByRecursion (λ (r : Request). r.volume < length f.desks.items) rs → BreaksIn g v
+  of_requests : (v : ℕ) (t : Trouble) → first_refused rs w.outcomes.items ≡ Some (Volume v t) → AllByRecursion (λ (r : Request). r.volume < length f.desks.items) rs → IsDownIn g v t
   of_requests v t refused within =
       let one = λ (k : ℕ) (lt : k < length f.desks.items). (a_member f.desks.items k lt).0 in
       let worked = λ (k : ℕ) (lt : k < length f.desks.items). run.worked k (one k lt) lt in
-      let (k, lt, broken, same) = refused_breaks (length f.desks.items) rs w.outcomes.items v t refused within (λ k lt. notes_seen (worked k lt).middle) (λ k lt. (worked k lt).faults) in
+      let (k, lt, down, same) = refused_down (length f.desks.items) rs w.outcomes.items v t refused within (λ k lt. notes_seen (worked k lt).middle) (λ k lt. (worked k lt).faults) in
       let e : Desk D = slice_index_or g.desks.items k (one k lt) in
-      subst (λ (x : ℕ). BreaksIn g x) same (by_worker e (there k (one k lt) lt) (closed_seen tells mode e.fault (worked k lt).middle e.worker (worked k lt).closed broken))
+      subst (λ (x : ℕ). IsDownIn g x t) same (by_worker e (there k (one k lt) lt) (closed_seen tells mode e.fault (worked k lt).middle e.worker t (worked k lt).closed down))
 
   step_volume : (k v : ℕ) (t : Trouble) (s : StepFault) → fault_of_reclaim (Some (k, s)) ≡ Some (Volume v t) → k ≡ v
   step_volume k v t (step.DiskFault p) is = cc is
   step_volume k v t (step.Down p) is = cc is
 
-  of_reclaim : (v : ℕ) (t : Trouble) → fault_of_reclaim w.fault ≡ Some (Volume v t) → ((k : ℕ) → k < length g.desks.items → k < length f.desks.items) → BreaksIn g v
+  step_trouble : (k v : ℕ) (t : Trouble) (s : StepFault) → fault_of_reclaim (Some (k, s)) ≡ Some (Volume v t) → t ≡ trouble_of_part (faulty_part s)
+  step_trouble k v t (step.DiskFault p) is = cc is
+  step_trouble k v t (step.Down p) is = cc is
+
+  of_reclaim : (v : ℕ) (t : Trouble) → fault_of_reclaim w.fault ≡ Some (Volume v t) → ((k : ℕ) → k < length g.desks.items → k < length f.desks.items) → IsDownIn g v t
   of_reclaim v t fault back = at w.fault refl fault
     where
-      of_desk : (k : ℕ) (s : StepFault) → first_fault 0 (map (λ (d : Desk D). d.fault) g.desks.items) ≡ Some (k, s) → BreaksIn g k
-      of_desk k s first =
+      of_desk : (k : ℕ) (s : StepFault) → t ≡ trouble_of_part (faulty_part s) → first_fault 0 (map (λ (d : Desk D). d.fault) g.desks.items) ≡ Some (k, s) → IsDownIn g k t
+      of_desk k s named first =
           let (j, e, here, is, place) = first_at 0 g.desks.items k s first in
           let (less, same) = at_place g.desks.items j e here in
           let worked = run.worked j e (back j less) in
           let closed = subst (λ (x : Desk D). IsClosed tells mode x.fault worked.middle x.worker) (same e) worked.closed in
           let number : j ≡ k = omega (arith, place) in
-          subst (λ (x : ℕ). BreaksIn g x) number (by_worker e here (closed_cause tells mode s e.fault worked.middle e.worker closed is))
+          subst (λ (x : ℕ). IsDownIn g x t) number (by_worker e here (faulty_part s, named, closed_cause tells mode s e.fault worked.middle e.worker closed is))
 
-      of_helper : (k : ℕ) (s : StepFault) → g.help.fault ≡ Some (k, s) → BreaksIn g k
-      of_helper k s is =
-          let (less, broken) = run.cause k s is in
+      of_helper : (k : ℕ) (s : StepFault) → t ≡ trouble_of_part (faulty_part s) → g.help.fault ≡ Some (k, s) → IsDownIn g k t
+      of_helper k s named is =
+          let (less, down) = run.cause k s is in
           let (p, here) = a_member g.helpers.items k less in
           let (lt, same) = at_place g.helpers.items k p here in
-          by_helper p here (subst (λ (x : ManagerPass D). IsBroken (notes_seen x)) (same p) (broken p))
+          by_helper p here (faulty_part s, named, subst (λ (x : ManagerPass D). WasDown (faulty_part s) (notes_seen x)) (same p) (down p))
 
-      which : (k : ℕ) (s : StepFault) (x : Option (ℕ × StepFault)) → g.help.fault ≡ x → option_or x (first_fault 0 (map (λ (d : Desk D). d.fault) g.desks.items)) ≡ Some (k, s) → BreaksIn g k
-      which k s None is rest = of_desk k s rest
-      which k s (Some y) is here = of_helper k s (is ∙ here)
+      which : (k : ℕ) (s : StepFault) → t ≡ trouble_of_part (faulty_part s) → (x : Option (ℕ × StepFault)) → g.help.fault ≡ x → option_or x (first_fault 0 (map (λ (d : Desk D). d.fault) g.desks.items)) ≡ Some (k, s) → IsDownIn g k t
+      which k s named None is rest = of_desk k s named rest
+      which k s named (Some y) is here = of_helper k s named (is ∙ here)
 
-      at : (x : Option (ℕ × StepFault)) → w.fault ≡ x → fault_of_reclaim x ≡ Some (Volume v t) → BreaksIn g v
+      at : (x : Option (ℕ × StepFault)) → w.fault ≡ x → fault_of_reclaim x ≡ Some (Volume v t) → IsDownIn g v t
       at None is told = absurd (cc told)
-      at (Some (k, s)) is told = subst (λ (x : ℕ). BreaksIn g x) (step_volume k v t s told) (which k s g.help.fault refl (sym run.fault ∙ is))
+      at (Some (k, s)) is told = subst (λ (x : ℕ). IsDownIn g x t) (step_volume k v t s told) (which k s (step_trouble k v t s told) g.help.fault refl (sym run.fault ∙ is))
 
-  pub window_breaks : (v : ℕ) (t : Trouble) → fault_of_window rs w ≡ Some (Volume v t) → AllByRecursion (λ (r : Request). r.volume < length f.desks.items) rs
-      → ((k : ℕ) → k < length g.desks.items → k < length f.desks.items) → BreaksIn g v
-  window_breaks v t fault within back = at (list_any lacked_memory w.outcomes.items) fault
+  pub window_down : (v : ℕ) (t : Trouble) → fault_of_window rs w ≡ Some (Volume v t) → AllByRecursion (λ (r : Request). r.volume < length f.desks.items) rs
+      → ((k : ℕ) → k < length g.desks.items → k < length f.desks.items) → IsDownIn g v t
+  window_down v t fault within back = at (list_any lacked_memory w.outcomes.items) fault
     where
-      next : (x : Option Fault) → first_refused rs w.outcomes.items ≡ x → option_or x (fault_of_reclaim w.fault) ≡ Some (Volume v t) → BreaksIn g v
+      next : (x : Option Fault) → first_refused rs w.outcomes.items ≡ x → option_or x (fault_of_reclaim w.fault) ≡ Some (Volume v t) → IsDownIn g v t
       next None is rest = of_reclaim v t rest back
       next (Some y) is here = of_requests v t (is ∙ here) within
 
-      at : (b : Bool) → (if b then Some Memory else option_or (first_refused rs w.outcomes.items) (fault_of_reclaim w.fault)) ≡ Some (Volume v t) → BreaksIn g v
+      at : (b : Bool) → (if b then Some Memory else option_or (first_refused rs w.outcomes.items) (fault_of_reclaim w.fault)) ≡ Some (Volume v t) → IsDownIn g v t
       at true is = absurd (cc is)
       at false is = next (first_refused rs w.outcomes.items) refl is
 
 -- ---- Stations
 
 -- so of the station of that volume
-pub station_breaks : {D : Type 0} (ss : List (Station D)) (g : Floor D) → IsMoved ss g → (k : ℕ) → BreaksIn g k → (s : Station D) × (slice_get ss k ≡ Some s) × ((es : List Entry) → Begins (pass_seen s.worker) es → Begins (pass_seen s.helper) es → IsBroken (notes_of es))
-station_breaks {D} ss g moved k (by_worker e here broken) =
+pub station_down : {D : Type 0} (ss : List (Station D)) (g : Floor D) → IsMoved ss g → (k : ℕ) (t : Trouble) → IsDownIn g k t → (s : Station D) × (slice_get ss k ≡ Some s) × ((es : List Entry) → Begins (pass_seen s.worker) es → Begins (pass_seen s.helper) es → HasDown t (notes_of es))
+station_down {D} ss g moved k t (by_worker e here down) =
     let at : slice_get (map (λ (s : Station D). s.worker) ss) k ≡ Some e.worker = ap (λ (l : List (ManagerPass D)). slice_get l k) (sym moved.workers) ∙ mapped (λ (d : Desk D). d.worker) g.desks.items k e here in
     let (s, there, same) = unmapped (λ (s : Station D). s.worker) ss k e.worker at in
-    (s, there, λ es by_worker_ by_helper_. broken_in (pass_seen s.worker) es by_worker_ (subst (λ (x : ManagerPass D). IsBroken (notes_seen x)) (sym same) broken))
-station_breaks {D} ss g moved k (by_helper p here broken) =
+    (s, there, λ es by_worker_ by_helper_. down_in t (pass_seen s.worker) es by_worker_ (subst (λ (x : ManagerPass D). HasDown t (notes_seen x)) (sym same) down))
+station_down {D} ss g moved k t (by_helper p here down) =
     let at : slice_get (map (λ (s : Station D). s.helper) ss) k ≡ Some p = ap (λ (l : List (ManagerPass D)). slice_get l k) (sym moved.helpers) ∙ here in
     let (s, there, same) = unmapped (λ (s : Station D). s.helper) ss k p at in
-    (s, there, λ es by_worker_ by_helper_. broken_in (pass_seen s.helper) es by_helper_ (subst (λ (x : ManagerPass D). IsBroken (notes_seen x)) (sym same) broken))
+    (s, there, λ es by_worker_ by_helper_. down_in t (pass_seen s.helper) es by_helper_ (subst (λ (x : ManagerPass D). HasDown t (notes_seen x)) (sym same) down))

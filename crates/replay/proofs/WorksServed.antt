@@ -9,8 +9,8 @@ use Rattle.wol_promise.specs.Ruled.{Noted}
 use Rattle.manager.specs.declared.part.StepFault.{StepFault}
 use Rattle.request_turns.specs.Begun.{HasBegunVolume}
 use Rattle.request_turns.specs.Closed.{HasClosed}
-use Rattle.request_turns.specs.Turns.{Gains, IsBroken, IsHonest, LooksStay, ManagerPass, began, coded, notes_seen}
-use Rattle.request_turns.proofs.Gaining.{gains_both, gains_none, gains_turn, stays_both, turn_more}
+use Rattle.request_turns.specs.Turns.{Gains, IsBroken, IsHonest, LooksStay, ManagerPass, began, coded, faulty_part, notes_seen}
+use Rattle.request_turns.proofs.Gaining.{down_breaks, gains_both, gains_none, gains_turn, stays_both, turn_more}
 use Rattle.request_workers.specs.Begun.{HaveBegunVolumes}
 use Rattle.request_workers.specs.Closed.{IsClosed}
 use Rattle.request_workers.specs.Worked.{HasWorked}
@@ -43,8 +43,8 @@ module _ {D : Type 0} (tells : Bool) (whole : Type 0) where
   closing_of : (fault : Option StepFault) (p q : ManagerPass D) (c : HasClosed tells fault p q) → (whole → IsBroken (notes_seen q) → ⊥) → IsClosing whole c.note
   closing_of fault p q c unbroken = record {
     help = c.help;
-    kept = λ w. c.kept (no_fault (notes_seen q) fault c.cause (unbroken w));
-    idle = λ w. c.idle (no_fault (notes_seen q) fault c.cause (unbroken w));
+    kept = λ w. c.kept (no_fault (notes_seen q) fault (λ f is. down_breaks (faulty_part f) (notes_seen q) (c.cause f is)) (unbroken w));
+    idle = λ w. c.idle (no_fault (notes_seen q) fault (λ f is. down_breaks (faulty_part f) (notes_seen q) (c.cause f is)) (unbroken w));
   }
 
   works_once : (mode : Reclaim) (v : ℕ) (s : ServedWindow) (d e : Desk D) → HasWorked tells s.batch.requests s.answer.outcomes.items mode v d e → WorksOnce mode v s d.worker e.worker

@@ -13,7 +13,9 @@ use Rattle.report.specs.declared.fault.Fault.TheVariants.{Memory, Versions, Volu
 use Rattle.report.specs.declared.trouble.Trouble.{Trouble}
 use Rattle.trace_gen.specs.Generated.{targets_of}
 use Rattle.trace_windows.specs.Requests.{most_of}
-use Rattle.troubles.specs.Troubles.{trouble_of}
+use Rattle.troubles.specs.Troubles.{trouble_of, trouble_of_part}
+use Rattle.manager.specs.declared.part.Part.{Part}
+use Rattle.rack.specs.Closes.{CameBackFaulty}
 use Rattle.rack.specs.PoolUses.{ArePools, PassesEmpty}
 use Rattle.rack.specs.declared.volume_fault.VolumeFault.{VolumeFault}
 use Rattle.replay.specs.Ended.{EndsFor}
@@ -64,6 +66,8 @@ pub record Replays {S T : Type 0} (tells : Bool) (left : S → Option (List ℕ)
   pub cause : (v : ℕ) → IsTrue (is_broken_at histories v) → Rose old.faults new.faults
   -- where a part of a volume is at fault, a call of that very volume failed
   pub part : (v : ℕ) (t : Trouble) → result ≡ Err (stop.Fault (Volume v t)) → IsTrue (is_broken_at histories v)
+  -- .. and the part that is told is one that came back with a fault
+  pub named : (v : ℕ) (t : Trouble) → result ≡ Err (stop.Fault (Volume v t)) → (p : Part) × (t ≡ trouble_of_part p) × (IsTrue tells → IsTold (CameBackFaulty config p) old.told new.told)
   -- where versions ended a run, a volume's writes to logs took all of them, whatever failed afterwards
   pub spent : (v : ℕ) → result ≡ Err (stop.Fault (Versions v)) → 2 ^ 63 ≤ next_at histories v
   -- each volume was opened of an image that was accepted, and began with what the images recovered to

@@ -1,6 +1,7 @@
 -- A reclaim turn, from entering to leaving.
 use Rattle.std.proofs.Common.{◌≡◌, ℕ, Bool, true, false, List, [], ◌∷◌, ◌++◌, Option, None, Some, Result, Ok, Err, refl, sym, ap, subst, ◌∙◌}
-use Rattle.std.specs.Prelude.{IsSome, OnOk, IfErr}
+use Rattle.std.specs.Prelude.{OnOk, IfErr}
+use Rattle.std.specs.Option.{option_map}
 use Rattle.turn_lock.specs.Histories.{own, Begins}
 use Rattle.turn_lock.specs.Passes.{pass_number, pass_seen, pass_mine, IsSamePass}
 use Rattle.wol_disk.specs.Disk.{State}
@@ -15,12 +16,13 @@ use Rattle.manager.specs.Seen.{look_of_manager}
 use Rattle.manager.specs.Stands.{Stands}
 use Rattle.manager.specs.declared.base.ManagerBase.{ManagerBase}
 use Rattle.manager.specs.declared.manager.Manager.{Manager}
+use Rattle.manager.specs.declared.part.Part.{Part}
 use Rattle.manager.specs.declared.part.StepFault.{StepFault}
 use Rattle.manager.specs.declared.part.StepFault.TheVariants as fault
 use Rattle.request_turns.specs.Closed.{GoesOn, HasClosed}
 use Rattle.request_turns.specs.Counts.{Counts, CountsMore, CountsEntry, HasTaken}
 use Rattle.request_turns.specs.Entries.{note_of, step_operation, has_failed, refusal_in}
-use Rattle.request_turns.specs.Turns.{ManagerPass, notes_seen, IsBroken, HasLeft}
+use Rattle.request_turns.specs.Turns.{ManagerPass, notes_seen, WasDown, faulty_part, HasLeft}
 use Rattle.request_turns.specs.declared.tally.Tally.{Tally}
 use Rattle.request_turns.proofs.Counting.{entry_taken, entry_quiet, all_taken, more_of}
 use Rattle.request_turns.proofs.StepNotes.{step_stands, step_helps}
@@ -47,17 +49,17 @@ module _ {D T : Type 0} (tells : Bool) (state : D → State) (old new : Manager 
   idle_after (Ok x) idle is = idle
   idle_after (Err f) idle is = absurd (let no : Some f ≡ None = is in cc)
 
-  cause_after : (a : Result T StepFault) → IfErr a (λ f. IsSome new.down) → (f : StepFault) → refusal_in a ≡ Some f → IsSome new.down
+  cause_after : (a : Result T StepFault) → IfErr a (λ f. new.down ≡ Some (faulty_part f)) → (f : StepFault) → refusal_in a ≡ Some f → new.down ≡ Some (faulty_part f)
   cause_after (Ok x) down f is = absurd (let no : None ≡ Some f = is in cc)
-  cause_after (Err e) down f is = down
+  cause_after (Err e) down f is = down ∙ ap (option_map faulty_part) is
 
   kept_after : (a : Result T StepFault) (failed : Bool) → failed ≡ has_failed a → refusal_in a ≡ None → step_operation failed ≡ Kept
   kept_after (Ok x) failed is none = ap step_operation is
   kept_after (Err f) failed is none = absurd (let no : Some f ≡ None = none in cc)
 
-  pub has_closed : (p i q : ManagerPass D) (failed : Bool) (refusal : Option StepFault) → failed ≡ has_failed answer → refusal ≡ refusal_in answer → OnOk answer (IsIdleLook (look_of_manager new)) → IfErr answer (λ f. IsSome new.down)
+  pub has_closed : (p i q : ManagerPass D) (failed : Bool) (refusal : Option StepFault) → failed ≡ has_failed answer → refusal ≡ refusal_in answer → OnOk answer (IsIdleLook (look_of_manager new)) → IfErr answer (λ f. new.down ≡ Some (faulty_part f))
       → IsSamePass p i → Begins (pass_seen p) (pass_seen i) → pass_mine i ≡ pass_mine p → own (pass_number i) (pass_seen i) ≡ pass_mine i
-      → HasLeft tells (note_of (pass_number i) (step_operation failed) (look_of_manager new) [] false) i q → (IsSome new.down → IsBroken (notes_seen q)) → HasClosed tells refusal p q
+      → HasLeft tells (note_of (pass_number i) (step_operation failed) (look_of_manager new) [] false) i q → ((d : Part) → new.down ≡ Some d → WasDown d (notes_seen q)) → HasClosed tells refusal p q
   has_closed p i q failed refusal told is idle down same begins mine owns left broken = record {
     before = pass_seen i;
     note = note_of (pass_number i) (step_operation failed) (look_of_manager new) [] false;
@@ -65,7 +67,7 @@ module _ {D T : Type 0} (tells : Bool) (state : D → State) (old new : Manager 
     help = step_helps failed;
     idle = λ none. idle_after answer idle (sym is ∙ none);
     kept = λ none. kept_after answer failed told (sym is ∙ none);
-    cause = λ f some. broken (cause_after answer down f (sym is ∙ some));
+    cause = λ f some. broken (faulty_part f) (cause_after answer down f (sym is ∙ some));
   }
 
   pub closed_counted : (a : Result T StepFault) (l : Look) (pass : ℕ) (failed : Bool) (none done t u : Tally) → failed ≡ has_failed a → Counts 0 0 none → OnKept a (HasTaken none done l (look_of_manager new))

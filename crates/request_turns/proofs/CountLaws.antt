@@ -115,7 +115,7 @@ fewer_all l m (policy.more x k y first rest) = let a = fewer l k first in let b 
 
 keep_listed : (passed : List ℕ) (pass : ℕ) (l m : Look) → IsKeep passed pass l m → length m.listed ≤ length l.listed
 keep_listed passed pass l m (ruled.same is) = let a = ap (λ (x : Look). length x.listed) is in omega (arith, a)
-keep_listed passed pass l m (ruled.refused w drain) = let a = ap (λ (x : Look). length x.listed) drain.bare in omega (arith, a)
+keep_listed passed pass l m (ruled.refused w client drain) = let a = ap (λ (x : Look). length x.listed) drain.bare in omega (arith, a)
 keep_listed passed pass l m (ruled.flags is long so) = let a = ap (λ (x : Look). length x.listed) so in omega (arith, a)
 keep_listed passed pass l m (ruled.helped is step) = fewer l m step
 keep_listed passed pass l m (ruled.reclaimed is steps) = fewer_all l m steps

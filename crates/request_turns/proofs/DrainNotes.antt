@@ -1,6 +1,6 @@
 -- The entry of a write after a drain, and of one whose drain failed.
 use Rattle.std.proofs.Common.{◌≡◌, ◌^◌, ℕ, Bool, true, false, List, [], ◌∷◌, ◌++◌, length, None, Some, Result, Ok, Err, refl, sym, ap, subst, ◌∙◌, inl, inr}
-use Rattle.std.specs.Prelude.{IsSome, is_some, is_ok, ◌↔◌}
+use Rattle.std.specs.Prelude.{is_some, is_ok, ◌↔◌}
 use Rattle.std.specs.List.{list_any, range_with_len}
 use Rattle.turn_lock.specs.Passes.{pass_number}
 use Rattle.wol_disk.specs.Disk.{State, Block}
@@ -31,7 +31,7 @@ use Rattle.manager.specs.declared.part.WriteRefusal.TheVariants.{Full, DiskFault
 use Rattle.request_turns.specs.Causes.{CanTake, IsCauseOfWrite}
 use Rattle.request_turns.specs.Counts.{CountsMore, CountsEntry, IsTakenOff}
 use Rattle.request_turns.specs.Entries.{note_of, written_outcome, refused_as, has_broken, IsWrittenAs}
-use Rattle.request_turns.specs.Turns.{ManagerPass, began, notes_seen, HasLeft, IsBroken, Stays}
+use Rattle.request_turns.specs.Turns.{ManagerPass, began, notes_seen, HasLeft, IsBroken, WasDown, faulty_part, Stays}
 use Rattle.request_turns.specs.Written.{HasWritten, IsDiskFault}
 use Rattle.request_turns.specs.declared.outcome.Outcome.TheVariants as outcome
 use Rattle.request_turns.specs.declared.tally.Tally.{Tally}
@@ -61,14 +61,14 @@ module _ {D : Type 0} (old new : Manager D) (first : ℕ) (blocks : List Block) 
   is_drained : look_of_manager new ≡ look_of_manager old → IsDrained passed l w (look_of_manager new)
   is_drained look = record { full = full; bare = look ∙ bare }
 
-  drain_step : (view : List ℕ) (a : Result Place WriteRefusal) → IsPlaceOf view a P → HasLook P w a (look_of_manager old) (look_of_manager new) → IsStep (drain_note a) pass (written next first blocks a) l (look_of_manager new)
-  drain_step view (Ok place.Home) at look = inr (refl, record { write = w; only = refl; home = refl; drains = record { full = full; bare = look ∙ (λ i. placed (at_home i) (bare i) w) } })
-  drain_step view (Ok (place.Log logger)) at look = absurd (let no : AtHome ≡ InLog at.0 = sym at_home ∙ at.2 in cc)
-  drain_step view (Err Full) at look = absurd (let no : AtHome ≡ Nowhere = sym at_home ∙ at in cc)
-  drain_step view (Err (DiskFault p)) at look = refl
-  drain_step view (Err (Down p)) at look = (refl, ruled.refused w (is_drained look))
-  drain_step view (Err VersionsSpent) at look = (refl, ruled.refused w (is_drained look))
-  drain_step view (Err NoMemory) at look = (refl, ruled.refused w (is_drained look))
+  drain_step : pass ≡ worker → (view : List ℕ) (a : Result Place WriteRefusal) → IsPlaceOf view a P → HasLook P w a (look_of_manager old) (look_of_manager new) → IsStep (drain_note a) pass (written next first blocks a) l (look_of_manager new)
+  drain_step client view (Ok place.Home) at look = inr (refl, record { write = w; only = refl; home = refl; drains = record { full = full; bare = look ∙ (λ i. placed (at_home i) (bare i) w) } })
+  drain_step client view (Ok (place.Log logger)) at look = absurd (let no : AtHome ≡ InLog at.0 = sym at_home ∙ at.2 in cc)
+  drain_step client view (Err Full) at look = absurd (let no : AtHome ≡ Nowhere = sym at_home ∙ at in cc)
+  drain_step client view (Err (DiskFault p)) at look = refl
+  drain_step client view (Err (Down p)) at look = (refl, ruled.refused w client (is_drained look))
+  drain_step client view (Err VersionsSpent) at look = (refl, ruled.refused w client (is_drained look))
+  drain_step client view (Err NoMemory) at look = (refl, ruled.refused w client (is_drained look))
 
   drain_entry : (view mine : List ℕ) (a : Result Place WriteRefusal) → IsPlaceOf view a P → HasLook P w a (look_of_manager old) (look_of_manager new)
       → ((a ≡ Err VersionsSpent) → old.next ≡ 2 ^ 63) → IsWrittenAs mine w (written_outcome true a) (drain_note a)
@@ -104,7 +104,7 @@ module _ {D : Type 0} (old new : Manager D) (first : ℕ) (blocks : List Block) 
   drain_stands tells state b notes n1 view a is_l client is_next kept is_passed at look stands keeps =
       let n2 : Noted = record { entry = record { pass = pass; operation = written old.next first blocks a }; look = look_of_manager new; passed = passed_in new.rooms.items; after_drain = false; ruled = false } in
       merged notes n1 n2 (drain_note a) kept (ap (λ (k : ℕ). (let e : Entry = record { pass = pass; operation = written k first blocks a } in e)) is_next) tells state new b refl is_passed
-      (λ _. subst (λ (k : Look). IsStep (drain_note a) pass (written next first blocks a) k (look_of_manager new)) is_l (drain_step view a at look))
+      (λ _. subst (λ (k : Look). IsStep (drain_note a) pass (written next first blocks a) k (look_of_manager new)) is_l (drain_step client view a at look))
       (stands b (notes ++ n1 ∷ []) n2 client (record { operation_is = refl; look_is = refl; passed_is = refl; drain = refl; follows = λ is. absurd (let no : false ≡ true = is in cc) }) keeps)
 
 -- what the drain took off is counted, unless the write's disk call failed
@@ -134,7 +134,7 @@ pub has_drained : {D : Type 0} (tells : Bool) (state : D → State) (old new : M
     → look_of_manager old ≡ drained (last_look (began p).look (notes_seen p)) → place_of passed (last_look (began p).look (notes_seen p)) (home_write first blocks) ≡ Nowhere
     → IsPlaceOf view a (ruled_place old new first blocks) → HasLook (ruled_place old new first blocks) (home_write first blocks) a (look_of_manager old) (look_of_manager new)
     → ((d : Part) → (a ≡ Err (Down d)) ↔ (old.down ≡ Some d)) → ((a ≡ Err VersionsSpent) ↔ ((old.down ≡ None) × (old.next ≡ 2 ^ 63))) → writing.TellsFault state a old new
-    → HasLeft tells (note_of (pass_number p) (written next first blocks a) (look_of_manager new) passed (is_ok a)) p q → (IsSome new.down → IsBroken (notes_seen q)) → (new.down ≡ None → IsBroken (notes_seen q) → ⊥) → HasWritten tells first blocks (written_outcome true a) t u p q
+    → HasLeft tells (note_of (pass_number p) (written next first blocks a) (look_of_manager new) passed (is_ok a)) p q → ((d : Part) → new.down ≡ Some d → WasDown d (notes_seen q)) → (new.down ≡ None → IsBroken (notes_seen q) → ⊥) → HasWritten tells first blocks (written_outcome true a) t u p q
 has_drained tells state old new first blocks next passed view a p q done t u failed is_failed taken add stays takes up bare full at look down spent told left broken unbroken = record {
   note = note_of (pass_number p) (written next first blocks a) (look_of_manager new) passed (is_ok a);
   left = left;
@@ -158,7 +158,7 @@ broke_stands tells state old new b notes n1 pass (fault.DiskFault p) failed kept
 broke_stands tells state old new b notes n1 pass (fault.Down p) failed kept breaks keeps = absurd failed
 
 pub write_broken : {D : Type 0} (tells : Bool) (new : Manager D) (first : ℕ) (blocks : List Block) (passed : List ℕ) (f : StepFault) (p q : ManagerPass D) (t : Tally) → IsDiskFault f
-    → HasLeft tells (note_of (pass_number p) (Broke []) (look_of_manager new) passed false) p q → (IsSome new.down → IsBroken (notes_seen q)) → IsSome new.down
+    → HasLeft tells (note_of (pass_number p) (Broke []) (look_of_manager new) passed false) p q → ((d : Part) → new.down ≡ Some d → WasDown d (notes_seen q)) → new.down ≡ Some (faulty_part f)
     → CanTake (notes_seen p) (last_look (began p).look (notes_seen p)) → HasWritten tells first blocks (outcome.NoWrite (refused_as f)) t t p q
 write_broken tells new first blocks passed (fault.DiskFault d) p q t failed left broken down takes = record {
   note = note_of (pass_number p) (Broke []) (look_of_manager new) passed false;
@@ -167,7 +167,7 @@ write_broken tells new first blocks passed (fault.DiskFault d) p q t failed left
   entry = ([], refl, inl refl);
   stays = λ kept. absurd (let no : Broke [] ≡ Kept = kept in cc);
   cause = takes;
-  fault = broken down;
+  fault = broken d down;
   counted = entry_quiet (last_look (began p).look (notes_seen p)) (note_of (pass_number p) (Broke []) (look_of_manager new) passed false) t refl;
 }
 write_broken tells new first blocks passed (fault.Down d) p q t failed left broken down takes = absurd failed

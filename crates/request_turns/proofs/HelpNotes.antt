@@ -1,6 +1,5 @@
 -- The entry of a helper's turn.
-use Rattle.std.proofs.Common.{◌≡◌, ℕ, zero, suc, Bool, false, List, [], ◌∷◌, ◌++◌, Option, Result, Ok, Err, refl, sym, ap, subst, ◌∙◌, arith}
-use Rattle.std.specs.Prelude.{IsSome, is_some}
+use Rattle.std.proofs.Common.{◌≡◌, ℕ, zero, suc, Bool, false, List, [], ◌∷◌, ◌++◌, Option, Some, Result, Ok, Err, refl, sym, ap, subst, ◌∙◌, arith}
 use Rattle.std.proofs.lemmas.List.{map-append}
 use Rattle.turn_lock.specs.Histories.{Entry, own, Begins}
 use Rattle.turn_lock.specs.LockIds.{LockId}
@@ -29,7 +28,7 @@ use Rattle.reclaimer.proofs.Later.{data_is_kept}
 use Rattle.request_turns.specs.Counts.{CountsMore, CountsEntry}
 use Rattle.request_turns.specs.Entries.{note_of, step_operation, has_failed}
 use Rattle.request_turns.specs.Helped.{HasHelped, AreKept}
-use Rattle.request_turns.specs.Turns.{ManagerPass, coded, notes_seen, HasLeft}
+use Rattle.request_turns.specs.Turns.{ManagerPass, coded, notes_seen, faulty_part, HasLeft}
 use Rattle.request_turns.specs.declared.tally.Tally.{Tally}
 use Rattle.request_turns.proofs.Counting.{entry_taken, entry_quiet, entry_same, none_more}
 use Rattle.request_turns.proofs.Gaining.{gains_turn, kept_one}
@@ -40,7 +39,7 @@ use Rattle.request_turns.proofs.Turning.{turned}
 -- ---- The entry
 
 module _ {D : Type 0} (old new : Manager D) (pass : ℕ) where
-  pub same_keep : {T : Type 0} (a : Result T StepFault) → look_of_manager new ≡ look_of_manager old → OnKept a (IsKeep [] pass (look_of_manager old) (look_of_manager new))
+  pub same_keep : {T : Type 0} (a : Result T StepFault) → OnKept a (look_of_manager new ≡ look_of_manager old) → OnKept a (IsKeep [] pass (look_of_manager old) (look_of_manager new))
   same_keep (Ok x) same = ruled.same same
   same_keep (Err (fault.DiskFault p)) same = tt
   same_keep (Err (fault.Down p)) same = ruled.same same
@@ -73,9 +72,9 @@ has_helped tells p i q failed l same begins mine owns left = record {
   help = (step_helps failed, tt);
 }
 
-pub down_at : {D T : Type 0} (state : D → State) (old new : Manager D) (a : Result T StepFault) (f : StepFault) → a ≡ Err f → TellsStep state a old new → IsSome new.down
-down_at {D} {T} state old new a (fault.DiskFault p) is told = let t = subst (λ (r : Result T StepFault). TellsStep state r old new) is told in ap is_some t.1
-down_at {D} {T} state old new a (fault.Down p) is told = let t = subst (λ (r : Result T StepFault). TellsStep state r old new) is told in ap (λ (m : Manager D). is_some m.down) t.1 ∙ ap is_some t.0
+pub down_at : {D T : Type 0} (state : D → State) (old new : Manager D) (a : Result T StepFault) (f : StepFault) → a ≡ Err f → TellsStep state a old new → new.down ≡ Some (faulty_part f)
+down_at {D} {T} state old new a (fault.DiskFault p) is told = let t = subst (λ (r : Result T StepFault). TellsStep state r old new) is told in t.1
+down_at {D} {T} state old new a (fault.Down p) is told = let t = subst (λ (r : Result T StepFault). TellsStep state r old new) is told in ap (λ (m : Manager D). m.down) t.1 ∙ t.0
 
 -- ---- What was fetched
 
@@ -109,6 +108,8 @@ step_kept tells p i q failed l a x done is mine left =
     let n = note_of (pass_number i) (step_operation failed) l [] false in
     kept_one p q n (left.mine ∙ ap (λ (es : List Entry). es ++ coded n ∷ []) mine) (ap step_operation (is ∙ ap has_failed done))
 
--- so it is for one that left the records as they were
-pub same_counted : (l m : Look) (pass : ℕ) (failed : Bool) (t : Tally) → m.listed ≡ l.listed → CountsEntry l (note_of pass (step_operation failed) m [] false) t t
-same_counted l m pass failed t same = entry_same l (note_of pass (step_operation failed) m [] false) t (λ _. same)
+-- so it is for one that left the look as it was
+pub same_counted : {T : Type 0} (l m : Look) (pass : ℕ) (failed : Bool) (t : Tally) (a : Result T StepFault) → failed ≡ has_failed a → OnKept a (m ≡ l) → CountsEntry l (note_of pass (step_operation failed) m [] false) t t
+same_counted l m pass failed t (Ok x) is same = entry_same l (note_of pass (step_operation failed) m [] false) t (λ _. ap (λ (k : Look). k.listed) same)
+same_counted l m pass failed t (Err (fault.DiskFault p)) is same = entry_quiet l (note_of pass (step_operation failed) m [] false) t (ap (λ (f : Bool). reclaims false (step_operation f)) is)
+same_counted l m pass failed t (Err (fault.Down p)) is same = entry_same l (note_of pass (step_operation failed) m [] false) t (λ _. ap (λ (k : Look). k.listed) same)

@@ -8,15 +8,17 @@ use Rattle.turn_lock.specs.Passes.{pass_lock, pass_number, pass_seen, pass_mine,
 use Rattle.wol_disk.specs.Disk.{State}
 use Rattle.wol_model.specs.History.{flight_of}
 use Rattle.wol_promise.specs.Code.{code_of, noted_of}
+use Rattle.wol_promise.specs.Policy.{Look}
 use Rattle.wol_promise.specs.Ruled.{Noted, entries_of}
 use Rattle.wol_promise.specs.Stands.{HasHistory}
+use Rattle.wol_promise.proofs.OneMore.{last_more}
 use Rattle.wol_promise.proofs.ReadCode.{noted_is_back}
 use Rattle.manager.specs.Seen.{down_of}
 use Rattle.manager.specs.Stands.{Keeps, Stands, StandsCoded, notes_of}
 use Rattle.manager.specs.declared.base.ManagerBase.{ManagerBase}
 use Rattle.manager.specs.declared.manager.Manager.{Manager}
 use Rattle.manager.specs.declared.part.Part.{Part}
-use Rattle.request_turns.specs.Turns.{ManagerPass, began, notes_seen, IsBroken, HasLeft}
+use Rattle.request_turns.specs.Turns.{ManagerPass, began, notes_seen, IsBroken, WasDown, HasLeft}
 
 -- the entries with one more, as notes
 pub notes_at : (es : List Entry) (k : ℕ) (n : Noted) → n.entry.pass ≡ k → notes_of (es ++ (k, code_of n) ∷ []) ≡ notes_of es ++ n ∷ []
@@ -61,8 +63,16 @@ module _ {D : Type 0} (tells : Bool) (state : D → State) (m : Manager D) (p q 
         (subst (HasHistory (IsTrue tells) (began p)) (sym now_seen) s.keeps.upholds.history);
   }
 
-  pub is_broken : IsSome m.down → IsBroken (notes_seen q)
-  is_broken down = subst IsBroken (sym now_seen) (was_broken tells state m (pass_lock p).base (notes_seen p ++ n ∷ []) s.keeps down)
+  -- behind the entry the part is down that the manager keeps
+  pub part_down : (d : Part) → m.down ≡ Some d → WasDown d (notes_seen q)
+  part_down d down = record {
+    front = notes_seen p;
+    note = n;
+    later = [];
+    notes_are = now_seen;
+    broken = was_broken tells state m (pass_lock p).base (notes_seen p ++ n ∷ []) s.keeps (ap is_some down);
+    down = ap (λ (l : Look). l.down) (sym (last_more (began p).look (notes_seen p) n) ∙ s.look) ∙ ap down_of down;
+  }
 
   pub is_unbroken : m.down ≡ None → IsBroken (notes_seen q) → ⊥
   is_unbroken up broken = was_unbroken tells state m (pass_lock p).base (notes_seen p ++ n ∷ []) s.keeps up (subst IsBroken now_seen broken)

@@ -29,7 +29,7 @@ use Rattle.turn_lock.specs.Passes.{pass_lock, pass_number, pass_seen, pass_mine,
 use Rattle.wol_promise.specs.Ruled.{last_look}
 use Rattle.manager.specs.declared.base.ManagerBase.{ManagerBase}
 use Rattle.request_turns.specs.Answered.{HasAnswered}
-use Rattle.request_turns.specs.Turns.{ManagerPass, began, notes_seen, HasLeft, IsBroken, Stays}
+use Rattle.request_turns.specs.Turns.{ManagerPass, began, notes_seen, HasLeft, IsBroken, WasDown, Stays}
 use Rattle.request_turns.specs.declared.tally.Tally.{Tally}
 use Rattle.request_turns.proofs.Counting.{entry_same, counted_turn}
 use Rattle.request_turns.proofs.Noting.{was_broken, was_unbroken}
@@ -85,11 +85,11 @@ module _ {D : Type 0} (old new : Manager D) (first : ℕ) (out : List Block) (pa
 
 -- why it came
 module _ {D : Type 0} (old new : Manager D) (out : List Block) where
-  read_fault : (seen : List Noted) (a : Result Sources ReadRefusal) → ((p : Part) → a ≡ Err (DiskFault p) → IsSome new.down) → ((p : Part) → a ≡ Err (Down p) → IsSome new.down) → (IsSome new.down → IsBroken seen)
+  read_fault : (seen : List Noted) (a : Result Sources ReadRefusal) → ((p : Part) → a ≡ Err (DiskFault p) → new.down ≡ Some p) → ((p : Part) → a ≡ Err (Down p) → new.down ≡ Some p) → ((d : Part) → new.down ≡ Some d → WasDown d seen)
       → TellsFault seen (read_outcome out a)
   read_fault seen (Ok s) failed down broken = tt
-  read_fault seen (Err (DiskFault p)) failed down broken = broken (failed p refl)
-  read_fault seen (Err (Down p)) failed down broken = broken (down p refl)
+  read_fault seen (Err (DiskFault p)) failed down broken = broken p (failed p refl)
+  read_fault seen (Err (Down p)) failed down broken = broken p (down p refl)
 
   abbrev is_down : Result Sources ReadRefusal → Bool
   is_down (Ok s) = false
@@ -111,7 +111,7 @@ pub has_read : {D : Type 0} (tells : Bool) (state : D → State) (old new : Mana
     → OnOk answer (look_of_manager new ≡ woken (look_of_manager old) first n)
     → IfOk answer (λ s. s.logged ≡ count_by (is_covered (listed_in old.index.entries)) (range_with_len first n)) → IfOk answer (λ s. s.home + s.logged ≡ n)
     → ((d : Part) → (answer ≡ Err (Down d)) ↔ (old.down ≡ Some d)) → (IsSome old.down → new ≡ old) → ((d : Part) → answer ≡ Err (DiskFault d) → new.down ≡ Some d)
-    → HasLeft tells (note_of (pass_number p) (was_read first out answer) (look_of_manager new) [] false) p q → (IsSome new.down → IsBroken (notes_seen q))
+    → HasLeft tells (note_of (pass_number p) (was_read first out answer) (look_of_manager new) [] false) p q → ((d : Part) → new.down ≡ Some d → WasDown d (notes_seen q))
     → HasRead tells first out answer p q
 has_read {D} tells state old new first out answer p q n long stands look logged all down unchanged failed left broken = record {
   note = note_of (pass_number p) (was_read first out answer) (look_of_manager new) [] false;
@@ -120,8 +120,7 @@ has_read {D} tells state old new first out answer p q n long stands look logged 
   entry = read_as old new first out (pass_number p) n long answer look logged all;
   stays = read_stays old new first out answer (last_look (began p).look (notes_seen p)) (pass_number p) stands.look n long look down unchanged (note_of (pass_number p) (was_read first out answer) (look_of_manager new) [] false) refl;
   cause = read_cause old new out (notes_seen p) answer down (was_broken tells state old (pass_lock p).base (notes_seen p) stands.keeps) (was_unbroken tells state old (pass_lock p).base (notes_seen p) stands.keeps);
-  fault = read_fault old new out (notes_seen q) answer (λ d is. ap is_some (failed d is))
-      (λ d is. let was = (down d).0 is in ap (λ (m : Manager D). is_some m.down) (unchanged (ap is_some was)) ∙ ap is_some was) broken;
+  fault = read_fault old new out (notes_seen q) answer failed (λ d is. let was = (down d).0 is in ap (λ (m : Manager D). m.down) (unchanged (ap is_some was)) ∙ was) broken;
   counted = read_counted old new first out answer (last_look (began p).look (notes_seen p)) (pass_number p) stands.look n long look down unchanged;
 }
 

@@ -1,6 +1,6 @@
 -- A write's entry, where a log or home took it or it was refused.
 use Rattle.std.proofs.Common.{◌≡◌, ◌<◌, ◌≤◌, ◌^◌, ℕ, Bool, true, false, List, [], ◌∷◌, ◌++◌, map, Option, None, Some, Result, Ok, Err, refl, sym, ap, subst, ◌∙◌, inl, inr, arith}
-use Rattle.std.specs.Prelude.{IsSome, is_some, ◌↔◌}
+use Rattle.std.specs.Prelude.{is_some, ◌↔◌}
 use Rattle.wol_disk.specs.Disk.{State, Block}
 use Rattle.turn_lock.specs.Passes.{pass_lock, pass_number, pass_seen}
 use Rattle.wol_model.specs.Blocks.{Write}
@@ -30,7 +30,7 @@ use Rattle.wol_model.specs.History.{worker}
 use Rattle.request_turns.specs.Causes.{CanTake, IsCauseOfWrite, IsUnbroken}
 use Rattle.request_turns.specs.Counts.{CountsEntry}
 use Rattle.request_turns.specs.Entries.{note_of, full_note, written_outcome, is_full, IsWrittenAs, TellsFault, WasSpent}
-use Rattle.request_turns.specs.Turns.{ManagerPass, began, notes_seen, HasLeft, IsBroken, Stays}
+use Rattle.request_turns.specs.Turns.{ManagerPass, began, notes_seen, HasLeft, IsBroken, WasDown, Stays}
 use Rattle.request_turns.specs.Written.{HasWritten}
 use Rattle.request_turns.specs.declared.tally.Tally.{Tally}
 use Rattle.request_turns.proofs.Counting.{entry_same, entry_quiet}
@@ -136,13 +136,13 @@ was_spent {D} tells state old new P w n p q is_look left a look told spent unbro
       spent = ap (λ (k : Look). k.next) (is_look ∙ same) ∙ (spent.0 is).1;
     }
 
--- a refusal that tells of a part comes where the manager is down after the call
+-- a refusal that tells of a part comes where the manager keeps it as down after the call
 pub write_fault : {D : Type 0} (state : D → State) (old new : Manager D) (drained : Bool) (seen : List Noted) (a : Result Place WriteRefusal) → writing.TellsFault state a old new
-    → ((p : Part) → (a ≡ Err (Down p)) ↔ (old.down ≡ Some p)) → (IsSome new.down → IsBroken seen) → (a ≡ Err VersionsSpent → WasSpent seen) → TellsFault seen (written_outcome drained a)
+    → ((p : Part) → (a ≡ Err (Down p)) ↔ (old.down ≡ Some p)) → ((d : Part) → new.down ≡ Some d → WasDown d seen) → (a ≡ Err VersionsSpent → WasSpent seen) → TellsFault seen (written_outcome drained a)
 write_fault state old new drained seen (Ok p) told down broken spent = tt
 write_fault state old new drained seen (Err Full) told down broken spent = tt
-write_fault state old new drained seen (Err (DiskFault p)) told down broken spent = broken (ap is_some told.0)
-write_fault state old new drained seen (Err (Down p)) told down broken spent = broken (ap is_some (told ∙ (down p).0 refl))
+write_fault state old new drained seen (Err (DiskFault p)) told down broken spent = broken p told.0
+write_fault state old new drained seen (Err (Down p)) told down broken spent = broken p (told ∙ (down p).0 refl)
 write_fault state old new drained seen (Err VersionsSpent) told down broken spent = spent refl
 write_fault state old new drained seen (Err NoMemory) told down broken spent = tt
 
@@ -224,7 +224,7 @@ module _ {D : Type 0} (tells : Bool) (state : D → State) (old new : Manager D)
       → is_full a ≡ false → Keeps tells state old (pass_lock p).base (notes_seen p) → map logger_of old.lanes.items ≡ (began p).view → last_look (began p).look (notes_seen p) ≡ look_of_manager old
       → IsPlaceOf (map logger_of old.lanes.items) a (ruled_place old new first blocks) → HasLook (ruled_place old new first blocks) (home_write first blocks) a (look_of_manager old) (look_of_manager new)
       → ((d : Part) → (a ≡ Err (Down d)) ↔ (old.down ≡ Some d)) → ((a ≡ Err VersionsSpent) ↔ ((old.down ≡ None) × (old.next ≡ 2 ^ 63))) → writing.TellsFault state a old new
-      → HasLeft tells (note_of (pass_number p) (written next first blocks a) (look_of_manager new) (passed_in new.rooms.items) false) p q → (IsSome new.down → IsBroken (notes_seen q)) → (new.down ≡ None → IsBroken (notes_seen q) → ⊥)
+      → HasLeft tells (note_of (pass_number p) (written next first blocks a) (look_of_manager new) (passed_in new.rooms.items) false) p q → ((d : Part) → new.down ≡ Some d → WasDown d (notes_seen q)) → (new.down ≡ None → IsBroken (notes_seen q) → ⊥)
       → HasWritten tells first blocks (written_outcome false a) t t p q
   has_written p q t not_full keeps view is at look down spent told left broken unbroken = record {
     note = write_note old new first blocks (pass_number p) a;

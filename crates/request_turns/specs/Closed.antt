@@ -5,13 +5,13 @@ use Rattle.wol_model.specs.History.{Kept, IsHelp}
 use Rattle.wol_promise.specs.Policy.{Look, AreReclaims, IsIdleLook}
 use Rattle.wol_promise.specs.Ruled.{Noted}
 use Rattle.manager.specs.declared.part.StepFault.{StepFault}
-use Rattle.request_turns.specs.Turns.{ManagerPass, notes_seen, IsBroken, HasTurned}
+use Rattle.request_turns.specs.Turns.{ManagerPass, notes_seen, WasDown, faulty_part, HasTurned}
 
 -- steps of reclaim led from one look to the other, wherever steps led to the first
 abbrev pub GoesOn : (l m : Look) → Type 0
 GoesOn l m = (k : Look) → AreReclaims k l → AreReclaims k m
 
--- One turn, whose entry changes no content. It leaves an idle look, unless a step was refused; that comes only where a disk call failed.
+-- One turn, whose entry changes no content. It leaves an idle look, unless a step was refused; that comes only where the part that it names was down.
 pub record HasClosed {D : Type 0} (tells : Bool) (fault : Option StepFault) (p q : ManagerPass D) : Type 0 where
   pub before : List Entry
   pub note : Noted
@@ -19,4 +19,4 @@ pub record HasClosed {D : Type 0} (tells : Bool) (fault : Option StepFault) (p q
   pub help : IsHelp note.entry.operation
   pub idle : fault ≡ None → IsIdleLook note.look
   pub kept : fault ≡ None → note.entry.operation ≡ Kept
-  pub cause : (f : StepFault) → fault ≡ Some f → IsBroken (notes_seen q)
+  pub cause : (f : StepFault) → fault ≡ Some f → WasDown (faulty_part f) (notes_seen q)

@@ -20,7 +20,7 @@ use Rattle.manager.specs.declared.part.StepFault.{StepFault}
 use Rattle.manager.specs.declared.part.StepFault.TheVariants as fault
 use Rattle.manager.specs.declared.part.WriteRefusal.{WriteRefusal}
 use Rattle.manager.specs.declared.part.WriteRefusal.TheVariants as refused
-use Rattle.request_turns.specs.Turns.{IsBroken}
+use Rattle.request_turns.specs.Turns.{IsBroken, WasDown}
 use Rattle.trace_windows.specs.Requests.{asked}
 use Rattle.trace_windows.specs.declared.request.Request.{Request}
 use Rattle.request_turns.specs.declared.outcome.Outcome.{Outcome}
@@ -188,15 +188,15 @@ pub record WasSpent (seen : List Noted) : Type 0 where
   pub unbroken : IsBroken (front ++ note ∷ []) → ⊥
   pub spent : note.look.next ≡ 2 ^ 63
 
--- a refusal that tells of a disk comes only where a disk call failed, and one for want of a version only where none was left before any failed
+-- a refusal that tells of a part comes only where that part was down, and one for want of a version only where none was left before any failed
 abbrev pub TellsOfRead : ReadRefusal → List Noted → Type 0
-TellsOfRead (refused_read.DiskFault p) seen = IsBroken seen
-TellsOfRead (refused_read.Down p) seen = IsBroken seen
+TellsOfRead (refused_read.DiskFault p) seen = WasDown p seen
+TellsOfRead (refused_read.Down p) seen = WasDown p seen
 
 abbrev pub TellsOfWrite : WriteRefusal → List Noted → Type 0
 TellsOfWrite refused.Full seen = ⊤
-TellsOfWrite (refused.DiskFault p) seen = IsBroken seen
-TellsOfWrite (refused.Down p) seen = IsBroken seen
+TellsOfWrite (refused.DiskFault p) seen = WasDown p seen
+TellsOfWrite (refused.Down p) seen = WasDown p seen
 TellsOfWrite refused.VersionsSpent seen = WasSpent seen
 TellsOfWrite refused.NoMemory seen = ⊤
 

@@ -1,5 +1,5 @@
 -- What turns of a manager's lock add to a pass: entries with their notes.
-use Rattle.std.specs.Prelude.{⊤, ◌≡◌, ◌⊎◌, ◌∷◌, ◌++◌, Bool, true, List, [], map, is_some, IsTrue}
+use Rattle.std.specs.Prelude.{⊤, ◌≡◌, ◌⊎◌, ◌∷◌, ◌++◌, Bool, true, List, [], Some, map, is_some, IsTrue}
 use Rattle.std.specs.List.{AllByRecursion}
 use Rattle.turn_lock.specs.Histories.{Entry, own, Begins}
 use Rattle.turn_lock.specs.Passes.{pass_lock, pass_number, pass_seen, pass_mine, IsFree, IsSamePass}
@@ -11,9 +11,13 @@ use Rattle.wol_promise.specs.Manager.{Base}
 use Rattle.wol_promise.specs.Policy.{Look}
 use Rattle.wol_promise.specs.Ruled.{Noted, IsDrained, entries_of, last_look}
 use Rattle.wol_promise.specs.Stands.{HasHistory}
+use Rattle.manager.specs.Seen.{name_of}
 use Rattle.manager.specs.Stands.{notes_of}
 use Rattle.manager.specs.declared.base.ManagerBase.{ManagerBase}
 use Rattle.manager.specs.declared.manager.Manager.{Manager}
+use Rattle.manager.specs.declared.part.Part.{Part}
+use Rattle.manager.specs.declared.part.StepFault.{StepFault}
+use Rattle.manager.specs.declared.part.StepFault.TheVariants as fault
 
 -- a pass of a manager's lock
 abbrev pub ManagerPass : Type 0 → Type 0
@@ -34,6 +38,20 @@ notes_seen p = notes_of (pass_seen p)
 -- a disk call of the volume failed
 abbrev pub IsBroken : List Noted → Type 0
 IsBroken notes = is_some (flight_of (entries_of notes)) ≡ true
+
+-- behind one of these entries this part was down, since a disk call had failed in it or before it
+pub record WasDown (p : Part) (notes : List Noted) : Type 0 where
+  pub front : List Noted
+  pub note : Noted
+  pub later : List Noted
+  pub notes_are : notes ≡ front ++ note ∷ later
+  pub broken : IsBroken (front ++ note ∷ [])
+  pub down : note.look.down ≡ Some (name_of p)
+
+-- the part that a refused step names
+abbrev pub faulty_part : StepFault → Part
+faulty_part (fault.DiskFault p) = p
+faulty_part (fault.Down p) = p
 
 -- what the pass has seen is a legal history whose ruled entries follow the rules, and its own entries are those with its number
 pub record IsHonest {D : Type 0} (tells : Bool) (p : ManagerPass D) : Type 0 where

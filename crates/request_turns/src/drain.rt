@@ -1,5 +1,5 @@
 // A write that no log has room for: all records are drained, and then the write goes home.
-ghost use Rattle.std.specs.Prelude.{ℕ, IsSome, ◌≡◌, ◌++◌, ◌∷◌, [], ◌≤◌, ◌+◌, false, None, length, OnOk, IfErr, is_ok};
+ghost use Rattle.std.specs.Prelude.{ℕ, ◌≡◌, ◌++◌, ◌∷◌, [], ◌≤◌, ◌+◌, false, None, Some, length, OnOk, IfErr, is_ok};
 ghost use Rattle.turn_lock.specs.Passes.{pass_lock, pass_number, IsPassOf, IsInTurn};
 ghost use Rattle.wol_model.specs.History.{worker, Broke};
 ghost use Rattle.wol_model.specs.Placing.{Full as Nowhere};
@@ -9,10 +9,11 @@ ghost use Rattle.manager.specs.Answers.{home_write, written};
 ghost use Rattle.manager.specs.Reclaim.{OnKept, OnFailed, KeepsOn, BreaksOff, Always};
 ghost use Rattle.manager.specs.Seen.{look_of_manager};
 ghost use Rattle.manager.specs.Stands.{Keeps, Stands, IsReady, IsHome, IsShared, passed_in};
+ghost use Rattle.manager.specs.declared.part.Part.{Part};
 ghost use Rattle.request_turns.specs.Causes.{CanTake};
 ghost use Rattle.request_turns.specs.Counts.{HasTaken, IsTakenOff};
 ghost use Rattle.request_turns.specs.Entries.{note_of, full_note, refused_as, has_broken};
-ghost use Rattle.request_turns.specs.Turns.{notes_seen, HasLeft, IsBroken};
+ghost use Rattle.request_turns.specs.Turns.{notes_seen, HasLeft, IsBroken, WasDown, faulty_part};
 ghost use Rattle.request_turns.specs.Written.{HasWritten, IsDiskFault};
 
 use crate::noted::{Memo, leave_noted};
@@ -42,7 +43,7 @@ fn drain<R: Wait, D: Disk>(
     ensures at { IsHome shared.now m.new }
     ensures drained { OnOk result ((m.new.down ≡ None) × (look_of_manager m.new ≡ drained (look_of_manager m.old))) }
     ensures refused { IfErr result IsDiskFault }
-    ensures down { IfErr result (λ f. IsSome m.new.down) }
+    ensures down { IfErr result (λ f. m.new.down ≡ Some (faulty_part f)) }
     ensures taken { OnOk result (HasTaken tally.old tally.new (look_of_manager m.old) (look_of_manager m.new)) }
     ensures keeps { OnKept result (KeepsOn D.tells D.state m.old m.new Always) }
     ensures broke { OnFailed result (BreaksOff D.tells D.state m.old m.new Always) }
@@ -83,7 +84,7 @@ fn leave_broken<D: Disk, B: Memo, N: Memo>(
     requires note { N.note ≡ note_of (pass_number pass.old) (Broke []) (look_of_manager turn.value) B.note.passed false }
     requires value { Stands D.tells D.state turn.value (pass_lock pass.old).base (notes_seen pass.old ++ N.note ∷ []) }
     ensures left { HasLeft D.tells N.note pass.old pass.new }
-    ensures broken { IsSome turn.value.down → IsBroken (notes_seen pass.new) }
+    ensures broken { (p : Part) → turn.value.down ≡ Some p → WasDown p (notes_seen pass.new) }
 {
     leave_noted::<D, N>(lock, turn, pass);
 }
@@ -102,7 +103,7 @@ fn leave_drained<D: Disk, B: Memo, N: Memo>(
     requires note { N.note ≡ note_of (pass_number pass.old) (written B.next lbn from.now answer.now) (look_of_manager turn.value) B.note.passed (is_ok answer.now) }
     requires value { Stands D.tells D.state turn.value (pass_lock pass.old).base (notes_seen pass.old ++ N.note ∷ []) }
     ensures left { HasLeft D.tells N.note pass.old pass.new }
-    ensures broken { IsSome turn.value.down → IsBroken (notes_seen pass.new) }
+    ensures broken { (p : Part) → turn.value.down ≡ Some p → WasDown p (notes_seen pass.new) }
     ensures unbroken { turn.value.down ≡ None → IsBroken (notes_seen pass.new) → ⊥ }
 {
     let _ = from;

@@ -6,7 +6,7 @@ ghost use Rattle.manager.specs.Stands.{IsShared};
 ghost use Rattle.reclaimer.specs.Fetches.{HasData};
 ghost use Rattle.request_turns.specs.Counts.{CountsMore, HasCounted, ReclaimsNothing, gone_count};
 ghost use Rattle.request_turns.specs.Helped.{IsPassAt, HasHelped, AreKept};
-ghost use Rattle.request_turns.specs.Turns.{notes_seen, IsBroken};
+ghost use Rattle.request_turns.specs.Turns.{notes_seen, WasDown, faulty_part};
 
 use crate::answer::has_failed;
 use crate::noted::leave_step;
@@ -31,7 +31,7 @@ pub fn fetch_turn<D: Disk, R: Wait>(
     ensures helped { HasHelped D.tells pass.old pass.new }
     ensures counted { ReclaimsNothing D.tells pass.old pass.new }
     ensures data { HasData D.tells room.new (pass_lock pass.new).base (notes_seen pass.new) }
-    ensures cause { IfErr result (λ f. IsBroken (notes_seen pass.new)) }
+    ensures cause { IfErr result (λ f. WasDown (faulty_part f) (notes_seen pass.new)) }
     ensures kept { OnOk result (AreKept pass.old pass.new) }
 {
     let mut turn = lock.enter(rt, pass);
@@ -58,7 +58,7 @@ pub fn put_turn<D: Disk, R: Wait>(
     requires data { HasData D.tells room.now (pass_lock pass.old).base (notes_seen pass.old) }
     ensures helped { HasHelped D.tells pass.old pass.new }
     ensures counted { HasCounted D.tells tally.old tally.new pass.old pass.new }
-    ensures cause { IfErr result (λ f. IsBroken (notes_seen pass.new)) }
+    ensures cause { IfErr result (λ f. WasDown (faulty_part f) (notes_seen pass.new)) }
     ensures kept { OnOk result (AreKept pass.old pass.new) }
 {
     let mut turn = lock.enter(rt, pass);
@@ -99,7 +99,7 @@ pub fn drop_turn<D: Disk, R: Wait>(
     requires shared { IsShared shared.now (pass_lock pass.old).base }
     ensures helped { HasHelped D.tells pass.old pass.new }
     ensures counted { HasCounted D.tells tally.old tally.new pass.old pass.new }
-    ensures cause { IfErr result (λ f. IsBroken (notes_seen pass.new)) }
+    ensures cause { IfErr result (λ f. WasDown (faulty_part f) (notes_seen pass.new)) }
     ensures kept { OnOk result (AreKept pass.old pass.new) }
 {
     let mut turn = lock.enter(rt, pass);

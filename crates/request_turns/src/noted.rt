@@ -1,12 +1,13 @@
 // How a turn ends: with an entry that the caller's proof names, with its notes.
-ghost use Rattle.std.specs.Prelude.{ℕ, ◌≡◌, ◌++◌, ◌∷◌, [], false, IsSome, None};
+ghost use Rattle.std.specs.Prelude.{ℕ, ◌≡◌, ◌++◌, ◌∷◌, [], false, None, Some};
 ghost use Rattle.turn_lock.specs.Passes.{pass_lock, pass_number, IsPassOf, IsInTurn};
 ghost use Rattle.wol_promise.specs.Code.{no_note};
 ghost use Rattle.wol_promise.specs.Ruled.{Noted};
 ghost use Rattle.manager.specs.Stands.{Stands};
 ghost use Rattle.manager.specs.Seen.{look_of_manager};
+ghost use Rattle.manager.specs.declared.part.Part.{Part};
 ghost use Rattle.request_turns.specs.Entries.{note_of, step_operation};
-ghost use Rattle.request_turns.specs.Turns.{notes_seen, HasLeft, IsBroken};
+ghost use Rattle.request_turns.specs.Turns.{notes_seen, HasLeft, IsBroken, WasDown};
 
 use manager::Manager;
 use std::marker::Brand;
@@ -37,7 +38,7 @@ pub fn leave_noted<D: Disk, N: Memo>(
     requires number { N.note.entry.pass ≡ pass_number pass.old }
     requires value { Stands D.tells D.state turn.value (pass_lock pass.old).base (notes_seen pass.old ++ N.note ∷ []) }
     ensures left { HasLeft D.tells N.note pass.old pass.new }
-    ensures broken { IsSome turn.value.down → IsBroken (notes_seen pass.new) }
+    ensures broken { (p : Part) → turn.value.down ≡ Some p → WasDown p (notes_seen pass.new) }
     ensures unbroken { turn.value.down ≡ None → IsBroken (notes_seen pass.new) → ⊥ }
 {
     lock.leave::<Brand>(turn, pass);
@@ -54,7 +55,7 @@ fn leave_named<D: Disk, N: Memo>(
     requires turn { IsInTurn pass.old }
     requires note { N.note ≡ note_of (pass_number pass.old) (step_operation failed) (look_of_manager turn.value) [] false }
     requires value { Stands D.tells D.state turn.value (pass_lock pass.old).base (notes_seen pass.old ++ note_of (pass_number pass.old) (step_operation failed) (look_of_manager turn.value) [] false ∷ []) }
-    ensures broken { IsSome turn.value.down → IsBroken (notes_seen pass.new) }
+    ensures broken { (p : Part) → turn.value.down ≡ Some p → WasDown p (notes_seen pass.new) }
     ensures left { HasLeft D.tells (note_of (pass_number pass.old) (step_operation failed) (look_of_manager turn.value) [] false) pass.old pass.new }
 {
     let _ = failed;
@@ -71,7 +72,7 @@ pub(crate) fn leave_step<D: Disk>(
     requires own { IsPassOf lock.now pass.old }
     requires turn { IsInTurn pass.old }
     requires value { Stands D.tells D.state turn.value (pass_lock pass.old).base (notes_seen pass.old ++ note_of (pass_number pass.old) (step_operation failed) (look_of_manager turn.value) [] false ∷ []) }
-    ensures broken { IsSome turn.value.down → IsBroken (notes_seen pass.new) }
+    ensures broken { (p : Part) → turn.value.down ≡ Some p → WasDown p (notes_seen pass.new) }
     ensures left { HasLeft D.tells (note_of (pass_number pass.old) (step_operation failed) (look_of_manager turn.value) [] false) pass.old pass.new }
 {
     leave_named::<D, Brand>(lock, turn, pass, failed);

@@ -1,16 +1,17 @@
 // A read in one turn.
-ghost use Rattle.std.specs.Prelude.{ℕ, IsSome, ◌≡◌, ◌≤◌, ◌+◌, ◌++◌, ◌∷◌, [], false, length};
+ghost use Rattle.std.specs.Prelude.{ℕ, Some, ◌≡◌, ◌≤◌, ◌+◌, ◌++◌, ◌∷◌, [], false, length};
 ghost use Rattle.turn_lock.specs.Passes.{pass_lock, pass_number, IsPassOf, IsFree, IsInTurn};
 ghost use Rattle.wol_model.specs.History.{worker};
 ghost use Rattle.manager.specs.Answers.{was_read};
 ghost use Rattle.manager.specs.Seen.{look_of_manager};
 ghost use Rattle.manager.specs.Stands.{Stands, IsShared};
+ghost use Rattle.manager.specs.declared.part.Part.{Part};
 ghost use Rattle.request_turns.specs.Entries.{note_of, read_outcome};
 ghost use Rattle.request_turns.specs.Requests.{IsWithin};
 ghost use Rattle.request_turns.specs.Answered.{HasAnswered};
 ghost use Rattle.request_turns.specs.Blocks.{HasReadBlocks};
 ghost use Rattle.request_turns.specs.Counts.{ReclaimsNothing};
-ghost use Rattle.request_turns.specs.Turns.{notes_seen, HasLeft, IsBroken};
+ghost use Rattle.request_turns.specs.Turns.{notes_seen, HasLeft, WasDown};
 ghost use Rattle.request_turns.specs.Written.{HasRead};
 
 use crate::noted::{Memo, leave_noted};
@@ -53,7 +54,7 @@ fn leave_read<D: Disk, N: Memo>(
     requires note { N.note ≡ note_of (pass_number pass.old) (was_read lbn out.now answer.now) (look_of_manager turn.value) [] false }
     requires value { Stands D.tells D.state turn.value (pass_lock pass.old).base (notes_seen pass.old ++ N.note ∷ []) }
     ensures left { HasLeft D.tells N.note pass.old pass.new }
-    ensures broken { IsSome turn.value.down → IsBroken (notes_seen pass.new) }
+    ensures broken { (p : Part) → turn.value.down ≡ Some p → WasDown p (notes_seen pass.new) }
 {
     let _ = out;
     leave_noted::<D, N>(lock, turn, pass);

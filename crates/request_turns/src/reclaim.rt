@@ -1,5 +1,5 @@
 // Reclaim in one turn: all that is due goes home, and then what may go is given up.
-ghost use Rattle.std.specs.Prelude.{◌≡◌, ◌<◌, ◌≤◌, ℕ, true, false, None, Ok, OnOk, IfErr, IsSome};
+ghost use Rattle.std.specs.Prelude.{◌≡◌, ◌<◌, ◌≤◌, ℕ, true, false, None, Ok, OnOk, IfErr, Some};
 ghost use Rattle.turn_lock.specs.Passes.{pass_lock};
 ghost use Rattle.wol_model.specs.History.{worker};
 ghost use Rattle.wol_model.specs.Index.{listed_in, left};
@@ -11,6 +11,7 @@ ghost use Rattle.reclaimer.specs.Fetches.{due_entry, going_entry};
 ghost use Rattle.request_turns.specs.Closed.{GoesOn, HasClosed};
 ghost use Rattle.request_turns.specs.Counts.{HasTaken, HasCounted};
 ghost use Rattle.request_turns.specs.Helped.{IsPassAt};
+ghost use Rattle.request_turns.specs.Turns.{faulty_part};
 
 use crate::answer::{has_failed, refusal_in};
 use crate::noted::leave_step;
@@ -34,7 +35,7 @@ fn put_due<R: Wait, D: Disk>(
     requires at { IsHome shared.now m.old }
     ensures ready { IsReady D.state m.new }
     ensures at { IsHome shared.now m.new }
-    ensures down { IfErr result (λ f. IsSome m.new.down) }
+    ensures down { IfErr result (λ f. m.new.down ≡ Some (faulty_part f)) }
     ensures nothing { OnOk result (due_entry m.new ≡ None) }
     ensures look { OnKept result (GoesOn (look_of_manager m.old) (look_of_manager m.new)) }
     ensures taken { OnKept result (HasTaken tally.old tally.new (look_of_manager m.old) (look_of_manager m.new)) }
@@ -64,7 +65,7 @@ fn give_up<R: Wait, D: Disk>(
     requires at { IsHome shared.now m.old }
     ensures ready { IsReady D.state m.new }
     ensures at { IsHome shared.now m.new }
-    ensures down { IfErr result (λ f. IsSome m.new.down) }
+    ensures down { IfErr result (λ f. m.new.down ≡ Some (faulty_part f)) }
     ensures nothing { OnOk result (going_entry m.new ≡ None) }
     ensures none { result ≡ Ok false → m.new ≡ m.old }
     ensures look { OnKept result (GoesOn (look_of_manager m.old) (look_of_manager m.new)) }
@@ -96,7 +97,7 @@ fn reclaim_all<R: Wait, D: Disk>(
     requires at { IsHome shared.now m.old }
     ensures ready { IsReady D.state m.new }
     ensures at { IsHome shared.now m.new }
-    ensures down { IfErr result (λ f. IsSome m.new.down) }
+    ensures down { IfErr result (λ f. m.new.down ≡ Some (faulty_part f)) }
     ensures idle { OnOk result (IsIdleLook (look_of_manager m.new)) }
     ensures look { OnKept result (GoesOn (look_of_manager m.old) (look_of_manager m.new)) }
     ensures taken { OnKept result (HasTaken tally.old tally.new (look_of_manager m.old) (look_of_manager m.new)) }

@@ -8,11 +8,12 @@ use Rattle.wol_model.specs.History.{IsHelp}
 use Rattle.wol_promise.specs.Ruled.{Noted}
 use Rattle.wol_promise.proofs.Lists.{all_joined}
 use Rattle.manager.specs.Stands.{notes_of}
+use Rattle.manager.specs.declared.part.Part.{Part}
 use Rattle.manager.specs.declared.part.StepFault.{StepFault}
 use Rattle.request_turns.specs.Helped.{ManagerLock, HasHelped, AreKept}
 use Rattle.request_workers.specs.Helped.{ArePassesAt, AreHelped, IsCause, AreAllKept}
-use Rattle.request_turns.specs.Turns.{ManagerPass, notes_seen, IsBroken}
-use Rattle.request_turns.proofs.Gaining.{gains_none, gains_both, seen_more, broken_more, kept_none, kept_both}
+use Rattle.request_turns.specs.Turns.{ManagerPass, notes_seen, WasDown, faulty_part}
+use Rattle.request_turns.proofs.Gaining.{gains_none, gains_both, seen_more, down_more, kept_none, kept_both}
 
 -- ---- One after another
 
@@ -28,8 +29,8 @@ module _ {D : Type 0} (tells : Bool) where
     help = all_joined (λ (n : Noted). IsHelp n.entry.operation) a.notes b.notes a.help b.help;
   }
 
-  pub broken_helped : (p q : ManagerPass D) → HasHelped tells p q → IsBroken (notes_seen p) → IsBroken (notes_seen q)
-  broken_helped p q h is = subst IsBroken (sym (seen_more tells p q h.more h.notes h.gains)) (broken_more (notes_seen p) (notes_of h.more) is)
+  pub down_helped : (x : Part) (p q : ManagerPass D) → HasHelped tells p q → WasDown x (notes_seen p) → WasDown x (notes_seen q)
+  down_helped x p q h is = subst (WasDown x) (sym (seen_more tells p q h.more h.notes h.gains)) (down_more x (notes_seen p) (notes_of h.more) is)
 
   pub are_helped_none : (ps : List (ManagerPass D)) → ((k : ℕ) (d : ManagerPass D) → k < length ps → IsFree (get_or ps k d)) → AreHelped tells ps ps
   are_helped_none ps free k d h = helped_none (get_or ps k d) (free k d h)
@@ -39,26 +40,26 @@ module _ {D : Type 0} (tells : Bool) where
 
   -- one helper's pass made turns, and its volume's refusal may be the first
   pub cause_set : (ps : List (ManagerPass D)) (k : ℕ) (p q : ManagerPass D) (was is : Option (ℕ × StepFault)) → k < length ps → p ≡ get_or ps k p → HasHelped tells p q → IsCause ps was
-      → ((f : ℕ × StepFault) → is ≡ Some f → (was ≡ Some f) ⊎ ((f.0 ≡ k) × IsBroken (notes_seen q))) → length (set ps k q) ≡ length ps → IsCause (set ps k q) is
+      → ((f : ℕ × StepFault) → is ≡ Some f → (was ≡ Some f) ⊎ ((f.0 ≡ k) × WasDown (faulty_part f.1) (notes_seen q))) → length (set ps k q) ≡ length ps → IsCause (set ps k q) is
   cause_set ps k p q was is within at helped cause new count v f some = by (new (v, f) some)
     where
-      here : (v ≡ k) → IsBroken (notes_seen q) → (d : ManagerPass D) → IsBroken (notes_seen (get_or (set ps k q) v d))
-      here same broken d = subst (λ (x : ManagerPass D). IsBroken (notes_seen x)) (sym (ap (λ (j : ℕ). get_or (set ps k q) j d) same ∙ get_or-set_same ps k q d within)) broken
+      here : (v ≡ k) → WasDown (faulty_part f) (notes_seen q) → (d : ManagerPass D) → WasDown (faulty_part f) (notes_seen (get_or (set ps k q) v d))
+      here same down d = subst (λ (x : ManagerPass D). WasDown (faulty_part f) (notes_seen x)) (sym (ap (λ (j : ℕ). get_or (set ps k q) j d) same ∙ get_or-set_same ps k q d within)) down
 
-      stays : (v < length ps) × ((d : ManagerPass D) → IsBroken (notes_seen (get_or ps v d))) → (d : ManagerPass D) → IsBroken (notes_seen (get_or (set ps k q) v d))
+      stays : (v < length ps) × ((d : ManagerPass D) → WasDown (faulty_part f) (notes_seen (get_or ps v d))) → (d : ManagerPass D) → WasDown (faulty_part f) (notes_seen (get_or (set ps k q) v d))
       stays was_so d = ⊎_elim
-          (λ (t : ((v == k) ≡ true) × (v ≡ k)). here t.1 (broken_helped p q helped (subst (λ (x : ManagerPass D). IsBroken (notes_seen x)) (ap (λ (j : ℕ). get_or ps j p) t.1 ∙ sym at) (was_so.1 p))) d)
-          (λ (t : ((v == k) ≡ false) × (v ≢ k)). subst (λ (x : ManagerPass D). IsBroken (notes_seen x)) (sym (get_or-set_other ps k v q d t.1)) (was_so.1 d))
+          (λ (t : ((v == k) ≡ true) × (v ≡ k)). here t.1 (down_helped (faulty_part f) p q helped (subst (λ (x : ManagerPass D). WasDown (faulty_part f) (notes_seen x)) (ap (λ (j : ℕ). get_or ps j p) t.1 ∙ sym at) (was_so.1 p))) d)
+          (λ (t : ((v == k) ≡ false) × (v ≢ k)). subst (λ (x : ManagerPass D). WasDown (faulty_part f) (notes_seen x)) (sym (get_or-set_other ps k v q d t.1)) (was_so.1 d))
           (eqb_tells v k)
 
-      by : (was ≡ Some (v, f)) ⊎ ((v ≡ k) × IsBroken (notes_seen q)) → (v < length (set ps k q)) × ((d : ManagerPass D) → IsBroken (notes_seen (get_or (set ps k q) v d)))
+      by : (was ≡ Some (v, f)) ⊎ ((v ≡ k) × WasDown (faulty_part f) (notes_seen q)) → (v < length (set ps k q)) × ((d : ManagerPass D) → WasDown (faulty_part f) (notes_seen (get_or (set ps k q) v d)))
       by (inl old) = let c = cause v f old in (subst (λ (n : ℕ). v < n) (sym count) c.0, stays c)
       by (inr now) = (subst (λ (n : ℕ). v < n) (sym count) (omega (arith, now.0, within)), here now.0 now.1)
 
 -- a step that was refused has its cause
-pub cause_of : {A B : Type 0} (a : Result A StepFault) → IfErr a (λ f. B) → is_ok a ≡ false → B
-cause_of (Ok x) cause not = absurd (let n : true ≡ false = not in cc)
-cause_of (Err f) cause not = cause
+pub cause_of : {A : Type 0} (B : StepFault → Type 0) (a : Result A StepFault) (f : StepFault) → IfErr a B → a ≡ Err f → B f
+cause_of B (Ok x) f cause is = absurd (cc is)
+cause_of B (Err g) f cause is = subst B (let same : g ≡ f = cc is in same) cause
 
 -- ---- A round
 

@@ -21,7 +21,7 @@ use Rattle.trace_windows.specs.declared.request.Request.{Request}
 use Rattle.request_turns.specs.declared.outcome.Outcome.{Outcome}
 use Rattle.request_turns.specs.declared.outcome.Outcome.TheVariants as outcome
 use Rattle.request_turns.proofs.Counting.{counted_both, counted_none}
-use Rattle.request_turns.proofs.Gaining.{gains_none, gains_both, stays_both, seen_more, broken_more}
+use Rattle.request_turns.proofs.Gaining.{gains_none, gains_both, stays_both, seen_more, down_more}
 
 made_push : (view : List ℕ) (rs : List Request) (os : List Outcome) (r : Request) (o : Outcome) (ns n : List Noted) → AreMade view rs os ns → AreEntriesOf view r o n → AreMade view (rs ++ r ∷ []) (os ++ o ∷ []) (ns ++ n)
 made_push view [] [] r o ns n m h = (n, [], ap (λ t. t ++ n) m ∙ sym (append-nil n), h, refl)
@@ -38,8 +38,8 @@ going_after_push going [] o = refl
 going_after_push going (p ∷ os) o = going_after_push (both going (was_answered p)) os o
 
 tells_read : (r : ReadRefusal) (seen more : List Noted) → TellsOfRead r seen → TellsOfRead r (seen ++ more)
-tells_read (refused_read.DiskFault p) seen more is = broken_more seen more is
-tells_read (refused_read.Down p) seen more is = broken_more seen more is
+tells_read (refused_read.DiskFault p) seen more is = down_more p seen more is
+tells_read (refused_read.Down p) seen more is = down_more p seen more is
 
 -- no version is left behind more entries too
 spent_more : (seen more : List Noted) → WasSpent seen → WasSpent (seen ++ more)
@@ -54,8 +54,8 @@ spent_more seen more is = record {
 
 tells_write : (r : WriteRefusal) (seen more : List Noted) → TellsOfWrite r seen → TellsOfWrite r (seen ++ more)
 tells_write refused.Full seen more is = tt
-tells_write (refused.DiskFault p) seen more is = broken_more seen more is
-tells_write (refused.Down p) seen more is = broken_more seen more is
+tells_write (refused.DiskFault p) seen more is = down_more p seen more is
+tells_write (refused.Down p) seen more is = down_more p seen more is
 tells_write refused.VersionsSpent seen more is = spent_more seen more is
 tells_write refused.NoMemory seen more is = tt
 

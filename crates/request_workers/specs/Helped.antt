@@ -5,7 +5,7 @@ use Rattle.logger.specs.declared.shared.Shared.{Shared}
 use Rattle.manager.specs.Stands.{IsShared}
 use Rattle.manager.specs.declared.part.StepFault.{StepFault}
 use Rattle.request_turns.specs.Helped.{AreKept, ManagerLock, IsPassAt, HasHelped}
-use Rattle.request_turns.specs.Turns.{ManagerPass, notes_seen, IsBroken}
+use Rattle.request_turns.specs.Turns.{ManagerPass, notes_seen, WasDown, faulty_part}
 
 -- the passes of the locks, in order
 abbrev pub ArePassesAt : {D : Type 0} → List (ManagerLock D) → (number : ℕ) → List (ManagerPass D) → Type 0
@@ -19,9 +19,9 @@ AreSharing {D} shared ps = (k : ℕ) (d : ManagerPass D) → k < length ps → I
 abbrev pub AreHelped : {D : Type 0} → (tells : Bool) → List (ManagerPass D) → List (ManagerPass D) → Type 0
 AreHelped {D} tells ps qs = (k : ℕ) (d : ManagerPass D) → k < length ps → HasHelped tells (slice_index_or ps k d) (slice_index_or qs k d)
 
--- a refused step is that of a volume in which a disk call failed
+-- a refused step is that of a volume, and names a part of it that was down
 abbrev pub IsCause : {D : Type 0} → List (ManagerPass D) → Option (ℕ × StepFault) → Type 0
-IsCause {D} qs fault = (v : ℕ) (f : StepFault) → fault ≡ Some (v, f) → (v < length qs) × ((d : ManagerPass D) → IsBroken (notes_seen (slice_index_or qs v d)))
+IsCause {D} qs fault = (v : ℕ) (f : StepFault) → fault ≡ Some (v, f) → (v < length qs) × ((d : ManagerPass D) → WasDown (faulty_part f) (notes_seen (slice_index_or qs v d)))
 
 -- where no step was refused, no disk call failed in the turns that they made
 abbrev pub AreAllKept : {D : Type 0} → Option (ℕ × StepFault) → (ps qs : List (ManagerPass D)) → Type 0

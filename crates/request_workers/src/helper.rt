@@ -1,5 +1,5 @@
 // A helper beside the workers.
-ghost use Rattle.std.specs.Prelude.{◌≡◌, ◌⊎◌, ◌^◌, ◌≤◌, ◌<◌, ℕ, length, slice_index_or, IfErr, OnOk, Option, Some, None, is_ok, true, false};
+ghost use Rattle.std.specs.Prelude.{◌≡◌, ◌⊎◌, ◌^◌, ◌≤◌, ◌<◌, ℕ, length, slice_index_or, IfErr, OnOk, Option, Some, None, Err, is_ok, true, false};
 ghost use Rattle.turn_lock.specs.Passes.{pass_lock, IsSamePass};
 ghost use Rattle.wol_model.specs.History.{helper};
 ghost use Rattle.manager.specs.Stands.{IsShared};
@@ -8,7 +8,7 @@ ghost use Rattle.request_turns.specs.Counts.{HasCounted};
 ghost use Rattle.request_turns.specs.Helped.{IsPassAt, HasHelped, AreKept};
 ghost use Rattle.request_workers.specs.Counted.{HaveCounted};
 ghost use Rattle.request_workers.specs.Helped.{ArePassesAt, AreSharing, AreHelped, AreAllKept, IsCause};
-ghost use Rattle.request_turns.specs.Turns.{notes_seen, IsBroken};
+ghost use Rattle.request_turns.specs.Turns.{notes_seen, WasDown, faulty_part};
 
 use logger::Shared;
 use manager::{Manager, StepFault};
@@ -30,7 +30,7 @@ impl HelperRoom {
     // Takes the answer of a step: whether it did something.
     fn took(&mut self, volume: u32, answer: Result<bool, StepFault>) -> bool
         ensures kept { (f : _) → self.old.fault ≡ Some f → self.new.fault ≡ Some f }
-        ensures fault { (f : _) → self.new.fault ≡ Some f → (self.old.fault ≡ Some f) ⊎ ((f.0 ≡ volume) × (is_ok answer ≡ false)) }
+        ensures fault { (f : _) → self.new.fault ≡ Some f → (self.old.fault ≡ Some f) ⊎ ((f.0 ≡ volume) × (answer ≡ Err f.1)) }
         ensures fetch { self.new.fetch ≡ self.old.fetch }
         ensures tally { self.new.tally ≡ self.old.tally }
         ensures none { self.new.fault ≡ None → is_ok answer ≡ true }
@@ -62,7 +62,7 @@ fn help_one<D: Disk, R: Wait>(
     ensures counted { HasCounted D.tells help.old.tally help.new.tally pass.old pass.new }
     ensures all_kept { help.new.fault ≡ None → AreKept pass.old pass.new }
     ensures kept { (f : _) → help.old.fault ≡ Some f → help.new.fault ≡ Some f }
-    ensures fault { (f : _) → help.new.fault ≡ Some f → (help.old.fault ≡ Some f) ⊎ ((f.0 ≡ volume) × IsBroken (notes_seen pass.new)) }
+    ensures fault { (f : _) → help.new.fault ≡ Some f → (help.old.fault ≡ Some f) ⊎ ((f.0 ≡ volume) × WasDown (faulty_part f.1) (notes_seen pass.new)) }
 {
     let fetched = fetch_turn(rt, lock, pass, shared, &mut help.fetch);
     let fetched = help.took(volume, fetched);

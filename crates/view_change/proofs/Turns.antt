@@ -1,6 +1,6 @@
 -- The turn of a drain, from entering to leaving.
-use Rattle.std.proofs.Common.{◌≡◌, ℕ, Bool, true, false, List, [], ◌∷◌, ◌++◌, Result, Ok, Err, refl, sym, ap, subst, ◌∙◌}
-use Rattle.std.specs.Prelude.{IsSome, IfOk, IfErr, OnOk, OnErr}
+use Rattle.std.proofs.Common.{◌≡◌, ℕ, Bool, true, false, List, [], ◌∷◌, ◌++◌, Some, Result, Ok, Err, refl, sym, ap, subst, ◌∙◌}
+use Rattle.std.specs.Prelude.{IfOk, IfErr, OnOk}
 use Rattle.wol_disk.specs.Disk.{State}
 use Rattle.turn_lock.specs.Histories.{Entry, own, Begins}
 use Rattle.turn_lock.specs.LockIds.{LockId}
@@ -13,11 +13,12 @@ use Rattle.manager.specs.Seen.{look_of_manager}
 use Rattle.manager.specs.Stands.{Keeps, Stands, IsNote, nones_at}
 use Rattle.manager.specs.declared.base.ManagerBase.{ManagerBase}
 use Rattle.manager.specs.declared.manager.Manager.{Manager}
+use Rattle.manager.specs.declared.part.Part.{Part}
 use Rattle.manager.specs.declared.part.StepFault.{StepFault}
 use Rattle.manager.specs.declared.part.StepFault.TheVariants.{DiskFault, Down}
 use Rattle.manager.proofs.Frames.{stands_kept, none_passed}
 use Rattle.request_turns.specs.Counts.{Counts, HasTaken}
-use Rattle.request_turns.specs.Turns.{ManagerPass, coded, notes_seen, HasLeft, IsBroken}
+use Rattle.request_turns.specs.Turns.{ManagerPass, coded, notes_seen, HasLeft, WasDown, faulty_part}
 use Rattle.request_turns.specs.declared.tally.Tally.{Tally}
 use Rattle.request_turns.proofs.Counting.{all_taken}
 use Rattle.view_change.specs.Drained.{Drains, HasDrainedAll, TakesAll, drain_note, drain_operation}
@@ -42,7 +43,7 @@ module _ {D : Type 0} (tells : Bool) (state : D → State) (old new : Manager D)
   turned : (p i q : ManagerPass D) (answer : Result (ℕ × ℕ) StepFault) → IsSamePass p i → Begins (pass_seen p) (pass_seen i) → pass_mine i ≡ pass_mine p → own (pass_number i) (pass_seen i) ≡ pass_mine i
       → Stands tells state old (pass_lock i).base (notes_seen i) → Stands tells state new (pass_lock i).base (notes_seen i ++ drain_note (pass_number i) (drain_operation answer) (look_of_manager new) ∷ [])
       → Drains tells state (pass_lock i).base (notes_seen i) old new answer → HasLeft tells (drain_note (pass_number i) (drain_operation answer) (look_of_manager new)) i q
-      → OnOk answer ((new.index.entries ≡ []) × (look_of_manager new ≡ drained (look_of_manager old))) → IfOk answer (TakesAll (look_of_manager old) (look_of_manager new)) → OnErr answer (IsBroken (notes_seen q))
+      → OnOk answer ((new.index.entries ≡ []) × (look_of_manager new ≡ drained (look_of_manager old))) → IfOk answer (TakesAll (look_of_manager old) (look_of_manager new)) → IfErr answer (λ f. WasDown (faulty_part f) (notes_seen q))
       → HasDrainedAll tells state p q answer
   turned p i q answer same begins mine owns stood stands drains left bare counts cause = record {
     same = (left.same.0 ∙ same.0, left.same.1 ∙ same.1);
@@ -86,7 +87,7 @@ module _ {D : Type 0} (tells : Bool) (state : D → State) (old new : Manager D)
 
   -- a step was refused
   refused_turn : (f : StepFault) → Stands tells state new (pass_lock i).base (notes_seen i ++ drain_note (pass_number i) (drain_operation {T = Unit {0}} (Err f)) (look_of_manager new) ∷ [])
-      → Drains {T = Unit {0}} tells state (pass_lock i).base (notes_seen i) old new (Err f) → HasLeft tells (drain_note (pass_number i) (drain_operation {T = Unit {0}} (Err f)) (look_of_manager new)) i q → IsBroken (notes_seen q)
+      → Drains {T = Unit {0}} tells state (pass_lock i).base (notes_seen i) old new (Err f) → HasLeft tells (drain_note (pass_number i) (drain_operation {T = Unit {0}} (Err f)) (look_of_manager new)) i q → WasDown (faulty_part f) (notes_seen q)
       → HasDrainedAll tells state p q (Err f)
   refused_turn (DiskFault d) stands drains left broken =
       turned tells state old new p i q (Err (DiskFault d)) same begins mine owns stood stands (drains_refused tells state (pass_lock i).base (notes_seen i) old new (DiskFault d) drains) left tt tt broken
@@ -95,8 +96,8 @@ module _ {D : Type 0} (tells : Bool) (state : D → State) (old new : Manager D)
 
   pub turn_refused : (answer : Result (Unit {0}) StepFault) (f : StepFault) → answer ≡ Err f → Stands tells state new (pass_lock i).base (notes_seen i ++ drain_note (pass_number i) (drain_operation answer) (look_of_manager new) ∷ [])
       → ((b : ManagerBase) (notes : List Noted) → Keeps tells state old b notes → Drains tells state b notes old new answer) → HasLeft tells (drain_note (pass_number i) (drain_operation answer) (look_of_manager new)) i q
-      → IfErr answer (λ e. IsSome new.down) → (IsSome new.down → IsBroken (notes_seen q)) → HasDrainedAll tells state p q (Err f)
+      → IfErr answer (λ e. new.down ≡ Some (faulty_part e)) → ((d : Part) → new.down ≡ Some d → WasDown d (notes_seen q)) → HasDrainedAll tells state p q (Err f)
   turn_refused (Ok y) f is stands drains left down broken = absurd (let no : Ok y ≡ Err f = is in cc)
   turn_refused (Err e) f is stands drains left down broken =
       let same_fault : e ≡ f = cc in
-      subst (λ (g : StepFault). HasDrainedAll tells state p q (Err g)) same_fault (refused_turn e stands (drains (pass_lock i).base (notes_seen i) stood.keeps) left (broken down))
+      subst (λ (g : StepFault). HasDrainedAll tells state p q (Err g)) same_fault (refused_turn e stands (drains (pass_lock i).base (notes_seen i) stood.keeps) left (broken (faulty_part e) down))

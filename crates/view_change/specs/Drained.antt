@@ -1,5 +1,5 @@
 -- What one turn in which a volume is drained adds to its history, and what its steps do one after another.
-use Rattle.std.specs.Prelude.{◌≡◌, ◌∷◌, ◌++◌, ℕ, Bool, false, List, [], None, Result, Ok, Err, IsTrue, IfOk, OnOk, OnErr}
+use Rattle.std.specs.Prelude.{◌≡◌, ◌∷◌, ◌++◌, ℕ, Bool, false, List, [], None, Result, Ok, Err, IsTrue, IfOk, IfErr, OnOk}
 use Rattle.wol_disk.specs.Disk.{State}
 use Rattle.turn_lock.specs.Histories.{Entry, own, Begins}
 use Rattle.turn_lock.specs.Passes.{pass_lock, pass_number, pass_seen, pass_mine, IsFree, IsSamePass}
@@ -19,7 +19,7 @@ use Rattle.reclaimer.specs.Drains.{HasDrained}
 use Rattle.reclaimer.specs.declared.answers.Drain.{Drain}
 use Rattle.reclaimer.specs.declared.answers.Drain.TheVariants.{Bare, Moved}
 use Rattle.request_turns.specs.Counts.{IsTakenOff}
-use Rattle.request_turns.specs.Turns.{ManagerPass, coded, notes_seen, IsBroken}
+use Rattle.request_turns.specs.Turns.{ManagerPass, coded, notes_seen, WasDown, faulty_part}
 
 -- ---- Steps
 
@@ -86,5 +86,5 @@ pub record HasDrainedAll {D : Type 0} (tells : Bool) (state : D → State) (p q 
   -- at Ok no record is left, and all disks that had one are awake
   pub bare : OnOk answer ((to.index.entries ≡ []) × (note.look ≡ drained (look_of_manager from)))
   pub counts : IfOk answer (TakesAll (look_of_manager from) note.look)
-  -- refused as a step is: as down where it was down, and else where a call of a disk failed
-  pub cause : OnErr answer (IsBroken (notes_seen q))
+  -- refused as a step is: as down where it was down, and else where a call of a disk failed; the part that it names is down behind the entry
+  pub cause : IfErr answer (λ f. WasDown (faulty_part f) (notes_seen q))

@@ -1,5 +1,5 @@
 // All records of a volume go home, in one turn.
-ghost use Rattle.std.specs.Prelude.{◌≡◌, ◌++◌, ◌∷◌, [], List, None, OnOk, IfErr, IsSome};
+ghost use Rattle.std.specs.Prelude.{◌≡◌, ◌++◌, ◌∷◌, [], List, None, Some, OnOk, IfErr};
 ghost use Rattle.turn_lock.specs.Passes.{pass_lock, pass_number, IsPassOf, IsInTurn};
 ghost use Rattle.wol_model.specs.History.{worker};
 ghost use Rattle.wol_promise.specs.Policy.{drained};
@@ -8,9 +8,10 @@ ghost use Rattle.manager.specs.Reclaim.{OnKept, OnFailed, KeepsOn, BreaksOff, Al
 ghost use Rattle.manager.specs.Seen.{look_of_manager};
 ghost use Rattle.manager.specs.Stands.{Keeps, Stands, IsReady, IsHome, IsShared};
 ghost use Rattle.manager.specs.declared.base.ManagerBase.{ManagerBase};
+ghost use Rattle.manager.specs.declared.part.Part.{Part};
 ghost use Rattle.request_turns.specs.Counts.{HasTaken};
 ghost use Rattle.request_turns.specs.Helped.{IsPassAt};
-ghost use Rattle.request_turns.specs.Turns.{notes_seen, HasLeft, IsBroken};
+ghost use Rattle.request_turns.specs.Turns.{notes_seen, HasLeft, WasDown, faulty_part};
 ghost use Rattle.view_change.specs.Drained.{Drains, HasDrainedAll, drain_note, drain_operation};
 
 use logger::Shared;
@@ -35,7 +36,7 @@ fn drain<R: Wait, D: Disk>(
     ensures drains { (b : ManagerBase) (notes : List Noted) → Keeps D.tells D.state m.old b notes → Drains D.tells D.state b notes m.old m.new result }
     ensures bare { OnOk result ((m.new.index.entries ≡ []) × (look_of_manager m.new ≡ drained (look_of_manager m.old))) }
     ensures taken { OnOk result (HasTaken tally.old tally.new (look_of_manager m.old) (look_of_manager m.new)) }
-    ensures down { IfErr result (λ f. IsSome m.new.down) }
+    ensures down { IfErr result (λ f. m.new.down ≡ Some (faulty_part f)) }
     ensures keeps { OnKept result (KeepsOn D.tells D.state m.old m.new Always) }
     ensures broke { OnFailed result (BreaksOff D.tells D.state m.old m.new Always) }
     ensures empty { into.new ≡ None }
@@ -60,7 +61,7 @@ fn leave_drained<D: Disk, N: Memo>(
     requires note { N.note ≡ drain_note (pass_number pass.old) (drain_operation answer.now) (look_of_manager turn.value) }
     requires value { Stands D.tells D.state turn.value (pass_lock pass.old).base (notes_seen pass.old ++ N.note ∷ []) }
     ensures left { HasLeft D.tells (drain_note (pass_number pass.old) (drain_operation answer.now) (look_of_manager turn.value)) pass.old pass.new }
-    ensures broken { IsSome turn.value.down → IsBroken (notes_seen pass.new) }
+    ensures broken { (p : Part) → turn.value.down ≡ Some p → WasDown p (notes_seen pass.new) }
 {
     let _ = answer;
     leave_noted::<D, N>(lock, turn, pass);

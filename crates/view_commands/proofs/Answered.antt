@@ -109,7 +109,7 @@ module _ (config : Config) (valid : IsValid config) (volume : ℕ) (within : vol
         none images is_left k i s c rs at (outs_after tells state config did old mid spindles session is_done.all_open is_done.same k (slice_get_within (shapes_of config) k s at)) here lt
         (subst (λ (n : ℕ). IsLog (segment_of s c i) n rs) (sym drained.is_station.id) lies))
         session.bay.told mid.told
-        ((ends tells state config did old mid spindles session volume counts drained).emptied telling (unbroken tells state config did old mid spindles session volume counts drained) (lists_none tells state config did old mid spindles session volume counts drained)))
+        ((ends tells state config did old mid spindles session volume (Ok counts) drained).emptied telling (unbroken tells state config did old mid spindles session volume counts drained) (lists_none tells state config did old mid spindles session volume counts drained)))
 
     pub done_sound : (IsTrue tells → IsTold (KeepsAllSound config) old.told mid.told) → IsTrue tells → IsTold (KeepsAllSound config) old.told new.told
     done_sound sound = go answer is session.done

@@ -16,7 +16,8 @@ use Rattle.manager.specs.declared.part.StepFault.TheVariants.{DiskFault, Down}
 use Rattle.manager.specs.declared.station.Station.{Station}
 use Rattle.manager_recovery.specs.declared.refusal.OpenRefusal.TheVariants as refusal
 use Rattle.manager.specs.declared.part.Part.TheVariants as part
-use Rattle.request_turns.specs.Turns.{IsBroken, notes_seen}
+use Rattle.request_turns.specs.Turns.{IsBroken, faulty_part, notes_seen}
+use Rattle.request_turns.proofs.Gaining.{down_breaks}
 use Rattle.report.specs.Troubles.{trouble_status}
 use Rattle.report.specs.declared.fault.Fault.{Fault}
 use Rattle.report.specs.declared.fault.Fault.TheVariants.{Volume}
@@ -24,7 +25,7 @@ use Rattle.troubles.specs.Troubles.{trouble_of, trouble_of_part}
 use Rattle.spin_model.specs.Spindles.{SpindleView}
 use Rattle.volume_images.specs.Left.{AreNamedApart, IsTold}
 use Rattle.volume_images.specs.Volumes.{AreLeft, images_read, shape_in, shapes_of}
-use Rattle.rack.specs.Closes.{AreLeftOfParts, HasFaultyPart, IsClosedVolume, IsQuiet, LeavesOpen, recovered_out}
+use Rattle.rack.specs.Closes.{AreLeftOfParts, CameBackFaulty, HasFaultyPart, IsClosedVolume, IsQuiet, LeavesOpen, recovered_out}
 use Rattle.rack.specs.Opens.{BeganWith, WereThere}
 use Rattle.rack.specs.Owners.{IsBegun, images_taken}
 use Rattle.rack.specs.Racks.{IsOpenBase, IsStation, NamesVolumes, base_of_station}
@@ -46,6 +47,7 @@ use Rattle.view_commands.specs.Drains.{AllOpen, IsDrained, trouble_of_step}
 use Rattle.view_commands.specs.Runs.{FailsWith}
 use Rattle.view_commands.specs.Runs as runs
 use Rattle.view_commands.specs.Views.{KeepsArrays}
+use Rattle.view_commands.proofs.Emptied.{came}
 use Rattle.view_commands.proofs.Kept.{KeepsFronts}
 
 -- what holds of what is told where it says more
@@ -88,12 +90,7 @@ faulty_since tells config owner view (Some o) (Some m) (Some n) apart gained fau
 
 -- ---- Parts
 
-pub part_of : StepFault → Part
-part_of (DiskFault p) = p
-part_of (Down p) = p
-
-pub step_trouble : (f : StepFault) → trouble_of_step f ≡ trouble_of_part (part_of f)
-unfolding part_of
+pub step_trouble : (f : StepFault) → trouble_of_step f ≡ trouble_of_part (faulty_part f)
 step_trouble (DiskFault p) = refl
 step_trouble (Down p) = refl
 
@@ -209,7 +206,10 @@ module _ {D : Type 0} (tells : Bool) (state : D → State) (config : Config) (di
       owner = station.id ∙ drained.is_station.id
 
       broken : IsBroken (notes_seen drained.pass)
-      broken = drained.drained.cause
+      broken = down_breaks (faulty_part f) (notes_seen drained.pass) drained.drained.cause
+
+      named : (q : Part) × (trouble_of_part (faulty_part f) ≡ trouble_of_part q) × (IsTrue tells → IsTold (CameBackFaulty config q) old.told new.told)
+      named = came tells state config did old new spindles session volume (Err f) drained (faulty_part f) drained.drained.cause
 
       rose : Rose old.faults new.faults
       rose = rose_before old.faults session.bay.faults new.faults session.sooner (ends.cause (broken_still (pass_seen drained.pass) ends.entries ends.worker_part.seen broken))
@@ -226,7 +226,7 @@ module _ {D : Type 0} (tells : Bool) (state : D → State) (config : Config) (di
           (ends.faulty (broken_still (pass_seen drained.pass) ends.entries ends.worker_part.seen broken)))
 
       pub drain_fails : FailsWith tells config volume old new (trouble_of_step f)
-      drain_fails = subst (FailsWith tells config volume old new) (sym (step_trouble f)) (runs.part (part_of f) (base_of_station s).volume.began owner (λ telling. begun old.told (session.opened.began telling)) faulty rose)
+      drain_fails = subst (FailsWith tells config volume old new) (sym (step_trouble f ∙ named.1)) (runs.part named.0 (base_of_station s).volume.began owner (λ telling. begun old.told (session.opened.began telling)) faulty named.2 rose)
 
       pub drain_rose : Rose old.faults new.faults
       drain_rose = rose

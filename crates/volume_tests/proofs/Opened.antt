@@ -76,7 +76,7 @@ module _ (home : Spun MemDisk) (home_lock logger_lock : TurnLock Spindle Spindle
     home_blocks = 8;
     most = 4;
     view = 1 ∷ [];
-    look = record { home_up = true; ups = true ∷ []; next = 1; listed = [] };
+    look = record { home_up = true; ups = true ∷ []; next = 1; listed = []; down = None };
   }
 
   abbrev pub opened_base : ManagerBase
@@ -146,7 +146,7 @@ module _ (home : Spun MemDisk) (home_lock logger_lock : TurnLock Spindle Spindle
 
   upholds : Upholds (parts_of true mem_state) began plain [] [] None
   upholds = (opens (parts_of true mem_state) began plain
-      (record { home_up = refl; ups = (refl, tt); lanes = refl; next = refl; rising = tt; listed = tt; sized = refl }) refl refl
+      (record { home_up = refl; ups = (refl, tt); up = refl; lanes = refl; next = refl; rising = tt; listed = tt; sized = refl }) refl refl
       (record { apart = tt; below = tt; in_order = λ none. (refl, refl); least = omega arith; most = omega arith }) tt (λ told. record { written = tt; below = tt; within = tt })
       (record { flags = refl; few = omega arith; home_blocks = (omega arith, omega arith); most = (omega arith, omega arith); home_size = size; home_volume = volume; each = tt; apart = tt })
       tt refl (record { rising = tt; listed = tt }) tt tt (λ told. tt) (λ told. tt) (λ told. record { each = tt; only = tt }) (λ told image is. zero_home image values is.1)).upholds

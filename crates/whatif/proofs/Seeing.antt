@@ -143,10 +143,10 @@ newest_all P (x ∷ es) b e all is = at ((cover_at x).covers b) (newest cover_at
 
 -- the look once the disk that has the block is awake
 pub source_look : (v : Volume) (b : ℕ) (rec : Rec) (ups : List Bool) → IsVolume v → IsAnswer (newest cover_at v.index.entries b) (Some rec) → ups ≡ slice_set v.ups.items rec.lane true
-    → (let l : Look = record { home_up = v.home_up; ups = ups; next = v.next; listed = listed_in v.index.entries } in l) ≡ woken (look_in v) b 1
+    → (let l : Look = record { home_up = v.home_up; ups = ups; next = v.next; listed = listed_in v.index.entries; down = None } in l) ≡ woken (look_in v) b 1
 source_look v b rec ups volume is set =
     let s = source_log v.index.entries b rec is in
-    (λ i. record { home_up = v.home_up; ups = set i; next = v.next; listed = listed_in v.index.entries })
+    (λ i. record { home_up = v.home_up; ups = set i; next = v.next; listed = listed_in v.index.entries; down = None })
     ∙ sym (woken_log (look_in v) b 1 rec.lane (omega arith) (lane_under v b rec volume is) (λ c from to. let same : c ≡ b = omega arith in (s.entry.listed, ap (newest cover_of (listed_in v.index.entries)) same ∙ s.is, sym s.lane)))
   where
     lane_under : (w : Volume) (c : ℕ) (r : Rec) → IsVolume w → IsAnswer (newest cover_at w.index.entries c) (Some r) → r.lane < length w.ups.items

@@ -120,12 +120,12 @@ module _ (r : Reach) (ups : List Bool) (next : ℕ) (es : List Indexed) (index :
         (some_of (λ (d : Indexed). IsMask d.listed.first (is_homed d.listed) homed) (entry_at es version) e homes (entry P first))
         (some_of (λ (d : Indexed). IsMask d.listed.first (is_due (listed_in es) d.listed) mask) (entry_at es version) e dues (entry P first)))
 
-    pub put_done : put_step r (record { home_up = true; ups = ups; next = next; listed = listed_in es })
-        ≡ Some (record { look = record { home_up = true; ups = ups; next = next; listed = listed_in (changed version (with_homed (bit_or homed mask)) es) }; uses = logger_at r rec.lane ∷ r.own ∷ [] })
+    pub put_done : put_step r (record { home_up = true; ups = ups; next = next; listed = listed_in es; down = None })
+        ≡ Some (record { look = record { home_up = true; ups = ups; next = next; listed = listed_in (changed version (with_homed (bit_or homed mask)) es); down = None }; uses = logger_at r rec.lane ∷ r.own ∷ [] })
     put_done =
-        let l : Look = record { home_up = true; ups = ups; next = next; listed = listed_in es } in
+        let l : Look = record { home_up = true; ups = ups; next = next; listed = listed_in es; down = None } in
         ap (step_at (put_home r) l) (least_of P es e (its P first)) ∙ ap (option_map (put_home r l (its P first).spot.place)) (its P first).spot.there
-        ∙ (λ i. Some (record { look = record { home_up = true; ups = ups; next = next; listed = (sym listed_then) i }; uses = logger_at r (sym (lane P first) i) ∷ r.own ∷ [] }))
+        ∙ (λ i. Some (record { look = record { home_up = true; ups = ups; next = next; listed = (sym listed_then) i; down = None }; uses = logger_at r (sym (lane P first) i) ∷ r.own ∷ [] }))
 
     pub put_less : left (listed_in (changed version (with_homed (bit_or homed mask)) es)) < left (listed_in es)
     put_less =
@@ -144,12 +144,12 @@ module _ (r : Reach) (ups : List Bool) (next : ℕ) (es : List Indexed) (index :
     kept_then = filter_listed (changed version (given_up given) es) ∙ ap (filter keeps_a_block) (then Q first (given_up given)
         ∙ ap (slice_set (listed_in es) (its Q first).spot.place) (given_then (listed_in es) g given (some_of (λ (d : Indexed). IsMask d.listed.first (goes (listed_in es) d.listed) given) (entry_at es version) g bits (entry Q first))))
 
-    pub give_done : give_step r (record { home_up = home_up; ups = ups; next = next; listed = listed_in es })
-        ≡ Some (record { look = record { home_up = home_up; ups = ups; next = next; listed = listed_in (filter (λ (d : Indexed). keeps_a_block d.listed) (changed version (given_up given) es)) }; uses = logger_at r rec.lane ∷ [] })
+    pub give_done : give_step r (record { home_up = home_up; ups = ups; next = next; listed = listed_in es; down = None })
+        ≡ Some (record { look = record { home_up = home_up; ups = ups; next = next; listed = listed_in (filter (λ (d : Indexed). keeps_a_block d.listed) (changed version (given_up given) es)); down = None }; uses = logger_at r rec.lane ∷ [] })
     give_done =
-        let l : Look = record { home_up = home_up; ups = ups; next = next; listed = listed_in es } in
+        let l : Look = record { home_up = home_up; ups = ups; next = next; listed = listed_in es; down = None } in
         ap (step_at (give_up r) l) (least_of Q es g (its Q first)) ∙ ap (option_map (give_up r l (its Q first).spot.place)) (its Q first).spot.there
-        ∙ (λ i. Some (record { look = record { home_up = home_up; ups = ups; next = next; listed = (sym kept_then) i }; uses = logger_at r (sym (lane Q first) i) ∷ [] }))
+        ∙ (λ i. Some (record { look = record { home_up = home_up; ups = ups; next = next; listed = (sym kept_then) i; down = None }; uses = logger_at r (sym (lane Q first) i) ∷ [] }))
 
     pub give_less : left (listed_in (filter (λ (d : Indexed). keeps_a_block d.listed) (changed version (given_up given) es))) < left (listed_in es)
     give_less =
@@ -194,10 +194,10 @@ pub put_answered : (v : Volume) (version : ℕ) (rec : Rec) (homed mask disk : �
     → after.entries ≡ changed version (with_homed (bit_or homed mask)) v.index.entries → disk ≡ slice_index_or v.loggers.items rec.lane disk
     → put_step (reach_in v) (look_in v) ≡ put_answer (reach_in v) (look_in (record v { index = after })) (Some disk)
 put_answered v version rec homed mask disk after up volume index there first homes dues entries is =
-    subst (λ (h : Bool). put_step (reach_in v) (record { home_up = h; ups = v.ups.items; next = v.next; listed = listed_in v.index.entries })
-    ≡ Some (record { look = record { home_up = h; ups = v.ups.items; next = v.next; listed = listed_in after.entries }; uses = disk ∷ v.own ∷ [] })) (sym up)
+    subst (λ (h : Bool). put_step (reach_in v) (record { home_up = h; ups = v.ups.items; next = v.next; listed = listed_in v.index.entries; down = None })
+    ≡ Some (record { look = record { home_up = h; ups = v.ups.items; next = v.next; listed = listed_in after.entries; down = None }; uses = disk ∷ v.own ∷ [] })) (sym up)
     (put_done (reach_in v) v.ups.items v.next v.index.entries index version rec there first homed mask homes dues
-    ∙ (λ i. Some (record { look = record { home_up = true; ups = v.ups.items; next = v.next; listed = listed_in (sym entries i) }; uses = logger_of v version rec disk volume there is i ∷ v.own ∷ [] })))
+    ∙ (λ i. Some (record { look = record { home_up = true; ups = v.ups.items; next = v.next; listed = listed_in (sym entries i); down = None }; uses = logger_of v version rec disk volume there is i ∷ v.own ∷ [] })))
 
 pub give_answered : (v : Volume) (version : ℕ) (rec : Rec) (given disk : ℕ) (after : Contents) → IsVolume v → IsIndex v.index.entries → IsAnswer (entry_at v.index.entries version) (Some rec)
     → first_version (can_go v.ups.items v.index.entries) v.index.entries ≡ Some version → IfSome (entry_at v.index.entries version) (λ e. IsMask e.listed.first (goes (listed_in v.index.entries) e.listed) given)
@@ -205,7 +205,7 @@ pub give_answered : (v : Volume) (version : ℕ) (rec : Rec) (given disk : ℕ) 
     → give_step (reach_in v) (look_in v) ≡ give_answer (look_in (record v { index = after })) (Some disk)
 give_answered v version rec given disk after volume index there first bits entries is =
     give_done (reach_in v) v.ups.items v.next v.index.entries index version rec there first v.home_up given bits
-    ∙ (λ i. Some (record { look = record { home_up = v.home_up; ups = v.ups.items; next = v.next; listed = listed_in (sym entries i) }; uses = logger_of v version rec disk volume there is i ∷ [] }))
+    ∙ (λ i. Some (record { look = record { home_up = v.home_up; ups = v.ups.items; next = v.next; listed = listed_in (sym entries i); down = None }; uses = logger_of v version rec disk volume there is i ∷ [] }))
 
 -- the volume with another index
 pub with_index : (v : Volume) (after : Contents) → IsVolume v → v.settled ≡ false → AllByRecursion (IsLogged (length v.ups.items) v.next) after.entries → IsVolume (record v { index = after })

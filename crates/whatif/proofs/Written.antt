@@ -86,9 +86,9 @@ module _ (version lbn count : ℕ) where
 
   -- the look is that of a write placed there
   pub logged_look : (es : List Indexed) (home_up : Bool) (ups : List Bool) (lane : ℕ)
-      → (let l : Look = record { home_up = home_up; ups = slice_set ups lane true; next = version + 1; listed = listed_in (entered es (rec_at version lbn count lane)) } in l)
-      ≡ placed (Log lane) (record { home_up = home_up; ups = ups; next = version; listed = listed_in es }) (write_of lbn count)
-  logged_look es home_up ups lane = λ i. record { home_up = home_up; ups = slice_set ups lane true; next = version + 1; listed = (listed_then es ∙ marks) i }
+      → (let l : Look = record { home_up = home_up; ups = slice_set ups lane true; next = version + 1; listed = listed_in (entered es (rec_at version lbn count lane)); down = None } in l)
+      ≡ placed (Log lane) (record { home_up = home_up; ups = ups; next = version; listed = listed_in es; down = None }) (write_of lbn count)
+  logged_look es home_up ups lane = λ i. record { home_up = home_up; ups = slice_set ups lane true; next = version + 1; listed = (listed_then es ∙ marks) i; down = None }
     where
       new : (keep homed : List Bool) → Listed
       new keep homed = record { version = version; first = lbn; keep = keep; lane = lane; homed = homed }

@@ -198,7 +198,7 @@ after_windows s (w ∷ ws) m = after_windows s ws (after_window s w m)
 
 -- at first all count as awake, and nothing is logged
 abbrev pub first_look : Reach → Look
-first_look r = record { home_up = true; ups = replicate (length r.loggers) true; next = 1; listed = [] }
+first_look r = record { home_up = true; ups = replicate (length r.loggers) true; next = 1; listed = []; down = None }
 
 abbrev pub first_volume : Reach → Volume
 first_volume r = record { reach = r; look = first_look r }

@@ -15,7 +15,7 @@ abbrev pub reach_in : Volume → Reach
 reach_in v = record { own = v.own; loggers = v.loggers.items }
 
 abbrev pub look_in : Volume → Look
-look_in v = record { home_up = v.home_up; ups = v.ups.items; next = v.next; listed = listed_in v.index.entries }
+look_in v = record { home_up = v.home_up; ups = v.ups.items; next = v.next; listed = listed_in v.index.entries; down = None }
 
 abbrev pub volume_in : Volume → machine.Volume
 volume_in v = record { reach = reach_in v; look = look_in v }

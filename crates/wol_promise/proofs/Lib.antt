@@ -29,5 +29,6 @@ pub mod PlacingRules
 pub mod OpenedManager
 pub mod WhatIsRefused
 pub mod LookSteps
+pub mod DownStays
 pub mod Woken
 pub mod Lowering

@@ -11,7 +11,7 @@ abbrev write : Option ℕ → Write
 write version = record { first = 0; blocks = (1 ∷ []) ∷ []; version = version }
 
 abbrev began : Look
-began = record { home_up = false; ups = true ∷ []; next = 1; listed = [] }
+began = record { home_up = false; ups = true ∷ []; next = 1; listed = []; down = None }
 
 abbrev logged : Look
 logged = placed (Log 0) began (write (Some 1))
@@ -33,7 +33,7 @@ entries =
     ∷ record { entry = record { pass = 0; operation = Wrote (write None ∷ []) }; look = drained logged; passed = 0 ∷ []; after_drain = true; ruled = true }
     ∷ []
 
-drained_is : drained logged ≡ record { home_up = true; ups = true ∷ []; next = 2; listed = [] }
+drained_is : drained logged ≡ record { home_up = true; ups = true ∷ []; next = 2; listed = []; down = None }
 drained_is = refl
 
 ruled : AreRuled began entries

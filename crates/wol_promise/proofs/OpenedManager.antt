@@ -12,7 +12,7 @@ use Rattle.wol_model.specs.Log.{Record, IsLog, extent_of}
 use Rattle.wol_model.specs.Holding.{Holds}
 use Rattle.wol_model.proofs.Cells.{cells}
 use Rattle.wol_promise.specs.Manager.{Parts, Held, ManagerSeen, Base, IsFound, is_homed_in, SaysOwnerOrFree}
-use Rattle.wol_promise.specs.Stands.{StandsAtRest}
+use Rattle.wol_promise.specs.Stands.{StandsFor}
 
 pub record Part : Type 0 where
   blocks : List Block
@@ -56,7 +56,7 @@ base = record {
   home_blocks = 4;
   most = 3;
   view = 1 ∷ [];
-  look = record { home_up = true; ups = true ∷ []; next = 2; listed = listed ∷ [] };
+  look = record { home_up = true; ups = true ∷ []; next = 2; listed = listed ∷ []; down = None };
 }
 
 is_head : IsRecordHead head
@@ -82,39 +82,36 @@ none_homed b = at (leb 1 b) (b - 1)
     at true (suc (suc i)) = refl
     at false i = refl
 
-stands : StandsAtRest parts base manager []
+stands : StandsFor parts base manager []
 unfolding parts
 stands = record {
-  stands = record {
-    upholds = record {
-      began = record { home_up = refl; ups = (refl, tt); lanes = refl; next = refl; rising = (tt, tt); listed = (record { write = record { first = 1; blocks = cells (11 ∷ 12 ∷ []); version = Some 1 }; known = (0, omega arith, refl); version = refl; first = refl; count = refl; lane = omega arith; marked = refl; unhomed = (refl, (refl, tt)) }, tt); sized = refl };
-      history = record { replies = λ told. tt; breaks = tt; helpers = tt; ruled = tt };
-      lie = (omega arith, tt);
-      versioned = record { apart = (tt, tt); below = (omega arith, tt); in_order = λ none. (refl, refl); least = omega arith; most = omega arith };
-      known = λ told. record { written = (((λ valid. (record { first = 1; blocks = cells (11 ∷ 12 ∷ []); version = Some 1 }, (0, omega arith, refl), record { version = refl; first = refl; blocks = refl })), tt), tt); below = (((λ invalid. omega arith), tt), tt); within = ((omega arith, tt), tt) };
-      places = record { flags = refl; few = omega arith; home_blocks = (omega arith, omega arith); most = (omega arith, omega arith); home_size = refl; home_volume = refl; each = (record { logger = refl; room = omega arith; owned = λ bs is. subst (SaysOwnerOrFree 0) (sym is) (inl refl) }, tt); apart = (tt, tt) };
-      is_down = refl;
-      failed = λ name is. absurd (none-some name is);
-      calm = λ none. record {
-        unbroken = (refl, tt);
-        untaken = refl;
-        sorted = record { rising = (tt, tt); listed = (record { marks = refl; homed_are_live = λ b homed. absurd (no b homed) }, tt) };
-        below = (omega arith, tt);
-        placed = (record { segment = held; is_held = (0, omega arith, refl); lane = refl; index = refl; behind = omega arith; within = omega arith }, tt);
-        whole = λ told. record {
-          logs = ((λ bs is. subst (λ (l : List Block). IsLog l 0 (kept_in_part ∷ [])) (sym is) is_log), tt);
-          distinct = (tt, tt);
-          index = record { each = ((λ k r is valid. found k r is), tt); only = (record { segment = held; is_held = (0, omega arith, refl); k = 0; record_ = kept_in_part; is_there = refl; valid = (2, refl); is_its = record { version = refl; first = refl; keep = refl; lane = refl; index = refl; pos = refl } }, tt) };
-          holds = λ image is. subst (λ (h : List Block). Holds base.array [] 2 h (extent_of kept_in_part ∷ []) (is_homed_in (entry ∷ []))) (sym is)
-              (record { stands = stands_for_array; is_home = λ b x y homed. absurd (let no : false ≡ true = sym (none_homed b) ∙ homed in cc); distinct = (tt, tt); below = (omega arith, tt) });
-        };
+  upholds = record {
+    began = record { home_up = refl; ups = (refl, tt); up = refl; lanes = refl; next = refl; rising = (tt, tt); listed = (record { write = record { first = 1; blocks = cells (11 ∷ 12 ∷ []); version = Some 1 }; known = (0, omega arith, refl); version = refl; first = refl; count = refl; lane = omega arith; marked = refl; unhomed = (refl, (refl, tt)) }, tt); sized = refl };
+    history = record { replies = λ told. tt; breaks = tt; helpers = tt; ruled = tt };
+    lie = (omega arith, tt);
+    versioned = record { apart = (tt, tt); below = (omega arith, tt); in_order = λ none. (refl, refl); least = omega arith; most = omega arith };
+    known = λ told. record { written = (((λ valid. (record { first = 1; blocks = cells (11 ∷ 12 ∷ []); version = Some 1 }, (0, omega arith, refl), record { version = refl; first = refl; blocks = refl })), tt), tt); below = (((λ invalid. omega arith), tt), tt); within = ((omega arith, tt), tt) };
+    places = record { flags = refl; few = omega arith; home_blocks = (omega arith, omega arith); most = (omega arith, omega arith); home_size = refl; home_volume = refl; each = (record { logger = refl; room = omega arith; owned = λ bs is. subst (SaysOwnerOrFree 0) (sym is) (inl refl) }, tt); apart = (tt, tt) };
+    is_down = refl;
+    failed = λ name is. absurd (none-some name is);
+    calm = λ none. record {
+      unbroken = (refl, tt);
+      untaken = refl;
+      sorted = record { rising = (tt, tt); listed = (record { marks = refl; homed_are_live = λ b homed. absurd (no b homed) }, tt) };
+      below = (omega arith, tt);
+      placed = (record { segment = held; is_held = (0, omega arith, refl); lane = refl; index = refl; behind = omega arith; within = omega arith }, tt);
+      whole = λ told. record {
+        logs = ((λ bs is. subst (λ (l : List Block). IsLog l 0 (kept_in_part ∷ [])) (sym is) is_log), tt);
+        distinct = (tt, tt);
+        index = record { each = ((λ k r is valid. found k r is), tt); only = (record { segment = held; is_held = (0, omega arith, refl); k = 0; record_ = kept_in_part; is_there = refl; valid = (2, refl); is_its = record { version = refl; first = refl; keep = refl; lane = refl; index = refl; pos = refl } }, tt) };
+        holds = λ image is. subst (λ (h : List Block). Holds base.array [] 2 h (extent_of kept_in_part ∷ []) (is_homed_in (entry ∷ []))) (sym is)
+            (record { stands = stands_for_array; is_home = λ b x y homed. absurd (let no : false ≡ true = sym (none_homed b) ∙ homed in cc); distinct = (tt, tt); below = (omega arith, tt) });
       };
-      sound = λ told some. absurd (false≢true some);
-      cut = λ told fl is. absurd (none-some fl is);
     };
-    look = λ none. refl;
+    sound = λ told some. absurd (false≢true some);
+    cut = λ told fl is. absurd (none-some fl is);
   };
-  in_use = λ told none. ((kept_in_part, (0, omega arith, refl), (2, refl)), tt);
+  look = λ none. refl;
 }
   where
     no : (b : ℕ) → is_homed listed b ≡ true → ⊥

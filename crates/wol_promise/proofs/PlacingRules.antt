@@ -1,5 +1,5 @@
--- Placing, rule by rule; and what a group of writes may be.
-use Rattle.std.proofs.Common.{◌≡◌, true, false, [], ◌∷◌, Some, refl}
+-- Placing, rule by rule; and a group of writes.
+use Rattle.std.proofs.Common.{◌≡◌, true, false, [], ◌∷◌, None, Some, refl}
 use Rattle.wol_model.specs.Blocks.{Write}
 use Rattle.wol_model.specs.Placing.{Home, Log, Full, place}
 use Rattle.wol_promise.specs.Policy.{Look, AreWrites, placed}
@@ -25,7 +25,7 @@ unequal = refl
 
 -- two writes of a group go to one log under versions in a row
 abbrev look : Look
-look = record { home_up = false; ups = true ∷ []; next = 5; listed = [] }
+look = record { home_up = false; ups = true ∷ []; next = 5; listed = []; down = None }
 
 abbrev first_write : Write
 first_write = record { first = 0; blocks = (1 ∷ []) ∷ []; version = Some 5 }

@@ -8,10 +8,10 @@ use Rattle.wol_disk.specs.Disk.{Block}
 use Rattle.wol_model.specs.Blocks.{Write}
 use Rattle.wol_model.specs.History.{Operation, Wrote, Read, Kept, Broke}
 use Rattle.wol_model.specs.Index.{Listed}
-use Rattle.wol_promise.specs.Policy.{Look}
+use Rattle.wol_promise.specs.Policy.{Look, PartName, HomePart, SegmentPart}
 use Rattle.wol_promise.specs.Ruled.{Noted}
-use Rattle.wol_promise.specs.Code.{list_code, number_code, flag_code, block_code, version_code, write_code, operation_code, listed_code, look_code, code_of}
-use Rattle.wol_promise.specs.Code.{Reader, read_many, read_list, read_number, read_flag, read_block, read_version, read_write, read_operation, read_listed, read_look, read_noted, noted_of, CodeReadsBack, NotedBack, no_note}
+use Rattle.wol_promise.specs.Code.{list_code, number_code, flag_code, block_code, version_code, write_code, operation_code, listed_code, part_code, look_code, code_of}
+use Rattle.wol_promise.specs.Code.{Reader, read_many, read_list, read_number, read_flag, read_block, read_version, read_write, read_operation, read_listed, read_part, read_look, read_noted, noted_of, CodeReadsBack, NotedBack, no_note}
 
 abbrev ReadsBack : {X : Type 0} → (X → List ℕ) → Reader X → Type 0
 ReadsBack {X} code read = (x : X) (rest : List ℕ) → read (code x ++ rest) ≡ Some (x, rest)
@@ -61,13 +61,20 @@ listed_back e rest =
     (behind (list_code flag_code) (read_list read_flag) (list_back flag_code read_flag flag_back) e.keep (list_code flag_code e.homed) rest)
     ∙ ap (option_map (λ (homed : List Bool × List ℕ). (record { version = e.version; first = e.first; keep = e.keep; lane = e.lane; homed = homed.0 }, homed.1))) (list_back flag_code read_flag flag_back e.homed rest)
 
+part_back : ReadsBack part_code read_part
+part_back None rest = refl
+part_back (Some HomePart) rest = refl
+part_back (Some (SegmentPart logger index)) rest = refl
+
 look_back : ReadsBack look_code read_look
 look_back l rest =
-    ap (option_and_then (λ (home_up : Bool × List ℕ). option_and_then (λ (ups : List Bool × List ℕ). option_map (λ (listed : List Listed × List ℕ). (record { home_up = home_up.0; ups = ups.0; next = l.next; listed = listed.0 }, listed.1)) (read_list read_listed ups.1)) (read_list read_flag home_up.1)))
-    (behind flag_code read_flag flag_back l.home_up (list_code flag_code l.ups ++ list_code listed_code l.listed) rest)
-    ∙ ap (option_and_then (λ (ups : List Bool × List ℕ). option_map (λ (listed : List Listed × List ℕ). (record { home_up = l.home_up; ups = ups.0; next = l.next; listed = listed.0 }, listed.1)) (read_list read_listed ups.1)))
-    (behind (list_code flag_code) (read_list read_flag) (list_back flag_code read_flag flag_back) l.ups (list_code listed_code l.listed) rest)
-    ∙ ap (option_map (λ (listed : List Listed × List ℕ). (record { home_up = l.home_up; ups = l.ups; next = l.next; listed = listed.0 }, listed.1))) (list_back listed_code read_listed listed_back l.listed rest)
+    ap (option_and_then (λ (home_up : Bool × List ℕ). option_and_then (λ (ups : List Bool × List ℕ). option_and_then (λ (down : Option PartName × List ℕ). option_map (λ (listed : List Listed × List ℕ). (record { home_up = home_up.0; ups = ups.0; next = l.next; listed = listed.0; down = down.0 }, listed.1)) (read_list read_listed down.1)) (read_part ups.1)) (read_list read_flag home_up.1)))
+    (behind flag_code read_flag flag_back l.home_up (list_code flag_code l.ups ++ (part_code l.down ++ list_code listed_code l.listed)) rest)
+    ∙ ap (option_and_then (λ (ups : List Bool × List ℕ). option_and_then (λ (down : Option PartName × List ℕ). option_map (λ (listed : List Listed × List ℕ). (record { home_up = l.home_up; ups = ups.0; next = l.next; listed = listed.0; down = down.0 }, listed.1)) (read_list read_listed down.1)) (read_part ups.1)))
+    (behind (list_code flag_code) (read_list read_flag) (list_back flag_code read_flag flag_back) l.ups (part_code l.down ++ list_code listed_code l.listed) rest)
+    ∙ ap (option_and_then (λ (down : Option PartName × List ℕ). option_map (λ (listed : List Listed × List ℕ). (record { home_up = l.home_up; ups = l.ups; next = l.next; listed = listed.0; down = down.0 }, listed.1)) (read_list read_listed down.1)))
+    (behind part_code read_part part_back l.down (list_code listed_code l.listed) rest)
+    ∙ ap (option_map (λ (listed : List Listed × List ℕ). (record { home_up = l.home_up; ups = l.ups; next = l.next; listed = listed.0; down = l.down }, listed.1))) (list_back listed_code read_listed listed_back l.listed rest)
 
 module _ (n : Noted) (rest : List ℕ) where
   abbrev with_ruled : Operation → Look → List ℕ → Bool → (Bool × List ℕ) → Noted × List ℕ

@@ -24,22 +24,22 @@ with_flags l home_up ups = record l { home_up = home_up; ups = ups }
 
 -- usr0, whose view is web0: line 1 goes home, line 5 to the log, line 8 wakes home, the record is put home and given up, line 9 goes home
 abbrev usr0_began : Look
-usr0_began = record { home_up = true; ups = true ∷ []; next = 1; listed = [] }
+usr0_began = record { home_up = true; ups = true ∷ []; next = 1; listed = []; down = None }
 
 abbrev usr0_asleep : Look
 usr0_asleep = with_flags usr0_began false (true ∷ [])
 
 abbrev usr0_logged : Look
-usr0_logged = record { home_up = false; ups = true ∷ []; next = 2; listed = record { version = 1; first = 0; keep = true ∷ true ∷ []; lane = 0; homed = false ∷ false ∷ [] } ∷ [] }
+usr0_logged = record { home_up = false; ups = true ∷ []; next = 2; listed = record { version = 1; first = 0; keep = true ∷ true ∷ []; lane = 0; homed = false ∷ false ∷ [] } ∷ []; down = None }
 
 abbrev usr0_woken : Look
 usr0_woken = with_flags usr0_logged true (true ∷ [])
 
 abbrev usr0_home : Look
-usr0_home = record { home_up = true; ups = true ∷ []; next = 2; listed = record { version = 1; first = 0; keep = true ∷ true ∷ []; lane = 0; homed = true ∷ true ∷ [] } ∷ [] }
+usr0_home = record { home_up = true; ups = true ∷ []; next = 2; listed = record { version = 1; first = 0; keep = true ∷ true ∷ []; lane = 0; homed = true ∷ true ∷ [] } ∷ []; down = None }
 
 abbrev usr0_bare : Look
-usr0_bare = record { home_up = true; ups = true ∷ []; next = 2; listed = [] }
+usr0_bare = record { home_up = true; ups = true ∷ []; next = 2; listed = []; down = None }
 
 abbrev usr0 : List Noted
 usr0 =
@@ -118,7 +118,7 @@ usr0_idle = tt
 
 -- src0, whose view is web0 and usr0: line 7 goes to the log on web0, line 12 wakes web0 for block 10 and home for block 11
 abbrev src0_began : Look
-src0_began = record { home_up = false; ups = true ∷ false ∷ []; next = 1; listed = [] }
+src0_began = record { home_up = false; ups = true ∷ false ∷ []; next = 1; listed = []; down = None }
 
 abbrev src0_logged : Look
 src0_logged = placed (place_of [] src0_began (write 10 1 (Some 1))) src0_began (write 10 1 (Some 1))
@@ -133,7 +133,7 @@ src0_flags : src0_woken ≡ with_flags src0_logged true (true ∷ false ∷ [])
 src0_flags = refl
 
 abbrev src0_bare : Look
-src0_bare = record { home_up = true; ups = true ∷ false ∷ []; next = 2; listed = [] }
+src0_bare = record { home_up = true; ups = true ∷ false ∷ []; next = 2; listed = []; down = None }
 
 abbrev src0 : List Noted
 src0 =

@@ -1,9 +1,9 @@
--- What the definitions refuse: an index entry at another position, an opening with a flag that isn't set, a write behind the volume's end,
+-- What the definitions refuse: an index entry at another position, an opening with a flag that isn't set or a part that is down, a write behind the volume's end,
 -- a write to a log after a drain, an entry of another kind that is marked so, and marks of home that are missing or of blocks that aren't live.
 use Rattle.std.proofs.Common.{◌≡◌, ◌≤◌, ℕ, true, false, List, [], ◌∷◌, None, Some, refl, sym, ap, ◌∙◌, arith}
 use Rattle.wol_model.specs.Blocks.{Write}
 use Rattle.wol_model.specs.Index.{Listed, IsListed, keeping}
-use Rattle.wol_promise.specs.Policy.{Look}
+use Rattle.wol_promise.specs.Policy.{Look, HomePart}
 use Rattle.wol_promise.specs.Ruled.{Noted, IsDrainedWrite, IsStep}
 use Rattle.wol_model.specs.History.{Kept}
 use Rattle.wol_promise.specs.Manager.{IsEntryOf}
@@ -13,14 +13,17 @@ use Rattle.wol_promise.proofs.OpenedManager.{held, kept_in_part, entry, base, li
 other_position : (pos : ℕ) → IsEntryOf held 0 kept_in_part (record entry { pos = pos }) → pos ≡ 1
 other_position pos is = is.pos
 
-flag_not_set : IsOpening (record base { look = record { home_up = false; ups = true ∷ []; next = 2; listed = listed ∷ [] } }) → ⊥
+flag_not_set : IsOpening (record base { look = record { home_up = false; ups = true ∷ []; next = 2; listed = listed ∷ []; down = None } }) → ⊥
 flag_not_set is = let no : false ≡ true = is.home_up in cc
 
-fewer_flags : IsOpening (record base { look = record { home_up = true; ups = []; next = 2; listed = listed ∷ [] } }) → ⊥
+fewer_flags : IsOpening (record base { look = record { home_up = true; ups = []; next = 2; listed = listed ∷ []; down = None } }) → ⊥
 fewer_flags is = let no : ◌≡◌ {A = ℕ} 0 1 = is.lanes in omega arith
 
-other_next : IsOpening (record base { look = record { home_up = true; ups = true ∷ []; next = 1; listed = listed ∷ [] } }) → ⊥
+other_next : IsOpening (record base { look = record { home_up = true; ups = true ∷ []; next = 1; listed = listed ∷ []; down = None } }) → ⊥
 other_next is = let no : ◌≡◌ {A = ℕ} 1 2 = is.next in omega arith
+
+part_down : IsOpening (record base { look = record { home_up = true; ups = true ∷ []; next = 2; listed = listed ∷ []; down = Some HomePart } }) → ⊥
+part_down is = let no : Some HomePart ≡ None = is.up in cc
 
 behind_the_end : LiesIn 4 (record { first = 4; blocks = (1 ∷ []) ∷ []; version = None }) → ⊥
 behind_the_end is = let no : 5 ≤ 4 = is in omega arith

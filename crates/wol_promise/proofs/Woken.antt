@@ -92,6 +92,7 @@ woken_none l first = λ i. record {
   ups = sym (fill_by_all (λ k. get_or l.ups k false || false) l.ups (length l.ups) false refl (λ k lt. sym (or_none (get_or l.ups k false)))) i;
   next = l.next;
   listed = l.listed;
+  down = l.down;
 }
 
 -- one range behind another
@@ -101,6 +102,7 @@ woken_more l first n m = λ i. record {
   ups = ups i;
   next = l.next;
   listed = l.listed;
+  down = l.down;
 }
   where
     bare : ℕ → Bool
@@ -162,6 +164,7 @@ woken_home l first n some bare = λ i. record {
       (λ k lt. sym ((λ j. get_or l.ups k false || bare_reads_lane l.listed first n some bare k j) ∙ or_none (get_or l.ups k false)))) i;
   next = l.next;
   listed = l.listed;
+  down = l.down;
 }
 
 -- a run of blocks of which a record on one lane is the newest
@@ -171,6 +174,7 @@ woken_log l first n lane some within run = λ i. record {
   ups = sym (fill_by_all up (slice_set l.ups lane true) (length l.ups) false (length-set l.ups lane true) (λ k lt. sym (same k (cases_eq k lane)))) i;
   next = l.next;
   listed = l.listed;
+  down = l.down;
 }
   where
     up : ℕ → Bool

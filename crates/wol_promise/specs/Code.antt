@@ -6,7 +6,7 @@ use Rattle.wol_disk.specs.Disk.{Block}
 use Rattle.wol_model.specs.Blocks.{Write}
 use Rattle.wol_model.specs.History.{Operation, Wrote, Read, Kept, Broke}
 use Rattle.wol_model.specs.Index.{Listed}
-use Rattle.wol_promise.specs.Policy.{Look}
+use Rattle.wol_promise.specs.Policy.{Look, PartName, HomePart, SegmentPart}
 use Rattle.wol_promise.specs.Ruled.{Noted}
 
 -- ---- Writing
@@ -48,9 +48,15 @@ operation_code (Broke ws) = 4 ∷ list_code write_code ws
 abbrev pub listed_code : Listed → List ℕ
 listed_code e = e.version ∷ e.first ∷ e.lane ∷ (list_code flag_code e.keep ++ list_code flag_code e.homed)
 
--- next version, flags, records
+-- 0, 1 for home, or 2, logger and index
+abbrev pub part_code : Option PartName → List ℕ
+part_code None = 0 ∷ []
+part_code (Some HomePart) = 1 ∷ []
+part_code (Some (SegmentPart logger index)) = 2 ∷ logger ∷ index ∷ []
+
+-- next version, flags, part, records
 abbrev pub look_code : Look → List ℕ
-look_code l = l.next ∷ (flag_code l.home_up ++ (list_code flag_code l.ups ++ list_code listed_code l.listed))
+look_code l = l.next ∷ (flag_code l.home_up ++ (list_code flag_code l.ups ++ (part_code l.down ++ list_code listed_code l.listed)))
 
 -- all of an entry but the pass
 unfoldable pub code_of : Noted → List ℕ
@@ -121,12 +127,20 @@ read_listed code =
     (record { version = version.0; first = first.0; keep = keep.0; lane = lane.0; homed = homed.0 }, homed.1))
     (read_list read_flag keep.1)) (read_list read_flag lane.1)) (read_number first.1)) (read_number version.1)) (read_number code)
 
+-- a part or none
+abbrev pub read_part : Reader (Option PartName)
+read_part [] = None
+read_part (tag ∷ code) =
+    if tag == 1 then Some (Some HomePart, code)
+    else (if tag == 2 then option_and_then (λ logger. option_map (λ index. (Some (SegmentPart logger.0 index.0), index.1)) (read_number logger.1)) (read_number code)
+    else Some (None, code))
+
 -- a look
 abbrev pub read_look : Reader Look
 read_look code =
-    option_and_then (λ next. option_and_then (λ home_up. option_and_then (λ ups. option_map (λ listed.
-    (record { home_up = home_up.0; ups = ups.0; next = next.0; listed = listed.0 }, listed.1))
-    (read_list read_listed ups.1)) (read_list read_flag home_up.1)) (read_flag next.1)) (read_number code)
+    option_and_then (λ next. option_and_then (λ home_up. option_and_then (λ ups. option_and_then (λ down. option_map (λ listed.
+    (record { home_up = home_up.0; ups = ups.0; next = next.0; listed = listed.0; down = down.0 }, listed.1))
+    (read_list read_listed down.1)) (read_part ups.1)) (read_list read_flag home_up.1)) (read_flag next.1)) (read_number code)
 
 -- an entry of this pass with its notes
 abbrev pub read_noted : (pass : ℕ) → Reader Noted
@@ -137,7 +151,7 @@ read_noted pass code =
 
 -- what stands for nothing
 abbrev pub no_note : (pass : ℕ) → Noted
-no_note pass = record { entry = record { pass = pass; operation = Kept }; look = record { home_up = false; ups = []; next = 0; listed = [] }; passed = []; after_drain = false; ruled = false }
+no_note pass = record { entry = record { pass = pass; operation = Kept }; look = record { home_up = false; ups = []; next = 0; listed = []; down = None }; passed = []; after_drain = false; ruled = false }
 
 -- the entry of a pass whose operation has this code
 unfoldable pub noted_of : (pass : ℕ) → (code : List ℕ) → Noted

@@ -2,7 +2,6 @@ pub mod Policy
 pub mod Ruled
 pub mod Manager
 pub mod Stands
-pub mod Segments
 pub mod Spindle
 pub mod Outcomes
 pub mod Run

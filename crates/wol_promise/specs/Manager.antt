@@ -9,6 +9,7 @@ use Rattle.wol_model.specs.Index.{Indexed, listed_in, is_homed, AreRising, IsLis
 use Rattle.wol_model.specs.Log.{Record, extent_of, marks_of, position_of}
 use Rattle.wol_model.specs.Recovered.{recovered}
 use Rattle.wol_promise.specs.Policy.{Look}
+pub use Rattle.wol_promise.specs.Policy.{PartName, HomePart, SegmentPart}
 
 -- What contracts see of parts of images: whether their content is told, which images each may have,
 -- and the number of blocks, the volume and the count of faults of each.
@@ -18,11 +19,6 @@ pub record Parts (P : Type 0) : Type 1 where
   pub size : P → ℕ
   pub volume : P → ℕ
   pub faults : P → ℕ
-
--- home, or a segment of a logger
-pub data PartName : Type 0 where
-  HomePart : PartName
-  SegmentPart : (logger index : ℕ) → PartName
 
 -- a segment that the lane at this place of the view holds, with its records
 pub record Held (P : Type 0) : Type 0 where
@@ -58,9 +54,9 @@ pub record Base : Type 0 where
   pub view : List ℕ
   pub look : Look
 
--- the look of a manager: its flags, next version and listed records
+-- the look of a manager: its flags, next version and listed records, and the part at which a call failed
 abbrev pub look_of : {P : Type 0} → ManagerSeen P → Look
-look_of m = record { home_up = m.home_up; ups = m.ups; next = m.next; listed = listed_in m.indexed }
+look_of m = record { home_up = m.home_up; ups = m.ups; next = m.next; listed = listed_in m.indexed; down = m.down }
 
 -- the part of this name
 abbrev pub IsPartOf : {P : Type 0} → (view : List ℕ) → ManagerSeen P → PartName → P → Type 0

@@ -1,5 +1,5 @@
 -- Where writes are placed, and how a manager's look at its records goes on.
-use Rattle.std.specs.Prelude.{⊤, ◌≡◌, ◌≢◌, ◌⊎◌, ◌≤◌, ℕ, ◌+◌, Bool, true, false, not, ◌&&◌, ◌||◌, List, [], ◌∷◌, ◌++◌, map, Option, None, Some, length, nat_le, nat_lt, ◌==◌, slice_get, slice_set, slice_index_or, IsTrue, position, replicate}
+use Rattle.std.specs.Prelude.{◌≡◌, ◌≢◌, ℕ, ◌+◌, Bool, true, false, not, ◌&&◌, ◌||◌, List, [], ◌∷◌, ◌++◌, map, Option, None, Some, length, nat_le, nat_lt, ◌==◌, slice_get, slice_set, slice_index_or, IsTrue, position, replicate}
 use Rattle.std.specs.List.{list_any, range_with_len, filter, AllByRecursion}
 use Rattle.std.specs.Option.{option_map_or}
 use Rattle.wol_model.specs.Blocks.{Write}
@@ -7,12 +7,19 @@ use Rattle.wol_model.specs.Extents.{newest, remarked}
 use Rattle.wol_model.specs.Index.{Listed, cover_of, is_covered, is_due, has_due, has_going, keeps_a_block, homing, keeping}
 use Rattle.wol_model.specs.Placing.{Place, Home, Log, Full, place}
 
+-- home, or a segment of a logger
+pub data PartName : Type 0 where
+  HomePart : PartName
+  SegmentPart : (logger index : ℕ) → PartName
+
 -- what decides of placing and reclaim: which disks are awake, the next version, and the records by rising version
 pub record Look : Type 0 where
   pub home_up : Bool
   pub ups : List Bool
   pub next : ℕ
   pub listed : List Listed
+  -- the part at which a disk call failed, since when nothing is answered
+  pub down : Option PartName
 
 -- the logger of a record is awake
 abbrev pub is_within_reach : Look → Listed → Bool
@@ -68,11 +75,6 @@ abbrev pub AreWrites : (passed : List ℕ) → Look → List Write → Look → 
 AreWrites passed l [] m = m ≡ l
 AreWrites passed l (w ∷ ws) m =
     (place_of passed l w ≢ Full) × (w.version ≡ version_at (place_of passed l w) l) × AreWrites passed (placed (place_of passed l w) l w) ws m
-
--- an item with fewer blocks than the first joins a group only where no pool was found empty for it
-abbrev pub IsGroup : (passed : List ℕ) → List Write → Type 0
-IsGroup passed [] = ⊤
-IsGroup passed (w ∷ ws) = (passed ≡ []) ⊎ AllByRecursion (λ v. length w.blocks ≤ length v.blocks) ws
 
 -- after a drain: no records, and home and each logger that had one are awake
 abbrev pub drained : Look → Look

@@ -4,7 +4,6 @@ use Rattle.std.specs.List.{AllByRecursion, list_any, filter, flat_map, count_by}
 use Rattle.wol_model.specs.Blocks.{Write}
 use Rattle.wol_model.specs.History.{Operation, Wrote, Read, Kept, Broke, writes, keeper, helper, worker}
 use Rattle.wol_model.specs.Index.{Listed, is_due, block_numbers}
-use Rattle.wol_model.specs.Log.{Record, marks_of}
 use Rattle.wol_promise.specs.Policy.{Look, IsIdleLook}
 use Rattle.wol_promise.specs.Ruled.{Noted, entries_of, last_look}
 
@@ -67,14 +66,6 @@ blocks_put_home l (n ∷ notes) = put_home_by (reclaims n.after_drain n.entry.op
 -- the records that are gone: with those at exit they are those at opening and the writes to logs
 abbrev pub AreGone : (gone at_opening logged at_exit : ℕ) → Type 0
 AreGone gone at_opening logged at_exit = gone + at_exit ≡ at_opening + logged
-
--- how many records keep a block
-abbrev pub keeps_a_block : Record → Bool
-keeps_a_block r = list_any (λ m. m) (marks_of r.head.count r.head.mask)
-
--- how many of these records keep a block
-abbrev pub valid_among : List Record → ℕ
-valid_among rs = count_by keeps_a_block rs
 
 -- ---- Windows
 

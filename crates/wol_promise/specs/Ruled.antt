@@ -33,11 +33,11 @@ pub record IsDrainedWrite (passed : List ℕ) (l : Look) (ws : List Write) (m : 
   pub home : write.version ≡ None
   pub drains : IsDrained passed l write m
 
--- what a Kept of each pass may do: nothing; drain for a write that was then refused for want of memory;
+-- what a Kept of each pass may do: nothing; the worker drains for a write that was then refused for want of memory;
 -- the keeper sets the flags; the helper takes one step of reclaim, the worker any number
 pub data IsKeep (passed : List ℕ) (pass : ℕ) (l m : Look) : Type 0 where
   same : m ≡ l → IsKeep passed pass l m
-  refused : (w : Write) → IsDrained passed l w m → IsKeep passed pass l m
+  refused : (w : Write) → pass ≡ worker → IsDrained passed l w m → IsKeep passed pass l m
   flags : pass ≡ keeper → length m.ups ≡ length l.ups → m ≡ record l { home_up = m.home_up; ups = m.ups } → IsKeep passed pass l m
   helped : pass ≡ helper → IsReclaim l m → IsKeep passed pass l m
   reclaimed : pass ≡ worker → AreReclaims l m → IsKeep passed pass l m

@@ -1,5 +1,5 @@
 -- The accesses that passes begin at spindles, and which of them may wake a disk.
-use Rattle.std.specs.Prelude.{◌≡◌, ◌<◌, ℕ, Bool, true, false, List, ◌∷◌, map}
+use Rattle.std.specs.Prelude.{◌≡◌, ℕ, Bool, true, false, List, ◌∷◌, map}
 use Rattle.std.specs.List.{count_by}
 use Rattle.wol_model.specs.Journal.{Use, Started, Began, Needed, Done, Stayed}
 
@@ -30,10 +30,6 @@ dones_in mine = count_by is_done mine
 -- a pass that is in no access
 abbrev pub IsSettled : (mine : List Use) → Type 0
 IsSettled mine = dones_in mine ≡ needs_in mine
-
--- the pass gained an access only where it may
-abbrev pub GainsOnly : (may : Type 0) → (old new : List Use) → Type 0
-GainsOnly may old new = needs_in old < needs_in new → may
 
 -- the keeper's entries since opening: one Started at the account's start, then one Began for each window's moment in order
 abbrev pub keeper_uses : (start : ℕ) → (moments : List ℕ) → List Use

@@ -9,7 +9,7 @@ use Rattle.wol_model.specs.Holding.{Holds}
 use Rattle.wol_model.specs.Index.{Listed, AreRising, Indexed}
 use Rattle.wol_model.specs.Log.{Record, IsIdle, IsLog, extent_of}
 use Rattle.wol_model.specs.Recovered.{extents_of}
-use Rattle.wol_promise.specs.Manager.{Parts, PartName, Held, ManagerSeen, Base, look_of, IsPartOf, extents_held, AllRecords, Recovers, IsIndexOf, IsSorted, AreInUse, is_homed_in, SaysOwnerOrFree, versions, WasWritten}
+use Rattle.wol_promise.specs.Manager.{Parts, PartName, Held, ManagerSeen, Base, look_of, IsPartOf, extents_held, AllRecords, Recovers, IsIndexOf, IsSorted, is_homed_in, SaysOwnerOrFree, versions, WasWritten}
 use Rattle.wol_promise.specs.Ruled.{Noted, entries_of, AreRuled, last_look}
 
 -- ---- The beginning
@@ -25,10 +25,11 @@ pub record IsOpened (base : Base) (e : Listed) : Type 0 where
   pub marked : length e.homed ≡ length e.keep
   pub unhomed : AllByRecursion (λ m. m ≡ false) e.homed
 
--- at opening all flags are set, and what is listed stands among the records
+-- at opening all flags are set, no part is down, and what is listed stands among the records
 pub record IsOpening (base : Base) : Type 0 where
   pub home_up : base.look.home_up ≡ true
   pub ups : AllByRecursion (λ up. up ≡ true) base.look.ups
+  pub up : base.look.down ≡ None
   pub lanes : length base.look.ups ≡ length base.view
   pub next : base.look.next ≡ base.next
   pub rising : AreRising (map (λ e. e.version) base.look.listed)
@@ -174,11 +175,6 @@ pub record Upholds {P : Type 0} (parts : Parts P) (base : Base) (m : ManagerSeen
 pub record StandsFor {P : Type 0} (parts : Parts P) (base : Base) (m : ManagerSeen P) (notes : List Noted) : Type 0 where
   pub upholds : Upholds parts base m notes (writes (entries_of notes)) (flight_of (entries_of notes))
   pub look : flight_of (entries_of notes) ≡ None → last_look base.look notes ≡ look_of m
-
--- so it does at the end of a turn, when each held segment is in use
-pub record StandsAtRest {P : Type 0} (parts : Parts P) (base : Base) (m : ManagerSeen P) (notes : List Noted) : Type 0 where
-  pub stands : StandsFor parts base m notes
-  pub in_use : parts.told → flight_of (entries_of notes) ≡ None → AreInUse m.held
 
 -- A call that may have these writes in flight, stopped at any moment: whichever images since its beginning each part has,
 -- they recover to a cut.

@@ -338,7 +338,7 @@ module _ {D : Type 0} (tells : Bool) (state : D → State) (words : List (List �
           ]
 
           of_failure : (volume : ℕ) (t : Trouble) → FailsWith tells run.config volume before.bay after.bay t → Cause (trouble_status t)
-          of_failure volume t (changed.part p base owner begun faulty rose) = part_cause for_bay p rose
+          of_failure volume t (changed.part p base owner begun faulty came rose) = part_cause for_bay p rose
           of_failure volume t (changed.bay rose) = row.part_failed for_bay rose
           of_failure volume t (changed.label rose) = row.part_failed for_bay rose
           of_failure volume t (changed.damaged block damaged) = row.damaged_view again (record { config = run.config; has = run.has; volume = volume; block = block; damaged = damaged })

@@ -85,6 +85,7 @@ module _ {S T : Type 0} (tells : Bool) (left : S → Option (List ℕ)) (config 
       are = is.are;
       cause = is.cause;
       part = is.part;
+      named = is.named;
       spent = is.spent;
       begun = is.begun;
       pools = is.pools;

@@ -58,7 +58,7 @@ pub returns-in-Ok-clause-look : goal.returns-in-Ok-clause-look
 returns-in-Ok-clause-look g c =
     let m = c.args.m.now in let state = g.D.Disk.state in let rd = c.requires.ready in let sound = subst (λ i. IsIndex i.entries) c.index.ensures c.len.ensures.index in
     let r = c.in-Some.record in let f = first_awake (has_going (listed_in m.index.entries)) m.index.entries r sound (awake_answer state m rd c.requires.up awake set rd.ready.few (λ es. has_going (listed_in es)) c.index-2.result.now c.index-2.ensures (Some r) c.in-Some.ensures.answer) in
-    given_look state m c.drop_rec.new.self r sound rd f (Ok c.in-Ok.gone) c.in-Ok.ensures.dropped refl
+    given_look state m c.drop_rec.new.self r sound rd f (Ok c.in-Ok.gone) c.in-Ok.ensures.dropped refl (c.in-Ok.ensures.fault.1 ∙ sym c.in-Ok.ensures.fault.0)
 
 pub returns-in-Err-clause-drains : goal.returns-in-Err-clause-drains
 returns-in-Err-clause-drains g c =

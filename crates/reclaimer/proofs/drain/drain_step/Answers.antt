@@ -6,7 +6,7 @@ use Rattle.manager.specs.Seen.{look_of_manager}
 use Rattle.reclaimer.proofs.CountedDrain.{counts_since, listed_woken, drain_counts}
 use Rattle.reclaimer.proofs.Moments.{at_rest}
 use Rattle.reclaimer.proofs.TakenOff.{nothing_taken}
-use Rattle.reclaimer.proofs.Woken.{step_calm, step_fault, step_drained, step_bare, step_keeps, step_broke, step_stops}
+use Rattle.reclaimer.proofs.Woken.{step_calm, step_fault, step_drained, step_look, step_bare, step_keeps, step_broke, step_stops}
 use Rattle.manager.specs.Stands.{nones_at}
 use Rattle.reclaimer.proofs.Pools.{no_fewer}
 use Rattle.reclaimer.proofs.drain.drain_step.Goals as goal
@@ -23,6 +23,11 @@ pub returns-clause-drained : goal.returns-clause-drained
 returns-clause-drained g c =
     let w = c.wake_home in let d = c.drain_awake in let up = sym c.down.ensures ∙ never_some c.down.result c.in_default.not-Some in
     step_drained g.D.Disk.tells g.D.Disk.state g.met.D.Disk.sound c.args.m.now w.new.self d.new.m c.requires.ready up w.ensures.read w.ensures.ready (record { rest = w.ensures.unchanged; used = w.ensures.waking }) d.result d.ensures.drains
+
+pub returns-clause-look : goal.returns-clause-look
+returns-clause-look g c =
+    let w = c.wake_home in let d = c.drain_awake in let up = sym c.down.ensures ∙ never_some c.down.result c.in_default.not-Some in
+    step_look g.D.Disk.tells g.D.Disk.state g.met.D.Disk.sound c.args.m.now w.new.self d.new.m c.requires.ready up w.ensures.read w.ensures.ready (record { rest = w.ensures.unchanged; used = w.ensures.waking }) d.result d.ensures.look
 
 pub returns-clause-bare_look : goal.returns-clause-bare_look
 returns-clause-bare_look g c =

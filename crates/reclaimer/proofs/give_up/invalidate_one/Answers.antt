@@ -37,7 +37,7 @@ returns-in-Ok-true-clause-gone g c =
 pub returns-in-Ok-true-clause-look : goal.returns-in-Ok-true-clause-look
 returns-in-Ok-true-clause-look g c =
     let r = c.in-Some-going.record in let e = c.in-Ok-true.ensures in
-    reclaims g.D.Disk.state c.args.m.now c.drop_rec.new.self r (going_of c.args.m.now r c.index.result.now c.ups.result.now c.index.ensures c.ups.ensures c.in-Some-going.ensures.index c.in-Some-going.ensures.answer) _ refl e.dropped
+    reclaims g.D.Disk.state c.args.m.now c.drop_rec.new.self r (going_of c.args.m.now r c.index.result.now c.ups.result.now c.index.ensures c.ups.ensures c.in-Some-going.ensures.index c.in-Some-going.ensures.answer) _ refl e.dropped (e.fault.1 ∙ sym e.fault.0)
 
 pub returns-in-Ok-true-clause-any_moment : goal.returns-in-Ok-true-clause-any_moment
 returns-in-Ok-true-clause-any_moment g c told = within g.D.Disk.tells g.D.Disk.state g.met.D.Disk.sound Always c.args.m.now c.drop_rec.new.self (c.in-Ok-true.ensures.any_moment told)
@@ -50,7 +50,7 @@ returns-in-Ok-false-clause-gone g c =
 pub returns-in-Ok-false-clause-look : goal.returns-in-Ok-false-clause-look
 returns-in-Ok-false-clause-look g c =
     let r = c.in-Some-going.record in let e = c.in-Ok-false.ensures in
-    reclaims g.D.Disk.state c.args.m.now c.drop_rec.new.self r (going_of c.args.m.now r c.index.result.now c.ups.result.now c.index.ensures c.ups.ensures c.in-Some-going.ensures.index c.in-Some-going.ensures.answer) _ refl e.dropped
+    reclaims g.D.Disk.state c.args.m.now c.drop_rec.new.self r (going_of c.args.m.now r c.index.result.now c.ups.result.now c.index.ensures c.ups.ensures c.in-Some-going.ensures.index c.in-Some-going.ensures.answer) _ refl e.dropped (e.fault.1 ∙ sym e.fault.0)
 
 pub returns-in-Ok-false-clause-any_moment : goal.returns-in-Ok-false-clause-any_moment
 returns-in-Ok-false-clause-any_moment g c told = within g.D.Disk.tells g.D.Disk.state g.met.D.Disk.sound Always c.args.m.now c.drop_rec.new.self (c.in-Ok-false.ensures.any_moment told)

@@ -69,8 +69,11 @@ returns-in-Ok-clause-look g c =
     let f = c.in-Some-filled.filled in let bs = c.from.inside.blocks.items in let p = c.still_due-put in
     let inv = c.from.invariant in let few : f.count ≤ 128 = search rules in let up : c.args.m.now.home_up ≡ true = search rules in
     let is = sym c.from.view_is ∙ ap (λ o. record_of o bs) c.in-Some-filled.is in
-    let pos : 0 < p.result = search rules in
-    (λ z. absurd (c.if-put-eq0.false (zero_from_ones p.result z)), λ _. was_reclaimed g.D.Disk.state c.args.m.now f bs few inv.0 c.args.from.now is up c.index.result.now c.index.ensures p.result p.type_inv p.ensures.due c.if-put-eq0.false (p.ensures.range pos) c.store_home.new.self c.deref.result.now c.deref.ensures.value (Ok tt) refl c.in-Ok.ensures.stored (p.ensures.index pos) (p.ensures.there pos))
+    let pos : 0 < p.result = search rules in (
+      λ z. absurd (c.if-put-eq0.false (zero_from_ones p.result z)),
+      λ _. was_reclaimed g.D.Disk.state c.args.m.now f bs few inv.0 c.args.from.now is up c.index.result.now c.index.ensures p.result p.type_inv p.ensures.due c.if-put-eq0.false (p.ensures.range pos) c.store_home.new.self c.deref.result.now c.deref.ensures.value (Ok tt) refl c.in-Ok.ensures.stored (p.ensures.index pos) (p.ensures.there pos)
+          (c.in-Ok.ensures.fault.1 ∙ sym c.in-Ok.ensures.fault.0),
+    )
 
 pub returns-in-Ok-clause-keeps : goal.returns-in-Ok-clause-keeps
 returns-in-Ok-clause-keeps g c b notes has k =

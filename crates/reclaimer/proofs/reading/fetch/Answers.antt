@@ -49,7 +49,7 @@ pub returns-in-Ok-clause-look : goal.returns-in-Ok-clause-look
 returns-in-Ok-clause-look g c =
     let up : c.args.m.now.home_up ≡ true = search rules in
     let d = due_of c.args.m.now c.in-Some-due_next.record c.index.result.now c.ups.result.now up c.index.ensures c.ups.ensures c.in-Some-due_next.ensures.index c.in-Some-due_next.ensures.answer in
-    fetched_look c.args.m.now c.read_record.new.m d.entry.listed.lane d.awake (c.in-Ok.ensures.fetched d.entry d.is)
+    fetched_look c.args.m.now c.read_record.new.m d.entry.listed.lane d.awake (c.in-Ok.ensures.fetched d.entry d.is) (c.in-Ok.ensures.fault.1 ∙ sym c.in-Ok.ensures.fault.0)
 
 pub returns-in-Ok-clause-any_moment : goal.returns-in-Ok-clause-any_moment
 returns-in-Ok-clause-any_moment g c told = within g.D.Disk.tells g.D.Disk.state g.met.D.Disk.sound Always c.args.m.now c.read_record.new.m (c.in-Ok.ensures.any_moment told)
@@ -62,9 +62,7 @@ returns-in-Err-clause-fetched g c =
 
 pub returns-in-Err-clause-look : goal.returns-in-Err-clause-look
 returns-in-Err-clause-look g c =
-    let up : c.args.m.now.home_up ≡ true = search rules in
-    let d = due_of c.args.m.now c.in-Some-due_next.record c.index.result.now c.ups.result.now up c.index.ensures c.ups.ensures c.in-Some-due_next.ensures.index c.in-Some-due_next.ensures.answer in
-    look_of_fault g.D.Disk.state c.args.m.now c.read_record.new.m c.in-Some-due_next.record d Filled c.in-Err.fault c.in-Err.ensures.fault c.in-Err.ensures.fetched
+    look_of_fault g.D.Disk.state c.args.m.now c.read_record.new.m Filled c.in-Err.fault c.in-Err.ensures.fault
 
 pub returns-in-Err-clause-any_moment : goal.returns-in-Err-clause-any_moment
 returns-in-Err-clause-any_moment g c told =

@@ -9,7 +9,7 @@ use Rattle.request_turns.specs.Entries.{note_of, step_operation, has_failed}
 use Rattle.request_turns.proofs.Counting.{counted_turn}
 use Rattle.request_turns.specs.Counts.{gone_count}
 use Rattle.request_turns.proofs.StepNotes.{gone_takes}
-use Rattle.request_turns.proofs.HelpNotes.{gone_keep, help_stands, has_helped, step_kept, done_counted, refused_counted}
+use Rattle.request_turns.proofs.HelpNotes.{gone_keep, help_stands, has_helped, step_kept, done_counted, refused_counted, down_at}
 use Rattle.request_turns.proofs.Taking.{home_at}
 use Rattle.request_turns.proofs.help.drop_turn.Goals as goal
 
@@ -40,3 +40,6 @@ returns-in-Err-clause-counted g c = let e = c.enter-turn.ensures in let i = c.en
 
 pub returns-in-Ok-clause-kept : goal.returns-in-Ok-clause-kept
 returns-in-Ok-clause-kept g c = step_kept _ _ c.enter-turn.new.pass _ _ _ c.invalidate_one-answer.result _ c.in-Ok.is c.has_failed.ensures c.enter-turn.ensures.mine c.leave_step.ensures.left
+
+pub returns-in-Err-clause-cause : goal.returns-in-Err-clause-cause
+returns-in-Err-clause-cause g c = c.leave_step.ensures.broken _ (down_at g.D.Disk.state c.enter-turn.result.value c.invalidate_one-answer.new.m c.invalidate_one-answer.result c.in-Err.fault c.in-Err.is c.invalidate_one-answer.ensures.fault)

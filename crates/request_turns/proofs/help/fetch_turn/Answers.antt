@@ -1,11 +1,10 @@
-use Rattle.std.proofs.Common.{[], false, refl, ap}
-use Rattle.wol_promise.specs.Policy.{Look}
+use Rattle.std.proofs.Common.{[], false, refl}
 use Rattle.turn_lock.specs.Passes.{pass_number}
 use Rattle.request_turns.specs.Entries.{note_of, step_operation}
 use Rattle.manager.specs.Reclaim.{Always}
 use Rattle.manager.specs.Seen.{look_of_manager}
 use Rattle.request_turns.proofs.Counting.{counted_turn}
-use Rattle.request_turns.proofs.HelpNotes.{same_keep, help_stands, has_helped, step_kept, same_counted, data_left}
+use Rattle.request_turns.proofs.HelpNotes.{same_keep, help_stands, has_helped, step_kept, same_counted, data_left, down_at}
 use Rattle.request_turns.proofs.Taking.{home_at}
 use Rattle.request_turns.proofs.help.fetch_turn.Goals as goal
 
@@ -30,18 +29,21 @@ returns-in-Ok-Some-clause-data g c = data_left _ c.fetch-answer.new.into _ _ _ c
 
 pub returns-in-Ok-Some-clause-counted : goal.returns-in-Ok-Some-clause-counted
 returns-in-Ok-Some-clause-counted g c t = let e = c.enter-turn.ensures in let i = c.enter-turn.new.pass in let l = look_of_manager c.enter-turn.result.value in let m = look_of_manager c.fetch-answer.new.m in
-    counted_turn _ _ i _ (note_of (pass_number i) (step_operation c.has_failed.result) m [] false) l t t e.same e.seen e.mine e.own c.leave_step.ensures.left refl e.value.look (same_counted l m (pass_number i) c.has_failed.result t (ap (λ (k : Look). k.listed) c.fetch-answer.ensures.look))
+    counted_turn _ _ i _ (note_of (pass_number i) (step_operation c.has_failed.result) m [] false) l t t e.same e.seen e.mine e.own c.leave_step.ensures.left refl e.value.look (same_counted l m (pass_number i) c.has_failed.result t c.fetch-answer.result c.has_failed.ensures c.fetch-answer.ensures.look)
 
 pub returns-in-Ok-Nothing-clause-counted : goal.returns-in-Ok-Nothing-clause-counted
 returns-in-Ok-Nothing-clause-counted g c t = let e = c.enter-turn.ensures in let i = c.enter-turn.new.pass in let l = look_of_manager c.enter-turn.result.value in let m = look_of_manager c.fetch-answer.new.m in
-    counted_turn _ _ i _ (note_of (pass_number i) (step_operation c.has_failed.result) m [] false) l t t e.same e.seen e.mine e.own c.leave_step.ensures.left refl e.value.look (same_counted l m (pass_number i) c.has_failed.result t (ap (λ (k : Look). k.listed) c.fetch-answer.ensures.look))
+    counted_turn _ _ i _ (note_of (pass_number i) (step_operation c.has_failed.result) m [] false) l t t e.same e.seen e.mine e.own c.leave_step.ensures.left refl e.value.look (same_counted l m (pass_number i) c.has_failed.result t c.fetch-answer.result c.has_failed.ensures c.fetch-answer.ensures.look)
 
 pub returns-in-Err-clause-counted : goal.returns-in-Err-clause-counted
 returns-in-Err-clause-counted g c t = let e = c.enter-turn.ensures in let i = c.enter-turn.new.pass in let l = look_of_manager c.enter-turn.result.value in let m = look_of_manager c.fetch-answer.new.m in
-    counted_turn _ _ i _ (note_of (pass_number i) (step_operation c.has_failed.result) m [] false) l t t e.same e.seen e.mine e.own c.leave_step.ensures.left refl e.value.look (same_counted l m (pass_number i) c.has_failed.result t (ap (λ (k : Look). k.listed) c.fetch-answer.ensures.look))
+    counted_turn _ _ i _ (note_of (pass_number i) (step_operation c.has_failed.result) m [] false) l t t e.same e.seen e.mine e.own c.leave_step.ensures.left refl e.value.look (same_counted l m (pass_number i) c.has_failed.result t c.fetch-answer.result c.has_failed.ensures c.fetch-answer.ensures.look)
 
 pub returns-in-Ok-Some-clause-kept : goal.returns-in-Ok-Some-clause-kept
 returns-in-Ok-Some-clause-kept g c = step_kept _ _ c.enter-turn.new.pass _ _ _ c.fetch-answer.result _ c.in-Ok-Some.is c.has_failed.ensures c.enter-turn.ensures.mine c.leave_step.ensures.left
 
 pub returns-in-Ok-Nothing-clause-kept : goal.returns-in-Ok-Nothing-clause-kept
 returns-in-Ok-Nothing-clause-kept g c = step_kept _ _ c.enter-turn.new.pass _ _ _ c.fetch-answer.result _ c.in-Ok-Nothing.is c.has_failed.ensures c.enter-turn.ensures.mine c.leave_step.ensures.left
+
+pub returns-in-Err-clause-cause : goal.returns-in-Err-clause-cause
+returns-in-Err-clause-cause g c = c.leave_step.ensures.broken _ (down_at g.D.Disk.state c.enter-turn.result.value c.fetch-answer.new.m c.fetch-answer.result c.in-Err.fault c.in-Err.is c.fetch-answer.ensures.fault)

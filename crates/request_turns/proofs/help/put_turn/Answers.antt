@@ -25,7 +25,7 @@ pub returns-in-Err-clause-helped : goal.returns-in-Err-clause-helped
 returns-in-Err-clause-helped g c = let e = c.enter-turn.ensures in has_helped _ _ _ _ _ _ e.same e.seen e.mine e.own c.leave_step.ensures.left
 
 pub returns-in-Err-clause-cause : goal.returns-in-Err-clause-cause
-returns-in-Err-clause-cause g c = c.leave_step.ensures.broken (down_at g.D.Disk.state c.enter-turn.result.value c.put_home-answer.new.m c.put_home-answer.result c.in-Err.fault c.in-Err.is c.put_home-answer.ensures.fault)
+returns-in-Err-clause-cause g c = c.leave_step.ensures.broken _ (down_at g.D.Disk.state c.enter-turn.result.value c.put_home-answer.new.m c.put_home-answer.result c.in-Err.fault c.in-Err.is c.put_home-answer.ensures.fault)
 
 pub returns-in-Ok-clause-counted : goal.returns-in-Ok-clause-counted
 returns-in-Ok-clause-counted g c = let e = c.enter-turn.ensures in let i = c.enter-turn.new.pass in let l = look_of_manager c.enter-turn.result.value in let m = look_of_manager c.put_home-answer.new.m in

@@ -1,6 +1,6 @@
 use Rattle.std.proofs.Common.{inl, inr, ⊎_elim}
 use Rattle.request_workers.proofs.Counted.{helped_counted}
-use Rattle.request_workers.proofs.HelpTurn.{kept_helped, on_ok, refused_before, helped_both, broken_helped, cause_of}
+use Rattle.request_workers.proofs.HelpTurn.{kept_helped, on_ok, refused_before, helped_both, down_helped, cause_of}
 use Rattle.request_workers.proofs.helper.help_one.Goals as goal
 
 pub returns-clause-helped : goal.returns-clause-helped
@@ -11,10 +11,10 @@ returns-clause-fault g c f some =
     let put = c.put_turn-put.ensures in let dropped = c.drop_turn-dropped.ensures in
     ⊎_elim
     (λ third. ⊎_elim
-    (λ second. ⊎_elim inl (λ t. inr (t.0, broken_helped _ _ _ dropped.helped (broken_helped _ _ _ put.helped (cause_of c.fetch_turn-fetched.result c.fetch_turn-fetched.ensures.cause t.1)))) (c.took-fetched.ensures.fault f second))
-    (λ t. inr (t.0, broken_helped _ _ _ dropped.helped (cause_of c.put_turn-put.result put.cause t.1)))
+    (λ second. ⊎_elim inl (λ t. inr (t.0, down_helped _ _ _ _ dropped.helped (down_helped _ _ _ _ put.helped (cause_of _ c.fetch_turn-fetched.result f.1 c.fetch_turn-fetched.ensures.cause t.1)))) (c.took-fetched.ensures.fault f second))
+    (λ t. inr (t.0, down_helped _ _ _ _ dropped.helped (cause_of _ c.put_turn-put.result f.1 put.cause t.1)))
     (c.took-put.ensures.fault f third))
-    (λ t. inr (t.0, cause_of c.drop_turn-dropped.result dropped.cause t.1))
+    (λ t. inr (t.0, cause_of _ c.drop_turn-dropped.result f.1 dropped.cause t.1))
     (c.took-dropped.ensures.fault f some)
 
 pub returns-clause-counted : goal.returns-clause-counted

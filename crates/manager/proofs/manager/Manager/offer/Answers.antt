@@ -3,6 +3,7 @@ use Rattle.std.specs.Prelude.{slice_get, slice_set, Result, Ok, Err, IsOk}
 use Rattle.std.proofs.Math.Pow.{pow_mono}
 use Rattle.manager.specs.Causes.{PartRoseOrClaimed}
 use Rattle.manager.specs.Offers.{IsOn}
+use Rattle.manager.specs.Seen.{down_of, look_of_manager}
 use Rattle.manager.specs.Stands.{Stands}
 use Rattle.std.specs.Vec.{with_item}
 use Rattle.wol_disk.specs.declared.disk.Failed.{Failed}
@@ -81,7 +82,7 @@ returns-in-Some-Ok-clause-stands g c _ b notes passed n client note has kp =
     g.D.Disk.tells g.met.D.Disk.told g.met.D.Disk.sound c.requires.fits c.requires.next e.turn b notes n client kp spot
     (record { version = m.next; lbn = c.args.lbn; count = length c.args.from.now; keep = c.all_kept.result; lane = c.args.lane; segment = spot.segment; pos = spot.pos })
     (λ j. record { version = m.next; lbn = c.args.lbn; count = length c.args.from.now; keep = c.all_kept.ensures j; lane = c.args.lane; segment = spot.segment; pos = spot.pos })
-    note.operation_is note.follows (note.look_is ∙ (λ j. record { home_up = m.home_up; ups = flags j; next = m.next + 1; listed = listed_in (c.add.ensures.entries j) }))
+    note.operation_is note.follows (note.look_is ∙ (λ j. record { home_up = m.home_up; ups = flags j; next = m.next + 1; listed = listed_in (c.add.ensures.entries j); down = down_of m.down }))
     (subst (λ (q : Result Spot (ℕ × Failed)). PutIn g.D.Disk.state old new (length c.args.from.now) (new_record (lane_owner old) m.next c.args.lbn c.args.from.now ∷ []) q) c.in-Some-Ok.field-0-is e.put)
     _ _ _ refl c.add.ensures.entries flags (returns-in-Some-Ok-clause-ready g c) has
 
@@ -89,8 +90,8 @@ pub returns-in-Some-Ok-clause-look : goal.returns-in-Some-Ok-clause-look
 returns-in-Some-Ok-clause-look g c _ =
     let m = c.args.self.now in let old = c.index_mut-reached.result.now in let spot = c.in-Some-Ok.spot in
     let flags = refill_set m.ups.items c.deref_mut.result.now c.args.lane true c.deref_mut.ensures.value in
-    (λ j. record { home_up = m.home_up; ups = flags j; next = m.next + 1; listed = listed_in (c.add.ensures.entries j) })
-    ∙ look_so 0 m.next c.args.lbn c.args.from.now (record { version = m.next; lbn = c.args.lbn; count = length c.args.from.now; keep = c.all_kept.result; lane = c.args.lane; segment = spot.segment; pos = spot.pos }) m.index.entries m.home_up m.ups.items c.args.lane spot.segment spot.pos
+    (λ j. record { home_up = m.home_up; ups = flags j; next = m.next + 1; listed = listed_in (c.add.ensures.entries j); down = down_of m.down })
+    ∙ look_so 0 m.next c.args.lbn c.args.from.now (record { version = m.next; lbn = c.args.lbn; count = length c.args.from.now; keep = c.all_kept.result; lane = c.args.lane; segment = spot.segment; pos = spot.pos }) m.index.entries m.home_up m.ups.items (down_of m.down) c.args.lane spot.segment spot.pos
     (λ j. record { version = m.next; lbn = c.args.lbn; count = length c.args.from.now; keep = c.all_kept.ensures j; lane = c.args.lane; segment = spot.segment; pos = spot.pos })
 
 pub returns-in-Some-Ok-clause-any_moment : goal.returns-in-Some-Ok-clause-any_moment
@@ -126,7 +127,8 @@ returns-in-Some-Err-clause-stands g c _ b notes passed n client note has kp =
     subst (λ (x : ℕ). Stands g.D.Disk.tells g.D.Disk.state (record m { lanes = v; down = Some (part.Segment x index) }) b (notes ++ n ∷ [])) (sym c.logger-logger.ensures)
     (stands_failed g.D.Disk.state m c.args.lane old new lane e.lane e.turn.same e.all e.none c.args.lbn c.args.from.now c.requires.count c.requires.ready c.requires.up
     g.D.Disk.tells g.met.D.Disk.told g.met.D.Disk.sound c.requires.fits c.requires.next e.turn b notes n client kp (index, c.in-Some-Err.field-0-0-1) note.operation_is note.drain put v refl
-    (ready_failed g.D.Disk.state m c.args.lane old new lane e.lane e.turn.same e.all e.none c.args.lbn c.args.from.now c.requires.count c.requires.ready c.requires.up v refl (part.Segment (logger_of old) index)) has note.look_is)
+    (ready_failed g.D.Disk.state m c.args.lane old new lane e.lane e.turn.same e.all e.none c.args.lbn c.args.from.now c.requires.count c.requires.ready c.requires.up v refl (part.Segment (logger_of old) index)) has
+    (note.look_is ∙ ap (λ (x : ℕ). look_of_manager (record m { down = Some (part.Segment x index) })) c.logger-logger.ensures))
 
 pub returns-in-Some-Err-clause-named : goal.returns-in-Some-Err-clause-named
 returns-in-Some-Err-clause-named g c p is =

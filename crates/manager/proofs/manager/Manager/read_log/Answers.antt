@@ -6,7 +6,7 @@ use Rattle.std.proofs.Math.ListN.{length-set}
 use Rattle.std.proofs.lemmas.Option.{slice_get_within}
 use Rattle.wol_model.specs.Index.{listed_in}
 use Rattle.logger.specs.Lanes.{IsAt, held_in}
-use Rattle.manager.specs.Seen.{look_of_manager}
+use Rattle.manager.specs.Seen.{down_of, look_of_manager}
 use Rattle.manager.specs.Stands.{IsReady, IsReadyLane}
 use Rattle.manager.proofs.Calm.{calm_read, none_lane}
 use Rattle.manager.proofs.Copies.{refill_set}
@@ -85,7 +85,7 @@ returns-clause-look g c =
     let m = c.args.self.now in let k = c.args.record.now.lane in
     let s = spotted_in g.D.Disk.state m c.requires.ready c.requires.up c.args.record.now c.args.lbn (length c.args.out.now) c.requires.some c.requires.source c.index_mut-lane.result.now c.index_mut-lane.ensures.value in
     let lt = slice_get_within m.lanes.items k c.index_mut-lane.result.now s.lane_is in
-    (λ i. record { home_up = m.home_up; ups = refill_set m.ups.items c.deref_mut.result.now k true c.deref_mut.ensures.value i; next = m.next; listed = listed_in m.index.entries })
+    (λ i. record { home_up = m.home_up; ups = refill_set m.ups.items c.deref_mut.result.now k true c.deref_mut.ensures.value i; next = m.next; listed = listed_in m.index.entries; down = down_of m.down })
     ∙ sym (woken_log (look_of_manager m) c.args.lbn (length c.args.out.now) k c.requires.some (omega (arith, lt, c.requires.ready.ready.flags)) (lane_run_of m.index.entries c.args.lbn (length c.args.out.now) c.args.record.now c.requires.source))
 
 pub returns-clause-needs : goal.returns-clause-needs

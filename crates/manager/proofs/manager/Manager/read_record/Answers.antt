@@ -1,11 +1,10 @@
 -- A record is read where the index has it.
-use Rattle.std.proofs.Common.{◌≡◌, Bool, true, List, length, refl, sym, ap, subst, ◌∙◌, arith}
+use Rattle.std.proofs.Common.{Bool, true, List, length, refl, sym, ap, subst, ◌∙◌, arith}
 use Rattle.std.specs.Prelude.{slice_get, slice_set}
 use Rattle.std.specs.Vec.{with_item}
 use Rattle.std.proofs.Math.ListN.{length-set}
-use Rattle.std.proofs.lemmas.Option.{slice_get_within, same_Some}
+use Rattle.std.proofs.lemmas.Option.{slice_get_within}
 use Rattle.logger.specs.Lanes.{IsAt, held_in}
-use Rattle.wol_promise.specs.Stands.{IsDataOf}
 use Rattle.manager.specs.Stands.{IsReady, IsReadyLane}
 use Rattle.manager.proofs.Calm.{calm_read, none_lane}
 use Rattle.manager.proofs.Copies.{refill_set}

@@ -127,7 +127,7 @@ returns-in-Home-clause-look g c =
     let now = c.asking.self in let a = c.asking.invariant in let new = c.write_home.new.self in let u = c.write_home.ensures.unchanged in
     look_home g.D.Disk.tells g.D.Disk.state c.args.shared.now c.args.lbn c.args.from.now c.args.self.now now a new c.write_home.result (ap (λ (m : Manager g.row.D.Denot). m.rooms.items) u) now.id c.write_home.ensures.answer
     (place_led g.D.Disk.tells g.D.Disk.state c.args.shared.now c.args.lbn c.args.from.now c.args.self.now now a c.place.result c.args.covered c.deref.result.now c.deref-in-asking.result.now c.place.ensures.value c.deref.ensures.0 c.deref-in-asking.ensures.0 c.requires.covered ∙ ⊎_elim (λ e. ap led_by e) (λ e. ap led_by e) c.in-Home.is)
-    (ap look_of_manager u)
+    (ap look_of_manager u) c.write_home.ensures.fault
 
 pub returns-in-Home-clause-answered : goal.returns-in-Home-clause-answered
 returns-in-Home-clause-answered g c =

@@ -1,5 +1,5 @@
 -- A record is logged.
-use Rattle.std.proofs.Common.{◌≡◌, ◌<◌, ◌≤◌, ◌+◌, ◌-◌, ◌^◌, ℕ, zero, suc, Bool, true, false, List, length, refl, sym, ap, subst, ◌∙◌, arith}
+use Rattle.std.proofs.Common.{◌≡◌, ◌<◌, ◌≤◌, ◌+◌, ◌-◌, ◌^◌, ℕ, zero, suc, Bool, true, false, List, length, None, refl, sym, ap, subst, ◌∙◌, arith}
 use Rattle.std.specs.Prelude.{slice_set}
 use Rattle.std.specs.List.{AllByRecursion}
 use Rattle.std.proofs.Math.ListN.{length-set}
@@ -39,4 +39,4 @@ returns-clause-look c =
     let v = c.args.self.now in let n = c.args.lane in
     let entries : c.add.new.self.entries ≡ entered v.index.entries (rec_at v.next c.args.lbn c.args.count n) =
     c.add.ensures.entries ∙ (λ i. entered (c.in_ok-reserve.ensures.unchanged i) (record (rec_at v.next c.args.lbn c.args.count n) { keep = c.all_kept.ensures i })) in
-    (λ i. record { home_up = v.home_up; ups = slice_set v.ups.items n true; next = v.next + 1; listed = listed_in (entries i) }) ∙ logged_look v.next c.args.lbn c.args.count v.index.entries v.home_up v.ups.items n
+    (λ i. record { home_up = v.home_up; ups = slice_set v.ups.items n true; next = v.next + 1; listed = listed_in (entries i); down = None }) ∙ logged_look v.next c.args.lbn c.args.count v.index.entries v.home_up v.ups.items n

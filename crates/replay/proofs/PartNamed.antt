@@ -1,0 +1,67 @@
+-- The part that a run tells of a volume is the one that came back with a fault.
+use Rattle.std.proofs.Common.{◌≡◌, ◌++◌, ◌∷◌, [], ℕ, Bool, true, false, List, Option, Some, map, sym, ap, subst, ◌∙◌}
+use Rattle.std.specs.Prelude.{All, IsTrue, slice_get}
+use Rattle.std.specs.List.{AllByRecursion}
+use Rattle.std.specs.Option.{option_map_or}
+use Rattle.std.proofs.lemmas.Option.{same_Some}
+use Rattle.wol_bay.specs.Bay.{BayState}
+use Rattle.wol_model.specs.History as history
+use Rattle.wol_model.specs.History.{BreaksOnce}
+use Rattle.wol_promise.specs.Outcomes.{Answered}
+use Rattle.wol_promise.specs.Policy.{Look, PartName}
+use Rattle.wol_promise.specs.Ruled.{AreRuled, Noted, entries_of, last_look}
+use Rattle.wol_promise.proofs.DownStays.{down_at_end}
+use Rattle.wol_config.specs.declared.config.Config.{Config}
+use Rattle.manager.specs.Seen.{name_of}
+use Rattle.manager.specs.Stands.{notes_of}
+use Rattle.manager.specs.declared.part.Part.{Part}
+use Rattle.manager.specs.declared.station.Station.{Station}
+use Rattle.report.specs.declared.trouble.Trouble.{Trouble}
+use Rattle.troubles.specs.Troubles.{trouble_of_part}
+use Rattle.troubles.proofs.Named.{named_alike}
+use Rattle.volume_images.specs.Left.{IsTold}
+use Rattle.rack.specs.Closes.{CameBackFaulty, IsClosedVolume, part_named}
+use Rattle.rack.specs.declared.rack.ImageRest.{ImageRest}
+use Rattle.request_turns.specs.Turns.{WasDown}
+use Rattle.request_turns.proofs.Gaining.{down_breaks}
+use Rattle.replay.specs.Histories.{AreHistories, History, is_broken, is_broken_at}
+use Rattle.replay.proofs.HistoriesLeft.{histories_of, history_at}
+use Rattle.replay.proofs.WindowBroken.{HasDown, not_none}
+
+-- a part of this trouble was down in the history of this volume
+pub record HasDownAt (histories : List History) (v : ℕ) (t : Trouble) : Type 0 where
+  pub history : History
+  pub there : slice_get histories v ≡ Some history
+  pub down : HasDown t history.notes
+
+pub breaks_at : (histories : List History) (v : ℕ) (t : Trouble) → HasDownAt histories v t → IsTrue (is_broken_at histories v)
+breaks_at histories v t is =
+    ap (λ (o : Option History). option_map_or is_broken o false) is.there ∙ down_breaks is.down.0 is.history.notes is.down.2
+
+-- the part that was down is down at the end, since each entry goes by the rules
+down_last : (l : Look) (p : Part) (notes : List Noted) → AreRuled l notes → AllByRecursion (λ (n : Noted). IsTrue n.ruled) notes → BreaksOnce (map (λ (e : history.Entry). e.operation) (entries_of notes)) → WasDown p notes
+    → (last_look l notes).down ≡ Some (name_of p)
+down_last l p notes rules all breaks was =
+    ap (λ (ns : List Noted). (last_look l ns).down) was.notes_are
+    ∙ down_at_end l was.front was.note was.later
+    (subst (AreRuled l) was.notes_are rules) (subst (AllByRecursion (λ (n : Noted). IsTrue n.ruled)) was.notes_are all)
+    (subst (λ (ns : List Noted). BreaksOnce (map (λ (e : history.Entry). e.operation) (entries_of ns))) was.notes_are breaks)
+    (not_none (was.front ++ was.note ∷ []) was.broken)
+    ∙ was.down
+
+module _ {D : Type 0} (tells : Bool) (config : Config) (out : List (Option (ImageRest D))) (old new : BayState) (ss : List (Station D)) (all : All (IsClosedVolume tells config out old new) ss)
+    (answers : List Answered) (are : AreHistories (IsTrue tells) config answers (histories_of tells config out old new ss all)) where
+  pub came_at : (v : ℕ) (t : Trouble) → HasDownAt (histories_of tells config out old new ss all) v t → (p : Part) × (t ≡ trouble_of_part p) × IsTold (CameBackFaulty config p) old.told new.told
+  came_at v t is =
+      let h = is.history in
+      let (p, named, was) = is.down in
+      let one = history_at tells config out old new ss all v h is.there in
+      let each = are.each v h is.there in
+      let broken = down_breaks p h.notes was in
+      let (name, down, came) = one.closed.named (not_none (notes_of one.closed.entries) (subst (λ (x : History). is_broken x ≡ true) one.is broken)) in
+      let last : (last_look h.base.look h.notes).down ≡ Some (name_of p) = down_last h.base.look p h.notes each.legal.ruled each.ruled each.legal.breaks was in
+      let same : name ≡ name_of p = same_Some name (name_of p) (sym down ∙ ap (λ (x : History). (last_look x.base.look x.notes).down) (sym one.is) ∙ last) in (
+        part_named one.station.id name,
+        named ∙ named_alike one.station.id p ∙ ap (λ (n : PartName). trouble_of_part (part_named one.station.id n)) (sym same),
+        came,
+      )
