@@ -1,5 +1,5 @@
 -- Calls in which no count of faults rose.
-use Rattle.std.proofs.Common.{◌≡◌, ◌⊎◌, ⊎_elim, ℕ, zero, suc, List, [], ◌∷◌, ◌++◌, map, length, remove, Some, Ok, refl, sym, ap, subst, ◌∙◌}
+use Rattle.std.proofs.Common.{◌≡◌, ⊎_elim, ℕ, zero, suc, List, [], ◌∷◌, ◌++◌, map, remove, Some, Ok, sym, ap, subst, ◌∙◌}
 use Rattle.std.specs.Prelude.{Contains, slice_get, slice_set, Result}
 use Rattle.std.specs.List.{AllZip}
 use Rattle.std.specs.Option.{option_to_list}
@@ -7,7 +7,6 @@ use Rattle.std.proofs.lemmas.Bool.{false≢true}
 use Rattle.std.proofs.lemmas.List.Elements.{Contains-append_left}
 use Rattle.std.proofs.lemmas.Option.{none-some, same_Some}
 use Rattle.wol_disk.specs.Disk.{State, Block}
-use Rattle.wol_disk.specs.declared.disk.Failed.{Failed}
 use Rattle.wol_model.specs.Blocks.{AreApart}
 use Rattle.wol_model.specs.Heads.{RecordHead}
 use Rattle.wol_model.specs.Log.{Record}
@@ -30,7 +29,7 @@ use Rattle.manager.proofs.Lanes.{all_at, get_set, get_other}
 use Rattle.manager.proofs.ReadThrough.{zip_get}
 use Rattle.manager.proofs.ReadyLanes.{get_of, same_or_not}
 
-get_removed : {X : Type 0} (xs : List X) (k j : ℕ) (x : X) → slice_get (remove xs k) j ≡ Some x → (i : ℕ) × (slice_get xs i ≡ Some x)
+pub get_removed : {X : Type 0} (xs : List X) (k j : ℕ) (x : X) → slice_get (remove xs k) j ≡ Some x → (i : ℕ) × (slice_get xs i ≡ Some x)
 get_removed [] zero j x is = absurd (none-some x is)
 get_removed [] (suc k) j x is = absurd (none-some x is)
 get_removed (y ∷ ys) zero j x is = (suc j, is)

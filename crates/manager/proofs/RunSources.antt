@@ -1,5 +1,5 @@
 -- The sources of blocks, as the index answers them, and the accesses that passes begin.
-use Rattle.std.proofs.Common.{◌≡◌, ⊎_elim, ◌<◌, ◌≤◌, ◌+◌, ℕ, Bool, true, false, cond, ◌||◌, not, List, [], ◌∷◌, ◌++◌, map, length, Option, None, Some, refl, sym, ap, subst, ◌∙◌, arith, eqb}
+use Rattle.std.proofs.Common.{◌≡◌, ⊎_elim, ◌<◌, ◌≤◌, ◌+◌, ℕ, Bool, true, false, cond, ◌||◌, not, List, [], ◌∷◌, ◌++◌, map, length, None, Some, refl, sym, ap, subst, ◌∙◌, arith, eqb}
 use Rattle.std.specs.Prelude.{◌↔◌, IsTrue, Contains, slice_get, slice_set, is_some}
 use Rattle.std.specs.List.{count_by, range_with_len}
 use Rattle.std.specs.Option.{option_map}
@@ -19,7 +19,7 @@ use Rattle.wol_promise.proofs.Lists.{all_member, member_front, member_map}
 use Rattle.spin_model.specs.Operations.{use_of, operation_of}
 use Rattle.spin_model.specs.declared.spindle.Spindle.{Spindle}
 use Rattle.spin_model.specs.declared.spindle.SpindleBase.{SpindleBase}
-use Rattle.redirect_map.specs.Index.{Contents, cover_at, IsAnswer, IsRecordOf}
+use Rattle.redirect_map.specs.Index.{Contents, cover_at}
 use Rattle.redirect_map.specs.declared.record.Rec.{Rec}
 use Rattle.manager.specs.Reading.{IsSource, reads_home, reads_lane, needs_of, HasNeeded, NeedsWhere, NeedsSources, LaneRead, IsReadThrough}
 use Rattle.logger.specs.Lanes.{HasUsed, spindle_of}
