@@ -29,7 +29,7 @@ use Rattle.manager.proofs.Lanes.{all_at, get_set, get_other}
 use Rattle.manager.proofs.ReadThrough.{zip_get}
 use Rattle.manager.proofs.ReadyLanes.{get_of, same_or_not}
 
-get_removed : {X : Type 0} (xs : List X) (k j : ℕ) (x : X) → slice_get (remove xs k) j ≡ Some x → (i : ℕ) × (slice_get xs i ≡ Some x)
+pub get_removed : {X : Type 0} (xs : List X) (k j : ℕ) (x : X) → slice_get (remove xs k) j ≡ Some x → (i : ℕ) × (slice_get xs i ≡ Some x)
 get_removed [] zero j x is = absurd (none-some x is)
 get_removed [] (suc k) j x is = absurd (none-some x is)
 get_removed (y ∷ ys) zero j x is = (suc j, is)

@@ -57,7 +57,7 @@ filter_all : (v : ℕ) (xs : List ℕ) → AllByRecursion (λ w. w ≢ v) xs →
 filter_all v [] all = refl
 filter_all v (x ∷ xs) all = ap (λ (t : Bool). cond (not t) (x ∷ filter (λ w. not (eqb w v)) xs) (filter (λ w. not (eqb w v)) xs)) (ne_eqb x v all.0) ∙ (λ i. x ∷ filter_all v xs all.1 i)
 
-removed_indexes : {X : Type 0} (f : X → ℕ) (xs : List X) (ws : List ℕ) (i : ℕ) (o : X) → AreApart (map f xs ++ ws) → slice_get xs i ≡ Some o → map f (remove xs i) ≡ filter (λ w. not (eqb w (f o))) (map f xs)
+pub removed_indexes : {X : Type 0} (f : X → ℕ) (xs : List X) (ws : List ℕ) (i : ℕ) (o : X) → AreApart (map f xs ++ ws) → slice_get xs i ≡ Some o → map f (remove xs i) ≡ filter (λ w. not (eqb w (f o))) (map f xs)
 removed_indexes f [] ws i o apart is = absurd (none-some o is)
 removed_indexes f (x ∷ xs) ws zero o apart is =
     let others = all_mapped (λ (w : ℕ). w ≢ f o) f xs (lacks_removed f (x ∷ xs) ws zero o apart is).0 in

@@ -43,7 +43,7 @@ all_removed P (x ∷ xs) zero all = all.1
 all_removed P (x ∷ xs) (suc i) all = (all.0, all_removed P xs i all.1)
 
 -- each element stays but the one at this place
-member_removed : {X : Type 0} (xs : List X) (i : ℕ) (o z : X) → slice_get xs i ≡ Some o → Contains xs z → Contains (remove xs i) z ⊎ (o ≡ z)
+pub member_removed : {X : Type 0} (xs : List X) (i : ℕ) (o z : X) → slice_get xs i ≡ Some o → Contains xs z → Contains (remove xs i) z ⊎ (o ≡ z)
 member_removed [] i o z at has = absurd (none-some o at)
 member_removed (x ∷ xs) zero o z at has = ⊎_elim (λ same. inr (sym (same_Some x o at) ∙ same)) (λ there. inl there) (member_front x xs z has)
 member_removed (x ∷ xs) (suc i) o z at has = ⊎_elim

@@ -171,7 +171,7 @@ module _ {D : Type 0} (tells : Bool) (state : D → State) (m : Manager D) (b : 
     pub sides : AreLogs (λ (v : Held (Spun D)). (parts_of tells state).may_be v.part) b.volume.began.owner hf × AreLogs (λ (v : Held (Spun D)). (parts_of tells state).may_be v.part) b.volume.began.owner hb
     sides = all_parts (λ (v : Held (Spun D)). (c : List Block) → (parts_of tells state).may_be v.part c → IsLog c b.volume.began.owner v.records) hf s hb w.logs
 
-says_free : (owner : ℕ) (c : List Block) → IsIdle c → SaysOwnerOrFree owner c
+pub says_free : (owner : ℕ) (c : List Block) → IsIdle c → SaysOwnerOrFree owner c
 says_free owner [] idle = absurd idle
 says_free owner (x ∷ c) idle = inr idle
 
@@ -258,7 +258,7 @@ module _ {D : Type 0} (tells : Bool) (state : D → State) (sound : (d : D) → 
 
 -- ---- at any moment since an earlier one, after which there were reads alone
 
-partner : {X Y : Type 0} (R : X → Y → Type 0) (xs : List X) (front : List Y) (y : Y) (back : List Y) → AllZip R xs (front ++ y ∷ back) → (x : X) × Contains xs x × R x y
+pub partner : {X Y : Type 0} (R : X → Y → Type 0) (xs : List X) (front : List Y) (y : Y) (back : List Y) → AllZip R xs (front ++ y ∷ back) → (x : X) × Contains xs x × R x y
 partner R [] [] y back zip = absurd zip
 partner R [] (z ∷ front) y back zip = absurd zip
 partner R (x ∷ xs) [] y back zip = (x, member_of (x ∷ xs) x 0 refl, zip.0)

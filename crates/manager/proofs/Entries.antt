@@ -46,7 +46,7 @@ pub record At (es : List Indexed) (version : ℕ) (e : Indexed) : Type 0 where
   pub then_is : (f : Indexed → Indexed) → changed version f es ≡ front ++ f e ∷ back
   pub others : AllByRecursion (λ (d : Indexed). has_version version d ≡ false) (front ++ back)
 
-same_all : (version : ℕ) (f : Indexed → Indexed) (es : List Indexed) → AllByRecursion (λ (d : Indexed). has_version version d ≡ false) es → changed version f es ≡ es
+pub same_all : (version : ℕ) (f : Indexed → Indexed) (es : List Indexed) → AllByRecursion (λ (d : Indexed). has_version version d ≡ false) es → changed version f es ≡ es
 same_all version f [] all = refl
 same_all version f (x ∷ es) all = λ i. cond (all.0 i) (f x) x ∷ same_all version f es all.1 i
 

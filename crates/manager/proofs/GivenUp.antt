@@ -104,7 +104,7 @@ filter_kept : (xs : List Indexed) → AllByRecursion (λ (d : Indexed). keeps_a_
 filter_kept [] all = refl
 filter_kept (x ∷ xs) all = ap (λ (t : Bool). cond t (x ∷ filter (λ (d : Indexed). keeps_a_block d.listed) xs) (filter (λ (d : Indexed). keeps_a_block d.listed) xs)) all.0 ∙ (λ i. x ∷ filter_kept xs all.1 i)
 
-filter_mid : (front : List Indexed) (d : Indexed) (back : List Indexed) (t : Bool) → keeps_a_block d.listed ≡ t → AllByRecursion (λ (c : Indexed). keeps_a_block c.listed ≡ true) front → AllByRecursion (λ (c : Indexed). keeps_a_block c.listed ≡ true) back
+pub filter_mid : (front : List Indexed) (d : Indexed) (back : List Indexed) (t : Bool) → keeps_a_block d.listed ≡ t → AllByRecursion (λ (c : Indexed). keeps_a_block c.listed ≡ true) front → AllByRecursion (λ (c : Indexed). keeps_a_block c.listed ≡ true) back
     → filter (λ (c : Indexed). keeps_a_block c.listed) (front ++ d ∷ back) ≡ front ++ cond t (d ∷ back) back
 filter_mid [] d back t is fs bs = ap (λ (u : Bool). cond u (d ∷ filter (λ (c : Indexed). keeps_a_block c.listed) back) (filter (λ (c : Indexed). keeps_a_block c.listed) back)) is ∙ ap (λ (l : List Indexed). cond t (d ∷ l) l) (filter_kept back bs)
 filter_mid (x ∷ front) d back t is fs bs = ap (λ (u : Bool). cond u (x ∷ filter (λ (c : Indexed). keeps_a_block c.listed) (front ++ d ∷ back)) (filter (λ (c : Indexed). keeps_a_block c.listed) (front ++ d ∷ back))) fs.0

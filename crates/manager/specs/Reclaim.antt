@@ -1,5 +1,6 @@
 -- What the steps of reclaim do to a manager, by their answers.
-use Rattle.std.specs.Prelude.{⊤, ◌≡◌, ◌∷◌, [], ◌++◌, ℕ, Bool, true, not, ◌==◌, List, map, filter, slice_set, Option, None, Some, Result, Ok, Err, IsTrue, OnOk, OnErr, option_map, if◌then◌else◌}
+use Rattle.std.specs.Prelude.{⊤, ◌≡◌, ◌∷◌, [], ◌++◌, ◌&&◌, ℕ, Bool, true, false, not, ◌==◌, List, map, filter, slice_set, Option, None, Some, Result, Ok, Err, IsOk, IsTrue, OnOk, OnErr, option_map, if◌then◌else◌}
+use Rattle.std.specs.List.{AllByRecursion}
 use Rattle.std.specs.Option.{ForSome}
 use Rattle.wol_disk.specs.Disk.{State, Block, Values, IsImageOf, IsBlend, LeavesOnly, Rose, only, reads}
 use Rattle.turn_lock.specs.Passes.{pass_number, pass_mine}
@@ -9,7 +10,7 @@ use Rattle.seg_pool.specs.Holders.{Gave}
 use Rattle.seg_pool.specs.Operations.{operation_of}
 use Rattle.wol_model.specs.Blocks.{block_of, overlaid}
 use Rattle.wol_model.specs.History.{Broke, writes}
-use Rattle.wol_model.specs.Index.{Indexed, listed_in, homing, keeping, keeps_a_block}
+use Rattle.wol_model.specs.Index.{Indexed, listed_in, homing, is_live, keeping, keeps_a_block}
 use Rattle.wol_promise.specs.Ruled.{Noted, entries_of, last_look}
 use Rattle.wol_promise.specs.Stands.{IsDataOf}
 use Rattle.redirect_map.specs.Index.{entry_at, changed}
@@ -147,4 +148,22 @@ pub record HasDropped {D T : Type 0} (version : ℕ) (e : Indexed) (old new : Ma
   pub rest : new ≡ record old { lanes = new.lanes; index = new.index; ups = record { items = slice_set old.ups.items e.listed.lane true }; down = new.down }
   pub lanes : ChangesLane (IsTrimmedLane e.index (entries_at e.listed.lane e.index new.index.entries ≡ 0)) e.listed.lane old.lanes.items new.lanes.items
   pub ok : OnOk res (new.index.entries ≡ given_of version old.index.entries)
+  pub err : OnErr res (new.index ≡ old.index)
+
+-- ---- Segments that are given up with all their records
+
+-- the entry doesn't lie in the segment of this index of this lane
+abbrev pub lies_elsewhere : (lane index : ℕ) → Indexed → Bool
+lies_elsewhere lane index e = not (e.listed.lane == lane && e.index == index)
+
+-- no record in the segment has a live block
+abbrev pub NoneLiveIn : (lane index : ℕ) → List Indexed → Type 0
+NoneLiveIn lane index es = AllByRecursion (λ e. lies_elsewhere lane index e ≡ false → (b : ℕ) → is_live (listed_in es) e.listed b ≡ false) es
+
+-- Of the manager nothing changed but the lane at this place, whose logger counts as awake, and the index. The segment went to its pool with all its
+-- records, or it is held still, with all of them.
+pub record HasDroppedSegment {D T : Type 0} (lane index : ℕ) (old new : Manager D) (res : Result T StepFault) : Type 0 where
+  pub rest : new ≡ record old { lanes = new.lanes; index = new.index; ups = record { items = slice_set old.ups.items lane true }; down = new.down }
+  pub lanes : ChangesLane (IsTrimmedLane index (IsOk res)) lane old.lanes.items new.lanes.items
+  pub ok : OnOk res (new.index.entries ≡ filter (lies_elsewhere lane index) old.index.entries)
   pub err : OnErr res (new.index ≡ old.index)

@@ -14,10 +14,11 @@
 //! `Moments`. The steps on the model's side are lemmas of `wol_promise`. To add a call: state it from `Keeps` to
 //! `Stands` with its entry (`Leaves`), or, where it leaves no entry, from `Keeps` to `Keeps`. The steps of reclaim
 //! do the latter: `reclaim.rt` has `fetch_rec` (over `record.rt`), `store_home` (over `put.rt`, which writes the
-//! runs of a mask and syncs) and `drop_rec`; `specs/Reclaim` says what each leaves. In `proofs/`: `StoreHome`,
-//! `PutBlocks` and `LiveData` for blocks that go home, `DropCall`, `DropKeeps`, `DropPiece`, `DropStops`,
-//! `Vanishes` and `GivenUp` for blocks that are given up, `Counted` for the number of records in a segment against
-//! the index.
+//! runs of a mask and syncs) and `drop_rec`, and `retire.rt` has `drop_segment`, by which a segment goes with all its
+//! records; `specs/Reclaim` says what each leaves. In `proofs/`: `StoreHome`, `PutBlocks` and `LiveData` for blocks
+//! that go home, `DropCall`, `DropKeeps`, `DropPiece`, `DropStops`, `Vanishes` and `GivenUp` for blocks that are given
+//! up, `Retiring`, `RetireCall`, `RetireKeeps`, `RetireReady`, `RetireStops` and `Forgetting` for whole segments,
+//! `Counted` for the number of records in a segment against the index.
 #![tactic(auto)]
 
 mod base;
@@ -31,6 +32,7 @@ mod put;
 mod read;
 mod reclaim;
 mod record;
+mod retire;
 mod station;
 mod write;
 

@@ -1,0 +1,234 @@
+-- A lane gave up a segment with all its records: what the manager is then, clause by clause.
+use Rattle.std.proofs.Common.{◌≡◌, ◌≤◌, ℕ, Bool, true, false, not, List, [], ◌∷◌, ◌++◌, map, length, None, Some, Ok, Err, refl, sym, ap, subst, ◌∙◌, arith, eqb, get_or}
+use Rattle.std.specs.Prelude.{IsTrue, Contains, filter, slice_get, slice_set}
+use Rattle.std.specs.List.{AllByRecursion}
+use Rattle.std.specs.Option.{option_to_list}
+use Rattle.std.specs.Vec.{with_item}
+use Rattle.std.proofs.lemmas.Bool.{false≢true}
+use Rattle.std.proofs.lemmas.Option.{same_Some, slice_get_read, slice_get_within}
+use Rattle.turn_lock.specs.Passes.{pass_mine, pass_number}
+use Rattle.seg_pool.specs.Holders.{Gave}
+use Rattle.seg_pool.specs.Operations.{operation_of}
+use Rattle.wol_disk.specs.Disk.{State, IsDisk}
+use Rattle.wol_model.specs.Index.{Indexed}
+use Rattle.wol_promise.proofs.Lists.{all_member, member_of}
+use Rattle.wol_promise.proofs.OneMore.{last_more}
+use Rattle.log_segment.specs.Segment.{IsWhole}
+use Rattle.log_segment.specs.declared.free.FreeSegment.{FreeSegment}
+use Rattle.redirect_map.specs.Index.{Contents, IsIndex, entry_at}
+use Rattle.redirect_map.specs.declared.record.Rec.{Rec}
+use Rattle.logger.specs.Lanes.{IsLane, HoldsAll, IsSameLane, HasUsed, held_in, taken_in, pool_of, logger_of}
+use Rattle.logger.specs.Trims.{IsRetirable, Retired, gone, held_still}
+use Rattle.logger.specs.declared.lane.HeldSegment.{HeldSegment}
+use Rattle.logger.specs.declared.lane.Lane.{Lane}
+use Rattle.manager.specs.Causes.{AreCalm, PartRose}
+use Rattle.manager.specs.Offers.{ChangesLane}
+use Rattle.manager.specs.Reclaim.{IsTrimmedLane, HasDroppedSegment, KeepsOn, BreaksOff, NoneLiveIn, StopsSince, Always, lies_elsewhere}
+use Rattle.manager.specs.Stands.{Keeps, IsReady, IsReadyLane, IsPlacedIn, nones_in, nones_at}
+use Rattle.manager.specs.Stops.{Stops}
+use Rattle.manager.specs.declared.manager.Manager.{Manager}
+use Rattle.manager.specs.declared.part.Part.{Part}
+use Rattle.manager.specs.declared.part.Part.TheVariants as part
+use Rattle.manager.specs.declared.part.StepFault.{StepFault}
+use Rattle.manager.proofs.Calm.{calm_among, get_removed}
+use Rattle.manager.proofs.DropCall.{keeps_pieces, passed_still, removed_indexes}
+use Rattle.manager.proofs.DropReady.{ready_broken}
+use Rattle.manager.proofs.Entries.{At, Found, among, entry_of_version}
+use Rattle.manager.proofs.Frames.{none_passed}
+use Rattle.manager.proofs.Lanes.{all_at, get_set, map_set}
+use Rattle.manager.proofs.Putting.{Pieces}
+use Rattle.manager.proofs.ReadyLanes.{get_of, nones_more}
+use Rattle.manager.proofs.RetireKeeps.{leaves}
+use Rattle.manager.proofs.RetireReady.{ready_less}
+use Rattle.manager.proofs.RetireStops.{failed_pieces, gone_stops, in_place_stops}
+
+-- the record of the call, its entry and its lane
+module _ {D : Type 0} (state : D → State) (m : Manager D) (ready : IsReady state m) (up : m.down ≡ None) (version : ℕ) (r : Rec) (f : Found m.index.entries version r) (index : IsIndex m.index.entries) where
+  pub at : At m.index.entries version f.entry
+  at = entry_of_version m.index.entries version f.entry index.rising f.is
+
+  pub placed : IsPlacedIn m.lanes.items f.entry
+  placed = all_member (IsPlacedIn m.lanes.items) m.index.entries f.entry (ready.up up).placed (among at)
+
+  -- the lane that the code reaches is there
+  pub there_is : slice_get m.lanes.items r.lane ≡ Some placed.lane
+  there_is = ap (slice_get m.lanes.items) f.record_.lane ∙ placed.lane_is
+
+  pub lane_of : (l : Lane D) → l ≡ get_or m.lanes.items r.lane l → slice_get m.lanes.items r.lane ≡ Some l
+  lane_of l is = slice_get_read m.lanes.items (length m.lanes.items) r.lane l refl (slice_get_within m.lanes.items r.lane placed.lane there_is) is
+
+  -- no record of the segment has a live block, by the record
+  pub none_live : NoneLiveIn f.entry.listed.lane f.entry.index m.index.entries → NoneLiveIn r.lane r.segment m.index.entries
+  none_live none = subst (λ (k : ℕ). NoneLiveIn k r.segment m.index.entries) (sym f.record_.lane) (subst (λ (s : ℕ). NoneLiveIn f.entry.listed.lane s m.index.entries) (sym f.record_.segment) none)
+
+  module _ (old : Lane D) (lane : slice_get m.lanes.items r.lane ≡ Some old) where
+    pub old_lane : IsReadyLane state m.id m.most old
+    old_lane = all_at (IsReadyLane state m.id m.most) m.lanes.items r.lane old lane ready.ready.each
+
+    -- its segment is held and whole
+    pub retirable : IsRetirable old r.segment
+    retirable =
+        let is_old : placed.lane ≡ old = same_Some placed.lane old (sym there_is ∙ lane) in
+        let found = get_of (held_in old) placed.segment (subst (λ (l : Lane D). Contains (held_in l) placed.segment) is_old placed.held) in record {
+          place = found.0;
+          segment = placed.segment;
+          there = found.1;
+          named = placed.index ∙ sym f.record_.segment;
+          whole = all_at (λ (h : HeldSegment D). IsWhole h.segment) (held_in old) found.0 placed.segment found.1 (all_at (λ (l : Lane D). AllByRecursion (λ (h : HeldSegment D). IsWhole h.segment) (held_in l)) m.lanes.items r.lane old lane (ready.up up).whole);
+        }
+
+    module _ (new : Lane D) (is_lane : IsLane state new) (same : IsSameLane old new) (all : HoldsAll old → HoldsAll new) (taken : taken_in new ≡ taken_in old) (used : HasUsed old new) where
+      untaken : taken_in new ≡ None
+      untaken = taken ∙ old_lane.untaken
+
+      -- ---- done
+
+      module _ {T E : Type 0} (x : T) (moved : Retired {T = T} {E = E} state old new r.segment (Ok x)) where
+        pub ready_then : (index' : Contents) (ups : List Bool) → index'.entries ≡ filter (lies_elsewhere r.lane r.segment) m.index.entries → ups ≡ slice_set m.ups.items r.lane true → IsReady state (record m { lanes = with_item m.lanes r.lane new; index = index'; ups = record { items = ups } })
+        ready_then index' ups entries flags = by moved
+          where
+            by : Retired {T = T} {E = E} state old new r.segment (Ok x) → IsReady state (record m { lanes = with_item m.lanes r.lane new; index = index'; ups = record { items = ups } })
+            by (gone i o free there named held pool ok freed) = ready_less state m ready up r.lane old new lane is_lane same all untaken i o there held ups flags index' (entries ∙ ap (λ (s : ℕ). filter (lies_elsewhere r.lane s) m.index.entries) (sym named))
+            by (held_still i o n there named held pool err stayed) = absurd (false≢true err)
+
+        pub calm_then : AreCalm state (held_in old) (held_in new)
+        calm_then = by moved
+          where
+            by : Retired {T = T} {E = E} state old new r.segment (Ok x) → AreCalm state (held_in old) (held_in new)
+            by (gone i o free there named held pool ok freed) = calm_among state (held_in old) (map (λ (t : ℕ × FreeSegment D). t.0) (option_to_list (taken_in old))) old_lane.lane.apart (held_in old) (held_in new) (λ s has. has)
+                (λ t has. let at = get_of (held_in new) t has in
+                let was = get_removed (held_in old) i at.0 t (ap (λ (hs : List (HeldSegment D)). slice_get hs at.0) (sym held) ∙ at.1) in member_of (held_in old) t was.0 was.1)
+            by (held_still i o n there named held pool err stayed) = absurd (false≢true err)
+
+        lane_then : (given : Type 0) → ((given → ⊥) → ⊥) → ChangesLane (IsTrimmedLane f.entry.index given) f.entry.listed.lane m.lanes.items (slice_set m.lanes.items r.lane new)
+        lane_then given is = record {
+          before = old;
+          after = new;
+          there = ap (slice_get m.lanes.items) (sym f.record_.lane) ∙ lane;
+          set = ap (λ (q : ℕ). slice_set m.lanes.items q new) f.record_.lane;
+          change = by moved;
+        }
+          where
+            by : Retired {T = T} {E = E} state old new r.segment (Ok x) → IsTrimmedLane f.entry.index given old new
+            by (gone i o free there named held pool ok freed) = record {
+              same = same;
+              used = used;
+              kept = λ not_. absurd (is not_);
+              gave = λ _. (
+                pool ∙ (λ j. pass_mine (pool_of old) ++ (pass_number (pool_of old), operation_of (Gave (f.record_.segment j))) ∷ []),
+                ap (map (λ (h : HeldSegment D). h.index)) held
+                    ∙ removed_indexes (λ (h : HeldSegment D). h.index) (held_in old) (map (λ (t : ℕ × FreeSegment D). t.0) (option_to_list (taken_in old))) i o old_lane.lane.apart there
+                    ∙ ap (λ (v : ℕ). filter (λ w. not (eqb w v)) (map (λ (h : HeldSegment D). h.index) (held_in old))) (named ∙ f.record_.segment),
+              );
+            }
+            by (held_still i o n there named held pool err stayed) = absurd (false≢true err)
+
+        -- of the manager nothing else changed
+        pub dropped_then : {G : Type 0} (done : G) (index' : Contents) (ups : List Bool) → index'.entries ≡ filter (lies_elsewhere r.lane r.segment) m.index.entries → ups ≡ slice_set m.ups.items r.lane true
+            → (d : Indexed) → entry_at m.index.entries version ≡ Some d → HasDroppedSegment d.listed.lane d.index m (record m { lanes = with_item m.lanes r.lane new; index = index'; ups = record { items = ups } }) (Ok done)
+        dropped_then {G} done index' ups entries flags d is =
+            subst (λ (c : Indexed). HasDroppedSegment {T = G} c.listed.lane c.index m (record m { lanes = with_item m.lanes r.lane new; index = index'; ups = record { items = ups } }) (Ok done)) (same_Some f.entry d (sym f.is ∙ is)) (record {
+              rest = ap (λ (u : List Bool). record m { lanes = with_item m.lanes r.lane new; index = index'; ups = record { items = u } }) (flags ∙ ap (λ (k : ℕ). slice_set m.ups.items k true) f.record_.lane);
+              lanes = lane_then (true ≡ true) (λ never. never refl);
+              ok = entries ∙ (λ j. filter (lies_elsewhere (f.record_.lane j) (f.record_.segment j)) m.index.entries);
+              err = tt;
+            })
+
+        module _ (none : NoneLiveIn r.lane r.segment m.index.entries) where
+          none_at : (o : HeldSegment D) → o.index ≡ r.segment → NoneLiveIn r.lane o.index m.index.entries
+          none_at o named = subst (λ (s : ℕ). NoneLiveIn r.lane s m.index.entries) (sym named) none
+
+          pub keeps_then : (tells : Bool) (index' : Contents) (ups : List Bool) → index'.entries ≡ filter (lies_elsewhere r.lane r.segment) m.index.entries → ups ≡ slice_set m.ups.items r.lane true → KeepsOn tells state m (record m { lanes = with_item m.lanes r.lane new; index = index'; ups = record { items = ups } }) Always
+          keeps_then tells index' ups entries flags b notes any kp = by moved
+            where
+              by : Retired {T = T} {E = E} state old new r.segment (Ok x) → Keeps tells state (record m { lanes = with_item m.lanes r.lane new; index = index'; ups = record { items = ups } }) b notes
+              by (gone i o free there named held pool ok freed) =
+                  let more : nones_in (pass_mine (pool_of old)) ≤ nones_in (pass_mine (pool_of new)) = (let e = ap nones_in pool ∙ nones_more (pass_mine (pool_of old)) (pass_number (pool_of old), operation_of (Gave r.segment)) in omega (arith, e)) in
+                  keeps_pieces tells state m b notes kp r.lane old new lane same more notes index' ups m.down (filter (lies_elsewhere r.lane o.index) m.index.entries) (entries ∙ ap (λ (s : ℕ). filter (lies_elsewhere r.lane s) m.index.entries) (sym named)) flags
+                  (leaves tells state m b notes kp up r.lane old new lane untaken i o there (none_at o named) held) (ready_then index' ups entries flags) (passed_still tells state m b notes kp r.lane old new lane same more)
+              by (held_still i o n there named held pool err stayed) = absurd (false≢true err)
+
+          pub stops_then : (tells : Bool) (sound : (d : D) → IsDisk (state d)) → IsTrue tells → (index' : Contents) (ups : List Bool) → ups ≡ slice_set m.ups.items r.lane true → StopsSince tells state m (record m { lanes = with_item m.lanes r.lane new; index = index'; ups = record { items = ups } }) Always
+          stops_then tells sound told index' ups flags was read b notes any kw = by moved
+            where
+              by : Retired {T = T} {E = E} state old new r.segment (Ok x) → Stops state was (record m { lanes = with_item m.lanes r.lane new; index = index'; ups = record { items = ups } }) None b notes []
+              by (gone i o free there named held pool ok freed) = gone_stops tells state sound told was m read ready (sym read.down ∙ up) up b notes kw r.lane old new lane i o there (none_at o named) held
+              by (held_still i o n there named held pool err stayed) = absurd (false≢true err)
+
+      -- ---- a call of the disk failed
+
+      module _ {T E : Type 0} (x : E) (moved : Retired {T = T} {E = E} state old new r.segment (Err x)) (volume : ℕ) (volume_is : volume ≡ logger_of old) (ups : List Bool) (flags : ups ≡ slice_set m.ups.items r.lane true) where
+        pub ready_broke : IsReady state (record m { lanes = with_item m.lanes r.lane new; ups = record { items = ups }; down = Some (part.Segment volume r.segment) })
+        ready_broke = ready_broken state m ready r.lane old new lane is_lane same all untaken ups flags (part.Segment volume r.segment)
+
+        lane_broke : (given : Type 0) → (given → ⊥) → ChangesLane (IsTrimmedLane f.entry.index given) f.entry.listed.lane m.lanes.items (slice_set m.lanes.items r.lane new)
+        lane_broke given never = record {
+          before = old;
+          after = new;
+          there = ap (slice_get m.lanes.items) (sym f.record_.lane) ∙ lane;
+          set = ap (λ (q : ℕ). slice_set m.lanes.items q new) f.record_.lane;
+          change = record { same = same; used = used; kept = λ _. by moved; gave = λ is. absurd (never is) };
+        }
+          where
+            by : Retired {T = T} {E = E} state old new r.segment (Err x) → (pass_mine (pool_of new) ≡ pass_mine (pool_of old)) × (map (λ (h : HeldSegment D). h.index) (held_in new) ≡ map (λ (h : HeldSegment D). h.index) (held_in old))
+            by (gone i o free there named held pool ok freed) = absurd (false≢true ok)
+            by (held_still i o n there named held pool err stayed) = (pool, ap (map (λ (h : HeldSegment D). h.index)) held ∙ map_set (λ (h : HeldSegment D). h.index) (held_in old) i o n there stayed.index)
+
+        -- of the manager nothing else changed
+        pub dropped_broke : (G : Type 0) (fault : StepFault) (d : Indexed) → entry_at m.index.entries version ≡ Some d
+            → HasDroppedSegment {T = G} d.listed.lane d.index m (record m { lanes = with_item m.lanes r.lane new; ups = record { items = ups }; down = Some (part.Segment volume r.segment) }) (Err fault)
+        dropped_broke G fault d is =
+            subst (λ (c : Indexed). HasDroppedSegment {T = G} c.listed.lane c.index m (record m { lanes = with_item m.lanes r.lane new; ups = record { items = ups }; down = Some (part.Segment volume r.segment) }) (Err fault)) (same_Some f.entry d (sym f.is ∙ is)) (record {
+              rest = ap (λ (u : List Bool). record m { lanes = with_item m.lanes r.lane new; ups = record { items = u }; down = Some (part.Segment volume r.segment) }) (flags ∙ ap (λ (k : ℕ). slice_set m.ups.items k true) f.record_.lane);
+              lanes = lane_broke (false ≡ true) (λ is. false≢true is);
+              ok = tt;
+              err = refl;
+            })
+
+        -- its segment's count rose
+        pub cause_broke : PartRose state m (record m { lanes = with_item m.lanes r.lane new; ups = record { items = ups }; down = Some (part.Segment volume r.segment) }) (part.Segment volume r.segment)
+        cause_broke = by moved
+          where
+            by : Retired {T = T} {E = E} state old new r.segment (Err x) → PartRose state m (record m { lanes = with_item m.lanes r.lane new; ups = record { items = ups }; down = Some (part.Segment volume r.segment) }) (part.Segment volume r.segment)
+            by (gone i o free there named held pool ok freed) = absurd (false≢true ok)
+            by (held_still i o n there named held pool err stayed) = record {
+              lane = r.lane;
+              place = i;
+              old_lane = old;
+              new_lane = new;
+              old_segment = o;
+              new_segment = n;
+              was_lane = lane;
+              is_lane = get_set m.lanes.items r.lane old new lane;
+              was_there = there;
+              is_there = ap (λ (hs : List (HeldSegment D)). slice_get hs i) held ∙ get_set (held_in old) i o n there;
+              named = (volume_is, sym named);
+              rose = stayed.cause;
+            }
+
+        module _ (none : NoneLiveIn r.lane r.segment m.index.entries) where
+          none_still : (o : HeldSegment D) → o.index ≡ r.segment → NoneLiveIn r.lane o.index m.index.entries
+          none_still o named = subst (λ (s : ℕ). NoneLiveIn r.lane s m.index.entries) (sym named) none
+
+          pub stands_broke : (tells : Bool) (sound : (d : D) → IsDisk (state d)) → BreaksOff tells state m (record m { lanes = with_item m.lanes r.lane new; ups = record { items = ups }; down = Some (part.Segment volume r.segment) }) Always
+          stands_broke tells sound b notes nt any note kp = record {
+            keeps = by moved;
+            look = last_more b.volume.began.look notes nt ∙ note.look_is;
+          }
+            where
+              by : Retired {T = T} {E = E} state old new r.segment (Err x) → Keeps tells state (record m { lanes = with_item m.lanes r.lane new; ups = record { items = ups }; down = Some (part.Segment volume r.segment) }) b (notes ++ nt ∷ [])
+              by (gone i o free there named held pool ok freed) = absurd (false≢true ok)
+              by (held_still i o n there named held pool err stayed) =
+                  let more : nones_in (pass_mine (pool_of old)) ≤ nones_in (pass_mine (pool_of new)) = (let e = ap nones_in pool in omega (arith, e)) in
+                  keeps_pieces tells state m b notes kp r.lane old new lane same more (notes ++ nt ∷ []) m.index ups (Some (part.Segment volume r.segment)) m.index.entries refl flags
+                  (subst (λ (d : Part). Pieces tells state m b (notes ++ nt ∷ []) (slice_set m.lanes.items r.lane new) m.index.entries m.next (slice_set m.ups.items r.lane true) (Some d)) (λ j. part.Segment (sym volume_is j) (named j))
+                  (failed_pieces tells state sound m b notes kp up r.lane old new lane is_lane untaken i o n there (none_still o named) held stayed nt note.operation_is note.drain))
+                  ready_broke (none_passed (nones_at (slice_set m.lanes.items r.lane new) b.lanes) notes nt note.passed_is (passed_still tells state m b notes kp r.lane old new lane same more))
+
+          pub stops_broke : (tells : Bool) (sound : (d : D) → IsDisk (state d)) → IsTrue tells
+              → StopsSince tells state m (record m { lanes = with_item m.lanes r.lane new; ups = record { items = ups }; down = Some (part.Segment volume r.segment) }) Always
+          stops_broke tells sound told was read b notes any kw = by moved
+            where
+              by : Retired {T = T} {E = E} state old new r.segment (Err x) → Stops state was (record m { lanes = with_item m.lanes r.lane new; ups = record { items = ups }; down = Some (part.Segment volume r.segment) }) None b notes []
+              by (gone i o free there named held pool ok freed) = absurd (false≢true ok)
+              by (held_still i o n there named held pool err stayed) = in_place_stops tells state sound told was m read ready (sym read.down ∙ up) up b notes kw r.lane old new lane i o there (none_still o named) n held stayed
