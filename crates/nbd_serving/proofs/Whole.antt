@@ -14,6 +14,7 @@ use Rattle.volume_images.specs.Volumes.{images_read, shapes_of}
 use Rattle.rack.specs.Opens.{KeepsAllSound, KeepsOthers, LeavesAll}
 use Rattle.rack.specs.declared.rack.Rack.{Rack}
 use Rattle.open_rack.specs.Sessions.{OpensAndCloses}
+use Rattle.open_rack.specs.NotOpened.{first_closed}
 use Rattle.open_rack.proofs.FirstClosed.{first_is, first_refused}
 use Rattle.inspection.specs.Racks.{IsSameRack}
 use Rattle.inspection.specs.Runs.{MayComplete}
@@ -28,12 +29,13 @@ use Rattle.nbd_serving.specs.Racks.{ServesRack}
 use Rattle.nbd_serving.specs.Racks as racks
 use Rattle.nbd_serving.specs.Runs.{Completes, ServesNamed}
 use Rattle.nbd_serving.specs.Runs as runs
+use Rattle.nbd_serving.specs.Volumes.{KeepsBay}
 use Rattle.nbd_serving.specs.Wires.{Wire, answer_of}
 use Rattle.nbd_serving.specs.declared.serving.Beginning.{Beginning}
 use Rattle.nbd_serving.specs.declared.stop.Stop.{Stop}
 use Rattle.nbd_serving.specs.declared.stop.Stop.TheVariants as stop
 use Rattle.nbd_serving.proofs.Begun.{counts_behind, faults_begun}
-use Rattle.nbd_serving.proofs.Sessions.{serves_open}
+use Rattle.nbd_serving.proofs.Sessions.{all_kept, serves_open}
 
 -- what isn't touched is as it was
 pub others_same : (config : Config) (o : Option Told) → IsTold (KeepsOthers config) o o
@@ -52,6 +54,13 @@ module _ {D : Type 0} (tells : Bool) (state : D → State) (config : Config) (be
   untouched : session.after ≡ session.before → IsTrue tells → IsTold (LeavesAll tells state config old new) old.told new.told
   untouched same telling = session.left telling (all_quiet session.before.stations.items session.after.stations.items (subst (IsSameRack session.before) (sym same) (rack_self session.before)).each session.opened.fresh)
 
+  -- where all volumes were open
+  kept : first_closed 0 session.before.faults.items ≡ None → session.after ≡ session.before → (IsTrue tells → IsTold (KeepsAllSound config) old.told new.told) → KeepsBay {D = D} tells state config old new
+  kept all_open same sound = record {
+    kept = all_kept tells state config did old new spindles session all_open same;
+    leaves = record { left = untouched same; sound = sound };
+  }
+
   pub serves_named : (IsTrue tells → IsTold (KeepsAllSound config) old.told new.told) → ServesNamed tells state config begins name old new wire wire' answer
   serves_named sound = go answer session.done
     where
@@ -60,8 +69,8 @@ module _ {D : Type 0} (tells : Bool) (state : D → State) (config : Config) (be
           let first = first_refused state config session.bay session.before session.opened.rack tells old new session.refused session.failed session.part session.opened.began session.opened.there fault is in
           subst (λ (f : Fault). ServesNamed tells state config begins name old new wire wire' (Err (stop.Fault f))) (sym first.2)
           (runs.closed volume first.0 first.1 named first.3 (record { left = untouched same; sound = sound }) calm)
-      go a (racks.unagreed why is begins_ same) = runs.unagreed volume why named begins_ (record { left = untouched same; sound = sound })
-      go a (racks.unbegun f is begins_ same) = runs.unbegun volume f named begins_ (record { left = untouched same; sound = sound })
+      go a (racks.unagreed why is begins_ same) = runs.unagreed volume why named begins_ (kept is same sound)
+      go a (racks.unbegun f is begins_ same) = runs.unbegun volume f named begins_ (kept is same sound)
       go a (racks.open_ begun r all_open begins_ serves) = runs.served volume begun r named begins_ (serves_open tells state config did old new spindles session all_open volume begun wire' r serves)
 
   -- ---- Completeness

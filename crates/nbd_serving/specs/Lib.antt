@@ -1,3 +1,4 @@
 pub mod Wires
 pub mod Racks
+pub mod Volumes
 pub mod Runs

@@ -1,5 +1,5 @@
 -- What serving a volume of a bay comes to.
-use Rattle.std.specs.Prelude.{◌≡◌, ◌≢◌, ◌<◌, ℕ, Bool, List, [], length, None, Some, Result, Ok, Err, IfSome, IsSome, IsTrue, slice_get, unwrap_or}
+use Rattle.std.specs.Prelude.{◌≡◌, ◌≢◌, ◌<◌, ℕ, Bool, List, [], length, None, Some, Result, Ok, Err, IsSome, IsTrue, slice_get, unwrap_or}
 use Rattle.wol_disk.specs.Disk.{Rose, State}
 use Rattle.wol_bay.specs.Bay.{BayState, Told}
 use Rattle.wol_config.specs.Documents.{names_of, number_named}
@@ -11,10 +11,10 @@ use Rattle.wol_promise.specs.Manager.{Base}
 use Rattle.wol_promise.specs.Stands.{IsOpening}
 use Rattle.report.specs.declared.fault.Fault.TheVariants.{Memory, Volume}
 use Rattle.troubles.specs.Troubles.{trouble_of}
-use Rattle.volume_images.specs.Left.{AreNamedApart, IsTold}
+use Rattle.volume_images.specs.Left.{IsTold}
 use Rattle.volume_images.specs.Volumes.{AreLeft, images_read, shapes_of}
 use Rattle.rack.specs.Closes.{HasFaultyPart}
-use Rattle.rack.specs.Owners.{IsBegun, most_of}
+use Rattle.rack.specs.Owners.{most_of}
 use Rattle.rack.specs.declared.volume_fault.VolumeFault.{VolumeFault}
 use Rattle.open_rack.specs.NotOpened.{IsFirstClosed, LeavesBay}
 use Rattle.nbd_handshake.specs.declared.ending.Shaken.TheVariants.{Agreed, Unagreed as NotAgreed}
@@ -24,6 +24,7 @@ use Rattle.nbd_session.specs.declared.session.Ended.{Ended}
 use Rattle.nbd_session.specs.declared.session.NbdFault.{NbdFault}
 use Rattle.nbd_station.specs.Pieces.{IsTurnAt, Pieces, pieces_of}
 use Rattle.nbd_serving.specs.Racks.{Begins}
+use Rattle.nbd_serving.specs.Volumes.{IsKept, IsOpen, KeepsBay}
 use Rattle.nbd_serving.specs.Wires.{Wire, answer_of}
 use Rattle.nbd_serving.specs.declared.serving.Beginning.{Beginning}
 use Rattle.nbd_serving.specs.declared.stop.Stop.{Stop}
@@ -37,10 +38,9 @@ abbrev pub LeavesServed : Config → (volume : ℕ) → (end : Pieces) → (entr
 LeavesServed config volume end entry left = (images : Images) → AreLeft config left images
     → IsCut (recovered_from (shapes_of config) (images_read config entry) volume) end.stand (unwrap_or end.flight []) (recovered_from (shapes_of config) images volume)
 
--- and each other volume to its array at entry
+-- and each other volume was open, and is kept
 abbrev pub LeavesOthers : Config → (volume : ℕ) → (entry left : Told) → Type 0
-LeavesOthers config volume entry left = (images : Images) → AreLeft config left images
-    → (v : ℕ) → v < length (shapes_of config) → v ≢ volume → recovered_from (shapes_of config) images v ≡ recovered_from (shapes_of config) (images_read config entry) v
+LeavesOthers config volume entry left = (v : ℕ) → v < length config.volumes.items → v ≢ volume → IsKept config v entry left
 
 -- ---- The session
 
@@ -51,7 +51,7 @@ pub record ServesOpen (tells : Bool) (config : Config) (volume : ℕ) (old new :
   pub conf_is : slice_get config.volumes.items volume ≡ Some conf
   pub base : Base
   pub owner : base.owner ≡ volume
-  pub begun : IsTrue tells → IfSome old.told (λ entry. AreNamedApart entry → IsBegun config (images_read config entry) base)
+  pub open_ : IsTrue tells → IsTold (IsOpen config volume conf base) old.told new.told
   pub opening : IsOpening base
   pub end : Pieces
   pub session : IsSession (IsTurnAt (IsTrue tells) base.array) conf.home (most_of config) (pieces_of base.look []) end wire.left wire'.left wire.taken wire'.taken answer
@@ -65,16 +65,16 @@ pub record ServesOpen (tells : Bool) (config : Config) (volume : ℕ) (old new :
 -- ---- The command
 
 -- A volume was to be served: no volume has the name; or there was no memory to open the volumes; or one of them couldn't be
--- opened; or all were open, and no session began, or the volume was served.
+-- opened; or all were open, and no session began, and all are kept, or the volume was served.
 pub data ServesNamed {D : Type 0} (tells : Bool) (state : D → State) (config : Config) (begins : Beginning) (name : List ℕ) (old new : BayState) (wire wire' : Wire) : Result Ended Stop → Type 0 where
   unknown : number_named (names_of config.volumes.items) name ≡ None → new ≡ old → wire' ≡ wire → ServesNamed tells state config begins name old new wire wire' (Err stop.Unknown)
   no_memory : (volume : ℕ) → number_named (names_of config.volumes.items) name ≡ Some volume → LeavesBay tells state config old new → wire' ≡ wire
       → ServesNamed tells state config begins name old new wire wire' (Err (stop.Fault Memory))
   closed : (volume k : ℕ) (f : VolumeFault) → number_named (names_of config.volumes.items) name ≡ Some volume → IsFirstClosed tells state config old new k f → LeavesBay tells state config old new → wire' ≡ wire
       → ServesNamed tells state config begins name old new wire wire' (Err (stop.Fault (Volume k (trouble_of f))))
-  unagreed : (volume : ℕ) (why : Unagreed) → number_named (names_of config.volumes.items) name ≡ Some volume → Begins config volume begins wire wire' (Ok (NotAgreed why)) → LeavesBay tells state config old new
+  unagreed : (volume : ℕ) (why : Unagreed) → number_named (names_of config.volumes.items) name ≡ Some volume → Begins config volume begins wire wire' (Ok (NotAgreed why)) → KeepsBay tells state config old new
       → ServesNamed tells state config begins name old new wire wire' (Err (stop.Unagreed why))
-  unbegun : (volume : ℕ) (f : NbdFault) → number_named (names_of config.volumes.items) name ≡ Some volume → Begins config volume begins wire wire' (Err f) → LeavesBay tells state config old new
+  unbegun : (volume : ℕ) (f : NbdFault) → number_named (names_of config.volumes.items) name ≡ Some volume → Begins config volume begins wire wire' (Err f) → KeepsBay tells state config old new
       → ServesNamed tells state config begins name old new wire wire' (answer_of (Err f))
   served : (volume : ℕ) (begun : Wire) (answer : Result Ended NbdFault) → number_named (names_of config.volumes.items) name ≡ Some volume → Begins config volume begins wire begun (Ok Agreed) → ServesOpen tells config volume old new begun wire' answer
       → ServesNamed tells state config begins name old new wire wire' (answer_of answer)
