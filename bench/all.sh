@@ -1,8 +1,8 @@
 #!/usr/bin/env bash
 # All figures in one table: each work with its lines a second, its processor seconds, the limit of the machine in the same run, and the ratio of the
 # two. Replays of generated lines over 3, 36 and 64 volumes (the most that may be configured), with 1, 2 and 4 workers and each mode of reclaim, and of
-# windows of 2 and of 64 lines over 36 volumes; on a memory file system, and synced on a disk. Then four policies compared on generated lines over
-# 36 volumes, lines that belong to nobody, and digests.
+# windows of 2 and of 64 lines over 36 volumes, with 1, 2, 4 and 8 workers, reclaim between and beside; on a memory file system, and synced on a
+# disk. Then four policies compared on generated lines over 36 volumes, lines that belong to nobody, and digests.
 # The limit of a replay is what `dd` writes and syncs in the same folder just before: as many blocks of 4 KiB as there are lines, each synced, by as
 # many processes as there are workers. The limit of lines is `wc -l`, that of digests `sha256sum`. Of each replay and its limit the best of RUNS
 # runs counts, by turns, each on images just formatted.
@@ -101,8 +101,10 @@ replays() {
     configure 36 >wol.toml
     for size in 2 64; do
         windows "$count" "$size" >trace.csv
-        for workers in 1 2 4; do
-            add "$place, windows of $size lines, 36 volumes, $workers workers, between" "$count" "$workers" replay --workers "$workers" --reclaim between
+        for workers in 1 2 4 8; do
+            for mode in between beside; do
+                add "$place, windows of $size lines, 36 volumes, $workers workers, $mode" "$count" "$workers" replay --workers "$workers" --reclaim "$mode"
+            done
         done
     done
     rm ./*.vol

@@ -60,3 +60,4 @@ pub mod DrainsCounted
 pub mod AllAsked
 pub mod AccountKept
 pub mod ToldAwake
+mod Lent

@@ -92,7 +92,7 @@ module _ {D : Type 0} (state : D → State) (tells : Bool) (config : Config) (en
   target_count : length (shapes_of config) ≡ length (targets_of config)
   target_count = length-map config.volumes.items (shape_in config) ∙ sym (length-map config.volumes.items target_of)
 
-  module _ (mode : Reclaim) (before middle after : Floor D) (ps qs : List _) (moved : IsMoved r.stations.items before) (back : IsMoved q.stations.items after) (locks : locks_of q.stations.items ≡ before.locks.items)
+  module _ (mode : Reclaim) (before middle after : Floor D) (ps qs : List _) (moved : IsMoved r.stations.items before) (back : IsMoved q.stations.items after) (locks : locks_of q.stations.items ≡ before.locks.now)
       (numbers : (v : ℕ) (s : Station D) → slice_get r.stations.items v ≡ Some s → AreNumbered s) (run : List (Option TraceLine)) (earlier last : List ServedWindow) (are : AreWindowsOf config run (earlier ++ last))
       (well : AllByRecursion WentWell earlier) (one : length last ≤ 1) (served : ServedFromStart tells mode (earlier ++ last) before ps middle qs) (ends : EndsOn tells middle after) where
     locks_same : locks_of q.stations.items ≡ locks_of r.stations.items

@@ -77,8 +77,8 @@ module _ {D S : Type 0} (tells : Bool) (left : S → Option (List ℕ)) (config 
         can = subst (λ (x : Shared D). CanServe config x new.stations.items new.keepers.items) (sym new_shared)
             (subst (λ (x : Vec (Station D) Global). CanServe config old.shared x.items new.keepers.items) (sym new_stations)
             (subst (λ (x : Vec SpindlePass Global). CanServe config old.shared stations.items x.items) (sym new_keepers) (can_again config old.shared t stations.items session moved each)));
-        locks = subst (λ (x : Vec (Station D) Global). locks_of x.items ≡ before.locks.items) (sym new_stations)
-            (sym moved.locks ∙ ap (λ x. x.items) locks ∙ ap (λ (x : Floor D). x.locks.items) floor);
+        locks = subst (λ (x : Vec (Station D) Global). locks_of x.items ≡ before.locks.now) (sym new_stations)
+            (sym moved.locks ∙ ap (λ x. x.now) locks ∙ ap (λ (x : Floor D). x.locks.now) floor);
         same = subst (λ (x : Vec SpindlePass Global). AreSamePasses old.keepers.items x.items) (sym new_keepers) (subst (λ (x : Vec SpindlePass Global). AreSamePasses x.items t.keepers.items) keep same);
         served = subst (λ (x : Vec SpindlePass Global). MatchResult result (λ counted. ServesWhole tells left config options start now before old.keepers.items t.floor x.items counted faults faults' printed printed')
             (λ e. ServesSome tells left config options start e now before old.keepers.items t.floor x.items faults faults' printed printed')) (sym new_keepers)

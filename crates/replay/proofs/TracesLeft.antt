@@ -61,7 +61,7 @@ pub record LastServed {D : Type 0} (tells : Bool) (mode : Reclaim) (v : ℕ) (s 
   pub same : new.worker ≡ after.worker
 
 module _ {D : Type 0} (tells : Bool) (mode : Reclaim) (config : Config) (olds news : List (Station D)) (before middle after : Floor D) (ps qs : List _) (moved : IsMoved olds before) (back : IsMoved news after)
-    (locks : locks_of news ≡ before.locks.items) (count : length olds ≡ length (targets_of config)) (numbers : (v : ℕ) (s : Station D) → slice_get olds v ≡ Some s → AreNumbered s) (unused : AreUnused olds) (run : List (Option TraceLine)) (earlier last : List ServedWindow)
+    (locks : locks_of news ≡ before.locks.now) (count : length olds ≡ length (targets_of config)) (numbers : (v : ℕ) (s : Station D) → slice_get olds v ≡ Some s → AreNumbered s) (unused : AreUnused olds) (run : List (Option TraceLine)) (earlier last : List ServedWindow)
     (are : AreWindowsOf config run (earlier ++ last)) (well : AllByRecursion WentWell earlier) (one : length last ≤ 1) (served : ServedFromStart tells mode (earlier ++ last) before ps middle qs) (ends : EndsOn tells middle after) where
   same_count : length news ≡ length olds
   same_count = sym (length-map news (λ (s : Station D). s.lock)) ∙ ap length locks ∙ ap length moved.locks ∙ length-map olds (λ (s : Station D). s.lock)

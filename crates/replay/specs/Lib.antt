@@ -5,6 +5,7 @@ pub mod Endings
 pub mod Prints
 pub mod Served
 pub mod Sessions
+pub mod Leads
 pub mod Runs
 pub mod Histories
 pub mod Ended

@@ -7,9 +7,10 @@ use Rattle.logger.specs.declared.shared.Shared.{Shared}
 use Rattle.manager.specs.declared.station.Station.{Station}
 use Rattle.request_turns.specs.Helped.{ManagerLock}
 use Rattle.request_workers.specs.Begun.{SpindlePass, AreKeepers}
-use Rattle.request_workers.specs.Floors.{IsOn}
+use Rattle.request_workers.specs.Floors.{IsOn, passes_of}
 use Rattle.request_workers.specs.Stations.{AreStations, IsMoved}
 use Rattle.request_workers.specs.declared.floor.Floor.{Floor}
+use Rattle.request_workers.specs.declared.floor.Passes.{Passes}
 use Rattle.wol_config.specs.declared.config.Config.{Config}
 use Rattle.report.specs.declared.fault.Fault.{Fault}
 use Rattle.report.specs.declared.fault.Fault.TheVariants.{Memory}
@@ -36,6 +37,11 @@ pub record CanServe {D : Type 0} (config : Config) (shared : Shared D) (stations
   pub on : IsOn shared (locks_of stations)
   pub volumes : AreVolumes config (locks_of stations)
 
+-- a floor of these locks and passes
+pub record IsFloorOf {D : Type 0} (ls : List (ManagerLock D)) (p : Passes D) (f : Floor D) : Type 0 where
+  pub locks : f.locks.now ≡ ls
+  pub passes : passes_of f ≡ p
+
 -- a session on this floor, before its first window
 abbrev pub new_session : {D : Type 0} → Floor D → Vec SpindlePass Global → Session D
 new_session floor keepers = record { floor = floor; keepers = keepers; totals = no_totals; started = false }
@@ -48,7 +54,7 @@ module _ {D S : Type 0} (tells : Bool) (left : S → Option (List ℕ)) (config 
     pub after : Floor D
     pub moved_back : IsMoved new.stations.items after
     pub can : CanServe config new.shared new.stations.items new.keepers.items
-    pub locks : locks_of new.stations.items ≡ before.locks.items
+    pub locks : locks_of new.stations.items ≡ before.locks.now
     pub same : AreSamePasses old.keepers.items new.keepers.items
     pub served : MatchResult result (λ counted. ServesWhole tells left config options start now before old.keepers.items after new.keepers.items counted faults faults' printed printed')
         (λ e. ServesSome tells left config options start e now before old.keepers.items after new.keepers.items faults faults' printed printed')

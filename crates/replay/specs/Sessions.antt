@@ -51,13 +51,13 @@ pub record AreVolumes {D : Type 0} (config : Config) (ls : List (ManagerLock D))
 -- a floor on these shared locks, and the keepers of all their spindles
 pub record IsReady {D : Type 0} (shared : Shared D) (s : Session D) : Type 0 where
   pub floor_ : IsFloor s.floor
-  pub on : IsOn shared s.floor.locks.items
+  pub on : IsOn shared s.floor.locks.now
   pub keepers_ : AreKeepers shared s.keepers.items
 
 -- .. whose volumes are those of the configuration
 pub record IsSession {D : Type 0} (config : Config) (shared : Shared D) (s : Session D) : Type 0 where
   pub ready : IsReady shared s
-  pub volumes : AreVolumes config s.floor.locks.items
+  pub volumes : AreVolumes config s.floor.locks.now
 
 -- a window was begun at this moment
 pub record HasBegunWindow {D : Type 0} (tells : Bool) (moment : ℕ) (s n : Session D) : Type 0 where

@@ -1,8 +1,8 @@
 //! A trace, read or generated, is replayed on the volumes of a bay: its lines are cut into windows, each window is served, and
 //! at the end a summary says what was done and what the disks used.
 //!
-//! From the outside in: `run.rt` has the call: open, serve, close, print. `session.rt` serves the windows of a
-//! trace on a floor, `given.rt` gives the lines of a trace or of a seed, `counting.rt` and `ending.rt` say what a
+//! From the outside in: `run.rt` has the call: open, serve, close, print. `leading.rt` has the workers start, `session.rt` serves the
+//! windows of a trace on a floor, `given.rt` gives the lines of a trace or of a seed, `counting.rt` and `ending.rt` say what a
 //! window counts and ends a run with, `printing.rt` prints the lines of reads and the summary.
 //!
 //! Of `specs/`, read `Headline` first (what is read back and what is reopened) and then `Account` (placing, reclaim and
@@ -17,6 +17,7 @@ mod counting;
 mod ending;
 mod given;
 mod laws;
+mod leading;
 mod printing;
 mod run;
 mod session;

@@ -13,21 +13,25 @@ ghost use Rattle.replay.specs.Sessions.{AreOptions, IsSession};
 ghost use Rattle.replay.specs.Completes.{Completes, MayComplete};
 ghost use Rattle.replay.specs.Replays.{Replayed, status_in};
 ghost use Rattle.open_rack.specs.NotOpened.{first_closed};
-ghost use Rattle.replay.specs.Runs.{new_session, CanServe, ServesFrom, RunsIn};
+ghost use Rattle.replay.specs.Runs.{new_session, CanServe, IsFloorOf, ServesFrom, RunsIn};
+ghost use Rattle.request_workers.specs.declared.floor.Floor.{Floor};
 
 use crate::counting::Counted;
 use crate::given::Given;
+use crate::leading::serve_with_workers;
 use crate::printing::print_summary;
 use crate::session::{Options, Session};
 use crate::stop::Stop;
+use manager::Manager;
 use open_rack::first_closed;
 use rack::{Rack, close_all, open_all};
 use report::Fault;
-use request_workers::{Floor, Station, set_up, take_down};
+use request_workers::{Floor, Passes, Station, set_up, take_down};
 use std::alloc::Global;
 use std::mem;
 use std::sync::Wait;
 use std::thread::Threads;
+use turn_lock::TurnLock;
 use wol_bay::Bay;
 use wol_config::Config;
 use wol_disk::{Disk, NoMemory};
@@ -42,7 +46,7 @@ fn put_stations<D: Disk>(rack: &mut Rack<D>, stations: Vec<Station<D>>)
     none.destroy_empty();
 }
 
-// Serves a trace on a floor, and puts its stations back.
+// Serves a trace on a floor of these locks and passes, and puts the stations back.
 fn replay_on<D: Disk + Send, R: Threads + Wait + Sync, S: Source, K: Sink, G: Gate + Sync>(
     rt: &R,
     alloc: Global,
@@ -50,33 +54,48 @@ fn replay_on<D: Disk + Send, R: Threads + Wait + Sync, S: Source, K: Sink, G: Ga
     given: &mut Given<S>,
     options: Options,
     rack: &mut Rack<D>,
-    floor: Floor<D>,
+    volumes: (Vec<TurnLock<Manager<D>>>, Passes<D>),
     out: &mut K,
     gate: &G,
 ) -> Result<Counted, Stop>
     requires valid { IsValid config.now }
     requires options { AreOptions options }
     requires new { IsNew given.old }
-    requires session { IsSession config.now rack.old.shared (new_session floor rack.old.keepers) }
+    requires session { (floor : Floor _) → IsFloorOf volumes.0.items volumes.1 floor → IsSession config.now rack.old.shared (new_session floor rack.old.keepers) }
     requires none { rack.old.stations.items ≡ [] }
-    ensures served { ServesFrom D.tells S.left config.now options given.old given.new rack.old rack.new (K.faults out.old) (K.faults out.new) (K.taken out.old) (K.taken out.new) floor result }
+    ensures served { (floor : Floor _) × IsFloorOf volumes.0.items volumes.1 floor
+        × ServesFrom D.tells S.left config.now options given.old given.new rack.old rack.new (K.faults out.old) (K.faults out.new) (K.taken out.old) (K.taken out.new) floor result }
     ensures later { K.faults out.old ≤ K.faults out.new }
     ensures source_later { faults_of S.faults given.old ≤ faults_of S.faults given.new }
     ensures source { result ≡ Err (Stop.Fault Fault.TraceSource) → Rose (faults_of S.faults given.old) (faults_of S.faults given.new) }
     ensures same_borrow { borrow_of S.borrow given.new ≡ borrow_of S.borrow given.old }
     ensures within { IsWithin given.new }
 {
+    let (locks, passes) = volumes;
+    let floor = Floor::new(locks.as_slice(), passes);
     let keepers = mem::replace(&mut rack.keepers, Vec::new(alloc));
     let mut session = Session::new(floor, keepers);
-    let served = session.serve_all(rt, alloc, config, given, options, &rack.shared, out, gate);
+    let shared = &rack.shared;
+    let served = serve_with_workers(
+        rt,
+        alloc,
+        config,
+        options,
+        shared,
+        gate,
+        given,
+        out,
+        &mut session,
+    );
     let Session {
         floor,
         keepers,
         totals: _,
         started: _,
     } = session;
+    let passes = floor.leave();
     rack.keepers = keepers;
-    put_stations(rack, take_down(floor));
+    put_stations(rack, take_down(locks, passes));
     served
 }
 
@@ -108,7 +127,7 @@ fn replay_in<D: Disk + Send, R: Threads + Wait + Sync, S: Source, K: Sink, G: Ga
     }
     let stations = mem::replace(&mut rack.stations, Vec::new(alloc));
     match set_up(alloc, stations) {
-        Ok(floor) => replay_on(rt, alloc, config, given, options, rack, floor, out, gate),
+        Ok(volumes) => replay_on(rt, alloc, config, given, options, rack, volumes, out, gate),
         Err((stations, NoMemory)) => {
             put_stations(rack, stations);
             Err(Stop::Fault(Fault::Memory))

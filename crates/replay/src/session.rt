@@ -8,10 +8,11 @@ ghost use Rattle.msr_trace.specs.Lines.{Fits, trace_line};
 ghost use Rattle.trace_windows.specs.Cutting.{HasCut};
 ghost use Rattle.trace_windows.specs.Requests.{most_of, IsInside};
 ghost use Rattle.request_workers.specs.Begun.{AreKeepers};
+ghost use Rattle.request_workers.specs.Crews.{IsCrew};
 ghost use Rattle.replay.specs.Counts.{AddsAtMost, HasRoomFor, no_totals};
 ghost use Rattle.replay.specs.Givens.{IsNew, IsWithin, faults_of, borrow_of};
 ghost use Rattle.replay.specs.Served.{HaveStarted, AreSamePasses, StartsOnce};
-ghost use Rattle.replay.specs.Sessions.{AreOptions, EndsIn, Finishes, GoesOn, HasBegunWindow, HasTaken, StopsAtLine, TakesOn, IsReady, IsSession, ServesSome, ServesWhole};
+ghost use Rattle.replay.specs.Sessions.{EndsIn, Finishes, GoesOn, HasBegunWindow, HasTaken, StopsAtLine, TakesOn, IsReady, IsSession, ServesSome, ServesWhole};
 
 use crate::counting::{Counted, NOTHING, add_window};
 use crate::ending::fault_of_window;
@@ -21,11 +22,10 @@ use crate::stop::{Stop, fault_of_trace, is_memory};
 use logger::Shared;
 use msr_trace::Line;
 use report::{Fault, Totals};
-use request_workers::{Floor, Reclaim, Request, Sharing, Window, Workers, begin_window, calls};
+use request_workers::{Crew, Floor, Reclaim, Request, Sharing, Window, begin_window, calls};
 use spin_model::{Spindle, start_turn};
 use std::alloc::Global;
 use std::sync::Wait;
-use std::thread::Threads;
 use trace_windows::{Batch, Cutter, Tally};
 use turn_lock::Pass;
 use wol_config::Config;
@@ -45,8 +45,8 @@ pub struct Options {
 }
 
 /// What windows are served on, and what was counted of those that were.
-pub(crate) struct Session<D: Disk> {
-    pub floor: Floor<D>,
+pub(crate) struct Session<'l, D: Disk> {
+    pub floor: Floor<'l, D>,
     pub keepers: Vec<Pass<Spindle>>,
     pub totals: Totals,
     /// Whether the account has started.
@@ -94,9 +94,9 @@ fn finish<K: Sink>(
     }
 }
 
-impl<D: Disk> Session<D> {
-    pub(crate) fn new(floor: Floor<D>, keepers: Vec<Pass<Spindle>>) -> Session<D>
-        ensures { result ≡ record { floor = floor; keepers = keepers; totals = no_totals; started = false } }
+impl<'l, D: Disk> Session<'l, D> {
+    pub(crate) fn new(floor: Floor<'l, D>, keepers: Vec<Pass<Spindle>>) -> Session<'l, D>
+        ensures { result ≡ record { floor = floor.entry; keepers = keepers; totals = no_totals; started = false } }
     {
         Session {
             floor,
@@ -149,25 +149,24 @@ impl<D: Disk> Session<D> {
 
     // Serves a window: it is begun, its requests are run, the lines of its reads are printed where that is asked for, and then
     // the run ends where a request was refused.
-    fn serve<R: Threads + Wait + Sync, K: Sink, G: Gate + Sync>(
+    fn serve<R: Wait, K: Sink, G: Gate>(
         &mut self,
         rt: &R,
         alloc: Global,
         config: &Config,
         options: Options,
-        shared: &Shared<D>,
+        shared: &'l Shared<D>,
         batch: &Batch,
         out: &mut K,
-        gate: &G,
+        crew: &mut Crew<'_, 'l, D, G>,
     ) -> Result<(), Stop>
-    where
-        D: Send,
         requires valid { IsValid config.now }
-        requires options { AreOptions options }
         requires session { IsSession config.now shared.now self.old }
+        requires crew { IsCrew crew.old }
         requires inside { AllByRecursion (IsInside (most_of config.now) (targets_of config.now)) batch.now.requests }
         requires room { HasRoomFor 131073 self.old.totals }
         ensures session { IsSession config.now shared.now self.new }
+        ensures crew { IsCrew crew.new }
         ensures same { AreSamePasses self.old.keepers.items self.new.keepers.items }
         ensures locks { self.new.floor.locks ≡ self.old.floor.locks }
         ensures few { OnOk result (AddsAtMost 131073 self.old.totals self.new.totals) }
@@ -178,48 +177,42 @@ impl<D: Disk> Session<D> {
         ensures later { K.faults out.old ≤ K.faults out.new }
     {
         self.begin(rt, alloc, shared, batch.moment())?;
-        let workers = Workers {
-            count: options.workers,
-            sharing: options.sharing,
-        };
         let window = calls::window(
             rt,
             alloc,
             &mut self.floor,
             shared,
             batch.requests(),
-            workers,
+            crew,
             options.reclaim,
-            gate,
         )?;
         add_window(&mut self.totals, &window);
         finish(alloc, config, options, batch.requests(), &window, out)
     }
 
     // Takes a line, and serves the window that it makes whole, if it makes one whole.
-    fn take<R: Threads + Wait + Sync, K: Sink, G: Gate + Sync>(
+    fn take<R: Wait, K: Sink, G: Gate>(
         &mut self,
         rt: &R,
         alloc: Global,
         config: &Config,
         options: Options,
-        shared: &Shared<D>,
+        shared: &'l Shared<D>,
         cutter: &mut Cutter,
         line: Option<&Line>,
         out: &mut K,
-        gate: &G,
+        crew: &mut Crew<'_, 'l, D, G>,
     ) -> Result<(), Stop>
-    where
-        D: Send,
         requires valid { IsValid config.now }
-        requires options { AreOptions options }
         requires session { IsSession config.now shared.now self.old }
+        requires crew { IsCrew crew.old }
         requires lines { cutter.old.tally.lines < 2 ^ 32 }
         requires fits { IfSome line (λ l. Fits (trace_line l.now)) }
         // some lines were taken before
         requires cut { HasTaken config.now cutter.old }
         requires room { HasRoomFor 131073 self.old.totals }
         ensures session { IsSession config.now shared.now self.new }
+        ensures crew { IsCrew crew.new }
         ensures same { AreSamePasses self.old.keepers.items self.new.keepers.items }
         ensures locks { self.new.floor.locks ≡ self.old.floor.locks }
         ensures lines { OnOk result (cutter.new.tally.lines ≡ cutter.old.tally.lines + 1) }
@@ -233,31 +226,30 @@ impl<D: Disk> Session<D> {
     {
         if cutter.take(config, line)? {
             let batch = cutter.whole();
-            self.serve(rt, alloc, config, options, shared, batch, out, gate)?;
+            self.serve(rt, alloc, config, options, shared, batch, out, crew)?;
         }
         Ok(())
     }
 
     // Serves the last window, if the trace has one.
-    fn serve_last<R: Threads + Wait + Sync, K: Sink, G: Gate + Sync>(
+    fn serve_last<R: Wait, K: Sink, G: Gate>(
         &mut self,
         rt: &R,
         alloc: Global,
         config: &Config,
         options: Options,
-        shared: &Shared<D>,
+        shared: &'l Shared<D>,
         batch: &Batch,
         out: &mut K,
-        gate: &G,
+        crew: &mut Crew<'_, 'l, D, G>,
     ) -> Result<(), Stop>
-    where
-        D: Send,
         requires valid { IsValid config.now }
-        requires options { AreOptions options }
         requires session { IsSession config.now shared.now self.old }
+        requires crew { IsCrew crew.old }
         requires inside { AllByRecursion (IsInside (most_of config.now) (targets_of config.now)) batch.now.requests }
         requires room { HasRoomFor 131073 self.old.totals }
         ensures session { IsSession config.now shared.now self.new }
+        ensures crew { IsCrew crew.new }
         ensures same { AreSamePasses self.old.keepers.items self.new.keepers.items }
         ensures locks { self.new.floor.locks ≡ self.old.floor.locks }
         ensures ok { OnOk result (((batch.now.lines ≡ 0) × (self.new ≡ self.old) × (out.new ≡ out.old))
@@ -269,7 +261,7 @@ impl<D: Disk> Session<D> {
         if batch.lines() == 0 {
             return Ok(());
         }
-        self.serve(rt, alloc, config, options, shared, batch, out, gate)
+        self.serve(rt, alloc, config, options, shared, batch, out, crew)
     }
 
     // What was counted of the trace.
@@ -294,26 +286,25 @@ impl<D: Disk> Session<D> {
 
     /// Serves the windows of the lines that are given, each as soon as it is whole. Where no further line is given the last one
     /// is served too, but not where there is no memory for a line.
-    pub(crate) fn serve_all<R: Threads + Wait + Sync, S: Source, K: Sink, G: Gate + Sync>(
+    pub(crate) fn serve_all<R: Wait, S: Source, K: Sink, G: Gate>(
         &mut self,
         rt: &R,
         alloc: Global,
         config: &Config,
         given: &mut Given<S>,
         options: Options,
-        shared: &Shared<D>,
+        shared: &'l Shared<D>,
         out: &mut K,
-        gate: &G,
+        crew: &mut Crew<'_, 'l, D, G>,
     ) -> Result<Counted, Stop>
-    where
-        D: Send,
         requires valid { IsValid config.now }
-        requires options { AreOptions options }
         requires new { IsNew given.old }
         requires session { IsSession config.now shared.now self.old }
+        requires crew { IsCrew crew.old }
         requires started { self.old.started ≡ false }
         requires totals { self.old.totals ≡ no_totals }
         ensures session { IsSession config.now shared.now self.new }
+        ensures crew { IsCrew crew.new }
         ensures same { AreSamePasses self.old.keepers.items self.new.keepers.items }
         ensures locks { self.new.floor.locks ≡ self.old.floor.locks }
         ensures whole { IfOk result (λ counted. ServesWhole D.tells S.left config.now options given.old given.new self.old.floor self.old.keepers.items self.new.floor self.new.keepers.items
@@ -340,12 +331,12 @@ impl<D: Disk> Session<D> {
                         &mut cutter,
                         line,
                         out,
-                        gate,
+                        crew,
                     )?;
                 }
                 Ok(None) => {
                     let batch = cutter.current();
-                    self.serve_last(rt, alloc, config, options, shared, batch, out, gate)?;
+                    self.serve_last(rt, alloc, config, options, shared, batch, out, crew)?;
                     return Ok(self.counted(cutter.tally()));
                 }
                 Err(fault) => {
@@ -353,7 +344,7 @@ impl<D: Disk> Session<D> {
                         return Err(Stop::Fault(Fault::Memory));
                     }
                     let batch = cutter.current();
-                    self.serve_last(rt, alloc, config, options, shared, batch, out, gate)?;
+                    self.serve_last(rt, alloc, config, options, shared, batch, out, crew)?;
                     return Err(Stop::Fault(fault_of_trace(fault)));
                 }
             }

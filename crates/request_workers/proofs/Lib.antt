@@ -9,3 +9,5 @@ pub mod Moving
 pub mod Stationed
 pub mod Counted
 pub mod Totals
+mod Parts
+mod Crewing

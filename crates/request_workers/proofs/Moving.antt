@@ -3,9 +3,12 @@ use Rattle.std.proofs.Common.{rules, ◌≡◌, ◌≤◌, ◌+◌, ℕ, List, [
 use Rattle.std.proofs.lemmas.List.{map-append, reverse-append}
 use Rattle.std.proofs.lemmas.List.Elements.{All-append}
 use Rattle.request_workers.specs.declared.desk.Desk.{Desk}
+use Rattle.std.specs.declared.alloc.Global.{Global}
+use Rattle.std.specs.declared.vec.Vec.{Vec}
+use Rattle.request_turns.specs.Helped.{ManagerLock}
 use Rattle.manager.specs.declared.station.Station.{Station}
-use Rattle.request_workers.specs.declared.floor.Floor.{Floor}
-use Rattle.request_workers.specs.Stations.{IsMoving}
+use Rattle.request_workers.specs.declared.floor.Passes.{Passes}
+use Rattle.request_workers.specs.Stations.{AreMoving}
 
 -- a list of parts with one more
 pushed : {A B : Type 0} (f : A → B) (xs ys : List B) (ms : List A) (a : A) → xs ≡ map f ms → ys ≡ xs ++ f a ∷ [] → ys ≡ map f (ms ++ a ∷ [])
@@ -20,34 +23,34 @@ fits xs ys x rs ts r n m h e f c =
     let b : length rs ≡ length ts + 1 = ap length f ∙ length-append ts (r ∷ []) in omega arith
 
 -- the station s was taken of the room, and its parts were put into the lists
-pub record Moves {D : Type 0} (s : Station D) (d : Desk D) (f h : Floor D) : Type 0 where
+pub record Moves {D : Type 0} (s : Station D) (d : Desk D) (ls : Vec (ManagerLock D) Global) (f : Passes D) (ms : Vec (ManagerLock D) Global) (h : Passes D) : Type 0 where
   pub room : f.room.items ≡ h.room.items ++ s ∷ []
-  pub locks : h.locks.items ≡ f.locks.items ++ s.lock ∷ []
+  pub locks : ms.items ≡ ls.items ++ s.lock ∷ []
   pub desks : h.desks.items ≡ f.desks.items ++ d ∷ []
   pub helpers : h.helpers.items ≡ f.helpers.items ++ s.helper ∷ []
   pub keepers : h.keepers.items ≡ f.keepers.items ++ s.keeper ∷ []
   pub id : d.id ≡ s.id
   pub worker : d.worker ≡ s.worker
   pub empty : d.outcomes.items ≡ []
-  pub lock_room : vec_capacity h.locks ≡ vec_capacity f.locks
+  pub lock_room : vec_capacity ms ≡ vec_capacity ls
   pub desk_room : vec_capacity h.desks ≡ vec_capacity f.desks
   pub helper_room : vec_capacity h.helpers ≡ vec_capacity f.helpers
   pub keeper_room : vec_capacity h.keepers ≡ vec_capacity f.keepers
   pub station_room : vec_capacity h.room ≡ vec_capacity f.room
 
-pub moving_more : {D : Type 0} (ss : List (Station D)) (s : Station D) (d : Desk D) (f h : Floor D) → IsMoving ss f → Moves s d f h → IsMoving ss h
-moving_more {D} ss s d f h m v = record {
+pub moving_more : {D : Type 0} (ss : List (Station D)) (s : Station D) (d : Desk D) (ls : Vec (ManagerLock D) Global) (f : Passes D) (ms : Vec (ManagerLock D) Global) (h : Passes D) → AreMoving ss ls f → Moves s d ls f ms h → AreMoving ss ms h
+moving_more {D} ss s d ls f ms h m v = record {
   done = m.done ++ s ∷ [];
   parts = m.parts ∙ (ap (λ t. m.done ++ t) (ap reverse v.room ∙ reverse-append h.room.items (s ∷ [])) ∙ sym (append_assoc m.done (s ∷ []) (reverse h.room.items)));
   moved = record {
-    locks = pushed (λ (x : Station D). x.lock) f.locks.items h.locks.items m.done s m.moved.locks v.locks;
+    locks = pushed (λ (x : Station D). x.lock) ls.items ms.items m.done s m.moved.locks v.locks;
     ids = mapped (λ (x : Desk D). x.id) (λ (x : Station D). x.id) f.desks.items h.desks.items m.done d s m.moved.ids v.desks v.id;
     workers = mapped (λ (x : Desk D). x.worker) (λ (x : Station D). x.worker) f.desks.items h.desks.items m.done d s m.moved.workers v.desks v.worker;
     helpers = pushed (λ (x : Station D). x.helper) f.helpers.items h.helpers.items m.done s m.moved.helpers v.helpers;
     keepers = pushed (λ (x : Station D). x.keeper) f.keepers.items h.keepers.items m.done s m.moved.keepers v.keepers;
   };
   empty = let one : All (λ (x : Desk D). x.outcomes.items ≡ []) (d ∷ []) = (let e = v.empty in search rules) in rw v.desks (All-append (λ (x : Desk D). x.outcomes.items ≡ []) f.desks.items (d ∷ []) m.empty one);
-  lock_room = fits f.locks.items h.locks.items s.lock f.room.items h.room.items s _ _ m.lock_room v.locks v.room v.lock_room;
+  lock_room = fits ls.items ms.items s.lock f.room.items h.room.items s _ _ m.lock_room v.locks v.room v.lock_room;
   desk_room = fits f.desks.items h.desks.items d f.room.items h.room.items s _ _ m.desk_room v.desks v.room v.desk_room;
   helper_room = fits f.helpers.items h.helpers.items s.helper f.room.items h.room.items s _ _ m.helper_room v.helpers v.room v.helper_room;
   keeper_room = fits f.keepers.items h.keepers.items s.keeper f.room.items h.room.items s _ _ m.keeper_room v.keepers v.room v.keeper_room;

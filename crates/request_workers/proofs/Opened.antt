@@ -18,11 +18,11 @@ module _ {D : Type 0} (shared : Shared D) (n : ℕ) where
   below is (b ∷ bs) each = ((let lt = each.0.spindle_in in omega (arith, lt, is)), below is bs each.1)
 
 -- there are no more volumes than spindles
-pub counted : {D : Type 0} (f : Floor D) (fl : IsFloor f) (shared : Shared D) (n : ℕ) → IsOn shared f.locks.items → vec_len shared.spindles ≡ n → length f.keepers.items ≤ n
+pub counted : {D : Type 0} (f : Floor D) (fl : IsFloor f) (shared : Shared D) (n : ℕ) → IsOn shared f.locks.now → vec_len shared.spindles ≡ n → length f.keepers.items ≤ n
 counted f fl shared n on is = elim (cases_lt n (length f.keepers.items)) [
   | inl more ↦ absurd (
-      let inside : n < length f.locks.items = (let same = fl.keepers in omega (arith, same, more)) in
-      let l = there_is f.locks.items n inside in
+      let inside : n < length f.locks.now = (let same = fl.keepers in omega (arith, same, more)) in
+      let l = there_is f.locks.now n inside in
       let own = fl.owners n l.0 inside in
       let lt = (on n l.0 inside).spindle_in in omega (arith, own, lt, is))
   | inr le ↦ le
@@ -31,12 +31,12 @@ counted f fl shared n on is = elim (cases_lt n (length f.keepers.items)) [
 module _ {D : Type 0} (f : Floor D) (fl : IsFloor f) (k : ℕ) (d : ManagerPass D) (within : k < length f.keepers.items) where
   pub owned : (pass_lock (slice_index_or f.keepers.items k d)).base.volume.began.owner ≡ k
   owned =
-      let inside : k < length f.locks.items = (let same = fl.keepers in omega (arith, same, within)) in
-      let l = there_is f.locks.items k inside in
+      let inside : k < length f.locks.now = (let same = fl.keepers in omega (arith, same, within)) in
+      let l = there_is f.locks.now k inside in
       ap (λ i. i.base.volume.began.owner) (fl.keep k l.0 d within).own ∙ fl.owners k l.0 inside
 
-  pub viewed : (shared : Shared D) (n : ℕ) → IsOn shared f.locks.items → vec_len shared.spindles ≡ n → AllByRecursion (λ (b : LaneBase). b.logger < n) (pass_lock (slice_index_or f.keepers.items k d)).base.lanes
+  pub viewed : (shared : Shared D) (n : ℕ) → IsOn shared f.locks.now → vec_len shared.spindles ≡ n → AllByRecursion (λ (b : LaneBase). b.logger < n) (pass_lock (slice_index_or f.keepers.items k d)).base.lanes
   viewed shared n on is =
-      let inside : k < length f.locks.items = (let same = fl.keepers in omega (arith, same, within)) in
-      let l = there_is f.locks.items k inside in
+      let inside : k < length f.locks.now = (let same = fl.keepers in omega (arith, same, within)) in
+      let l = there_is f.locks.now k inside in
       subst (λ i. AllByRecursion (λ (b : LaneBase). b.logger < n) i.base.lanes) (sym (fl.keep k l.0 d within).own) (below shared n is _ (on k l.0 inside).lanes)

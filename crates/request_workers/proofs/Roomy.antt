@@ -111,15 +111,15 @@ module _ {D : Type 0} (tells : Bool) (rs : List Request) (os : List Outcome) (mo
   pub floor_after : (f g : Floor D) → IsFloor f → g.locks ≡ f.locks → g.keepers ≡ f.keepers → g.room ≡ f.room → length g.desks.items ≡ length f.desks.items → length g.helpers.items ≡ length f.helpers.items
       → AreWorked tells rs os mode f.desks.items g.desks.items → HelpedIn tells mode f.helpers.items g.helpers.items → IsFloor g
   floor_after f g is locks keepers room desks helpers worked helped =
-      let same : length g.locks.items ≡ length f.locks.items = ap (λ v. length v.items) locks in record {
+      let same : length g.locks.now ≡ length f.locks.now = ap (λ v. length v.now) locks in record {
         desks = desks ∙ (is.desks ∙ sym same);
         helpers = helpers ∙ (is.helpers ∙ sym same);
         keepers = ap (λ v. length v.items) keepers ∙ (is.keepers ∙ sym same);
         numbered = λ k d h. let i = subst (λ n. k < n) desks h in (worked k d i).id ∙ is.numbered k d i;
         owners = rw locks is.owners;
-        workers = λ k l d h. let i = subst (λ n. k < n) desks h in rw locks (pass_after (get_or f.locks.items k l) k (get_or f.desks.items k d) (get_or g.desks.items k d) (worked k d i) (is.workers k l d i));
+        workers = λ k l d h. let i = subst (λ n. k < n) desks h in rw locks (pass_after (get_or f.locks.now k l) k (get_or f.desks.items k d) (get_or g.desks.items k d) (worked k d i) (is.workers k l d i));
         empty = λ k d h. (worked k d (subst (λ n. k < n) desks h)).empty;
-        help = rw locks (helped_passes f.locks.items mode f.helpers.items g.helpers.items helpers helped is.help);
+        help = rw locks (helped_passes f.locks.now mode f.helpers.items g.helpers.items helpers helped is.help);
         keep = rw (locks, keepers) is.keep;
         left = rw room is.left;
         room = rw (locks, room) is.room;
@@ -128,7 +128,7 @@ module _ {D : Type 0} (tells : Bool) (rs : List Request) (os : List Outcome) (mo
 -- a floor with more room is one
 pub floor_same : {D : Type 0} (f g : Floor D) → IsFloor f → g.locks ≡ f.locks → g.helpers ≡ f.helpers → g.keepers ≡ f.keepers → g.room ≡ f.room → length g.desks.items ≡ length f.desks.items → AreSameButRoom f.desks.items g.desks.items → IsFloor g
 floor_same f g is locks helpers keepers room desks same =
-    let count : length g.locks.items ≡ length f.locks.items = ap (λ v. length v.items) locks in record {
+    let count : length g.locks.now ≡ length f.locks.now = ap (λ v. length v.now) locks in record {
       desks = desks ∙ (is.desks ∙ sym count);
       helpers = ap (λ v. length v.items) helpers ∙ (is.helpers ∙ sym count);
       keepers = ap (λ v. length v.items) keepers ∙ (is.keepers ∙ sym count);

@@ -1,12 +1,13 @@
--- A floor made of stations is one, and so are the stations of a floor.
+-- Locks and passes made of stations are whole, and so are the stations of these.
 use Rattle.std.proofs.Common.{◌≡◌, ◌<◌, ℕ, List, [], ◌∷◌, ◌++◌, map, reverse, length, get_or, refl, ap, ◌∙◌, sym, subst, arith}
 use Rattle.std.proofs.lemmas.List.{get_or-map, length-map}
 use Rattle.std.proofs.lemmas.List.Elements.{All-get_or}
+use Rattle.request_turns.specs.Helped.{ManagerLock}
 use Rattle.request_workers.specs.declared.desk.Desk.{Desk}
 use Rattle.manager.specs.declared.station.Station.{Station}
-use Rattle.request_workers.specs.declared.floor.Floor.{Floor}
-use Rattle.request_workers.specs.Stations.{IsLeaving, IsMoved, IsSetUp, AreStations}
-use Rattle.request_workers.specs.Floors.{IsFloor}
+use Rattle.request_workers.specs.declared.floor.Passes.{Passes}
+use Rattle.request_workers.specs.Stations.{AreLeaving, AreMoved, AreSetUp, AreStations}
+use Rattle.request_workers.specs.Floors.{AreWhole}
 
 some_of : {A : Type 0} (xs : List A) (k : ℕ) → k < length xs → A
 some_of [] k h = absurd (omega (arith, h))
@@ -19,8 +20,8 @@ shown g f xs ys k a c e h i = let b = f a in sym (get_or-map g ys k c b i) ∙ (
 moved_to : {A B : Type 0} (f : A → B) (xs : List A) (ys : List B) (k : ℕ) (a : A) (b : B) → ys ≡ map f xs → k < length xs → get_or ys k b ≡ f (get_or xs k a)
 moved_to f xs ys k a b e h = ap (λ t. get_or t k b) e ∙ get_or-map f xs k a b h
 
-module _ {D : Type 0} (ss : List (Station D)) (f : Floor D) (m : IsMoved ss f) where
-  lock_count : length f.locks.items ≡ length ss
+module _ {D : Type 0} (ss : List (Station D)) (ls : List (ManagerLock D)) (f : Passes D) (m : AreMoved ss ls f) where
+  lock_count : length ls ≡ length ss
   lock_count = ap length m.locks ∙ length-map ss (λ (s : Station D). s.lock)
 
   desk_count : length f.desks.items ≡ length ss
@@ -32,39 +33,39 @@ module _ {D : Type 0} (ss : List (Station D)) (f : Floor D) (m : IsMoved ss f) w
   keeper_count : length f.keepers.items ≡ length ss
   keeper_count = ap length m.keepers ∙ length-map ss (λ (s : Station D). s.keeper)
 
-pub floor_of : {D : Type 0} (ss : List (Station D)) (f : Floor D) → IsSetUp ss f → AreStations ss → IsFloor f
-floor_of {D} ss f set a =
+pub whole_of : {D : Type 0} (ss : List (Station D)) (ls : List (ManagerLock D)) (f : Passes D) → AreSetUp ss ls f → AreStations ss → AreWhole ls f
+whole_of {D} ss ls f set a =
     let m = set.moved in
     record {
-      desks = desk_count ss f m ∙ sym (lock_count ss f m);
-      helpers = helper_count ss f m ∙ sym (lock_count ss f m);
-      keepers = keeper_count ss f m ∙ sym (lock_count ss f m);
-      numbered = λ k d h. let i = subst (λ n. k < n) (desk_count ss f m) h in let s = some_of ss k i in
+      desks = desk_count ss ls f m ∙ sym (lock_count ss ls f m);
+      helpers = helper_count ss ls f m ∙ sym (lock_count ss ls f m);
+      keepers = keeper_count ss ls f m ∙ sym (lock_count ss ls f m);
+      numbered = λ k d h. let i = subst (λ n. k < n) (desk_count ss ls f m) h in let s = some_of ss k i in
           shown (λ (x : Desk D). x.id) (λ (x : Station D). x.id) ss f.desks.items k s d m.ids i h ∙ (a k s i).id;
-      owners = λ k l h. let i = subst (λ n. k < n) (lock_count ss f m) h in let s = some_of ss k i in
-          rw (moved_to (λ (x : Station D). x.lock) ss f.locks.items k s l m.locks i) (a k s i).owner;
-      workers = λ k l d h. let i = subst (λ n. k < n) (desk_count ss f m) h in let s = some_of ss k i in
-          rw (moved_to (λ (x : Station D). x.lock) ss f.locks.items k s l m.locks i, shown (λ (x : Desk D). x.worker) (λ (x : Station D). x.worker) ss f.desks.items k s d m.workers i h) (a k s i).worker_;
+      owners = λ k l h. let i = subst (λ n. k < n) (lock_count ss ls f m) h in let s = some_of ss k i in
+          rw (moved_to (λ (x : Station D). x.lock) ss ls k s l m.locks i) (a k s i).owner;
+      workers = λ k l d h. let i = subst (λ n. k < n) (desk_count ss ls f m) h in let s = some_of ss k i in
+          rw (moved_to (λ (x : Station D). x.lock) ss ls k s l m.locks i, shown (λ (x : Desk D). x.worker) (λ (x : Station D). x.worker) ss f.desks.items k s d m.workers i h) (a k s i).worker_;
       empty = λ k d h. All-get_or (λ (x : Desk D). x.outcomes.items ≡ []) f.desks.items k d h set.empty;
-      help = λ k l d h. let i = subst (λ n. k < n) (helper_count ss f m) h in let s = some_of ss k i in
-          rw (moved_to (λ (x : Station D). x.lock) ss f.locks.items k s l m.locks i, moved_to (λ (x : Station D). x.helper) ss f.helpers.items k s d m.helpers i) (a k s i).helper_;
-      keep = λ k l d h. let i = subst (λ n. k < n) (keeper_count ss f m) h in let s = some_of ss k i in
-          rw (moved_to (λ (x : Station D). x.lock) ss f.locks.items k s l m.locks i, moved_to (λ (x : Station D). x.keeper) ss f.keepers.items k s d m.keepers i) (a k s i).keeper_;
+      help = λ k l d h. let i = subst (λ n. k < n) (helper_count ss ls f m) h in let s = some_of ss k i in
+          rw (moved_to (λ (x : Station D). x.lock) ss ls k s l m.locks i, moved_to (λ (x : Station D). x.helper) ss f.helpers.items k s d m.helpers i) (a k s i).helper_;
+      keep = λ k l d h. let i = subst (λ n. k < n) (keeper_count ss ls f m) h in let s = some_of ss k i in
+          rw (moved_to (λ (x : Station D). x.lock) ss ls k s l m.locks i, moved_to (λ (x : Station D). x.keeper) ss f.keepers.items k s d m.keepers i) (a k s i).keeper_;
       left = set.left;
-      room = let count = lock_count ss f m in let room = set.room in omega arith;
+      room = let count = lock_count ss ls f m in let room = set.room in omega arith;
     }
 
-pub stations_of : {D : Type 0} (ss : List (Station D)) (f : Floor D) → IsMoved ss f → IsFloor f → AreStations ss
-stations_of {D} ss f m is k s h =
-    let locks = subst (λ n. k < n) (sym (lock_count ss f m)) h in
-    let desks = subst (λ n. k < n) (sym (desk_count ss f m)) h in
-    let helpers = subst (λ n. k < n) (sym (helper_count ss f m)) h in
-    let keepers = subst (λ n. k < n) (sym (keeper_count ss f m)) h in
+pub stations_of : {D : Type 0} (ss : List (Station D)) (ls : List (ManagerLock D)) (f : Passes D) → AreMoved ss ls f → AreWhole ls f → AreStations ss
+stations_of {D} ss ls f m is k s h =
+    let locks = subst (λ n. k < n) (sym (lock_count ss ls f m)) h in
+    let desks = subst (λ n. k < n) (sym (desk_count ss ls f m)) h in
+    let helpers = subst (λ n. k < n) (sym (helper_count ss ls f m)) h in
+    let keepers = subst (λ n. k < n) (sym (keeper_count ss ls f m)) h in
     let d = some_of f.desks.items k desks in
-    let l = some_of f.locks.items k locks in
+    let l = some_of ls k locks in
     let helper = some_of f.helpers.items k helpers in
     let keeper = some_of f.keepers.items k keepers in
-    let lock_is = moved_to (λ (x : Station D). x.lock) ss f.locks.items k s l m.locks h in
+    let lock_is = moved_to (λ (x : Station D). x.lock) ss ls k s l m.locks h in
     record {
       id = sym (shown (λ (x : Desk D). x.id) (λ (x : Station D). x.id) ss f.desks.items k s d m.ids h desks) ∙ is.numbered k d desks;
       owner = rw (← lock_is) (is.owners k l locks);
@@ -81,11 +82,11 @@ front_gone : {A : Type 0} (xs front back : List A) → xs ≡ front ++ back → 
 front_gone {A} xs front back e none = e ∙ ap (λ (ys : List A). ys ++ back) none
 
 -- all stations are made
-pub moved_of : {D : Type 0} (f g : Floor D) → IsLeaving f g → length g.locks.items ≡ 0 → IsMoved (reverse g.room.items) f
-moved_of {D} f g l none =
+pub moved_of : {D : Type 0} (ls : List (ManagerLock D)) (f : Passes D) (ms : List (ManagerLock D)) (g : Passes D) → AreLeaving ls f ms g → length ms ≡ 0 → AreMoved (reverse g.room.items) ls f
+moved_of {D} ls f ms g l none =
     let desks = empty_of g.desks.items (l.desk_count ∙ none) in
     record {
-      locks = front_gone f.locks.items g.locks.items (map (λ (s : Station D). s.lock) (reverse g.room.items)) l.locks (empty_of g.locks.items none);
+      locks = front_gone ls ms (map (λ (s : Station D). s.lock) (reverse g.room.items)) l.locks (empty_of ms none);
       ids = front_gone (map (λ (d : Desk D). d.id) f.desks.items) (map (λ (d : Desk D). d.id) g.desks.items) (map (λ (s : Station D). s.id) (reverse g.room.items)) l.ids (ap (map (λ (d : Desk D). d.id)) desks);
       workers = front_gone (map (λ (d : Desk D). d.worker) f.desks.items) (map (λ (d : Desk D). d.worker) g.desks.items) (map (λ (s : Station D). s.worker) (reverse g.room.items)) l.workers (ap (map (λ (d : Desk D). d.worker)) desks);
       helpers = front_gone f.helpers.items g.helpers.items (map (λ (s : Station D). s.helper) (reverse g.room.items)) l.helpers (empty_of g.helpers.items (l.helper_count ∙ none));

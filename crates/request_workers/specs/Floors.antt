@@ -16,6 +16,7 @@ use Rattle.request_workers.specs.Requests.{AreWithin}
 use Rattle.request_workers.specs.Worked.{AreWorked, HelpedIn, first_fault}
 use Rattle.request_workers.specs.declared.desk.Desk.{Desk}
 use Rattle.request_workers.specs.declared.floor.Floor.{Floor}
+use Rattle.request_workers.specs.declared.floor.Passes.{Passes}
 use Rattle.trace_windows.specs.declared.request.Request.{Request}
 use Rattle.request_workers.specs.declared.request.Reclaim.{Reclaim}
 use Rattle.request_workers.specs.declared.request.Window.{Window}
@@ -25,18 +26,26 @@ abbrev pub AreOwners : {D : Type 0} → List (ManagerLock D) → Type 0
 AreOwners {D} ls = (k : ℕ) (l : ManagerLock D) → k < length ls → (lock_id (slice_index_or ls k l)).base.volume.began.owner ≡ k
 
 -- a desk, a helper and a keeper for each lock, each the pass of its volume's lock with its number, in no turn
-pub record IsFloor {D : Type 0} (f : Floor D) : Type 0 where
-  pub desks : length f.desks.items ≡ length f.locks.items
-  pub helpers : length f.helpers.items ≡ length f.locks.items
-  pub keepers : length f.keepers.items ≡ length f.locks.items
-  pub numbered : AreNumbered f.desks.items
-  pub owners : AreOwners f.locks.items
-  pub workers : AreAt f.locks.items f.desks.items
-  pub empty : AreEmpty f.desks.items
-  pub help : ArePassesAt f.locks.items helper f.helpers.items
-  pub keep : ArePassesAt f.locks.items keeper f.keepers.items
-  pub left : f.room.items ≡ []
-  pub room : length f.locks.items ≤ vec_capacity f.room
+pub record AreWhole {D : Type 0} (ls : List (ManagerLock D)) (p : Passes D) : Type 0 where
+  pub desks : length p.desks.items ≡ length ls
+  pub helpers : length p.helpers.items ≡ length ls
+  pub keepers : length p.keepers.items ≡ length ls
+  pub numbered : AreNumbered p.desks.items
+  pub owners : AreOwners ls
+  pub workers : AreAt ls p.desks.items
+  pub empty : AreEmpty p.desks.items
+  pub help : ArePassesAt ls helper p.helpers.items
+  pub keep : ArePassesAt ls keeper p.keepers.items
+  pub left : p.room.items ≡ []
+  pub room : length ls ≤ vec_capacity p.room
+
+-- what a floor has beside its locks
+abbrev pub passes_of : {D : Type 0} → Floor D → Passes D
+passes_of {D} f = record { desks = f.desks; helpers = f.helpers; keepers = f.keepers; help = f.help; room = f.room }
+
+-- so it is on a floor
+abbrev pub IsFloor : {D : Type 0} → Floor D → Type 0
+IsFloor {D} f = AreWhole f.locks.now (passes_of f)
 
 -- its managers use these shared locks
 abbrev pub IsOn : {D : Type 0} → Shared D → List (ManagerLock D) → Type 0

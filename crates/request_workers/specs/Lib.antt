@@ -10,3 +10,6 @@ pub mod Worked
 pub mod Floors
 pub mod Stations
 pub mod Begun
+pub mod Jobs
+pub mod Crews
+pub mod Shares

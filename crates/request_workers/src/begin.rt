@@ -70,16 +70,16 @@ fn begin_volumes<R: Wait, D: Disk>(
 /// Begins a window at the moment `t`, in 100 ns: every spindle in order, and then every manager with the states found. The
 /// passes in `keepers` are one for each spindle, in order. After `NoMemory` the spindles before the one that had none have
 /// begun, and nothing else changed.
-pub fn begin_window<D: Disk, R: Wait>(
+pub fn begin_window<'l, D: Disk, R: Wait>(
     rt: &R,
     alloc: Global,
-    floor: &mut Floor<D>,
+    floor: &mut Floor<'l, D>,
     shared: &Shared<D>,
     keepers: &mut [Pass<Spindle>],
     t: u64,
 ) -> Result<(), NoMemory>
     requires floor { IsFloor floor.old }
-    requires shared { IsOn shared.now floor.old.locks.items }
+    requires shared { IsOn shared.now floor.old.locks.now }
     requires keepers { AreKeepers shared.now keepers.old }
     ensures floor { IsFloor floor.new }
     ensures keepers { AreKeepers shared.now keepers.new }
@@ -92,7 +92,7 @@ pub fn begin_window<D: Disk, R: Wait>(
     begin_spindles(rt, shared.spindles.as_slice(), keepers, t, &mut awake)?;
     begin_volumes(
         rt,
-        floor.locks.as_slice(),
+        floor.locks,
         floor.keepers.as_mut_slice(),
         awake.as_slice(),
     );

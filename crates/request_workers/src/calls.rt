@@ -1,24 +1,24 @@
 // Windows over a floor.
 ghost use Rattle.std.specs.Prelude.{◌≡◌, ◌≤◌, ◌<◌, ◌^◌, [], ℕ, List, map, length, vec_len, vec_capacity, slice_index_or, sum_by, OnOk, OnErr, IfOk};
 ghost use Rattle.request_turns.specs.Counts.{CountsMore};
+ghost use Rattle.request_workers.specs.Crews.{IsCrew};
 ghost use Rattle.request_workers.specs.Floors.{IsFloor, IsOn, AreInside, HasRun, IsAsItWas};
 ghost use Rattle.request_workers.specs.Requests.{AreOfVolumes};
 ghost use Rattle.request_workers.specs.Worked.{first_fault};
 ghost use Rattle.request_workers.specs.declared.desk.Desk.{Desk};
 
+use crate::crew::Crew;
 use crate::desk::Desk;
 use crate::floor::Floor;
 use crate::hand_out::hand_out;
 use crate::helper::HelperRoom;
-use crate::request::{Reclaim, Window, Workers};
-use crate::run::hands_for;
+use crate::request::{Reclaim, Window};
 use crate::slices::run_window;
 use logger::Shared;
 use manager::StepFault;
 use request_turns::Tally;
 use std::alloc::Global;
 use std::sync::Wait;
-use std::thread::Threads;
 use trace_windows::Request;
 use wol_disk::{Disk, NoMemory};
 use wol_io::Gate;
@@ -48,30 +48,30 @@ fn refused_turn<D: Disk>(desks: &[Desk<D>]) -> Option<(u32, StepFault)>
 }
 
 /// Runs one window of requests: each volume's in order, the volumes cut in order into runs of as many as their number
-/// divided by the workers' count, rounded up, and each run by a worker of its own, or all by the caller alone, as
-/// `Sharing` says. After the first request of a volume that isn't answered its later ones are not run. The gate is passed
-/// before each request that is run, in no turn.
+/// divided by the workers' count, rounded up, and each run by a worker of the crew, or all by the caller alone, as
+/// `Sharing` says. The caller serves a run too, and those whose worker is not there. After the first request of a volume that
+/// isn't answered its later ones are not run. The gate is passed before each request that is run, in no turn.
 ///
-/// In mode `Between` each volume in order has one reclaim turn after the requests. In mode `Beside` a helper reclaims beside
+/// In mode `Between` each volume in order has one reclaim turn after the requests. In mode `Beside` the caller reclaims beside
 /// the workers too, a step on each volume at a time, until a round of steps did nothing, and at most in as many rounds as
 /// there are requests and one more. `NoMemory` comes before a request is run.
-pub fn window<D: Disk + Send, G: Gate + Sync, R: Threads + Wait + Sync>(
+pub fn window<'e, 'l, D: Disk, G: Gate, R: Wait>(
     rt: &R,
     alloc: Global,
-    floor: &mut Floor<D>,
-    shared: &Shared<D>,
+    floor: &mut Floor<'l, D>,
+    shared: &'l Shared<D>,
     requests: &[Request],
-    workers: Workers,
+    crew: &mut Crew<'e, 'l, D, G>,
     reclaim: Reclaim,
-    gate: &G,
 ) -> Result<Window, NoMemory>
     requires floor { IsFloor floor.old }
-    requires shared { IsOn shared.now floor.old.locks.items }
-    requires workers { (1 ≤ workers.count) × (workers.count ≤ 64) }
-    requires volumes { AreOfVolumes (vec_len floor.old.locks) requests.now }
-    requires within { AreInside floor.old.locks.items requests.now }
-    requires few { vec_len floor.old.locks ≤ 2 ^ 32 }
+    requires shared { IsOn shared.now floor.old.locks.now }
+    requires crew { IsCrew crew.old }
+    requires volumes { AreOfVolumes (length floor.old.locks.now) requests.now }
+    requires within { AreInside floor.old.locks.now requests.now }
+    requires few { length floor.old.locks.now ≤ 2 ^ 32 }
     ensures floor { IsFloor floor.new }
+    ensures crew { IsCrew crew.new }
     ensures run { IfOk result (HasRun D.tells requests.now reclaim floor.old floor.new) }
     ensures unchanged { OnErr result (IsAsItWas floor.old floor.new) }
 {
@@ -79,20 +79,7 @@ pub fn window<D: Disk + Send, G: Gate + Sync, R: Threads + Wait + Sync>(
     hand_out(floor.desks.as_mut_slice(), requests)?;
     floor.help.tally = Tally::new();
     floor.help.fault = None;
-    let hands = hands_for(workers, floor.desks.len(), requests);
-    run_window(
-        rt,
-        floor.locks.as_slice(),
-        shared,
-        floor.desks.as_mut_slice(),
-        floor.helpers.as_mut_slice(),
-        &mut floor.help,
-        hands,
-        requests,
-        reclaim,
-        gate,
-        &mut outcomes,
-    );
+    run_window(rt, floor, shared, crew, requests, reclaim, &mut outcomes);
     let tally = reclaimed(floor.desks.as_slice(), &floor.help);
     let refused = refused_turn(floor.desks.as_slice());
     let fault = floor.help.fault.or(refused);

@@ -15,7 +15,7 @@ pub enum Reclaim {
 /// Which windows are served by workers.
 #[derive(Clone, Copy, Debug, PartialEq, Eq)]
 pub enum Sharing {
-    /// Those that have enough requests, of more than one volume, for threads to pay. The caller alone serves the others, and
+    /// Those that have enough requests, of more than one volume, for workers to pay. The caller alone serves the others, and
     /// in mode `Beside` makes the helper's rounds after their requests.
     WherePays,
     /// All of them.

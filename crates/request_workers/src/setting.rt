@@ -1,15 +1,16 @@
-// Stations into a floor, and back.
+// Stations into their locks and passes, and back.
 ghost use Rattle.std.specs.Prelude.{◌≡◌, ◌≤◌, ◌<◌, [], ℕ, List, map, length, vec_len, vec_capacity, IfOk, IfErr};
-ghost use Rattle.request_workers.specs.Stations.{IsSetUp, IsMoved, AreStations};
-ghost use Rattle.request_workers.specs.Floors.{IsFloor};
+ghost use Rattle.request_workers.specs.Floors.{AreWhole};
+ghost use Rattle.request_workers.specs.Stations.{AreMoved, AreSetUp, AreStations};
 
 use crate::desk::Desk;
-use crate::floor::Floor;
+use crate::floor::Passes;
 use crate::helper::HelperRoom;
-use manager::Station;
+use manager::{Manager, Station};
 use reclaimer::Fetch;
 use request_turns::{Payload, Tally};
 use std::alloc::Global;
+use turn_lock::TurnLock;
 use wol_disk::{Disk, NoMemory};
 
 // What a desk takes memory for.
@@ -33,14 +34,19 @@ fn make_tools(alloc: Global, count: usize) -> Result<Vec<Tools>, NoMemory>
     Ok(tools)
 }
 
-fn move_all<D: Disk>(alloc: Global, floor: &mut Floor<D>, mut tools: Vec<Tools>)
-    requires tools { vec_len tools ≡ vec_len floor.old.room }
-    requires room { (vec_len floor.old.room ≤ vec_capacity floor.old.locks) × (vec_len floor.old.room ≤ vec_capacity floor.old.desks) × (vec_len floor.old.room ≤ vec_capacity floor.old.helpers) × (vec_len floor.old.room ≤ vec_capacity floor.old.keepers) }
-    requires empty { (floor.old.locks.items ≡ []) × (floor.old.desks.items ≡ []) × (floor.old.helpers.items ≡ []) × (floor.old.keepers.items ≡ []) }
-    ensures { IsSetUp floor.old.room.items floor.new }
+fn move_all<D: Disk>(
+    alloc: Global,
+    locks: &mut Vec<TurnLock<Manager<D>>>,
+    passes: &mut Passes<D>,
+    mut tools: Vec<Tools>,
+)
+    requires tools { vec_len tools ≡ vec_len passes.old.room }
+    requires room { (vec_len passes.old.room ≤ vec_capacity locks.old) × (vec_len passes.old.room ≤ vec_capacity passes.old.desks) × (vec_len passes.old.room ≤ vec_capacity passes.old.helpers) × (vec_len passes.old.room ≤ vec_capacity passes.old.keepers) }
+    requires empty { (locks.old.items ≡ []) × (passes.old.desks.items ≡ []) × (passes.old.helpers.items ≡ []) × (passes.old.keepers.items ≡ []) }
+    ensures { AreSetUp passes.old.room.items locks.new.items passes.new }
 {
-    floor.room.as_mut_slice().reverse();
-    while let Some(station) = floor.room.pop() {
+    passes.room.as_mut_slice().reverse();
+    while let Some(station) = passes.room.pop() {
         let Station {
             id,
             lock,
@@ -49,8 +55,8 @@ fn move_all<D: Disk>(alloc: Global, floor: &mut Floor<D>, mut tools: Vec<Tools>)
             keeper,
         } = station;
         let Tools { payload, fetch } = tools.pop().unwrap();
-        floor.locks.push_reserved(lock);
-        floor.desks.push_reserved(Desk {
+        locks.push_reserved(lock);
+        passes.desks.push_reserved(Desk {
             id,
             worker,
             requests: Vec::new(alloc),
@@ -60,20 +66,20 @@ fn move_all<D: Disk>(alloc: Global, floor: &mut Floor<D>, mut tools: Vec<Tools>)
             tally: Tally::new(),
             fault: None,
         });
-        floor.helpers.push_reserved(helper);
-        floor.keepers.push_reserved(keeper);
+        passes.helpers.push_reserved(helper);
+        passes.keepers.push_reserved(keeper);
     }
 }
 
-/// The stations' locks and passes in the lists of a floor. Gives the stations back where there is no memory.
-#[tactic(auto, using(crate::proofs::Stationed::floor_of))]
+/// The stations' locks, and their passes by their use. Gives the stations back where there is no memory.
+#[tactic(auto, using(crate::proofs::Stationed::whole_of))]
 pub fn set_up<D: Disk>(
     alloc: Global,
     stations: Vec<Station<D>>,
-) -> Result<Floor<D>, (Vec<Station<D>>, NoMemory)>
+) -> Result<(Vec<TurnLock<Manager<D>>>, Passes<D>), (Vec<Station<D>>, NoMemory)>
     requires stations { AreStations stations.items }
-    ensures moved { IfOk result (IsMoved stations.items) }
-    ensures floor { IfOk result IsFloor }
+    ensures moved { IfOk result (λ r. AreMoved stations.items r.0.items r.1) }
+    ensures whole { IfOk result (λ r. AreWhole r.0.items r.1) }
     ensures refused { IfErr result (λ r. r.0 ≡ stations) }
 {
     let count = stations.len();
@@ -93,11 +99,10 @@ pub fn set_up<D: Disk>(
         return Err((stations, NoMemory));
     };
     // The last, since a list of locks can't be let go.
-    let Ok(locks) = Vec::with_capacity(alloc, count) else {
+    let Ok(mut locks) = Vec::with_capacity(alloc, count) else {
         return Err((stations, NoMemory));
     };
-    let mut floor = Floor {
-        locks,
+    let mut passes = Passes {
         desks,
         helpers,
         keepers,
@@ -108,24 +113,26 @@ pub fn set_up<D: Disk>(
         },
         room: stations,
     };
-    move_all(alloc, &mut floor, tools);
-    Ok(floor)
+    move_all(alloc, &mut locks, &mut passes, tools);
+    Ok((locks, passes))
 }
 
-/// The stations of a floor, with their locks and passes as they are. It takes no memory.
-pub fn take_down<D: Disk>(floor: Floor<D>) -> Vec<Station<D>>
-    requires { IsFloor floor }
-    ensures moved { IsMoved result.items floor }
+/// The stations of these locks and passes, as they are. It takes no memory.
+pub fn take_down<D: Disk>(
+    mut locks: Vec<TurnLock<Manager<D>>>,
+    passes: Passes<D>,
+) -> Vec<Station<D>>
+    requires { AreWhole locks.items passes }
+    ensures moved { AreMoved result.items locks.items passes }
     ensures stations { AreStations result.items }
 {
-    let Floor {
-        mut locks,
+    let Passes {
         mut desks,
         mut helpers,
         mut keepers,
         help: _,
         mut room,
-    } = floor;
+    } = passes;
     while let Some(lock) = locks.pop() {
         let Desk {
             id,

@@ -6,7 +6,7 @@ pub loop-station-preserved : goal.loop-station-preserved
 loop-station-preserved g c = record {
   moving = moving_more _ c.in-Some.station
       (record { id = c.in-Some.station.id; worker = c.in-Some.station.worker; requests = c.new.result; outcomes = c.new-in-Some.result; payload = c.unwrap-payload.result.payload; fetch = c.unwrap-payload.result.fetch; tally = c.new-in-Some-2.result; fault = None })
-      c.loop-station.floor _ c.loop-station.invariant.moving (record {
+      c.loop-station.locks c.loop-station.passes _ _ c.loop-station.invariant.moving (record {
         room = search rules;
         locks = c.push_reserved.ensures.items;
         desks = c.push_reserved-in-Some.ensures.items;

@@ -1,13 +1,13 @@
 use Rattle.std.proofs.Common.{◌≡◌, length}
 use Rattle.std.specs.Prelude.{vec_len}
-use Rattle.request_workers.specs.Stations.{IsMoving}
+use Rattle.request_workers.specs.Stations.{AreMoving}
 use Rattle.request_workers.proofs.setting.move_all.Given as goal
 
 abbrev pub invariant-loop-station : goal.invariant-loop-station
 invariant-loop-station g l = record {
-  moving : IsMoving l.fn.floor.room.items l.floor;
-  tools : vec_len l.tools ≡ vec_len l.floor.room;
+  moving : AreMoving l.fn.passes.room.items l.locks l.passes;
+  tools : vec_len l.tools ≡ vec_len l.passes.room;
 }
 
 abbrev pub decreases-loop-station : goal.decreases-loop-station
-decreases-loop-station g l = length l.floor.room.items
+decreases-loop-station g l = length l.passes.room.items

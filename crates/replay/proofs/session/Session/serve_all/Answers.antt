@@ -19,6 +19,7 @@ loop-init g c = record {
   most = (let new = c.requires.new.1 in omega (arith, new));
   few = few_none _ c.args.self.now.totals c.requires.totals;
   session = c.requires.session;
+  crew = c.requires.crew;
   same = same_passes c.args.self.now.keepers.items;
   locks = refl;
   later = omega arith;
@@ -81,6 +82,7 @@ loop-preserved g c =
       most = c.in-Ok-Some.ensures.most;
       few = few_more (131073 * c.loop.counter) (131073 * (c.loop.counter + 1)) 131073 c.loop.self.totals c.take.new.self.totals i.few e.few (omega arith);
       session = e.session;
+      crew = e.crew;
       same = same_both c.args.self.now.keepers.items c.loop.self.keepers.items c.take.new.self.keepers.items i.same e.same;
       locks = e.locks ∙ i.locks;
       later = (let a = i.later in let b = e.later in omega (arith, a, b));

@@ -1,4 +1,5 @@
 use Rattle.std.proofs.Common.{◌≡◌, ◌≤◌, ◌*◌}
+use Rattle.request_workers.specs.Crews.{IsCrew}
 use Rattle.replay.specs.Givens.{IsLive, borrow_of, faults_of, given_count}
 use Rattle.replay.specs.Served.{AreSamePasses}
 use Rattle.replay.specs.Sessions.{IsSession}
@@ -16,6 +17,7 @@ invariant-loop g l = record {
   most : given_count l.given ≤ 4294967296;
   few : HasFew (131073 * l.counter) l.self.totals;
   session : IsSession l.config l.shared l.self;
+  crew : IsCrew l.crew;
   same : AreSamePasses l.initial.self.keepers.items l.self.keepers.items;
   locks : l.self.floor.locks ≡ l.initial.self.floor.locks;
   later : g.K.Sink.faults l.initial.out ≤ g.K.Sink.faults l.out;

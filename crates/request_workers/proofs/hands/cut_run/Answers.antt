@@ -1,0 +1,14 @@
+use Rattle.std.proofs.Common.{◌≡◌, ◌++◌, ◌∷◌, [], List, reverse, ap, sym, ◌∙◌, append_assoc}
+use Rattle.std.proofs.lemmas.List.{reverse-append}
+use Rattle.request_workers.specs.declared.desk.Desk.{Desk}
+use Rattle.request_workers.proofs.hands.cut_run.Goals as goal
+
+pub loop-preserved : goal.loop-preserved
+loop-preserved g c =
+    let i = c.loop.invariant in let d = c.in-Some.desk in
+    let left = c.pop.new.self.items in let room = c.loop.room.items in
+    let back : reverse c.push_reserved.new.self.items ≡ d ∷ reverse room = ap reverse c.push_reserved.ensures.items ∙ reverse-append room (d ∷ []) in
+    record {
+      cut = i.cut ∙ (ap (λ (xs : List (Desk g.row.D.Denot)). xs ++ reverse room) c.in-Some.ensures.items ∙ (append_assoc left (d ∷ []) (reverse room) ∙ ap (λ (xs : List (Desk g.row.D.Denot)). left ++ xs) (sym back)));
+      room = c.pop.ensures.capacity ∙ i.room;
+    }
