@@ -181,6 +181,7 @@ seen_all old home v ss k first up then flags past long = λ i. record {
     ups = (flags ∙ flags_all (is_up ss) home.loggers.items home.ups.items k long past ∙ ap (λ (w : Volume). map (is_up ss) w.loggers.items) first) i;
     next = (ap (λ (w : Volume). w.next) then ∙ ap (λ (w : Volume). w.next) first) i;
     listed = (ap (λ (w : Volume). listed_in w.index.entries) then ∙ ap (λ (w : Volume). listed_in w.index.entries) first) i;
+    down = None;
   };
 }
 
