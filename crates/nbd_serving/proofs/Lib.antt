@@ -1,4 +1,5 @@
 pub mod Begun
+pub mod Entries
 pub mod Placed
 pub mod Recovered
 pub mod Sessions

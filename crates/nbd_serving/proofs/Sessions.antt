@@ -1,6 +1,6 @@
 -- All volumes were opened, one was served, and all were closed: what is told of the bay.
-use Rattle.std.proofs.Common.{◌≡◌, ◌≢◌, ◌<◌, ◌++◌, ℕ, zero, suc, nat_eq, Bool, true, false, cond, List, [], length, map, Option, None, Some, option_map, Result, refl, sym, ap, ◌∙◌, subst, arith, append-nil}
-use Rattle.std.specs.Prelude.{slice_get, slice_index_or, slice_range, unwrap_or, IfSome, IsSome, IsTrue}
+use Rattle.std.proofs.Common.{◌≡◌, ◌≢◌, ◌<◌, ◌++◌, ◌∷◌, ℕ, zero, suc, nat_eq, Bool, true, false, cond, List, [], length, map, Option, None, Some, option_map, Result, refl, sym, ap, ◌∙◌, subst, arith, append-nil}
+use Rattle.std.specs.Prelude.{All, slice_get, slice_index_or, slice_range, unwrap_or, IfSome, IsSome, IsTrue}
 use Rattle.std.proofs.lemmas.List.{length-map}
 use Rattle.std.proofs.lemmas.Option.{same_Some, slice_get-get_or, slice_get-map, slice_get_within}
 use Rattle.wol_disk.specs.Disk.{Block, State, reads}
@@ -13,7 +13,7 @@ use Rattle.wol_model.specs.Images.{Images, all_segments, image_of, recovered_fro
 use Rattle.wol_model.specs.Recovered.{extents_of}
 use Rattle.wol_model.proofs.Overlay.{after_none}
 use Rattle.wol_promise.specs.Manager.{Base}
-use Rattle.wol_promise.specs.Ruled.{entries_of, last_look}
+use Rattle.wol_promise.specs.Ruled.{Noted, entries_of, last_look}
 use Rattle.turn_lock.specs.Histories.{Entry, own}
 use Rattle.turn_lock.specs.LockIds.{LockId}
 use Rattle.turn_lock.specs.Passes.{lock_id, pass_lock, pass_number, pass_mine}
@@ -21,13 +21,13 @@ use Rattle.manager.specs.Stands.{notes_of}
 use Rattle.manager.specs.declared.base.ManagerBase.{ManagerBase}
 use Rattle.manager.specs.declared.station.Station.{Station}
 use Rattle.manager.proofs.Lanes.{get_set, get_other}
-use Rattle.request_turns.specs.Turns.{began}
 use Rattle.spin_model.specs.Spindles.{SpindleView}
 use Rattle.volume_images.specs.Left.{AreNamedApart, IsTold}
 use Rattle.volume_images.specs.Volumes.{AreLeft, image_read, images_read, shape_in, shapes_of}
 use Rattle.rack.specs.Closes.{AreLeftOfParts, AreListedOf, HasFaultyPart, IsClosedVolume, RecoversTo, recovered_out, segments_out}
 use Rattle.rack.specs.Opens.{BeganWith, WereThere}
 use Rattle.rack.specs.Owners.{IsBegun, images_taken, most_of}
+use Rattle.rack.specs.PoolUses.{ArePools, PassesEmpty}
 use Rattle.rack.specs.Racks.{IsStation, IsUnused, base_of_station}
 use Rattle.rack.specs.Rests.{IsImageOut, image_here}
 use Rattle.rack.specs.declared.rack.ImageRest.{ImageRest}
@@ -44,13 +44,15 @@ use Rattle.nbd_session.specs.Sessions.{IsSession}
 use Rattle.nbd_session.specs.declared.session.Ended.{Ended}
 use Rattle.nbd_session.specs.declared.session.NbdFault.{NbdFault}
 use Rattle.nbd_session.proofs.Along.{session_along}
-use Rattle.nbd_station.specs.Pieces.{IsTurnAt, Pieces, pieces_of}
+use Rattle.nbd_station.specs.Pieces.{pieces_of}
 use Rattle.nbd_station.specs.Turns.{MakesTurn}
 use Rattle.nbd_station.proofs.Alone.{AreOf, all_of, own_all}
-use Rattle.nbd_station.proofs.Law.{IsWorkerOf, made, step}
+use Rattle.nbd_station.proofs.Law.{IsWorkerOf}
+use Rattle.nbd_serving.specs.Entries.{AddsEntry}
+use Rattle.nbd_serving.proofs.Entries.{adds, noted}
 use Rattle.nbd_serving.specs.Racks.{ServesStation}
 use Rattle.nbd_serving.specs.Runs.{LeavesOthers, LeavesServed, ServesOpen}
-use Rattle.nbd_serving.specs.Volumes.{AreKept, IsKept, IsOpen, LeavesFront, front_of}
+use Rattle.nbd_serving.specs.Volumes.{AreKept, IsKept, IsOpen, LeavesFront, LeavesRecords, front_of}
 use Rattle.nbd_serving.specs.Wires.{Wire}
 use Rattle.nbd_serving.proofs.Recovered.{cut_pieces}
 
@@ -88,6 +90,16 @@ faulty_same tells config owner view (Some e) (Some o) (Some n) apart same faulty
     let f = faulty (apart named) in
     record { more = f.more; more_is = f.more_is ∙ ap (λ l. l ++ f.more) (same named); volume = f.volume; conf = f.conf; conf_is = f.conf_is; place = f.place; among = f.among; of_volume = f.of_volume }
 
+-- what holds of each closed volume by its entries, holds of the one at a place
+passing : {D : Type 0} (tells : Bool) (config : Config) (out : List (Option (ImageRest D))) (old new : BayState) (P : Base → List Noted → Type 0) (ss : List (Station D)) (all : All (IsClosedVolume tells config out old new) ss)
+    → ((n : ℕ) (d : Station D) (within : n < length ss) → P (base_of_station (slice_index_or ss n d)).volume.began (notes_of (all n d within).entries))
+    → (place : ℕ) (w : Station D) → slice_get ss place ≡ Some w → (c : IsClosedVolume tells config out old new w) × P (base_of_station w).volume.began (notes_of c.entries)
+passing tells config out old new P [] all each place w here = absurd (let no : None ≡ Some w = here in cc)
+passing {D} tells config out old new P (s ∷ ss) all each zero w here =
+    let same : s ≡ w = same_Some s w here in
+    subst (λ (x : Station D). (c : IsClosedVolume tells config out old new x) × P (base_of_station x).volume.began (notes_of c.entries)) same (all 0 s (omega arith), each 0 s _)
+passing tells config out old new P (s ∷ ss) all each (suc place) w here = passing tells config out old new P ss (λ k d lt. all (suc k) d (omega (arith, lt))) (λ n d within. each (suc n) d _) place w here
+
 module _ {D : Type 0} (tells : Bool) (state : D → State) (config : Config) (did : Rack D → Rack D → Type 0) (old new : BayState) (spindles : List SpindleView) (session : OpensAndCloses tells state config did old new spindles)
     (all_open : first_closed 0 session.before.faults.items ≡ None) where
   abbrev before : Rack D
@@ -115,8 +127,19 @@ module _ {D : Type 0} (tells : Bool) (state : D → State) (config : Config) (di
 
   -- ---- A station that was closed
 
+  abbrev pools : (k : ℕ) → List Entry
+  pools = session.closed.pools.pools
+
+  both_at : (w : Station D) (place : ℕ) → slice_get after_.stations.items place ≡ Some w → (c : IsClosedVolume tells config after_.rest.images.items session.bay new w) × PassesEmpty pools (base_of_station w).volume.began (notes_of c.entries)
+  both_at w place there =
+      passing tells config after_.rest.images.items session.bay new (λ (b : Base) (ns : List Noted). PassesEmpty pools b ns) after_.stations.items session.closed.stations session.closed.pools.passed place w there
+
   pub closed_at : (w : Station D) (place : ℕ) → slice_get after_.stations.items place ≡ Some w → IsClosedVolume tells config after_.rest.images.items session.bay new w
-  closed_at w place there = all_at (IsClosedVolume tells config after_.rest.images.items session.bay new) after_.stations.items place w session.closed.stations there
+  closed_at w place there = (both_at w place there).0
+
+  passed_at : (w : Station D) (place : ℕ) (there : slice_get after_.stations.items place ≡ Some w) → PassesEmpty pools (base_of_station w).volume.began (notes_of (closed_at w place there).entries)
+  unfolding closed_at
+  passed_at w place there = (both_at w place there).1
 
   -- what opening and closing say of images at entry and of what is left
   record Leaves (entry mid : Told) : Type 0 where
@@ -139,6 +162,19 @@ module _ {D : Type 0} (tells : Bool) (state : D → State) (config : Config) (di
       go (Some o) (Some b) None began were apart parts recovers = absurd parts
       go (Some o) (Some b) (Some n) began were apart parts recovers = λ named.
           f o n (record { began = began named; were = were named; parts = parts (apart named); recovers = λ w place there. recovers w place there (apart named) })
+
+  -- the pools of free segments began as the images had them
+  pools_at : (entry mid : Told) → Leaves entry mid → ArePools config entry pools
+  pools_at entry mid is k v conf =
+      let less = slice_get_within config.volumes.items k v conf in
+      let within : k < length (shapes_of config) = omega (arith, less, shapes_count) in
+      let (l, lock) = some_at before.shared.pools.items k (omega (arith, within, session.opened.rack.locks.pool_count)) in
+      let (image, here) = here_is (image_here before.rest.images.items k) (outs k within) in
+      record {
+        holders = (lock_id l).base.holders;
+        had = is.began.pools k v l image conf lock here;
+        legal = session.closed.pools.legal k l (ap (λ (r : Rack D). slice_get r.shared.pools.items k) session.again.only ∙ lock);
+      }
 
   -- label and view of an image are left
   front_at : (entry mid : Told) → Leaves entry mid → (k : ℕ) (v : VolumeConf) → slice_get config.volumes.items k ≡ Some v → k < length (shapes_of config) → LeavesFront config k entry mid
@@ -187,6 +223,14 @@ module _ {D : Type 0} (tells : Bool) (state : D → State) (config : Config) (di
           subst (λ (a : List Block). IsCut a ws fl (recovered_from (shapes_of config) images u.id)) (array_is entry is.began)
           (subst (λ (x : List Block). IsCut (base_of_station w).volume.began.array ws fl x) same ((is.recovers w place there).cut images left))
 
+      -- where no call failed, its records are those of the last look
+      records_at : (entry mid : Told) → Leaves entry mid → flight_of (entries_of (notes_of ends.entries)) ≡ None → LeavesRecords config u.id (last_look (base_of_station u).volume.began.look (notes_of ends.entries)).listed mid
+      records_at entry mid is calm images left =
+          subst (λ (is : Images). AreListedOf (last_look (base_of_station u).volume.began.look (notes_of ends.entries)).listed (extents_of u.id (all_segments (shapes_of config) is))) (accepted_all config after_.rest.images.items outs_after images left.count)
+          (subst (λ (n : ℕ). AreListedOf (last_look (base_of_station u).volume.began.look (notes_of ends.entries)).listed (extents_of n (segments_out config after_.rest.images.items images))) id_is
+          (subst (λ (b : ManagerBase). AreListedOf (last_look b.volume.began.look (notes_of ends.entries)).listed (extents_of w.id (segments_out config after_.rest.images.items images))) base_is
+          ((is.recovers w place there).listed images left calm)))
+
     -- ---- A volume that nobody used
 
     module _ (there : slice_get after_.stations.items place ≡ Some u) where
@@ -218,11 +262,10 @@ module _ {D : Type 0} (tells : Bool) (state : D → State) (config : Config) (di
           ∙ array_is u there refl refl entry is.began
 
       -- and has its records
-      same_records : (entry mid : Told) → Leaves entry mid → (images : Images) → AreLeft config mid images → AreListedOf (base_of_station u).volume.began.look.listed (extents_of u.id (all_segments (shapes_of config) images))
-      same_records entry mid is images left =
-          subst (λ (is : Images). AreListedOf (base_of_station u).volume.began.look.listed (extents_of u.id (all_segments (shapes_of config) is))) (accepted_all config after_.rest.images.items outs_after images left.count)
-          (subst (λ (es : List Entry). AreListedOf (last_look (base_of_station u).volume.began.look (notes_of es)).listed (extents_of u.id (segments_out config after_.rest.images.items images))) no_entries
-          ((is.recovers u place there).listed images left unbroken))
+      same_records : (entry mid : Told) → Leaves entry mid → LeavesRecords config u.id (base_of_station u).volume.began.look.listed mid
+      same_records entry mid is =
+          subst (λ (es : List Entry). LeavesRecords config u.id (last_look (base_of_station u).volume.began.look (notes_of es)).listed mid) no_entries
+          (records_at u there refl refl entry mid is unbroken)
 
       kept_at : (entry mid : Told) → Leaves entry mid → u.id < length (shapes_of config) → IsKept config u.id entry mid
       kept_at entry mid is lt =
@@ -303,22 +346,25 @@ module _ {D : Type 0} (tells : Bool) (state : D → State) (config : Config) (di
     abbrev base : Base
     base = (base_of_station s).volume.began
 
-    end_is : pieces_of base.look (notes_of es) ≡ made serves.pass
-    end_is = λ i. pieces_of (sym lock_is i).base.volume.began.look (notes_of (entries_are i))
+    abbrev notes : List Noted
+    notes = notes_of es
 
-    start_is : made s.worker ≡ pieces_of base.look []
-    start_is = λ i. pieces_of (is_station.worker_.own i).base.volume.began.look (notes_of (fresh.0.mine i))
+    session_is : IsSession (AddsEntry (IsTrue tells) base) serves.conf.home (most_of config) [] notes wire.left wire'.left wire.taken wire'.taken answer
+    session_is =
+        subst (λ (ns : List Noted). IsSession (AddsEntry (IsTrue tells) base) serves.conf.home (most_of config) [] ns wire.left wire'.left wire.taken wire'.taken answer) (ap notes_of (sym entries_are))
+        (subst (λ (ns : List Noted). IsSession (AddsEntry (IsTrue tells) base) serves.conf.home (most_of config) ns (noted serves.pass) wire.left wire'.left wire.taken wire'.taken answer) (ap notes_of fresh.0.mine)
+        (session_along (MakesTurn tells) (AddsEntry (IsTrue tells) base) noted (IsWorkerOf lock es) (adds tells lock es alone) serves.conf.home (most_of config) s.worker serves.pass wire.left wire'.left wire.taken wire'.taken answer serves.session fits).1)
 
-    session_is : IsSession (IsTurnAt (IsTrue tells) base.array) serves.conf.home (most_of config) (pieces_of base.look []) (made serves.pass) wire.left wire'.left wire.taken wire'.taken answer
-    session_is = subst (λ (p : Pieces). IsSession (IsTurnAt (IsTrue tells) base.array) serves.conf.home (most_of config) p (made serves.pass) wire.left wire'.left wire.taken wire'.taken answer) start_is
-        (session_along (MakesTurn tells) (IsTurnAt (IsTrue tells) base.array) made (IsWorkerOf lock es) (step tells lock es alone) serves.conf.home (most_of config) s.worker serves.pass wire.left wire'.left wire.taken wire'.taken answer serves.session fits).1
-
-    served_left : (entry mid : Told) → Leaves entry mid → LeavesServed config volume (made serves.pass) entry mid
+    served_left : (entry mid : Told) → Leaves entry mid → LeavesServed config volume (pieces_of base.look notes) entry mid
     served_left entry mid is images left =
-        subst (λ (v : ℕ). IsCut (recovered_from (shapes_of config) (images_read config entry) v) (made serves.pass).stand (unwrap_or (made serves.pass).flight []) (recovered_from (shapes_of config) images v)) serves.is_station.id
-        (subst (λ (p : Pieces). IsCut (recovered_from (shapes_of config) (images_read config entry) s.id) p.stand (unwrap_or p.flight []) (recovered_from (shapes_of config) images s.id)) end_is
-        (cut_pieces base.look (notes_of es) (recovered_from (shapes_of config) (images_read config entry) s.id) (recovered_from (shapes_of config) images s.id)
-        (cut_at s serves.place serves.is_station.there t there_now refl refl entry mid is images left)))
+        subst (λ (v : ℕ). IsCut (recovered_from (shapes_of config) (images_read config entry) v) (pieces_of base.look notes).stand (unwrap_or (pieces_of base.look notes).flight []) (recovered_from (shapes_of config) images v)) serves.is_station.id
+        (cut_pieces base.look notes (recovered_from (shapes_of config) (images_read config entry) s.id) (recovered_from (shapes_of config) images s.id)
+        (cut_at s serves.place serves.is_station.there t there_now refl refl entry mid is images left))
+
+    records_served : flight_of (entries_of notes) ≡ None → (entry mid : Told) → Leaves entry mid → LeavesRecords config volume (last_look base.look notes).listed mid
+    records_served calm entry mid is =
+        subst (λ (v : ℕ). LeavesRecords config v (last_look base.look notes).listed mid) serves.is_station.id
+        (records_at s serves.place serves.is_station.there t there_now refl refl entry mid is calm)
 
     open_served : (entry mid : Told) → Leaves entry mid → IsOpen config volume serves.conf base entry mid
     open_served entry mid is =
@@ -346,14 +392,17 @@ module _ {D : Type 0} (tells : Bool) (state : D → State) (config : Config) (di
       owner = is_station.id ∙ serves.is_station.id;
       open_ = through (IsOpen config volume serves.conf base) open_served;
       opening = closed.opening;
-      end = made serves.pass;
+      notes = notes;
       session = session_is;
       faults = serves.faults;
-      cause = λ broken. rose_before old.faults session.bay.faults new.faults session.sooner
-          (closed.cause (flight_some (flight_of (entries_of (notes_of es))) (subst (λ (p : Pieces). IsSome p.flight) (sym end_is) broken)));
+      pools = pools;
+      are_pools = through (λ entry left. ArePools config entry pools) pools_at;
+      passed = passed_at t serves.place there_now;
+      cause = λ broken. rose_before old.faults session.bay.faults new.faults session.sooner (closed.cause (flight_some (flight_of (entries_of notes)) broken));
       faulty = λ broken telling. faulty_same tells config volume base.view old.told session.bay.told new.told (session.opened.apart telling) (session.opened.unfaulty outs)
           (subst (λ (n : ℕ). IsTold (HasFaultyPart tells config n base.view) session.bay.told new.told) serves.is_station.id
-          (closed.faulty (flight_some (flight_of (entries_of (notes_of es))) (subst (λ (p : Pieces). IsSome p.flight) (sym end_is) broken))));
-      images = through (LeavesServed config volume (made serves.pass)) served_left;
+          (closed.faulty (flight_some (flight_of (entries_of notes)) broken)));
+      images = through (LeavesServed config volume (pieces_of base.look notes)) served_left;
+      records = λ telling calm. through (λ entry left. LeavesRecords config volume (last_look base.look notes).listed left) (records_served calm) telling;
       others = through (LeavesOthers config volume) others_left;
     }

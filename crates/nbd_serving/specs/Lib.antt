@@ -1,4 +1,5 @@
 pub mod Wires
 pub mod Racks
 pub mod Volumes
+pub mod Entries
 pub mod Runs

@@ -1,13 +1,15 @@
 -- What serving a volume of a bay comes to.
 use Rattle.std.specs.Prelude.{◌≡◌, ◌≢◌, ◌<◌, ℕ, Bool, List, [], length, None, Some, Result, Ok, Err, IsSome, IsTrue, slice_get, unwrap_or}
+use Rattle.turn_lock.specs.Histories.{Entry}
 use Rattle.wol_disk.specs.Disk.{Rose, State}
 use Rattle.wol_bay.specs.Bay.{BayState, Told}
 use Rattle.wol_config.specs.Documents.{names_of, number_named}
 use Rattle.wol_config.specs.declared.config.Config.{Config}
 use Rattle.wol_config.specs.declared.config.VolumeConf.{VolumeConf}
-use Rattle.wol_model.specs.History.{IsCut}
+use Rattle.wol_model.specs.History.{IsCut, flight_of}
 use Rattle.wol_model.specs.Images.{Images, recovered_from}
 use Rattle.wol_promise.specs.Manager.{Base}
+use Rattle.wol_promise.specs.Ruled.{Noted, entries_of, last_look}
 use Rattle.wol_promise.specs.Stands.{IsOpening}
 use Rattle.report.specs.declared.fault.Fault.TheVariants.{Memory, Volume}
 use Rattle.troubles.specs.Troubles.{trouble_of}
@@ -15,6 +17,7 @@ use Rattle.volume_images.specs.Left.{IsTold}
 use Rattle.volume_images.specs.Volumes.{AreLeft, images_read, shapes_of}
 use Rattle.rack.specs.Closes.{HasFaultyPart}
 use Rattle.rack.specs.Owners.{most_of}
+use Rattle.rack.specs.PoolUses.{ArePools, PassesEmpty}
 use Rattle.rack.specs.declared.volume_fault.VolumeFault.{VolumeFault}
 use Rattle.open_rack.specs.NotOpened.{IsFirstClosed, LeavesBay}
 use Rattle.nbd_handshake.specs.declared.ending.Shaken.TheVariants.{Agreed, Unagreed as NotAgreed}
@@ -22,9 +25,10 @@ use Rattle.nbd_handshake.specs.declared.ending.Unagreed.{Unagreed}
 use Rattle.nbd_session.specs.Sessions.{CountsFaults, IsSession}
 use Rattle.nbd_session.specs.declared.session.Ended.{Ended}
 use Rattle.nbd_session.specs.declared.session.NbdFault.{NbdFault}
-use Rattle.nbd_station.specs.Pieces.{IsTurnAt, Pieces, pieces_of}
+use Rattle.nbd_station.specs.Pieces.{Pieces, pieces_of}
 use Rattle.nbd_serving.specs.Racks.{Begins}
-use Rattle.nbd_serving.specs.Volumes.{IsKept, IsOpen, KeepsBay}
+use Rattle.nbd_serving.specs.Volumes.{IsKept, IsOpen, KeepsBay, LeavesRecords}
+use Rattle.nbd_serving.specs.Entries.{AddsEntry}
 use Rattle.nbd_serving.specs.Wires.{Wire, answer_of}
 use Rattle.nbd_serving.specs.declared.serving.Beginning.{Beginning}
 use Rattle.nbd_serving.specs.declared.stop.Stop.{Stop}
@@ -45,7 +49,7 @@ LeavesOthers config volume entry left = (v : ℕ) → v < length config.volumes.
 -- ---- The session
 
 -- All volumes were open, and this one was served: the session was one at a volume that begins with its array at entry, and
--- with the version that the images give next.
+-- with the version that the images give next, and each turn added an entry to the volume's.
 pub record ServesOpen (tells : Bool) (config : Config) (volume : ℕ) (old new : BayState) (wire wire' : Wire) (answer : Result Ended NbdFault) : Type 0 where
   pub conf : VolumeConf
   pub conf_is : slice_get config.volumes.items volume ≡ Some conf
@@ -53,13 +57,19 @@ pub record ServesOpen (tells : Bool) (config : Config) (volume : ℕ) (old new :
   pub owner : base.owner ≡ volume
   pub open_ : IsTrue tells → IsTold (IsOpen config volume conf base) old.told new.told
   pub opening : IsOpening base
-  pub end : Pieces
-  pub session : IsSession (IsTurnAt (IsTrue tells) base.array) conf.home (most_of config) (pieces_of base.look []) end wire.left wire'.left wire.taken wire'.taken answer
+  pub notes : List Noted
+  pub session : IsSession (AddsEntry (IsTrue tells) base) conf.home (most_of config) [] notes wire.left wire'.left wire.taken wire'.taken answer
   pub faults : CountsFaults wire.source_faults wire'.source_faults wire.sink_faults wire'.sink_faults answer
+  -- no entry passed over a logger but where its free segments were found spent
+  pub pools : (k : ℕ) → List Entry
+  pub are_pools : IsTrue tells → IsTold (λ entry left. ArePools config entry pools) old.told new.told
+  pub passed : PassesEmpty pools base notes
   -- a call of a disk that failed is counted, and was one of a part of this volume
-  pub cause : IsSome end.flight → Rose old.faults new.faults
-  pub faulty : IsSome end.flight → IsTrue tells → IsTold (HasFaultyPart tells config volume base.view) old.told new.told
-  pub images : IsTrue tells → IsTold (LeavesServed config volume end) old.told new.told
+  pub cause : IsSome (flight_of (entries_of notes)) → Rose old.faults new.faults
+  pub faulty : IsSome (flight_of (entries_of notes)) → IsTrue tells → IsTold (HasFaultyPart tells config volume base.view) old.told new.told
+  pub images : IsTrue tells → IsTold (LeavesServed config volume (pieces_of base.look notes)) old.told new.told
+  -- where none failed, the records that are left are those of the last look
+  pub records : IsTrue tells → flight_of (entries_of notes) ≡ None → IsTold (λ entry left. LeavesRecords config volume (last_look base.look notes).listed left) old.told new.told
   pub others : IsTrue tells → IsTold (LeavesOthers config volume) old.told new.told
 
 -- ---- The command

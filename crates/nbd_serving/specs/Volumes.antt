@@ -6,6 +6,7 @@ use Rattle.wol_bay.specs.Bay.{BayState, Told}
 use Rattle.wol_config.specs.declared.config.Config.{Config}
 use Rattle.wol_config.specs.declared.config.VolumeConf.{VolumeConf}
 use Rattle.wol_model.specs.Images.{Images, all_segments, image_of, recovered_from}
+use Rattle.wol_model.specs.Index.{Listed}
 use Rattle.wol_model.specs.Recovered.{extents_of}
 use Rattle.wol_promise.specs.Manager.{Base}
 use Rattle.volume_images.specs.Left.{IsTold}
@@ -24,6 +25,10 @@ abbrev pub LeavesFront : Config → (v : ℕ) → (entry left : Told) → Type 0
 LeavesFront config v entry left = (images : Images) → AreLeft config left images
     → option_map front_of (image_of images v) ≡ option_map front_of (image_of (images_read config entry) v)
 
+-- whatever images a crash leaves, these are the records of volume v in them that keep a block
+abbrev pub LeavesRecords : Config → (v : ℕ) → List Listed → (left : Told) → Type 0
+LeavesRecords config v records left = (images : Images) → AreLeft config left images → AreListedOf records (extents_of v (all_segments (shapes_of config) images))
+
 -- Volume v was open: its image was accepted, and this base is what the images gave as they were read. Its label and view are left.
 pub record IsOpen (config : Config) (v : ℕ) (conf : VolumeConf) (base : Base) (entry left : Told) : Type 0 where
   pub accepted_ : WasAccepted config entry v conf
@@ -39,7 +44,7 @@ pub record IsKept (config : Config) (v : ℕ) (entry left : Told) : Type 0 where
   pub owner : base.owner ≡ v
   pub open_ : IsOpen config v conf base entry left
   pub array : (images : Images) → AreLeft config left images → recovered_from (shapes_of config) images v ≡ recovered_from (shapes_of config) (images_read config entry) v
-  pub records : (images : Images) → AreLeft config left images → AreListedOf base.look.listed (extents_of v (all_segments (shapes_of config) images))
+  pub records : LeavesRecords config v base.look.listed left
 
 -- so it is of each volume
 abbrev pub AreKept : Config → (entry left : Told) → Type 0

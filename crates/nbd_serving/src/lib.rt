@@ -3,9 +3,11 @@
 //!
 //! `command.rt` has `serve_volume`; `serving.rt` what is done while the volumes are open: the first that isn't open ends it,
 //! else the volume is served; `stop.rt` why the command ended without the end of a session, and its status. Of `specs/`:
-//! `Wires` has source and sink as contracts see them, `Racks` what is done with a rack, `Runs` what the command comes to, told
-//! of the bay before and behind it. In `proofs/`: `Placed` (the station of the volume among all), `Recovered` (what images
-//! recover to, as pieces), `Sessions` (the session at the bay), `Whole` (what the command comes to).
+//! `Wires` has source and sink as contracts see them, `Racks` what is done with a rack, `Volumes` what a volume was opened of
+//! and what is left of one to which nothing was done, `Entries` what a turn of the session adds to the volume's entries, and
+//! `Runs` what the command comes to, told of the bay before and behind it. In `proofs/`: `Placed` (the station of the volume
+//! among all), `Entries` (a turn as an entry), `Recovered` (what images recover to, as pieces), `Sessions` (the session at the
+//! bay), `Whole` (what the command comes to).
 #![tactic(auto)]
 
 mod command;

@@ -1,0 +1,99 @@
+-- What turns of a worker's pass add to the entries of a volume that nobody else uses.
+use Rattle.std.proofs.Common.{◌≡◌, ◌++◌, ◌∷◌, [], ℕ, Bool, List, refl, sym, ap, subst, ◌∙◌, inl, append_assoc}
+use Rattle.std.specs.Prelude.{IsTrue}
+use Rattle.turn_lock.specs.Histories.{Entry, own, Begins}
+use Rattle.turn_lock.specs.LockIds.{LockId}
+use Rattle.turn_lock.specs.Passes.{pass_mine}
+use Rattle.wol_model.specs.History.{Kept, worker}
+use Rattle.wol_promise.specs.Manager.{Base}
+use Rattle.wol_promise.specs.Policy.{Look}
+use Rattle.wol_promise.specs.Ruled.{AreRuled, IsStep, Noted, last_look}
+use Rattle.manager.specs.Stands.{notes_of}
+use Rattle.manager.specs.declared.base.ManagerBase.{ManagerBase}
+use Rattle.request_turns.specs.Turns.{ManagerPass, began, coded, HasTurned, Stays}
+use Rattle.request_turns.proofs.Noting.{notes_at}
+use Rattle.nbd_session.specs.Turns.{Turn, Looked, NotLooked, Read, NotRead, Wrote, NotWrote}
+use Rattle.nbd_station.specs.Pieces.{IsTurnAt, Pieces, pieces_of}
+use Rattle.nbd_station.specs.Turns.{MakesTurn}
+use Rattle.nbd_station.proofs.Alone.{AreOf, all_begins, own_all}
+use Rattle.nbd_station.proofs.Law.{IsWorkerOf, step}
+use Rattle.nbd_serving.specs.Entries.{AddsEntry}
+
+-- the entry of one turn, behind these
+record IsOneTurn {D : Type 0} (tells : Bool) (p q : ManagerPass D) : Type 0 where
+  before : List Entry
+  note : Noted
+  turned : HasTurned tells p q before note
+  stays : note.entry.operation ≡ Kept → Stays (last_look (began p).look (notes_of before)) note
+
+one_turn : {D : Type 0} (tells : Bool) (t : Turn) (p q : ManagerPass D) → MakesTurn tells t p q → IsOneTurn tells p q
+one_turn tells Looked p q h = record { before = h.before; note = h.note; turned = h.turned; stays = λ kept. inl h.same }
+one_turn tells (NotLooked r) p q (part, h, is) = record { before = h.before; note = h.note; turned = h.turned; stays = λ kept. inl h.same }
+one_turn tells (Read at blocks) p q (sources, h) = record { before = h.before; note = h.note; turned = h.turned; stays = h.stays }
+one_turn tells (NotRead at count r) p q (why, open_, h, long, is) = record { before = h.before; note = h.note; turned = h.turned; stays = h.stays }
+one_turn tells (Wrote at blocks) p q (place, drained, h) = record { before = h.before; note = h.note; turned = h.turned; stays = h.stays }
+one_turn tells (NotWrote at blocks r) p q (why, h, is) = record { before = h.before; note = h.note; turned = h.turned; stays = h.stays }
+
+ruled_last : (l : Look) (notes : List Noted) (n : Noted) → AreRuled l (notes ++ n ∷ []) → IsTrue n.ruled → IsStep n n.entry.pass n.entry.operation (last_look l notes) n.look
+ruled_last l [] n all ruled = all.0 ruled
+ruled_last l (m ∷ notes) n all ruled = ruled_last m.look notes n all.1 ruled
+
+-- what the manager under a lock began with
+abbrev base_in : LockId ManagerBase → Base
+base_in lock = lock.base.volume.began
+
+-- the entries that a pass has made
+abbrev pub noted : {D : Type 0} → ManagerPass D → List Noted
+noted p = notes_of (pass_mine p)
+
+module _ {D : Type 0} (tells : Bool) (lock : LockId ManagerBase) (es : List Entry) (alone : AreOf worker es) where
+  module _ (p q : ManagerPass D) (fits : IsWorkerOf lock es p) (fits_then : IsWorkerOf lock es q) (one : IsOneTurn tells p q) where
+    abbrev n : Noted
+    n = one.note
+
+    front_begins : Begins one.before es
+    front_begins =
+        (coded n ∷ fits_then.begins.0, sym (append_assoc one.before (coded n ∷ []) fits_then.begins.0) ∙ ap (λ (xs : List Entry). xs ++ fits_then.begins.0) (sym one.turned.seen) ∙ fits_then.begins.1)
+
+    -- nobody else made an entry before
+    before_is : one.before ≡ pass_mine p
+    before_is = sym (own_all worker one.before (all_begins worker one.before es front_begins alone)) ∙ ap (λ (k : ℕ). own k one.before) (sym fits.number) ∙ one.turned.others
+
+    adds_one : noted q ≡ noted p ++ n ∷ []
+    adds_one = ap notes_of one.turned.mine ∙ notes_at (pass_mine p) n.entry.pass n refl
+
+    pass_is : n.entry.pass ≡ worker
+    pass_is = one.turned.number ∙ fits.number
+
+    history : AreRuled (began q).look (notes_of one.before ++ n ∷ [])
+    history = subst (AreRuled (began q).look) (ap notes_of one.turned.seen ∙ notes_at one.before n.entry.pass n refl) one.turned.history.ruled
+
+    look_then : last_look (began q).look (notes_of one.before) ≡ last_look (base_in lock).look (noted p)
+    look_then = λ i. last_look (fits_then.own_lock i).base.volume.began.look (notes_of (before_is i))
+
+    look_before : last_look (began p).look (notes_of one.before) ≡ last_look (base_in lock).look (noted p)
+    look_before = λ i. last_look (fits.own_lock i).base.volume.began.look (notes_of (before_is i))
+
+    ruled : IsStep n worker n.entry.operation (last_look (base_in lock).look (noted p)) n.look
+    ruled =
+        subst (λ (k : ℕ). IsStep n k n.entry.operation (last_look (base_in lock).look (noted p)) n.look) pass_is
+        (subst (λ (l : Look). IsStep n n.entry.pass n.entry.operation l n.look) look_then (ruled_last (began q).look (notes_of one.before) n history one.turned.ruled))
+
+    pieces_at : (r : ManagerPass D) → IsWorkerOf lock es r → pieces_of (began r).look (noted r) ≡ pieces_of (base_in lock).look (noted r)
+    pieces_at r is = ap (λ (l : LockId ManagerBase). pieces_of l.base.volume.began.look (noted r)) is.own_lock
+
+    adds_at : (t : Turn) → IsTurnAt (IsTrue tells) (base_in lock).array t (pieces_of (began p).look (noted p)) (pieces_of (began q).look (noted q)) → AddsEntry (IsTrue tells) (base_in lock) t (noted p) (noted q)
+    adds_at t turn = record {
+      note = n;
+      adds = adds_one;
+      pass = pass_is;
+      step = ruled;
+      stays = λ kept. subst (λ (l : Look). Stays l n) look_before (one.stays kept);
+      is_turn = subst (λ (x : Pieces). IsTurnAt (IsTrue tells) (base_in lock).array t x (pieces_of (base_in lock).look (noted q))) (pieces_at p fits)
+          (subst (λ (x : Pieces). IsTurnAt (IsTrue tells) (base_in lock).array t (pieces_of (began p).look (noted p)) x) (pieces_at q fits_then) turn);
+    }
+
+  pub adds : (t : Turn) (p q : ManagerPass D) → IsWorkerOf lock es q → MakesTurn tells t p q → IsWorkerOf lock es p × AddsEntry (IsTrue tells) (base_in lock) t (noted p) (noted q)
+  adds t p q fits makes =
+      let at = step tells lock es alone t p q fits makes in
+      (at.0, adds_at p q at.0 fits (one_turn tells t p q makes) t at.1)
