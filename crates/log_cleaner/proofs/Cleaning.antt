@@ -19,7 +19,7 @@ use Rattle.manager.specs.declared.manager.Manager.{Manager}
 use Rattle.manager.proofs.RunSources.{same_version}
 use Rattle.log_cleaner.specs.Chunks.{AreTidyBelow, IsChunk, IsTidy, IsUppermost, KeepsJust, KeepsNone, NoneHomed, is_within}
 use Rattle.log_cleaner.specs.Cleans.{CanClean, HasCleaned, IsChunkOf, IsLeftUntidy, IsOfUntidy, copied_blocks, covered_in}
-use Rattle.log_cleaner.specs.Steps.{HasBroken, HasCopied, HasRewritten, IsCopyAt, IsRefused, KeepsTidy, Rewrites, Settles, TidiesUp, ended, is_broken, rewritten, was_written}
+use Rattle.log_cleaner.specs.Steps.{HasBroken, HasCopied, HasRewritten, IsCopyAt, IsRefused, KeepsTidy, Rewrites, Settles, TidiesAll, ended, is_broken, rewritten, was_written}
 use Rattle.log_cleaner.specs.Underway.{AreChunks, CleansBy, EndsBy, HasCleanedSome}
 use Rattle.log_cleaner.specs.declared.answer.Cleaned.{Cleaned}
 use Rattle.log_cleaner.specs.declared.answer.CleanFault.{CleanFault}
@@ -195,8 +195,8 @@ module _ {D : Type 0} (tells : Bool) (state : D → State) (most : ℕ) (old now
   }
 
   module _ (b : Between tells state most old now copied from false copies) where
-    pub between_settled : HasCopied tells state now new [] × KeepsTidy now new × ((first count : ℕ) → 1 ≤ count → TidiesUp first count now new) → Between tells state most old new copied from true copies
-    between_settled s = record {
+    pub between_settled : (all : Bool) → HasCopied tells state now new [] × KeepsTidy now new × (all ≡ true → TidiesAll now new) → Between tells state most old new copied from all copies
+    between_settled all s = record {
       done = record {
         chunks = b.done.chunks;
         copied = subst (HasCopied tells state old new) (append-nil copies) (copied_then tells state old now new copies [] can b.done.copied s.0);
@@ -206,18 +206,18 @@ module _ {D : Type 0} (tells : Bool) (state : D → State) (most : ℕ) (old now
       few = b.few;
       within = b.within;
       upper = λ x lt is. let o = b.upper x lt is in (o.0, o.1, o.2, o.3, o.4, (o.5.0, s.1.upper o.5.0 o.0 o.1 o.2.some o.5.1));
-      tidy = λ yes_ x lt is. let o = b.upper x lt is in (o.0, o.1, o.2, o.3, o.4, s.2 o.0 o.1 o.2.some o.5.0 o.5.1);
-      some = λ wrong. absurd (let no_ : true ≡ false = wrong in cc);
+      tidy = λ yes_ x lt is. let o = b.upper x lt is in (o.0, o.1, o.2, o.3, o.4, s.2 yes_ o.0 o.1 o.2.some o.5.0 o.5.1);
+      some = λ no_ none. b.some refl none;
       cut = b.cut;
       behind = b.behind;
       stays = λ f c least le t. s.1.tidy f c least (b.stays f c least le t);
     }
 
     -- a call of a disk failed
-    pub ends_unsettled : (fault : CleanFault) → Settles tells state now new (Err fault) → EndsBy tells state most old new copies fault
-    ends_unsettled (DiskFault p) broken = (b.done.chunks, subst (HasBroken tells state old new p) (append-nil copies) (broken_then tells state old now new p copies [] can b.done.copied broken))
-    ends_unsettled VersionsSpent broken = absurd broken
-    ends_unsettled NoMemory broken = absurd broken
+    pub ends_unsettled : (all : Bool) (fault : CleanFault) → Settles tells state all now new (Err fault) → EndsBy tells state most old new copies fault
+    ends_unsettled all (DiskFault p) broken = (b.done.chunks, subst (HasBroken tells state old new p) (append-nil copies) (broken_then tells state old now new p copies [] can b.done.copied broken))
+    ends_unsettled all VersionsSpent broken = absurd broken
+    ends_unsettled all NoMemory broken = absurd broken
 
 -- ---- The next chunk
 

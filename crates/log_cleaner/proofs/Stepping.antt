@@ -39,7 +39,7 @@ use Rattle.reclaimer.specs.declared.answers.Gone.TheVariants as gone
 use Rattle.reclaimer.proofs.Idle.{idle}
 use Rattle.log_cleaner.specs.Chunks.{IsTidy, IsUppermost, NoneHomed}
 use Rattle.log_cleaner.specs.Cleans.{AllAwake, CanClean, FindsAllEmpty, GoesOn}
-use Rattle.log_cleaner.specs.Steps.{GivesAll, GivesSome, HasBroken, HasCopied, KeepsTidy, Settles, TidiesUp}
+use Rattle.log_cleaner.specs.Steps.{GivesAll, GivesSome, GivesUp, HasBroken, HasCopied, KeepsTidy, Settles, TidiesUp}
 use Rattle.log_cleaner.specs.declared.answer.CleanFault.{CleanFault}
 use Rattle.log_cleaner.specs.declared.answer.CleanFault.TheVariants.{DiskFault}
 use Rattle.log_cleaner.specs.Copies.{HoldFewer, indexes_of}
@@ -275,24 +275,30 @@ module _ {D : Type 0} (tells : Bool) (state : D → State) (old mid new : Manage
   gave_then (Err (step.Down p)) given = absurd given
 
   -- or others gave up all
-  pub gave_all_then : (res : Result (Unit {0}) StepFault) → GivesAll tells state mid new res → GivesAll tells state old new res
-  gave_all_then (Ok done) given = (
+  pub gave_all_then : (all : Bool) (res : Result (Unit {0}) StepFault) → GivesAll tells state mid new res → GivesUp tells state all old new res
+  gave_all_then all (Ok done) given = (
     copied_then tells state old mid new [] [] can copied given.0,
     tidy_then old mid new keeps given.1,
-    λ first count some version x. given.2 first count some version (keeps.upper version first count some x),
+    λ is first count some version x. given.2 first count some version (keeps.upper version first count some x),
   )
-  gave_all_then (Err (step.DiskFault p)) given = broken_then tells state old mid new p [] [] can copied given
-  gave_all_then (Err (step.Down p)) given = absurd given
+  gave_all_then all (Err (step.DiskFault p)) given = broken_then tells state old mid new p [] [] can copied given
+  gave_all_then all (Err (step.Down p)) given = absurd given
 
--- a step that failed, where all was to be given up
-pub gives_all_failing : {D : Type 0} (tells : Bool) (state : D → State) (old new : Manager D) (fault : StepFault) → GivesSome tells state old new (Err fault) → GivesAll tells state old new (Err fault)
-gives_all_failing tells state old new (step.DiskFault p) given = given
-gives_all_failing tells state old new (step.Down p) given = given
+module _ {D : Type 0} (tells : Bool) (state : D → State) (old new : Manager D) where
+  -- a step that failed, where all was to be given up
+  pub gives_all_failing : (fault : StepFault) → GivesSome tells state old new (Err fault) → GivesAll tells state old new (Err fault)
+  gives_all_failing (step.DiskFault p) given = given
+  gives_all_failing (step.Down p) given = given
 
--- as cleaning tells it
-pub settles_failing : {D : Type 0} (tells : Bool) (state : D → State) (old new : Manager D) (fault : StepFault) (result : CleanFault) → ((p : Part) → fault ≡ step.DiskFault p → result ≡ DiskFault p) → GivesAll tells state old new (Err fault) → Settles tells state old new (Err result)
-settles_failing tells state old new (step.DiskFault p) result is given = subst (λ (x : CleanFault). Settles tells state old new (Err x)) (sym (is p refl)) given
-settles_failing tells state old new (step.Down p) result is given = absurd given
+  -- or more than segments
+  pub gives_up_failing : (all : Bool) (fault : StepFault) → GivesSome tells state old new (Err fault) → GivesUp tells state all old new (Err fault)
+  gives_up_failing all (step.DiskFault p) given = given
+  gives_up_failing all (step.Down p) given = given
+
+  -- as cleaning tells it
+  pub settles_failing : (all : Bool) (fault : StepFault) (result : CleanFault) → ((p : Part) → fault ≡ step.DiskFault p → result ≡ DiskFault p) → GivesUp tells state all old new (Err fault) → Settles tells state all old new (Err result)
+  settles_failing all (step.DiskFault p) result is given = subst (λ (x : CleanFault). Settles tells state all old new (Err x)) (sym (is p refl)) given
+  settles_failing all (step.Down p) result is given = absurd given
 
 -- ---- Where nothing more may go
 

@@ -74,18 +74,28 @@ GivesSome tells state old new (Err (step.Down p)) = ⊥
 abbrev pub TidiesUp : {D : Type 0} → (first count : ℕ) → (old new : Manager D) → Type 0
 TidiesUp first count old new = (version : ℕ) → IsUppermost (listed_in old.index.entries) version first count → IsTidy (listed_in new.index.entries) first count
 
--- giving up all that may go: each chunk is tidy then whose uppermost record keeps just its blocks
+-- each chunk is tidy then whose uppermost record keeps just its blocks
+abbrev pub TidiesAll : {D : Type 0} → (old new : Manager D) → Type 0
+TidiesAll old new = (first count : ℕ) → 1 ≤ count → TidiesUp first count old new
+
+-- giving up all that may go
 abbrev pub GivesAll : {D : Type 0} → (tells : Bool) → (D → State) → (old new : Manager D) → Result (Unit {0}) StepFault → Type 0
-GivesAll tells state old new (Ok done) = HasCopied tells state old new [] × KeepsTidy old new × ((first count : ℕ) → 1 ≤ count → TidiesUp first count old new)
+GivesAll tells state old new (Ok done) = HasCopied tells state old new [] × KeepsTidy old new × TidiesAll old new
 GivesAll tells state old new (Err (step.DiskFault p)) = HasBroken tells state old new p []
 GivesAll tells state old new (Err (step.Down p)) = ⊥
 
+-- giving up some of it, or all
+abbrev pub GivesUp : {D : Type 0} → (tells : Bool) → (D → State) → (all : Bool) → (old new : Manager D) → Result (Unit {0}) StepFault → Type 0
+GivesUp tells state all old new (Ok done) = HasCopied tells state old new [] × KeepsTidy old new × (all ≡ true → TidiesAll old new)
+GivesUp tells state all old new (Err (step.DiskFault p)) = HasBroken tells state old new p []
+GivesUp tells state all old new (Err (step.Down p)) = ⊥
+
 -- the same, by what cleaning tells
-abbrev pub Settles : {D : Type 0} → (tells : Bool) → (D → State) → (old new : Manager D) → Result (Unit {0}) CleanFault → Type 0
-Settles tells state old new (Ok done) = GivesAll tells state old new (Ok done)
-Settles tells state old new (Err (DiskFault p)) = HasBroken tells state old new p []
-Settles tells state old new (Err VersionsSpent) = ⊥
-Settles tells state old new (Err NoMemory) = ⊥
+abbrev pub Settles : {D : Type 0} → (tells : Bool) → (D → State) → (all : Bool) → (old new : Manager D) → Result (Unit {0}) CleanFault → Type 0
+Settles tells state all old new (Ok done) = GivesUp tells state all old new (Ok done)
+Settles tells state all old new (Err (DiskFault p)) = HasBroken tells state old new p []
+Settles tells state all old new (Err VersionsSpent) = ⊥
+Settles tells state all old new (Err NoMemory) = ⊥
 
 -- no log had room
 pub record IsRefused {D : Type 0} (tells : Bool) (state : D → State) (count : ℕ) (old new : Manager D) : Type 0 where

@@ -8,7 +8,7 @@ ghost use Rattle.log_cleaner.specs.Underway.{CleansBy};
 use crate::chunks::{END, chunk_len, is_tidy, next_covered};
 use crate::copies::{Copies, no_copies};
 use crate::copy::{rewrite, step_fault};
-use crate::giving::give_up_all;
+use crate::giving::give_up;
 use crate::{CleanFault, Cleaned};
 use logger::Shared;
 use manager::Manager;
@@ -49,28 +49,29 @@ fn ended(answer: Result<bool, CleanFault>, copied: u64) -> Result<(u64, bool), C
     }
 }
 
-// Gives up all that may go.
+// Gives up segments, and all else that may go where all is asked for.
 fn settle<R: Wait, D: Disk>(
     rt: &R,
     m: &mut Manager<D>,
     shared: &Shared<D>,
+    all: bool,
 ) -> Result<(), CleanFault>
     requires ready { IsReady D.state m.old }
     requires at { IsHome shared.now m.old }
     requires can { CanClean m.old }
     ensures ready { IsReady D.state m.new }
     ensures at { IsHome shared.now m.new }
-    ensures settled { Settles D.tells D.state m.old m.new result }
+    ensures settled { Settles D.tells D.state all m.old m.new result }
 {
-    match give_up_all(rt, m, shared) {
+    match give_up(rt, m, shared, all) {
         Ok(()) => Ok(()),
         Err(fault) => Err(step_fault(fault)),
     }
 }
 
-// Writes the chunks again that aren't tidy, in order, as far as there is room, and gives up what may go: once at the
-// end, and before an answer that a chunk couldn't be written. Tells how many blocks were copied, and whether room was
-// missing.
+// Writes the chunks again that aren't tidy, in order, as far as there is room, and gives up what may go at the end. Where
+// a chunk can't be written segments are given up, and all that may go where that wasn't enough. Tells how many blocks
+// were copied, and whether room was missing.
 fn clean_all<R: Wait, D: Disk>(
     rt: &R,
     m: &mut Manager<D>,
@@ -92,13 +93,14 @@ fn clean_all<R: Wait, D: Disk>(
     let mut copied = 0;
     let mut from = 0;
     let mut settled = true;
+    let mut lean = false;
     'chunks: loop {
         let lbn = next_covered(m.index(), from);
         if lbn == END {
             if settled {
                 return Ok((copied, false));
             }
-            settle(rt, m, shared)?;
+            settle(rt, m, shared, true)?;
             settled = true;
             continue 'chunks;
         }
@@ -109,12 +111,14 @@ fn clean_all<R: Wait, D: Disk>(
                 if settled || is_broken(&answer) {
                     return ended(answer, copied);
                 }
-                settle(rt, m, shared)?;
-                settled = true;
+                settle(rt, m, shared, lean)?;
+                settled = lean;
+                lean = true;
                 continue 'chunks;
             }
             copied += u64::from(count);
             settled = false;
+            lean = false;
         }
         from = lbn + u64::from(count);
     }
@@ -123,8 +127,8 @@ fn clean_all<R: Wait, D: Disk>(
 /// Writes the chunks of a volume's covered blocks again that aren't tidy: the maximal runs of covered blocks, each cut
 /// after each `most` blocks from its start. A chunk is tidy where one record keeps just its blocks and no other record
 /// keeps any of them. For each in order its blocks are read and written again to a log. What may go is given up once they
-/// are written, or where a log has no room: first segments in which no record has a live block, each by one write of its
-/// head, then records one by one. Segments in which no record is left go to their pools.
+/// are written, and before that where one can't be written: first segments in which no record has a live block, each by
+/// one write of its head, then records one by one. Segments in which no record is left go to their pools.
 ///
 /// `done` becomes the copies, in order, also those before a refusal; only contracts read them.
 ///

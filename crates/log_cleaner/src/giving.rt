@@ -4,7 +4,7 @@ ghost use Rattle.redirect_map.specs.Index.{IsIndex};
 ghost use Rattle.manager.specs.Reclaim.{NoneLiveIn};
 ghost use Rattle.manager.specs.Stands.{IsReady, IsHome};
 ghost use Rattle.log_cleaner.specs.Cleans.{CanClean};
-ghost use Rattle.log_cleaner.specs.Steps.{GivesSome, GivesAll, HasNoneLiveIn};
+ghost use Rattle.log_cleaner.specs.Steps.{GivesSome, GivesAll, GivesUp, HasNoneLiveIn};
 
 use logger::Shared;
 use manager::{Manager, StepFault};
@@ -113,20 +113,24 @@ fn give_up_each<R: Wait, D: Disk>(
     }
 }
 
-/// Gives up all that may go: first segments with all their records, each by one write of its head, and then what is
-/// left, record by record.
-pub(crate) fn give_up_all<R: Wait, D: Disk>(
+/// Gives up segments in which no record has a live block, with all their records, each by one write of its head; and then
+/// all else that may go, record by record, where all is asked for.
+pub(crate) fn give_up<R: Wait, D: Disk>(
     rt: &R,
     m: &mut Manager<D>,
     shared: &Shared<D>,
+    all: bool,
 ) -> Result<(), StepFault>
     requires ready { IsReady D.state m.old }
     requires at { IsHome shared.now m.old }
     requires can { CanClean m.old }
     ensures ready { IsReady D.state m.new }
     ensures at { IsHome shared.now m.new }
-    ensures given { GivesAll D.tells D.state m.old m.new result }
+    ensures given { GivesUp D.tells D.state all m.old m.new result }
 {
     give_up_segments(rt, m, shared)?;
+    if !all {
+        return Ok(());
+    }
     give_up_each(rt, m, shared)
 }

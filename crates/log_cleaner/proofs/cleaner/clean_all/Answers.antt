@@ -30,7 +30,7 @@ pub returns-in_err-settle-clause-cleaned : goal.returns-in_err-settle-clause-cle
 returns-in_err-settle-clause-cleaned g c =
     let i = c.chunks.invariant in let p = err_from_is_err_and c.from_residual.result c.from_residual.ensures.1 in
     let between = subst (λ (s : Bool). Between g.D.Disk.tells g.D.Disk.state c.args.most c.args.m.now c.chunks.m c.chunks.copied c.chunks.from s c.chunks.done.value.items) c.if-settled.false i.between in
-    rw (p.1, p.2) (ends_unsettled g.D.Disk.tells g.D.Disk.state c.args.most c.args.m.now c.chunks.m c.settle.new.m c.chunks.copied c.chunks.from c.requires.can c.chunks.done.value.items between c.in_err-settle.field-0.0 c.in_err-settle.ensures.settled)
+    rw (p.1, p.2) (ends_unsettled g.D.Disk.tells g.D.Disk.state c.args.most c.args.m.now c.chunks.m c.settle.new.m c.chunks.copied c.chunks.from c.requires.can c.chunks.done.value.items between true c.in_err-settle.field-0.0 c.in_err-settle.ensures.settled)
 
 pub chunks-preserved-then-lbn-eq-END : goal.chunks-preserved-then-lbn-eq-END
 chunks-preserved-then-lbn-eq-END g c =
@@ -38,7 +38,7 @@ chunks-preserved-then-lbn-eq-END g c =
     let between = subst (λ (s : Bool). Between g.D.Disk.tells g.D.Disk.state c.args.most c.args.m.now c.chunks.m c.chunks.copied c.chunks.from s c.chunks.done.value.items) c.if-settled.false i.between in record {
       ready = e.ready;
       at = e.at;
-      between = between_settled g.D.Disk.tells g.D.Disk.state c.args.most c.args.m.now c.chunks.m c.settle.new.m c.chunks.copied c.chunks.from c.requires.can c.chunks.done.value.items between e.settled;
+      between = between_settled g.D.Disk.tells g.D.Disk.state c.args.most c.args.m.now c.chunks.m c.settle.new.m c.chunks.copied c.chunks.from c.requires.can c.chunks.done.value.items between true e.settled;
     }
 
 pub returns-then-settled-2-clause-cleaned : goal.returns-then-settled-2-clause-cleaned
@@ -76,7 +76,7 @@ returns-in_err-settle-2-clause-cleaned g c =
     let still = between_same g.D.Disk.tells g.D.Disk.state c.args.most c.args.m.now c.chunks.m mid c.chunks.copied c.chunks.from c.requires.can c.chunks.done.value.items false between same.0 same.1 in
     let p = err_from_is_err_and c.from_residual-in_err-settle-2.result c.from_residual-in_err-settle-2.ensures.1 in
     rw (p.1, p.2) (subst (λ (ws : List Write). EndsBy g.D.Disk.tells g.D.Disk.state c.args.most c.args.m.now c.settle-then-not-was_written.new.m ws c.in_err-settle-2.field-0.0) (sym then)
-    (ends_unsettled g.D.Disk.tells g.D.Disk.state c.args.most c.args.m.now mid c.settle-then-not-was_written.new.m c.chunks.copied c.chunks.from c.requires.can c.chunks.done.value.items still c.in_err-settle-2.field-0.0 c.in_err-settle-2.ensures.settled))
+    (ends_unsettled g.D.Disk.tells g.D.Disk.state c.args.most c.args.m.now mid c.settle-then-not-was_written.new.m c.chunks.copied c.chunks.from c.requires.can c.chunks.done.value.items still c.chunks.lean c.in_err-settle-2.field-0.0 c.in_err-settle-2.ensures.settled))
 
 pub chunks-preserved-then-not-was_written : goal.chunks-preserved-then-not-was_written
 chunks-preserved-then-not-was_written g c =
@@ -96,8 +96,8 @@ chunks-preserved-then-not-was_written g c =
     let e = c.in_ok-settle-2.ensures in record {
       ready = e.ready;
       at = e.at;
-      between = subst (λ (ws : List Write). Between g.D.Disk.tells g.D.Disk.state c.args.most c.args.m.now c.settle-then-not-was_written.new.m c.chunks.copied c.chunks.from true ws) (sym then)
-          (between_settled g.D.Disk.tells g.D.Disk.state c.args.most c.args.m.now mid c.settle-then-not-was_written.new.m c.chunks.copied c.chunks.from c.requires.can c.chunks.done.value.items still e.settled);
+      between = subst (λ (ws : List Write). Between g.D.Disk.tells g.D.Disk.state c.args.most c.args.m.now c.settle-then-not-was_written.new.m c.chunks.copied c.chunks.from c.chunks.lean ws) (sym then)
+          (between_settled g.D.Disk.tells g.D.Disk.state c.args.most c.args.m.now mid c.settle-then-not-was_written.new.m c.chunks.copied c.chunks.from c.requires.can c.chunks.done.value.items still c.chunks.lean e.settled);
     }
 
 pub chunks-preserved : goal.chunks-preserved

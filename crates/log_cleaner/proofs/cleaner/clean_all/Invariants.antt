@@ -11,4 +11,4 @@ invariant-chunks g l = record {
 }
 
 abbrev pub decreases-chunks : goal.decreases-chunks
-decreases-chunks g l = 2 * (2 ^ 32 - l.from) + cond l.settled 0 1
+decreases-chunks g l = 3 * (2 ^ 32 - l.from) + cond l.settled 0 1 + cond l.lean 0 1
