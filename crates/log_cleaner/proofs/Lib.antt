@@ -9,4 +9,3 @@ pub mod Rewriting
 pub mod Cleaning
 pub mod Finding
 pub mod Telling
-pub mod Dropping

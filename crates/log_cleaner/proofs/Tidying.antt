@@ -34,7 +34,7 @@ both_ways true b to from = sym (to refl)
 both_ways false true to from = from refl
 both_ways false false to from = refl
 
-pub any_map : {X Y : Type 0} (p : Y → Bool) (f : X → Y) (xs : List X) → list_any p (map f xs) ≡ list_any (λ x. p (f x)) xs
+any_map : {X Y : Type 0} (p : Y → Bool) (f : X → Y) (xs : List X) → list_any p (map f xs) ≡ list_any (λ x. p (f x)) xs
 any_map p f [] = refl
 any_map p f (x ∷ xs) = λ i. p (f x) || any_map p f xs i
 
