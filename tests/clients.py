@@ -63,7 +63,8 @@ class Served:
             self.path.unlink()
         (self.folder / "status").write_text("")
         if self.socat:
-            self.run = subprocess.Popen(["socat", f"UNIX-LISTEN:{self.path}", "EXEC:./session"], cwd=self.folder)
+            errors = None if self.ends else subprocess.DEVNULL
+            self.run = subprocess.Popen(["socat", f"UNIX-LISTEN:{self.path}", "EXEC:./session"], cwd=self.folder, stderr=errors)
             for _ in range(1000):
                 if self.path.exists():
                     break

@@ -55,7 +55,8 @@ fn try_choice<R: Abort + Threads + Wait + Sync>(
     Ok(())
 }
 
-fn try_row<R: Abort + Threads + Wait + Sync>(
+/// So with each stop of a row's call, and each choice of what it leaves.
+pub fn try_row<R: Abort + Threads + Wait + Sync>(
     rt: &R,
     alloc: Global,
     row: &Row<'_>,
