@@ -101,6 +101,7 @@ def kill_format(wol: str, folder: Path, config: Config, rng: random.Random) -> b
     names = [f"{it.name}.vol" for it in config.volumes]
     old = [(folder / it).read_bytes() for it in names]
     stopped = kill(wol, folder, rng, "format")
+    left = [(folder / it).read_bytes() for it in names]
     volumes = opened(folder, config)
     told, text = call(wol, folder, "check"), check_text(config, volumes)
     assert told.stdout == text, f"check says {told.stdout}, and not {text}"
@@ -111,7 +112,7 @@ def kill_format(wol: str, folder: Path, config: Config, rng: random.Random) -> b
     for number, (volume, it) in enumerate(zip(config.volumes, volumes)):
         # an image that was emptied, and not yet made long
         if isinstance(it, Opened) or it.text not in (f"damaged 0 of {volume.name}", "length 0"):
-            assert (folder / names[number]).read_bytes() in (old[number], new[number]), f"{volume.name} is neither old nor new"
+            assert left[number] in (old[number], new[number]), f"{volume.name} is neither old nor new"
     return stopped
 
 
