@@ -5,8 +5,8 @@
 # go+trim; reclaim is their sum); a reclaim where newer records cover half of all (covered); and a whole drain, which asks each time
 # what may go and what is due. That program is proved and built in a folder that is removed afterwards. It measures by the clock, so
 # let the machine do nothing else.
-# Then, through the program build/wol as `make build` leaves it, on a memory file system, which needs 3 GB: 1,000 to 1,000,000 distinct blocks
-# of one volume are off-loaded one by one with `--reclaim off`; a window that finds all disks awake then reclaims them with
+# Then, through the program build/wol as `make build` leaves it, on a memory file system: 2,000, 20,000 and 200,000 distinct blocks of
+# one volume are off-loaded one by one with `--reclaim off`; a window that finds all disks awake then reclaims them with
 # `--reclaim between`. Printed is processor time a record of both, and of opening in between, and how it grows.
 # usage: bench/index.sh [RECORDS]..     (100 1000 10000 100000 1000000 if left out)
 set -eu
@@ -276,15 +276,15 @@ trap 'rm -rf "$folder" "$disk"' EXIT
 cd "$disk"
 # volume a has blocks for all, and b logs them
 printf 'segment_blocks = 4096\ntimeout_ms = 60000\nawake_mw = 8000\nstandby_mw = 1000\nwake_mj = 50000\n' >wol.toml
-printf '[[volume]]\nname = "a"\nhost = "h"\ndisk = 0\nhome_blocks = 2000000\nsegments = 1\nview = ["b"]\n' >>wol.toml
-printf '[[volume]]\nname = "b"\nhost = "h"\ndisk = 1\nhome_blocks = 1000\nsegments = 512\nview = []\n' >>wol.toml
+printf '[[volume]]\nname = "a"\nhost = "h"\ndisk = 0\nhome_blocks = 400000\nsegments = 1\nview = ["b"]\n' >>wol.toml
+printf '[[volume]]\nname = "b"\nhost = "h"\ndisk = 1\nhome_blocks = 1000\nsegments = 128\nview = []\n' >>wol.toml
 # the processor time of a call in microseconds
 processor() {
     local TIMEFORMAT='%3U %3S' took
     took=$({ time "$program" "$@" >out.txt; } 2>&1 <trace.csv)
     awk '{ print int(($1 + $2) * 1e6) }' <<<"$took"
 }
-for blocks in 1000 10000 200000 1000000; do
+for blocks in 2000 20000 200000; do
     "$program" format >/dev/null
     # b is read once a second; a falls asleep, and from second 100 on 1,000 of its blocks are written a second
     awk -v blocks="$blocks" 'BEGIN {
@@ -292,7 +292,7 @@ for blocks in 1000 10000 200000 1000000; do
         for (k = 0; k < blocks; k++) {
             s = 1100 + int(k / 1000)
             if (k % 1000 == 0) printf "%d0000000,h,1,Read,0,512,0\n", s
-            printf "%d%07d,h,0,Write,%d,512,0\n", s, k % 1000, (k * 7919 % 1000000) * 1024
+            printf "%d%07d,h,0,Write,%d,512,0\n", s, k % 1000, (k * 7919 % 200000) * 1024
         }
     }' >trace.csv
     logging=$(processor replay --reclaim off)
@@ -305,4 +305,4 @@ for blocks in 1000 10000 200000 1000000; do
     echo "$blocks $placed $logging $opening $((reclaiming - opening)) $records"
 done | awk 'BEGIN { printf "%9s %9s %9s %9s %9s  microseconds a record, processor time\n", "blocks", "logged", "write", "open", "reclaim" }
     { printf "%9d %9d %9.2f %9.2f %9.2f\n", $1, $2, $3 / $1, $4 / $1, $5 / $1; all[$1] = ($3 + $4 + $5) / $1; if ($6 != $1) print $6, "records were reclaimed" }
-    END { printf "from 10^3 to 10^6 records one costs %.1f times as much\n", all[1000000] / all[1000] }'
+    END { printf "from 2,000 to 200,000 records one costs %.1f times as much\n", all[200000] / all[2000] }'

@@ -63,8 +63,7 @@ class Served:
             self.path.unlink()
         (self.folder / "status").write_text("")
         if self.socat:
-            errors = None if self.ends else subprocess.DEVNULL
-            self.run = subprocess.Popen(["socat", f"UNIX-LISTEN:{self.path}", "EXEC:./session"], cwd=self.folder, stderr=errors)
+            self.run = subprocess.Popen(["socat", f"UNIX-LISTEN:{self.path}", "EXEC:./session"], cwd=self.folder)
             for _ in range(1000):
                 if self.path.exists():
                     break

@@ -22,7 +22,7 @@ from concurrent.futures import ProcessPoolExecutor
 from functools import partial
 from pathlib import Path
 
-from images import Config, Opened, check_text, opened, read_config, recovered
+from images import ZEROS, Config, Opened, check_text, opened, read_config, recovered
 from model import Request, is_cut, random_trace, read_lines
 
 MODES = ("off", "between", "beside")
@@ -96,23 +96,19 @@ def kill_keeping(wol: str, folder: Path, config: Config, rng: random.Random, arr
     return stopped
 
 
-def kill_format(wol: str, folder: Path, config: Config, rng: random.Random) -> bool:
-    """Kills a format: an image is as it was, has no label, or is whole. What a log that is as it was holds of another volume stays."""
-    names = [f"{it.name}.vol" for it in config.volumes]
-    old = [(folder / it).read_bytes() for it in names]
+def kill_format(wol: str, folder: Path, config: Config, rng: random.Random, arrays: list) -> bool:
+    """Kills a format: an image is as it was, has no label, or is whole."""
     stopped = kill(wol, folder, rng, "format")
-    left = [(folder / it).read_bytes() for it in names]
     volumes = opened(folder, config)
     told, text = call(wol, folder, "check"), check_text(config, volumes)
     assert told.stdout == text, f"check says {told.stdout}, and not {text}"
-    with tempfile.TemporaryDirectory(dir=folder) as other:
-        shutil.copy(folder / "wol.toml", other)
-        assert call(wol, Path(other), "format").returncode == 0
-        new = [(Path(other) / it).read_bytes() for it in names]
-    for number, (volume, it) in enumerate(zip(config.volumes, volumes)):
-        # an image that was emptied, and not yet made long
-        if isinstance(it, Opened) or it.text not in (f"damaged 0 of {volume.name}", "length 0"):
-            assert left[number] in (old[number], new[number]), f"{volume.name} is neither old nor new"
+    for volume, array, it in zip(config.volumes, arrays, volumes):
+        if isinstance(it, Opened):
+            assert it.array == array or it.array == [ZEROS] * len(array), f"{volume.name} is neither old nor new"
+        else:
+            # an image that was emptied, and not yet made long
+            unmade = (f"damaged 0 of {volume.name}", "length 0")
+            assert it.text in unmade or it.text.startswith("logger "), f"{volume.name} {it.text}"
     return stopped
 
 
@@ -148,7 +144,7 @@ def one_folder(wol: str, seed: int, root: str | None, number: int) -> tuple[Coun
         arrays = recovered(folder, config)
         for _ in range(8):
             arrays = one_round(wol, folder, config, rng, arrays, counts)
-        counts["formats killed"] += kill_format(wol, folder, config, rng)
+        counts["formats killed"] += kill_format(wol, folder, config, rng, arrays)
     except (AssertionError, subprocess.TimeoutExpired) as wrong:
         return Counter(), f"folder {number} of seed {seed} went wrong: {wrong}; it is {folder}"
     shutil.rmtree(folder)

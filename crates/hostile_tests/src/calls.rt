@@ -54,7 +54,7 @@ pub fn make_call<R: Abort + Threads + Wait + Sync>(
     rt: &R,
     alloc: Global,
     bay: &mut MemBay,
-    config: &[u8],
+    config: &str,
     call: Call<'_>,
     failing: Failing,
 ) -> Result<(u8, Vec<u8>), Fail>
@@ -68,7 +68,7 @@ pub fn make_call<R: Abort + Threads + Wait + Sync>(
         Failing::Sink(call) => (None, None, Some(call)),
     };
     let words = words_of(alloc, call.words)?;
-    let mut config = source_of(alloc, config, of_config)?;
+    let mut config = source_of(alloc, config.as_bytes(), of_config)?;
     let mut trace = source_of(alloc, call.trace, of_trace)?;
     let mut out = MemSink::new(alloc, of_sink);
     let status = run(

@@ -50,14 +50,7 @@ fn failed<R: Abort + Threads + Wait + Sync>(
 ) -> Result<(u8, String), Fail> {
     let mut bay = bay_of(alloc, row.volumes, images)?;
     bay.plan(part.image, part.part, number)?;
-    let (status, text) = make_call(
-        rt,
-        alloc,
-        &mut bay,
-        row.config.as_bytes(),
-        row.call,
-        Failing::Nothing,
-    )?;
+    let (status, text) = make_call(rt, alloc, &mut bay, row.config, row.call, Failing::Nothing)?;
     crash(alloc, &mut bay, row.volumes, left)?;
     let images = images_of(alloc, &mut bay, row.volumes)?;
     let _places = found(rt, alloc, row, &images)?;
@@ -124,14 +117,7 @@ fn left_by<R: Abort + Threads + Wait + Sync>(
     failing: Failing,
 ) -> Result<(u8, Vec<u8>, Vec<Vec<Block>>), Fail> {
     let mut bay = bay_of(alloc, row.volumes, images)?;
-    let (status, text) = make_call(
-        rt,
-        alloc,
-        &mut bay,
-        row.config.as_bytes(),
-        row.call,
-        failing,
-    )?;
+    let (status, text) = make_call(rt, alloc, &mut bay, row.config, row.call, failing)?;
     let images = images_of(alloc, &mut bay, row.volumes)?;
     Ok((status, text, images))
 }

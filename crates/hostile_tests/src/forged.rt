@@ -172,14 +172,7 @@ fn expect<R: Abort + Threads + Wait + Sync>(
     put(alloc, &mut bay, &WEB0, image.changes)?;
     put(alloc, &mut bay, &SRC0, image.changes)?;
     let asked = Call { words, trace: LINE };
-    let (found, said) = make_call(
-        rt,
-        alloc,
-        &mut bay,
-        THREE.as_bytes(),
-        asked,
-        Failing::Nothing,
-    )?;
+    let (found, said) = make_call(rt, alloc, &mut bay, THREE, asked, Failing::Nothing)?;
     let said = String::from_utf8_lossy(alloc, &said)?;
     assert_eq!(rt; said.as_str(), text, "{words}");
     assert_eq!(rt; found, status, "{words}: {text}");

@@ -1,9 +1,8 @@
 //! The program where everything around it fails: `stops.rt` has disks that stop at each of their calls, and what is there afterwards,
 //! `reopening.rt` disks that stop once more while that is looked at, `faults.rt` each call of a disk, of a source and of the sink that
 //! fails alone, `solo_stops.rt` and `served.rt` the same for a volume of its own and for one that is served to a client, `forged.rt`
-//! images that no run wrote, `spoiled.rt` images, configurations and traces that are changed at random. `calls.rt` has a call of the
-//! program over a bay in memory, `images.rt` what a crash leaves of its images, `rows.rt` the configurations, traces and commands of the
-//! tables: a command more is a row more there.
+//! images that no run wrote. `calls.rt` has a call of the program over a bay in memory, `images.rt` what a
+//! crash leaves of its images, `rows.rt` the configurations, traces and commands of the tables: a command more is a row more there.
 #![tactic(auto)]
 
 #[cfg(test)]
@@ -22,7 +21,5 @@ mod rows;
 mod served;
 #[cfg(test)]
 mod solo_stops;
-#[cfg(test)]
-mod spoiled;
 #[cfg(test)]
 mod stops;

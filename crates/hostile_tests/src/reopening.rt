@@ -55,8 +55,7 @@ fn try_choice<R: Abort + Threads + Wait + Sync>(
     Ok(())
 }
 
-/// So with each stop of a row's call, and each choice of what it leaves.
-pub fn try_row<R: Abort + Threads + Wait + Sync>(
+fn try_row<R: Abort + Threads + Wait + Sync>(
     rt: &R,
     alloc: Global,
     row: &Row<'_>,

@@ -115,7 +115,7 @@ pub const LOGS: &[u8] = b"128166372000000000,a,0,Write,512,512,100
 128166373000000000,a,0,Write,0,512,100
 ";
 
-/// Lines 3 to 5 go to logs of `w`, which is awake, two of `u` at one moment. Line 7 wakes `u`, whose records are put home and
+/// Lines 3 to 5 go to logs of `w`, which is awake, two of `u` as one group. Line 7 wakes `u`, whose records are put home and
 /// dropped then; so does line 12 with those of `s`. Line 10 goes home, two blocks in one write.
 pub const RECLAIMS: &[u8] = b"128166372000000000,w,0,Read,0,512,100
 128166372500000000,w,0,Read,0,512,100

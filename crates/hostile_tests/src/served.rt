@@ -1,8 +1,7 @@
-// A volume that is served to a client, at once or behind a handshake, while a disk, the client or its replies stop. Each session clears
-// a buffer of 32 MiB, so there is one of each kind.
+// A volume that is served to a client, while a disk, the client or its replies stop. Each session clears a buffer of 32 MiB, so there
+// is one.
 use crate::calls::{Call, Failing, make_call};
 use crate::images::{CHOICES, Left, bay_of, crash, images_of};
-use crate::reopening;
 use crate::rows::{Row, keeping};
 use crate::stops::{Remains, found, prepared, stopped};
 use std::alloc::Global;
@@ -136,43 +135,14 @@ const PARTS: [Part<'_>; 7] = [
     },
 ];
 
-// What a session begins with: the words of its command, what the client sends first, and what it gets for that.
-#[derive(Clone, Copy)]
-struct Opening<'a> {
-    words: &'a str,
-    asked: &'a [u8],
-    told: &'a [u8],
-}
-
-const AT_ONCE: Opening<'_> = Opening {
-    words: "nbd u",
-    asked: b"",
-    told: b"",
-};
-
-// The export of eight blocks is taken by its name.
-const SHAKEN: Opening<'_> = Opening {
-    words: "serve u",
-    asked: b"\0\0\0\x03IHAVEOPT\0\0\0\x01\0\0\0\x01u",
-    told: b"NBDMAGICIHAVEOPT\0\x03\0\0\0\0\0\0\x10\0\0\x0d",
-};
-
-// A session on volumes: what the client gets where nothing fails, and how much of that comes before the replies.
-#[derive(Clone, Copy)]
-struct Session<'a> {
-    row: Row<'a>,
-    wanted: &'a [u8],
-    told: usize,
-}
-
 // The error of a reply where a disk's call failed.
 const BROKE: &[u8] = &[0, 0, 0, 5];
 
 const MOST_CALLS: u64 = 1000;
 
-// Heads and what follows them, behind these bytes.
-fn spelled(alloc: Global, first: &[u8], all: &[Request<'_>]) -> Result<Vec<u8>, Fail> {
-    let mut bytes = Vec::from_slice(alloc, first)?;
+// Heads and what follows them.
+fn spelled(alloc: Global, all: &[Request<'_>]) -> Result<Vec<u8>, Fail> {
+    let mut bytes = Vec::new(alloc);
     for (head, blocks, byte) in all {
         bytes.extend_from_slice(head)?;
         for _ in 0..*blocks {
@@ -191,26 +161,15 @@ fn answered(replies: &[u8]) -> usize {
         .count()
 }
 
-impl Session<'_> {
-    // What the client gets before the replies, and the replies.
-    fn parts<'t>(&self, text: &'t [u8]) -> (&'t [u8], &'t [u8]) {
-        text.split_at(self.told.min(text.len()))
-    }
-
-    // Whether each reply is what it is otherwise or has the error of a disk's fault, and nothing is printed where a volume isn't
-    // open.
-    fn is_told(&self, left: &Remains) -> bool {
-        let (told, replies) = self.parts(&left.text);
-        let (wanted_first, wanted) = self.parts(self.wanted);
-        match left.status {
-            0 => told == wanted_first
-                && replies.chunks(REPLY).zip(wanted.chunks(REPLY)).take(5).all(|(
-                    reply,
-                    wanted,
-                )| reply.get(4..8) == Some(BROKE) || reply == wanted),
-            4 | 6 => left.text.is_empty(),
-            _ => false,
-        }
+// Whether each reply is what it is otherwise or has the error of a disk's fault, and nothing is printed where a volume isn't open.
+fn is_told(left: &Remains, whole: &[u8]) -> bool {
+    match left.status {
+        0 => left.text.chunks(REPLY).zip(whole.chunks(REPLY)).take(5).all(|(
+            reply,
+            wanted,
+        )| reply.get(4..8) == Some(BROKE) || reply == wanted),
+        4 | 6 => left.text.is_empty(),
+        _ => false,
     }
 }
 
@@ -219,12 +178,12 @@ impl Session<'_> {
 fn place_of<R: Abort + Threads + Wait + Sync>(
     rt: &R,
     alloc: Global,
-    session: &Session<'_>,
+    row: &Row<'_>,
     left: &Remains,
 ) -> Result<usize, Fail> {
-    let places = found(rt, alloc, &session.row, &left.images)?;
-    let (_, replies) = session.parts(&left.text);
-    let (Some(place), Some((least, most))) = (places.first(), BEHIND.get(answered(replies))) else {
+    let places = found(rt, alloc, row, &left.images)?;
+    let (Some(place), Some((least, most))) = (places.first(), BEHIND.get(answered(&left.text)))
+    else {
         panic!(rt; "no volume");
     };
     assert!(rt;
@@ -238,62 +197,53 @@ fn place_of<R: Abort + Threads + Wait + Sync>(
 fn try_choice<R: Abort + Threads + Wait + Sync>(
     rt: &R,
     alloc: Global,
-    session: &Session<'_>,
+    row: &Row<'_>,
     images: &[Vec<Block>],
     left: Left,
 ) -> Result<(), Fail> {
-    let row = &session.row;
     let whole = stopped(rt, alloc, row, row.call, images, u64::MAX, left)?;
+    let wanted = spelled(alloc, &REPLIES)?;
     assert_eq!(rt; whole.status, 0);
-    assert_eq!(rt; whole.text.as_slice(), session.wanted);
-    assert_eq!(rt; place_of(rt, alloc, session, &whole)?, 5);
+    assert_eq!(rt; whole.text.as_slice(), wanted.as_slice());
+    assert_eq!(rt; place_of(rt, alloc, row, &whole)?, 5);
     let mut before = 0;
     for calls in 0..whole.passed {
         let stop = stopped(rt, alloc, row, row.call, images, calls, left)?;
         assert_eq!(rt; stop.passed, calls, "{left:?}");
-        assert!(rt; session.is_told(&stop), "{calls} {left:?}: {}", stop.status);
-        let place = place_of(rt, alloc, session, &stop)?;
+        assert!(rt;
+            is_told(&stop, &wanted),
+            "{calls} {left:?}: {}",
+            stop.status
+        );
+        let place = place_of(rt, alloc, row, &stop)?;
         assert!(rt; place >= before, "{calls} {left:?}");
         before = place;
     }
     Ok(())
 }
 
-// The session that begins so, with what the client sends and what it gets.
-fn session_of<'a>(opening: &Opening<'a>, trace: &'a [u8], wanted: &'a [u8]) -> Session<'a> {
-    Session {
-        row: Row {
-            call: Call {
-                words: opening.words,
-                trace,
-            },
-            lines: LINES,
-            ..keeping(opening.words, &[])
+// The row with what the client sends.
+fn with_trace<'a>(trace: &'a [u8]) -> Row<'a> {
+    Row {
+        call: Call {
+            words: "nbd u",
+            trace,
         },
-        wanted,
-        told: opening.told.len(),
+        lines: LINES,
+        ..keeping("nbd u", &[])
     }
 }
 
 #[test]
 fn a_session_whose_disks_stop_keeps_what_was_answered(rt: HostRuntime) -> Result<(), Fail> {
     let alloc = rt.alloc();
-    for opening in [AT_ONCE, SHAKEN] {
-        let trace = spelled(alloc, opening.asked, &REQUESTS)?;
-        let wanted = spelled(alloc, opening.told, &REPLIES)?;
-        let session = session_of(&opening, &trace, &wanted);
-        let images = prepared(&rt, alloc, &session.row)?;
-        for left in CHOICES {
-            try_choice(&rt, alloc, &session, &images, left)?;
-        }
+    let trace = spelled(alloc, &REQUESTS)?;
+    let row = with_trace(&trace);
+    let images = prepared(&rt, alloc, &row)?;
+    for left in CHOICES {
+        try_choice(&rt, alloc, &row, &images, left)?;
     }
     Ok(())
-}
-
-#[test]
-fn a_check_that_stops_changes_nothing_after_a_session(rt: HostRuntime) -> Result<(), Fail> {
-    let trace = spelled(rt.alloc(), AT_ONCE.asked, &REQUESTS)?;
-    reopening::try_row(&rt, rt.alloc(), &session_of(&AT_ONCE, &trace, &[]).row)
 }
 
 // Where the client's bytes come from, where the replies go, and where the configuration comes from.
@@ -330,14 +280,7 @@ fn left_by<R: Abort + Threads + Wait + Sync>(
     failing: Failing,
 ) -> Result<Remains, Fail> {
     let mut bay = bay_of(alloc, row.volumes, images)?;
-    let (status, text) = make_call(
-        rt,
-        alloc,
-        &mut bay,
-        row.config.as_bytes(),
-        row.call,
-        failing,
-    )?;
+    let (status, text) = make_call(rt, alloc, &mut bay, row.config, row.call, failing)?;
     let images = images_of(alloc, &mut bay, row.volumes)?;
     Ok(Remains {
         status,
@@ -351,25 +294,22 @@ fn left_by<R: Abort + Threads + Wait + Sync>(
 fn try_stream<R: Abort + Threads + Wait + Sync>(
     rt: &R,
     alloc: Global,
-    session: &Session<'_>,
-    images: &[Vec<Block>],
+    row: &Row<'_>,
     stream: Stream,
 ) -> Result<(), Fail> {
+    let images = prepared(rt, alloc, row)?;
+    let wanted = spelled(alloc, &REPLIES)?;
     for number in 0..MOST_CALLS {
-        let left = left_by(rt, alloc, &session.row, images, stream.failing(number))?;
-        let place = place_of(rt, alloc, session, &left)?;
+        let left = left_by(rt, alloc, row, &images, stream.failing(number))?;
+        let place = place_of(rt, alloc, row, &left)?;
         if left.status == 0 {
             assert!(rt; number > 5, "{stream:?}");
-            assert_eq!(rt; left.text.as_slice(), session.wanted, "{stream:?}");
+            assert_eq!(rt; left.text.as_slice(), wanted.as_slice(), "{stream:?}");
             return Ok(());
         }
         assert_eq!(rt; left.status, stream.status(), "{stream:?} {number}");
-        assert!(rt;
-            session.wanted.starts_with(&left.text),
-            "{stream:?} {number}"
-        );
-        let (_, replies) = session.parts(&left.text);
-        let least = BEHIND.get(answered(replies)).map(|it| it.0);
+        assert!(rt; wanted.starts_with(&left.text), "{stream:?} {number}");
+        let least = BEHIND.get(answered(&left.text)).map(|it| it.0);
         assert!(rt;
             stream == Stream::Replies || least == Some(place),
             "{stream:?} {number}"
@@ -380,15 +320,9 @@ fn try_stream<R: Abort + Threads + Wait + Sync>(
 
 #[test]
 fn a_client_that_fails_has_what_was_answered(rt: HostRuntime) -> Result<(), Fail> {
-    let alloc = rt.alloc();
-    for opening in [AT_ONCE, SHAKEN] {
-        let trace = spelled(alloc, opening.asked, &REQUESTS)?;
-        let wanted = spelled(alloc, opening.told, &REPLIES)?;
-        let session = session_of(&opening, &trace, &wanted);
-        let images = prepared(&rt, alloc, &session.row)?;
-        for stream in [Stream::Config, Stream::Client, Stream::Replies] {
-            try_stream(&rt, alloc, &session, &images, stream)?;
-        }
+    let trace = spelled(rt.alloc(), &REQUESTS)?;
+    for stream in [Stream::Config, Stream::Client, Stream::Replies] {
+        try_stream(&rt, rt.alloc(), &with_trace(&trace), stream)?;
     }
     Ok(())
 }
@@ -418,14 +352,7 @@ fn failed<R: Abort + Threads + Wait + Sync>(
 ) -> Result<Remains, Fail> {
     let mut bay = bay_of(alloc, row.volumes, images)?;
     bay.plan(part.image, part.part, number)?;
-    let (status, text) = make_call(
-        rt,
-        alloc,
-        &mut bay,
-        row.config.as_bytes(),
-        row.call,
-        Failing::Nothing,
-    )?;
+    let (status, text) = make_call(rt, alloc, &mut bay, row.config, row.call, Failing::Nothing)?;
     crash(alloc, &mut bay, row.volumes, left)?;
     let images = images_of(alloc, &mut bay, row.volumes)?;
     Ok(Remains {
@@ -440,19 +367,20 @@ fn failed<R: Abort + Threads + Wait + Sync>(
 fn try_part<R: Abort + Threads + Wait + Sync>(
     rt: &R,
     alloc: Global,
-    session: &Session<'_>,
+    row: &Row<'_>,
     images: &[Vec<Block>],
     part: Part<'_>,
     left: Left,
 ) -> Result<(), Fail> {
     let (image, place) = (part.image, part.part);
+    let wanted = spelled(alloc, &REPLIES)?;
     for number in 0..MOST_CALLS {
-        let stop = failed(rt, alloc, &session.row, images, part, number, left)?;
+        let stop = failed(rt, alloc, row, images, part, number, left)?;
         let status = part.status_at(number);
         assert_eq!(rt; stop.status, status, "{image} {place} {number}");
-        assert!(rt; session.is_told(&stop), "{image} {place} {number}");
-        let _place = place_of(rt, alloc, session, &stop)?;
-        if status == 0 && stop.text.as_slice() == session.wanted {
+        assert!(rt; is_told(&stop, &wanted), "{image} {place} {number}");
+        let _place = place_of(rt, alloc, row, &stop)?;
+        if status == 0 && stop.text == wanted {
             return Ok(());
         }
     }
@@ -462,13 +390,12 @@ fn try_part<R: Abort + Threads + Wait + Sync>(
 #[test]
 fn each_call_of_a_disk_that_fails_in_a_session_is_told(rt: HostRuntime) -> Result<(), Fail> {
     let alloc = rt.alloc();
-    let trace = spelled(alloc, AT_ONCE.asked, &REQUESTS)?;
-    let wanted = spelled(alloc, AT_ONCE.told, &REPLIES)?;
-    let session = session_of(&AT_ONCE, &trace, &wanted);
-    let images = prepared(&rt, alloc, &session.row)?;
+    let trace = spelled(alloc, &REQUESTS)?;
+    let row = with_trace(&trace);
+    let images = prepared(&rt, alloc, &row)?;
     for part in PARTS {
-        try_part(&rt, alloc, &session, &images, part, Left::AllOld)?;
-        try_part(&rt, alloc, &session, &images, part, Left::AllNew)?;
+        try_part(&rt, alloc, &row, &images, part, Left::AllOld)?;
+        try_part(&rt, alloc, &row, &images, part, Left::AllNew)?;
     }
     Ok(())
 }

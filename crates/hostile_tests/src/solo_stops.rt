@@ -139,7 +139,7 @@ fn failed<R: Abort + Threads + Wait + Sync>(
     if let Some(number) = planned {
         bay.plan("solo", 0, number)?;
     }
-    make_call(rt, alloc, &mut bay, b"", SOLO.call, failing)
+    make_call(rt, alloc, &mut bay, "", SOLO.call, failing)
 }
 
 #[test]

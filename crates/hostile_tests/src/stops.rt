@@ -32,7 +32,7 @@ pub fn prepared<R: Abort + Threads + Wait + Sync>(
             rt,
             alloc,
             &mut bay,
-            row.config.as_bytes(),
+            row.config,
             *earlier,
             Failing::Nothing,
         )?;
@@ -54,14 +54,7 @@ pub fn stopped<R: Abort + Threads + Wait + Sync>(
     let mut bay = bay_of(alloc, row.volumes, images)?;
     let fuse = Arc::new(alloc, Fuse::new(calls))?;
     bay.set_fuse(Some(Arc::try_clone(&fuse)?));
-    let (status, text) = make_call(
-        rt,
-        alloc,
-        &mut bay,
-        row.config.as_bytes(),
-        asked,
-        Failing::Nothing,
-    )?;
+    let (status, text) = make_call(rt, alloc, &mut bay, row.config, asked, Failing::Nothing)?;
     crash(alloc, &mut bay, row.volumes, left)?;
     bay.set_fuse(None);
     let images = images_of(alloc, &mut bay, row.volumes)?;
@@ -85,7 +78,7 @@ pub fn checked<R: Abort + Threads + Wait + Sync>(
         rt,
         alloc,
         &mut bay,
-        row.config.as_bytes(),
+        row.config,
         asked("check"),
         Failing::Nothing,
     )?;

@@ -103,13 +103,12 @@ fn a_client_goes(rt: HostRuntime) -> Result<(), Fail> {
 #[test]
 fn an_export_is_taken_by_its_name(rt: HostRuntime) -> Result<(), Fail> {
     let alloc = rt.alloc();
-    let rows: [(u8, &[u8]); 4] = [(0, &[0; 124]), (1, &[0; 124]), (2, &[]), (3, &[])];
-    for (flag, zeroes) in rows {
+    for (flag, zeroes) in [(0, 124), (1, 124), (2, 0), (3, 0)] {
         let mut asked = flags(alloc, flag)?;
         option(&mut asked, EXPORT_NAME, b"usr0")?;
         let (end, got) = shaken(alloc, asked, Vec::new(alloc))?;
         let mut want = Vec::from_slice(alloc, &EXPORT[2..])?;
-        want.extend_from_slice(zeroes)?;
+        want.extend_from_slice(&[0; 124][..zeroes])?;
         assert_eq!(rt; end, Ok(Shaken::Agreed));
         assert_eq!(rt; got.as_slice(), want.as_slice());
     }

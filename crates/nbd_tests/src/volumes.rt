@@ -159,92 +159,6 @@ fn what_one_session_writes_another_reads(rt: HostRuntime) -> Result<(), Fail> {
     Ok(())
 }
 
-// What a client sends, byte by byte, the head that it gets, and the data behind it: a READ; a type that is none, and DISC.
-const SESSIONS: [(&[u8], &[u8], &[u8]); 2] = [
-    (
-        b"\x25\x60\x95\x13\0\0\0\0\0\0\0\0\0\0\0\x01\0\0\0\0\0\0\0\0\0\0\x02\0",
-        b"\x67\x44\x66\x98\0\0\0\0\0\0\0\0\0\0\0\x01",
-        &[0; 512],
-    ),
-    (
-        b"\x25\x60\x95\x13\0\0\0\x04\0\0\0\0\0\0\0\x02\0\0\0\0\0\0\0\0\0\0\x02\0\x25\x60\x95\x13\0\0\0\x02\0\0\0\0\0\0\0\x03\0\0\0\0\0\0\0\0\0\0\0\0",
-        b"\x67\x44\x66\x98\0\0\0\x16\0\0\0\0\0\0\0\x02",
-        &[],
-    ),
-];
-
-#[test]
-fn sessions_are_answered_byte_by_byte(rt: HostRuntime) -> Result<(), Fail> {
-    let alloc = rt.alloc();
-    let config = read_config(alloc, THREE.as_bytes())?;
-    for (asked, head, given) in SESSIONS {
-        let mut bay = formatted(&rt, alloc, &config);
-        let (status, got) = served(
-            &rt,
-            alloc,
-            &config,
-            &mut bay,
-            Beginning::AtOnce,
-            "usr0",
-            Vec::from_slice(alloc, asked)?,
-        )?;
-        let mut want = Vec::from_slice(alloc, head)?;
-        want.extend_from_slice(given)?;
-        assert_eq!(rt; status, 0);
-        assert_eq!(rt; got.as_slice(), want.as_slice());
-    }
-    Ok(())
-}
-
-// The calls of a volume's home: one when it is opened, then a write and a sync for each piece.
-const SECOND_WRITE: u64 = 3;
-
-#[test]
-fn earlier_pieces_stand_where_a_disk_fails(rt: HostRuntime) -> Result<(), Fail> {
-    let alloc = rt.alloc();
-    let config = read_config(alloc, THREE.as_bytes())?;
-    let mut bay = formatted(&rt, alloc, &config);
-    bay.plan("usr0", 1, SECOND_WRITE)?;
-    let mut asked = Vec::new(alloc);
-    ask(&mut asked, 0, WRITE, 1, 0, 512 * 20)?;
-    counting(&mut asked, 5, 512 * 20)?;
-    ask(&mut asked, 0, READ, 2, 0, 512)?;
-    let (status, got) = served(
-        &rt,
-        alloc,
-        &config,
-        &mut bay,
-        Beginning::AtOnce,
-        "usr0",
-        asked,
-    )?;
-    let mut want = Vec::new(alloc);
-    reply(&mut want, 5, 1)?;
-    reply(&mut want, 5, 2)?;
-    assert_eq!(rt; status, 0);
-    assert_eq!(rt; got.as_slice(), want.as_slice());
-
-    // A piece is as long as a segment has room for.
-    let mut asked = Vec::new(alloc);
-    ask(&mut asked, 0, READ, 3, 0, 512 * 20)?;
-    let (status, got) = served(
-        &rt,
-        alloc,
-        &config,
-        &mut bay,
-        Beginning::AtOnce,
-        "usr0",
-        asked,
-    )?;
-    let mut want = Vec::new(alloc);
-    reply(&mut want, 0, 3)?;
-    counting(&mut want, 5, 512 * 14)?;
-    want.extend_from_slice(&[0; 512 * 6])?;
-    assert_eq!(rt; status, 0);
-    assert_eq!(rt; got.as_slice(), want.as_slice());
-    Ok(())
-}
-
 #[test]
 fn sessions_end_with_their_statuses(rt: HostRuntime) -> Result<(), Fail> {
     let alloc = rt.alloc();
@@ -289,20 +203,7 @@ fn sessions_end_with_their_statuses(rt: HostRuntime) -> Result<(), Fail> {
     assert_eq!(rt; status, 14);
     assert!(rt; got.is_empty());
 
-    // A name is looked for before any image is.
     let mut nothing = MemBay::new(alloc);
-    let (status, got) = served(
-        &rt,
-        alloc,
-        &config,
-        &mut nothing,
-        Beginning::Handshake,
-        "usr1",
-        Vec::new(alloc),
-    )?;
-    assert_eq!(rt; status, 15);
-    assert!(rt; got.is_empty());
-
     let (status, got) = served(
         &rt,
         alloc,
@@ -402,9 +303,8 @@ fn a_write_that_finds_no_room_is_met_by_a_drain(rt: HostRuntime) -> Result<(), F
     assert!(rt; DRAINS.len() > 115);
     let mut bay = offloaded(&rt, alloc, &config, &DRAINS[..115])?;
     let before = checked(&rt, alloc, &config, &mut bay)?;
-    let before = String::from_utf8_lossy(alloc, &before)?;
-    assert!(rt; before.starts_with("a ok sha256 "));
-    assert!(rt; before.contains(" records 1 segments 1\nb ok"));
+    assert!(rt; before.starts_with(b"a ok sha256 "));
+    assert!(rt; find(&before, b" records 1 segments 1\nb ok"));
 
     let mut asked = Vec::new(alloc);
     ask(&mut asked, 0, WRITE, 1, 0, 512)?;
@@ -418,7 +318,11 @@ fn a_write_that_finds_no_room_is_met_by_a_drain(rt: HostRuntime) -> Result<(), F
     assert_eq!(rt; status, 0);
     assert_eq!(rt; got.as_slice(), want.as_slice());
     let after = checked(&rt, alloc, &config, &mut bay)?;
-    let after = String::from_utf8_lossy(alloc, &after)?;
-    assert!(rt; after.contains(" records 0 segments 0\nb ok"));
+    assert!(rt; find(&after, b" records 0 segments 0\nb ok"));
     Ok(())
+}
+
+// Whether some bytes stand in a text.
+fn find(text: &[u8], bytes: &[u8]) -> bool {
+    (0..text.len()).any(|at| text[at..].starts_with(bytes))
 }

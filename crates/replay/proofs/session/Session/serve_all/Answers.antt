@@ -39,7 +39,7 @@ returns-in_err-take-in-Ok-Some-clause-some g c =
     c.loop.given c.loop.cutter c.loop.self (g.K.Sink.faults c.loop.out) (g.K.Sink.taken c.loop.out) so c.next.new.self _ c.take.new.cutter _ c.take.new.self (g.K.Sink.faults c.take.new.out) (g.K.Sink.taken c.take.new.out) stops (next c.args.given.now (so.run ++ so.more) so.given))
 
 pub serve_last-requires-clause-inside : goal.serve_last-requires-clause-inside
-serve_last-requires-clause-inside g c =
+serve_last-requires-clause-inside g c κs lives =
     let so = c.loop.invariant.so_far in
     rw c.current-batch.ensures (current_lies c.args.config.now (so.run ++ so.more) so.ws c.loop.cutter c.requires.valid so.cut)
 
@@ -100,7 +100,7 @@ returns-then-is_memory-clause-some g c =
     (rw (append-nil so.more) has.0) (not_run_same g.D.Disk.tells c.loop.self.floor) refl (keeps_same (g.K.Sink.taken c.loop.out))
 
 pub serve_last-requires-in-Err-clause-inside : goal.serve_last-requires-in-Err-clause-inside
-serve_last-requires-in-Err-clause-inside g c =
+serve_last-requires-in-Err-clause-inside g c κs lives =
     let so = c.loop.invariant.so_far in
     rw c.current-batch-in-Err.ensures (current_lies c.args.config.now (so.run ++ so.more) so.ws c.loop.cutter c.requires.valid so.cut)
 

@@ -6,7 +6,7 @@ use Rattle.replay.proofs.session.Session.take.Goals.{then-branch+in_ok-serve, el
 use Rattle.replay.proofs.session.Session.take.Goals as goal
 
 pub serve-requires-clause-inside : goal.serve-requires-clause-inside
-serve-requires-clause-inside g c =
+serve-requires-clause-inside g c κs lives =
     let t = c.requires.cut in
     let took = rw c.if-branch.true at (c.in_ok-take.ensures.ok t.lines t.given t.cut) in
     rw c.whole-batch.ensures (batch_lies c.args.config.now _ took.0 c.take.new.self.whole c.requires.valid took.1)
