@@ -16,7 +16,6 @@ use Rattle.manager.specs.declared.station.Station.{Station}
 use Rattle.manager.proofs.Lanes.{get_set, get_other}
 use Rattle.manager.proofs.Touched.{zip_all}
 use Rattle.manager.proofs.ReadThrough.{zip_self, zip_set, zip_then}
-use Rattle.rack.specs.Owners.{most_of}
 use Rattle.rack.specs.Racks.{IsStation, base_of_station}
 use Rattle.rack.specs.declared.rack.Rack.{Rack}
 use Rattle.open_rack.specs.Again.{IsPassAgain, IsRackAgain, IsStationAgain}
@@ -25,6 +24,7 @@ use Rattle.log_cleaner.specs.declared.answer.Cleaned.{Cleaned}
 use Rattle.log_cleaner.specs.declared.answer.CleanFault.{CleanFault}
 use Rattle.cleaning.specs.Racks.{CanCleanAll, CleansStation, IsSameButWorked, IsWorked}
 use Rattle.cleaning.specs.Turns.{CleansIn}
+use Rattle.wol_config.specs.Configs.{most_of}
 
 module _ {D : Type 0} where
   station_self : (s : Station D) → IsSameButWorked s s

@@ -31,7 +31,7 @@ use Rattle.volume_images.specs.Left.{IsTold}
 use Rattle.volume_images.specs.Volumes.{AreLeft, images_read, shapes_of}
 use Rattle.rack.specs.Closes.{AreListedOf, CameBackFaulty, HasFaultyPart, IsClosedVolume, RecoversTo, part_named, recovered_out, segments_out}
 use Rattle.rack.specs.Opens.{BeganWith}
-use Rattle.rack.specs.Owners.{IsBegun, images_taken, most_of}
+use Rattle.rack.specs.Owners.{IsBegun, images_taken}
 use Rattle.rack.specs.Racks.{IsStation, IsUnused, base_of_station}
 use Rattle.rack.specs.Rests.{IsImageOut}
 use Rattle.rack.specs.declared.rack.Rack.{Rack}
@@ -53,6 +53,7 @@ use Rattle.inspection.proofs.Unhelped.{all_at, none_before}
 use Rattle.cleaning.specs.Runs.{LeavesRecords}
 use Rattle.cleaning.specs.Turns.{CleansIn, CleansOrLeaves, cleaned, left, operation_of}
 use Rattle.cleaning.proofs.Histories.{no_entries, none_cut, note_cut, note_done, one_entry}
+use Rattle.wol_config.specs.Configs.{most_of}
 
 -- ---- A manager as it was opened
 

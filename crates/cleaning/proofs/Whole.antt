@@ -25,7 +25,7 @@ use Rattle.volume_images.specs.Volumes.{AreLeft, images_read, shape_in, shapes_o
 use Rattle.rack.specs.Closes.{AreLeftOfParts, HasFaultyPart, RecoversTo, part_named}
 use Rattle.rack.proofs.FailedParts.{came_back_since}
 use Rattle.rack.specs.Opens.{BeganWith}
-use Rattle.rack.specs.Owners.{IsBegun, most_of}
+use Rattle.rack.specs.Owners.{IsBegun}
 use Rattle.rack.specs.declared.rack.Rack.{Rack}
 use Rattle.open_rack.specs.Sessions.{OpensAndCloses}
 use Rattle.spin_model.specs.Spindles.{SpindleView}
@@ -46,6 +46,7 @@ use Rattle.cleaning.specs.Runs as runs
 use Rattle.cleaning.specs.Turns.{operation_of}
 use Rattle.cleaning.proofs.Going.{ok_at, ok_length}
 use Rattle.cleaning.proofs.Volumes as volumes
+use Rattle.wol_config.specs.Configs.{most_of}
 
 -- ---- Versions
 

@@ -11,7 +11,6 @@ use Rattle.manager.specs.declared.station.Station.{Station}
 use Rattle.request_turns.specs.Turns.{ManagerPass}
 use Rattle.report.specs.declared.fault.Fault.{Fault}
 use Rattle.report.specs.declared.fault.Fault.TheVariants.{Memory}
-use Rattle.rack.specs.Owners.{most_of}
 use Rattle.rack.specs.Racks.{IsStation, base_of_station}
 use Rattle.rack.specs.declared.rack.Rack.{Rack}
 use Rattle.open_rack.specs.NotOpened.{first_closed}
@@ -21,6 +20,7 @@ use Rattle.log_cleaner.specs.declared.answer.Cleaned.{Cleaned}
 use Rattle.log_cleaner.specs.declared.answer.CleanFault.{CleanFault}
 use Rattle.cleaning.specs.Lines.{fault_of, lines_of}
 use Rattle.cleaning.specs.Turns.{CleansIn}
+use Rattle.wol_config.specs.Configs.{most_of}
 
 -- each volume has its station, in order, whose manager may be cleaned over these shared locks
 pub record CanCleanAll {D : Type 0} (config : Config) (r : Rack D) : Type 0 where

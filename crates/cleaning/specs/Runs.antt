@@ -22,7 +22,7 @@ use Rattle.troubles.specs.Troubles.{trouble_of}
 use Rattle.volume_images.specs.Left.{AreNamedApart, IsTold}
 use Rattle.volume_images.specs.Volumes.{AreLeft, images_read, shapes_of}
 use Rattle.rack.specs.Closes.{AreListedOf, CameBackFaulty, HasFaultyPart, part_named}
-use Rattle.rack.specs.Owners.{IsBegun, most_of}
+use Rattle.rack.specs.Owners.{IsBegun}
 use Rattle.rack.specs.declared.volume_fault.VolumeFault.{VolumeFault}
 use Rattle.open_rack.specs.NotOpened.{IsFirstClosed}
 use Rattle.replay.specs.declared.stop.Stop.{Stop}
@@ -34,6 +34,7 @@ use Rattle.log_cleaner.specs.declared.answer.CleanFault.{CleanFault}
 use Rattle.log_cleaner.specs.declared.answer.CleanFault.TheVariants.{DiskFault, VersionsSpent}
 use Rattle.cleaning.specs.Lines.{fault_of, lines_of}
 use Rattle.cleaning.specs.Turns.{operation_of}
+use Rattle.wol_config.specs.Configs.{most_of}
 
 -- The next version of what a volume began with, and the number of its chunks, come to more than 2^63.
 pub record LacksVersions (most : ℕ) (b : Base) : Type 0 where

@@ -5,11 +5,11 @@ use Rattle.wol_model.specs.Trace.{Target, Timed, TraceLine, Window, ended, joins
 use Rattle.wol_config.specs.declared.config.Config.{Config}
 use Rattle.trace_gen.specs.Generated.{targets_of}
 use Rattle.trace_windows.specs.Laws.{AreInOrder}
-use Rattle.trace_windows.specs.Requests.{most_of}
 use Rattle.trace_windows.proofs.Rising.{moments_rise}
 use Rattle.whatif.specs.Machine.{Asked}
 use Rattle.comparison.specs.Asked.{asked_by, asked_in}
 use Rattle.comparison.specs.Side.{beginning, begun_at, is_some_window, last_moment}
+use Rattle.wol_config.specs.Configs.{most_of}
 
 -- ---- one window more
 

@@ -8,13 +8,13 @@ use Rattle.wol_model.specs.Trace as trace
 use Rattle.wol_model.specs.Trace.{Target, TraceLine, Window, ended, home_of, started, timed, windows}
 use Rattle.wol_config.specs.declared.config.Config.{Config}
 use Rattle.wol_config.specs.declared.config.VolumeConf.{VolumeConf}
-use Rattle.wol_config.specs.Configs.{IsValid}
+use Rattle.wol_config.specs.Configs.{IsValid, most_of}
 use Rattle.trace_gen.specs.Generated.{target_of, targets_of}
 use Rattle.trace_gen.proofs.Fair.{no_volume}
 use Rattle.trace_windows.specs.Batches.{Batched, IsBatchOf}
 use Rattle.trace_windows.specs.Cutting.{AreWindows, Cutting, HasCut, next_number}
 use Rattle.trace_windows.specs.Laws.{AreInOrder}
-use Rattle.trace_windows.specs.Requests.{IsInside, asked, most_of, numbered, requests_in}
+use Rattle.trace_windows.specs.Requests.{IsInside, asked, numbered, requests_in}
 use Rattle.trace_windows.specs.declared.request.Request.{Request}
 use Rattle.whatif.specs.declared.policy.Ask.{Ask}
 use Rattle.whatif.specs.Machine.{Asked}

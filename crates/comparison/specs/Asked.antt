@@ -5,11 +5,12 @@ use Rattle.wol_model.specs.Trace.{TraceLine, Window, ended, started, timed, wind
 use Rattle.wol_config.specs.declared.config.Config.{Config}
 use Rattle.trace_gen.specs.Generated.{targets_of}
 use Rattle.trace_windows.specs.Batches.{Batched}
-use Rattle.trace_windows.specs.Requests.{asked, most_of, requests_in}
+use Rattle.trace_windows.specs.Requests.{asked, requests_in}
 use Rattle.trace_windows.specs.declared.request.Request.{Request}
 use Rattle.whatif.specs.declared.policy.Ask.{Ask}
 use Rattle.whatif.specs.Machine.{Asked}
 use Rattle.whatif.specs.Lines.{whatif_text}
+use Rattle.wol_config.specs.Configs.{most_of}
 
 -- what a request asks of its volume
 abbrev pub ask_of : trace.Request → Ask

@@ -4,7 +4,6 @@ use Rattle.wol_model.specs.Trace.{TraceLine, Window}
 use Rattle.wol_config.specs.declared.config.Config.{Config}
 use Rattle.trace_gen.specs.Generated.{targets_of}
 use Rattle.trace_windows.specs.Cutting.{Cutting, HasCut}
-use Rattle.trace_windows.specs.Requests.{most_of}
 use Rattle.whatif.specs.declared.policy.Policy.{Policy}
 use Rattle.whatif.specs.declared.policy.Policy.TheVariants.{Always, SpinDown, Host, All}
 use Rattle.whatif.specs.declared.machine.Machine.{Machine}
@@ -13,6 +12,7 @@ use Rattle.whatif.specs.Stands.{HasRun, IsMachine}
 use Rattle.comparison.specs.Asked.{asked_in}
 use Rattle.comparison.specs.declared.machines.Machines.{Machines}
 use Rattle.comparison.specs.declared.windows.Comparison.{Comparison}
+use Rattle.wol_config.specs.Configs.{most_of}
 
 -- so of the machine of each policy
 pub record Each (P : Policy → Machine → Type 0) (ms : Machines) : Type 0 where

@@ -2,10 +2,10 @@
 ghost use Rattle.std.specs.Prelude.{◌≡◌, ◌<◌, ◌≤◌, ◌+◌, ◌*◌, ◌^◌, ◌++◌, ◌∷◌, [], List, length, map, option_map, IfOk, IfSome, OnOk};
 ghost use Rattle.std.specs.List.{AllByRecursion};
 ghost use Rattle.wol_model.specs.Trace.{ended, started, timed};
-ghost use Rattle.wol_config.specs.Configs.{IsValid};
+ghost use Rattle.wol_config.specs.Configs.{IsValid, most_of};
 ghost use Rattle.trace_gen.specs.Generated.{targets_of};
 ghost use Rattle.msr_trace.specs.Lines.{Fits, trace_line};
-ghost use Rattle.trace_windows.specs.Requests.{IsInside, asked, most_of};
+ghost use Rattle.trace_windows.specs.Requests.{IsInside, asked};
 ghost use Rattle.whatif.specs.Machine.{Asked};
 ghost use Rattle.comparison.specs.Asked.{ask_of, asked_by, asked_of, comparison_of};
 ghost use Rattle.comparison.specs.Side.{HasBegun, HasTaken, HasTakenSome, IsBehind, MayRun};

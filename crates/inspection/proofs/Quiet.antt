@@ -8,7 +8,7 @@ use Rattle.turn_lock.specs.Histories.{Entry}
 use Rattle.turn_lock.specs.Passes.{pass_mine}
 use Rattle.manager.specs.Stands.{notes_of}
 use Rattle.manager.specs.declared.station.Station.{Station}
-use Rattle.rack.specs.Closes.{IsQuiet, in_flight}
+use Rattle.rack.specs.Closes.{IsQuiet, flight_in}
 use Rattle.rack.specs.Racks.{AreUnused, IsUnused}
 use Rattle.inspection.specs.Racks.{IsSameStation}
 use Rattle.inspection.proofs.SameRacks.{each_all}
@@ -47,7 +47,7 @@ module _ {D : Type 0} where
       let helped : pass_mine t.helper ≡ [] = ap (λ (w : Station D). pass_mine w.helper) same.same ∙ unused.1.mine in
       let kept : pass_mine t.keeper ≡ [] = ap (λ (w : Station D). pass_mine w.keeper) same.same ∙ unused.2.mine in
       let worked : AreHelps (notes_of (pass_mine t.worker)) = same.helps (subst (λ (es : List Entry). AreHelps (notes_of es)) (sym unused.0.mine) tt) in (
-        (none_in_flight (notes_of (pass_mine t.worker)) worked, ap in_flight helped, ap in_flight kept),
+        (none_in_flight (notes_of (pass_mine t.worker)) worked, ap flight_in helped, ap flight_in kept),
         (no_writes (notes_of (pass_mine t.worker)) worked, ap (λ (es : List Entry). writes (entries_of (notes_of es))) helped, ap (λ (es : List Entry). writes (entries_of (notes_of es))) kept),
       )
 

@@ -21,9 +21,9 @@ use Rattle.log_dump.specs.Volumes.{IsDump, array_of, held_segments}
 use Rattle.log_dump.specs.declared.fault.DumpFault.{DumpFault}
 use Rattle.log_dump.specs.declared.fault.DumpFault.TheVariants.{DiskFault, Down, NoMemory}
 use Rattle.report.specs.Names.{name_at}
-use Rattle.rack.specs.Owners.{most_of}
 use Rattle.inspection.specs.declared.asked.Asked.{Asked}
 use Rattle.inspection.specs.declared.asked.Asked.TheVariants.{Check, Dump}
+use Rattle.wol_config.specs.Configs.{most_of}
 
 -- what a manager with this base, over these shared locks, has to serve: its volume and the loggers of its view are configured
 pub record IsConfiguredBase {D : Type 0} (config : Config) (shared : Shared D) (b : ManagerBase) : Type 0 where

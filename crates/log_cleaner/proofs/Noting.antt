@@ -13,7 +13,7 @@ use Rattle.wol_promise.specs.Manager.{Parts, ManagerSeen, Base, AllRecords, WasW
 use Rattle.wol_model.specs.Extents.{IsValid}
 use Rattle.wol_model.specs.Log.{Record, extent_of}
 use Rattle.wol_model.specs.Recovered.{recovered}
-use Rattle.wol_promise.specs.Stands.{HasHistory, LiesIn, Upholds}
+use Rattle.wol_promise.specs.Stands.{HasHistory, LiesInVolume, Upholds}
 use Rattle.wol_promise.proofs.Lists.{all_front}
 use Rattle.wol_promise.proofs.OneMore.{entries_more}
 use Rattle.manager.proofs.Frames.{times_more}
@@ -89,7 +89,7 @@ module _ {P : Type 0} (parts : Parts P) (base : Base) (m : ManagerSeen P) (A B :
   upholds_sooner u history logged = record {
     began = u.began;
     history = history;
-    lie = subst (λ (l : List Write). AllByRecursion (LiesIn base.home_blocks) (base.records ++ l)) (append_assoc ws cs flight) u.lie;
+    lie = subst (λ (l : List Write). AllByRecursion (LiesInVolume base.home_blocks) (base.records ++ l)) (append_assoc ws cs flight) u.lie;
     versioned = let v = u.versioned in record {
       apart = apart_front (versions base.records ++ versions ws) (versions cs) (subst AreApart joined v.apart);
       below = all_front (λ (n : ℕ). n < m.next) (versions base.records ++ versions ws) (versions cs) (subst (AllByRecursion (λ (n : ℕ). n < m.next)) joined v.below);

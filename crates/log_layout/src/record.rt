@@ -1,7 +1,7 @@
 // The heads of records, in two forms.
 ghost use Rattle.std.specs.Prelude.{◌≡◌, ◌≤◌, ◌<◌, ◌-◌, ◌^◌, ◌↔◌, IsTrue, IfSome, IfNone, ℕ, ◌+◌, ◌≢◌, drop};
 ghost use Rattle.byteorder.specs.Endian.{little_number};
-ghost use Rattle.wol_model.specs.Heads.{RecordHead, IsRecordHead, IsMask, SpellsRecord, head_block};
+ghost use Rattle.wol_model.specs.Heads.{RecordHead, IsRecordHead, IsMaskOfForm, SpellsRecord, head_block};
 ghost use Rattle.log_layout.specs.Fields.{record_at};
 ghost use Rattle.log_layout.specs.Values.{record_head};
 
@@ -105,7 +105,7 @@ fn has_span(v: &RecHead) -> bool
 // Whether these blocks may be kept of so many, in this form.
 fn is_kept(form: u8, keep: u128, count: u32) -> bool
     requires { (1 ≤ count) × (count ≤ 128) }
-    ensures { IsTrue result ↔ ((keep < 2 ^ count) × IsMask form count keep) }
+    ensures { IsTrue result ↔ ((keep < 2 ^ count) × IsMaskOfForm form count keep) }
 {
     let all = all_blocks(count);
     keep <= all && (form == 2 || form == 1 && (keep == 0 || keep == all))

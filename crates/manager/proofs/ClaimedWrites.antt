@@ -13,7 +13,7 @@ use Rattle.wol_model.proofs.Images.{kept, idle_none}
 use Rattle.wol_model.proofs.Steps.{distinct_more}
 use Rattle.wol_promise.specs.Ruled.{Noted, entries_of, IsStep, last_look}
 use Rattle.wol_promise.specs.Manager.{Parts, SegmentPart, Held, ManagerSeen, Base, look_of, extents_held, is_homed_in, WasWritten}
-use Rattle.wol_promise.specs.Stands.{AreKnown, LieInHome, IsHeldBy, place_in, AreApartPlaces, HasPlaces, LiesIn, IsPlaced, IsCalm, Upholds, StandsFor}
+use Rattle.wol_promise.specs.Stands.{AreKnown, LieInHome, IsHeldBy, place_in, AreApartPlaces, HasPlaces, LiesInVolume, IsPlaced, IsCalm, Upholds, StandsFor}
 use Rattle.wol_promise.proofs.Broke.{broke_more}
 use Rattle.wol_promise.proofs.ClaimBreaks.{broken_segment}
 use Rattle.wol_promise.proofs.Claims.{empty_segment, with_empty, empty_more, places_insert}
@@ -64,7 +64,7 @@ module _ {P : Type 0} (parts : Parts P) (base : Base) (m : ManagerSeen P) (home_
     (front back : List (Held P)) (lane index : ℕ) (r : Record)
     (u : Upholds parts base m notes (writes (entries_of notes)) None) (none : flight_of (entries_of notes) ≡ None) (held : m.held ≡ front ++ back) (up : m.down ≡ None)
     (new_place : AllByRecursion (λ (v : Held P). place_in v ≢ (lane, index)) (front ++ back))
-    (keeps : KeepsAll (extent_of r)) (is_next : r.head.version ≡ m.next) (lies : LiesIn base.home_blocks (write_of (extent_of r))) (client : n.entry.pass ≡ worker) where
+    (keeps : KeepsAll (extent_of r)) (is_next : r.head.version ≡ m.next) (lies : LiesInVolume base.home_blocks (write_of (extent_of r))) (client : n.entry.pass ≡ worker) where
   abbrev ws : List Write
   ws = writes (entries_of notes)
 

@@ -18,7 +18,7 @@ use Rattle.log_segment.specs.Segment.{Holds, disk_of, owner_of}
 use Rattle.log_segment.specs.declared.segment.Segment.{Segment}
 use Rattle.wol_promise.specs.Manager.{Parts, Base, AreInUse}
 use Rattle.wol_promise.specs.Ruled.{Noted, entries_of}
-use Rattle.wol_promise.specs.Stands.{Upholds, LiesIn}
+use Rattle.wol_promise.specs.Stands.{Upholds, LiesInVolume}
 use Rattle.wol_promise.proofs.Lists.{all_map}
 use Rattle.logger.specs.Lanes.{logger_of, lane_owner, taken_in}
 use Rattle.logger.specs.declared.lane.Lane.{Lane}
@@ -68,7 +68,7 @@ module _ {D : Type 0} (tells : Bool) (state : D → State) (m : Manager D) (b : 
       pub keeps : KeepsAll (extent_of new_one)
       keeps = new_keeps (lane_owner old) m.next lbn from
 
-      pub lies : LiesIn base.home_blocks (write_of (extent_of new_one))
+      pub lies : LiesInVolume base.home_blocks (write_of (extent_of new_one))
       lies = subst (λ (n : ℕ). lbn + length from ≤ n) kp.upholds.places.home_size fits
 
 -- What a manager keeps up with an entry more, when its lanes, the entries of its index, its next version, flags and part at fault are these:

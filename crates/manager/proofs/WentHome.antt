@@ -20,7 +20,7 @@ use Rattle.wol_model.specs.Index.{Indexed, listed_in, is_covered}
 use Rattle.wol_model.proofs.Arrays.{after_put}
 use Rattle.wol_promise.specs.Manager.{Held, IsIndexOf, extents_held, is_homed_in}
 use Rattle.wol_promise.specs.Ruled.{Noted, HasPassed, last_look, entries_of}
-use Rattle.wol_promise.specs.Stands.{IsWhole, LiesIn, StopsSafely}
+use Rattle.wol_promise.specs.Stands.{IsWhole, LiesInVolume, StopsSafely}
 use Rattle.wol_promise.proofs.HomeWrites.{home_more, home_breaks}
 use Rattle.wol_promise.proofs.OneMore.{last_more}
 use Rattle.wol_promise.proofs.Stops.{home_stops}
@@ -110,7 +110,7 @@ module _ {D : Type 0} (tells : Bool) (state : D → State) (m : Manager D) (b : 
   pub uncovered_up : told_ → IsUncovered (extents_held (all_held 0 m.lanes.items keeps.logs)) (home_write first blocks)
   uncovered_up told = let w = whole_up told in uncovered_range (all_held 0 m.lanes.items keeps.logs) m.index.entries first blocks w.index w.distinct bare
 
-  lies : LiesIn b.volume.began.home_blocks (home_write first blocks)
+  lies : LiesInVolume b.volume.began.home_blocks (home_write first blocks)
   lies = let size = (upholds_up tells state m b notes keeps up).places.home_size in subst (λ (k : ℕ). first + length blocks ≤ k) size fits
 
   -- stopped at any moment, it leaves a cut

@@ -20,7 +20,7 @@ use Rattle.log_layout.specs.Values.{record_head}
 use Rattle.log_scan.specs.declared.Found.{Found}
 use Rattle.log_scan.specs.declared.Scan.{Scan}
 use Rattle.wol_promise.specs.Manager.{versions}
-use Rattle.wol_promise.specs.Stands.{LiesIn, LiesInHome, next_version}
+use Rattle.wol_promise.specs.Stands.{LiesInVolume, LiesInHome, next_version}
 use Rattle.spin_model.specs.Spun.{state_of}
 use Rattle.spin_model.specs.declared.spun.Spun.{Spun}
 use Rattle.turn_lock.specs.Passes.{pass_lock, pass_mine, pass_number}
@@ -128,7 +128,7 @@ module _ {D : Type 0} (tells : Bool) (state : D → State) (shared : Shared D) (
   plain_beginning untold = record {
     apart = subst AreApart (sym (untold_versions r.index.entries)) (apart_once (map (λ (e : Indexed). e.listed.version) r.index.entries) (rising_counts (map (λ (e : Indexed). e.listed.version) r.index.entries) c.rising));
     below = subst (AllByRecursion (λ v. v < r.next)) (sym (untold_versions r.index.entries)) (all_mapped (λ v. v < r.next) (λ (e : Indexed). e.listed.version) r.index.entries c.below);
-    lie = all_mapped (LiesIn n.want.home) untold_write r.index.entries (all_from (λ (e : Indexed). LiesIn n.want.home (untold_write e)) r.index.entries (λ e has.
+    lie = all_mapped (LiesInVolume n.want.home) untold_write r.index.entries (all_from (λ (e : Indexed). LiesInVolume n.want.home (untold_write e)) r.index.entries (λ e has.
         let v = in_volume state n.lanes.items n.want.id n.want.home n.view all_gs c.all c.order c.view_ok.distinct r.index.entries c.same c.rising e has in let lies = v.lies in let long = long-replicate {X = Block} (length e.listed.keep) [] in omega (arith, lies, long)));
     known = λ e has. record { write = untold_write e; among = among_map untold_write r.index.entries e has; version = refl; first = refl; count = long-replicate (length e.listed.keep) [] };
     sized = long-replicate n.want.home [];
@@ -239,7 +239,7 @@ module _ {D : Type 0} (tells : Bool) (state : D → State) (shared : Shared D) (
     records_within = all_from (λ (g : Seg D). AllByRecursion (LiesInHome n.want.home) (recs_of state n r all_gs g)) all_gs (λ g has.
         all_from (LiesInHome n.want.home) (recs_of state n r all_gs g) (lies_at g has))
 
-    record_lies : (q : Record) → IsAmong kept q → LiesIn n.want.home (write_of_record q)
+    record_lies : (q : Record) → IsAmong kept q → LiesInVolume n.want.home (write_of_record q)
     record_lies q has =
         let f = among_filter keeps (flat_map (recs_of state n r all_gs) all_gs) q has in
         let g = flat_among (recs_of state n r all_gs) all_gs q f.0 in
@@ -267,7 +267,7 @@ module _ {D : Type 0} (tells : Bool) (state : D → State) (shared : Shared D) (
     told_beginning = record {
       apart = subst AreApart (sym first_versions) (apart_once (map (λ (q : Record). q.head.version) kept) (versions_once state n.lanes.items n.want.id n.want.home n.view all_gs c.all c.order c.view_ok.distinct r.index.entries c.same c.rising told_gs versions_are));
       below = subst (AllByRecursion (λ v. v < r.next)) (sym (first_versions ∙ versions_are)) (all_mapped (λ v. v < r.next) (λ (e : Indexed). e.listed.version) (flat_map (entries_at state n.view) all_gs) (below_all tells state shared o n want view present label most r rec valid lanes.items held));
-      lie = subst (AllByRecursion (LiesIn n.want.home)) (sym writes_are) (all_mapped (LiesIn n.want.home) write_of_record kept (all_from (λ (q : Record). LiesIn n.want.home (write_of_record q)) kept record_lies));
+      lie = subst (AllByRecursion (LiesInVolume n.want.home)) (sym writes_are) (all_mapped (LiesInVolume n.want.home) write_of_record kept (all_from (λ (q : Record). LiesInVolume n.want.home (write_of_record q)) kept record_lies));
       known = is_known;
       sized = is_sized;
       told = λ t. record { told = told_gs; versions_ = versions_are; records = writes_are; below = records_below; within = records_within; array_ = is_array };

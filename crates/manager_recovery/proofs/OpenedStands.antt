@@ -16,7 +16,7 @@ use Rattle.wol_model.specs.Log.{Record, IsLog, extent_of, has_bit}
 use Rattle.redirect_map.proofs.Bits.{has_bit-zero}
 use Rattle.redirect_map.proofs.Seen.{length-marks_of}
 use Rattle.wol_promise.specs.Manager.{Base, Held, ManagerSeen, AreInUse, WasWritten, SaysOwnerOrFree, extents_held, versions}
-use Rattle.wol_promise.specs.Stands.{IsOpening, IsOpened, LiesIn, HasVersions, LiesInHome, LieInHome, AreKnown, HasPlaces, IsHeldBy, IsPlaced, Upholds}
+use Rattle.wol_promise.specs.Stands.{IsOpening, IsOpened, LiesInVolume, HasVersions, LiesInHome, LieInHome, AreKnown, HasPlaces, IsHeldBy, IsPlaced, Upholds}
 use Rattle.wol_promise.proofs.Opens.{opens}
 use Rattle.turn_lock.specs.Passes.{pass_lock, pass_number, pass_mine}
 use Rattle.spin_model.specs.Spun.{state_of, volume_of}
@@ -79,7 +79,7 @@ module _ {D : Type 0} (state : D → State) (n : Opening D) (r : Recovered) (gs 
   pub record IsBeginning (tells : Bool) (ws : List Write) (array : List Block) : Type 0 where
     pub apart : AreApart (versions ws)
     pub below : AllByRecursion (λ v. v < r.next) (versions ws)
-    pub lie : AllByRecursion (LiesIn n.want.home) ws
+    pub lie : AllByRecursion (LiesInVolume n.want.home) ws
     pub known : (e : Indexed) → IsAmong r.index.entries e → IsKnown ws e
     pub sized : length array ≡ n.want.home
     pub told : IsTrue tells → IsToldBeginning ws array

@@ -7,7 +7,7 @@ use Rattle.std.proofs.lemmas.Bool.{cases_Bool, eqb-true, eqb-false, ne_eqb}
 use Rattle.std.proofs.lemmas.Nat.{mod_below}
 use Rattle.wol_model.specs.Trace.{TraceLine, blocks_touched, cut_run, pieces}
 use Rattle.wol_model.specs.declared.trace.Piece.{Piece}
-use Rattle.msr_trace.specs.Pieces.{Lies}
+use Rattle.wol_model.specs.TraceLaws.{LiesIn}
 
 no_run : (fuel home most first : ℕ) → cut_run fuel home most first 0 ≡ []
 no_run zero home most first = refl
@@ -42,7 +42,7 @@ pub next_piece : (home most first count n : ℕ) → n ≡ min count (min most (
     → cut_run count home most first count ≡ record { lbn = first; count = n } ∷ cut_run (count - n) home most ((first + n) % home) (count - n)
 next_piece home most first count n e c m h = rw e (first_of count home most first count c refl m h)
 
-lie : (fuel home most first count : ℕ) → 0 < most → first < home → AllByRecursion (Lies home most) (cut_run fuel home most first count)
+lie : (fuel home most first count : ℕ) → 0 < most → first < home → AllByRecursion (LiesIn home most) (cut_run fuel home most first count)
 lie zero home most first count m h = tt
 lie (suc fuel) home most first count m h = elim (cases_Bool (count == 0)) [
   | inl none ↦ rw none tt
@@ -54,8 +54,8 @@ lie (suc fuel) home most first count m h = elim (cases_Bool (count == 0)) [
 ]
 
 -- each piece lies in the volume
-pub run_lies : (fuel home most first count : ℕ) → 0 < most → first < home → All (Lies home most) (cut_run fuel home most first count)
-run_lies fuel home most first count m h = All-from_recursion (Lies home most) (cut_run fuel home most first count) (lie fuel home most first count m h)
+pub run_lies : (fuel home most first count : ℕ) → 0 < most → first < home → All (LiesIn home most) (cut_run fuel home most first count)
+run_lies fuel home most first count m h = All-from_recursion (LiesIn home most) (cut_run fuel home most first count) (lie fuel home most first count m h)
 
 -- the pieces of a line are the run of the blocks that it touches
 pub line_run : (home most touched : ℕ) (l : TraceLine) → (0 < l.size → touched ≡ blocks_touched l) → (l.size ≡ 0 → touched ≡ 0) → cut_run touched home most (l.offset / 512 % home) touched ≡ pieces home most l

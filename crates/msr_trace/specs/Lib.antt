@@ -3,5 +3,4 @@ pub mod Lines
 pub mod Intake
 pub mod Reading
 pub mod Payload
-pub mod Pieces
 pub mod Spelling

@@ -3,7 +3,7 @@ ghost use Rattle.std.specs.Prelude.{◌≡◌, ◌+◌, ◌-◌, ◌/◌, ◌%�
 ghost use Rattle.std.specs.Iterator.{YieldsFirst, item_count};
 ghost use Rattle.wol_model.specs.Trace as trace;
 ghost use Rattle.msr_trace.specs.Lines.{trace_line};
-ghost use Rattle.msr_trace.specs.Pieces.{Lies};
+ghost use Rattle.wol_model.specs.TraceLaws.{LiesIn};
 
 use crate::format::Line;
 use std::marker::Model;
@@ -38,7 +38,7 @@ impl Line {
         requires home { 0 < home }
         requires most { 0 < most }
         ensures content { result ≡ trace.pieces home most (trace_line self.now) }
-        ensures lies { All (Lies home most) result }
+        ensures lies { All (LiesIn home most) result }
     {
         Pieces {
             home,

@@ -13,7 +13,6 @@ use Rattle.manager.specs.Stands.{IsShared}
 use Rattle.manager.specs.declared.base.ManagerBase.{ManagerBase}
 use Rattle.manager.specs.declared.station.Station.{Station}
 use Rattle.manager.proofs.ReadThrough.{zip_self, zip_set}
-use Rattle.rack.specs.Owners.{most_of}
 use Rattle.rack.specs.Racks.{IsStation, base_of_station}
 use Rattle.rack.specs.declared.rack.Rack.{Rack}
 use Rattle.open_rack.specs.Again.{IsPassAgain, IsRackAgain, IsStationAgain}
@@ -29,6 +28,7 @@ use Rattle.nbd_station.specs.Stations.{CanServe, OnlyWorks}
 use Rattle.nbd_station.specs.Turns.{MakesTurn}
 use Rattle.nbd_serving.specs.Racks.{ServesStation}
 use Rattle.nbd_serving.specs.Wires.{Wire}
+use Rattle.wol_config.specs.Configs.{most_of}
 
 pub never_some : {X : Type 0} (r : Option X) → ((x : X) → r ≡ Some x → ⊥) → r ≡ None
 never_some None never = refl

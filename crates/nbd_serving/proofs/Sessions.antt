@@ -26,7 +26,7 @@ use Rattle.volume_images.specs.Left.{AreNamedApart, IsTold}
 use Rattle.volume_images.specs.Volumes.{AreLeft, image_read, images_read, shape_in, shapes_of}
 use Rattle.rack.specs.Closes.{AreLeftOfParts, AreListedOf, HasFaultyPart, IsClosedVolume, RecoversTo, recovered_out, segments_out}
 use Rattle.rack.specs.Opens.{BeganWith, WereThere}
-use Rattle.rack.specs.Owners.{IsBegun, images_taken, most_of}
+use Rattle.rack.specs.Owners.{IsBegun, images_taken}
 use Rattle.rack.specs.PoolUses.{ArePools, PassesEmpty}
 use Rattle.rack.specs.Racks.{IsStation, IsUnused, base_of_station}
 use Rattle.rack.specs.Rests.{IsImageOut, image_here}
@@ -55,6 +55,7 @@ use Rattle.nbd_serving.specs.Runs.{LeavesOthers, LeavesServed, ServesOpen}
 use Rattle.nbd_serving.specs.Volumes.{AreKept, IsKept, IsOpen, LeavesFront, LeavesRecords, front_of}
 use Rattle.nbd_serving.specs.Wires.{Wire}
 use Rattle.nbd_serving.proofs.Recovered.{cut_pieces}
+use Rattle.wol_config.specs.Configs.{most_of}
 
 -- a pass that is neither the worker's nor another of a station
 third : (P : ℕ → Type 0) → P helper → P keeper → ((n : ℕ) → n ≢ worker → n ≢ helper → n ≢ keeper → P n) → (n : ℕ) → n ≢ worker → P n

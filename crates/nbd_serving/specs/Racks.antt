@@ -6,7 +6,6 @@ use Rattle.turn_lock.specs.Passes.{IsSamePass}
 use Rattle.manager.specs.declared.station.Station.{Station}
 use Rattle.request_turns.specs.Turns.{ManagerPass}
 use Rattle.report.specs.declared.fault.Fault.{Fault}
-use Rattle.rack.specs.Owners.{most_of}
 use Rattle.rack.specs.declared.rack.Rack.{Rack}
 use Rattle.inspection.specs.Racks.{IsStationAt}
 use Rattle.open_rack.specs.NotOpened.{first_closed}
@@ -23,6 +22,7 @@ use Rattle.nbd_serving.specs.declared.serving.Beginning.{Beginning}
 use Rattle.nbd_serving.specs.declared.serving.Beginning.TheVariants as beginning
 use Rattle.nbd_serving.specs.declared.stop.Stop.{Stop}
 use Rattle.nbd_serving.specs.declared.stop.Stop.TheVariants as stop
+use Rattle.wol_config.specs.Configs.{most_of}
 
 -- a handshake on a volume of the configuration, by its name and its blocks
 pub record ShakesOn (config : Config) (volume : ℕ) (wire wire' : Wire) (result : Result Shaken NbdFault) : Type 0 where

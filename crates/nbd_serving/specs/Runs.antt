@@ -16,7 +16,6 @@ use Rattle.troubles.specs.Troubles.{trouble_of}
 use Rattle.volume_images.specs.Left.{IsTold}
 use Rattle.volume_images.specs.Volumes.{AreLeft, images_read, shapes_of}
 use Rattle.rack.specs.Closes.{HasFaultyPart}
-use Rattle.rack.specs.Owners.{most_of}
 use Rattle.rack.specs.PoolUses.{ArePools, PassesEmpty}
 use Rattle.rack.specs.declared.volume_fault.VolumeFault.{VolumeFault}
 use Rattle.open_rack.specs.NotOpened.{IsFirstClosed, LeavesBay}
@@ -33,6 +32,7 @@ use Rattle.nbd_serving.specs.Wires.{Wire, answer_of}
 use Rattle.nbd_serving.specs.declared.serving.Beginning.{Beginning}
 use Rattle.nbd_serving.specs.declared.stop.Stop.{Stop}
 use Rattle.nbd_serving.specs.declared.stop.Stop.TheVariants as stop
+use Rattle.wol_config.specs.Configs.{most_of}
 
 -- ---- Images
 

@@ -1,10 +1,9 @@
 // All volumes are open: one of them is served.
 ghost use Rattle.std.specs.Prelude.{◌≡◌, ◌<◌, ◌≤◌, Contains, length};
-ghost use Rattle.wol_config.specs.Configs.{IsValid};
+ghost use Rattle.wol_config.specs.Configs.{IsValid, most_of};
 ghost use Rattle.manager.specs.declared.station.Station.{Station};
 ghost use Rattle.inspection.specs.Racks.{numbers_of, CanLook, IsStationAt};
 ghost use Rattle.open_rack.specs.Again.{IsRackAgain};
-ghost use Rattle.rack.specs.Owners.{most_of};
 ghost use Rattle.nbd_serving.specs.Racks.{Begins, ServesStation};
 
 use crate::stop::{Stop, answer_of};

@@ -18,10 +18,10 @@ use Rattle.manager.specs.declared.manager.Manager.{Manager}
 use Rattle.manager_recovery.specs.Opened.{Opens}
 use Rattle.manager_recovery.specs.declared.opening.Opening.{Opening}
 use Rattle.volume_images.specs.Volumes.{shapes_of}
-use Rattle.rack.specs.Owners.{most_of}
 use Rattle.rack.specs.Rests.{IsImageOut}
 use Rattle.rack.specs.Racks.{IsOpenBase}
 use Rattle.rack.specs.declared.rack.ImageRest.{ImageRest}
+use Rattle.wol_config.specs.Configs.{most_of}
 
 module _ {D : Type 0} where
   -- the locks of the lanes are those of the shared ones

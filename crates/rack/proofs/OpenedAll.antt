@@ -33,7 +33,7 @@ use Rattle.rack.specs.Parts.{in_image, segment_in, IsSetUp}
 use Rattle.rack.specs.Owners.{HadRefused}
 use Rattle.rack.specs.Opens.{out_names, HasFaulty, KeepsOthers, RefusesVolume, WasAccepted, WereThere, AreRefused, LeavesAll, KeepsAllSound}
 use Rattle.rack.specs.Opening.{IsTaken, StayedSo, HaveFaults, HasFaultOf, AreSameOut}
-use Rattle.rack.specs.Closes.{AreLeftOfParts, HasFaultAt, IsNamedHere, has_station, is_kept_home, in_flight, IsQuiet, LeavesVolumes}
+use Rattle.rack.specs.Closes.{AreLeftOfParts, HasFaultAt, IsNamedHere, has_station, is_kept_home, flight_in, IsQuiet, LeavesVolumes}
 use Rattle.rack.specs.Closing.{LeavesNoneOut}
 use Rattle.rack.specs.Racks.{IsUnused, AreUnused}
 use Rattle.rack.specs.declared.all.Taken.{Taken}
@@ -188,8 +188,8 @@ quiet_stations stations unused k d lt =
     let s = slice_index_or stations k d in
     ((no_flight s.worker u.0, no_flight s.helper u.1, no_flight s.keeper u.2), (no_writes s.worker u.0, no_writes s.helper u.1, no_writes s.keeper u.2))
   where
-    no_flight : {D : Type 0} (p : PassOf (Manager D) ManagerBase) → IsUnused p → in_flight (pass_mine p) ≡ []
-    no_flight p u = ap in_flight u.mine
+    no_flight : {D : Type 0} (p : PassOf (Manager D) ManagerBase) → IsUnused p → flight_in (pass_mine p) ≡ []
+    no_flight p u = ap flight_in u.mine
 
     no_writes : {D : Type 0} (p : PassOf (Manager D) ManagerBase) → IsUnused p → writes (entries_of (notes_of (pass_mine p))) ≡ []
     no_writes p u = ap (λ m. writes (entries_of (notes_of m))) u.mine

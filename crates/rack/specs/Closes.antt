@@ -62,8 +62,8 @@ pub record IsClosedSpindle {D : Type 0} (r : Rack D) (k : ℕ) (s : SpindleView)
 -- ---- Volumes
 
 -- what was in flight when a call of a disk failed
-abbrev pub in_flight : List Entry → List Write
-in_flight entries = unwrap_or (flight_of (entries_of (notes_of entries))) []
+abbrev pub flight_in : List Entry → List Write
+flight_in entries = unwrap_or (flight_of (entries_of (notes_of entries))) []
 
 module _ {D : Type 0} where
   -- the image of volume k isn't out with these, so it gives no segments to what is recovered
@@ -86,7 +86,7 @@ module _ {D : Type 0} where
   -- no pass of a station wrote, and none had a write in flight
   abbrev pub IsQuiet : Station D → Type 0
   IsQuiet s =
-      ((in_flight (pass_mine s.worker) ≡ []) × (in_flight (pass_mine s.helper) ≡ []) × (in_flight (pass_mine s.keeper) ≡ [])) × ((writes (entries_of (notes_of (pass_mine s.worker))) ≡ []) × (writes (entries_of (notes_of (pass_mine s.helper))) ≡ []) × (writes (entries_of (notes_of (pass_mine s.keeper))) ≡ []))
+      ((flight_in (pass_mine s.worker) ≡ []) × (flight_in (pass_mine s.helper) ≡ []) × (flight_in (pass_mine s.keeper) ≡ [])) × ((writes (entries_of (notes_of (pass_mine s.worker))) ≡ []) × (writes (entries_of (notes_of (pass_mine s.helper))) ≡ []) × (writes (entries_of (notes_of (pass_mine s.keeper))) ≡ []))
 
 -- the volume in whose image a part lies, and its place among the parts of that image
 abbrev pub volume_in : Part → ℕ

@@ -21,6 +21,7 @@ use Rattle.volume_images.specs.Accepted.{head_place}
 use Rattle.volume_images.specs.Volumes.{shapes_of, images_read, MayLeave}
 use Rattle.rack.specs.Rests.{image_here}
 use Rattle.rack.specs.declared.rack.ImageRest.{ImageRest}
+use Rattle.wol_config.specs.Configs.{most_of}
 
 -- the images as they read, where one that isn't out gives no segments
 abbrev pub images_taken : {D : Type 0} → Config → List (Option (ImageRest D)) → Told → Images
@@ -62,10 +63,6 @@ pub record AreOwnedIn (shapes : List Shape) (images : Images) (v : ℕ) (os : Li
   pub in_order : AreInOrder (map (λ (o : Owned). (o.logger, o.index)) os)
   pub each : All (IsOwnedIn shapes images v) os
   pub all : (o : Owned) → IsOwnedIn shapes images v o → Contains os o
-
--- the most blocks of one write
-abbrev pub most_of : Config → ℕ
-most_of config = min 128 (config.segment_blocks - 2)
 
 -- What a volume begins with: the array that these images recover to, its records in them that keep blocks, and the version
 -- above all of theirs. None of its segments is damaged, and no two of its records have one version; as many are listed, each of them

@@ -37,7 +37,6 @@ use Rattle.volume_images.specs.Accepted.{head_place}
 use Rattle.volume_images.specs.Volumes.{shapes_of}
 use Rattle.volume_images.specs.declared.attach.OutImage.{OutImage}
 use Rattle.rack.specs.Making.{AreEmptyPasses}
-use Rattle.rack.specs.Owners.{most_of}
 use Rattle.rack.specs.Rests.{IsPart, IsPoolLock, IsRow, AreRooms, image_here, segment_here, pool_pass, spindle_pass, held_here, indexes_here}
 use Rattle.rack.specs.declared.heads_said.Said.{Said}
 use Rattle.rack.specs.declared.lists.Lists.{Lists}
@@ -46,6 +45,7 @@ use Rattle.rack.specs.declared.rack.ImageRest.{ImageRest}
 use Rattle.rack.specs.declared.rack.Rack.{Rack}
 use Rattle.rack.specs.declared.rack.Rest.{Rest}
 use Rattle.rack.specs.declared.rack.VolumePasses.{VolumePasses}
+use Rattle.wol_config.specs.Configs.{most_of}
 
 -- ---- An image is laid out, and put together
 

@@ -20,7 +20,6 @@ use Rattle.manager.specs.declared.station.Station.{Station}
 use Rattle.volume_images.specs.Formatted.{part_sizes}
 use Rattle.volume_images.specs.Volumes.{shape_in, shapes_of}
 use Rattle.rack.specs.Rests.{IsPassAt, AreLocks, IsRest, IsImageOut, OnlyAccess, image_here}
-use Rattle.rack.specs.Owners.{most_of}
 use Rattle.rack.specs.Foreign.{AreForeign}
 use Rattle.manager.specs.declared.part.Part.TheVariants.{Home, Segment}
 use Rattle.manager_recovery.specs.declared.refusal.OpenRefusal.TheVariants.{LabelDiffers, LoggerMissing, OutsideView, Damaged, Twins, DiskFault, NoMemory}
@@ -28,6 +27,7 @@ use Rattle.rack.specs.declared.volume_fault.VolumeFault.{VolumeFault}
 use Rattle.rack.specs.declared.volume_fault.VolumeFault.TheVariants.{Absent, WrongLength, Refused, LabelFault, BayFailed}
 use Rattle.rack.specs.declared.rack.ImageRest.{ImageRest}
 use Rattle.rack.specs.declared.rack.Rack.{Rack}
+use Rattle.wol_config.specs.Configs.{most_of}
 
 -- what a station's manager began with
 abbrev pub base_of_station : {D : Type 0} → Station D → ManagerBase

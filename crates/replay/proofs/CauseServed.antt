@@ -20,7 +20,7 @@ use Rattle.report.specs.declared.fault.Fault.TheVariants.{Versions, Volume}
 use Rattle.trace_gen.specs.Generated.{targets_of}
 use Rattle.trace_windows.proofs.Counting.{windows_have_requests}
 use Rattle.trace_windows.proofs.Numbering.{numbers_leave}
-use Rattle.trace_windows.specs.Requests.{asked, most_of, requests_in_all}
+use Rattle.trace_windows.specs.Requests.{asked, requests_in_all}
 use Rattle.trace_windows.specs.declared.request.Request.{Request}
 use Rattle.request_workers.specs.Floors.{HasRun}
 use Rattle.request_workers.specs.Stations.{IsMoved}
@@ -43,6 +43,7 @@ use Rattle.replay.proofs.RunCauses.{run_cause}
 use Rattle.replay.proofs.PartNamed.{HasDownAt, breaks_at}
 use Rattle.replay.proofs.WindowBroken.{HasDown, station_down, window_down}
 use Rattle.replay.proofs.Serving.{served_requests}
+use Rattle.wol_config.specs.Configs.{most_of}
 
 -- ---- The window behind all others
 

@@ -10,7 +10,6 @@ use Rattle.turn_lock.specs.Passes.{lock_id, pass_mine, pass_number}
 use Rattle.spin_model.specs.Operations.{operation_of}
 use Rattle.spin_model.specs.declared.spindle.SpindleBase.{SpindleBase}
 use Rattle.trace_gen.specs.Generated.{targets_of}
-use Rattle.trace_windows.specs.Requests.{most_of}
 use Rattle.trace_windows.proofs.Rising.{moments_rise}
 use Rattle.rack.specs.Closes.{IsClosedSpindle}
 use Rattle.replay.specs.Served.{ServedFromStart, ServedWindow}
@@ -36,6 +35,7 @@ use Rattle.replay.specs.declared.session.Options.{Options}
 use Rattle.replay.specs.declared.stop.Stop.{Stop}
 use Rattle.replay.proofs.RacksServed.{a_member, at_place, closable_after, rack_closable, there_at}
 use Rattle.replay.proofs.Serving.{served_moments}
+use Rattle.wol_config.specs.Configs.{most_of}
 
 -- a bay tells the same of what is out
 outs_home : (config : Config) (b : BayState) → NoneOut config b → IfSome (outs b) (λ os. All (λ (v : VolumeConf). at_name v.name os ≡ None) config.volumes.items)

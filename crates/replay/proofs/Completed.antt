@@ -22,7 +22,6 @@ use Rattle.report.specs.declared.fault.Fault.{Fault}
 use Rattle.report.specs.declared.fault.Fault.TheVariants.{Memory, TraceSource, Versions}
 use Rattle.troubles.specs.Troubles.{trouble_of_part}
 use Rattle.trace_gen.specs.Generated.{targets_of}
-use Rattle.trace_windows.specs.Requests.{most_of}
 use Rattle.trace_windows.specs.declared.request.Request as program
 use Rattle.volume_images.specs.Left.{AreNamedApart, IsTold}
 use Rattle.request_turns.specs.declared.outcome.Outcome.{Outcome}
@@ -42,6 +41,7 @@ use Rattle.replay.specs.declared.stop.Stop.{Stop}
 use Rattle.replay.specs.declared.stop.Stop.TheVariants as stop
 use Rattle.replay.proofs.CountsLeft.{answers_joined}
 use Rattle.replay.proofs.WritesAnswered.{Among, among_left, among_of, among_right, among_volume, asked_writes, asks_write, logged_answered, one_less, writes_in}
+use Rattle.wol_config.specs.Configs.{most_of}
 
 -- ---- What a window may end a run with
 

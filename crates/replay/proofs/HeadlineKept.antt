@@ -9,7 +9,7 @@ use Rattle.wol_io.proofs.Appending.{appends_none, front_whole}
 use Rattle.wol_bay.specs.Bay.{BayState, Told}
 use Rattle.wol_disk.specs.Disk.{Block, State}
 use Rattle.wol_model.specs.Blocks.{Write, after}
-use Rattle.wol_model.specs.History.{AreLegalNext, BreaksOnce, Broke, Entry, IsCut, Kept, Operation, Read, Wrote, flight_from, flight_of, written_by, writes}
+use Rattle.wol_model.specs.History.{AreLegalNext, BreaksOnce, Broke, Entry, IsCut, Kept, Operation, Read, Wrote, flight_from, flight_of, written_by, writes, in_flight}
 use Rattle.wol_model.specs.Images.{recovered_from}
 use Rattle.wol_model.specs.Trace.{TraceLine}
 use Rattle.wol_model.proofs.Overlay.{after_more, after_none}
@@ -28,7 +28,7 @@ use Rattle.rack.proofs.NewFaults.{told_with}
 use Rattle.rack.specs.declared.volume_fault.VolumeFault.{VolumeFault}
 use Rattle.replay.specs.Ended as ended
 use Rattle.replay.specs.Givens.{HasGivenAll}
-use Rattle.replay.specs.Headline.{AreAllOpen, ArePrinted, HasNotBegun, HasOneHistory, Headline, HistoriesGoOn, KeepsHeadline, in_flight, opened_array, plain_lines}
+use Rattle.replay.specs.Headline.{AreAllOpen, ArePrinted, HasNotBegun, HasOneHistory, Headline, HistoriesGoOn, KeepsHeadline, opened_array, plain_lines}
 use Rattle.replay.specs.Histories.{ArePlainMarks, BeginAsRead, History, answers_in, is_broken, is_broken_at}
 use Rattle.replay.specs.Leaves.{LeavesImages}
 use Rattle.replay.specs.NotOpened.{AsksNone, LeavesBay}

@@ -9,7 +9,7 @@ use Rattle.wol_bay.specs.Bay.{BayState, Told}
 use Rattle.wol_model.specs.ArrayLaws.{unversioned}
 use Rattle.wol_model.specs.Blocks.{Write, after}
 use Rattle.wol_model.specs.History as history
-use Rattle.wol_model.specs.History.{IsCut, flight_of, torn, whole, worker, writes}
+use Rattle.wol_model.specs.History.{IsCut, flight_of, torn, whole, worker, writes, in_flight}
 use Rattle.wol_model.specs.Extents.{AreDistinct, Extent, covers_of}
 use Rattle.wol_model.specs.Index.{Listed}
 use Rattle.wol_model.specs.Images.{Images, all_segments, recovered_from}
@@ -31,7 +31,7 @@ use Rattle.rack.specs.Closes.{AreListedOf, HasFaultyPart, IsClosedVolume, IsOnLo
 use Rattle.rack.specs.Racks.{base_of_station}
 use Rattle.rack.specs.Rests.{IsImageOut}
 use Rattle.rack.specs.declared.rack.ImageRest.{ImageRest}
-use Rattle.replay.specs.Headline.{IsOneAction, in_flight}
+use Rattle.replay.specs.Headline.{IsOneAction}
 use Rattle.replay.specs.Histories.{AreHistories, BeginAsRead, History, is_broken, is_broken_at}
 use Rattle.replay.specs.Leaves.{LeavesImages, records_in, written_array}
 use Rattle.open_rack.proofs.AllOut.{accepted_all, recovered_all}

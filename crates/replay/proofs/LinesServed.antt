@@ -11,12 +11,12 @@ use Rattle.wol_model.specs.Trace.{Target, TraceLine, Window, joins, pieces_of, w
 use Rattle.wol_promise.specs.Run.{joined_lines}
 use Rattle.wol_config.specs.declared.config.Config.{Config}
 use Rattle.wol_config.specs.declared.config.VolumeConf.{VolumeConf}
-use Rattle.wol_config.specs.Configs.{IsValid}
+use Rattle.wol_config.specs.Configs.{IsValid, most_of}
 use Rattle.trace_gen.specs.Generated.{target_of, targets_of}
 use Rattle.trace_gen.proofs.Fair.{no_volume}
 use Rattle.trace_windows.specs.Batches.{Batched, IsBatchOf}
 use Rattle.trace_windows.specs.Cutting.{AreWindows, Cutting, HasCut, next_number}
-use Rattle.trace_windows.specs.Requests.{IsInside, most_of}
+use Rattle.trace_windows.specs.Requests.{IsInside}
 use Rattle.trace_windows.proofs.Joining.{next_timed, windows_blank, windows_close, windows_first, windows_join}
 use Rattle.trace_windows.proofs.Lying.{requests_lie}
 use Rattle.msr_trace.specs.declared.format.TraceFault.{TraceFault}

@@ -12,7 +12,7 @@ use Rattle.wol_model.specs.declared.trace.Piece.{Piece}
 use Rattle.wol_promise.specs.Outcomes.{Answered, of_volume}
 use Rattle.wol_config.specs.declared.config.Config.{Config}
 use Rattle.trace_gen.specs.Generated.{targets_of}
-use Rattle.trace_windows.specs.Requests.{asked, most_of, requests_in_all}
+use Rattle.trace_windows.specs.Requests.{asked, requests_in_all}
 use Rattle.trace_windows.specs.declared.request.Request.{Request}
 use Rattle.trace_windows.proofs.Counting.{windows_have_requests}
 use Rattle.trace_windows.proofs.Numbering.{numbers_leave}
@@ -27,6 +27,7 @@ use Rattle.replay.specs.Served.{ServedFromStart, ServedWindow, WereServed}
 use Rattle.replay.specs.Sessions.{AreWindowsOf}
 use Rattle.replay.proofs.AnswersServed.{all_both}
 use Rattle.replay.proofs.Serving.{served_requests}
+use Rattle.wol_config.specs.Configs.{most_of}
 
 -- ---- As many outcomes as requests
 

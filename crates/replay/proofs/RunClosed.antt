@@ -16,7 +16,7 @@ use Rattle.manager_recovery.specs.declared.refusal.OpenRefusal.TheVariants as re
 use Rattle.report.specs.declared.fault.Fault.{Fault}
 use Rattle.volume_images.specs.Left.{AreNamedApart, IsTold}
 use Rattle.volume_images.specs.Volumes.{shape_in, shapes_of}
-use Rattle.rack.specs.Closes.{AreLeftOfParts, in_flight, HasFaultAt, HasFaultIn, IsQuiet, LeavesVolumes, ListsFaulty, has_station, is_kept_home}
+use Rattle.rack.specs.Closes.{AreLeftOfParts, flight_in, HasFaultAt, HasFaultIn, IsQuiet, LeavesVolumes, ListsFaulty, has_station, is_kept_home}
 use Rattle.rack.specs.Opens.{AreRefused, BeganWith, HasFaulty, KeepsAllSound, LeavesAll, RefusesVolume, WereThere}
 use Rattle.rack.specs.Owners.{HadRefused}
 use Rattle.rack.specs.Racks.{AreUnused, IsRack}
@@ -48,8 +48,8 @@ quiet_all {D} ss unused k d lt =
     let (worker, helper, keeper) = unused k d lt in
     ((unbroken worker.mine, unbroken helper.mine, unbroken keeper.mine), (unwritten worker.mine, unwritten helper.mine, unwritten keeper.mine))
   where
-    unbroken : {es : List Entry} → es ≡ [] → in_flight es ≡ []
-    unbroken none = ap in_flight none
+    unbroken : {es : List Entry} → es ≡ [] → flight_in es ≡ []
+    unbroken none = ap flight_in none
 
     unwritten : {es : List Entry} → es ≡ [] → writes (entries_of (notes_of es)) ≡ []
     unwritten none = ap (λ (l : List Entry). writes (entries_of (notes_of l))) none

@@ -18,7 +18,6 @@ use Rattle.wol_config.specs.declared.config.Config.{Config}
 use Rattle.volume_images.specs.Left.{AreNamedApart, IsTold}
 use Rattle.volume_images.specs.Volumes.{shape_in, shapes_of}
 use Rattle.trace_gen.specs.Generated.{target_of, targets_of}
-use Rattle.trace_windows.specs.Requests.{most_of}
 use Rattle.manager.specs.declared.station.Station.{Station}
 use Rattle.report.specs.declared.fault.Fault.{Fault}
 use Rattle.report.specs.declared.fault.Fault.TheVariants.{Memory, Versions}
@@ -55,6 +54,7 @@ use Rattle.replay.proofs.StationsRan.{AreNumbered, EndsOn, StationRan, station_u
 use Rattle.replay.proofs.RequestsServed.{requests_of_volumes, served_counted}
 use Rattle.replay.proofs.WritesPlaced.{ArePlaced, counts_placed}
 use Rattle.replay.proofs.TracesLeft.{last_beyond, none_beyond, run_alone, run_asked, run_final, run_first, run_last, run_stations, run_well}
+use Rattle.wol_config.specs.Configs.{most_of}
 
 each_within : (n : ℕ) (xs : List Answered) → AllByRecursion (λ (r : Request). r.volume < n) (requests_in xs) → AllByRecursion (λ (a : Answered). a.request.volume < n) xs
 each_within n [] all = tt

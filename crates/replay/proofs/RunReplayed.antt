@@ -12,7 +12,6 @@ use Rattle.wol_config.specs.declared.config.Config.{Config}
 use Rattle.volume_images.specs.Left.{AreNamedApart, IsTold}
 use Rattle.volume_images.specs.Volumes.{shape_in, shapes_of}
 use Rattle.trace_gen.specs.Generated.{target_of, targets_of}
-use Rattle.trace_windows.specs.Requests.{most_of}
 use Rattle.logger.specs.declared.shared.Shared.{Shared}
 use Rattle.manager.specs.declared.station.Station.{Station}
 use Rattle.report.specs.Faults.{status_of}
@@ -85,6 +84,7 @@ use Rattle.run_laws.specs.Journals.{answers_by}
 use Rattle.run_laws.specs.Laws.{AreAllAnswered}
 use Rattle.replay.proofs.StationsRan.{AreNumbered, EndsOn}
 use Rattle.replay.proofs.SummaryKept.{accounts_of, summary_now}
+use Rattle.wol_config.specs.Configs.{most_of}
 
 -- ---- Without a line
 

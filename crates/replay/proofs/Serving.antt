@@ -11,11 +11,11 @@ use Rattle.std.proofs.lemmas.List.Sums.{sum_by-append}
 use Rattle.wol_model.specs.Trace.{Window}
 use Rattle.wol_promise.specs.Run.{joined_lines}
 use Rattle.wol_config.specs.declared.config.Config.{Config}
-use Rattle.wol_config.specs.Configs.{IsValid}
+use Rattle.wol_config.specs.Configs.{IsValid, most_of}
 use Rattle.trace_gen.specs.Generated.{target_of, targets_of}
 use Rattle.trace_windows.specs.Batches.{Batched, IsBatchOf}
 use Rattle.trace_windows.specs.Cutting.{next_number}
-use Rattle.trace_windows.specs.Requests.{IsInside, most_of, numbered, requests_in, requests_in_all}
+use Rattle.trace_windows.specs.Requests.{IsInside, numbered, requests_in, requests_in_all}
 use Rattle.trace_windows.specs.declared.request.Request.{Request}
 use Rattle.trace_windows.proofs.Numbering.{length-numbered, numbered_both}
 use Rattle.report.specs.declared.totals.Totals.{Totals}

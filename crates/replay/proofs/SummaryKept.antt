@@ -11,7 +11,6 @@ use Rattle.spin_model.specs.Operations.{has_token, operation_of, use_of, uses_of
 use Rattle.spin_model.specs.Spindles.{SpindleView, StandsFor}
 use Rattle.spin_model.specs.declared.spindle.SpindleBase.{SpindleBase}
 use Rattle.trace_gen.specs.Generated.{targets_of}
-use Rattle.trace_windows.specs.Requests.{most_of}
 use Rattle.report.specs.Names.{printed_names}
 use Rattle.report.specs.Summaries.{summary_text}
 use Rattle.request_workers.specs.Begun.{SpindlePass}
@@ -35,6 +34,7 @@ use Rattle.replay.proofs.AllAsked.{AreAllCounted}
 use Rattle.replay.proofs.RacksServed.{a_member, at_place}
 use Rattle.replay.proofs.Serving.{served_moments}
 use Rattle.replay.proofs.ToldAwake.{column, timeout_of}
+use Rattle.wol_config.specs.Configs.{most_of}
 
 -- ---- One spindle
 

@@ -13,7 +13,6 @@ use Rattle.turn_lock.specs.Passes.{pass_mine}
 use Rattle.request_turns.specs.Turns.{ManagerPass}
 use Rattle.wol_config.specs.declared.config.Config.{Config}
 use Rattle.trace_gen.specs.Generated.{targets_of}
-use Rattle.trace_windows.specs.Requests.{most_of}
 use Rattle.manager.specs.declared.station.Station.{Station}
 use Rattle.rack.specs.Racks.{AreUnused}
 use Rattle.request_workers.specs.Stations.{IsMoved}
@@ -33,6 +32,7 @@ use Rattle.replay.proofs.ReclaimedLeft.{served_alone}
 use Rattle.replay.proofs.RacksServed.{a_member, at_place, mapped}
 use Rattle.replay.proofs.RequestsServed.{others_none, served_asked}
 use Rattle.replay.proofs.StationsRan.{AreNumbered, EndsOn, IsAt, StationRan, desk, first, station_ran, worker_same}
+use Rattle.wol_config.specs.Configs.{most_of}
 
 module _ {D : Type 0} (tells : Bool) (mode : Reclaim) where
   were_front : (earlier last : List ServedWindow) (f : Floor D) (ps : List _) (g : Floor D) (qs : List _) → WereServed tells mode (earlier ++ last) f ps g qs

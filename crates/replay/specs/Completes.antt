@@ -17,11 +17,11 @@ use Rattle.report.specs.declared.fault.Fault.TheVariants.{Memory}
 use Rattle.msr_trace.specs.declared.format.BadLine.{BadLine}
 use Rattle.msr_trace.specs.declared.format.TraceFault.TheVariants as trace
 use Rattle.trace_gen.specs.Generated.{targets_of}
-use Rattle.trace_windows.specs.Requests.{most_of}
 use Rattle.replay.specs.Givens.{HasGiven, Refuses}
 use Rattle.replay.specs.declared.given.Given.{Given}
 use Rattle.replay.specs.declared.stop.Stop.{Stop}
 use Rattle.replay.specs.declared.stop.Stop.TheVariants as stop
+use Rattle.wol_config.specs.Configs.{most_of}
 
 -- it is a write
 abbrev pub is_write : Kind → Bool

@@ -8,14 +8,14 @@
 -- `config` is the configuration; `start` and `now` are where the lines come from, before and after the run; `entry` and `exit` what the
 -- bay told of its images then, `faults` and `faults'` how many of its calls had failed, `taken` and `taken'` the bytes that the sink had
 -- taken; `status` is what the run ended with. Read `Headline` first, then `HasOneHistory`.
-use Rattle.std.specs.Prelude.{◌≡◌, ◌≢◌, ◌<◌, ◌⊎◌, ◌++◌, ℕ, Bool, true, false, List, [], length, map, take, drop, Option, None, Some, slice_get, unwrap_or, IsTrue}
+use Rattle.std.specs.Prelude.{◌≡◌, ◌≢◌, ◌<◌, ◌⊎◌, ◌++◌, ℕ, Bool, true, false, List, [], length, map, take, drop, Option, None, Some, slice_get, IsTrue}
 use Rattle.std.specs.Io.KnownBytes.{Appends}
 use Rattle.wol_disk.specs.Disk.{Block, Rose, State}
 use Rattle.wol_io.specs.Streams.{AppendsFront}
 use Rattle.wol_bay.specs.Bay.{BayState, Told}
 use Rattle.wol_model.specs.ArrayLaws.{unversioned}
 use Rattle.wol_model.specs.Blocks.{Write}
-use Rattle.wol_model.specs.History.{Entry, IsCut, IsLegal, flight_of, writes}
+use Rattle.wol_model.specs.History.{Entry, IsCut, IsLegal, in_flight, writes}
 use Rattle.wol_model.specs.Images.{Images, recovered_from}
 use Rattle.wol_model.specs.Trace.{Request, TraceLine, payloads, requests}
 use Rattle.wol_promise.specs.Outcomes.{Answered, AreOutcomes, answered_in, of_volume}
@@ -27,21 +27,17 @@ use Rattle.volume_images.specs.Left.{IsTold}
 use Rattle.volume_images.specs.Volumes.{AreLeft, images_read, shapes_of}
 use Rattle.rack.specs.Opens.{WasAccepted}
 use Rattle.trace_gen.specs.Generated.{targets_of}
-use Rattle.trace_windows.specs.Requests.{most_of}
 use Rattle.replay.specs.Givens.{HasGiven, HasGivenAll}
 use Rattle.replay.specs.Histories.{line_of_read}
 use Rattle.replay.specs.NotOpened.{LeavesBay}
 use Rattle.replay.specs.declared.given.Given.{Given}
+use Rattle.wol_config.specs.Configs.{most_of}
 
 -- ---- One volume
 
 -- the array that volume v begins with when it is opened of these images
 abbrev pub opened_array : Config → Images → (v : ℕ) → List Block
 opened_array config images v = recovered_from (shapes_of config) images v
-
--- the writes that were in flight when a call of a disk failed; none where none did
-abbrev pub in_flight : List Entry → List Write
-in_flight history = unwrap_or (flight_of history) []
 
 -- they are those of one action: none, or the write that the next one of these requests asks for
 abbrev pub IsOneAction : (v : ℕ) → (next : List Request) → List Write → Type 0

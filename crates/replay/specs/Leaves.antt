@@ -3,7 +3,7 @@ use Rattle.std.specs.Prelude.{◌≡◌, ◌<◌, ℕ, Bool, List, length, take,
 use Rattle.wol_disk.specs.Disk.{Block}
 use Rattle.wol_bay.specs.Bay.{Told}
 use Rattle.wol_model.specs.Blocks.{after}
-use Rattle.wol_model.specs.History.{IsCut, writes}
+use Rattle.wol_model.specs.History.{IsCut, writes, in_flight}
 use Rattle.wol_model.specs.Extents.{AreDistinct, Extent, covers_of}
 use Rattle.wol_model.specs.Index.{Listed}
 use Rattle.wol_model.specs.Images.{Images, all_segments, recovered_from}
@@ -16,7 +16,7 @@ use Rattle.run_laws.specs.Answers.{answered_count, answers_of, requests_in}
 use Rattle.wol_config.specs.declared.config.Config.{Config}
 use Rattle.rack.specs.Closes.{AreListedOf, HasFaultyPart, IsOnLogger}
 use Rattle.volume_images.specs.Volumes.{AreLeft, images_read, shapes_of}
-use Rattle.replay.specs.Headline.{IsOneAction, in_flight}
+use Rattle.replay.specs.Headline.{IsOneAction}
 use Rattle.replay.specs.Histories.{History, is_broken, is_broken_at}
 
 -- what volume v recovers to of the images at entry as they read, behind what its answered requests wrote

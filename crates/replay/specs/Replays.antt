@@ -12,7 +12,6 @@ use Rattle.report.specs.Faults.{status_of}
 use Rattle.report.specs.declared.fault.Fault.TheVariants.{Memory, Versions, Volume}
 use Rattle.report.specs.declared.trouble.Trouble.{Trouble}
 use Rattle.trace_gen.specs.Generated.{targets_of}
-use Rattle.trace_windows.specs.Requests.{most_of}
 use Rattle.troubles.specs.Troubles.{trouble_of, trouble_of_part}
 use Rattle.manager.specs.declared.part.Part.{Part}
 use Rattle.rack.specs.Closes.{CameBackFaulty}
@@ -33,6 +32,7 @@ use Rattle.replay.specs.declared.given.Given.{Given}
 use Rattle.replay.specs.declared.session.Options.{Options}
 use Rattle.replay.specs.declared.stop.Stop.{Stop}
 use Rattle.replay.specs.declared.stop.Stop.TheVariants as stop
+use Rattle.wol_config.specs.Configs.{most_of}
 
 -- the status that a run ends with
 abbrev pub status_in : {T : Type 0} → Result T Stop → ℕ

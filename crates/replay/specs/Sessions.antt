@@ -20,7 +20,7 @@ use Rattle.request_workers.specs.declared.floor.Floor.{Floor}
 use Rattle.request_workers.specs.declared.request.Window.{Window as Answer}
 use Rattle.trace_windows.specs.Batches.{Batched, IsBatchOf}
 use Rattle.trace_windows.specs.Cutting.{Cutting, HasCut, next_number}
-use Rattle.trace_windows.specs.Requests.{most_of, is_skipped}
+use Rattle.trace_windows.specs.Requests.{is_skipped}
 use Rattle.trace_windows.specs.declared.request.Request.{Request}
 use Rattle.report.specs.Names.{printed_names}
 use Rattle.replay.specs.Counts.{CountsWindow}
@@ -35,6 +35,7 @@ use Rattle.replay.specs.declared.session.Options.{Options}
 use Rattle.replay.specs.declared.session.Session.{Session}
 use Rattle.replay.specs.declared.stop.Stop.{Stop}
 use Rattle.replay.specs.declared.stop.Stop.TheVariants as stop
+use Rattle.wol_config.specs.Configs.{most_of}
 
 -- ---- Sessions
 

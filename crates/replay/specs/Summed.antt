@@ -17,7 +17,7 @@ use Rattle.report.specs.declared.fault.Fault.TheVariants.{Memory}
 use Rattle.report.specs.declared.totals.Totals.{Totals}
 use Rattle.spin_model.specs.Spindles.{SpindleView}
 use Rattle.trace_gen.specs.Generated.{targets_of}
-use Rattle.trace_windows.specs.Requests.{is_skipped, most_of}
+use Rattle.trace_windows.specs.Requests.{is_skipped}
 use Rattle.replay.specs.Completes.{is_write}
 use Rattle.replay.specs.Givens.{HasGivenAll}
 use Rattle.replay.specs.Histories.{line_of_read}
@@ -26,6 +26,7 @@ use Rattle.replay.specs.Served.{AreTotals, ServedWindow}
 use Rattle.replay.specs.declared.given.Given.{Given}
 use Rattle.replay.specs.declared.stop.Stop.{Stop}
 use Rattle.replay.specs.declared.stop.Stop.TheVariants as stop
+use Rattle.wol_config.specs.Configs.{most_of}
 
 -- ---- The account
 

@@ -2,11 +2,11 @@
 ghost use Rattle.std.specs.Prelude.{◌≡◌, ◌≢◌, ◌∷◌, ◌++◌, [], ◌+◌, ◌^◌, List, option_map, IfSome, ◌≤◌, ◌<◌, ◌⊎◌, ◌-◌, true, false, length, OnOk, OnErr, IfOk, IfErr, Err, All};
 ghost use Rattle.std.specs.List.{AllByRecursion};
 ghost use Rattle.wol_disk.specs.Disk.{Rose};
-ghost use Rattle.wol_config.specs.Configs.{IsValid};
+ghost use Rattle.wol_config.specs.Configs.{IsValid, most_of};
 ghost use Rattle.trace_gen.specs.Generated.{targets_of};
 ghost use Rattle.msr_trace.specs.Lines.{Fits, trace_line};
 ghost use Rattle.trace_windows.specs.Cutting.{HasCut};
-ghost use Rattle.trace_windows.specs.Requests.{most_of, IsInside};
+ghost use Rattle.trace_windows.specs.Requests.{IsInside};
 ghost use Rattle.request_workers.specs.Begun.{AreKeepers};
 ghost use Rattle.request_workers.specs.Crews.{IsCrew};
 ghost use Rattle.replay.specs.Counts.{AddsAtMost, HasRoomFor, no_totals};

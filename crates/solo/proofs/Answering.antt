@@ -9,7 +9,7 @@ use Rattle.solo.specs.declared.fault.Fault.{Fault}
 use Rattle.solo.specs.declared.fault.Fault.TheVariants as fault
 use Rattle.wol_model.specs.declared.trace.Kind.TheVariants as kind
 use Rattle.solo.specs.Texts.{AreMarks, read_text}
-use Rattle.solo.specs.Served.{Answered, AnsweredFront, IsOnlyDisk, IsSettled, LeavesCuts, LeftBy, Serves, StopsAfter, content_after, content_of}
+use Rattle.solo.specs.Served.{Answered, AnsweredFront, IsOnlyDisk, IsSettled, LeavesCutOf, LeftBy, Serves, StopsAfter, content_after, content_of}
 use Rattle.solo.proofs.Cuts.{answered_cuts, cuts_after, cuts_before, settled_cuts}
 use Rattle.solo.proofs.Marks.{OnVolume, marked, marks_both, read_content, read_lines_append, write_marks}
 
@@ -83,10 +83,10 @@ left_out r values mid old settled same =
 pub left_in_sink : (r : Request) (found : ℕ) (values mid : Option (List (Values Block))) (old new : Option (List ℕ)) → IsSettled values → mid ≡ values → r.kind ≡ kind.Read
     → AreMarks (content_of values) (r ∷ []) (Some found ∷ []) → AppendsFront old new (read_text r found) → LeftBy fault.Sink (content_of values) (r ∷ []) old new mid
 left_in_sink r found values mid old new settled same is are front =
-    let cuts : LeavesCuts (content_of values) (r ∷ []) [] values = answered_cuts (content_of values) (r ∷ []) values settled (sym (read_content r (content_of values) is)) in
+    let cuts : LeavesCutOf (content_of values) (r ∷ []) [] values = answered_cuts (content_of values) (r ∷ []) values settled (sym (read_content r (content_of values) is)) in
     (r ∷ [], [], (refl, rw same cuts), front_read (content_of values) r found old new are front)
 
 pub write_served : {T : Type 0} (array : Option (List Block)) (r : Request) (result : Result T Fault) (old : Option (List ℕ)) (values : Option (List (Values Block))) → r.kind ≡ kind.Write → IsOnlyDisk result
-    → LeavesCuts array [] (r ∷ []) values → Serves array (r ∷ []) result old old values
+    → LeavesCutOf array [] (r ∷ []) values → Serves array (r ∷ []) result old old values
 write_served array r (Ok x) old values is only cuts = (None ∷ [], write_marks array r is, appends_none old old (keeps_same old))
 write_served array r (Err e) old values is only cuts = rw only ([], r ∷ [], (refl, cuts), answered_none array old old (keeps_same old))

@@ -10,7 +10,7 @@ use Rattle.wol_model.specs.Trace.{Request, payload, payload_block, payloads}
 use Rattle.wol_model.specs.declared.trace.Kind.TheVariants as kind
 use Rattle.wol_model.proofs.Arrays.{after_put}
 use Rattle.wol_model.proofs.Overlay.{after_more, after_none}
-use Rattle.solo.specs.Served.{IsSettled, LeavesCuts, content_after, content_of}
+use Rattle.solo.specs.Served.{IsSettled, LeavesCutOf, content_after, content_of}
 use Rattle.solo.proofs.Marks.{payloads_append}
 
 cut_none : (a : List Block) (ws flight : List Write) → IsCut a ws flight (after a ws)
@@ -27,25 +27,25 @@ cut_later a earlier ws flight image (torn w is home blend) =
     torn w is home (rw (append_assoc earlier ws (w ∷ []), after_more a earlier ws, after_more a earlier (ws ++ w ∷ [])) blend)
 
 -- after other requests
-pub cuts_after : (array : Option (List Block)) (rs answered flight : List Request) (values : Option (List (Values Block))) → LeavesCuts (content_after rs array) answered flight values → LeavesCuts array (rs ++ answered) flight values
+pub cuts_after : (array : Option (List Block)) (rs answered flight : List Request) (values : Option (List (Values Block))) → LeavesCutOf (content_after rs array) answered flight values → LeavesCutOf array (rs ++ answered) flight values
 cuts_after None rs answered flight values left = tt
 cuts_after (Some a) rs answered flight values left = λ image is.
     rw (payloads_append rs answered) (cut_later a (payloads 0 rs) (payloads 0 answered) (payloads 0 flight) image (left image is))
 
 -- before others
-pub cuts_before : (array : Option (List Block)) (answered rest more : List Request) (values : Option (List (Values Block))) → LeavesCuts array answered (take 1 rest) values → LeavesCuts array answered (take 1 (rest ++ more)) values
+pub cuts_before : (array : Option (List Block)) (answered rest more : List Request) (values : Option (List (Values Block))) → LeavesCutOf array answered (take 1 rest) values → LeavesCutOf array answered (take 1 (rest ++ more)) values
 cuts_before None answered rest more values left = tt
 cuts_before (Some a) answered [] more values left = λ image is. cut_more a (payloads 0 answered) (payloads 0 (take 1 more)) image (left image is)
 cuts_before (Some a) answered (r ∷ rest) more values left = left
 
 -- a disk on which all is synced
-pub settled_cuts : (values : Option (List (Values Block))) (flight : List Request) → IsSettled values → LeavesCuts (content_of values) [] flight values
+pub settled_cuts : (values : Option (List (Values Block))) (flight : List Request) → IsSettled values → LeavesCutOf (content_of values) [] flight values
 settled_cuts None flight one = tt
 settled_cuts (Some vs) flight one = λ image is.
     whole 0 (omega arith) (settled_only (Some vs) (reads vs) image one is ∙ sym (after_none (reads vs)))
 
 -- .. after requests
-pub answered_cuts : (array : Option (List Block)) (rs : List Request) (values : Option (List (Values Block))) → IsSettled values → content_of values ≡ content_after rs array → LeavesCuts array rs [] values
+pub answered_cuts : (array : Option (List Block)) (rs : List Request) (values : Option (List (Values Block))) → IsSettled values → content_of values ≡ content_after rs array → LeavesCutOf array rs [] values
 answered_cuts None rs values one is = tt
 answered_cuts (Some a) rs None one is = λ image of. absurd of
 answered_cuts (Some a) rs (Some vs) one is = λ image of.
@@ -58,7 +58,7 @@ one_payload : (r : Request) → r.kind ≡ kind.Write → r.volume ≡ 0 → pay
 one_payload r is on = rw (is, on) refl
 
 pub write_cuts : {T E : Type 0} (result : Result T E) (r : Request) (blocks : List Block) (old mid : Option (List (Values Block))) → IsSettled old → r.kind ≡ kind.Write → r.volume ≡ 0 → blocks ≡ map (payload_block r.line) (range_with_len r.first r.count)
-    → OnOk result (mid ≡ option_map (added r.first blocks) old) → OnErr result (AddsSomeOf r.first blocks old mid) → LeavesCuts (content_of old) [] (r ∷ []) mid
+    → OnOk result (mid ≡ option_map (added r.first blocks) old) → OnErr result (AddsSomeOf r.first blocks old mid) → LeavesCutOf (content_of old) [] (r ∷ []) mid
 write_cuts result r blocks None mid one is on filled ok err = tt
 write_cuts result r blocks (Some vs) mid one is on filled ok err = λ image of.
     let (d, was, blend) = after_write result r.first blocks (Some vs) mid image ok err of in
@@ -67,6 +67,6 @@ write_cuts result r blocks (Some vs) mid one is on filled ok err = λ image of.
     torn (payload r) (one_payload r is on) refl (rw (after_none (reads vs)) (rw (put_is, before) at blend))
 
 pub sync_cuts : {T E : Type 0} (result : Result T E) (array : Option (List Block)) (answered flight : List Request) (old new : Option (List (Values Block))) → OnOk result (new ≡ option_map settled old) → OnErr result (new ≡ old)
-    → LeavesCuts array answered flight old → LeavesCuts array answered flight new
+    → LeavesCutOf array answered flight old → LeavesCutOf array answered flight new
 sync_cuts result None answered flight old new ok err left = tt
 sync_cuts result (Some a) answered flight old new ok err left = λ image is. left image (after_sync result old new image ok err is)

@@ -18,7 +18,7 @@ use Rattle.solo.specs.Faults.{fault_of_bay}
 use Rattle.solo.specs.Images.{BeginsBlank, IsOnePart, LeavesImages, PartCameBackFaulty, RunsInBay, RunsOnFirst, Stores, LeavesBy}
 use Rattle.solo.specs.Requests.{asked_of}
 use Rattle.solo.specs.Runs.{Ends, EndsBy, Runs, RunsWhole, StopsBy}
-use Rattle.solo.specs.Served.{IsSettled, LeavesCuts, content_of}
+use Rattle.solo.specs.Served.{IsSettled, LeavesCutOf, content_of}
 use Rattle.solo.specs.Summed.{SumsUp}
 use Rattle.solo.specs.Texts.{summary_text}
 use Rattle.solo.proofs.Answering.{answered_none}
@@ -164,7 +164,7 @@ written_back {D} state n parts lent parts' is count same =
 
 -- ---- The image wasn't made
 
-no_cuts : (array : Option (List Block)) → LeavesCuts array [] [] None
+no_cuts : (array : Option (List Block)) → LeavesCutOf array [] [] None
 no_cuts None = tt
 no_cuts (Some a) = λ image is. absurd is
 

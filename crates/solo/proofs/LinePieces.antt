@@ -8,12 +8,12 @@ use Rattle.wol_model.specs.declared.trace.Kind.{Kind}
 use Rattle.wol_model.specs.declared.trace.Piece.{Piece}
 use Rattle.wol_model.specs.Trace.{TraceLine, blocks_touched, cut_run, pieces}
 use Rattle.msr_trace.specs.Lines.{Fits}
-use Rattle.msr_trace.specs.Pieces.{Lies}
 use Rattle.solo.specs.declared.fault.Fault.{Fault}
 use Rattle.solo.specs.Requests.{piece_request}
 use Rattle.solo.specs.Served.{Answered, LeftBy, content_after}
 use Rattle.solo.proofs.Answering.{answered_both, left_after, left_before}
 use Rattle.solo.proofs.Marks.{OnVolume, content_both}
+use Rattle.wol_model.specs.TraceLaws.{LiesIn}
 
 -- a line has no more pieces than blocks
 few_cut : (fuel home most first count : ℕ) → length (cut_run fuel home most first count) ≤ fuel
@@ -65,11 +65,11 @@ module _ (number : ℕ) (kind : Kind) where
       (left_after e array (map asks done) (asks p ∷ []) old mid new values (refl, tt) earlier (rw was at left)))
 
 -- the first of the pieces that are left
-pub head_lies : (home : ℕ) (ps rest : List Piece) (p : Piece) → All (Lies home 128) ps → ps ≡ p ∷ rest → Lies home 128 p
-head_lies home ps rest p lie next = All-head (Lies home 128) p rest (rw next at lie)
+pub head_lies : (home : ℕ) (ps rest : List Piece) (p : Piece) → All (LiesIn home 128) ps → ps ≡ p ∷ rest → LiesIn home 128 p
+head_lies home ps rest p lie next = All-head (LiesIn home 128) p rest (rw next at lie)
 
-pub tail_lies : (home : ℕ) (ps rest : List Piece) (p : Piece) → All (Lies home 128) ps → ps ≡ p ∷ rest → All (Lies home 128) rest
-tail_lies home ps rest p lie next = All-tail (Lies home 128) p rest (rw next at lie)
+pub tail_lies : (home : ℕ) (ps rest : List Piece) (p : Piece) → All (LiesIn home 128) ps → ps ≡ p ∷ rest → All (LiesIn home 128) rest
+tail_lies home ps rest p lie next = All-tail (LiesIn home 128) p rest (rw next at lie)
 
 -- how many there were so far
 pub few_so_far : (home : ℕ) (line : TraceLine) (done rest : List Piece) → Fits line → pieces home 128 line ≡ done ++ rest → length done ≤ 131073

@@ -11,11 +11,11 @@ use Rattle.solo.specs.declared.fault.Fault.TheVariants as fault
 use Rattle.solo.specs.declared.tally.Tally.{Tally}
 use Rattle.solo.specs.Requests.{HasLines, HasLinesBefore, LineRead, asked_of, tally_of}
 use Rattle.solo.specs.Texts.{AreMarks, read_lines, summary_text}
-use Rattle.solo.specs.Served.{Answered, LeavesCuts, LeftBy}
+use Rattle.solo.specs.Served.{Answered, LeavesCutOf, LeftBy}
 
 -- all that these lines ask was answered
 abbrev pub AnsweredAll : Target → (lines : List (Option TraceLine)) → (array : Option (List Block)) → (old new : Option (List ℕ)) → (values : Option (List (Values Block))) → Type 0
-AnsweredAll target lines array old new values = Answered array (asked_of target lines) old new × LeavesCuts array (asked_of target lines) [] values
+AnsweredAll target lines array old new values = Answered array (asked_of target lines) old new × LeavesCutOf array (asked_of target lines) [] values
 
 -- How a run ended before the end of its trace. `left` is what is then left of the trace.
 -- At a bad line, after 2^32 lines and where the source failed all lines before were run; of a source that failed
@@ -53,12 +53,12 @@ whole_text target lines marks = read_lines (asked_of target lines) marks ++ summ
 -- the whole text was printed
 abbrev pub Prints : Target → (trace : Option (List ℕ)) → (array : Option (List Block)) → (old new : Option (List ℕ)) → (values : Option (List (Values Block))) → Type 0
 Prints target trace array old new values =
-    (lines : List (Option TraceLine)) × HasLines trace lines [] × (length lines ≤ 2 ^ 32) × (marks : List (Option ℕ)) × AreMarks array (asked_of target lines) marks × Appends old new (whole_text target lines marks) × LeavesCuts array (asked_of target lines) [] values
+    (lines : List (Option TraceLine)) × HasLines trace lines [] × (length lines ≤ 2 ^ 32) × (marks : List (Option ℕ)) × AreMarks array (asked_of target lines) marks × Appends old new (whole_text target lines marks) × LeavesCutOf array (asked_of target lines) [] values
 
 -- .. or a front of it
 abbrev pub PrintsFront : Target → (trace : Option (List ℕ)) → (array : Option (List Block)) → (old new : Option (List ℕ)) → (values : Option (List (Values Block))) → Type 0
 PrintsFront target trace array old new values =
-    (lines : List (Option TraceLine)) × HasLines trace lines [] × (length lines ≤ 2 ^ 32) × (marks : List (Option ℕ)) × AreMarks array (asked_of target lines) marks × AppendsFront old new (whole_text target lines marks) × LeavesCuts array (asked_of target lines) [] values
+    (lines : List (Option TraceLine)) × HasLines trace lines [] × (length lines ≤ 2 ^ 32) × (marks : List (Option ℕ)) × AreMarks array (asked_of target lines) marks × AppendsFront old new (whole_text target lines marks) × LeavesCutOf array (asked_of target lines) [] values
 
 -- how a run ended that wasn't done: without an image, in the trace, or at the last line
 abbrev pub EndsBy : Fault → Target → (trace left : Option (List ℕ)) → (array : Option (List Block)) → (old new : Option (List ℕ)) → (values : Option (List (Values Block))) → Type 0

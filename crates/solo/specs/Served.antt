@@ -23,9 +23,9 @@ abbrev pub IsSettled : Option (List (Values Block)) → Type 0
 IsSettled values = values ≡ option_map only (content_of values)
 
 -- a stop leaves the array after the answered writes, and maybe some blocks of the write in flight
-abbrev pub LeavesCuts : (array : Option (List Block)) → (answered flight : List Request) → (values : Option (List (Values Block))) → Type 0
-LeavesCuts None answered flight values = ⊤
-LeavesCuts (Some a) answered flight values = (image : List Block) → IsImageOf values image → IsCut a (payloads 0 answered) (payloads 0 flight) image
+abbrev pub LeavesCutOf : (array : Option (List Block)) → (answered flight : List Request) → (values : Option (List (Values Block))) → Type 0
+LeavesCutOf None answered flight values = ⊤
+LeavesCutOf (Some a) answered flight values = (image : List Block) → IsImageOf values image → IsCut a (payloads 0 answered) (payloads 0 flight) image
 
 -- the sink took the lines of the reads
 abbrev pub Answered : (array : Option (List Block)) → List Request → (old new : Option (List ℕ)) → Type 0
@@ -37,7 +37,7 @@ AnsweredFront array rs old new = (marks : List (Option ℕ)) × AreMarks array r
 
 -- some first requests were answered, and no more than the next one was in flight
 abbrev pub StopsAfter : (first rest : List Request) → (array : Option (List Block)) → List Request → (values : Option (List (Values Block))) → Type 0
-StopsAfter first rest array rs values = (rs ≡ first ++ rest) × LeavesCuts array first (take 1 rest) values
+StopsAfter first rest array rs values = (rs ≡ first ++ rest) × LeavesCutOf array first (take 1 rest) values
 
 -- how requests end that weren't all answered: only by their disk, the sink, or want of memory
 abbrev pub LeftBy : Fault → (array : Option (List Block)) → List Request → (old new : Option (List ℕ)) → (values : Option (List (Values Block))) → Type 0

@@ -3,7 +3,7 @@ ghost use Rattle.std.specs.Prelude.{◌≡◌, ◌+◌, ◌≤◌, ◌^◌, [], 
 ghost use Rattle.wol_disk.specs.Disk.{Rose};
 ghost use Rattle.solo.specs.Requests.{request_of};
 ghost use Rattle.solo.specs.Texts.{read_text};
-ghost use Rattle.solo.specs.Served.{IsCalm, IsOnlyDisk, IsSettled, LeavesCuts, Serves, content_of, content_after};
+ghost use Rattle.solo.specs.Served.{IsCalm, IsOnlyDisk, IsSettled, LeavesCutOf, Serves, content_of, content_after};
 
 use crate::fault::Fault;
 use crate::request::Request;
@@ -69,7 +69,7 @@ fn write_blocks<D: Disk>(part: &mut D, blocks: &mut [Block], request: &Request) 
     ensures values { OnOk result (content_of (D.state part.new).values ≡ content_after (request_of request.now ∷ []) (content_of (D.state part.old).values)) }
     ensures disk { IsErrOf result Fault.Disk → Rose (D.state part.old).faults (D.state part.new).faults }
     ensures disk_later { (D.state part.old).faults ≤ (D.state part.new).faults }
-    ensures images { LeavesCuts (content_of (D.state part.old).values) [] (request_of request.now ∷ []) (D.state part.new).values }
+    ensures images { LeavesCutOf (content_of (D.state part.old).values) [] (request_of request.now ∷ []) (D.state part.new).values }
     ensures only { IsOnlyDisk result }
 {
     fill(request.line, request.first, blocks);

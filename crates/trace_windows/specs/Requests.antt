@@ -28,10 +28,6 @@ abbrev pub is_skipped : List Target → Option TraceLine → Bool
 is_skipped targets None = false
 is_skipped targets (Some l) = is_none (volume_of targets l)
 
--- the most blocks of a request on a configuration's volumes
-abbrev pub most_of : Config → ℕ
-most_of config = min 128 (config.segment_blocks - 2)
-
 -- it names one of these volumes, and has 1 to `most` blocks, which lie in it
 pub record IsInside (most : ℕ) (targets : List Target) (r : Request) : Type 0 where
   pub volume : r.volume < length targets

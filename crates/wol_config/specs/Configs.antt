@@ -1,5 +1,5 @@
 -- What a configuration is, and when it is valid.
-use Rattle.std.specs.Prelude.{◌≡◌, ◌≢◌, ◌⊎◌, ℕ, ◌*◌, ◌^◌, ◌<◌, ◌≤◌, Bool, true, List, length, map, Option, Some, None, IsUtf8, All, AllPairs, slice_index_or}
+use Rattle.std.specs.Prelude.{◌≡◌, ◌≢◌, ◌⊎◌, ℕ, ◌*◌, ◌-◌, ◌^◌, ◌<◌, ◌≤◌, Bool, true, List, length, map, min, Option, Some, None, IsUtf8, All, AllPairs, slice_index_or}
 use Rattle.std.specs.List.{list_all}
 use Rattle.toml.specs.Data.{Members}
 use Rattle.toml.specs.Parse.{parse_document}
@@ -20,6 +20,10 @@ volume_of names volume = record (volume_in volume) { view = numbers_named names 
 -- the volumes of a document
 abbrev pub volumes_of : List Members → List VolumeConf
 volumes_of tables = map (volume_of (map (text_at Name) tables)) tables
+
+-- the most blocks of a request on a configuration's volumes: what a record may have, and a segment of this size has room for
+abbrev pub most_of : Config → ℕ
+most_of config = min 128 (config.segment_blocks - 2)
 
 -- a document without fault is this configuration; a millisecond is 10,000 units of 100 ns
 pub record IsConfigOf (document : Members) (config : Config) : Type 0 where

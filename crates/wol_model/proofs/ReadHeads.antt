@@ -8,7 +8,7 @@ use Rattle.std.proofs.lemmas.Bool.{ltb-true, leb-true, eqb-true, eqb-false, lt-l
 use Rattle.byteorder.specs.Endian.{little_bytes, little_number}
 use Rattle.byteorder.specs.Numbers.{little_number-reads_back}
 use Rattle.wol_disk.specs.Disk.{Block}
-use Rattle.wol_model.specs.Heads.{padded, span_bytes, RecordHead, IsRecordHead, IsMask, SpellsRecord, head_block, gate_block}
+use Rattle.wol_model.specs.Heads.{padded, span_bytes, RecordHead, IsRecordHead, IsMaskOfForm, SpellsRecord, head_block, gate_block}
 use Rattle.wol_model.specs.Recovered.{is_in_range, fields_of, spelled_head}
 
 pub read_back : (k n : ℕ) → n < 256 ^ k → little_number k (little_bytes k n ++ []) ≡ n
@@ -47,7 +47,7 @@ in_range_from h e =
       form = form mask.1;
     }
   where
-    form : ((eqb h.form 2) || (eqb h.form 1 && (eqb h.mask 0 || eqb h.mask (2 ^ h.count - 1)))) ≡ true → IsMask h.form h.count h.mask
+    form : ((eqb h.form 2) || (eqb h.form 1 && (eqb h.mask 0 || eqb h.mask (2 ^ h.count - 1)))) ≡ true → IsMaskOfForm h.form h.count h.mask
     form k = elim (either (eqb h.form 2) _ k) [
       | inl two ↦ inl (eqb-true _ _ two)
       | inr one ↦ let parts = both (eqb h.form 1) _ one in inr (eqb-true _ _ parts.0, elim (either (eqb h.mask 0) _ parts.1) [ inl none ↦ inl (eqb-true _ _ none) | inr whole ↦ inr (eqb-true _ _ whole) ])
@@ -65,7 +65,7 @@ in_range h r = λ i.
     or_true : (a b : Bool) → a ≡ true → (a || b) ≡ true
     or_true a b e = λ i. e i || b
 
-    form : IsMask h.form h.count h.mask → ((eqb h.form 2) || (eqb h.form 1 && (eqb h.mask 0 || eqb h.mask (2 ^ h.count - 1)))) ≡ true
+    form : IsMaskOfForm h.form h.count h.mask → ((eqb h.form 2) || (eqb h.form 1 && (eqb h.mask 0 || eqb h.mask (2 ^ h.count - 1)))) ≡ true
     form (inl two) = or_true (eqb h.form 2) _ (eq-eqb h.form 2 two)
     form (inr (one, inl none)) = true_or (eqb h.form 2) _ (λ i. eq-eqb h.form 1 one i && or_true (eqb h.mask 0) (eqb h.mask (2 ^ h.count - 1)) (eq-eqb h.mask 0 none) i)
     form (inr (one, inr whole)) = true_or (eqb h.form 2) _ (λ i. eq-eqb h.form 1 one i && true_or (eqb h.mask 0) _ (eq-eqb h.mask (2 ^ h.count - 1) whole) i)

@@ -4,11 +4,6 @@ use Rattle.std.specs.List.{AllByRecursion}
 use Rattle.std.specs.Option.{option_or}
 use Rattle.wol_disk.specs.Disk.{Block}
 
--- a block has 512 bytes
-pub record IsBlock (b : Block) : Type 0 where
-  pub size : length b ≡ 512
-  pub bytes : AllByRecursion (λ x. x < 256) b
-
 -- blocks in a row from `first` on, written to a log under this version or, with none, to home
 pub record Write : Type 0 where
   pub first : ℕ

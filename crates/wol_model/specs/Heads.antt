@@ -95,8 +95,8 @@ pub record RecordHead : Type 0 where
   pub mask : ℕ
 
 -- what each form's mask may be
-abbrev pub IsMask : ℕ → ℕ → ℕ → Type 0
-IsMask form count mask = (form ≡ 2) ⊎ ((form ≡ 1) × ((mask ≡ 0) ⊎ (mask ≡ 2 ^ count - 1)))
+abbrev pub IsMaskOfForm : ℕ → ℕ → ℕ → Type 0
+IsMaskOfForm form count mask = (form ≡ 2) ⊎ ((form ≡ 1) × ((mask ≡ 0) ⊎ (mask ≡ 2 ^ count - 1)))
 
 -- the fields are in their ranges
 pub record IsRecordHead (h : RecordHead) : Type 0 where
@@ -105,7 +105,7 @@ pub record IsRecordHead (h : RecordHead) : Type 0 where
   pub count : (1 ≤ h.count) × (h.count ≤ 128)
   pub range : h.first + h.count ≤ 2 ^ 32
   pub kept : h.mask < 2 ^ h.count
-  pub form : IsMask h.form h.count h.mask
+  pub form : IsMaskOfForm h.form h.count h.mask
 
 -- the fields that both forms have, from byte 12 on
 abbrev pub span_bytes : RecordHead → List ℕ

@@ -1,5 +1,5 @@
 -- The history of a volume, and what a stop may leave.
-use Rattle.std.specs.Prelude.{⊤, ◌≡◌, ◌≢◌, ℕ, ◌+◌, ◌<◌, ◌≤◌, List, [], ◌∷◌, ◌++◌, Option, None, Some, map, length, take, slice_range}
+use Rattle.std.specs.Prelude.{⊤, ◌≡◌, ◌≢◌, ℕ, ◌+◌, ◌<◌, ◌≤◌, List, [], ◌∷◌, ◌++◌, Option, None, Some, map, length, take, unwrap_or, slice_range}
 use Rattle.std.specs.List.{flat_map, AllByRecursion}
 use Rattle.wol_disk.specs.Disk.{Block, IsBlend}
 use Rattle.wol_model.specs.Blocks.{Write, after}
@@ -97,3 +97,7 @@ flight_from Kept rest = rest
 abbrev pub flight_of : List Entry → Option (List Write)
 flight_of [] = None
 flight_of (e ∷ entries) = flight_from e.operation (flight_of entries)
+
+-- the writes that were in flight when a call of a disk failed; none where none did
+abbrev pub in_flight : List Entry → List Write
+in_flight entries = unwrap_or (flight_of entries) []

@@ -54,10 +54,6 @@ pub record StandsBehind (bs : List Block) (p owner : ℕ) (rs : List Record) : T
   pub front : take p bs ≡ owned_block owner ∷ flat_map written rs
   pub within : p ≤ length bs
 
--- a place where a head is looked for
-abbrev pub IsHeadPlace : List Block → (p : ℕ) → Type 0
-IsHeadPlace bs p = (p ≡ 0) ⊎ ((owner : ℕ) × (rs : List Record) × StandsBehind bs p owner rs)
-
 -- a log of these records and of some first ones of a group
 pub record HasFirstOf (bs : List Block) (owner : ℕ) (rs group : List Record) : Type 0 where
   pub count : ℕ

@@ -13,6 +13,6 @@ mod trace;
 pub use journal::{Powers, Turned};
 pub use laws::{
     array_laws, drain_laws, extent_laws, history_laws, image_laws, index_laws, log_laws, mask_laws,
-    spelling_laws, step_laws,
+    spelling_laws, step_laws, trace_laws,
 };
 pub use trace::{Kind, Piece};

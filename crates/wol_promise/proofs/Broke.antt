@@ -8,7 +8,7 @@ use Rattle.wol_model.specs.Blocks.{Write, after}
 use Rattle.wol_model.specs.History.{Operation, Broke, worker, writes, flight_of, IsLegalNext, IsHelp, IsCut}
 use Rattle.wol_promise.specs.Ruled.{Noted, entries_of, IsStep, last_look}
 use Rattle.wol_promise.specs.Manager.{Parts, PartName, ManagerSeen, Base, IsPartOf, Recovers}
-use Rattle.wol_promise.specs.Stands.{AreKnown, StaySound, HasVersions, HasPlaces, LiesIn, Upholds, StandsFor}
+use Rattle.wol_promise.specs.Stands.{AreKnown, StaySound, HasVersions, HasPlaces, LiesInVolume, Upholds, StandsFor}
 use Rattle.wol_promise.proofs.OneMore.{history_more, writes_then, flight_then, stands_then}
 
 -- the next version may have passed already
@@ -20,7 +20,7 @@ versions_hold base next ws fl v = record { apart = v.apart; below = v.below; in_
 module _ {P : Type 0} (parts : Parts P) (base : Base) (m m' : ManagerSeen P) (notes : List Noted) (n : Noted) (ws fl : List Write) (name : PartName)
     (u : Upholds parts base m notes ws None) (is_ws : writes (entries_of notes) ≡ ws) (none : flight_of (entries_of notes) ≡ None)
     (broke : n.entry.operation ≡ Broke fl) (helps : n.entry.pass ≢ worker → fl ≡ []) (unruled : n.after_drain ≡ false)
-    (lies : AllByRecursion (LiesIn base.home_blocks) (base.records ++ (ws ++ fl)))
+    (lies : AllByRecursion (LiesInVolume base.home_blocks) (base.records ++ (ws ++ fl)))
     (next : m'.next ≡ m.next) (down : m'.down ≡ Some name)
     (known : parts.told → AreKnown base m'.next ws fl m'.held) (places : HasPlaces parts base m'.home m'.held m'.ups)
     (failed : (p : P) × IsPartOf base.view m' name p × (0 < parts.faults p))

@@ -11,7 +11,7 @@ use Rattle.wol_model.specs.Holding.{Holds}
 use Rattle.wol_model.specs.Log.{IsLog, IsIdle, extent_of}
 use Rattle.wol_promise.specs.Ruled.{Noted, entries_of}
 use Rattle.wol_promise.specs.Manager.{Parts, SegmentPart, Held, ManagerSeen, Base, extents_held, is_homed_in, WasWritten}
-use Rattle.wol_promise.specs.Stands.{AreKnown, LieInHome, IsHeldBy, place_in, AreApartPlaces, HasPlaces, LiesIn, Upholds, StandsFor}
+use Rattle.wol_promise.specs.Stands.{AreKnown, LieInHome, IsHeldBy, place_in, AreApartPlaces, HasPlaces, LiesInVolume, Upholds, StandsFor}
 use Rattle.wol_promise.proofs.Broke.{broke_more}
 use Rattle.wol_promise.proofs.Claims.{places_insert}
 use Rattle.wol_promise.proofs.HomeWrites.{lie_flying, known_flying}
@@ -24,7 +24,7 @@ broken_segment part lane index = record { part = part; lane = lane; index = inde
 
 module _ {P : Type 0} (parts : Parts P) (base : Base) (m : ManagerSeen P) (home_up : Bool) (ups : List Bool) (flags : length ups ≡ length m.ups) (notes : List Noted) (n : Noted) (fl : List Write)
     (u : Upholds parts base m notes (writes (entries_of notes)) None) (none : flight_of (entries_of notes) ≡ None) (broke : n.entry.operation ≡ Broke fl) (client : n.entry.pass ≡ worker) (unruled : n.after_drain ≡ false)
-    (lies : AllByRecursion (LiesIn base.home_blocks) fl)
+    (lies : AllByRecursion (LiesInVolume base.home_blocks) fl)
     (front back : List (Held P)) (part : P) (lane index : ℕ) (held : m.held ≡ front ++ back) (by : IsHeldBy parts base (broken_segment part lane index))
     (new_place : AllByRecursion (λ (v : Held P). place_in v ≢ (lane, index)) (front ++ back))
     (images : (bs : List Block) → parts.may_be part bs → IsLog bs base.owner [] ⊎ IsIdle bs)

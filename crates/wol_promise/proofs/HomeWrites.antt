@@ -13,7 +13,7 @@ use Rattle.wol_model.specs.Log.{extent_of}
 use Rattle.wol_model.proofs.Steps.{home_step}
 use Rattle.wol_promise.specs.Ruled.{Noted, entries_of, IsStep, last_look}
 use Rattle.wol_promise.specs.Manager.{Parts, HomePart, Held, ManagerSeen, Base, look_of, extents_held, is_homed_in, WasWritten}
-use Rattle.wol_promise.specs.Stands.{AreKnown, HasPlaces, LiesIn, Upholds, StandsFor}
+use Rattle.wol_promise.specs.Stands.{AreKnown, HasPlaces, LiesInVolume, Upholds, StandsFor}
 use Rattle.wol_promise.proofs.Lists.{all_map, all_joined}
 use Rattle.wol_promise.proofs.OneMore.{history_more, writes_then, flight_then, stands_then, or_none}
 use Rattle.wol_promise.proofs.Known.{versions_with_home, acknowledged, flying}
@@ -22,15 +22,15 @@ use Rattle.wol_promise.proofs.SoundSegments.{logs_sound}
 use Rattle.wol_promise.proofs.Stops.{home_stops}
 
 -- all writes lie in the volume with one more
-pub lie_more : (home_blocks : ℕ) (records ws : List Write) (w : Write) → AllByRecursion (LiesIn home_blocks) (records ++ (ws ++ [])) → LiesIn home_blocks w → AllByRecursion (LiesIn home_blocks) (records ++ ((ws ++ w ∷ []) ++ []))
-lie_more home_blocks records ws w all lies = subst (AllByRecursion (LiesIn home_blocks))
+pub lie_more : (home_blocks : ℕ) (records ws : List Write) (w : Write) → AllByRecursion (LiesInVolume home_blocks) (records ++ (ws ++ [])) → LiesInVolume home_blocks w → AllByRecursion (LiesInVolume home_blocks) (records ++ ((ws ++ w ∷ []) ++ []))
+lie_more home_blocks records ws w all lies = subst (AllByRecursion (LiesInVolume home_blocks))
     (append_assoc records (ws ++ []) (w ∷ []) ∙ ap (λ (l : List Write). records ++ l) (ap (λ (l : List Write). l ++ w ∷ []) (append-nil ws) ∙ sym (append-nil (ws ++ w ∷ []))))
-    (all_joined (LiesIn home_blocks) (records ++ (ws ++ [])) (w ∷ []) all (lies, tt))
+    (all_joined (LiesInVolume home_blocks) (records ++ (ws ++ [])) (w ∷ []) all (lies, tt))
 
-pub lie_flying : (home_blocks : ℕ) (records ws fl : List Write) → AllByRecursion (LiesIn home_blocks) (records ++ (ws ++ [])) → AllByRecursion (LiesIn home_blocks) fl → AllByRecursion (LiesIn home_blocks) (records ++ (ws ++ fl))
-lie_flying home_blocks records ws fl all lies = subst (AllByRecursion (LiesIn home_blocks))
+pub lie_flying : (home_blocks : ℕ) (records ws fl : List Write) → AllByRecursion (LiesInVolume home_blocks) (records ++ (ws ++ [])) → AllByRecursion (LiesInVolume home_blocks) fl → AllByRecursion (LiesInVolume home_blocks) (records ++ (ws ++ fl))
+lie_flying home_blocks records ws fl all lies = subst (AllByRecursion (LiesInVolume home_blocks))
     (append_assoc records (ws ++ []) fl ∙ ap (λ (l : List Write). records ++ (l ++ fl)) (append-nil ws))
-    (all_joined (LiesIn home_blocks) (records ++ (ws ++ [])) fl all lies)
+    (all_joined (LiesInVolume home_blocks) (records ++ (ws ++ [])) fl all lies)
 
 -- what is known stays so with one write more, or with writes in flight
 pub known_more : {P : Type 0} (base : Base) (next : ℕ) (ws : List Write) (w : Write) (held : List (Held P)) → AreKnown base next ws [] held → AreKnown base next (ws ++ w ∷ []) [] held
@@ -71,7 +71,7 @@ module _ {P : Type 0} (parts : Parts P) (base : Base) (m : ManagerSeen P) (part 
   }
 
   module _ (notes : List Noted) (n : Noted) (w : Write) (u : Upholds parts base m notes (writes (entries_of notes)) None) (none : flight_of (entries_of notes) ≡ None) (client : n.entry.pass ≡ worker)
-      (to_home : w.version ≡ None) (uncovered : parts.told → IsUncovered (extents_held m.held) w) (lies : LiesIn base.home_blocks w) where
+      (to_home : w.version ≡ None) (uncovered : parts.told → IsUncovered (extents_held m.held) w) (lies : LiesInVolume base.home_blocks w) where
     abbrev ws : List Write
     ws = writes (entries_of notes)
 

@@ -20,7 +20,7 @@ use Rattle.wol_model.proofs.Marks.{remarked_is, none_marked}
 use Rattle.wol_model.proofs.Steps.{logging_step, distinct_more}
 use Rattle.wol_promise.specs.Ruled.{Noted, entries_of, IsStep, last_look}
 use Rattle.wol_promise.specs.Manager.{Parts, SegmentPart, Held, ManagerSeen, Base, look_of, extents_held, is_homed_in, WasWritten, AllRecords, SaysOwnerOrFree}
-use Rattle.wol_promise.specs.Stands.{AreKnown, LiesInHome, LieInHome, IsHeldBy, place_in, AreApartPlaces, HasPlaces, IsPlaced, IsWhole, IsCalm, LiesIn, Upholds, StandsFor}
+use Rattle.wol_promise.specs.Stands.{AreKnown, LiesInHome, LieInHome, IsHeldBy, place_in, AreApartPlaces, HasPlaces, IsPlaced, IsWhole, IsCalm, LiesInVolume, Upholds, StandsFor}
 use Rattle.wol_promise.proofs.Lists.{all_push, all_map, all_swap, all_parts, all_mid, member_mid, member_swap}
 use Rattle.wol_promise.proofs.OneMore.{history_more, writes_then, flight_then, stands_then, or_none}
 use Rattle.wol_promise.proofs.Known.{versions_with_log, acknowledged, is_new, all_below}
@@ -111,7 +111,7 @@ module _ {P : Type 0} (parts : Parts P) (base : Base) (m : ManagerSeen P) (home_
     (front : List (Held P)) (s : Held P) (back : List (Held P)) (part : P) (r : Record)
     (u : Upholds parts base m notes (writes (entries_of notes)) None) (none : flight_of (entries_of notes) ≡ None) (held : m.held ≡ front ++ s ∷ back)
     (size : parts.size part ≡ parts.size s.part) (volume : parts.volume part ≡ parts.volume s.part)
-    (keeps : KeepsAll (extent_of r)) (is_next : r.head.version ≡ m.next) (lies : LiesIn base.home_blocks (write_of (extent_of r))) (client : n.entry.pass ≡ worker) where
+    (keeps : KeepsAll (extent_of r)) (is_next : r.head.version ≡ m.next) (lies : LiesInVolume base.home_blocks (write_of (extent_of r))) (client : n.entry.pass ≡ worker) where
   abbrev ws : List Write
   ws = writes (entries_of notes)
 

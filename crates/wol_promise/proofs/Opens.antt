@@ -12,7 +12,7 @@ use Rattle.wol_model.specs.Index.{Listed, Indexed, listed_in}
 use Rattle.wol_model.specs.Log.{IsLog}
 use Rattle.wol_model.proofs.Steps.{opening_step, fewer_homed}
 use Rattle.wol_promise.specs.Manager.{Parts, ManagerSeen, Base, IsIndexOf, IsSorted, extents_held, is_homed_in, look_of}
-use Rattle.wol_promise.specs.Stands.{AreKnown, HasVersions, HasPlaces, IsOpening, IsOpened, IsPlaced, LiesIn, StandsFor}
+use Rattle.wol_promise.specs.Stands.{AreKnown, HasVersions, HasPlaces, IsOpening, IsOpened, IsPlaced, LiesInVolume, StandsFor}
 use Rattle.wol_promise.proofs.Known.{all_below}
 use Rattle.wol_promise.proofs.LogWrites.{low_extents}
 
@@ -30,7 +30,7 @@ none_homed base (e ∷ es) all b = λ i. at (leb e.listed.first b) i || none_hom
     at false = refl
 
 module _ {P : Type 0} (parts : Parts P) (base : Base) (m : ManagerSeen P) (began : IsOpening base) (look : base.look ≡ look_of m) (up : m.down ≡ None)
-    (versioned : HasVersions base m.next [] None) (lie : AllByRecursion (LiesIn base.home_blocks) base.records) (known : parts.told → AreKnown base m.next [] [] m.held)
+    (versioned : HasVersions base m.next [] None) (lie : AllByRecursion (LiesInVolume base.home_blocks) base.records) (known : parts.told → AreKnown base m.next [] [] m.held)
     (places : HasPlaces parts base m.home m.held m.ups) (unbroken : AllByRecursion (λ s. s.broken ≡ false) m.held) (untaken : m.taken ≡ []) (sorted : IsSorted m.indexed)
     (below : AllByRecursion (λ e. e.listed.version < m.next) m.indexed) (placed : AllByRecursion (IsPlaced parts m.held) m.indexed)
     (logs : parts.told → AllByRecursion (λ s. (bs : List Block) → parts.may_be s.part bs → IsLog bs base.owner s.records) m.held)
@@ -45,7 +45,7 @@ module _ {P : Type 0} (parts : Parts P) (base : Base) (m : ManagerSeen P) (began
     upholds = record {
       began = began;
       history = record { replies = λ told. tt; breaks = tt; helpers = tt; ruled = tt };
-      lie = subst (AllByRecursion (LiesIn base.home_blocks)) (sym (append-nil base.records)) lie;
+      lie = subst (AllByRecursion (LiesInVolume base.home_blocks)) (sym (append-nil base.records)) lie;
       versioned = versioned;
       known = known;
       places = places;

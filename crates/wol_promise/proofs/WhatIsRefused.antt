@@ -7,7 +7,7 @@ use Rattle.wol_promise.specs.Policy.{Look, HomePart}
 use Rattle.wol_promise.specs.Ruled.{Noted, IsDrainedWrite, IsStep}
 use Rattle.wol_model.specs.History.{Kept}
 use Rattle.wol_promise.specs.Manager.{IsEntryOf}
-use Rattle.wol_promise.specs.Stands.{IsOpening, LiesIn}
+use Rattle.wol_promise.specs.Stands.{IsOpening, LiesInVolume}
 use Rattle.wol_promise.proofs.OpenedManager.{held, kept_in_part, entry, base, listed}
 
 other_position : (pos : ℕ) → IsEntryOf held 0 kept_in_part (record entry { pos = pos }) → pos ≡ 1
@@ -25,7 +25,7 @@ other_next is = let no : ◌≡◌ {A = ℕ} 1 2 = is.next in omega arith
 part_down : IsOpening (record base { look = record { home_up = true; ups = true ∷ []; next = 2; listed = listed ∷ []; down = Some HomePart } }) → ⊥
 part_down is = let no : Some HomePart ≡ None = is.up in cc
 
-behind_the_end : LiesIn 4 (record { first = 4; blocks = (1 ∷ []) ∷ []; version = None }) → ⊥
+behind_the_end : LiesInVolume 4 (record { first = 4; blocks = (1 ∷ []) ∷ []; version = None }) → ⊥
 behind_the_end is = let no : 5 ≤ 4 = is in omega arith
 
 logged_after_drain : (passed : List ℕ) (l m : Look) (first v : ℕ) (blocks : List (List ℕ)) → IsDrainedWrite passed l (record { first = first; blocks = blocks; version = Some v } ∷ []) m → ⊥

@@ -41,13 +41,6 @@ read_lines text arrays n asked = read_lines_after text arrays n [] asked
 abbrev pub joined_lines : List (List ℕ) → List ℕ
 joined_lines lines = flat_map (λ l. l) lines
 
--- What a sink took: the lines, then what ends the output at this status; at 9 some first lines, whole, then the fault's text;
--- at 7 a prefix of what it may have taken at 0, at 9, or at another status whose cause holds.
-pub data Prints (lines : List (List ℕ)) (ending : ℕ → List ℕ) (has_cause : ℕ → Type 0) : ℕ → List ℕ → Type 0 where
-  whole : (status : ℕ) → status ≢ 7 → status ≢ 9 → Prints lines ending has_cause status (joined_lines lines ++ ending status)
-  short_of_memory : (k : ℕ) → Prints lines ending has_cause 9 (joined_lines (take k lines) ++ ending 9)
-  cut_off : (other : ℕ) (text : List ℕ) (k : ℕ) → other ≢ 7 → (other ≢ 0 → other ≢ 9 → has_cause other) → Prints lines ending has_cause other text → Prints lines ending has_cause 7 (take k text)
-
 -- ---- Images
 
 -- Whatever image is left of each volume, it recovers to what its answered requests wrote to the array at entry, and to a cut of

@@ -44,8 +44,8 @@ next_version (r ∷ rs) = max (r.head.version + 1) (next_version rs)
 -- ---- The history
 
 -- a write lies in the volume
-abbrev pub LiesIn : (home_blocks : ℕ) → Write → Type 0
-LiesIn home_blocks w = w.first + length w.blocks ≤ home_blocks
+abbrev pub LiesInVolume : (home_blocks : ℕ) → Write → Type 0
+LiesInVolume home_blocks w = w.first + length w.blocks ≤ home_blocks
 
 -- the entries are a legal history, and the ruled ones follow the rules
 pub record HasHistory (told : Type 0) (base : Base) (notes : List Noted) : Type 0 where
@@ -159,7 +159,7 @@ pub record IsCalm {P : Type 0} (parts : Parts P) (base : Base) (ws : List Write)
 pub record Upholds {P : Type 0} (parts : Parts P) (base : Base) (m : ManagerSeen P) (notes : List Noted) (ws : List Write) (in_flight : Option (List Write)) : Type 0 where
   pub began : IsOpening base
   pub history : HasHistory parts.told base notes
-  pub lie : AllByRecursion (LiesIn base.home_blocks) (base.records ++ (ws ++ unwrap_or in_flight []))
+  pub lie : AllByRecursion (LiesInVolume base.home_blocks) (base.records ++ (ws ++ unwrap_or in_flight []))
   pub versioned : HasVersions base m.next ws in_flight
   pub known : parts.told → AreKnown base m.next ws (unwrap_or in_flight []) m.held
   pub places : HasPlaces parts base m.home m.held m.ups

@@ -24,7 +24,6 @@ use Rattle.report.specs.declared.fault.Fault.TheVariants as fault
 use Rattle.report.specs.declared.trouble.Trouble.{Trouble}
 use Rattle.solo.specs.Requests.{HasLines, HasLinesBefore, LineRead, lines_read}
 use Rattle.trace_gen.specs.Generated.{Generator, line, targets_of}
-use Rattle.trace_windows.specs.Requests.{most_of}
 use Rattle.trace_windows.proofs.Counting.{requests_blank, requests_more}
 use Rattle.comparison.specs.Compares.{MayCompare}
 use Rattle.replay.specs.Givens.{HasGiven, IsWithin, Refuses}
@@ -42,6 +41,7 @@ use Rattle.wol_run.specs.Settings.{HasConfig, IsConfigured, IsUnread, line_of_fa
 use Rattle.wol_run.specs.Tops.{EndsWith, IsDoneOrMemory}
 use Rattle.wol_run.proofs.Complete.{no_both}
 use Rattle.wol_run.proofs.Unread.{ends_unread, line_unread, wanted_or_sink}
+use Rattle.wol_config.specs.Configs.{most_of}
 
 -- ---- Counts
 

@@ -17,7 +17,6 @@ use Rattle.volume_images.specs.Left.{IsTold}
 use Rattle.volume_images.specs.Volumes.{images_read}
 use Rattle.rack.specs.Owners.{IsBegun}
 use Rattle.trace_gen.specs.Generated.{targets_of}
-use Rattle.trace_windows.specs.Requests.{most_of}
 use Rattle.replay.specs.Completes.{is_write, writes_to}
 use Rattle.replay.specs.Ended.{HasRefusedWrite}
 use Rattle.replay.specs.Histories.{History, answers_in, next_after, next_at}
@@ -29,6 +28,7 @@ use Rattle.replay.specs.declared.stop.Stop.{Stop}
 use Rattle.replay.specs.declared.stop.Stop.TheVariants as stop
 use Rattle.replay.proofs.CountsLeft.{answers_joined}
 use Rattle.replay.proofs.WritesAnswered.{Among, among_left, among_of, among_right, among_volume, asked_writes, asks_write, logged_answered, one_less, writes_in}
+use Rattle.wol_config.specs.Configs.{most_of}
 
 -- the base of the volume's history, whose writes to logs took all versions
 pub record HasSpent (tells : Bool) (config : Config) (lines : List (Option TraceLine)) (old new : BayState) : Type 0 where

@@ -18,7 +18,6 @@ use Rattle.report.specs.Troubles.{trouble_status}
 use Rattle.report.specs.declared.trouble.Trouble.{Trouble}
 use Rattle.troubles.specs.Troubles.{trouble_of}
 use Rattle.trace_gen.specs.Generated.{targets_of}
-use Rattle.trace_windows.specs.Requests.{most_of}
 use Rattle.replay.specs.Completes.{writes_to}
 use Rattle.replay.specs.Givens.{HasGiven}
 use Rattle.replay.specs.NotOpened.{IsOpened}
@@ -40,6 +39,7 @@ use Rattle.wol_run.specs.Serving.{HasBadBytes, served_as}
 use Rattle.wol_run.specs.Settings.{HasConfig, HasNoConfig}
 use Rattle.wol_run.specs.Tops.{HasBadLine, HasMoreLines}
 use Rattle.wol_run.specs.Viewing.{IsOrder, RefusesChange, view_change_by}
+use Rattle.wol_config.specs.Configs.{most_of}
 
 -- the words ask for a command that uses this
 pub record AskFor (words : List (List ℕ)) (uses : Command → Bool) : Type 0 where

@@ -11,11 +11,11 @@ use Rattle.volume_images.specs.Volumes.{images_read, shapes_of}
 use Rattle.rack.specs.Owners.{IsBegun, most_of as most_blocks_of}
 use Rattle.solo.specs.Requests.{HasLines}
 use Rattle.trace_gen.specs.Generated.{line, targets_of}
-use Rattle.trace_windows.specs.Requests.{most_of}
 use Rattle.replay.specs.Completes.{writes_to}
 use Rattle.cleaning.specs.Runs.{LacksVersions}
 use Rattle.command_words.specs.declared.command.Generated.{Generated}
 use Rattle.wol_run.specs.Settings.{HasConfig}
+use Rattle.wol_config.specs.Configs.{most_of}
 
 -- the bay tells its images, no two of which have one name, and as they read they are sound for the configuration, with all volumes there
 pub record HasSoundImages (tells : Bool) (left : Option (List ℕ)) (bay : BayState) : Type 0 where

@@ -1,9 +1,9 @@
 use Rattle.std.proofs.Common.{sym, ◌∙◌}
 use Rattle.msr_trace.specs.Lines.{trace_line}
 use Rattle.trace_gen.specs.Generated.{targets_of}
-use Rattle.trace_windows.specs.Requests.{most_of}
 use Rattle.trace_windows.proofs.Few.{few_pieces, one_each}
 use Rattle.trace_windows.proofs.asking.count_requests.Goals as goal
+use Rattle.wol_config.specs.Configs.{most_of}
 
 pub returns-clause-value : goal.returns-clause-value
 returns-clause-value c = λ number.

@@ -1,8 +1,8 @@
 use Rattle.std.proofs.Common.{[], ◌∷◌, ◌∙◌, arith, length-append}
 use Rattle.msr_trace.specs.Lines.{trace_line}
-use Rattle.trace_windows.specs.Requests.{most_of}
 use Rattle.trace_windows.proofs.Numbering.{few_so_far, piece_more, split_more}
 use Rattle.trace_windows.proofs.asking.push_pieces.Goals as goal
+use Rattle.wol_config.specs.Configs.{most_of}
 
 pub overflow_add-place : goal.overflow_add-place
 overflow_add-place c =

@@ -3,10 +3,11 @@ use Rattle.trace_gen.specs.Generated.{targets_of}
 use Rattle.wol_model.specs.Trace as trace
 use Rattle.wol_model.specs.Trace.{requests_on}
 use Rattle.msr_trace.specs.Lines.{trace_line}
-use Rattle.trace_windows.specs.Requests.{most_of, numbered}
+use Rattle.trace_windows.specs.Requests.{numbered}
 use Rattle.trace_windows.proofs.Numbering.{length-numbered}
 use Rattle.trace_windows.proofs.batch.Batch.push.Goals as goal
 use Rattle.trace_windows.proofs.batch.Batch.push.Goals.{then-self-eq0, else-self-eq0}
+use Rattle.wol_config.specs.Configs.{most_of}
 
 pub invariant_of-self-2 : goal.invariant_of-self-2
 invariant_of-self-2 c =

@@ -1,9 +1,9 @@
 use Rattle.std.proofs.Common.{refl, sym}
 use Rattle.trace_gen.specs.Generated.{targets_of}
-use Rattle.trace_windows.specs.Requests.{most_of}
 use Rattle.trace_windows.specs.Cutting.{Cutting, HasCut}
 use Rattle.trace_windows.proofs.Taking.{takes_blank}
 use Rattle.trace_windows.proofs.cutter.Cutter.take.Goals as goal
+use Rattle.wol_config.specs.Configs.{most_of}
 
 pub returns-in-None-clause-ok : goal.returns-in-None-clause-ok
 returns-in-None-clause-ok c = λ ls given cut.

@@ -3,10 +3,10 @@ use Rattle.std.specs.Prelude.{is_none}
 use Rattle.trace_gen.specs.Generated.{targets_of}
 use Rattle.wol_model.specs.Trace.{Target}
 use Rattle.msr_trace.specs.Lines.{trace_line}
-use Rattle.trace_windows.specs.Requests.{most_of}
 use Rattle.trace_windows.specs.Cutting.{Cutting, HasCut}
 use Rattle.trace_windows.proofs.Taking.{Counts, none_of, takes_line}
 use Rattle.trace_windows.proofs.cutter.Cutter.take_line.Goals as goal
+use Rattle.wol_config.specs.Configs.{most_of}
 
 pub returns-clause-ok : goal.returns-clause-ok
 returns-clause-ok c = λ ls given cut.
