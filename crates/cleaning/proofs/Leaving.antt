@@ -11,7 +11,7 @@ use Rattle.wol_config.specs.declared.config.Config.{Config}
 use Rattle.wol_config.specs.declared.config.VolumeConf.{VolumeConf}
 use Rattle.manager.specs.declared.station.Station.{Station}
 use Rattle.report.specs.declared.fault.Fault.{Fault}
-use Rattle.volume_images.specs.Left.{AreNamedApart, IsTold}
+use Rattle.volume_images.specs.Left.{IsTold}
 use Rattle.volume_images.specs.Volumes.{AreLeft, MayLeave, image_read, images_read, shape_in, shapes_of}
 use Rattle.rack.specs.Closes.{AreLeftOfParts, IsQuiet, is_kept_home}
 use Rattle.rack.specs.Opens.{LeavesAll, WereThere}
@@ -92,15 +92,15 @@ module _ {D : Type 0} (tells : Bool) (state : D → State) (config : Config) (di
       there = λ images left_ v was. there_left state config session.after t y (none_kept t y) parts images left_ v was;
     }
 
-    told_left : (e n : Option Told) → IfSome e (λ t. AreNamedApart t → WereThere config out t) → IsTold (λ x y. AreLeftOfParts state config session.after y) e n → IsTold (KeepsArrays config) e n
+    told_left : (e n : Option Told) → IfSome e (λ t. WereThere config out t) → IsTold (λ x y. AreLeftOfParts state config session.after y) e n → IsTold (KeepsArrays config) e n
         → IsTold (LeavesAll tells state config old new) e n
     told_left None n there parts told = told
     told_left (Some e) None there parts told = told
-    told_left (Some e) (Some n) there parts told = λ named. leaves_all e n (there named) (parts named) (told named)
+    told_left (Some e) (Some n) there parts told = leaves_all e n there parts told
 
     pub left_cleaned : IsTrue tells → IsTold (KeepsArrays config) old.told new.told → IsTold (LeavesAll tells state config old new) old.told new.told
     left_cleaned telling kept = told_left old.told new.told (session.opened.there telling)
-        (later_told (AreLeftOfParts state config session.after) old.told session.bay.told new.told (session.opened.apart telling) (session.closed.parts telling)) kept
+        (later_told (AreLeftOfParts state config session.after) old.told session.bay.told new.told session.opened.faulty (session.closed.parts telling)) kept
 
   -- where nothing was cleaned
   left_untouched : session.after ≡ session.before → IsTrue tells → IsTold (LeavesAll tells state config old new) old.told new.told
@@ -122,8 +122,8 @@ module _ {D : Type 0} (tells : Bool) (state : D → State) (config : Config) (di
     completes_by answer (racks.closed f is same calm kept) m = absurd (let no : None ≡ Some f = sym (none_first 0 session.before.faults.items all_open) ∙ is in cc no)
       where
         opens : (k : ℕ) → k < length (shapes_of config) → slice_get session.before.faults.items k ≡ Some None
-        opens = (subst (λ (x : Option Told). IfSome x (λ t. AreNamedApart t → Rattle.wol_model.specs.Images.AreSound (shapes_of config) (images_read config t) → (Rose old.faults new.faults → ⊥)
-            → (k : ℕ) → k < length (shapes_of config) → slice_get session.before.faults.items k ≡ Some None)) m.entry_is (session.complete m.telling)) m.apart m.sound m.bay_calm
+        opens = (subst (λ (x : Option Told). IfSome x (λ t. Rattle.wol_model.specs.Images.AreSound (shapes_of config) (images_read config t) → (Rose old.faults new.faults → ⊥)
+            → (k : ℕ) → k < length (shapes_of config) → slice_get session.before.faults.items k ≡ Some None)) m.entry_is (session.complete m.telling)) m.sound m.bay_calm
 
         all_open : (k : ℕ) → k < length session.before.faults.items → slice_get session.before.faults.items k ≡ Some None
         all_open k lt = opens k (let n = session.opened.rack.fault_count in omega (arith, lt, n))

@@ -14,7 +14,7 @@ use Rattle.wol_model.specs.Images.{Images, all_segments, recovered_from}
 use Rattle.wol_model.specs.Index.{Listed, is_homed, listed_in}
 use Rattle.wol_model.specs.Recovered.{extents_of}
 use Rattle.wol_model.proofs.Overlay.{after_none}
-use Rattle.wol_promise.specs.Policy.{Look}
+use Rattle.wol_promise.specs.Policy.{Look, PartName}
 use Rattle.wol_promise.specs.Ruled.{Noted, entries_of, last_look}
 use Rattle.wol_promise.specs.Stands.{IsOpened as IsOpenedRecord, IsOpening}
 use Rattle.wol_promise.proofs.Lists.{all_map}
@@ -29,7 +29,7 @@ use Rattle.request_turns.specs.Turns.{ManagerPass, coded}
 use Rattle.request_turns.proofs.Noting.{notes_at}
 use Rattle.volume_images.specs.Left.{IsTold}
 use Rattle.volume_images.specs.Volumes.{AreLeft, images_read, shapes_of}
-use Rattle.rack.specs.Closes.{AreListedOf, CameBackFaulty, HasFaultyPart, IsClosedVolume, RecoversTo, part_named, recovered_out, segments_out}
+use Rattle.rack.specs.Closes.{AreListedOf, HasFaultyPart, IsClosedVolume, RecoversTo, recovered_out, segments_out}
 use Rattle.rack.specs.Opens.{BeganWith}
 use Rattle.rack.specs.Owners.{IsBegun, images_taken}
 use Rattle.rack.specs.Racks.{IsStation, IsUnused, base_of_station}
@@ -224,16 +224,13 @@ module _ {D : Type 0} (tells : Bool) (state : D → State) (config : Config) (di
       pub rose : (copies : List Write) → c.note.entry.operation ≡ Broke copies → Rose old.faults new.faults
       rose copies is = rose_before old.faults session.bay.faults new.faults session.sooner (ends.cause (broke copies is))
 
-      -- a part of it came back with a fault
-      pub faulty : (copies : List Write) → c.note.entry.operation ≡ Broke copies → IsTold (HasFaultyPart tells config v (base_of_station s).volume.began.view) session.bay.told new.told
-      faulty copies is = subst (λ (n : ℕ). IsTold (HasFaultyPart tells config n (base_of_station s).volume.began.view) session.bay.told new.told) number (ends.faulty (broke copies is))
-
-      -- .. and that is the part that is told
-      pub came : (p : Part) → result ≡ Err (DiskFault p) → IsTold (CameBackFaulty config (part_named v (name_of p))) session.bay.told new.told
-      came p is =
-          let (name, last, told) = ends.named (broke done.0.copies (operation ∙ ap (operation_of done.0.copies) is)) in
+      -- the part of it that is told came back with a fault
+      pub faulty : (p : Part) → result ≡ Err (DiskFault p) → IsTold (HasFaultyPart tells config v (base_of_station s).volume.began.view (name_of p)) session.bay.told new.told
+      faulty p is =
+          let (name, last, told) = ends.faulty (broke done.0.copies (operation ∙ ap (operation_of done.0.copies) is)) in
           let cleaned_ = subst (TellsCleaned tells state (most_of config) c.opened c.after done.0.copies) is done.0.tells_ in
           let down : (last_look (base_of_station s).volume.began.look (notes_of ends.entries)).down ≡ Some (name_of p)
           = ap (λ (ns : List Noted). (last_look (base_of_station s).volume.began.look ns).down) notes ∙ ap (λ (l : Look). l.down) stands.look ∙ ap down_of cleaned_.0 in
           let same : name ≡ name_of p = same_Some name (name_of p) (sym last ∙ down) in
-          subst (λ (q : Part). IsTold (CameBackFaulty config q) session.bay.told new.told) (ap (λ (n : ℕ). part_named n name) number ∙ ap (part_named v) same) told
+          subst (λ (n : PartName). IsTold (HasFaultyPart tells config v (base_of_station s).volume.began.view n) session.bay.told new.told) same
+          (subst (λ (n : ℕ). IsTold (HasFaultyPart tells config n (base_of_station s).volume.began.view name) session.bay.told new.told) number told)

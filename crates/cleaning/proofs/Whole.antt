@@ -20,11 +20,11 @@ use Rattle.manager.specs.Seen.{name_of}
 use Rattle.manager.specs.declared.manager.Manager.{Manager}
 use Rattle.manager.specs.declared.part.Part.{Part}
 use Rattle.manager.specs.declared.station.Station.{Station}
-use Rattle.volume_images.specs.Left.{AreNamedApart, IsTold}
+use Rattle.volume_images.specs.Left.{IsTold}
 use Rattle.volume_images.specs.Volumes.{AreLeft, images_read, shape_in, shapes_of}
-use Rattle.rack.specs.Closes.{AreLeftOfParts, HasFaultyPart, RecoversTo, part_named}
-use Rattle.rack.proofs.FailedParts.{came_back_since}
-use Rattle.rack.specs.Opens.{BeganWith}
+use Rattle.rack.specs.Closes.{AreLeftOfParts, RecoversTo}
+use Rattle.rack.proofs.FailedParts.{faulty_since}
+use Rattle.rack.specs.Opens.{BeganWith, HasFaulty}
 use Rattle.rack.specs.Owners.{IsBegun}
 use Rattle.rack.specs.declared.rack.Rack.{Rack}
 use Rattle.open_rack.specs.Sessions.{OpensAndCloses}
@@ -82,23 +82,14 @@ lacks_versions tells state most old new b stands opening has =
 told_of : (P Q : Told → Type 0) → ((y : Told) → P y → Q y) → (o n : Option Told) → IsTold (λ x y. P y) o n → IsTold (λ x y. Q y) o n
 told_of P Q f None n is = is
 told_of P Q f (Some o) None is = is
-told_of P Q f (Some o) (Some n) is = λ named. f n (is named)
+told_of P Q f (Some o) (Some n) is = f n is
 
-pub later_told : (P : Told → Type 0) (e o n : Option Told) → IsTold (λ x y. AreNamedApart y) e o → IsTold (λ x y. P y) o n → IsTold (λ x y. P y) e n
-later_told P None None n apart is = is
-later_told P None (Some o) n apart is = absurd (cc apart)
-later_told P (Some e) None n apart is = absurd apart
-later_told P (Some e) (Some o) None apart is = absurd is
-later_told P (Some e) (Some o) (Some n) apart is = λ named. is (apart named)
-
-faulty_same : (tells : Bool) (config : Config) (owner : ℕ) (view : List ℕ) (e o n : Option Told) → IsTold (λ x y. AreNamedApart y) e o → IsTold (λ x y. y.faulty ≡ x.faulty) e o → IsTold (HasFaultyPart tells config owner view) o n → IsTold (HasFaultyPart tells config owner view) e n
-faulty_same tells config owner view None None n apart same faulty = faulty
-faulty_same tells config owner view None (Some o) n apart same faulty = absurd (cc apart)
-faulty_same tells config owner view (Some e) None n apart same faulty = absurd apart
-faulty_same tells config owner view (Some e) (Some o) None apart same faulty = absurd faulty
-faulty_same tells config owner view (Some e) (Some o) (Some n) apart same faulty = λ named.
-    let f = faulty (apart named) in
-    record { more = f.more; more_is = f.more_is ∙ ap (λ l. l ++ f.more) (same named); volume = f.volume; conf = f.conf; conf_is = f.conf_is; place = f.place; among = f.among; of_volume = f.of_volume }
+pub later_told : (P : Told → Type 0) (e o n : Option Told) → IsTold HasFaulty e o → IsTold (λ x y. P y) o n → IsTold (λ x y. P y) e n
+later_told P None None n had is = is
+later_told P None (Some o) n had is = absurd (cc had)
+later_told P (Some e) None n had is = absurd had
+later_told P (Some e) (Some o) None had is = absurd is
+later_told P (Some e) (Some o) (Some n) had is = is
 
 module _ {D : Type 0} (tells : Bool) (state : D → State) (config : Config) (did : Rack D → Rack D → Type 0) (old new : BayState) (spindles : List SpindleView) (session : OpensAndCloses tells state config did old new spindles)
     (open_ : first_closed 0 session.before.faults.items ≡ None) where
@@ -111,9 +102,9 @@ module _ {D : Type 0} (tells : Bool) (state : D → State) (config : Config) (di
     abbrev base : ManagerBase
     base = Rattle.rack.specs.Racks.base_of_station s
 
-    began_at : (t n : Told) → old.told ≡ Some t → AreNamedApart t → IsTrue tells → IsBegun config (images_read config t) base.volume.began
-    began_at t n is apart telling = volumes.begun_of tells state config did old new spindles session open_ k s c.there c.pass c.now t
-        (subst (λ (o : Option Told). IfSome o (λ x. AreNamedApart x → BeganWith state config x session.before)) is (session.opened.began telling) apart)
+    began_at : (t n : Told) → old.told ≡ Some t → IsTrue tells → IsBegun config (images_read config t) base.volume.began
+    began_at t n is telling = volumes.begun_of tells state config did old new spindles session open_ k s c.there c.pass c.now t
+        (subst (λ (o : Option Told). IfSome o (λ x. BeganWith state config x session.before)) is (session.opened.began telling))
 
     broke : (p : Part) → answer ≡ Err (DiskFault p) → c.cleans.note.entry.operation ≡ Rattle.wol_model.specs.History.Broke c.cleans.copies
     broke p is = c.cleans.operation ∙ ap (operation_of c.cleans.copies) is
@@ -122,8 +113,8 @@ module _ {D : Type 0} (tells : Bool) (state : D → State) (config : Config) (di
     cleans_volume = record {
       base = base;
       owner = volumes.owner tells state config did old new spindles session open_ k s c.there c.pass c.now;
-      begun = λ telling. told_through (λ x y. AreNamedApart y) (λ x y. AreLeftOfParts state config session.after y) (λ t n. IsBegun config (images_read config t) base.volume.began) old.told session.bay.told new.told
-          (session.opened.apart telling) (session.closed.parts telling) (λ t n is apart. began_at t n is apart telling);
+      begun = λ telling. told_through HasFaulty (λ x y. AreLeftOfParts state config session.after y) (λ t n. IsBegun config (images_read config t) base.volume.began) old.told session.bay.told new.told
+          session.opened.faulty (session.closed.parts telling) (λ t n is. began_at t n is telling);
       opened = c.cleans.opened;
       stood = volumes.stood tells state config did old new spindles session open_ k s c.there c.pass c.now answer c.cleans;
       after = c.cleans.after;
@@ -132,16 +123,13 @@ module _ {D : Type 0} (tells : Bool) (state : D → State) (config : Config) (di
       pass = volumes.its tells state config did old new spindles session open_ k s c.there c.pass c.now answer c.cleans;
       operation = volumes.operation tells state config did old new spindles session open_ k s c.there c.pass c.now answer c.cleans;
       stands = volumes.stands tells state config did old new spindles session open_ k s c.there c.pass c.now answer c.cleans;
-      listed = λ sure telling. later_told (LeavesRecords config k (listed_in c.cleans.after.index.entries)) old.told session.bay.told new.told (session.opened.apart telling)
+      listed = λ sure telling. later_told (LeavesRecords config k (listed_in c.cleans.after.index.entries)) old.told session.bay.told new.told session.opened.faulty
           (told_of (λ y. RecoversTo config session.after.rest.images.items (record s { worker = c.pass }) (volumes.ends tells state config did old new spindles session open_ k s c.there c.pass c.now).entries y) (LeavesRecords config k (listed_in c.cleans.after.index.entries))
           (volumes.records_left tells state config did old new spindles session open_ k s c.there c.pass c.now answer c.cleans sure)
           session.bay.told new.told ((volumes.ends tells state config did old new spindles session open_ k s c.there c.pass c.now).recovers telling));
       cause = λ p is. volumes.rose tells state config did old new spindles session open_ k s c.there c.pass c.now answer c.cleans c.cleans.copies (broke p is);
-      faulty = λ p is telling. faulty_same tells config k base.volume.began.view old.told session.bay.told new.told (session.opened.apart telling)
-          (session.opened.unfaulty (volumes.all_out tells state config did old new spindles session open_))
-          (volumes.faulty tells state config did old new spindles session open_ k s c.there c.pass c.now answer c.cleans c.cleans.copies (broke p is));
-      came = λ p is telling. came_back_since config (part_named k (name_of p)) old.told session.bay.told new.told (session.opened.apart telling) session.opened.faulty
-          (volumes.came tells state config did old new spindles session open_ k s c.there c.pass c.now answer c.cleans p is);
+      faulty = λ p is. faulty_since tells config k base.volume.began.view (name_of p) old.told session.bay.told new.told session.opened.faulty
+          (volumes.faulty tells state config did old new spindles session open_ k s c.there c.pass c.now answer c.cleans p is);
       spent = λ is. lacks_versions tells state (most_of config) c.cleans.opened c.cleans.after base (volumes.stood tells state config did old new spindles session open_ k s c.there c.pass c.now answer c.cleans)
           (volumes.ends tells state config did old new spindles session open_ k s c.there c.pass c.now).opening
           (subst (HasCleaned tells state (most_of config) c.cleans.opened c.cleans.after) is (volumes.done tells state config did old new spindles session open_ k s c.there c.pass c.now answer c.cleans).0);
@@ -157,10 +145,10 @@ module _ {D : Type 0} (tells : Bool) (state : D → State) (config : Config) (di
     leaves_volume = record {
       base = left_base;
       owner = volumes.owner tells state config did old new spindles session open_ v s there s.worker now;
-      begun = λ telling. told_through (λ x y. AreNamedApart y) (λ x y. AreLeftOfParts state config session.after y) (λ t n. IsBegun config (images_read config t) left_base) old.told session.bay.told new.told
-          (session.opened.apart telling) (session.closed.parts telling) (λ t n is apart. volumes.begun_of tells state config did old new spindles session open_ v s there s.worker now t
-          (subst (λ (o : Option Told). IfSome o (λ x. AreNamedApart x → BeganWith state config x session.before)) is (session.opened.began telling) apart));
-      listed = λ telling. later_told (LeavesRecords config v left_base.look.listed) old.told session.bay.told new.told (session.opened.apart telling)
+      begun = λ telling. told_through HasFaulty (λ x y. AreLeftOfParts state config session.after y) (λ t n. IsBegun config (images_read config t) left_base) old.told session.bay.told new.told
+          session.opened.faulty (session.closed.parts telling) (λ t n is. volumes.begun_of tells state config did old new spindles session open_ v s there s.worker now t
+          (subst (λ (o : Option Told). IfSome o (λ x. BeganWith state config x session.before)) is (session.opened.began telling)));
+      listed = λ telling. later_told (LeavesRecords config v left_base.look.listed) old.told session.bay.told new.told session.opened.faulty
           (told_of (λ y. RecoversTo config session.after.rest.images.items (record s { worker = s.worker }) (volumes.ends tells state config did old new spindles session open_ v s there s.worker now).entries y) (LeavesRecords config v left_base.look.listed)
           (volumes.records_kept tells state config did old new spindles session open_ v s there s.worker now (volumes.unused tells state config did old new spindles session open_ v s there s.worker now).0.mine
           (volumes.station tells state config did old new spindles session open_ v s there s.worker now).worker_.number_is)
@@ -208,16 +196,16 @@ module _ {D : Type 0} (tells : Bool) (state : D → State) (config : Config) (di
             })
             session.bay.told new.told ((volumes.ends tells state config did old new spindles session open_ v s.0 s.1 s.0.worker now).recovers telling)
 
-    through : (e o n : Option Told) → IsTold (λ x y. AreNamedApart y) e o → IfSome e (λ t. AreNamedApart t → BeganWith state config t session.before) → IsTold (λ x y. AreLeftOfParts state config session.after y) o n
+    through : (e o n : Option Told) → IsTold HasFaulty e o → IfSome e (λ t. BeganWith state config t session.before) → IsTold (λ x y. AreLeftOfParts state config session.after y) o n
         → ((v : ℕ) → v < length (shapes_of config) → IsTold (λ x y. Closed v y) o n) → IsTold (KeepsArrays config) e n
-    through None None n apart was told each = told
-    through None (Some o) n apart was told each = absurd (cc apart)
-    through (Some e) None n apart was told each = absurd apart
-    through (Some e) (Some o) None apart was told each = absurd told
-    through (Some e) (Some o) (Some n) apart was told each = λ named images left_ v lt. (each v lt (apart named)).kept e (was named) images left_
+    through None None n had was told each = told
+    through None (Some o) n had was told each = absurd (cc had)
+    through (Some e) None n had was told each = absurd had
+    through (Some e) (Some o) None had was told each = absurd told
+    through (Some e) (Some o) (Some n) had was told each = λ images left_ v lt. (each v lt).kept e was images left_
 
     pub arrays_kept : IsTold (KeepsArrays config) old.told new.told
-    arrays_kept = through old.told session.bay.told new.told (session.opened.apart telling) (session.opened.began telling) (session.closed.parts telling) closed_at
+    arrays_kept = through old.told session.bay.told new.told session.opened.faulty (session.opened.began telling) (session.closed.parts telling) closed_at
 
   -- ---- How it ended
 
@@ -271,14 +259,14 @@ module _ {D : Type 0} (tells : Bool) (state : D → State) (config : Config) (di
     run_completes answer (runs.whole told are all calm prints) m = inl refl
     run_completes answer (runs.refused told (DiskFault p) are within last calm prints) m = absurd (m.bay_calm (last.cause p refl))
     run_completes answer (runs.refused told VersionsSpent are within last calm prints) m = absurd (m.versions last.base.volume.began
-        (at_entry (subst (λ (o : Option Told). IsTold (λ t n. IsBegun config (images_read config t) last.base.volume.began) o new.told) m.entry_is (last.begun m.telling)) m.apart) (last.spent refl))
+        (at_entry (subst (λ (o : Option Told). IsTold (λ t n. IsBegun config (images_read config t) last.base.volume.began) o new.told) m.entry_is (last.begun m.telling))) (last.spent refl))
       where
-        at_entry : IsTold (λ t n. IsBegun config (images_read config t) last.base.volume.began) (Some m.entry) new.told → AreNamedApart m.entry → IsBegun config (images_read config m.entry) last.base.volume.began
-        at_entry told apart = by new.told told
+        at_entry : IsTold (λ t n. IsBegun config (images_read config t) last.base.volume.began) (Some m.entry) new.told → IsBegun config (images_read config m.entry) last.base.volume.began
+        at_entry told = by new.told told
           where
             by : (n : Option Told) → IsTold (λ t n. IsBegun config (images_read config t) last.base.volume.began) (Some m.entry) n → IsBegun config (images_read config m.entry) last.base.volume.began
             by None is = absurd is
-            by (Some n) is = is apart
+            by (Some n) is = is
     run_completes answer (runs.refused told NoMemory are within last calm prints) m = inr refl
     run_completes answer (runs.no_memory told c are calm prints) m = inr refl
     run_completes answer (runs.sink_failed told c are rose front) m = absurd (m.sink_calm rose)

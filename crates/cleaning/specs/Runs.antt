@@ -19,9 +19,9 @@ use Rattle.manager.specs.declared.manager.Manager.{Manager}
 use Rattle.manager.specs.declared.part.Part.{Part}
 use Rattle.report.specs.declared.fault.Fault.TheVariants.{Memory, Volume}
 use Rattle.troubles.specs.Troubles.{trouble_of}
-use Rattle.volume_images.specs.Left.{AreNamedApart, IsTold}
+use Rattle.volume_images.specs.Left.{IsTold}
 use Rattle.volume_images.specs.Volumes.{AreLeft, images_read, shapes_of}
-use Rattle.rack.specs.Closes.{AreListedOf, CameBackFaulty, HasFaultyPart, part_named}
+use Rattle.rack.specs.Closes.{AreListedOf, HasFaultyPart}
 use Rattle.rack.specs.Owners.{IsBegun}
 use Rattle.rack.specs.declared.volume_fault.VolumeFault.{VolumeFault}
 use Rattle.open_rack.specs.NotOpened.{IsFirstClosed}
@@ -55,8 +55,8 @@ pub record LeavesVolume (tells : Bool) (config : Config) (old new : BayState) (n
   pub listed : IsTrue tells → IsTold (λ entry exit. LeavesRecords config number base.look.listed exit) old.told new.told
 
 -- A volume was cleaned: `opened` is its manager as the volume was opened of the images as they read, `after` the one that cleaning left,
--- which stands for the array at opening behind one entry of copies. Where a call of a disk failed the bay's count rose, and a part of the
--- volume came back with a fault.
+-- which stands for the array at opening behind one entry of copies. Where a call of a disk failed the bay's count rose, and the part
+-- that is told came back with a fault.
 pub record CleansVolume {D : Type 0} (tells : Bool) (state : D → State) (config : Config) (old new : BayState) (number : ℕ) (answer : Result Cleaned CleanFault) : Type 0 where
   pub base : ManagerBase
   pub owner : base.volume.began.owner ≡ number
@@ -72,9 +72,8 @@ pub record CleansVolume {D : Type 0} (tells : Bool) (state : D → State) (confi
   -- unless a call failed, the records that are left are those of the manager that cleaning left
   pub listed : ((p : Part) → answer ≢ Err (DiskFault p)) → IsTrue tells → IsTold (λ entry exit. LeavesRecords config number (listed_in after.index.entries) exit) old.told new.told
   pub cause : (p : Part) → answer ≡ Err (DiskFault p) → Rose old.faults new.faults
-  pub faulty : (p : Part) → answer ≡ Err (DiskFault p) → IsTrue tells → IsTold (HasFaultyPart tells config number base.volume.began.view) old.told new.told
-  -- .. and that is the part that is told
-  pub came : (p : Part) → answer ≡ Err (DiskFault p) → IsTrue tells → IsTold (CameBackFaulty config (part_named number (name_of p))) old.told new.told
+  -- .. and the part that is told, one of this volume, came back with a fault
+  pub faulty : (p : Part) → answer ≡ Err (DiskFault p) → IsTold (HasFaultyPart tells config number base.volume.began.view (name_of p)) old.told new.told
   pub spent : answer ≡ Err VersionsSpent → LacksVersions (most_of config) base.volume.began
 
 -- Whatever images a crash leaves, each volume recovers to the array that the images before recovered to as they read.
@@ -113,7 +112,6 @@ pub record MayComplete (tells : Bool) (config : Config) (old new : BayState) (si
   pub telling : IsTrue tells
   pub entry : Told
   pub entry_is : old.told ≡ Some entry
-  pub apart : AreNamedApart entry
   pub sound : AreSound (shapes_of config) (images_read config entry)
   pub bay_calm : Rose old.faults new.faults → ⊥
   pub sink_calm : Rose sink sink' → ⊥

@@ -8,7 +8,6 @@ use Rattle.wol_bay.specs.Bay.{BayState, Told}
 use Rattle.wol_model.specs.Images.{AreSound}
 use Rattle.wol_config.specs.declared.config.Config.{Config}
 use Rattle.report.specs.declared.trouble.Trouble.{Trouble}
-use Rattle.volume_images.specs.Left.{AreNamedApart}
 use Rattle.volume_images.specs.Volumes.{images_read, shape_in, shapes_of}
 use Rattle.rack.specs.declared.rack.Rack.{Rack}
 use Rattle.open_rack.specs.Sessions.{OpensAndCloses}
@@ -37,9 +36,9 @@ look_completes tells state config asked did old new spindles session result faul
   where
     open_ : (k : ℕ) → k < length (shapes_of config) → slice_get session.before.faults.items k ≡ Some None
     open_ =
-        let each = subst (λ (x : Option Told). IfSome x (λ t. AreNamedApart t → AreSound (shapes_of config) (images_read config t) → (Rose old.faults new.faults → ⊥)
+        let each = subst (λ (x : Option Told). IfSome x (λ t. AreSound (shapes_of config) (images_read config t) → (Rose old.faults new.faults → ⊥)
         → (k : ℕ) → k < length (shapes_of config) → slice_get session.before.faults.items k ≡ Some None)) m.entry_is (session.complete m.telling) in
-        each m.apart m.sound m.bay_calm
+        each m.sound m.bay_calm
 
     in_order : (k : ℕ) (t : Telling) → slice_get prints.told k ≡ Some t → t.trouble ≡ None
     in_order k t at = elim (prints.are.each k t at) [

@@ -3,12 +3,11 @@ use Rattle.std.proofs.Common.{◌≡◌, ◌≢◌, ◌⊎◌, inl, inr, ◌<◌
 use Rattle.std.specs.Prelude.{slice_get, IfSome, IsTrue}
 use Rattle.std.proofs.lemmas.List.{length-map}
 use Rattle.std.proofs.lemmas.Option.{same_Some}
-use Rattle.std.proofs.lemmas.List.Elements.{Contains-append_right}
 use Rattle.turn_lock.specs.Histories.{Entry, own}
 use Rattle.turn_lock.specs.LockIds.{LockId}
 use Rattle.turn_lock.specs.Passes.{pass_lock, pass_mine, pass_seen}
 use Rattle.wol_disk.specs.Disk.{Block, State, Rose}
-use Rattle.wol_bay.specs.Bay.{BayState, Name, Told}
+use Rattle.wol_bay.specs.Bay.{BayState, Told}
 use Rattle.wol_config.specs.declared.config.Config.{Config}
 use Rattle.wol_config.specs.declared.config.VolumeConf.{VolumeConf}
 use Rattle.wol_config.specs.Documents.{names_of}
@@ -34,10 +33,10 @@ use Rattle.troubles.proofs.Named.{named_alike}
 use Rattle.request_turns.specs.Turns.{IsBroken, WasDown, coded}
 use Rattle.request_turns.proofs.Gaining.{down_breaks}
 use Rattle.request_turns.proofs.Noting.{notes_at}
-use Rattle.volume_images.specs.Left.{AreNamedApart, IsTold}
+use Rattle.volume_images.specs.Left.{IsTold}
 use Rattle.volume_images.specs.Volumes.{shape_in, shapes_of}
-use Rattle.rack.specs.Closes.{CameBackFaulty, HasFaultyPart, IsClosedVolume, part_named}
-use Rattle.rack.proofs.FailedParts.{came_back_since}
+use Rattle.rack.specs.Closes.{HasFaultyPart, IsClosedVolume, part_named}
+use Rattle.rack.proofs.FailedParts.{faulty_since}
 use Rattle.rack.specs.Opens.{BeganWith}
 use Rattle.rack.specs.Owners.{IsBegun, images_taken}
 use Rattle.rack.specs.Racks.{IsOpenBase, IsStation, IsUnused, NamesVolumes, base_of_station}
@@ -53,26 +52,6 @@ use Rattle.inspection.specs.declared.asked.Asked.{Asked}
 use Rattle.inspection.specs.declared.asked.Asked.TheVariants.{Check, Dump}
 use Rattle.inspection.proofs.Opened.{rose_of}
 use Rattle.inspection.proofs.Unhelped.{all_at, broken_still, none_before, one_down, only_one, there_is}
-
--- a part that came back with a fault since opening did so since entry
-faulty_since : (tells : Bool) (config : Config) (owner : ℕ) (view : List ℕ) (o m n : Option Told) → IsTold (λ x y. AreNamedApart y) o m → IsTold (λ x y. (more : List (Name × ℕ)) × (y.faulty ≡ x.faulty ++ more)) o m
-    → IsTold (HasFaultyPart tells config owner view) m n → IsTold (HasFaultyPart tells config owner view) o n
-faulty_since tells config owner view None None n apart gained faulty = faulty
-faulty_since tells config owner view None (Some m) n apart gained faulty = absurd (cc apart)
-faulty_since tells config owner view (Some o) None n apart gained faulty = absurd apart
-faulty_since tells config owner view (Some o) (Some m) None apart gained faulty = absurd faulty
-faulty_since tells config owner view (Some o) (Some m) (Some n) apart gained faulty = λ named.
-    let first = gained named in
-    let then = faulty (apart named) in record {
-      more = first.0 ++ then.more;
-      more_is = then.more_is ∙ ap (λ (ps : List (Name × ℕ)). ps ++ then.more) first.1 ∙ Rattle.std.proofs.Common.append_assoc o.faulty first.0 then.more;
-      volume = then.volume;
-      conf = then.conf;
-      conf_is = then.conf_is;
-      place = then.place;
-      among = Contains-append_right first.0 then.more (then.conf.name, then.place) then.among;
-      of_volume = then.of_volume;
-    }
 
 module _ {D : Type 0} (tells : Bool) (state : D → State) (config : Config) (asked : Asked) (did : Rack D → Rack D → Type 0) (old new : BayState) (spindles : List SpindleView) (session : OpensAndCloses tells state config did old new spindles) where
   -- the rack as it was opened, and as it was closed
@@ -119,12 +98,12 @@ module _ {D : Type 0} (tells : Bool) (state : D → State) (config : Config) (as
     based = ap (λ (l : LockId ManagerBase). l.base) station.worker_.own
 
     -- it began with what the images at entry recover to
-    base_began : IsTrue tells → IfSome old.told (λ t. AreNamedApart t → IsBegun config (images_taken config before.rest.images.items t) (base_of_station s).volume.began)
+    base_began : IsTrue tells → IfSome old.told (λ t. IsBegun config (images_taken config before.rest.images.items t) (base_of_station s).volume.began)
     base_began told = began_at old.told (session.opened.began told)
       where
-        began_at : (o : Option Told) → IfSome o (λ t. AreNamedApart t → BeganWith state config t before) → IfSome o (λ t. AreNamedApart t → IsBegun config (images_taken config before.rest.images.items t) (base_of_station s).volume.began)
+        began_at : (o : Option Told) → IfSome o (λ t. BeganWith state config t before) → IfSome o (λ t. IsBegun config (images_taken config before.rest.images.items t) (base_of_station s).volume.began)
         began_at None is = tt
-        began_at (Some t) is = λ apart. all_at (λ (w : Station D). IsBegun config (images_taken config before.rest.images.items t) (base_of_station w).volume.began) before.stations.items look.place s (is apart).stations look.is_station.there
+        began_at (Some t) is = all_at (λ (w : Station D). IsBegun config (images_taken config before.rest.images.items t) (base_of_station w).volume.began) before.stations.items look.place s is.stations look.is_station.there
 
     base_is : IsOpenBase config before.shared before.rest.images.items (base_of_station s)
     base_is = all_at (λ (w : Station D). IsOpenBase config before.shared before.rest.images.items (base_of_station w)) before.stations.items look.place s session.opened.rack.bases look.is_station.there
@@ -144,25 +123,21 @@ module _ {D : Type 0} (tells : Bool) (state : D → State) (config : Config) (as
         (subst (λ (n : ℕ). own n ends.entries ≡ []) station.keeper_.number_is (ends.keeper_part.mine ∙ unused.2.mine))
         ends.no_more
 
-    -- so the part that was down is the one that came back with a fault
-    came : (p : Part) → WasDown p (notes_of (pass_seen look.pass)) → (q : Part) × (trouble_of_part p ≡ trouble_of_part q) × (IsTrue tells → IsTold (CameBackFaulty config q) old.told new.told)
+    -- so the part that was down is the one of the volume that came back with a fault
+    came : (p : Part) → WasDown p (notes_of (pass_seen look.pass))
+        → (name : PartName) × (trouble_of_part p ≡ trouble_of_part (part_named k name)) × IsTold (HasFaultyPart tells config k (base_of_station s).volume.began.view name) old.told new.told
     came p was =
         let n = look.looks.note in
         let one : notes_of (coded n ∷ []) ≡ n ∷ [] = notes_at [] n.entry.pass n refl in
         let down : n.look.down ≡ Some (name_of p) = one_down p n (subst (WasDown p) (ap notes_of seen_is ∙ one) was) in
-        let (name, last, told) = ends.named (broken_still (pass_seen look.pass) ends.entries ends.worker_part.seen (down_breaks p (notes_of (pass_seen look.pass)) was)) in
+        let (name, last, told) = ends.faulty (broken_still (pass_seen look.pass) ends.entries ends.worker_part.seen (down_breaks p (notes_of (pass_seen look.pass)) was)) in
         let same : name ≡ name_of p = same_Some name (name_of p)
         (sym last ∙ ap (λ (ns : List Noted). (last_look (base_of_station s).volume.began.look ns).down) (ap notes_of only ∙ one) ∙ down) in (
-          part_named s.id name,
-          named_alike s.id p ∙ ap (λ (x : PartName). trouble_of_part (part_named s.id x)) (sym same),
-          λ telling. came_back_since config (part_named s.id name) old.told session.bay.told new.told (session.opened.apart telling) session.opened.faulty told,
+          name,
+          named_alike k p ∙ ap (λ (x : PartName). trouble_of_part (part_named k x)) (sym same),
+          subst (λ (v : ℕ). IsTold (HasFaultyPart tells config v (base_of_station s).volume.began.view name) old.told new.told) look.is_station.id
+              (faulty_since tells config s.id (base_of_station s).volume.began.view name old.told session.bay.told new.told session.opened.faulty told),
         )
-
-    -- and a part of it came back with a fault
-    faulty : IsBroken (notes_of (pass_seen look.pass)) → IsTrue tells → IsTold (HasFaultyPart tells config (base_of_station s).volume.began.owner (base_of_station s).volume.began.view) old.told new.told
-    faulty broken told =
-        subst (λ (n : ℕ). IsTold (HasFaultyPart tells config n (base_of_station s).volume.began.view) old.told new.told) (sym station.id)
-        (faulty_since tells config s.id (base_of_station s).volume.began.view old.told session.bay.told new.told (session.opened.apart told) session.opened.faulty (ends.faulty (broken_still (pass_seen look.pass) ends.entries ends.worker_part.seen broken)))
 
     -- after its turn a call of its disks had failed
     failed : IsBroken (notes_of (pass_seen look.pass)) → Rose old.faults new.faults
@@ -198,10 +173,10 @@ module _ {D : Type 0} (tells : Bool) (state : D → State) (config : Config) (as
             (subst (λ (es : List Entry). AppendsAsked config asked k look.looks.manager (pass_lock look.station.worker).base (notes_of es) [] text) (nothing k (Ok tt) text look) (look.looks.content told)));
       }
 
-  if_told : (o : Option Told) (k : ℕ) (text : List ℕ) (look : LooksAtVolume tells state config asked before after k (Ok tt) text) → IsTrue tells → IfSome o (λ t. AreNamedApart t → BeganWith state config t before)
-      → IfSome o (λ t. AreNamedApart t → IsInOrder tells state config asked before.rest.images.items t k text)
+  if_told : (o : Option Told) (k : ℕ) (text : List ℕ) (look : LooksAtVolume tells state config asked before after k (Ok tt) text) → IsTrue tells → IfSome o (λ t. BeganWith state config t before)
+      → IfSome o (λ t. IsInOrder tells state config asked before.rest.images.items t k text)
   if_told None k text look told is = tt
-  if_told (Some t) k text look told is = λ apart. in_order k text look t told (is apart)
+  if_told (Some t) k text look told is = in_order k text look t told is
 
   was_down : (k : ℕ) (answer : Result (Unit {0}) DumpFault) (part : _) → (answer ≡ Err (dump.DiskFault part)) ⊎ (answer ≡ Err (dump.Down part)) → (notes : List Noted) → BreaksIn answer notes → WasDown part notes
   was_down k answer part (inl is) notes b = subst (λ (a : Result (Unit {0}) DumpFault). BreaksIn a notes) is b
@@ -230,17 +205,17 @@ module _ {D : Type 0} (tells : Bool) (state : D → State) (config : Config) (as
     trouble = order.trouble;
   }))
   told_of k t within (inr (inr is)) = inr (inr (record {
-    part = (came_of is).0;
+    name = (came_of is).0;
     base = (base_of_station is.looked.station).volume.began;
     owner = owner k is.answer [] is.looked;
     began = base_began k is.answer [] is.looked;
     loggers_out = (base_is k is.answer [] is.looked).loggers_out;
-    faulty = faulty k is.answer [] is.looked (down_breaks is.part _ (was_down k is.answer is.part is.is_answer _ is.looked.looks.broken));
-    came = (came_of is).2;
+    faulty = (came_of is).2;
     rose = part_rose k t is;
     trouble = is.trouble ∙ ap (λ (x : Trouble). Some x) (came_of is).1;
     text = is.text ∙ ap (trouble_line config k) (came_of is).1;
   }))
     where
-      came_of : (x : TellsFailed tells state config asked before after k t) → (q : Part) × (trouble_of_part x.part ≡ trouble_of_part q) × (IsTrue tells → IsTold (CameBackFaulty config q) old.told new.told)
+      came_of : (x : TellsFailed tells state config asked before after k t)
+          → (name : PartName) × (trouble_of_part x.part ≡ trouble_of_part (part_named k name)) × IsTold (HasFaultyPart tells config k (base_of_station x.looked.station).volume.began.view name) old.told new.told
       came_of x = came k x.answer [] x.looked x.part (was_down k x.answer x.part x.is_answer _ x.looked.looks.broken)

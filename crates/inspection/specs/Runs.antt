@@ -5,6 +5,7 @@ use Rattle.wol_disk.specs.Disk.{State, Rose}
 use Rattle.wol_model.specs.Images.{AreSound, recovered_from}
 use Rattle.wol_bay.specs.Bay.{Told, BayState}
 use Rattle.wol_promise.specs.Manager.{Base}
+use Rattle.wol_promise.specs.Policy.{PartName}
 use Rattle.wol_config.specs.Documents.{names_of}
 use Rattle.wol_config.specs.declared.config.Config.{Config}
 use Rattle.wol_config.specs.declared.config.VolumeConf.{VolumeConf}
@@ -19,9 +20,9 @@ use Rattle.report.specs.Names.{name_at}
 use Rattle.report.specs.Troubles.{trouble_status}
 use Rattle.report.specs.declared.trouble.Trouble.{Trouble}
 use Rattle.troubles.specs.Troubles.{trouble_of, trouble_of_part}
-use Rattle.volume_images.specs.Left.{AreNamedApart, IsTold}
+use Rattle.volume_images.specs.Left.{IsTold}
 use Rattle.volume_images.specs.Volumes.{images_read, shapes_of}
-use Rattle.rack.specs.Closes.{CameBackFaulty, HasFaultyPart}
+use Rattle.rack.specs.Closes.{CameBackFaulty, HasFaultyPart, part_named}
 use Rattle.rack.specs.Opens.{RefusesVolume, WereThere}
 use Rattle.rack.specs.Owners.{images_taken, IsBegun}
 use Rattle.rack.specs.Racks.{NamesVolumes}
@@ -68,20 +69,19 @@ pub record TellsRefusal {D : Type 0} (tells : Bool) (state : D → State) (confi
 
 -- A volume a call of whose disks failed, with the line of a part: it had been opened, and that part of it came back with a fault.
 pub record TellsPart {D : Type 0} (tells : Bool) (config : Config) (out : List (Option (ImageRest D))) (old new : BayState) (number : ℕ) (t : Telling) : Type 0 where
-  pub part : Part
+  pub name : PartName
   pub base : Base
   pub owner : base.owner ≡ number
-  pub began : IsTrue tells → IfSome old.told (λ images. AreNamedApart images → IsBegun config (images_taken config out images) base)
+  pub began : IsTrue tells → IfSome old.told (λ images. IsBegun config (images_taken config out images) base)
   pub loggers_out : AllByRecursion (λ l. IsImageOut out l) base.view
-  pub faulty : IsTrue tells → IsTold (HasFaultyPart tells config base.owner base.view) old.told new.told
-  pub came : IsTrue tells → IsTold (CameBackFaulty config part) old.told new.told
+  pub faulty : IsTold (HasFaultyPart tells config number base.view name) old.told new.told
   pub rose : Rose old.faults new.faults
-  pub trouble : t.trouble ≡ Some (trouble_of_part part)
-  pub text : t.text ≡ trouble_line config number (trouble_of_part part)
+  pub trouble : t.trouble ≡ Some (trouble_of_part (part_named number name))
+  pub text : t.text ≡ trouble_line config number (trouble_of_part (part_named number name))
 
 -- a volume in order, with its lines where the bay told its images
 pub record TellsLines {D : Type 0} (tells : Bool) (state : D → State) (config : Config) (asked : Asked) (out : List (Option (ImageRest D))) (old : BayState) (number : ℕ) (t : Telling) : Type 0 where
-  pub lines_ : IsTrue tells → IfSome old.told (λ images. AreNamedApart images → IsInOrder tells state config asked out images number t.text)
+  pub lines_ : IsTrue tells → IfSome old.told (λ images. IsInOrder tells state config asked out images number t.text)
   pub trouble : t.trouble ≡ None
 
 -- what is told of a volume
@@ -95,7 +95,7 @@ pub record Inspects {D : Type 0} (tells : Bool) (state : D → State) (config : 
   pub told : List Telling
   pub count : told ≢ [] → length out ≡ length config.volumes.items
   -- where any volume was told, an image that is out was there and may be opened as it reads, and one that isn't was refused
-  pub there : told ≢ [] → IsTrue tells → IfSome old.told (λ t. AreNamedApart t → WereThere config out t)
+  pub there : told ≢ [] → IsTrue tells → IfSome old.told (λ t. WereThere config out t)
   pub missing : told ≢ [] → (k : ℕ) (v : VolumeConf) → slice_get config.volumes.items k ≡ Some v → image_here out k ≡ None → (f : VolumeFault) × RefusesVolume tells state config out old new k v f
   pub few : length told ≤ length config.volumes.items
   pub each : (k : ℕ) (t : Telling) → slice_get told k ≡ Some t → IsToldOf tells state config asked out old new k t
@@ -106,7 +106,6 @@ pub record MayComplete (tells : Bool) (config : Config) (old new : BayState) (si
   pub telling : IsTrue tells
   pub entry : Told
   pub entry_is : old.told ≡ Some entry
-  pub apart : AreNamedApart entry
   pub sound : AreSound (shapes_of config) (images_read config entry)
   pub bay_calm : Rose old.faults new.faults → ⊥
   pub sink_calm : Rose sink sink' → ⊥

@@ -1,5 +1,6 @@
 -- All volumes were opened, one was served, and all were closed: what is told of the bay.
 use Rattle.std.proofs.Common.{◌≡◌, ◌≢◌, ◌<◌, ◌++◌, ◌∷◌, ℕ, zero, suc, nat_eq, Bool, true, false, cond, List, [], length, map, Option, None, Some, option_map, Result, refl, sym, ap, ◌∙◌, subst, arith, append-nil}
+use Rattle.rack.proofs.FailedParts.{faulty_since}
 use Rattle.std.specs.Prelude.{All, slice_get, slice_index_or, slice_range, unwrap_or, IfSome, IsSome, IsTrue}
 use Rattle.std.proofs.lemmas.List.{length-map}
 use Rattle.std.proofs.lemmas.Option.{same_Some, slice_get-get_or, slice_get-map, slice_get_within}
@@ -22,10 +23,10 @@ use Rattle.manager.specs.declared.base.ManagerBase.{ManagerBase}
 use Rattle.manager.specs.declared.station.Station.{Station}
 use Rattle.manager.proofs.Lanes.{get_set, get_other}
 use Rattle.spin_model.specs.Spindles.{SpindleView}
-use Rattle.volume_images.specs.Left.{AreNamedApart, IsTold}
+use Rattle.volume_images.specs.Left.{IsTold}
 use Rattle.volume_images.specs.Volumes.{AreLeft, image_read, images_read, shape_in, shapes_of}
 use Rattle.rack.specs.Closes.{AreLeftOfParts, AreListedOf, HasFaultyPart, IsClosedVolume, RecoversTo, recovered_out, segments_out}
-use Rattle.rack.specs.Opens.{BeganWith, WereThere}
+use Rattle.rack.specs.Opens.{BeganWith, WereThere, HasFaulty}
 use Rattle.rack.specs.Owners.{IsBegun, images_taken}
 use Rattle.rack.specs.PoolUses.{ArePools, PassesEmpty}
 use Rattle.rack.specs.Racks.{IsStation, IsUnused, base_of_station}
@@ -79,17 +80,6 @@ read_at config t k v i conf at whole =
 flight_some : (o : Option (List Write)) → IsSome o → o ≡ None → ⊥
 flight_some None is none = absurd (let no : false ≡ true = is in cc)
 flight_some (Some ws) is none = absurd (let no : Some ws ≡ None = none in cc)
-
--- parts that came back with a fault since opening did so since entry, where none had before
-faulty_same : (tells : Bool) (config : Config) (owner : ℕ) (view : List ℕ) (e o n : Option Told) → IsTold (λ x y. AreNamedApart y) e o → IsTold (λ x y. y.faulty ≡ x.faulty) e o → IsTold (HasFaultyPart tells config owner view) o n
-    → IsTold (HasFaultyPart tells config owner view) e n
-faulty_same tells config owner view None None n apart same faulty = faulty
-faulty_same tells config owner view None (Some o) n apart same faulty = absurd (cc apart)
-faulty_same tells config owner view (Some e) None n apart same faulty = absurd apart
-faulty_same tells config owner view (Some e) (Some o) None apart same faulty = absurd faulty
-faulty_same tells config owner view (Some e) (Some o) (Some n) apart same faulty = λ named.
-    let f = faulty (apart named) in
-    record { more = f.more; more_is = f.more_is ∙ ap (λ l. l ++ f.more) (same named); volume = f.volume; conf = f.conf; conf_is = f.conf_is; place = f.place; among = f.among; of_volume = f.of_volume }
 
 -- what holds of each closed volume by its entries, holds of the one at a place
 passing : {D : Type 0} (tells : Bool) (config : Config) (out : List (Option (ImageRest D))) (old new : BayState) (P : Base → List Noted → Type 0) (ss : List (Station D)) (all : All (IsClosedVolume tells config out old new) ss)
@@ -152,17 +142,16 @@ module _ {D : Type 0} (tells : Bool) (state : D → State) (config : Config) (di
   -- it is told of the bay
   through : (P : Told → Told → Type 0) → ((entry mid : Told) → Leaves entry mid → P entry mid) → IsTrue tells → IsTold P old.told new.told
   through P f telling =
-      go old.told session.bay.told new.told (session.opened.began telling) (session.opened.there telling) (session.opened.apart telling) (session.closed.parts telling) (λ w place there. (closed_at w place there).recovers telling)
+      go old.told session.bay.told new.told (session.opened.began telling) (session.opened.there telling) session.opened.faulty (session.closed.parts telling) (λ w place there. (closed_at w place there).recovers telling)
     where
-      go : (o b n : Option Told) → IfSome o (λ x. AreNamedApart x → BeganWith state config x before) → IfSome o (λ x. AreNamedApart x → WereThere config before.rest.images.items x) → IsTold (λ x y. AreNamedApart y) o b
+      go : (o b n : Option Told) → IfSome o (λ x. BeganWith state config x before) → IfSome o (λ x. WereThere config before.rest.images.items x) → IsTold HasFaulty o b
           → IsTold (λ x y. AreLeftOfParts state config after_ y) b n
           → ((w : Station D) (place : ℕ) (there : slice_get after_.stations.items place ≡ Some w) → IsTold (λ x y. RecoversTo config after_.rest.images.items w (closed_at w place there).entries y) b n) → IsTold P o n
-      go None None n began were apart parts recovers = parts
-      go None (Some b) n began were apart parts recovers = absurd (cc apart)
-      go (Some o) None n began were apart parts recovers = absurd apart
-      go (Some o) (Some b) None began were apart parts recovers = absurd parts
-      go (Some o) (Some b) (Some n) began were apart parts recovers = λ named.
-          f o n (record { began = began named; were = were named; parts = parts (apart named); recovers = λ w place there. recovers w place there (apart named) })
+      go None None n began were had parts recovers = parts
+      go None (Some b) n began were had parts recovers = absurd (cc had)
+      go (Some o) None n began were had parts recovers = absurd had
+      go (Some o) (Some b) None began were had parts recovers = absurd parts
+      go (Some o) (Some b) (Some n) began were had parts recovers = f o n (record { began = began; were = were; parts = parts; recovers = recovers })
 
   -- the pools of free segments began as the images had them
   pools_at : (entry mid : Told) → Leaves entry mid → ArePools config entry pools
@@ -400,9 +389,14 @@ module _ {D : Type 0} (tells : Bool) (state : D → State) (config : Config) (di
       are_pools = through (λ entry left. ArePools config entry pools) pools_at;
       passed = passed_at t serves.place there_now;
       cause = λ broken. rose_before old.faults session.bay.faults new.faults session.sooner (closed.cause (flight_some (flight_of (entries_of notes)) broken));
-      faulty = λ broken telling. faulty_same tells config volume base.view old.told session.bay.told new.told (session.opened.apart telling) (session.opened.unfaulty outs)
-          (subst (λ (n : ℕ). IsTold (HasFaultyPart tells config n base.view) session.bay.told new.told) serves.is_station.id
-          (closed.faulty (flight_some (flight_of (entries_of notes)) broken)));
+      faulty = λ broken. (
+          let (part, down, told) = closed.faulty (flight_some (flight_of (entries_of notes)) broken) in (
+            part,
+            down,
+            faulty_since tells config volume base.view part old.told session.bay.told new.told session.opened.faulty
+                (subst (λ (n : ℕ). IsTold (HasFaultyPart tells config n base.view part) session.bay.told new.told) serves.is_station.id told),
+          )
+          );
       images = through (LeavesServed config volume (pieces_of base.look notes)) served_left;
       records = λ telling calm. through (λ entry left. LeavesRecords config volume (last_look base.look notes).listed left) (records_served calm) telling;
       others = through (LeavesOthers config volume) others_left;

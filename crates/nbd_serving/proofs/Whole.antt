@@ -9,7 +9,7 @@ use Rattle.wol_config.specs.declared.config.Config.{Config}
 use Rattle.wol_model.specs.Images.{AreSound}
 use Rattle.report.specs.declared.fault.Fault.{Fault}
 use Rattle.spin_model.specs.Spindles.{SpindleView}
-use Rattle.volume_images.specs.Left.{AreNamedApart, IsTold}
+use Rattle.volume_images.specs.Left.{IsTold}
 use Rattle.volume_images.specs.Volumes.{images_read, shapes_of}
 use Rattle.rack.specs.Opens.{KeepsAllSound, KeepsOthers, LeavesAll}
 use Rattle.rack.specs.declared.rack.Rack.{Rack}
@@ -40,11 +40,11 @@ use Rattle.nbd_serving.proofs.Sessions.{all_kept, serves_open}
 -- what isn't touched is as it was
 pub others_same : (config : Config) (o : Option Told) → IsTold (KeepsOthers config) o o
 others_same config None = refl
-others_same config (Some t) = λ apart name differs. refl
+others_same config (Some t) = λ name differs. refl
 
 pub sound_same : (config : Config) (o : Option Told) → IsTold (KeepsAllSound config) o o
 sound_same config None = refl
-sound_same config (Some t) = λ apart all images left. all images left
+sound_same config (Some t) = λ all images left. all images left
 
 module _ {D : Type 0} (tells : Bool) (state : D → State) (config : Config) (begins : Beginning) (name : List ℕ) (volume : ℕ) (named : number_named (names_of config.volumes.items) name ≡ Some volume) (old new : BayState) (wire wire' : Wire) (spindles : List SpindleView)
     (answer : Result Ended Stop) (session : OpensAndCloses tells state config (λ before after. ServesRack tells config volume begins before after wire wire' answer) old new spindles) where
@@ -77,9 +77,9 @@ module _ {D : Type 0} (tells : Bool) (state : D → State) (config : Config) (be
 
   all_there : MayComplete tells config old new wire.sink_faults wire'.sink_faults → (k : ℕ) → k < length (shapes_of config) → slice_get session.before.faults.items k ≡ Some None
   all_there m =
-      let each = subst (λ (x : Option Told). IfSome x (λ t. AreNamedApart t → AreSound (shapes_of config) (images_read config t) → (Rose old.faults new.faults → ⊥)
+      let each = subst (λ (x : Option Told). IfSome x (λ t. AreSound (shapes_of config) (images_read config t) → (Rose old.faults new.faults → ⊥)
       → (k : ℕ) → k < length (shapes_of config) → slice_get session.before.faults.items k ≡ Some None)) m.entry_is (session.complete m.telling) in
-      each m.apart m.sound m.bay_calm
+      each m.sound m.bay_calm
 
   pub serves_complete : (Rose wire.source_faults wire'.source_faults → ⊥) → MayComplete tells config old new wire.sink_faults wire'.sink_faults → Completes answer
   serves_complete calm m = go answer session.done

@@ -1,5 +1,6 @@
 -- What serving a volume of a bay comes to.
 use Rattle.std.specs.Prelude.{◌≡◌, ◌≢◌, ◌<◌, ℕ, Bool, List, [], length, None, Some, Result, Ok, Err, IsSome, IsTrue, slice_get, unwrap_or}
+use Rattle.wol_promise.specs.Policy.{PartName}
 use Rattle.turn_lock.specs.Histories.{Entry}
 use Rattle.wol_disk.specs.Disk.{Rose, State}
 use Rattle.wol_bay.specs.Bay.{BayState, Told}
@@ -64,9 +65,10 @@ pub record ServesOpen (tells : Bool) (config : Config) (volume : ℕ) (old new :
   pub pools : (k : ℕ) → List Entry
   pub are_pools : IsTrue tells → IsTold (λ entry left. ArePools config entry pools) old.told new.told
   pub passed : PassesEmpty pools base notes
-  -- a call of a disk that failed is counted, and was one of a part of this volume
+  -- a call of a disk that failed is counted, and the part of this volume that is down in the end came back with a fault
   pub cause : IsSome (flight_of (entries_of notes)) → Rose old.faults new.faults
-  pub faulty : IsSome (flight_of (entries_of notes)) → IsTrue tells → IsTold (HasFaultyPart tells config volume base.view) old.told new.told
+  pub faulty : IsSome (flight_of (entries_of notes))
+      → (name : PartName) × ((last_look base.look notes).down ≡ Some name) × IsTold (HasFaultyPart tells config volume base.view name) old.told new.told
   pub images : IsTrue tells → IsTold (LeavesServed config volume (pieces_of base.look notes)) old.told new.told
   -- where none failed, the records that are left are those of the last look
   pub records : IsTrue tells → flight_of (entries_of notes) ≡ None → IsTold (λ entry left. LeavesRecords config volume (last_look base.look notes).listed left) old.told new.told

@@ -14,7 +14,7 @@ use Rattle.manager_recovery.specs.declared.refusal.OpenRefusal.TheVariants as re
 use Rattle.report.specs.declared.fault.Fault.{Fault}
 use Rattle.report.specs.declared.fault.Fault.TheVariants.{Volume}
 use Rattle.troubles.specs.Troubles.{trouble_of}
-use Rattle.volume_images.specs.Left.{AreNamedApart, IsTold}
+use Rattle.volume_images.specs.Left.{IsTold}
 use Rattle.volume_images.specs.Refusals.{IsCallFault}
 use Rattle.volume_images.specs.Volumes.{shape_in, shapes_of}
 use Rattle.volume_images.specs.declared.reading.ImageFault.{ImageFault}
@@ -108,13 +108,13 @@ module _ {D : Type 0} (state : D → State) (config : Config) (b : BayState) (r 
   module _ (tells : Bool) (old new : BayState) (refused : AreRefused tells state config old new r)
       (failed : (k : ℕ) (p : Part) → slice_get r.faults.items k ≡ Some (Some (fault.Refused (refusal.DiskFault p))) → Rose old.faults new.faults)
       (part : (k : ℕ) (p : Part) → slice_get r.faults.items k ≡ Some (Some (fault.Refused (refusal.DiskFault p))) → IsTold (CameBackFaulty config p) old.told new.told)
-      (began : IsTrue tells → IfSome old.told (λ t. AreNamedApart t → BeganWith state config t r)) (there : IsTrue tells → IfSome old.told (λ t. AreNamedApart t → WereThere config r.rest.images.items t)) where
-    opened_before : (j : ℕ) → j < length (shapes_of config) → slice_index_or r.faults.items j None ≡ None → IsTrue tells → IfSome old.told (λ t. AreNamedApart t → IsOpened config r.rest.images.items t j)
+      (began : IsTrue tells → IfSome old.told (λ t. BeganWith state config t r)) (there : IsTrue tells → IfSome old.told (λ t. WereThere config r.rest.images.items t)) where
+    opened_before : (j : ℕ) → j < length (shapes_of config) → slice_index_or r.faults.items j None ≡ None → IsTrue tells → IfSome old.told (λ t. IsOpened config r.rest.images.items t j)
     opened_before j lt none telling = at old.told (began telling)
       where
-        at : (o : Option Told) → IfSome o (λ t. AreNamedApart t → BeganWith state config t r) → IfSome o (λ t. AreNamedApart t → IsOpened config r.rest.images.items t j)
+        at : (o : Option Told) → IfSome o (λ t. BeganWith state config t r) → IfSome o (λ t. IsOpened config r.rest.images.items t j)
         at None all = tt
-        at (Some t) all = λ apart. opened_at t (all apart) j lt none
+        at (Some t) all = opened_at t all j lt none
 
     -- the first volume that isn't open
     pub first_refused : (told : Fault) → first_closed 0 r.faults.items ≡ Some told → (k : ℕ) × (f : VolumeFault) × (told ≡ Volume k (trouble_of f)) × IsFirstClosed tells state config old new k f

@@ -13,7 +13,7 @@ use Rattle.spin_model.specs.Spindles.{SpindleView}
 use Rattle.manager.specs.declared.part.Part.{Part}
 use Rattle.manager.specs.declared.station.Station.{Station}
 use Rattle.manager_recovery.specs.declared.refusal.OpenRefusal.TheVariants.{DiskFault}
-use Rattle.volume_images.specs.Left.{AreNamedApart, IsTold}
+use Rattle.volume_images.specs.Left.{IsTold}
 use Rattle.volume_images.specs.Volumes.{NoneOut, images_read, shape_in, shapes_of}
 use Rattle.rack.specs.Closes.{AreLeftOfParts, CameBackFaulty, HasFaultAt, HasFaultIn, IsQuiet, LeavesOpen, LeavesUnopened, LeavesVolumes, ListsFaulty, has_station, is_kept_home}
 use Rattle.rack.specs.Closing.{LeavesNoneOut}
@@ -60,25 +60,25 @@ if_some P Q None each is = tt
 if_some P Q (Some t) each is = each t is
 
 -- a step, and another behind it
-told_then : (H Q R : Told → Told → Type 0) (e o n : Option Told) → IsTold (λ x y. AreNamedApart y) e o → IsTold H e o → IsTold Q o n → ((t x y : Told) → H t x → Q x y → R t y) → IsTold R e n
-told_then H Q R None None n apart had told then = told
-told_then H Q R None (Some o) n apart had told then = absurd (cc apart)
-told_then H Q R (Some e) None n apart had told then = absurd apart
-told_then H Q R (Some e) (Some o) None apart had told then = absurd told
-told_then H Q R (Some e) (Some o) (Some n) apart had told then = λ named. then e o n (had named) (told (apart named))
+told_then : (H Q R : Told → Told → Type 0) (e o n : Option Told) → IsTold H e o → IsTold Q o n → ((t x y : Told) → H t x → Q x y → R t y) → IsTold R e n
+told_then H Q R None None n had told then = told
+told_then H Q R None (Some o) n had told then = absurd (cc had)
+told_then H Q R (Some e) None n had told then = absurd had
+told_then H Q R (Some e) (Some o) None had told then = absurd told
+told_then H Q R (Some e) (Some o) (Some n) had told then = then e o n had told
 
 -- and the other is told with what was told before the first
-told_since : (W : Told → Type 0) (H P Q R : Told → Told → Type 0) (e o n : Option Told) → IsTold (λ x y. AreNamedApart y) e o → IfSome e (λ t. AreNamedApart t → W t) → IsTold H e o → IsTold Q o n
+told_since : (W : Told → Type 0) (H P Q R : Told → Told → Type 0) (e o n : Option Told) → IfSome e W → IsTold H e o → IsTold Q o n
     → ((t : Told) → W t → IsTold (λ x y. H t x → P t y) o n) → ((t x y : Told) → H t x → Q x y → P t y → R t y) → IsTold R e n
-told_since W H P Q R None None n apart was had told closing then = told
-told_since W H P Q R None (Some o) n apart was had told closing then = absurd (cc apart)
-told_since W H P Q R (Some e) None n apart was had told closing then = absurd apart
-told_since W H P Q R (Some e) (Some o) None apart was had told closing then = absurd told
-told_since W H P Q R (Some e) (Some o) (Some n) apart was had told closing then = λ named. then e o n (had named) (told (apart named)) (closing e (was named) (apart named) (had named))
+told_since W H P Q R None None n was had told closing then = told
+told_since W H P Q R None (Some o) n was had told closing then = absurd (cc had)
+told_since W H P Q R (Some e) None n was had told closing then = absurd had
+told_since W H P Q R (Some e) (Some o) None was had told closing then = absurd told
+told_since W H P Q R (Some e) (Some o) (Some n) was had told closing then = then e o n had told (closing e was had)
 
-if_both : (V W : Told → Type 0) (o : Option Told) → IfSome o (λ t. AreNamedApart t → V t) → IfSome o (λ t. AreNamedApart t → W t) → IfSome o (λ t. AreNamedApart t → V t × W t)
+if_both : (V W : Told → Type 0) (o : Option Told) → IfSome o V → IfSome o W → IfSome o (λ t. V t × W t)
 if_both V W None v w = tt
-if_both V W (Some t) v w = λ named. (v named, w named)
+if_both V W (Some t) v w = (v, w)
 
 pub rose_before : (a b d : ℕ) → a ≤ b → Rose b d → Rose a d
 rose_before a b d less (inl more) = inl (omega (arith, less, more))
@@ -135,10 +135,10 @@ refused_missing tells state config bay old new r is refused k v conf none_out = 
 module _ {D : Type 0} (tells : Bool) (state : D → State) (config : Config) (old bay new : BayState) (r q : Rack D) (again : IsRackAgain r q) (opened : IsOpened tells state config old bay r)
     (sooner : old.faults ≤ bay.faults) (later : bay.faults ≤ new.faults) (kept : IsTrue tells → IsTold (HadRefused config q.rest.images.items) bay.told new.told) where
   -- what the rack that came back began with
-  began : IsTrue tells → IfSome old.told (λ t. AreNamedApart t → BeganWith state config t q × WereThere config q.rest.images.items t)
+  began : IsTrue tells → IfSome old.told (λ t. BeganWith state config t q × WereThere config q.rest.images.items t)
   began telling = if_both (λ t. BeganWith state config t q) (λ t. WereThere config q.rest.images.items t) old.told
-      (if_some (λ t. AreNamedApart t → BeganWith state config t r) (λ t. AreNamedApart t → BeganWith state config t q) old.told (λ t is named. began_again state config r q again t (is named)) (opened.began telling))
-      (subst (λ (w : Rest D). IfSome old.told (λ t. AreNamedApart t → WereThere config w.images.items t)) (sym (rest_again state config r q again)) (opened.there telling))
+      (if_some (λ t. BeganWith state config t r) (λ t. BeganWith state config t q) old.told (λ t is. began_again state config r q again t is) (opened.began telling))
+      (subst (λ (w : Rest D). IfSome old.told (λ t. WereThere config w.images.items t)) (sym (rest_again state config r q again)) (opened.there telling))
 
   had : IsTrue tells → IsTold (HadRefused config q.rest.images.items) old.told bay.told
   had telling = subst (λ (w : Rest D). IsTold (HadRefused config w.images.items) old.told bay.told) (sym (rest_again state config r q again)) (opened.kept telling)
@@ -152,16 +152,16 @@ module _ {D : Type 0} (tells : Bool) (state : D → State) (config : Config) (ol
       → ((t y : Told) → HadRefused config q.rest.images.items t y → P t y → R t y) → IsTold R old.told new.told
   since P R telling closing then =
       told_since (λ t. BeganWith state config t q × WereThere config q.rest.images.items t) (HadRefused config q.rest.images.items) P (HadRefused config q.rest.images.items) R old.told bay.told new.told
-      (opened.apart telling) (began telling) (had telling) (kept telling) (λ t both. closing t both.0 both.1) (λ t x y first back is. then t y (then_kept t x y first back) is)
+      (began telling) (had telling) (kept telling) (λ t both. closing t both.0 both.1) (λ t x y first back is. then t y (then_kept t x y first back) is)
 
   pub sound_since : IsTrue tells
       → ((t : Told) → BeganWith state config t q → WereThere config q.rest.images.items t → IsTold (λ x y. HadRefused config q.rest.images.items t x → KeepsAllSound config t y) bay.told new.told)
       → IsTold (KeepsAllSound config) old.told new.told
   sound_since telling closing = since (KeepsAllSound config) (KeepsAllSound config) telling closing (λ t y stays sound. sound)
 
-  module _ (refused : AreRefused tells state config old bay r) (apart : IsTold (λ x y. AreNamedApart y) old.told bay.told) (gained : IsTold HasFaulty bay.told new.told) where
+  module _ (refused : AreRefused tells state config old bay r) (gained : IsTold HasFaulty bay.told new.told) where
     refused_since : AreRefused tells state config old new r
-    refused_since k v f conf at = refuses_later tells state config r.rest.images.items old bay new k v f later apart gained (refused k v f conf at)
+    refused_since k v f conf at = refuses_later tells state config r.rest.images.items old bay new k v f later gained (refused k v f conf at)
 
     -- an image that isn't out was refused
     missing : (k : ℕ) (v : VolumeConf) → slice_get config.volumes.items k ≡ Some v → image_here r.rest.images.items k ≡ None → (f : VolumeFault) × RefusesVolume tells state config r.rest.images.items old new k v f
@@ -193,7 +193,7 @@ module _ {D : Type 0} (tells : Bool) (state : D → State) (config : Config) (ol
 
     pub opens_and_closes : (did : (before after : Rack D) → Type 0) (spindles : List SpindleView) → did r q → IsClosed tells state config bay new q spindles
         → ((k : ℕ) (p : Part) → slice_get r.faults.items k ≡ Some (Some (fault.Refused (DiskFault p))) → IsImageOut r.rest.images.items k → HasFaultAt state r.rest p)
-        → (IsTrue tells → IfSome old.told (λ t. AreNamedApart t → AreSound (shapes_of config) (images_read config t) → (HasFaultIn state r.rest → ⊥) → (Rose old.faults bay.faults → ⊥)
+        → (IsTrue tells → IfSome old.told (λ t. AreSound (shapes_of config) (images_read config t) → (HasFaultIn state r.rest → ⊥) → (Rose old.faults bay.faults → ⊥)
         → (k : ℕ) → k < length (shapes_of config) → slice_get r.faults.items k ≡ Some None))
         → (HasFaultIn state q.rest → Rose bay.faults new.faults)
         → ((t : Told) → IsTrue tells → BeganWith state config t q → All (λ (s : Station D). IsQuiet s) q.stations.items → IsTold (λ x y. LeavesOpen config q t y) bay.told new.told)
@@ -217,14 +217,14 @@ module _ {D : Type 0} (tells : Bool) (state : D → State) (config : Config) (ol
         | inl has ↦ risen_since has
         | inr rose ↦ rose_on old.faults bay.faults new.faults rose later
       ];
-      part = λ k p at. part_came_back tells state config old bay new r opened.rack.fault_count refused_since failed apart opened.faulty lists_first k p at;
+      part = λ k p at. part_came_back tells state config old bay new r opened.rack.fault_count refused_since failed opened.faulty lists_first k p at;
       missing = missing;
       kept = λ telling. subst (λ (w : Rest D). IsTold (HadRefused config w.images.items) old.told new.told) (rest_again state config r q again)
-          (told_then (HadRefused config q.rest.images.items) (HadRefused config q.rest.images.items) (HadRefused config q.rest.images.items) old.told bay.told new.told (opened.apart telling) (had telling) (kept telling) then_kept);
+          (told_then (HadRefused config q.rest.images.items) (HadRefused config q.rest.images.items) (HadRefused config q.rest.images.items) old.told bay.told new.told (had telling) (kept telling) then_kept);
       complete = λ telling. if_some
-          (λ t. AreNamedApart t → AreSound (shapes_of config) (images_read config t) → (HasFaultIn state r.rest → ⊥) → (Rose old.faults bay.faults → ⊥) → (k : ℕ) → k < length (shapes_of config) → slice_get r.faults.items k ≡ Some None)
-          (λ t. AreNamedApart t → AreSound (shapes_of config) (images_read config t) → (Rose old.faults new.faults → ⊥) → (k : ℕ) → k < length (shapes_of config) → slice_get r.faults.items k ≡ Some None)
-          old.told (λ t all named sound calm. all named sound (λ has. calm (risen_since has)) (λ rose. calm (rose_on old.faults bay.faults new.faults rose later))) (complete telling);
+          (λ t. AreSound (shapes_of config) (images_read config t) → (HasFaultIn state r.rest → ⊥) → (Rose old.faults bay.faults → ⊥) → (k : ℕ) → k < length (shapes_of config) → slice_get r.faults.items k ≡ Some None)
+          (λ t. AreSound (shapes_of config) (images_read config t) → (Rose old.faults new.faults → ⊥) → (k : ℕ) → k < length (shapes_of config) → slice_get r.faults.items k ≡ Some None)
+          old.told (λ t all sound calm. all sound (λ has. calm (risen_since has)) (λ rose. calm (rose_on old.faults bay.faults new.faults rose later))) (complete telling);
       left_open = λ telling quiet. since (LeavesOpen config q) (LeavesOpen config q) telling
           (λ t began there. weaker (λ x. HadRefused config q.rest.images.items t x) (LeavesOpen config q t) bay.told new.told (left_open t telling began quiet)) (λ t y stays is. is);
       left_unopened = λ telling. since (LeavesUnopened config q) (LeavesUnopened config q) telling (λ t began there. unopened t telling began there) (λ t y stays is. is);
@@ -244,4 +244,4 @@ module _ {D : Type 0} (tells : Bool) (state : D → State) (config : Config) (ol
         weaker : (H P : Told → Type 0) (o n : Option Told) → IsTold (λ x y. P y) o n → IsTold (λ x y. H x → P y) o n
         weaker H P None n is = is
         weaker H P (Some o) None is = is
-        weaker H P (Some o) (Some n) is = λ named had. is named
+        weaker H P (Some o) (Some n) is = λ had. is

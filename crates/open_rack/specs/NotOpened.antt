@@ -8,7 +8,7 @@ use Rattle.wol_config.specs.declared.config.Config.{Config}
 use Rattle.wol_config.specs.declared.config.VolumeConf.{VolumeConf}
 use Rattle.manager.specs.declared.part.Part.{Part}
 use Rattle.manager_recovery.specs.declared.refusal.OpenRefusal.TheVariants as refusal
-use Rattle.volume_images.specs.Left.{AreNamedApart, IsTold}
+use Rattle.volume_images.specs.Left.{IsTold}
 use Rattle.report.specs.declared.fault.Fault.{Fault}
 use Rattle.report.specs.declared.fault.Fault.TheVariants.{Volume}
 use Rattle.troubles.specs.Troubles.{trouble_of}
@@ -54,8 +54,8 @@ pub record IsFirstClosed {D : Type 0} (tells : Bool) (state : D → State) (conf
   pub out : List (Option (ImageRest D))
   pub count : length out ≡ length config.volumes.items
   pub missing : (j : ℕ) (v : VolumeConf) → slice_get config.volumes.items j ≡ Some v → image_here out j ≡ None → (g : VolumeFault) × RefusesVolume tells state config out old new j v g
-  pub there : IsTrue tells → IfSome old.told (λ t. AreNamedApart t → WereThere config out t)
-  pub before : (j : ℕ) → j < k → IsImageOut out j × (IsTrue tells → IfSome old.told (λ t. AreNamedApart t → IsOpened config out t j))
+  pub there : IsTrue tells → IfSome old.told (λ t. WereThere config out t)
+  pub before : (j : ℕ) → j < k → IsImageOut out j × (IsTrue tells → IfSome old.told (λ t. IsOpened config out t j))
   pub conf : VolumeConf
   pub conf_is : slice_get config.volumes.items k ≡ Some conf
   pub refused : RefusesVolume tells state config out old new k conf f

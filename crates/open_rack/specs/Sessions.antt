@@ -9,7 +9,7 @@ use Rattle.wol_config.specs.declared.config.VolumeConf.{VolumeConf}
 use Rattle.spin_model.specs.Spindles.{SpindleView}
 use Rattle.manager.specs.declared.part.Part.{Part}
 use Rattle.manager_recovery.specs.declared.refusal.OpenRefusal.TheVariants.{DiskFault}
-use Rattle.volume_images.specs.Left.{AreNamedApart, IsTold}
+use Rattle.volume_images.specs.Left.{IsTold}
 use Rattle.volume_images.specs.Volumes.{images_read, shapes_of}
 use Rattle.rack.specs.Closes.{AreLeftOfParts, CameBackFaulty, IsClosedSpindle, IsClosedVolume, IsQuiet, LeavesOpen, LeavesUnopened, ListsFaulty, SharePools}
 use Rattle.rack.specs.Opens.{AreRefused, BeganWith, LeavesAll, RefusesVolume, WereThere}
@@ -28,9 +28,8 @@ pub record IsOpened {D : Type 0} (tells : Bool) (state : D → State) (config : 
   pub fresh : AreUnused r.stations.items
   pub fresh_keepers : All (λ p. IsUnused p) r.keepers.items
   -- it began with the images as they read before
-  pub began : IsTrue tells → IfSome old.told (λ t. AreNamedApart t → BeganWith state config t r)
-  pub there : IsTrue tells → IfSome old.told (λ t. AreNamedApart t → WereThere config r.rest.images.items t)
-  pub apart : IsTrue tells → IsTold (λ x y. AreNamedApart y) old.told bay.told
+  pub began : IsTrue tells → IfSome old.told (λ t. BeganWith state config t r)
+  pub there : IsTrue tells → IfSome old.told (λ t. WereThere config r.rest.images.items t)
   pub kept : IsTrue tells → IsTold (HadRefused config r.rest.images.items) old.told bay.told
   -- the list of parts that came back with a fault only grows; it is the same where all images are out
   pub faulty : IsTold (λ x y. (more : List (Name × ℕ)) × (y.faulty ≡ x.faulty ++ more)) old.told bay.told
@@ -43,8 +42,7 @@ pub record IsClosed {D : Type 0} (tells : Bool) (state : D → State) (config : 
   pub stations : All (IsClosedVolume tells config r.rest.images.items bay new) r.stations.items
   pub pools : SharePools tells config bay new r stations
   pub parts : IsTrue tells → IsTold (λ x y. AreLeftOfParts state config r y) bay.told new.told
-  -- no two images have one name still, and the parts that came back with a fault are listed
-  pub apart : IsTold (λ x y. AreNamedApart y) bay.told new.told
+  -- the parts that came back with a fault are listed
   pub lists : IsTold (ListsFaulty state config r.rest) bay.told new.told
 
 -- A rack was opened, this was done with it, and it was closed.
@@ -68,7 +66,7 @@ pub record OpensAndCloses {D : Type 0} (tells : Bool) (state : D → State) (con
       → (f : VolumeFault) × RefusesVolume tells state config before.rest.images.items old new k v f
   pub kept : IsTrue tells → IsTold (HadRefused config before.rest.images.items) old.told new.told
   -- where the images are sound as they read, and no call failed, each volume was open
-  pub complete : IsTrue tells → IfSome old.told (λ t. AreNamedApart t → AreSound (shapes_of config) (images_read config t) → (Rose old.faults new.faults → ⊥)
+  pub complete : IsTrue tells → IfSome old.told (λ t. AreSound (shapes_of config) (images_read config t) → (Rose old.faults new.faults → ⊥)
       → (k : ℕ) → k < length (shapes_of config) → slice_get before.faults.items k ≡ Some None)
   -- whatever was written, a volume that wasn't opened recovers to what it might have
   pub left_unopened : IsTrue tells → IsTold (LeavesUnopened config after) old.told new.told

@@ -16,7 +16,7 @@ use Rattle.wol_config.specs.declared.config.Config.{Config}
 use Rattle.wol_config.specs.declared.config.VolumeConf.{VolumeConf}
 use Rattle.spin_model.specs.Spun.{state_of, disk_of}
 use Rattle.spin_model.specs.declared.spun.Spun.{Spun}
-use Rattle.volume_images.specs.Left.{AreNamedApart, IsTold}
+use Rattle.volume_images.specs.Left.{IsTold}
 use Rattle.volume_images.specs.Volumes.{shape_in, shapes_of, MayLeave, NoneOut}
 use Rattle.volume_images.proofs.SettledParts.{cut_image}
 use Rattle.rack.specs.Rests.{image_here, IsImageOut}
@@ -140,22 +140,19 @@ find_name {D = D} (w ∷ vs) (o ∷ out) name =
 
 module _ {D : Type 0} (tells : Bool) (state : D → State) (told : IsTrue tells → (d : D) → TellsContent (state d)) (config : Config) (b b1 b2 : BayState) (n : ℕ) (i : Images D)
     (asked : AreAsked tells state config b b1 n i) (sent : HasSentOut config i.out.items n b b1) (back : IsTold (GivesBack state config i.out.items 0) b1.told b2.told) where
-  left : IsTrue tells → (t t1 t2 : Told) → b.told ≡ Some t → StayedSo config i.out.items n t t1 → GivesBack state config i.out.items 0 t1 t2 → AreNamedApart t → LeavesNoMore t t2
-  left telling t t1 t2 is s g apart = (
-    g.apart,
-    λ name c may.
-        ⊎_elim
-        (λ found. at_found name c may found)
-        (λ (not : (k : ℕ) (v : VolumeConf) → slice_get config.volumes.items k ≡ Some v → IsImageOut i.out.items k → name ≢ v.name).
-        s.stayed name (λ k v there at e. not k v at there (sym e)) c (subst (λ (x : Option Image). MayLeave x c) (g.others name (λ k v le at there. not k v at there)) may))
-        (find_name config.volumes.items i.out.items name),
-  )
+  left : IsTrue tells → (t t1 t2 : Told) → b.told ≡ Some t → StayedSo config i.out.items n t t1 → GivesBack state config i.out.items 0 t1 t2 → LeavesNoMore t t2
+  left telling t t1 t2 is s g = λ name c may.
+      ⊎_elim
+      (λ found. at_found name c may found)
+      (λ (not : (k : ℕ) (v : VolumeConf) → slice_get config.volumes.items k ≡ Some v → IsImageOut i.out.items k → name ≢ v.name).
+      s.stayed name (λ k v there at e. not k v at there (sym e)) c (subst (λ (x : Option Image). MayLeave x c) (g.others name (λ k v le at there. not k v at there)) may))
+      (find_name config.volumes.items i.out.items name)
     where
       at_found : (name : Name) (c : Option (List Block)) → MayLeave (at_name name t2.images) c → IsFound config.volumes.items i.out.items name → MayLeave (at_name name t.images) c
       at_found name c may f =
           let shape : slice_get (shapes_of config) f.volume ≡ Some (shape_in config f.conf) = slice_get-map (shape_in config) config.volumes.items f.volume ∙ ap (option_map (shape_in config)) f.known in
           let out = asked.out f.volume (shape_in config f.conf) f.image shape f.here in
-          let entry = asked.entry telling t is apart f.volume f.conf out.said f.image f.known out.said_is f.here in
+          let entry = asked.entry telling t is f.volume f.conf out.said f.image f.known out.said_is f.here in
           let stored = g.back f.volume f.conf f.image (omega arith) f.known f.here in
           let all = all_told state (told telling) stored.disks in
           let now : at_name name t2.images ≡ Some (record { blocks = all.0; rest = [] }) = ap (λ (m : Name). at_name m t2.images) f.named ∙ stored.stored all.0 all.1 in
@@ -180,7 +177,7 @@ module _ {D : Type 0} (tells : Bool) (state : D → State) (told : IsTrue tells 
       go_left telling None (Some t1) o2 is s g = absurd (cc s)
       go_left telling (Some t) None o2 is s g = absurd s
       go_left telling (Some t) (Some t1) None is s g = absurd g
-      go_left telling (Some t) (Some t1) (Some t2) is s g = λ apart. left telling t t1 t2 is (s apart) (g (s apart).apart) apart
+      go_left telling (Some t) (Some t1) (Some t2) is s g = left telling t t1 t2 is s g
 
 -- all parts of the images that are out are here
 pub all_whole : {D : Type 0} (tells : Bool) (state : D → State) (config : Config) (b b1 : BayState) (n : ℕ) (i : Images D) → AreAsked tells state config b b1 n i → n ≤ length config.volumes.items
@@ -201,4 +198,4 @@ nothing_out tells b = record { outs = refl; left = λ telling. go b.told; counts
   where
     go : (o : Option Told) → IsTold LeavesNoMore o o
     go None = refl
-    go (Some t) = λ apart. (apart, λ name c may. may)
+    go (Some t) = λ name c may. may

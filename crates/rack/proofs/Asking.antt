@@ -13,7 +13,7 @@ use Rattle.wol_config.specs.declared.config.Config.{Config}
 use Rattle.wol_config.specs.declared.config.VolumeConf.{VolumeConf}
 use Rattle.volume_images.specs.Accepted.{IsImageFault}
 use Rattle.volume_images.specs.Formatted.{part_sizes}
-use Rattle.volume_images.specs.Left.{AreNamedApart, IsTold}
+use Rattle.volume_images.specs.Left.{IsTold}
 use Rattle.volume_images.specs.Volumes.{shape_in, shapes_of}
 use Rattle.volume_images.proofs.Refused.{rose_since}
 use Rattle.rack.specs.Rests.{image_here}
@@ -70,62 +70,58 @@ rose_on a b c rose le = ⊎_elim (λ (lt : a < b). inl (omega (arith, lt, le))) 
 
 -- the name has the image that it had
 abbrev pub SameAt : Name → Told → Told → Type 0
-SameAt name old new = AreNamedApart new × (at_name name new.images ≡ at_name name old.images) × HasFaulty old new
+SameAt name old new = (at_name name new.images ≡ at_name name old.images) × HasFaulty old new
 
 -- what the image that is told said
-pub image_said : {D : Type 0} (config : Config) (old new : BayState) (out : List (Option (ImageRest D))) (k : ℕ) (v : VolumeConf) (f : VolumeFault) (t : Told) → old.told ≡ Some t → AreNamedApart t
+pub image_said : {D : Type 0} (config : Config) (old new : BayState) (out : List (Option (ImageRest D))) (k : ℕ) (v : VolumeConf) (f : VolumeFault) (t : Told) → old.told ≡ Some t
     → (r : RefusesImage config out old new k v f) → (i : Image) → at_name v.name t.images ≡ Some i → IsImageFault (length (shapes_of config)) k (shape_in config v) (reads i.blocks) r.image_fault
-image_said config old new out k v f t told apart r i at =
-    let was = r.said t told apart in
+image_said config old new out k v f t told r i at =
+    let was = r.said t told in
     subst (λ (x : Image). IsImageFault (length (shapes_of config)) k (shape_in config v) (reads x.blocks) r.image_fault) (same_Some was.0 i (sym was.1 ∙ at)) was.2
 
--- no two images have one name still
-abbrev pub StaysApart : (old new : BayState) → Type 0
-StaysApart old new = IsTold (λ x y. AreNamedApart y) old.told new.told
-
 module _ {D : Type 0} (tells : Bool) (state : D → State) (config : Config) where
-  image_later : (out : List (Option (ImageRest D))) (b b1 b2 : BayState) (k : ℕ) (v : VolumeConf) (f : VolumeFault) → b1.faults ≤ b2.faults → StaysApart b b1 → IsTold HasFaulty b1.told b2.told
+  image_later : (out : List (Option (ImageRest D))) (b b1 b2 : BayState) (k : ℕ) (v : VolumeConf) (f : VolumeFault) → b1.faults ≤ b2.faults → IsTold HasFaulty b1.told b2.told
       → RefusesImage config out b b1 k v f → RefusesImage config out b b2 k v f
-  image_later out b b1 b2 k v f le apart gained r = record {
+  image_later out b b1 b2 k v f le gained r = record {
     not_out = r.not_out;
     image_fault = r.image_fault;
     is_fault = r.is_fault;
     said = r.said;
     cause = λ call. rose_on b.faults b1.faults b2.faults (r.cause call) le;
-    faulty = λ call. fault_later v.name r.image_fault b.told b1.told b2.told apart (r.faulty call) gained;
+    faulty = λ call. fault_later v.name r.image_fault b.told b1.told b2.told (r.faulty call) gained;
   }
 
   -- a cause stays one while the bay goes on
-  pub refuses_later : (out : List (Option (ImageRest D))) (b b1 b2 : BayState) (k : ℕ) (v : VolumeConf) (f : VolumeFault) → b1.faults ≤ b2.faults → StaysApart b b1 → IsTold HasFaulty b1.told b2.told
+  pub refuses_later : (out : List (Option (ImageRest D))) (b b1 b2 : BayState) (k : ℕ) (v : VolumeConf) (f : VolumeFault) → b1.faults ≤ b2.faults → IsTold HasFaulty b1.told b2.told
       → RefusesVolume tells state config out b b1 k v f → RefusesVolume tells state config out b b2 k v f
-  refuses_later out b b1 b2 k v Absent le apart gained r = r
-  refuses_later out b b1 b2 k v (WrongLength bytes) le apart gained r = r
-  refuses_later out b b1 b2 k v BayFailed le apart gained r = (r.0, rose_on b.faults b1.faults b2.faults r.1 le)
-  refuses_later out b b1 b2 k v LabelFault le apart gained r = image_later out b b1 b2 k v LabelFault le apart gained r
-  refuses_later out b b1 b2 k v (Refused f) le apart gained r = ⊎_elim (λ i. inl (image_later out b b1 b2 k v (Refused f) le apart gained i)) (λ o. inr o) r
+  refuses_later out b b1 b2 k v Absent le gained r = r
+  refuses_later out b b1 b2 k v (WrongLength bytes) le gained r = r
+  refuses_later out b b1 b2 k v BayFailed le gained r = (r.0, rose_on b.faults b1.faults b2.faults r.1 le)
+  refuses_later out b b1 b2 k v LabelFault le gained r = image_later out b b1 b2 k v LabelFault le gained r
+  refuses_later out b b1 b2 k v (Refused f) le gained r = ⊎_elim (λ i. inl (image_later out b b1 b2 k v (Refused f) le gained i)) (λ o. inr o) r
 
-  bay_since : (name : Name) (sizes : List ℕ) (answer : Option BayFault) (o o1 : Option Told) → IsTold (SameAt name) o o1 → IfSome o1 (λ t. AreNamedApart t → refusal name sizes t ≡ answer)
-      → IfSome o (λ t. AreNamedApart t → refusal name sizes t ≡ answer)
+  bay_since : (name : Name) (sizes : List ℕ) (answer : Option BayFault) (o o1 : Option Told) → IsTold (SameAt name) o o1 → IfSome o1 (λ t. refusal name sizes t ≡ answer)
+      → IfSome o (λ t. refusal name sizes t ≡ answer)
   bay_since name sizes answer None o1 same h = tt
   bay_since name sizes answer (Some t) None same h = absurd same
-  bay_since name sizes answer (Some t) (Some t1) same h = λ apart. let both = same apart in ap (refusal_of sizes) (sym both.1) ∙ h both.0
+  bay_since name sizes answer (Some t) (Some t1) same h = ap (refusal_of sizes) (sym same.0) ∙ h
 
-  told_there : (name : Name) (t : Told) (o o1 : Option Told) → o ≡ Some t → IsTold (SameAt name) o o1 → AreNamedApart t → (t1 : Told) × (o1 ≡ Some t1) × SameAt name t t1
-  told_there name t o o1 e same apart = go o1 (subst (λ (x : Option Told). IsTold (SameAt name) x o1) e same)
+  told_there : (name : Name) (t : Told) (o o1 : Option Told) → o ≡ Some t → IsTold (SameAt name) o o1 → (t1 : Told) × (o1 ≡ Some t1) × SameAt name t t1
+  told_there name t o o1 e same = go o1 (subst (λ (x : Option Told). IsTold (SameAt name) x o1) e same)
     where
       go : (x : Option Told) → IsTold (SameAt name) (Some t) x → (t1 : Told) × (x ≡ Some t1) × SameAt name t t1
       go None s = absurd s
-      go (Some t1) s = (t1, refl, s apart)
+      go (Some t1) s = (t1, refl, s)
 
   image_since : (b b1 b2 : BayState) (k : ℕ) (v : VolumeConf) (f : VolumeFault) → IsTold (SameAt v.name) b.told b1.told → b.faults ≤ b1.faults → RefusesImage {D = D} config [] b1 b2 k v f → RefusesImage {D = D} config [] b b2 k v f
   image_since b b1 b2 k v f same le r = record {
     not_out = r.not_out;
     image_fault = r.image_fault;
     is_fault = r.is_fault;
-    said = λ t told apart. (let then = told_there v.name t b.told b1.told told same apart in let was = r.said then.0 then.1 then.2.0 in (was.0, sym then.2.1 ∙ was.1, was.2));
+    said = λ t told. (let then = told_there v.name t b.told b1.told told same in let was = r.said then.0 then.1 in (was.0, sym then.2.0 ∙ was.1, was.2));
     cause = λ call. rose_since b.faults b1.faults b2.faults le (r.cause call);
     faulty = λ call. fault_since v.name r.image_fault b.told b1.told b2.told
-        (told_each (SameAt v.name) (λ x y. AreNamedApart y) b.told b1.told (λ x y s. s.0) same) (told_each (SameAt v.name) HasFaulty b.told b1.told (λ x y s. s.2) same) (r.faulty call);
+        (told_each (SameAt v.name) HasFaulty b.told b1.told (λ x y s. s.1) same) (r.faulty call);
   }
 
   -- and was one before
@@ -153,7 +149,7 @@ module _ {D : Type 0} (tells : Bool) (state : D → State) (config : Config) whe
       unsaid = said ∙ r.unsaid;
       fault = r.fault;
       fault_is = fault ∙ r.fault_is;
-      refuses = refuses_later [] b b1 b2 k w r.fault later (told_each (SameAt v.name) (λ x y. AreNamedApart y) b.told b1.told (λ x y s. s.0) same) gained r.refuses;
+      refuses = refuses_later [] b b1 b2 k w r.fault later gained r.refuses;
     }
 
     out_before : (k : ℕ) (s : Shape) (r : ImageRest D) → said_at i2.said.items k ≡ said_at i1.said.items k → fault_at i2.faults.items k ≡ fault_at i1.faults.items k
@@ -182,15 +178,15 @@ module _ {D : Type 0} (tells : Bool) (state : D → State) (config : Config) whe
           let O : ℕ → Shape → ImageRest D → Type 0 = λ j t x. IsOut state (length (shapes_of config)) j t i2 x in
           subst (λ (j : ℕ). O j s q) (sym now.0) (subst (λ (t : Shape). O n t q) (same_shape k s now.0 shape) (subst (λ (x : ImageRest D). O n (shape_in config v) x) is opened)))
           (push_cases i1.out.items (Some r) n asked.out_count k q (sym (ap (λ l. get_or l k None) pushes.out.0) ∙ here));
-      entry = λ telling t told apart k w own q found says here.
+      entry = λ telling t told k w own q found says here.
           ⊎_elim
-          (λ was. asked.entry telling t told apart k w own q found (sym (said_less k was.0) ∙ says) was.1)
+          (λ was. asked.entry telling t told k w own q found (sym (said_less k was.0) ∙ says) was.1)
           (λ now.
           let is : r ≡ q = same_Some r q now.1 in
           let says_n : Some said ≡ Some own = sym said_new ∙ sym (ap (λ (j : ℕ). said_at i2.said.items j) now.0) ∙ says in
-          let then = told_there v.name t b.told b1.told told same apart in
-          let new = next.entry telling then.0 then.1 then.2.0 in
-          let was_there : WasAtEntry state config t n v said r = record { image = new.image; there = sym then.2.1 ∙ new.there; says = new.says; cut = new.cut } in
+          let then = told_there v.name t b.told b1.told told same in
+          let new = next.entry telling then.0 then.1 in
+          let was_there : WasAtEntry state config t n v said r = record { image = new.image; there = sym then.2.0 ∙ new.there; says = new.says; cut = new.cut } in
           let W : ℕ → VolumeConf → Said → ImageRest D → Type 0 = λ j u y x. WasAtEntry state config t j u y x in
           subst (λ (j : ℕ). W j w own q) (sym now.0) (subst (λ (u : VolumeConf). W n u own q) (same_volume k w now.0 found) (subst (λ (y : Said). W n v y q) (same_Some said own says_n) (subst (λ (x : ImageRest D). W n v said x) is was_there))))
           (push_cases i1.out.items (Some r) n asked.out_count k q (sym (ap (λ l. get_or l k None) pushes.out.0) ∙ here));
@@ -236,9 +232,9 @@ module _ {D : Type 0} (tells : Bool) (state : D → State) (config : Config) whe
           (λ was. out_before k s q (said_less k was.0) (fault_less k was.0) (asked.out k s q shape was.1))
           (λ now. absurd (none-some q now.1))
           (push_cases i1.out.items None n asked.out_count k q (sym (ap (λ l. get_or l k None) pushes.out.0) ∙ here));
-      entry = λ telling t told apart k w own q found says here.
+      entry = λ telling t told k w own q found says here.
           ⊎_elim
-          (λ was. asked.entry telling t told apart k w own q found (sym (said_less k was.0) ∙ says) was.1)
+          (λ was. asked.entry telling t told k w own q found (sym (said_less k was.0) ∙ says) was.1)
           (λ now. absurd (none-some q now.1))
           (push_cases i1.out.items None n asked.out_count k q (sym (ap (λ l. get_or l k None) pushes.out.0) ∙ here));
     }
@@ -263,12 +259,12 @@ module _ {D : Type 0} (tells : Bool) (state : D → State) (config : Config) whe
     asked_more (Err fault) pushes ok err = asked_refused fault pushes (err v at)
 
   -- the faults of the bay may go on
-  pub asked_later : (b b1 b2 : BayState) (n : ℕ) (i : Images D) → b1.faults ≤ b2.faults → StaysApart b b1 → IsTold HasFaulty b1.told b2.told → AreAsked tells state config b b1 n i → AreAsked tells state config b b2 n i
-  asked_later b b1 b2 n i le apart gained asked = record {
+  pub asked_later : (b b1 b2 : BayState) (n : ℕ) (i : Images D) → b1.faults ≤ b2.faults → IsTold HasFaulty b1.told b2.told → AreAsked tells state config b b1 n i → AreAsked tells state config b b2 n i
+  asked_later b b1 b2 n i le gained asked = record {
     said_count = asked.said_count;
     out_count = asked.out_count;
     fault_count = asked.fault_count;
-    refused = λ k w lt found none. let r = asked.refused k w lt found none in record { unsaid = r.unsaid; fault = r.fault; fault_is = r.fault_is; refuses = refuses_later [] b b1 b2 k w r.fault le apart gained r.refuses };
+    refused = λ k w lt found none. let r = asked.refused k w lt found none in record { unsaid = r.unsaid; fault = r.fault; fault_is = r.fault_is; refuses = refuses_later [] b b1 b2 k w r.fault le gained r.refuses };
     out = asked.out;
     entry = asked.entry;
   }
@@ -283,5 +279,5 @@ module _ {D : Type 0} (tells : Bool) (state : D → State) (config : Config) whe
         fault_count = ap (λ (l : List (Option VolumeFault)). length l) new.faults.0;
         refused = λ k w lt found none_here. absurd (omega (arith, lt));
         out = λ k s r shape here. absurd (none k r here);
-        entry = λ telling t told apart k w own r found says here. absurd (none k r here);
+        entry = λ telling t told k w own r found says here. absurd (none k r here);
       }

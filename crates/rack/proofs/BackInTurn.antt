@@ -6,15 +6,15 @@ use Rattle.std.proofs.lemmas.List.{take_all, get_or_default, length-map}
 use Rattle.std.proofs.lemmas.Option.{none-some, same_Some, slice_get_within, get_or_from_slice_get}
 use Rattle.std.proofs.lemmas.List.Elements.{All-contains}
 use Rattle.wol_disk.specs.Disk.{State, Rose}
-use Rattle.wol_bay.specs.Bay.{Name, Told, BayState, outs, at_name, without, came_back, IsOut}
+use Rattle.wol_bay.specs.Bay.{AreNamedApart, Name, Told, BayState, outs, at_name, without, came_back, IsOut}
 use Rattle.wol_bay.specs.Parts.{blocks_of, faulty_places}
 use Rattle.wol_config.specs.Configs.{IsValid}
 use Rattle.wol_config.specs.declared.config.Config.{Config}
 use Rattle.wol_config.specs.declared.config.VolumeConf.{VolumeConf}
 use Rattle.volume_images.specs.Formatted.{part_sizes}
-use Rattle.volume_images.specs.Left.{AreNamedApart, IsTold}
+use Rattle.volume_images.specs.Left.{IsTold}
 use Rattle.volume_images.specs.Volumes.{shape_in}
-use Rattle.volume_images.proofs.NamedApart.{other_gone}
+use Rattle.wol_bay.proofs.NamedApart.{other_gone}
 use Rattle.rack.specs.Rests.{image_here, IsImageOut}
 use Rattle.rack.specs.Opens.{out_names}
 use Rattle.rack.specs.Parts.{IsTogether}
@@ -39,7 +39,7 @@ names_apart config valid j k v w differs at_j at_k same = go (cases_lt j k)
 
 -- ---- What a bay tells
 
-told_self : (holds : Told → Told → Type 0) (told : Option Told) → ((t : Told) → AreNamedApart t → holds t t) → IsTold holds told told
+told_self : (holds : Told → Told → Type 0) (told : Option Told) → ((t : Told) → holds t t) → IsTold holds told told
 told_self holds None each = refl
 told_self holds (Some t) each = each t
 
@@ -70,7 +70,7 @@ module _ {D : Type 0} (state : D → State) (config : Config) (images : List (Op
   none_so_far b are = record {
     out = λ k v less at is. are k v at is;
     names = λ before none is. is ∙ ap (λ (l : List (Option (ImageRest D))). option_map (λ os. os ++ out_names config config.volumes.items l) before) (sym (take_all (length images) images (omega arith)));
-    back = told_self (GivesBack state config images (length images)) b.told (λ t apart. none_back state config images t apart past);
+    back = told_self (GivesBack state config images (length images)) b.told (λ t. none_back state config images t past);
     cause = λ fault. absurd (none-some fault.image (sym (past fault.volume fault.behind) ∙ fault.here));
     counts = omega arith;
   }
@@ -105,16 +105,16 @@ module _ {D : Type 0} (state : D → State) (config : Config) (images : List (Op
         weaker : (o m : Option Told) → IsTold (GivesBack state config images (suc n)) o m → IsTold (GivesBack state config images n) o m
         weaker None m given = given
         weaker (Some t) None given = given
-        weaker (Some t) (Some u) given = λ apart. home_passed state config images n t u here_none (given apart)
+        weaker (Some t) (Some u) given = home_passed state config images n t u here_none given
 
     -- one that is out comes back
-    pub comes_back : (r : ImageRest D) (disks : List D) → slice_get images n ≡ Some (Some r) → IsTogether r disks → IsBackFrom state config images (suc n) b cur
+    pub comes_back : (r : ImageRest D) (disks : List D) → slice_get images n ≡ Some (Some r) → IsTogether r disks → IfSome cur.told (λ t. AreNamedApart t) → IsBackFrom state config images (suc n) b cur
         → new.told ≡ option_map (came_back v.name (blocks_of state disks) (faulty_places state disks)) cur.told
         → (faulty_places state disks ≢ [] → Rose cur.faults new.faults) → cur.faults ≤ new.faults → IsBackFrom state config images n b new
-    comes_back r disks is_out together so_far told cause counts = record {
+    comes_back r disks is_out together apart so_far told cause counts = record {
       out = λ k w less is out. others_out v.name w.name (part_sizes (shape_in config w)) (blocks_of state disks) (faulty_places state disks) cur new (others_named k w (λ e. absurd (omega (arith, less, e))) is) told (so_far.out k w (omega (arith, less)) is out);
       names = λ before away is. names_then before away (so_far.names before away is);
-      back = subst (λ (o : Option Told). IsTold (GivesBack state config images n) b.told o) (sym told) (stronger b.told cur.told so_far.back);
+      back = subst (λ (o : Option Told). IsTold (GivesBack state config images n) b.told o) (sym told) (stronger b.told cur.told apart so_far.back);
       cause = λ fault. rose fault (cases_eq fault.volume n);
       counts = omega (arith, so_far.counts, counts);
     }
@@ -122,10 +122,10 @@ module _ {D : Type 0} (state : D → State) (config : Config) (images : List (Op
         here : image_here images n ≡ Some r
         here = get_or_from_slice_get images n (Some r) None is_out
 
-        stronger : (o m : Option Told) → IsTold (GivesBack state config images (suc n)) o m → IsTold (GivesBack state config images n) o (option_map (came_back v.name (blocks_of state disks) (faulty_places state disks)) m)
-        stronger None m given = ap (option_map (came_back v.name (blocks_of state disks) (faulty_places state disks))) given
-        stronger (Some t) None given = given
-        stronger (Some t) (Some u) given = λ apart. one_back state config images n v r disks t u at here together others_named (given apart)
+        stronger : (o m : Option Told) → IfSome m (λ t. AreNamedApart t) → IsTold (GivesBack state config images (suc n)) o m → IsTold (GivesBack state config images n) o (option_map (came_back v.name (blocks_of state disks) (faulty_places state disks)) m)
+        stronger None m apart given = ap (option_map (came_back v.name (blocks_of state disks) (faulty_places state disks))) given
+        stronger (Some t) None apart given = given
+        stronger (Some t) (Some u) apart given = one_back state config images n v r disks t u at here together others_named apart given
 
         rose_on : (x y z : ℕ) → Rose x y → y ≤ z → Rose x z
         rose_on x y z (inl less) le = inl (omega (arith, less, le))
@@ -180,10 +180,10 @@ module _ {D : Type 0} (state : D → State) (config : Config) (images : List (Op
                 gone ∙ ap (option_map (without v.name)) (is ∙ ap (λ (l : List (Name × List ℕ)). Some (os ++ l)) more) ∙ ap (λ (l : List (Name × List ℕ)). Some l) (last_gone config os (out_names config config.volumes.items (take n images)) v free apart)
 
   -- the next one comes back, or isn't out
-  pub one_more_back : IsValid config → (n : ℕ) (v : VolumeConf) → slice_get config.volumes.items n ≡ Some v → (b cur new : BayState) (image : Option (ImageRest D)) → slice_get images n ≡ Some image → IsBackFrom state config images (suc n) b cur
+  pub one_more_back : IsValid config → (n : ℕ) (v : VolumeConf) → slice_get config.volumes.items n ≡ Some v → (b cur new : BayState) (image : Option (ImageRest D)) → slice_get images n ≡ Some image → IfSome cur.told (λ t. AreNamedApart t) → IsBackFrom state config images (suc n) b cur
       → IsImageBack state v.name image cur new → IsBackFrom state config images n b new
-  one_more_back valid n v at b cur new None is so_far back = passes_over valid n v at b cur new is so_far back.0 back.1
-  one_more_back valid n v at b cur new (Some r) is so_far back = comes_back valid n v at b cur new r back.0 is back.1 so_far back.2 back.3 back.4
+  one_more_back valid n v at b cur new None is apart so_far back = passes_over valid n v at b cur new is so_far back.0 back.1
+  one_more_back valid n v at b cur new (Some r) is apart so_far back = comes_back valid n v at b cur new r back.0 is back.1 apart so_far back.2 back.3 back.4
 
   -- all are back
   pub all_are_back : (b b' : BayState) → IsBackFrom state config images 0 b b' → Rattle.rack.specs.Closing.LeavesNoneOut config images (outs b) (outs b')

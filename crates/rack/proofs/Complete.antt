@@ -17,7 +17,6 @@ use Rattle.manager.specs.declared.part.Part.{Part}
 use Rattle.manager.specs.declared.station.Station.{Station}
 use Rattle.manager_recovery.specs.declared.refusal.OpenRefusal.TheVariants as refusal_of_opening
 use Rattle.volume_images.specs.Formatted.{part_sizes}
-use Rattle.volume_images.specs.Left.{AreNamedApart}
 use Rattle.volume_images.specs.Volumes.{shape_in, shapes_of, images_read}
 use Rattle.rack.specs.Closes.{HasFaultIn}
 use Rattle.rack.specs.Opens.{RefusesVolume, RefusesImage, AreRefused}
@@ -31,20 +30,20 @@ use Rattle.rack.proofs.Members.{of_map, element_at}
 use Rattle.rack.proofs.Asking.{image_said}
 use Rattle.rack.proofs.SoundVolumes.{IsCallRefusal, sound_at, goes_out, no_image_fault, opening_only}
 
-module _ {D : Type 0} (config : Config) (valid : IsValid config) (t : Told) (sound : AreSound (shapes_of config) (images_read config t)) (tells : Bool) (telling : IsTrue tells) (state : D → State) (old new : BayState) (told : old.told ≡ Some t) (apart : AreNamedApart t) (r : Rack D) (rack : IsRack state config new r) (refused : AreRefused tells state config old new r) where
+module _ {D : Type 0} (config : Config) (valid : IsValid config) (t : Told) (sound : AreSound (shapes_of config) (images_read config t)) (tells : Bool) (telling : IsTrue tells) (state : D → State) (old new : BayState) (told : old.told ≡ Some t) (r : Rack D) (rack : IsRack state config new r) (refused : AreRefused tells state config old new r) where
   abbrev images : List (Option (ImageRest D))
   images = r.rest.images.items
 
   -- a volume whose image isn't out is refused for a failed call
   bay_only : (k : ℕ) (v : VolumeConf) (answer : Option BayFault) → slice_get config.volumes.items k ≡ Some v → Rattle.rack.specs.Opens.RefusesBay config images old k v answer → answer ≡ None
   bay_only k v answer at why =
-      let says = subst (λ (o : Option Told). Rattle.std.specs.Prelude.IfSome o (λ t. AreNamedApart t → refusal v.name (part_sizes (shape_in config v)) t ≡ answer)) told why.1 in
-      sym (says apart) ∙ goes_out config valid t sound k v (sound_at config valid t sound k v at)
+      let says = subst (λ (o : Option Told). Rattle.std.specs.Prelude.IfSome o (λ t. refusal v.name (part_sizes (shape_in config v)) t ≡ answer)) told why.1 in
+      sym says ∙ goes_out config valid t sound k v (sound_at config valid t sound k v at)
 
   image_only : (k : ℕ) (v : VolumeConf) (f : VolumeFault) → slice_get config.volumes.items k ≡ Some v → RefusesImage config images old new k v f → IsCallRefusal old new f
   image_only k v f at why =
       let x = sound_at config valid t sound k v at in
-      subst (IsCallRefusal old new) (sym why.is_fault) (no_image_fault config valid t sound k v x why.image_fault old new why.cause (image_said config old new images k v f t told apart why x.image x.there))
+      subst (IsCallRefusal old new) (sym why.is_fault) (no_image_fault config valid t sound k v x why.image_fault old new why.cause (image_said config old new images k v f t told why x.image x.there))
 
   not_out_only : (k : ℕ) (v : VolumeConf) (f : VolumeFault) → slice_get config.volumes.items k ≡ Some v → image_here images k ≡ None → RefusesVolume tells state config images old new k v f → IsCallRefusal old new f
   not_out_only k v Absent at none why = none-some bay.Absent (sym (bay_only k v (Some bay.Absent) at why))
@@ -60,7 +59,7 @@ module _ {D : Type 0} (config : Config) (valid : IsValid config) (t : Told) (sou
   refused_only all_out k v LabelFault at names why = image_only k v LabelFault at why
   refused_only all_out k v (Refused o) at names why =
       ⊎_elim (λ image. image_only k v (Refused o) at image)
-      (λ opening. opening_only config valid t sound tells telling state images all_out k v at opening.before opening.after (opening.of t telling told apart) o opening.refuses names old new) why
+      (λ opening. opening_only config valid t sound tells telling state images all_out k v at opening.before opening.after (opening.of t telling told) o opening.refuses names old new) why
 
   module _ (failed : (k : ℕ) (p : Part) → slice_get r.faults.items k ≡ Some (Some (Refused (refusal_of_opening.DiskFault p))) → HasFaultIn state r.rest ⊎ Rose old.faults new.faults)
       (no_part : HasFaultIn state r.rest → ⊥) (calm : Rose old.faults new.faults → ⊥) where

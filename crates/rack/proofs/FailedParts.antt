@@ -1,10 +1,11 @@
 -- The part that refuses a volume: it is here with a fault, or it came back with one.
 use Rattle.std.proofs.Common.{◌≡◌, ◌⊎◌, inl, inr, ⊎_elim, ℕ, ◌+◌, List, ◌++◌, length, Option, None, Some, refl, sym, ap, subst, ◌∙◌, append_assoc, arith}
-use Rattle.std.specs.Prelude.{slice_get, Contains}
+use Rattle.std.specs.Prelude.{Bool, slice_get, Contains}
 use Rattle.std.proofs.lemmas.List.{length-map}
 use Rattle.std.proofs.lemmas.List.Elements.{Contains-append_right}
 use Rattle.std.proofs.lemmas.Option.{slice_get_within}
 use Rattle.wol_disk.specs.Disk.{State, Rose}
+use Rattle.wol_promise.specs.Policy.{PartName}
 use Rattle.wol_bay.specs.Bay.{BayState, Name, Told}
 use Rattle.wol_config.specs.declared.config.Config.{Config}
 use Rattle.wol_config.specs.declared.config.VolumeConf.{VolumeConf}
@@ -12,12 +13,12 @@ use Rattle.spin_model.specs.declared.spun.Spun.{Spun}
 use Rattle.manager.specs.declared.part.Part.{Part}
 use Rattle.manager.specs.declared.part.Part.TheVariants as part
 use Rattle.manager_recovery.specs.declared.refusal.OpenRefusal.TheVariants.{DiskFault}
-use Rattle.volume_images.specs.Left.{AreNamedApart, IsTold}
+use Rattle.volume_images.specs.Left.{IsTold}
 use Rattle.volume_images.specs.Refusals.{IsCallFault}
 use Rattle.volume_images.specs.Volumes.{shape_in, shapes_of}
 use Rattle.volume_images.specs.declared.reading.ImageFault.{ImageFault}
 use Rattle.volume_images.specs.declared.reading.ImageFault.TheVariants as fault
-use Rattle.rack.specs.Closes.{CameBackFaulty, HasFaultAt, HasFaultIn, IsNamedHere, IsPartHere, ListsFaulty, place_in}
+use Rattle.rack.specs.Closes.{CameBackFaulty, HasFaultAt, HasFaultIn, HasFaultyPart, IsNamedHere, IsPartHere, ListsFaulty, part_named, place_in}
 use Rattle.rack.specs.Opens.{AreRefused, HasFaulty, HasNewFault, RefusesImage, fault_in_image}
 use Rattle.rack.specs.Rests.{IsImageOut}
 use Rattle.rack.specs.declared.rack.Rack.{Rack}
@@ -58,18 +59,20 @@ pub gained_parts : {D : Type 0} (state : D → State) (config : Config) (r : Res
 gained_parts state config r o n = told_each (ListsFaulty state config r) HasFaulty o n (λ x y l. (l.more, l.more_is))
 
 -- a part that came back with a fault since opening did so since entry
-pub came_back_since : (config : Config) (p : Part) (e o n : Option Told) → IsTold (λ x y. AreNamedApart y) e o → IsTold HasFaulty e o → IsTold (CameBackFaulty config p) o n → IsTold (CameBackFaulty config p) e n
-came_back_since config p None None n named had came = came
-came_back_since config p None (Some o) n named had came = absurd (cc named)
-came_back_since config p (Some e) None n named had came = absurd named
-came_back_since config p (Some e) (Some o) None named had came = absurd came
-came_back_since config p (Some e) (Some o) (Some n) named had came = λ apart.
-    let before = had apart in
-    let then = came (named apart) in (
-      before.0 ++ then.0,
-      then.1 ∙ ap (λ (fs : List (Name × ℕ)). fs ++ then.0) before.1 ∙ append_assoc e.faulty before.0 then.0,
-      (then.2.0, then.2.1, Contains-append_right before.0 then.0 (then.2.0.name, place_in p) then.2.2),
-    )
+pub faulty_since : (tells : Bool) (config : Config) (owner : ℕ) (view : List ℕ) (name : PartName) (e o n : Option Told) → IsTold HasFaulty e o → IsTold (HasFaultyPart tells config owner view name) o n
+    → IsTold (HasFaultyPart tells config owner view name) e n
+faulty_since tells config owner view name None None n had part = part
+faulty_since tells config owner view name None (Some o) n had part = absurd (cc had)
+faulty_since tells config owner view name (Some e) None n had part = absurd had
+faulty_since tells config owner view name (Some e) (Some o) None had part = absurd part
+faulty_since tells config owner view name (Some e) (Some o) (Some n) had part = record {
+  more = had.0 ++ part.more;
+  more_is = part.more_is ∙ ap (λ (fs : List (Name × ℕ)). fs ++ part.more) had.1 ∙ append_assoc e.faulty had.0 part.more;
+  conf = part.conf;
+  conf_is = part.conf_is;
+  among = Contains-append_right had.0 part.more (part.conf.name, place_in (part_named owner name)) part.among;
+  lies = part.lies;
+}
 
 -- a part of this image that failed came back with a fault
 image_part : (config : Config) (k : ℕ) (p : Part) (v : VolumeConf) (f : ImageFault) (old new : Told) → slice_get config.volumes.items k ≡ Some v → Refused (DiskFault p) ≡ fault_in_image k f → HasNewFault v.name f old new → CameBackFaulty config p old new
@@ -83,27 +86,25 @@ image_part config k p v (fault.SegmentFault index) old new at e has =
 -- The part that refuses a volume came back with a fault, once the rack was closed.
 pub part_came_back : {D : Type 0} (tells : Rattle.std.specs.Prelude.Bool) (state : D → State) (config : Config) (old bay new : BayState) (r : Rack D) → length r.faults.items ≡ length (shapes_of config) → AreRefused tells state config old new r
     → ((k : ℕ) (p : Part) → slice_get r.faults.items k ≡ Some (Some (Refused (DiskFault p))) → IsImageOut r.rest.images.items k → HasFaultAt state r.rest p)
-    → IsTold (λ x y. AreNamedApart y) old.told bay.told → IsTold HasFaulty old.told bay.told → IsTold (ListsFaulty state config r.rest) bay.told new.told
+    → IsTold HasFaulty old.told bay.told → IsTold (ListsFaulty state config r.rest) bay.told new.told
     → (k : ℕ) (p : Part) → slice_get r.faults.items k ≡ Some (Some (Refused (DiskFault p))) → IsTold (CameBackFaulty config p) old.told new.told
-part_came_back tells state config old bay new r count refused failed apart first then k p at =
+part_came_back tells state config old bay new r count refused failed first then k p at =
     let within = slice_get_within r.faults.items k (Some (Refused (DiskFault p))) at in
     let v = some_at config.volumes.items k (let n = length-map config.volumes.items (shape_in config) in omega (arith, within, count, n)) in
     ⊎_elim
     (λ image. told_each (HasNewFault v.0.name image.image_fault) (CameBackFaulty config p) old.told new.told
     (λ x y has. image_part config k p v.0 image.image_fault x y v.1 image.is_fault has) (image.faulty (call_failed k p image.image_fault image.is_fault)))
-    (λ opening. behind old.told bay.told new.told apart first then (failed k p at opening.is_out))
+    (λ opening. behind old.told bay.told new.told first then (failed k p at opening.is_out))
     (refused k v.0 (Refused (DiskFault p)) v.1 at)
   where
-    behind : (e o n : Option Told) → IsTold (λ x y. AreNamedApart y) e o → IsTold HasFaulty e o → IsTold (ListsFaulty state config r.rest) o n → HasFaultAt state r.rest p → IsTold (CameBackFaulty config p) e n
-    behind None None n named had lists has = lists
-    behind None (Some o) n named had lists has = absurd (cc named)
-    behind (Some e) None n named had lists has = absurd named
-    behind (Some e) (Some o) None named had lists has = absurd lists
-    behind (Some e) (Some o) (Some n) named had lists has = λ apart.
-        let before = had apart in
-        let l = lists (named apart) in
-        let x = l.each p has in (
-          before.0 ++ l.more,
-          l.more_is ∙ ap (λ (fs : List (Name × ℕ)). fs ++ l.more) before.1 ∙ append_assoc e.faulty before.0 l.more,
-          (x.0, x.1, Contains-append_right before.0 l.more (x.0.name, place_in p) x.2),
+    behind : (e o n : Option Told) → IsTold HasFaulty e o → IsTold (ListsFaulty state config r.rest) o n → HasFaultAt state r.rest p → IsTold (CameBackFaulty config p) e n
+    behind None None n had lists has = lists
+    behind None (Some o) n had lists has = absurd (cc had)
+    behind (Some e) None n had lists has = absurd had
+    behind (Some e) (Some o) None had lists has = absurd lists
+    behind (Some e) (Some o) (Some n) had lists has =
+        let x = lists.each p has in (
+          had.0 ++ lists.more,
+          lists.more_is ∙ ap (λ (fs : List (Name × ℕ)). fs ++ lists.more) had.1 ∙ append_assoc e.faulty had.0 lists.more,
+          (x.0, x.1, Contains-append_right had.0 lists.more (x.0.name, place_in p) x.2),
         )

@@ -8,13 +8,12 @@ use Rattle.std.proofs.lemmas.Option.{none-some, same_Some}
 use Rattle.std.specs.Str.{bytes_eq}
 use Rattle.std.proofs.lemmas.Slice.Eq.{bytes_eq-Decides}
 use Rattle.wol_disk.specs.Disk.{Block, Values, State}
-use Rattle.wol_bay.specs.Bay.{Name, Image, Told, at_name, without, stored, each_place, came_back}
+use Rattle.wol_bay.specs.Bay.{AreApart, AreNamedApart, Name, Image, Told, at_name, without, stored, each_place, came_back}
 use Rattle.wol_bay.specs.Parts.{blocks_of, faulty_places}
 use Rattle.wol_bay.proofs.NameLists.{without_none, is_out}
 use Rattle.wol_config.specs.declared.config.Config.{Config}
 use Rattle.wol_config.specs.declared.config.VolumeConf.{VolumeConf}
-use Rattle.volume_images.specs.Left.{AreNamedApart}
-use Rattle.volume_images.proofs.NamedApart.{other_put, other_gone, second_gone, put_apart}
+use Rattle.wol_bay.proofs.NamedApart.{other_put, other_gone, second_gone, put_apart}
 use Rattle.rack.specs.Rests.{image_here}
 use Rattle.rack.specs.Parts.{IsTogether}
 use Rattle.rack.specs.Closing.{IsStoredAs, GivesBack}
@@ -30,38 +29,22 @@ named name places place has = (has.0, within, at)
     at : get_or (each_place name places) has.0 (name, place) ≡ (name, place)
     at = get_or-map (λ (p : ℕ). (name, p)) places has.0 place (name, place) has.1 ∙ ap (λ (p : ℕ). (name, p)) has.2
 
-module _ (name : Name) (images : List (Name × Image)) (apart : (n : Name) → at_name n (without n images) ≡ None) where
-  pub stored_here : (vs : List (Values Block)) → at_name name (stored name (Some vs) images) ≡ Some (record { blocks = vs; rest = [] })
-  stored_here vs = is_out name (without name images) (record { blocks = vs; rest = [] }) (apart name)
+module _ (name : Name) (images : List (Name × Image)) where
+  pub stored_here : AreApart images → (vs : List (Values Block)) → at_name name (stored name (Some vs) images) ≡ Some (record { blocks = vs; rest = [] })
+  stored_here apart vs = is_out name (without name images) (record { blocks = vs; rest = [] }) (apart name)
 
   pub stored_others : (blocks : Option (List (Values Block))) (other : Name) → other ≢ name → at_name other (stored name blocks images) ≡ at_name other images
   stored_others None other differs = other_gone name other differs images
   stored_others (Some vs) other differs = other_put name other differs (without name images) (record { blocks = vs; rest = [] }) ∙ other_gone name other differs images
 
-  gone_apart : (n : Name) → at_name n (without n (without name images)) ≡ None
-  gone_apart n = go (bytes_eq n name) refl
-    where
-      go : (b : Bool) → bytes_eq n name ≡ b → at_name n (without n (without name images)) ≡ None
-      go true e =
-          let is : n ≡ name = (bytes_eq-Decides n name).0 e in
-          subst (λ (m : Name). at_name m (without m (without name images)) ≡ None) (sym is) (ap (at_name name) (without_none name (without name images) (apart name)) ∙ apart name)
-      go false e = second_gone name n (λ is. let f : true ≡ false = sym ((bytes_eq-Decides n name).1 is) ∙ e in cc) images ∙ apart n
-
-  pub stored_apart : (blocks : Option (List (Values Block))) (n : Name) → at_name n (without n (stored name blocks images)) ≡ None
-  stored_apart None n = gone_apart n
-  stored_apart (Some vs) n =
-      let once : without name (without name images) ≡ without name images = without_none name (without name images) (apart name) in
-      subst (λ (l : List (Name × Image)). at_name n (without n (l ++ (name, record { blocks = vs; rest = [] }) ∷ [])) ≡ None) once (put_apart name images (record { blocks = vs; rest = [] }) apart n)
-
 module _ {D : Type 0} (state : D → State) (config : Config) (images : List (Option (ImageRest D))) where
   -- nothing is back yet
-  pub none_back : (t : Told) → AreNamedApart t → ((k : ℕ) → length images ≤ k → image_here images k ≡ None) → GivesBack state config images (length images) t t
-  none_back t apart none = record {
+  pub none_back : (t : Told) → ((k : ℕ) → length images ≤ k → image_here images k ≡ None) → GivesBack state config images (length images) t t
+  none_back t none = record {
     more = [];
     faulty = sym (append-nil t.faulty);
     back = λ k v r from at here. absurd (none-some r (sym (none k from) ∙ here));
     others = λ name away. refl;
-    apart = apart;
   }
 
   -- one that isn't out is passed over
@@ -71,7 +54,6 @@ module _ {D : Type 0} (state : D → State) (config : Config) (images : List (Op
     faulty = given.faulty;
     back = λ k v r from at here. given.back k v r (not_here k r from here) at here;
     others = λ name away. given.others name (λ k v from at out. away k v (omega (arith, from)) at out);
-    apart = given.apart;
   }
     where
       not_here : (k : ℕ) (r : ImageRest D) → n ≤ k → image_here images k ≡ Some r → suc n ≤ k
@@ -86,13 +68,12 @@ module _ {D : Type 0} (state : D → State) (config : Config) (images : List (Op
   -- one that is out came back
   pub one_back : (n : ℕ) (v : VolumeConf) (r : ImageRest D) (disks : List D) (old new : Told) → slice_get config.volumes.items n ≡ Some v → image_here images n ≡ Some r → IsTogether r disks
       → ((k : ℕ) (w : VolumeConf) → k ≢ n → slice_get config.volumes.items k ≡ Some w → w.name ≢ v.name)
-      → GivesBack state config images (suc n) old new → GivesBack state config images n old (came_back v.name (blocks_of state disks) (faulty_places state disks) new)
-  one_back n v r disks old new at here together names given = record {
+      → AreNamedApart new → GivesBack state config images (suc n) old new → GivesBack state config images n old (came_back v.name (blocks_of state disks) (faulty_places state disks) new)
+  one_back n v r disks old new at here together names apart given = record {
     more = given.more ++ each_place v.name (faulty_places state disks);
     faulty = ap (λ (l : List (Name × ℕ)). l ++ each_place v.name (faulty_places state disks)) given.faulty ∙ append_assoc old.faulty given.more (each_place v.name (faulty_places state disks));
     back = back;
-    others = λ name away. stored_others v.name new.images given.apart (blocks_of state disks) name (away n v (omega arith) at (ap is_some here)) ∙ given.others name (λ k w from is out. away k w (omega (arith, from)) is out);
-    apart = stored_apart v.name new.images given.apart (blocks_of state disks);
+    others = λ name away. stored_others v.name new.images (blocks_of state disks) name (away n v (omega arith) at (ap is_some here)) ∙ given.others name (λ k w from is out. away k w (omega (arith, from)) is out);
   }
     where
       this : (w : VolumeConf) (q : ImageRest D) → w ≡ v → q ≡ r → IsStoredAs state w.name q (given.more ++ each_place v.name (faulty_places state disks)) (came_back v.name (blocks_of state disks) (faulty_places state disks) new)
@@ -101,7 +82,7 @@ module _ {D : Type 0} (state : D → State) (config : Config) (images : List (Op
           (record {
             disks = disks;
             together = together;
-            stored = λ vs is. subst (λ (o : Option (List (Values Block))). at_name v.name (stored v.name o new.images) ≡ Some (record { blocks = vs; rest = [] })) (sym is) (stored_here v.name new.images given.apart vs);
+            stored = λ vs is. subst (λ (o : Option (List (Values Block))). at_name v.name (stored v.name o new.images) ≡ Some (record { blocks = vs; rest = [] })) (sym is) (stored_here v.name new.images apart vs);
             faulty = λ place has. Contains-append_right given.more (each_place v.name (faulty_places state disks)) (v.name, place) (named v.name (faulty_places state disks) place has);
           }))
 
@@ -109,7 +90,7 @@ module _ {D : Type 0} (state : D → State) (config : Config) (images : List (Op
       earlier k w q differs is s = record {
         disks = s.disks;
         together = s.together;
-        stored = λ vs e. stored_others v.name new.images given.apart (blocks_of state disks) w.name (names k w differs is) ∙ s.stored vs e;
+        stored = λ vs e. stored_others v.name new.images (blocks_of state disks) w.name (names k w differs is) ∙ s.stored vs e;
         faulty = λ place has. Contains-append_left given.more (each_place v.name (faulty_places state disks)) (w.name, place) (s.faulty place has);
       }
 

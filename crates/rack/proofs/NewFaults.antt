@@ -3,7 +3,7 @@ use Rattle.std.proofs.Common.{◌≡◌, ℕ, ◌+◌, List, [], ◌++◌, Optio
 use Rattle.std.specs.Prelude.{Contains}
 use Rattle.std.proofs.lemmas.List.Elements.{Contains-append_left, Contains-append_right}
 use Rattle.wol_bay.specs.Bay.{Name, Told, sent_out}
-use Rattle.volume_images.specs.Left.{AreNamedApart, IsTold}
+use Rattle.volume_images.specs.Left.{IsTold}
 use Rattle.volume_images.specs.declared.reading.ImageFault.{ImageFault}
 use Rattle.volume_images.specs.declared.reading.ImageFault.TheVariants as fault
 use Rattle.rack.specs.Opens.{HasFaulty, IsFaultAmong, HasNewFault}
@@ -11,12 +11,12 @@ use Rattle.rack.specs.Opens.{HasFaulty, IsFaultAmong, HasNewFault}
 pub told_each : (P Q : Told → Told → Type 0) (o n : Option Told) → ((x y : Told) → P x y → Q x y) → IsTold P o n → IsTold Q o n
 told_each P Q None n each is = is
 told_each P Q (Some o) None each is = is
-told_each P Q (Some o) (Some n) each is = λ apart. each o n (is apart)
+told_each P Q (Some o) (Some n) each is = each o n is
 
 pub told_with : (P Q : Told → Told → Type 0) (o n : Option Told) → IsTold P o n → IsTold Q o n → IsTold (λ x y. P x y × Q x y) o n
 told_with P Q None n first then = first
 told_with P Q (Some o) None first then = first
-told_with P Q (Some o) (Some n) first then = λ apart. (first apart, then apart)
+told_with P Q (Some o) (Some n) first then = (first, then)
 
 -- no further part came back with a fault
 pub none_faulty : (x y : Told) → y.faulty ≡ x.faulty → HasFaulty x y
@@ -28,7 +28,7 @@ same_faulty o n = told_each (λ x y. y ≡ x) HasFaulty o n (λ x y same. none_f
 
 pub sent_faulty : (name : Name) (sizes : List ℕ) (o n : Option Told) → n ≡ option_map (sent_out name sizes) o → IsTold HasFaulty o n
 sent_faulty name sizes None n sent = sent
-sent_faulty name sizes (Some t) n sent = subst (λ (x : Option Told). IsTold HasFaulty (Some t) x) (sym sent) (λ apart. ([], sym (append-nil t.faulty)))
+sent_faulty name sizes (Some t) n sent = subst (λ (x : Option Told). IsTold HasFaulty (Some t) x) (sym sent) ([], sym (append-nil t.faulty))
 
 among_left : (name : Name) (f : ImageFault) (xs ys : List (Name × ℕ)) → IsFaultAmong name f xs → IsFaultAmong name f (xs ++ ys)
 among_left name (fault.Damaged block) xs ys is = tt
@@ -43,31 +43,25 @@ among_right name fault.LabelFault xs ys is = Contains-append_right xs ys (name, 
 among_right name (fault.SegmentFault index) xs ys is = Contains-append_right xs ys (name, 2 + index) is
 
 -- what came back since a moment came back since an earlier one
-pub fault_since : (name : Name) (f : ImageFault) (e o n : Option Told) → IsTold (λ x y. AreNamedApart y) e o → IsTold HasFaulty e o → IsTold (HasNewFault name f) o n → IsTold (HasNewFault name f) e n
-fault_since name f None None n apart gained new = new
-fault_since name f None (Some o) n apart gained new = absurd (cc apart)
-fault_since name f (Some e) None n apart gained new = absurd apart
-fault_since name f (Some e) (Some o) None apart gained new = absurd new
-fault_since name f (Some e) (Some o) (Some n) apart gained new = λ named.
-    let first = gained named in
-    let then = new (apart named) in
-    record {
-      more = first.0 ++ then.more;
-      more_is = then.more_is ∙ ap (λ (fs : List (Name × ℕ)). fs ++ then.more) first.1 ∙ append_assoc e.faulty first.0 then.more;
-      among = among_right name f first.0 then.more then.among;
-    }
+pub fault_since : (name : Name) (f : ImageFault) (e o n : Option Told) → IsTold HasFaulty e o → IsTold (HasNewFault name f) o n → IsTold (HasNewFault name f) e n
+fault_since name f None None n gained new = new
+fault_since name f None (Some o) n gained new = absurd (cc gained)
+fault_since name f (Some e) None n gained new = absurd gained
+fault_since name f (Some e) (Some o) None gained new = absurd new
+fault_since name f (Some e) (Some o) (Some n) gained new = record {
+  more = gained.0 ++ new.more;
+  more_is = new.more_is ∙ ap (λ (fs : List (Name × ℕ)). fs ++ new.more) gained.1 ∙ append_assoc e.faulty gained.0 new.more;
+  among = among_right name f gained.0 new.more new.among;
+}
 
 -- and until a later one
-pub fault_later : (name : Name) (f : ImageFault) (e o n : Option Told) → IsTold (λ x y. AreNamedApart y) e o → IsTold (HasNewFault name f) e o → IsTold HasFaulty o n → IsTold (HasNewFault name f) e n
-fault_later name f None None n apart new gained = gained
-fault_later name f None (Some o) n apart new gained = absurd (cc new)
-fault_later name f (Some e) None n apart new gained = absurd new
-fault_later name f (Some e) (Some o) None apart new gained = absurd gained
-fault_later name f (Some e) (Some o) (Some n) apart new gained = λ named.
-    let first = new named in
-    let then = gained (apart named) in
-    record {
-      more = first.more ++ then.0;
-      more_is = then.1 ∙ ap (λ (fs : List (Name × ℕ)). fs ++ then.0) first.more_is ∙ append_assoc e.faulty first.more then.0;
-      among = among_left name f first.more then.0 first.among;
-    }
+pub fault_later : (name : Name) (f : ImageFault) (e o n : Option Told) → IsTold (HasNewFault name f) e o → IsTold HasFaulty o n → IsTold (HasNewFault name f) e n
+fault_later name f None None n new gained = gained
+fault_later name f None (Some o) n new gained = absurd (cc new)
+fault_later name f (Some e) None n new gained = absurd new
+fault_later name f (Some e) (Some o) None new gained = absurd gained
+fault_later name f (Some e) (Some o) (Some n) new gained = record {
+  more = new.more ++ gained.0;
+  more_is = gained.1 ∙ ap (λ (fs : List (Name × ℕ)). fs ++ gained.0) new.more_is ∙ append_assoc e.faulty new.more gained.0;
+  among = among_left name f new.more gained.0 new.among;
+}

@@ -11,7 +11,7 @@ use Rattle.wol_config.specs.declared.config.Config.{Config}
 use Rattle.wol_config.specs.declared.config.VolumeConf.{VolumeConf}
 use Rattle.volume_images.specs.Accepted.{IsImageFault}
 use Rattle.volume_images.specs.Formatted.{part_sizes}
-use Rattle.volume_images.specs.Left.{AreNamedApart, IsTold}
+use Rattle.volume_images.specs.Left.{IsTold}
 use Rattle.volume_images.specs.Refusals.{Refuses, GaveBack, IsCallFault, IsFaultAt}
 use Rattle.volume_images.specs.Volumes.{shape_in, shapes_of, MayLeave}
 use Rattle.volume_images.specs.declared.opening.ImageRefusal.{ImageRefusal}
@@ -36,19 +36,18 @@ module _ {D : Type 0} (tells : Bool) (state : D → State) (config : Config) (b 
   abbrev shape : Shape
   shape = shape_in config v
 
-  bay_answer : (answer : Option BayFault) (o o' : Option Told) → IsTold (λ old new. (refusal v.name (part_sizes shape) old ≡ answer) × (new ≡ old)) o o' → IfSome o (λ t. AreNamedApart t → refusal v.name (part_sizes shape) t ≡ answer)
+  bay_answer : (answer : Option BayFault) (o o' : Option Told) → IsTold (λ old new. (refusal v.name (part_sizes shape) old ≡ answer) × (new ≡ old)) o o' → IfSome o (λ t. refusal v.name (part_sizes shape) t ≡ answer)
   bay_answer answer None o' h = tt
   bay_answer answer (Some t) None h = absurd h
-  bay_answer answer (Some t) (Some t') h = λ apart. (h apart).0
+  bay_answer answer (Some t) (Some t') h = h.0
 
-  gave : (f : ImageFault) (t : Told) (o o' : Option Told) → IsTold (GaveBack volumes k shape v.name f) o o' → o ≡ Some t → AreNamedApart t
+  gave : (f : ImageFault) (t : Told) (o o' : Option Told) → IsTold (GaveBack volumes k shape v.name f) o o' → o ≡ Some t
       → (i : Image) × (at_name v.name t.images ≡ Some i) × IsImageFault volumes k shape (reads i.blocks) f
-  gave f t None o' h is apart = absurd (cc is)
-  gave f t (Some u) None h is apart = absurd h
-  gave f t (Some u) (Some u') h is apart =
+  gave f t None o' h is = absurd (cc is)
+  gave f t (Some u) None h is = absurd h
+  gave f t (Some u) (Some u') h is =
       let same : u ≡ t = cc in
-      let g = h (subst (λ (x : Told). AreNamedApart x) (sym same) apart) in
-      (g.before, sym (ap (λ (x : Told). at_name v.name x.images) same) ∙ g.there, g.refused)
+      (h.before, sym (ap (λ (x : Told). at_name v.name x.images) same) ∙ h.there, h.refused)
 
   among_places : (f : ImageFault) (places : List ℕ) → IsFaultAt f places → IsFaultAmong v.name f (each_place v.name places)
   among_places (fault.Damaged block) places is = tt
@@ -61,7 +60,7 @@ module _ {D : Type 0} (tells : Bool) (state : D → State) (config : Config) (b 
     not_out = refl;
     image_fault = f;
     is_fault = refl;
-    said = λ t told apart. gave f t b.told b'.told h told apart;
+    said = λ t told. gave f t b.told b'.told h told;
     cause = cause;
     faulty = λ call. told_each (GaveBack volumes k shape v.name f) (HasNewFault v.name f) b.told b'.told
         (λ x y g. record { more = each_place v.name g.places; more_is = g.back.faulty; among = among_places f g.places g.fault }) h;
@@ -91,27 +90,26 @@ module _ {D : Type 0} (tells : Bool) (state : D → State) (config : Config) (b 
   may_less before after rest images None may = λ none. may (rest ∙ none)
   may_less before after rest images (Some c) may = (sym rest ∙ may.0, images c may.1)
 
-  stayed : (r : ImageRefusal) (t t' : Told) → Refuses volumes k shape v.name r t t' → AreNamedApart t → StayedAs v.name t t'
-  stayed refusal.Absent t t' h apart = all_stayed t t' h.1 apart
+  stayed : (r : ImageRefusal) (t t' : Told) → Refuses volumes k shape v.name r t t' → StayedAs v.name t t'
+  stayed refusal.Absent t t' h = all_stayed t t' h.1
     where
-      all_stayed : (t t' : Told) → t' ≡ t → AreNamedApart t → StayedAs v.name t t'
-      all_stayed t t' same apart = subst (λ (x : Told). StayedAs v.name t x) (sym same) (record { apart = apart; here = λ c may. may; others = λ other differs. refl; faulty = no_more t })
-  stayed (refusal.WrongLength bytes) t t' h apart = subst (λ (x : Told). StayedAs v.name t x) (sym h.1) (record { apart = apart; here = λ c may. may; others = λ other differs. refl; faulty = no_more t })
-  stayed refusal.BayFailed t t' h apart = subst (λ (x : Told). StayedAs v.name t x) (sym h.1) (record { apart = apart; here = λ c may. may; others = λ other differs. refl; faulty = no_more t })
-  stayed (refusal.Fault f) t t' h apart = record {
-    apart = h.back.apart;
+      all_stayed : (t t' : Told) → t' ≡ t → StayedAs v.name t t'
+      all_stayed t t' same = subst (λ (x : Told). StayedAs v.name t x) (sym same) (record { here = λ c may. may; others = λ other differs. refl; faulty = no_more t })
+  stayed (refusal.WrongLength bytes) t t' h = subst (λ (x : Told). StayedAs v.name t x) (sym h.1) (record { here = λ c may. may; others = λ other differs. refl; faulty = no_more t })
+  stayed refusal.BayFailed t t' h = subst (λ (x : Told). StayedAs v.name t x) (sym h.1) (record { here = λ c may. may; others = λ other differs. refl; faulty = no_more t })
+  stayed (refusal.Fault f) t t' h = record {
     here = λ c may.
         let now : MayLeave (Some h.after) c = subst (λ (i : Option Image). MayLeave i c) h.back.here may in
         subst (λ (i : Option Image). MayLeave i c) (sym h.there) (may_less h.before h.after h.rest h.images c now);
     others = h.back.others;
     faulty = (each_place v.name h.places, h.back.faulty);
   }
-  stayed refusal.NoMemory t t' h apart = subst (λ (x : Told). StayedAs v.name t x) (sym h) (record { apart = apart; here = λ c may. may; others = λ other differs. refl; faulty = no_more t })
+  stayed refusal.NoMemory t t' h = subst (λ (x : Told). StayedAs v.name t x) (sym h) (record { here = λ c may. may; others = λ other differs. refl; faulty = no_more t })
 
   pub next_stayed : (r : ImageRefusal) (o o' : Option Told) → IsTold (Refuses volumes k shape v.name r) o o' → IsTold (StayedAs v.name) o o'
   next_stayed r None o' h = h
   next_stayed r (Some t) None h = h
-  next_stayed r (Some t) (Some t') h = λ apart. stayed r t t' (h apart) apart
+  next_stayed r (Some t) (Some t') h = stayed r t t' h
 
   -- where there is no memory all is as it was
   pub next_same : (r : ImageRefusal) (o o' : Option Told) → fault_of_image k r ≡ None → IsTold (Refuses volumes k shape v.name r) o o' → IsTold (λ old new. new ≡ old) o o'
@@ -123,4 +121,4 @@ module _ {D : Type 0} (tells : Bool) (state : D → State) (config : Config) (b 
 
 pub untouched : (o : Option Told) → IsTold (λ old new. new ≡ old) o o
 untouched None = refl
-untouched (Some t) = λ apart. refl
+untouched (Some t) = refl

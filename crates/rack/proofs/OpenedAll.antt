@@ -25,7 +25,7 @@ use Rattle.manager.specs.declared.manager.Manager.{Manager}
 use Rattle.manager.specs.declared.part.Part.{Part}
 use Rattle.manager.specs.declared.station.Station.{Station}
 use Rattle.manager_recovery.specs.declared.refusal.OpenRefusal.TheVariants.{DiskFault}
-use Rattle.volume_images.specs.Left.{AreNamedApart, IsTold}
+use Rattle.volume_images.specs.Left.{IsTold}
 use Rattle.volume_images.specs.Volumes.{shape_in, shapes_of, NoneOut}
 use Rattle.rack.specs.Rests.{image_here, segment_here, IsImageOut}
 use Rattle.rack.specs.Making.{AreSettled, AreSpindlesOf}
@@ -99,10 +99,7 @@ module _ {D : Type 0} (tells : Bool) (state : D → State) (config : Config) (va
       go : (o o' : Option Told) → IsTold (StayedSo config taken.before.out.items (length config.volumes.items)) o o' → IsTold P o o'
       go None o' s = s
       go (Some old) None s = s
-      go (Some old) (Some new) s = λ apart. each old new (s apart)
-
-  pub opened_apart : IsTold (λ old new. AreNamedApart new) b.told b1.told
-  opened_apart = told_stayed (λ old new s. s.apart)
+      go (Some old) (Some new) s = each old new s
 
   pub opened_faulty : IsTold HasFaulty b.told b1.told
   opened_faulty = told_stayed (λ old new s. s.faulty)
@@ -130,15 +127,15 @@ module _ {D : Type 0} (tells : Bool) (state : D → State) (config : Config) (va
       let lt : k < length config.volumes.items = (let w = slice_get_within r.faults.items k (Some (Refused (DiskFault p))) at in omega (arith, w, count)) in
       fault_here state t.images.said.items k p r (have k p lt out (get_or_from_slice_get r.faults.items k (Some (Refused (DiskFault p))) None at))
 
-  pub opened_there : IsTrue tells → (old : Told) → b.told ≡ Some old → AreNamedApart old → WereThere config r.rest.images.items old
-  opened_there telling old is apart k v at out = go (image_here taken.before.out.items k) refl
+  pub opened_there : IsTrue tells → (old : Told) → b.told ≡ Some old → WereThere config r.rest.images.items old
+  opened_there telling old is k v at out = go (image_here taken.before.out.items k) refl
     where
       go : (o : Option (ImageRest D)) → image_here taken.before.out.items k ≡ o → WasAccepted config old k v
       go None e = absurd (let none = out_is k ∙ ap is_some e in cc (none, out))
       go (Some q) e =
           let shape : slice_get (shapes_of config) k ≡ Some (shape_in config v) = slice_get-map (shape_in config) config.volumes.items k ∙ ap (option_map (shape_in config)) at in
           let of = taken.asked.out k (shape_in config v) q shape e in
-          let was = taken.asked.entry telling old is apart k v of.said q at of.said_is e in
+          let was = taken.asked.entry telling old is k v of.said q at of.said_is e in
           (was.image, was.there, was.says.whole, was.says.size, of.said.view, map segment_head of.said.heads.items, was.says.accepted)
 
 -- the keepers' passes weren't used
@@ -208,22 +205,21 @@ module _ {D : Type 0} (tells : Bool) (state : D → State) (config : Config) (va
   why_refused : (k : ℕ) (v : VolumeConf) → slice_get config.volumes.items k ≡ Some v → is_kept_home r.rest.images.items k ≡ true → (f : VolumeFault) × RefusesVolume {D = D} tells state config [] b b2 k v f
   why_refused k v at is =
       let why = taken.asked.refused k v (slice_get_within config.volumes.items k v at) at (not_out k is) in
-      (why.fault, refuses_later tells state config [] b b1 b2 k v why.fault counts (opened_apart tells state config valid b b1 t taken r out_is) gained why.refuses)
+      (why.fault, refuses_later tells state config [] b b1 b2 k v why.fault counts gained why.refuses)
 
   -- what closing says, where the bay told this at entry
   closed_told : {P Q : Told → Told → Type 0} → IsTold (HadRefused config r.rest.images.items) b1.told b2.told
-      → ((old : Told) → b.told ≡ Some old → AreNamedApart old → IsTold (λ mid new. HadRefused config r.rest.images.items old mid → P old new) b1.told b2.told)
+      → ((old : Told) → b.told ≡ Some old → IsTold (λ mid new. HadRefused config r.rest.images.items old mid → P old new) b1.told b2.told)
       → ((old new : Told) → HadRefused config r.rest.images.items old new → P old new → Q old new) → IsTold Q b.told b2.told
-  closed_told {P} {Q} still closing each = go b.told b1.told b2.told (opened_kept tells state config valid b b1 t taken r out_is) (opened_apart tells state config valid b b1 t taken r out_is) still closing
+  closed_told {P} {Q} still closing each = go b.told b1.told b2.told (opened_kept tells state config valid b b1 t taken r out_is) still closing
     where
-      go : (o o1 o2 : Option Told) → IsTold (HadRefused config r.rest.images.items) o o1 → IsTold (λ old new. AreNamedApart new) o o1 → IsTold (HadRefused config r.rest.images.items) o1 o2
-          → ((old : Told) → o ≡ Some old → AreNamedApart old → IsTold (λ mid new. HadRefused config r.rest.images.items old mid → P old new) o1 o2) → IsTold Q o o2
-      go None None o2 kept apart still closed = still
-      go None (Some t1) o2 kept apart still closed = absurd (cc kept)
-      go (Some old) None o2 kept apart still closed = absurd kept
-      go (Some old) (Some t1) None kept apart still closed = absurd still
-      go (Some old) (Some t1) (Some t2) kept apart still closed = λ named.
-          each old t2 (λ k v at none c may. kept named k v at none c (still (apart named) k v at none c may)) (closed old refl named (apart named) (kept named))
+      go : (o o1 o2 : Option Told) → IsTold (HadRefused config r.rest.images.items) o o1 → IsTold (HadRefused config r.rest.images.items) o1 o2
+          → ((old : Told) → o ≡ Some old → IsTold (λ mid new. HadRefused config r.rest.images.items old mid → P old new) o1 o2) → IsTold Q o o2
+      go None None o2 kept still closed = still
+      go None (Some t1) o2 kept still closed = absurd (cc kept)
+      go (Some old) None o2 kept still closed = absurd kept
+      go (Some old) (Some t1) None kept still closed = absurd still
+      go (Some old) (Some t1) (Some t2) kept still closed = each old t2 (λ k v at none c may. kept k v at none c (still k v at none c may)) (closed old refl kept)
 
   -- an image that gives no segments isn't out
   none_kept : (k : ℕ) → is_kept_home r.rest.images.items k ≡ true → image_here r.rest.images.items k ≡ None
@@ -234,12 +230,12 @@ module _ {D : Type 0} (tells : Bool) (state : D → State) (config : Config) (va
       go (Some q) e = absurd (let f = ap is_some e in cc (f, is))
 
   pub closed_left : IsTold (HadRefused config r.rest.images.items) b1.told b2.told → IsTold (λ x y. AreLeftOfParts state config r y) b1.told b2.told
-      → ((old : Told) → b.told ≡ Some old → AreNamedApart old → IsTold (λ mid new. HadRefused config r.rest.images.items old mid → LeavesVolumes config r old new) b1.told b2.told)
+      → ((old : Told) → b.told ≡ Some old → IsTold (λ mid new. HadRefused config r.rest.images.items old mid → LeavesVolumes config r old new) b1.told b2.told)
       → IsTold (LeavesAll tells state config b b2) b.told b2.told
   closed_left still parts closing = closed_told {P = λ old new. LeavesVolumes config r old new × AreLeftOfParts state config r new} still
-      (λ old is apart. told_each (λ x y. (HadRefused config r.rest.images.items old x → LeavesVolumes config r old y) × AreLeftOfParts state config r y)
+      (λ old is. told_each (λ x y. (HadRefused config r.rest.images.items old x → LeavesVolumes config r old y) × AreLeftOfParts state config r y)
       (λ x y. HadRefused config r.rest.images.items old x → LeavesVolumes config r old y × AreLeftOfParts state config r y) b1.told b2.told (λ x y both had. (both.0 had, both.1))
-      (told_with (λ x y. HadRefused config r.rest.images.items old x → LeavesVolumes config r old y) (λ x y. AreLeftOfParts state config r y) b1.told b2.told (closing old is apart) parts))
+      (told_with (λ x y. HadRefused config r.rest.images.items old x → LeavesVolumes config r old y) (λ x y. AreLeftOfParts state config r y) b1.told b2.told (closing old is) parts))
       (λ old new kept both. record {
         refused = is_kept_home r.rest.images.items;
         cause = why_refused;
@@ -251,6 +247,6 @@ module _ {D : Type 0} (tells : Bool) (state : D → State) (config : Config) (va
       })
 
   pub closed_sound : IsTold (HadRefused config r.rest.images.items) b1.told b2.told
-      → ((old : Told) → b.told ≡ Some old → AreNamedApart old → IsTold (λ mid new. HadRefused config r.rest.images.items old mid → KeepsAllSound config old new) b1.told b2.told)
+      → ((old : Told) → b.told ≡ Some old → IsTold (λ mid new. HadRefused config r.rest.images.items old mid → KeepsAllSound config old new) b1.told b2.told)
       → IsTold (KeepsAllSound config) b.told b2.told
   closed_sound still closing = closed_told still closing (λ old new kept sound. sound)

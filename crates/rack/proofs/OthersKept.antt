@@ -3,7 +3,7 @@ use Rattle.std.proofs.Common.{◌≡◌, ℕ, List, Option, None, Some, length, 
 use Rattle.wol_disk.specs.Disk.{State}
 use Rattle.wol_bay.specs.Bay.{Told, BayState}
 use Rattle.wol_config.specs.declared.config.Config.{Config}
-use Rattle.volume_images.specs.Left.{AreNamedApart, IsTold}
+use Rattle.volume_images.specs.Left.{IsTold}
 use Rattle.rack.specs.Closing.{GivesBack}
 use Rattle.rack.specs.Opens.{KeepsOthers}
 use Rattle.rack.specs.Opening.{HasSentOut, StayedSo}
@@ -12,14 +12,14 @@ use Rattle.rack.proofs.NewFaults.{told_each}
 
 pub others_same : (config : Config) (o : Option Told) → IsTold (KeepsOthers config) o o
 others_same config None = refl
-others_same config (Some t) = λ apart name not. refl
+others_same config (Some t) = λ name not. refl
 
-pub others_then : (config : Config) (e o n : Option Told) → IsTold (λ x y. AreNamedApart y) e o → IsTold (KeepsOthers config) e o → IsTold (KeepsOthers config) o n → IsTold (KeepsOthers config) e n
-others_then config None None n apart first then = then
-others_then config None (Some o) n apart first then = absurd (cc first)
-others_then config (Some e) None n apart first then = absurd first
-others_then config (Some e) (Some o) None apart first then = absurd then
-others_then config (Some e) (Some o) (Some n) apart first then = λ named name not. then (apart named) name not ∙ first named name not
+pub others_then : (config : Config) (e o n : Option Told) → IsTold (KeepsOthers config) e o → IsTold (KeepsOthers config) o n → IsTold (KeepsOthers config) e n
+others_then config None None n first then = then
+others_then config None (Some o) n first then = absurd (cc first)
+others_then config (Some e) None n first then = absurd first
+others_then config (Some e) (Some o) None first then = absurd then
+others_then config (Some e) (Some o) (Some n) first then = λ name not. then name not ∙ first name not
 
 module _ {D : Type 0} (config : Config) (out : List (Option (ImageRest D))) where
   pub back_others : (state : D → State) (o n : Option Told) → IsTold (GivesBack state config out 0) o n → IsTold (KeepsOthers config) o n
@@ -27,6 +27,3 @@ module _ {D : Type 0} (config : Config) (out : List (Option (ImageRest D))) wher
 
   pub sent_others : (n : ℕ) (b b1 : BayState) → HasSentOut config out n b b1 → IsTold (KeepsOthers config) b.told b1.told
   sent_others n b b1 sent = told_each (StayedSo config out n) (KeepsOthers config) b.told b1.told (λ x y s. s.others) sent.stayed
-
-  pub sent_apart : (n : ℕ) (b b1 : BayState) → HasSentOut config out n b b1 → IsTold (λ x y. AreNamedApart y) b.told b1.told
-  sent_apart n b b1 sent = told_each (StayedSo config out n) (λ x y. AreNamedApart y) b.told b1.told (λ x y s. s.apart) sent.stayed

@@ -23,7 +23,6 @@ use Rattle.manager_recovery.specs.declared.opening.Opening.{Opening}
 use Rattle.manager_recovery.specs.declared.opening.OwnedPart.{OwnedPart}
 use Rattle.manager_recovery.specs.declared.refusal.OpenRefusal.{OpenRefusal}
 use Rattle.volume_images.specs.Accepted.{head_place}
-use Rattle.volume_images.specs.Left.{AreNamedApart}
 use Rattle.volume_images.specs.Volumes.{shape_in, shapes_of}
 use Rattle.rack.specs.Opening.{said_at, fault_at, IsOpeningRack, AreStillCut, HasBegun, AreRefusedBelow}
 use Rattle.rack.specs.Opens.{HadBefore, HadSegmentBefore, IsLeftHere, IsGone, RefusesVolume}
@@ -139,7 +138,7 @@ module _ {D : Type 0} (state : D → State) (sound : (d : D) → IsDisk (state d
 
   -- each fault has its cause
   pub refused_again : (faults : Vec (Option VolumeFault) Global) → faults.items ≡ set r.faults.items id (Some (volume_fault.Refused refusal)) → NamesVolumes (length (shapes_of config)) (volume_fault.Refused refusal)
-      → (entry now : BayState) → (IsTrue tells → (t : Told) → entry.told ≡ Some t → AreNamedApart t → HasBegun state config t said id r) → AreRefusedBelow tells state config entry now id r
+      → (entry now : BayState) → (IsTrue tells → (t : Told) → entry.told ≡ Some t → HasBegun state config t said id r) → AreRefusedBelow tells state config entry now id r
       → AreRefusedBelow tells state config entry now (id + 1) (next state sound tells config valid b said id r own ready lt at view own_view away o takes refusal n refuses back all last puts faults)
   refused_again faults faults_are names entry now begun refused k v f or conf is = ⊎_elim
       (λ (e : k ≡ id).
@@ -148,8 +147,8 @@ module _ {D : Type 0} (state : D → State) (sound : (d : D) → IsDisk (state d
         is_out = ap (λ (j : ℕ). is_some (image_here last.images.items j)) e ∙ ap is_some (back_again.image_back state tells config valid b said id r own ready lt at view own_view away o takes n back last puts id own_image.0 own_image.1).1;
         before = o;
         after = n;
-        of = λ t telling told apart.
-            let opening = opening_of state config valid b said id r own ready lt at view own_view away o takes t (begun telling t told apart).cut in
+        of = λ t telling told.
+            let opening = opening_of state config valid b said id r own ready lt at view own_view away o takes t (begun telling t told).cut in
             subst (λ (j : ℕ). Rattle.rack.specs.Owners.IsOpeningOf state config last.images.items (images_taken config last.images.items t) j o) (sym e)
             (opening_too r.rest.images.items last.images.items (sym same_out) state config t id o opening);
         refuses = refuses;

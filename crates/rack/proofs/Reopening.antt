@@ -58,7 +58,7 @@ module _ {D : Type 0} (tells : Bool) (state : D → State) (telling : IsTrue tel
       let R : Told → Told → Type 0 = λ o m. RecoversTo config r.rest.images.items s c.entries m in
       let one : IsTold R (Some follows.entry) closed.told = subst (λ o. IsTold R o closed.told) follows.entry_is told in
       let two : IsTold R (Some follows.entry) (Some t) = subst (λ o. IsTold R (Some follows.entry) o) follows.left_is one in
-      two follows.apart
+      two
 
   -- the array that it begins with again is what the images recover to as they read
   array_again : (base_of_station n).volume.began.array ≡ recovered_out config r.rest.images.items (images_read config t) s.id

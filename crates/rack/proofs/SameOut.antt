@@ -60,5 +60,5 @@ module _ {D : Type 0} where
     refuses_too tells state config b b1 k v (Refused why) r =
         ⊎_elim
         (λ i. inl (record { not_out = none_too k i.not_out; image_fault = i.image_fault; is_fault = i.is_fault; said = i.said; cause = i.cause; faulty = i.faulty }))
-        (λ o. inr (record { is_out = out_too k o.is_out; before = o.before; after = o.after; of = λ t telling told apart. opening_too state config t k o.before (o.of t telling told apart); refuses = o.refuses }))
+        (λ o. inr (record { is_out = out_too k o.is_out; before = o.before; after = o.after; of = λ t telling told. opening_too state config t k o.before (o.of t telling told); refuses = o.refuses }))
         r

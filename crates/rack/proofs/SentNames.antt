@@ -12,9 +12,9 @@ use Rattle.wol_config.specs.Configs.{IsValid}
 use Rattle.wol_config.specs.declared.config.Config.{Config}
 use Rattle.wol_config.specs.declared.config.VolumeConf.{VolumeConf}
 use Rattle.volume_images.specs.Formatted.{part_sizes}
-use Rattle.volume_images.specs.Left.{AreNamedApart, IsTold}
+use Rattle.volume_images.specs.Left.{IsTold}
 use Rattle.volume_images.specs.Volumes.{shape_in, MayLeave, NoneOut}
-use Rattle.volume_images.proofs.NamedApart.{other_gone, second_gone}
+use Rattle.wol_bay.proofs.NamedApart.{other_gone, second_gone}
 use Rattle.rack.specs.Rests.{image_here, IsImageOut}
 use Rattle.rack.specs.Opens.{out_names}
 use Rattle.rack.specs.Opening.{StayedAs, StayedSo, HasSentOut, IsBackAtOnce, IsNextOpened, IsNextRefused}
@@ -32,12 +32,6 @@ cases_name {P} x y one other = go (bytes_eq x y) refl
     go : (b : Bool) → bytes_eq x y ≡ b → P
     go true e = one ((bytes_eq-Decides x y).0 e)
     go false e = other (λ is. let f : true ≡ false = sym ((bytes_eq-Decides x y).1 is) ∙ e in cc)
-
--- no two images have one name once one went out
-sent_apart : (name : Name) (sizes : List ℕ) (t : Told) → AreNamedApart t → AreNamedApart (sent_out name sizes t)
-sent_apart name sizes t apart = λ n. cases_name n name
-    (λ same. subst (λ (m : Name). at_name m (without m (without name t.images)) ≡ None) (sym same) (ap (at_name name) (without_none name (without name t.images) (apart name)) ∙ apart name))
-    (λ other. second_gone name n other t.images ∙ apart n)
 
 -- the volumes of a configuration have names of their own
 pub names_differ : (config : Config) → IsValid config → (j k : ℕ) (v w : VolumeConf) → slice_get config.volumes.items j ≡ Some v → slice_get config.volumes.items k ≡ Some w → j ≢ k → v.name ≢ w.name
@@ -104,7 +98,7 @@ module _ {D : Type 0} (config : Config) where
     pub same_until : (o o1 : Option Told) → IsTold (StayedSo config out n) o o1 → IsTold (SameAt v.name) o o1
     same_until None o1 s = s
     same_until (Some t) None s = s
-    same_until (Some t) (Some t1) s = λ apart. let h = s apart in (h.apart, h.further n v (omega arith) at, h.faulty)
+    same_until (Some t) (Some t1) s = (s.further n v (omega arith) at, s.faulty)
 
     other_names : (k : ℕ) (w : VolumeConf) → n + 1 ≤ k → slice_get config.volumes.items k ≡ Some w → w.name ≢ v.name
     other_names k w le found = names_differ config valid k n w v found at (λ e. omega (arith, le, e))
@@ -118,18 +112,15 @@ module _ {D : Type 0} (config : Config) where
     stayed_sent r (Some t) None o2 s sent = absurd s
     stayed_sent r (Some t) (Some t1) o2 s sent =
         subst (λ (o : Option Told). IsTold (StayedSo config (out ++ Some r ∷ []) (n + 1)) (Some t) o) (sym sent)
-        (λ apart.
-        let h = s apart in
-        record {
-          apart = sent_apart v.name (part_sizes (shape_in config v)) t1 h.apart;
+        (record {
           stayed = λ name not c may.
               let here : IsImageOut (out ++ Some r ∷ []) n = ap is_some (at_new out (Some r) n count) in
               let differs : name ≢ v.name = λ is. not n v here at (sym is) in
-              h.stayed name (not_before (Some r) name not) c (subst (λ (i : Option Image). MayLeave i c) (other_gone v.name name differs t1.images) may);
-          further = λ k w le found. other_gone v.name w.name (other_names k w le found) t1.images ∙ h.further k w (omega (arith, le)) found;
-          faulty = h.faulty;
-          unfaulty = λ all. h.unfaulty (λ k lt. ap is_some (sym (at_less out (Some r) n count k lt)) ∙ all k (omega (arith, lt)));
-          others = λ name not. other_gone v.name name (not n v at) t1.images ∙ h.others name not;
+              s.stayed name (not_before (Some r) name not) c (subst (λ (i : Option Image). MayLeave i c) (other_gone v.name name differs t1.images) may);
+          further = λ k w le found. other_gone v.name w.name (other_names k w le found) t1.images ∙ s.further k w (omega (arith, le)) found;
+          faulty = s.faulty;
+          unfaulty = λ all. s.unfaulty (λ k lt. ap is_some (sym (at_less out (Some r) n count k lt)) ∙ all k (omega (arith, lt)));
+          others = λ name not. other_gone v.name name (not n v at) t1.images ∙ s.others name not;
         })
 
     pub sent_more : (r : ImageRest D) (b b1 b2 : BayState) → HasSentOut config out n b b1 → b2.told ≡ option_map (sent_out v.name (part_sizes (shape_in config v))) b1.told → b1.faults ≤ b2.faults → HasSentOut config (out ++ Some r ∷ []) (n + 1) b b2
@@ -145,20 +136,17 @@ module _ {D : Type 0} (config : Config) where
     stayed_refused None (Some t1) o2 s left = absurd (cc s)
     stayed_refused (Some t) None o2 s left = absurd s
     stayed_refused (Some t) (Some t1) None s left = absurd left
-    stayed_refused (Some t) (Some t1) (Some t2) s left = λ apart.
-        let h = s apart in
-        let l = left h.apart in
+    stayed_refused (Some t) (Some t1) (Some t2) s left =
         record {
-          apart = l.apart;
           stayed = λ name not c may.
-              let before = h.stayed name (not_before None name not) c in
+              let before = s.stayed name (not_before None name not) c in
               cases_name name v.name
-              (λ same. before (subst (λ (m : Name). MayLeave (at_name m t1.images) c) (sym same) (l.here c (subst (λ (m : Name). MayLeave (at_name m t2.images) c) same may))))
-              (λ other. before (subst (λ (i : Option Image). MayLeave i c) (l.others name other) may));
-          further = λ k w le found. l.others w.name (other_names k w le found) ∙ h.further k w (omega (arith, le)) found;
-          faulty = (h.faulty.0 ++ l.faulty.0, l.faulty.1 ∙ ap (λ (fs : List (Name × ℕ)). fs ++ l.faulty.0) h.faulty.1 ∙ append_assoc t.faulty h.faulty.0 l.faulty.0);
+              (λ same. before (subst (λ (m : Name). MayLeave (at_name m t1.images) c) (sym same) (left.here c (subst (λ (m : Name). MayLeave (at_name m t2.images) c) same may))))
+              (λ other. before (subst (λ (i : Option Image). MayLeave i c) (left.others name other) may));
+          further = λ k w le found. left.others w.name (other_names k w le found) ∙ s.further k w (omega (arith, le)) found;
+          faulty = (s.faulty.0 ++ left.faulty.0, left.faulty.1 ∙ ap (λ (fs : List (Name × ℕ)). fs ++ left.faulty.0) s.faulty.1 ∙ append_assoc t.faulty s.faulty.0 left.faulty.0);
           unfaulty = λ all. absurd (let there = all n (omega arith) in let none = ap is_some (at_new out None n count) in cc (there, none));
-          others = λ name not. l.others name (not n v at) ∙ h.others name not;
+          others = λ name not. left.others name (not n v at) ∙ s.others name not;
         }
 
     pub refused_more : (b b1 b2 : BayState) → HasSentOut config out n b b1 → outs b2 ≡ outs b1 → IsTold (StayedAs v.name) b1.told b2.told → b1.faults ≤ b2.faults → HasSentOut config (out ++ None ∷ []) (n + 1) b b2
@@ -186,7 +174,7 @@ module _ {D : Type 0} (config : Config) where
 
       stays : (o : Option Told) → IsTold (StayedSo {D = D} config [] 0) o o
       stays None = refl
-      stays (Some t) = λ apart. record { apart = apart; stayed = λ name not c may. may; further = λ k w le found. refl; faulty = no_more t; unfaulty = λ all. refl; others = λ name not. refl }
+      stays (Some t) = record { stayed = λ name not c may. may; further = λ k w le found. refl; faulty = no_more t; unfaulty = λ all. refl; others = λ name not. refl }
 
 -- no name of the configuration is among those that are out
 pub none_named : (config : Config) (b : BayState) → NoneOut config b → IfSome (outs b) (λ os. All (λ (v : VolumeConf). at_name v.name os ≡ None) config.volumes.items)
@@ -287,4 +275,4 @@ sent_same config out n b b1 b2 so_far back = record { outs = back.outs ∙ so_fa
     go None (Some t1) o2 s same = absurd (cc s)
     go (Some t) None o2 s same = absurd s
     go (Some t) (Some t1) None s same = absurd same
-    go (Some t) (Some t1) (Some t2) s same = λ apart. let h = s apart in subst (λ (x : Told). StayedSo config out n t x) (sym (same h.apart)) h
+    go (Some t) (Some t1) (Some t2) s same = subst (λ (x : Told). StayedSo config out n t x) (sym same) s

@@ -23,7 +23,6 @@ use Rattle.manager_recovery.specs.declared.opening.OwnedPart.{OwnedPart}
 use Rattle.manager_recovery.specs.declared.refusal.OpenRefusal.{OpenRefusal}
 use Rattle.manager_recovery.specs.declared.refusal.OpenRefusal.TheVariants as opening
 use Rattle.volume_images.specs.Formatted.{part_sizes}
-use Rattle.volume_images.specs.Left.{AreNamedApart}
 use Rattle.volume_images.specs.Volumes.{shape_in, shapes_of, images_read}
 use Rattle.rack.specs.Closes.{is_kept_home}
 use Rattle.rack.specs.Laws.{IsOfFailedCall, RefusesSound}
@@ -157,16 +156,16 @@ module _ {D : Type 0} (tells : Bool) (telling : IsTrue tells) (state : D → Sta
     opening_of (opening.DiskFault p) r names old new = tt
     opening_of opening.NoMemory r names old new = names
 
-  module _ (old new : BayState) (told : old.told ≡ Some t) (apart : AreNamedApart t) where
+  module _ (old new : BayState) (told : old.told ≡ Some t) where
     bay_of : (k : ℕ) (v : VolumeConf) (answer : Option BayFault) → slice_get config.volumes.items k ≡ Some v → RefusesBay config out old k v answer → answer ≡ None
     bay_of k v answer at why =
-        let says = subst (λ (o : Option Told). IfSome o (λ t. AreNamedApart t → refusal v.name (part_sizes (shape_in config v)) t ≡ answer)) told why.1 in
-        sym (says apart) ∙ goes_out config valid t sound k v (sound_at config valid t sound k v at)
+        let says = subst (λ (o : Option Told). IfSome o (λ t. refusal v.name (part_sizes (shape_in config v)) t ≡ answer)) told why.1 in
+        sym says ∙ goes_out config valid t sound k v (sound_at config valid t sound k v at)
 
     image_of_fault : (k : ℕ) (v : VolumeConf) (f : VolumeFault) → slice_get config.volumes.items k ≡ Some v → RefusesImage config out old new k v f → IsOfFailedCall out old new f
     image_of_fault k v f at why =
         let x = sound_at config valid t sound k v at in
-        of_call out old new f (subst (IsCallRefusal old new) (sym why.is_fault) (no_image_fault config valid t sound k v x why.image_fault old new why.cause (image_said config old new out k v f t told apart why x.image x.there)))
+        of_call out old new f (subst (IsCallRefusal old new) (sym why.is_fault) (no_image_fault config valid t sound k v x why.image_fault old new why.cause (image_said config old new out k v f t told why x.image x.there)))
 
     pub refused_sound : (k : ℕ) (v : VolumeConf) (f : VolumeFault) → slice_get config.volumes.items k ≡ Some v → NamesVolumes (length shapes) f → RefusesVolume tells state config out old new k v f → IsOfFailedCall out old new f
     refused_sound k v Absent at names why = none-some bay.Absent (sym (bay_of k v (Some bay.Absent) at why))
@@ -175,7 +174,7 @@ module _ {D : Type 0} (tells : Bool) (telling : IsTrue tells) (state : D → Sta
     refused_sound k v LabelFault at names why = image_of_fault k v LabelFault at why
     refused_sound k v (Refused o) at names why =
         ⊎_elim (λ image. image_of_fault k v (Refused o) at image)
-        (λ (r : RefusesOpening tells state config out old k o). opening_of k v at r.before r.after r.is_out (r.of t telling told apart) o r.refuses names old new) why
+        (λ (r : RefusesOpening tells state config out old k o). opening_of k v at r.before r.after r.is_out (r.of t telling told) o r.refuses names old new) why
 
 pub refuses_sound : {D : Type 0} (tells : Bool) (state : D → State) → RefusesSound tells state
-refuses_sound tells state telling config valid out old new t told apart sound = refused_sound tells telling state config valid t sound out old new told apart
+refuses_sound tells state telling config valid out old new t told sound = refused_sound tells telling state config valid t sound out old new told

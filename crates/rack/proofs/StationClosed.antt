@@ -15,6 +15,7 @@ use Rattle.wol_promise.specs.Stands.{IsHeldBy}
 use Rattle.wol_bay.specs.Bay.{Told, BayState}
 use Rattle.wol_bay.specs.Parts.{faulty_places}
 use Rattle.wol_config.specs.declared.config.Config.{Config}
+use Rattle.wol_config.specs.declared.config.VolumeConf.{VolumeConf}
 use Rattle.turn_lock.specs.Passes.{lock_id, pass_number}
 use Rattle.turn_lock.specs.declared.lock.TurnLock.{TurnLock}
 use Rattle.spin_model.specs.Spun.{state_of, volume_of}
@@ -30,12 +31,12 @@ use Rattle.manager.specs.Seen.{parts_of, all_held, seen, down_of}
 use Rattle.manager.specs.Stands.{notes_of}
 use Rattle.manager.specs.declared.station.Station.{Station}
 use Rattle.volume_images.specs.Left.{IsTold}
-use Rattle.volume_images.specs.Volumes.{shapes_of}
+use Rattle.volume_images.specs.Volumes.{shape_in, shapes_of}
 use Rattle.rack.specs.Rests.{image_here, segment_here, IsRest}
 use Rattle.rack.specs.Racks.{IsClosable, base_of_station}
 use Rattle.rack.specs.Parts.{IsTogether}
 use Rattle.rack.specs.Closing.{Closing, IsClosing, ClosesStations, RefillsAll, KeepsSpindles, GivesBack, HasFaultHere}
-use Rattle.rack.specs.Closes.{RecoversTo, IsClosedVolume, HasFaultyPart, CameBackFaulty, SaysOwnerIn, LeavesNoLog, part_named, place_in, volume_in}
+use Rattle.rack.specs.Closes.{RecoversTo, IsClosedVolume, HasFaultyPart, LiesInView, SaysOwnerIn, LeavesNoLog, part_named, place_in, volume_in}
 use Rattle.rack.specs.declared.rack.ImageRest.{ImageRest}
 use Rattle.rack.specs.declared.rack.Rack.{Rack}
 use Rattle.rack.specs.declared.rack.Rest.{Rest}
@@ -50,7 +51,7 @@ use Rattle.rack.proofs.EmptiedLeft.{no_log_left}
 pub told_map : (P Q : Told → Told → Type 0) (a b : Option Told) → IsTold P a b → ((o n : Told) → P o n → Q o n) → IsTold Q a b
 told_map P Q None b is each = is
 told_map P Q (Some o) None is each = is
-told_map P Q (Some o) (Some n) is each = λ apart. each o n (is apart)
+told_map P Q (Some o) (Some n) is each = each o n is
 
 module _ {D : Type 0} (state : D → State) (tells : Bool) (config : Config) (b : BayState) (r : Rack D) (can : IsClosable state config b r) (first second : Rest D) (is : IsRest state config r.shared [] first)
     (closed : ClosesStations tells state r.stations.items r.rest first)
@@ -145,36 +146,39 @@ module _ {D : Type 0} (state : D → State) (tells : Bool) (config : Config) (b 
         some None e = absurd (broke e)
         some (Some ws) e = ap is_some e
 
+    -- it came back with a fault
     pub faulty_part : ((told : IsTrue tells) → (d : D) → TellsContent (state d)) → ((d : D) → IsDisk (state d)) → length (shapes_of config) ≤ 64
-        → (old new : Told) → GivesBack state config second.images.items 0 old new → (name : PartName) → IsFaulty name → HasFaultyPart tells config s.id (base_of_station s).volume.began.view old new
+        → (old new : Told) → GivesBack state config second.images.items 0 old new → (name : PartName) → IsFaulty name → HasFaultyPart tells config s.id (base_of_station s).volume.began.view name old new
     faulty_part tell_all sound few old new given name part =
         let z = shape_of_image state tells config b r can first second is closed filled kept part.volume part.image part.here in
         let v = volume_at config part.volume z.0 z.1 in
         let back = given.back part.volume v.0 part.image (omega arith) v.1 part.here in
-        record { more = given.more; more_is = given.faulty; volume = part.volume; conf = v.0; conf_is = v.1; place = part.place; among = back.faulty part.place (part.among back.disks back.together); of_volume = of part.of_volume z.0 z.1 v.2 }
+        record {
+          more = given.more;
+          more_is = given.faulty;
+          conf = v.0;
+          conf_is = ap (λ (k : ℕ). slice_get config.volumes.items k) part.in_volume ∙ v.1;
+          among = subst (λ (k : ℕ). Contains given.more (v.0.name, k)) (sym part.at_place) (back.faulty part.place (part.among back.disks back.together));
+          lies = of name part.in_volume part.at_place part.of_volume z.0 z.1 v.0 v.2;
+        }
       where
         left_of : (lane : IsOfLane part.volume part.image part.place) (z : Shape) → slice_get (shapes_of config) part.volume ≡ Some z → IsTrue tells → SaysOwnerIn config s.id new part.volume z lane.index
         left_of lane z at told images left =
             let x = left_now state tells told (tell_all told) sound config few b r can first second is closed filled kept old new given images left part.volume z part.image at part.here in
             (x.0, x.1, lane.says told (segment_of z x.0 lane.index) (x.2.segments lane.index lane.part lane.part_is))
 
-        of : ((part.volume ≡ s.id) × (part.place ≡ 1)) ⊎ IsOfLane part.volume part.image part.place → (z : Shape) → slice_get (shapes_of config) part.volume ≡ Some z → {y : Shape} → y ≡ z
-            → ((part.volume ≡ s.id) × (part.place ≡ 1)) ⊎ (Contains (base_of_station s).volume.began.view part.volume × (index : ℕ) × (part.place ≡ 2 + index) × (IsTrue tells → SaysOwnerIn config s.id new part.volume y index))
-        of (inl home) z at same = inl home
-        of (inr lane) z at same = inr (lane.in_view, lane.index, lane.place_is, λ told. subst (λ (y : Shape). SaysOwnerIn config s.id new part.volume y lane.index) (sym same) (left_of lane z at told))
-
-    pub came_back : (old new : Told) → GivesBack state config second.images.items 0 old new → (name : PartName) → IsFaulty name → CameBackFaulty config (part_named s.id name) old new
-    came_back old new given name part =
-        let z = shape_of_image state tells config b r can first second is closed filled kept part.volume part.image part.here in
-        let v = volume_at config part.volume z.0 z.1 in
-        let back = given.back part.volume v.0 part.image (omega arith) v.1 part.here in (
-          given.more,
-          given.faulty,
-          (
-            v.0,
-            ap (λ (k : ℕ). slice_get config.volumes.items k) part.in_volume ∙ v.1,
-            subst (λ (k : ℕ). Contains given.more (v.0.name, k)) (sym part.at_place) (back.faulty part.place (part.among back.disks back.together)),
-          ),
+        of : (name : PartName) → volume_in (part_named s.id name) ≡ part.volume → place_in (part_named s.id name) ≡ part.place → ((part.volume ≡ s.id) × (part.place ≡ 1)) ⊎ IsOfLane part.volume part.image part.place
+            → (z : Shape) → slice_get (shapes_of config) part.volume ≡ Some z → (w : VolumeConf) → shape_in config w ≡ z → LiesInView tells config s.id (base_of_station s).volume.began.view w name new
+        of HomePart in_volume at_place lies z at w same = tt
+        of (SegmentPart logger index) in_volume at_place (inl home) z at w same = let second : 2 + index ≡ part.place = at_place in absurd (omega (arith, second, home.1))
+        of (SegmentPart logger index) in_volume at_place (inr lane) z at w same = (
+          subst (λ (k : ℕ). Contains (base_of_station s).volume.began.view k) (sym in_volume) lane.in_view,
+          λ told.
+              let second : 2 + index ≡ part.place = at_place in
+              let number : lane.index ≡ index = omega (arith, second, lane.place_is) in
+              subst (λ (k : ℕ). SaysOwnerIn config s.id new k (shape_in config w) index) (sym in_volume)
+              (subst (λ (k : ℕ). SaysOwnerIn config s.id new part.volume (shape_in config w) k) number
+              (subst (λ (y : Shape). SaysOwnerIn config s.id new part.volume y lane.index) (sym same) (left_of lane z at told))),
         )
 
     pub recovers : (told : IsTrue tells) → ((d : D) → TellsContent (state d)) → ((d : D) → IsDisk (state d)) → length (shapes_of config) ≤ 64 → (old new : Told) → GivesBack state config second.images.items 0 old new
@@ -213,12 +217,11 @@ module _ {D : Type 0} (state : D → State) (tells : Bool) (config : Config) (b 
           opening = c.2.stands.keeps.upholds.began;
           history = c.2.stands.keeps.upholds.history;
           cause = λ broke. let part = (broken has.0 s c.0 at c.1 c.2 broke).2 in cause (fault_here part.volume part.place part.image part.here part.among);
-          faulty = λ broke. told_map (GivesBack state config second.images.items 0) (HasFaultyPart tells config s.id (base_of_station s).volume.began.view) x.told y.told given (λ old new back. let b = broken has.0 s c.0 at c.1 c.2 broke in faulty_part has.0 s c.0 at c.1 c.2 tell_all sound few old new back b.0 b.2);
-          named = λ broke.
+          faulty = λ broke.
               let b = broken has.0 s c.0 at c.1 c.2 broke in (
                 b.0,
                 ap (λ (l : Look). l.down) c.2.stands.look ∙ b.1,
-                told_map (GivesBack state config second.images.items 0) (CameBackFaulty config (part_named s.id b.0)) x.told y.told given (λ old new back. came_back has.0 s c.0 at c.1 c.2 old new back b.0 b.2),
+                told_map (GivesBack state config second.images.items 0) (HasFaultyPart tells config s.id (base_of_station s).volume.began.view b.0) x.told y.told given (λ old new back. faulty_part has.0 s c.0 at c.1 c.2 tell_all sound few old new back b.0 b.2),
               );
           recovers = λ told. told_map (GivesBack state config second.images.items 0) (λ o n. RecoversTo config r.rest.images.items s c.0.entries n) x.told y.told given (λ old new back. recovers has.0 s c.0 at c.1 c.2 told (tell_all told) sound few old new back);
           emptied = λ told up none. told_map (GivesBack state config second.images.items 0) (λ o n. LeavesNoLog config r.rest.images.items s.id n) x.told y.told given

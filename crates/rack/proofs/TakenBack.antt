@@ -20,7 +20,7 @@ use Rattle.log_layout.specs.declared.segment.SegHead.{SegHead}
 use Rattle.log_layout.specs.declared.segment.SegHead.TheVariants.{Free, Owned}
 use Rattle.spin_model.specs.Spun.{state_of}
 use Rattle.spin_model.specs.declared.spun.Spun.{Spun}
-use Rattle.volume_images.specs.Left.{AreNamedApart, IsTold}
+use Rattle.volume_images.specs.Left.{IsTold}
 use Rattle.volume_images.specs.Volumes.{shape_in, shapes_of, MayLeave, AreLeft}
 use Rattle.rack.specs.Rests.{image_here, segment_here}
 use Rattle.rack.specs.Closing.{GivesBack}
@@ -47,7 +47,7 @@ use Rattle.rack.proofs.TakenOut.{idle_of_free, same_here, again}
 -- ---- Where no image may be left that might not have been before
 
 left_less : (config : Config) (old new : Told) → LeavesNoMore old new → (images : Images) → AreLeft config new images → AreLeft config old images
-left_less config old new less images left = record { count = left.count; each = λ k d lt. less.1 (slice_index_or config.volumes.items k d).name (image_of images k) (left.each k d lt) }
+left_less config old new less images left = record { count = left.count; each = λ k d lt. less (slice_index_or config.volumes.items k d).name (image_of images k) (left.each k d lt) }
 
 no_one : ℕ → Bool
 no_one k = false
@@ -78,7 +78,7 @@ module _ {D : Type 0} (tells : Bool) (state : D → State) (config : Config) (b 
       go : (o o' : Option Told) → IsTold LeavesNoMore o o' → IsTold P o o'
       go None o' l = l
       go (Some old) None l = l
-      go (Some old) (Some new) l = λ apart. each old new (l apart)
+      go (Some old) (Some new) l = each old new l
 
   pub left_back : IsTold LeavesNoMore b.told b'.told → IsTold (LeavesAll tells state config b b') b.told b'.told
   left_back = told_less all_less
@@ -89,7 +89,7 @@ module _ {D : Type 0} (tells : Bool) (state : D → State) (config : Config) (b 
 -- nothing was done
 pub nothing_done : (o : Option Told) → IsTold LeavesNoMore o o
 nothing_done None = refl
-nothing_done (Some t) = λ apart. (apart, λ name c may. may)
+nothing_done (Some t) = λ name c may. may
 
 -- ---- After want of memory for the pools
 
@@ -136,7 +136,7 @@ module _ {D : Type 0} (tells : Bool) (state : D → State) (config : Config) (va
       go : (o : Option (ImageRest D)) → image_here i.out.items k ≡ o → (f : VolumeFault) × RefusesVolume {D = D} tells state config [] b b2 k v f
       go None e = let why = asked.refused k v (slice_get_within config.volumes.items k v at) at e in (
         why.fault,
-        refuses_later tells state config [] b b1 b2 k v why.fault counts (told_each (StayedSo config i.out.items (length config.volumes.items)) (λ x y. AreNamedApart y) b.told b1.told (λ x y s. s.apart) sent.stayed)
+        refuses_later tells state config [] b b1 b2 k v why.fault counts
             (told_each (GivesBack state config out 0) HasFaulty b1.told b2.told (λ x y g. (g.more, g.faulty)) back) why.refuses,
       )
       go (Some r) e = absurd (let f = ap is_some e in cc (f, is))
@@ -150,7 +150,7 @@ module _ {D : Type 0} (tells : Bool) (state : D → State) (config : Config) (va
     pub heads : length own.heads.items ≡ (shape_in config conf).segments
     pub complete : (j : ℕ) → j < (shape_in config conf).segments → IsSome (segment_here was j)
 
-  module _ (telling : IsTrue tells) (tell_all : (d : D) → TellsContent (state d)) (sound : (d : D) → IsDisk (state d)) (t t1 t2 : Told) (is : b.told ≡ Some t) (apart : AreNamedApart t)
+  module _ (telling : IsTrue tells) (tell_all : (d : D) → TellsContent (state d)) (sound : (d : D) → IsDisk (state d)) (t t1 t2 : Told) (is : b.told ≡ Some t)
       (stayed : StayedSo config i.out.items (length config.volumes.items) t t1) (given : GivesBack state config out 0 t1 t2) where
     is_back : (k : ℕ) (conf : VolumeConf) (n : ImageRest D) → slice_get config.volumes.items k ≡ Some conf → image_here out k ≡ Some n → IsBack k conf t n
     is_back k conf n at here = go (said_at i.said.items k) (image_here i.out.items k) refl refl (subst (Restores state k config.segment_blocks (said_at i.said.items k) (image_here i.out.items k)) here (restores k))
@@ -164,7 +164,7 @@ module _ {D : Type 0} (tells : Bool) (state : D → State) (config : Config) (va
               own = own;
               was = r;
               restored = restored;
-              entry = asked.entry telling t is apart k conf own r at e f;
+              entry = asked.entry telling t is k conf own r at e f;
               heads = subst (λ (x : Said). length x.heads.items ≡ (shape_in config conf).segments) (same_Some of.said own (sym of.said_is ∙ e)) of.says.count;
               complete = λ j lt. of.all.segments j (let c = of.rest.count in omega (arith, lt, c));
             }
@@ -304,7 +304,7 @@ module _ {D : Type 0} (tells : Bool) (state : D → State) (config : Config) (va
               by conf at same false e = inr (subst (λ (z : Shape). AreTwo (KeepsFront k) (KeepsSegment k) z (image_of images k) (image_of before.0 k)) same (before.1.two k conf at e))
 
   module _ (tell_all : IsTrue tells → (d : D) → TellsContent (state d)) (sound : (d : D) → IsDisk (state d)) where
-    back_told : {P : Told → Told → Type 0} → ((t t1 t2 : Told) → b.told ≡ Some t → AreNamedApart t → StayedSo config i.out.items (length config.volumes.items) t t1 → GivesBack state config out 0 t1 t2 → P t t2) → IsTold P b.told b2.told
+    back_told : {P : Told → Told → Type 0} → ((t t1 t2 : Told) → b.told ≡ Some t → StayedSo config i.out.items (length config.volumes.items) t t1 → GivesBack state config out 0 t1 t2 → P t t2) → IsTold P b.told b2.told
     back_told {P} each = go b.told b1.told b2.told refl sent.stayed back
       where
         go : (o o1 o2 : Option Told) → b.told ≡ o → IsTold (StayedSo config i.out.items (length config.volumes.items)) o o1 → IsTold (GivesBack state config out 0) o1 o2 → IsTold P o o2
@@ -312,18 +312,18 @@ module _ {D : Type 0} (tells : Bool) (state : D → State) (config : Config) (va
         go None (Some t1) o2 is s g = absurd (cc s)
         go (Some t) None o2 is s g = absurd s
         go (Some t) (Some t1) None is s g = absurd g
-        go (Some t) (Some t1) (Some t2) is s g = λ apart. let st = s apart in each t t1 t2 is apart st (g st.apart)
+        go (Some t) (Some t1) (Some t2) is s g = each t t1 t2 is s g
 
     pub left_again : IsTrue tells → IsTold (LeavesAll tells state config b b2) b.told b2.told
-    left_again telling = back_told (λ t t1 t2 is apart stayed given. record {
+    left_again telling = back_told (λ t t1 t2 is stayed given. record {
       refused = not_taken;
       cause = cause;
-      kept = refused_kept telling (tell_all telling) sound t t1 t2 is apart stayed given;
+      kept = refused_kept telling (tell_all telling) sound t t1 t2 is stayed given;
       opened = no_one;
       are_opened = λ v is_open. none_opened v is_open;
-      left = λ images left v there. back_recovers telling (tell_all telling) sound t t1 t2 is apart stayed given images left v;
-      there = λ images left v all. back_there telling (tell_all telling) sound t t1 t2 is apart stayed given images left v all;
+      left = λ images left v there. back_recovers telling (tell_all telling) sound t t1 t2 is stayed given images left v;
+      there = λ images left v all. back_there telling (tell_all telling) sound t t1 t2 is stayed given images left v all;
     })
 
     pub sound_again : IsTrue tells → IsTold (KeepsAllSound config) b.told b2.told
-    sound_again telling = back_told (λ t t1 t2 is apart stayed given all images left. back_sound telling (tell_all telling) sound t t1 t2 is apart stayed given images left all)
+    sound_again telling = back_told (λ t t1 t2 is stayed given all images left. back_sound telling (tell_all telling) sound t t1 t2 is stayed given images left all)

@@ -23,7 +23,6 @@ use Rattle.log_segment.specs.declared.free.FreeSegment.{FreeSegment}
 use Rattle.manager.specs.declared.station.Station.{Station}
 use Rattle.spin_model.specs.declared.spun.Spun.{Spun}
 use Rattle.volume_images.specs.Accepted.{head_place}
-use Rattle.volume_images.specs.Left.{AreNamedApart}
 use Rattle.volume_images.specs.Volumes.{shape_in, shapes_of}
 use Rattle.rack.specs.Opening.{IsCutOf, SaysOf, WasAtEntry, IsTaken, HasBegun, AreRefusedBelow, said_at, fault_at}
 use Rattle.rack.specs.Opens.{IsAsRead, IsLeftHere, IsGone, RefusesVolume}
@@ -78,7 +77,7 @@ module _ {D : Type 0} (tells : Bool) (state : D → State) (config : Config) (va
   shape_of_volume : (k : ℕ) (v : VolumeConf) → slice_get config.volumes.items k ≡ Some v → slice_get (shapes_of config) k ≡ Some (shape_in config v)
   shape_of_volume k v at = slice_get-map (shape_in config) config.volumes.items k ∙ ap (option_map (shape_in config)) at
 
-  module _ (telling : IsTrue tells) (old : Told) (is : b.told ≡ Some old) (apart : AreNamedApart old) where
+  module _ (telling : IsTrue tells) (old : Told) (is : b.told ≡ Some old) where
     -- an image that is out as it was at entry
     record IsEntered (k : ℕ) (v : VolumeConf) (n : ImageRest D) : Type 0 where
       pub less : IsLess tells state config valid b b1 t taken k (shape_in config v) n
@@ -87,7 +86,7 @@ module _ {D : Type 0} (tells : Bool) (state : D → State) (config : Config) (va
     entered : (k : ℕ) (v : VolumeConf) (n : ImageRest D) → slice_get config.volumes.items k ≡ Some v → image_here t.images.out.items k ≡ Some n → IsEntered k v n
     entered k v n at here =
         let l = less tells state config valid b b1 t taken k (shape_in config v) n (shape_of_volume k v at) here in
-        record { less = l; entry = taken.asked.entry telling old is apart k v l.own l.was at (sym (same_said tells state config valid b b1 t taken k) ∙ l.own_is) l.was_is }
+        record { less = l; entry = taken.asked.entry telling old is k v l.own l.was at (sym (same_said tells state config valid b b1 t taken k) ∙ l.own_is) l.was_is }
 
     still_at : (k : ℕ) (v : VolumeConf) (n : ImageRest D) (e : IsEntered k v n) (i : ℕ) (p : Spun D) → segment_here n i ≡ Some p → segment_here e.less.was i ≡ Some p
     still_at k v n e i p there =

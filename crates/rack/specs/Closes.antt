@@ -1,5 +1,5 @@
 -- What closing a rack leaves. `state` is that of a part's disk.
-use Rattle.std.specs.Prelude.{true, false, Bool, ◌≡◌, ◌==◌, ◌≢◌, ◌<◌, ◌≤◌, ◌+◌, ◌++◌, ◌⊎◌, ℕ, List, [], ◌∷◌, length, map, Option, None, Some, not, is_some, unwrap_or, slice_get, slice_index_or, slice_range, All, Contains, IsTrue}
+use Rattle.std.specs.Prelude.{true, false, Bool, ◌≡◌, ◌==◌, ◌≢◌, ◌<◌, ◌≤◌, ◌+◌, ◌++◌, ◌⊎◌, ℕ, List, [], ◌∷◌, length, map, Option, None, Some, not, is_some, unwrap_or, slice_get, slice_index_or, slice_range, All, Contains, IsTrue, ⊤}
 use Rattle.std.specs.List.{AllByRecursion, list_any}
 use Rattle.wol_disk.specs.Disk.{Block, State, Rose, IsAmong, IsImageOf}
 use Rattle.wol_model.specs.Blocks.{Write, after}
@@ -114,17 +114,20 @@ part_named v (SegmentPart logger index) = Segment logger index
 abbrev pub SaysOwnerIn : Config → (owner : ℕ) → Told → (volume : ℕ) → Shape → (index : ℕ) → Type 0
 SaysOwnerIn config owner new volume s index = (images : Images) → AreLeft config new images → (c : List Block) × (image_of images volume ≡ Some c) × SaysOwnerOrFree owner (segment_of s c index)
 
--- Since these, the bay's list of parts that came back with a fault gained a part of volume `owner`: its home, or a segment of a logger
--- of its view of which a crash leaves only blocks that say this owner or free.
-pub record HasFaultyPart (tells : Bool) (config : Config) (owner : ℕ) (view : List ℕ) (old new : Told) : Type 0 where
+-- a segment lies on a logger of the view, and a crash leaves of it only blocks that say this owner or free; the home is the owner's
+abbrev pub LiesInView : (tells : Bool) → Config → (owner : ℕ) → (view : List ℕ) → VolumeConf → PartName → Told → Type 0
+LiesInView tells config owner view conf HomePart new = ⊤
+LiesInView tells config owner view conf (SegmentPart logger index) new = Contains view logger × (IsTrue tells → SaysOwnerIn config owner new logger (shape_in config conf) index)
+
+-- Since the first the bay's list of parts that came back with a fault gained the part of volume `owner` of this name: its home, or a
+-- segment of its log.
+pub record HasFaultyPart (tells : Bool) (config : Config) (owner : ℕ) (view : List ℕ) (name : PartName) (old new : Told) : Type 0 where
   pub more : List (Name × ℕ)
   pub more_is : new.faulty ≡ old.faulty ++ more
-  pub volume : ℕ
   pub conf : VolumeConf
-  pub conf_is : slice_get config.volumes.items volume ≡ Some conf
-  pub place : ℕ
-  pub among : Contains more (conf.name, place)
-  pub of_volume : ((volume ≡ owner) × (place ≡ 1)) ⊎ (Contains view volume × (index : ℕ) × (place ≡ 2 + index) × (IsTrue tells → SaysOwnerIn config owner new volume (shape_in config conf) index))
+  pub conf_is : slice_get config.volumes.items (volume_in (part_named owner name)) ≡ Some conf
+  pub among : Contains more (conf.name, place_in (part_named owner name))
+  pub lies : LiesInView tells config owner view conf name new
 
 -- a listed record is that of this extent: of its version, with the blocks that it covers
 pub record IsOfExtent (x : Extent) (e : Listed) : Type 0 where
@@ -184,10 +187,10 @@ pub record IsClosedVolume {D : Type 0} (tells : Bool) (config : Config) (out : L
   pub history : HasHistory (IsTrue tells) (base_of_station s).volume.began (notes_of entries)
   -- a failed call has its cause
   pub cause : (flight_of (entries_of (notes_of entries)) ≡ None → ⊥) → Rose old.faults new.faults
-  pub faulty : (flight_of (entries_of (notes_of entries)) ≡ None → ⊥) → IsTold (HasFaultyPart tells config s.id (base_of_station s).volume.began.view) old.told new.told
   -- the part that is down at the end came back with a fault
-  pub named : (flight_of (entries_of (notes_of entries)) ≡ None → ⊥)
-      → (name : PartName) × ((last_look (base_of_station s).volume.began.look (notes_of entries)).down ≡ Some name) × IsTold (CameBackFaulty config (part_named s.id name)) old.told new.told
+  pub faulty : (flight_of (entries_of (notes_of entries)) ≡ None → ⊥)
+      → (name : PartName) × ((last_look (base_of_station s).volume.began.look (notes_of entries)).down ≡ Some name)
+      × IsTold (HasFaultyPart tells config s.id (base_of_station s).volume.began.view name) old.told new.told
   pub recovers : IsTrue tells → IsTold (λ o n. RecoversTo config out s entries n) old.told new.told
   -- where no call failed and the last look lists no record, no log of the volume is left
   pub emptied : IsTrue tells → flight_of (entries_of (notes_of entries)) ≡ None → (last_look (base_of_station s).volume.began.look (notes_of entries)).listed ≡ []

@@ -29,7 +29,6 @@ use Rattle.logger.specs.declared.shared.Shared.{Shared}
 use Rattle.manager.specs.Stands.{StandsCoded}
 use Rattle.manager.specs.declared.manager.Manager.{Manager}
 use Rattle.manager.specs.declared.station.Station.{Station}
-use Rattle.volume_images.specs.Left.{AreNamedApart}
 use Rattle.volume_images.specs.Volumes.{shapes_of}
 use Rattle.rack.specs.Rests.{image_here, segment_here, pool_pass, spindle_pass, held_here, indexes_here, away_with, IsImageOut, IsPassAt, IsPoolLock, IsRow, IsImageRest, IsPart, IsHeldHere, IsHolding, AreLocks, OnlyAccess, IsRest}
 use Rattle.rack.specs.Racks.{base_of_station, IsOpenBase, IsStation, AreRising}
@@ -292,7 +291,6 @@ pub record GivesBack {D : Type 0} (state : D → State) (config : Config) (image
   pub back : (k : ℕ) (v : VolumeConf) (r : ImageRest D) → from ≤ k → slice_get config.volumes.items k ≡ Some v → image_here images k ≡ Some r → IsStoredAs state v.name r more new
   pub others : (name : Name) → ((k : ℕ) (v : VolumeConf) → from ≤ k → slice_get config.volumes.items k ≡ Some v → IsImageOut images k → name ≢ v.name)
       → at_name name new.images ≡ at_name name old.images
-  pub apart : AreNamedApart new
 
 -- a part of one of these had a fault
 pub record HasFaultHere {D : Type 0} (state : D → State) (images : List (Option (ImageRest D))) (from : ℕ) : Type 0 where

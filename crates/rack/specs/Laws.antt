@@ -14,7 +14,6 @@ use Rattle.manager.specs.Stands.{notes_of}
 use Rattle.manager.specs.declared.part.Part.{Part}
 use Rattle.manager.specs.declared.station.Station.{Station}
 use Rattle.manager_recovery.specs.declared.refusal.OpenRefusal.TheVariants.{LabelDiffers, LoggerMissing, OutsideView, Damaged, Twins, DiskFault, NoMemory}
-use Rattle.volume_images.specs.Left.{AreNamedApart}
 use Rattle.volume_images.specs.Volumes.{shapes_of, images_read, AreLeft}
 use Rattle.rack.specs.Closes.{IsClosedVolume, AreLeftOfParts, HasFaultIn}
 use Rattle.rack.specs.Opens.{BeganWith, RefusesVolume, AreRefused, KeepsAllSound}
@@ -33,7 +32,6 @@ ReadsAreLeft = (config : Config) (t : Told) → AreLeft config t (images_read co
 pub record FollowsOn {D : Type 0} (state : D → State) (config : Config) (opened closed after : BayState) (t : Told) (r q : Rack D) : Type 0 where
   pub entry : Told
   pub entry_is : opened.told ≡ Some entry
-  pub apart : AreNamedApart entry
   pub left_is : closed.told ≡ Some t
   pub rack : IsRack state config opened r
   pub next : IsRack state config after q
@@ -73,14 +71,13 @@ IsOfFailedCall out old new (Refused NoMemory) = ⊥
 
 -- Of images that are sound as they read, a volume is refused only for a failed call.
 abbrev pub RefusesSound : {D : Type 0} → (tells : Bool) → (D → State) → Type 0
-RefusesSound {D} tells state = IsTrue tells → (config : Config) → IsValid config → (out : List (Option (ImageRest D))) (old new : BayState) (t : Told) → old.told ≡ Some t → AreNamedApart t
+RefusesSound {D} tells state = IsTrue tells → (config : Config) → IsValid config → (out : List (Option (ImageRest D))) (old new : BayState) (t : Told) → old.told ≡ Some t
     → AreSound (shapes_of config) (images_read config t) → (k : ℕ) (v : VolumeConf) (f : VolumeFault) → slice_get config.volumes.items k ≡ Some v → NamesVolumes (length (shapes_of config)) f
     → RefusesVolume tells state config out old new k v f → IsOfFailedCall out old new f
 
 -- the images that closing a rack left are opened again, and no call fails
 pub record OpensCalm {D : Type 0} (tells : Bool) (state : D → State) (config : Config) (closed after : BayState) (t : Told) (q : Rack D) : Type 0 where
   pub left_is : closed.told ≡ Some t
-  pub apart : AreNamedApart t
   pub rack : IsRack state config after q
   pub refused : AreRefused tells state config closed after q
   pub failed : (k : ℕ) (p : Part) → slice_get q.faults.items k ≡ Some (Some (Refused (DiskFault p))) → HasFaultIn state q.rest ⊎ Rose closed.faults after.faults

@@ -24,7 +24,7 @@ use Rattle.manager.specs.declared.station.Station.{Station}
 use Rattle.manager_recovery.specs.Owned.{read_of}
 use Rattle.volume_images.specs.Accepted.{HasHead, IsConfigured, IsAccepted, head_place}
 use Rattle.volume_images.specs.Formatted.{part_sizes}
-use Rattle.volume_images.specs.Left.{IsTold, AreNamedApart}
+use Rattle.volume_images.specs.Left.{IsTold}
 use Rattle.volume_images.specs.Volumes.{shape_in, shapes_of, MayLeave}
 use Rattle.rack.specs.Rests.{image_here, segment_here, pool_pass, held_here, IsImageOut, IsImageRest}
 use Rattle.rack.specs.Making.{AreSpindlesOf}
@@ -118,14 +118,13 @@ pub record AreAsked {D : Type 0} (tells : Bool) (state : D → State) (config : 
   pub fault_count : length i.faults.items ≡ n
   pub refused : (k : ℕ) (v : VolumeConf) → k < n → slice_get config.volumes.items k ≡ Some v → image_here i.out.items k ≡ None → IsRefused tells state config b b' k v i
   pub out : (k : ℕ) (s : Shape) (r : ImageRest D) → slice_get (shapes_of config) k ≡ Some s → image_here i.out.items k ≡ Some r → IsOut state (length (shapes_of config)) k s i r
-  pub entry : IsTrue tells → (t : Told) → b.told ≡ Some t → AreNamedApart t → (k : ℕ) (v : VolumeConf) (said : Said) (r : ImageRest D) → slice_get config.volumes.items k ≡ Some v
+  pub entry : IsTrue tells → (t : Told) → b.told ≡ Some t → (k : ℕ) (v : VolumeConf) (said : Said) (r : ImageRest D) → slice_get config.volumes.items k ≡ Some v
       → said_at i.said.items k ≡ Some said → image_here i.out.items k ≡ Some r → WasAtEntry state config t k v said r
 
 -- ---- The bay meanwhile
 
 -- the image of this name may be left only as before, and those of others are as they were
 pub record StayedAs (name : Name) (old new : Told) : Type 0 where
-  pub apart : AreNamedApart new
   pub here : (c : Option (List Block)) → MayLeave (at_name name new.images) c → MayLeave (at_name name old.images) c
   pub others : (other : Name) → other ≢ name → at_name other new.images ≡ at_name other old.images
   pub faulty : HasFaulty old new
@@ -138,7 +137,7 @@ pub record IsNextOpened {D : Type 0} (tells : Bool) (state : D → State) (confi
   pub heads : HaveHeads state (length (shapes_of config)) said r
   pub sent : b'.told ≡ option_map (sent_out v.name (part_sizes (shape_in config v))) b.told
   pub counts : b.faults ≤ b'.faults
-  pub entry : IsTrue tells → (t : Told) → b.told ≡ Some t → AreNamedApart t → WasAtEntry state config t k v said r
+  pub entry : IsTrue tells → (t : Told) → b.told ≡ Some t → WasAtEntry state config t k v said r
 
 -- the next image was refused for this, and is in the bay
 pub record IsNextRefused {D : Type 0} (tells : Bool) (state : D → State) (config : Config) (k : ℕ) (v : VolumeConf) (b b' : BayState) (fault : VolumeFault) : Type 0 where
@@ -155,11 +154,10 @@ pub record IsBackAtOnce (b b' : BayState) : Type 0 where
 
 -- of no image may a crash leave more than before
 abbrev pub LeavesNoMore : (old new : Told) → Type 0
-LeavesNoMore old new = AreNamedApart new × ((name : Name) (c : Option (List Block)) → MayLeave (at_name name new.images) c → MayLeave (at_name name old.images) c)
+LeavesNoMore old new = (name : Name) (c : Option (List Block)) → MayLeave (at_name name new.images) c → MayLeave (at_name name old.images) c
 
 -- the first n images of the configuration were asked for: those that aren't out may be left only as before, and the further ones are as they were
 pub record StayedSo {D : Type 0} (config : Config) (out : List (Option (ImageRest D))) (n : ℕ) (old new : Told) : Type 0 where
-  pub apart : AreNamedApart new
   pub stayed : (name : Name) → ((k : ℕ) (v : VolumeConf) → IsImageOut out k → slice_get config.volumes.items k ≡ Some v → v.name ≡ name → ⊥)
       → (c : Option (List Block)) → MayLeave (at_name name new.images) c → MayLeave (at_name name old.images) c
   pub further : (k : ℕ) (v : VolumeConf) → n ≤ k → slice_get config.volumes.items k ≡ Some v → at_name v.name new.images ≡ at_name v.name old.images

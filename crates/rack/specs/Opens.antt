@@ -27,7 +27,7 @@ use Rattle.volume_images.specs.Formatted.{part_sizes}
 use Rattle.volume_images.specs.Refusals.{IsCallFault}
 use Rattle.wol_model.specs.Images.{Images, image_size}
 use Rattle.wol_promise.specs.Run.{IsThere, KeepsSound}
-use Rattle.volume_images.specs.Left.{AreNamedApart, IsTold}
+use Rattle.volume_images.specs.Left.{IsTold}
 use Rattle.volume_images.specs.Volumes.{shape_in, shapes_of, MayLeave, AreLeft}
 use Rattle.rack.specs.Rests.{image_here, segment_here, held_here, IsImageOut, IsSegmentHere}
 use Rattle.rack.specs.Racks.{base_of_station}
@@ -89,7 +89,7 @@ pub record RefusesImage {D : Type 0} (config : Config) (out : List (Option (Imag
   pub not_out : image_here out k ≡ None
   pub image_fault : ImageFault
   pub is_fault : f ≡ fault_in_image k image_fault
-  pub said : (t : Told) → old.told ≡ Some t → AreNamedApart t
+  pub said : (t : Told) → old.told ≡ Some t
       → (i : Image) × (at_name v.name t.images ≡ Some i) × IsImageFault (length (shapes_of config)) k (shape_in config v) (reads i.blocks) image_fault
   pub cause : IsCallFault image_fault → Rose old.faults new.faults
   pub faulty : IsCallFault image_fault → IsTold (HasNewFault v.name image_fault) old.told new.told
@@ -99,12 +99,12 @@ pub record RefusesOpening {D : Type 0} (tells : Bool) (state : D → State) (con
   pub is_out : IsImageOut out k
   pub before : Opening D
   pub after : Opening D
-  pub of : (t : Told) → IsTrue tells → old.told ≡ Some t → AreNamedApart t → IsOpeningOf state config out (images_taken config out t) k before
+  pub of : (t : Told) → IsTrue tells → old.told ≡ Some t → IsOpeningOf state config out (images_taken config out t) k before
   pub refuses : Refuses tells state before after r
 
 -- the bay didn't hand the image out
 abbrev pub RefusesBay : {D : Type 0} → Config → List (Option (ImageRest D)) → BayState → (k : ℕ) → VolumeConf → Option Rattle.wol_bay.specs.declared.fault.BayFault.BayFault → Type 0
-RefusesBay config out old k v answer = (image_here out k ≡ None) × IfSome old.told (λ t. AreNamedApart t → refusal v.name (part_sizes (shape_in config v)) t ≡ answer)
+RefusesBay config out old k v answer = (image_here out k ≡ None) × IfSome old.told (λ t. refusal v.name (part_sizes (shape_in config v)) t ≡ answer)
 
 -- why volume k has no station: the first cause
 abbrev pub RefusesVolume : {D : Type 0} → (tells : Bool) → (D → State) → Config → List (Option (ImageRest D)) → (old new : BayState) → (k : ℕ) → VolumeConf → VolumeFault → Type 0

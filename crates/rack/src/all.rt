@@ -2,7 +2,7 @@
 ghost use Rattle.std.specs.Prelude.{ℕ, ◌≡◌, ◌<◌, ◌≤◌, List, length, All, ◌++◌, None, Some, slice_get, option_map, IfOk, OnErr, IfSome, IsTrue};
 ghost use Rattle.wol_bay.specs.Bay.{Name, outs};
 ghost use Rattle.wol_config.specs.Configs.{IsValid};
-ghost use Rattle.volume_images.specs.Left.{IsTold, AreNamedApart};
+ghost use Rattle.volume_images.specs.Left.{IsTold};
 ghost use Rattle.volume_images.specs.Volumes.{NoneOut, images_read, shapes_of};
 ghost use Rattle.rack.specs.Racks.{IsRack, IsUnused, AreUnused};
 ghost use Rattle.rack.specs.Rests.{IsImageOut};
@@ -94,13 +94,12 @@ pub fn open_all<R: Wait, B: Bay>(
     requires home { NoneOut config.now (B.state bay.old) }
     ensures rack { IfOk result (IsRack B.Part.state config.now (B.state bay.new)) }
     ensures out { IfOk result (λ r. outs (B.state bay.new) ≡ option_map (λ os. os ++ out_names config.now config.now.volumes.items r.rest.images.items) (outs (B.state bay.old))) }
-    ensures began { IfOk result (λ r. IsTrue B.Part.tells → IfSome (B.state bay.old).told (λ t. AreNamedApart t → BeganWith B.Part.state config.now t r)) }
-    ensures there { IfOk result (λ r. IsTrue B.Part.tells → IfSome (B.state bay.old).told (λ t. AreNamedApart t → WereThere config.now r.rest.images.items t)) }
+    ensures began { IfOk result (λ r. IsTrue B.Part.tells → IfSome (B.state bay.old).told (λ t. BeganWith B.Part.state config.now t r)) }
+    ensures there { IfOk result (λ r. IsTrue B.Part.tells → IfSome (B.state bay.old).told (λ t. WereThere config.now r.rest.images.items t)) }
     ensures refused { IfOk result (AreRefused B.Part.tells B.Part.state config.now (B.state bay.old) (B.state bay.new)) }
     // no pass of a station was used
     ensures fresh { IfOk result (λ r. AreUnused r.stations.items) }
     ensures fresh_keepers { IfOk result (λ r. All (λ p. IsUnused p) r.keepers.items) }
-    ensures apart { IfOk result (λ r. IsTold (λ old new. AreNamedApart new) (B.state bay.old).told (B.state bay.new).told) }
     // the list of parts that came back with a fault only grows; it is the same where all images are out
     ensures faulty { IfOk result (λ r. IsTold HasFaulty (B.state bay.old).told (B.state bay.new).told) }
     ensures unfaulty { IfOk result (λ r. ((k : ℕ) → k < length (shapes_of config.now) → IsImageOut r.rest.images.items k)
@@ -110,7 +109,7 @@ pub fn open_all<R: Wait, B: Bay>(
     ensures failed { IfOk result (λ r. (k : ℕ) (p : Part) → slice_get r.faults.items k ≡ Some (Some (Refused (DiskFault p)))
         → IsImageOut r.rest.images.items k → HasFaultAt B.Part.state r.rest p) }
     // where the images at entry are sound as they read, and no call failed, each volume is open
-    ensures complete { IfOk result (λ r. IsTrue B.Part.tells → IfSome (B.state bay.old).told (λ t. AreNamedApart t → AreSound (shapes_of config.now) (images_read config.now t)
+    ensures complete { IfOk result (λ r. IsTrue B.Part.tells → IfSome (B.state bay.old).told (λ t. AreSound (shapes_of config.now) (images_read config.now t)
         → (HasFaultIn B.Part.state r.rest → ⊥) → (Rose (B.state bay.old).faults (B.state bay.new).faults → ⊥)
         → (k : ℕ) → k < length (shapes_of config.now) → slice_get r.faults.items k ≡ Some None)) }
     ensures home { OnErr result (outs (B.state bay.new) ≡ outs (B.state bay.old)) }

@@ -4,7 +4,7 @@ ghost use Rattle.wol_disk.specs.Disk.{Rose};
 ghost use Rattle.wol_bay.specs.Bay.{Name, Told, outs, at_name, IsHome};
 ghost use Rattle.wol_config.specs.Configs.{IsValid};
 ghost use Rattle.spin_model.specs.Spindles.{SpindleView};
-ghost use Rattle.volume_images.specs.Left.{AreNamedApart, IsTold};
+ghost use Rattle.volume_images.specs.Left.{IsTold};
 ghost use Rattle.volume_images.specs.Volumes.{shapes_of};
 ghost use Rattle.rack.specs.Foreign.{AreForeign};
 ghost use Rattle.rack.specs.Racks.{IsClosable};
@@ -266,7 +266,6 @@ pub fn close_all<B: Bay>(rack: Rack<B::Part>, bay: &mut B, config: &Config) -> V
         → IsTold (λ old new. HadRefused config.now rack.rest.images.items entry old → KeepsAllSound config.now entry new) (B.state bay.old).told (B.state bay.new).told }
     // images that aren't out stay as they were
     ensures kept { IsTrue B.Part.tells → IsTold (HadRefused config.now rack.rest.images.items) (B.state bay.old).told (B.state bay.new).told }
-    ensures apart { IsTold (λ old new. AreNamedApart new) (B.state bay.old).told (B.state bay.new).told }
     ensures others { IsTold (KeepsOthers config.now) (B.state bay.old).told (B.state bay.new).told }
     // the parts that came back with a fault are listed
     ensures faulty { IsTold (ListsFaulty B.Part.state config.now rack.rest) (B.state bay.old).told (B.state bay.new).told }

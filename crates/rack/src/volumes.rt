@@ -374,7 +374,6 @@ impl<D: Disk> Rack<D> {
     ghost use Rattle.std.specs.Prelude.{◌≡◌, ◌<◌, ◌+◌, ℕ, Some, length, slice_get, OnOk, OnErr, IsTrue};
     ghost use Rattle.wol_bay.specs.Bay.{BayState, Told};
     ghost use Rattle.wol_config.specs.Configs.{IsValid};
-    ghost use Rattle.volume_images.specs.Left.{AreNamedApart};
     ghost use Rattle.rack.specs.Racks.{IsRack, AreUnused};
     ghost use Rattle.rack.specs.Opens.{BeganWith, AreRefused};
     ghost use Rattle.rack.specs.Opening.{IsOpeningRack, HasBegun, AreRefusedBelow, HaveFaults, AreSameOut, IsStopped};
@@ -399,7 +398,7 @@ impl<D: Disk> Rack<D> {
         ensures same_out { AreSameOut self.old self.new }
         ensures begun { IsTrue D.tells → (t : Told) → HasBegun D.state config.now t said.now id self.old
             → OnOk result (HasBegun D.state config.now t said.now (id + 1) self.new) }
-        ensures refused { (b b' : BayState) → (IsTrue D.tells → (t : Told) → b.told ≡ Some t → AreNamedApart t → HasBegun D.state config.now t said.now id self.old)
+        ensures refused { (b b' : BayState) → (IsTrue D.tells → (t : Told) → b.told ≡ Some t → HasBegun D.state config.now t said.now id self.old)
             → AreRefusedBelow D.tells D.state config.now b b' id self.old
             → OnOk result (AreRefusedBelow D.tells D.state config.now b b' (id + 1) self.new) }
         ensures failed { HaveFaults D.state said.now id self.old → OnOk result (HaveFaults D.state said.now (id + 1) self.new) }
@@ -452,7 +451,7 @@ impl<D: Disk> Rack<D> {
         ensures keepers { self.new.keepers ≡ self.old.keepers }
         ensures fresh { AreUnused self.new.stations.items }
         ensures same_out { AreSameOut self.old self.new }
-        ensures refused { (b b' : BayState) → (IsTrue D.tells → (t : Told) → b.told ≡ Some t → AreNamedApart t → HasBegun D.state config.now t said.now 0 self.old)
+        ensures refused { (b b' : BayState) → (IsTrue D.tells → (t : Told) → b.told ≡ Some t → HasBegun D.state config.now t said.now 0 self.old)
             → AreRefusedBelow D.tells D.state config.now b b' 0 self.old → OnOk result (AreRefused D.tells D.state config.now b b' self.new) }
         ensures began { IsTrue D.tells → (t : Told) → HasBegun D.state config.now t said.now 0 self.old → BeganWith D.state config.now t self.new }
         ensures failed { OnOk result (HaveFaults D.state said.now (length said.now) self.new) }

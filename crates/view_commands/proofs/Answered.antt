@@ -11,10 +11,10 @@ use Rattle.wol_model.specs.Images.{segment_of}
 use Rattle.wol_model.specs.Log.{IsLog}
 use Rattle.report.specs.declared.fault.Fault.{Fault}
 use Rattle.spin_model.specs.Spindles.{SpindleView}
-use Rattle.volume_images.specs.Left.{AreNamedApart, IsTold}
+use Rattle.volume_images.specs.Left.{IsTold}
 use Rattle.volume_images.specs.Volumes.{shapes_of}
 use Rattle.rack.specs.Closes.{LeavesNoLog}
-use Rattle.rack.specs.Opens.{KeepsAllSound, KeepsOthers, LeavesAll}
+use Rattle.rack.specs.Opens.{HasFaulty, KeepsAllSound, KeepsOthers, LeavesAll}
 use Rattle.rack.specs.declared.rack.Rack.{Rack}
 use Rattle.open_rack.specs.Sessions.{OpensAndCloses}
 use Rattle.inspection.specs.Racks.{IsSameRack}
@@ -70,10 +70,6 @@ module _ (config : Config) (valid : IsValid config) (volume : ℕ) (within : vol
 
   module _ (is : answer ≡ Ok tt) (new : BayState) (result : Result (List ℕ) Stop)
       (changes : (w : VolumeConf) → slice_get config.volumes.items volume ≡ Some w → ChangesInBay tells config volume w asked mid new result) where
-    -- no two images have one name when all are closed
-    apart : IsTrue tells → IsTold (λ x y. AreNamedApart y) old.told mid.told
-    apart telling = told_since AreNamedApart old.told session.bay.told mid.told (session.opened.apart telling) session.closed.apart
-
     is_done : IsDone
     is_done = go answer is session.done
       where
@@ -88,22 +84,22 @@ module _ (config : Config) (valid : IsValid config) (volume : ℕ) (within : vol
     later = let first = session.sooner in let second = session.later in omega (arith, first, second)
 
     pub done_content : ((r : ViewRefusal) → result ≡ Err (stop.Refused r) → IsOfWords r → ⊥) → ChangesVolume tells state config volume asked old new result
-    done_content known = changed_open config valid volume v conf asked fits tells state did old mid spindles session is_done.all_open is_done.same new result apart (changes v conf) later known
+    done_content known = changed_open config valid volume v conf asked fits tells state did old mid spindles session is_done.all_open is_done.same new result (changes v conf) later known
 
     pub done_left : IsTrue tells → IsTold (LeavesAll tells state config old new) old.told new.told
     done_left telling =
         told_by (λ x y. KeepsArrays config x y × LeavesThere config y) (LeavesAll tells state config old new) (λ entry left is. leaves_all tells state config old new entry left is.0 is.1) old.told new.told
-        (both_through config valid volume v conf asked fits tells state did old mid spindles session is_done.all_open is_done.same new result apart (changes v conf) later telling)
+        (both_through config valid volume v conf asked fits tells state did old mid spindles session is_done.all_open is_done.same new result (changes v conf) later telling)
 
     pub done_others : IsTold (KeepsOthers config) old.told mid.told → IsTrue tells → IsTold (KeepsOthers config) old.told new.told
     done_others others telling =
-        told_then (KeepsOthers config) (ChangesImage v.name volume asked result) (KeepsOthers config) (λ x y z named one two name differs. two.others name (differs volume v conf) ∙ one name differs) old.told mid.told new.told others (apart telling)
+        told_then (KeepsOthers config) (ChangesImage v.name volume asked result) (KeepsOthers config) (λ x y z one two name differs. two.others name (differs volume v conf) ∙ one name differs) old.told mid.told new.told others
         ((changes v conf).left telling)
 
     -- behind a drain no log of the volume is left
     no_log : (counts : ℕ × ℕ) → IsDrained tells state session.before session.after volume (Ok counts) → IsTrue tells → IsTold (λ x y. HasNoLog config volume y) old.told mid.told
     no_log counts drained telling =
-        told_since (HasNoLog config volume) old.told session.bay.told mid.told (session.opened.apart telling)
+        told_since HasFaulty (HasNoLog config volume) old.told session.bay.told mid.told session.opened.faulty
         (told_by (λ x y. LeavesNoLog config session.after.rest.images.items drained.station.id y) (λ x y. HasNoLog config volume y)
         (λ x y none images is_left k i s c rs at here lt lies.
         none images is_left k i s c rs at (outs_after tells state config did old mid spindles session is_done.all_open is_done.same k (slice_get_within (shapes_of config) k s at)) here lt
@@ -120,11 +116,11 @@ module _ (config : Config) (valid : IsValid config) (volume : ℕ) (within : vol
           where
             by : (c : Change) → asked ≡ c → TellsChange tells state c volume session.before session.after a → IsTrue tells → IsTold (KeepsAllSound config) old.told new.told
             by (Add logger) is_add told =
-                sound_through config valid volume v conf asked fits tells state did old mid spindles session is_done.all_open is_done.same new result apart (changes v conf) later (subst IsAddition (sym is_add) tt) sound
+                sound_through config valid volume v conf asked fits tells state did old mid spindles session is_done.all_open is_done.same new result (changes v conf) later (subst IsAddition (sym is_add) tt) sound
             by (Remove logger) is_gone (drains.done counts drained told) =
-                sound_gone_through config valid volume v conf asked fits tells state did old mid spindles session is_done.all_open is_done.same new result apart (changes v conf) later (no_log counts drained) sound
+                sound_gone_through config valid volume v conf asked fits tells state did old mid spindles session is_done.all_open is_done.same new result (changes v conf) later (no_log counts drained) sound
             by (Remove logger) is_gone (drains.refused fault drained told) = absurd (cc (sym told ∙ said))
             by (Remove logger) is_gone (drains.no_memory unchanged told) = absurd (cc (sym told ∙ said))
 
     pub done_complete : (result ≡ Err stop.Sink → ⊥) → mid.faults ≤ new.faults → MayComplete tells config old new 0 0 → Completes result
-    done_complete no_sink behind m = changed_completes config valid volume v conf asked fits tells state did old mid spindles session is_done.all_open is_done.same new result apart (changes v conf) later no_sink behind m
+    done_complete no_sink behind m = changed_completes config valid volume v conf asked fits tells state did old mid spindles session is_done.all_open is_done.same new result (changes v conf) later no_sink behind m

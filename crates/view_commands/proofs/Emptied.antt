@@ -1,13 +1,12 @@
 -- A volume that was drained has an entry of that alone; it lists no record behind it, or the part that it names came back with a fault.
 use Rattle.std.proofs.Common.{◌≡◌, ◌++◌, ℕ, Bool, List, [], ◌∷◌, None, Some, Result, Ok, refl, sym, ap, ◌∙◌, subst, append_assoc}
-use Rattle.std.specs.Prelude.{IsTrue}
 use Rattle.std.proofs.lemmas.Option.{same_Some}
 use Rattle.wol_disk.specs.Disk.{State}
 use Rattle.wol_bay.specs.Bay.{BayState}
 use Rattle.wol_config.specs.declared.config.Config.{Config}
 use Rattle.turn_lock.specs.Histories.{Entry, own}
 use Rattle.turn_lock.specs.Passes.{pass_mine, pass_seen}
-use Rattle.wol_model.specs.History.{helper, keeper, worker, flight_of}
+use Rattle.wol_model.specs.History.{helper, keeper, flight_of}
 use Rattle.wol_promise.specs.Policy.{Look, PartName}
 use Rattle.wol_promise.specs.Ruled.{Noted, entries_of, last_look}
 use Rattle.manager.specs.Seen.{name_of}
@@ -18,10 +17,10 @@ use Rattle.manager.specs.declared.station.Station.{Station}
 use Rattle.request_turns.specs.Turns.{WasDown, coded, notes_seen}
 use Rattle.request_turns.proofs.Gaining.{down_breaks}
 use Rattle.request_turns.proofs.Noting.{notes_at}
-use Rattle.rack.specs.Closes.{CameBackFaulty, IsClosedVolume, part_named}
+use Rattle.rack.specs.Closes.{HasFaultyPart, IsClosedVolume, part_named}
 use Rattle.rack.specs.Racks.{IsStation, IsUnused, base_of_station}
 use Rattle.rack.specs.declared.rack.Rack.{Rack}
-use Rattle.rack.proofs.FailedParts.{came_back_since}
+use Rattle.rack.proofs.FailedParts.{faulty_since}
 use Rattle.open_rack.specs.Sessions.{OpensAndCloses}
 use Rattle.spin_model.specs.Spindles.{SpindleView}
 use Rattle.troubles.specs.Troubles.{trouble_of_part}
@@ -77,15 +76,17 @@ module _ {D : Type 0} (tells : Bool) (state : D → State) (config : Config) (di
   notes_are : notes_of ends.entries ≡ d.note ∷ []
   notes_are = ap notes_of only ∙ one_note
 
-  -- so the part that was down is the one that came back with a fault
-  pub came : (p : Part) → WasDown p (notes_seen drained.pass) → (q : Part) × (trouble_of_part p ≡ trouble_of_part q) × (IsTrue tells → IsTold (CameBackFaulty config q) old.told new.told)
+  -- so the part that was down is the one of the volume that came back with a fault
+  pub came : (p : Part) → WasDown p (notes_seen drained.pass)
+      → (name : PartName) × (trouble_of_part p ≡ trouble_of_part (part_named volume name)) × IsTold (HasFaultyPart tells config volume (base_of_station s).volume.began.view name) old.told new.told
   came p was =
       let down : d.note.look.down ≡ Some (name_of p) = one_down p d.note (subst (WasDown p) (ap notes_of seen_is ∙ one_note) was) in
-      let (name, last, told) = ends.named (broken_still (pass_seen drained.pass) ends.entries ends.worker_part.seen (down_breaks p (notes_seen drained.pass) was)) in
+      let (name, last, told) = ends.faulty (broken_still (pass_seen drained.pass) ends.entries ends.worker_part.seen (down_breaks p (notes_seen drained.pass) was)) in
       let same : name ≡ name_of p = same_Some name (name_of p) (sym last ∙ ap (λ (ns : List Noted). (last_look (base_of_station s).volume.began.look ns).down) notes_are ∙ down) in (
-        part_named s.id name,
-        named_alike s.id p ∙ ap (λ (n : PartName). trouble_of_part (part_named s.id n)) (sym same),
-        λ telling. came_back_since config (part_named s.id name) old.told session.bay.told new.told (session.opened.apart telling) session.opened.faulty told,
+        name,
+        named_alike volume p ∙ ap (λ (n : PartName). trouble_of_part (part_named volume n)) (sym same),
+        subst (λ (v : ℕ). IsTold (HasFaultyPart tells config v (base_of_station s).volume.began.view name) old.told new.told) drained.is_station.id
+            (faulty_since tells config s.id (base_of_station s).volume.began.view name old.told session.bay.told new.told session.opened.faulty told),
       )
 
 module _ {D : Type 0} (tells : Bool) (state : D → State) (config : Config) (did : Rack D → Rack D → Type 0) (old new : BayState) (spindles : List SpindleView) (session : OpensAndCloses tells state config did old new spindles)

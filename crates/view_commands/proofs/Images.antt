@@ -5,7 +5,7 @@ use Rattle.std.proofs.lemmas.Bool.Decides.{nat_tests}
 use Rattle.std.proofs.lemmas.List.{length-map, take-map}
 use Rattle.wol_disk.specs.Disk.{Block, State, TellsContent, Values, IsDisk, IsImage, IsImageOf, Rose, only, put, reads, settled}
 use Rattle.wol_disk.proofs.Images.{image_reads, settled_image}
-use Rattle.wol_bay.specs.Bay.{BayState, Image, Name, Told, at_name, bytes_of, came_back, sent_out}
+use Rattle.wol_bay.specs.Bay.{AreNamedApart, BayState, Image, Name, Told, at_name, bytes_of, came_back, sent_out}
 use Rattle.wol_bay.specs.Parts.{AreCut, blocks_of, faulty_places, joined}
 use Rattle.wol_bay.specs.Refusals.{IsAnswered, blocks_at, refusal, refusal_of}
 use Rattle.wol_bay.specs.declared.fault.BayFault.{BayFault}
@@ -17,7 +17,7 @@ use Rattle.wol_model.specs.Heads.{view_block}
 use Rattle.wol_model.specs.Images.{image_size}
 use Rattle.logger_view.specs.Stored.{IsFirstFault, with_view}
 use Rattle.logger_view.proofs.Callers.{label_in_front, view_in_front}
-use Rattle.volume_images.specs.Left.{AreNamedApart, IsTold}
+use Rattle.volume_images.specs.Left.{IsTold}
 use Rattle.volume_images.specs.Volumes.{MayLeave, shape_in}
 use Rattle.volume_images.proofs.Bays.{came}
 use Rattle.volume_images.proofs.SentOut.{IsCutWhole, answered_ok, cut_whole}
@@ -99,20 +99,20 @@ answers_front own volumes asked fits bs (Err change.Failed) is = tt
 -- ---- The bay
 
 -- what holds of the image that came back holds of the bay
-brought_back : (holds : Told → Told → Type 0) (name : Name) (sizes places : List ℕ) (blocks : Option (List (Values Block))) (told mid new : Option Told)
+brought_back : (holds : Told → Told → Type 0) (name : Name) (sizes places : List ℕ) (blocks : Option (List (Values Block))) (told mid new : Option Told) → IfSome told (λ t. AreNamedApart t)
     → IsSome blocks → ((t : Told) (vs : List (Values Block)) → told ≡ Some t → blocks ≡ Some vs → AreNamedApart t → holds t (came_back name (Some vs) places (sent_out name sizes t)))
     → mid ≡ option_map (sent_out name sizes) told → new ≡ option_map (came_back name blocks places) mid → IsTold holds told new
-brought_back holds name sizes places blocks None mid new tells back sent came_is = came_is ∙ ap (option_map (came_back name blocks places)) sent
-brought_back holds name sizes places blocks (Some t) mid new tells back sent came_is =
+brought_back holds name sizes places blocks None mid new apart tells back sent came_is = came_is ∙ ap (option_map (came_back name blocks places)) sent
+brought_back holds name sizes places blocks (Some t) mid new apart tells back sent came_is =
     let P : Option Told → Type 0 = λ o. IsTold holds (Some t) o in
     subst P (sym (came_is ∙ ap (option_map (came_back name blocks places)) sent)) (go blocks refl tells)
   where
-    go : (o : Option (List (Values Block))) → blocks ≡ o → IsSome o → AreNamedApart t → holds t (came_back name o places (sent_out name sizes t))
+    go : (o : Option (List (Values Block))) → blocks ≡ o → IsSome o → holds t (came_back name o places (sent_out name sizes t))
     go None e told = absurd (let no : false ≡ true = told in cc)
-    go (Some vs) e told = back t vs refl e
+    go (Some vs) e told = back t vs refl e apart
 
 -- where the bay is as it was
-stayed : (holds : Told → Told → Type 0) (told new : Option Told) → new ≡ told → ((t : Told) → told ≡ Some t → AreNamedApart t → holds t t) → IsTold holds told new
+stayed : (holds : Told → Told → Type 0) (told new : Option Told) → new ≡ told → ((t : Told) → told ≡ Some t → holds t t) → IsTold holds told new
 stayed holds None new e same = e
 stayed holds (Some t) new e same = let P : Option Told → Type 0 = λ o. IsTold holds (Some t) o in subst P (sym e) (same t refl)
 
@@ -246,14 +246,13 @@ module _ {D : Type 0} (state : D → State) (sound : (d : D) → IsDisk (state d
   changes_at t vs is e apart =
       let back_again = came name sizes (faulty_places state (q ∷ r ∷ [])) vs t apart in record {
         others = back_again.others;
-        apart = back_again.apart;
         answer = λ i there. answers_front own volumes asked fits (front_of i) result (front_answer t i is there);
         left = left_by t is vs e apart result refl;
       }
 
   -- the image came back with its view changed, or as it was
-  pub image_changed : IsTold (ChangesImage name own asked (told_as own result)) old.told new.told
-  image_changed = brought_back (ChangesImage name own asked (told_as own result)) name sizes (faulty_places state (q ∷ r ∷ [])) (blocks_of state (q ∷ r ∷ [])) old.told mid.told new.told
+  pub image_changed : IfSome old.told (λ t. AreNamedApart t) → IsTold (ChangesImage name own asked (told_as own result)) old.told new.told
+  image_changed apart = brought_back (ChangesImage name own asked (told_as own result)) name sizes (faulty_places state (q ∷ r ∷ [])) (blocks_of state (q ∷ r ∷ [])) old.told mid.told new.told apart
       (let all = all_told state told (q ∷ r ∷ []) in ap is_some all.1) changes_at sent back
 
   -- a block that is told as damaged is the first at fault
@@ -281,7 +280,7 @@ pub handed_none : (tells : Bool) (config : Config) (volume : ℕ) (v : VolumeCon
     → ChangesInBay tells config volume v asked old new (Err (stop.Fault (fault_of_bay volume e)))
 handed_none tells config volume v asked old new e rest_size T size same answered cause = record {
   left = λ telling. stayed (ChangesImage v.name volume asked (Err (stop.Fault (fault_of_bay volume e)))) old.told new.told same
-      (λ t is apart. record { others = λ other differs. refl; apart = apart; answer = λ i there. tt; left = λ c may. inl may });
+      (λ t is. record { others = λ other differs. refl; answer = λ i there. tt; left = λ c may. inl may });
   fails = λ f is. let same_f : fault_of_bay volume e ≡ f = cc is in subst (FailsOnImage tells config volume v old new) same_f (fails e refl);
 }
   where

@@ -3,7 +3,7 @@ use Rattle.std.proofs.Common.{◌≡◌, ◌≢◌, ◌⊎◌, inl, inr, ◌<◌
 use Rattle.std.specs.Prelude.{IfErr, IfOk, IfSome, IsErrOf, IsTrue}
 use Rattle.std.proofs.lemmas.Bool.Decides.{nat_tests}
 use Rattle.wol_disk.specs.Disk.{Block, State, TellsContent, Values, IsDisk, LeavesOnly, Rose, only, reads, settled}
-use Rattle.wol_bay.specs.Bay.{BayState, Image, Told, at_name, came_back, sent_out}
+use Rattle.wol_bay.specs.Bay.{AreNamedApart, BayState, Image, Told, at_name, came_back, sent_out}
 use Rattle.wol_bay.specs.Parts.{AreCut, blocks_of, faulty_from, faulty_places, sizes_of}
 use Rattle.wol_bay.specs.Refusals.{IsAnswered, blocks_at, refusal}
 use Rattle.wol_config.specs.declared.config.Config.{Config}
@@ -133,8 +133,8 @@ module _ {D : Type 0} (tells : Bool) (state : D → State) (sound : (d : D) → 
           subst (FailsOnImage tells config own v old new) same_f (refl, rose same)
 
   -- the view was changed, or it wasn't, by the answer
-  pub in_bay : (res : Result (List ℕ) ChangeRefusal) → ChangesPart own volumes asked (state p) (state q) res → ChangesInBay tells config own v asked old new (told_as own res)
-  in_bay res part = record {
-    left = λ telling. image_changed state sound (told telling) v.name own volumes asked fits m old mid new p q r cut x answered sent back res part;
+  pub in_bay : IfSome old.told (λ t. AreNamedApart t) → (res : Result (List ℕ) ChangeRefusal) → ChangesPart own volumes asked (state p) (state q) res → ChangesInBay tells config own v asked old new (told_as own res)
+  in_bay apart res part = record {
+    left = λ telling. image_changed state sound (told telling) v.name own volumes asked fits m old mid new p q r cut x answered sent back res part apart;
     fails = fails_in res part;
   }

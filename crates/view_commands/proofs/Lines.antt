@@ -92,7 +92,7 @@ module _ {D : Type 0} (tells : Bool) (state : D → State) (config : Config) (or
 -- what is left is what was there
 pub leaves_same : {D : Type 0} (tells : Bool) (state : D → State) (config : Config) (b b' : BayState) (o : Option Told) → IsTold (LeavesAll tells state config b b') o o
 leaves_same tells state config b b' None = refl
-leaves_same tells state config b b' (Some t) = λ apart. record {
+leaves_same tells state config b b' (Some t) = record {
   refused = λ k. false;
   cause = λ k v at no. absurd (cc no);
   kept = λ k v at no. absurd (cc no);
@@ -104,11 +104,11 @@ leaves_same tells state config b b' (Some t) = λ apart. record {
 
 pub others_same : (config : Config) (o : Option Told) → IsTold (KeepsOthers config) o o
 others_same config None = refl
-others_same config (Some t) = λ apart name differs. refl
+others_same config (Some t) = λ name differs. refl
 
 pub sound_same : (config : Config) (o : Option Told) → IsTold (KeepsAllSound config) o o
 sound_same config None = refl
-sound_same config (Some t) = λ apart all images left. all images left
+sound_same config (Some t) = λ all images left. all images left
 
 -- ---- Completeness
 
@@ -118,7 +118,6 @@ still_completes tells config old new sink sink' m = record {
   telling = m.telling;
   entry = m.entry;
   entry_is = m.entry_is;
-  apart = m.apart;
   sound = m.sound;
   bay_calm = m.bay_calm;
   sink_calm = λ rose. elim rose [ inl less ↦ omega (arith, less) | inr most ↦ omega (arith, most) ];

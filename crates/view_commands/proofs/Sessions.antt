@@ -1,45 +1,40 @@
 -- All volumes were opened, and closed behind a drain: what is told of the bay.
-use Rattle.std.proofs.Common.{◌≡◌, ◌<◌, ◌++◌, ℕ, Bool, true, false, List, length, map, Option, None, Some, option_map, Err, refl, sym, ap, ◌∙◌, subst, arith, append_assoc}
+use Rattle.std.proofs.Common.{◌≡◌, ◌<◌, ℕ, Bool, true, false, List, length, Option, None, Some, option_map, Err, refl, sym, ap, ◌∙◌, subst, arith}
 use Rattle.std.specs.Prelude.{slice_get, slice_range, slice_index_or, All, Contains, IfSome, IsSome, IsTrue}
 use Rattle.std.proofs.lemmas.List.{length-map}
-use Rattle.std.proofs.lemmas.List.Elements.{Contains-append_right}
 use Rattle.std.proofs.lemmas.Option.{slice_get-get_or, slice_get-map, slice_get_within}
 use Rattle.wol_disk.specs.Disk.{Rose, State, reads}
-use Rattle.wol_bay.specs.Bay.{BayState, Name, Told, at_name}
+use Rattle.wol_bay.specs.Bay.{BayState, Told, at_name}
+use Rattle.wol_promise.specs.Policy.{PartName}
 use Rattle.wol_config.specs.declared.config.Config.{Config}
 use Rattle.wol_config.specs.declared.config.VolumeConf.{VolumeConf}
 use Rattle.wol_model.specs.Images.{Images, image_of}
 use Rattle.turn_lock.specs.Passes.{pass_seen}
-use Rattle.manager.specs.declared.part.Part.{Part}
 use Rattle.manager.specs.declared.part.StepFault.{StepFault}
 use Rattle.manager.specs.declared.part.StepFault.TheVariants.{DiskFault, Down}
 use Rattle.manager.specs.declared.station.Station.{Station}
-use Rattle.manager_recovery.specs.declared.refusal.OpenRefusal.TheVariants as refusal
-use Rattle.manager.specs.declared.part.Part.TheVariants as part
 use Rattle.request_turns.specs.Turns.{IsBroken, faulty_part, notes_seen}
 use Rattle.request_turns.proofs.Gaining.{down_breaks}
-use Rattle.report.specs.Troubles.{trouble_status}
 use Rattle.report.specs.declared.fault.Fault.{Fault}
 use Rattle.report.specs.declared.fault.Fault.TheVariants.{Volume}
 use Rattle.troubles.specs.Troubles.{trouble_of, trouble_of_part}
 use Rattle.spin_model.specs.Spindles.{SpindleView}
-use Rattle.volume_images.specs.Left.{AreNamedApart, IsTold}
+use Rattle.volume_images.specs.Left.{IsTold}
 use Rattle.volume_images.specs.Volumes.{AreLeft, images_read, shape_in, shapes_of}
-use Rattle.rack.specs.Closes.{AreLeftOfParts, CameBackFaulty, HasFaultyPart, IsClosedVolume, IsQuiet, LeavesOpen, recovered_out}
-use Rattle.rack.specs.Opens.{BeganWith, WereThere}
+use Rattle.rack.specs.Closes.{AreLeftOfParts, HasFaultyPart, IsClosedVolume, IsQuiet, LeavesOpen, part_named, recovered_out}
+use Rattle.rack.specs.Opens.{BeganWith, HasFaulty, WereThere}
 use Rattle.rack.specs.Owners.{IsBegun, images_taken}
-use Rattle.rack.specs.Racks.{IsOpenBase, IsStation, NamesVolumes, base_of_station}
+use Rattle.rack.specs.Racks.{IsStation, base_of_station}
 use Rattle.rack.specs.Rests.{IsImageOut, image_here}
 use Rattle.rack.specs.declared.rack.ImageRest.{ImageRest}
 use Rattle.rack.specs.declared.rack.Rack.{Rack}
 use Rattle.rack.specs.declared.volume_fault.VolumeFault.{VolumeFault}
-use Rattle.rack.specs.declared.volume_fault.VolumeFault.TheVariants as fault
 use Rattle.open_rack.specs.Sessions.{OpensAndCloses}
 use Rattle.open_rack.proofs.Since.{rose_before, unmapped}
 use Rattle.inspection.specs.Racks.{IsSameRack, numbers_of}
 use Rattle.inspection.proofs.Quiet.{all_quiet}
 use Rattle.inspection.proofs.SameRacks.{numbers_same}
-use Rattle.inspection.proofs.Unhelped.{all_at, broken_still, there_is}
+use Rattle.inspection.proofs.Unhelped.{all_at, broken_still}
 use Rattle.open_rack.specs.NotOpened.{IsFirstClosed, first_closed}
 use Rattle.open_rack.proofs.AllOut.{recovered_all, taken_all}
 use Rattle.open_rack.proofs.FirstClosed.{first_refused, none_closed, opened_at, opened_out}
@@ -54,39 +49,19 @@ use Rattle.view_commands.proofs.Kept.{KeepsFronts}
 pub told_by : (P Q : Told → Told → Type 0) → ((x y : Told) → P x y → Q x y) → (o n : Option Told) → IsTold P o n → IsTold Q o n
 told_by P Q f None n is = is
 told_by P Q f (Some o) None is = is
-told_by P Q f (Some o) (Some n) is = λ apart. f o n (is apart)
+told_by P Q f (Some o) (Some n) is = f o n is
 
 -- what is left since opening is left since entry
-pub told_since : (P : Told → Type 0) → (o m n : Option Told) → IsTold (λ x y. AreNamedApart y) o m → IsTold (λ x y. P y) m n → IsTold (λ x y. P y) o n
-told_since P None None n apart is = is
-told_since P None (Some m) n apart is = absurd (cc apart)
-told_since P (Some o) None n apart is = absurd apart
-told_since P (Some o) (Some m) None apart is = absurd is
-told_since P (Some o) (Some m) (Some n) apart is = λ named. is (apart named)
+pub told_since : (H : Told → Told → Type 0) (P : Told → Type 0) → (o m n : Option Told) → IsTold H o m → IsTold (λ x y. P y) m n → IsTold (λ x y. P y) o n
+told_since H P None None n had is = is
+told_since H P None (Some m) n had is = absurd (cc had)
+told_since H P (Some o) None n had is = absurd had
+told_since H P (Some o) (Some m) None had is = absurd is
+told_since H P (Some o) (Some m) (Some n) had is = is
 
 here_is : {X : Type 0} (o : Option X) → IsSome o → (x : X) × (o ≡ Some x)
 here_is None is = absurd (let no : false ≡ true = is in cc)
 here_is (Some x) is = (x, refl)
-
--- parts that came back with a fault since opening did so since entry
-faulty_since : (tells : Bool) (config : Config) (owner : ℕ) (view : List ℕ) (o m n : Option Told) → IsTold (λ x y. AreNamedApart y) o m → IsTold (λ x y. (more : List (Name × ℕ)) × (y.faulty ≡ x.faulty ++ more)) o m
-    → IsTold (HasFaultyPart tells config owner view) m n → IsTold (HasFaultyPart tells config owner view) o n
-faulty_since tells config owner view None None n apart gained faulty = faulty
-faulty_since tells config owner view None (Some m) n apart gained faulty = absurd (cc apart)
-faulty_since tells config owner view (Some o) None n apart gained faulty = absurd apart
-faulty_since tells config owner view (Some o) (Some m) None apart gained faulty = absurd faulty
-faulty_since tells config owner view (Some o) (Some m) (Some n) apart gained faulty = λ named.
-    let first = gained named in
-    let then = faulty (apart named) in record {
-      more = first.0 ++ then.more;
-      more_is = then.more_is ∙ ap (λ (ps : List (Name × ℕ)). ps ++ then.more) first.1 ∙ append_assoc o.faulty first.0 then.more;
-      volume = then.volume;
-      conf = then.conf;
-      conf_is = then.conf_is;
-      place = then.place;
-      among = Contains-append_right first.0 then.more (then.conf.name, then.place) then.among;
-      of_volume = then.of_volume;
-    }
 
 -- ---- Parts
 
@@ -180,15 +155,15 @@ module _ {D : Type 0} (tells : Bool) (state : D → State) (config : Config) (di
 
     -- label and view of each image are as they read at entry
     pub fronts : IsTrue tells → IsTold (KeepsFronts config) old.told new.told
-    fronts telling = go old.told session.bay.told new.told (session.opened.began telling) (session.opened.there telling) (session.opened.apart telling) (session.closed.parts telling)
+    fronts telling = go old.told session.bay.told new.told (session.opened.began telling) (session.opened.there telling) session.opened.faulty (session.closed.parts telling)
       where
-        go : (o b n : Option Told) → IfSome o (λ t. AreNamedApart t → BeganWith state config t before) → IfSome o (λ t. AreNamedApart t → WereThere config before.rest.images.items t)
-            → IsTold (λ x y. AreNamedApart y) o b → IsTold (λ x y. AreLeftOfParts state config after y) b n → IsTold (KeepsFronts config) o n
-        go None None n began there apart parts = parts
-        go None (Some b) n began there apart parts = absurd (cc apart)
-        go (Some o) None n began there apart parts = absurd apart
-        go (Some o) (Some b) None began there apart parts = absurd parts
-        go (Some o) (Some b) (Some n) began there apart parts = λ named. fronts_at o n (began named) (there named) (parts (apart named))
+        go : (o b n : Option Told) → IfSome o (λ t. BeganWith state config t before) → IfSome o (λ t. WereThere config before.rest.images.items t)
+            → IsTold HasFaulty o b → IsTold (λ x y. AreLeftOfParts state config after y) b n → IsTold (KeepsFronts config) o n
+        go None None n began there had parts = parts
+        go None (Some b) n began there had parts = absurd (cc had)
+        go (Some o) None n began there had parts = absurd had
+        go (Some o) (Some b) None began there had parts = absurd parts
+        go (Some o) (Some b) (Some n) began there had parts = fronts_at o n began there parts
 
     -- ---- A drain that was refused
 
@@ -208,25 +183,19 @@ module _ {D : Type 0} (tells : Bool) (state : D → State) (config : Config) (di
       broken : IsBroken (notes_seen drained.pass)
       broken = down_breaks (faulty_part f) (notes_seen drained.pass) drained.drained.cause
 
-      named : (q : Part) × (trouble_of_part (faulty_part f) ≡ trouble_of_part q) × (IsTrue tells → IsTold (CameBackFaulty config q) old.told new.told)
+      named : (name : PartName) × (trouble_of_part (faulty_part f) ≡ trouble_of_part (part_named volume name)) × IsTold (HasFaultyPart tells config volume (base_of_station s).volume.began.view name) old.told new.told
       named = came tells state config did old new spindles session volume (Err f) drained (faulty_part f) drained.drained.cause
 
       rose : Rose old.faults new.faults
       rose = rose_before old.faults session.bay.faults new.faults session.sooner (ends.cause (broken_still (pass_seen drained.pass) ends.entries ends.worker_part.seen broken))
 
-      begun : (o : Option Told) → IfSome o (λ t. AreNamedApart t → BeganWith state config t before) → IfSome o (λ t. AreNamedApart t → IsBegun config (images_read config t) (base_of_station s).volume.began)
+      begun : (o : Option Told) → IfSome o (λ t. BeganWith state config t before) → IfSome o (λ t. IsBegun config (images_read config t) (base_of_station s).volume.began)
       begun None is = tt
-      begun (Some t) is = λ apart. subst (λ (l : Images). IsBegun config l (base_of_station s).volume.began) (taken_all config before.rest.images.items outs t)
-          (all_at (λ (w : Station D). IsBegun config (images_taken config before.rest.images.items t) (base_of_station w).volume.began) before.stations.items drained.place s (is apart).stations drained.is_station.there)
-
-      faulty : IsTrue tells → IsTold (HasFaultyPart tells config volume (base_of_station s).volume.began.view) old.told new.told
-      faulty telling =
-          subst (λ (n : ℕ). IsTold (HasFaultyPart tells config n (base_of_station s).volume.began.view) old.told new.told) drained.is_station.id
-          (faulty_since tells config s.id (base_of_station s).volume.began.view old.told session.bay.told new.told (session.opened.apart telling) session.opened.faulty
-          (ends.faulty (broken_still (pass_seen drained.pass) ends.entries ends.worker_part.seen broken)))
+      begun (Some t) is = subst (λ (l : Images). IsBegun config l (base_of_station s).volume.began) (taken_all config before.rest.images.items outs t)
+          (all_at (λ (w : Station D). IsBegun config (images_taken config before.rest.images.items t) (base_of_station w).volume.began) before.stations.items drained.place s is.stations drained.is_station.there)
 
       pub drain_fails : FailsWith tells config volume old new (trouble_of_step f)
-      drain_fails = subst (FailsWith tells config volume old new) (sym (step_trouble f ∙ named.1)) (runs.part named.0 (base_of_station s).volume.began owner (λ telling. begun old.told (session.opened.began telling)) faulty named.2 rose)
+      drain_fails = subst (FailsWith tells config volume old new) (sym (step_trouble f ∙ named.1)) (runs.part named.0 (base_of_station s).volume.began owner (λ telling. begun old.told (session.opened.began telling)) named.2 rose)
 
       pub drain_rose : Rose old.faults new.faults
       drain_rose = rose

@@ -17,7 +17,7 @@ use Rattle.report.specs.declared.fault.Fault.TheVariants as report
 use Rattle.report.specs.declared.trouble.Trouble.{Trouble}
 use Rattle.report.specs.declared.trouble.Trouble.TheVariants as trouble
 use Rattle.spin_model.specs.Spindles.{SpindleView}
-use Rattle.volume_images.specs.Left.{AreNamedApart, IsTold}
+use Rattle.volume_images.specs.Left.{IsTold}
 use Rattle.volume_images.specs.Volumes.{images_read, shape_in, shapes_of}
 use Rattle.rack.specs.Opens.{KeepsAllSound, LeavesAll}
 use Rattle.rack.specs.Owners.{recovered_but}
@@ -77,17 +77,17 @@ leaves_all tells state config b b' entry left arrays_are all_there = record {
 -- ---- What is told from entry to exit
 
 -- what is told of two steps
-pub told_then : (P Q R : Told → Told → Type 0) → ((x y z : Told) → AreNamedApart x → P x y → Q y z → R x z) → (o m n : Option Told) → IsTold P o m → IsTold (λ x y. AreNamedApart y) o m → IsTold Q m n → IsTold R o n
-told_then P Q R f None None n p apart q = q
-told_then P Q R f None (Some m) n p apart q = absurd (cc p)
-told_then P Q R f (Some o) None n p apart q = absurd p
-told_then P Q R f (Some o) (Some m) None p apart q = absurd q
-told_then P Q R f (Some o) (Some m) (Some n) p apart q = λ named. f o m n named (p named) (q (apart named))
+pub told_then : (P Q R : Told → Told → Type 0) → ((x y z : Told) → P x y → Q y z → R x z) → (o m n : Option Told) → IsTold P o m → IsTold Q m n → IsTold R o n
+told_then P Q R f None None n p q = q
+told_then P Q R f None (Some m) n p q = absurd (cc p)
+told_then P Q R f (Some o) None n p q = absurd p
+told_then P Q R f (Some o) (Some m) None p q = absurd q
+told_then P Q R f (Some o) (Some m) (Some n) p q = f o m n p q
 
 told_both : (P Q : Told → Told → Type 0) → (o n : Option Told) → IsTold P o n → IsTold Q o n → IsTold (λ x y. P x y × Q x y) o n
 told_both P Q None n p q = p
 told_both P Q (Some o) None p q = p
-told_both P Q (Some o) (Some n) p q = λ named. (p named, q named)
+told_both P Q (Some o) (Some n) p q = (p, q)
 
 -- the view that is told
 pub view_of : Result (List ℕ) Stop → List ℕ
@@ -156,10 +156,10 @@ module _ (config : Config) (valid : IsValid config) (volume : ℕ) (v : VolumeCo
 
     -- ---- The view was changed behind that
 
-    module _ (new : BayState) (result : Result (List ℕ) Stop) (apart : IsTrue tells → IsTold (λ x y. AreNamedApart y) old.told mid.told) (changes : ChangesInBay tells config volume v asked mid new result)
+    module _ (new : BayState) (result : Result (List ℕ) Stop) (changes : ChangesInBay tells config volume v asked mid new result)
         (later : old.faults ≤ mid.faults) where
       through : (R : Told → Told → Type 0) → ((o m n : Told) → Keeps config o m → ChangesImage v.name volume asked result m n → R o n) → IsTrue tells → IsTold R old.told new.told
-      through R f telling = told_then (Keeps config) (ChangesImage v.name volume asked result) R (λ o m n named is change. f o m n is change) old.told mid.told new.told (kept telling) (apart telling) (changes.left telling)
+      through R f telling = told_then (Keeps config) (ChangesImage v.name volume asked result) R (λ o m n is change. f o m n is change) old.told mid.told new.told (kept telling) (changes.left telling)
 
       pub arrays_through : IsTrue tells → IsTold (KeepsArrays config) old.told new.told
       arrays_through = through (KeepsArrays config) (λ o m n is change. arrays_left config valid volume v conf asked fits o m n is.0 (front_at o m is.0).ids (at_entry o m is.0) result change is.1)
@@ -172,25 +172,25 @@ module _ (config : Config) (valid : IsValid config) (volume : ℕ) (v : VolumeCo
 
       -- what was told of the image is told of its volume
       untold : (f : Fault) → result ≡ Err (stop.Fault f) → IsNotWhole tells config v mid → IsTrue tells → IsTold (λ entry left. ⊥) old.told new.told
-      untold f is not telling = go old.told mid.told new.told (kept telling) (apart telling) (changes.left telling) (not telling)
+      untold f is not telling = go old.told mid.told new.told (kept telling) (changes.left telling) (not telling)
         where
-          go : (o m n : Option Told) → IsTold (Keeps config) o m → IsTold (λ x y. AreNamedApart y) o m → IsTold (ChangesImage v.name volume asked result) m n → IfSome m (λ t. IsWhole config v t → ⊥) → IsTold (λ entry left. ⊥) o n
-          go None None n p apart q not_whole = q
-          go None (Some m) n p apart q not_whole = absurd (cc p)
-          go (Some o) None n p apart q not_whole = absurd p
-          go (Some o) (Some m) None p apart q not_whole = absurd q
-          go (Some o) (Some m) (Some n) p apart q not_whole = λ named. not_whole (whole o m (p named).0)
+          go : (o m n : Option Told) → IsTold (Keeps config) o m → IsTold (ChangesImage v.name volume asked result) m n → IfSome m (λ t. IsWhole config v t → ⊥) → IsTold (λ entry left. ⊥) o n
+          go None None n p q not_whole = q
+          go None (Some m) n p q not_whole = absurd (cc p)
+          go (Some o) None n p q not_whole = absurd p
+          go (Some o) (Some m) None p q not_whole = absurd q
+          go (Some o) (Some m) (Some n) p q not_whole = not_whole (whole o m p.0)
 
       damaged : (block : ℕ) → IsDamagedAt tells volume v mid block → IsTrue tells → IsTold (λ entry left. IsDamagedIn (images_read config entry) volume block) old.told new.told
-      damaged block is telling = go old.told mid.told new.told (kept telling) (apart telling) (changes.left telling) (is telling)
+      damaged block is telling = go old.told mid.told new.told (kept telling) (changes.left telling) (is telling)
         where
-          go : (o m n : Option Told) → IsTold (Keeps config) o m → IsTold (λ x y. AreNamedApart y) o m → IsTold (ChangesImage v.name volume asked result) m n
+          go : (o m n : Option Told) → IsTold (Keeps config) o m → IsTold (ChangesImage v.name volume asked result) m n
               → IfSome m (λ t. (i : Image) → at_name v.name t.images ≡ Some i → IsFirstFault volume (front_of i) block) → IsTold (λ entry left. IsDamagedIn (images_read config entry) volume block) o n
-          go None None n p apart q is = q
-          go None (Some m) n p apart q is = absurd (cc p)
-          go (Some o) None n p apart q is = absurd p
-          go (Some o) (Some m) None p apart q is = absurd q
-          go (Some o) (Some m) (Some n) p apart q is = λ named. damaged_then o m (p named).0 block is
+          go None None n p q is = q
+          go None (Some m) n p q is = absurd (cc p)
+          go (Some o) None n p q is = absurd p
+          go (Some o) (Some m) None p q is = absurd q
+          go (Some o) (Some m) (Some n) p q is = damaged_then o m p.0 block is
 
       fails_for : (f : Fault) → result ≡ Err (stop.Fault f) → FailsOnImage tells config volume v mid new f → FailsFor tells config volume old new f
       fails_for report.Memory is why = tt
@@ -226,30 +226,29 @@ module _ (config : Config) (valid : IsValid config) (volume : ℕ) (v : VolumeCo
       pub sound_through : IsAddition asked → (IsTrue tells → IsTold (KeepsAllSound config) old.told mid.told) → IsTrue tells → IsTold (KeepsAllSound config) old.told new.told
       sound_through addition sound telling =
           told_then (λ x y. Keeps config x y × KeepsAllSound config x y) (ChangesImage v.name volume asked result) (KeepsAllSound config)
-          (λ o m n named is change. sound_left config valid volume v conf asked fits o m n is.0.0 (front_at o m is.0.0).ids (at_entry o m is.0.0) result change addition is.1) old.told mid.told new.told
-          (told_both (Keeps config) (KeepsAllSound config) old.told mid.told (kept telling) (sound telling)) (apart telling) (changes.left telling)
+          (λ o m n is change. sound_left config valid volume v conf asked fits o m n is.0.0 (front_at o m is.0.0).ids (at_entry o m is.0.0) result change addition is.1) old.told mid.told new.told
+          (told_both (Keeps config) (KeepsAllSound config) old.told mid.told (kept telling) (sound telling)) (changes.left telling)
 
       -- also where a logger goes, if none has a log of the volume
       pub sound_gone_through : (IsTrue tells → IsTold (λ x y. HasNoLog config volume y) old.told mid.told) → (IsTrue tells → IsTold (KeepsAllSound config) old.told mid.told) → IsTrue tells → IsTold (KeepsAllSound config) old.told new.told
       sound_gone_through none sound telling =
           told_then (λ x y. (Keeps config x y × KeepsAllSound config x y) × HasNoLog config volume y) (ChangesImage v.name volume asked result) (KeepsAllSound config)
-          (λ o m n named is change. sound_gone config valid volume v conf asked fits o m n is.0.0.0 (front_at o m is.0.0.0).ids (at_entry o m is.0.0.0) result change is.1 is.0.1) old.told mid.told new.told
+          (λ o m n is change. sound_gone config valid volume v conf asked fits o m n is.0.0.0 (front_at o m is.0.0.0).ids (at_entry o m is.0.0.0) result change is.1 is.0.1) old.told mid.told new.told
           (told_both (λ x y. Keeps config x y × KeepsAllSound config x y) (λ x y. HasNoLog config volume y) old.told mid.told (told_both (Keeps config) (KeepsAllSound config) old.told mid.told (kept telling) (sound telling)) (none telling))
-          (apart telling) (changes.left telling)
+          (changes.left telling)
 
       -- where nothing stood in its way, the view was changed or refused
       pub changed_completes : (result ≡ Err stop.Sink → ⊥) → (mid.faults ≤ new.faults) → MayComplete tells config old new 0 0 → Completes result
       changed_completes no_sink behind m = go result refl
         where
-          mid_kept : (o : Option Told) → IsTold (Keeps config) (Some m.entry) o → IsTold (λ x y. AreNamedApart y) (Some m.entry) o → (t : Told) × (o ≡ Some t) × Keeps config m.entry t
-          mid_kept None is apart = absurd is
-          mid_kept (Some t) is apart = (t, refl, is m.apart)
+          mid_kept : (o : Option Told) → IsTold (Keeps config) (Some m.entry) o → (t : Told) × (o ≡ Some t) × Keeps config m.entry t
+          mid_kept None is = absurd is
+          mid_kept (Some t) is = (t, refl, is)
 
           at_mid : (t : Told) × (mid.told ≡ Some t) × Keeps config m.entry t
           at_mid =
               let P : Option Told → Type 0 = λ o. IsTold (Keeps config) o mid.told in
-              let Q : Option Told → Type 0 = λ o. IsTold (λ x y. AreNamedApart y) o mid.told in
-              mid_kept mid.told (subst P m.entry_is (kept m.telling)) (subst Q m.entry_is (apart m.telling))
+              mid_kept mid.told (subst P m.entry_is (kept m.telling))
 
           calm : Rose mid.faults new.faults → ⊥
           calm rose = m.bay_calm (rose_before old.faults mid.faults new.faults later rose)
@@ -340,9 +339,9 @@ module _ (config : Config) (valid : IsValid config) (volume : ℕ) (v : VolumeCo
       where
         open_ : (k : ℕ) → k < length (shapes_of config) → slice_get before.faults.items k ≡ Some None
         open_ =
-            let each = subst (λ (x : Option Told). IfSome x (λ t. AreNamedApart t → AreSound (shapes_of config) (images_read config t) → (Rose old.faults new.faults → ⊥)
+            let each = subst (λ (x : Option Told). IfSome x (λ t. AreSound (shapes_of config) (images_read config t) → (Rose old.faults new.faults → ⊥)
             → (k : ℕ) → k < length (shapes_of config) → slice_get before.faults.items k ≡ Some None)) m.entry_is (session.complete m.telling) in
-            each m.apart m.sound m.bay_calm
+            each m.sound m.bay_calm
 
         go : TellsRack tells state asked volume before after (Err f) → Completes {T = List ℕ} (Err (stop.Fault f))
         go (drains.closed fault is same told) =

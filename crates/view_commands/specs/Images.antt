@@ -12,7 +12,7 @@ use Rattle.report.specs.declared.fault.Fault.{Fault}
 use Rattle.report.specs.declared.fault.Fault.TheVariants.{Volume, Memory}
 use Rattle.report.specs.declared.trouble.Trouble.{Trouble}
 use Rattle.report.specs.declared.trouble.Trouble.TheVariants as trouble
-use Rattle.volume_images.specs.Left.{AreNamedApart, IsTold}
+use Rattle.volume_images.specs.Left.{IsTold}
 use Rattle.volume_images.specs.Volumes.{MayLeave, shape_in}
 use Rattle.view_change.specs.Changes.{IsLoaded, changed, id_of}
 use Rattle.view_change.specs.declared.answers.Change.{Change}
@@ -87,7 +87,6 @@ LeavesBy (Err stop.Sink) name own asked t c = ⊥
 -- The view in the image of this name was changed, or it wasn't, by the answer; other images are as they were.
 pub record ChangesImage (name : Name) (own : ℕ) (asked : Change) (result : Result (List ℕ) Stop) (old new : Told) : Type 0 where
   pub others : (other : Name) → other ≢ name → at_name other new.images ≡ at_name other old.images
-  pub apart : AreNamedApart new
   pub answer : (i : Image) → at_name name old.images ≡ Some i → AnswersFront own asked (front_of i) result
   pub left : (c : Option (List Block)) → MayLeave (at_name name new.images) c → LeavesBy result name own asked old c
 

@@ -3,17 +3,17 @@ use Rattle.std.specs.Prelude.{⊤, ◌≡◌, ◌≢◌, ◌⊎◌, ℕ, Bool, L
 use Rattle.wol_disk.specs.Disk.{Rose, State}
 use Rattle.wol_bay.specs.Bay.{BayState}
 use Rattle.wol_promise.specs.Manager.{Base}
+use Rattle.wol_promise.specs.Policy.{PartName}
 use Rattle.wol_config.specs.declared.config.Config.{Config}
-use Rattle.manager.specs.declared.part.Part.{Part}
 use Rattle.report.specs.Troubles.{trouble_status}
 use Rattle.report.specs.declared.fault.Fault.{Fault}
 use Rattle.report.specs.declared.fault.Fault.TheVariants.{Volume, Memory}
 use Rattle.report.specs.declared.trouble.Trouble.{Trouble}
 use Rattle.report.specs.declared.trouble.Trouble.TheVariants as trouble
 use Rattle.troubles.specs.Troubles.{trouble_of, trouble_of_part}
-use Rattle.volume_images.specs.Left.{AreNamedApart, IsTold}
+use Rattle.volume_images.specs.Left.{IsTold}
 use Rattle.volume_images.specs.Volumes.{images_read}
-use Rattle.rack.specs.Closes.{CameBackFaulty, HasFaultyPart}
+use Rattle.rack.specs.Closes.{HasFaultyPart, part_named}
 use Rattle.rack.specs.Owners.{IsBegun}
 use Rattle.rack.specs.declared.volume_fault.VolumeFault.{VolumeFault}
 use Rattle.open_rack.specs.NotOpened.{IsFirstClosed, LeavesBay}
@@ -31,8 +31,9 @@ use Rattle.view_commands.specs.declared.order.ViewRefusal.{ViewRefusal}
 -- What is told of the volume whose view was to be changed: that part of it failed while it was drained; or behind that the bay or the part
 -- of label and view did, or these two blocks were damaged at entry. Another trouble comes only of a bay that doesn't tell its images.
 pub data FailsWith (tells : Bool) (config : Config) (volume : ℕ) (old new : BayState) : Trouble → Type 0 where
-  part : (p : Part) (base : Base) → base.owner ≡ volume → (IsTrue tells → IfSome old.told (λ entry. AreNamedApart entry → IsBegun config (images_read config entry) base))
-      → (IsTrue tells → IsTold (HasFaultyPart tells config volume base.view) old.told new.told) → (IsTrue tells → IsTold (CameBackFaulty config p) old.told new.told) → Rose old.faults new.faults → FailsWith tells config volume old new (trouble_of_part p)
+  part : (name : PartName) (base : Base) → base.owner ≡ volume → (IsTrue tells → IfSome old.told (λ entry. IsBegun config (images_read config entry) base))
+      → IsTold (HasFaultyPart tells config volume base.view name) old.told new.told → Rose old.faults new.faults
+      → FailsWith tells config volume old new (trouble_of_part (part_named volume name))
   bay : Rose old.faults new.faults → FailsWith tells config volume old new trouble.Bay
   label : Rose old.faults new.faults → FailsWith tells config volume old new trouble.Label
   damaged : (block : ℕ) → (IsTrue tells → IsTold (λ entry left. IsDamagedIn (images_read config entry) volume block) old.told new.told) → FailsWith tells config volume old new (trouble.Damaged volume block)

@@ -1,17 +1,17 @@
 -- An image that went out of its bay blank and comes back.
 use Rattle.std.proofs.Common.{◌≡◌, ℕ, zero, suc, ◌+◌, List, [], ◌∷◌, map, replicate, Option, None, Some, option_map, is_some, refl, sym, ap, ◌∙◌, subst, arith}
-use Rattle.std.specs.Prelude.{IsSome, Contains}
+use Rattle.std.specs.Prelude.{IsSome, IfSome, Contains}
 use Rattle.wol_disk.specs.Disk.{Block, State, Values, only, IsImageOf}
 use Rattle.wol_disk.specs.Zeros.{zeros}
 use Rattle.wol_model.specs.Heads.{Shape}
-use Rattle.wol_bay.specs.Bay.{Name, Told, sent_out, came_back}
+use Rattle.wol_bay.specs.Bay.{Name, Told, AreNamedApart, sent_out, came_back}
 use Rattle.wol_bay.specs.Parts.{AreBlank, blocks_of, sizes_of, faulty_places}
 use Rattle.volume_images.specs.Settled.{AreSettled, joined_blocks}
 use Rattle.volume_images.specs.Formatted.{part_sizes, blank_parts, formatted_parts, formatted, place_of, IsUnlabelledOrFormatted}
-use Rattle.volume_images.specs.Left.{AreNamedApart, IsTold, CameBack, HasFailed, Unfinished, LeavesFailed, settled_image}
+use Rattle.volume_images.specs.Left.{IsTold, CameBack, HasFailed, Unfinished, LeavesFailed, settled_image}
 use Rattle.volume_images.specs.declared.fault.PartName.{PartName}
 use Rattle.volume_images.specs.declared.fault.PartName.TheVariants as part
-use Rattle.volume_images.proofs.NamedApart.{put_here, put_others, put_apart}
+use Rattle.wol_bay.proofs.NamedApart.{put_here, put_others}
 use Rattle.volume_images.proofs.SettledParts.{settled_joined, settled_quiet, blank_settled, fault_found}
 
 -- ---- Parts that go out
@@ -38,26 +38,25 @@ pub came : (name : Name) (sizes places : List ℕ) (vs : List (Values Block)) (t
 came name sizes places vs t apart = record {
   here = put_here name t.images (record { blocks = vs; rest = [] }) apart;
   others = put_others name t.images (record { blocks = vs; rest = [] }) apart;
-  apart = put_apart name t.images (record { blocks = vs; rest = [] }) apart;
   faulty = refl;
 }
 
 -- what holds of the image that came back holds of the bay
-pub brought_back : (holds : Told → Told → Type 0) (name : Name) (sizes places : List ℕ) (blocks : Option (List (Values Block))) (told mid new : Option Told)
+pub brought_back : (holds : Told → Told → Type 0) (name : Name) (sizes places : List ℕ) (blocks : Option (List (Values Block))) (told mid new : Option Told) → IfSome told (λ t. AreNamedApart t)
     → ((t : Told) → told ≡ Some t → IsSome blocks) → ((t : Told) (vs : List (Values Block)) → blocks ≡ Some vs → AreNamedApart t → holds t (came_back name (Some vs) places (sent_out name sizes t)))
     → mid ≡ option_map (sent_out name sizes) told → new ≡ option_map (came_back name blocks places) mid → IsTold holds told new
-brought_back holds name sizes places blocks None mid new tells back sent came_is = came_is ∙ ap (option_map (came_back name blocks places)) sent
-brought_back holds name sizes places blocks (Some t) mid new tells back sent came_is =
+brought_back holds name sizes places blocks None mid new apart tells back sent came_is = came_is ∙ ap (option_map (came_back name blocks places)) sent
+brought_back holds name sizes places blocks (Some t) mid new apart tells back sent came_is =
     let P : Option Told → Type 0 = λ o. IsTold holds (Some t) o in
     subst P (sym (came_is ∙ ap (option_map (came_back name blocks places)) sent)) (go blocks refl (tells t refl))
   where
-    go : (o : Option (List (Values Block))) → blocks ≡ o → IsSome o → AreNamedApart t → holds t (came_back name o places (sent_out name sizes t))
+    go : (o : Option (List (Values Block))) → blocks ≡ o → IsSome o → holds t (came_back name o places (sent_out name sizes t))
     go None e told = absurd (cc told)
-    go (Some vs) e told = back t vs e
+    go (Some vs) e told = back t vs e apart
 
 pub nothing_told : (holds : Told → Told → Type 0) (told new : Option Told) → new ≡ told → ((t : Told) → holds t t) → IsTold holds told new
 nothing_told holds None new e same = e
-nothing_told holds (Some t) new e same = let P : Option Told → Type 0 = λ o. IsTold holds (Some t) o in subst P (sym e) (λ apart. same t)
+nothing_told holds (Some t) new e same = let P : Option Told → Type 0 = λ o. IsTold holds (Some t) o in subst P (sym e) (same t)
 
 module _ {D : Type 0} (state : D → State) (name : Name) (id : ℕ) (s : Shape) (ids : List ℕ) (parts : List D) where
   -- whole, with no part at fault

@@ -7,7 +7,7 @@ use Rattle.wol_disk.specs.Disk.{Block, Values, State, IsDisk, IsImage, IsImageOf
 use Rattle.wol_disk.proofs.Images.{settled_image}
 use Rattle.wol_model.specs.Heads.{Shape}
 use Rattle.wol_model.specs.Images.{image_size}
-use Rattle.wol_bay.specs.Bay.{Name, Image, Told, BayState, at_name, sent_out, came_back}
+use Rattle.wol_bay.specs.Bay.{Name, Image, Told, BayState, AreNamedApart, at_name, sent_out, came_back}
 use Rattle.wol_bay.specs.Parts.{joined, blocks_of, faulty_places}
 use Rattle.wol_bay.specs.Refusals.{refusal, IsAnswered, blocks_at}
 use Rattle.spin_model.specs.Spun.{state_of, disk_of}
@@ -23,7 +23,7 @@ use Rattle.log_layout.specs.Values.{segment_head}
 use Rattle.volume_images.specs.Disks.{disks_of}
 use Rattle.volume_images.specs.Formatted.{part_sizes}
 use Rattle.volume_images.specs.ImageParts.{IsReadImage, MayNotOpen}
-use Rattle.volume_images.specs.Left.{AreNamedApart, IsTold}
+use Rattle.volume_images.specs.Left.{IsTold}
 use Rattle.volume_images.specs.Reads.{IsOnlyRead}
 use Rattle.volume_images.specs.Refusals.{SaysSo, IsFaultAt, IsCallFault, GaveBack, Refuses}
 use Rattle.volume_images.specs.Sent.{IsSentOut, IsOpenable, IsGivenBack}
@@ -171,9 +171,9 @@ module _ {D : Type 0} (state : D → State) where
         record { image = whole.image; there = whole.there; rest = whole.rest; size = whole.count ∙ all_sizes s; accepted = accepted state sound own s out.image (sent_parts state sound own s (blocks_at name (Some t)) out sent) whole.image.blocks whole.blocks volumes own image.view image.heads.items may.may }
 
     -- what is refused is there as it was
-    pub gave_back : (old mid new : BayState) (f : ImageFault) → IsSentOut state own s (blocks_at name old.told) out → IfSome old.told (λ t. IsAnswered (refusal name (part_sizes s) t) (Ok out))
+    pub gave_back : (old mid new : BayState) (f : ImageFault) → IfSome old.told (λ t. AreNamedApart t) → IsSentOut state own s (blocks_at name old.told) out → IfSome old.told (λ t. IsAnswered (refusal name (part_sizes s) t) (Ok out))
         → mid.told ≡ option_map (sent_out name (part_sizes s)) old.told → IsGivenBack state volumes own s name out.image mid new f → IsTold (Refuses volumes own s name (Fault f)) old.told new.told
-    gave_back old mid new f sent answered went given = go old.told sent answered (given.back ∙ ap (option_map (came_back name blocks places)) went)
+    gave_back old mid new f apart sent answered went given = go old.told apart sent answered (given.back ∙ ap (option_map (came_back name blocks places)) went)
       where
         blocks : Option (List (Values Block))
         blocks = blocks_of state (disks_of given.after)
@@ -199,11 +199,11 @@ module _ {D : Type 0} (state : D → State) where
               fault = fault_at volumes own s out.image given.after f given.read given.refused;
             }
 
-        go : (told : Option Told) → IsSentOut state own s (blocks_at name told) out → IfSome told (λ t. IsAnswered (refusal name (part_sizes s) t) (Ok out))
+        go : (told : Option Told) → IfSome told (λ t. AreNamedApart t) → IsSentOut state own s (blocks_at name told) out → IfSome told (λ t. IsAnswered (refusal name (part_sizes s) t) (Ok out))
             → new.told ≡ option_map (came_back name blocks places) (option_map (sent_out name (part_sizes s)) told) → IsTold (Refuses volumes own s name (Fault f)) told new.told
-        go None sent answered e = e
-        go (Some t) sent answered e =
+        go None apart sent answered e = e
+        go (Some t) apart sent answered e =
             let whole = whole_of t sent answered in
             let P : Option Told → Type 0 = λ o. IsTold (Refuses volumes own s name (Fault f)) (Some t) o in
             let told : IsSome blocks = read_told out.image given.after given.read (ap is_some whole.blocks) in
-            subst P (sym e) (λ apart. there t sent answered blocks refl told apart)
+            subst P (sym e) (there t sent answered blocks refl told apart)

@@ -8,7 +8,7 @@ use Rattle.wol_config.specs.declared.config.Config.{Config}
 use Rattle.wol_config.specs.declared.config.VolumeConf.{VolumeConf}
 use Rattle.wol_config.specs.Configs.{IsValid}
 use Rattle.volume_images.specs.Formatted.{formatted}
-use Rattle.volume_images.specs.Left.{AreNamedApart, IsTold, CameBack, IsUnfinished, Unfinished, LeavesFailed, LeavesImage, settled_image}
+use Rattle.volume_images.specs.Left.{IsTold, CameBack, IsUnfinished, Unfinished, LeavesFailed, LeavesImage, settled_image}
 use Rattle.volume_images.specs.Volumes.{shape_in}
 use Rattle.volume_images.specs.Formats.{IsFormatted, FormatsFirst, LeavesImages, IsAsItWasOrUnfinished, LosesNone}
 use Rattle.volume_images.specs.declared.fault.PartName.{PartName}
@@ -28,17 +28,17 @@ home_kept name b b' same home = go b.told b'.told same home
     go (Some s) (Some t) e h = let same : t.out ≡ s.out = cc in ap (at_name name) same ∙ h
 
 -- one call after another
-pub told_then : (P Q R : Told → Told → Type 0) (a b c : Option Told) → ((x y : Told) → P x y → AreNamedApart y) → ((x y z : Told) → P x y → Q y z → R x z) → IsTold P a b → IsTold Q b c → IsTold R a c
-told_then P Q R None None c apart join first second = second
-told_then P Q R None (Some y) c apart join first second = absurd (cc first)
-told_then P Q R (Some x) None c apart join first second = absurd first
-told_then P Q R (Some x) (Some y) None apart join first second = absurd second
-told_then P Q R (Some x) (Some y) (Some z) apart join first second = λ named. join x y z (first named) (second (apart x y (first named)))
+pub told_then : (P Q R : Told → Told → Type 0) (a b c : Option Told) → ((x y z : Told) → P x y → Q y z → R x z) → IsTold P a b → IsTold Q b c → IsTold R a c
+told_then P Q R None None c join first second = second
+told_then P Q R None (Some y) c join first second = absurd (cc first)
+told_then P Q R (Some x) None c join first second = absurd first
+told_then P Q R (Some x) (Some y) None join first second = absurd second
+told_then P Q R (Some x) (Some y) (Some z) join first second = join x y z first second
 
 pub told_weaker : (P Q : Told → Told → Type 0) (a b : Option Told) → ((x y : Told) → P x y → Q x y) → IsTold P a b → IsTold Q a b
 told_weaker P Q None b weaker t = t
 told_weaker P Q (Some x) None weaker t = t
-told_weaker P Q (Some x) (Some y) weaker t = λ named. weaker x y (t named)
+told_weaker P Q (Some x) (Some y) weaker t = weaker x y t
 
 -- ---- One volume more
 
@@ -57,7 +57,6 @@ module _ (config : Config) (valid : IsValid config) where
   formats_more i v a b c lt is first back = record {
     each = λ k d below. ⊎_elim (λ (less : k < i). before k d less) (λ (more : i ≤ k). here k d (omega (arith, below, more))) (cases_lt k i);
     others = λ name all. back.others name (λ same. all i v (omega arith) (same ∙ ap (λ (w : VolumeConf). w.name) is)) ∙ first.others name (λ k d below. all k d (omega (arith, below)));
-    apart = back.apart;
     faulty = back.faulty ∙ append-nil b.faulty ∙ first.faulty;
   }
     where

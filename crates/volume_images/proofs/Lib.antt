@@ -1,6 +1,5 @@
 pub mod Swaps
 pub mod SettledParts
-pub mod NamedApart
 pub mod Stored
 pub mod Freeing
 pub mod Bays

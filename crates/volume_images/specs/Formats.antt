@@ -7,7 +7,7 @@ use Rattle.wol_bay.specs.Bay.{Name, Image, Told, at_name}
 use Rattle.wol_config.specs.declared.config.Config.{Config}
 use Rattle.wol_config.specs.declared.config.VolumeConf.{VolumeConf}
 use Rattle.volume_images.specs.Formatted.{formatted}
-use Rattle.volume_images.specs.Left.{AreNamedApart, IsUnfinished, LeavesFailed, settled_image}
+use Rattle.volume_images.specs.Left.{IsUnfinished, LeavesFailed, settled_image}
 use Rattle.volume_images.specs.Volumes.{shape_in, shapes_of, AreLeft}
 use Rattle.volume_images.specs.declared.fault.RackFault.{RackFault}
 use Rattle.volume_images.specs.declared.fault.RackFault.TheVariants.{Failed, NoMemory}
@@ -20,7 +20,6 @@ IsFormatted config k v t = at_name v.name t.images ≡ Some (settled_image (form
 pub record FormatsFirst (config : Config) (n : ℕ) (old new : Told) : Type 0 where
   pub each : (k : ℕ) (d : VolumeConf) → k < n → IsFormatted config k (slice_index_or config.volumes.items k d) new
   pub others : (name : Name) → ((k : ℕ) (d : VolumeConf) → k < n → name ≢ (slice_index_or config.volumes.items k d).name) → at_name name new.images ≡ at_name name old.images
-  pub apart : AreNamedApart new
   pub faulty : new.faulty ≡ old.faulty
 
 -- Volumes are formatted in their order. Where a part of volume n failed, those before it are formatted, its own image may

@@ -1,7 +1,7 @@
 -- What a format leaves of a bay.
 use Rattle.std.specs.Prelude.{◌≡◌, ◌≢◌, ◌<◌, ◌++◌, ℕ, List, [], length, Contains, Option, None, Some, Result, Ok, Err}
 use Rattle.wol_disk.specs.Disk.{Block, State, only, IsImage}
-use Rattle.wol_bay.specs.Bay.{Name, Image, Told, at_name, without, each_place}
+use Rattle.wol_bay.specs.Bay.{Name, Image, Told, at_name, each_place}
 use Rattle.wol_bay.specs.declared.fault.BayFault.{BayFault}
 use Rattle.wol_bay.specs.declared.fault.BayFault.TheVariants as bay
 use Rattle.wol_model.specs.Heads.{Shape}
@@ -25,22 +25,16 @@ pub record HasFailed {D : Type 0} (state : D → State) (parts : List D) (name :
   pub fault : HasFault state (place_of name) parts
   pub within : place_of name < length parts
 
--- no two images have one name
-abbrev pub AreNamedApart : Told → Type 0
-AreNamedApart t = (name : Name) → at_name name (without name t.images) ≡ None
-
--- It holds of what a bay tells before and after a call, where no two images had one name; and it tells after the call
--- where it told before.
+-- It holds of what a bay tells before and after a call; and it tells after the call where it told before.
 abbrev pub IsTold : (Told → Told → Type 0) → Option Told → Option Told → Type 0
 IsTold holds None new = new ≡ None
 IsTold holds (Some old) None = ⊥
-IsTold holds (Some old) (Some new) = AreNamedApart old → holds old new
+IsTold holds (Some old) (Some new) = holds old new
 
 -- This image stands under the name, those of other names are as they were, and these parts of it came back with a fault.
 pub record CameBack (name : Name) (image : Image) (places : List ℕ) (old new : Told) : Type 0 where
   pub here : at_name name new.images ≡ Some image
   pub others : (other : Name) → other ≢ name → at_name other new.images ≡ at_name other old.images
-  pub apart : AreNamedApart new
   pub faulty : new.faulty ≡ old.faulty ++ each_place name places
 
 -- an image of these blocks, on which all is synced

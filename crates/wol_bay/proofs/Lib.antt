@@ -1,6 +1,8 @@
 pub mod PartLists
 pub mod NameLists
+pub mod NamedApart
 pub mod BayMoves
+pub mod ImagesApart
 pub mod OneImage
 pub mod Attached
 pub mod Crashes

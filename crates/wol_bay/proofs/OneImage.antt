@@ -2,7 +2,7 @@
 use Rattle.std.proofs.Common.{◌≡◌, ℕ, Bool, true, false, cond, List, [], ◌∷◌, ◌++◌, take, Option, None, Some, option_map, IfSome, IsSome, refl, sym, ap, ◌∙◌, subst}
 use Rattle.std.specs.Str.{bytes_eq}
 use Rattle.wol_disk.specs.Disk.{State, Values, Block, TellsContent}
-use Rattle.wol_bay.specs.Bay.{Name, BayState, Image, Told, at_name, without, outs, IsHome, IsOut, Holds, sent_out, came_back, with_image}
+use Rattle.wol_bay.specs.Bay.{Name, BayState, Told, at_name, without, outs, IsHome, IsOut, Holds, sent_out, came_back}
 use Rattle.wol_bay.specs.Parts.{IsFresh, IsBlank, AreBlank, AreCut, joined, blocks_of, sizes_of}
 use Rattle.wol_bay.proofs.NameLists.{is_same, is_out, out_again}
 

@@ -40,6 +40,14 @@ abbrev pub without : {A : Type 0} → Name → List (Name × A) → List (Name �
 without name [] = []
 without name (e ∷ es) = if bytes_eq e.0 name then es else e ∷ without name es
 
+-- no two entries have one name
+abbrev pub AreApart : {A : Type 0} → List (Name × A) → Type 0
+AreApart es = (name : Name) → at_name name (without name es) ≡ None
+
+-- no two images have one name
+abbrev pub AreNamedApart : Told → Type 0
+AreNamedApart t = AreApart t.images
+
 -- the names that are out, where they are told
 abbrev pub outs : BayState → Option (List (Name × List ℕ))
 outs b = option_map (λ t. t.out) b.told

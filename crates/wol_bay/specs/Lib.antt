@@ -6,4 +6,5 @@ pub mod FileBay
 pub mod FilePart
 pub mod Plans
 pub mod Stored
+pub mod Held
 pub mod MemBay

@@ -7,16 +7,13 @@ use Rattle.wol_disk.specs.Stop.{inner_of, fuse_of}
 use Rattle.wol_disk.specs.declared.stop.Fuse.{Fuse}
 use Rattle.wol_disk.specs.declared.stop.StopDisk.{StopDisk}
 use Rattle.wol_disk.specs.declared.memory.MemDisk.{MemDisk}
-use Rattle.wol_bay.specs.Stored.{stored_blocks}
+pub use Rattle.wol_bay.specs.Held.{named_image}
 use Rattle.wol_bay.specs.Plans.{Planned, planned_of, calls_for}
-use Rattle.wol_bay.specs.Bay.{Name, each_place, BayState, Told, Image}
+use Rattle.wol_bay.specs.Bay.{Name, each_place, BayState, Told}
 use Rattle.wol_bay.specs.declared.held.Image as held
 use Rattle.wol_bay.specs.declared.held.Leave.{Leave}
 use Rattle.wol_bay.specs.declared.held.Faulty.{Faulty}
 use Rattle.wol_bay.specs.declared.memory.MemBay.{MemBay}
-
-abbrev pub named_image : held.Image → Name × Image
-named_image i = (string_bytes i.name, record { blocks = stored_blocks i.parts.items; rest = i.rest.items })
 
 abbrev pub named_sizes : Leave → Name × List ℕ
 named_sizes l = (string_bytes l.name, l.sizes.items)

@@ -1,7 +1,7 @@
 // A bay as its callers see it.
 ghost use Rattle.std.specs.Prelude.{◌≡◌, ◌≢◌, ◌≤◌, ◌<◌, ◌*◌, ◌⊎◌, [], length, sum, option_map, option_and_then, IfOk, IfErr, IfSome, OnOk, OnErr, IsErrOf, None};
 ghost use Rattle.wol_disk.specs.Disk.{Rose};
-ghost use Rattle.wol_bay.specs.Bay.{BayState, IsHome, IsOut, at_name, bytes_of, sent_out, came_back};
+ghost use Rattle.wol_bay.specs.Bay.{BayState, AreNamedApart, IsHome, IsOut, at_name, bytes_of, sent_out, came_back};
 ghost use Rattle.wol_bay.specs.Refusals.{blocks_at, refusal, IsAnswered};
 ghost use Rattle.wol_bay.specs.Parts.{AreBlank, AreCut, blocks_of, sizes_of, faulty_places};
 
@@ -18,6 +18,9 @@ pub trait Bay {
 
     /// What it tells of its images and names, and its count of faults.
     ghost state: { Self → BayState };
+
+    /// No two images that it tells have one name.
+    ghost apart: { (b : Self) → IfSome (state b).told (λ t. AreNamedApart t) };
 
     /// Makes the image anew and hands it out: parts of so many blocks in this order, all zero in every image. It
     /// answers only `Failed` or `NoMemory`.

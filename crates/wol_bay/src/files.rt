@@ -152,6 +152,8 @@ impl<'a, R: Files<File = File>> Bay for FileBay<'a, R> {
 
     ghost state = { file_bay_state };
 
+    ghost apart = { λ b. tt };
+
     fn create(&mut self, name: &str, sizes: &[u64]) -> Result<Vec<FilePart>, BayFault> {
         let Ok(path) = self.path_of(name) else {
             return Err(BayFault::NoMemory);

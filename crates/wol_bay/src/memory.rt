@@ -1,7 +1,9 @@
 // Images in memory.
-ghost use Rattle.std.specs.Prelude.{◌≡◌, ◌≢◌, ◌+◌, ◌*◌, ◌≤◌, [], ◌∷◌, Some, None, IfSome, IfOk, OnOk, OnErr, IfErr, IsErrOf, ◌⊎◌, ◌++◌, length, sum, option_map, vec_len, vec_capacity};
+ghost use Rattle.std.specs.Prelude.{◌≡◌, ◌≢◌, ◌+◌, ◌*◌, ◌≤◌, [], ◌∷◌, Some, None, IfSome, IfOk, OnOk, OnErr, IfErr, IsErrOf, ◌⊎◌, ◌++◌, length, map, sum, option_map, vec_len, vec_capacity};
 ghost use Rattle.wol_bay.specs.Parts.{AreBlank, AreCut, blocks_of, sizes_of, faulty_places};
 ghost use Rattle.wol_bay.specs.Stored.{stored_blocks};
+ghost use Rattle.wol_bay.specs.Bay.{AreApart};
+ghost use Rattle.wol_bay.specs.Held.{named_image};
 ghost use Rattle.wol_disk.specs.BlockValues.{all_values};
 ghost use Rattle.wol_disk.specs.Disk.{Rose};
 ghost use Rattle.std.specs.Arc.{arc_value};
@@ -31,6 +33,7 @@ pub struct MemBay {
     faults: u64,
     ghost image_room: { vec_len images + vec_len out ≤ vec_capacity images },
     ghost faulty_room: { vec_len faulty + vec_len out ≤ vec_capacity faulty },
+    ghost apart: { AreApart (map named_image images.items) },
 }
 
 // The values of the blocks of all parts.
@@ -106,7 +109,7 @@ impl MemBay {
         let more = self.out.len() + 1;
         self.images.reserve(more)?;
         let _replaced = take_by_name(&mut self.images, name);
-        self.images.push(made).unwrap();
+        self.images.push_reserved(made);
         Ok(())
     }
 
@@ -149,7 +152,7 @@ impl MemBay {
             rest,
             bytes,
         };
-        self.images.push(left).unwrap();
+        self.images.push_reserved(left);
     }
 
     // A part with its plan and the fuse.
@@ -276,6 +279,8 @@ impl Bay for MemBay {
 
     ghost state = { mem_bay_state };
 
+    ghost apart = { λ b. b.apart };
+
     fn create(&mut self, name: &str, sizes: &[u64]) -> Result<Vec<StopDisk<MemDisk>>, BayFault>
         requires { IsHome name.now (mem_bay_state self.old) }
         ensures parts { IfOk result (λ parts. AreBlank ⟦<StopDisk<MemDisk> as Disk>⟧.state (mem_bay_state self.old).told sizes.now parts.items) }
@@ -370,6 +375,6 @@ impl Bay for MemBay {
             rest: Vec::new(self.alloc),
             bytes,
         };
-        self.images.push(image).unwrap();
+        self.images.push_reserved(image);
     }
 }

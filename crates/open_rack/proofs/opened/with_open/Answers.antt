@@ -28,7 +28,7 @@ returns-clause-sound g c =
     let o = c.in_ok-rack.ensures in let e = c.close_all-spindles.ensures in
     let tells = g.B.Part.Disk.tells in let state = g.B.Part.Disk.state in let config = c.args.config.now in
     let old = g.B.Bay.state c.args.bay.now in let bay = g.B.Bay.state c.open_all.new.bay in let new = g.B.Bay.state c.close_all-spindles.new.bay in
-    let opened : IsOpened tells state config old bay c.in_ok-rack.rack = record { rack = o.rack; fresh = o.fresh; fresh_keepers = o.fresh_keepers; began = o.began; there = o.there; apart = λ telling. o.apart; kept = o.kept; faulty = o.faulty; unfaulty = o.unfaulty } in
+    let opened : IsOpened tells state config old bay c.in_ok-rack.rack = record { rack = o.rack; fresh = o.fresh; fresh_keepers = o.fresh_keepers; began = o.began; there = o.there; kept = o.kept; faulty = o.faulty; unfaulty = o.unfaulty } in
     λ telling. sound_since tells state config old bay new c.in_ok-rack.rack c.run-answer.new.rack c.run-answer.ensures.again opened o.counts e.counts e.kept telling (λ t began there. e.sound t telling began there)
 
 pub returns-clause-did : goal.returns-clause-did
@@ -36,12 +36,12 @@ returns-clause-did g c =
     let o = c.in_ok-rack.ensures in let e = c.close_all-spindles.ensures in
     let tells = g.B.Part.Disk.tells in let state = g.B.Part.Disk.state in let config = c.args.config.now in
     let old = g.B.Bay.state c.args.bay.now in let bay = g.B.Bay.state c.open_all.new.bay in let new = g.B.Bay.state c.close_all-spindles.new.bay in
-    let opened : IsOpened tells state config old bay c.in_ok-rack.rack = record { rack = o.rack; fresh = o.fresh; fresh_keepers = o.fresh_keepers; began = o.began; there = o.there; apart = λ telling. o.apart; kept = o.kept; faulty = o.faulty; unfaulty = o.unfaulty } in
-    let closed : IsClosed tells state config bay new c.run-answer.new.rack c.close_all-spindles.result.items = record { count = e.count; each = e.spindles; stations = e.stations.0; pools = e.stations.1; parts = e.parts; apart = e.apart; lists = e.faulty } in
-    opens_and_closes tells state config old bay new c.in_ok-rack.rack c.run-answer.new.rack c.run-answer.ensures.again opened o.counts e.counts e.kept o.refused o.apart
+    let opened : IsOpened tells state config old bay c.in_ok-rack.rack = record { rack = o.rack; fresh = o.fresh; fresh_keepers = o.fresh_keepers; began = o.began; there = o.there; kept = o.kept; faulty = o.faulty; unfaulty = o.unfaulty } in
+    let closed : IsClosed tells state config bay new c.run-answer.new.rack c.close_all-spindles.result.items = record { count = e.count; each = e.spindles; stations = e.stations.0; pools = e.stations.1; parts = e.parts; lists = e.faulty } in
+    opens_and_closes tells state config old bay new c.in_ok-rack.rack c.run-answer.new.rack c.run-answer.ensures.again opened o.counts e.counts e.kept o.refused
     (gained_parts state config c.run-answer.new.rack.rest bay.told new.told e.faulty)
     _ _ c.run-answer.ensures.did closed o.failed o.complete e.cause e.left e.volumes e.unopened
 
 pub returns-clause-others : goal.returns-clause-others
 returns-clause-others g c =
-    others_then c.args.config.now (g.B.Bay.state c.args.bay.now).told (g.B.Bay.state c.open_all.new.bay).told (g.B.Bay.state c.close_all-spindles.new.bay).told c.in_ok-rack.ensures.apart c.open_all.ensures.others c.close_all-spindles.ensures.others
+    others_then c.args.config.now (g.B.Bay.state c.args.bay.now).told (g.B.Bay.state c.open_all.new.bay).told (g.B.Bay.state c.close_all-spindles.new.bay).told c.open_all.ensures.others c.close_all-spindles.ensures.others

@@ -16,7 +16,7 @@ use Rattle.rack.specs.declared.locks.Issued.{Issued}
 use Rattle.rack.specs.declared.rack.ImageRest.{ImageRest}
 use Rattle.rack.proofs.SentNames.{names_out}
 use Rattle.rack.proofs.Issues.{on_err}
-use Rattle.rack.proofs.OthersKept.{others_same, others_then, back_others, sent_others, sent_apart}
+use Rattle.rack.proofs.OthersKept.{others_same, others_then, back_others, sent_others}
 use Rattle.rack.proofs.TakenBack.{left_back, sound_back, nothing_done, left_again, sound_again}
 use Rattle.rack.proofs.TakenOut.{shape_here, may_issue, again, same_here, home_again}
 use Rattle.rack.proofs.all.take_out.Goals as goal
@@ -169,4 +169,4 @@ returns-in-Err-issue_pools-clause-others g c =
     let b2 = g.B.Bay.state c.give_back.new.bay in
     let out = c.in-Ok.images.out.items in
     let n = length config.volumes.items in
-    others_then config b.told b1.told b2.told (sent_apart config out n b b1 c.in-Ok.ensures.out) (sent_others config out n b b1 c.in-Ok.ensures.out) (back_others config _ g.B.Part.Disk.state b1.told b2.told c.give_back.ensures.back)
+    others_then config b.told b1.told b2.told (sent_others config out n b b1 c.in-Ok.ensures.out) (back_others config _ g.B.Part.Disk.state b1.told b2.told c.give_back.ensures.back)

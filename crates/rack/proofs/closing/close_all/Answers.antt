@@ -276,13 +276,3 @@ returns-clause-faulty g c =
       more_is = back.faulty;
       each = listed_through state g.B.Part.Disk.tells config old c.args.rack can c.close_stations.new.self second is1 c.close_stations.ensures.closed c.close_pools.ensures.images c.close_pools.ensures.spindles o n back;
     })
-
-pub returns-clause-apart : goal.returns-clause-apart
-returns-clause-apart g c =
-    let state = g.B.Part.Disk.state in
-    let config = c.args.config.now in
-    let second = c.close_pools.new.self in
-    let old = g.B.Bay.state c.args.bay.now in
-    let new = g.B.Bay.state c.give_back.new.bay in
-    let given = subst (λ w. Rattle.volume_images.specs.Left.IsTold (Rattle.rack.specs.Closing.GivesBack state config w.items 0) old.told new.told) c.close_spindles.ensures.images c.give_back.ensures.back in
-    told_map (Rattle.rack.specs.Closing.GivesBack state config second.images.items 0) (λ o n. Rattle.volume_images.specs.Left.AreNamedApart n) old.told new.told given (λ o n back. back.apart)

@@ -7,7 +7,7 @@ use Rattle.volume_images.specs.Volumes.{shape_in}
 use Rattle.rack.specs.Opening.{HasSentOut, AreAsked}
 use Rattle.rack.proofs.Asking.{some_at, asked_more, asked_later, none_asked}
 use Rattle.rack.proofs.NewFaults.{same_faulty}
-use Rattle.rack.proofs.OthersKept.{others_same, others_then, back_others, sent_others, sent_apart}
+use Rattle.rack.proofs.OthersKept.{others_same, others_then, back_others, sent_others}
 use Rattle.rack.proofs.SentNames.{same_until, sent_on, none_sent, next_home, names_out, sent_same}
 use Rattle.rack.proofs.AllBack.{all_back, all_whole, nothing_out}
 use Rattle.rack.proofs.UsedPass.{used_spindle}
@@ -121,7 +121,7 @@ returns-in-Err-clause-err g c =
     let inv = c.loop-id.invariant in
     all_back g.B.Part.Disk.tells g.B.Part.Disk.state g.met.B.Part.Disk.told c.args.config.now b b2 b3 c.loop-id.id c.loop-id.images
     (asked_later g.B.Part.Disk.tells g.B.Part.Disk.state c.args.config.now b b1 b2 c.loop-id.id c.loop-id.images at_once.counts
-    (sent_apart c.args.config.now c.loop-id.images.out.items c.loop-id.id b b1 inv.sent) (same_faulty b1.told b2.told at_once.same) inv.asked)
+    (same_faulty b1.told b2.told at_once.same) inv.asked)
     (sent_same c.args.config.now c.loop-id.images.out.items c.loop-id.id b b1 b2 inv.sent at_once) c.give_back.ensures.back c.requires.home c.give_back.ensures.home c.give_back.ensures.counts
 
 pub loop-id-preserved : goal.loop-id-preserved
@@ -165,7 +165,7 @@ returns-in-Err-clause-others g c =
     let out = c.loop-id.images.out.items in
     let n = c.loop-id.id in
     let sent = sent_same config out n b b1 b2 c.loop-id.invariant.sent c.in-Err.ensures.err in
-    others_then config b.told b2.told b3.told (sent_apart config out n b b2 sent) (sent_others config out n b b2 sent) (back_others config _ g.B.Part.Disk.state b2.told b3.told c.give_back.ensures.back)
+    others_then config b.told b2.told b3.told (sent_others config out n b b2 sent) (back_others config _ g.B.Part.Disk.state b2.told b3.told c.give_back.ensures.back)
 
 pub returns-clause-others : goal.returns-clause-others
 returns-clause-others g c = sent_others c.args.config.now c.loop-id.images.out.items c.loop-id.id (g.B.Bay.state c.args.bay.now) (g.B.Bay.state c.loop-id.bay) c.loop-id.invariant.sent

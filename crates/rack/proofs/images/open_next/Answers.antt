@@ -58,7 +58,7 @@ returns-in-Ok-open_image-clause-opened g c = λ v found.
       heads = next_heads state sound (length (shapes_of config)) c.args.id (shape_in config v) (blocks_at v.name told) image c.lay_out.result.0 c.lay_out.result.1 cut c.lay_out.ensures;
       sent = sent;
       counts = c.open_image.ensures.counts;
-      entry = λ telling t is apart. next_entry state sound config t c.args.id v told image c.lay_out.result.0 c.lay_out.result.1 is cut c.lay_out.ensures says;
+      entry = λ telling t is. next_entry state sound config t c.args.id v told image c.lay_out.result.0 c.lay_out.result.1 is cut c.lay_out.ensures says;
     }
 
 pub returns-in-Ok-open_image-clause-passes : goal.returns-in-Ok-open_image-clause-passes

@@ -41,7 +41,7 @@ loop-image-preserved g c =
     record {
       front = front_less all c.loop-image.images.items left c.in-Some.image c.loop-image.invariant.front c.in-Some.ensures.items;
       few = omega (arith, count, c.loop-image.invariant.few);
-      back = one_more_back g.B.Part.Disk.state c.args.config.now all c.requires.config (length left) v.0 v.1 (g.B.Bay.state c.args.bay.now) (g.B.Bay.state c.loop-image.bay) (g.B.Bay.state c.give_image_back.new.bay) c.in-Some.image there
+      back = one_more_back g.B.Part.Disk.state c.args.config.now all c.requires.config (length left) v.0 v.1 (g.B.Bay.state c.args.bay.now) (g.B.Bay.state c.loop-image.bay) (g.B.Bay.state c.give_image_back.new.bay) c.in-Some.image there (g.B.Bay.apart c.loop-image.bay)
           (subst (λ (m : ℕ). IsBackFrom g.B.Part.Disk.state c.args.config.now all m (g.B.Bay.state c.args.bay.now) (g.B.Bay.state c.loop-image.bay)) next c.loop-image.invariant.back) (c.give_image_back.ensures v.0 at);
     }
 

@@ -92,7 +92,7 @@ returns-in-Ok-answer-clause-changes g c = λ v conf.
     let e = c.in-Ok-answer.ensures in
     in_bay g.B.Part.Disk.tells state g.met.B.Part.Disk.sound g.met.B.Part.Disk.told c.args.config.now c.args.volume _ v c.args.asked.now (omega (arith, c.requires.logger, c.len-volumes.ensures)) s.0
     (g.B.Bay.state c.args.bay.now) (g.B.Bay.state c.attach.new.self) (g.B.Bay.state c.detach.new.self) c.take_apart-image.result.label.inner c.change-answer.new.label.inner c.take_apart-image.result.home.inner
-    (two_cut state c.take_apart-image.result _ s.0 c.in-Ok.parts.items c.take_apart-image.ensures.parts cut) c.in-Ok.parts answered sent back (c.in-Ok.ensures.calm (λ no_fault. cc no_fault)) cause (Ok c.in-Ok-answer.view)
+    (two_cut state c.take_apart-image.result _ s.0 c.in-Ok.parts.items c.take_apart-image.ensures.parts cut) c.in-Ok.parts answered sent back (c.in-Ok.ensures.calm (λ no_fault. cc no_fault)) cause (g.B.Bay.apart c.args.bay.now) (Ok c.in-Ok-answer.view)
     (part_changed _ _ _ _ _ _ e.answer e.any_moment (g.met.B.Part.Disk.sound c.change-answer.new.label.inner) e.stored e.unwritten e.cause)
 
 pub returns-clause-changes : goal.returns-clause-changes
@@ -112,7 +112,7 @@ returns-clause-changes g c = λ v conf.
     rw c.stop_of.ensures
     (in_bay g.B.Part.Disk.tells state g.met.B.Part.Disk.sound g.met.B.Part.Disk.told c.args.config.now c.args.volume _ v c.args.asked.now (omega (arith, c.requires.logger, c.len-volumes.ensures)) s.0
     (g.B.Bay.state c.args.bay.now) (g.B.Bay.state c.attach.new.self) (g.B.Bay.state c.detach.new.self) c.take_apart-image.result.label.inner c.change-answer.new.label.inner c.take_apart-image.result.home.inner
-    (two_cut state c.take_apart-image.result _ s.0 c.in-Ok.parts.items c.take_apart-image.ensures.parts cut) c.in-Ok.parts answered sent back (c.in-Ok.ensures.calm (λ no_fault. cc no_fault)) cause (Err c.in-Err-answer.refusal)
+    (two_cut state c.take_apart-image.result _ s.0 c.in-Ok.parts.items c.take_apart-image.ensures.parts cut) c.in-Ok.parts answered sent back (c.in-Ok.ensures.calm (λ no_fault. cc no_fault)) cause (g.B.Bay.apart c.args.bay.now) (Err c.in-Err-answer.refusal)
     (part_changed _ _ _ _ _ _ e.answer e.any_moment (g.met.B.Part.Disk.sound c.change-answer.new.label.inner) e.stored e.unwritten e.cause))
 
 pub returns-clause-known : goal.returns-clause-known

@@ -30,7 +30,7 @@ loop-id-preserved g c =
       home = c.format_image.ensures.home ∙ c.loop-id.invariant.home;
       left = told_then (FormatsFirst config i) (CameBack v.name (settled_image (formatted i (shape_in config v) v.view)) []) (FormatsFirst config (i + 1))
           (g.B.Bay.state c.args.bay.now).told (g.B.Bay.state c.loop-id.bay).told (g.B.Bay.state c.format_image.new.bay).told
-          (λ x y first. first.apart) (λ x y z first back. formats_more config c.requires.config i v x y z (omega arith) is first back)
+          (λ x y z first back. formats_more config c.requires.config i v x y z (omega arith) is first back)
           c.loop-id.invariant.left c.in_ok-format_image.ensures.left;
       calm = c.in_ok-format_image.ensures.calm (λ n p e. cc e) ∙ c.loop-id.invariant.calm;
     }
@@ -47,7 +47,6 @@ returns-in_err-format_image-clause-left g c =
     let answer : c.from_residual.result ≡ Err e = p.1 ∙ ap Err p.2 in
     rw answer (told_then (FormatsFirst config i) (LeavesImage (Err e) v.name i (shape_in config v) v.view) (LeavesImages config (Err e))
     (g.B.Bay.state c.args.bay.now).told (g.B.Bay.state c.loop-id.bay).told (g.B.Bay.state c.format_image.new.bay).told
-    (λ x y first. first.apart)
     (λ x y z first left. ends_with config c.requires.config e i v x y z (omega arith) is (λ n q same. c.in_err-format_image.ensures.volume n q (ap Err same)) first left)
     c.loop-id.invariant.left c.in_err-format_image.ensures.left)
 

@@ -56,7 +56,7 @@ returns-in-Ok-formatted-clause-left g c =
     let s = shape_of c.args.label.now in
     let ids = c.args.volume.now.view in
     brought_back (CameBack name (settled_image (formatted id s ids)) []) name c.deref.result.now (faulty_places state parts) (blocks_of state parts)
-    (g.B.Bay.state c.args.bay.now).told (g.B.Bay.state c.create.new.self).told (g.B.Bay.state c.detach.new.self).told
+    (g.B.Bay.state c.args.bay.now).told (g.B.Bay.state c.create.new.self).told (g.B.Bay.state c.detach.new.self).told (g.B.Bay.apart c.args.bay.now)
     (λ t e. c.format_parts-formatted.ensures.told (blank_tells state (g.B.Bay.state c.args.bay.now).told c.deref.result.now c.in-Ok.parts.items c.in-Ok.ensures.parts t e))
     (λ t vs e apart. whole_back state name id s ids parts c.in-Ok-formatted.ensures.ok c.deref.result.now t vs e apart)
     (rw c.as_str-name.ensures at c.in-Ok.ensures.ok) (rw c.as_str-name.ensures at c.detach.ensures.back)
@@ -70,7 +70,7 @@ returns-clause-left g c =
     let s = shape_of c.args.label.now in
     let ids = c.args.volume.now.view in
     brought_back (LeavesFailed c.in-Err-formatted.part name id s ids) name c.deref.result.now (faulty_places state parts) (blocks_of state parts)
-    (g.B.Bay.state c.args.bay.now).told (g.B.Bay.state c.create.new.self).told (g.B.Bay.state c.detach.new.self).told
+    (g.B.Bay.state c.args.bay.now).told (g.B.Bay.state c.create.new.self).told (g.B.Bay.state c.detach.new.self).told (g.B.Bay.apart c.args.bay.now)
     (λ t e. c.format_parts-formatted.ensures.told (blank_tells state (g.B.Bay.state c.args.bay.now).told c.deref.result.now c.in-Ok.parts.items c.in-Ok.ensures.parts t e))
     (λ t vs e apart. failed_back state name id s ids parts c.in-Err-formatted.part c.format_parts-formatted.ensures.images c.in-Err-formatted.ensures.cause c.deref.result.now t vs e apart)
     (rw c.as_str-name.ensures at c.in-Ok.ensures.ok) (rw c.as_str-name.ensures at c.detach.ensures.back)

@@ -23,7 +23,7 @@ returns-in-Err-read-clause-home g c =
 
 pub returns-in-Err-read-clause-refused : goal.returns-in-Err-read-clause-refused
 returns-in-Err-read-clause-refused g c =
-    gave_back g.B.Part.Disk.state g.met.B.Part.Disk.sound c.args.volumes c.args.want.now.id (shape_of c.args.want.now) c.args.name.now c.in-Ok-send_out.out (g.B.Bay.state c.args.bay.now) (g.B.Bay.state c.send_out.new.bay) (g.B.Bay.state c.read_out-read.new.bay) c.in-Err-read.fault
+    gave_back g.B.Part.Disk.state g.met.B.Part.Disk.sound c.args.volumes c.args.want.now.id (shape_of c.args.want.now) c.args.name.now c.in-Ok-send_out.out (g.B.Bay.state c.args.bay.now) (g.B.Bay.state c.send_out.new.bay) (g.B.Bay.state c.read_out-read.new.bay) c.in-Err-read.fault (g.B.Bay.apart c.args.bay.now)
     c.in-Ok-send_out.ensures.out (c.in-Ok-send_out.ensures.refused (λ never. cc never)) c.in-Ok-send_out.ensures.ok c.in-Err-read.ensures.refused
 
 pub returns-in-Err-read-clause-counts : goal.returns-in-Err-read-clause-counts

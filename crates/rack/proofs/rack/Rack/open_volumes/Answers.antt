@@ -44,7 +44,7 @@ loop-id-preserved g c = elim c.match-own.branch [
         same_out = subst (λ (x : Rack g.row.D.Denot). AreSameOut c.args.self.now x) is (ok.same_out ∙ inv.same_out);
         begun = λ telling t h. subst (λ (x : Rack g.row.D.Denot). HasBegun g.D.Disk.state c.args.config.now t c.args.said.now (c.loop-id.id + 1) x) is (ok.begun telling t (inv.begun telling t h));
         refused = λ b b' premise first. subst (λ (x : Rack g.row.D.Denot). AreRefusedBelow g.D.Disk.tells g.D.Disk.state c.args.config.now b b' (c.loop-id.id + 1) x) is
-            (ok.refused b b' (λ telling t is_t apart. inv.begun telling t (premise telling t is_t apart)) (inv.refused b b' premise first));
+            (ok.refused b b' (λ telling t is_t. inv.begun telling t (premise telling t is_t)) (inv.refused b b' premise first));
         failed = subst (λ (x : Rack g.row.D.Denot). HaveFaults g.D.Disk.state c.args.said.now (c.loop-id.id + 1) x) is (ok.failed inv.failed);
       }
   | in_default w ↦

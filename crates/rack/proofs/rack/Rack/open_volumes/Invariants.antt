@@ -1,7 +1,6 @@
 use Rattle.std.proofs.Common.{◌≡◌, Some}
 use Rattle.std.specs.Prelude.{IsTrue}
 use Rattle.wol_bay.specs.Bay.{BayState, Told}
-use Rattle.volume_images.specs.Left.{AreNamedApart}
 use Rattle.rack.specs.Opening.{IsOpeningRack, HasBegun, AreRefusedBelow, HaveFaults, AreSameOut}
 use Rattle.rack.proofs.rack.Rack.open_volumes.Given as goal
 
@@ -13,7 +12,7 @@ invariant-loop-id g l = record {
   keepers : l.self.keepers ≡ l.fn.self.keepers;
   same_out : AreSameOut l.fn.self l.self;
   begun : IsTrue g.D.Disk.tells → (t : Told) → HasBegun g.D.Disk.state l.config t l.said 0 l.fn.self → HasBegun g.D.Disk.state l.config t l.said l.id l.self;
-  refused : (b b' : BayState) → (IsTrue g.D.Disk.tells → (t : Told) → b.told ≡ Some t → AreNamedApart t → HasBegun g.D.Disk.state l.config t l.said 0 l.fn.self)
+  refused : (b b' : BayState) → (IsTrue g.D.Disk.tells → (t : Told) → b.told ≡ Some t → HasBegun g.D.Disk.state l.config t l.said 0 l.fn.self)
       → AreRefusedBelow g.D.Disk.tells g.D.Disk.state l.config b b' 0 l.fn.self → AreRefusedBelow g.D.Disk.tells g.D.Disk.state l.config b b' l.id l.self;
   failed : HaveFaults g.D.Disk.state l.said l.id l.self;
 }

@@ -12,6 +12,7 @@ use Rattle.wol_bay.specs.MemBay.{named_image, told_of}
 use Rattle.wol_bay.proofs.Attached.{told_image, told_absent}
 use Rattle.wol_bay.proofs.BayMoves.{has_name, replaced}
 use Rattle.wol_bay.proofs.Crashes.{length-crashed}
+use Rattle.wol_bay.proofs.ImagesApart.{placed_apart}
 use Rattle.wol_bay.proofs.memory.MemBay.restart.Goals as goal
 
 pub unreachable-requires : goal.unreachable-requires
@@ -37,7 +38,16 @@ returns-clause-left c =
     let kept = with_items_is image.parts c.restart_parts.new.parts (omega (arith, c.restart_parts.auto.parts, c.deref_mut.ensures.len)) in
     let left : stored_blocks (with_items image.parts c.restart_parts.new.parts).items ≡ only (chosen choice (stored_blocks image.parts.items)) =
     ap stored_blocks kept ∙ c.restart_parts.ensures ∙ ap (λ (l : List (StopDisk MemDisk)). only (chosen choice (stored_blocks l))) c.deref_mut.ensures.value in
-    let more = rw c.unwrap.ensures at c.push.ensures.items in
-    ap Some (replaced name (crashed choice (named_image image).1) bay.images.items c.take_by_name.new.entries.items c.push.new.self.items bay.out.items bay.faulty.items _
+    let more = c.push_reserved.ensures.items in
+    ap Some (replaced name (crashed choice (named_image image).1) bay.images.items c.take_by_name.new.entries.items c.push_reserved.new.self.items bay.out.items bay.faulty.items _
     c.take_by_name.ensures.entries more (λ i. (named i, record { blocks = left i; rest = image.rest.items }))
     ∙ sym (ap (λ o. restarted_as name choice o (told_of bay.images.items bay.out.items bay.faulty.items)) (told_image name bay.images.items image (sym c.in-Some.ensures.result))))
+
+pub invariant_of-self-clause-apart : goal.invariant_of-self-clause-apart
+invariant_of-self-clause-apart c =
+    let image = c.in-Some.image in
+    let name = c.args.name.now in
+    let images = c.args.self.now.images.items in
+    let named : string_bytes image.name ≡ name = has_name (λ image. string_bytes image.name) (λ image. (named_image image).1) name images image c.in-Some.ensures.result in
+    let more = c.push_reserved.ensures.items in
+    placed_apart name images c.take_by_name.new.entries.items c.args.self.now.apart c.take_by_name.ensures.entries c.push_reserved.new.self.items _ more named

@@ -2,7 +2,7 @@
 use Rattle.std.proofs.Common.{◌≡◌, ◌≢◌, Bool, true, false, cond, List, [], ◌∷◌, ◌++◌, None, Some, refl, sym, ap, ◌∙◌, subst}
 use Rattle.std.specs.Str.{bytes_eq}
 use Rattle.std.proofs.lemmas.Slice.Eq.{bytes_eq-Decides}
-use Rattle.wol_bay.specs.Bay.{Name, at_name, without}
+use Rattle.wol_bay.specs.Bay.{Name, AreApart, at_name, without}
 use Rattle.wol_bay.proofs.NameLists.{without_none, is_out, out_again}
 
 not_same : (x name : Name) → x ≢ name → bytes_eq x name ≡ false
@@ -55,33 +55,39 @@ module _ {A : Type 0} (name other : Name) (apart : other ≢ name) where
       go false e false f more =
           ap (λ (b : Bool). at_name other (cond b (without name es) (x ∷ without other (without name es)))) f ∙ ap (λ o. cond (bytes_eq x.0 other) (Some x.1) o) more
 
-module _ {A : Type 0} (name : Name) (es : List (Name × A)) (a : A) (apart : (n : Name) → at_name n (without n es) ≡ None) where
-  abbrev stored_list : List (Name × A)
-  stored_list = without name (without name es) ++ (name, a) ∷ []
+-- names are the same, or they aren't
+by_cases : (P : Name → Type 0) (name : Name) → P name → ((n : Name) → n ≢ name → P n) → (n : Name) → P n
+by_cases P name same other n = go (bytes_eq n name) refl
+  where
+    go : (b : Bool) → bytes_eq n name ≡ b → P n
+    go true e = subst P (sym ((bytes_eq-Decides n name).0 e)) same
+    go false e = other n (λ is. let f : true ≡ false = sym ((bytes_eq-Decides n name).1 is) ∙ e in cc)
 
+module _ {A : Type 0} (name : Name) (es : List (Name × A)) (apart : AreApart es) where
   once : without name (without name es) ≡ without name es
   once = without_none name (without name es) (apart name)
 
+  pub gone_apart : AreApart (without name es)
+  gone_apart = by_cases (λ n. at_name n (without n (without name es)) ≡ None) name (ap (at_name name) once ∙ apart name) (λ n differs. second_gone name n differs es ∙ apart n)
+
+  -- an entry of a name that no other has
+  pub new_apart : (a : A) → at_name name es ≡ None → AreApart (es ++ (name, a) ∷ [])
+  new_apart a none =
+      by_cases (λ n. at_name n (without n (es ++ (name, a) ∷ [])) ≡ None) name (ap (at_name name) (out_again name es a none) ∙ none) (λ n differs. second_put name n differs es a ∙ apart n)
+
+module _ {A : Type 0} (name : Name) (es : List (Name × A)) (a : A) (apart : AreApart es) where
+  abbrev stored_list : List (Name × A)
+  stored_list = without name (without name es) ++ (name, a) ∷ []
+
   -- an entry stands in the place of another
+  pub in_place_apart : AreApart (without name es ++ (name, a) ∷ [])
+  in_place_apart = new_apart name (without name es) (gone_apart name es apart) a (apart name)
+
   pub put_here : at_name name stored_list ≡ Some a
-  put_here = ap (λ l. at_name name (l ++ (name, a) ∷ [])) once ∙ is_out name (without name es) a (apart name)
+  put_here = ap (λ l. at_name name (l ++ (name, a) ∷ [])) (once name es apart) ∙ is_out name (without name es) a (apart name)
 
   pub put_others : (other : Name) → other ≢ name → at_name other stored_list ≡ at_name other es
   put_others other differs = other_put name other differs (without name (without name es)) a ∙ other_gone name other differs (without name es) ∙ other_gone name other differs es
 
-  same_name : (n : Name) → n ≡ name → at_name n (without n stored_list) ≡ None
-  same_name n e =
-      let is : at_name name (without name stored_list) ≡ None =
-      ap (λ l. at_name name (without name (l ++ (name, a) ∷ []))) once ∙ ap (at_name name) (out_again name (without name es) a (apart name)) ∙ apart name in
-      subst (λ (m : Name). at_name m (without m stored_list) ≡ None) (sym e) is
-
-  other_name : (n : Name) → n ≢ name → at_name n (without n stored_list) ≡ None
-  other_name n differs =
-      second_put name n differs (without name (without name es)) a ∙ second_gone name n differs (without name es) ∙ second_gone name n differs es ∙ apart n
-
-  pub put_apart : (n : Name) → at_name n (without n stored_list) ≡ None
-  put_apart n = go (bytes_eq n name) refl
-    where
-      go : (b : Bool) → bytes_eq n name ≡ b → at_name n (without n stored_list) ≡ None
-      go true e = same_name n ((bytes_eq-Decides n name).0 e)
-      go false e = other_name n (λ is. let f : true ≡ false = sym ((bytes_eq-Decides n name).1 is) ∙ e in cc)
+  pub put_apart : AreApart stored_list
+  put_apart = subst (λ (l : List (Name × A)). AreApart (l ++ (name, a) ∷ [])) (sym (once name es apart)) in_place_apart
