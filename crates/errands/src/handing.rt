@@ -1,7 +1,7 @@
 // Handing over and coming back.
 ghost use Rattle.std.specs.Prelude.{◌≡◌, true, false, [], ◌∷◌, None, Some, IfOk, IfSome, IfNone};
-ghost use Rattle.errands.specs.Ends.{IsIdle, IsAway, IsWaiting, IsBusy};
-ghost use Rattle.errands.specs.Rule.{idle, away, waits, busy, CameBack, Came, opened, fresh};
+ghost use Rattle.errands.specs.Ends.{IsIdle, IsAway, IsOver, IsWaiting, IsBusy, IsTold};
+ghost use Rattle.errands.specs.Rule.{idle, away, waits, busy, told, CameBack, Came, opened, fresh};
 
 use crate::ends::{ErrandSeat, ErrandTable, Errands, NoMemory, Sender, Worker};
 use crate::errand::Errand;
@@ -141,10 +141,10 @@ impl<T: Errand> Errands<T> {
         }
     }
 
-    /// Tells the worker that nothing more comes, and wakes it.
+    /// Tells the worker that nothing more comes, and wakes it. Nothing can be handed over after that.
     pub fn end(&self, sender: &mut Sender<T>)
         requires { IsIdle self.now sender.old }
-        ensures { IsIdle self.now sender.new }
+        ensures { IsOver self.now sender.new }
     {
         self.table
             .shared
@@ -158,7 +158,7 @@ impl<T: Errand> Errands<T> {
         requires waits { seat.old.me ≡ (waits, []) }
         ensures own { seat.new.table_id ≡ seat.old.table_id }
         ensures came { result ≡ true → Came T.ready seat.new.me }
-        ensures over { result ≡ false → seat.new.me ≡ seat.old.me }
+        ensures told { result ≡ false → seat.new.me ≡ (told, []) }
     {
         for _ in rt.forever() {
             let found = self.table.shared.load::<Looks<T>>(seat, PHASE);
@@ -173,11 +173,11 @@ impl<T: Errand> Errands<T> {
         unreachable!()
     }
 
-    /// Waits for what is handed over, and takes it. `None` where nothing more comes.
+    /// Waits for what is handed over, and takes it. `None` where the other end said that nothing more comes.
     pub fn take<R: Wait>(&self, rt: &R, worker: &mut Worker<T>) -> Option<T>
         requires { IsWaiting self.now worker.old }
         ensures some { IfSome result (λ x. T.ready x × IsBusy self.now worker.new x) }
-        ensures none { IfNone result (IsWaiting self.now worker.new) }
+        ensures none { IfNone result (IsTold self.now worker.new) }
     {
         self.came.store(true, SeqCst);
         if !self.look(rt, &mut worker.seat) {

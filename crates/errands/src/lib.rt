@@ -7,8 +7,8 @@
 //! each atomic step tells. Of `specs/`, callers need `Ends`; `Rule` is the inside.
 //!
 //! Nothing says that the other end comes, or how long it takes: where no thread could be had for a worker, what is
-//! handed over stays where it is. `has_worker` tells whether one is there. No clause says either that a worker is told
-//! of the end only once it came; a worker that leaves early leaves the other end waiting.
+//! handed over stays where it is. `has_worker` tells whether one is there. After `end` nothing is handed over any more, and
+//! a worker that `take` gave nothing knows that the other end said so (`IsTold`).
 #![tactic(auto)]
 
 mod ends;

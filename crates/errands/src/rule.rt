@@ -14,10 +14,14 @@ pub enum Role {
     Idle,
     /// It handed something over.
     Away,
+    /// It said that nothing more comes.
+    Over,
     /// The worker waits.
     Waits,
     /// The worker has what was handed over.
     Busy,
+    /// The worker was told that nothing more comes.
+    Told,
 }
 
 /// What a seat knows: what it does, and what was handed over.

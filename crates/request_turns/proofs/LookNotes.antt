@@ -32,13 +32,17 @@ module _ {D : Type 0} (tells : Bool) (state : D → State) (m : Manager D) where
   -- from entering to leaving
   module _ (p i q : ManagerPass D) (stands : Stands tells state m (pass_lock i).base (notes_seen i)) (left : HasLeft tells (look_note (pass_number i)) i q)
       (same : IsSamePass p i) (begins : Begins (pass_seen p) (pass_seen i)) (mine : pass_mine i ≡ pass_mine p) (owns : own (pass_number i) (pass_seen i) ≡ pass_mine i) where
+    same_look : look_of_manager m ≡ last_look (began p).look (notes_seen i)
+    same_look = sym stands.look ∙ ap (λ (k : LockId ManagerBase). last_look k.base.volume.began.look (notes_seen i)) same.0
+
     pub has_looked : HasLooked tells m.down p q
     has_looked = record {
       before = pass_seen i;
       note = look_note (pass_number i);
       turned = turned tells p i q (look_note (pass_number i)) same begins mine owns left refl;
       kept = refl;
-      same = sym stands.look ∙ ap (λ (k : LockId ManagerBase). last_look k.base.volume.began.look (notes_seen i)) same.0;
+      same = same_look;
+      part = ap (λ (l : Look). l.down) same_look;
       cause = (was_broken tells state m (pass_lock i).base (notes_seen i) stands.keeps, was_down tells state m (pass_lock i).base (notes_seen i) stands.keeps);
     }
 

@@ -5,6 +5,7 @@ use Rattle.turn_lock.specs.Histories.{Entry}
 use Rattle.wol_model.specs.History.{Kept}
 use Rattle.wol_promise.specs.Ruled.{Noted, last_look}
 use Rattle.manager.specs.Answers.{home_write}
+use Rattle.manager.specs.Seen.{down_of}
 use Rattle.manager.specs.Stands.{notes_of}
 use Rattle.manager.specs.declared.part.Part.{Part}
 use Rattle.manager.specs.declared.part.ReadRefusal.{ReadRefusal}
@@ -34,7 +35,8 @@ pub record HasWrittenBlocks {D : Type 0} (tells : Bool) (first : ℕ) (blocks : 
   pub cause : IsCauseOfWrite (notes_of before) (last_look (began p).look (notes_of before)) o
   pub fault : TellsFault (notes_seen q) o
 
--- a look, which leaves all as it was: a part is told exactly where a disk call had failed before
+-- a look, which leaves all as it was: a part is told exactly where a disk call had failed before, and it is the one that the last
+-- entry's look names
 pub record HasLooked {D : Type 0} (tells : Bool) (down : Option Part) (p q : ManagerPass D) : Type 0 where
   pub before : List Entry
   pub note : Noted
@@ -42,3 +44,4 @@ pub record HasLooked {D : Type 0} (tells : Bool) (down : Option Part) (p q : Man
   pub kept : note.entry.operation ≡ Kept
   pub same : note.look ≡ last_look (began p).look (notes_of before)
   pub cause : IsSome down ↔ IsBroken (notes_of before)
+  pub part : down_of down ≡ (last_look (began p).look (notes_of before)).down

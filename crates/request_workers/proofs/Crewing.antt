@@ -9,7 +9,7 @@ use Rattle.std.proofs.lemmas.List.{get_or_append_left, get_or_default, length-ap
 use Rattle.errands.specs.Ends.{IsWaiting}
 use Rattle.errands.specs.declared.ends.Errands.{Errands}
 use Rattle.errands.specs.declared.ends.Worker.{Worker}
-use Rattle.request_workers.specs.Crews.{AreHome, IsCrew, IsHome, IsPool, IsSameCrew}
+use Rattle.request_workers.specs.Crews.{AreIdleSeats, IsPartCrew, IsIdleSeat, IsPool, IsSameCrew}
 use Rattle.request_workers.specs.declared.crew.Crew.{Crew}
 use Rattle.request_workers.specs.declared.crew.Seat.{Seat}
 use Rattle.request_workers.specs.declared.job.Job.{Job}
@@ -56,12 +56,12 @@ module _ {D : Type 0} (p q : Pool D) where
   pool_same errands seats workers is = record {
     seats_ = ap length seats ∙ (is.seats_ ∙ ap length (sym errands));
     workers_ = ap length workers ∙ (is.workers_ ∙ ap length (sym errands));
-    home = subst (λ (es : List (Errands (Job D))). AreHome es q.seats.items) (sym errands) (subst (λ (ss : List (Seat D)). AreHome p.errands.items ss) (sym seats) is.home);
+    home = subst (λ (es : List (Errands (Job D))). AreIdleSeats es q.seats.items) (sym errands) (subst (λ (ss : List (Seat D)). AreIdleSeats p.errands.items ss) (sym seats) is.home);
     waiting = subst (λ (es : List (Errands (Job D))). ArePaired IsWaiting es q.workers.items) (sym errands) (subst (λ (ws : List (Worker (Job D))). ArePaired IsWaiting p.errands.items ws) (sym workers) is.waiting);
   }
 
   pub pool_more : (e : Errands (Job D)) (s : Seat D) (w : Worker (Job D)) → q.errands.items ≡ p.errands.items ++ e ∷ [] → q.seats.items ≡ p.seats.items ++ s ∷ [] → q.workers.items ≡ p.workers.items ++ w ∷ []
-      → IsHome e s → IsWaiting e w → IsPool p → IsPool q
+      → IsIdleSeat e s → IsWaiting e w → IsPool p → IsPool q
   pool_more e s w errands seats workers home waiting is =
       let el = ap length errands ∙ length-append p.errands.items (e ∷ []) in
       let sl = ap length seats ∙ length-append p.seats.items (s ∷ []) in
@@ -69,8 +69,8 @@ module _ {D : Type 0} (p q : Pool D) where
       let a = is.seats_ in let b = is.workers_ in record {
         seats_ = omega (arith, el, sl, a);
         workers_ = omega (arith, el, wl, b);
-        home = subst (λ (es : List (Errands (Job D))). AreHome es q.seats.items) (sym errands)
-            (subst (λ (ss : List (Seat D)). AreHome (p.errands.items ++ e ∷ []) ss) (sym seats) (pair_more IsHome p.errands.items p.seats.items e s is.seats_ is.home home));
+        home = subst (λ (es : List (Errands (Job D))). AreIdleSeats es q.seats.items) (sym errands)
+            (subst (λ (ss : List (Seat D)). AreIdleSeats (p.errands.items ++ e ∷ []) ss) (sym seats) (pair_more IsIdleSeat p.errands.items p.seats.items e s is.seats_ is.home home));
         waiting = subst (λ (es : List (Errands (Job D))). ArePaired IsWaiting es q.workers.items) (sym errands)
             (subst (λ (ws : List (Worker (Job D))). ArePaired IsWaiting (p.errands.items ++ e ∷ []) ws) (sym workers) (pair_more IsWaiting p.errands.items p.workers.items e w is.workers_ is.waiting waiting));
       }
@@ -79,32 +79,32 @@ module _ {D : Type 0} (p q : Pool D) where
 
 module _ {D G : Type 0} (c : Crew D G) where
   -- without its last seat
-  pub crew_less : (rest : Vec (Seat D) Global) (s : Seat D) → c.seats.items ≡ rest.items ++ s ∷ [] → IsCrew c → IsCrew (record c { seats = rest })
+  pub crew_less : (rest : Vec (Seat D) Global) (s : Seat D) → c.seats.items ≡ rest.items ++ s ∷ [] → IsPartCrew c → IsPartCrew (record c { seats = rest })
   crew_less rest s parts is =
       let long = ap length parts ∙ length-append rest.items (s ∷ []) in let count = is.count in record {
         some = is.some;
         few = is.few;
         count = omega (arith, long, count);
-        home = pair_less IsHome c.errands.now rest.items s (subst (λ (ss : List (Seat D)). AreHome c.errands.now ss) parts is.home);
+        home = pair_less IsIdleSeat c.errands.now rest.items s (subst (λ (ss : List (Seat D)). AreIdleSeats c.errands.now ss) parts is.home);
       }
 
   -- its last seat
-  pub last_home : (rest : List (Seat D)) (s : Seat D) (e : Errands (Job D)) → c.seats.items ≡ rest ++ s ∷ [] → IsCrew c → IsHome (get_or c.errands.now (length rest) e) s
-  last_home rest s e parts is = pair_last IsHome c.errands.now rest s e (subst (λ (ss : List (Seat D)). AreHome c.errands.now ss) parts is.home)
+  pub last_home : (rest : List (Seat D)) (s : Seat D) (e : Errands (Job D)) → c.seats.items ≡ rest ++ s ∷ [] → IsPartCrew c → IsIdleSeat (get_or c.errands.now (length rest) e) s
+  last_home rest s e parts is = pair_last IsIdleSeat c.errands.now rest s e (subst (λ (ss : List (Seat D)). AreIdleSeats c.errands.now ss) parts is.home)
 
-  pub last_within : (rest : List (Seat D)) (s : Seat D) → c.seats.items ≡ rest ++ s ∷ [] → IsCrew c → length rest < length c.errands.now
+  pub last_within : (rest : List (Seat D)) (s : Seat D) → c.seats.items ≡ rest ++ s ∷ [] → IsPartCrew c → length rest < length c.errands.now
   last_within rest s parts is = let long = ap length parts ∙ length-append rest (s ∷ []) in let count = is.count in omega (arith, long, count)
 
   -- .. and the errands at its place
-  pub last_at : (rest : Vec (Seat D) Global) (s : Seat D) (e : Errands (Job D)) (i : ℕ) → c.seats.items ≡ rest.items ++ s ∷ [] → IsCrew c → i ≡ vec_len rest → e ≡ get_or c.errands.now i e → IsHome e s
+  pub last_at : (rest : Vec (Seat D) Global) (s : Seat D) (e : Errands (Job D)) (i : ℕ) → c.seats.items ≡ rest.items ++ s ∷ [] → IsPartCrew c → i ≡ vec_len rest → e ≡ get_or c.errands.now i e → IsIdleSeat e s
   last_at rest s e i parts is place there =
       let n : i ≡ length rest.items = place ∙ rest.ok.0 in
-      subst (λ (x : Errands (Job D)). IsHome x s) (sym there) (subst (λ (k : ℕ). IsHome (get_or c.errands.now k e) s) (sym n) (last_home rest.items s e parts is))
+      subst (λ (x : Errands (Job D)). IsIdleSeat x s) (sym there) (subst (λ (k : ℕ). IsIdleSeat (get_or c.errands.now k e) s) (sym n) (last_home rest.items s e parts is))
 
   -- the seat comes back to its place
   module _ (rest : Vec (Seat D) Global) (s : Seat D) (d : Crew D G) (more : Vec (Seat D) Global) (t : Seat D) (e : Errands (Job D)) (i : ℕ) where
-    pub crew_back : c.seats.items ≡ rest.items ++ s ∷ [] → IsCrew c → IsSameCrew (record c { seats = rest }) d → more.items ≡ d.seats.items ++ t ∷ [] → i ≡ vec_len rest → e ≡ get_or c.errands.now i e → IsHome e t → IsCrew d
-        → IsCrew (record d { seats = more })
+    pub crew_back : c.seats.items ≡ rest.items ++ s ∷ [] → IsPartCrew c → IsSameCrew (record c { seats = rest }) d → more.items ≡ d.seats.items ++ t ∷ [] → i ≡ vec_len rest → e ≡ get_or c.errands.now i e → IsIdleSeat e t → IsPartCrew d
+        → IsPartCrew (record d { seats = more })
     crew_back parts is same joined place there home on =
         let within = last_within rest.items s parts is in
         let n : i ≡ length rest.items = place ∙ rest.ok.0 in
@@ -112,13 +112,13 @@ module _ {D G : Type 0} (c : Crew D G) where
         let errands : d.errands.now ≡ c.errands.now = ap (λ r. r.now) same.errands_are in
         let long = ap length joined ∙ length-append d.seats.items (t ∷ []) in
         let count = ap length errands in
-        let here : (x : Errands (Job D)) → IsHome (get_or d.errands.now (length d.seats.items) x) t = (λ x.
+        let here : (x : Errands (Job D)) → IsIdleSeat (get_or d.errands.now (length d.seats.items) x) t = (λ x.
         let is_e : get_or c.errands.now i x ≡ e = get_or_default c.errands.now i x e (omega (arith, within, n)) ∙ sym there in
         let at : get_or d.errands.now (length d.seats.items) x ≡ e = ap (λ es. get_or es (length d.seats.items) x) errands ∙ (ap (λ (k : ℕ). get_or c.errands.now k x) (kept ∙ sym n) ∙ is_e) in
-        subst (λ (y : Errands (Job D)). IsHome y t) (sym at) home) in
+        subst (λ (y : Errands (Job D)). IsIdleSeat y t) (sym at) home) in
         record {
           some = on.some;
           few = on.few;
           count = omega (arith, long, kept, within, count);
-          home = subst (λ (ss : List (Seat D)). AreHome d.errands.now ss) (sym joined) (pair_push IsHome d.errands.now d.seats.items t here on.home);
+          home = subst (λ (ss : List (Seat D)). AreIdleSeats d.errands.now ss) (sym joined) (pair_push IsIdleSeat d.errands.now d.seats.items t here on.home);
         }

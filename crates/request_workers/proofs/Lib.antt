@@ -11,3 +11,4 @@ pub mod Counted
 pub mod Totals
 mod Parts
 mod Crewing
+pub mod Runs

@@ -1,6 +1,6 @@
 -- The caller's seats, one for each worker, and how they are made.
-use Rattle.std.specs.Prelude.{◌≡◌, ◌≤◌, ◌<◌, ℕ, List, [], length, vec_capacity, slice_index_or}
-use Rattle.errands.specs.Ends.{IsIdle, IsWaiting}
+use Rattle.std.specs.Prelude.{◌≡◌, ◌≤◌, ◌<◌, ◌+◌, ℕ, List, [], length, vec_capacity, slice_index_or}
+use Rattle.errands.specs.Ends.{IsIdle, IsOver, IsTold, IsWaiting}
 use Rattle.errands.specs.declared.ends.Errands.{Errands}
 use Rattle.errands.specs.declared.ends.Worker.{Worker}
 use Rattle.request_workers.specs.declared.crew.Crew.{Crew}
@@ -8,21 +8,58 @@ use Rattle.request_workers.specs.declared.crew.Seat.{Seat}
 use Rattle.request_workers.specs.declared.job.Job.{Job}
 use Rattle.request_workers.specs.declared.pool.Pool.{Pool}
 
+-- ---- Seats
+
 -- nothing is handed over at a seat of these errands, and no desk is left in its room
-pub record IsHome {D : Type 0} (e : Errands (Job D)) (s : Seat D) : Type 0 where
+pub record IsIdleSeat {D : Type 0} (e : Errands (Job D)) (s : Seat D) : Type 0 where
   pub idle : IsIdle e s.sender
   pub empty : s.room.items ≡ []
 
--- .. at none of these seats, one for each of the first errands
-abbrev pub AreHome : {D : Type 0} → List (Errands (Job D)) → List (Seat D) → Type 0
-AreHome {D} es ss = (k : ℕ) (e : Errands (Job D)) (s : Seat D) → k < length ss → IsHome (slice_index_or es k e) (slice_index_or ss k s)
+-- each of these seats is idle, one for each of the first errands
+abbrev pub AreIdleSeats : {D : Type 0} → List (Errands (Job D)) → List (Seat D) → Type 0
+AreIdleSeats {D} es ss = (k : ℕ) (e : Errands (Job D)) (s : Seat D) → k < length ss → IsIdleSeat (slice_index_or es k e) (slice_index_or ss k s)
 
--- a crew between windows
-pub record IsCrew {D G : Type 0} (c : Crew D G) : Type 0 where
+-- .. told its worker that nothing more comes
+abbrev pub AreOver : {D : Type 0} → List (Errands (Job D)) → List (Seat D) → Type 0
+AreOver {D} es ss = (k : ℕ) (e : Errands (Job D)) (s : Seat D) → k < length ss → IsOver (slice_index_or es k e) (slice_index_or ss k s).sender
+
+-- ---- Workers
+
+module _ {T : Type 0} where
+  -- each of these workers waits for what is handed over, from a place of the errands on
+  abbrev pub AreWaitingFrom : ℕ → List (Errands T) → List (Worker T) → Type 0
+  AreWaitingFrom start es ws = (k : ℕ) (e : Errands T) (w : Worker T) → k < length ws → IsWaiting (slice_index_or es (start + k) e) (slice_index_or ws k w)
+
+  -- .. from the first on
+  abbrev pub AreWaiting : List (Errands T) → List (Worker T) → Type 0
+  AreWaiting es ws = (k : ℕ) (e : Errands T) (w : Worker T) → k < length ws → IsWaiting (slice_index_or es k e) (slice_index_or ws k w)
+
+  -- each of these workers was told that nothing more comes, from a place of the errands on
+  abbrev pub AreToldFrom : ℕ → List (Errands T) → List (Worker T) → Type 0
+  AreToldFrom start es ws = (k : ℕ) (e : Errands T) (w : Worker T) → k < length ws → IsTold (slice_index_or es (start + k) e) (slice_index_or ws k w)
+
+  -- .. from the first on
+  abbrev pub AreTold : List (Errands T) → List (Worker T) → Type 0
+  AreTold es ws = (k : ℕ) (e : Errands T) (w : Worker T) → k < length ws → IsTold (slice_index_or es k e) (slice_index_or ws k w)
+
+-- ---- Crews
+
+-- idle seats of the first errands
+pub record IsPartCrew {D G : Type 0} (c : Crew D G) : Type 0 where
   pub some : 1 ≤ c.workers.count
   pub few : c.workers.count ≤ 64
   pub count : length c.seats.items ≤ length c.errands.now
-  pub home : AreHome c.errands.now c.seats.items
+  pub home : AreIdleSeats c.errands.now c.seats.items
+
+-- a crew between windows: an idle seat for each of its errands
+pub record IsCrew {D G : Type 0} (c : Crew D G) : Type 0 where
+  pub part : IsPartCrew c
+  pub each : length c.seats.items ≡ length c.errands.now
+
+-- a crew after the last window: each of its workers was told that nothing more comes
+pub record IsOverCrew {D G : Type 0} (c : Crew D G) : Type 0 where
+  pub over : AreOver c.errands.now c.seats.items
+  pub each : length c.seats.items ≡ length c.errands.now
 
 -- as many seats of the same errands
 pub record IsSameCrew {D G : Type 0} (c d : Crew D G) : Type 0 where
@@ -34,5 +71,5 @@ pub record IsSameCrew {D G : Type 0} (c d : Crew D G) : Type 0 where
 pub record IsPool {D : Type 0} (p : Pool D) : Type 0 where
   pub seats_ : length p.seats.items ≡ length p.errands.items
   pub workers_ : length p.workers.items ≡ length p.errands.items
-  pub home : AreHome p.errands.items p.seats.items
-  pub waiting : (k : ℕ) (e : Errands (Job D)) (w : Worker (Job D)) → k < length p.workers.items → IsWaiting (slice_index_or p.errands.items k e) (slice_index_or p.workers.items k w)
+  pub home : AreIdleSeats p.errands.items p.seats.items
+  pub waiting : AreWaiting p.errands.items p.workers.items

@@ -1,5 +1,5 @@
 -- Desks that are served by the caller and its workers, and what a window makes of a floor beside the sums.
-use Rattle.std.specs.Prelude.{◌≡◌, ◌^◌, ◌≤◌, ℕ, Bool, List, length, vec_capacity}
+use Rattle.std.specs.Prelude.{◌≡◌, ◌^◌, ◌≤◌, ◌+◌, ◌-◌, ◌/◌, ◌%◌, ℕ, min, max, Bool, List, length, vec_capacity}
 use Rattle.wol_model.specs.History.{helper}
 use Rattle.logger.specs.declared.shared.Shared.{Shared}
 use Rattle.request_turns.specs.declared.outcome.Outcome.{Outcome}
@@ -10,6 +10,17 @@ use Rattle.request_workers.specs.Worked.{AreWorked, HelpedIn}
 use Rattle.request_workers.specs.declared.floor.Floor.{Floor}
 use Rattle.request_workers.specs.declared.request.Reclaim.{Reclaim}
 use Rattle.trace_windows.specs.declared.request.Request.{Request}
+
+-- how many desks a run has: their number divided by the workers', rounded up, and at least one
+abbrev pub size_of_runs : (workers desks : ℕ) → ℕ
+size_of_runs workers desks = max 1 (desks / workers + min 1 (desks % workers))
+
+-- so many desks make the last run of n, where runs of this size are cut in order: the last alone may be shorter
+pub record IsLastRun (size n last : ℕ) : Type 0 where
+  pub some : 1 ≤ last
+  pub few : last ≤ size
+  pub within : last ≤ n
+  pub before : (n - last) % size ≡ 0
 
 -- the helpers are ready for turns
 pub record CanHelp {D : Type 0} (shared : Shared D) (f : Floor D) : Type 0 where

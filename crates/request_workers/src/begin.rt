@@ -7,7 +7,7 @@ ghost use Rattle.logger.specs.Lanes.{logger_of};
 ghost use Rattle.manager.specs.Stands.{IsShared};
 ghost use Rattle.manager.specs.declared.base.LaneBase.{LaneBase};
 ghost use Rattle.request_turns.specs.Begun.{HasBegunVolume};
-ghost use Rattle.request_workers.specs.Begun.{SpindlePass, AreKeepers, HaveBegun, HaveBegunVolumes};
+ghost use Rattle.request_workers.specs.Begun.{SpindlePass, AreKeepers, HaveBegun, HaveBegunFirst, HaveBegunVolumes, FailToBegin};
 ghost use Rattle.request_workers.specs.Floors.{IsFloor, IsOn};
 ghost use Rattle.request_turns.specs.Helped.{IsPassAt};
 ghost use Rattle.request_workers.specs.Helped.{ArePassesAt, AreSharing};
@@ -39,6 +39,7 @@ fn begin_spindles<R: Wait>(
     ensures free { (k : ℕ) (d : _) → k < length keepers.new → IsFree (slice_index_or keepers.new k d) }
     ensures same { (k : ℕ) (d : _) → k < length keepers.old → IsSamePass (slice_index_or keepers.old k d) (slice_index_or keepers.new k d) }
     ensures begun { OnOk result (HaveBegun t awake.new.items keepers.old keepers.new) }
+    ensures stopped { OnErr result (HaveBegunFirst t keepers.old keepers.new) }
     ensures len { OnOk result (length awake.new.items ≡ length keepers.old) }
 {
     for k in 0..keepers.len() {
@@ -69,7 +70,7 @@ fn begin_volumes<R: Wait, D: Disk>(
 
 /// Begins a window at the moment `t`, in 100 ns: every spindle in order, and then every manager with the states found. The
 /// passes in `keepers` are one for each spindle, in order. After `NoMemory` the spindles before the one that had none have
-/// begun, and nothing else changed.
+/// begun, that one's entry says that it stayed as it was, and nothing else changed.
 pub fn begin_window<'l, D: Disk, R: Wait>(
     rt: &R,
     alloc: Global,
@@ -87,6 +88,7 @@ pub fn begin_window<'l, D: Disk, R: Wait>(
     ensures begun { OnOk result ((awake : List Bool) × HaveBegun t awake keepers.old keepers.new × HaveBegunVolumes D.tells awake floor.old.keepers.items floor.new.keepers.items) }
     ensures unchanged { floor.new ≡ record floor.old { keepers = floor.new.keepers } }
     ensures refused { OnErr result (floor.new ≡ floor.old) }
+    ensures stopped { OnErr result (FailToBegin t keepers.old keepers.new) }
 {
     let mut awake = Vec::with_capacity(alloc, keepers.len())?;
     begin_spindles(rt, shared.spindles.as_slice(), keepers, t, &mut awake)?;

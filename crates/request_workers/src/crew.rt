@@ -1,6 +1,7 @@
 // Who serves windows: the caller, and the workers that it hands jobs.
 ghost use Rattle.std.specs.Prelude.{◌≡◌, ◌≤◌, ◌<◌, ℕ, length, slice_index_or};
-ghost use Rattle.request_workers.specs.Crews.{AreHome, IsCrew};
+ghost use Rattle.request_workers.specs.Crews.{AreIdleSeats, AreOver, IsCrew, IsOverCrew};
+ghost use Rattle.request_workers.specs.Shares.{size_of_runs};
 
 use crate::desk::Desk;
 use crate::job::Job;
@@ -36,11 +37,12 @@ pub fn threads_for(workers: u32, reclaim: Reclaim) -> u32 {
     }
 }
 
-/// How many of so many desks a worker serves at most.
+/// How many of so many desks a worker serves: all workers serve as many, and the last one what is left.
 pub fn run_size(workers: Workers, desks: usize) -> usize
     requires { 1 ≤ workers.count }
+    ensures { result ≡ size_of_runs workers.count desks }
 {
-    desks.div_ceil(workers.count as usize)
+    desks.div_ceil(workers.count as usize).max(1)
 }
 
 // Waits some time for a worker.
@@ -53,8 +55,19 @@ fn await_worker<D: Disk>(errands: &Errands<Job<'_, D>>) {
     }
 }
 
+// Tells the worker of each seat that nothing more comes.
+fn end_each<'l, D: Disk>(errands: &[Errands<Job<'l, D>>], seats: &mut [Seat<'l, D>])
+    requires count { length seats.old ≡ length errands.now }
+    requires idle { AreIdleSeats errands.now seats.old }
+    ensures { AreOver errands.entry.now seats.new }
+{
+    for k in 0..seats.len() {
+        errands[k].end(&mut seats[k].sender);
+    }
+}
+
 impl<'e, 'l, D: Disk, G> Crew<'e, 'l, D, G> {
-    /// The caller, with a seat for the worker of each of these errands.
+    /// The caller, with the seats for the workers of these errands, one for each.
     pub fn new(
         errands: &'e [Errands<Job<'l, D>>],
         seats: Vec<Seat<'l, D>>,
@@ -62,10 +75,11 @@ impl<'e, 'l, D: Disk, G> Crew<'e, 'l, D, G> {
         gate: &'e G,
     ) -> Crew<'e, 'l, D, G>
         requires workers { (1 ≤ workers.count) × (workers.count ≤ 64) }
-        requires count { length seats.items ≤ length errands.now }
-        requires home { AreHome errands.now seats.items }
+        requires count { length seats.items ≡ length errands.now }
+        requires idle { AreIdleSeats errands.now seats.items }
         ensures crew { IsCrew result }
         ensures errands { result.errands.now ≡ errands.now }
+        ensures parts { result ≡ record { errands = errands.entry; seats = seats.entry; workers = workers; gate = gate.entry } }
     {
         Crew {
             errands,
@@ -83,7 +97,9 @@ impl<'e, 'l, D: Disk, G> Crew<'e, 'l, D, G> {
     }
 
     /// The gate that is passed before each request.
-    pub fn gate(&self) -> &'e G {
+    pub fn gate(&self) -> &'e G
+        ensures { result ≡ self.now.gate }
+    {
         self.gate
     }
 
@@ -96,19 +112,12 @@ impl<'e, 'l, D: Disk, G> Crew<'e, 'l, D, G> {
         }
     }
 
-    /// Tells all workers that nothing more comes.
+    /// Tells each worker that nothing more comes. After that the crew serves no window.
     pub fn end(&mut self)
         requires { IsCrew self.old }
-        ensures { IsCrew self.new }
+        ensures over { IsOverCrew self.new }
+        ensures only { self.new ≡ record self.old { seats = self.new.seats } }
     {
-        while let Some(seat) = self.seats.pop() {
-            let Seat {
-                mut sender,
-                room: _,
-            } = seat;
-            let all = self.errands;
-            let errands = &all[self.seats.len()];
-            errands.end(&mut sender);
-        }
+        end_each(self.errands, self.seats.as_mut_slice());
     }
 }

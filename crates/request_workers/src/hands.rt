@@ -1,7 +1,7 @@
 // Who serves the desks of a window: the caller alone, or the workers beside it.
 ghost use Rattle.std.specs.Prelude.{◌≡◌, ◌≤◌, ◌<◌, ◌+◌, ◌++◌, [], ℕ, length, vec_len, vec_capacity};
-ghost use Rattle.request_workers.specs.Crews.{IsCrew, IsSameCrew};
-ghost use Rattle.request_workers.specs.Shares.{CanHelp, CanShare, HasHelpedOn, HasShared};
+ghost use Rattle.request_workers.specs.Crews.{IsCrew, IsPartCrew, IsSameCrew};
+ghost use Rattle.request_workers.specs.Shares.{CanHelp, CanShare, HasHelpedOn, HasShared, IsLastRun, size_of_runs};
 
 use crate::crew::{Crew, Seat, run_size};
 use crate::desk::Desk;
@@ -23,7 +23,7 @@ const FEW: usize = 64;
 /// How a window is shared out.
 #[derive(Clone, Copy)]
 pub(crate) struct Shares {
-    /// How many desks a worker is handed at most.
+    /// How many desks a run has. They are cut in order, and the last may be shorter.
     pub run: usize,
     /// How many the caller keeps.
     pub kept: usize,
@@ -66,7 +66,8 @@ pub(crate) fn hands_for(workers: Workers, requests: &[Request]) -> Hands {
 /// How so many desks are shared out. In mode `Beside` the caller keeps none, since it is the helper.
 pub(crate) fn shares_for(workers: Workers, desks: usize, rounds: usize, reclaim: Reclaim) -> Shares
     requires { 1 ≤ workers.count }
-    ensures { result.reclaim ≡ reclaim }
+    ensures reclaim { result.reclaim ≡ reclaim }
+    ensures run { result.run ≡ size_of_runs workers.count desks }
 {
     let run = run_size(workers, desks);
     let kept = match reclaim {
@@ -81,14 +82,27 @@ pub(crate) fn shares_for(workers: Workers, desks: usize, rounds: usize, reclaim:
     }
 }
 
-// Moves the last desks into a room, in their order: a run of them at most, where so many are kept.
-fn cut_run<D: Disk>(desks: &mut Vec<Desk<D>>, room: &mut Vec<Desk<D>>, shares: Shares)
+// How many of so many desks the last run has.
+fn last_run(desks: usize, size: usize) -> usize
+    requires some { 0 < desks }
+    requires size { 0 < size }
+    ensures { IsLastRun size desks result }
+{
+    (desks - 1) % size + 1
+}
+
+// Moves the last run of desks into a room, in their order. The room takes no memory: where it is too small, those before
+// stay.
+fn cut_run<D: Disk>(desks: &mut Vec<Desk<D>>, room: &mut Vec<Desk<D>>, size: usize)
+    requires some { 0 < vec_len desks.old }
+    requires size { 0 < size }
     requires empty { room.old.items ≡ [] }
     ensures cut { desks.old.items ≡ desks.new.items ++ room.new.items }
+    ensures run { size ≤ vec_capacity room.old → IsLastRun size (length desks.old.items) (length room.new.items) }
     ensures room { vec_capacity desks.new ≡ vec_capacity desks.old }
 {
-    for _ in 0..shares.run {
-        if desks.len() <= shares.kept || room.len() == room.capacity() {
+    for _ in 0..last_run(desks.len(), size) {
+        if room.len() == room.capacity() {
             break;
         }
         let Some(desk) = desks.pop() else {
@@ -140,7 +154,7 @@ fn serve_kept<'l, D: Disk, G: Gate, R: Wait>(
     help_in(rt, floor, shared, shares.rounds, shares.reclaim);
 }
 
-// Hands each worker that is there a run of the last desks, serves the others meanwhile, and takes the runs back.
+// Hands each worker that is there the last run of desks, serves the others meanwhile, and takes the runs back.
 fn serve_shared<'e, 'l, D: Disk, G: Gate, R: Wait>(
     rt: &R,
     floor: &mut Floor<'l, D>,
@@ -149,9 +163,10 @@ fn serve_shared<'e, 'l, D: Disk, G: Gate, R: Wait>(
     shares: Shares,
 )
     requires can { CanShare shared.now floor.old }
-    requires crew { IsCrew crew.old }
+    requires crew { IsPartCrew crew.old }
+    requires run { 0 < shares.run }
     ensures shared { HasShared D.tells shares.reclaim floor.old floor.new }
-    ensures crew { IsCrew crew.new }
+    ensures crew { IsPartCrew crew.new }
     ensures still { IsSameCrew crew.old crew.new }
 {
     let Some(seat) = crew.seats.pop() else {
@@ -169,7 +184,7 @@ fn serve_shared<'e, 'l, D: Disk, G: Gate, R: Wait>(
         mut sender,
         mut room,
     } = seat;
-    cut_run(&mut floor.desks, &mut room, shares);
+    cut_run(&mut floor.desks, &mut room, shares.run);
     let job = Job {
         locks: floor.locks,
         shared,
@@ -201,6 +216,7 @@ pub(crate) fn serve_all<'e, 'l, D: Disk, G: Gate, R: Wait>(
 )
     requires can { CanShare shared.now floor.old }
     requires crew { IsCrew crew.old }
+    requires run { 0 < shares.run }
     ensures shared { HasShared D.tells shares.reclaim floor.old floor.new }
     ensures crew { IsCrew crew.new }
 {

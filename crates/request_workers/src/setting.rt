@@ -41,8 +41,14 @@ fn move_all<D: Disk>(
     mut tools: Vec<Tools>,
 )
     requires tools { vec_len tools ≡ vec_len passes.old.room }
-    requires room { (vec_len passes.old.room ≤ vec_capacity locks.old) × (vec_len passes.old.room ≤ vec_capacity passes.old.desks) × (vec_len passes.old.room ≤ vec_capacity passes.old.helpers) × (vec_len passes.old.room ≤ vec_capacity passes.old.keepers) }
-    requires empty { (locks.old.items ≡ []) × (passes.old.desks.items ≡ []) × (passes.old.helpers.items ≡ []) × (passes.old.keepers.items ≡ []) }
+    requires lock_room { vec_len passes.old.room ≤ vec_capacity locks.old }
+    requires desk_room { vec_len passes.old.room ≤ vec_capacity passes.old.desks }
+    requires helper_room { vec_len passes.old.room ≤ vec_capacity passes.old.helpers }
+    requires keeper_room { vec_len passes.old.room ≤ vec_capacity passes.old.keepers }
+    requires no_lock { locks.old.items ≡ [] }
+    requires no_desk { passes.old.desks.items ≡ [] }
+    requires no_helper { passes.old.helpers.items ≡ [] }
+    requires no_keeper { passes.old.keepers.items ≡ [] }
     ensures { AreSetUp passes.old.room.items locks.new.items passes.new }
 {
     passes.room.as_mut_slice().reverse();

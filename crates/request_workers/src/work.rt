@@ -1,6 +1,7 @@
 // What a worker does until nothing more comes.
 ghost use Rattle.std.specs.Prelude.{◌≡◌, ◌<◌, ◌≤◌, ◌+◌, ℕ, length, slice_index_or};
-ghost use Rattle.errands.specs.Ends.{IsWaiting};
+ghost use Rattle.errands.specs.Ends.{IsTold, IsWaiting};
+ghost use Rattle.request_workers.specs.Crews.{AreTold, AreToldFrom, AreWaiting, AreWaitingFrom};
 
 use crate::job::Task;
 use errands::{Errands, Worker};
@@ -11,7 +12,7 @@ use std::thread::Threads;
 // Serves what is handed over, until nothing more comes.
 fn work<T: Task<G>, G, R: Wait>(rt: &R, errands: &Errands<T>, worker: &mut Worker<T>, gate: &G)
     requires { IsWaiting errands.now worker.old }
-    ensures { IsWaiting errands.entry.now worker.new }
+    ensures { IsTold errands.entry.now worker.new }
 {
     for _ in rt.forever() {
         let Some(mut task) = errands.take(rt, worker) else {
@@ -32,8 +33,9 @@ fn work_run<T: Task<G>, G, R: Wait>(
     run: &mut [Worker<T>],
 )
     requires within { start + length run.old ≤ length errands.now }
-    requires waiting { (k : ℕ) (e : _) (w : _) → k < length run.old → IsWaiting (slice_index_or errands.now (start + k) e) (slice_index_or run.old k w) }
-    ensures { length run.new ≡ length run.old }
+    requires waiting { AreWaitingFrom start errands.now run.old }
+    ensures count { length run.new ≡ length run.old }
+    ensures told { AreToldFrom start errands.entry.now run.new }
 {
     for k in 0..run.len() {
         work(rt, &errands[start + k], &mut run[k], gate);
@@ -48,14 +50,16 @@ pub fn work_all<T: Task<G> + Send, G: Sync, R: Threads + Wait + Sync>(
     workers: &mut [Worker<T>],
 )
     requires count { length workers.old ≡ length errands.now }
-    requires waiting { (k : ℕ) (e : _) (w : _) → k < length workers.old → IsWaiting (slice_index_or errands.now k e) (slice_index_or workers.old k w) }
+    requires waiting { AreWaiting errands.now workers.old }
+    ensures { AreTold errands.entry.now workers.new }
 {
     thread::for_each_chunk_mut(
         rt,
         workers,
         1,
         &|start: usize, run: &mut [Worker<T>]|
-            requires { (start + length run.now ≤ length errands.now) × ((k : ℕ) (e : _) (w : _) → k < length run.now → IsWaiting (slice_index_or errands.now (start + k) e) (slice_index_or run.now k w)) }
+            requires { (start + length run.now ≤ length errands.now) × AreWaitingFrom start errands.now run.now }
+            ensures { (length run.new ≡ length run.old) × AreToldFrom start errands.entry.now run.new }
         { work_run(rt, errands, start, gate, run) },
     );
 }

@@ -1,6 +1,6 @@
 // A worker that counts up, and the one that hands it numbers.
 ghost use Rattle.std.specs.Prelude.{◌≡◌, IfOk};
-ghost use Rattle.errands.specs.Ends.{IsIdle, IsWaiting};
+ghost use Rattle.errands.specs.Ends.{IsIdle, IsOver, IsTold, IsWaiting};
 
 use errands::{Errand, Errands, NoMemory, Sender, Worker};
 use std::alloc::Global;
@@ -24,7 +24,7 @@ impl Errand for Number {
 // Counts up what is handed over, until nothing more comes.
 fn work<R: Wait>(rt: &R, errands: &Errands<Number>, worker: &mut Worker<Number>)
     requires { IsWaiting errands.now worker.old }
-    ensures { IsWaiting errands.entry.now worker.new }
+    ensures { IsTold errands.entry.now worker.new }
 {
     for _ in rt.forever() {
         let Some(number) = errands.take(rt, worker) else {
@@ -41,7 +41,8 @@ fn work<R: Wait>(rt: &R, errands: &Errands<Number>, worker: &mut Worker<Number>)
 // Hands a number over and takes it back, so many times, from 0 on, and tells the worker that nothing more comes.
 fn lead<R: Wait>(rt: &R, errands: &Errands<Number>, sender: &mut Sender<Number>, rounds: u32) -> u64
     requires { IsIdle errands.now sender.old }
-    ensures { result ≡ rounds }
+    ensures counted { result ≡ rounds }
+    ensures over { IsOver errands.entry.now sender.new }
 {
     let mut value = 0;
     for _ in 0..rounds {

@@ -1,6 +1,6 @@
 use Rattle.std.proofs.Common.{rules, ◌≡◌, ◌<◌, ◌≤◌, ◌+◌, length, ap, sym, ◌∙◌, arith}
 use Rattle.std.specs.Prelude.{vec_len, vec_capacity}
-use Rattle.request_workers.specs.Crews.{IsCrew, IsHome}
+use Rattle.request_workers.specs.Crews.{IsPartCrew, IsIdleSeat}
 use Rattle.request_workers.specs.Shares.{CanShare}
 use Rattle.request_workers.proofs.Crewing.{crew_back, crew_less, last_at, last_within}
 use Rattle.request_workers.proofs.Parts.{first_can, fits_again, job_ready, no_ok, shared_both}
@@ -20,10 +20,9 @@ returns-then-len-shares-clause-crew g t c =
     let home = last_at crew rest c.in-Some.seat c.index-all-len.result c.len.result c.in-Some.ensures.items c.requires.crew c.len.ensures c.index-all-len.is in
     crew_back crew rest c.in-Some.seat s.new.crew c.push_reserved.new.self c.in-Some.seat c.index-all-len.result c.len.result c.in-Some.ensures.items c.requires.crew s.ensures.still c.push_reserved.ensures.items c.len.ensures c.index-all-len.is home s.ensures.crew
 
-pub cut_run-requires : goal.cut_run-requires
-cut_run-requires g t c =
-    let home = last_at c.args.crew.now c.pop.new.self c.in-Some.seat c.index-all-len.result c.len.result c.in-Some.ensures.items c.requires.crew c.len.ensures c.index-all-len.is in
-    record { empty = home.empty }
+pub cut_run-requires-clause-empty : goal.cut_run-requires-clause-empty
+cut_run-requires-clause-empty g t c =
+    (last_at c.args.crew.now c.pop.new.self c.in-Some.seat c.index-all-len.result c.len.result c.in-Some.ensures.items c.requires.crew c.len.ensures c.index-all-len.is).empty
 
 pub give-requires-clause-idle : goal.give-requires-clause-idle
 give-requires-clause-idle g t c =

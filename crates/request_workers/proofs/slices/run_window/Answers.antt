@@ -11,17 +11,17 @@ use Rattle.request_workers.proofs.slices.run_window.Goals as goal
 
 pub close_all-requires-clause-passes : goal.close_all-requires-clause-passes
 close_all-requires-clause-passes g c =
-    let s = rw c.shares_for-shares.ensures at c.serve_all.ensures.shared in
+    let s = rw c.shares_for-shares.ensures.reclaim at c.serve_all.ensures.shared in
     rw c.as_mut_slice.ensures.value (rw s.on.only (passes_served c.args.floor.now.locks.now c.args.shared.now _ _ _ c.requires.count s.len c.requires.can.ready s.served))
 
 pub close_all-requires-clause-shared : goal.close_all-requires-clause-shared
 close_all-requires-clause-shared g c =
-    let s = rw c.shares_for-shares.ensures at c.serve_all.ensures.shared in
+    let s = rw c.shares_for-shares.ensures.reclaim at c.serve_all.ensures.shared in
     rw c.as_mut_slice.ensures.value (shares_served c.args.floor.now.locks.now _ _ _ _ c.requires.count s.len c.requires.can.ready s.served)
 
 pub collect-requires-clause-each : goal.collect-requires-clause-each
 collect-requires-clause-each g c k d h =
-    let s = rw c.shares_for-shares.ensures at c.serve_all.ensures.shared in let v = c.serve_all.new.floor.desks in let fs = c.close_all.new.desks in
+    let s = rw c.shares_for-shares.ensures.reclaim at c.serve_all.ensures.shared in let v = c.serve_all.new.floor.desks in let fs = c.close_all.new.desks in
     let same : length fs ≡ length v.items = c.close_all.auto.desks ∙ ap length c.as_mut_slice.ensures.value in
     let e = c.as_mut_slice-2.ensures.value ∙ with_items_is v fs (same ∙ sym v.ok.0) in
     let long = ap length e in let count = s.len in
@@ -30,7 +30,7 @@ collect-requires-clause-each g c k d h =
 
 pub returns-clause-run : goal.returns-clause-run
 returns-clause-run g c =
-    let s = rw c.shares_for-shares.ensures at c.serve_all.ensures.shared in let v = c.serve_all.new.floor.desks in let fs = c.close_all.new.desks in let gs = c.collect.new.desks in
+    let s = rw c.shares_for-shares.ensures.reclaim at c.serve_all.ensures.shared in let v = c.serve_all.new.floor.desks in let fs = c.close_all.new.desks in let gs = c.collect.new.desks in
     let same : length fs ≡ length v.items = c.close_all.auto.desks ∙ ap length c.as_mut_slice.ensures.value in
     let e : c.as_mut_slice-2.result.now ≡ fs = c.as_mut_slice-2.ensures.value ∙ with_items_is v fs (same ∙ sym v.ok.0) in
     let same2 : length gs ≡ length fs = c.collect.auto.desks ∙ ap length e in
