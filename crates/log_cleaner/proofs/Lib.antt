@@ -9,3 +9,4 @@ pub mod Rewriting
 pub mod Cleaning
 pub mod Finding
 pub mod Telling
+pub mod Dropping

@@ -1,5 +1,5 @@
 -- Steps of a cleaning, one after another.
-use Rattle.std.proofs.Common.{◌≡◌, ◌⊎◌, inl, inr, ◌<◌, ◌≤◌, ℕ, zero, suc, Bool, true, false, List, [], ◌∷◌, ◌++◌, length, Option, None, Some, Result, Ok, Err, refl, sym, ap, subst, ◌∙◌, arith, append_assoc, length-append}
+use Rattle.std.proofs.Common.{◌≡◌, ◌⊎◌, inl, inr, ⊎_elim, ◌<◌, ◌≤◌, ℕ, zero, suc, Bool, true, false, List, [], ◌∷◌, ◌++◌, length, Option, None, Some, Result, Ok, Err, refl, sym, ap, subst, ◌∙◌, arith, append_assoc, length-append}
 use Rattle.std.specs.Prelude.{◌↔◌, Contains, IfSome, IsTrue, slice_get, slice_set, slice_index_or}
 use Rattle.std.specs.List.{AllByRecursion, AllZip, list_any, range_with_len}
 use Rattle.std.specs.Option.{ForSome}
@@ -39,7 +39,9 @@ use Rattle.reclaimer.specs.declared.answers.Gone.TheVariants as gone
 use Rattle.reclaimer.proofs.Idle.{idle}
 use Rattle.log_cleaner.specs.Chunks.{IsTidy, IsUppermost, NoneHomed}
 use Rattle.log_cleaner.specs.Cleans.{AllAwake, CanClean, FindsAllEmpty, GoesOn}
-use Rattle.log_cleaner.specs.Steps.{GivesSome, GivesUp, HasBroken, HasCopied, KeepsTidy, TidiesUp}
+use Rattle.log_cleaner.specs.Steps.{GivesAll, GivesSome, GivesUp, HasBroken, HasCopied, KeepsTidy, Settles, TidiesUp}
+use Rattle.log_cleaner.specs.declared.answer.CleanFault.{CleanFault}
+use Rattle.log_cleaner.specs.declared.answer.CleanFault.TheVariants.{DiskFault}
 use Rattle.log_cleaner.specs.Copies.{HoldFewer, indexes_of}
 use Rattle.log_cleaner.proofs.Claiming.{members}
 use Rattle.log_cleaner.proofs.Copying.{copies_none, copies_plain, copies_then, keeps_none, keeps_then, leaves_then}
@@ -126,54 +128,61 @@ pub rose_of : {D : Type 0} (state : D → State) (old new : Manager D) (p : Part
 rose_of state old new (Home volume) rose = rose
 rose_of state old new (Segment volume index) rose = inl rose
 
-module _ {D : Type 0} (old new : Manager D) (version : ℕ) (e : Indexed) {T : Type 0} (res : Result T StepFault) (can : CanClean old) (dropped : HasDropped version e old new res) where
-  gained_at : (l m : Lane D) (given : Type 0) (decided : given ⊎ (given → ⊥)) → IsTrimmedLane e.index given l m → Begins (pass_mine (pool_of l)) (pass_mine (pool_of m))
-  gained_at l m given (inl is) t = begins_more (pass_mine (pool_of l)) (pass_mine (pool_of m)) ((pass_number (pool_of l), operation_of (Gave e.index)) ∷ []) (t.gave is).0
-  gained_at l m given (inr not_) t = begins_same (pass_mine (pool_of l)) (pass_mine (pool_of m)) (t.kept not_).0
+-- one lane gave up blocks, and perhaps a segment
+module _ {D : Type 0} (old new : List (Lane D)) (lane index : ℕ) (given : Type 0) (decided : given ⊎ (given → ⊥)) (c : ChangesLane (IsTrimmedLane index given) lane old new) where
+  gained_at : (l m : Lane D) → IsTrimmedLane index given l m → Begins (pass_mine (pool_of l)) (pass_mine (pool_of m))
+  gained_at l m t = ⊎_elim
+      (λ is. begins_more (pass_mine (pool_of l)) (pass_mine (pool_of m)) ((pass_number (pool_of l), operation_of (Gave index)) ∷ []) (t.gave is).0)
+      (λ not_. begins_same (pass_mine (pool_of l)) (pass_mine (pool_of m)) (t.kept not_).0)
+      decided
 
+  pub lane_pools : (k : ℕ) (o n : Lane D) → slice_get old k ≡ Some o → slice_get new k ≡ Some n → Begins (pass_mine (pool_of o)) (pass_mine (pool_of n))
+  lane_pools k o n is_o is_n = at (Rattle.std.proofs.lemmas.Bool.cases_eq k lane)
+    where
+      at : (k ≡ lane) ⊎ (k ≡ lane → ⊥) → Begins (pass_mine (pool_of o)) (pass_mine (pool_of n))
+      at (inl same) =
+          let was : o ≡ c.before = same_Some o c.before (sym is_o ∙ ap (slice_get old) same ∙ c.there) in
+          let now : n ≡ c.after = same_Some n c.after (sym is_n ∙ (λ i. slice_get (c.set i) (same i)) ∙ get_set old lane c.before c.after c.there) in
+          subst (λ (l : Lane D). Begins (pass_mine (pool_of l)) (pass_mine (pool_of n))) (sym was) (subst (λ (l : Lane D). Begins (pass_mine (pool_of c.before)) (pass_mine (pool_of l))) (sym now)
+          (gained_at c.before c.after c.change))
+      at (inr other) =
+          let now : n ≡ o = same_Some n o (sym is_n ∙ ap (λ (l : List (Lane D)). slice_get l k) c.set ∙ get_other old lane k c.after other ∙ is_o) in
+          begins_same (pass_mine (pool_of o)) (pass_mine (pool_of n)) (ap (λ (l : Lane D). pass_mine (pool_of l)) now)
+
+  -- each segment that is held was held before
+  pub lane_fewer : HoldFewer old new
+  lane_fewer = (ap length c.set ∙ length-set old lane c.after, each)
+    where
+      left_at : (l m : Lane D) → IsTrimmedLane index given l m → AllByRecursion (λ (i : ℕ). Contains (indexes_of l) i) (indexes_of m)
+      left_at l m t = ⊎_elim
+          (λ is. subst (λ (xs : List ℕ). AllByRecursion (λ (i : ℕ). Contains (indexes_of l) i) xs) (sym (t.gave is).1) (Rattle.log_cleaner.proofs.Lists.all_filter (λ (i : ℕ). Contains (indexes_of l) i) _ (indexes_of l) (members (indexes_of l))))
+          (λ not_. subst (λ (xs : List ℕ). AllByRecursion (λ (i : ℕ). Contains (indexes_of l) i) xs) (sym (t.kept not_).1) (members (indexes_of l)))
+          decided
+
+      each : (k : ℕ) (o n : Lane D) → slice_get old k ≡ Some o → slice_get new k ≡ Some n → AllByRecursion (λ (i : ℕ). Contains (indexes_of o) i) (indexes_of n)
+      each k o n is_o is_n = at (Rattle.std.proofs.lemmas.Bool.cases_eq k lane)
+        where
+          at : (k ≡ lane) ⊎ (k ≡ lane → ⊥) → AllByRecursion (λ (i : ℕ). Contains (indexes_of o) i) (indexes_of n)
+          at (inl same) =
+              let was : o ≡ c.before = same_Some o c.before (sym is_o ∙ ap (slice_get old) same ∙ c.there) in
+              let now : n ≡ c.after = same_Some n c.after (sym is_n ∙ (λ i. slice_get (c.set i) (same i)) ∙ get_set old lane c.before c.after c.there) in
+              subst (λ (l : Lane D). AllByRecursion (λ (i : ℕ). Contains (indexes_of l) i) (indexes_of n)) (sym was) (subst (λ (l : Lane D). AllByRecursion (λ (i : ℕ). Contains (indexes_of c.before) i) (indexes_of l)) (sym now)
+              (left_at c.before c.after c.change))
+          at (inr other) =
+              let now : n ≡ o = same_Some n o (sym is_n ∙ ap (λ (l : List (Lane D)). slice_get l k) c.set ∙ get_other old lane k c.after other ∙ is_o) in
+              subst (λ (l : Lane D). AllByRecursion (λ (i : ℕ). Contains (indexes_of o) i) (indexes_of l)) (sym now) (members (indexes_of o))
+
+module _ {D : Type 0} (old new : Manager D) (version : ℕ) (e : Indexed) {T : Type 0} (res : Result T StepFault) (can : CanClean old) (dropped : HasDropped version e old new res) where
   is_none : (n : ℕ) → (n ≡ 0) ⊎ (n ≡ 0 → ⊥)
   is_none zero = inl refl
   is_none (suc n) = inr (λ is. omega (arith, is))
 
   drop_pools : (k : ℕ) (o n : Lane D) → slice_get old.lanes.items k ≡ Some o → slice_get new.lanes.items k ≡ Some n → Begins (pass_mine (pool_of o)) (pass_mine (pool_of n))
-  drop_pools k o n is_o is_n = at (Rattle.std.proofs.lemmas.Bool.cases_eq k e.listed.lane)
-    where
-      c : ChangesLane (IsTrimmedLane e.index (entries_at e.listed.lane e.index new.index.entries ≡ 0)) e.listed.lane old.lanes.items new.lanes.items
-      c = dropped.lanes
-
-      at : (k ≡ e.listed.lane) ⊎ (k ≡ e.listed.lane → ⊥) → Begins (pass_mine (pool_of o)) (pass_mine (pool_of n))
-      at (inl same) =
-          let was : o ≡ c.before = same_Some o c.before (sym is_o ∙ ap (slice_get old.lanes.items) same ∙ c.there) in
-          let now : n ≡ c.after = same_Some n c.after (sym is_n ∙ (λ i. slice_get (c.set i) (same i)) ∙ get_set old.lanes.items e.listed.lane c.before c.after c.there) in
-          subst (λ (l : Lane D). Begins (pass_mine (pool_of l)) (pass_mine (pool_of n))) (sym was) (subst (λ (l : Lane D). Begins (pass_mine (pool_of c.before)) (pass_mine (pool_of l))) (sym now)
-          (gained_at c.before c.after (entries_at e.listed.lane e.index new.index.entries ≡ 0) (is_none (entries_at e.listed.lane e.index new.index.entries)) c.change))
-      at (inr other) =
-          let now : n ≡ o = same_Some n o (sym is_n ∙ ap (λ (l : List (Lane D)). slice_get l k) c.set ∙ get_other old.lanes.items e.listed.lane k c.after other ∙ is_o) in
-          begins_same (pass_mine (pool_of o)) (pass_mine (pool_of n)) (ap (λ (l : Lane D). pass_mine (pool_of l)) now)
+  drop_pools = lane_pools old.lanes.items new.lanes.items e.listed.lane e.index (entries_at e.listed.lane e.index new.index.entries ≡ 0) (is_none (entries_at e.listed.lane e.index new.index.entries)) dropped.lanes
 
   -- each segment that is held was held before
   pub drop_fewer : HoldFewer old.lanes.items new.lanes.items
-  drop_fewer = (ap length c.set ∙ length-set old.lanes.items e.listed.lane c.after, each)
-    where
-      c : ChangesLane (IsTrimmedLane e.index (entries_at e.listed.lane e.index new.index.entries ≡ 0)) e.listed.lane old.lanes.items new.lanes.items
-      c = dropped.lanes
-
-      left_at : (given : Type 0) (decided : given ⊎ (given → ⊥)) (l m : Lane D) → IsTrimmedLane e.index given l m → AllByRecursion (λ (i : ℕ). Contains (indexes_of l) i) (indexes_of m)
-      left_at given (inl is) l m t = subst (λ (xs : List ℕ). AllByRecursion (λ (i : ℕ). Contains (indexes_of l) i) xs) (sym (t.gave is).1) (Rattle.log_cleaner.proofs.Lists.all_filter (λ (i : ℕ). Contains (indexes_of l) i) _ (indexes_of l) (members (indexes_of l)))
-      left_at given (inr not_) l m t = subst (λ (xs : List ℕ). AllByRecursion (λ (i : ℕ). Contains (indexes_of l) i) xs) (sym (t.kept not_).1) (members (indexes_of l))
-
-      each : (k : ℕ) (o n : Lane D) → slice_get old.lanes.items k ≡ Some o → slice_get new.lanes.items k ≡ Some n → AllByRecursion (λ (i : ℕ). Contains (indexes_of o) i) (indexes_of n)
-      each k o n is_o is_n = at (Rattle.std.proofs.lemmas.Bool.cases_eq k e.listed.lane)
-        where
-          at : (k ≡ e.listed.lane) ⊎ (k ≡ e.listed.lane → ⊥) → AllByRecursion (λ (i : ℕ). Contains (indexes_of o) i) (indexes_of n)
-          at (inl same) =
-              let was : o ≡ c.before = same_Some o c.before (sym is_o ∙ ap (slice_get old.lanes.items) same ∙ c.there) in
-              let now : n ≡ c.after = same_Some n c.after (sym is_n ∙ (λ i. slice_get (c.set i) (same i)) ∙ get_set old.lanes.items e.listed.lane c.before c.after c.there) in
-              subst (λ (l : Lane D). AllByRecursion (λ (i : ℕ). Contains (indexes_of l) i) (indexes_of n)) (sym was) (subst (λ (l : Lane D). AllByRecursion (λ (i : ℕ). Contains (indexes_of c.before) i) (indexes_of l)) (sym now)
-              (left_at (entries_at e.listed.lane e.index new.index.entries ≡ 0) (is_none (entries_at e.listed.lane e.index new.index.entries)) c.before c.after c.change))
-          at (inr other) =
-              let now : n ≡ o = same_Some n o (sym is_n ∙ ap (λ (l : List (Lane D)). slice_get l k) c.set ∙ get_other old.lanes.items e.listed.lane k c.after other ∙ is_o) in
-              subst (λ (l : Lane D). AllByRecursion (λ (i : ℕ). Contains (indexes_of o) i) (indexes_of l)) (sym now) (members (indexes_of o))
+  drop_fewer = lane_fewer old.lanes.items new.lanes.items e.listed.lane e.index (entries_at e.listed.lane e.index new.index.entries ≡ 0) (is_none (entries_at e.listed.lane e.index new.index.entries)) dropped.lanes
 
   pub drop_goes_on : new.down ≡ None → new.index.entries ≡ given_of version old.index.entries → GoesOn old new
   drop_goes_on up entries = record {
@@ -265,22 +274,38 @@ module _ {D : Type 0} (tells : Bool) (state : D → State) (old mid new : Manage
   gave_then (Err (step.DiskFault p)) given = broken_then tells state old mid new p [] [] can copied given
   gave_then (Err (step.Down p)) given = absurd given
 
-  -- or others did until the chunk was tidy
-  pub gave_up_then : (first count : ℕ) → 1 ≤ count → (res : Result (Unit {0}) StepFault) → GivesUp tells state first count mid new res → GivesUp tells state first count old new res
-  gave_up_then first count some (Ok done) given = (
+  -- or others gave up all
+  pub gave_all_then : (all : Bool) (res : Result (Unit {0}) StepFault) → GivesAll tells state mid new res → GivesUp tells state all old new res
+  gave_all_then all (Ok done) given = (
     copied_then tells state old mid new [] [] can copied given.0,
     tidy_then old mid new keeps given.1,
-    λ version x. given.2 version (keeps.upper version first count some x),
+    λ is first count some version x. given.2 first count some version (keeps.upper version first count some x),
   )
-  gave_up_then first count some (Err (step.DiskFault p)) given = broken_then tells state old mid new p [] [] can copied given
-  gave_up_then first count some (Err (step.Down p)) given = absurd given
+  gave_all_then all (Err (step.DiskFault p)) given = broken_then tells state old mid new p [] [] can copied given
+  gave_all_then all (Err (step.Down p)) given = absurd given
 
--- a step that failed, where the chunk was to become tidy
-pub gives_up_failing : {D : Type 0} (tells : Bool) (state : D → State) (old new : Manager D) (first count : ℕ) (fault : StepFault) → GivesSome tells state old new (Err fault) → GivesUp tells state first count old new (Err fault)
-gives_up_failing tells state old new first count (step.DiskFault p) given = given
-gives_up_failing tells state old new first count (step.Down p) given = given
+module _ {D : Type 0} (tells : Bool) (state : D → State) (old new : Manager D) where
+  -- a step that failed, where all was to be given up
+  pub gives_all_failing : (fault : StepFault) → GivesSome tells state old new (Err fault) → GivesAll tells state old new (Err fault)
+  gives_all_failing (step.DiskFault p) given = given
+  gives_all_failing (step.Down p) given = given
+
+  -- or more than segments
+  pub gives_up_failing : (all : Bool) (fault : StepFault) → GivesSome tells state old new (Err fault) → GivesUp tells state all old new (Err fault)
+  gives_up_failing all (step.DiskFault p) given = given
+  gives_up_failing all (step.Down p) given = given
+
+  -- as cleaning tells it
+  pub settles_failing : (all : Bool) (fault : StepFault) (result : CleanFault) → ((p : Part) → fault ≡ step.DiskFault p → result ≡ DiskFault p) → GivesUp tells state all old new (Err fault) → Settles tells state all old new (Err result)
+  settles_failing all (step.DiskFault p) result is given = subst (λ (x : CleanFault). Settles tells state all old new (Err x)) (sym (is p refl)) given
+  settles_failing all (step.Down p) result is given = absurd given
 
 -- ---- Where nothing more may go
+
+awake_at : (us : List Bool) (k : ℕ) → AllByRecursion (λ x. x ≡ true) us → k < length us → slice_index_or us k false ≡ true
+awake_at [] k all lt = absurd (omega (arith, lt))
+awake_at (u ∷ us) zero all lt = all.0
+awake_at (u ∷ us) (suc k) all lt = awake_at us k all.1 (omega (arith, lt))
 
 pub none_left : {D : Type 0} (m : Manager D) → AllAwake m → AllByRecursion (λ (e : Indexed). e.listed.lane < length m.ups.items) m.index.entries → going_entry m ≡ None
     → AllByRecursion (λ (e : Listed). (b : ℕ) → goes (listed_in m.index.entries) e b ≡ false) (listed_in m.index.entries)
@@ -292,16 +317,15 @@ none_left m awake lanes none = Rattle.log_cleaner.proofs.Lists.all_both
     (listed_in m.index.entries)
     (all_mapped (λ (e : Listed). e.lane < length m.ups.items) (λ (e : Indexed). e.listed) m.index.entries lanes)
     (idle (record m { home_up = false }) refl none)
-  where
-    awake_at : (us : List Bool) (k : ℕ) → AllByRecursion (λ x. x ≡ true) us → k < length us → slice_index_or us k false ≡ true
-    awake_at [] k all lt = absurd (omega (arith, lt))
-    awake_at (u ∷ us) zero all lt = all.0
-    awake_at (u ∷ us) (suc k) all lt = awake_at us k all.1 (omega (arith, lt))
 
 -- each entry's lane has its flag
 pub lanes_within : {D : Type 0} (state : D → State) (m : Manager D) → Rattle.manager.specs.Stands.IsReady state m → m.down ≡ None → AllByRecursion (λ (e : Indexed). e.listed.lane < length m.ups.items) m.index.entries
 lanes_within state m ready up = all_map (Rattle.manager.specs.Stands.IsPlacedIn m.lanes.items) (λ (e : Indexed). e.listed.lane < length m.ups.items)
     (λ e placed. let lt = slice_get_within m.lanes.items e.listed.lane placed.lane placed.lane_is in let f = ready.ready.flags in omega (arith, lt, f)) m.index.entries (ready.up up).placed
+
+-- and is awake
+pub each_awake : {D : Type 0} (state : D → State) (m : Manager D) → Rattle.manager.specs.Stands.IsReady state m → CanClean m → AllByRecursion (λ (e : Indexed). slice_index_or m.ups.items e.listed.lane false ≡ true) m.index.entries
+each_awake state m ready can = all_map (λ (e : Indexed). e.listed.lane < length m.ups.items) (λ (e : Indexed). slice_index_or m.ups.items e.listed.lane false ≡ true) (λ e lt. awake_at m.ups.items e.listed.lane can.awake lt) m.index.entries (lanes_within state m ready can.up)
 
 pub tidies_up : {D : Type 0} (state : D → State) (old new : Manager D) (first count : ℕ) → 1 ≤ count → Rattle.manager.specs.Stands.IsReady state new → CanClean new → going_entry new ≡ None → KeepsTidy old new → TidiesUp first count old new
 tidies_up state old new first count some ready can none keeps version x =

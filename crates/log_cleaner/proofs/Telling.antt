@@ -24,7 +24,7 @@ use Rattle.log_cleaner.specs.Chunks.{IsTidy, KeepsNone, is_within}
 use Rattle.log_cleaner.proofs.Finding.{covers_mask, found, found_is}
 use Rattle.log_cleaner.proofs.Tidying.{clash, covers, member_unmap, not_so, within_first}
 
-not_found : {X : Type 0} (p : X → Bool) (xs : List X) (x : X) → find p xs ≡ None → Contains xs x → p x ≡ true → ⊥
+pub not_found : {X : Type 0} (p : X → Bool) (xs : List X) (x : X) → find p xs ≡ None → Contains xs x → p x ≡ true → ⊥
 not_found p [] x none has is = (let lt = has.1 in omega arith)
 not_found p (y ∷ ys) x none has is = ⊎_elim
     (λ (same : y ≡ x). none-some y (sym (sym (λ i. cond ((ap p same ∙ is) i) (Some y) (find p ys)) ∙ none)))

@@ -34,7 +34,7 @@ both_ways true b to from = sym (to refl)
 both_ways false true to from = from refl
 both_ways false false to from = refl
 
-any_map : {X Y : Type 0} (p : Y → Bool) (f : X → Y) (xs : List X) → list_any p (map f xs) ≡ list_any (λ x. p (f x)) xs
+pub any_map : {X Y : Type 0} (p : Y → Bool) (f : X → Y) (xs : List X) → list_any p (map f xs) ≡ list_any (λ x. p (f x)) xs
 any_map p f [] = refl
 any_map p f (x ∷ xs) = λ i. p (f x) || any_map p f xs i
 
@@ -45,7 +45,7 @@ member_unmap f (x ∷ xs) y has = ⊎_elim
     (λ there. let r = member_unmap f xs y there in (r.0, member_behind x xs r.0 r.1, r.2))
     (member_front (f x) (map f xs) y has)
 
-range_has : (a n b : ℕ) → a ≤ b → b < a + n → Contains (range_with_len a n) b
+pub range_has : (a n b : ℕ) → a ≤ b → b < a + n → Contains (range_with_len a n) b
 range_has a zero b le lt = absurd (omega (arith, le, lt))
 range_has a (suc n) b le lt = ⊎_elim
     (λ later. member_behind a (range_with_len (a + 1) n) b (range_has (a + 1) n b (omega (arith, later)) (omega (arith, lt))))
@@ -71,7 +71,7 @@ pub record Newer (es : List Listed) (version b : ℕ) : Type 0 where
   pub keeps : covers record_ b ≡ true
   pub above : version < record_.version
 
-both_true : (a b : Bool) → (a && b) ≡ true → (a ≡ true) × (b ≡ true)
+pub both_true : (a b : Bool) → (a && b) ≡ true → (a ≡ true) × (b ≡ true)
 both_true true b is = (refl, is)
 both_true false b is = absurd (let no : false ≡ true = is in cc)
 

@@ -4,8 +4,9 @@ use Rattle.std.specs.List.{AllByRecursion}
 use Rattle.wol_disk.specs.Disk.{State}
 use Rattle.wol_model.specs.Blocks.{Write}
 use Rattle.wol_model.specs.History.{Broke}
-use Rattle.wol_model.specs.Index.{listed_in}
+use Rattle.wol_model.specs.Index.{Indexed, is_live, listed_in}
 use Rattle.wol_promise.specs.Policy.{Look, listing}
+use Rattle.manager.specs.Reclaim.{lies_elsewhere}
 use Rattle.manager.specs.declared.manager.Manager.{Manager}
 use Rattle.manager.specs.declared.part.Part.{Part}
 use Rattle.manager.specs.declared.part.Place.{Place}
@@ -15,7 +16,7 @@ use Rattle.manager.specs.declared.part.WriteRefusal.{WriteRefusal}
 use Rattle.manager.specs.declared.part.WriteRefusal.TheVariants as refused
 use Rattle.manager.specs.declared.part.StepFault.{StepFault}
 use Rattle.manager.specs.declared.part.StepFault.TheVariants as step
-use Rattle.log_cleaner.specs.Chunks.{IsTidy, IsUppermost, is_within}
+use Rattle.log_cleaner.specs.Chunks.{IsTidy, IsUppermost}
 use Rattle.log_cleaner.specs.Copies.{AreCopies, KeepsCopies, LeavesEntry}
 use Rattle.log_cleaner.specs.Cleans.{FindsAllEmpty, GoesOn, NoneHasRoom, RoseSince}
 use Rattle.log_cleaner.specs.declared.answer.CleanFault.{CleanFault}
@@ -59,6 +60,10 @@ pub record KeepsTidy {D : Type 0} (old new : Manager D) : Type 0 where
   pub tidy : (first count : ℕ) → 1 ≤ count → IsTidy (listed_in old.index.entries) first count → IsTidy (listed_in new.index.entries) first count
   pub upper : (version first count : ℕ) → 1 ≤ count → IsUppermost (listed_in old.index.entries) version first count → IsUppermost (listed_in new.index.entries) version first count
 
+-- where the entry lies in this segment of this lane, it has no live block
+abbrev pub HasNoneLiveIn : (lane index : ℕ) → List Indexed → Indexed → Type 0
+HasNoneLiveIn lane index es e = lies_elsewhere lane index e ≡ false → (b : ℕ) → is_live (listed_in es) e.listed b ≡ false
+
 -- some records gave up what may go
 abbrev pub GivesSome : {D : Type 0} → (tells : Bool) → (D → State) → (old new : Manager D) → Result (Unit {0}) StepFault → Type 0
 GivesSome tells state old new (Ok done) = HasCopied tells state old new [] × KeepsTidy old new
@@ -69,11 +74,28 @@ GivesSome tells state old new (Err (step.Down p)) = ⊥
 abbrev pub TidiesUp : {D : Type 0} → (first count : ℕ) → (old new : Manager D) → Type 0
 TidiesUp first count old new = (version : ℕ) → IsUppermost (listed_in old.index.entries) version first count → IsTidy (listed_in new.index.entries) first count
 
--- giving up what may go, until the chunk is tidy
-abbrev pub GivesUp : {D : Type 0} → (tells : Bool) → (D → State) → (first count : ℕ) → (old new : Manager D) → Result (Unit {0}) StepFault → Type 0
-GivesUp tells state first count old new (Ok done) = HasCopied tells state old new [] × KeepsTidy old new × TidiesUp first count old new
-GivesUp tells state first count old new (Err (step.DiskFault p)) = HasBroken tells state old new p []
-GivesUp tells state first count old new (Err (step.Down p)) = ⊥
+-- each chunk is tidy then whose uppermost record keeps just its blocks
+abbrev pub TidiesAll : {D : Type 0} → (old new : Manager D) → Type 0
+TidiesAll old new = (first count : ℕ) → 1 ≤ count → TidiesUp first count old new
+
+-- giving up all that may go
+abbrev pub GivesAll : {D : Type 0} → (tells : Bool) → (D → State) → (old new : Manager D) → Result (Unit {0}) StepFault → Type 0
+GivesAll tells state old new (Ok done) = HasCopied tells state old new [] × KeepsTidy old new × TidiesAll old new
+GivesAll tells state old new (Err (step.DiskFault p)) = HasBroken tells state old new p []
+GivesAll tells state old new (Err (step.Down p)) = ⊥
+
+-- giving up some of it, or all
+abbrev pub GivesUp : {D : Type 0} → (tells : Bool) → (D → State) → (all : Bool) → (old new : Manager D) → Result (Unit {0}) StepFault → Type 0
+GivesUp tells state all old new (Ok done) = HasCopied tells state old new [] × KeepsTidy old new × (all ≡ true → TidiesAll old new)
+GivesUp tells state all old new (Err (step.DiskFault p)) = HasBroken tells state old new p []
+GivesUp tells state all old new (Err (step.Down p)) = ⊥
+
+-- the same, by what cleaning tells
+abbrev pub Settles : {D : Type 0} → (tells : Bool) → (D → State) → (all : Bool) → (old new : Manager D) → Result (Unit {0}) CleanFault → Type 0
+Settles tells state all old new (Ok done) = GivesUp tells state all old new (Ok done)
+Settles tells state all old new (Err (DiskFault p)) = HasBroken tells state old new p []
+Settles tells state all old new (Err VersionsSpent) = ⊥
+Settles tells state all old new (Err NoMemory) = ⊥
 
 -- no log had room
 pub record IsRefused {D : Type 0} (tells : Bool) (state : D → State) (count : ℕ) (old new : Manager D) : Type 0 where
@@ -113,18 +135,22 @@ Rewrites tells state first count old new (Ok true) = HasRewritten tells state fi
 Rewrites tells state first count old new (Ok false) = IsRefused tells state count old new
 Rewrites tells state first count old new (Err fault) = TellsFault tells state first count old new fault
 
--- a chunk was made tidy, and others stay so
-pub record HasTidied {D : Type 0} (tells : Bool) (state : D → State) (first count : ℕ) (old new : Manager D) : Type 0 where
-  pub write : Write
-  pub is_copy : IsCopyAt first count old.next write
-  pub copied : HasCopied tells state old new (write ∷ [])
-  pub tidy : IsTidy (listed_in new.index.entries) first count
-  pub others : (f c : ℕ) → 1 ≤ c → ((b : ℕ) → is_within f c b ≡ true → is_within first count b ≡ false) → IsTidy (listed_in old.index.entries) f c → IsTidy (listed_in new.index.entries) f c
+-- the write was done
+abbrev pub was_written : Result Bool CleanFault → Bool
+was_written (Ok written) = written
+was_written (Err fault) = false
 
-abbrev pub CopiesChunk : {D : Type 0} → (tells : Bool) → (D → State) → (first count : ℕ) → (old new : Manager D) → Result Bool CleanFault → Type 0
-CopiesChunk tells state first count old new (Ok true) = HasTidied tells state first count old new
-CopiesChunk tells state first count old new (Ok false) = IsRefused tells state count old new
-CopiesChunk tells state first count old new (Err fault) = TellsFault tells state first count old new fault
+-- a call of a disk failed
+abbrev pub is_broken : Result Bool CleanFault → Bool
+is_broken (Ok written) = false
+is_broken (Err (DiskFault p)) = true
+is_broken (Err VersionsSpent) = false
+is_broken (Err NoMemory) = false
+
+-- what cleaning answers where a chunk wasn't written
+abbrev pub ended : (copied : ℕ) → Result Bool CleanFault → Result (ℕ × Bool) CleanFault
+ended copied (Ok written) = Ok (copied, true)
+ended copied (Err fault) = Err fault
 
 -- ---- The copies of a step
 
@@ -148,14 +174,6 @@ module _ {D : Type 0} (tells : Bool) (state : D → State) (first count : ℕ) (
   rewritten (Ok false) r = []
   rewritten (Err fault) f = fault_copies fault f
 
-  abbrev pub chunk_copies : (result : Result Bool CleanFault) → CopiesChunk tells state first count old new result → List Write
-  chunk_copies (Ok true) r = r.write ∷ []
-  chunk_copies (Ok false) r = []
-  chunk_copies (Err fault) f = fault_copies fault f
-
   -- the same, with its copies behind those before it
   abbrev pub RewritesBehind : (before after : List Write) → Result Bool CleanFault → Type 0
   RewritesBehind before after result = (r : Rewrites tells state first count old new result) × (after ≡ before ++ rewritten result r)
-
-  abbrev pub CopiesBehind : (before after : List Write) → Result Bool CleanFault → Type 0
-  CopiesBehind before after result = (r : CopiesChunk tells state first count old new result) × (after ≡ before ++ chunk_copies result r)

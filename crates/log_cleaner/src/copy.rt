@@ -4,18 +4,17 @@ ghost use Rattle.manager.specs.Stands.{IsReady, IsHome};
 ghost use Rattle.manager.specs.declared.part.Part.{Part};
 ghost use Rattle.log_cleaner.specs.Chunks.{is_within};
 ghost use Rattle.log_cleaner.specs.Cleans.{CanClean, covered_in};
-ghost use Rattle.log_cleaner.specs.Steps.{CopiesBehind, RewritesBehind, fault_of, told_of};
+ghost use Rattle.log_cleaner.specs.Steps.{RewritesBehind, fault_of, told_of};
 
 use crate::CleanFault;
 use crate::copies::{Copies, noted, with_copy};
-use crate::giving::{give_up, newest_versions};
 use logger::Shared;
 use manager::{Manager, Place, ReadRefusal, StepFault, WriteRefusal};
 use std::sync::Wait;
 use wol_disk::{Block, Disk};
 
-// The fault of a step that was refused, of a manager that wasn't down.
-fn step_fault(fault: StepFault) -> CleanFault
+/// The fault of a step that was refused, of a manager that wasn't down.
+pub(crate) fn step_fault(fault: StepFault) -> CleanFault
     ensures { (p : Part) → fault ≡ StepFault.DiskFault p → result ≡ CleanFault.DiskFault p }
 {
     match fault {
@@ -48,8 +47,8 @@ fn told(answer: Result<Place, WriteRefusal>) -> Result<bool, CleanFault>
     }
 }
 
-// Reads the blocks from `lbn` on and writes them again, to a log, which is one copy more. Tells whether one had room.
-fn rewrite<R: Wait, D: Disk>(
+/// Reads the blocks from `lbn` on and writes them again, to a log, which is one copy more. Tells whether one had room.
+pub(crate) fn rewrite<R: Wait, D: Disk>(
     rt: &R,
     m: &mut Manager<D>,
     shared: &Shared<D>,
@@ -75,40 +74,5 @@ fn rewrite<R: Wait, D: Disk>(
             told(answer)
         }
         Err(refusal) => Err(read_fault(refusal)),
-    }
-}
-
-/// Writes the blocks of a chunk again, and then gives up what may go of the records that keep any of them. With the
-/// first chunk all records go whose blocks newer ones keep. Tells whether a log had room.
-pub(crate) fn copy_chunk<R: Wait, D: Disk>(
-    rt: &R,
-    m: &mut Manager<D>,
-    shared: &Shared<D>,
-    lbn: u64,
-    blocks: &mut [Block],
-    done: &mut Copies,
-    is_first: bool,
-) -> Result<bool, CleanFault>
-    requires ready { IsReady D.state m.old }
-    requires at { IsHome shared.now m.old }
-    requires can { CanClean m.old }
-    requires within { lbn < 2 ^ 32 }
-    requires count { (1 ≤ length blocks.old) × (length blocks.old ≤ m.old.most) }
-    requires few { length blocks.old ≤ 128 }
-    requires covered { (b : ℕ) → is_within lbn (length blocks.old) b ≡ true → covered_in m.old b ≡ true }
-    ensures ready { IsReady D.state m.new }
-    ensures at { IsHome shared.now m.new }
-    ensures copied { CopiesBehind D.tells D.state lbn (length blocks.old) m.old m.new
-        done.old.value.items done.new.value.items result }
-{
-    let count = blocks.len() as u32;
-    let versions = newest_versions(m.index(), lbn, count);
-    let copied = rewrite(rt, m, shared, lbn, blocks, done)?;
-    if !copied {
-        return Ok(false);
-    }
-    match give_up(rt, m, shared, lbn, count, &versions, is_first) {
-        Ok(()) => Ok(true),
-        Err(fault) => Err(step_fault(fault)),
     }
 }

@@ -1,128 +1,97 @@
-// What may go is given up once a chunk was written again.
-ghost use Rattle.std.specs.Prelude.{◌≡◌, ◌≤◌, ◌<◌, ◌^◌};
+// What may go is given up once chunks were written again.
+ghost use Rattle.std.specs.Prelude.{◌≡◌, true, false, slice_index_or, IfSome};
+ghost use Rattle.std.specs.List.{AllByRecursion};
+ghost use Rattle.std.specs.Option.{ForSome};
+ghost use Rattle.wol_model.specs.Index.{listed_in};
+ghost use Rattle.redirect_map.specs.Index.{entry_at, HasVersion};
+ghost use Rattle.manager.specs.Reclaim.{NoneLiveIn};
 ghost use Rattle.manager.specs.Stands.{IsReady, IsHome};
+ghost use Rattle.log_cleaner.specs.Chunks.{NoneHomed};
 ghost use Rattle.log_cleaner.specs.Cleans.{CanClean};
-ghost use Rattle.log_cleaner.specs.Steps.{GivesSome, GivesUp};
+ghost use Rattle.log_cleaner.specs.Steps.{GivesSome, GivesAll, GivesUp, HasNoneLiveIn};
 
-use crate::chunks::is_tidy;
-use garbage_list::may_go;
 use logger::Shared;
 use manager::{Manager, StepFault};
 use reclaimer::{Gone, invalidate_one};
-use redirect_map::{Index, Rec};
+use redirect_map::Index;
 use std::sync::Wait;
 use wol_disk::Disk;
 
-/// The most blocks of a record, and of a chunk.
-const MOST: u64 = 128;
+/// The most loggers of a view.
+const LANES: usize = 16;
 
-// The version of a record that begins before this block, and else 0.
-fn version_before(record: Option<Rec>, behind: u64) -> u64 {
-    match record {
-        Some(record) if record.lbn < behind => record.version,
-        _ => 0,
-    }
-}
+/// Versions lie below this.
+const END: u64 = 1 << 63;
 
-/// The versions of the records that keep a block of a chunk and are the newest to keep one of its blocks, or of those
-/// behind it that such a record reaches; and 0 in all other places. No proof rests on them: any record may give up what
-/// may go.
-pub(crate) fn newest_versions(index: &Index, lbn: u64, count: u32) -> [u64; 256]
-    requires within { lbn < 2 ^ 32 }
-    requires count { count ≤ 128 }
+// Whether the record of this version lies in this segment and has a live block.
+fn is_live_in(index: &Index, version: u64, lane: u32, segment: u32) -> bool
+    ensures { result ≡ false → IfSome (entry_at index.now.entries version) (HasNoneLiveIn lane segment index.now.entries) }
 {
-    let mut versions = [0; 256];
-    let behind = lbn + u64::from(count);
-    let end = behind + MOST;
-    let mut from = lbn;
-    for place in 0..256 {
-        if from >= end {
-            return versions;
-        }
-        let (record, run) = index.newest_run(from, (end - from) as usize);
-        versions[place] = version_before(record, behind);
-        from += run as u64;
-    }
-    versions
-}
-
-// Whether each block of the record of this version is kept by a newer one.
-fn is_covered(index: &Index, version: u64) -> bool {
-    let Some(_record) = index.find(version) else {
+    let Some(record) = index.find(version) else {
         return false;
     };
-    index.live(version) == 0
+    if record.lane != lane {
+        return false;
+    }
+    if record.segment != segment {
+        return false;
+    }
+    index.live(version) != 0
 }
 
-// Gives up what may go of the record of this version, if there is such a record.
-fn give_up_one<R: Wait, D: Disk>(
-    rt: &R,
-    m: &mut Manager<D>,
-    shared: &Shared<D>,
-    version: u64,
-) -> Result<(), StepFault>
-    requires ready { IsReady D.state m.old }
-    requires at { IsHome shared.now m.old }
-    requires can { CanClean m.old }
-    ensures ready { IsReady D.state m.new }
-    ensures at { IsHome shared.now m.new }
-    ensures given { GivesSome D.tells D.state m.old m.new result }
+// Whether no record in this segment has a live block. No block is home too, so live blocks are due, and their records are
+// among those that are marked.
+fn is_covered(index: &Index, ups: &[bool], lane: u32, segment: u32) -> bool
+    requires unhomed { NoneHomed (listed_in index.now.entries) }
+    requires awake { slice_index_or ups.now lane false ≡ true }
+    ensures { result ≡ true → NoneLiveIn lane segment index.now.entries }
 {
-    let index = m.index();
-    let Some(_record) = index.find(version) else {
-        return Ok(());
+    let mut from = 0;
+    'records: while index.len() > 0 {
+        let Some(version) = index.first_due(from, ups) else {
+            return true;
+        };
+        if version >= END {
+            return false;
+        }
+        if is_live_in(index, version, lane, segment) {
+            return false;
+        }
+        from = version + 1;
+    }
+    true
+}
+
+// Notes that this segment of the lane was looked at, and tells whether it was the last one that was.
+fn was_looked_at(looked: &mut [Option<u32>; LANES], lane: u32, segment: u32) -> bool {
+    let Some(last) = looked.get_mut(lane as usize) else {
+        return false;
     };
-    if may_go(index, version) == 0 {
-        return Ok(());
-    }
-    match m.drop_rec(rt, shared, version) {
-        Ok(_) => Ok(()),
-        Err(fault) => Err(fault),
-    }
+    let was = *last == Some(segment);
+    *last = Some(segment);
+    was
 }
 
-// Gives up what may go of the records of these versions.
-fn give_up_each<R: Wait, D: Disk>(
-    rt: &R,
-    m: &mut Manager<D>,
-    shared: &Shared<D>,
-    versions: &[u64],
-) -> Result<(), StepFault>
-    requires ready { IsReady D.state m.old }
-    requires at { IsHome shared.now m.old }
-    requires can { CanClean m.old }
-    ensures ready { IsReady D.state m.new }
-    ensures at { IsHome shared.now m.new }
-    ensures given { GivesSome D.tells D.state m.old m.new result }
+// Whether there is a record of this version, whose segment wasn't the last of its lane that was looked at, and no record in
+// that segment has a live block.
+fn goes_whole(index: &Index, ups: &[bool], version: u64, looked: &mut [Option<u32>; LANES]) -> bool
+    requires unhomed { NoneHomed (listed_in index.now.entries) }
+    requires awake { AllByRecursion (λ e. slice_index_or ups.now e.listed.lane false ≡ true) index.now.entries }
+    ensures there { result ≡ true → HasVersion index.now.entries version }
+    ensures covered { result ≡ true → ForSome (entry_at index.now.entries version) (λ e. NoneLiveIn e.listed.lane e.index index.now.entries) }
 {
-    for version in versions {
-        give_up_one(rt, m, shared, *version)?;
+    let Some(record) = index.find(version) else {
+        return false;
+    };
+    if was_looked_at(looked, record.lane, record.segment) {
+        return false;
     }
-    Ok(())
+    is_covered(index, ups, record.lane, record.segment)
 }
 
-// Gives up the record of this version where newer ones keep all its blocks.
-fn give_up_if_covered<R: Wait, D: Disk>(
-    rt: &R,
-    m: &mut Manager<D>,
-    shared: &Shared<D>,
-    version: u64,
-) -> Result<(), StepFault>
-    requires ready { IsReady D.state m.old }
-    requires at { IsHome shared.now m.old }
-    requires can { CanClean m.old }
-    ensures ready { IsReady D.state m.new }
-    ensures at { IsHome shared.now m.new }
-    ensures given { GivesSome D.tells D.state m.old m.new result }
-{
-    if !is_covered(m.index(), version) {
-        return Ok(());
-    }
-    give_up_one(rt, m, shared, version)
-}
-
-// Gives up each record whose blocks newer ones keep.
-fn give_up_covered<R: Wait, D: Disk>(
+// Gives up each segment in which no record has a live block, with all its records. Each of these has blocks that go, so it is
+// among those that are marked.
+fn give_up_segments<R: Wait, D: Disk>(
     rt: &R,
     m: &mut Manager<D>,
     shared: &Shared<D>,
@@ -134,55 +103,32 @@ fn give_up_covered<R: Wait, D: Disk>(
     ensures at { IsHome shared.now m.new }
     ensures given { GivesSome D.tells D.state m.old m.new result }
 {
+    let mut looked = [None; LANES];
     let mut from = 0;
     for _step in 0..m.index().len() {
         let Some(version) = m.index().first_going(from, m.ups()) else {
             return Ok(());
         };
-        give_up_if_covered(rt, m, shared, version)?;
+        if goes_whole(m.index(), m.ups(), version, &mut looked) {
+            m.drop_segment(rt, shared, version)?;
+        }
         from = version.saturating_add(1);
     }
     Ok(())
 }
 
-// Gives up what may go of the records of these versions, and with the first chunk each record whose blocks newer ones
-// keep. No other record has to give up anything then.
-fn give_up_some<R: Wait, D: Disk>(
-    rt: &R,
-    m: &mut Manager<D>,
-    shared: &Shared<D>,
-    versions: &[u64],
-    is_first: bool,
-) -> Result<(), StepFault>
-    requires ready { IsReady D.state m.old }
-    requires at { IsHome shared.now m.old }
-    requires can { CanClean m.old }
-    ensures ready { IsReady D.state m.new }
-    ensures at { IsHome shared.now m.new }
-    ensures given { GivesSome D.tells D.state m.old m.new result }
-{
-    give_up_each(rt, m, shared, versions)?;
-    if !is_first {
-        return Ok(());
-    }
-    give_up_covered(rt, m, shared)
-}
-
 // Gives up what may go, record by record, until nothing more may go.
-fn give_up_all<R: Wait, D: Disk>(
+fn give_up_each<R: Wait, D: Disk>(
     rt: &R,
     m: &mut Manager<D>,
     shared: &Shared<D>,
-    lbn: u64,
-    count: u32,
 ) -> Result<(), StepFault>
     requires ready { IsReady D.state m.old }
     requires at { IsHome shared.now m.old }
     requires can { CanClean m.old }
-    requires count { 1 ≤ count }
     ensures ready { IsReady D.state m.new }
     ensures at { IsHome shared.now m.new }
-    ensures given { GivesUp D.tells D.state lbn count m.old m.new result }
+    ensures given { GivesAll D.tells D.state m.old m.new result }
 {
     'steps: loop {
         if let Gone::Nothing = invalidate_one(rt, m, shared)? {
@@ -191,30 +137,24 @@ fn give_up_all<R: Wait, D: Disk>(
     }
 }
 
-/// Makes the chunk tidy that was written again just now: the records of these versions give up what may go, each in one
-/// step, with the first chunk all records go whose blocks newer ones keep, and others give up blocks only where that
-/// isn't enough.
+/// Gives up segments in which no record has a live block, with all their records, each by one write of its head; and then
+/// all else that may go, record by record, where all is asked for.
 pub(crate) fn give_up<R: Wait, D: Disk>(
     rt: &R,
     m: &mut Manager<D>,
     shared: &Shared<D>,
-    lbn: u64,
-    count: u32,
-    versions: &[u64],
-    is_first: bool,
+    all: bool,
 ) -> Result<(), StepFault>
     requires ready { IsReady D.state m.old }
     requires at { IsHome shared.now m.old }
     requires can { CanClean m.old }
-    requires within { lbn < 2 ^ 32 }
-    requires count { (1 ≤ count) × (count ≤ 128) }
     ensures ready { IsReady D.state m.new }
     ensures at { IsHome shared.now m.new }
-    ensures given { GivesUp D.tells D.state lbn count m.old m.new result }
+    ensures given { GivesUp D.tells D.state all m.old m.new result }
 {
-    give_up_some(rt, m, shared, versions, is_first)?;
-    if is_tidy(m.index(), lbn, count) {
+    give_up_segments(rt, m, shared)?;
+    if !all {
         return Ok(());
     }
-    give_up_all(rt, m, shared, lbn, count)
+    give_up_each(rt, m, shared)
 }

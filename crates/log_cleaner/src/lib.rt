@@ -4,9 +4,10 @@
 //!
 //! `chunks.rt` finds the next chunk, a run of covered blocks of at most so many, and tells whether it is tidy: one
 //! record keeps just its blocks, and no other record keeps any of them. `copy.rt` writes one chunk again, `giving.rt`
-//! then gives up what may go of the records that keep its blocks, `copies.rt` has the copies as contracts see them,
-//! `cleaner.rt` goes from chunk to chunk (`clean`). Of `specs/`: `Chunks` says what a chunk is and when it is tidy,
-//! `Copies` what copies leave in a history and at each moment, `Cleans` what the answers mean.
+//! gives up what may go, whole segments first, `copies.rt` has the copies as contracts see them, `cleaner.rt` goes from
+//! chunk to chunk (`clean`). A chunk that was written again has an uppermost record, and becomes tidy once all is given
+//! up that may go: at the end, and where a chunk can't be written. Of `specs/`: `Chunks` says what a chunk is and when
+//! it is tidy, `Copies` what copies leave in a history and at each moment, `Cleans` what the answers mean.
 #![tactic(auto)]
 
 mod answer;

@@ -1,67 +1,29 @@
 -- The records of a segment, none of which has a live block, leave the index one after another.
-use Rattle.std.proofs.Common.{◌≡◌, ⊎_elim, ◌<◌, ◌≤◌, ◌+◌, ◌^◌, ℕ, suc, Bool, true, false, cond, not, ◌&&◌, ◌||◌, List, [], ◌∷◌, ◌++◌, map, length, Some, refl, sym, ap, subst, ◌∙◌, arith, eqb, ltb, bit_and, append_assoc, length-append}
-use Rattle.std.specs.Prelude.{Contains, IfSome, IsSome, filter, slice_get}
+use Rattle.std.proofs.Common.{◌≡◌, ◌⊎◌, inl, inr, ⊎_elim, ◌<◌, ◌≤◌, ◌+◌, ◌^◌, ℕ, zero, suc, Bool, true, false, cond, not, ◌&&◌, ◌||◌, List, [], ◌∷◌, ◌++◌, length, Option, Some, None, refl, sym, ap, subst, ◌∙◌, arith, eqb, leb, ltb, bit_and}
+use Rattle.std.specs.Prelude.{Contains, IfSome, IsSome, filter, slice_index_or, slice_set}
 use Rattle.std.specs.Int.{bit_not, w128}
 use Rattle.std.specs.List.{AllByRecursion}
 use Rattle.std.specs.Option.{ForSome}
 use Rattle.std.proofs.Math.Nat.{pow-le-pow_right}
-use Rattle.std.proofs.lemmas.Bool.{false≢true, eq-eqb, ne_eqb, cases_eq, lt-ltb}
-use Rattle.std.proofs.lemmas.List.{append-nil, map-append}
+use Rattle.std.proofs.lemmas.Bool.{false≢true, eq-eqb, ne_eqb, eqb-true, cases_eq, cases_lt, le-leb, leb-true, lt-ltb}
 use Rattle.std.proofs.lemmas.List.Elements.{filter-append}
-use Rattle.std.proofs.lemmas.Option.{same_Some}
+use Rattle.std.proofs.lemmas.Option.{none-some, same_Some}
 use Rattle.wol_model.specs.Extents.{has_newer, has_older}
-use Rattle.wol_model.specs.Index.{Indexed, AreRising, cover_of, goes, is_homed, keeping, keeps_a_block, listed_covers, listed_in}
+use Rattle.wol_model.specs.Index.{Indexed, block_numbers, cover_of, goes, has_going, is_homed, keeping, keeps_a_block, listed_covers, listed_in}
 use Rattle.wol_model.specs.Log.{has_bit}
-use Rattle.wol_promise.proofs.Covers.{any_member}
+use Rattle.wol_promise.proofs.Covers.{any_found, any_member}
 use Rattle.wol_promise.proofs.GiveUps.{newer_in}
-use Rattle.wol_promise.proofs.Lists.{all_joined, all_map, all_member, all_mid, member_behind, member_front, member_mid}
-use Rattle.wol_promise.proofs.Wholes.{above_of}
-use Rattle.redirect_map.specs.Index.{IsEntry, IsIndex, IsRecordOf, changed, entry_at, given_up, has_version}
+use Rattle.wol_promise.proofs.Lists.{all_back, all_front, all_insert, all_map, all_member, member_behind}
+use Rattle.wol_promise.proofs.Wholes.{above_of, member_filter, member_unfilter}
+use Rattle.redirect_map.specs.Index.{IsAnswer, IsEntry, IsIndex, changed, entry_at, given_up, has_version}
 use Rattle.redirect_map.specs.Masks.{IsMask}
 use Rattle.redirect_map.specs.declared.record.Rec.{Rec}
 use Rattle.redirect_map.proofs.Bits.{some_bit}
 use Rattle.garbage_list.proofs.Going.{keep_is, some_block}
-use Rattle.manager.specs.Reclaim.{NoneLiveIn, lies_elsewhere, with_kept}
-use Rattle.manager.proofs.Entries.{At, entry_in, same_all}
-use Rattle.manager.proofs.GivenUp.{given_is, given_list, keep_bits, keep_within, keeps_is, one_of_version}
+use Rattle.manager.specs.Reclaim.{GoesIn, NoneLiveIn, lies_elsewhere, stays_behind, with_kept}
+use Rattle.manager.proofs.Entries.{At, Found, among, entry_in, entry_of_version, some_of}
+use Rattle.manager.proofs.GivenUp.{given_is, given_list, keep_bits, keep_within, keeps_is}
 use Rattle.manager.proofs.Retiring.{covered_where}
-
--- ---- an entry between others, by rising version
-
-abbrev version_of : Indexed → ℕ
-version_of d = d.listed.version
-
-unmapped : (P : ℕ → Type 0) (xs : List Indexed) → AllByRecursion P (map version_of xs) → AllByRecursion (λ d. P d.listed.version) xs
-unmapped P [] all = tt
-unmapped P (x ∷ xs) all = (all.0, unmapped P xs all.1)
-
-other_versions : (front : List Indexed) (e : Indexed) (back : List Indexed) → AreRising (map version_of (front ++ e ∷ back))
-    → AllByRecursion (λ (d : Indexed). has_version e.listed.version d ≡ false) front × AllByRecursion (λ (d : Indexed). has_version e.listed.version d ≡ false) back
-other_versions [] e back rising = (
-  tt,
-  all_map (λ (d : Indexed). e.listed.version < d.listed.version) (λ (d : Indexed). has_version e.listed.version d ≡ false)
-      (λ d lt. ne_eqb d.listed.version e.listed.version (λ same. omega (arith, lt, same))) back (unmapped (λ v. e.listed.version < v) back rising.0),
-)
-other_versions (x ∷ front) e back rising =
-    let rest = other_versions front e back rising.1 in
-    let lt = all_mid (λ (d : Indexed). x.listed.version < d.listed.version) front e back (unmapped (λ v. x.listed.version < v) (front ++ e ∷ back) rising.0) in
-    ((ne_eqb x.listed.version e.listed.version (λ same. omega (arith, lt, same)), rest.0), rest.1)
-
-at_mid : (es front : List Indexed) (e : Indexed) (back : List Indexed) → es ≡ front ++ e ∷ back → AreRising (map version_of es) → (a : At es e.listed.version e) × (a.front ≡ front) × (a.back ≡ back)
-at_mid es front e back is rising =
-    let others = other_versions front e back (subst (λ (l : List Indexed). AreRising (map version_of l)) is rising) in (
-      record {
-        front = front;
-        back = back;
-        is = is;
-        version_is = refl;
-        then_is = λ f. ap (changed e.listed.version f) is ∙ map-append (λ (d : Indexed). cond (has_version e.listed.version d) (f d) d) front (e ∷ back)
-            ∙ (λ i. same_all e.listed.version f front others.0 i ++ cond (eq-eqb e.listed.version e.listed.version refl i) (f e) e ∷ same_all e.listed.version f back others.1 i);
-        others = all_joined (λ (d : Indexed). has_version e.listed.version d ≡ false) front back others.0 others.1;
-      },
-      refl,
-      refl,
-    )
 
 -- versions have a bound
 bounded : (es : List Indexed) → (n : ℕ) × AllByRecursion (λ (d : Indexed). d.listed.version < n) es
@@ -69,195 +31,266 @@ bounded [] = (0, tt)
 bounded (e ∷ es) = let rest = bounded es in
     (1 + e.listed.version + rest.0, (omega arith, all_map (λ (d : Indexed). d.listed.version < rest.0) (λ (d : Indexed). d.listed.version < 1 + e.listed.version + rest.0) (λ d lt. omega (arith, lt)) es rest.1))
 
+-- the entry of a version is among them
+found_among : (es : List Indexed) (version : ℕ) (e : Indexed) → entry_at es version ≡ Some e → Contains es e
+found_among [] version e found = absurd (none-some e found)
+found_among (x ∷ es) version e found = at (has_version version x) found (found_among es version e)
+  where
+    at : (t : Bool) → cond t (Some x) (entry_at es version) ≡ Some e → (entry_at es version ≡ Some e → Contains es e) → Contains (x ∷ es) e
+    at true is rest = (0, omega arith, same_Some x e is)
+    at false is rest = member_behind x es e (rest is)
+
+-- an entry that lies in the segment lies in its lane
+lane_of : (lane index : ℕ) (d : Indexed) → lies_elsewhere lane index d ≡ false → d.listed.lane ≡ lane
+lane_of lane index d leaves = eqb-true d.listed.lane lane (first (eqb d.listed.lane lane) (eqb d.index index) leaves)
+  where
+    first : (s t : Bool) → not (s && t) ≡ false → s ≡ true
+    first true t is = refl
+    first false t is = absurd (false≢true (sym is))
+
+lt-leb : (m n : ℕ) → n < m → leb m n ≡ false
+lt-leb m n lt = at (leb m n) refl
+  where
+    at : (t : Bool) → leb m n ≡ t → leb m n ≡ false
+    at true is = absurd (let le = leb-true m n is in omega (arith, lt, le))
+    at false is = is
+
+-- ---- filters
+
+filter_agree : {X : Type 0} (p q : X → Bool) (xs : List X) → ((x : X) → Contains xs x → p x ≡ q x) → filter p xs ≡ filter q xs
+filter_agree p q [] same = refl
+filter_agree p q (x ∷ xs) same = (λ i. cond (same x (0, omega arith, refl) i) (x ∷ filter_agree p q xs (λ y has. same y (member_behind x xs y has)) i) (filter_agree p q xs (λ y has. same y (member_behind x xs y has)) i))
+
+filter_all : {X : Type 0} (p : X → Bool) (xs : List X) → AllByRecursion (λ x. p x ≡ true) xs → filter p xs ≡ xs
+filter_all p [] all = refl
+filter_all p (x ∷ xs) all = (λ i. cond (all.0 i) (x ∷ filter_all p xs all.1 i) (filter_all p xs all.1 i))
+
+filter_twice : {X : Type 0} (p q : X → Bool) (xs : List X) → filter p (filter q xs) ≡ filter (λ x. q x && p x) xs
+filter_twice p q [] = refl
+filter_twice p q (x ∷ xs) = at (q x) (filter_twice p q xs)
+  where
+    at : (t : Bool) → filter p (filter q xs) ≡ filter (λ y. q y && p y) xs → filter p (cond t (x ∷ filter q xs) (filter q xs)) ≡ cond (t && p x) (x ∷ filter (λ y. q y && p y) xs) (filter (λ y. q y && p y) xs)
+    at true rest = λ i. cond (p x) (x ∷ rest i) (rest i)
+    at false rest = rest
+
+each_member : {X : Type 0} (P : X → Type 0) (xs : List X) → ((x : X) → Contains xs x → P x) → AllByRecursion P xs
+each_member P [] f = tt
+each_member P (x ∷ xs) f = (f x (0, omega arith, refl), each_member P xs (λ y has. f y (member_behind x xs y has)))
+
+later : (a b : Bool) → b ≡ true → (a || b) ≡ true
+later true b is = refl
+later false b is = is
+
+-- ---- the record of one version
+
+none_of : (version : ℕ) (es : List Indexed) → entry_at es version ≡ None → AllByRecursion (λ (d : Indexed). has_version version d ≡ false) es
+none_of version [] none = tt
+none_of version (x ∷ es) none = at (has_version version x) refl none (none_of version es)
+  where
+    at : (t : Bool) → has_version version x ≡ t → cond t (Some x) (entry_at es version) ≡ None → (entry_at es version ≡ None → AllByRecursion (λ (d : Indexed). has_version version d ≡ false) es) → AllByRecursion (λ (d : Indexed). has_version version d ≡ false) (x ∷ es)
+    at true is found rest = absurd (none-some x (sym found))
+    at false is found rest = (is, rest found)
+
+pub none_answered : (es : List Indexed) (version : ℕ) → IsAnswer (entry_at es version) None → entry_at es version ≡ None
+none_answered es version is = at (entry_at es version) is
+  where
+    at : (o : Option Indexed) → IsAnswer o None → o ≡ None
+    at None a = refl
+    at (Some e) a = absurd a
+
+module _ (lane index version : ℕ) (es : List Indexed) where
+  -- where there is none, all stay
+  pub one_none : entry_at es version ≡ None → es ≡ filter (stays_behind lane index version) es
+  one_none none = sym (filter_all (stays_behind lane index version) es (all_map (λ (d : Indexed). has_version version d ≡ false) (λ (d : Indexed). stays_behind lane index version d ≡ true)
+      (λ d is. later (lies_elsewhere lane index d) (not (has_version version d)) (ap not is)) es (none_of version es none)))
+
+  module _ (r : Rec) (f : Found es version r) (is_index : IsIndex es) where
+    at : At es version f.entry
+    at = entry_of_version es version f.entry is_index.rising f.is
+
+    others_stay : AllByRecursion (λ (d : Indexed). stays_behind lane index version d ≡ true) (at.front ++ at.back)
+    others_stay = all_map (λ (d : Indexed). has_version version d ≡ false) (λ (d : Indexed). stays_behind lane index version d ≡ true) (λ d is. later (lies_elsewhere lane index d) (not (has_version version d)) (ap not is)) (at.front ++ at.back) at.others
+
+    -- a record of another segment stays
+    pub one_past : (eqb r.lane lane && eqb r.segment index) ≡ false → es ≡ filter (stays_behind lane index version) es
+    one_past other = sym (filter_all (stays_behind lane index version) es (subst (AllByRecursion (λ (d : Indexed). stays_behind lane index version d ≡ true)) (sym at.is)
+        (all_insert (λ (d : Indexed). stays_behind lane index version d ≡ true) at.front f.entry at.back (ap (λ (t : Bool). t || not (has_version version f.entry)) stays) others_stay)))
+      where
+        stays : lies_elsewhere lane index f.entry ≡ true
+        stays = (λ i. not (eqb (sym f.record_.lane i) lane && eqb (sym f.record_.segment i) index)) ∙ ap not other
+
+    module _ (here : (eqb r.lane lane && eqb r.segment index) ≡ true) (goes_ : IfSome (entry_at es version) (GoesIn lane index es)) where
+      leaves : lies_elsewhere lane index f.entry ≡ false
+      leaves = (λ i. not (eqb (sym f.record_.lane i) lane && eqb (sym f.record_.segment i) index)) ∙ ap not here
+
+      entry_is : IsEntry (listed_in es) f.entry.listed
+      entry_is = entry_in es f.entry is_index (among at)
+
+      all_of : (b : ℕ) → (cover_of f.entry.listed).covers b ≡ true → goes (listed_in es) f.entry.listed b ≡ true
+      all_of = some_of (GoesIn lane index es) (entry_at es version) f.entry goes_ f.is leaves
+
+      small : r.keep < 2 ^ 128
+      small = let w = f.record_.within in let c = f.record_.count in let e = entry_is.count in let le : r.count ≤ 128 = omega (arith, c, e) in let more = pow-le-pow_right {n = 2} (omega arith) le in omega (arith, w, more)
+
+      -- all that it keeps goes
+      bits : IsMask f.entry.listed.first (goes (listed_in es) f.entry.listed) r.keep
+      bits i = keep_is f.entry r f.record_ i ∙ whole ((cover_of f.entry.listed).covers (f.entry.listed.first + i))
+          (has_newer (listed_covers (listed_in es)) f.entry.listed.version (f.entry.listed.first + i) || (is_homed f.entry.listed (f.entry.listed.first + i) && not (has_older (listed_covers (listed_in es)) f.entry.listed.version (f.entry.listed.first + i))))
+          (all_of (f.entry.listed.first + i))
+        where
+          whole : (c rest : Bool) → (c ≡ true → (c && rest) ≡ true) → c ≡ (c && rest)
+          whole true rest so = sym (so refl)
+          whole false rest so = refl
+
+      pub is_there : IsSome (entry_at es version)
+      is_there = subst IsSome (sym f.is) refl
+
+      pub keeps_some : 0 < r.keep
+      keeps_some = ⊎_elim
+          (λ (none_ : r.keep ≡ 0). absurd (false≢true (ap not (sym (eq-eqb r.keep 0 none_)) ∙ some_block f.entry.listed (cover_of f.entry.listed).covers r.keep small (keep_is f.entry r f.record_) (λ x covers. covers) ∙ entry_is.keeps)))
+          (λ (some : r.keep ≡ 0 → ⊥). omega (arith, some))
+          (cases_eq r.keep 0)
+
+      pub all_goes : ForSome (entry_at es version) (λ e. (i : ℕ) → has_bit r.keep i ≡ true → goes (listed_in es) e.listed (e.listed.first + i) ≡ true)
+      all_goes e is = let same = same_Some f.entry e (sym f.is ∙ is) in
+          subst (λ (d : Indexed). (i : ℕ) → has_bit r.keep i ≡ true → goes (listed_in es) d.listed (d.listed.first + i) ≡ true) same (λ i bit. sym (bits i) ∙ bit)
+
+      -- it keeps nothing then
+      nothing : bit_and r.keep (bit_not w128 r.keep) ≡ 0
+      nothing = ⊎_elim (λ is. is)
+          (λ (some : bit_and r.keep (bit_not w128 r.keep) ≡ 0 → ⊥).
+          let le = keep_within es f.entry r f.record_ entry_is.count r.keep small bits in
+          let w = f.record_.count in let e = entry_is.count in let short : r.count ≤ 128 = omega (arith, w, e) in let more = pow-le-pow_right {n = 2} (omega arith) short in
+          let one = some_bit (bit_and r.keep (bit_not w128 r.keep)) (omega (arith, some)) (omega (arith, le, more)) in
+          absurd (false≢true (sym (keep_bits es f.entry r f.record_ entry_is.count r.keep small bits one.0 ∙ apart (has_bit r.keep one.0) (goes (listed_in es) f.entry.listed (f.entry.listed.first + one.0)) (bits one.0)) ∙ one.1)))
+          (cases_eq (bit_and r.keep (bit_not w128 r.keep)) 0)
+        where
+          apart : (s t : Bool) → s ≡ t → (s && not t) ≡ false
+          apart true t same = ap not (sym same)
+          apart false t same = refl
+
+      none_kept : keeps_a_block (keeping (listed_in es) f.entry.listed) ≡ false
+      none_kept = sym (keeps_is es f.entry r f.record_ entry_is.count r.keep small bits) ∙ ap not (eq-eqb (bit_and r.keep (bit_not w128 r.keep)) 0 nothing)
+
+      -- the entry is gone
+      pub one_gone : (then_ : List Indexed) → then_ ≡ filter (λ (d : Indexed). keeps_a_block d.listed) (changed version (given_up r.keep) es) → then_ ≡ filter (stays_behind lane index version) es
+      one_gone then_ is = is
+          ∙ ap (filter (λ (d : Indexed). keeps_a_block d.listed)) (at.then_is (given_up r.keep) ∙ (λ i. at.front ++ given_is es f.entry r f.record_ entry_is.count r.keep small bits i ∷ at.back) ∙ sym (at.then_is (with_kept es)))
+          ∙ given_list es version f.entry is_index at false none_kept
+          ∙ sym (ap (filter (stays_behind lane index version)) at.is ∙ filter-append (stays_behind lane index version) at.front (f.entry ∷ at.back)
+          ∙ (λ i. filter_all (stays_behind lane index version) at.front (all_front (λ (d : Indexed). stays_behind lane index version d ≡ true) at.front at.back others_stay) i
+          ++ cond (gone i) (f.entry ∷ filter (stays_behind lane index version) at.back) (filter_all (stays_behind lane index version) at.back (all_back (λ (d : Indexed). stays_behind lane index version d ≡ true) at.front at.back others_stay) i)))
+        where
+          gone : stays_behind lane index version f.entry ≡ false
+          gone = (λ i. leaves i || not (eq-eqb f.entry.listed.version version at.version_is i))
+
+-- a flag that was set
+pub flag_set : (us : List Bool) (k : ℕ) → k < length us → slice_index_or (slice_set us k true) k false ≡ true
+flag_set [] k lt = absurd (omega (arith, lt))
+flag_set (u ∷ us) zero lt = refl
+flag_set (u ∷ us) (suc k) lt = flag_set us k (omega (arith, lt))
+
 -- ---- underway
 
--- so many places are those of entries that stay, and the entries of the segment in front of them are gone
-pub record IsForgetting (lane index : ℕ) (old now : List Indexed) (place : ℕ) : Type 0 where
-  pub done : List Indexed
-  pub rest : List Indexed
-  pub was : old ≡ done ++ rest
-  pub is : now ≡ filter (lies_elsewhere lane index) done ++ rest
-  pub place_is : place ≡ length (filter (lies_elsewhere lane index) done)
+-- the entries of the segment of lesser versions are gone
+abbrev pub left_from : (lane index from : ℕ) → Indexed → Bool
+left_from lane index from e = lies_elsewhere lane index e || leb from e.listed.version
 
-pub forgetting_none : (lane index : ℕ) (es : List Indexed) → IsForgetting lane index es es 0
-forgetting_none lane index es = record { done = []; rest = es; was = refl; is = refl; place_is = refl }
+module _ (lane index : ℕ) (old : List Indexed) (none : NoneLiveIn lane index old) where
+  pub forgetting_none : old ≡ filter (left_from lane index 0) old
+  forgetting_none = sym (filter_all (left_from lane index 0) old (each_member (λ (d : Indexed). left_from lane index 0 d ≡ true) old (λ d has. later (lies_elsewhere lane index d) (leb 0 d.listed.version) (le-leb 0 d.listed.version (omega arith)))))
 
-pub forgetting_all : (lane index : ℕ) (old now : List Indexed) (place : ℕ) → IsForgetting lane index old now place → length now ≤ place → now ≡ filter (lies_elsewhere lane index) old
-forgetting_all lane index old now place f le =
-    let l = ap length f.is ∙ length-append (filter (lies_elsewhere lane index) f.done) f.rest in let p = f.place_is in
-    let none = no_rest f.rest (omega (arith, l, p, le)) in
-    f.is ∙ (λ i. filter (lies_elsewhere lane index) f.done ++ none i) ∙ append-nil (filter (lies_elsewhere lane index) f.done)
-    ∙ ap (filter (lies_elsewhere lane index)) (sym (f.was ∙ (λ i. f.done ++ none i) ∙ append-nil f.done))
-  where
-    no_rest : (xs : List Indexed) → length xs ≡ 0 → xs ≡ []
-    no_rest [] is = refl
-    no_rest (x ∷ xs) is = absurd (omega (arith, is))
+  module _ (from : ℕ) (now : List Indexed) (is : now ≡ filter (left_from lane index from) old) where
+    here_still : (d : Indexed) → Contains old d → left_from lane index from d ≡ true → Contains now d
+    here_still d has stays = subst (λ (l : List Indexed). Contains l d) (sym is) (member_filter (left_from lane index from) old d has stays)
 
-get_behind : (xs : List Indexed) (x : Indexed) (ys : List Indexed) → slice_get (xs ++ x ∷ ys) (length xs) ≡ Some x
-get_behind [] x ys = refl
-get_behind (z ∷ xs) x ys = get_behind xs x ys
+    was_there : (d : Indexed) → Contains now d → Contains old d
+    was_there d has = member_unfilter (left_from lane index from) old d (subst (λ (l : List Indexed). Contains l d) is has)
 
--- the entry at the place
-record Next (lane index : ℕ) (old now : List Indexed) (place : ℕ) (r : Rec) : Type 0 where
-  done : List Indexed
-  entry : Indexed
-  rest : List Indexed
-  was : old ≡ done ++ entry ∷ rest
-  is : now ≡ filter (lies_elsewhere lane index) done ++ entry ∷ rest
-  place_is : place ≡ length (filter (lies_elsewhere lane index) done)
-  its : IsRecordOf entry r
-
-next_of : (lane index : ℕ) (old now : List Indexed) (place : ℕ) (r : Rec) → IsForgetting lane index old now place → place < length now → IfSome (slice_get now place) (λ e. IsRecordOf e r) → Next lane index old now place r
-next_of lane index old now place r f lt its = by f.rest f.was f.is
-  where
-    kept : List Indexed
-    kept = filter (lies_elsewhere lane index) f.done
-
-    by : (xs : List Indexed) → old ≡ f.done ++ xs → now ≡ filter (lies_elsewhere lane index) f.done ++ xs → Next lane index old now place r
-    by [] was is = absurd (let l = ap length is ∙ length-append (filter (lies_elsewhere lane index) f.done) [] in let p = f.place_is in omega (arith, l, p, lt))
-    by (e ∷ xs) was is = record {
-      done = f.done;
-      entry = e;
-      rest = xs;
-      was = was;
-      is = is;
-      place_is = f.place_is;
-      its = Rattle.manager.proofs.Entries.some_of (λ (d : Indexed). IsRecordOf d r) (slice_get now place) e its ((λ i. slice_get (is i) (f.place_is i)) ∙ get_behind (filter (lies_elsewhere lane index) f.done) e xs);
-    }
-
--- ---- one step
-
-module _ (lane index : ℕ) (old now : List Indexed) (place : ℕ) (r : Rec) (f : IsForgetting lane index old now place) (lt : place < length now) (got : IfSome (slice_get now place) (λ e. IsRecordOf e r)) where
-  n : Next lane index old now place r
-  n = next_of lane index old now place r f lt got
-
-  -- an entry of another segment stays
-  pub forgetting_past : (eqb r.lane lane && eqb r.segment index) ≡ false → IsForgetting lane index old now (place + 1)
-  forgetting_past other = record {
-    done = n.done ++ n.entry ∷ [];
-    rest = n.rest;
-    was = n.was ∙ sym (append_assoc n.done (n.entry ∷ []) n.rest);
-    is = n.is ∙ sym (append_assoc (filter (lies_elsewhere lane index) n.done) (n.entry ∷ []) n.rest) ∙ (λ i. sym kept i ++ n.rest);
-    place_is = let l = ap length kept ∙ length-append (filter (lies_elsewhere lane index) n.done) (n.entry ∷ []) in let p = n.place_is in omega (arith, l, p);
-  }
-    where
-      stays : lies_elsewhere lane index n.entry ≡ true
-      stays = (λ i. not (eqb (sym n.its.lane i) lane && eqb (sym n.its.segment i) index)) ∙ ap not other
-
-      kept : filter (lies_elsewhere lane index) (n.done ++ n.entry ∷ []) ≡ filter (lies_elsewhere lane index) n.done ++ n.entry ∷ []
-      kept = filter-append (lies_elsewhere lane index) n.done (n.entry ∷ []) ∙ (λ i. filter (lies_elsewhere lane index) n.done ++ cond (stays i) (n.entry ∷ []) [])
-
-  module _ (here : (eqb r.lane lane && eqb r.segment index) ≡ true) (none : NoneLiveIn lane index old) (is_index : IsIndex now) where
-    leaves : lies_elsewhere lane index n.entry ≡ false
-    leaves = (λ i. not (eqb (sym n.its.lane i) lane && eqb (sym n.its.segment i) index)) ∙ ap not here
-
-    has : Contains now n.entry
-    has = subst (λ (l : List Indexed). Contains l n.entry) (sym n.is) (member_mid (filter (lies_elsewhere lane index) n.done) n.entry n.rest)
-
-    has_old : Contains old n.entry
-    has_old = subst (λ (l : List Indexed). Contains l n.entry) (sym n.was) (member_mid n.done n.entry n.rest)
-
-    entry_is : IsEntry (listed_in now) n.entry.listed
-    entry_is = entry_in now n.entry is_index has
-
-    -- an entry of another segment is there still
-    still : (d : Indexed) → Contains old d → lies_elsewhere lane index d ≡ true → Contains now d
-    still d among passes = subst (λ (l : List Indexed). Contains l d) (sym n.is) (by n.done (subst (λ (l : List Indexed). Contains l d) n.was among))
-      where
-        by : (xs : List Indexed) → Contains (xs ++ n.entry ∷ n.rest) d → Contains (filter (lies_elsewhere lane index) xs ++ n.entry ∷ n.rest) d
-        by [] is = is
-        by (x ∷ xs) is = ⊎_elim
-            (λ (same : x ≡ d). let t : lies_elsewhere lane index x ≡ true = ap (lies_elsewhere lane index) same ∙ passes in
-            subst (λ (b : Bool). Contains (cond b (x ∷ filter (lies_elsewhere lane index) xs) (filter (lies_elsewhere lane index) xs) ++ n.entry ∷ n.rest) d) (sym t) (0, omega arith, same))
-            (λ there. at (lies_elsewhere lane index x) (by xs there))
-            (member_front x (xs ++ n.entry ∷ n.rest) d is)
-          where
-            at : (b : Bool) → Contains (filter (lies_elsewhere lane index) xs ++ n.entry ∷ n.rest) d → Contains (cond b (x ∷ filter (lies_elsewhere lane index) xs) (filter (lies_elsewhere lane index) xs) ++ n.entry ∷ n.rest) d
-            at true rest = member_behind x (filter (lies_elsewhere lane index) xs ++ n.entry ∷ n.rest) d rest
-            at false rest = rest
-
-    -- each block that it keeps, a newer entry keeps still
-    newer_still : (b : ℕ) → (cover_of n.entry.listed).covers b ≡ true → has_newer (listed_covers (listed_in now)) n.entry.listed.version b ≡ true
-    newer_still b keeps =
+    -- each block that an entry of the segment keeps, a newer entry keeps still
+    newer_still : (d : Indexed) → Contains old d → lies_elsewhere lane index d ≡ false → (b : ℕ) → (cover_of d.listed).covers b ≡ true → has_newer (listed_covers (listed_in now)) d.listed.version b ≡ true
+    newer_still d has leaves b keeps =
         let bound = bounded old in let covered = covered_where lane index old none b in
-        let first = all_member (λ (d : Indexed). lies_elsewhere lane index d ≡ false → (cover_of d.listed).covers b ≡ true → has_newer (listed_covers (listed_in old)) d.listed.version b ≡ true) old n.entry covered has_old leaves keeps in
-        let a = above_of (lies_elsewhere lane index) old b bound.0 bound.1 covered bound.0 n.entry.listed.version (omega arith) first in
-        newer_in now n.entry.listed.version b
-        ∙ any_member (λ (d : Indexed). (cover_of d.listed).covers b && ltb n.entry.listed.version d.listed.version) now a.entry (still a.entry a.among a.passes) (λ i. a.keeps i && lt-ltb n.entry.listed.version a.entry.listed.version a.newer i)
+        let first = all_member (λ (e : Indexed). lies_elsewhere lane index e ≡ false → (cover_of e.listed).covers b ≡ true → has_newer (listed_covers (listed_in old)) e.listed.version b ≡ true) old d covered has leaves keeps in
+        let a = above_of (lies_elsewhere lane index) old b bound.0 bound.1 covered bound.0 d.listed.version (omega arith) first in
+        newer_in now d.listed.version b
+        ∙ any_member (λ (e : Indexed). (cover_of e.listed).covers b && ltb d.listed.version e.listed.version) now a.entry (here_still a.entry a.among (ap (λ (t : Bool). t || leb from a.entry.listed.version) a.passes))
+        (λ i. a.keeps i && lt-ltb d.listed.version a.entry.listed.version a.newer i)
 
-    small : r.keep < 2 ^ 128
-    small = let w = n.its.within in let c = n.its.count in let e = entry_is.count in let le : r.count ≤ 128 = omega (arith, c, e) in let more = pow-le-pow_right {n = 2} (omega arith) le in omega (arith, w, more)
+    goes_still : (d : Indexed) → Contains now d → GoesIn lane index now d
+    goes_still d has leaves b keeps = (λ i. keeps i && (newer_still d (was_there d has) leaves b keeps i || (is_homed d.listed b && not (has_older (listed_covers (listed_in now)) d.listed.version b))))
 
-    -- all that it keeps goes
-    bits : IsMask n.entry.listed.first (goes (listed_in now) n.entry.listed) r.keep
-    bits i = keep_is n.entry r n.its i ∙ whole ((cover_of n.entry.listed).covers (n.entry.listed.first + i)) (has_newer (listed_covers (listed_in now)) n.entry.listed.version (n.entry.listed.first + i))
-        (is_homed n.entry.listed (n.entry.listed.first + i) && not (has_older (listed_covers (listed_in now)) n.entry.listed.version (n.entry.listed.first + i))) (newer_still (n.entry.listed.first + i))
+    pub one_goes : (version : ℕ) → IfSome (entry_at now version) (GoesIn lane index now)
+    one_goes version = by (entry_at now version) refl
       where
-        whole : (c nw h : Bool) → (c ≡ true → nw ≡ true) → c ≡ (c && (nw || h))
-        whole true nw h so = λ i. sym (so refl) i || h
-        whole false nw h so = refl
+        by : (o : Option Indexed) → entry_at now version ≡ o → IfSome o (GoesIn lane index now)
+        by None none_ = tt
+        by (Some e) found = goes_still e (found_among now version e found)
 
-    its_version : r.version ≡ n.entry.listed.version
-    its_version = n.its.version
+    -- so it has a block that goes
+    going : IsIndex now → (d : Indexed) → Contains now d → lies_elsewhere lane index d ≡ false → has_going (listed_in now) d.listed ≡ true
+    going is_index d has leaves =
+        let f = any_found (cover_of d.listed).covers (block_numbers d.listed) (entry_in now d is_index has).keeps in
+        any_member (goes (listed_in now) d.listed) (block_numbers d.listed) f.item f.among (goes_still d has leaves f.item f.passes)
 
-    at_e : (a : At now n.entry.listed.version n.entry) × (a.front ≡ filter (lies_elsewhere lane index) n.done) × (a.back ≡ n.rest)
-    at_e = at_mid now (filter (lies_elsewhere lane index) n.done) n.entry n.rest n.is is_index.rising
-
-    found : entry_at now r.version ≡ Some n.entry
-    found = (λ i. entry_at (n.is i) (its_version i)) ∙ one_of_version n.entry.listed.version (filter (lies_elsewhere lane index) n.done) n.entry n.rest
-        (other_versions (filter (lies_elsewhere lane index) n.done) n.entry n.rest (subst (λ (l : List Indexed). AreRising (map version_of l)) n.is is_index.rising)).0 refl
-
-    pub is_there : IsSome (entry_at now r.version)
-    is_there = subst IsSome (sym found) refl
-
-    pub keeps_some : 0 < r.keep
-    keeps_some = ⊎_elim
-        (λ (none_ : r.keep ≡ 0). absurd (false≢true (ap not (sym (eq-eqb r.keep 0 none_)) ∙ some_block n.entry.listed (cover_of n.entry.listed).covers r.keep small (keep_is n.entry r n.its) (λ x covers. covers) ∙ entry_is.keeps)))
-        (λ (some : r.keep ≡ 0 → ⊥). omega (arith, some))
-        (cases_eq r.keep 0)
-
-    pub all_goes : ForSome (entry_at now r.version) (λ e. (i : ℕ) → has_bit r.keep i ≡ true → goes (listed_in now) e.listed (e.listed.first + i) ≡ true)
-    all_goes e is = let same = same_Some n.entry e (sym found ∙ is) in
-        subst (λ (d : Indexed). (i : ℕ) → has_bit r.keep i ≡ true → goes (listed_in now) d.listed (d.listed.first + i) ≡ true) same (λ i bit. sym (bits i) ∙ bit)
-
-    -- it keeps nothing then
-    nothing : bit_and r.keep (bit_not w128 r.keep) ≡ 0
-    nothing = ⊎_elim (λ is. is)
-        (λ (some : bit_and r.keep (bit_not w128 r.keep) ≡ 0 → ⊥).
-        let le = keep_within now n.entry r n.its entry_is.count r.keep small bits in
-        let w = n.its.count in let e = entry_is.count in let short : r.count ≤ 128 = omega (arith, w, e) in let more = pow-le-pow_right {n = 2} (omega arith) short in
-        let one = some_bit (bit_and r.keep (bit_not w128 r.keep)) (omega (arith, some)) (omega (arith, le, more)) in
-        absurd (false≢true (sym (keep_bits now n.entry r n.its entry_is.count r.keep small bits one.0 ∙ apart (has_bit r.keep one.0) (goes (listed_in now) n.entry.listed (n.entry.listed.first + one.0)) (bits one.0)) ∙ one.1)))
-        (cases_eq (bit_and r.keep (bit_not w128 r.keep)) 0)
+    -- none of the segment is left where none is marked below a version that all are below
+    none_left : IsIndex now → ((d : Indexed) → Contains now d → lies_elsewhere lane index d ≡ false → from ≤ d.listed.version → has_going (listed_in now) d.listed ≡ false) → now ≡ filter (lies_elsewhere lane index) old
+    none_left is_index quiet = is ∙ filter_agree (left_from lane index from) (lies_elsewhere lane index) old (λ d has. at d has (lies_elsewhere lane index d) refl (leb from d.listed.version) refl)
       where
-        apart : (s t : Bool) → s ≡ t → (s && not t) ≡ false
-        apart true t same = ap not (sym same)
-        apart false t same = refl
+        at : (d : Indexed) → Contains old d → (t : Bool) → lies_elsewhere lane index d ≡ t → (s : Bool) → leb from d.listed.version ≡ s → (lies_elsewhere lane index d || leb from d.listed.version) ≡ lies_elsewhere lane index d
+        at d has true t s le = (λ i. t i || leb from d.listed.version) ∙ sym t
+        at d has false t false le = (λ i. lies_elsewhere lane index d || le i) ∙ or_no (lies_elsewhere lane index d)
+          where
+            or_no : (u : Bool) → (u || false) ≡ u
+            or_no true = refl
+            or_no false = refl
+        at d has false t true le =
+            let there = here_still d has (later (lies_elsewhere lane index d) (leb from d.listed.version) le) in
+            absurd (false≢true (sym (quiet d there t (leb-true from d.listed.version le)) ∙ going is_index d there t))
 
-    none_kept : keeps_a_block (keeping (listed_in now) n.entry.listed) ≡ false
-    none_kept = sym (keeps_is now n.entry r n.its entry_is.count r.keep small bits) ∙ ap not (eq-eqb (bit_and r.keep (bit_not w128 r.keep)) 0 nothing)
+    pub forgetting_empty : IsIndex now → length now ≡ 0 → now ≡ filter (lies_elsewhere lane index) old
+    forgetting_empty is_index empty = none_left is_index (λ d has leaves le. absurd (let lt = has.1 in omega (arith, lt, empty)))
 
-    trimmed : (then_ : List Indexed) → then_ ≡ filter (λ (d : Indexed). keeps_a_block d.listed) (changed r.version (given_up r.keep) now) → then_ ≡ filter (lies_elsewhere lane index) n.done ++ n.rest
-    trimmed then_ is = is ∙ ap (λ (v : ℕ). filter (λ (d : Indexed). keeps_a_block d.listed) (changed v (given_up r.keep) now)) its_version
-        ∙ ap (filter (λ (d : Indexed). keeps_a_block d.listed)) (at_e.0.then_is (given_up r.keep) ∙ (λ i. at_e.0.front ++ given_is now n.entry r n.its entry_is.count r.keep small bits i ∷ at_e.0.back) ∙ sym (at_e.0.then_is (with_kept now)))
-        ∙ given_list now n.entry.listed.version n.entry is_index at_e.0 false none_kept
-        ∙ (λ i. at_e.1 i ++ at_e.2 i)
+    pub forgetting_end : IsIndex now → (lanes : List Bool) → slice_index_or lanes lane false ≡ true
+        → AllByRecursion (λ (e : Indexed). from ≤ e.listed.version → slice_index_or lanes e.listed.lane false ≡ true → has_going (listed_in now) e.listed ≡ false) now → now ≡ filter (lies_elsewhere lane index) old
+    forgetting_end is_index lanes awake quiet = none_left is_index (λ d has leaves le. all_member (λ (e : Indexed). from ≤ e.listed.version → slice_index_or lanes e.listed.lane false ≡ true → has_going (listed_in now) e.listed ≡ false) now d quiet has le (ap (λ (k : ℕ). slice_index_or lanes k false) (lane_of lane index d leaves) ∙ awake))
 
-    -- the entry is gone
-    pub forgetting_one : (then_ : List Indexed) → then_ ≡ filter (λ (d : Indexed). keeps_a_block d.listed) (changed r.version (given_up r.keep) now) → IsForgetting lane index old then_ place
-    forgetting_one then_ is = record {
-      done = n.done ++ n.entry ∷ [];
-      rest = n.rest;
-      was = n.was ∙ sym (append_assoc n.done (n.entry ∷ []) n.rest);
-      is = trimmed then_ is ∙ (λ i. sym kept i ++ n.rest);
-      place_is = n.place_is ∙ ap length (sym kept);
-    }
-      where
-        kept : filter (lies_elsewhere lane index) (n.done ++ n.entry ∷ []) ≡ filter (lies_elsewhere lane index) n.done
-        kept = filter-append (lies_elsewhere lane index) n.done (n.entry ∷ []) ∙ (λ i. filter (lies_elsewhere lane index) n.done ++ cond (leaves i) (n.entry ∷ []) []) ∙ append-nil (filter (lies_elsewhere lane index) n.done)
+    module _ (is_index : IsIndex now) (lanes : List Bool) (awake : slice_index_or lanes lane false ≡ true) (version : ℕ)
+        (quiet : AllByRecursion (λ (e : Indexed). from ≤ e.listed.version → e.listed.version < version → slice_index_or lanes e.listed.lane false ≡ true → has_going (listed_in now) e.listed ≡ false) now) where
+      none_between : (d : Indexed) → Contains now d → lies_elsewhere lane index d ≡ false → from ≤ d.listed.version → d.listed.version < version → ⊥
+      none_between d has leaves le lt = false≢true (sym (all_member (λ (e : Indexed). from ≤ e.listed.version → e.listed.version < version → slice_index_or lanes e.listed.lane false ≡ true → has_going (listed_in now) e.listed ≡ false) now d quiet has le lt
+          (ap (λ (k : ℕ). slice_index_or lanes k false) (lane_of lane index d leaves) ∙ awake)) ∙ going is_index d has leaves)
 
-    -- which is one less
-    pub fewer : (then_ : List Indexed) → then_ ≡ filter (λ (d : Indexed). keeps_a_block d.listed) (changed r.version (given_up r.keep) now) → length now ≡ suc (length then_)
-    fewer then_ is =
-        let a = ap length n.is ∙ length-append (filter (lies_elsewhere lane index) n.done) (n.entry ∷ n.rest) in
-        let b = ap length (trimmed then_ is) ∙ length-append (filter (lies_elsewhere lane index) n.done) n.rest in omega (arith, a, b)
+      -- the version lies above all
+      pub forgetting_above : AllByRecursion (λ (e : Indexed). e.listed.version < 2 ^ 63) old → 2 ^ 63 ≤ version → now ≡ filter (lies_elsewhere lane index) old
+      forgetting_above below high = none_left is_index (λ d has leaves le. absurd (none_between d has leaves le (let lt = all_member (λ (e : Indexed). e.listed.version < 2 ^ 63) old d below (was_there d has) in omega (arith, lt, high))))
+
+      -- one version further
+      pub forgetting_more : from ≤ version → (then_ : List Indexed) → then_ ≡ filter (stays_behind lane index version) now → then_ ≡ filter (left_from lane index (version + 1)) old
+      forgetting_more le then_ gone = gone ∙ ap (filter (stays_behind lane index version)) is ∙ filter_twice (stays_behind lane index version) (left_from lane index from) old
+          ∙ filter_agree (λ d. left_from lane index from d && stays_behind lane index version d) (left_from lane index (version + 1)) old (λ d has. at d has (lies_elsewhere lane index d) refl)
+        where
+          at : (d : Indexed) → Contains old d → (t : Bool) → lies_elsewhere lane index d ≡ t
+              → ((lies_elsewhere lane index d || leb from d.listed.version) && (lies_elsewhere lane index d || not (eqb d.listed.version version))) ≡ (lies_elsewhere lane index d || leb (version + 1) d.listed.version)
+          at d has true t = (λ i. (t i || leb from d.listed.version) && (t i || not (eqb d.listed.version version))) ∙ sym (λ i. t i || leb (version + 1) d.listed.version)
+          at d has false t = (λ i. (t i || leb from d.listed.version) && (t i || not (eqb d.listed.version version))) ∙ by (cases_lt version d.listed.version) ∙ sym (λ i. t i || leb (version + 1) d.listed.version)
+            where
+              by : (version < d.listed.version) ⊎ (d.listed.version ≤ version) → (leb from d.listed.version && not (eqb d.listed.version version)) ≡ leb (version + 1) d.listed.version
+              by (inl more) = (λ i. le-leb from d.listed.version (omega (arith, le, more)) i && not (ne_eqb d.listed.version version (λ same. omega (arith, more, same)) i)) ∙ sym (le-leb (version + 1) d.listed.version (omega (arith, more)))
+              by (inr less) = no_more ∙ sym (lt-leb (version + 1) d.listed.version (omega (arith, less)))
+                where
+                  no_more : (leb from d.listed.version && not (eqb d.listed.version version)) ≡ false
+                  no_more = ⊎_elim
+                      (λ (same : d.listed.version ≡ version). (λ i. leb from d.listed.version && not (eq-eqb d.listed.version version same i)) ∙ and_no (leb from d.listed.version))
+                      (λ (other : d.listed.version ≡ version → ⊥). by_from (leb from d.listed.version) refl other)
+                      (cases_eq d.listed.version version)
+                    where
+                      and_no : (u : Bool) → (u && false) ≡ false
+                      and_no true = refl
+                      and_no false = refl
+
+                      by_from : (u : Bool) → leb from d.listed.version ≡ u → (d.listed.version ≡ version → ⊥) → (leb from d.listed.version && not (eqb d.listed.version version)) ≡ false
+                      by_from false u other = ap (λ (x : Bool). x && not (eqb d.listed.version version)) u
+                      by_from true u other =
+                          let there = here_still d has (later (lies_elsewhere lane index d) (leb from d.listed.version) u) in
+                          absurd (none_between d there t (leb-true from d.listed.version u) (let e = other in omega (arith, less, e)))

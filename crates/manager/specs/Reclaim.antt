@@ -1,5 +1,5 @@
 -- What the steps of reclaim do to a manager, by their answers.
-use Rattle.std.specs.Prelude.{⊤, ◌≡◌, ◌∷◌, [], ◌++◌, ◌&&◌, ℕ, Bool, true, false, not, ◌==◌, List, map, filter, slice_set, Option, None, Some, Result, Ok, Err, IsOk, IsTrue, OnOk, OnErr, option_map, if◌then◌else◌}
+use Rattle.std.specs.Prelude.{⊤, ◌≡◌, ◌∷◌, [], ◌++◌, ◌&&◌, ◌||◌, ℕ, Bool, true, false, not, ◌==◌, List, map, filter, slice_set, Option, None, Some, Result, Ok, Err, IsOk, IsTrue, OnOk, OnErr, option_map, if◌then◌else◌}
 use Rattle.std.specs.List.{AllByRecursion}
 use Rattle.std.specs.Option.{ForSome}
 use Rattle.wol_disk.specs.Disk.{State, Block, Values, IsImageOf, IsBlend, LeavesOnly, Rose, only, reads}
@@ -10,7 +10,7 @@ use Rattle.seg_pool.specs.Holders.{Gave}
 use Rattle.seg_pool.specs.Operations.{operation_of}
 use Rattle.wol_model.specs.Blocks.{block_of, overlaid}
 use Rattle.wol_model.specs.History.{Broke, writes}
-use Rattle.wol_model.specs.Index.{Indexed, listed_in, homing, is_live, keeping, keeps_a_block}
+use Rattle.wol_model.specs.Index.{Indexed, cover_of, goes, listed_in, homing, is_live, keeping, keeps_a_block}
 use Rattle.wol_promise.specs.Ruled.{Noted, entries_of, last_look}
 use Rattle.wol_promise.specs.Stands.{IsDataOf}
 use Rattle.redirect_map.specs.Index.{entry_at, changed}
@@ -159,6 +159,14 @@ lies_elsewhere lane index e = not (e.listed.lane == lane && e.index == index)
 -- no record in the segment has a live block
 abbrev pub NoneLiveIn : (lane index : ℕ) → List Indexed → Type 0
 NoneLiveIn lane index es = AllByRecursion (λ e. lies_elsewhere lane index e ≡ false → (b : ℕ) → is_live (listed_in es) e.listed b ≡ false) es
+
+-- where the entry lies in the segment of this index of this lane, all that it keeps may go
+abbrev pub GoesIn : (lane index : ℕ) → List Indexed → Indexed → Type 0
+GoesIn lane index es e = lies_elsewhere lane index e ≡ false → (b : ℕ) → (cover_of e.listed).covers b ≡ true → goes (listed_in es) e.listed b ≡ true
+
+-- the entry doesn't lie there, or has another version
+abbrev pub stays_behind : (lane index version : ℕ) → Indexed → Bool
+stays_behind lane index version e = lies_elsewhere lane index e || not (e.listed.version == version)
 
 -- Of the manager nothing changed but the lane at this place, whose logger counts as awake, and the index. The segment went to its pool with all its
 -- records, or it is held still, with all of them.

@@ -1,9 +1,11 @@
 // A segment is given up with all its records, whose blocks newer records keep.
-ghost use Rattle.std.specs.Prelude.{◌≡◌, ◌==◌, ◌&&◌, filter, OnOk, IsTrue};
+ghost use Rattle.std.specs.Prelude.{◌≡◌, ◌<◌, ◌≤◌, ◌^◌, ◌==◌, ◌&&◌, true, false, filter, slice_index_or, IfSome, IfNone, OnOk, IsTrue};
+ghost use Rattle.std.specs.List.{AllByRecursion};
 ghost use Rattle.std.specs.Option.{ForSome};
+ghost use Rattle.wol_model.specs.Index.{listed_in, has_going};
 ghost use Rattle.redirect_map.specs.Index.{entry_at, HasVersion};
 ghost use Rattle.manager.specs.Causes.{NoneRose};
-ghost use Rattle.manager.specs.Reclaim.{OnTried, OnKept, OnFailed, TellsStep, KeepsOn, BreaksOff, StopsSince, Always, HasDroppedSegment, NoneLiveIn, lies_elsewhere};
+ghost use Rattle.manager.specs.Reclaim.{OnTried, OnKept, OnFailed, TellsStep, KeepsOn, BreaksOff, StopsSince, Always, HasDroppedSegment, GoesIn, NoneLiveIn, lies_elsewhere, stays_behind};
 ghost use Rattle.manager.specs.Stands.{IsReady, IsHome};
 
 use crate::{Manager, Part, StepFault};
@@ -19,19 +21,54 @@ fn lies_in(record: &Rec, lane: u32, segment: u32) -> bool
     record.lane == lane && record.segment == segment
 }
 
-// Takes all records of a segment out of the index, none of which has a live block.
-fn forget(index: &mut Index, lane: u32, segment: u32)
+// Takes the record of this version out of the index, if it lies in this segment, where all that it keeps may go.
+fn forget_one(index: &mut Index, version: u64, lane: u32, segment: u32)
+    requires goes { IfSome (entry_at index.old.entries version) (GoesIn lane segment index.old.entries) }
+    ensures { index.new.entries ≡ filter (stays_behind lane segment version) index.old.entries }
+{
+    let Some(record) = index.find(version) else {
+        return;
+    };
+    if lies_in(&record, lane, segment) {
+        index.trim(version, record.keep);
+    }
+}
+
+// The least version from `from` on whose record may have a block that goes: `from` itself where it has a record, since records
+// mostly have versions one behind the other, and that is found fast.
+fn next_going(index: &Index, from: u64, ups: &[bool]) -> Option<u64>
+    ensures from { IfSome result (λ v. from ≤ v) }
+    ensures least { IfSome result (λ v. AllByRecursion
+        (λ e. from ≤ e.listed.version → e.listed.version < v → slice_index_or ups.now e.listed.lane false ≡ true
+        → has_going (listed_in index.now.entries) e.listed ≡ false) index.now.entries) }
+    ensures none { IfNone result (AllByRecursion
+        (λ e. from ≤ e.listed.version → slice_index_or ups.now e.listed.lane false ≡ true
+        → has_going (listed_in index.now.entries) e.listed ≡ false) index.now.entries) }
+{
+    if index.find(from).is_some() {
+        return Some(from);
+    }
+    index.first_going(from, ups)
+}
+
+// Takes all records of a segment out of the index, none of which has a live block. They are among those that are marked as
+// ones that may have blocks that go.
+fn forget(index: &mut Index, ups: &[bool], lane: u32, segment: u32)
+    requires awake { slice_index_or ups.now lane false ≡ true }
+    requires below { AllByRecursion (λ e. e.listed.version < 2 ^ 63) index.old.entries }
     requires covered { NoneLiveIn lane segment index.old.entries }
     ensures { index.new.entries ≡ filter (lies_elsewhere lane segment) index.old.entries }
 {
-    let mut place = 0;
-    'records: while place < index.len() {
-        let record = index.at(place);
-        if lies_in(&record, lane, segment) {
-            index.trim(record.version, record.keep);
-        } else {
-            place += 1;
+    let mut from = 0;
+    'records: while index.len() > 0 {
+        let Some(version) = next_going(index, from, ups) else {
+            return;
+        };
+        if version >= 1 << 63 {
+            return;
         }
+        forget_one(index, version, lane, segment);
+        from = version + 1;
     }
 }
 
@@ -73,7 +110,7 @@ impl<D: Disk> Manager<D> {
         };
         match lane.retire(rt, shared, record.segment) {
             Ok(()) => {
-                forget(&mut self.index, record.lane, record.segment);
+                forget(&mut self.index, &self.ups, record.lane, record.segment);
                 Ok(())
             }
             Err(Failed) => {

@@ -1,9 +1,9 @@
-use Rattle.std.proofs.Common.{◌-◌, length}
-use Rattle.manager.proofs.Forgetting.{IsForgetting}
+use Rattle.std.proofs.Common.{◌≡◌, ◌-◌, ◌^◌, filter}
+use Rattle.manager.proofs.Forgetting.{left_from}
 use Rattle.manager.proofs.retire.forget.Given as goal
 
 abbrev pub invariant-records : goal.invariant-records
-invariant-records l = IsForgetting l.lane l.segment l.initial.index.entries l.index.entries l.place
+invariant-records l = l.index.entries ≡ filter (left_from l.lane l.segment l.from) l.initial.index.entries
 
 abbrev pub decreases-records : goal.decreases-records
-decreases-records l = length l.index.entries - l.place
+decreases-records l = 2 ^ 63 - l.from

@@ -1,10 +1,14 @@
 -- A segment is given up with all its records.
-use Rattle.std.proofs.Common.{true, length, refl, ap, arith}
+use Rattle.std.proofs.Common.{◌≡◌, ◌<◌, ◌^◌, Bool, List, true, false, length, refl, ap, ◌∙◌, arith}
 use Rattle.std.proofs.lemmas.Option.{slice_get_within}
+use Rattle.wol_model.specs.Index.{Indexed}
+use Rattle.wol_promise.proofs.Lists.{all_map}
 use Rattle.logger.specs.Lanes.{IsAt}
 use Rattle.manager.proofs.Calm.{none_lane}
 use Rattle.manager.proofs.Copies.{refill_set}
 use Rattle.manager.proofs.Entries.{found_of}
+use Rattle.std.specs.Prelude.{slice_index_or}
+use Rattle.manager.proofs.Forgetting.{flag_set}
 use Rattle.manager.proofs.Lanes.{all_at}
 use Rattle.manager.proofs.ReadThrough.{never_some}
 use Rattle.manager.proofs.RetireCall.{calm_then, cause_broke, dropped_broke, dropped_then, keeps_then, lane_of, none_live, old_lane, ready_broke, ready_then, retirable, stands_broke, stops_broke, stops_then, there_is}
@@ -43,11 +47,24 @@ retire-requires-clause-segment g c =
     let l = c.index_mut-lane.result.now in let lane = lane_of state m c.requires.ready up c.args.version r f index l c.index_mut-lane.ensures.value in
     retirable state m c.requires.ready up c.args.version r f index l lane
 
-pub forget-requires : goal.forget-requires
-forget-requires g c =
+pub forget-requires-clause-awake : goal.forget-requires-clause-awake
+forget-requires-clause-awake g c =
     let m = c.args.self.now in let state = g.D.Disk.state in let r = c.in-Some-find.record in
     let up = never_some m.down c.in_default.not-Some in let f = found_of m.index.entries c.args.version r c.in-Some-find.ensures.value in let index = c.in-Some-find.ensures.index in
-    record { covered = none_live state m c.requires.ready up c.args.version r f index (c.requires.covered f.entry f.is) }
+    let flags = refill_set m.ups.items c.deref_mut.result.now r.lane true c.deref_mut.ensures.value in
+    let lt = slice_get_within m.lanes.items r.lane _ (there_is state m c.requires.ready up c.args.version r f index) in
+    ap (λ (us : List Bool). slice_index_or us r.lane false) (c.deref.ensures.0 ∙ flags) ∙ flag_set m.ups.items r.lane (let l = c.requires.ready.ready.flags in omega (arith, lt, l))
+
+pub forget-requires-clause-below : goal.forget-requires-clause-below
+forget-requires-clause-below g c =
+    let m = c.args.self.now in let n = c.requires.ready.next.1 in
+    all_map (λ (e : Indexed). e.listed.version < m.next) (λ (e : Indexed). e.listed.version < 2 ^ 63) (λ e lt. omega (arith, lt, n)) m.index.entries c.requires.ready.below
+
+pub forget-requires-clause-covered : goal.forget-requires-clause-covered
+forget-requires-clause-covered g c =
+    let m = c.args.self.now in let state = g.D.Disk.state in let r = c.in-Some-find.record in
+    let up = never_some m.down c.in_default.not-Some in let f = found_of m.index.entries c.args.version r c.in-Some-find.ensures.value in let index = c.in-Some-find.ensures.index in
+    none_live state m c.requires.ready up c.args.version r f index (c.requires.covered f.entry f.is)
 
 pub returns-in-Ok-clause-ready : goal.returns-in-Ok-clause-ready
 returns-in-Ok-clause-ready g c =

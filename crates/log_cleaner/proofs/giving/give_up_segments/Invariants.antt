@@ -1,16 +1,14 @@
 use Rattle.std.proofs.Common.{[]}
-use Rattle.wol_model.specs.Index.{listed_in, left}
 use Rattle.manager.specs.Stands.{IsReady, IsHome}
+use Rattle.log_cleaner.specs.Cleans.{CanClean}
 use Rattle.log_cleaner.specs.Steps.{HasCopied, KeepsTidy}
-use Rattle.log_cleaner.proofs.giving.give_up_all.Given as goal
+use Rattle.log_cleaner.proofs.giving.give_up_segments.Given as goal
 
-abbrev pub invariant-steps : goal.invariant-steps
-invariant-steps g l = record {
+abbrev pub invariant-loop-step : goal.invariant-loop-step
+invariant-loop-step g l = record {
   ready : IsReady g.D.Disk.state l.m;
   at : IsHome l.shared l.m;
+  can : CanClean l.m;
   copied : HasCopied g.D.Disk.tells g.D.Disk.state l.initial.m l.m [];
   tidy : KeepsTidy l.initial.m l.m;
 }
-
-abbrev pub decreases-steps : goal.decreases-steps
-decreases-steps g l = left (listed_in l.m.index.entries)
