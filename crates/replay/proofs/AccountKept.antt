@@ -1,5 +1,5 @@
 -- The account holds of each run.
-use Rattle.std.proofs.Common.{◌≡◌, ◌++◌, ℕ, Bool, List, Option, None, Some, Result, Ok, Err, inl, inr}
+use Rattle.std.proofs.Common.{◌≡◌, ◌⊎◌, ◌++◌, ℕ, Bool, List, Option, None, Some, Result, Ok, Err, inl, inr}
 use Rattle.std.specs.Prelude.{⊤, IsTrue}
 use Rattle.wol_disk.specs.Disk.{State}
 use Rattle.wol_bay.specs.Bay.{BayState, Told}
@@ -31,10 +31,15 @@ summary_printed left config start now lines windows awake (Ok done) text told fa
 summary_printed left config start now lines windows awake (Err stop.Sink) text told faults faults' taken taken' summary prints at_end = absurd (cc at_end)
 summary_printed left config start now lines windows awake (Err (stop.Fault f)) text told faults faults' taken taken' summary prints at_end = absurd (not_success f at_end)
 
+-- the disks, by the status
+short_or_not : {A B : Type 0} {n : ℕ} → A ⊎ ((n ≡ 9) × B) → A ⊎ (((n ≡ 7) ⊎ (n ≡ 9)) × B)
+short_or_not (inl all) = inl all
+short_or_not (inr (is, short)) = inr (inr is, short)
+
 told_twice : (P Q X : Told → Told → Type 0) (a b : Option Told) → IsTold P a b → IsTold Q a b → ((o n : Told) → P o n → Q o n → X o n) → IsTold X a b
 told_twice P Q X None b p q all = p
 told_twice P Q X (Some o) None p q all = p
-told_twice P Q X (Some o) (Some n) p q all = λ apart. all o n (p apart) (q apart)
+told_twice P Q X (Some o) (Some n) p q all = all o n p q
 
 module _ {S T : Type 0} (tells : Bool) (left : S → Option (List ℕ)) (config : Config) (options : Options) (start now : Given S) (old new : BayState) (result : Result T Stop) (sink sink' : ℕ) (taken taken' : Option (List ℕ))
     (r : Replays tells left config options start now old new result sink sink' taken taken') (telling : IsTrue tells) where
@@ -69,7 +74,7 @@ module _ {S T : Type 0} (tells : Bool) (left : S → Option (List ℕ)) (config 
           alone = λ other. r.reclaims.alone other v h here;
           left = λ images left. (leaves.distinct v h here images left, λ intact. (leaves.listed v h here intact images left, leaves.on_loggers v h here intact images left));
         };
-        disks = λ not_7. r.disks;
+        disks = short_or_not r.disks;
         unbroken = r.unbroken;
         printed = summary_printed left config start now r.run (r.earlier ++ r.last) r.awake result r.summary _ sink sink' taken taken' r.summary_is r.prints;
         placed = r.placed;

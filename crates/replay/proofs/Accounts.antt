@@ -28,7 +28,7 @@ pub record HasUsed (uses : List Use) (p q : SpindlePass) : Type 0 where
   pub number : pass_number q ≡ pass_number p
   pub mine : pass_mine q ≡ pass_mine p ++ map (λ (u : Use). (pass_number p, operation_of u)) uses
 
-used_both : (us vs : List Use) (p q r : SpindlePass) → HasUsed us p q → HasUsed vs q r → HasUsed (us ++ vs) p r
+pub used_both : (us vs : List Use) (p q r : SpindlePass) → HasUsed us p q → HasUsed vs q r → HasUsed (us ++ vs) p r
 used_both us vs p q r left right = record {
   number = right.number ∙ left.number;
   mine = right.mine ∙ (λ i. left.mine i ++ map (λ (u : Use). (left.number i, operation_of u)) vs)
@@ -36,7 +36,7 @@ used_both us vs p q r left right = record {
       ∙ ap (λ (l : List Entry). pass_mine p ++ l) (sym (map-append (λ (u : Use). (pass_number p, operation_of u)) us vs));
 }
 
-short_or_long : {X : Type 0} (xs : List X) (k : ℕ) → (k < length xs) ⊎ ((d : X) → slice_index_or xs k d ≡ d)
+pub short_or_long : {X : Type 0} (xs : List X) (k : ℕ) → (k < length xs) ⊎ ((d : X) → slice_index_or xs k d ≡ d)
 short_or_long [] zero = inr (λ d. refl)
 short_or_long [] (suc k) = inr (λ d. refl)
 short_or_long (x ∷ xs) zero = inl (omega arith)

@@ -23,7 +23,7 @@ use Rattle.report.specs.declared.fault.Fault.TheVariants.{Memory, TraceSource, V
 use Rattle.troubles.specs.Troubles.{trouble_of_part}
 use Rattle.trace_gen.specs.Generated.{targets_of}
 use Rattle.trace_windows.specs.declared.request.Request as program
-use Rattle.volume_images.specs.Left.{AreNamedApart, IsTold}
+use Rattle.volume_images.specs.Left.{IsTold}
 use Rattle.request_turns.specs.declared.outcome.Outcome.{Outcome}
 use Rattle.request_turns.specs.declared.outcome.Outcome.TheVariants as outcome
 use Rattle.request_workers.specs.declared.request.Window.{Window}
@@ -88,10 +88,10 @@ window_kind rs w f is = at (list_any lacked_memory w.outcomes.items) is
 
 -- ---- Versions
 
-told_there : (P : Told → Told → Type 0) (a b : Option Told) (e : Told) → IsTold P a b → a ≡ Some e → AreNamedApart e → (n : Told) × P e n
-told_there P None b e told is apart = absurd (cc is)
-told_there P (Some x) None e told is apart = absurd told
-told_there P (Some x) (Some n) e told is apart = let same : x ≡ e = cc is in (n, subst (λ (y : Told). P y n) same (told (subst AreNamedApart (sym same) apart)))
+told_there : (P : Told → Told → Type 0) (a b : Option Told) (e : Told) → IsTold P a b → a ≡ Some e → (n : Told) × P e n
+told_there P None b e told is = absurd (cc is)
+told_there P (Some x) None e told is = absurd told
+told_there P (Some x) (Some n) e told is = let same : x ≡ e = cc is in (n, subst (λ (y : Told). P y n) same told)
 
 module _ {S T : Type 0} (tells : Bool) (left : S → Option (List ℕ)) (config : Config) (options : Options) (start now : Given S) (old new : BayState) (result : Result T Stop) (sink sink' source source' : ℕ) (printed printed' : Option (List ℕ))
     (r : Replays tells left config options start now old new result sink sink' printed printed') (m : MayComplete tells left config start now old new sink sink' source source') where
@@ -120,7 +120,7 @@ module _ {S T : Type 0} (tells : Bool) (left : S → Option (List ℕ)) (config 
       spent None none more few = absurd (omega (arith, more))
       spent (Some h) here more few =
           let one = r.are.each v h here in
-          let (n, begun) = told_there _ old.told new.told m.entry (r.begun m.telling) m.entry_is m.apart in
+          let (n, begun) = told_there _ old.told new.told m.entry (r.begun m.telling) m.entry_is in
           let room = m.versions h.base (begun v h here) r.run r.more r.given in
           let asked : writes_to h.base.owner (requests (most_of config) (targets_of config) r.run) ≡ writes_in (answers_of v answers)
           = (λ i. writes_to (one.owner i) (sym r.asked i)) ∙ ap (λ (l : List Request). count_by (λ (x : Request). is_write x.kind) l) (sym (volume_requests v answers)) ∙ sym (asked_writes (answers_of v answers)) in

@@ -77,7 +77,7 @@ lines_plain config false answers entry plain = refl
 told_thrice : (P Q R X : Told → Told → Type 0) (a b : Option Told) → IsTold P a b → IsTold Q a b → IsTold R a b → ((o n : Told) → P o n → Q o n → R o n → X o n) → IsTold X a b
 told_thrice P Q R X None b p q r all = p
 told_thrice P Q R X (Some o) None p q r all = p
-told_thrice P Q R X (Some o) (Some n) p q r all = λ apart. all o n (p apart) (q apart) (r apart)
+told_thrice P Q R X (Some o) (Some n) p q r all = all o n p q r
 
 -- at status 0 the trace was run to its end
 to_the_end : {S T : Type 0} (left : S → Option (List ℕ)) (config : Config) (start now : Given S) (run : List (Option TraceLine)) (last : List ServedWindow) (bay bay' sink sink' : ℕ) (result : Result T Stop)

@@ -1,5 +1,6 @@
 -- What images a run leaves: each volume recovers to what its answered requests wrote, or to a cut of the next one.
 use Rattle.std.proofs.Common.{◌≡◌, ◌<◌, ◌⊎◌, ◌++◌, ℕ, zero, suc, Bool, true, false, cond, List, [], ◌∷◌, length, map, take, drop, refl, sym, ap, subst, ◌∙◌, Option, None, Some, is_some, inl, inr, append-nil, arith}
+use Rattle.wol_promise.specs.Policy.{PartName}
 use Rattle.std.specs.Prelude.{Contains, IsTrue, slice_get, unwrap_or}
 use Rattle.std.specs.List.{AllByRecursion, cons_option}
 use Rattle.std.specs.Option.{option_map_or}
@@ -80,7 +81,8 @@ module _ {D : Type 0} (tells : Bool) (config : Config) (out : List (Option (Imag
     (at : (v : ℕ) (h : History) → slice_get hs v ≡ Some h → IsHistoryAt tells config out old new ss v h)
     (flew : (v : ℕ) (s : Station D) (c : IsClosedVolume tells config out old new s) → slice_get ss v ≡ Some s → HasFlight (answers_of v answers) (notes_of c.entries))
     (entry opened left_ : Told) (begun : BeginAsRead config entry hs) (same_faulty : opened.faulty ≡ entry.faulty)
-    (faulty : (s : Station D) (c : IsClosedVolume tells config out old new s) → (flight_of (entries_of (notes_of c.entries)) ≡ None → ⊥) → HasFaultyPart tells config s.id (base_of_station s).volume.began.view opened left_)
+    (faulty : (s : Station D) (c : IsClosedVolume tells config out old new s) → (flight_of (entries_of (notes_of c.entries)) ≡ None → ⊥)
+    → (name : PartName) × ((last_look (base_of_station s).volume.began.look (notes_of c.entries)).down ≡ Some name) × HasFaultyPart tells config s.id (base_of_station s).volume.began.view name opened left_)
     (recovers : (s : Station D) (c : IsClosedVolume tells config out old new s) → RecoversTo config out s c.entries left_) where
   module _ (v : ℕ) (h : History) (here : slice_get hs v ≡ Some h) where
     abbrev hist : IsHistoryAt tells config out old new ss v h
@@ -196,21 +198,22 @@ module _ {D : Type 0} (tells : Bool) (config : Config) (out : List (Option (Imag
         by None none = record { requests = []; follow = refl; are_writes = tt; unless = λ whole. refl; cuts = cut_is [] (inr (none, refl)) }
         by (Some ws) some = flying ws some (flew v station hist.closed hist.there ws some)
 
-    faulty_here : IsTrue (is_broken h) → HasFaultyPart tells config v h.base.view entry left_
+    faulty_here : IsTrue (is_broken h) → (name : PartName) × ((last_look h.base.look h.notes).down ≡ Some name) × HasFaultyPart tells config v h.base.view name entry left_
     faulty_here broken =
         let some : is_some (flight_of entries) ≡ true = sym (ap is_broken hist.is) ∙ broken in
-        let part = faulty station hist.closed (λ none. (let no : true ≡ false = sym some ∙ ap is_some none in absurd (cc no))) in
-        let here = subst (λ (x : History). HasFaultyPart tells config v x.base.view opened left_) (sym hist.is) (subst (λ (n : ℕ). HasFaultyPart tells config n (base_of_station station).volume.began.view opened left_) id part) in
-        record {
-          more = here.more;
-          more_is = here.more_is ∙ ap (λ l. l ++ here.more) same_faulty;
-          volume = here.volume;
-          conf = here.conf;
-          conf_is = here.conf_is;
-          place = here.place;
-          among = here.among;
-          of_volume = here.of_volume;
-        }
+        let (name, down, part) = faulty station hist.closed (λ none. (let no : true ≡ false = sym some ∙ ap is_some none in absurd (cc no))) in
+        let here = subst (λ (x : History). HasFaultyPart tells config v x.base.view name opened left_) (sym hist.is) (subst (λ (n : ℕ). HasFaultyPart tells config n (base_of_station station).volume.began.view name opened left_) id part) in (
+          name,
+          ap (λ (x : History). (last_look x.base.look x.notes).down) hist.is ∙ down,
+          record {
+            more = here.more;
+            more_is = here.more_is ∙ ap (λ l. l ++ here.more) same_faulty;
+            conf = here.conf;
+            conf_is = here.conf_is;
+            among = here.among;
+            lies = here.lies;
+          },
+        )
 
   -- ---- All of them
 

@@ -60,4 +60,5 @@ pub mod DrainsCounted
 pub mod AllAsked
 pub mod AccountKept
 pub mod ToldAwake
+pub mod CutShort
 mod Lent

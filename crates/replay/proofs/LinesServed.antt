@@ -22,12 +22,13 @@ use Rattle.trace_windows.proofs.Lying.{requests_lie}
 use Rattle.msr_trace.specs.declared.format.TraceFault.{TraceFault}
 use Rattle.msr_trace.specs.declared.format.TraceFault.TheVariants as refusal
 use Rattle.report.specs.declared.fault.Fault.TheVariants.{Memory}
-use Rattle.request_workers.specs.Begun.{SpindlePass}
+use Rattle.request_workers.specs.Begun.{HaveBegun, HaveBegunVolumes, SpindlePass}
+use Rattle.request_workers.specs.Floors.{AreSameButRoom, IsAsItWas}
 use Rattle.request_workers.specs.declared.floor.Floor.{Floor}
 use Rattle.replay.specs.Counts.{no_totals}
 use Rattle.replay.specs.Givens.{HasGiven, HasGivenAll, Refuses}
-use Rattle.replay.specs.Served.{AreTotals, ServedFromStart, ServedWindow, WasNotRun, is_none_served}
-use Rattle.replay.specs.Sessions.{AreServedOf, Closes, EndsIn, EndsWithWindow, GoesOn, HasServed, ServesSome, StopsAfter, StopsAtLine, TakesOn, ServesWhole, WentWell, at_refusal, lines_of_window, lines_of_windows, opens}
+use Rattle.replay.specs.Served.{AreTotals, Further, ServedFromStart, ServedWindow, WasNotRun, begins_alone, fails_to_begin, is_none_served, none_further}
+use Rattle.replay.specs.Sessions.{AreServedOf, Closes, EndsIn, EndsWithWindow, GoesOn, HasBegunWindow, HasFailedToBegin, HasServed, ServesSome, StopsAfter, StopsAtLine, TakesOn, ServesWhole, WentWell, at_refusal, lines_of_window, lines_of_windows, opens}
 use Rattle.replay.specs.Stops.{fault_of_trace}
 use Rattle.replay.specs.declared.counting.Counted.{Counted}
 use Rattle.replay.specs.declared.given.Given.{Given}
@@ -124,6 +125,33 @@ last_ok tells config options b s n faults taken old now (inr goes) = inr goes
 
 pub not_run_same : {D : Type 0} (tells : Bool) (f : Floor D) → WasNotRun tells f f
 not_run_same tells f = record { desks = λ k d lt. record { id = refl; worker_is = refl; outcomes = refl }; helpers = refl; locks = refl; keepers = inl refl }
+
+-- memory ran out before a request of a window was run: as the window began, or behind that
+module _ {D : Type 0} (tells : Bool) (config : Config) (options : Options) (b : Batched) (s n : Session D) (faults : ℕ) (printed : Option (List ℕ)) where
+  pub ends_unbegun : HasFailedToBegin b.moment s n → EndsIn (stop.Fault Memory) tells config options b s n faults faults printed printed
+  ends_unbegun failed = inl (
+    refl,
+    subst (λ (f : Floor D). WasNotRun tells s.floor f) (sym failed.floor_) (not_run_same tells s.floor),
+    fails_to_begin b.moment failed.start (ap (λ (f : Floor D). f.keepers) failed.floor_) failed.starts failed.spindles,
+    refl,
+    keeps_same printed,
+  )
+
+  pub ends_unrun : (m : Session D) → HasBegunWindow tells b.moment s m → IsAsItWas m.floor n.floor → n.keepers.items ≡ m.keepers.items → EndsIn (stop.Fault Memory) tells config options b s n faults faults printed printed
+  ends_unrun m begun same passes =
+      let volumes : HaveBegunVolumes tells begun.awake s.floor.keepers.items n.floor.keepers.items = subst (λ x. HaveBegunVolumes tells begun.awake s.floor.keepers.items x.items) (sym same.keepers) begun.volumes in
+      inl (
+        refl,
+        record {
+          desks = subst (λ (f : Floor D). AreSameButRoom f.desks.items n.floor.desks.items) begun.only same.desks;
+          helpers = same.helpers ∙ ap (λ (f : Floor D). f.helpers) begun.only;
+          locks = same.locks ∙ ap (λ (f : Floor D). f.locks) begun.only;
+          keepers = inr (begun.awake, volumes);
+        },
+        begins_alone b.moment begun.start begun.awake begun.starts (subst (λ (x : List SpindlePass). HaveBegun b.moment begun.awake begun.start x) (sym passes) begun.spindles) volumes,
+        refl,
+        keeps_same printed,
+      )
 
 no_windows : (most : ℕ) (targets : List Target) → windows most targets [] ≡ []
 unfolding windows
@@ -275,8 +303,8 @@ module _ {D S : Type 0} (tells : Bool) (left : S → Option (List ℕ)) (config 
 
     -- behind the windows that were served, for want of memory
     pub lacks_memory : (next : Given S) (further : List (Option TraceLine)) (g : Floor D) (qs : List SpindlePass) (faults'' : ℕ) (then : Option (List ℕ)) → HasGiven left (targets_of config) start next (so.run ++ (so.more ++ further)) → WasNotRun tells s.floor g
-        → faults'' ≡ faults' → Keeps new then → ServesSome tells left config options start (stop.Fault Memory) next f ps g qs faults faults'' printed then
-    lacks_memory next further g qs faults'' then has not_run calm keeps = record {
+        → Further tells s.started s.floor s.keepers.items g qs → faults'' ≡ faults' → Keeps new then → ServesSome tells left config options start (stop.Fault Memory) next f ps g qs faults faults'' printed then
+    lacks_memory next further g qs faults'' then has not_run begun calm keeps = record {
       run = so.run;
       more = so.more ++ further;
       given = has;
@@ -292,6 +320,7 @@ module _ {D S : Type 0} (tells : Bool) (left : S → Option (List ℕ)) (config 
       then = new;
       printed_before = so.prints;
       ends = (calm ∙ so.calm, keeps, inr (refl, not_run));
+      further = rw (append-nil so.ss) (rw so.started_ at begun);
     }
 
     -- behind a window
@@ -315,20 +344,21 @@ module _ {D S : Type 0} (tells : Bool) (left : S → Option (List ℕ)) (config 
       then = new;
       printed_before = so.prints;
       ends = (refl, refl, subst (λ (x : ℕ). StopsAfter e config options (record { batch = b; answer = h.answer }) x faults'' new then) so.calm stops);
+      further = none_further refl refl;
     }
 
     -- in a window that is whole with these lines, or for want of memory before it
     ends_in_window : (w : Window) (b : Batched) (next : Given S) (more : List (Option TraceLine)) (e : Stop) (n : Session D) (faults'' : ℕ) (then : Option (List ℕ)) → IsBatchOf (most_of config) (targets_of config) (next_number (most_of config) (targets_of config) so.ws) w b
         → windows (most_of config) (targets_of config) (so.run ++ so.more) ≡ so.ws ++ w ∷ [] → EndsWithWindow left config start next (so.run ++ so.more) more → HasGiven left (targets_of config) start next ((so.run ++ so.more) ++ more)
         → length more ≤ 1 → EndsIn e tells config options b s n faults' faults'' new then → ServesSome tells left config options start e next f ps n.floor n.keepers.items faults faults'' printed then
-    ends_in_window w b next more e n faults'' then of whole last has few (inl (memory, not_run, calm, keeps)) =
-        rw memory (lacks_memory next more n.floor n.keepers.items faults'' then (subst (λ (ls : List (Option TraceLine)). HasGiven left (targets_of config) start next ls) (append_assoc so.run so.more more) has) not_run calm keeps)
+    ends_in_window w b next more e n faults'' then of whole last has few (inl (memory, not_run, begun, calm, keeps)) =
+        rw memory (lacks_memory next more n.floor n.keepers.items faults'' then (subst (λ (ls : List (Option TraceLine)). HasGiven left (targets_of config) start next ls) (append_assoc so.run so.more more) has) not_run begun calm keeps)
     ends_in_window w b next more e n faults'' then of whole last has few (inr (h, stops)) = stops_behind w b next more e n faults'' then of whole last has few h stops
 
     pub stops_at_line : (next : Given S) (l : Option TraceLine) (c' : Cutting) (e : Stop) (n : Session D) (faults'' : ℕ) (then : Option (List ℕ)) → StopsAtLine e tells config options (so.run ++ so.more) so.ws l c' s n faults' faults'' new then
         → HasGiven left (targets_of config) start next ((so.run ++ so.more) ++ l ∷ []) → ServesSome tells left config options start e next f ps n.floor n.keepers.items faults faults'' printed then
     stops_at_line next l c' e n faults'' then (inl (memory, same, calm, keeps)) has =
-        rw (memory, same) (lacks_memory next (l ∷ []) s.floor s.keepers.items faults'' then (longer next l has) (not_run_same tells s.floor) calm keeps)
+        rw (memory, same) (lacks_memory next (l ∷ []) s.floor s.keepers.items faults'' then (longer next l has) (not_run_same tells s.floor) (none_further refl refl) calm keeps)
     stops_at_line next l c' e n faults'' then (inr (w, b, (of, cut), ends)) has =
         ends_in_window w b next (l ∷ []) e n faults'' then of (closed (most_of config) (targets_of config) (so.run ++ so.more) so.ws w l c c' so.cut cut)
         (ends_open left config start next (so.run ++ so.more) (l ∷ []) (opened_by w l c' cut)) has (omega arith) ends
@@ -411,6 +441,7 @@ module _ {D S : Type 0} (tells : Bool) (left : S → Option (List ℕ)) (config 
           then = then;
           printed_before = a.all_printed;
           ends = (a.all_calm, keeps_same then, inl (e, other, refl, refl, refuses, refl, refl));
+          further = none_further refl refl;
         }
 
     -- the trace is at its end

@@ -13,21 +13,21 @@ use Rattle.run_laws.specs.Answers.{answers_of}
 use Rattle.run_laws.specs.Laws.{AreAnsweredBy}
 use Rattle.run_laws.proofs.ReadLines.{lines_are_plain}
 use Rattle.wol_config.specs.declared.config.Config.{Config}
-use Rattle.volume_images.specs.Left.{AreNamedApart, IsTold}
+use Rattle.volume_images.specs.Left.{IsTold}
 use Rattle.volume_images.specs.Volumes.{images_read, shapes_of}
 use Rattle.replay.specs.Histories.{History, AreHistories, ArePlainMarks, BeginAsRead, line_of_read}
 
 -- ---- What was told at entry
 
 -- where a bay told before two calls, it tells after them
-pub told_through : (P Q R : Told → Told → Type 0) (a b c : Option Told) → IsTold P a b → IsTold Q b c → ((o n : Told) → a ≡ Some o → AreNamedApart o → R o n) → IsTold R a c
+pub told_through : (P Q R : Told → Told → Type 0) (a b c : Option Told) → IsTold P a b → IsTold Q b c → ((o n : Told) → a ≡ Some o → R o n) → IsTold R a c
 told_through P Q R a b c = at a b c
   where
-    at : (x y z : Option Told) → IsTold P x y → IsTold Q y z → ((o n : Told) → x ≡ Some o → AreNamedApart o → R o n) → IsTold R x z
+    at : (x y z : Option Told) → IsTold P x y → IsTold Q y z → ((o n : Told) → x ≡ Some o → R o n) → IsTold R x z
     at None y z first next all = subst (λ (t : Option Told). IsTold Q t z) first next
     at (Some o) None z first next all = absurd first
     at (Some o) (Some m) None first next all = absurd next
-    at (Some o) (Some m) (Some n) first next all = λ apart. all o n refl apart
+    at (Some o) (Some m) (Some n) first next all = all o n refl
 
 -- ---- Marks
 

@@ -20,7 +20,8 @@ use Rattle.report.specs.declared.trouble.Trouble.{Trouble}
 use Rattle.troubles.specs.Troubles.{trouble_of_part}
 use Rattle.troubles.proofs.Named.{named_alike}
 use Rattle.volume_images.specs.Left.{IsTold}
-use Rattle.rack.specs.Closes.{CameBackFaulty, IsClosedVolume, part_named}
+use Rattle.rack.specs.Closes.{HasFaultyPart, IsClosedVolume, part_named}
+use Rattle.rack.specs.Racks.{base_of_station}
 use Rattle.rack.specs.declared.rack.ImageRest.{ImageRest}
 use Rattle.request_turns.specs.Turns.{WasDown}
 use Rattle.request_turns.proofs.Gaining.{down_breaks}
@@ -51,17 +52,21 @@ down_last l p notes rules all breaks was =
 
 module _ {D : Type 0} (tells : Bool) (config : Config) (out : List (Option (ImageRest D))) (old new : BayState) (ss : List (Station D)) (all : All (IsClosedVolume tells config out old new) ss)
     (answers : List Answered) (are : AreHistories (IsTrue tells) config answers (histories_of tells config out old new ss all)) where
-  pub came_at : (v : ℕ) (t : Trouble) → HasDownAt (histories_of tells config out old new ss all) v t → (p : Part) × (t ≡ trouble_of_part p) × IsTold (CameBackFaulty config p) old.told new.told
-  came_at v t is =
+  pub came_at : ((v : ℕ) (s : Station D) → slice_get ss v ≡ Some s → s.id ≡ v) → (v : ℕ) (t : Trouble) → HasDownAt (histories_of tells config out old new ss all) v t
+      → (h : History) × (slice_get (histories_of tells config out old new ss all) v ≡ Some h) × (name : PartName) × (t ≡ trouble_of_part (part_named v name)) × IsTold (HasFaultyPart tells config v h.base.view name) old.told new.told
+  came_at ids v t is =
       let h = is.history in
       let (p, named, was) = is.down in
       let one = history_at tells config out old new ss all v h is.there in
       let each = are.each v h is.there in
       let broken = down_breaks p h.notes was in
-      let (name, down, came) = one.closed.named (not_none (notes_of one.closed.entries) (subst (λ (x : History). is_broken x ≡ true) one.is broken)) in
+      let (name, down, came) = one.closed.faulty (not_none (notes_of one.closed.entries) (subst (λ (x : History). is_broken x ≡ true) one.is broken)) in
       let last : (last_look h.base.look h.notes).down ≡ Some (name_of p) = down_last h.base.look p h.notes each.legal.ruled each.ruled each.legal.breaks was in
       let same : name ≡ name_of p = same_Some name (name_of p) (sym down ∙ ap (λ (x : History). (last_look x.base.look x.notes).down) (sym one.is) ∙ last) in (
-        part_named one.station.id name,
-        named ∙ named_alike one.station.id p ∙ ap (λ (n : PartName). trouble_of_part (part_named one.station.id n)) (sym same),
-        came,
+        h,
+        is.there,
+        name,
+        named ∙ named_alike v p ∙ ap (λ (n : PartName). trouble_of_part (part_named v n)) (sym same),
+        subst (λ (x : History). IsTold (HasFaultyPart tells config v x.base.view name) old.told new.told) (sym one.is)
+            (subst (λ (n : ℕ). IsTold (HasFaultyPart tells config n (base_of_station one.station).volume.began.view name) old.told new.told) (ids v one.station one.there) came),
       )

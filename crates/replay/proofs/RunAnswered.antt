@@ -4,7 +4,7 @@ use Rattle.std.specs.Prelude.{All, IfSome, IsTrue, MatchResult, slice_get}
 use Rattle.wol_bay.specs.Bay.{BayState, Told}
 use Rattle.wol_disk.specs.Disk.{Rose, State}
 use Rattle.wol_config.specs.declared.config.Config.{Config}
-use Rattle.volume_images.specs.Left.{AreNamedApart, IsTold}
+use Rattle.volume_images.specs.Left.{IsTold}
 use Rattle.std.proofs.lemmas.List.{length-map}
 use Rattle.volume_images.specs.Volumes.{shape_in, shapes_of}
 use Rattle.manager.specs.declared.part.Part.{Part}
@@ -47,12 +47,11 @@ use Rattle.replay.proofs.RunReplayed.{replays_none, replays_some, replays_whole}
 pub record HasOpened {D : Type 0} (state : D → State) (tells : Bool) (config : Config) (entry opened : BayState) (r : Rack D) : Type 0 where
   pub some : 1 ≤ length config.volumes.items
   pub is : IsRack state config opened r
-  pub began : IsTrue tells → IfSome entry.told (λ t. AreNamedApart t → BeganWith state config t r)
-  pub there : IsTrue tells → IfSome entry.told (λ t. AreNamedApart t → WereThere config r.rest.images.items t)
+  pub began : IsTrue tells → IfSome entry.told (λ t. BeganWith state config t r)
+  pub there : IsTrue tells → IfSome entry.told (λ t. WereThere config r.rest.images.items t)
   pub refused : AreRefused tells state config entry opened r
   pub fresh : AreUnused r.stations.items
   pub fresh_keepers : All (λ (p : SpindlePass). IsUnused p) r.keepers.items
-  pub apart : IsTold (λ x y. AreNamedApart y) entry.told opened.told
   pub unfaulty : ((k : ℕ) → k < length (shapes_of config) → IsImageOut r.rest.images.items k) → IsTold (λ x y. y.faulty ≡ x.faulty) entry.told opened.told
   pub kept : IsTrue tells → IsTold (HadRefused config r.rest.images.items) entry.told opened.told
   pub failed : (k : ℕ) (p : Part) → slice_get r.faults.items k ≡ Some (Some (fault.Refused (refusal.DiskFault p))) → IsImageOut r.rest.images.items k → HasFaultAt state r.rest p
@@ -94,27 +93,27 @@ module _ {D S : Type 0} (T : Type 0) (state : D → State) (tells : Bool) (left 
     some = let n = count in let m = length-map config.volumes.items (shape_in config) in let at = o.some in omega (arith, n, m, at)
 
     -- each image was there, and was accepted
-    all_open : IsTrue tells → IfSome entry.told (λ t. AreNamedApart t → AreAllOpen config t)
+    all_open : IsTrue tells → IfSome entry.told (λ t. AreAllOpen config t)
     all_open telling = at entry.told (o.there telling)
       where
-        at : (told : Option Told) → IfSome told (λ t. AreNamedApart t → WereThere config r.rest.images.items t) → IfSome told (λ t. AreNamedApart t → AreAllOpen config t)
+        at : (told : Option Told) → IfSome told (λ t. WereThere config r.rest.images.items t) → IfSome told (λ t. AreAllOpen config t)
         at None there = tt
-        at (Some t) there = λ apart k v conf. there apart k v conf (all_out k (let less = (at_place config.volumes.items k v conf).0 in omega (arith, less, length-map config.volumes.items (shape_in config))))
+        at (Some t) there = λ k v conf. there k v conf (all_out k (let less = (at_place config.volumes.items k v conf).0 in omega (arith, less, length-map config.volumes.items (shape_in config))))
 
     -- sound images stay sound, over a rack with the same rest and locks
     sound_still : q.rest ≡ r.rest → q.shared ≡ r.shared → locks_of q.stations.items ≡ locks_of r.stations.items → AreStations q.stations.items → IsTrue tells → IsTold (KeepsAllSound config) entry.told left_.told
     sound_still rest shared locks news telling =
-        run_sound state config q Q entry opened left_ (still entry.told (o.began telling)) (subst (λ (x : Rest D). IfSome entry.told (λ t. AreNamedApart t → WereThere config x.images.items t)) (sym rest) (o.there telling))
-        (subst (λ (x : Rest D). IsTold (HadRefused config x.images.items) entry.told opened.told) (sym rest) (o.kept telling)) o.apart (c.told telling) (λ t with was. c.sound t telling with was)
+        run_sound state config q Q entry opened left_ (still entry.told (o.began telling)) (subst (λ (x : Rest D). IfSome entry.told (λ t. WereThere config x.images.items t)) (sym rest) (o.there telling))
+        (subst (λ (x : Rest D). IsTold (HadRefused config x.images.items) entry.told opened.told) (sym rest) (o.kept telling)) (c.told telling) (λ t with was. c.sound t telling with was)
       where
-        still : (told : Option Told) → IfSome told (λ t. AreNamedApart t → BeganWith state config t r) → IfSome told (λ t. AreNamedApart t → BeganWith state config t q)
+        still : (told : Option Told) → IfSome told (λ t. BeganWith state config t r) → IfSome told (λ t. BeganWith state config t q)
         still None began = tt
-        still (Some t) began = λ apart. began_still state config r q rest shared locks stations news t (began apart)
+        still (Some t) began = began_still state config r q rest shared locks stations news t began
 
   bay_left : q ≡ r → LeavesBay tells state config entry left_
   bay_left same =
       let closing = subst (λ (x : Rack D). HasClosedRack state tells config opened left_ x Q) same c in
-      leaves_bay tells state config entry opened left_ r o.is o.refused c.counts o.apart (gained_parts state config q.rest opened.told left_.told c.faulty) o.began o.there o.kept o.fresh closing.kept closing.parts closing.volumes closing.sound
+      leaves_bay tells state config entry opened left_ r o.is o.refused c.counts (gained_parts state config q.rest opened.told left_.told c.faulty) o.began o.there o.kept o.fresh closing.kept closing.parts closing.volumes closing.sound
 
   abbrev Ran : Result T Stop → (faults'' : ℕ) → (printed'' : Option (List ℕ)) → Type 0
   Ran done faults'' printed'' = Replays tells left config options start now entry left_ done faults faults'' printed printed''
@@ -127,8 +126,8 @@ module _ {D S : Type 0} (T : Type 0) (state : D → State) (tells : Bool) (left 
       let rest : q.rest ≡ r.rest = ap (λ (x : Rack D). x.rest) none.same in
       let news : AreStations q.stations.items = subst (λ (x : Rack D). AreStations x.stations.items) (sym none.same) (stations first) in
       subst (λ (x : Stop). Ran (Err x) faults' printed') same
-      (replays_none T state tells left config options start now entry opened left_ r q o.is (count first) (some first) (all_out first) o.began (λ telling. o.apart) Q c.told o.counts c.stations.0 c.stations.1 o.fresh (o.unfaulty (all_out first))
-      (sound_still first rest (ap (λ (x : Rack D). x.shared) none.same) (ap (λ (x : Rack D). locks_of x.stations.items) none.same) news) (all_open first) faults faults' printed printed' none news)
+      (replays_none T state tells left config options start now entry opened left_ r q o.is (count first) (some first) (all_out first) o.began o.gained Q c.told o.counts c.stations.0 c.stations.1 o.fresh (o.unfaulty (all_out first))
+      (sound_still first rest (ap (λ (x : Rack D). x.shared) none.same) (ap (λ (x : Rack D). locks_of x.stations.items) none.same) news) (all_open first) faults faults' printed printed' none news c.spindles c.count (c.count ∙ length-map config.volumes.items (shape_in config)) c.each o.fresh_keepers)
   served_err result (served done first before moved from) e is open_ = at done from.served is
     where
       at : (x : Result Counted Stop) → MatchResult x (λ d. ServesWhole tells left config options start now before r.keepers.items from.after q.keepers.items d faults faults' printed printed')
@@ -137,14 +136,14 @@ module _ {D S : Type 0} (T : Type 0) (state : D → State) (tells : Bool) (left 
       at (Err y) w is =
           let same : y ≡ e = cc is in
           subst (λ (x : Stop). Ran (Err x) faults' printed') same
-          (replays_some T state tells left config options start now entry opened left_ r q o.is (count first) (some first) (all_out first) o.began (λ telling. o.apart) Q c.told o.counts c.stations.0 c.stations.1 o.fresh (o.unfaulty (all_out first))
+          (replays_some T state tells left config options start now entry opened left_ r q o.is (count first) (some first) (all_out first) o.began o.gained Q c.told o.counts c.stations.0 c.stations.1 o.fresh (o.unfaulty (all_out first))
           (sound_still first (ap (λ (x : Rack D). x.rest) from.only) (ap (λ (x : Rack D). x.shared) from.only) (from.locks ∙ moved.locks) from.can.each) (all_open first) faults faults' printed printed' before moved done from y w c.spindles c.count (c.count ∙ length-map config.volumes.items (shape_in config)) c.each o.fresh_keepers)
 
   pub replayed_err : (result : Result Counted Stop) → RunsIn tells left config options start now r q faults faults' printed printed' result → (e : Stop) → result ≡ Err e → Comes (Err e) faults' printed'
   replayed_err result (closed f first none) e is =
       let same : stop.Fault f ≡ e = cc is in
       subst (λ (x : Stop). Comes (Err x) faults' printed') same
-      (runs_closed {T = T} tells state left config options start now entry opened left_ r q faults faults' printed printed' f o.is o.refused o.failed c.cause o.counts c.counts o.apart o.gained c.faulty o.began o.there first none (bay_left none.same))
+      (runs_closed {T = T} tells state left config options start now entry opened left_ r q faults faults' printed printed' f o.is o.refused o.failed c.cause o.counts c.counts o.gained c.faulty o.began o.there first none (bay_left none.same))
   replayed_err result (no_memory first none) e is = ran (Err e) (served_err result (no_memory first none) e is first)
   replayed_err result (served done first before moved from) e is = ran (Err e) (served_err result (served done first before moved from) e is first)
 
@@ -162,7 +161,7 @@ module _ {D S : Type 0} (T : Type 0) (state : D → State) (tells : Bool) (left 
       at (Ok d) w is =
           let same : d ≡ counted = cc is in
           let here = subst (λ (x : Counted). ServesWhole tells left config options start now before r.keepers.items from.after q.keepers.items x faults faults' printed printed') same w in
-          replays_whole T state tells left config options start now entry opened left_ r q o.is (count first) (some first) (all_out first) o.began (λ telling. o.apart) Q c.told o.counts c.stations.0 c.stations.1 o.fresh (o.unfaulty (all_out first))
+          replays_whole T state tells left config options start now entry opened left_ r q o.is (count first) (some first) (all_out first) o.began o.gained Q c.told o.counts c.stations.0 c.stations.1 o.fresh (o.unfaulty (all_out first))
           (sound_still first (ap (λ (x : Rack D). x.rest) from.only) (ap (λ (x : Rack D). x.shared) from.only) (from.locks ∙ moved.locks) from.can.each) (all_open first) faults faults' printed printed' before moved whole from counted here spindles sized each closed_ o.fresh_keepers done faults'' printed'' prints
 
   pub replayed_ok : (result : Result Counted Stop) → RunsIn tells left config options start now r q faults faults' printed printed' result → (counted : Counted) → result ≡ Ok counted → (spindles : List SpindleView)

@@ -14,7 +14,7 @@ use Rattle.manager.specs.declared.part.Part.{Part}
 use Rattle.manager.specs.declared.station.Station.{Station}
 use Rattle.manager_recovery.specs.declared.refusal.OpenRefusal.TheVariants as refusal
 use Rattle.report.specs.declared.fault.Fault.{Fault}
-use Rattle.volume_images.specs.Left.{AreNamedApart, IsTold}
+use Rattle.volume_images.specs.Left.{IsTold}
 use Rattle.volume_images.specs.Volumes.{shape_in, shapes_of}
 use Rattle.rack.specs.Closes.{AreLeftOfParts, flight_in, HasFaultAt, HasFaultIn, IsQuiet, LeavesVolumes, ListsFaulty, has_station, is_kept_home}
 use Rattle.rack.specs.Opens.{AreRefused, BeganWith, HasFaulty, KeepsAllSound, LeavesAll, RefusesVolume, WereThere}
@@ -57,7 +57,7 @@ quiet_all {D} ss unused k d lt =
 -- ---- The bay
 
 module _ {D : Type 0} (tells : Bool) (state : D → State) (config : Config) (entry opened last : BayState) (r : Rack D) (is : IsRack state config opened r) (refused : AreRefused tells state config entry opened r)
-    (closing : opened.faults ≤ last.faults) (apart : IsTold (λ x y. AreNamedApart y) entry.told opened.told) (gained : IsTold HasFaulty opened.told last.told) where
+    (closing : opened.faults ≤ last.faults) (gained : IsTold HasFaulty opened.told last.told) where
   not_out : (k : ℕ) → is_kept_home r.rest.images.items k ≡ true → image_here r.rest.images.items k ≡ None
   not_out k kept = at (image_here r.rest.images.items k) kept
     where
@@ -66,7 +66,7 @@ module _ {D : Type 0} (tells : Bool) (state : D → State) (config : Config) (en
       at (Some x) so = absurd (cc so)
 
   refused_last : AreRefused tells state config entry last r
-  refused_last k v f conf at = refuses_later tells state config r.rest.images.items entry opened last k v f closing apart gained (refused k v f conf at)
+  refused_last k v f conf at = refuses_later tells state config r.rest.images.items entry opened last k v f closing gained (refused k v f conf at)
 
   cause : (k : ℕ) (v : VolumeConf) → slice_get config.volumes.items k ≡ Some v → is_kept_home r.rest.images.items k ≡ true → (f : VolumeFault) × RefusesVolume {D = D} tells state config [] entry last k v f
   cause k v conf kept =
@@ -77,51 +77,51 @@ module _ {D : Type 0} (tells : Bool) (state : D → State) (config : Config) (en
   abbrev Stays : Told → Told → Type 0
   Stays old new = HadRefused config r.rest.images.items old new
 
-  through : (e o n : Option Told) → IfSome e (λ t. AreNamedApart t → BeganWith state config t r) → IfSome e (λ t. AreNamedApart t → WereThere config r.rest.images.items t) → IsTold Stays e o → IsTold (λ x y. AreNamedApart y) e o → IsTold Stays o n
+  through : (e o n : Option Told) → IfSome e (λ t. BeganWith state config t r) → IfSome e (λ t. WereThere config r.rest.images.items t) → IsTold Stays e o → IsTold Stays o n
       → ((t : Told) → BeganWith state config t r → WereThere config r.rest.images.items t → IsTold (λ old new. Stays t old → LeavesVolumes config r t new × AreLeftOfParts state config r new) o n) → IsTold (LeavesAll tells state config entry last) e n
-  through None None n began there kept apart stays leaves = stays
-  through None (Some o) n began there kept apart stays leaves = absurd (cc apart)
-  through (Some e) None n began there kept apart stays leaves = absurd apart
-  through (Some e) (Some o) None began there kept apart stays leaves = absurd stays
-  through (Some e) (Some o) (Some n) began there kept apart stays leaves = λ named.
-      let all = leaves e (began named) (there named) (apart named) (kept named) in
+  through None None n began there kept stays leaves = stays
+  through None (Some o) n began there kept stays leaves = absurd (cc kept)
+  through (Some e) None n began there kept stays leaves = absurd kept
+  through (Some e) (Some o) None began there kept stays leaves = absurd stays
+  through (Some e) (Some o) (Some n) began there kept stays leaves =
+      let all = leaves e began there kept in
       record {
         refused = is_kept_home r.rest.images.items;
         cause = cause;
-        kept = λ k v conf out c may. kept named k v conf (not_out k out) c (stays (apart named) k v conf (not_out k out) c may);
+        kept = λ k v conf out c may. kept k v conf (not_out k out) c (stays k v conf (not_out k out) c may);
         opened = has_station r;
         are_opened = all.0.are_opened;
         left = λ images left v is_there. all.0.each images left v;
-        there = λ images left v was. there_left state config r e n (λ k v conf none c may. kept named k v conf none c (stays (apart named) k v conf none c may)) all.1 images left v was;
+        there = λ images left v was. there_left state config r e n (λ k v conf none c may. kept k v conf none c (stays k v conf none c may)) all.1 images left v was;
       }
 
-  pub leaves_bay : (IsTrue tells → IfSome entry.told (λ t. AreNamedApart t → BeganWith state config t r)) → (IsTrue tells → IfSome entry.told (λ t. AreNamedApart t → WereThere config r.rest.images.items t))
+  pub leaves_bay : (IsTrue tells → IfSome entry.told (λ t. BeganWith state config t r)) → (IsTrue tells → IfSome entry.told (λ t. WereThere config r.rest.images.items t))
       → (IsTrue tells → IsTold Stays entry.told opened.told) → AreUnused r.stations.items → (IsTrue tells → IsTold Stays opened.told last.told) → (IsTrue tells → IsTold (λ x y. AreLeftOfParts state config r y) opened.told last.told)
       → ((t : Told) → IsTrue tells → BeganWith state config t r → WereThere config r.rest.images.items t → All (λ (s : Station D). IsQuiet s) r.stations.items → IsTold (λ old new. Stays t old → LeavesVolumes config r t new) opened.told last.told)
       → ((t : Told) → IsTrue tells → BeganWith state config t r → WereThere config r.rest.images.items t → IsTold (λ old new. Stays t old → KeepsAllSound config t new) opened.told last.told) → LeavesBay tells state config entry last
   leaves_bay began there kept unused stays parts volumes sound = record {
-    left = λ telling. through entry.told opened.told last.told (began telling) (there telling) (kept telling) apart (stays telling) (λ t with was.
+    left = λ telling. through entry.told opened.told last.told (began telling) (there telling) (kept telling) (stays telling) (λ t with was.
         told_each (λ x y. (Stays t x → LeavesVolumes config r t y) × AreLeftOfParts state config r y) (λ x y. Stays t x → LeavesVolumes config r t y × AreLeftOfParts state config r y) opened.told last.told (λ x y both had. (both.0 had, both.1))
         (told_with (λ x y. Stays t x → LeavesVolumes config r t y) (λ x y. AreLeftOfParts state config r y) opened.told last.told (volumes t telling with was (quiet_all r.stations.items unused)) (parts telling)));
-    sound = λ telling. run_sound state config r Stays entry opened last (began telling) (there telling) (kept telling) apart (stays telling) (λ t with was. sound t telling with was);
+    sound = λ telling. run_sound state config r Stays entry opened last (began telling) (there telling) (kept telling) (stays telling) (λ t with was. sound t telling with was);
   }
 
 -- a volume wasn't open
 pub runs_closed : {D S T : Type 0} (tells : Bool) (state : D → State) (left : S → Option (List ℕ)) (config : Config) (options : Options) (start now : Given S) (entry opened last : BayState) (old new : Rack D) (sink sink' : ℕ) (printed printed' : Option (List ℕ)) (f : Fault)
     → IsRack state config opened old → AreRefused tells state config entry opened old
     → ((k : ℕ) (p : Part) → slice_get old.faults.items k ≡ Some (Some (fault.Refused (refusal.DiskFault p))) → IsImageOut old.rest.images.items k → HasFaultAt state old.rest p)
-    → (HasFaultIn state new.rest → Rose opened.faults last.faults) → entry.faults ≤ opened.faults → opened.faults ≤ last.faults → IsTold (λ x y. AreNamedApart y) entry.told opened.told → IsTold HasFaulty entry.told opened.told → IsTold (ListsFaulty state config new.rest) opened.told last.told
-    → (IsTrue tells → IfSome entry.told (λ t. AreNamedApart t → BeganWith state config t old)) → (IsTrue tells → IfSome entry.told (λ t. AreNamedApart t → WereThere config old.rest.images.items t)) → first_closed 0 old.faults.items ≡ Some f
+    → (HasFaultIn state new.rest → Rose opened.faults last.faults) → entry.faults ≤ opened.faults → opened.faults ≤ last.faults → IsTold HasFaulty entry.told opened.told → IsTold (ListsFaulty state config new.rest) opened.told last.told
+    → (IsTrue tells → IfSome entry.told (λ t. BeganWith state config t old)) → (IsTrue tells → IfSome entry.told (λ t. WereThere config old.rest.images.items t)) → first_closed 0 old.faults.items ≡ Some f
     → RunsNone tells left config options start now old new sink sink' printed printed' → LeavesBay tells state config entry last
     → Replayed {T = T} tells state left config options start now entry last sink sink' printed printed' (Err (stop.Fault f))
-runs_closed {D} {S} {T} tells state left config options start now entry opened last old new sink sink' printed printed' f is refused failed rises opening closing apart first_gained faulty began there first none leaves =
+runs_closed {D} {S} {T} tells state left config options start now entry opened last old new sink sink' printed printed' f is refused failed rises opening closing first_gained faulty began there first none leaves =
     let lists = subst (λ (r : Rack D). IsTold (ListsFaulty state config r.rest) opened.told last.told) none.same faulty in
-    let refused_now = refused_last tells state config entry opened last old is refused closing apart (gained_parts state config old.rest opened.told last.told lists) in
+    let refused_now = refused_last tells state config entry opened last old is refused closing (gained_parts state config old.rest opened.told last.told lists) in
     let (k, why, told, first_) = first_refused state config opened old is tells entry last refused_now
     (λ k p at. elim (part_failed tells state config entry opened old is.fault_count refused failed k p at) [
       | inl has ↦ rose_from entry.faults opened.faults last.faults opening (subst (λ (r : Rack D). HasFaultIn state r.rest → Rose opened.faults last.faults) none.same rises has)
       | inr rose ↦ rose_on entry.faults opened.faults last.faults rose closing
     ])
-    (part_came_back tells state config entry opened last old is.fault_count refused_now failed apart first_gained lists) began there f first in
+    (part_came_back tells state config entry opened last old is.fault_count refused_now failed first_gained lists) began there f first in
     subst (λ (x : Fault). Replayed {T = T} tells state left config options start now entry last sink sink' printed printed' (Err (stop.Fault x))) (sym told)
     (closed k why (record { unread = none.unread; calm = none.calm; kept = none.kept }) first_ leaves)

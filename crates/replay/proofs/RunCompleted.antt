@@ -9,7 +9,6 @@ use Rattle.report.specs.Names.{printed_names}
 use Rattle.report.specs.Summaries.{summary_text}
 use Rattle.report.specs.declared.fault.Fault.TheVariants.{Memory, TraceSource}
 use Rattle.spin_model.specs.Spindles.{SpindleView}
-use Rattle.volume_images.specs.Left.{AreNamedApart}
 use Rattle.volume_images.specs.Volumes.{images_read, shapes_of}
 use Rattle.rack.specs.Closes.{HasFaultIn, IsClosedSpindle}
 use Rattle.rack.specs.declared.rack.Rack.{Rack}
@@ -42,13 +41,13 @@ not_source (Err (stop.Fault f)) text faults faults' printed new (memory_is, calm
 
 module _ {D S : Type 0} (T : Type 0) (state : D → State) (tells : Bool) (left : S → Option (List ℕ)) (config : Config) (options : Options) (start now : Given S) (entry opened left_ : BayState) (r q : Rack D) (Q : Told → Told → Type 0)
     (o : HasOpened state tells config entry opened r) (c : HasClosedRack state tells config opened left_ q Q) (same_rest : q.rest ≡ r.rest) (faults faults' : ℕ) (printed printed' : Option (List ℕ)) (source source' : ℕ)
-    (complete : IsTrue tells → IfSome entry.told (λ t. AreNamedApart t → AreSound (shapes_of config) (images_read config t) → (HasFaultIn state r.rest → ⊥) → (Rose entry.faults opened.faults → ⊥)
+    (complete : IsTrue tells → IfSome entry.told (λ t. AreSound (shapes_of config) (images_read config t) → (HasFaultIn state r.rest → ⊥) → (Rose entry.faults opened.faults → ⊥)
     → (k : ℕ) → k < length (shapes_of config) → slice_get r.faults.items k ≡ Some None)) where
   each_open : {sink sink' : ℕ} → MayComplete tells left config start now entry left_ sink sink' source source' → first_closed 0 r.faults.items ≡ None
   each_open m =
-      let each = subst (λ (x : Option Told). IfSome x (λ t. AreNamedApart t → AreSound (shapes_of config) (images_read config t) → (HasFaultIn state r.rest → ⊥) → (Rose entry.faults opened.faults → ⊥)
+      let each = subst (λ (x : Option Told). IfSome x (λ t. AreSound (shapes_of config) (images_read config t) → (HasFaultIn state r.rest → ⊥) → (Rose entry.faults opened.faults → ⊥)
       → (k : ℕ) → k < length (shapes_of config) → slice_get r.faults.items k ≡ Some None)) m.entry_is (complete m.telling) in
-      all_open 0 r.faults.items (λ k lt. each m.apart m.sound
+      all_open 0 r.faults.items (λ k lt. each m.sound
       (λ part. m.bay_calm (rose_from entry.faults opened.faults left_.faults o.counts (c.cause (subst (λ x. HasFaultIn state x) (sym same_rest) part))))
       (λ rose. m.bay_calm (rose_on entry.faults opened.faults left_.faults rose c.counts)) k (omega (arith, lt, o.is.fault_count)))
 

@@ -17,7 +17,7 @@ use Rattle.request_workers.specs.Stations.{AreStations, IsMoved}
 use Rattle.request_workers.specs.declared.floor.Floor.{Floor}
 use Rattle.request_workers.specs.declared.request.Reclaim.{Reclaim}
 use Rattle.volume_images.specs.Accepted.{HasHead, head_place}
-use Rattle.volume_images.specs.Left.{AreNamedApart, IsTold}
+use Rattle.volume_images.specs.Left.{IsTold}
 use Rattle.volume_images.specs.Volumes.{shape_in, shapes_of}
 use Rattle.rack.specs.Opens.{BeganWith, HadSegmentBefore, IsGone, IsLeftHere, KeepsAllSound, WereThere}
 use Rattle.rack.specs.Owners.{HadRefused, IsBegun, images_taken}
@@ -90,17 +90,17 @@ module _ {D : Type 0} (state : D → State) (config : Config) (r q : Rack D) (re
 
 -- sound images stay sound
 module _ {D : Type 0} (state : D → State) (config : Config) (q : Rack D) (Q : Told → Told → Type 0) where
-  through : (e o n : Option Told) → IfSome e (λ t. AreNamedApart t → BeganWith state config t q) → IfSome e (λ t. AreNamedApart t → WereThere config q.rest.images.items t) → IsTold (HadRefused config q.rest.images.items) e o
-      → IsTold (λ x y. AreNamedApart y) e o → IsTold Q o n
+  through : (e o n : Option Told) → IfSome e (λ t. BeganWith state config t q) → IfSome e (λ t. WereThere config q.rest.images.items t) → IsTold (HadRefused config q.rest.images.items) e o
+      → IsTold Q o n
       → ((t : Told) → BeganWith state config t q → WereThere config q.rest.images.items t → IsTold (λ old new. HadRefused config q.rest.images.items t old → KeepsAllSound config t new) o n) → IsTold (KeepsAllSound config) e n
-  through None None n began there kept apart told sound = told
-  through None (Some o) n began there kept apart told sound = absurd (cc apart)
-  through (Some e) None n began there kept apart told sound = absurd apart
-  through (Some e) (Some o) None began there kept apart told sound = absurd told
-  through (Some e) (Some o) (Some n) began there kept apart told sound = λ named. sound e (began named) (there named) (apart named) (kept named)
+  through None None n began there kept told sound = told
+  through None (Some o) n began there kept told sound = absurd (cc kept)
+  through (Some e) None n began there kept told sound = absurd kept
+  through (Some e) (Some o) None began there kept told sound = absurd told
+  through (Some e) (Some o) (Some n) began there kept told sound = sound e began there kept
 
-  pub run_sound : (entry opened left_ : BayState) → IfSome entry.told (λ t. AreNamedApart t → BeganWith state config t q) → IfSome entry.told (λ t. AreNamedApart t → WereThere config q.rest.images.items t)
-      → IsTold (HadRefused config q.rest.images.items) entry.told opened.told → IsTold (λ x y. AreNamedApart y) entry.told opened.told → IsTold Q opened.told left_.told
+  pub run_sound : (entry opened left_ : BayState) → IfSome entry.told (λ t. BeganWith state config t q) → IfSome entry.told (λ t. WereThere config q.rest.images.items t)
+      → IsTold (HadRefused config q.rest.images.items) entry.told opened.told → IsTold Q opened.told left_.told
       → ((t : Told) → BeganWith state config t q → WereThere config q.rest.images.items t → IsTold (λ old new. HadRefused config q.rest.images.items t old → KeepsAllSound config t new) opened.told left_.told)
       → IsTold (KeepsAllSound config) entry.told left_.told
-  run_sound entry opened left_ began there kept apart told sound = through entry.told opened.told left_.told began there kept apart told sound
+  run_sound entry opened left_ began there kept told sound = through entry.told opened.told left_.told began there kept told sound

@@ -1,16 +1,17 @@
 -- What images a run over open volumes leaves in its bay, by what opening and closing its rack say.
 use Rattle.std.proofs.Common.{◌≡◌, ◌<◌, ℕ, Bool, List, length, subst, Option, None, Some}
+use Rattle.wol_promise.specs.Policy.{PartName}
 use Rattle.std.specs.Prelude.{All, IsTrue, slice_get}
 use Rattle.wol_bay.specs.Bay.{BayState, Told}
 use Rattle.wol_model.specs.History.{flight_of, worker}
-use Rattle.wol_promise.specs.Ruled.{entries_of}
+use Rattle.wol_promise.specs.Ruled.{entries_of, last_look}
 use Rattle.wol_config.specs.declared.config.Config.{Config}
 use Rattle.run_laws.specs.Answers.{answers_of}
 use Rattle.turn_lock.specs.Passes.{pass_number}
 use Rattle.manager.specs.Stands.{notes_of}
 use Rattle.manager.specs.declared.station.Station.{Station}
 use Rattle.request_workers.specs.Stations.{AreStations}
-use Rattle.volume_images.specs.Left.{AreNamedApart, IsTold}
+use Rattle.volume_images.specs.Left.{IsTold}
 use Rattle.volume_images.specs.Volumes.{shapes_of}
 use Rattle.wol_promise.specs.Outcomes.{Answered}
 use Rattle.rack.specs.Closes.{HasFaultyPart, IsClosedVolume, RecoversTo}
@@ -43,22 +44,23 @@ module _ {D : Type 0} (tells : Bool) (telling : IsTrue tells) (config : Config) 
 
   -- what each closed station says
   abbrev Faulty : (o n : Option Told) → Type 0
-  Faulty o n = (s : Station D) (c : IsClosedVolume tells config out opened left_ s) → (flight_of (entries_of (notes_of c.entries)) ≡ None → ⊥) → IsTold (HasFaultyPart tells config s.id (base_of_station s).volume.began.view) o n
+  Faulty o n = (s : Station D) (c : IsClosedVolume tells config out opened left_ s) → (flight_of (entries_of (notes_of c.entries)) ≡ None → ⊥)
+      → (name : PartName) × ((last_look (base_of_station s).volume.began.look (notes_of c.entries)).down ≡ Some name) × IsTold (HasFaultyPart tells config s.id (base_of_station s).volume.began.view name) o n
 
   abbrev Recovers : (o n : Option Told) → Type 0
   Recovers o n = (s : Station D) (c : IsClosedVolume tells config out opened left_ s) → IsTold (λ x y. RecoversTo config out s c.entries y) o n
 
-  through : (Q : Told → Told → Type 0) (e o n : Option Told) → IsTold (λ x y. AreNamedApart y) e o → IsTold (λ x y. y.faulty ≡ x.faulty) e o → IsTold (λ x y. BeginAsRead config x histories) e n → IsTold (KeepsAllSound config) e n → IsTold Q o n
+  through : (Q : Told → Told → Type 0) (e o n : Option Told) → IsTold (λ x y. y.faulty ≡ x.faulty) e o → IsTold (λ x y. BeginAsRead config x histories) e n → IsTold (KeepsAllSound config) e n → IsTold Q o n
       → Faulty o n → Recovers o n → IsTold (LeavesImages tells config answers histories) e n
-  through Q None None n apart same begun sound told faulty recovers = told
-  through Q None (Some o) n apart same begun sound told faulty recovers = absurd (cc apart)
-  through Q (Some e) None n apart same begun sound told faulty recovers = absurd apart
-  through Q (Some e) (Some o) None apart same begun sound told faulty recovers = absurd told
-  through Q (Some e) (Some o) (Some n) apart same begun sound told faulty recovers = λ named.
-      images_left tells config out all_out opened left_ ss id_at answers histories are (history_at tells config out opened left_ ss closed) flown e o n (begun named) (same named)
-      (λ s c broken. faulty s c broken (apart named)) (λ s c. recovers s c (apart named)) (sound named)
+  through Q None None n same begun sound told faulty recovers = told
+  through Q None (Some o) n same begun sound told faulty recovers = absurd (cc same)
+  through Q (Some e) None n same begun sound told faulty recovers = absurd same
+  through Q (Some e) (Some o) None same begun sound told faulty recovers = absurd told
+  through Q (Some e) (Some o) (Some n) same begun sound told faulty recovers =
+      images_left tells config out all_out opened left_ ss id_at answers histories are (history_at tells config out opened left_ ss closed) flown e o n begun same
+      faulty recovers sound
 
-  pub run_images : (entry : BayState) (Q : Told → Told → Type 0) → IsTold (λ x y. AreNamedApart y) entry.told opened.told → IsTold (λ x y. y.faulty ≡ x.faulty) entry.told opened.told
+  pub run_images : (entry : BayState) (Q : Told → Told → Type 0) → IsTold (λ x y. y.faulty ≡ x.faulty) entry.told opened.told
       → IsTold (λ x y. BeginAsRead config x histories) entry.told left_.told → IsTold (KeepsAllSound config) entry.told left_.told → IsTold Q opened.told left_.told
       → IsTold (LeavesImages tells config answers histories) entry.told left_.told
-  run_images entry Q apart same begun sound told = through Q entry.told opened.told left_.told apart same begun sound told (λ s c broken. c.faulty broken) (λ s c. c.recovers telling)
+  run_images entry Q same begun sound told = through Q entry.told opened.told left_.told same begun sound told (λ s c broken. c.faulty broken) (λ s c. c.recovers telling)

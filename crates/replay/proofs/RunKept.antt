@@ -15,14 +15,14 @@ use Rattle.wol_promise.specs.Outcomes.{Answered}
 use Rattle.run_laws.specs.Answers.{AreFirst, answers_of, requests_in}
 use Rattle.run_laws.specs.Laws.{AreAllAnswered}
 use Rattle.wol_config.specs.declared.config.Config.{Config}
-use Rattle.volume_images.specs.Left.{AreNamedApart, IsTold}
+use Rattle.volume_images.specs.Left.{IsTold}
 use Rattle.volume_images.specs.Volumes.{shape_in, shapes_of}
 use Rattle.trace_gen.specs.Generated.{target_of, targets_of}
 use Rattle.manager.specs.declared.station.Station.{Station}
 use Rattle.report.specs.declared.fault.Fault.{Fault}
 use Rattle.report.specs.declared.fault.Fault.TheVariants.{Memory, Versions}
 use Rattle.rack.specs.Closes.{IsClosedVolume}
-use Rattle.rack.specs.Opens.{BeganWith, KeepsAllSound}
+use Rattle.rack.specs.Opens.{BeganWith, KeepsAllSound, HasFaulty}
 use Rattle.rack.specs.Racks.{AreUnused, IsUnused, base_of_station}
 use Rattle.rack.specs.Rests.{IsImageOut}
 use Rattle.rack.specs.declared.rack.Rack.{Rack}
@@ -82,7 +82,7 @@ pub record RunKept (tells : Bool) (config : Config) (mode : Reclaim) (entry open
 
 module _ {D : Type 0} (state : D → State) (tells : Bool) (config : Config) (entry opened left_ : BayState) (r q : Rack D) (rest : q.rest ≡ r.rest) (counted : length r.stations.items ≡ length (shapes_of config))
     (all_out : (k : ℕ) → k < length (shapes_of config) → IsImageOut r.rest.images.items k)
-    (began : IsTrue tells → IfSome entry.told (λ t. AreNamedApart t → BeganWith state config t r)) (told_open : IsTrue tells → IsTold (λ old new. AreNamedApart new) entry.told opened.told)
+    (began : IsTrue tells → IfSome entry.told (λ t. BeganWith state config t r)) (told_open : IsTold HasFaulty entry.told opened.told)
     (Q : Told → Told → Type 0) (told_left : IsTrue tells → IsTold Q opened.told left_.told)
     (closed : All (IsClosedVolume tells config q.rest.images.items opened left_) q.stations.items) (stations : AreStations q.stations.items) (fresh : AreUnused r.stations.items)
     (unfaulty : IsTold (λ x y. y.faulty ≡ x.faulty) entry.told opened.told) (sound : IsTrue tells → IsTold (KeepsAllSound config) entry.told left_.told) where
@@ -199,7 +199,7 @@ module _ {D : Type 0} (state : D → State) (tells : Bool) (config : Config) (en
       reclaims = reclaims_here;
       marks = run_marks state tells config entry opened left_ r q rest locks_same count all_out began told_open Q told_left closed stations (answers_in (earlier ++ last)) ran first others;
       images = λ told. run_images tells told config q.rest.images.items out_still opened left_ q.stations.items stations closed (answers_in (earlier ++ last))
-          (run_histories state tells config entry opened left_ r q rest locks_same count all_out began told_open Q told_left closed stations (answers_in (earlier ++ last)) ran first others) flew entry Q (told_open told) unfaulty
+          (run_histories state tells config entry opened left_ r q rest locks_same count all_out began told_open Q told_left closed stations (answers_in (earlier ++ last)) ran first others) flew entry Q unfaulty
           (run_begun state tells config entry opened left_ r q rest locks_same count all_out began told_open Q told_left closed stations (answers_in (earlier ++ last)) ran first others told) (sound told) (told_left told);
       well = run_well tells mode config r.stations.items q.stations.items before middle after ps qs moved back locks sized numbers fresh run earlier last are well one served ends;
       unless = unless_here;
@@ -254,7 +254,7 @@ module _ {D : Type 0} (state : D → State) (tells : Bool) (config : Config) (en
       reclaims = record { idle = λ some nonempty. absurd (nonempty refl); alone = λ other v h here. none_alone v h here };
       marks = run_marks state tells config entry opened left_ r q rest (ap locks_of same) (ap length same ∙ counted) all_out began told_open Q told_left closed stations [] none_ran (λ v. refl) (λ v beyond. refl);
       images = λ told. run_images tells told config q.rest.images.items out_still opened left_ q.stations.items stations closed []
-          (run_histories state tells config entry opened left_ r q rest (ap locks_of same) (ap length same ∙ counted) all_out began told_open Q told_left closed stations [] none_ran (λ v. refl) (λ v beyond. refl)) none_flew entry Q (told_open told) unfaulty
+          (run_histories state tells config entry opened left_ r q rest (ap locks_of same) (ap length same ∙ counted) all_out began told_open Q told_left closed stations [] none_ran (λ v. refl) (λ v beyond. refl)) none_flew entry Q unfaulty
           (run_begun state tells config entry opened left_ r q rest (ap locks_of same) (ap length same ∙ counted) all_out began told_open Q told_left closed stations [] none_ran (λ v. refl) (λ v beyond. refl) told) (sound told) (told_left told);
       well = λ v. tt;
       unless = λ s is. absurd (cc is);

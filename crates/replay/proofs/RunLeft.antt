@@ -11,13 +11,13 @@ use Rattle.wol_promise.specs.Outcomes.{Answered}
 use Rattle.wol_promise.specs.Ruled.{entries_of}
 use Rattle.run_laws.specs.Answers.{AreFirst, answers_of}
 use Rattle.wol_config.specs.declared.config.Config.{Config}
-use Rattle.volume_images.specs.Left.{AreNamedApart, IsTold}
+use Rattle.volume_images.specs.Left.{IsTold}
 use Rattle.volume_images.specs.Volumes.{images_read, shape_in, shapes_of}
 use Rattle.trace_gen.specs.Generated.{target_of, targets_of}
 use Rattle.manager.specs.declared.base.ManagerBase.{ManagerBase}
 use Rattle.manager.specs.declared.station.Station.{Station}
 use Rattle.rack.specs.Closes.{IsClosedVolume}
-use Rattle.rack.specs.Opens.{BeganWith}
+use Rattle.rack.specs.Opens.{BeganWith, HasFaulty}
 use Rattle.rack.specs.Owners.{IsBegun, images_taken}
 use Rattle.rack.specs.Racks.{base_of_station}
 use Rattle.rack.specs.Rests.{IsImageOut}
@@ -51,7 +51,7 @@ base_same {D} olds news locks v old new was now =
 
 module _ {D : Type 0} (state : D → State) (tells : Bool) (config : Config) (entry opened left_ : BayState) (r q : Rack D) (rest : q.rest ≡ r.rest) (locks : locks_of q.stations.items ≡ locks_of r.stations.items)
     (count : length q.stations.items ≡ length (shapes_of config)) (all_out : (k : ℕ) → k < length (shapes_of config) → IsImageOut r.rest.images.items k)
-    (began : IsTrue tells → IfSome entry.told (λ t. AreNamedApart t → BeganWith state config t r)) (told_open : IsTrue tells → IsTold (λ old new. AreNamedApart new) entry.told opened.told)
+    (began : IsTrue tells → IfSome entry.told (λ t. BeganWith state config t r)) (told_open : IsTold HasFaulty entry.told opened.told)
     (Q : Told → Told → Type 0) (told_left : IsTrue tells → IsTold Q opened.told left_.told)
     (closed : All (IsClosedVolume tells config q.rest.images.items opened left_) q.stations.items) (stations : AreStations q.stations.items) (answers : List Answered)
     (ran : (v : ℕ) (s : Station D) → slice_get q.stations.items v ≡ Some s → StationRan v answers s) (first : (v : ℕ) → AreFirst v answers) (others : (v : ℕ) → length (targets_of config) ≤ v → answers_of v answers ≡ []) where
@@ -80,15 +80,15 @@ module _ {D : Type 0} (state : D → State) (tells : Bool) (config : Config) (en
       (subst (λ (b : ManagerBase). IsBegun config (images_read config t) b.volume.began) (sym base)
       (subst (λ images. IsBegun config images (base_of_station old).volume.began) (taken_all config r.rest.images.items all_out t) here_old))
 
-  at_entry : IsTrue tells → (t : Told) → entry.told ≡ Some t → AreNamedApart t → BeginAsRead config t histories
-  at_entry told t is apart = begins t (subst (λ (x : Option Told). IfSome x (λ y. AreNamedApart y → BeganWith state config y r)) is (began told) apart)
+  at_entry : IsTrue tells → (t : Told) → entry.told ≡ Some t → BeginAsRead config t histories
+  at_entry told t is = begins t (subst (λ (x : Option Told). IfSome x (λ y. BeganWith state config y r)) is (began told))
 
   pub run_begun : IsTrue tells → IsTold (λ t left_. BeginAsRead config t histories) entry.told left_.told
-  run_begun told = told_through (λ old new. AreNamedApart new) Q (λ t n. BeginAsRead config t histories) entry.told opened.told left_.told (told_open told) (told_left told) (λ t n is apart. at_entry told t is apart)
+  run_begun told = told_through HasFaulty Q (λ t n. BeginAsRead config t histories) entry.told opened.told left_.told told_open (told_left told) (λ t n is. at_entry told t is)
 
   pub run_marks : IsTrue tells → IsTold (λ t left_. ArePlainMarks config answers t) entry.told left_.told
-  run_marks told = told_through (λ old new. AreNamedApart new) Q (λ t n. ArePlainMarks config answers t) entry.told opened.told left_.told (told_open told) (told_left told)
-      (λ t n is apart. marks_left config answers histories (IsTrue tells) told run_histories (λ v none. others v (far v none)) t (at_entry told t is apart))
+  run_marks told = told_through HasFaulty Q (λ t n. ArePlainMarks config answers t) entry.told opened.told left_.told told_open (told_left told)
+      (λ t n is. marks_left config answers histories (IsTrue tells) told run_histories (λ v none. others v (far v none)) t (at_entry told t is))
     where
       far : (v : ℕ) → slice_get histories v ≡ None → length (targets_of config) ≤ v
       far v none =

@@ -1,15 +1,15 @@
 -- Replaying a trace on a rack all of whose volumes are open.
-use Rattle.std.proofs.Common.{◌≡◌, ◌≢◌, ◌<◌, ◌≤◌, ◌^◌, ℕ, Bool, false, List, [], ◌∷◌, ◌++◌, length, Option, None, Some, Result, Ok, Err, refl, sym, ap, subst, ◌∙◌, append-nil, inl, inr, arith}
+use Rattle.std.proofs.Common.{◌≡◌, ◌≢◌, ◌⊎◌, ◌<◌, ◌≤◌, ◌^◌, ℕ, Bool, false, not, List, [], ◌∷◌, ◌++◌, length, Option, None, Some, Result, Ok, Err, refl, sym, ap, subst, ◌∙◌, append-nil, inl, inr, arith}
 use Rattle.std.specs.List.{AllByRecursion}
 use Rattle.std.specs.Prelude.{All, IfSome, IsTrue, slice_get, slice_index_or}
 use Rattle.std.proofs.lemmas.List.{length-map}
 use Rattle.wol_io.proofs.Appending.{appends_none}
 use Rattle.wol_bay.specs.Bay.{BayState, Told}
 use Rattle.wol_disk.specs.Disk.{State}
-use Rattle.wol_model.specs.Journal.{new_spindle}
-use Rattle.wol_model.specs.Trace.{Target, TraceLine, requests, windows}
+use Rattle.wol_model.specs.Journal.{Began, new_spindle}
+use Rattle.wol_model.specs.Trace.{Target, TraceLine, requests, started, timed, windows}
 use Rattle.wol_config.specs.declared.config.Config.{Config}
-use Rattle.volume_images.specs.Left.{AreNamedApart, IsTold}
+use Rattle.volume_images.specs.Left.{IsTold}
 use Rattle.volume_images.specs.Volumes.{shape_in, shapes_of}
 use Rattle.trace_gen.specs.Generated.{target_of, targets_of}
 use Rattle.logger.specs.declared.shared.Shared.{Shared}
@@ -28,15 +28,14 @@ use Rattle.replay.proofs.HistoriesLeft.{each_closed, histories_of}
 use Rattle.rack.specs.Closes.{IsClosedSpindle, IsClosedVolume, SharePools}
 use Rattle.rack.specs.Opens.{BeganWith, HasFaulty, KeepsAllSound}
 use Rattle.rack.specs.PoolUses.{ArePools, PassesEmpty}
-use Rattle.rack.specs.Racks.{AreUnused, IsRack, IsUnused, base_of_station}
+use Rattle.rack.specs.Racks.{AreUnused, IsClosable, IsRack, IsUnused, base_of_station}
 use Rattle.rack.specs.Rests.{IsImageOut, image_here}
 use Rattle.rack.proofs.Members.{a_value}
 use Rattle.rack.specs.declared.rack.Rack.{Rack}
-use Rattle.rack.proofs.FailedParts.{came_back_since}
-use Rattle.rack.proofs.NewFaults.{none_faulty, told_each}
+use Rattle.rack.proofs.FailedParts.{faulty_since}
 use Rattle.spin_model.specs.Operations.{uses_of}
 use Rattle.spin_model.specs.Spindles.{SpindleView}
-use Rattle.request_workers.specs.Begun.{SpindlePass}
+use Rattle.request_workers.specs.Begun.{FailToBegin, HaveBegun, SpindlePass}
 use Rattle.request_workers.specs.Stations.{AreStations, IsMoved}
 use Rattle.request_workers.specs.declared.floor.Floor.{Floor}
 use Rattle.request_workers.specs.declared.request.Reclaim.{Reclaim}
@@ -48,9 +47,9 @@ use Rattle.replay.specs.Histories.{AreHistories, CountAnswered, History, answers
 use Rattle.replay.specs.Prints.{CutsLines, PrintsText, all_amounts}
 use Rattle.replay.specs.Replays.{Replays, status_in}
 use Rattle.replay.specs.Runs.{RunsNone, ServesFrom}
-use Rattle.replay.specs.Served.{ServedFromStart, ServedWindow}
+use Rattle.replay.specs.Served.{Further, ServedFromStart, ServedWindow, StartsOnce, WasNotRun, begins_alone, fails_to_begin, is_none_served, none_further}
 use Rattle.replay.specs.Sessions.{AreWindowsOf, EndsBy, ServesSome, ServesWhole, WentWell, at_end, lines_of_window}
-use Rattle.replay.specs.Summed.{HaveAccounts, PrintsRun, lines_asked, of_all, of_none}
+use Rattle.replay.specs.Summed.{HaveAccounts, HaveShortAccounts, IsAccountBy, IsCutShort, PrintsRun, column, lines_asked, of_all, of_none, started_uses}
 use Rattle.replay.specs.declared.counting.Counted.{Counted}
 use Rattle.replay.specs.declared.given.Given.{Given}
 use Rattle.replay.specs.declared.session.Options.{Options}
@@ -65,9 +64,10 @@ use Rattle.replay.proofs.Giving.{none_given}
 use Rattle.replay.proofs.RacksServed.{a_member, at_place, closable_after, rack_closable}
 use Rattle.replay.proofs.Statuses.{not_success}
 use Rattle.replay.proofs.RunEnded.{TellsRise, ends_stopped, ends_summed, prints_stopped, prints_summed}
-use Rattle.replay.proofs.RunWorked.{none_worked, run_unbroken, run_worked, told_awake, told_is}
-use Rattle.replay.proofs.ToldAwake.{WasTold, all_told, column, served_told, timeout_of}
-use Rattle.replay.proofs.WorksServed.{awake_in}
+use Rattle.replay.proofs.RunWorked.{none_worked, run_unbroken, run_worked, told_awake, told_more}
+use Rattle.replay.proofs.CutShort.{AccountOf, HasReached, account_of, all_reached, begun_last, ends_so, failed_told, first_is, kept_told, none_told, reached_none, some_cut}
+use Rattle.replay.proofs.ToldAwake.{WasTold, all_told, served_told, timeout_of}
+use Rattle.replay.proofs.WorksServed.{awake_in, awake_last, awake_last_none}
 use Rattle.replay.proofs.RunKept.{RunKept, kept_is, kept_none, kept_served, none_is}
 use Rattle.replay.proofs.PassesRuled.{IsRuled}
 use Rattle.replay.proofs.ReclaimPlaced.{counts_reclaimed, none_reclaimed}
@@ -83,6 +83,7 @@ use Rattle.run_laws.specs.Answers.{answers_of}
 use Rattle.run_laws.specs.Journals.{answers_by}
 use Rattle.run_laws.specs.Laws.{AreAllAnswered}
 use Rattle.replay.proofs.StationsRan.{AreNumbered, EndsOn}
+use Rattle.replay.proofs.Accounts.{moments_of}
 use Rattle.replay.proofs.SummaryKept.{accounts_of, summary_now}
 use Rattle.wol_config.specs.Configs.{most_of}
 
@@ -118,20 +119,12 @@ text_versions (Err (stop.Fault f)) text faults faults' printed new v (memory_is,
 
 module _ {D S : Type 0} (T : Type 0) (tells : Bool) (left : S → Option (List ℕ)) (config : Config) (options : Options) (start now : Given S) (entry opened left_ : BayState) (run more : List (Option TraceLine)) (earlier : List ServedWindow)
     (h : Floor D) (ms : List SpindlePass) (g : Floor D) (qs : List SpindlePass) (faults faults' : ℕ) (printed new : Option (List ℕ)) where
-  ends_on : (e : Stop) (last : List ServedWindow) → EndsBy tells left config options start e now run more last h ms g qs faults faults' printed new → EndsOn tells h g
-  ends_on e [] (calm, keeps, inl (refusal, other, is, none_more, refuses, floor, passes)) = inl floor
-  ends_on e [] (calm, keeps, inr (is, not_run)) = inr not_run
-  ends_on e (s ∷ []) (floor, passes, stops) = inl floor
-  ends_on e (s ∷ t ∷ rest) ends = absurd ends
-
-  -- no further window began, unless memory ran out
-  none_further : (e : Stop) (last : List ServedWindow) (ends : EndsBy tells left config options start e now run more last h ms g qs faults faults' printed new) → status_in {T = T} (Err e) ≢ 9
-      → (floor : g ≡ h) × (ends_on e last ends ≡ inl floor) × (qs ≡ ms)
-  unfolding ends_on
-  none_further e [] (calm, keeps, inl (refusal, other, is, none_more, refuses, floor, passes)) not_9 = (floor, refl, passes)
-  none_further e [] (calm, keeps, inr (is, not_run)) not_9 = absurd (not_9 (ap (λ (x : Stop). status_in {T = T} (Err x)) is))
-  none_further e (s ∷ []) (floor, passes, stops) not_9 = (floor, refl, passes)
-  none_further e (s ∷ t ∷ rest) ends not_9 = absurd ends
+  -- nothing more was done, but where memory ran out
+  ends_there : (e : Stop) (last : List ServedWindow) → EndsBy tells left config options start e now run more last h ms g qs faults faults' printed new → ((g ≡ h) × (qs ≡ ms)) ⊎ ((e ≡ stop.Fault Memory) × WasNotRun tells h g)
+  ends_there e [] (calm, keeps, inl (refusal, other, is, none_more, refuses, floor, passes)) = inl (floor, passes)
+  ends_there e [] (calm, keeps, inr (is, not_run)) = inr (is, not_run)
+  ends_there e (s ∷ []) (floor, passes, stops) = inl (floor, passes)
+  ends_there e (s ∷ t ∷ rest) ends = absurd ends
 
   one_last : (e : Stop) (last : List ServedWindow) → EndsBy tells left config options start e now run more last h ms g qs faults faults' printed new → length last ≤ 1
   one_last e [] ends = omega arith
@@ -160,6 +153,11 @@ module _ {D S : Type 0} (T : Type 0) (tells : Bool) (left : S → Option (List �
       let same : f ≡ Versions v = cc (sym is ∙ named) in kept.spent s refl v (subst (λ (x : Fault). fault_of_window s.batch.requests s.answer ≡ Some x) same told)
   spent_some e (s ∷ []) (floor, passes, inr cuts) kept v named = absurd (cut_versions e (lines_of_window config options s) faults faults' printed new v cuts named)
   spent_some e (s ∷ t ∷ rest) ends kept v named = absurd ends
+
+-- how it ended, without the reason
+abbrev there_now : {D : Type 0} {tells : Bool} {h g : Floor D} {ms qs : List SpindlePass} {e : Stop} → ((g ≡ h) × (qs ≡ ms)) ⊎ ((e ≡ stop.Fault Memory) × WasNotRun tells h g) → ((g ≡ h) × (qs ≡ ms)) ⊎ WasNotRun tells h g
+there_now (inl same) = inl same
+there_now (inr (is, not_run)) = inr not_run
 
 -- ---- Faults that name no part
 
@@ -202,7 +200,7 @@ module _ (tells : Bool) (config : Config) (mode : Reclaim) (entry opened left_ :
 
 -- ---- What was at entry
 
-told_first : (P : Told → Told → Type 0) (X : Told → Type 0) (a b : Option Told) → IsTold P a b → IfSome a (λ t. AreNamedApart t → X t) → IsTold (λ o n. X o) a b
+told_first : (P : Told → Told → Type 0) (X : Told → Type 0) (a b : Option Told) → IsTold P a b → IfSome a X → IsTold (λ o n. X o) a b
 told_first P X None b p x = p
 told_first P X (Some o) None p x = p
 told_first P X (Some o) (Some n) p x = x
@@ -217,10 +215,10 @@ numbered_all ss all v s there =
 
 module _ {D S : Type 0} (T : Type 0) (state : D → State) (tells : Bool) (left : S → Option (List ℕ)) (config : Config) (options : Options) (start now : Given S) (entry opened left_ : BayState) (r q : Rack D)
     (is : IsRack state config opened r) (counted_stations : length r.stations.items ≡ length (shapes_of config)) (some : 1 ≤ length r.stations.items) (all_out : (k : ℕ) → k < length (shapes_of config) → IsImageOut r.rest.images.items k)
-    (began : IsTrue tells → IfSome entry.told (λ t. AreNamedApart t → BeganWith state config t r)) (told_open : IsTrue tells → IsTold (λ old new. AreNamedApart new) entry.told opened.told)
+    (began : IsTrue tells → IfSome entry.told (λ t. BeganWith state config t r)) (told_open : IsTold HasFaulty entry.told opened.told)
     (Q : Told → Told → Type 0) (told_left : IsTrue tells → IsTold Q opened.told left_.told) (opening : entry.faults ≤ opened.faults)
     (closed : All (IsClosedVolume tells config q.rest.images.items opened left_) q.stations.items) (shared : SharePools tells config opened left_ q closed) (fresh : AreUnused r.stations.items)
-    (unfaulty : IsTold (λ x y. y.faulty ≡ x.faulty) entry.told opened.told) (sound : IsTrue tells → IsTold (KeepsAllSound config) entry.told left_.told) (open_ : IsTrue tells → IfSome entry.told (λ t. AreNamedApart t → AreAllOpen config t)) (faults faults' : ℕ) (printed printed' : Option (List ℕ)) where
+    (unfaulty : IsTold (λ x y. y.faulty ≡ x.faulty) entry.told opened.told) (sound : IsTrue tells → IsTold (KeepsAllSound config) entry.told left_.told) (open_ : IsTrue tells → IfSome entry.told (λ t. AreAllOpen config t)) (faults faults' : ℕ) (printed printed' : Option (List ℕ)) where
   -- the pools began with the segments as the images had them
   pools_at : q.shared ≡ r.shared → (t : Told) → BeganWith state config t r → ArePools config t shared.pools
   pools_at same t with k v conf =
@@ -233,9 +231,9 @@ module _ {D S : Type 0} (T : Type 0) (state : D → State) (tells : Bool) (left 
   pools_began : q.shared ≡ r.shared → IsTrue tells → IsTold (λ entry_ exit. ArePools config entry_ shared.pools) entry.told left_.told
   pools_began same telling = told_first (KeepsAllSound config) (λ t. ArePools config t shared.pools) entry.told left_.told (sound telling) (at entry.told (began telling))
     where
-      at : (o : Option Told) → IfSome o (λ t. AreNamedApart t → BeganWith state config t r) → IfSome o (λ t. AreNamedApart t → ArePools config t shared.pools)
+      at : (o : Option Told) → IfSome o (λ t. BeganWith state config t r) → IfSome o (λ t. ArePools config t shared.pools)
       at None with = tt
-      at (Some t) with = λ apart. pools_at same t (with apart)
+      at (Some t) with = pools_at same t with
 
   -- no pool was passed over more often than it was found empty
   passed_by : (hs : List History) → hs ≡ histories_of tells config q.rest.images.items opened left_ q.stations.items closed → (v : ℕ) (h : History) → slice_get hs v ≡ Some h → PassesEmpty shared.pools h.base h.notes
@@ -243,8 +241,10 @@ module _ {D S : Type 0} (T : Type 0) (state : D → State) (tells : Bool) (left 
       each_closed tells config q.rest.images.items opened left_ (λ b notes. PassesEmpty shared.pools b notes) q.stations.items closed shared.passed v h (ap (λ (l : List History). slice_get l v) (sym same) ∙ here)
 
   -- there was no memory to serve
-  pub replays_none : RunsNone tells left config options start now r q faults faults' printed printed' → AreStations q.stations.items → Replays {T = T} tells left config options start now entry left_ (Err (stop.Fault Memory)) faults faults' printed printed'
-  replays_none runs stations =
+  pub replays_none : RunsNone tells left config options start now r q faults faults' printed printed' → AreStations q.stations.items → (spindles : List SpindleView) → length spindles ≡ length (shapes_of config)
+      → length spindles ≡ length config.volumes.items → ((k : ℕ) (s : SpindleView) → slice_get spindles k ≡ Some s → IsClosedSpindle q k s) → All (λ (p : SpindlePass). IsUnused p) r.keepers.items
+      → Replays {T = T} tells left config options start now entry left_ (Err (stop.Fault Memory)) faults faults' printed printed'
+  replays_none runs stations spindles count sized each unused =
       let kept = kept_none state tells config entry opened left_ r q (ap (λ (x : Rack D). x.rest) runs.same) counted_stations all_out began told_open Q told_left closed stations fresh unfaulty sound (ap (λ (x : Rack D). x.stations.items) runs.same)
       (no_requests (most_of config) (targets_of config)) options.reclaim in
       let is_none = none_is state tells config entry opened left_ r q (ap (λ (x : Rack D). x.rest) runs.same) counted_stations all_out began told_open Q told_left closed stations fresh unfaulty sound (ap (λ (x : Rack D). x.stations.items) runs.same) (no_requests (most_of config) (targets_of config)) options.reclaim in
@@ -279,7 +279,15 @@ module _ {D S : Type 0} (T : Type 0) (state : D → State) (tells : Bool) (left 
         reclaims = kept.reclaims;
         awake = [];
         worked = worked is_none runs stations;
-        disks = λ not_9. absurd (not_9 refl);
+        disks = inl (record {
+          spindles = spindles;
+          count = sized;
+          each = λ k s there.
+              let closable = subst (λ (x : Rack D). IsClosable state config opened x) (sym runs.same) (rack_closable state config opened r is) in
+              let a = account_of state config opened r q is unused closable spindles count each k s there in
+              let here : slice_index_or r.keepers.items k a.pass ≡ a.pass = ap (λ (x : Rack D). slice_index_or x.keepers.items k a.pass) (sym runs.same) ∙ (at_place q.keepers.items k a.pass a.there).1 a.pass in
+              a.so [] [] (subst (λ (p : SpindlePass). HasReached [] [] p a.pass) (sym here) (reached_none a.pass));
+        });
         unbroken = λ is. absurd (cc is);
         marks = kept.marks;
         images = kept.images;
@@ -317,6 +325,9 @@ module _ {D S : Type 0} (T : Type 0) (state : D → State) (tells : Bool) (left 
         rises tells options.reclaim config q.rest.images.items opened left_ r.stations.items q.stations.items closed before from.after moved from.moved_back targets_same stations_same run earlier (s ∷ []) r.keepers.items ms are
         (subst (λ (f : Floor D). ServedFromStart tells options.reclaim (earlier ++ s ∷ []) before r.keepers.items f ms) (sym floor) served) entry.faults opening
     rise_by e run more earlier (s ∷ t ∷ others) h ms then_ ends served are = absurd ends
+
+    new_ids : (v : ℕ) (s : Station D) → slice_get q.stations.items v ≡ Some s → s.id ≡ v
+    new_ids v s there = let (less, at) = at_place q.stations.items v s there in subst (λ (x : Station D). x.id ≡ v) (at s) (from.can.each v s less).id
 
     new_numbers : (v : ℕ) (s : Station D) → slice_get q.stations.items v ≡ Some s → AreNumbered s
     new_numbers = numbered_all q.stations.items from.can.each
@@ -358,20 +369,26 @@ module _ {D S : Type 0} (T : Type 0) (state : D → State) (tells : Bool) (left 
     worked_by ss middle ms served ends owned =
         run_worked tells options.reclaim config q.rest.images.items opened left_ r.stations.items q.stations.items closed before middle from.after r.keepers.items ms moved from.moved_back ss served ends fresh numbers new_numbers free looks stations_same some owned
 
-    module _ (ss : List ServedWindow) (middle : Floor D) (ms : List SpindlePass) (served : ServedFromStart tells options.reclaim ss before r.keepers.items middle ms) (ends : EndsOn tells middle from.after) (floor : from.after ≡ middle) (none_more : ends ≡ inl floor)
-        (passes : q.keepers.items ≡ ms) (unused : All (λ (p : SpindlePass). IsUnused p) r.keepers.items) where
-      awake_by : told_by ss middle ms served ends ≡ awake_in tells options.reclaim ss before r.keepers.items middle ms served
-      unfolding told_by
-      awake_by =
-          told_is tells options.reclaim config q.rest.images.items opened left_ r.stations.items q.stations.items closed before middle from.after r.keepers.items ms moved from.moved_back ss served ends fresh numbers new_numbers free looks stations_same some floor none_more
+    awake_by : (ss : List ServedWindow) (middle : Floor D) (ms : List SpindlePass) (served : ServedFromStart tells options.reclaim ss before r.keepers.items middle ms) (ends : EndsOn tells middle from.after) (last : List (List Bool))
+        → awake_last tells options.reclaim middle from.after ends ≡ last → told_by ss middle ms served ends ≡ awake_in tells options.reclaim ss before r.keepers.items middle ms served ++ last
+    unfolding told_by
+    awake_by ss middle ms served ends last is =
+        told_more tells options.reclaim config q.rest.images.items opened left_ r.stations.items q.stations.items closed before middle from.after r.keepers.items ms moved from.moved_back ss served ends fresh numbers new_numbers free looks stations_same some
+        ∙ ap (λ (l : List (List Bool)). awake_in tells options.reclaim ss before r.keepers.items middle ms served ++ l) is
 
+    awake_alone : (ss : List ServedWindow) (middle : Floor D) (ms : List SpindlePass) (served : ServedFromStart tells options.reclaim ss before r.keepers.items middle ms) (ends : EndsOn tells middle from.after)
+        → awake_last tells options.reclaim middle from.after ends ≡ [] → told_by ss middle ms served ends ≡ awake_in tells options.reclaim ss before r.keepers.items middle ms served
+    awake_alone ss middle ms served ends none = awake_by ss middle ms served ends [] none ∙ append-nil (awake_in tells options.reclaim ss before r.keepers.items middle ms served)
+
+    module _ (ss : List ServedWindow) (middle : Floor D) (ms : List SpindlePass) (served : ServedFromStart tells options.reclaim ss before r.keepers.items middle ms) (ends : EndsOn tells middle from.after)
+        (awake_is : told_by ss middle ms served ends ≡ awake_in tells options.reclaim ss before r.keepers.items middle ms served) (passes : q.keepers.items ≡ ms) (unused : All (λ (p : SpindlePass). IsUnused p) r.keepers.items) where
       -- what the keepers were told is what the spindles' journals say
       keepers_told : (k : ℕ) (p : SpindlePass) (entries : List Entry) → k < length r.keepers.items → slice_get q.keepers.items k ≡ Some p → IsPartOf entries p
           → answers_by (timeout_of p) new_spindle (pass_number p) (uses_of entries) ≡ column k (told_by ss middle ms served ends)
       keepers_told k p entries lt there part =
           let here : slice_index_or ms k p ≡ p = ap (λ (l : List SpindlePass). slice_index_or l k p) (sym passes) ∙ (at_place q.keepers.items k p there).1 p in
           all_told (column k (told_by ss middle ms served ends)) (slice_index_or r.keepers.items k p) p entries (unused k p lt)
-          (subst (λ (l : List (List Bool)). WasTold (column k l) (slice_index_or r.keepers.items k p) p) (sym awake_by)
+          (subst (λ (l : List (List Bool)). WasTold (column k l) (slice_index_or r.keepers.items k p) p) (sym awake_is)
           (subst (λ (x : SpindlePass). WasTold (column k (awake_in tells options.reclaim ss before r.keepers.items middle ms served)) (slice_index_or r.keepers.items k p) x) here
           (served_told tells options.reclaim k ss before r.keepers.items middle ms p served lt))) part
 
@@ -385,6 +402,74 @@ module _ {D S : Type 0} (T : Type 0) (state : D → State) (tells : Bool) (left 
             (subst (λ (l : List SpindlePass). ServedFromStart tells options.reclaim ss before r.keepers.items middle l) (sym passes) served)
             (closable_after state config opened r q (rack_closable state config opened r is) from.only from.can (from.locks ∙ moved.locks) from.same) spindles count each keepers_told;
       }
+
+    closable_now : IsClosable state config opened q
+    closable_now = closable_after state config opened r q (rack_closable state config opened r is) from.only from.can (from.locks ∙ moved.locks) from.same
+
+    -- .. and where one may have begun
+    module _ (e : Stop) (ss : List ServedWindow) (middle : Floor D) (ms : List SpindlePass) (served : ServedFromStart tells options.reclaim ss before r.keepers.items middle ms) (unused : All (λ (p : SpindlePass). IsUnused p) r.keepers.items)
+        (lines : List (Option TraceLine)) (are : AreWindowsOf config lines ss) (spindles : List SpindleView) (count : length spindles ≡ length (shapes_of config)) (sized : length spindles ≡ length config.volumes.items)
+        (each : (k : ℕ) (s : SpindleView) → slice_get spindles k ≡ Some s → IsClosedSpindle q k s) where
+      abbrev AllBegun : Type 0
+      AllBegun = Further tells (not (is_none_served ss)) middle ms from.after q.keepers.items
+
+      abbrev so_on : ((from.after ≡ middle) × (q.keepers.items ≡ ms)) ⊎ WasNotRun tells middle from.after → AllBegun → EndsOn tells middle from.after
+      so_on there further = ends_so tells options.reclaim (not (is_none_served ss)) middle ms from.after q.keepers.items there further
+
+      abbrev DisksEnded : EndsOn tells middle from.after → Type 0
+      DisksEnded ends = HaveAccounts config lines ss (told_by ss middle ms served ends) ⊎ ((status_in {T = T} (Err e) ≡ 9) × HaveShortAccounts config lines ss (told_by ss middle ms served ends))
+
+      alone : (ends : EndsOn tells middle from.after) → awake_last tells options.reclaim middle from.after ends ≡ [] → q.keepers.items ≡ ms → DisksEnded ends
+      alone ends none passes = inl (disks_by ss middle ms served ends (awake_alone ss middle ms served ends none) passes unused lines are spindles count sized each)
+
+      at_9 : e ≡ stop.Fault Memory → status_in {T = T} (Err e) ≡ 9
+      at_9 is = ap (λ (x : Stop). status_in {T = T} (Err x)) is
+
+      account_now : (k : ℕ) (s : SpindleView) → slice_get spindles k ≡ Some s → AccountOf config r q k s
+      account_now = account_of state config opened r q is unused closable_now spindles count each
+
+      failed : e ≡ stop.Fault Memory → (ends : EndsOn tells middle from.after) → awake_last tells options.reclaim middle from.after ends ≡ [] → (moment : ℕ) (begun : List SpindlePass)
+          → StartsOnce (not (is_none_served ss)) moment ms begun → FailToBegin moment begun q.keepers.items → DisksEnded ends
+      failed is ends none moment begun once fails = inr (
+        at_9 is,
+        record {
+          spindles = spindles;
+          count = sized;
+          moment = moment;
+          each = inl (λ k s there.
+              let a = account_now k s there in
+              let here : slice_index_or q.keepers.items k a.pass ≡ a.pass = (at_place q.keepers.items k a.pass a.there).1 a.pass in
+              subst (λ (l : List (List Bool)). IsCutShort config k moment (started_uses (started (timed lines)) moment (moments_of ss)) (column k l) s) (sym (awake_alone ss middle ms served ends none))
+              (some_cut tells options.reclaim k (started (timed lines)) ss before r.keepers.items middle ms served a.less (first_is config lines ss are) moment begun once config s q.keepers.items a.pass
+              (λ us xs reached. a.so us xs (subst (λ (p : SpindlePass). HasReached us xs (slice_index_or r.keepers.items k a.pass) p) here reached)) fails));
+        },
+      )
+
+      all_begun : e ≡ stop.Fault Memory → (ends : EndsOn tells middle from.after) (awake : List Bool) → awake_last tells options.reclaim middle from.after ends ≡ awake ∷ [] → (moment : ℕ) (begun : List SpindlePass)
+          → StartsOnce (not (is_none_served ss)) moment ms begun → HaveBegun moment awake begun q.keepers.items → DisksEnded ends
+      all_begun is ends awake last moment begun once have = inr (
+        at_9 is,
+        record {
+          spindles = spindles;
+          count = sized;
+          moment = moment;
+          each = inr (λ k s there.
+              let a = account_now k s there in
+              let here : slice_index_or q.keepers.items k a.pass ≡ a.pass = (at_place q.keepers.items k a.pass a.there).1 a.pass in
+              subst (λ (l : List (List Bool)). IsAccountBy config k (started_uses (started (timed lines)) moment (moments_of ss) ++ Began moment ∷ []) (column k l) s) (sym (awake_by ss middle ms served ends (awake ∷ []) last))
+              (a.so _ _ (subst (λ (p : SpindlePass). HasReached (started_uses (started (timed lines)) moment (moments_of ss) ++ Began moment ∷ []) (column k (awake_in tells options.reclaim ss before r.keepers.items middle ms served ++ awake ∷ [])) (slice_index_or r.keepers.items k a.pass) p) here
+              (all_reached tells options.reclaim k (started (timed lines)) ss before r.keepers.items middle ms served a.less (first_is config lines ss are) moment begun once awake q.keepers.items have a.pass))));
+        },
+      )
+
+      disks_ended : (there : ((from.after ≡ middle) × (q.keepers.items ≡ ms)) ⊎ ((e ≡ stop.Fault Memory) × WasNotRun tells middle from.after)) (further : AllBegun)
+          → DisksEnded (so_on (there_now there) further)
+      disks_ended (inl (floor, passes)) further = alone _ (none_told tells options.reclaim (not (is_none_served ss)) middle ms from.after q.keepers.items floor passes further) passes
+      disks_ended (inr (is, not_run)) (none_further same passes) = alone _ (kept_told tells options.reclaim (not (is_none_served ss)) middle ms from.after q.keepers.items not_run same passes) passes
+      disks_ended (inr (is, not_run)) (fails_to_begin moment begun same once fails) =
+          failed is _ (failed_told tells options.reclaim (not (is_none_served ss)) middle ms from.after q.keepers.items not_run moment begun same once fails) moment begun once fails
+      disks_ended (inr (is, not_run)) (begins_alone moment begun awake once have volumes) =
+          all_begun is _ awake (begun_last tells options.reclaim (not (is_none_served ss)) middle ms from.after q.keepers.items not_run moment begun awake once have volumes) moment begun once have
 
     unbroken_by : (ss : List ServedWindow) (ms : List SpindlePass) → ServedFromStart tells options.reclaim ss before r.keepers.items from.after ms → AreOwned options.reclaim (histories_of tells config q.rest.images.items opened left_ q.stations.items closed)
         → AllByRecursion WentWell ss → (v : ℕ) → is_broken_at (histories_of tells config q.rest.images.items opened left_ q.stations.items closed) v ≡ false
@@ -410,7 +495,8 @@ module _ {D S : Type 0} (T : Type 0) (state : D → State) (tells : Bool) (left 
         → Replays {T = T} tells left config options start now entry left_ (Err e) faults faults' printed printed'
     replays_some e w spindles count sized each unused =
         let one = one_last T tells left config options start now entry opened left_ w.run w.more w.earlier w.middle w.between from.after q.keepers.items faults faults' w.then printed' e w.last w.ends in
-        let on = ends_on T tells left config options start now entry opened left_ w.run w.more w.earlier w.middle w.between from.after q.keepers.items faults faults' w.then printed' e w.last w.ends in
+        let there = ends_there T tells left config options start now entry opened left_ w.run w.more w.earlier w.middle w.between from.after q.keepers.items faults faults' w.then printed' e w.last w.ends in
+        let on = ends_so tells options.reclaim (not (is_none_served (w.earlier ++ w.last))) w.middle w.between from.after q.keepers.items (there_now there) w.further in
         let kept = kept_served state tells config entry opened left_ r q rest_same counted_stations all_out began told_open Q told_left closed from.can.each fresh unfaulty sound options.reclaim before w.middle from.after r.keepers.items w.between moved from.moved_back from.locks numbers
         w.run w.earlier w.last w.are w.well one w.from_start on in
         let is_kept = kept_is state tells config entry opened left_ r q rest_same counted_stations all_out began told_open Q told_left closed from.can.each fresh unfaulty sound options.reclaim before w.middle from.after r.keepers.items w.between moved from.moved_back from.locks numbers
@@ -438,8 +524,8 @@ module _ {D S : Type 0} (T : Type 0) (state : D → State) (tells : Bool) (left 
           part = λ v t is. (subst (λ (hs : List History). IsTrue (is_broken_at hs v)) (sym is_kept) (breaks_at _ v t (down_by e w.run w.more w.earlier w.last w.middle w.between w.then w.ends w.from_start w.are v t (cc is))));
           named = λ v t is. (
               let one = came_at tells config q.rest.images.items opened left_ q.stations.items closed (answers_in (w.earlier ++ w.last)) (subst (λ (hs : List History). AreHistories (IsTrue tells) config (answers_in (w.earlier ++ w.last)) hs) is_kept kept.are)
-              v t (down_by e w.run w.more w.earlier w.last w.middle w.between w.then w.ends w.from_start w.are v t (cc is)) in
-              (one.0, one.1, λ telling. came_back_since config one.0 entry.told opened.told left_.told (told_open telling) (told_each (λ x y. y.faulty ≡ x.faulty) HasFaulty entry.told opened.told none_faulty unfaulty) one.2));
+              new_ids v t (down_by e w.run w.more w.earlier w.last w.middle w.between w.then w.ends w.from_start w.are v t (cc is)) in
+              (one.0, ap (λ (hs : List History). slice_get hs v) is_kept ∙ one.1, one.2, one.3, faulty_since tells config v one.0.base.view one.2 entry.told opened.told left_.told told_open one.4));
           spent = λ v is. spent_some T tells left config options start now entry opened left_ w.run w.more w.earlier w.middle w.between from.after q.keepers.items faults faults' w.then printed' e w.last w.ends kept v (cc is);
           open_ = λ telling. told_first (KeepsAllSound config) (AreAllOpen config) entry.told left_.told (sound telling) (open_ telling);
           begun = kept.begun;
@@ -452,9 +538,7 @@ module _ {D S : Type 0} (T : Type 0) (state : D → State) (tells : Bool) (left 
           reclaims = kept.reclaims;
           awake = awake;
           worked = worked;
-          disks = λ not_9. (
-              let (floor, none_more, passes) = none_further T tells left config options start now entry opened left_ w.run w.more w.earlier w.middle w.between from.after q.keepers.items faults faults' w.then printed' e w.last w.ends not_9 in
-              disks_by (w.earlier ++ w.last) w.middle w.between w.from_start on floor none_more passes unused w.run w.are spindles count sized each);
+          disks = disks_ended e (w.earlier ++ w.last) w.middle w.between w.from_start unused w.run w.are spindles count sized each there w.further;
           unbroken = λ is. absurd (stop_some T e is);
           marks = kept.marks;
           images = kept.images;
@@ -481,12 +565,13 @@ module _ {D S : Type 0} (T : Type 0) (state : D → State) (tells : Bool) (left 
         let owned = owned_by tells config options.reclaim entry opened left_ w.lines w.served [] kept _ is_kept in
         let awake = told_by (w.served ++ []) from.after q.keepers.items from_start (inl refl) in
         let worked = subst (λ (hs : List History). AreWorked options.reclaim (w.served ++ []) awake hs) (sym is_kept) (worked_by (w.served ++ []) from.after q.keepers.items from_start (inl refl) owned) in
+        let awake_same = awake_alone (w.served ++ []) from.after q.keepers.items from_start (inl refl) (awake_last_none tells options.reclaim from.after from.after refl) in
         let all_asked = subst (λ (ss : List ServedWindow). AreAllCounted (requests (most_of config) (targets_of config) w.lines) ss) all_windows
         (all_counted_asked (requests (most_of config) (targets_of config) w.lines) (w.served ++ []) kept.kept kept.sized kept.within kept.asked (λ v h here. (kept.are.each v h here).answered)
         (λ v. subst (λ (ss : List ServedWindow). AreAllAnswered (answers_of v (answers_in ss))) (sym all_windows) (kept.well v))) in
         let summary = summary_now state tells left config options start now opened r q faults faults' printed printed' is unused awake before from.after counted w
         (closable_after state config opened r q (rack_closable state config opened r is) from.only from.can (from.locks ∙ moved.locks) from.same) spindles count each
-        (keepers_told (w.served ++ []) from.after q.keepers.items from_start (inl refl) refl refl refl unused) all_asked sized in
+        (keepers_told (w.served ++ []) from.after q.keepers.items from_start (inl refl) awake_same refl unused) all_asked sized in
         record {
           run = w.lines;
           more = [];
@@ -517,7 +602,7 @@ module _ {D S : Type 0} (T : Type 0) (state : D → State) (tells : Bool) (left 
           reclaims = kept.reclaims;
           awake = awake;
           worked = worked;
-          disks = λ not_9. disks_by (w.served ++ []) from.after q.keepers.items from_start (inl refl) refl refl refl unused w.lines are spindles count sized each;
+          disks = inl (disks_by (w.served ++ []) from.after q.keepers.items from_start (inl refl) awake_same refl unused w.lines are spindles count sized each);
           unbroken = λ is v. subst (λ (hs : List History). is_broken_at hs v ≡ false) (sym is_kept)
               (unbroken_by (w.served ++ []) q.keepers.items from_start owned (subst (λ (ss : List ServedWindow). AllByRecursion WentWell ss) (sym all_windows) w.well) v);
           marks = kept.marks;

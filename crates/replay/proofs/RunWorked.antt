@@ -89,6 +89,10 @@ module _ {D : Type 0} (tells : Bool) (mode : Reclaim) (config : Config) (out : L
   pub told_awake : List (List Bool)
   told_awake = awake_in tells mode ss before ps middle qs served ++ awake_last tells mode middle after ends
 
+  pub told_more : told_awake ≡ awake_in tells mode ss before ps middle qs served ++ awake_last tells mode middle after ends
+  unfolding told_awake
+  told_more = refl
+
   module _ (k : ℕ) (h : History) (here : slice_get (histories_of tells config out opened left_ news closed) k ≡ Some h) (owner : h.base.owner ≡ k) (none : mode ≢ reclaim.Beside → HasNoHelp h.notes) where
     at_ : IsHistoryAt tells config out opened left_ news k h
     at_ = history_at tells config out opened left_ news closed k h here

@@ -1,7 +1,7 @@
 -- Windows that are served one after another.
 use Rattle.std.proofs.Common.{◌≡◌, ◌≤◌, ◌<◌, ◌+◌, ◌^◌, ℕ, zero, suc, Bool, true, false, not, List, [], ◌∷◌, ◌++◌, length, length-append, map, min, refl, sym, ap, subst, zero-add, ◌∙◌, append-nil, Option, Result, Ok, Err, inl, inr, arith}
 use Rattle.std.specs.Prelude.{count_by, sum_by, slice_index_or, slice_set}
-use Rattle.std.specs.Prelude.{All, OnOk, IfErr}
+use Rattle.std.specs.Prelude.{All, OnErr, OnOk, IfErr}
 use Rattle.std.specs.List.{flat_map, AllByRecursion}
 use Rattle.std.proofs.lemmas.List.Elements.{All-from_recursion}
 use Rattle.std.proofs.lemmas.Bool.{cases_eq}
@@ -21,7 +21,7 @@ use Rattle.trace_windows.proofs.Numbering.{length-numbered, numbered_both}
 use Rattle.report.specs.declared.totals.Totals.{Totals}
 use Rattle.request_turns.specs.declared.outcome.Outcome.{Outcome}
 use Rattle.request_turns.specs.Helped.{ManagerLock}
-use Rattle.request_workers.specs.Begun.{SpindlePass, HaveBegun, HaveBegunVolumes}
+use Rattle.request_workers.specs.Begun.{SpindlePass, FailToBegin, HaveBegun, HaveBegunVolumes}
 use Rattle.request_workers.specs.Floors.{AreInside, HasRun}
 use Rattle.request_workers.specs.Requests.{AreOfVolumes}
 use Rattle.request_workers.specs.declared.floor.Floor.{Floor}
@@ -29,7 +29,7 @@ use Rattle.request_workers.specs.declared.request.Reclaim.{Reclaim}
 use Rattle.request_workers.specs.declared.request.Window.{Window as Answer}
 use Rattle.replay.specs.Counts.{CountsWindow, most_count, was_read, was_written, was_logged, went_home, was_drained}
 use Rattle.replay.specs.Served.{AreSamePasses, AreTotals, HaveStarted, ServedFromStart, ServedWindow, StartsOnce, WasServed, WereServed, is_none_served, outcomes_in}
-use Rattle.replay.specs.Sessions.{AreServedFrom, AreServedOf, AreVolumes, EndsIn, Finishes, GoesOn, HasBegunWindow, HasServed, lines_of_window, lines_of_windows}
+use Rattle.replay.specs.Sessions.{AreServedFrom, AreServedOf, AreVolumes, EndsIn, Finishes, GoesOn, HasBegunWindow, HasFailedToBegin, HasServed, lines_of_window, lines_of_windows}
 use Rattle.replay.specs.declared.session.Options.{Options}
 use Rattle.replay.specs.declared.session.Session.{Session}
 use Rattle.replay.specs.declared.stop.Stop.{Stop}
@@ -217,6 +217,20 @@ few_volumes config ls n sizes valid is = let most = valid.count.1 in omega (arit
 pub on_ok : {T E P Q : Type 0} (r : Result T E) → (P → Q) → OnOk r P → OnOk r Q
 on_ok (Ok x) f h = f h
 on_ok (Err e) f h = tt
+
+pub on_err : {T E P Q R : Type 0} (r : Result T E) → (P → Q → R) → OnErr r P → OnErr r Q → OnErr r R
+on_err (Ok x) f p q = tt
+on_err (Err e) f p q = f p q
+
+-- a fact more about an error
+pub err_with : {T E X : Type 0} (Q : E → Type 0) (r : Result T E) → X → IfErr r Q → IfErr r (λ e. X × Q e)
+err_with Q (Ok x) fact q = tt
+err_with Q (Err e) fact q = (fact, q)
+
+-- it wasn't begun
+pub window_failed : {D : Type 0} (t : ℕ) (s m n : Session D) → m ≡ record s { keepers = m.keepers; started = true } → StartsOnce s.started t s.keepers.items m.keepers.items
+    → FailToBegin t m.keepers.items n.keepers.items → n.floor ≡ m.floor → HasFailedToBegin t s n
+window_failed {D} t s m n only starts failed rest = record { start = m.keepers.items; starts = starts; spindles = failed; floor_ = rest ∙ ap (λ (x : Session D). x.floor) only }
 
 pub window_begun : {D : Type 0} (tells : Bool) (t : ℕ) (s m n : Session D) → m ≡ record s { keepers = m.keepers; started = true } → StartsOnce s.started t s.keepers.items m.keepers.items
     → n.floor ≡ record m.floor { keepers = n.floor.keepers }

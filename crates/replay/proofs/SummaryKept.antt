@@ -25,7 +25,7 @@ use Rattle.rack.specs.declared.rack.Rack.{Rack}
 use Rattle.replay.specs.Prints.{all_amounts}
 use Rattle.replay.specs.Served.{ServedFromStart, ServedWindow}
 use Rattle.replay.specs.Sessions.{AreWindowsOf, ServesWhole}
-use Rattle.replay.specs.Summed.{IsAccount, IsSummary}
+use Rattle.replay.specs.Summed.{IsAccount, IsSummary, column}
 use Rattle.replay.specs.declared.counting.Counted.{Counted}
 use Rattle.replay.specs.declared.given.Given.{Given}
 use Rattle.replay.specs.declared.session.Options.{Options}
@@ -33,7 +33,7 @@ use Rattle.replay.proofs.Accounts.{AreOthers, first_start, moments_of, others_ac
 use Rattle.replay.proofs.AllAsked.{AreAllCounted}
 use Rattle.replay.proofs.RacksServed.{a_member, at_place}
 use Rattle.replay.proofs.Serving.{served_moments}
-use Rattle.replay.proofs.ToldAwake.{column, timeout_of}
+use Rattle.replay.proofs.ToldAwake.{timeout_of}
 use Rattle.wol_config.specs.Configs.{most_of}
 
 -- ---- One spindle
@@ -51,10 +51,7 @@ module _ (config : Config) (k : ℕ) (s : SpindleView) (b : SpindleBase) (entrie
     legal = rw stands.timeout stands.legal;
     journal = rw stands.timeout stands.shows.journal;
     keeper = n;
-    kept = inl (
-      λ none. absurd (cc none),
-      own_uses n entries ∙ ap (λ (es : List Entry). map (λ (e : Entry). use_of e.1) es) mine ∙ ap (λ (l : List Use). Started start ∷ l) (used_back n (w ∷ moments)),
-    );
+    kept = own_uses n entries ∙ ap (λ (es : List Entry). map (λ (e : Entry). use_of e.1) es) mine ∙ ap (λ (l : List Use). Started start ∷ l) (used_back n (w ∷ moments));
     others = others_access n entries others;
     done = all_done;
     answers = rw stands.timeout answers;
@@ -68,7 +65,7 @@ module _ (config : Config) (k : ℕ) (s : SpindleView) (b : SpindleBase) (entrie
     legal = rw stands.timeout stands.legal;
     journal = rw stands.timeout stands.shows.journal;
     keeper = n;
-    kept = inr (refl, own_uses n entries ∙ ap (λ (es : List Entry). map (λ (e : Entry). use_of e.1) es) mine);
+    kept = own_uses n entries ∙ ap (λ (es : List Entry). map (λ (e : Entry). use_of e.1) es) mine;
     others = others_access n entries others;
     done = all_done;
     answers = rw stands.timeout answers;

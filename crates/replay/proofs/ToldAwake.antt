@@ -11,11 +11,12 @@ use Rattle.spin_model.specs.Operations.{operation_of, use_of, uses_of}
 use Rattle.spin_model.specs.Spindles.{state_after}
 use Rattle.run_laws.specs.Journals.{answer_then, answers_by}
 use Rattle.rack.specs.Racks.{IsUnused}
-use Rattle.request_workers.specs.Begun.{HasBegun, SpindlePass}
+use Rattle.request_workers.specs.Begun.{HasBegun, HasStayed, SpindlePass}
 use Rattle.request_workers.specs.declared.floor.Floor.{Floor}
 use Rattle.request_workers.specs.declared.request.Reclaim.{Reclaim}
 use Rattle.replay.specs.Served.{HasStarted, HaveStarted, ServedFromStart, ServedWindow, WasServed, WereServed}
 use Rattle.replay.proofs.Accounts.{HasUsed, there_after}
+use Rattle.replay.specs.Summed.{column}
 use Rattle.replay.proofs.WorksServed.{awake_in, awake_then}
 
 -- ---- Answers among uses
@@ -85,10 +86,10 @@ pub record WasTold (awake : List Bool) (p q : SpindlePass) : Type 0 where
   pub count : length (own (pass_number p) more) ≡ steps + extra
   pub told : extra ≡ 0 → answers_by (timeout_of p) (seen_state p) (pass_number p) (uses_of more) ≡ awake
 
-told_none : (p : SpindlePass) → WasTold [] p p
+pub told_none : (p : SpindlePass) → WasTold [] p p
 told_none p = record { same = (refl, refl); more = []; seen = sym (append-nil (pass_seen p)); steps = 0; made = omega arith; extra = 0; count = refl; told = λ none. refl }
 
-told_both : (xs ys : List Bool) (p q r : SpindlePass) → WasTold xs p q → WasTold ys q r → WasTold (xs ++ ys) p r
+pub told_both : (xs ys : List Bool) (p q r : SpindlePass) → WasTold xs p q → WasTold ys q r → WasTold (xs ++ ys) p r
 told_both xs ys p q r a b = record {
   same = (b.same.0 ∙ a.same.0, b.same.1 ∙ a.same.1);
   more = a.more ++ b.more;
@@ -146,20 +147,19 @@ one_step p q u awake same before (others, began) seen mine back answer = record 
     x : Entry
     x = (pass_number p, operation_of u)
 
-begun_told : (t : ℕ) (a : Bool) (p q : SpindlePass) → HasBegun t a p q → WasTold (a ∷ []) p q
+pub begun_told : (t : ℕ) (a : Bool) (p q : SpindlePass) → HasBegun t a p q → WasTold (a ∷ []) p q
 begun_told t a p q b =
     let (before, begins, seen) = b.seen in
     one_step p q (Began t) (a ∷ []) b.same before begins seen b.mine refl
     (ap (λ (x : Bool). x ∷ []) (sym (b.answer ∙ (λ i. (spindle_after (b.same.0 i).base.timeout new_spindle (uses_of (seen i))).awake))))
 
-started_told : (at : ℕ) (p q : SpindlePass) → HasStarted at p q → WasTold [] p q
+pub stayed_told : (p q : SpindlePass) → HasStayed p q → WasTold [] p q
+stayed_told p q b = let (before, begins, seen) = b.seen in one_step p q Stayed [] b.same before begins seen b.mine refl refl
+
+pub started_told : (at : ℕ) (p q : SpindlePass) → HasStarted at p q → WasTold [] p q
 started_told at p q b = let (before, begins, seen) = b.seen in one_step p q (Started at) [] b.same before begins seen b.mine refl refl
 
 -- ---- Windows
-
--- what volume k's keeper was told, window by window
-abbrev pub column : (k : ℕ) → List (List Bool) → List Bool
-column k awake = map (λ (a : List Bool). slice_index_or a k false) awake
 
 module _ {D : Type 0} (tells : Bool) (mode : Reclaim) (k : ℕ) where
   were_told : (ss : List ServedWindow) (f : Floor D) (ps : List SpindlePass) (g : Floor D) (qs : List SpindlePass) (d : SpindlePass) (were : WereServed tells mode ss f ps g qs) → k < length ps

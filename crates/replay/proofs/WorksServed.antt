@@ -18,7 +18,7 @@ use Rattle.request_workers.specs.declared.desk.Desk.{Desk}
 use Rattle.request_workers.specs.declared.floor.Floor.{Floor}
 use Rattle.request_workers.specs.declared.request.Reclaim.{Reclaim}
 use Rattle.request_workers.specs.declared.request.Reclaim.TheVariants as reclaim
-use Rattle.replay.specs.Served.{ServedFromStart, ServedWindow, WereServed}
+use Rattle.replay.specs.Served.{ServedFromStart, ServedWindow, WasNotRun, WereServed}
 use Rattle.replay.specs.Works.{AreBegun, AreWorks, IsClosing, IsWork}
 use Rattle.replay.proofs.FirstsServed.{was_worked}
 use Rattle.replay.proofs.PassesRuled.{pass_there}
@@ -177,6 +177,26 @@ module _ {D : Type 0} (tells : Bool) where
     pub awake_last_none : (f g : Floor D) (same : g ≡ f) → awake_last f g (inl same) ≡ []
     unfolding awake_last
     awake_last_none f g same = refl
+
+    last_of : (f g : Floor D) → (g.keepers ≡ f.keepers) ⊎ ((awake : List Bool) × HaveBegunVolumes tells awake f.keepers.items g.keepers.items) → List (List Bool)
+    last_of f g (inl same) = []
+    last_of f g (inr (awake, begun)) = awake ∷ []
+
+    last_is : (f g : Floor D) (not_run : WasNotRun tells f g) → awake_last f g (inr not_run) ≡ last_of f g not_run.keepers
+    unfolding awake_last last_of
+    last_is f g not_run = at not_run.keepers
+      where
+        at : (o : (g.keepers ≡ f.keepers) ⊎ ((awake : List Bool) × HaveBegunVolumes tells awake f.keepers.items g.keepers.items)) → (let l : List (List Bool) = elim o [ inl same ↦ [] | inr (awake, begun) ↦ awake ∷ [] ] in l) ≡ last_of f g o
+        at (inl same) = refl
+        at (inr (awake, begun)) = refl
+
+    pub awake_last_kept : (f g : Floor D) (not_run : WasNotRun tells f g) (same : g.keepers ≡ f.keepers) → not_run.keepers ≡ inl same → awake_last f g (inr not_run) ≡ []
+    unfolding last_of
+    awake_last_kept f g not_run same is = last_is f g not_run ∙ ap (last_of f g) is
+
+    pub awake_last_begun : (f g : Floor D) (not_run : WasNotRun tells f g) (awake : List Bool) (begun : HaveBegunVolumes tells awake f.keepers.items g.keepers.items) → not_run.keepers ≡ inr (awake, begun) → awake_last f g (inr not_run) ≡ awake ∷ []
+    unfolding last_of
+    awake_last_begun f g not_run awake begun is = last_is f g not_run ∙ ap (last_of f g) is
 
     pub awake_few : (f g : Floor D) (ends : EndsOn tells f g) → length {A = List Bool} (awake_last f g ends) ≤ 1
     unfolding awake_last

@@ -2,10 +2,11 @@
 -- of its sentence.
 --
 -- For every trace, number of workers and interleaving, each entry of a volume's one history follows the rules of placing and reclaim
--- from the records that the volume was opened with, and passes over pools that were empty; window by window the keeper says which disks
--- were awake, and the worker serves the requests and then reclaims what is within reach; each disk's journal is that of its uses in
--- these windows, and says that it was awake where the keepers were told so; and what is printed at the end of the trace is counted of
--- these entries and journals.
+-- from the records that the volume was opened with, and passes over no pool more often than that was found empty; window by window the
+-- keeper says which disks were awake, and the worker serves the requests and, in the modes that reclaim behind them, then reclaims what
+-- is within reach; each disk's journal is that of some uses, of which the keeper's are these windows and the others accesses, and says
+-- that the disk was awake where the keepers were told so; and what is printed at the end of the trace is counted of these entries and
+-- journals.
 --
 -- The parameters are those of the headline; `mode` is when records are reclaimed. Read `Account` first, then `FollowsPolicy`; a disk's
 -- journal is `IsAccount` in `Summed`, what the passes did `WorksAs` in `Works`.
@@ -36,7 +37,7 @@ use Rattle.replay.specs.Leaves.{records_in}
 use Rattle.replay.specs.Placed.{CountsPlaced, CountsReclaimed}
 use Rattle.replay.specs.Served.{ServedWindow}
 use Rattle.replay.specs.Sessions.{AreWindowsOf}
-use Rattle.replay.specs.Summed.{HaveAccounts, IsSummary}
+use Rattle.replay.specs.Summed.{HaveAccounts, HaveShortAccounts, IsSummary}
 use Rattle.replay.specs.Works.{WorksAs}
 use Rattle.replay.specs.declared.given.Given.{Given}
 
@@ -49,8 +50,8 @@ pub record FollowsPolicy (config : Config) (entry exit : Told) (mode : Reclaim) 
   pub history : IsHistory ⊤ (answers_in windows) v h
   -- no more of its entries passed over a pool than its pass found that pool empty
   pub passed : PassesEmpty pools h.base h.notes
-  -- window by window: what the keeper was told, what became of the requests, and one reclaim turn, which leaves nothing within reach;
-  -- none where nothing is reclaimed behind requests, and then no other entry reclaims
+  -- window by window: what the keeper was told, what became of the requests, and one reclaim turn, which leaves nothing within reach
+  -- unless the volume broke; none where nothing is reclaimed behind requests, and then no other entry reclaims but a drain
   pub works : WorksAs mode windows awake v h
   -- a helper works beside the requests or not at all
   pub alone : mode ≢ reclaim.Beside → HasNoHelp h.notes
@@ -79,9 +80,9 @@ pub record Account {S : Type 0} (left : S → Option (List ℕ)) (config : Confi
   pub histories : List History
   pub count : length histories ≡ length (shapes_of config)
   pub each_volume : (v : ℕ) (h : History) → slice_get histories v ≡ Some h → FollowsPolicy config entry exit mode windows awake pools v h
-  -- each disk's journal is that of its uses, and says that it was awake where the keepers were told so; where memory ran out a window
-  -- may have begun at some disks alone
-  pub disks : status ≢ 7 → status ≢ 9 → HaveAccounts config lines windows awake
+  -- each disk's journal is that of uses of which the keeper's are the windows, and says that it was awake where the keepers were told
+  -- so; where memory ran out (9, or 7 where that couldn't be printed) a further window may have begun, at some disks alone
+  pub disks : HaveAccounts config lines windows awake ⊎ (((status ≡ 7) ⊎ (status ≡ 9)) × HaveShortAccounts config lines windows awake)
   -- at the end of the trace no call of a disk had failed, and the summary was printed
   pub unbroken : status ≡ 0 → (v : ℕ) → is_broken_at histories v ≡ false
   pub printed : status ≡ 0 → EndsWithSummary config lines windows awake taken taken'
@@ -89,8 +90,7 @@ pub record Account {S : Type 0} (left : S → Option (List ℕ)) (config : Confi
   pub placed : CountsPlaced windows histories
   pub reclaimed : CountsReclaimed windows histories
 
--- The account holds of each run over open volumes, at each status, where the bay and its disks tell their content and no two images
--- that the bay tells had one name.
+-- The account holds of each run over open volumes, at each status, where the bay and its disks tell their content.
 abbrev pub KeepsAccount : {D S : Type 0} → (tells : Bool) → (D → State) → (S → Option (List ℕ)) → Config → Reclaim → (start now : Given S) → (old new : BayState) → (status : ℕ) → (taken taken' : Option (List ℕ)) → Type 0
 KeepsAccount tells state left config mode start now old new status taken taken' =
     HasNotBegun tells state config start now old new status taken taken' ⊎ (IsTrue tells → IsTold (λ entry exit. Account left config mode start now entry exit status taken taken') old.told new.told)

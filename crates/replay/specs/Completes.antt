@@ -10,7 +10,6 @@ use Rattle.wol_model.specs.declared.trace.Kind.TheVariants as kind
 use Rattle.wol_promise.specs.Manager.{Base}
 use Rattle.wol_promise.specs.Outcomes.{of_volume}
 use Rattle.wol_config.specs.declared.config.Config.{Config}
-use Rattle.volume_images.specs.Left.{AreNamedApart}
 use Rattle.volume_images.specs.Volumes.{images_read, shapes_of}
 use Rattle.rack.specs.Owners.{IsBegun}
 use Rattle.report.specs.declared.fault.Fault.TheVariants.{Memory}
@@ -38,7 +37,6 @@ pub record MayComplete {S : Type 0} (tells : Bool) (left : S → Option (List �
   pub telling : IsTrue tells
   pub entry : Told
   pub entry_is : old.told ≡ Some entry
-  pub apart : AreNamedApart entry
   pub sound : AreSound (shapes_of config) (images_read config entry)
   pub bay_calm : Rose old.faults new.faults → ⊥
   pub sink_calm : Rose sink sink' → ⊥

@@ -15,7 +15,7 @@ use Rattle.wol_io.specs.Streams.{AppendsFront}
 use Rattle.wol_bay.specs.Bay.{BayState, Told}
 use Rattle.wol_model.specs.ArrayLaws.{unversioned}
 use Rattle.wol_model.specs.Blocks.{Write}
-use Rattle.wol_model.specs.History.{Entry, IsCut, IsLegal, in_flight, writes}
+use Rattle.wol_model.specs.History.{Entry, IsCut, IsLegal, flight_of, in_flight, writes}
 use Rattle.wol_model.specs.Images.{Images, recovered_from}
 use Rattle.wol_model.specs.Trace.{Request, TraceLine, payloads, requests}
 use Rattle.wol_promise.specs.Outcomes.{Answered, AreOutcomes, answered_in, of_volume}
@@ -109,8 +109,7 @@ pub record HasNotBegun {D S : Type 0} (tells : Bool) (state : D → State) (conf
   pub none : ArePrinted [] status taken taken'
   pub left : LeavesBay tells state config old new
 
--- The headline holds of each run over open volumes, at each status, where the bay and its disks tell their content and no two images
--- that the bay tells had one name.
+-- The headline holds of each run over open volumes, at each status, where the bay and its disks tell their content.
 abbrev pub KeepsHeadline : {D S : Type 0} → (tells : Bool) → (D → State) → (S → Option (List ℕ)) → Config → (each : Bool) → (start now : Given S) → (old new : BayState) → (status : ℕ) → (taken taken' : Option (List ℕ)) → Type 0
 KeepsHeadline tells state left config each start now old new status taken taken' =
     HasNotBegun tells state config start now old new status taken taken' ⊎ (IsTrue tells → IsTold (λ entry exit. Headline left config each start now entry exit old.faults new.faults status taken taken') old.told new.told)

@@ -15,8 +15,8 @@ use Rattle.replay.specs.declared.stop.Stop.{Stop}
 use Rattle.replay.specs.declared.stop.Stop.TheVariants as stop
 
 -- The trace was served, to its end or not, on the same locks and with the same keepers.
-pub record HasLed {D S : Type 0} (tells : Bool) (left : S → Option (List ℕ)) (faults borrow : S → ℕ) (config : Config) (shared : Shared D) (options : Options) (start now : Given S) (s n : Session D) (result : Result Counted Stop)
-    (sink sink' : ℕ) (printed printed' : Option (List ℕ)) : Type 0 where
+pub record HasLed {D S : Type 0} (tells : Bool) (left : S → Option (List ℕ)) (faults borrow : S → ℕ) (config : Config) (shared : Shared D) (options : Options)
+    (start now : Given S) (s n : Session D) (result : Result Counted Stop) (sink sink' : ℕ) (printed printed' : Option (List ℕ)) : Type 0 where
   pub session : IsSession config shared n
   pub same : AreSamePasses s.keepers.items n.keepers.items
   pub locks : n.floor.locks ≡ s.floor.locks

@@ -10,6 +10,7 @@ use Rattle.wol_model.specs.Images.{Images, all_segments, recovered_from}
 use Rattle.wol_model.specs.Recovered.{extents_of}
 use Rattle.wol_model.specs.Trace.{payloads}
 use Rattle.wol_promise.specs.Outcomes.{Answered, answered_in, of_volume}
+use Rattle.wol_promise.specs.Policy.{PartName}
 use Rattle.wol_promise.specs.Ruled.{entries_of, last_look}
 use Rattle.wol_promise.specs.Run.{KeepsSound, LeavesCuts}
 use Rattle.run_laws.specs.Answers.{answered_count, answers_of, requests_in}
@@ -29,8 +30,9 @@ records_in config images v = extents_of v (all_segments (shapes_of config) image
 
 -- What a crash may leave of the volumes, by their histories and the answers to the requests.
 pub record LeavesImages (tells : Bool) (config : Config) (answers : List Answered) (histories : List History) (entry new : Told) : Type 0 where
-  -- where a call of a disk of a volume failed, a part of it had a fault
-  pub faulty : (v : ℕ) (h : History) → slice_get histories v ≡ Some h → IsTrue (is_broken h) → HasFaultyPart tells config v h.base.view entry new
+  -- where a call of a disk of a volume failed, the part of it that is down in the end had a fault
+  pub faulty : (v : ℕ) (h : History) → slice_get histories v ≡ Some h → IsTrue (is_broken h)
+      → (name : PartName) × ((last_look h.base.look h.notes).down ≡ Some name) × HasFaultyPart tells config v h.base.view name entry new
   -- whatever images a crash leaves, a volume recovers to what its answered requests wrote
   pub whole : (v : ℕ) → v < length (shapes_of config) → (IsTrue (is_broken_at histories v) → ⊥) → (images : Images) → AreLeft config new images
       → recovered_from (shapes_of config) images v ≡ written_array config answers entry v

@@ -1,9 +1,10 @@
 -- What replaying a trace on all volumes of a bay comes to, where all of them are open.
-use Rattle.std.specs.Prelude.{◌≡◌, ◌≢◌, ◌≤◌, ◌^◌, ◌++◌, ℕ, Bool, false, List, [], length, Option, Result, Ok, Err, Some, IsTrue, slice_get}
+use Rattle.std.specs.Prelude.{◌≡◌, ◌≢◌, ◌⊎◌, ◌≤◌, ◌^◌, ◌++◌, ℕ, Bool, false, List, [], length, Option, Result, Ok, Err, Some, IsTrue, slice_get}
 use Rattle.std.specs.List.{AllByRecursion}
 use Rattle.wol_disk.specs.Disk.{Rose, State}
 use Rattle.wol_bay.specs.Bay.{BayState}
 use Rattle.wol_model.specs.Trace.{TraceLine, requests}
+use Rattle.wol_promise.specs.Policy.{PartName}
 use Rattle.run_laws.specs.Answers.{requests_in}
 use Rattle.wol_config.specs.declared.config.Config.{Config}
 use Rattle.turn_lock.specs.Histories.{Entry}
@@ -13,8 +14,7 @@ use Rattle.report.specs.declared.fault.Fault.TheVariants.{Memory, Versions, Volu
 use Rattle.report.specs.declared.trouble.Trouble.{Trouble}
 use Rattle.trace_gen.specs.Generated.{targets_of}
 use Rattle.troubles.specs.Troubles.{trouble_of, trouble_of_part}
-use Rattle.manager.specs.declared.part.Part.{Part}
-use Rattle.rack.specs.Closes.{CameBackFaulty}
+use Rattle.rack.specs.Closes.{HasFaultyPart, part_named}
 use Rattle.rack.specs.PoolUses.{ArePools, PassesEmpty}
 use Rattle.rack.specs.declared.volume_fault.VolumeFault.{VolumeFault}
 use Rattle.replay.specs.Ended.{EndsFor}
@@ -26,7 +26,7 @@ use Rattle.replay.specs.NotOpened.{AsksNone, IsFirstClosed, LeavesBay}
 use Rattle.replay.specs.Placed.{CountsPlaced, CountsReclaimed}
 use Rattle.replay.specs.Served.{ServedWindow}
 use Rattle.replay.specs.Sessions.{AreWindowsOf, EndsWithWindow, WentWell}
-use Rattle.replay.specs.Summed.{HaveAccounts, IsSummaryOf, PrintsRun, lines_asked}
+use Rattle.replay.specs.Summed.{HaveAccounts, HaveShortAccounts, IsSummaryOf, PrintsRun, lines_asked}
 use Rattle.replay.specs.Works.{AreWorked}
 use Rattle.replay.specs.declared.given.Given.{Given}
 use Rattle.replay.specs.declared.session.Options.{Options}
@@ -66,8 +66,9 @@ pub record Replays {S T : Type 0} (tells : Bool) (left : S → Option (List ℕ)
   pub cause : (v : ℕ) → IsTrue (is_broken_at histories v) → Rose old.faults new.faults
   -- where a part of a volume is at fault, a call of that very volume failed
   pub part : (v : ℕ) (t : Trouble) → result ≡ Err (stop.Fault (Volume v t)) → IsTrue (is_broken_at histories v)
-  -- .. and the part that is told is one that came back with a fault
-  pub named : (v : ℕ) (t : Trouble) → result ≡ Err (stop.Fault (Volume v t)) → (p : Part) × (t ≡ trouble_of_part p) × (IsTrue tells → IsTold (CameBackFaulty config p) old.told new.told)
+  -- .. and the part of it that is told came back with a fault
+  pub named : (v : ℕ) (t : Trouble) → result ≡ Err (stop.Fault (Volume v t))
+      → (h : History) × (slice_get histories v ≡ Some h) × (name : PartName) × (t ≡ trouble_of_part (part_named v name)) × IsTold (HasFaultyPart tells config v h.base.view name) old.told new.told
   -- where versions ended a run, a volume's writes to logs took all of them, whatever failed afterwards
   pub spent : (v : ℕ) → result ≡ Err (stop.Fault (Versions v)) → 2 ^ 63 ≤ next_at histories v
   -- each volume was opened of an image that was accepted, and began with what the images recovered to
@@ -87,8 +88,8 @@ pub record Replays {S T : Type 0} (tells : Bool) (left : S → Option (List ℕ)
   -- what the worker and the keeper of each volume did, window by window; `awake` has what the spindles answered
   pub awake : List (List Bool)
   pub worked : AreWorked options.reclaim (earlier ++ last) awake histories
-  -- each disk was awake as its journal says, where memory didn't run out: then a window may have begun of which nothing was run
-  pub disks : status_in result ≢ 9 → HaveAccounts config run (earlier ++ last) awake
+  -- each disk was awake as its journal says; where memory ran out a window may have begun of which nothing was run
+  pub disks : HaveAccounts config run (earlier ++ last) awake ⊎ ((status_in result ≡ 9) × HaveShortAccounts config run (earlier ++ last) awake)
   -- at the end of the trace no call of a disk of a volume had failed
   pub unbroken : status_in result ≡ 0 → (v : ℕ) → is_broken_at histories v ≡ false
   pub marks : IsTrue tells → IsTold (λ entry left_. ArePlainMarks config (answers_in (earlier ++ last)) entry) old.told new.told

@@ -1,5 +1,5 @@
 -- What a session is between windows, and what it makes of a trace.
-use Rattle.std.specs.Prelude.{⊤, ◌≡◌, ◌≢◌, ◌⊎◌, ◌≤◌, ◌<◌, ◌++◌, ◌+◌, ◌-◌, ℕ, Bool, true, is_none, count_by, List, [], ◌∷◌, length, Option, None, Some, Result, MatchResult, slice_index_or}
+use Rattle.std.specs.Prelude.{⊤, ◌≡◌, ◌≢◌, ◌⊎◌, ◌≤◌, ◌<◌, ◌++◌, ◌+◌, ◌-◌, ℕ, Bool, true, not, is_none, count_by, List, [], ◌∷◌, length, Option, None, Some, Result, MatchResult, slice_index_or}
 use Rattle.std.specs.List.{flat_map, AllByRecursion}
 use Rattle.std.specs.Io.KnownBytes.{Appends, Keeps}
 use Rattle.wol_promise.specs.Run.{joined_lines}
@@ -14,7 +14,7 @@ use Rattle.msr_trace.specs.declared.format.TraceFault.TheVariants as trace
 use Rattle.report.specs.declared.fault.Fault.{Fault}
 use Rattle.report.specs.declared.fault.Fault.TheVariants.{Memory}
 use Rattle.request_turns.specs.Helped.{ManagerLock}
-use Rattle.request_workers.specs.Begun.{SpindlePass, AreKeepers, HaveBegun, HaveBegunVolumes}
+use Rattle.request_workers.specs.Begun.{SpindlePass, AreKeepers, FailToBegin, HaveBegun, HaveBegunVolumes}
 use Rattle.request_workers.specs.Floors.{IsFloor, IsOn}
 use Rattle.request_workers.specs.declared.floor.Floor.{Floor}
 use Rattle.request_workers.specs.declared.request.Window.{Window as Answer}
@@ -27,7 +27,7 @@ use Rattle.replay.specs.Counts.{CountsWindow}
 use Rattle.replay.specs.Endings.{fault_of_window}
 use Rattle.replay.specs.Givens.{HasGiven, HasGivenAll, Refuses}
 use Rattle.replay.specs.Prints.{asked_lines, CutsLines}
-use Rattle.replay.specs.Served.{ServedWindow, StartsOnce, WasServed, ServedFromStart, WasNotRun, AreTotals}
+use Rattle.replay.specs.Served.{Further, ServedWindow, StartsOnce, WasServed, ServedFromStart, WasNotRun, AreTotals, is_none_served}
 use Rattle.replay.specs.Stops.{fault_of_trace}
 use Rattle.replay.specs.declared.given.Given.{Given}
 use Rattle.replay.specs.declared.counting.Counted.{Counted}
@@ -69,6 +69,13 @@ pub record HasBegunWindow {D : Type 0} (tells : Bool) (moment : ℕ) (s n : Sess
   pub spindles : HaveBegun moment awake start n.keepers.items
   pub volumes : HaveBegunVolumes tells awake s.floor.keepers.items n.floor.keepers.items
   pub only : n.floor ≡ record s.floor { keepers = n.floor.keepers }
+
+-- a window wasn't begun at this moment, for want of memory
+pub record HasFailedToBegin {D : Type 0} (moment : ℕ) (s n : Session D) : Type 0 where
+  pub start : List SpindlePass
+  pub starts : StartsOnce s.started moment s.keepers.items start
+  pub spindles : FailToBegin moment start n.keepers.items
+  pub floor_ : n.floor ≡ s.floor
 
 -- a window was served
 pub record HasServed {D : Type 0} (tells : Bool) (options : Options) (b : Batched) (s n : Session D) : Type 0 where
@@ -141,7 +148,7 @@ GoesOn tells config options b s n faults faults' printed new =
 -- the run ends in a window: no request of it was run, for want of memory, or it was served and the run ends behind it
 abbrev pub EndsIn : {D : Type 0} → Stop → (tells : Bool) → Config → Options → Batched → (s n : Session D) → (faults faults' : ℕ) → (printed new : Option (List ℕ)) → Type 0
 EndsIn e tells config options b s n faults faults' printed new =
-    ((e ≡ stop.Fault Memory) × WasNotRun tells s.floor n.floor × (faults' ≡ faults) × Keeps printed new)
+    ((e ≡ stop.Fault Memory) × WasNotRun tells s.floor n.floor × Further tells s.started s.floor s.keepers.items n.floor n.keepers.items × (faults' ≡ faults) × Keeps printed new)
     ⊎ ((h : HasServed tells options b s n) × StopsAfter e config options (record { batch = b; answer = h.answer }) faults faults' printed new)
 
 -- some lines were taken
@@ -219,3 +226,5 @@ module _ {D S : Type 0} (tells : Bool) (left : S → Option (List ℕ)) (config 
     pub then : Option (List ℕ)
     pub printed_before : Appends printed then (joined_lines (lines_of_windows config options earlier))
     pub ends : EndsBy e now run more last middle between g qs faults faults' then new
+    -- what the keepers did behind these windows
+    pub further : Further tells (not (is_none_served (earlier ++ last))) middle between g qs

@@ -1,9 +1,9 @@
 -- What a run over open volumes prints: the lines of the answered reads, and the summary with the account of each disk.
-use Rattle.std.specs.Prelude.{◌≡◌, ◌≢◌, ◌⊎◌, ◌++◌, ◌-◌, ℕ, Bool, true, false, is_none, count_by, List, [], length, map, not, take, Option, Some, slice_get, slice_index_or, Result, Ok, Err}
+use Rattle.std.specs.Prelude.{◌≡◌, ◌≢◌, ◌⊎◌, ◌++◌, ◌-◌, ℕ, Bool, true, false, is_none, count_by, List, [], ◌∷◌, length, map, not, take, Option, Some, slice_get, slice_index_or, Result, Ok, Err}
 use Rattle.std.specs.Io.KnownBytes.{Appends}
 use Rattle.wol_disk.specs.Disk.{Rose}
 use Rattle.wol_io.specs.Streams.{AppendsFront}
-use Rattle.wol_model.specs.Journal.{Use, AreUses, needs_after, new_spindle, spindle_after}
+use Rattle.wol_model.specs.Journal.{Use, Began, Started, Stayed, AreUses, needs_after, new_spindle, spindle_after}
 use Rattle.wol_model.specs.Trace.{Request, TraceLine, ended, requests, started, timed}
 use Rattle.wol_promise.specs.Outcomes.{Answered}
 use Rattle.wol_promise.specs.Run.{joined_lines}
@@ -30,26 +30,62 @@ use Rattle.wol_config.specs.Configs.{most_of}
 
 -- ---- The account
 
--- The journal of the disk of volume k, with the configured timeout, is that of its uses: the keeper began the account and each window, and
--- was told then whether the disk was awake; all other passes made accesses alone, each of which ended. Without a window the keeper did
--- nothing.
-pub record IsAccount (config : Config) (k start : ℕ) (moments : List ℕ) (awake : List (List Bool)) (s : SpindleView) : Type 0 where
+-- The journal of the disk of volume k, with the configured timeout, is that of some uses. Among them the keeper's are these, and it was told
+-- so whether the disk was awake; all other passes made accesses alone, each of which ended.
+pub record IsAccountBy (config : Config) (k : ℕ) (by : List Use) (told : List Bool) (s : SpindleView) : Type 0 where
   pub volume : s.volume ≡ k
   pub timeout_is : s.timeout ≡ config.timeout
   pub uses : List (ℕ × Use)
   pub legal : AreUses s.timeout new_spindle uses
   pub journal : s.journal ≡ (spindle_after s.timeout new_spindle uses).journal
   pub keeper : ℕ
-  pub kept : ((moments ≢ []) × (uses_by keeper uses ≡ keeper_uses start moments)) ⊎ ((moments ≡ []) × (uses_by keeper uses ≡ []))
+  pub kept : uses_by keeper uses ≡ by
   pub others : OthersAccess keeper uses
   pub done : (n : ℕ) → n ≢ keeper → needs_after false (uses_by n uses) ≡ false
-  pub answers : answers_by s.timeout new_spindle keeper uses ≡ map (λ (a : List Bool). slice_index_or a k false) awake
+  pub answers : answers_by s.timeout new_spindle keeper uses ≡ told
+
+-- what the keeper of disk k was told as windows began
+abbrev pub column : (k : ℕ) → (awake : List (List Bool)) → List Bool
+column k awake = map (λ (a : List Bool). slice_index_or a k false) awake
+
+-- the keeper's uses in windows at these moments: it began the account and each window; without a window it did nothing
+abbrev pub window_uses : (start : ℕ) → (moments : List ℕ) → List Use
+window_uses start [] = []
+window_uses start (m ∷ moments) = keeper_uses start (m ∷ moments)
+
+abbrev pub IsAccount : Config → (k start : ℕ) → (moments : List ℕ) → (awake : List (List Bool)) → SpindleView → Type 0
+IsAccount config k start moments awake s = IsAccountBy config k (window_uses start moments) (column k awake) s
 
 -- The disks of a run of these lines in these windows, each with its account from the first moment on.
 pub record HaveAccounts (config : Config) (lines : List (Option TraceLine)) (windows : List ServedWindow) (awake : List (List Bool)) : Type 0 where
   pub spindles : List SpindleView
   pub count : length spindles ≡ length config.volumes.items
   pub each : (k : ℕ) (s : SpindleView) → slice_get spindles k ≡ Some s → IsAccount config k (started (timed lines)) (map (λ (w : ServedWindow). w.batch.moment) windows) awake s
+
+-- .. where a further window, at this moment, was the first if there was none
+abbrev pub started_uses : (start moment : ℕ) → (moments : List ℕ) → List Use
+started_uses start moment [] = Started moment ∷ []
+started_uses start moment (m ∷ moments) = keeper_uses start (m ∷ moments)
+
+-- Memory ran out as a window began at this moment, behind these uses and answers: at disk k the keeper had no turn of it, or its turn
+-- changed nothing, or it began the window and was told whether the disk was awake.
+pub data IsCutShort (config : Config) (k moment : ℕ) (by : List Use) (told : List Bool) (s : SpindleView) : Type 0 where
+  no_turn : IsAccountBy config k by told s → IsCutShort config k moment by told s
+  stayed : IsAccountBy config k (by ++ Stayed ∷ []) told s → IsCutShort config k moment by told s
+  began : (awake : Bool) → IsAccountBy config k (by ++ Began moment ∷ []) (told ++ awake ∷ []) s → IsCutShort config k moment by told s
+
+-- a keeper's uses before a further window at this moment, behind these windows
+abbrev pub uses_before : List (Option TraceLine) → List ServedWindow → (moment : ℕ) → List Use
+uses_before lines windows moment = started_uses (started (timed lines)) moment (map (λ (w : ServedWindow). w.batch.moment) windows)
+
+-- The disks of a run of which a further window began, at one moment, without a request that was run: at some disks alone; or at each, and
+-- then the managers were told which were awake.
+pub record HaveShortAccounts (config : Config) (lines : List (Option TraceLine)) (windows : List ServedWindow) (awake : List (List Bool)) : Type 0 where
+  pub spindles : List SpindleView
+  pub count : length spindles ≡ length config.volumes.items
+  pub moment : ℕ
+  pub each : ((k : ℕ) (s : SpindleView) → slice_get spindles k ≡ Some s → IsCutShort config k moment (uses_before lines windows moment) (column k awake) s)
+      ⊎ ((k : ℕ) (s : SpindleView) → slice_get spindles k ≡ Some s → IsAccountBy config k (uses_before lines windows moment ++ Began moment ∷ []) (column k awake) s)
 
 -- The summary of these lines and the windows that were served of them: what is counted, and what each disk used from the start of the
 -- account to its end.

@@ -1,8 +1,7 @@
 // A trace is served in a session, with workers that live as long.
-ghost use Rattle.std.specs.Prelude.{◌≡◌, ◌<◌, ℕ, false, length, slice_index_or};
+ghost use Rattle.std.specs.Prelude.{◌≡◌, false, length};
 ghost use Rattle.wol_config.specs.Configs.{IsValid};
-ghost use Rattle.errands.specs.Ends.{IsWaiting};
-ghost use Rattle.request_workers.specs.Crews.{IsCrew};
+ghost use Rattle.request_workers.specs.Crews.{AreWaiting, IsCrew, IsOverCrew};
 ghost use Rattle.replay.specs.Counts.{no_totals};
 ghost use Rattle.replay.specs.Givens.{IsNew};
 ghost use Rattle.replay.specs.Leads.{HasLed};
@@ -40,7 +39,10 @@ fn lead<'e, 'l, D: Disk, R: Wait, S: Source, K: Sink, G: Gate>(
     requires started { session.old.started ≡ false }
     requires totals { session.old.totals ≡ no_totals }
     requires crew { IsCrew crew.old }
-    ensures { HasLed D.tells S.left S.faults S.borrow config.now shared.now options given.old given.new session.old session.new result (K.faults out.old) (K.faults out.new) (K.taken out.old) (K.taken out.new) }
+    ensures led { HasLed D.tells S.left S.faults S.borrow config.now shared.now options
+        given.old given.new session.old session.new result
+        (K.faults out.old) (K.faults out.new) (K.taken out.old) (K.taken out.new) }
+    ensures over { IsOverCrew crew.new }
 {
     crew.gather();
     let served = session.serve_all(rt, alloc, config, given, options, shared, out, crew);
@@ -77,19 +79,24 @@ fn lead_beside<
     requires totals { session.old.totals ≡ no_totals }
     requires crew { IsCrew crew.old }
     requires count { length workers.old ≡ length crew.old.errands.now }
-    requires waiting { (k : ℕ) (e : _) (w : _) → k < length workers.old → IsWaiting (slice_index_or crew.old.errands.now k e) (slice_index_or workers.old k w) }
-    ensures { HasLed D.tells S.left S.faults S.borrow config.now shared.now options given.old given.new session.old session.new result (K.faults out.old) (K.faults out.new) (K.taken out.old) (K.taken out.new) }
+    requires waiting { AreWaiting crew.old.errands.now workers.old }
+    ensures { HasLed D.tells S.left S.faults S.borrow config.now shared.now options
+        given.old given.new session.old session.new result
+        (K.faults out.old) (K.faults out.new) (K.taken out.old) (K.taken out.new) }
 {
     let errands = crew.errands();
     let gate = crew.gate();
     let (_, served) = join_mut(
         rt,
         &mut ||
-            requires { (length workers.now ≡ length errands.now) × ((k : ℕ) (e : _) (w : _) → k < length workers.now → IsWaiting (slice_index_or errands.now k e) (slice_index_or workers.now k w)) }
+            requires { (length workers.now ≡ length errands.now) × AreWaiting errands.now workers.now }
         { work_all(rt, errands, gate, workers) },
         &mut || -> Result<Counted, Stop>
-            requires { IsValid config.now × IsNew given.now × IsSession config.now shared.now session.now × (session.now.started ≡ false) × (session.now.totals ≡ no_totals) × IsCrew crew.now }
-            ensures { HasLed D.tells S.left S.faults S.borrow config.entry.now shared.entry.now options given.entry.now given.exit.now session.entry.now session.exit.now result (K.faults out.entry.now) (K.faults out.exit.now) (K.taken out.entry.now) (K.taken out.exit.now) }
+            requires { IsValid config.now × IsNew given.now × IsSession config.now shared.now session.now
+                × (session.now.started ≡ false) × (session.now.totals ≡ no_totals) × IsCrew crew.now }
+            ensures { HasLed D.tells S.left S.faults S.borrow config.entry.now shared.entry.now options
+                given.entry.now given.exit.now session.entry.now session.exit.now result
+                (K.faults out.entry.now) (K.faults out.exit.now) (K.taken out.entry.now) (K.taken out.exit.now) }
         {
             lead(
                 rt, alloc, config, options, shared, given, out, crew, session,
@@ -124,7 +131,9 @@ pub(crate) fn serve_with_workers<
     requires session { IsSession config.now shared.now session.old }
     requires started { session.old.started ≡ false }
     requires totals { session.old.totals ≡ no_totals }
-    ensures { HasLed D.tells S.left S.faults S.borrow config.now shared.now options given.old given.new session.old session.new result (K.faults out.old) (K.faults out.new) (K.taken out.old) (K.taken out.new) }
+    ensures { HasLed D.tells S.left S.faults S.borrow config.now shared.now options
+        given.old given.new session.old session.new result
+        (K.faults out.old) (K.faults out.new) (K.taken out.old) (K.taken out.new) }
 {
     let counts = Workers {
         count: options.workers,

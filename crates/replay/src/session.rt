@@ -12,7 +12,7 @@ ghost use Rattle.request_workers.specs.Crews.{IsCrew};
 ghost use Rattle.replay.specs.Counts.{AddsAtMost, HasRoomFor, no_totals};
 ghost use Rattle.replay.specs.Givens.{IsNew, IsWithin, faults_of, borrow_of};
 ghost use Rattle.replay.specs.Served.{HaveStarted, AreSamePasses, StartsOnce};
-ghost use Rattle.replay.specs.Sessions.{EndsIn, Finishes, GoesOn, HasBegunWindow, HasTaken, StopsAtLine, TakesOn, IsReady, IsSession, ServesSome, ServesWhole};
+ghost use Rattle.replay.specs.Sessions.{EndsIn, Finishes, GoesOn, HasBegunWindow, HasFailedToBegin, HasTaken, StopsAtLine, TakesOn, IsReady, IsSession, ServesSome, ServesWhole};
 
 use crate::counting::{Counted, NOTHING, add_window};
 use crate::ending::fault_of_window;
@@ -134,7 +134,7 @@ impl<'l, D: Disk> Session<'l, D> {
         ensures started { self.new.started ≡ true }
         ensures totals { self.new.totals ≡ self.old.totals }
         ensures ok { OnOk result (HasBegunWindow D.tells moment self.old self.new) }
-        ensures err { OnErr result (self.new.floor ≡ self.old.floor) }
+        ensures err { OnErr result (HasFailedToBegin moment self.old self.new) }
     {
         self.start(rt, shared, moment);
         begin_window(

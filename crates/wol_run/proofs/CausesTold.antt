@@ -1,5 +1,6 @@
 -- Why each command ended with its status.
 use Rattle.std.proofs.Common.{◌≡◌, ◌≢◌, ◌⊎◌, inl, inr, ℕ, zero, suc, ◌<◌, Bool, true, false, List, [], ◌∷◌, Option, None, Some, Result, Ok, Err, refl, sym, ap, subst, ◌∙◌, true≢false, arith}
+use Rattle.rack.specs.Closes.{part_named}
 use Rattle.std.specs.Prelude.{IfSome, IsTrue, codes, slice_get}
 use Rattle.std.specs.Io.KnownBytes.{IsAtEnd}
 use Rattle.std.proofs.lemmas.Option.{same_Some}
@@ -17,7 +18,7 @@ use Rattle.troubles.specs.Troubles.{trouble_of, trouble_of_part}
 use Rattle.manager.specs.declared.part.Part.{Part}
 use Rattle.manager.specs.declared.part.Part.TheVariants as part
 use Rattle.trace_gen.specs.Generated.{targets_of}
-use Rattle.volume_images.specs.Left.{AreNamedApart, IsTold}
+use Rattle.volume_images.specs.Left.{IsTold}
 use Rattle.msr_trace.specs.declared.format.TraceFault.{TraceFault}
 use Rattle.msr_trace.specs.declared.format.TraceFault.TheVariants as trace
 use Rattle.inspection.specs.Lines.{Telling, first_of, first_trouble}
@@ -100,7 +101,7 @@ if_told P Q (Some t) on h = on t h
 told_in_words : (P Q : Told → Told → Type 0) (o n : Option Told) → ((old new : Told) → P old new → Q old new) → IsTold P o n → IsTold Q o n
 told_in_words P Q None n on h = h
 told_in_words P Q (Some old) None on h = h
-told_in_words P Q (Some old) (Some new) on h = λ apart. on old new (h apart)
+told_in_words P Q (Some old) (Some new) on h = on old new h
 
 -- ---- The first volume that isn't in order
 
@@ -261,11 +262,10 @@ module _ {D : Type 0} (tells : Bool) (state : D → State) (words : List (List �
 
       -- a volume that was told in order was opened
       was_opened : (config : Config) (what : Asked) (told : List Telling) (are : AreTold tells state what config before.bay after.bay told) (j : ℕ) (u : Telling) → slice_get told j ≡ Some u → u.trouble ≡ None
-          → IsTrue tells → IfSome before.bay.told (λ images. AreNamedApart images → IsOpened config are.out images j)
+          → IsTrue tells → IfSome before.bay.told (λ images. IsOpened config are.out images j)
       was_opened config what told are j u here none telling = elim (are.each j u here) [
         | inl refusal ↦ absurd (let no : None ≡ Some (trouble_of refusal.fault) = sym none ∙ refusal.trouble in cc)
-        | inr (inl order) ↦ if_told _ _ before.bay.told (λ images orderly apart.
-            let o = orderly apart in record { base = o.base.volume.began; owner = o.owner; begun = o.began; loggers = o.loggers_out }) (order.lines_ telling)
+        | inr (inl order) ↦ if_told _ _ before.bay.told (λ images o. record { base = o.base.volume.began; owner = o.owner; begun = o.began; loggers = o.loggers_out }) (order.lines_ telling)
         | inr (inr part) ↦ absurd (let no : None ≡ Some _ = sym none ∙ part.trouble in cc)
       ]
 
@@ -290,7 +290,7 @@ module _ {D : Type 0} (tells : Bool) (state : D → State) (words : List (List �
               first = λ j less. (let (u, there, none) = earlier j less in was_opened config what told are j u there none);
             }) refusal.rose)
         | inr (inl order) ↦ absurd (let no : None ≡ Some o = sym order.trouble ∙ is_o in cc)
-        | inr (inr part) ↦ subst (λ (x : Trouble). Cause (trouble_status x)) (same_Some (trouble_of_part part.part) o (sym part.trouble ∙ is_o)) (part_cause for_bay part.part part.rose)
+        | inr (inr part) ↦ subst (λ (x : Trouble). Cause (trouble_status x)) (same_Some (trouble_of_part (part_named k part.name)) o (sym part.trouble ∙ is_o)) (part_cause for_bay (part_named k part.name) part.rose)
       ]
 
       pub look_cause : runs_trace command ≡ false → (what : Asked) → IsLookFor tells state before after status what → Cause status
@@ -338,7 +338,7 @@ module _ {D : Type 0} (tells : Bool) (state : D → State) (words : List (List �
           ]
 
           of_failure : (volume : ℕ) (t : Trouble) → FailsWith tells run.config volume before.bay after.bay t → Cause (trouble_status t)
-          of_failure volume t (changed.part p base owner begun faulty came rose) = part_cause for_bay p rose
+          of_failure volume t (changed.part part base owner begun faulty rose) = part_cause for_bay (part_named volume part) rose
           of_failure volume t (changed.bay rose) = row.part_failed for_bay rose
           of_failure volume t (changed.label rose) = row.part_failed for_bay rose
           of_failure volume t (changed.damaged block damaged) = row.damaged_view again (record { config = run.config; has = run.has; volume = volume; block = block; damaged = damaged })

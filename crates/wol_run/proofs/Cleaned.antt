@@ -51,7 +51,6 @@ module _ (tells : Bool) (left : Option (List ℕ)) (config : Config) (has : HasC
     telling = is.telling;
     entry = is.entry;
     entry_is = is.entry_is;
-    apart = is.apart;
     sound = is.sound config has;
     bay_calm = bay_calm;
     sink_calm = sink_calm;

@@ -80,7 +80,6 @@ module _ (tells : Bool) (left : Option (List ℕ)) (config : Config) (has : HasC
     telling = is.telling;
     entry = is.entry;
     entry_is = is.entry_is;
-    apart = is.apart;
     sound = is.sound config has;
     bay_calm = bay_calm;
     sink_calm = sink_calm;
@@ -212,7 +211,6 @@ module _ {S : Type 0} (left : S → Option (List ℕ)) (config : Config) (lines 
         telling = is.telling;
         entry = is.entry;
         entry_is = is.entry_is;
-        apart = is.apart;
         sound = is.sound config has;
         bay_calm = bay_calm;
         sink_calm = sink_calm;
@@ -264,7 +262,6 @@ may_soak tells left config bytes has asked now old new sink sink' source source'
   telling = is.telling;
   entry = is.entry;
   entry_is = is.entry_is;
-  apart = is.apart;
   sound = is.sound config has;
   bay_calm = bay_calm;
   sink_calm = sink_calm;
@@ -319,7 +316,6 @@ earlier_calm tells left config start now old new sink sink' later source source'
   telling = is.telling;
   entry = is.entry;
   entry_is = is.entry_is;
-  apart = is.apart;
   sound = is.sound;
   bay_calm = is.bay_calm;
   sink_calm = λ rose. is.sink_calm (rose_later sink sink' later rose on);

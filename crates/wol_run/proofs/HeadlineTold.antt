@@ -84,7 +84,7 @@ same_taken {T} config (Err (stop.Fault f)) status taken then taken' text ends ze
 pub on_told : (P Q : Told → Told → Type 0) (a b : Option Told) → IsTold P a b → ((o n : Told) → P o n → Q o n) → IsTold Q a b
 on_told P Q None b p all = p
 on_told P Q (Some o) None p all = p
-on_told P Q (Some o) (Some n) p all = λ apart. all o n (p apart)
+on_told P Q (Some o) (Some n) p all = all o n p
 
 -- a run that ended before all volumes were open
 pub not_begun_ends : {D S T : Type 0} (tells : Bool) (state : D → State) (config : Config) (start now : Given S) (old new : BayState) (result : Result T Stop) (status : ℕ) (taken then taken' : Option (List ℕ))

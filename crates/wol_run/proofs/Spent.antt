@@ -42,7 +42,7 @@ pub record HasSpent (tells : Bool) (config : Config) (lines : List (Option Trace
 on_told : (P Q : Rattle.wol_bay.specs.Bay.Told → Rattle.wol_bay.specs.Bay.Told → Type 0) (a b : Option Rattle.wol_bay.specs.Bay.Told) → IsTold P a b → ((o n : Rattle.wol_bay.specs.Bay.Told) → P o n → Q o n) → IsTold Q a b
 on_told P Q None b p all = p
 on_told P Q (Some o) None p all = p
-on_told P Q (Some o) (Some n) p all = λ apart. all o n (p apart)
+on_told P Q (Some o) (Some n) p all = all o n p
 
 module _ {S T : Type 0} (tells : Bool) (left : S → Option (List ℕ)) (config : Config) (options : Options) (start now : Given S) (old new : BayState) (result : Result T Stop) (sink sink' : ℕ) (printed printed' : Option (List ℕ))
     (r : Replays tells left config options start now old new result sink sink' printed printed') where

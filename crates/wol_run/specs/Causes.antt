@@ -7,10 +7,10 @@ use Rattle.wol_promise.specs.Manager.{Base}
 use Rattle.wol_config.specs.Documents.{names_of, number_named}
 use Rattle.wol_config.specs.declared.config.Config.{Config}
 use Rattle.wol_config.specs.declared.config.VolumeConf.{VolumeConf}
-use Rattle.volume_images.specs.Left.{AreNamedApart, IsTold}
+use Rattle.volume_images.specs.Left.{IsTold}
 use Rattle.volume_images.specs.Volumes.{images_read}
 use Rattle.rack.specs.Opens.{RefusesVolume, WereThere}
-use Rattle.rack.specs.Owners.{IsBegun, most_of as most_blocks_of}
+use Rattle.rack.specs.Owners.{IsBegun}
 use Rattle.rack.specs.Rests.{image_here}
 use Rattle.rack.specs.declared.rack.ImageRest.{ImageRest}
 use Rattle.rack.specs.declared.volume_fault.VolumeFault.{VolumeFault}
@@ -62,12 +62,12 @@ pub record IsClosedFor {D : Type 0} (tells : Bool) (state : D → State) (before
       → image_here out j ≡ None
       → (f : VolumeFault) × RefusesVolume tells state config out before.bay after.bay j v f
   pub there : IsTrue tells
-      → IfSome before.bay.told (λ t. AreNamedApart t → WereThere config out t)
+      → IfSome before.bay.told (λ t. WereThere config out t)
   pub fault : VolumeFault
   pub refused : RefusesVolume tells state config out before.bay after.bay volume conf fault
   pub status_is : trouble_status (trouble_of fault) ≡ status
   pub first : (j : ℕ) → j < volume → IsTrue tells
-      → IfSome before.bay.told (λ images. AreNamedApart images → IsOpened config out images j)
+      → IfSome before.bay.told (λ images. IsOpened config out images j)
 
 -- how a command replays lines on the volumes, and which; none of another command
 abbrev pub replayed_by : Command → (trace : Option (List ℕ)) → Option (Serving × GivenLines)
@@ -107,7 +107,7 @@ pub record HasNoVersionToCopy (tells : Bool) (before after : Outside) : Type 0 w
   pub begun : IsTrue tells
       → IsTold (λ entry exit. IsBegun config (images_read config entry) base)
       before.bay.told after.bay.told
-  pub lacks : LacksVersions (most_blocks_of config) base
+  pub lacks : LacksVersions (most_of config) base
 
 -- A view was to be changed, and that is refused: a word names no volume, or the view can't be
 -- changed so.

@@ -6,9 +6,8 @@ use Rattle.wol_model.specs.Images.{AreSound}
 use Rattle.wol_model.specs.Trace.{TraceLine, requests}
 use Rattle.wol_promise.specs.Manager.{Base}
 use Rattle.wol_config.specs.declared.config.Config.{Config}
-use Rattle.volume_images.specs.Left.{AreNamedApart}
 use Rattle.volume_images.specs.Volumes.{images_read, shapes_of}
-use Rattle.rack.specs.Owners.{IsBegun, most_of as most_blocks_of}
+use Rattle.rack.specs.Owners.{IsBegun}
 use Rattle.solo.specs.Requests.{HasLines}
 use Rattle.trace_gen.specs.Generated.{line, targets_of}
 use Rattle.replay.specs.Completes.{writes_to}
@@ -17,12 +16,11 @@ use Rattle.command_words.specs.declared.command.Generated.{Generated}
 use Rattle.wol_run.specs.Settings.{HasConfig}
 use Rattle.wol_config.specs.Configs.{most_of}
 
--- the bay tells its images, no two of which have one name, and as they read they are sound for the configuration, with all volumes there
+-- the bay tells its images, and as they read they are sound for the configuration, with all volumes there
 pub record HasSoundImages (tells : Bool) (left : Option (List ℕ)) (bay : BayState) : Type 0 where
   pub telling : IsTrue tells
   pub entry : Told
   pub entry_is : bay.told ≡ Some entry
-  pub apart : AreNamedApart entry
   pub sound : (config : Config) → HasConfig left config
       → AreSound (shapes_of config) (images_read config entry)
 
@@ -42,7 +40,7 @@ HaveVersions left entry lines =
 abbrev pub HaveVersionsToClean : (left : Option (List ℕ)) → (entry : Told) → Type 0
 HaveVersionsToClean left entry =
     (config : Config) → HasConfig left config → (b : Base)
-    → IsBegun config (images_read config entry) b → ¬ LacksVersions (most_blocks_of config) b
+    → IsBegun config (images_read config entry) b → ¬ LacksVersions (most_of config) b
 
 -- a trace that tells, and has these lines alone, none of which is bad
 pub record IsGoodTrace (trace : Option (List ℕ)) (lines : List (Option TraceLine)) : Type 0 where

@@ -9,7 +9,7 @@ use Rattle.inspection.specs.Lines.{Telling, first_trouble, text_of}
 use Rattle.inspection.specs.Runs.{IsToldOf}
 use Rattle.inspection.specs.declared.asked.Asked.{Asked}
 use Rattle.wol_config.specs.declared.config.VolumeConf.{VolumeConf}
-use Rattle.volume_images.specs.Left.{AreNamedApart, IsTold}
+use Rattle.volume_images.specs.Left.{IsTold}
 use Rattle.rack.specs.Opens.{KeepsOthers, RefusesVolume, WereThere}
 use Rattle.rack.specs.Rests.{image_here}
 use Rattle.rack.specs.declared.rack.ImageRest.{ImageRest}
@@ -35,7 +35,7 @@ pub record AreTold {D : Type 0} (tells : Bool) (state : D → State) (asked : As
       → image_here out k ≡ None → (f : VolumeFault)
       × RefusesVolume tells state config out old new k v f
   pub there : told ≢ [] → IsTrue tells
-      → IfSome old.told (λ t. AreNamedApart t → WereThere config out t)
+      → IfSome old.told (λ t. WereThere config out t)
   pub few : length told ≤ length config.volumes.items
   pub each : (k : ℕ) (t : Telling) → slice_get told k ≡ Some t
       → IsToldOf tells state config asked out old new k t

@@ -1,7 +1,7 @@
 use Rattle.replay.proofs.leading.lead.Goals as goal
 
-pub returns : goal.returns
-returns g c = let e = c.serve_all-served.ensures in record {
+pub returns-clause-led : goal.returns-clause-led
+returns-clause-led g c = let e = c.serve_all-served.ensures in record {
   session = e.session;
   same = e.same;
   locks = e.locks;

@@ -1,18 +1,14 @@
-use Rattle.std.proofs.Common.{◌∙◌, ◌<◌, ℕ, List, length, slice_index_or, subst, sym}
-use Rattle.errands.specs.Ends.{IsWaiting}
+use Rattle.std.proofs.Common.{◌∙◌, List, subst, sym}
 use Rattle.errands.specs.declared.ends.Errands.{Errands}
 use Rattle.errands.specs.declared.ends.Worker.{Worker}
-use Rattle.request_workers.specs.Crews.{AreHome}
+use Rattle.request_workers.specs.Crews.{AreIdleSeats, AreWaiting}
 use Rattle.request_workers.specs.declared.job.Job.{Job}
 use Rattle.replay.proofs.leading.serve_with_workers.Goals as goal
 
-abbrev AreWaiting : {T : Type 0} → List (Errands T) → List (Worker T) → Type 0
-AreWaiting {T} es ws = (k : ℕ) (e : Errands T) (w : Worker T) → k < length ws → IsWaiting (slice_index_or es k e) (slice_index_or ws k w)
-
-pub new-crew-requires-clause-home : goal.new-crew-requires-clause-home
-new-crew-requires-clause-home g c =
+pub new-crew-requires-clause-idle : goal.new-crew-requires-clause-idle
+new-crew-requires-clause-idle g c =
     let pool = c.new-errands.result in
-    subst (λ (es : List (Errands (Job g.row.D.Denot))). AreHome es pool.seats.items) (sym c.as_slice.ensures.value) c.new-errands.ensures.home
+    subst (λ (es : List (Errands (Job g.row.D.Denot))). AreIdleSeats es pool.seats.items) (sym c.as_slice.ensures.value) c.new-errands.ensures.home
 
 pub lead_beside-requires-clause-waiting : goal.lead_beside-requires-clause-waiting
 lead_beside-requires-clause-waiting g c κs within =

@@ -85,7 +85,6 @@ returns-in_err-counted-clause-replays g c =
       refused = opened.refused;
       fresh = opened.fresh;
       fresh_keepers = opened.fresh_keepers;
-      apart = opened.apart;
       unfaulty = opened.unfaulty;
       kept = opened.kept;
       failed = opened.failed;
@@ -123,7 +122,6 @@ returns-clause-replays g c =
       refused = opened.refused;
       fresh = opened.fresh;
       fresh_keepers = opened.fresh_keepers;
-      apart = opened.apart;
       unfaulty = opened.unfaulty;
       kept = opened.kept;
       failed = opened.failed;
@@ -166,7 +164,6 @@ returns-in_err-counted-clause-complete g c = λ may.
       refused = opened.refused;
       fresh = opened.fresh;
       fresh_keepers = opened.fresh_keepers;
-      apart = opened.apart;
       unfaulty = opened.unfaulty;
       kept = opened.kept;
       failed = opened.failed;
@@ -208,7 +205,6 @@ returns-clause-complete g c = λ may.
       refused = opened.refused;
       fresh = opened.fresh;
       fresh_keepers = opened.fresh_keepers;
-      apart = opened.apart;
       unfaulty = opened.unfaulty;
       kept = opened.kept;
       failed = opened.failed;
@@ -257,8 +253,8 @@ returns-clause-account g c = keeps_account _ _ _ _ _ _ _ _ _ _ _ _ _ _ (returns-
 
 pub returns-in_err-counted-clause-others : goal.returns-in_err-counted-clause-others
 returns-in_err-counted-clause-others g c =
-    others_then c.args.config.now (g.B.Bay.state c.args.bay.now).told (g.B.Bay.state c.open_all.new.bay).told (g.B.Bay.state c.close_all-spindles.new.bay).told c.in-Ok.ensures.apart c.open_all.ensures.others c.close_all-spindles.ensures.others
+    others_then c.args.config.now (g.B.Bay.state c.args.bay.now).told (g.B.Bay.state c.open_all.new.bay).told (g.B.Bay.state c.close_all-spindles.new.bay).told c.open_all.ensures.others c.close_all-spindles.ensures.others
 
 pub returns-clause-others : goal.returns-clause-others
 returns-clause-others g c =
-    others_then c.args.config.now (g.B.Bay.state c.args.bay.now).told (g.B.Bay.state c.open_all.new.bay).told (g.B.Bay.state c.close_all-spindles.new.bay).told c.in-Ok.ensures.apart c.open_all.ensures.others c.close_all-spindles.ensures.others
+    others_then c.args.config.now (g.B.Bay.state c.args.bay.now).told (g.B.Bay.state c.open_all.new.bay).told (g.B.Bay.state c.close_all-spindles.new.bay).told c.open_all.ensures.others c.close_all-spindles.ensures.others

@@ -1,9 +1,9 @@
 use Rattle.std.proofs.Common.{◌≡◌, Bool, List, length, arith}
-use Rattle.std.specs.Prelude.{OnOk}
+use Rattle.std.specs.Prelude.{OnErr, OnOk}
 use Rattle.std.specs.Vec.{with_items}
 use Rattle.std.proofs.lemmas.List.{with_items_is}
-use Rattle.request_workers.specs.Begun.{HaveBegun, HaveBegunVolumes}
-use Rattle.replay.proofs.Serving.{on_ok, window_begun}
+use Rattle.request_workers.specs.Begun.{FailToBegin, HaveBegun, HaveBegunVolumes}
+use Rattle.replay.proofs.Serving.{on_err, on_ok, window_begun, window_failed}
 use Rattle.replay.proofs.session.Session.begin.Goals as goal
 
 pub returns-clause-ok : goal.returns-clause-ok
@@ -15,3 +15,12 @@ returns-clause-ok g c =
     let begun : OnOk c.begin_window.result ((awake : List Bool) × HaveBegun c.args.moment awake v.items (with_items v ws).items × HaveBegunVolumes g.D.Disk.tells awake c.start.new.self.floor.keepers.items c.begin_window.new.floor.keepers.items) =
     rw same (rw c.as_mut_slice.ensures.value at c.begin_window.ensures.begun) in
     on_ok c.begin_window.result (window_begun g.D.Disk.tells c.args.moment c.args.self.now c.start.new.self _ c.start.ensures.only c.start.ensures.starts c.begin_window.ensures.unchanged) begun
+
+pub returns-clause-err : goal.returns-clause-err
+returns-clause-err g c =
+    let v = c.start.new.self.keepers in
+    let ws = c.begin_window.new.keepers in
+    let long : length ws ≡ v.len = (let a = c.begin_window.ensures.keepers.count in let b = c.start.ensures.ready.keepers_.count in let d = v.ok.0 in omega (arith, a, b, d)) in
+    let same : (with_items v ws).items ≡ ws = with_items_is v ws long in
+    let failed : OnErr c.begin_window.result (FailToBegin c.args.moment v.items (with_items v ws).items) = rw same (rw c.as_mut_slice.ensures.value at c.begin_window.ensures.stopped) in
+    on_err c.begin_window.result (window_failed c.args.moment c.args.self.now c.start.new.self _ c.start.ensures.only c.start.ensures.starts) failed c.begin_window.ensures.refused

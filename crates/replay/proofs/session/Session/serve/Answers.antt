@@ -1,6 +1,18 @@
 use Rattle.std.proofs.Common.{refl}
+use Rattle.std.proofs.lemmas.Result.{err_from_is_err_and}
+use Rattle.replay.proofs.LinesServed.{ends_unbegun, ends_unrun}
 use Rattle.replay.proofs.Serving.{ends_in, goes_on}
 use Rattle.replay.proofs.session.Session.serve.Goals as goal
+
+pub returns-in_err-begin-clause-err : goal.returns-in_err-begin-clause-err
+returns-in_err-begin-clause-err g c =
+    let p = err_from_is_err_and c.from_residual.result c.from_residual.ensures.1 in
+    rw (p.1, p.2) (ends_unbegun g.D.Disk.tells c.args.config.now c.args.options c.args.batch.now c.args.self.now c.begin.new.self (g.K.Sink.faults c.args.out.now) (g.K.Sink.taken c.args.out.now) (rw c.moment.ensures at c.in_err-begin.ensures.err))
+
+pub returns-in_err-window-clause-err : goal.returns-in_err-window-clause-err
+returns-in_err-window-clause-err g c =
+    let p = err_from_is_err_and c.from_residual-in_err-window.result c.from_residual-in_err-window.ensures.1 in
+    rw (p.1, p.2) (ends_unrun g.D.Disk.tells c.args.config.now c.args.options c.args.batch.now c.args.self.now _ (g.K.Sink.faults c.args.out.now) (g.K.Sink.taken c.args.out.now) c.begin.new.self (rw c.moment.ensures at c.in_ok-begin.ensures.ok) c.in_err-window.ensures.unchanged refl)
 
 pub returns-clause-ok : goal.returns-clause-ok
 returns-clause-ok g c =

@@ -3,6 +3,7 @@ use Rattle.std.proofs.lemmas.Result.{err_from_is_err_and}
 use Rattle.wol_io.proofs.Appending.{keeps_same}
 use Rattle.msr_trace.specs.Reading.{is_no_memory}
 use Rattle.msr_trace.specs.declared.format.TraceFault.TheVariants as refusal
+use Rattle.replay.specs.Served.{none_further}
 use Rattle.replay.specs.Sessions.{at_end, at_refusal}
 use Rattle.replay.proofs.LinesServed.{copied_line, current_lies, lacks_memory, last_ok, no_line, not_run_same, nothing_served, serves_whole, stops_at_line, stops_last, takes_on}
 use Rattle.replay.proofs.Outcomes.{few_more, few_none}
@@ -97,7 +98,7 @@ returns-then-is_memory-clause-some g c =
     let has = c.in-Err.ensures.refused c.args.given.now (so.run ++ so.more) so.given in
     lacks_memory g.D.Disk.tells g.S.Source.left c.args.config.now c.args.options c.args.given.now c.args.self.now.floor c.args.self.now.keepers.items (g.K.Sink.faults c.args.out.now) (g.K.Sink.taken c.args.out.now)
     c.loop.given c.loop.cutter c.loop.self (g.K.Sink.faults c.loop.out) (g.K.Sink.taken c.loop.out) so c.next.new.self [] c.loop.self.floor c.loop.self.keepers.items (g.K.Sink.faults c.loop.out) (g.K.Sink.taken c.loop.out)
-    (rw (append-nil so.more) has.0) (not_run_same g.D.Disk.tells c.loop.self.floor) refl (keeps_same (g.K.Sink.taken c.loop.out))
+    (rw (append-nil so.more) has.0) (not_run_same g.D.Disk.tells c.loop.self.floor) (none_further refl refl) refl (keeps_same (g.K.Sink.taken c.loop.out))
 
 pub serve_last-requires-in-Err-clause-inside : goal.serve_last-requires-in-Err-clause-inside
 serve_last-requires-in-Err-clause-inside g c =
