@@ -9,6 +9,7 @@ use std::alloc::Global;
 use std::process::Abort;
 use std::sync::Wait;
 use std::test::Fail;
+use std::thread::Threads;
 use wol_bay::MemBay;
 use wol_config::read_config;
 use wol_io::MemSink;
@@ -33,7 +34,7 @@ const C: Formatted<'_> = Formatted {
 };
 
 // The exit status is that of the first trouble.
-fn tries<R: Abort + Wait>(
+fn tries<R: Abort + Threads + Wait + Sync>(
     rt: &R,
     alloc: Global,
     asked: Asked,
@@ -58,7 +59,7 @@ fn tries<R: Abort + Wait>(
     Ok(())
 }
 
-fn tries_rows<R: Abort + Wait>(
+fn tries_rows<R: Abort + Threads + Wait + Sync>(
     rt: &R,
     alloc: Global,
     asked: Asked,
