@@ -11,10 +11,10 @@ use Rattle.logger.specs.declared.shared.Shared.{Shared}
 use Rattle.manager.specs.declared.station.Station.{Station}
 use Rattle.rack.specs.declared.rack.Rack.{Rack}
 use Rattle.inspection.specs.Racks.{CanLook, IsSameRack, IsSameStation}
-use Rattle.inspection.specs.Findings.{AreAhead, AreEmpty, AreKnown, HasFound, HaveFound, HaveFoundIn, IsAhead}
+use Rattle.inspection.specs.Findings.{CanAllBeLookedAt, AreEmpty, AreKnown, HasFound, HaveFound, HaveFoundIn, CanBeLookedAt}
 use Rattle.inspection.specs.declared.beside.Finding.{Finding}
 
-below_or_past : (a b : ℕ) → (a < b) ⊎ (b ≤ a)
+pub below_or_past : (a b : ℕ) → (a < b) ⊎ (b ≤ a)
 below_or_past a zero = inr (omega arith)
 below_or_past zero (suc b) = inl (omega arith)
 below_or_past (suc a) (suc b) = elim (below_or_past a b) [
@@ -23,19 +23,19 @@ below_or_past (suc a) (suc b) = elim (below_or_past a b) [
 ]
 
 module _ {D : Type 0} (config : Config) (shared : Shared D) (ss ts : List (Station D)) (fs hs : List Finding) (same : length fs ≡ length ss) where
-  pub ahead_front : AreAhead config shared (ss ++ ts) (fs ++ hs) → AreAhead config shared ss fs
+  pub ahead_front : CanAllBeLookedAt config shared (ss ++ ts) (fs ++ hs) → CanAllBeLookedAt config shared ss fs
   ahead_front all = record {
     each = λ k s f less.
-        subst (λ (t : Station D). IsAhead config shared t (get_or fs k f)) (get_or_append_left ss ts s k less)
-        (subst (λ (h : Finding). IsAhead config shared (get_or (ss ++ ts) k s) h) (get_or_append_left fs hs f k (omega (arith, less, same)))
+        subst (λ (t : Station D). CanBeLookedAt config shared t (get_or fs k f)) (get_or_append_left ss ts s k less)
+        (subst (λ (h : Finding). CanBeLookedAt config shared (get_or (ss ++ ts) k s) h) (get_or_append_left fs hs f k (omega (arith, less, same)))
         (all.each k s f (let long = length-append ss ts in omega (arith, less, long))));
   }
 
-  pub ahead_back : AreAhead config shared (ss ++ ts) (fs ++ hs) → AreAhead config shared ts hs
+  pub ahead_back : CanAllBeLookedAt config shared (ss ++ ts) (fs ++ hs) → CanAllBeLookedAt config shared ts hs
   ahead_back all = record {
     each = λ k s f less.
-        subst (λ (t : Station D). IsAhead config shared t (get_or hs k f)) (get_or-append-add ss ts k s)
-        (subst (λ (h : Finding). IsAhead config shared (get_or (ss ++ ts) (length ss + k) s) h) (ap (λ (n : ℕ). get_or (fs ++ hs) (n + k) f) (sym same) ∙ get_or-append-add fs hs k f)
+        subst (λ (t : Station D). CanBeLookedAt config shared t (get_or hs k f)) (get_or-append-add ss ts k s)
+        (subst (λ (h : Finding). CanBeLookedAt config shared (get_or (ss ++ ts) (length ss + k) s) h) (ap (λ (n : ℕ). get_or (fs ++ hs) (n + k) f) (sym same) ∙ get_or-append-add fs hs k f)
         (all.each (length ss + k) s f (let long = length-append ss ts in omega (arith, less, long))));
   }
 
@@ -73,36 +73,3 @@ module _ {D : Type 0} (tells : Bool) (state : D → State) (config : Config) (ss
         let b = get_or-set_same fs k f h within_fs in
         rw (at, a, b) (here s)
   ]
-
--- ---- A whole rack
-
-pub all_ahead : {D : Type 0} (config : Config) (r : Rack D) (fs : List Finding) → CanLook config r → length fs ≡ length r.stations.items → AreEmpty fs → AreAhead config r.shared r.stations.items fs
-all_ahead config r fs can count empty = record {
-  each = λ k s f less.
-      let station = can.stations k s less in record { station = station.0; base = station.1; empty = empty k f (omega (arith, count, less)) };
-}
-
-module _ {D : Type 0} (tells : Bool) (state : D → State) (config : Config) where
-  zip_found : (ss ts : List (Station D)) (fs : List Finding) → length ts ≡ length ss → length fs ≡ length ss → HaveFound tells state config ss ts fs → AllZip IsSameStation ss ts
-  zip_found [] [] fs long count found = tt
-  zip_found [] (t ∷ ts) fs long count found = absurd (let no : suc (length ts) ≡ 0 = long in omega (arith, no))
-  zip_found (s ∷ ss) [] fs long count found = absurd (let no : 0 ≡ suc (length ss) = long in omega (arith, no))
-  zip_found (s ∷ ss) (t ∷ ts) [] long count found = absurd (let no : 0 ≡ suc (length ss) = count in omega (arith, no))
-  zip_found (s ∷ ss) (t ∷ ts) (f ∷ fs) long count found = (
-    (found.each 0 s f (omega arith)).same,
-    zip_found ss ts fs (let e : suc (length ts) ≡ suc (length ss) = long in omega (arith, e)) (let e : suc (length fs) ≡ suc (length ss) = count in omega (arith, e))
-        (record { each = λ k d h less. found.each (suc k) d h (omega (arith, less)) }),
-  )
-
-  module _ (r : Rack D) (vs : Vec (Station D) Global) (fs : List Finding) (long : length vs.items ≡ length r.stations.items) (count : length fs ≡ length r.stations.items)
-      (found : HaveFound tells state config r.stations.items vs.items fs) where
-    pub rack_found : IsSameRack r (record r { stations = vs })
-    rack_found = record { same = refl; each = zip_found r.stations.items vs.items fs long count found }
-
-    pub found_in : HaveFoundIn tells state config r (record r { stations = vs }) fs
-    found_in = record { same = refl; count = long; found = found }
-
--- the findings tell configured volumes
-pub all_known : {D : Type 0} (tells : Bool) (state : D → State) (config : Config) (ss ts : List (Station D)) (fs : List Finding) → length fs ≡ length ss → HaveFound tells state config ss ts fs → AreKnown config fs
-all_known tells state config [] ts fs count found k f less = absurd (omega (arith, less, count))
-all_known tells state config (s ∷ ss) ts fs count found k f less = (found.each k s f (omega (arith, less, count))).known

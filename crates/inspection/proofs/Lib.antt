@@ -11,4 +11,5 @@ pub mod Judging
 pub mod Quiet
 pub mod Completing
 pub mod Halves
+pub mod Ahead
 pub mod AsFound

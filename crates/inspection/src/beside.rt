@@ -1,11 +1,10 @@
-// The volumes of all stations are looked at for `check`, in four threads where so many can be had.
-ghost use Rattle.std.specs.Prelude.{◌≡◌, ◌⊎◌, ◌++◌, ◌<◌, ℕ, [], length, Err, IfOk, OnErr, vec_len};
+// The volumes of a run of stations are looked at for `check`, in four threads where so many can be had.
+ghost use Rattle.std.specs.Prelude.{◌≡◌, ◌<◌, ◌≤◌, ◌+◌, ℕ, List, length, IfOk, All};
 ghost use Rattle.wol_config.specs.Configs.{IsValid};
-ghost use Rattle.manager.specs.declared.part.Part.{Part};
-ghost use Rattle.report.specs.Names.{printed_names};
-ghost use Rattle.report.specs.Troubles.{IsAmong};
-ghost use Rattle.troubles.specs.Troubles.{trouble_of_part};
-ghost use Rattle.inspection.specs.Findings.{AreAhead, AreEmpty, HaveFound, HasFound, IsAhead};
+ghost use Rattle.manager.specs.declared.station.Station.{Station};
+ghost use Rattle.rack.specs.Racks.{IsStation, base_of_station};
+ghost use Rattle.inspection.specs.Looks.{IsConfiguredBase};
+ghost use Rattle.inspection.specs.Findings.{AreFoundTo, KeepsFound, CanAllBeLookedAt, AreEmpty, HaveFound, HasFound, CanBeLookedAt};
 
 use crate::asked::Asked;
 use crate::lines::look_station;
@@ -17,6 +16,9 @@ use std::sync::Wait;
 use std::thread::{Threads, join_mut};
 use wol_config::Config;
 use wol_disk::{Disk, NoMemory};
+
+// So many volumes are looked at before the lines of the first of them are printed, two by each thread.
+const RUN: usize = 8;
 
 /// What a look at a volume found: how it ended, and the lines of a volume in order.
 #[derive(Drop)]
@@ -50,7 +52,7 @@ fn find_one<D: Disk, R: Wait>(
     finding: &mut Finding,
 )
     requires valid { IsValid config.now }
-    requires ahead { IsAhead config.now shared.now station.old finding.old }
+    requires ahead { CanBeLookedAt config.now shared.now station.old finding.old }
     ensures { HasFound D.tells D.state config.now station.old station.new finding.new }
 {
     finding.answer = look_station(
@@ -75,7 +77,7 @@ fn find_each<D: Disk, R: Wait>(
 )
     requires valid { IsValid config.now }
     requires count { length findings.old ≡ length stations.old }
-    requires ahead { AreAhead config.now shared.now stations.old findings.old }
+    requires ahead { CanAllBeLookedAt config.now shared.now stations.old findings.old }
     ensures { HaveFound D.tells D.state config.now stations.old stations.new findings.new }
 {
     for k in 0..stations.len() {
@@ -103,9 +105,9 @@ fn find_both<'a, D: Disk + Send, R: Threads + Wait + Sync>(
 )
     requires valid { IsValid config.now }
     requires front_count { length front_findings.old ≡ length front.old }
-    requires front_ahead { AreAhead config.now shared.now front.old front_findings.old }
+    requires front_ahead { CanAllBeLookedAt config.now shared.now front.old front_findings.old }
     requires back_count { length back_findings.old ≡ length back.old }
-    requires back_ahead { AreAhead config.now shared.now back.old back_findings.old }
+    requires back_ahead { CanAllBeLookedAt config.now shared.now back.old back_findings.old }
     ensures front { HaveFound D.tells D.state config.now front.old front.new front_findings.new }
     ensures back { HaveFound D.tells D.state config.now back.old back.new back_findings.new }
 {
@@ -113,11 +115,11 @@ fn find_both<'a, D: Disk + Send, R: Threads + Wait + Sync>(
     join_mut(
         rt,
         &mut ||
-            requires { IsValid config.now × (length front_findings.now ≡ length front.now) × AreAhead config.now shared.now front.now front_findings.now }
+            requires { IsValid config.now × (length front_findings.now ≡ length front.now) × CanAllBeLookedAt config.now shared.now front.now front_findings.now }
             ensures { HaveFound D.tells D.state config.entry.now front.entry.now front.exit.now front_findings.exit.now }
         { find_each(rt, alloc, shared, config, front, front_findings) },
         &mut ||
-            requires { IsValid config.now × (length back_findings.now ≡ length back.now) × AreAhead config.now shared.now back.now back_findings.now }
+            requires { IsValid config.now × (length back_findings.now ≡ length back.now) × CanAllBeLookedAt config.now shared.now back.now back_findings.now }
             ensures { HaveFound D.tells D.state config.entry.now back.entry.now back.exit.now back_findings.exit.now }
         { find_each(rt, again, shared, config, back, back_findings) },
     );
@@ -134,7 +136,7 @@ fn find_halves<D: Disk + Send, R: Threads + Wait + Sync>(
 )
     requires valid { IsValid config.now }
     requires count { length findings.old ≡ length stations.old }
-    requires ahead { AreAhead config.now shared.now stations.old findings.old }
+    requires ahead { CanAllBeLookedAt config.now shared.now stations.old findings.old }
     ensures { HaveFound D.tells D.state config.now stations.old stations.new findings.new }
 {
     if stations.len() < 2 {
@@ -169,9 +171,9 @@ fn find_quarters<'a, D: Disk + Send, R: Threads + Wait + Sync>(
 )
     requires valid { IsValid config.now }
     requires front_count { length front_findings.old ≡ length front.old }
-    requires front_ahead { AreAhead config.now shared.now front.old front_findings.old }
+    requires front_ahead { CanAllBeLookedAt config.now shared.now front.old front_findings.old }
     requires back_count { length back_findings.old ≡ length back.old }
-    requires back_ahead { AreAhead config.now shared.now back.old back_findings.old }
+    requires back_ahead { CanAllBeLookedAt config.now shared.now back.old back_findings.old }
     ensures front { HaveFound D.tells D.state config.now front.old front.new front_findings.new }
     ensures back { HaveFound D.tells D.state config.now back.old back.new back_findings.new }
 {
@@ -179,18 +181,18 @@ fn find_quarters<'a, D: Disk + Send, R: Threads + Wait + Sync>(
     join_mut(
         rt,
         &mut ||
-            requires { IsValid config.now × (length front_findings.now ≡ length front.now) × AreAhead config.now shared.now front.now front_findings.now }
+            requires { IsValid config.now × (length front_findings.now ≡ length front.now) × CanAllBeLookedAt config.now shared.now front.now front_findings.now }
             ensures { HaveFound D.tells D.state config.entry.now front.entry.now front.exit.now front_findings.exit.now }
         { find_halves(rt, alloc, shared, config, front, front_findings) },
         &mut ||
-            requires { IsValid config.now × (length back_findings.now ≡ length back.now) × AreAhead config.now shared.now back.now back_findings.now }
+            requires { IsValid config.now × (length back_findings.now ≡ length back.now) × CanAllBeLookedAt config.now shared.now back.now back_findings.now }
             ensures { HaveFound D.tells D.state config.entry.now back.entry.now back.exit.now back_findings.exit.now }
         { find_halves(rt, again, shared, config, back, back_findings) },
     );
 }
 
-/// Looks at the volumes of all stations, each quarter of them in a thread where one can be had.
-pub(crate) fn find_all<D: Disk + Send, R: Threads + Wait + Sync>(
+// Looks at the volumes of these stations, each quarter of them in a thread where one can be had.
+fn find_all<D: Disk + Send, R: Threads + Wait + Sync>(
     rt: &R,
     alloc: Global,
     shared: &Shared<D>,
@@ -200,7 +202,7 @@ pub(crate) fn find_all<D: Disk + Send, R: Threads + Wait + Sync>(
 )
     requires valid { IsValid config.now }
     requires count { length findings.old ≡ length stations.old }
-    requires ahead { AreAhead config.now shared.now stations.old findings.old }
+    requires ahead { CanAllBeLookedAt config.now shared.now stations.old findings.old }
     ensures { HaveFound D.tells D.state config.now stations.old stations.new findings.new }
 {
     let half = stations.len() / 2;
@@ -216,4 +218,69 @@ pub(crate) fn find_all<D: Disk + Send, R: Threads + Wait + Sync>(
         back,
         back_findings,
     );
+}
+
+// Looks at the volumes of the next run of stations, behind those that were looked at.
+fn find_run<D: Disk + Send, R: Threads + Wait + Sync>(
+    rt: &R,
+    alloc: Global,
+    shared: &Shared<D>,
+    config: &Config,
+    stations: &mut [Station<D>],
+    findings: &mut [Finding],
+    found: usize,
+    size: usize,
+)
+    requires valid { IsValid config.now }
+    requires stations { All (λ s. IsStation s × IsConfiguredBase config.now shared.now (base_of_station s)) stations.old }
+    requires going { (before : List (Station _)) × AreFoundTo D.tells D.state config.now before stations.old findings.old found }
+    requires size { found + size ≤ length stations.old }
+    ensures going { (before : List (Station _)) → AreFoundTo D.tells D.state config.now before stations.old findings.old found
+        → AreFoundTo D.tells D.state config.now before stations.new findings.new (found + size) }
+    ensures keeps { KeepsFound found stations.old stations.new findings.old findings.new }
+{
+    let (_, ahead) = stations.split_at_mut(found);
+    let (run, _) = ahead.split_at_mut(size);
+    let (_, ahead_findings) = findings.split_at_mut(found);
+    let (run_findings, _) = ahead_findings.split_at_mut(size);
+    find_all(rt, alloc, shared, config, run, run_findings);
+}
+
+/// Looks at the volumes of the next run of stations, unless that of the station at this place was looked at, and answers
+/// how many were.
+pub(crate) fn find_through<D: Disk + Send, R: Threads + Wait + Sync>(
+    rt: &R,
+    alloc: Global,
+    shared: &Shared<D>,
+    config: &Config,
+    stations: &mut [Station<D>],
+    findings: &mut [Finding],
+    found: usize,
+    place: usize,
+) -> usize
+    requires valid { IsValid config.now }
+    requires stations { All (λ s. IsStation s × IsConfiguredBase config.now shared.now (base_of_station s)) stations.old }
+    requires going { (before : List (Station _)) × AreFoundTo D.tells D.state config.now before stations.old findings.old found }
+    requires place { place < length stations.old }
+    ensures place { place < result }
+    ensures more { found ≤ result }
+    ensures going { (before : List (Station _)) → AreFoundTo D.tells D.state config.now before stations.old findings.old found
+        → AreFoundTo D.tells D.state config.now before stations.new findings.new result }
+    ensures keeps { KeepsFound found stations.old stations.new findings.old findings.new }
+{
+    if place < found {
+        return found;
+    }
+    let until = found.saturating_add(RUN).max(place + 1).min(stations.len());
+    find_run(
+        rt,
+        alloc,
+        shared,
+        config,
+        stations,
+        findings,
+        found,
+        until - found,
+    );
+    until
 }

@@ -1,23 +1,21 @@
 // All volumes of a bay are looked at.
-ghost use Rattle.std.specs.Prelude.{◌≡◌, ◌≤◌, ◌<◌, length, Err, IfOk, IsTrue, OnErr};
+ghost use Rattle.std.specs.Prelude.{◌≡◌, ◌≤◌, ◌<◌, Err, IfOk, IsTrue, OnErr};
 ghost use Rattle.wol_disk.specs.Disk.{Rose};
 ghost use Rattle.wol_bay.specs.Bay.{outs};
 ghost use Rattle.wol_config.specs.Configs.{IsValid};
 ghost use Rattle.volume_images.specs.Left.{IsTold};
 ghost use Rattle.volume_images.specs.Volumes.{NoneOut};
-ghost use Rattle.rack.specs.declared.rack.Rack.{Rack};
 ghost use Rattle.rack.specs.Opens.{KeepsAllSound, KeepsOthers, LeavesAll};
 ghost use Rattle.open_rack.specs.Sessions.{OpensAndCloses};
 ghost use Rattle.inspection.specs.Racks.{CanLook, IsSameRack};
-ghost use Rattle.inspection.specs.Findings.{AreKnown, HaveFoundIn};
 ghost use Rattle.inspection.specs.Lines.{PrintsVolumes, first_of};
 ghost use Rattle.inspection.specs.declared.asked.Asked.TheVariants.{Check};
 ghost use Rattle.inspection.specs.Runs.{Completes, Inspects, MayComplete};
 ghost use Rattle.inspection.specs.declared.calls.Stop.TheVariants.{Sink as sink_failed, Memory as no_memory};
 
 use crate::asked::Asked;
-use crate::beside::Finding;
-use crate::found::{append_found, find_stations};
+use crate::beside::no_findings;
+use crate::found::append_found;
 use crate::lines::append_volume;
 use open_rack::Closed;
 use rack::{Rack, close_all, open_all};
@@ -91,33 +89,8 @@ fn print_volumes<D: Disk, R: Wait, K: Sink>(
     Ok(first)
 }
 
-// Prints the line of each volume in order, as it was found, and answers what is wrong with the first that isn't in order.
-fn print_found<D: Disk, K: Sink>(
-    alloc: Global,
-    rack: &Rack<D>,
-    findings: &[Finding],
-    config: &Config,
-    out: &mut K,
-) -> Result<Option<Trouble>, Stop>
-    requires valid { IsValid config.now }
-    requires rack { CanLook config.now rack.now }
-    requires count { length findings.now ≡ length rack.now.stations.items }
-    requires known { AreKnown config.now findings.now }
-    ensures content { (before : Rack _) → HaveFoundIn D.tells D.state config.now before rack.now findings.now → PrintsVolumes D.tells D.state config.now Check before rack.now result (K.faults out.old) (K.faults out.new) (K.taken out.old) (K.taken out.new) }
-    ensures later { K.faults out.old ≤ K.faults out.new }
-{
-    let mut first = None;
-    let mut lines = Vec::new(alloc);
-    for number in 0..config.volumes.len() {
-        let found = append_found(alloc, rack, findings, config, number as u32, &mut lines)?;
-        out.write(&lines)?;
-        lines.clear();
-        first = first_of(first, found);
-    }
-    Ok(first)
-}
-
-// Looks at all volumes side by side, and prints what was found.
+// Looks at the volumes side by side, a run of them after another, and prints the line of each in order. It answers what is
+// wrong with the first that isn't in order.
 fn print_checks<D: Disk + Send, R: Threads + Wait + Sync, K: Sink>(
     rt: &R,
     alloc: Global,
@@ -131,8 +104,27 @@ fn print_checks<D: Disk + Send, R: Threads + Wait + Sync, K: Sink>(
     ensures content { PrintsVolumes D.tells D.state config.now Check rack.old rack.new result (K.faults out.old) (K.faults out.new) (K.taken out.old) (K.taken out.new) }
     ensures later { K.faults out.old ≤ K.faults out.new }
 {
-    let findings = find_stations(rt, alloc, rack, config)?;
-    print_found(alloc, rack, findings.as_slice(), config, out)
+    let mut room = no_findings(alloc, rack.stations.len())?;
+    let findings = room.as_mut_slice();
+    let mut found = 0;
+    let mut first = None;
+    let mut lines = Vec::new(alloc);
+    for number in 0..config.volumes.len() {
+        let told = append_found(
+            rt,
+            alloc,
+            rack,
+            findings,
+            &mut found,
+            config,
+            number as u32,
+            &mut lines,
+        )?;
+        out.write(&lines)?;
+        lines.clear();
+        first = first_of(first, told);
+    }
+    Ok(first)
 }
 
 // Prints what is asked of each volume of a rack, in order, and answers what is wrong with the first that isn't in order.
@@ -189,8 +181,9 @@ where
 
 /// Opens all volumes of the configuration, prints the lines of each in order, and closes them. It answers what is wrong
 /// with the first volume that isn't in order, or nothing where all are. A volume is in order where it was opened and no
-/// call of a disk failed while it was looked at. For `Check` the volumes are looked at side by side, by four threads
-/// where so many can be had, and printed behind that; for `Dump` each is printed before the next is looked at.
+/// call of a disk failed while it was looked at. For `Check` eight volumes at most are looked at side by side, by four
+/// threads where so many can be had, before their lines are printed; for `Dump` each is printed before the next is
+/// looked at.
 ///
 /// `Sink`: the sink failed. `Memory`: there was no memory, and the lines of some first volumes were printed. At each exit
 /// every image is back in the bay.
