@@ -23,6 +23,7 @@
 
 mod base;
 mod fetch;
+mod group;
 mod home;
 mod log;
 mod manager;
@@ -33,10 +34,12 @@ mod read;
 mod reclaim;
 mod record;
 mod retire;
+mod run;
 mod station;
 mod write;
 
 pub use base::{LaneBase, ManagerBase, Volume};
 pub use manager::{Manager, ManagerParts};
 pub use part::{Part, Place, ReadRefusal, Sources, StepFault, WriteRefusal};
+pub use run::Ran;
 pub use station::Station;

@@ -34,7 +34,7 @@ pub(crate) enum Offered {
 }
 
 // The mask of a record that keeps all its blocks.
-fn all_kept(count: u32) -> u128
+pub(crate) fn all_kept(count: u32) -> u128
     requires { (1 ≤ count) × (count ≤ 128) }
     ensures { result ≡ 2 ^ count - 1 }
 {

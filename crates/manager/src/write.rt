@@ -33,7 +33,7 @@ const SPENT: u64 = 1 << 63;
 
 impl<D: Disk> Manager<D> {
     // Writes blocks home that no record covers.
-    fn write_home<R: Wait>(
+    pub(crate) fn write_home<R: Wait>(
         &mut self,
         rt: &R,
         shared: &Shared<D>,

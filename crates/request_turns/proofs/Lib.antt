@@ -17,3 +17,6 @@ pub mod Gaining
 pub mod HelpNotes
 pub mod Counting
 pub mod CountLaws
+pub mod GroupNotes
+pub mod GroupPayloads
+pub mod GroupTurns

@@ -189,7 +189,7 @@ module _ {D : Type 0} (tells : Bool) (state : D → State) (old : Manager D) (b 
   pub spent_before : a ≡ Err VersionsSpent → IsUnbroken before × (l.next ≡ 2 ^ 63)
   spent_before is = let h = spent.0 is in (was_unbroken tells state old b before keeps h.0, is_next ∙ h.1)
 
-write_cause : {D : Type 0} (tells : Bool) (state : D → State) (old : Manager D) (b : ManagerBase) (before : List Noted) → Keeps tells state old b before → (l : Look) → l ≡ look_of_manager old → (drained : Bool)
+pub write_cause : {D : Type 0} (tells : Bool) (state : D → State) (old : Manager D) (b : ManagerBase) (before : List Noted) → Keeps tells state old b before → (l : Look) → l ≡ look_of_manager old → (drained : Bool)
     → (a : Result Place WriteRefusal) → is_full a ≡ false → ((p : Part) → (a ≡ Err (Down p)) ↔ (old.down ≡ Some p)) → ((a ≡ Err VersionsSpent) ↔ ((old.down ≡ None) × (old.next ≡ 2 ^ 63)))
     → IsCauseOfWrite before l (written_outcome drained a)
 write_cause tells state old b before keeps l is_l drained (Ok p) not_full down spent = can_take tells state old b before keeps l is_l (Ok p) down spent refl refl

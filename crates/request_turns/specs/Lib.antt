@@ -9,3 +9,4 @@ pub mod Blocks
 pub mod Closed
 pub mod Helped
 pub mod Begun
+pub mod Groups

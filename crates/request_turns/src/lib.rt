@@ -13,6 +13,7 @@
 mod answer;
 mod begin;
 mod drain;
+mod group;
 mod help;
 mod look;
 mod noted;
@@ -24,6 +25,7 @@ mod tally;
 mod write;
 
 pub use begin::begin_volume;
+pub use group::write_many_turn;
 pub use help::{drop_turn, fetch_turn, put_turn};
 pub use look::look_turn;
 pub use noted::{Memo, leave_noted};

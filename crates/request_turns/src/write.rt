@@ -42,8 +42,8 @@ pub(crate) fn outcome_of(answer: Result<Place, WriteRefusal>, drained: bool) -> 
     }
 }
 
-// Whether no log had room.
-fn is_full(answer: &Result<Place, WriteRefusal>) -> bool
+/// Whether no log had room.
+pub(crate) fn is_full(answer: &Result<Place, WriteRefusal>) -> bool
     ensures { result ≡ is_full answer.now }
 {
     matches!(answer, Err(WriteRefusal::Full))

@@ -9,6 +9,8 @@
 
 mod calls;
 #[cfg(test)]
+mod groups;
+#[cfg(test)]
 mod life;
 #[cfg(test)]
 mod locked;
