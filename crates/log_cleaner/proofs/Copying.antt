@@ -128,6 +128,7 @@ module _ {D : Type 0} (tells : Bool) (state : D → State) (m : Manager D) (b : 
         }));
     in_use = k.in_use;
     passed = passed;
+    taken = k.taken;
     ready = k.ready;
     locks = k.locks;
   }
@@ -194,6 +195,7 @@ module _ {D : Type 0} (tells : Bool) (state : D → State) (m : Manager D) (b : 
           (upholds_sooner (parts_of tells state) b.volume.began (seen m k.logs) ((notes ++ copy_notes l cs) ++ p ∷ []) (notes ++ n ∷ []) (writes (entries_of notes)) cs fs was history logged));
       in_use = k.in_use;
       passed = none_passed (nones_at m.lanes.items b.lanes) notes n note.passed_is (passed_before notes l (nones_at m.lanes.items b.lanes) cs (passed_front (nones_at m.lanes.items b.lanes) (notes ++ copy_notes l cs) p k.passed));
+      taken = k.taken;
       ready = k.ready;
       locks = k.locks;
     };

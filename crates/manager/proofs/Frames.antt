@@ -103,6 +103,7 @@ module _ {D : Type 0} (tells : Bool) (state : D → State) (m : Manager D) (b : 
         (sym entries) (other_flags (parts_of tells state) b.volume.began (seen m k.logs) home_up ups notes (writes (entries_of notes)) (flight_of (entries_of notes)) k.upholds same);
     in_use = k.in_use;
     passed = k.passed;
+    taken = k.taken;
     ready = ready;
     locks = let l = k.locks in record { pass = pass.0 ∙ l.pass; number = pass.1 ∙ l.number; each = l.each; owner = l.owner; most_ = l.most_; view = l.view };
   }
@@ -117,6 +118,7 @@ module _ {D : Type 0} (tells : Bool) (state : D → State) (m : Manager D) (b : 
       upholds = (kept_more (parts_of tells state) b.volume.began (seen m k.logs) notes n note.follows note.operation_is k.upholds (λ _. note.look_is)).upholds;
       in_use = k.in_use;
       passed = has;
+      taken = k.taken;
       ready = k.ready;
       locks = k.locks;
     };

@@ -1,6 +1,6 @@
 -- A write that was offered to a lane: what holds of the manager then.
 use Rattle.std.proofs.Common.{◌≡◌, ◌≢◌, ◌⊎◌, inl, inr, ⊎_elim, ◌&&◌, cond, eqb, ◌<◌, ◌≤◌, ◌+◌, ◌-◌, ◌^◌, ℕ, Bool, true, false, sym, subst, ◌∙◌, arith, List, [], ◌∷◌, ◌++◌, length, map, Option, None, Some, refl, ap}
-use Rattle.std.specs.Prelude.{Contains, slice_get, slice_set, IsTrue, Result, Ok, Err}
+use Rattle.std.specs.Prelude.{Contains, slice_get, slice_set, IsTrue, Result, Ok, Err, is_some}
 use Rattle.std.specs.List.{AllByRecursion}
 use Rattle.std.specs.Option.{option_to_list}
 use Rattle.std.specs.declared.alloc.Global.{Global}
@@ -42,7 +42,7 @@ use Rattle.manager.specs.Causes.{PartRoseOrClaimed}
 use Rattle.manager.specs.Offers.{IsTurnedAway, HasTakenWrite}
 use Rattle.manager.specs.Puts.{PutIn, to_held, to_new}
 use Rattle.manager.specs.Seen.{AllLanesHold, parts_of, seen, all_held, all_taken, down_of, look_of_manager}
-use Rattle.manager.specs.Stands.{Keeps, Stands, IsReady, IsReadyLane, IsUp, IsPlacedIn, IsInVolume, AreCounted, entries_at, Ready, Locks, nones_in, nones_at}
+use Rattle.manager.specs.Stands.{Keeps, Stands, IsReady, IsReadyLane, IsUp, IsPlacedIn, IsInVolume, AreCounted, entries_at, Ready, Locks, nones_in, nones_at, takes_in, takes_of}
 use Rattle.manager.specs.Stops.{Stops}
 use Rattle.manager.specs.declared.base.ManagerBase.{ManagerBase}
 use Rattle.manager.specs.declared.manager.Manager.{Manager}
@@ -57,7 +57,7 @@ use Rattle.manager.proofs.PutHeld.{put_written, put_failed}
 use Rattle.manager.proofs.PutNew.{apart_last, claim_written, claim_failed}
 use Rattle.manager.proofs.PutStops.{held_stops, claim_stops}
 use Rattle.manager.proofs.Putting.{Pieces, untaken_set}
-use Rattle.manager.proofs.ReadyLanes.{ready_set, locks_set, placed_set, stays_set, stays_push, nones_at_set, nones_none, nones_some, same_or_not}
+use Rattle.manager.proofs.ReadyLanes.{ready_set, locks_set, placed_set, stays_set, stays_push, nones_at_set, nones_none, nones_some, same_or_not, takes_of_set, takes_none, takes_some}
 
 -- ---- How often a pool was found empty
 
@@ -70,6 +70,18 @@ taken_same old new took = by took.pool
     by : (pass_mine (pool_of new) ≡ pass_mine (pool_of old)) ⊎ ((index : ℕ) × (pass_mine (pool_of new) ≡ pass_mine (pool_of old) ++ (pass_number (pool_of old), Rattle.seg_pool.specs.Operations.operation_of (Took (Some index))) ∷ [])) → nones_in (pass_mine (pool_of old)) ≤ nones_in (pass_mine (pool_of new))
     by (inl same) = let e = ap nones_in same in omega (arith, e)
     by (inr gave) = let e = ap nones_in gave.1 ∙ nones_some (pass_mine (pool_of old)) (pass_number (pool_of old)) gave.0 in omega (arith, e)
+
+-- ---- How many segments were taken
+
+pub away_takes : {D : Type 0} (count : ℕ) (old new : Lane D) → IsTurnedAway count old new → takes_in (pass_mine (pool_of new)) ≡ takes_in (pass_mine (pool_of old))
+away_takes count old new turned = ap takes_in turned.pool ∙ takes_none (pass_mine (pool_of old)) (pass_number (pool_of old))
+
+took_one : {D : Type 0} (old new : Lane D) → HasTakenWrite old new → takes_in (pass_mine (pool_of new)) ≤ takes_in (pass_mine (pool_of old)) + 1
+took_one old new took = by took.pool
+  where
+    by : (pass_mine (pool_of new) ≡ pass_mine (pool_of old)) ⊎ ((index : ℕ) × (pass_mine (pool_of new) ≡ pass_mine (pool_of old) ++ (pass_number (pool_of old), Rattle.seg_pool.specs.Operations.operation_of (Took (Some index))) ∷ [])) → takes_in (pass_mine (pool_of new)) ≤ takes_in (pass_mine (pool_of old)) + 1
+    by (inl same) = let e = ap takes_in same in omega (arith, e)
+    by (inr gave) = let e = ap takes_in gave.1 ∙ takes_some (pass_mine (pool_of old)) (pass_number (pool_of old)) gave.0 in omega (arith, e)
 
 -- ---- A lane that had no room
 
@@ -94,13 +106,14 @@ module _ {D : Type 0} (state : D → State) (m : Manager D) (k : ℕ) (old new :
     abbrev R : Bool → HeldSegment D → List Record → Type 0
     R tells h rs = IsTrue tells → m.down ≡ None → Holds state h.segment rs
 
-    pub keeps_away : (tells : Bool) (b : ManagerBase) (notes : List Noted) → nones_in (pass_mine (pool_of old)) ≤ nones_in (pass_mine (pool_of new)) → Keeps tells state m b notes → Keeps tells state (record m { lanes = v }) b notes
-    keeps_away tells b notes more kp = record {
+    pub keeps_away : (tells : Bool) (b : ManagerBase) (notes : List Noted) → nones_in (pass_mine (pool_of old)) ≤ nones_in (pass_mine (pool_of new)) → takes_in (pass_mine (pool_of new)) ≡ takes_in (pass_mine (pool_of old)) → Keeps tells state m b notes → Keeps tells state (record m { lanes = v }) b notes
+    keeps_away tells b notes more takes kp = record {
       logs = kp.logs;
       held = subst (λ (l : List (Lane D)). AllLanesHold (R tells) l kp.logs) (sym lanes) (quiet_all old new quiet (R tells) m.lanes.items kp.logs k lane kp.held);
       upholds = subst (λ (q : ManagerSeen (Spun D)). Upholds (parts_of tells state) b.volume.began q notes (writes (entries_of notes)) (flight_of (entries_of notes))) seen_is kp.upholds;
       in_use = λ told is. subst AreInUse held_is (kp.in_use told is);
       passed = λ j. let had = kp.passed j in let n = nones_at_set m.lanes.items b.lanes k old new lane more j in let e = ap (λ (l : List (Lane D)). nones_at l b.lanes j) lanes in omega arith;
+      taken = let few = kp.taken in let s = takes_of_set m.lanes.items b.lanes k 0 old new lane (omega (arith, takes)) in let e = ap (λ (l : List (Lane D)). takes_of l b.lanes) lanes in omega (arith, few, s, e);
       ready = ready_away kp.ready;
       locks = subst (λ (l : List (Lane D)). Locks m.id m.most m.spindle l b) (sym lanes) (locks_set state m.id m.most m.lanes.items k old new lane same kp.locks more);
     }
@@ -274,13 +287,22 @@ module _ {D : Type 0} (state : D → State) (m : Manager D) (k : ℕ) (old new :
 
   -- ---- What it stands for
 
+  -- one segment more was taken at most
+  took_few : {tells : Bool} (b : ManagerBase) (notes : List Noted) → Keeps tells state m b notes → (v : Vec (Lane D) Global) → v.items ≡ slice_set m.lanes.items k new → HasTakenWrite old new → (next : ℕ) (down : Option Part)
+      → m.next + cond {A = ℕ} (is_some m.down) 1 0 + 1 ≤ next + cond {A = ℕ} (is_some down) 1 0 → takes_of v.items b.lanes + b.volume.began.next ≤ next + cond (is_some down) 1 0
+  took_few b notes kp v lanes took next down most =
+      let few = kp.taken in
+      let s = takes_of_set m.lanes.items b.lanes k 1 old new lane (took_one old new took) in
+      let e = ap (λ (l : List (Lane D)). takes_of l b.lanes) lanes in
+      omega (arith, few, s, e, most)
+
   -- with these pieces the manager stands for the entries, where the last one left its look
   stands_so : (tells : Bool) (b : ManagerBase) (notes : List Noted) (nt : Noted) (kp : Keeps tells state m b notes) (v : Vec (Lane D) Global) (index : Contents) (next : ℕ) (ups : List Bool) (down : Option Part) → v.items ≡ slice_set m.lanes.items k new
       → nones_in (pass_mine (pool_of old)) ≤ nones_in (pass_mine (pool_of new)) → Pieces tells state m b (notes ++ nt ∷ []) (slice_set m.lanes.items k new) index.entries next ups down
       → IsReady state (record m { lanes = v; index = index; next = next; ups = record { items = ups }; down = down }) → HasPassed (nones_at v.items b.lanes) (notes ++ nt ∷ [])
-      → nt.look ≡ look_of_manager (record m { lanes = v; index = index; next = next; ups = record { items = ups }; down = down })
+      → takes_of v.items b.lanes + b.volume.began.next ≤ next + cond (is_some down) 1 0 → nt.look ≡ look_of_manager (record m { lanes = v; index = index; next = next; ups = record { items = ups }; down = down })
       → Stands tells state (record m { lanes = v; index = index; next = next; ups = record { items = ups }; down = down }) b (notes ++ nt ∷ [])
-  stands_so tells b notes nt kp v index next ups down lanes more pieces is_ready passed look = record {
+  stands_so tells b notes nt kp v index next ups down lanes more pieces is_ready passed few look = record {
     keeps = record {
       logs = pieces.logs;
       held = subst (λ (l : List (Lane D)). AllLanesHold (λ h rs. IsTrue tells → down ≡ None → Holds state h.segment rs) l pieces.logs) (sym lanes) pieces.held;
@@ -288,6 +310,7 @@ module _ {D : Type 0} (state : D → State) (m : Manager D) (k : ℕ) (old new :
           (sym lanes) pieces.upholds;
       in_use = λ told is. subst (λ (l : List (Lane D)). AreInUse (all_held 0 l pieces.logs)) (sym lanes) (pieces.in_use told is);
       passed = passed;
+      taken = few;
       ready = is_ready;
       locks = subst (λ (l : List (Lane D)). Locks m.id m.most m.spindle l b) (sym lanes) (locks_set state m.id m.most m.lanes.items k old new lane same kp.locks more);
     };
@@ -312,7 +335,7 @@ module _ {D : Type 0} (state : D → State) (m : Manager D) (k : ℕ) (old new :
       stands_written put v index ups lanes entries flags is_ready passed = stands_so tells b notes nt kp v index (m.next + 1) ups m.down lanes (taken_same old new took)
           (subst (λ (u : List Bool). Pieces tells state m b (notes ++ nt ∷ []) (slice_set m.lanes.items k new) index.entries (m.next + 1) u m.down) (sym flags)
           (subst (λ (es : List Indexed). Pieces tells state m b (notes ++ nt ∷ []) (slice_set m.lanes.items k new) es (m.next + 1) (slice_set m.ups.items k true) m.down) (sym entries) (written_pieces put)))
-          is_ready passed (look ∙ (λ j. record { home_up = m.home_up; ups = sym flags j; next = m.next + 1; listed = listed_in (sym entries j); down = down_of m.down }))
+          is_ready passed (took_few b notes kp v lanes took (m.next + 1) m.down (omega arith)) (look ∙ (λ j. record { home_up = m.home_up; ups = sym flags j; next = m.next + 1; listed = listed_in (sym entries j); down = down_of m.down }))
 
     -- a call failed
     module _ (refusal : ℕ × Failed) (broke : nt.entry.operation ≡ Broke (log_write m.next lbn from ∷ [])) (unruled : nt.after_drain ≡ false) where
@@ -325,7 +348,7 @@ module _ {D : Type 0} (state : D → State) (m : Manager D) (k : ℕ) (old new :
       pub stands_failed : PutIn state old new (length from) (r ∷ []) (Err refusal) → (v : Vec (Lane D) Global) → v.items ≡ slice_set m.lanes.items k new
           → IsReady state (record m { lanes = v; down = Some (part.Segment (logger_of old) refusal.0) }) → HasPassed (nones_at v.items b.lanes) (notes ++ nt ∷ []) → nt.look ≡ look_of_manager (record m { down = Some (part.Segment (logger_of old) refusal.0) })
           → Stands tells state (record m { lanes = v; down = Some (part.Segment (logger_of old) refusal.0) }) b (notes ++ nt ∷ [])
-      stands_failed put v lanes is_ready passed look = stands_so tells b notes nt kp v m.index m.next m.ups.items (Some (part.Segment (logger_of old) refusal.0)) lanes (taken_same old new took) (failed_pieces put) is_ready passed look
+      stands_failed put v lanes is_ready passed look = stands_so tells b notes nt kp v m.index m.next m.ups.items (Some (part.Segment (logger_of old) refusal.0)) lanes (taken_same old new took) (failed_pieces put) is_ready passed (took_few b notes kp v lanes took m.next (Some (part.Segment (logger_of old) refusal.0)) (let none = ap (λ (o : Option Part). cond {A = ℕ} (is_some o) 1 0) up in omega (arith, none))) look
 
   -- ---- Stopped at any moment, and why it failed
 

@@ -27,6 +27,8 @@ pub struct LaneBase {
     pub spindle_number: u64,
     /// In how many turns before the opening the pass found the pool empty.
     pub nones: u64,
+    /// In how many it took a segment.
+    pub takes: u64,
 }
 
 /// The base of a manager's lock.

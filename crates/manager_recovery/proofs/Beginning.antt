@@ -30,7 +30,7 @@ use Rattle.logger.specs.declared.lane.HeldSegment.{HeldSegment}
 use Rattle.logger.specs.declared.lane.Lane.{Lane}
 use Rattle.logger.specs.declared.shared.Shared.{Shared}
 use Rattle.manager.specs.Seen.{look_of_manager}
-use Rattle.manager.specs.Stands.{nones_in, opened}
+use Rattle.manager.specs.Stands.{nones_in, opened, takes_in}
 use Rattle.manager_recovery.specs.Owned.{IsListedOf, Owned, read_of, owned_of, all_owned, records_in, writes_in, recovered_of}
 use Rattle.manager_recovery.specs.Left.{HasGiven, IsUsedLane, IsHandedBack}
 use Rattle.manager_recovery.specs.Opened.{Opens, IsInLane, base_at_opening, untold_write}
@@ -361,6 +361,7 @@ module _ {D : Type 0} (tells : Bool) (state : D → State) (shared : Shared D) (
         spindle = record { marker = record {}; id = pass_lock (spindle_of l) };
         spindle_number = pass_number (spindle_of l);
         nones = nones_in (pass_mine (pool_of l));
+        takes = takes_in (pass_mine (pool_of l));
       }) lanes.items;
     }
 

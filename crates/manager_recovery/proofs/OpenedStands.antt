@@ -27,7 +27,7 @@ use Rattle.logger.specs.declared.lane.HeldSegment.{HeldSegment}
 use Rattle.logger.specs.declared.lane.Lane.{Lane}
 use Rattle.logger.specs.declared.shared.Shared.{Shared}
 use Rattle.manager.specs.Seen.{Logs, all_held, all_taken, parts_of, seen, look_of_manager}
-use Rattle.manager.specs.Stands.{Stands, AreNamed, nones_in}
+use Rattle.manager.specs.Stands.{Stands, AreNamed, nones_in, takes_in, takes_of}
 use Rattle.manager.specs.declared.base.LaneBase.{LaneBase}
 use Rattle.manager.specs.declared.base.ManagerBase.{ManagerBase}
 use Rattle.manager.proofs.Lanes.{all_at, none_taken}
@@ -328,6 +328,7 @@ module _ {D : Type 0} (tells : Bool) (state : D → State) (shared : Shared D) (
     spindle = record { marker = record {}; id = pass_lock (spindle_of l) };
     spindle_number = pass_number (spindle_of l);
     nones = nones_in (pass_mine (pool_of l));
+    takes = takes_in (pass_mine (pool_of l));
   }
 
   abbrev pub opened_base : ManagerBase
@@ -341,6 +342,10 @@ module _ {D : Type 0} (tells : Bool) (state : D → State) (shared : Shared D) (
   all_named : (ls : List (Lane D)) → AreNamed ls (map lane_base ls)
   all_named [] = tt
   all_named (l ∷ ls) = (record { logger = refl; pool = refl; pool_number = refl; spindle = refl; spindle_number = refl; nones = omega arith }, all_named ls)
+
+  none_taken : (ls : List (Lane D)) → takes_of ls (map lane_base ls) ≡ 0
+  none_taken [] = refl
+  none_taken (l ∷ ls) = let rest = none_taken ls in omega (arith, rest)
 
   abbrev HoldsIts : HeldSegment D → List Record → Type 0
   HoldsIts h rs = IsTrue tells → (made state shared n r lanes gs c).down ≡ None → Holds state h.segment rs
@@ -368,6 +373,7 @@ module _ {D : Type 0} (tells : Bool) (state : D → State) (shared : Shared D) (
       upholds = subst (λ (m : ManagerSeen (Spun D)). Upholds (parts_of tells state) began m [] [] None) (sym seen_is) upholds;
       in_use = λ t up. subst AreInUse (sym held_is) (each (λ (s : Held (Spun D)). (q : Record) × Contains s.records q × IsValid (extent_of q).cover) (λ k g is has. in_use_one t g has));
       passed = λ k. omega arith;
+      taken = let none = none_taken lanes.items in omega (arith, none);
       ready = is_ready state shared n r lanes gs c;
       locks = record { pass = refl; number = refl; each = all_named lanes.items; owner = refl; most_ = refl; view = c.loggers };
     };

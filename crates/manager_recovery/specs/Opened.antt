@@ -13,7 +13,7 @@ use Rattle.logger.specs.declared.lane.Lane.{Lane}
 use Rattle.wol_promise.specs.Manager.{Base}
 use Rattle.wol_promise.specs.Stands.{next_version}
 use Rattle.manager.specs.Seen.{look_of_manager}
-use Rattle.manager.specs.Stands.{Stands, IsHome, nones_in}
+use Rattle.manager.specs.Stands.{Stands, IsHome, nones_in, takes_in}
 use Rattle.manager.specs.declared.base.LaneBase.{LaneBase}
 use Rattle.manager.specs.declared.base.ManagerBase.{ManagerBase}
 use Rattle.manager.specs.declared.manager.Manager.{Manager}
@@ -64,6 +64,7 @@ module _ {D : Type 0} (tells : Bool) (state : D → State) (o : Opening D) (m : 
     spindle = record { marker = record {}; id = pass_lock (spindle_of l) };
     spindle_number = pass_number (spindle_of l);
     nones = nones_in (pass_mine (pool_of l));
+    takes = takes_in (pass_mine (pool_of l));
   }
 
   -- the base of its lock: a function of what it was opened of and of what it is

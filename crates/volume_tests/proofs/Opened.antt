@@ -1,5 +1,5 @@
 -- A manager that was just made, over locks that were just made: its home is zero, and its one lane holds nothing.
-use Rattle.std.proofs.Common.{◌≡◌, ◌<◌, ◌≤◌, ◌+◌, ℕ, zero, suc, true, List, [], ◌∷◌, ◌++◌, length, Option, None, Some, refl, sym, ap, subst, ◌∙◌, arith}
+use Rattle.std.proofs.Common.{◌≡◌, ◌<◌, ◌≤◌, ◌+◌, ℕ, zero, suc, true, List, [], ◌∷◌, ◌++◌, length, Option, None, Some, refl, sym, ap, subst, ◌∙◌, arith, ◌-◌}
 use Rattle.std.specs.Prelude.{IsTrue, slice_get, slice_index_or, map, replicate}
 use Rattle.std.specs.List.{AllByRecursion}
 use Rattle.std.proofs.lemmas.Bool.{false≢true}
@@ -36,7 +36,7 @@ use Rattle.logger.specs.declared.lane.HeldSegment.{HeldSegment}
 use Rattle.logger.specs.declared.lane.Lane.{Lane}
 use Rattle.logger.specs.declared.shared.Shared.{Shared}
 use Rattle.manager.specs.Seen.{Logs, AllHold, AllLanesHold, all_held, all_taken, held_with, parts_of, seen}
-use Rattle.manager.specs.Stands.{Keeps, IsReady, IsReadyLane, IsHome, IsInVolume, IsPlacedIn, AreCounted, AreNamed, entries_at, opened}
+use Rattle.manager.specs.Stands.{Keeps, IsReady, IsReadyLane, IsHome, IsInVolume, IsPlacedIn, AreCounted, AreNamed, entries_at, opened, takes_in, takes_of}
 use Rattle.manager.specs.declared.base.LaneBase.{LaneBase}
 use Rattle.manager.specs.declared.base.ManagerBase.{ManagerBase}
 use Rattle.manager.specs.declared.manager.Manager.{Manager}
@@ -65,6 +65,7 @@ module _ (home : Spun MemDisk) (home_lock logger_lock : TurnLock Spindle Spindle
     spindle = record { marker = record {}; id = pass_lock (spindle_of l) };
     spindle_number = pass_number (spindle_of l);
     nones = 0;
+    takes = takes_in (pass_mine (pool_of l));
   }
 
   abbrev began : Base
@@ -161,6 +162,7 @@ module _ (home : Spun MemDisk) (home_lock logger_lock : TurnLock Spindle Spindle
     upholds = subst (λ (m : ManagerSeen (Spun MemDisk)). Upholds (parts_of true mem_state) began m [] [] None) (sym seen_is) upholds;
     in_use = λ told up. subst AreInUse (sym held_is) tt;
     passed = λ k. omega arith;
+    taken = subst (λ (ls : List (Lane MemDisk)). takes_of ls (lane_base ∷ []) + 1 ≤ 1 + 0) (sym one) (omega arith);
     ready = opened_ready;
     locks = record {
       pass = refl;

@@ -21,7 +21,7 @@ use Rattle.manager.proofs.Calm.{calm_put, lane_at, none_lane}
 use Rattle.manager.proofs.Claims.{no_more_set, claim_like, put_claimed, put_tells}
 use Rattle.manager.proofs.Copies.{refill_set}
 use Rattle.manager.proofs.NewRecord.{one_run, look_so}
-use Rattle.manager.proofs.Offering.{away_more, ready_away, keeps_away, ready_written, ready_failed, stands_written, stands_failed, stops_put, cause_put}
+use Rattle.manager.proofs.Offering.{away_more, ready_away, keeps_away, ready_written, ready_failed, stands_written, stands_failed, stops_put, cause_put, away_takes}
 use Rattle.manager.proofs.PutStops.{quiet_stops}
 use Rattle.manager.proofs.manager.Manager.offer.Goals as goal
 
@@ -48,7 +48,7 @@ pub returns-in-None-clause-keeps : goal.returns-in-None-clause-keeps
 returns-in-None-clause-keeps g c _ b notes kp =
     let m = c.args.self.now in let e = c.in-None.ensures in let t = e.turn in let old = c.index_mut-reached.result.now in
     keeps_away g.D.Disk.state m c.args.lane old c.put.new.lane (slice_get_read m.lanes.items (length m.lanes.items) c.args.lane old refl c.requires.lane c.index_mut-reached.ensures.value) e.lane t.same e.all e.none _ refl t.held
-    g.D.Disk.tells b notes (away_more (length c.args.from.now) old c.put.new.lane t) kp
+    g.D.Disk.tells b notes (away_more (length c.args.from.now) old c.put.new.lane t) (away_takes (length c.args.from.now) old c.put.new.lane t) kp
 
 pub returns-in-None-clause-any_moment : goal.returns-in-None-clause-any_moment
 returns-in-None-clause-any_moment g c =
