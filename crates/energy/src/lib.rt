@@ -20,6 +20,3 @@ pub struct Amounts {
     /// The energy, in units of 100 pJ: 10,000,000 of them are 1 mJ.
     pub units: u128,
 }
-
-#[cfg(test)]
-mod tests;

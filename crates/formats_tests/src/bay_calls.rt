@@ -3,6 +3,7 @@ ghost use Rattle.std.specs.Prelude.{◌≡◌, ◌≤◌, OnOk, IsTrue};
 ghost use Rattle.wol_bay.specs.Bay.{Holds};
 ghost use Rattle.formats_tests.specs.Home.{AreAllHome};
 
+use crate::same::same_at;
 use std::process::Abort;
 use wol_bay::{Bay, BayFault};
 use wol_disk::{Block, Disk, Failed};
@@ -81,7 +82,7 @@ pub(crate) fn writes<B: Bay, R: Abort>(
     ensures { AreAllHome (B.state bay.new) }
 {
     let found = write_image(bay, name, byte);
-    assert_eq!(rt; found, want, "{name} with {byte}");
+    same_at(rt, &found, &want, &format_args!("{name} with {byte}"));
 }
 
 /// An image is to go out in parts of these sizes, or not to, and to have these bytes.
@@ -96,5 +97,10 @@ pub(crate) fn reads<B: Bay, R: Abort>(
     ensures { AreAllHome (B.state bay.new) }
 {
     let found = read_image(bay, name, sizes);
-    assert_eq!(rt; found, want, "{name} in {} parts", sizes.len());
+    same_at(
+        rt,
+        &found,
+        &want,
+        &format_args!("{name} in {} parts", sizes.len()),
+    );
 }

@@ -1,4 +1,5 @@
 // Files that are configurations.
+use crate::same::{same, same_at};
 use fixtures::{ONE_BLOCK_EACH, THREE};
 use std::test::Fail;
 use wol_config::read_config;
@@ -27,48 +28,49 @@ view = []
 #[test]
 fn three_volumes_that_off_load(rt: HostRuntime) -> Result<(), Fail> {
     let config = read_config(rt.alloc(), THREE.as_bytes())?;
-    assert_eq!(rt; config.segment_blocks, 16);
-    assert_eq!(rt; config.timeout, 600_000_000);
-    assert_eq!(rt; config.powers.awake_mw, 8_000);
-    assert_eq!(rt; config.powers.standby_mw, 1_000);
-    assert_eq!(rt; config.powers.wake_mj, 50_000);
-    assert_eq!(rt; config.most(), 14);
-    assert_eq!(rt; config.volumes.len(), 3);
+    same(&rt, &config.segment_blocks, &16);
+    same(&rt, &config.timeout, &600_000_000);
+    same(&rt, &config.powers.awake_mw, &8_000);
+    same(&rt, &config.powers.standby_mw, &1_000);
+    same(&rt, &config.powers.wake_mj, &50_000);
+    same(&rt, &config.most(), &14);
+    assert!(rt; config.volumes.len() == 3);
     let last = &config.volumes[2];
-    assert_eq!(rt; last.name.as_str(), "src0");
-    assert_eq!(rt; last.host.as_bytes(), b"src".as_slice());
-    assert_eq!(rt; last.disk, 0);
-    assert_eq!(rt; last.home, 1_000);
-    assert_eq!(rt; last.segments, 4);
-    assert_eq!(rt; last.view.ids(), [1, 0].as_slice());
+    same(&rt, &last.name.as_str(), &"src0");
+    same(&rt, &last.host.as_bytes(), &b"src".as_slice());
+    same(&rt, &last.disk, &0);
+    same(&rt, &last.home, &1_000);
+    same(&rt, &last.segments, &4);
+    same(&rt, &last.view.ids(), &[1, 0].as_slice());
     Ok(())
 }
 
 #[test]
 fn a_log_of_one_segment(rt: HostRuntime) -> Result<(), Fail> {
     let config = read_config(rt.alloc(), A_LOG_OF_ONE_SEGMENT.as_bytes())?;
-    assert_eq!(rt;
-        config.timeout,
-        600_000_000,
-        "the timeout where the key is missing"
+    same_at(
+        &rt,
+        &config.timeout,
+        &600_000_000,
+        &"the timeout where the key is missing",
     );
-    assert_eq!(rt; config.most(), 2);
-    assert_eq!(rt; config.volumes.len(), 2);
-    assert_eq!(rt; config.volumes[0].view.ids(), [1].as_slice());
-    assert_eq!(rt; config.volumes[1].name.as_bytes(), b"b".as_slice());
-    assert_eq!(rt; config.volumes[1].segments, 1);
+    same(&rt, &config.most(), &2);
+    assert!(rt; config.volumes.len() == 2);
+    same(&rt, &config.volumes[0].view.ids(), &[1].as_slice());
+    same(&rt, &config.volumes[1].name.as_bytes(), &b"b".as_slice());
+    same(&rt, &config.volumes[1].segments, &1);
     Ok(())
 }
 
 #[test]
 fn three_volumes_of_one_block(rt: HostRuntime) -> Result<(), Fail> {
     let config = read_config(rt.alloc(), ONE_BLOCK_EACH.as_bytes())?;
-    assert_eq!(rt; config.volumes.len(), 3);
+    assert!(rt; config.volumes.len() == 3);
     for volume in &config.volumes {
-        assert_eq!(rt; volume.home, 1);
-        assert_eq!(rt; volume.segments, 1);
+        same(&rt, &volume.home, &1);
+        same(&rt, &volume.segments, &1);
     }
-    assert_eq!(rt; config.volumes[0].view.ids(), [1].as_slice());
+    same(&rt, &config.volumes[0].view.ids(), &[1].as_slice());
     assert!(rt; config.volumes[2].view.is_empty());
     Ok(())
 }

@@ -1,5 +1,6 @@
 // Bays of one folder.
 use crate::bay_calls::{reads, writes};
+use crate::same::same;
 use std::fs::File;
 use std::process::{Abort, id};
 use std::rt::Files;
@@ -27,7 +28,7 @@ fn goes_out_once<A: Abort, R: Files<File = File>>(
     one.detach("usr0", parts);
     reads(rt, two, "usr0", &[4], Ok(Ok((7, 7, 7))));
     let parts = one.create("usr0", &[2, 2])?;
-    assert_eq!(rt; parts.len(), 2);
+    same(rt, &parts.len(), &2);
     writes(rt, two, "usr0", 8, Err(BayFault::Failed));
     drop(parts);
     reads(rt, two, "usr0", &[4], Ok(Ok((0, 0, 0))));
@@ -47,9 +48,9 @@ fn a_file_holds_its_image_and_goes_out_once_at_a_time(rt: HostRuntime) -> Result
     let mut two = FileBay::new(rt, alloc, folder.as_str());
     writes(&rt, &mut one, "usr0", 7, Ok(Ok(())));
     let bytes = fs::read(&rt, file.as_str())?;
-    assert_eq!(rt; bytes.len(), 2048);
-    assert_eq!(rt; bytes.get(1535), Some(&7));
-    assert_eq!(rt; bytes.get(1536), Some(&0));
+    same(&rt, &bytes.len(), &2048);
+    same(&rt, &bytes.get(1535), &Some(&7));
+    same(&rt, &bytes.get(1536), &Some(&0));
     goes_out(&rt, &mut one);
     goes_out_once(&rt, &mut one, &mut two)?;
     fs::remove_dir_all(&rt, folder.as_str())?;

@@ -1,5 +1,6 @@
 // Files of other lengths than an image's, and a file that can't be synced.
 use crate::bay_calls::reads;
+use crate::same::same;
 use std::os::unix::fs::symlink;
 use std::process::id;
 use std::test::Fail;
@@ -49,7 +50,7 @@ fn a_sync_that_fails_is_told(rt: HostRuntime) -> Result<(), Fail> {
     let Some(mut part) = parts.pop() else {
         panic!(rt; "an image of one part");
     };
-    assert_eq!(rt; part.sync(), Err(Failed));
+    same(&rt, &part.sync(), &Err(Failed));
     fs::remove_dir_all(&rt, folder.as_str())?;
     Ok(())
 }

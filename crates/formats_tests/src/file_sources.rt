@@ -1,4 +1,5 @@
 // A file as a source: read in pieces to its end, and a read that fails.
+use crate::same::same;
 use std::process::{Abort, id};
 use std::rt::Files;
 use std::test::Fail;
@@ -9,8 +10,8 @@ use wol_io::{FileSource, Source};
 // This piece is to come next, and at the end nothing.
 fn gives<A: Abort, R: Files>(rt: &A, source: &mut FileSource<'_, R>, piece: &[u8]) {
     let mut out = [0xffu8; 4096];
-    assert_eq!(rt; source.read(&mut out), Ok(piece.len()));
-    assert_eq!(rt; out.get(..piece.len()), Some(piece));
+    same(rt, &source.read(&mut out), &Ok(piece.len()));
+    same(rt, &out.get(..piece.len()), &Some(piece));
 }
 
 #[test]
@@ -43,6 +44,6 @@ fn a_failed_read_is_no_end(rt: HostRuntime) {
     let mut out = [0u8; 4];
     let mut memory = FileSource::new(&rt, "/proc/self/mem");
     for _ in 0..2 {
-        assert_eq!(rt; memory.read(&mut out), Err(Failed));
+        same(&rt, &memory.read(&mut out), &Err(Failed));
     }
 }

@@ -1,4 +1,5 @@
 // The first lines of a seed, as they are written.
+use crate::same::same;
 use fixtures::{THREE, generated_text};
 use std::test::Fail;
 use trace_gen::Gen;
@@ -8,9 +9,10 @@ use wol_config::read_config;
 fn first_line_of_seed_0(rt: HostRuntime) -> Result<(), Fail> {
     let config = read_config(rt.alloc(), THREE.as_bytes())?;
     let text = generated_text(rt.alloc(), &config, 0, 1)?;
-    assert_eq!(rt;
-        text.as_slice(),
-        b"128166372000147231,web,0,Write,227328,6144,1000\n".as_slice()
+    same(
+        &rt,
+        &text.as_slice(),
+        &b"128166372000147231,web,0,Write,227328,6144,1000\n".as_slice(),
     );
     Ok(())
 }
@@ -27,7 +29,7 @@ fn six_lines_of_seed_0(rt: HostRuntime) -> Result<(), Fail> {
 128166372001316401,usr,0,Read,337920,5120,1000
 128166372811316401,src,0,Write,39936,1536,1000
 ";
-    assert_eq!(rt; text.as_slice(), expected.as_slice());
+    same(&rt, &text.as_slice(), &expected.as_slice());
     Ok(())
 }
 
@@ -36,7 +38,7 @@ fn another_seed(rt: HostRuntime) -> Result<(), Fail> {
     let config = read_config(rt.alloc(), THREE.as_bytes())?;
     let mut generator = Gen::new(7);
     let line = generator.next(rt.alloc(), &config)?;
-    assert_eq!(rt; line.time, 128_166_372_000_184_737);
-    assert_eq!(rt; (generator.seed(), generator.given()), (7, 1));
+    same(&rt, &line.time, &128_166_372_000_184_737);
+    same(&rt, &(generator.seed(), generator.given()), &(7, 1));
     Ok(())
 }

@@ -2,11 +2,13 @@
 //! windows, generated lines, configurations, commands and texts.
 //!
 //! `disks.rt` is of `wol_disk`; `memory_bays.rt`, `file_bays.rt` and `file_lengths.rt`, with the calls in `bay_calls.rt`, of
-//! `wol_bay`; `file_sources.rt` of `wol_io`; `trace_lines.rt` of `msr_trace`; `config_files.rt` and `config_refusals.rt` of
-//! `wol_config`; `generated_lines.rt` of `trace_gen`; `windows.rt` of `trace_windows`; `commands.rt` of `command_words`;
-//! `texts.rt` of `report`.
+//! `wol_bay`; `streams.rt` and `file_sources.rt` of `wol_io`; `amounts.rt` of `energy`; `trace_lines.rt` of `msr_trace`;
+//! `config_files.rt` and `config_refusals.rt` of `wol_config`; `generated_lines.rt` of `trace_gen`; `windows.rt` of
+//! `trace_windows`; `commands.rt` of `command_words`; `texts.rt` of `report`.
 #![tactic(auto)]
 
+#[cfg(test)]
+mod amounts;
 #[cfg(test)]
 mod bay_calls;
 #[cfg(test)]
@@ -27,6 +29,10 @@ mod file_sources;
 mod generated_lines;
 #[cfg(test)]
 mod memory_bays;
+#[cfg(test)]
+mod same;
+#[cfg(test)]
+mod streams;
 #[cfg(test)]
 mod texts;
 #[cfg(test)]

@@ -5,6 +5,7 @@ ghost use Rattle.wol_bay.specs.MemBay.{mem_bay_state};
 ghost use Rattle.formats_tests.specs.Home.{AreAllHome};
 
 use crate::bay_calls::{read_image, reads, write_image, writes};
+use crate::same::same;
 use std::alloc::Global;
 use std::process::Abort;
 use std::sync::Arc;
@@ -83,7 +84,7 @@ fn a_fuse_stops_what_goes_out(rt: HostRuntime) -> Result<(), Fail> {
     give_fuse(&mut bay, Some(Arc::try_clone(&fuse)?));
     writes(&rt, &mut bay, "usr0", 1, Ok(Ok(())));
     writes(&rt, &mut bay, "web0", 1, Ok(Err(Failed)));
-    assert_eq!(rt; fuse.passed(), 3);
+    same(&rt, &fuse.passed(), &3);
     give_fuse(&mut bay, None);
     writes(&rt, &mut bay, "web0", 1, Ok(Ok(())));
     Ok(())
@@ -97,7 +98,7 @@ fn stops<R: Abort>(rt: &R, alloc: Global, choice: &[u32], want: (u8, u8, u8)) ->
     restart_image(&mut bay, "usr0", choice);
     give_fuse(&mut bay, None);
     reads(rt, &mut bay, "usr0", &[4], Ok(Ok(want)));
-    assert_eq!(rt; written, Err(Failed));
+    same(rt, &written, &Err(Failed));
     Ok(())
 }
 
@@ -125,7 +126,7 @@ fn bytes_are_put_as_an_image_and_taken_away(rt: HostRuntime) -> Result<(), Fail>
     put_image(&mut bay, "usr0", blocks.as_flattened())?;
     let read = read_image(&mut bay, "usr0", &[4])?;
     remove_image(&mut bay, "usr0");
-    assert_eq!(rt; read, Ok((1, 2, 3)));
+    same(&rt, &read, &Ok((1, 2, 3)));
     reads(&rt, &mut bay, "usr0", &[4], Err(BayFault::Absent));
     put_image(&mut bay, "usr0", &[0; 700])?;
     let wrong = BayFault::WrongLength { bytes: 700 };

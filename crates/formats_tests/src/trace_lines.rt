@@ -1,4 +1,5 @@
 // The format's own examples: what is refused and in which order, where lines are cut, pieces, texts and payloads.
+use crate::same::{same, same_at};
 use msr_trace::{
     BadLine, HostName, Kind, Line, LineFault, Lines, Piece, TraceFault, fill, mark, read_line,
     write_line,
@@ -29,10 +30,14 @@ fn first_fault(alloc: Global, text: &[u8], cut: usize) -> Result<Option<TraceFau
 fn a_line_alone_is_read(rt: HostRuntime) -> Result<(), Fail> {
     let alloc = rt.alloc();
     let line = read_line(alloc, b"1,usr,0,Read,0,512,7")?;
-    assert_eq!(rt; line.map(|line| line.response), Some(7));
+    same(&rt, &line.map(|line| line.response), &Some(7));
     assert!(rt; read_line(alloc, b"\r")?.is_none());
     let short = read_line(alloc, b"1,usr,0,Read,0,512");
-    assert_eq!(rt; short.err(), Some(LineFault::Bad(BadLine::FieldCount)));
+    same(
+        &rt,
+        &short.err(),
+        &Some(LineFault::Bad(BadLine::FieldCount)),
+    );
     Ok(())
 }
 
@@ -77,11 +82,17 @@ fn refusals_come_in_order(rt: HostRuntime) -> Result<(), Fail> {
     ];
     for (text, why) in cases {
         let want = why.map(|why| TraceFault::Bad { line: 1, why });
-        assert_eq!(rt; first_fault(rt.alloc(), text, 8192)?, want, "{text:?}");
-        assert_eq!(rt;
-            first_fault(rt.alloc(), text, 1)?,
-            want,
-            "{text:?} byte by byte"
+        same_at(
+            &rt,
+            &first_fault(rt.alloc(), text, 8192)?,
+            &want,
+            &format_args!("{text:?}"),
+        );
+        same_at(
+            &rt,
+            &first_fault(rt.alloc(), text, 1)?,
+            &want,
+            &format_args!("{text:?} byte by byte"),
         );
     }
     Ok(())
@@ -102,15 +113,17 @@ fn a_line_has_at_most_4096_bytes(rt: HostRuntime) -> Result<(), Fail> {
         text.extend_from_slice(&vec![in rt.alloc(); b'a'; bytes]?)?;
         text.extend_from_slice(end)?;
         let want = Some(TraceFault::Bad { line: 3, why });
-        assert_eq!(rt;
-            first_fault(rt.alloc(), &text, 8192)?,
-            want,
-            "{bytes} bytes"
+        same_at(
+            &rt,
+            &first_fault(rt.alloc(), &text, 8192)?,
+            &want,
+            &format_args!("{bytes} bytes"),
         );
-        assert_eq!(rt;
-            first_fault(rt.alloc(), &text, 7)?,
-            want,
-            "{bytes} bytes in cuts"
+        same_at(
+            &rt,
+            &first_fault(rt.alloc(), &text, 7)?,
+            &want,
+            &format_args!("{bytes} bytes in cuts"),
         );
     }
     Ok(())
@@ -142,11 +155,12 @@ fn copies<S: Source + Drop, R: Abort>(rt: &R, alloc: Global, lines: Lines<S>, te
     let first = copy_next(&mut lines, &mut out);
     let second = copy_next(&mut lines, &mut out);
     let end = copy_next(&mut lines, &mut out);
-    assert_eq!(rt;
-        [blank, first, second, end],
-        [Ok(Some(1)), Ok(Some(2)), Ok(Some(3)), Ok(None)]
+    same(
+        rt,
+        &[blank, first, second, end],
+        &[Ok(Some(1)), Ok(Some(2)), Ok(Some(3)), Ok(None)],
     );
-    assert_eq!(rt; out.as_slice(), text);
+    same(rt, &out.as_slice(), &text);
     let _source = lines.into_source();
 }
 
@@ -192,28 +206,30 @@ fn pieces_are_cut_at_the_end_and_at_the_most(rt: HostRuntime) -> Result<(), Fail
         assert!(rt; home > 0 && most > 0);
         let mut pieces = line.pieces(home, most);
         for (lbn, count) in want {
-            assert_eq!(rt;
-                pieces.next(),
-                Some(Piece {
+            same(
+                &rt,
+                &pieces.next(),
+                &Some(Piece {
                     lbn: *lbn,
-                    count: *count
-                })
+                    count: *count,
+                }),
             );
         }
-        assert_eq!(rt; pieces.next(), None);
+        same(&rt, &pieces.next(), &None);
     }
     let largest = line_at(rt.alloc(), 0, 67_108_864)?;
     let mut pieces = largest.pieces(200_000, 128);
     for i in 0..1024 {
-        assert_eq!(rt;
-            pieces.next(),
-            Some(Piece {
+        same(
+            &rt,
+            &pieces.next(),
+            &Some(Piece {
                 lbn: 128 * i,
-                count: 128
-            })
+                count: 128,
+            }),
         );
     }
-    assert_eq!(rt; pieces.next(), None);
+    same(&rt, &pieces.next(), &None);
     Ok(())
 }
 
@@ -234,13 +250,15 @@ fn line_at(alloc: Global, offset: u64, size: u64) -> Result<Line, Fail> {
 fn payloads_hold_the_line_and_the_block(rt: HostRuntime) {
     let mut blocks = [[1u8; 512]; 3];
     fill(2, 5, &mut blocks);
-    assert_eq!(rt;
-        &blocks[0][..16],
-        [2, 0, 0, 0, 0, 0, 0, 0, 5, 0, 0, 0, 0, 0, 0, 0].as_slice()
+    same(
+        &rt,
+        &&blocks[0][..16],
+        &[2, 0, 0, 0, 0, 0, 0, 0, 5, 0, 0, 0, 0, 0, 0, 0].as_slice(),
     );
-    assert_eq!(rt;
-        &blocks[2][496..],
-        [2, 0, 0, 0, 0, 0, 0, 0, 7, 0, 0, 0, 0, 0, 0, 0].as_slice()
+    same(
+        &rt,
+        &&blocks[2][496..],
+        &[2, 0, 0, 0, 0, 0, 0, 0, 7, 0, 0, 0, 0, 0, 0, 0].as_slice(),
     );
-    assert_eq!(rt; mark(&blocks), 6);
+    same(&rt, &mark(&blocks), &6);
 }

@@ -1,12 +1,14 @@
 // Traces whose windows are known.
 ghost use Rattle.std.specs.Prelude.{◌≤◌, IfOk};
+ghost use Rattle.wol_config.specs.Configs.{IsValid};
 
+use crate::same::same;
 use fixtures::THREE;
 use msr_trace::Lines;
 use std::alloc::Global;
 use std::test::Fail;
 use trace_windows::{Batch, Cutter, Tally};
-use wol_config::read_config;
+use wol_config::{Config, read_config};
 use wol_io::MemSource;
 
 // What is noted of a window.
@@ -21,6 +23,27 @@ fn cut_of(batch: &Batch) -> Cut {
     noted(batch.moment(), batch.lines(), batch.requests().len())
 }
 
+// Takes the next line, if there is one and not ten were taken, and notes the window that it closes. Says whether it took one.
+fn take_next(
+    lines: &mut Lines<MemSource>,
+    cutter: &mut Cutter,
+    config: &Config,
+    cuts: &mut Vec<Cut>,
+) -> Result<bool, Fail>
+    requires { IsValid config.now }
+{
+    if !lines.is_live() || cutter.tally().lines >= 10 {
+        return Ok(false);
+    }
+    let Some((_, line)) = lines.next()? else {
+        return Ok(false);
+    };
+    if cutter.take(config, line.as_ref())? {
+        cuts.push(cut_of(cutter.whole()))?;
+    }
+    Ok(true)
+}
+
 // The windows of a trace of at most ten lines over three volumes, and what was counted of its lines.
 fn cut_text(alloc: Global, text: &[u8]) -> Result<(Vec<Cut>, Tally), Fail>
     ensures { IfOk result (λ r. r.1.started ≤ r.1.ended) }
@@ -31,14 +54,8 @@ fn cut_text(alloc: Global, text: &[u8]) -> Result<(Vec<Cut>, Tally), Fail>
     let mut cutter = Cutter::new(alloc);
     let mut cuts = Vec::new(alloc);
     for _ in 0..10 {
-        if !lines.is_live() || cutter.tally().lines >= 10 {
+        if !take_next(&mut lines, &mut cutter, &config, &mut cuts)? {
             break;
-        }
-        let Some((_, line)) = lines.next()? else {
-            break;
-        };
-        if cutter.take(&config, line.as_ref())? {
-            cuts.push(cut_of(cutter.whole()))?;
         }
     }
     let last = cutter.current();
@@ -71,9 +88,9 @@ fn windows_last_a_second(rt: HostRuntime) -> Result<(), Fail> {
         noted(10_000_100, 2, 0),
         noted(30_000_000, 1, 2),
     ];
-    assert_eq!(rt; cuts.as_slice(), expected.as_slice());
-    assert_eq!(rt; (tally.lines, tally.blank, tally.skipped), (6, 1, 2));
-    assert_eq!(rt; (tally.requests, tally.span()), (5, 29_999_900));
+    same(&rt, &cuts.as_slice(), &expected.as_slice());
+    same(&rt, &(tally.lines, tally.blank, tally.skipped), &(6, 1, 2));
+    same(&rt, &(tally.requests, tally.span()), &(5, 29_999_900));
     Ok(())
 }
 
@@ -86,8 +103,8 @@ fn times_never_fall(rt: HostRuntime) -> Result<(), Fail> {
 ";
     let (cuts, tally) = cut_text(rt.alloc(), text)?;
     let expected = [noted(50_000_000, 2, 2), noted(60_000_000, 1, 1)];
-    assert_eq!(rt; cuts.as_slice(), expected.as_slice());
-    assert_eq!(rt; tally.span(), 10_000_000);
+    same(&rt, &cuts.as_slice(), &expected.as_slice());
+    same(&rt, &tally.span(), &10_000_000);
     Ok(())
 }
 
@@ -95,7 +112,7 @@ fn times_never_fall(rt: HostRuntime) -> Result<(), Fail> {
 #[test]
 fn blank_lines_are_no_window(rt: HostRuntime) -> Result<(), Fail> {
     let (cuts, tally) = cut_text(rt.alloc(), b"\n\r\n\n")?;
-    assert_eq!(rt; cuts.len(), 0);
-    assert_eq!(rt; (tally.lines, tally.blank, tally.span()), (3, 3, 0));
+    same(&rt, &cuts.len(), &0);
+    same(&rt, &(tally.lines, tally.blank, tally.span()), &(3, 3, 0));
     Ok(())
 }

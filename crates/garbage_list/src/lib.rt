@@ -5,8 +5,6 @@
 
 mod find;
 mod masks;
-#[cfg(test)]
-mod tests;
 
 pub use find::{next_due, next_to_go};
 pub use masks::{due, may_go};

@@ -2,6 +2,7 @@
 use crate::calls::{Call, Failing, make_call};
 use crate::images::{Left, bay_of, crash, images_of};
 use crate::rows::{CLEANED, FORMATTED, RECLAIMED, RECLAIMS, Row, SMALL_DRAINED, keeping};
+use crate::same::{holds_at, same, same_at};
 use crate::stops::{found, prepared, stopped, without_last_line};
 use std::alloc::Global;
 use std::process::Abort;
@@ -88,15 +89,21 @@ fn try_part<R: Abort + Threads + Wait + Sync>(
     for number in 0..MOST_CALLS {
         let (status, text) = failed(rt, alloc, row, images, part, number, Left::AllOld)?;
         let (newer, _text) = failed(rt, alloc, row, images, part, number, Left::AllNew)?;
-        assert_eq!(rt; newer, status);
+        same(rt, &newer, &status);
         let (wanted, line, may_end) = fault_at(part.faults, number).unwrap_or((0, "", true));
         if may_end && status == 0 {
             return Ok(());
         }
-        assert_eq!(rt; status, wanted, "{words}: {image} {place} {number}: {text}");
-        assert!(rt;
+        same_at(
+            rt,
+            &status,
+            &wanted,
+            &format_args!("{words}: {image} {place} {number}: {text}"),
+        );
+        holds_at(
+            rt,
             text.lines().any(|it| it == line),
-            "{words}: {image} {place} {number}: {text}"
+            &format_args!("{words}: {image} {place} {number}: {text}"),
         );
     }
     panic!(rt; "it made a thousand calls")
@@ -147,16 +154,17 @@ fn try_config<R: Abort + Threads + Wait + Sync>(
     for number in 0..MOST_CALLS {
         let (status, text, left) = left_by(rt, alloc, row, &images, Failing::Config(number))?;
         if status == 0 {
-            assert!(rt; number > 10, "{words}");
+            holds_at(rt, number > 10, &words);
             return Ok(());
         }
-        assert_eq!(rt; status, 8, "{words} {number}");
-        assert_eq!(rt;
-            text.as_slice(),
-            b"fault 8 config\n".as_slice(),
-            "{words} {number}"
+        same_at(rt, &status, &8, &format_args!("{words} {number}"));
+        same_at(
+            rt,
+            &text.as_slice(),
+            &b"fault 8 config\n".as_slice(),
+            &format_args!("{words} {number}"),
         );
-        assert!(rt; left == images, "{words} {number}");
+        holds_at(rt, left == images, &format_args!("{words} {number}"));
     }
     panic!(rt; "it made a thousand calls")
 }
@@ -174,14 +182,19 @@ fn try_trace<R: Abort + Threads + Wait + Sync>(
         let (status, text, left) = left_by(rt, alloc, row, &images, Failing::Trace(number))?;
         let _places = found(rt, alloc, row, &left)?;
         if status == 0 {
-            assert!(rt; number > 10, "{words}");
+            holds_at(rt, number > 10, &words);
             return Ok(());
         }
-        assert_eq!(rt; status, 8, "{words} {number}");
-        assert!(rt; text.ends_with(b"fault 8 trace\n"), "{words} {number}");
-        assert!(rt;
+        same_at(rt, &status, &8, &format_args!("{words} {number}"));
+        holds_at(
+            rt,
+            text.ends_with(b"fault 8 trace\n"),
+            &format_args!("{words} {number}"),
+        );
+        holds_at(
+            rt,
             whole.text.starts_with(without_last_line(&text)),
-            "{words} {number}"
+            &format_args!("{words} {number}"),
         );
     }
     panic!(rt; "it made a thousand calls")
@@ -200,12 +213,16 @@ fn try_sink<R: Abort + Threads + Wait + Sync>(
         let (status, text, left) = left_by(rt, alloc, row, &images, Failing::Sink(number))?;
         let _places = found(rt, alloc, row, &left)?;
         if status == 0 {
-            assert!(rt; number > 0, "{words}");
-            assert_eq!(rt; text.as_slice(), whole.text.as_slice(), "{words}");
+            holds_at(rt, number > 0, &words);
+            same_at(rt, &text.as_slice(), &whole.text.as_slice(), &words);
             return Ok(());
         }
-        assert_eq!(rt; status, 7, "{words} {number}");
-        assert!(rt; whole.text.starts_with(&text), "{words} {number}");
+        same_at(rt, &status, &7, &format_args!("{words} {number}"));
+        holds_at(
+            rt,
+            whole.text.starts_with(&text),
+            &format_args!("{words} {number}"),
+        );
     }
     panic!(rt; "it made a thousand calls")
 }
@@ -258,233 +275,243 @@ fn an_output_that_is_refused_loses_nothing(rt: HostRuntime) -> Result<(), Fail> 
     Ok(())
 }
 
+const IN_A_DRAIN: &[Part<'_>] = &[
+    Part {
+        image: "a",
+        part: LABEL,
+        faults: &[(2, 4, "fault 4 a disk label")],
+    },
+    Part {
+        image: "a",
+        part: HOME,
+        faults: &[(REST, 4, "fault 4 a disk home")],
+    },
+    Part {
+        image: "b",
+        part: LABEL,
+        faults: &[(2, 6, "fault 6 a logger 1 missing")],
+    },
+    Part {
+        image: "b",
+        part: HOME,
+        faults: &[(REST, 4, "fault 4 b disk home")],
+    },
+    Part {
+        image: "b",
+        part: SEGMENT_0,
+        faults: &[
+            (2, 6, "fault 6 a logger 1 missing"),
+            (REST, 4, "fault 4 a disk segment 0 of b"),
+        ],
+    },
+];
+
 #[test]
 fn each_call_of_a_disk_that_fails_in_a_drain_is_told(rt: HostRuntime) -> Result<(), Fail> {
-    let parts = [
-        Part {
-            image: "a",
-            part: LABEL,
-            faults: &[(2, 4, "fault 4 a disk label")],
-        },
-        Part {
-            image: "a",
-            part: HOME,
-            faults: &[(REST, 4, "fault 4 a disk home")],
-        },
-        Part {
-            image: "b",
-            part: LABEL,
-            faults: &[(2, 6, "fault 6 a logger 1 missing")],
-        },
-        Part {
-            image: "b",
-            part: HOME,
-            faults: &[(REST, 4, "fault 4 b disk home")],
-        },
-        Part {
-            image: "b",
-            part: SEGMENT_0,
-            faults: &[
-                (2, 6, "fault 6 a logger 1 missing"),
-                (REST, 4, "fault 4 a disk segment 0 of b"),
-            ],
-        },
-    ];
-    try_parts(&rt, rt.alloc(), &SMALL_DRAINED, &parts)
+    try_parts(&rt, rt.alloc(), &SMALL_DRAINED, IN_A_DRAIN)
 }
+
+const IN_A_FORMAT: &[Part<'_>] = &[
+    Part {
+        image: "a",
+        part: LABEL,
+        faults: &[(REST, 4, "fault 4 a disk label")],
+    },
+    Part {
+        image: "a",
+        part: HOME,
+        faults: &[(1, 4, "fault 4 a disk home")],
+    },
+    Part {
+        image: "b",
+        part: LABEL,
+        faults: &[(REST, 4, "fault 4 b disk label")],
+    },
+    Part {
+        image: "b",
+        part: HOME,
+        faults: &[(1, 4, "fault 4 b disk home")],
+    },
+    Part {
+        image: "b",
+        part: SEGMENT_0,
+        faults: &[(REST, 4, "fault 4 b disk segment 0 of b")],
+    },
+];
 
 #[test]
 fn each_call_of_a_disk_that_fails_in_a_format_is_told(rt: HostRuntime) -> Result<(), Fail> {
-    let parts = [
-        Part {
-            image: "a",
-            part: LABEL,
-            faults: &[(REST, 4, "fault 4 a disk label")],
-        },
-        Part {
-            image: "a",
-            part: HOME,
-            faults: &[(1, 4, "fault 4 a disk home")],
-        },
-        Part {
-            image: "b",
-            part: LABEL,
-            faults: &[(REST, 4, "fault 4 b disk label")],
-        },
-        Part {
-            image: "b",
-            part: HOME,
-            faults: &[(1, 4, "fault 4 b disk home")],
-        },
-        Part {
-            image: "b",
-            part: SEGMENT_0,
-            faults: &[(REST, 4, "fault 4 b disk segment 0 of b")],
-        },
-    ];
-    try_parts(&rt, rt.alloc(), &FORMATTED, &parts)
+    try_parts(&rt, rt.alloc(), &FORMATTED, IN_A_FORMAT)
 }
+
+const IN_A_CHECK: &[Part<'_>] = &[
+    Part {
+        image: "u",
+        part: LABEL,
+        faults: &[(2, 4, "u disk label")],
+    },
+    Part {
+        image: "u",
+        part: HOME,
+        faults: &[(REST, 4, "u disk home")],
+    },
+    Part {
+        image: "u",
+        part: SEGMENT_0,
+        faults: &[(2, 4, "u disk segment 0 of u")],
+    },
+    Part {
+        image: "w",
+        part: LABEL,
+        faults: &[(2, 6, "w disk label")],
+    },
+    Part {
+        image: "w",
+        part: HOME,
+        faults: &[(REST, 4, "w disk home")],
+    },
+    Part {
+        image: "w",
+        part: SEGMENT_0,
+        faults: &[
+            (2, 6, "w disk segment 0 of w"),
+            (REST, 4, "u disk segment 0 of w"),
+        ],
+    },
+    Part {
+        image: "w",
+        part: SEGMENT_1,
+        faults: &[
+            (2, 6, "w disk segment 1 of w"),
+            (REST, 4, "s disk segment 1 of w"),
+        ],
+    },
+    Part {
+        image: "s",
+        part: LABEL,
+        faults: &[(2, 4, "s disk label")],
+    },
+    Part {
+        image: "s",
+        part: HOME,
+        faults: &[(REST, 4, "s disk home")],
+    },
+    Part {
+        image: "s",
+        part: SEGMENT_0,
+        faults: &[(2, 4, "s disk segment 0 of s")],
+    },
+];
 
 #[test]
 fn each_call_of_a_disk_that_fails_in_a_check_is_told(rt: HostRuntime) -> Result<(), Fail> {
-    let parts = [
-        Part {
-            image: "u",
-            part: LABEL,
-            faults: &[(2, 4, "u disk label")],
-        },
-        Part {
-            image: "u",
-            part: HOME,
-            faults: &[(REST, 4, "u disk home")],
-        },
-        Part {
-            image: "u",
-            part: SEGMENT_0,
-            faults: &[(2, 4, "u disk segment 0 of u")],
-        },
-        Part {
-            image: "w",
-            part: LABEL,
-            faults: &[(2, 6, "w disk label")],
-        },
-        Part {
-            image: "w",
-            part: HOME,
-            faults: &[(REST, 4, "w disk home")],
-        },
-        Part {
-            image: "w",
-            part: SEGMENT_0,
-            faults: &[
-                (2, 6, "w disk segment 0 of w"),
-                (REST, 4, "u disk segment 0 of w"),
-            ],
-        },
-        Part {
-            image: "w",
-            part: SEGMENT_1,
-            faults: &[
-                (2, 6, "w disk segment 1 of w"),
-                (REST, 4, "s disk segment 1 of w"),
-            ],
-        },
-        Part {
-            image: "s",
-            part: LABEL,
-            faults: &[(2, 4, "s disk label")],
-        },
-        Part {
-            image: "s",
-            part: HOME,
-            faults: &[(REST, 4, "s disk home")],
-        },
-        Part {
-            image: "s",
-            part: SEGMENT_0,
-            faults: &[(2, 4, "s disk segment 0 of s")],
-        },
-    ];
-    try_parts(&rt, rt.alloc(), &keeping("check", &[]), &parts)
+    try_parts(&rt, rt.alloc(), &keeping("check", &[]), IN_A_CHECK)
 }
+
+const IN_A_CHANGE: &[Part<'_>] = &[
+    Part {
+        image: "u",
+        part: LABEL,
+        faults: &[(2, 4, "fault 4 u disk label")],
+    },
+    Part {
+        image: "u",
+        part: HOME,
+        faults: &[(REST, 4, "fault 4 u disk home")],
+    },
+    Part {
+        image: "u",
+        part: SEGMENT_0,
+        faults: &[(2, 4, "fault 4 u disk segment 0 of u")],
+    },
+    Part {
+        image: "w",
+        part: LABEL,
+        faults: &[(2, 6, "fault 6 u logger 1 missing")],
+    },
+    Part {
+        image: "w",
+        part: HOME,
+        faults: &[(1, 4, "fault 4 w disk home")],
+    },
+    Part {
+        image: "w",
+        part: SEGMENT_0,
+        faults: &[
+            (2, 6, "fault 6 u logger 1 missing"),
+            (REST, 4, "fault 4 u disk segment 0 of w"),
+        ],
+    },
+    Part {
+        image: "w",
+        part: SEGMENT_1,
+        faults: &[
+            (2, 6, "fault 6 u logger 1 missing"),
+            (REST, 4, "fault 4 s disk segment 1 of w"),
+        ],
+    },
+    Part {
+        image: "s",
+        part: HOME,
+        faults: &[(1, 4, "fault 4 s disk home")],
+    },
+];
 
 #[test]
 fn each_call_of_a_disk_that_fails_in_a_change_of_views_is_told(
     rt: HostRuntime,
 ) -> Result<(), Fail> {
-    let parts = [
-        Part {
-            image: "u",
-            part: LABEL,
-            faults: &[(2, 4, "fault 4 u disk label")],
-        },
-        Part {
-            image: "u",
-            part: HOME,
-            faults: &[(REST, 4, "fault 4 u disk home")],
-        },
-        Part {
-            image: "u",
-            part: SEGMENT_0,
-            faults: &[(2, 4, "fault 4 u disk segment 0 of u")],
-        },
-        Part {
-            image: "w",
-            part: LABEL,
-            faults: &[(2, 6, "fault 6 u logger 1 missing")],
-        },
-        Part {
-            image: "w",
-            part: HOME,
-            faults: &[(1, 4, "fault 4 w disk home")],
-        },
-        Part {
-            image: "w",
-            part: SEGMENT_0,
-            faults: &[
-                (2, 6, "fault 6 u logger 1 missing"),
-                (REST, 4, "fault 4 u disk segment 0 of w"),
-            ],
-        },
-        Part {
-            image: "w",
-            part: SEGMENT_1,
-            faults: &[
-                (2, 6, "fault 6 u logger 1 missing"),
-                (REST, 4, "fault 4 s disk segment 1 of w"),
-            ],
-        },
-        Part {
-            image: "s",
-            part: HOME,
-            faults: &[(1, 4, "fault 4 s disk home")],
-        },
-    ];
-    try_parts(&rt, rt.alloc(), &keeping("view-remove u w", &[]), &parts)
+    try_parts(
+        &rt,
+        rt.alloc(),
+        &keeping("view-remove u w", &[]),
+        IN_A_CHANGE,
+    )
 }
+
+const IN_A_CLEANING: &[Part<'_>] = &[
+    Part {
+        image: "u",
+        part: LABEL,
+        faults: &[(2, 4, "fault 4 u disk label")],
+    },
+    Part {
+        image: "u",
+        part: HOME,
+        faults: &[(1, 4, "fault 4 u disk home")],
+    },
+    Part {
+        image: "w",
+        part: LABEL,
+        faults: &[(2, 6, "fault 6 u logger 1 missing")],
+    },
+    Part {
+        image: "w",
+        part: SEGMENT_0,
+        faults: &[
+            (2, 6, "fault 6 u logger 1 missing"),
+            (REST, 4, "fault 4 u disk segment 0 of w"),
+        ],
+    },
+    Part {
+        image: "w",
+        part: SEGMENT_1,
+        faults: &[
+            (2, 6, "fault 6 u logger 1 missing"),
+            (REST, 4, "fault 4 s disk segment 1 of w"),
+        ],
+    },
+    Part {
+        image: "w",
+        part: SEGMENT_2,
+        faults: &[
+            (2, 6, "fault 6 u logger 1 missing"),
+            (REST, 4, "fault 4 u disk segment 2 of w"),
+        ],
+    },
+];
 
 #[test]
 fn each_call_of_a_disk_that_fails_in_a_cleaning_is_told(rt: HostRuntime) -> Result<(), Fail> {
-    let parts = [
-        Part {
-            image: "u",
-            part: LABEL,
-            faults: &[(2, 4, "fault 4 u disk label")],
-        },
-        Part {
-            image: "u",
-            part: HOME,
-            faults: &[(1, 4, "fault 4 u disk home")],
-        },
-        Part {
-            image: "w",
-            part: LABEL,
-            faults: &[(2, 6, "fault 6 u logger 1 missing")],
-        },
-        Part {
-            image: "w",
-            part: SEGMENT_0,
-            faults: &[
-                (2, 6, "fault 6 u logger 1 missing"),
-                (REST, 4, "fault 4 u disk segment 0 of w"),
-            ],
-        },
-        Part {
-            image: "w",
-            part: SEGMENT_1,
-            faults: &[
-                (2, 6, "fault 6 u logger 1 missing"),
-                (REST, 4, "fault 4 s disk segment 1 of w"),
-            ],
-        },
-        Part {
-            image: "w",
-            part: SEGMENT_2,
-            faults: &[
-                (2, 6, "fault 6 u logger 1 missing"),
-                (REST, 4, "fault 4 u disk segment 2 of w"),
-            ],
-        },
-    ];
-    try_parts(&rt, rt.alloc(), &CLEANED, &parts)
+    try_parts(&rt, rt.alloc(), &CLEANED, IN_A_CLEANING)
 }

@@ -1,5 +1,6 @@
 // Images that no run wrote, through the words of each command. The lines were worked out by hand from the formats.
 use crate::calls::{Call, Failing, make_call};
+use crate::same::same_at;
 use fixtures::{Change, SRC0, THREE, USR0, WEB0, put};
 use std::alloc::Global;
 use std::process::Abort;
@@ -181,8 +182,8 @@ fn expect<R: Abort + Threads + Wait + Sync>(
         Failing::Nothing,
     )?;
     let said = String::from_utf8_lossy(alloc, &said)?;
-    assert_eq!(rt; said.as_str(), text, "{words}");
-    assert_eq!(rt; found, status, "{words}: {text}");
+    same_at(rt, &said.as_str(), &text, &words);
+    same_at(rt, &found, &status, &format_args!("{words}: {text}"));
     Ok(())
 }
 

@@ -34,15 +34,23 @@ pub const CHOICES: [Left; 4] = [
 ];
 
 impl Left {
+    // The place of the value of this block, or None for the last.
+    fn place(self, block: u64) -> Option<u32> {
+        let is_odd = block & 1 == 1;
+        match self {
+            Left::AllOld => Some(0),
+            Left::AllNew => None,
+            Left::ByTurns => Some(u32::from(is_odd)),
+            Left::ByOtherTurns => Some(u32::from(!is_odd)),
+        }
+    }
+
     // The place of the value for each of so many blocks; of the others the last is left.
     fn choice(self, alloc: Global, blocks: u64) -> Result<Vec<u32>, AllocError> {
         let mut choice = Vec::new(alloc);
         for block in 0..blocks {
-            match self {
-                Left::AllOld => choice.push(0)?,
-                Left::AllNew => {}
-                Left::ByTurns => choice.push((block % 2) as u32)?,
-                Left::ByOtherTurns => choice.push(((block + 1) % 2) as u32)?,
+            if let Some(place) = self.place(block) {
+                choice.push(place)?;
             }
         }
         Ok(choice)

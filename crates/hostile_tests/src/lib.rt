@@ -19,6 +19,8 @@ mod reopening;
 #[cfg(test)]
 mod rows;
 #[cfg(test)]
+mod same;
+#[cfg(test)]
 mod served;
 #[cfg(test)]
 mod solo_stops;

@@ -2,6 +2,7 @@
 use crate::calls::asked;
 use crate::images::{CHOICES, Left};
 use crate::rows::{CLEANED, FORMATTED, KEEPING, RECLAIMED, Row, SMALL_DRAINED, keeping};
+use crate::same::{holds_at, same_at};
 use crate::stops::{checked, prepared, stopped};
 use std::alloc::Global;
 use std::process::Abort;
@@ -24,13 +25,18 @@ fn try_images<R: Abort + Threads + Wait + Sync>(
     let whole = stopped(rt, alloc, row, check, images, u64::MAX, left)?;
     for calls in 0..whole.passed {
         let stop = stopped(rt, alloc, row, check, images, calls, left)?;
-        assert!(rt;
+        holds_at(
+            rt,
             matches!(stop.status, 4 | 5 | 6),
-            "{words} {calls} {left:?}: {}",
-            stop.status
+            &format_args!("{words} {calls} {left:?}: {}", stop.status),
         );
         let again = checked(rt, alloc, row, &stop.images)?;
-        assert_eq!(rt; again.as_str(), text.as_str(), "{words} {calls} {left:?}");
+        same_at(
+            rt,
+            &again.as_str(),
+            &text.as_str(),
+            &format_args!("{words} {calls} {left:?}"),
+        );
     }
     Ok(())
 }

@@ -4,6 +4,7 @@ use crate::calls::{Call, Failing, make_call};
 use crate::images::{CHOICES, Left, bay_of, crash, images_of};
 use crate::reopening;
 use crate::rows::{Row, keeping};
+use crate::same::{holds_at, same, same_at};
 use crate::stops::{Remains, found, prepared, stopped};
 use std::alloc::Global;
 use std::process::Abort;
@@ -227,9 +228,10 @@ fn place_of<R: Abort + Threads + Wait + Sync>(
     let (Some(place), Some((least, most))) = (places.first(), BEHIND.get(answered(replies))) else {
         panic!(rt; "no volume");
     };
-    assert!(rt;
+    holds_at(
+        rt,
         *least <= *place && *place <= *most,
-        "{least} {place} {most}"
+        &format_args!("{least} {place} {most}"),
     );
     Ok(*place)
 }
@@ -244,16 +246,20 @@ fn try_choice<R: Abort + Threads + Wait + Sync>(
 ) -> Result<(), Fail> {
     let row = &session.row;
     let whole = stopped(rt, alloc, row, row.call, images, u64::MAX, left)?;
-    assert_eq!(rt; whole.status, 0);
-    assert_eq!(rt; whole.text.as_slice(), session.wanted);
-    assert_eq!(rt; place_of(rt, alloc, session, &whole)?, 5);
+    same(rt, &whole.status, &0);
+    same(rt, &whole.text.as_slice(), &session.wanted);
+    same(rt, &place_of(rt, alloc, session, &whole)?, &5);
     let mut before = 0;
     for calls in 0..whole.passed {
         let stop = stopped(rt, alloc, row, row.call, images, calls, left)?;
-        assert_eq!(rt; stop.passed, calls, "{left:?}");
-        assert!(rt; session.is_told(&stop), "{calls} {left:?}: {}", stop.status);
+        same_at(rt, &stop.passed, &calls, &format_args!("{left:?}"));
+        holds_at(
+            rt,
+            session.is_told(&stop),
+            &format_args!("{calls} {left:?}: {}", stop.status),
+        );
         let place = place_of(rt, alloc, session, &stop)?;
-        assert!(rt; place >= before, "{calls} {left:?}");
+        holds_at(rt, place >= before, &format_args!("{calls} {left:?}"));
         before = place;
     }
     Ok(())
@@ -359,20 +365,32 @@ fn try_stream<R: Abort + Threads + Wait + Sync>(
         let left = left_by(rt, alloc, &session.row, images, stream.failing(number))?;
         let place = place_of(rt, alloc, session, &left)?;
         if left.status == 0 {
-            assert!(rt; number > 5, "{stream:?}");
-            assert_eq!(rt; left.text.as_slice(), session.wanted, "{stream:?}");
+            holds_at(rt, number > 5, &format_args!("{stream:?}"));
+            same_at(
+                rt,
+                &left.text.as_slice(),
+                &session.wanted,
+                &format_args!("{stream:?}"),
+            );
             return Ok(());
         }
-        assert_eq!(rt; left.status, stream.status(), "{stream:?} {number}");
-        assert!(rt;
+        same_at(
+            rt,
+            &left.status,
+            &stream.status(),
+            &format_args!("{stream:?} {number}"),
+        );
+        holds_at(
+            rt,
             session.wanted.starts_with(&left.text),
-            "{stream:?} {number}"
+            &format_args!("{stream:?} {number}"),
         );
         let (_, replies) = session.parts(&left.text);
         let least = BEHIND.get(answered(replies)).map(|it| it.0);
-        assert!(rt;
+        holds_at(
+            rt,
             stream == Stream::Replies || least == Some(place),
-            "{stream:?} {number}"
+            &format_args!("{stream:?} {number}"),
         );
     }
     panic!(rt; "it made a thousand calls")
@@ -449,8 +467,17 @@ fn try_part<R: Abort + Threads + Wait + Sync>(
     for number in 0..MOST_CALLS {
         let stop = failed(rt, alloc, &session.row, images, part, number, left)?;
         let status = part.status_at(number);
-        assert_eq!(rt; stop.status, status, "{image} {place} {number}");
-        assert!(rt; session.is_told(&stop), "{image} {place} {number}");
+        same_at(
+            rt,
+            &stop.status,
+            &status,
+            &format_args!("{image} {place} {number}"),
+        );
+        holds_at(
+            rt,
+            session.is_told(&stop),
+            &format_args!("{image} {place} {number}"),
+        );
         let _place = place_of(rt, alloc, session, &stop)?;
         if status == 0 && stop.text.as_slice() == session.wanted {
             return Ok(());

@@ -2,6 +2,7 @@
 use crate::calls::{Call, Failing, make_call};
 use crate::images::{CHOICES, Left, Volume, bay_of};
 use crate::rows::Row;
+use crate::same::{holds_at, same, same_at};
 use crate::stops::{prepared, stopped};
 use std::alloc::Global;
 use std::process::Abort;
@@ -101,19 +102,19 @@ fn try_choice<R: Abort + Threads + Wait + Sync>(
 ) -> Result<(), Fail> {
     let images = prepared(rt, alloc, &SOLO)?;
     let whole = stopped(rt, alloc, &SOLO, SOLO.call, &images, u64::MAX, left)?;
-    assert_eq!(rt; (whole.status, found(rt, &whole.images)), (0, 6));
-    assert_eq!(rt; whole.text.as_slice(), PRINTED);
+    same(rt, &(whole.status, found(rt, &whole.images)), &(0, 6));
+    same(rt, &whole.text.as_slice(), &PRINTED);
     let mut before = 0;
     for calls in 0..whole.passed {
         let stop = stopped(rt, alloc, &SOLO, SOLO.call, &images, calls, left)?;
-        assert_eq!(rt; (stop.status, stop.passed), (4, calls));
+        same(rt, &(stop.status, stop.passed), &(4, calls));
         assert!(rt; stop.text.ends_with(b"fault 4 solo disk home\n"));
         let place = found(rt, &stop.images);
-        assert!(rt; place >= before, "{calls} {left:?}");
+        holds_at(rt, place >= before, &format_args!("{calls} {left:?}"));
         let Some(least) = AT_LEAST.get(reads(&stop.text)) else {
             panic!(rt; "{calls} {left:?}");
         };
-        assert!(rt; place >= *least, "{calls} {left:?}");
+        holds_at(rt, place >= *least, &format_args!("{calls} {left:?}"));
         before = place;
     }
     Ok(())
@@ -148,21 +149,21 @@ fn each_call_that_fails_ends_a_solo(rt: HostRuntime) -> Result<(), Fail> {
     // four writes with a sync each, and two reads
     for number in 0..10 {
         let (status, text) = failed(&rt, alloc, Failing::Nothing, Some(number))?;
-        assert_eq!(rt; status, 4, "{number}");
+        same_at(&rt, &status, &4, &number);
         assert!(rt; text.ends_with(b"fault 4 solo disk home\n"));
     }
     for number in 0..4 {
         let (status, text) = failed(&rt, alloc, Failing::Trace(number), None)?;
-        assert_eq!(rt; status, 8, "{number}");
+        same_at(&rt, &status, &8, &number);
         assert!(rt; text.ends_with(b"fault 8 trace\n"));
     }
     for number in 0..3 {
         let (status, text) = failed(&rt, alloc, Failing::Sink(number), None)?;
-        assert_eq!(rt; status, 7, "{number}");
+        same_at(&rt, &status, &7, &number);
         assert!(rt; PRINTED.starts_with(&text) && text.len() < PRINTED.len());
     }
     let (status, text) = failed(&rt, alloc, Failing::Sink(3), Some(10))?;
-    assert_eq!(rt; status, 0);
-    assert_eq!(rt; text.as_slice(), PRINTED);
+    same(&rt, &status, &0);
+    same(&rt, &text.as_slice(), &PRINTED);
     Ok(())
 }

@@ -6,6 +6,7 @@ ghost use Rattle.wol_bay.specs.MemBay.{mem_bay_state};
 use crate::calls::{Call, Failing, asked, make_call};
 use crate::images::bay_of;
 use crate::rows::{CLEANED, RECLAIMS, ROOMY_THREE, SMALL_THREE, THREE_ROOMY};
+use crate::same::{holds_at, same, same_at};
 use crate::stops::prepared;
 use rand_xoshiro::SplitMix64;
 use rand_xoshiro::rand_core::{Rng, SeedableRng};
@@ -171,16 +172,16 @@ fn try_images<R: Abort + Threads + Wait + Sync>(
 ) -> Result<u8, Fail> {
     let mut bay = bay_of(alloc, &THREE_ROOMY, images)?;
     let (status, text) = called(rt, alloc, &mut bay, "check", b"")?;
-    assert!(rt; matches!(status, 0 | 5 | 6), "{status}");
+    holds_at(rt, matches!(status, 0 | 5 | 6), &status);
     let (dumped, _records) = called(rt, alloc, &mut bay, "dump", b"")?;
-    assert_eq!(rt; dumped, status);
-    let (again, same) = called(rt, alloc, &mut bay, "check", b"")?;
-    assert_eq!(rt; again, status);
-    assert!(rt; same == text);
+    same(rt, &dumped, &status);
+    let (again, retold) = called(rt, alloc, &mut bay, "check", b"")?;
+    same(rt, &again, &status);
+    assert!(rt; retold == text);
     let (played, _answers) = called(rt, alloc, &mut bay, "replay --each", RECLAIMS)?;
-    assert!(rt; played == status || status == 0 && played == 11, "{played}");
+    holds_at(rt, played == status || status == 0 && played == 11, &played);
     let (left, kept) = called(rt, alloc, &mut bay, "check", b"")?;
-    assert_eq!(rt; left, status);
+    same(rt, &left, &status);
     assert!(rt; status == 0 || kept == text);
     Ok(status)
 }
@@ -202,7 +203,7 @@ fn spoiled_images_are_told_or_are_what_they_say(rt: HostRuntime) -> Result<(), F
         }
     }
     // both kinds came
-    assert!(rt; 20 < in_order && in_order < IMAGES - 20, "{in_order}");
+    holds_at(&rt, 20 < in_order && in_order < IMAGES - 20, &in_order);
     Ok(())
 }
 
@@ -236,7 +237,7 @@ fn spoiled_configurations_are_told_or_read(rt: HostRuntime) -> Result<(), Fail> 
             asked("gen 7 3"),
             Failing::Nothing,
         )?;
-        assert!(rt; matches!(status, 0 | 2), "{status}");
+        holds_at(&rt, matches!(status, 0 | 2), &status);
         assert!(rt; status == 0 || text.starts_with(b"fault 2 config "));
     }
     Ok(())
@@ -253,10 +254,10 @@ fn spoiled_lines_are_told_or_run(rt: HostRuntime) -> Result<(), Fail> {
         let (status, text) = called(&rt, alloc, &mut bay, "replay --each", &trace)?;
         let text = String::from_utf8_lossy(alloc, &text)?;
         let told = text.lines().any(|line| line.starts_with("fault 3 line "));
-        assert!(rt; matches!(status, 0 | 3), "{status}");
-        assert_eq!(rt; told, status == 3, "{text}");
+        holds_at(&rt, matches!(status, 0 | 3), &status);
+        same_at(&rt, &told, &(status == 3), &text);
         let (left, _lines) = called(&rt, alloc, &mut bay, "check", b"")?;
-        assert_eq!(rt; left, 0);
+        same(&rt, &left, &0);
     }
     Ok(())
 }
@@ -285,7 +286,7 @@ fn a_line_too_long_or_without_its_end_is_told_or_run(rt: HostRuntime) -> Result<
         let mut bay = bay_of(alloc, &THREE_ROOMY, &sound)?;
         let (status, text) = called(&rt, alloc, &mut bay, "replay --each", trace)?;
         let text = String::from_utf8_lossy(alloc, &text)?;
-        assert_eq!(rt; status, wanted, "{text}");
+        same_at(&rt, &status, &wanted, &text);
     }
     Ok(())
 }

@@ -2,6 +2,7 @@
 use crate::calls::{Call, Failing, asked, make_call};
 use crate::images::{CHOICES, Left, bay_of, crash, images_of};
 use crate::rows::{CLEANED, DRAINED, FORMATTED, KEEPING, RECLAIMED, Row, SMALL_DRAINED, keeping};
+use crate::same::{holds_at, same_at};
 use std::alloc::Global;
 use std::process::Abort;
 use std::sync::{Arc, Wait};
@@ -36,7 +37,7 @@ pub fn prepared<R: Abort + Threads + Wait + Sync>(
             *earlier,
             Failing::Nothing,
         )?;
-        assert_eq!(rt; status, 0, "{}", earlier.words);
+        same_at(rt, &status, &0, &earlier.words);
     }
     images_of(alloc, &mut bay, row.volumes)
 }
@@ -91,7 +92,7 @@ pub fn checked<R: Abort + Threads + Wait + Sync>(
     )?;
     let text = String::from_utf8_lossy(alloc, &text)?;
     let in_order = text.lines().filter(|line| line.contains(" ok ")).count();
-    assert_eq!(rt; status == 0, in_order == row.volumes.len(), "{text}");
+    same_at(rt, &(status == 0), &(in_order == row.volumes.len()), &text);
     Ok(text)
 }
 
@@ -110,7 +111,7 @@ pub fn found<R: Abort + Threads + Wait + Sync>(
             None => panic!(rt; "{}: {line}", row.call.words),
         }
     }
-    assert_eq!(rt; places.len(), row.lines.len(), "{text}");
+    same_at(rt, &places.len(), &row.lines.len(), &text);
     Ok(places)
 }
 
@@ -141,14 +142,13 @@ fn try_again<R: Abort + Threads + Wait + Sync>(
         return Ok(());
     }
     let again = stopped(rt, alloc, row, row.call, images, u64::MAX, Left::AllOld)?;
-    assert!(rt;
+    holds_at(
+        rt,
         row.again.contains(&again.status),
-        "{} {}",
-        row.call.words,
-        again.status
+        &format_args!("{} {}", row.call.words, again.status),
     );
     let places = found(rt, alloc, row, &again.images)?;
-    assert!(rt; are_last(row, &places), "{}", row.call.words);
+    holds_at(rt, are_last(row, &places), &row.call.words);
     Ok(())
 }
 
@@ -170,25 +170,30 @@ fn try_choice<R: Abort + Threads + Wait + Sync>(
     let mut before = found(rt, alloc, row, images)?;
     for calls in 0..whole.passed {
         let stop = stopped(rt, alloc, row, row.call, images, calls, left)?;
-        assert!(rt;
+        holds_at(
+            rt,
             matches!(stop.status, 4 | 6),
-            "{words} {calls} {left:?}: {}",
-            stop.status
+            &format_args!("{words} {calls} {left:?}: {}", stop.status),
         );
-        assert_eq!(rt; stop.passed, calls, "{words} {left:?}");
-        assert!(rt;
+        same_at(rt, &stop.passed, &calls, &format_args!("{words} {left:?}"));
+        holds_at(
+            rt,
             tells_each(words) || whole.text.starts_with(without_last_line(&stop.text)),
-            "{words} {calls} {left:?}"
+            &format_args!("{words} {calls} {left:?}"),
         );
         let places = found(rt, alloc, row, &stop.images)?;
         let goes_on = before.iter().zip(&places).all(|(then, now)| *then <= *now);
-        assert!(rt; goes_on, "{words} {calls} {left:?}");
+        holds_at(rt, goes_on, &format_args!("{words} {calls} {left:?}"));
         try_again(rt, alloc, row, &stop.images)?;
         before = places;
     }
-    assert_eq!(rt; whole.status, 0, "{words}");
+    same_at(rt, &whole.status, &0, &words);
     let places = found(rt, alloc, row, &whole.images)?;
-    assert!(rt; are_last(row, &places), "{words} {left:?}");
+    holds_at(
+        rt,
+        are_last(row, &places),
+        &format_args!("{words} {left:?}"),
+    );
     Ok(())
 }
 

@@ -4,6 +4,7 @@ ghost use Rattle.index_tests.specs.Below.{AreBelow};
 
 use crate::dice::Dice;
 use crate::list::{Item, covered, known_at, newest, unhome};
+use crate::same::same;
 use crate::steps::{add_next, give_up, put_home};
 use garbage_list::{due, may_go, next_due, next_to_go};
 use redirect_map::{Index, Rec};
@@ -179,6 +180,6 @@ fn first_difference(alloc: Global, calls: u64) -> Result<Option<u64>, NoMemory>
 
 #[test]
 fn an_index_is_the_list(rt: HostRuntime) -> Result<(), Fail> {
-    assert_eq!(rt; first_difference(rt.alloc(), 10_000)?, None);
+    same(&rt, &first_difference(rt.alloc(), 10_000)?, &None);
     Ok(())
 }

@@ -1,4 +1,5 @@
-//! Tests of indexes that are long: random calls beside a plain list of records, and 100,000 records of one block.
+//! Tests of indexes: two records that overlap (`overlapping.rt`, `going.rt`), random calls beside a plain list of records
+//! (`agreement.rt`), and 100,000 records of one block (`many.rt`). `placing.rt` has worked examples of the rule of placing.
 #![tactic(auto)]
 
 #[cfg(test)]
@@ -6,8 +7,16 @@ mod agreement;
 #[cfg(test)]
 mod dice;
 #[cfg(test)]
+mod going;
+#[cfg(test)]
 mod list;
 #[cfg(test)]
 mod many;
+#[cfg(test)]
+mod overlapping;
+#[cfg(test)]
+mod placing;
+#[cfg(test)]
+mod same;
 #[cfg(test)]
 mod steps;

@@ -2,6 +2,7 @@
 ghost use Rattle.std.specs.Prelude.{◌≡◌, ◌<◌, ◌≤◌, ◌*◌, length, IfOk};
 ghost use Rattle.index_tests.specs.Below.{AreBelow};
 
+use crate::same::same;
 use crate::steps::{add_next, give_up, put_home};
 use garbage_list::{next_due, next_to_go};
 use redirect_map::{Index, Rec};
@@ -117,7 +118,11 @@ fn put_due(index: &mut Index, count: u64, lanes: &[bool], most: u64) -> u64
 #[test]
 fn a_drain_of_100_000_ends(rt: HostRuntime) -> Result<(), Fail> {
     let mut index = records(rt.alloc(), 100_000)?;
-    assert_eq!(rt; drain(&mut index, 100_000, &[true; 3], 1_000_000), 200_000);
+    same(
+        &rt,
+        &drain(&mut index, 100_000, &[true; 3], 1_000_000),
+        &200_000,
+    );
     assert!(rt; index.is_empty());
     Ok(())
 }
@@ -126,11 +131,12 @@ fn a_drain_of_100_000_ends(rt: HostRuntime) -> Result<(), Fail> {
 #[test]
 fn records_on_a_sleeping_lane_are_passed_over(rt: HostRuntime) -> Result<(), Fail> {
     let mut index = records(rt.alloc(), 30_000)?;
-    assert_eq!(rt;
-        drain(&mut index, 30_000, &[false, true, true], 1_000_000),
-        40_000
+    same(
+        &rt,
+        &drain(&mut index, 30_000, &[false, true, true], 1_000_000),
+        &40_000,
     );
-    assert_eq!(rt; index.len(), 10_000);
+    same(&rt, &index.len(), &10_000);
     Ok(())
 }
 
@@ -138,11 +144,16 @@ fn records_on_a_sleeping_lane_are_passed_over(rt: HostRuntime) -> Result<(), Fai
 #[test]
 fn covered_records_are_passed_over(rt: HostRuntime) -> Result<(), Fail> {
     let mut index = records_twice(rt.alloc(), 100_000)?;
-    assert_eq!(rt;
-        put_due(&mut index, 200_000, &[true; 3], 1_000_000),
-        100_000
+    same(
+        &rt,
+        &put_due(&mut index, 200_000, &[true; 3], 1_000_000),
+        &100_000,
     );
-    assert_eq!(rt; drain(&mut index, 200_000, &[true; 3], 1_000_000), 200_000);
+    same(
+        &rt,
+        &drain(&mut index, 200_000, &[true; 3], 1_000_000),
+        &200_000,
+    );
     assert!(rt; index.is_empty());
     Ok(())
 }

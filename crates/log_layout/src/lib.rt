@@ -16,6 +16,3 @@ pub use label::{Label, read_label, write_label};
 pub use record::{RecHead, read_rec, write_rec};
 pub use segment::{SegHead, is_gate, read_seg, write_gate, write_seg};
 pub use view::{View, read_view, write_view};
-
-#[cfg(test)]
-mod tests;

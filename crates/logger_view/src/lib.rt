@@ -4,8 +4,6 @@
 
 mod loading;
 mod storing;
-#[cfg(test)]
-mod tests;
 
 pub use loading::{ViewFault, load};
 pub use storing::{store_free, store_label, store_view};

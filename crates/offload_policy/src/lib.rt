@@ -88,6 +88,3 @@ pub fn place(home_up: bool, covered: bool, ups: &[bool], rooms: &[Room]) -> Step
         None => Step::Full,
     }
 }
-
-#[cfg(test)]
-mod tests;

@@ -9,8 +9,6 @@
 mod base;
 mod laws;
 mod pool;
-#[cfg(test)]
-mod tests;
 mod uses;
 
 pub use base::{Holder, PoolBase};

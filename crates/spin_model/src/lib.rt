@@ -9,8 +9,6 @@
 mod laws;
 mod spindle;
 mod spun;
-#[cfg(test)]
-mod tests;
 mod token;
 mod uses;
 

@@ -23,6 +23,3 @@ pub use gate::{Gate, NoGate};
 pub use memory::{MemSink, MemSource};
 pub use streams::{Sink, Source};
 pub use watched::{Watch, WatchedSource};
-
-#[cfg(test)]
-mod tests;
