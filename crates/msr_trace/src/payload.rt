@@ -13,21 +13,19 @@ pub fn fill(line: u64, lbn: u64, out: &mut [Block])
     ensures { out.new ≡ map (payload_block line) (range_with_len lbn (length out.old)) }
 {
     for (i, block) in out.iter_mut().enumerate() {
-        *block = payload_of(line, lbn + i as u64);
+        fill_block(line, lbn + i as u64, block);
     }
 }
 
-// What a line writes in a block.
-fn payload_of(line: u64, lbn: u64) -> Block
-    ensures { result ≡ payload_block line lbn }
+// Fills a block with what a line writes there, in its place.
+fn fill_block(line: u64, lbn: u64, block: &mut Block)
+    ensures { block.new ≡ payload_block line lbn }
 {
-    let mut block: Block = [0; 512];
     let stamp = stamp_of(line, lbn);
     for i in 0..32 {
         let at: usize = 16 * i;
         block[at..at + 16].copy_from_slice(&stamp);
     }
-    block
 }
 
 fn stamp_of(line: u64, lbn: u64) -> [u8; 16]

@@ -26,10 +26,13 @@ pub fn with_bit(mask: u128, i: u32, on: bool) -> u128
     if on { mask | 1 << i } else { mask }
 }
 
-// What is known of the block, if a record keeps it.
+// What is known of the block, if a record keeps it. Where no block is kept none is hashed.
 pub fn newest_of(blocks: &HashMap<u64, Cell>, lbn: u64) -> Option<Cell>
     ensures { result ≡ get nat_eq blocks.now lbn }
 {
+    if blocks.is_empty() {
+        return None;
+    }
     blocks.get(&lbn).copied()
 }
 

@@ -15,8 +15,6 @@ mod list;
 mod marking;
 mod mask;
 mod record;
-#[cfg(test)]
-mod tests;
 
 pub use index::Index;
 pub use record::Rec;

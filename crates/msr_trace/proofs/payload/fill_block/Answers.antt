@@ -1,13 +1,13 @@
-use Rattle.std.proofs.Common.{arith, ◌≡◌, ◌*◌, ◌∙◌, sym, length, refl, add-one, ℕ, length-drop, length-append}
+use Rattle.std.proofs.Common.{rules, arith, ◌≡◌, ◌*◌, ◌∙◌, sym, length, refl, add-one, ℕ, length-drop, length-append}
 use Rattle.std.proofs.lemmas.Slice.{take-put_mid}
 use Rattle.std.proofs.lemmas.List.{take_all, length-take}
 use Rattle.wol_model.specs.Trace.{payload_block}
 use Rattle.msr_trace.specs.Payload.{stamp}
 use Rattle.msr_trace.proofs.Stamps.{stamps_more}
-use Rattle.msr_trace.proofs.payload.payload_of.Goals as goal
+use Rattle.msr_trace.proofs.payload.fill_block.Goals as goal
 
 pub loop-i-init : goal.loop-i-init
-loop-i-init c = record { long = refl; so_far = refl }
+loop-i-init c = record { long = search rules; so_far = refl }
 
 pub loop-i-preserved : goal.loop-i-preserved
 loop-i-preserved c =

@@ -1,7 +1,7 @@
 use Rattle.std.proofs.Common.{◌≡◌, ◌*◌, take, length}
 use Rattle.std.specs.List.{flat_map, range_with_len}
 use Rattle.msr_trace.specs.Payload.{stamp}
-use Rattle.msr_trace.proofs.payload.payload_of.Given as goal
+use Rattle.msr_trace.proofs.payload.fill_block.Given as goal
 
 abbrev pub invariant-loop-i : goal.invariant-loop-i
 invariant-loop-i l = record {
