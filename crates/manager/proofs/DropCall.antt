@@ -1,6 +1,6 @@
 -- A lane gave up blocks of one record: what the manager is then, clause by clause.
 use Rattle.std.proofs.Common.{◌≡◌, ◌+◌, ◌≢◌, ◌<◌, ◌≤◌, ◌^◌, ℕ, zero, suc, Bool, true, false, cond, not, ◌&&◌, List, [], ◌∷◌, ◌++◌, map, length, Option, None, Some, Ok, Err, refl, sym, ap, subst, ◌∙◌, arith, eqb, bit_and, get_or}
-use Rattle.std.specs.Prelude.{IsTrue, Contains, slice_get, slice_set, remove, filter, is_none, IfSome}
+use Rattle.std.specs.Prelude.{IsTrue, Contains, slice_get, slice_set, remove, filter, is_none, IfSome, is_some}
 use Rattle.std.specs.Int.{bit_not, w128}
 use Rattle.std.specs.List.{AllByRecursion, list_any, range_with_len}
 use Rattle.std.specs.Option.{option_to_list}
@@ -33,7 +33,7 @@ use Rattle.logger.proofs.Indexes.{lacks_removed}
 use Rattle.manager.specs.Causes.{PartRose}
 use Rattle.manager.specs.Offers.{ChangesLane}
 use Rattle.manager.specs.Reclaim.{given_of, with_kept, IsTrimmedLane, HasDropped, KeepsOn, BreaksOff, StopsSince, Always}
-use Rattle.manager.specs.Stands.{Keeps, IsReady, IsReadyLane, IsPlacedIn, IsInVolume, entries_at, nones_in, nones_at}
+use Rattle.manager.specs.Stands.{Keeps, IsReady, IsReadyLane, IsPlacedIn, IsInVolume, entries_at, nones_in, nones_at, takes_in, AreStill}
 use Rattle.manager.specs.Stops.{Stops}
 use Rattle.manager.specs.declared.base.ManagerBase.{ManagerBase}
 use Rattle.manager.specs.declared.manager.Manager.{Manager}
@@ -49,7 +49,8 @@ use Rattle.manager.proofs.Frames.{none_passed}
 use Rattle.manager.proofs.GivenUp.{given_is, given_list, keeps_is, none_of_version, one_of_version, proper}
 use Rattle.manager.proofs.Lanes.{all_at, get_set, map_set}
 use Rattle.manager.proofs.Putting.{Pieces}
-use Rattle.manager.proofs.ReadyLanes.{get_of, locks_set, nones_at_set, nones_more}
+use Rattle.manager.proofs.ReadyLanes.{get_of, locks_set, nones_at_set, nones_more, takes_of_set, takes_gave, down_counts}
+use Rattle.manager.proofs.Still.{still_changed, still_filter}
 
 -- ---- indexes of segments
 
@@ -80,8 +81,9 @@ module _ {D : Type 0} (tells : Bool) (state : D → State) (m : Manager D) (b : 
 
   pub keeps_pieces : (then_ : List Noted) (index : Contents) (ups : List Bool) (down : Option Part) (es : List Indexed) → index.entries ≡ es → ups ≡ slice_set m.ups.items k true
       → Pieces tells state m b then_ (slice_set m.lanes.items k new) es m.next (slice_set m.ups.items k true) down → IsReady state (record m { lanes = with_item m.lanes k new; index = index; ups = record { items = ups }; down = down })
-      → HasPassed (nones_at (slice_set m.lanes.items k new) b.lanes) then_ → Keeps tells state (record m { lanes = with_item m.lanes k new; index = index; ups = record { items = ups }; down = down }) b then_
-  keeps_pieces then_ index ups down es entries flags pieces ready passed =
+      → HasPassed (nones_at (slice_set m.lanes.items k new) b.lanes) then_ → takes_in (pass_mine (pool_of new)) ≡ takes_in (pass_mine (pool_of old)) → cond {A = ℕ} (is_some m.down) 1 0 ≤ cond (is_some down) 1 0 → AreStill b.volume.places b.volume.began.next es
+      → Keeps tells state (record m { lanes = with_item m.lanes k new; index = index; ups = record { items = ups }; down = down }) b then_
+  keeps_pieces then_ index ups down es entries flags pieces ready passed takes counts still =
       let now : Pieces tells state m b then_ (slice_set m.lanes.items k new) index.entries m.next ups down =
       subst (λ (u : List Bool). Pieces tells state m b then_ (slice_set m.lanes.items k new) index.entries m.next u down) (sym flags)
       (subst (λ (l : List Indexed). Pieces tells state m b then_ (slice_set m.lanes.items k new) l m.next (slice_set m.ups.items k true) down) (sym entries) pieces) in record {
@@ -90,6 +92,8 @@ module _ {D : Type 0} (tells : Bool) (state : D → State) (m : Manager D) (b : 
         upholds = now.upholds;
         in_use = now.in_use;
         passed = passed;
+        taken = let few = kp.taken in let more = takes_of_set m.lanes.items b.lanes k 0 old new lane (omega (arith, takes)) in omega (arith, few, more, counts);
+        still = subst (AreStill b.volume.places b.volume.began.next) (sym entries) still;
         ready = ready;
         locks = locks_set state m.id m.most m.lanes.items k old new lane same kp.locks more;
       }
@@ -260,16 +264,22 @@ module _ {D : Type 0} (state : D → State) (m : Manager D) (ready : IsReady sta
         pub keeps_then : (tells : Bool) (index' : Contents) (ups : List Bool) → index'.entries ≡ given_of version m.index.entries → ups ≡ slice_set m.ups.items r.lane true → KeepsOn tells state m (record m { lanes = with_item m.lanes r.lane new; index = index'; ups = record { items = ups } }) Always
         keeps_then tells index' ups entries flags b notes any kp = by moved
           where
+            given_still : AreStill b.volume.places b.volume.began.next (given_of version m.index.entries)
+            given_still = still_filter b.volume.places b.volume.began.next (λ (d : Indexed). keeps_a_block d.listed) (changed version (with_kept m.index.entries) m.index.entries)
+                (still_changed b.volume.places b.volume.began.next version (with_kept m.index.entries) (λ d. record { version = refl; first = refl; lane = refl; index = refl; pos = refl }) m.index.entries kp.still)
+
             by : Trimmed {T = T} {E = E} state old new (record { segment = r.segment; pos = r.pos }) (record { form = 2; owner = m.id; version = version; first = r.lbn; count = r.count; mask = r.keep }) (bit_and r.keep (bit_not w128 given)) (Ok x)
                 → Keeps tells state (record m { lanes = with_item m.lanes r.lane new; index = index'; ups = record { items = ups } }) b notes
             by (in_place i o n there named held pool cut) =
                 let more : nones_in (pass_mine (pool_of old)) ≤ nones_in (pass_mine (pool_of new)) = (let e = ap nones_in pool in omega (arith, e)) in
                 keeps_pieces tells state m b notes kp r.lane old new lane same more notes index' ups m.down (given_of version m.index.entries) entries flags
                 (stays tells state m b notes kp up r.lane old new lane is_lane same untaken version f.entry index at its.count lane_is r f.record_ given fits bits i o there (index_is o named) x n held cut) (ready_then index' ups entries flags) (passed_still tells state m b notes kp r.lane old new lane same more)
+                (ap takes_in pool) (omega arith) given_still
             by (to_pool i o free there named held pool ok gave) =
                 let more : nones_in (pass_mine (pool_of old)) ≤ nones_in (pass_mine (pool_of new)) = (let e = ap nones_in pool ∙ nones_more (pass_mine (pool_of old)) (pass_number (pool_of old), operation_of (Gave r.segment)) in omega (arith, e)) in
                 keeps_pieces tells state m b notes kp r.lane old new lane same more notes index' ups m.down (given_of version m.index.entries) entries flags
                 (leaves tells state m b notes kp up r.lane old new lane is_lane same untaken version f.entry index at its.count lane_is r f.record_ given fits bits i o there (index_is o named) _ free held gave) (ready_then index' ups entries flags) (passed_still tells state m b notes kp r.lane old new lane same more)
+                (ap takes_in pool ∙ takes_gave (pass_mine (pool_of old)) (pass_number (pool_of old)) r.segment) (omega arith) given_still
             by (not_freed i o n there named held pool err stayed) = absurd (false≢true err)
 
         pub stops_then : (tells : Bool) (sound : (d : D) → IsDisk (state d)) → IsTrue tells → (index' : Contents) (ups : List Bool) → ups ≡ slice_set m.ups.items r.lane true → StopsSince tells state m (record m { lanes = with_item m.lanes r.lane new; index = index'; ups = record { items = ups } }) Always
@@ -375,7 +385,7 @@ module _ {D : Type 0} (state : D → State) (m : Manager D) (ready : IsReady sta
                 let more : nones_in (pass_mine (pool_of old)) ≤ nones_in (pass_mine (pool_of new)) = (let e = ap nones_in pool in omega (arith, e)) in
                 keeps_pieces tells state m b notes kp r.lane old new lane same more (notes ++ nt ∷ []) m.index ups (Some (part.Segment volume r.segment)) m.index.entries refl flags
                 (subst (λ (d : Part). Pieces tells state m b (notes ++ nt ∷ []) (slice_set m.lanes.items r.lane new) m.index.entries m.next (slice_set m.ups.items r.lane true) (Some d)) (λ j. part.Segment (sym volume_is j) (named j)) pieces)
-                ready_broke (none_passed (nones_at (slice_set m.lanes.items r.lane new) b.lanes) notes nt note.passed_is (passed_still tells state m b notes kp r.lane old new lane same more))
+                ready_broke (none_passed (nones_at (slice_set m.lanes.items r.lane new) b.lanes) notes nt note.passed_is (passed_still tells state m b notes kp r.lane old new lane same more)) (ap takes_in pool) (down_counts m.down) kp.still
 
             by : Trimmed {T = T} {E = E} state old new (record { segment = r.segment; pos = r.pos }) (record { form = 2; owner = m.id; version = version; first = r.lbn; count = r.count; mask = r.keep }) (bit_and r.keep (bit_not w128 given)) (Err x)
                 → Keeps tells state (record m { lanes = with_item m.lanes r.lane new; ups = record { items = ups }; down = Some (part.Segment volume r.segment) }) b (notes ++ nt ∷ [])

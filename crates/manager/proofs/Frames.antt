@@ -24,7 +24,7 @@ use Rattle.logger.specs.Lanes.{AreAccesses}
 use Rattle.logger.proofs.Uses.{accesses_then}
 use Rattle.manager.specs.Accesses.{HasUsedOnce}
 use Rattle.manager.specs.Seen.{parts_of, seen, look_of_manager}
-use Rattle.manager.specs.Stands.{Keeps, Stands, IsReady, IsUp, IsInVolume, IsNote, nones_at}
+use Rattle.manager.specs.Stands.{Keeps, Stands, IsReady, IsUp, IsInVolume, IsNote, nones_at, AreStill}
 use Rattle.manager.specs.declared.base.ManagerBase.{ManagerBase}
 use Rattle.manager.specs.declared.manager.Manager.{Manager}
 use Rattle.manager.specs.declared.part.Part.{Part}
@@ -103,6 +103,8 @@ module _ {D : Type 0} (tells : Bool) (state : D → State) (m : Manager D) (b : 
         (sym entries) (other_flags (parts_of tells state) b.volume.began (seen m k.logs) home_up ups notes (writes (entries_of notes)) (flight_of (entries_of notes)) k.upholds same);
     in_use = k.in_use;
     passed = k.passed;
+    taken = k.taken;
+    still = subst (AreStill b.volume.places b.volume.began.next) (sym entries) k.still;
     ready = ready;
     locks = let l = k.locks in record { pass = pass.0 ∙ l.pass; number = pass.1 ∙ l.number; each = l.each; owner = l.owner; most_ = l.most_; view = l.view };
   }
@@ -117,6 +119,8 @@ module _ {D : Type 0} (tells : Bool) (state : D → State) (m : Manager D) (b : 
       upholds = (kept_more (parts_of tells state) b.volume.began (seen m k.logs) notes n note.follows note.operation_is k.upholds (λ _. note.look_is)).upholds;
       in_use = k.in_use;
       passed = has;
+      taken = k.taken;
+      still = k.still;
       ready = k.ready;
       locks = k.locks;
     };

@@ -16,10 +16,10 @@ use Rattle.wol_model.specs.Blocks.{Write}
 use Rattle.wol_model.specs.History.{writes}
 use Rattle.wol_model.specs.Index.{listed_in, is_covered}
 use Rattle.wol_model.specs.Log.{Record}
-use Rattle.wol_model.specs.Placing.{Home as AtHome, Log as InLog, Full as Nowhere, place as place_in_model}
+use Rattle.wol_model.specs.Placing.{Home as AtHome, Log as InLog, place as place_in_model}
 use Rattle.wol_model.specs.Placing as placing
 use Rattle.wol_promise.specs.Manager.{Held, is_homed_in}
-use Rattle.wol_promise.specs.Policy.{Look, place_of, placed}
+use Rattle.wol_promise.specs.Policy.{place_of}
 use Rattle.wol_promise.specs.Ruled.{Noted, HasPassed, entries_of}
 use Rattle.wol_promise.proofs.Stops.{still_stops}
 use Rattle.offload_policy.specs.Placing.{step_of}
@@ -34,10 +34,10 @@ use Rattle.manager.specs.Accesses.{HasUsedOnce}
 use Rattle.manager.specs.Answers.{home_write, IsPlaceOf}
 use Rattle.manager.specs.Causes.{PartRoseOrClaimed, NoneRose}
 use Rattle.manager.specs.Offers.{HasTakenWrite, ChangesLane}
-use Rattle.manager.specs.Seen.{Logs, AllHold, AllLanesHold, held_with, all_held, look_of_manager, down_of}
+use Rattle.manager.specs.Seen.{Logs, AllHold, AllLanesHold, held_with, all_held, look_of_manager}
 use Rattle.manager.specs.Stands.{Keeps, nones_at, passed_in}
 use Rattle.manager.specs.Stops.{ImageSince, HeldSince, Stops, TellsClaim}
-use Rattle.manager.specs.Writing.{HaveAnswered, HasLook, NeedsHome, TellsFault, IsHomeAnswer, IsLogAnswer, IsPlacedAnswer, ruled_place, takes_at, was_tried, is_at_home, is_in_log}
+use Rattle.manager.specs.Writing.{HaveAnswered, NeedsHome, TellsFault, IsHomeAnswer, IsLogAnswer, IsPlacedAnswer, ruled_place, takes_at, was_tried, is_at_home, is_in_log}
 use Rattle.manager.specs.declared.base.ManagerBase.{ManagerBase}
 use Rattle.manager.specs.declared.manager.Manager.{Manager}
 use Rattle.manager.specs.declared.part.Part.{Part}
@@ -62,11 +62,6 @@ pub home_placed : (view : List ℕ) (id : ℕ) (r : Result Place WriteRefusal) (
 home_placed view id r q answer is = ⊎_elim
     (λ e. subst (λ (x : Result Place WriteRefusal). IsPlaceOf view x q) (sym e) is)
     (λ e. subst (λ (x : Result Place WriteRefusal). IsPlaceOf view x q) (sym e) is) answer
-
-pub home_look : (id : ℕ) (r : Result Place WriteRefusal) (q : placing.Place) (w : Write) (old new : Look) → IsHomeAnswer id r → q ≡ AtHome → (r ≡ Ok place.Home → new ≡ placed AtHome old w) → HasLook q w r old new
-home_look id r q w old new answer is look = ⊎_elim
-    (λ e. subst (λ (x : Result Place WriteRefusal). HasLook q w x old new) (sym e) (subst (λ (p : placing.Place). new ≡ placed p old w) (sym is) (look e)))
-    (λ e. subst (λ (x : Result Place WriteRefusal). HasLook q w x old new) (sym e) tt) answer
 
 pub log_tried : (view : List ℕ) (lane : ℕ) (r : Result Place WriteRefusal) → IsLogAnswer view lane r → was_tried r ≡ true
 log_tried view lane (Ok place.Home) answer = refl
@@ -237,12 +232,6 @@ module _ {D : Type 0} (tells : Bool) (state : D → State) (shared : Shared D) (
       pub placed_home : IsPlaceOf (map logger_of old.lanes.items) r (ruled_place old new first blocks)
       placed_home = home_placed (map logger_of old.lanes.items) id r (ruled_place old new first blocks) answer place_home
 
-      pub look_home : look_of_manager new ≡ record (placed AtHome (look_of_manager now) (home_write first blocks)) { down = down_of new.down } → TellsFault state r now new → HasLook (ruled_place old new first blocks) (home_write first blocks) r (look_of_manager old) (look_of_manager new)
-      look_home look fault = home_look id r (ruled_place old new first blocks) (home_write first blocks) (look_of_manager old) (look_of_manager new) answer place_home
-          (λ went. look
-          ∙ ap (λ (d : Option Part). (let l : Look = record (placed AtHome (look_of_manager now) (home_write first blocks)) { down = down_of d } in l)) (subst (λ (x : Result Place WriteRefusal). TellsFault state x now new) went fault)
-          ∙ ap (λ (l : Look). placed AtHome l (home_write first blocks)) look_same)
-
       pub answered_home : new.lanes.items ≡ now.lanes.items → HaveAnswered (length blocks) (takes_at (ruled_place old new first blocks) r) new.rooms.items old.lanes.items new.lanes.items
       answered_home lanes =
           let tried = home_tried id r answer in
@@ -266,10 +255,6 @@ module _ {D : Type 0} (tells : Bool) (state : D → State) (shared : Shared D) (
 
       pub placed_log : IsPlaceOf (map logger_of old.lanes.items) r (ruled_place old new first blocks)
       placed_log = log_placed (map logger_of old.lanes.items) lane r (ruled_place old new first blocks) (subst (λ (v : List ℕ). IsLogAnswer v lane r) loggers_as answer) place_log
-
-      pub look_log : HasLook (InLog lane) (home_write first blocks) r (look_of_manager now) (look_of_manager new) → HasLook (ruled_place old new first blocks) (home_write first blocks) r (look_of_manager old) (look_of_manager new)
-      look_log look = subst (λ (p : placing.Place). HasLook p (home_write first blocks) r (look_of_manager old) (look_of_manager new)) (sym place_log)
-          (subst (λ (l : Look). HasLook (InLog lane) (home_write first blocks) r l (look_of_manager new)) look_same look)
 
       taken : HaveAnswered (length blocks) (λ k. lane == k) now.rooms.items old.lanes.items new.lanes.items
       taken = one_takes (length blocks) now.rooms.items old.lanes.items now.lanes.items new.lanes.items a.lanes lane unknown change

@@ -1,5 +1,5 @@
 -- What is known of a manager that is up when a write is put into one of its lanes.
-use Rattle.std.proofs.Common.{◌≡◌, ◌≤◌, ◌+◌, ℕ, sym, subst, ◌∙◌, List, [], length, Bool, Option, None, Some, ap}
+use Rattle.std.proofs.Common.{◌≡◌, ℕ, sym, subst, ◌∙◌, List, Bool, Option, None, Some, ap}
 use Rattle.std.specs.Prelude.{slice_get, slice_set, IsTrue}
 use Rattle.std.specs.List.{AllByRecursion}
 use Rattle.std.specs.Option.{option_map}
@@ -7,18 +7,15 @@ use Rattle.std.proofs.lemmas.Option.{slice_get-map}
 use Rattle.wol_disk.specs.Disk.{State, Block, IsImageOf}
 use Rattle.wol_disk.proofs.Calls.{settled_only}
 use Rattle.wol_model.specs.Blocks.{Write}
-use Rattle.wol_model.specs.Extents.{KeepsAll, write_of}
 use Rattle.wol_model.specs.History.{writes, flight_of}
 use Rattle.wol_model.specs.Index.{Indexed}
-use Rattle.wol_model.specs.Log.{Record, IsLog, extent_of}
+use Rattle.wol_model.specs.Log.{Record, IsLog}
 use Rattle.spin_model.specs.declared.spun.Spun.{Spun}
-use Rattle.spin_model.specs.Spun.{state_of}
-use Rattle.log_segment.specs.Records.{new_record}
 use Rattle.log_segment.specs.Segment.{Holds, disk_of, owner_of}
 use Rattle.log_segment.specs.declared.segment.Segment.{Segment}
 use Rattle.wol_promise.specs.Manager.{Parts, Base, AreInUse}
 use Rattle.wol_promise.specs.Ruled.{Noted, entries_of}
-use Rattle.wol_promise.specs.Stands.{Upholds, LiesInVolume}
+use Rattle.wol_promise.specs.Stands.{Upholds}
 use Rattle.wol_promise.proofs.Lists.{all_map}
 use Rattle.logger.specs.Lanes.{logger_of, lane_owner, taken_in}
 use Rattle.logger.specs.declared.lane.Lane.{Lane}
@@ -28,7 +25,6 @@ use Rattle.manager.specs.declared.base.ManagerBase.{ManagerBase}
 use Rattle.manager.specs.declared.manager.Manager.{Manager}
 use Rattle.manager.specs.declared.part.Part.{Part}
 use Rattle.manager.proofs.Lanes.{all_at, all_set, none_taken}
-use Rattle.manager.proofs.NewRecord.{new_keeps}
 
 -- each image of a segment that holds records is a log of them
 pub image_is_log : {D : Type 0} (state : D → State) (seg : Segment D) (rs : List Record) (c : List Block) → Holds state seg rs → IsImageOf (disk_of state seg).values c → IsLog c (owner_of seg) rs
@@ -44,9 +40,6 @@ module _ {D : Type 0} (tells : Bool) (state : D → State) (m : Manager D) (b : 
   abbrev pub ws : List Write
   ws = writes (entries_of notes)
 
-  pub untaken : all_taken 0 m.lanes.items ≡ []
-  untaken = none_taken 0 m.lanes.items (all_map (IsReadyLane state m.id m.most) (λ (l : Lane D). taken_in l ≡ None) (λ l is. is.untaken) m.lanes.items kp.ready.ready.each)
-
   module _ (up : m.down ≡ None) where
     pub is_up : down_of m.down ≡ None
     is_up = ap down_of up
@@ -60,16 +53,6 @@ module _ {D : Type 0} (tells : Bool) (state : D → State) (m : Manager D) (b : 
 
     pub logger : slice_get base.view k ≡ Some (logger_of old)
     logger = ap (λ (l : List ℕ). slice_get l k) (sym kp.locks.view) ∙ slice_get-map logger_of m.lanes.items k ∙ ap (option_map logger_of) lane
-
-    module _ (lbn : ℕ) (from : List Block) (fits : lbn + length from ≤ (state_of state m.home).size) where
-      abbrev pub new_one : Record
-      new_one = new_record (lane_owner old) m.next lbn from
-
-      pub keeps : KeepsAll (extent_of new_one)
-      keeps = new_keeps (lane_owner old) m.next lbn from
-
-      pub lies : LiesInVolume base.home_blocks (write_of (extent_of new_one))
-      lies = subst (λ (n : ℕ). lbn + length from ≤ n) kp.upholds.places.home_size fits
 
 -- What a manager keeps up with an entry more, when its lanes, the entries of its index, its next version, flags and part at fault are these:
 -- all but what holds between its calls whatever the entries are.

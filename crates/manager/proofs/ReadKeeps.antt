@@ -1,6 +1,6 @@
 -- What a manager keeps up, it keeps up after reads.
-use Rattle.std.proofs.Common.{◌≡◌, ◌<◌, ◌≤◌, ◌+◌, ◌-◌, ℕ, zero, suc, Bool, List, [], ◌∷◌, ◌++◌, map, length, Option, None, Some, refl, sym, ap, subst, ◌∙◌, arith}
-use Rattle.std.specs.Prelude.{IsTrue, slice_get, slice_range, option_map}
+use Rattle.std.proofs.Common.{◌≡◌, ◌<◌, ◌≤◌, ◌+◌, ◌-◌, ℕ, zero, suc, Bool, List, [], ◌∷◌, ◌++◌, map, length, Option, None, Some, refl, sym, ap, subst, ◌∙◌, arith, cond}
+use Rattle.std.specs.Prelude.{IsTrue, slice_get, slice_range, option_map, is_some}
 use Rattle.std.specs.List.{AllByRecursion, AllZip}
 use Rattle.std.proofs.lemmas.Option.{slice_get-map}
 use Rattle.wol_disk.specs.Disk.{State, Block, Values, IsImageOf}
@@ -22,7 +22,7 @@ use Rattle.logger.specs.declared.lane.Lane.{Lane}
 use Rattle.manager.specs.Causes.{PartRose}
 use Rattle.manager.specs.Reading.{SegmentRead, LaneRead, IsReadThrough}
 use Rattle.manager.specs.Seen.{Logs, AllHold, AllLanesHold, held_with, all_held, all_taken, parts_of, seen, down_of, name_of, look_of_manager}
-use Rattle.manager.specs.Stands.{Keeps, Stands, IsNote, IsReady, IsReadyLane, AreNamed, Locks, nones_in, nones_at}
+use Rattle.manager.specs.Stands.{Keeps, Stands, IsNote, IsReady, IsReadyLane, AreNamed, Locks, nones_in, nones_at, HasTakenFew, takes_in, takes_of, AreStill}
 use Rattle.manager.specs.declared.base.LaneBase.{LaneBase}
 use Rattle.manager.specs.declared.base.ManagerBase.{ManagerBase}
 use Rattle.manager.specs.declared.manager.Manager.{Manager}
@@ -34,6 +34,7 @@ use Rattle.manager.proofs.Frames.{none_passed}
 use Rattle.manager.proofs.ReadContent.{held_as, standing, unbroken, upholds_up}
 use Rattle.manager.proofs.ReadThrough.{zip_length, zip_at, above_none}
 use Rattle.manager.proofs.Touched.{IsTouched, touched_, touched, read_breaks, same_use}
+use Rattle.manager.proofs.ReadyLanes.{down_counts}
 
 -- ---- lanes
 
@@ -94,6 +95,13 @@ module _ {D : Type 0} (state : D → State) where
   same_nones (l ∷ ls) (m ∷ ms) [] (suc k) zip = same_nones ls ms [] k zip.1
   same_nones (l ∷ ls) (m ∷ ms) (b ∷ bs) zero zip = ap (λ es. nones_in es - b.nones) zip.0.pool
   same_nones (l ∷ ls) (m ∷ ms) (b ∷ bs) (suc k) zip = same_nones ls ms bs k zip.1
+
+  pub same_takes : (ls ms : List (Lane D)) (bs : List LaneBase) → AllZip (LaneRead state) ls ms → takes_of ms bs ≡ takes_of ls bs
+  same_takes [] [] bs zip = refl
+  same_takes [] (m ∷ ms) bs zip = absurd zip
+  same_takes (l ∷ ls) [] bs zip = absurd zip
+  same_takes (l ∷ ls) (m ∷ ms) [] zip = refl
+  same_takes (l ∷ ls) (m ∷ ms) (b ∷ bs) zip = λ i. (takes_in (zip.0.pool i) - b.takes) + same_takes ls ms bs zip.1 i
 
   -- ---- as held ones
 
@@ -185,6 +193,17 @@ module _ {D : Type 0} (tells : Bool) (state : D → State) (old new : Manager D)
   same_passed : HasPassed (nones_at new.lanes.items b.lanes) notes
   same_passed j = subst (λ (n : ℕ). times_passed j notes ≤ n) (sym (same_nones state old.lanes.items new.lanes.items b.lanes j read.lanes)) (k.passed j)
 
+  taken_read : HasTakenFew new b
+  taken_read =
+      let few = k.taken in
+      let takes = same_takes state old.lanes.items new.lanes.items b.lanes read.lanes in
+      let next = read.next in
+      let down = ap (λ (o : Option Part). cond {A = ℕ} (is_some o) 1 0) read.down in
+      omega (arith, few, takes, next, down)
+
+  still_read : AreStill b.volume.places b.volume.began.next new.index.entries
+  still_read = subst (λ (c : Contents). AreStill b.volume.places b.volume.began.next c.entries) (sym read.index) k.still
+
   pub upholds_read : Upholds (parts_of tells state) b.volume.began (seen new k.logs) notes (writes (entries_of notes)) None
   upholds_read = subst (λ (m : ManagerSeen (Spun D)). Upholds (parts_of tells state) b.volume.began m notes (writes (entries_of notes)) None)
       (is_seen (down_of old.down) new.down (ap down_of (sym read.down)))
@@ -206,6 +225,8 @@ module _ {D : Type 0} (tells : Bool) (state : D → State) (old new : Manager D)
     upholds = subst (Upholds (parts_of tells state) b.volume.began (seen new k.logs) notes (writes (entries_of notes))) (sym (unbroken tells state old b notes k up)) upholds_read;
     in_use = use_read;
     passed = same_passed;
+    taken = taken_read;
+    still = still_read;
     ready = ready;
     locks = same_locks;
   }
@@ -220,6 +241,8 @@ module _ {D : Type 0} (tells : Bool) (state : D → State) (old new : Manager D)
       upholds = (read_more (parts_of tells state) b.volume.began (seen new k.logs) notes n note.follows first reply note.operation_is client (unbroken tells state old b notes k up) legal upholds_read note.look_is).upholds;
       in_use = use_read;
       passed = none_passed (nones_at new.lanes.items b.lanes) notes n note.passed_is same_passed;
+      taken = taken_read;
+      still = still_read;
       ready = ready;
       locks = same_locks;
     };
@@ -262,6 +285,8 @@ module _ {D : Type 0} (tells : Bool) (state : D → State) (old new : Manager D)
             notes n (upholds_up tells state old b notes k up) (unbroken tells state old b notes k up) note.operation_is note.drain (name_of p) (is_part p rose))).upholds;
         in_use = λ told no. absurd (let wrong : Some p ≡ None = no in cc);
         passed = none_passed (nones_at new.lanes.items b.lanes) notes n note.passed_is same_passed;
+        taken = let few = taken_read in let c = down_counts new.down in omega (arith, few, c);
+        still = still_read;
         ready = ready_failed;
         locks = same_locks;
       };

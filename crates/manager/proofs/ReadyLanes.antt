@@ -1,6 +1,6 @@
 -- What holds of a manager between its calls, where one of its lanes is another.
-use Rattle.std.proofs.Common.{◌≡◌, ◌⊎◌, inl, inr, ⊎_elim, ◌<◌, ◌≤◌, ◌+◌, ℕ, zero, suc, Bool, sym, subst, ◌∙◌, arith, List, [], ◌∷◌, ◌++◌, length, None, Some, refl, ap}
-use Rattle.std.specs.Prelude.{Contains, slice_get, slice_set}
+use Rattle.std.proofs.Common.{◌≡◌, ◌⊎◌, inl, inr, ⊎_elim, ◌<◌, ◌≤◌, ◌+◌, ℕ, zero, suc, Bool, sym, subst, ◌∙◌, arith, List, [], ◌∷◌, ◌++◌, length, None, Some, refl, ap, cond, Option}
+use Rattle.std.specs.Prelude.{Contains, slice_get, slice_set, is_some}
 use Rattle.std.proofs.lemmas.Option.{same_Some, none-some}
 use Rattle.std.proofs.Math.ListN.{length-set}
 use Rattle.std.proofs.lemmas.List.Sums.{sum_by-append}
@@ -14,7 +14,7 @@ use Rattle.turn_lock.specs.declared.pass.PassOf.{PassOf}
 use Rattle.spin_model.specs.declared.spindle.Spindle.{Spindle}
 use Rattle.spin_model.specs.declared.spindle.SpindleBase.{SpindleBase}
 use Rattle.spin_model.specs.declared.spun.Spun.{Spun}
-use Rattle.seg_pool.specs.Holders.{Took}
+use Rattle.seg_pool.specs.Holders.{Took, Gave}
 use Rattle.seg_pool.specs.Operations.{operation_of}
 use Rattle.log_segment.specs.Segment.{blocks_of}
 use Rattle.offload_policy.specs.declared.Room.{Room}
@@ -24,7 +24,7 @@ use Rattle.logger.specs.Lanes.{IsLane, HoldsAll, IsAt, IsSameLane, held_in, take
 use Rattle.logger.specs.declared.lane.HeldSegment.{HeldSegment}
 use Rattle.logger.specs.declared.lane.Lane.{Lane}
 use Rattle.logger.specs.declared.shared.Shared.{Shared}
-use Rattle.manager.specs.Stands.{IsReadyLane, Ready, IsPlacedIn, At, Locks, nones_in, nones_at}
+use Rattle.manager.specs.Stands.{IsReadyLane, Ready, IsPlacedIn, At, Locks, nones_in, nones_at, takes_in, takes_of}
 use Rattle.manager.specs.declared.base.LaneBase.{LaneBase}
 use Rattle.manager.specs.declared.base.ManagerBase.{ManagerBase}
 use Rattle.manager.proofs.Lanes.{all_at, all_set, get_set, get_other, map_set, named_set}
@@ -39,6 +39,32 @@ nones_none es pass = nones_more es (pass, operation_of (Took None))
 
 pub nones_some : (es : List Entry) (pass index : ℕ) → nones_in (es ++ (pass, operation_of (Took (Some index))) ∷ []) ≡ nones_in es
 nones_some es pass index = nones_more es (pass, operation_of (Took (Some index))) ∙ (let e : nones_in es + 0 ≡ nones_in es = omega arith in e)
+
+takes_more : (es : List Entry) (e : Entry) → takes_in (es ++ e ∷ []) ≡ takes_in es + takes_in (e ∷ [])
+takes_more es e = sum_by-append _ es (e ∷ [])
+
+pub takes_none : (es : List Entry) (pass : ℕ) → takes_in (es ++ (pass, operation_of (Took None)) ∷ []) ≡ takes_in es
+takes_none es pass = takes_more es (pass, operation_of (Took None)) ∙ (let e : takes_in es + 0 ≡ takes_in es = omega arith in e)
+
+pub takes_some : (es : List Entry) (pass index : ℕ) → takes_in (es ++ (pass, operation_of (Took (Some index))) ∷ []) ≡ takes_in es + 1
+takes_some es pass index = takes_more es (pass, operation_of (Took (Some index)))
+
+pub takes_gave : (es : List Entry) (pass index : ℕ) → takes_in (es ++ (pass, operation_of (Gave index)) ∷ []) ≡ takes_in es
+takes_gave es pass index = takes_more es (pass, operation_of (Gave index)) ∙ (let e : takes_in es + 0 ≡ takes_in es = omega arith in e)
+
+-- a part that is down counts once
+pub down_counts : {X : Type 0} (o : Option X) → cond {A = ℕ} (is_some o) 1 0 ≤ 1
+down_counts None = omega arith
+down_counts (Some x) = omega arith
+
+-- where one lane's pass took so many more, so did all at most
+pub takes_of_set : {D : Type 0} (lanes : List (Lane D)) (bs : List LaneBase) (k d : ℕ) (old new : Lane D) → slice_get lanes k ≡ Some old → takes_in (pass_mine (pool_of new)) ≤ takes_in (pass_mine (pool_of old)) + d
+    → takes_of (slice_set lanes k new) bs ≤ takes_of lanes bs + d
+takes_of_set [] bs k d old new lane le = absurd (none-some old lane)
+takes_of_set (l ∷ lanes) [] zero d old new lane le = omega arith
+takes_of_set (l ∷ lanes) [] (suc k) d old new lane le = omega arith
+takes_of_set {D} (l ∷ lanes) (b ∷ bs) zero d old new lane le = let P : Lane D → Type 0 = λ q. takes_in (pass_mine (pool_of new)) ≤ takes_in (pass_mine (pool_of q)) + d in let more = subst P (sym (same_Some l old lane)) le in omega arith
+takes_of_set (l ∷ lanes) (b ∷ bs) (suc k) d old new lane le = let rest = takes_of_set lanes bs k d old new lane le in omega (arith, rest)
 
 nones_unnamed : {D : Type 0} (lanes : List (Lane D)) (j : ℕ) → nones_at lanes [] j ≡ 0
 nones_unnamed [] j = refl

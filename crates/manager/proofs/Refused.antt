@@ -3,14 +3,12 @@ use Rattle.std.proofs.Common.{◌≡◌, inl, inr, ⊎_elim, ℕ, zero, suc, Boo
 use Rattle.std.specs.Prelude.{IsTrue, OnOk, replicate, MatchBool}
 use Rattle.std.specs.List.{AllByRecursion}
 use Rattle.std.proofs.lemmas.Option.{slice_get_within}
-use Rattle.wol_disk.specs.Disk.{State, Block, IsDisk}
+use Rattle.wol_disk.specs.Disk.{State, IsDisk}
 use Rattle.turn_lock.specs.Passes.{pass_mine}
 use Rattle.log_segment.specs.Segment.{Holds}
 use Rattle.wol_model.specs.History.{Kept, writes}
-use Rattle.wol_model.specs.Index.{listed_in}
 use Rattle.wol_model.specs.Placing as placing
 use Rattle.wol_promise.specs.Manager.{is_homed_in}
-use Rattle.wol_promise.specs.Policy.{Look, place_of}
 use Rattle.wol_promise.specs.Ruled.{Noted, last_look, entries_of}
 use Rattle.wol_promise.proofs.Stops.{still_stops}
 use Rattle.offload_policy.specs.declared.Room.{Room}
@@ -18,12 +16,11 @@ use Rattle.offload_policy.specs.declared.Room.TheVariants.{Unknown, Yes, No}
 use Rattle.redirect_map.specs.Index.{Contents}
 use Rattle.logger.specs.Lanes.{HasUsed, spindle_of}
 use Rattle.logger.specs.declared.lane.Lane.{Lane}
-use Rattle.manager.specs.Answers.{home_write}
 use Rattle.manager.specs.Causes.{PartRoseOrClaimed, NoneRose}
-use Rattle.manager.specs.Seen.{all_held, down_of, look_of_manager}
+use Rattle.manager.specs.Seen.{all_held, look_of_manager}
 use Rattle.manager.specs.Stands.{Keeps, Stands, IsReady, IsNote, passed_in}
 use Rattle.manager.specs.Stops.{ImageSince, HeldSince, Stops}
-use Rattle.manager.specs.Writing.{HasAnswered, HaveAnswered, HasLook, NeedsLogs, TellsFault, IsUntouched, ruled_place, takes_at}
+use Rattle.manager.specs.Writing.{HasAnswered, HaveAnswered, NeedsLogs, TellsFault, IsUntouched, takes_at}
 use Rattle.manager.specs.declared.base.ManagerBase.{ManagerBase}
 use Rattle.manager.specs.declared.manager.Manager.{Manager}
 use Rattle.manager.specs.declared.part.Part.{Part}
@@ -80,22 +77,6 @@ module _ {D : Type 0} (tells : Bool) (state : D → State) (old : Manager D) (ro
       copies : (n : ℕ) → AllByRecursion (λ (r : Room). r ≡ Unknown) (replicate n Unknown)
       copies zero = tt
       copies (suc n) = (refl, copies n)
-
-  module _ (new : Manager D) (r : Result Place WriteRefusal) (first : ℕ) (blocks : List Block) where
-    same_look : look_of_manager (record old { rooms = record { items = rooms }; index = index }) ≡ look_of_manager old
-    same_look = λ i. record { home_up = old.home_up; ups = old.ups.items; next = old.next; listed = listed_in (entries i); down = down_of old.down }
-
-    same_rule : ruled_place (record old { rooms = record { items = rooms }; index = index }) new first blocks ≡ ruled_place old new first blocks
-    same_rule = ap (λ (l : Look). place_of (passed_in new.rooms.items) l (home_write first blocks)) same_look
-
-    pub look_then : HasLook (ruled_place (record old { rooms = record { items = rooms }; index = index }) new first blocks) (home_write first blocks) r (look_of_manager (record old { rooms = record { items = rooms }; index = index })) (look_of_manager new)
-        → HasLook (ruled_place old new first blocks) (home_write first blocks) r (look_of_manager old) (look_of_manager new)
-    look_then look = subst (λ (p : placing.Place). HasLook p (home_write first blocks) r (look_of_manager old) (look_of_manager new)) same_rule
-        (subst (λ (l : Look). HasLook (ruled_place (record old { rooms = record { items = rooms }; index = index }) new first blocks) (home_write first blocks) r l (look_of_manager new)) same_look look)
-
-    pub answered_then : HaveAnswered (length blocks) (takes_at (ruled_place (record old { rooms = record { items = rooms }; index = index }) new first blocks) r) new.rooms.items old.lanes.items new.lanes.items
-        → HaveAnswered (length blocks) (takes_at (ruled_place old new first blocks) r) new.rooms.items old.lanes.items new.lanes.items
-    answered_then all = subst (λ (p : placing.Place). HaveAnswered (length blocks) (takes_at p r) new.rooms.items old.lanes.items new.lanes.items) same_rule all
 
   rose_then : (new : Manager D) (p : Part) → PartRoseOrClaimed state (record old { rooms = record { items = rooms }; index = index }) new p → PartRoseOrClaimed state old new p
   rose_then new (part.Home volume) rose = rose

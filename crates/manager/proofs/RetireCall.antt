@@ -24,7 +24,7 @@ use Rattle.logger.specs.declared.lane.Lane.{Lane}
 use Rattle.manager.specs.Causes.{AreCalm, PartRose}
 use Rattle.manager.specs.Offers.{ChangesLane}
 use Rattle.manager.specs.Reclaim.{IsTrimmedLane, HasDroppedSegment, KeepsOn, BreaksOff, NoneLiveIn, StopsSince, Always, lies_elsewhere}
-use Rattle.manager.specs.Stands.{Keeps, IsReady, IsReadyLane, IsPlacedIn, nones_in, nones_at}
+use Rattle.manager.specs.Stands.{Keeps, IsReady, IsReadyLane, IsPlacedIn, nones_in, nones_at, takes_in}
 use Rattle.manager.specs.Stops.{Stops}
 use Rattle.manager.specs.declared.manager.Manager.{Manager}
 use Rattle.manager.specs.declared.part.Part.{Part}
@@ -37,9 +37,10 @@ use Rattle.manager.proofs.Entries.{At, Found, among, entry_of_version}
 use Rattle.manager.proofs.Frames.{none_passed}
 use Rattle.manager.proofs.Lanes.{all_at, get_set, map_set}
 use Rattle.manager.proofs.Putting.{Pieces}
-use Rattle.manager.proofs.ReadyLanes.{get_of, nones_more}
+use Rattle.manager.proofs.ReadyLanes.{get_of, nones_more, takes_gave, down_counts}
 use Rattle.manager.proofs.RetireKeeps.{leaves}
 use Rattle.manager.proofs.RetireReady.{ready_less}
+use Rattle.manager.proofs.Still.{still_filter}
 use Rattle.manager.proofs.RetireStops.{failed_pieces, gone_stops, in_place_stops}
 
 -- the record of the call, its entry and its lane
@@ -146,6 +147,8 @@ module _ {D : Type 0} (state : D → State) (m : Manager D) (ready : IsReady sta
                   let more : nones_in (pass_mine (pool_of old)) ≤ nones_in (pass_mine (pool_of new)) = (let e = ap nones_in pool ∙ nones_more (pass_mine (pool_of old)) (pass_number (pool_of old), operation_of (Gave r.segment)) in omega (arith, e)) in
                   keeps_pieces tells state m b notes kp r.lane old new lane same more notes index' ups m.down (filter (lies_elsewhere r.lane o.index) m.index.entries) (entries ∙ ap (λ (s : ℕ). filter (lies_elsewhere r.lane s) m.index.entries) (sym named)) flags
                   (leaves tells state m b notes kp up r.lane old new lane untaken i o there (none_at o named) held) (ready_then index' ups entries flags) (passed_still tells state m b notes kp r.lane old new lane same more)
+                  (ap takes_in pool ∙ takes_gave (pass_mine (pool_of old)) (pass_number (pool_of old)) r.segment) (omega arith)
+                  (still_filter b.volume.places b.volume.began.next (lies_elsewhere r.lane o.index) m.index.entries kp.still)
               by (held_still i o n there named held pool err stayed) = absurd (false≢true err)
 
           pub stops_then : (tells : Bool) (sound : (d : D) → IsDisk (state d)) → IsTrue tells → (index' : Contents) (ups : List Bool) → ups ≡ slice_set m.ups.items r.lane true → StopsSince tells state m (record m { lanes = with_item m.lanes r.lane new; index = index'; ups = record { items = ups } }) Always
@@ -223,7 +226,7 @@ module _ {D : Type 0} (state : D → State) (m : Manager D) (ready : IsReady sta
                   keeps_pieces tells state m b notes kp r.lane old new lane same more (notes ++ nt ∷ []) m.index ups (Some (part.Segment volume r.segment)) m.index.entries refl flags
                   (subst (λ (d : Part). Pieces tells state m b (notes ++ nt ∷ []) (slice_set m.lanes.items r.lane new) m.index.entries m.next (slice_set m.ups.items r.lane true) (Some d)) (λ j. part.Segment (sym volume_is j) (named j))
                   (failed_pieces tells state sound m b notes kp up r.lane old new lane is_lane untaken i o n there (none_still o named) held stayed nt note.operation_is note.drain))
-                  ready_broke (none_passed (nones_at (slice_set m.lanes.items r.lane new) b.lanes) notes nt note.passed_is (passed_still tells state m b notes kp r.lane old new lane same more))
+                  ready_broke (none_passed (nones_at (slice_set m.lanes.items r.lane new) b.lanes) notes nt note.passed_is (passed_still tells state m b notes kp r.lane old new lane same more)) (ap takes_in pool) (down_counts m.down) kp.still
 
           pub stops_broke : (tells : Bool) (sound : (d : D) → IsDisk (state d)) → IsTrue tells
               → StopsSince tells state m (record m { lanes = with_item m.lanes r.lane new; ups = record { items = ups }; down = Some (part.Segment volume r.segment) }) Always

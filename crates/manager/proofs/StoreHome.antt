@@ -42,7 +42,7 @@ use Rattle.manager.specs.Accesses.{HasUsedOnce}
 use Rattle.manager.specs.Reading.{IsReadThrough}
 use Rattle.manager.specs.Reclaim.{put_block, IsPartlyPut, with_put}
 use Rattle.manager.specs.Seen.{Logs, AllLanesHold, parts_of, seen, all_held, down_of, look_of_manager}
-use Rattle.manager.specs.Stands.{Keeps, Stands, IsReady, IsInVolume, IsPlacedIn, IsNote, entries_at, nones_at}
+use Rattle.manager.specs.Stands.{Keeps, Stands, IsReady, IsInVolume, IsPlacedIn, IsNote, entries_at, nones_at, AreStill}
 use Rattle.manager.specs.Stops.{ImageSince, HeldSince}
 use Rattle.manager.specs.declared.base.ManagerBase.{ManagerBase}
 use Rattle.manager.specs.declared.manager.Manager.{Manager}
@@ -59,6 +59,8 @@ use Rattle.manager.proofs.ReadContent.{unbroken, upholds_up}
 use Rattle.manager.proofs.ReadKeeps.{held_read}
 use Rattle.manager.proofs.ReadStops.{logs, moved, moved_extents}
 use Rattle.manager.proofs.WentHome.{risen}
+use Rattle.manager.proofs.ReadyLanes.{down_counts}
+use Rattle.manager.proofs.Still.{still_changed}
 
 -- ---- the manager between its calls
 
@@ -215,6 +217,9 @@ module _ {D : Type 0} (tells : Bool) (state : D → State) (m : Manager D) (b : 
           (λ x may. let from = put_image (state_of state m.home).values (state_of state part).values e.listed.first mask blocks x is may.1 in (from.0, (may.0, from.1), from.2))) refl));
       in_use = kp.in_use;
       passed = kp.passed;
+      taken = kp.taken;
+      still = subst (AreStill b.volume.places b.volume.began.next) (sym entries)
+          (still_changed b.volume.places b.volume.began.next version (with_put mask) (λ d. record { version = refl; first = refl; lane = refl; index = refl; pos = refl }) m.index.entries kp.still);
       ready = ready;
       locks = let l = kp.locks in record { pass = pass.0 ∙ l.pass; number = pass.1 ∙ l.number; each = l.each; owner = l.owner; most_ = l.most_; view = l.view };
     }
@@ -236,6 +241,8 @@ module _ {D : Type 0} (tells : Bool) (state : D → State) (m : Manager D) (b : 
                 (risen (state_of state m.home).faults (state_of state part).faults rose)).upholds;
             in_use = λ told is. absurd (let no : Some failed ≡ None = is in cc);
             passed = none_passed (nones_at m.lanes.items b.lanes) notes n note.passed_is kp.passed;
+            taken = let few = kp.taken in let c = down_counts m.down in omega (arith, few, c);
+            still = kp.still;
             ready = ready;
             locks = let l = kp.locks in record { pass = pass.0 ∙ l.pass; number = pass.1 ∙ l.number; each = l.each; owner = l.owner; most_ = l.most_; view = l.view };
           };

@@ -39,6 +39,7 @@ use Rattle.manager.proofs.Moments.{stops_so, still_logs}
 use Rattle.manager.proofs.ReadContent.{unbroken, upholds_up}
 use Rattle.manager.proofs.RunContent.{bare_block, newest_listed}
 use Rattle.wol_promise.proofs.Woken.{covered_is}
+use Rattle.manager.proofs.ReadyLanes.{down_counts}
 
 -- ---- blocks that no record covers
 
@@ -138,6 +139,8 @@ module _ {D : Type 0} (tells : Bool) (state : D → State) (m : Manager D) (b : 
             note.follows note.look_is).upholds;
         in_use = keeps.in_use;
         passed = passed;
+        taken = keeps.taken;
+        still = keeps.still;
         ready = ready;
         locks = let l = keeps.locks in record { pass = pass.0 ∙ l.pass; number = pass.1 ∙ l.number; each = l.each; owner = l.owner; most_ = l.most_; view = l.view };
       };
@@ -161,6 +164,8 @@ module _ {D : Type 0} (tells : Bool) (state : D → State) (m : Manager D) (b : 
                 (risen (state_of state m.home).faults (state_of state part).faults rose)).upholds;
             in_use = λ told is. absurd (let no : Some failed ≡ None = is in cc);
             passed = passed;
+            taken = let t = keeps.taken in let c = down_counts m.down in omega (arith, t, c);
+            still = keeps.still;
             ready = ready;
             locks = let l = keeps.locks in record { pass = pass.0 ∙ l.pass; number = pass.1 ∙ l.number; each = l.each; owner = l.owner; most_ = l.most_; view = l.view };
           };

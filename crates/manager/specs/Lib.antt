@@ -9,3 +9,6 @@ pub mod Seen
 pub mod Stands
 pub mod Stops
 pub mod Writing
+pub mod Groups
+pub mod Joining
+pub mod Listing

@@ -5,11 +5,6 @@ use Rattle.seg_pool.specs.Holders.{Took}
 use Rattle.seg_pool.specs.Operations.{operation_of}
 use Rattle.logger.specs.Lanes.{IsSameLane, HasUsed, HasNoRoom, held_in, taken_in, pool_of, spindle_of}
 use Rattle.logger.specs.declared.lane.Lane.{Lane}
-use Rattle.wol_disk.specs.Disk.{Block}
-use Rattle.wol_model.specs.History.{Operation, Wrote, Kept, Broke}
-use Rattle.manager.specs.Answers.{log_write}
-use Rattle.manager.specs.declared.log.Offered.{Offered}
-use Rattle.manager.specs.declared.log.Offered.TheVariants.{NoRoom, Written, Failed}
 use Rattle.manager.specs.declared.part.Part.{Part}
 use Rattle.manager.specs.declared.part.Part.TheVariants as part
 
@@ -41,9 +36,3 @@ pub record ChangesLane {D : Type 0} (Change : Lane D → Lane D → Type 0) (k :
 abbrev pub IsOn : (view : List ℕ) → (lane : ℕ) → Part → Type 0
 IsOn view lane (part.Home volume) = ⊥
 IsOn view lane (part.Segment logger index) = slice_get view lane ≡ Some logger
-
--- what a lane leaves in the history that was offered a write of these blocks
-abbrev pub offered : (next first : ℕ) → List Block → Offered → Operation
-offered next first blocks NoRoom = Kept
-offered next first blocks Written = Wrote (log_write next first blocks ∷ [])
-offered next first blocks (Failed p) = Broke (log_write next first blocks ∷ [])

@@ -1,5 +1,5 @@
 -- What a manager stands for, over the locks that it shares with others.
-use Rattle.std.specs.Prelude.{⊤, ◌≡◌, ◌<◌, ◌≤◌, ◌^◌, ◌+◌, ◌-◌, ◌==◌, ◌&&◌, ℕ, Bool, true, false, not, List, [], ◌∷◌, ◌++◌, map, filter, length, replicate, vec_len, slice_get, slice_index_or, Contains, Option, None, Some, IsTrue}
+use Rattle.std.specs.Prelude.{⊤, cond, is_some, ◌≡◌, ◌<◌, ◌≤◌, ◌^◌, ◌+◌, ◌-◌, ◌==◌, ◌&&◌, ℕ, Bool, true, false, not, List, [], ◌∷◌, ◌++◌, map, filter, length, replicate, vec_len, slice_get, slice_index_or, Contains, Option, None, Some, IsTrue}
 use Rattle.std.specs.List.{AllByRecursion, count_by, range_with_len}
 use Rattle.std.specs.declared.alloc.Global.{Global}
 use Rattle.std.specs.declared.vec.Vec.{Vec}
@@ -131,6 +131,15 @@ nones_in entries = count_by (λ (e : Entry). is_none (use_of e.1)) entries
     is_none (Took (Some index)) = false
     is_none (Rattle.seg_pool.specs.Holders.Gave index) = false
 
+-- in how many of these turns a segment was taken
+abbrev pub takes_in : List Entry → ℕ
+takes_in entries = count_by (λ (e : Entry). is_taken (use_of e.1)) entries
+  where
+    is_taken : Rattle.seg_pool.specs.Holders.PoolUse → Bool
+    is_taken (Took None) = false
+    is_taken (Took (Some index)) = true
+    is_taken (Rattle.seg_pool.specs.Holders.Gave index) = false
+
 -- a lane's passes are those that the base names
 pub record IsNamed {D : Type 0} (l : Lane D) (b : LaneBase) : Type 0 where
   pub logger : logger_of l ≡ b.logger
@@ -154,6 +163,12 @@ nones_at lanes bs k = nones_since (slice_get lanes k) (slice_get bs k)
     nones_since None b = 0
     nones_since (Some l) None = 0
     nones_since (Some l) (Some b) = nones_in (pass_mine (pool_of l)) - b.nones
+
+-- how many segments the passes of all lanes took since the opening
+abbrev pub takes_of : {D : Type 0} → List (Lane D) → List LaneBase → ℕ
+takes_of [] bs = 0
+takes_of (l ∷ ls) [] = 0
+takes_of (l ∷ ls) (b ∷ bs) = (takes_in (pass_mine (pool_of l)) - b.takes) + takes_of ls bs
 
 -- the manager is the one that the base names
 pub record Locks {D : Type 0} (id most : ℕ) (spindle : PassOf Spindle SpindleBase) (lanes : List (Lane D)) (b : ManagerBase) : Type 0 where
@@ -179,6 +194,22 @@ pub record IsShared {D : Type 0} (shared : Shared D) (b : ManagerBase) : Type 0 
   pub spindle : (d : _) → b.spindle.id ≡ lock_id (slice_index_or shared.spindles.items b.volume.began.owner d)
   pub lanes : AllByRecursion (IsLaneShared shared) b.lanes
 
+-- its passes took at most a segment for each version that it gave since the opening, and one that it may have been at when it failed
+abbrev pub HasTakenFew : {D : Type 0} → Manager D → ManagerBase → Type 0
+HasTakenFew m b = takes_of m.lanes.items b.lanes + b.volume.began.next ≤ m.next + cond (is_some m.down) 1 0
+
+-- the record stands where it stood: it has the same version, first block, lane, segment and position
+pub record StandsAt (old e : Indexed) : Type 0 where
+  pub version : e.listed.version ≡ old.listed.version
+  pub first : e.listed.first ≡ old.listed.first
+  pub lane : e.listed.lane ≡ old.listed.lane
+  pub index : e.index ≡ old.index
+  pub pos : e.pos ≡ old.pos
+
+-- each record of a version below this one stands where one of these places is
+abbrev pub AreStill : (places : List Indexed) → (next : ℕ) → List Indexed → Type 0
+AreStill places next es = AllByRecursion (λ e. e.listed.version < next → (old : Indexed) × Contains places old × StandsAt old e) es
+
 -- ---- The whole
 
 -- What a manager keeps up for what it began with and the entries since, at the end of a step of a turn.
@@ -192,6 +223,10 @@ pub record Keeps {D : Type 0} (tells : Bool) (state : D → State) (m : Manager 
   pub in_use : IsTrue tells → m.down ≡ None → AreInUse (all_held 0 m.lanes.items logs)
   -- no pool was said to be empty more often than it was found so
   pub passed : HasPassed (nones_at m.lanes.items b.lanes) notes
+  -- no more segments were taken than there were writes to logs, each of which is one version, and one more where a call failed
+  pub taken : HasTakenFew m b
+  -- no record that was listed at the opening has moved
+  pub still : AreStill b.volume.places b.volume.began.next m.index.entries
   pub ready : IsReady state m
   pub locks : HasLocks m b
 

@@ -1,7 +1,7 @@
 -- A manager with all that it shares.
 use Rattle.std.specs.Prelude.{◌≡◌, true, List, [], ◌∷◌, None}
-use Rattle.wol_disk.specs.Memory.{mem_state}
-use Rattle.wol_disk.specs.declared.memory.MemDisk.{MemDisk}
+use Rattle.volume_tests.specs.Counting.{counting_state}
+use Rattle.volume_tests.specs.declared.counting.CountingDisk.{CountingDisk}
 use Rattle.turn_lock.specs.Passes.{lock_passes, IsPassOf, IsFree}
 use Rattle.turn_lock.specs.declared.lock.TurnLock.{TurnLock}
 use Rattle.turn_lock.specs.declared.pass.PassOf.{PassOf}
@@ -19,8 +19,8 @@ use Rattle.reclaimer.specs.Fetches.{HasData}
 use Rattle.volume_tests.specs.declared.rig.Rig.{Rig}
 
 -- a lane of volume 0 on volume 1 that holds nothing yet, with these passes
-pub record IsNewLane (pool : PassOf (Pool (FreeSegment MemDisk)) PoolBase) (spindle : PassOf Spindle SpindleBase) (l : Lane MemDisk) : Type 0 where
-  pub lane : IsLane mem_state l
+pub record IsNewLane (pool : PassOf (Pool (FreeSegment CountingDisk)) PoolBase) (spindle : PassOf Spindle SpindleBase) (l : Lane CountingDisk) : Type 0 where
+  pub lane : IsLane counting_state l
   pub logger_is : logger_of l ≡ 1
   pub owner : lane_owner l ≡ 0
   pub held : held_in l ≡ []
@@ -54,7 +54,7 @@ pub record IsRig (r : Rig) : Type 0 where
   pub base : ManagerBase
   pub notes : List Noted
   pub began : IsOfVolume base
-  pub keeps : Keeps true mem_state r.manager base notes
+  pub keeps : Keeps true counting_state r.manager base notes
   pub fetched : HasData true r.fetched base notes
   pub at : IsHome r.shared r.manager
   pub pools : AreTwoLocks r.shared.pools.items

@@ -1,8 +1,11 @@
 // What a manager is asked for.
 ghost use Rattle.std.specs.Prelude.{◌≤◌, ◌+◌, length};
+ghost use Rattle.log_segment.specs.Records.{count_of};
+ghost use Rattle.manager.specs.Groups.{AreItemsOf};
 ghost use Rattle.volume_tests.specs.Rigs.{IsRig};
 
 use crate::rig::Rig;
+use log_segment::Item;
 use manager::{Place, ReadRefusal, Sources, StepFault, WriteRefusal};
 use reclaimer::{Drain, Fetched, Gone, drain_step, fetch, invalidate_one, put_home};
 use std::sync::Wait;
@@ -29,6 +32,23 @@ impl Rig {
         ensures { IsRig self.new }
     {
         self.manager.write(rt, &self.shared, lbn, from)
+    }
+
+    /// Writes some first ones of the items.
+    pub fn write_run<R: Wait>(
+        &mut self,
+        rt: &R,
+        items: &[Item],
+        from: &[Block],
+    ) -> Result<(u32, Place), WriteRefusal>
+        requires rig { IsRig self.old }
+        requires some { 1 ≤ length items.now }
+        requires few { length items.now ≤ 16 }
+        requires items { AreItemsOf 4 8 items.now }
+        requires blocks { count_of items.now ≤ length from.now }
+        ensures { IsRig self.new }
+    {
+        self.manager.write_run(rt, &self.shared, items, from)
     }
 
     pub fn read<R: Wait>(

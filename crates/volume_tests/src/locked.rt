@@ -1,10 +1,11 @@
 // Locks that have one pass each, and what lies under them.
 ghost use Rattle.std.specs.Prelude.{◌≡◌, []};
 ghost use Rattle.turn_lock.specs.Passes.{pass_lock, pass_mine};
-ghost use Rattle.wol_disk.specs.Memory.{mem_state};
+ghost use Rattle.volume_tests.specs.Counting.{counting_state};
 ghost use Rattle.log_segment.specs.Segment.{IsBlank};
 ghost use Rattle.volume_tests.specs.Locked.{HasOnePass, HasSpindle, HasKeptSpindle, HasPool};
 
+use crate::counting::CountingDisk;
 use crate::opening::open_segment;
 use log_layout::{SegHead, write_seg};
 use log_scan::Adopted;
@@ -20,7 +21,7 @@ use wol_disk::{Disk, MemDisk};
 pub const TIMEOUT: u64 = 600_000_000;
 
 /// How many blocks a segment has.
-pub const SEGMENT: u32 = 16;
+pub const SEGMENT: u32 = 32;
 
 /// A lock over the value, and its one pass.
 pub fn locked<T: Object, R: Abort>(rt: &R, alloc: Global, value: T) -> (TurnLock<T>, Pass<T>)
@@ -92,10 +93,10 @@ pub fn pool_of<R: Abort>(
     volume: u32,
     free: bool,
 ) -> (
-    TurnLock<Pool<FreeSegment<MemDisk>>>,
-    Pass<Pool<FreeSegment<MemDisk>>>,
+    TurnLock<Pool<FreeSegment<CountingDisk>>>,
+    Pass<Pool<FreeSegment<CountingDisk>>>,
 )
-    ensures { HasPool volume 16 result.0 result.1 }
+    ensures { HasPool volume 32 result.0 result.1 }
 {
     let mut pool = Pool::new(alloc, 1, volume, SEGMENT).expect(rt, "a pool");
     if free {
@@ -105,8 +106,8 @@ pub fn pool_of<R: Abort>(
 }
 
 // A free segment in the image of this volume.
-fn free_segment<R: Abort>(rt: &R, alloc: Global, volume: u32) -> FreeSegment<MemDisk>
-    ensures { IsBlank mem_state volume 16 result }
+fn free_segment<R: Abort>(rt: &R, alloc: Global, volume: u32) -> FreeSegment<CountingDisk>
+    ensures { IsBlank counting_state volume 32 result }
 {
     let mut disk = MemDisk::new(alloc, u64::from(SEGMENT)).expect(rt, "a disk");
     let mut head = [0; 512];
@@ -115,7 +116,7 @@ fn free_segment<R: Abort>(rt: &R, alloc: Global, volume: u32) -> FreeSegment<Mem
     disk.sync().expect(rt, "a synced head");
     let mut spindle = Spindle::new(alloc, volume, TIMEOUT);
     let token = spindle.need();
-    let opened = open_segment(alloc, &token, Spun::new(volume, disk));
+    let opened = open_segment(alloc, &token, Spun::new(volume, CountingDisk::new(disk)));
     spindle.done(token);
     match opened {
         Ok(Adopted::Free(free)) => {

@@ -7,6 +7,7 @@ ghost use Rattle.logger.specs.declared.lane.Lane.{Lane};
 ghost use Rattle.volume_tests.specs.Locked.{HasOnePass, HasTwoPasses, HasKeptSpindle};
 ghost use Rattle.volume_tests.specs.Rigs.{IsNewLane, IsRig};
 
+use crate::counting::CountingDisk;
 use crate::locked::{kept_spindle, pool_of, spindle_of, unlocked};
 use crate::rig::Rig;
 use log_segment::FreeSegment;
@@ -23,11 +24,13 @@ use turn_lock::{Pass, TurnLock};
 use wol_disk::MemDisk;
 use wol_model::Turned;
 
-/// What is left of a rig: the journals of both disks, and how many segments of volume 1 are free.
+/// What is left of a rig: the journals of both disks, the segments of volume 1 that are held, and how many of its segments are
+/// free.
 #[derive(Drop)]
 pub struct Remains {
     pub home: Vec<Turned>,
     pub logger: Vec<Turned>,
+    pub held: Vec<(u32, Spun<CountingDisk>)>,
     pub free: u32,
 }
 
@@ -45,9 +48,9 @@ fn two<T, R: Abort>(rt: &R, alloc: Global, first: T, second: T) -> Vec<T>
 fn lanes<R: Abort>(
     rt: &R,
     alloc: Global,
-    pool: Pass<Pool<FreeSegment<MemDisk>>>,
+    pool: Pass<Pool<FreeSegment<CountingDisk>>>,
     spindle: Pass<Spindle>,
-) -> Vec<Lane<MemDisk>>
+) -> Vec<Lane<CountingDisk>>
     requires pool_volume { (pass_lock pool).base.volume ≡ 1 }
     requires few { length (pass_lock pool).base.holders ≡ 1 }
     requires spindle_volume { (pass_lock spindle).base.volume ≡ 1 }
@@ -89,7 +92,8 @@ pub fn new_rig<R: Abort + Wait>(rt: &R, alloc: Global) -> Rig
     let (own_pool_lock, own_pool) = pool_of(rt, alloc, 0, false);
     let (pool_lock, pool_pass) = pool_of(rt, alloc, 1, true);
     let lanes = lanes(rt, alloc, pool_pass, logger_pass);
-    let home = Spun::new(0, MemDisk::new(alloc, 8).expect(rt, "home"));
+    let disk = CountingDisk::new(MemDisk::new(alloc, 8).expect(rt, "home"));
+    let home = Spun::new(0, disk);
     Rig {
         shared: Shared {
             pools: two(rt, alloc, own_pool_lock, pool_lock),
@@ -120,7 +124,7 @@ pub fn apart<R: Abort>(rt: &R, alloc: Global, rig: Rig) -> Remains
     } = manager.release();
     let LaneParts {
         logger: _,
-        held: _,
+        held,
         pool: pool_pass,
         spindle: logger_pass,
     } = sole(lanes).release();
@@ -131,6 +135,7 @@ pub fn apart<R: Abort>(rt: &R, alloc: Global, rig: Rig) -> Remains
     Remains {
         home: kept_journal(rt, alloc, home_lock, keeper, spindle),
         logger: journal(rt, alloc, logger_lock, logger_pass),
+        held,
         free: unlocked(rt, alloc, pool_lock, pool_pass).len(),
     }
 }

@@ -12,11 +12,11 @@ kept_journal-requires g c = subst (HasTwoPasses c.both-home_lock.result.0 c.args
 pub journal-requires : goal.journal-requires
 journal-requires g c =
     let sole = sym (ap (λ (v : _). v.items) c.release-spindle.ensures.lanes) ∙ c.sole.ensures in
-    subst (HasOnePass c.both-home_lock.result.1) (sym c.release-pool_pass.ensures.spindle)
+    subst (HasOnePass c.both-home_lock.result.1) (sym c.release-held.ensures.spindle)
     (logger_lock c.args.rig c.requires c.sole.result sole c.both-home_lock.result.0 c.both-home_lock.result.1 c.both-home_lock.ensures)
 
 pub unlocked-requires-2 : goal.unlocked-requires-2
 unlocked-requires-2 g c =
     let sole = sym (ap (λ (v : _). v.items) c.release-spindle.ensures.lanes) ∙ c.sole.ensures in
-    subst (HasOnePass c.both-own_pool_lock.result.1) (sym c.release-pool_pass.ensures.pool)
+    subst (HasOnePass c.both-own_pool_lock.result.1) (sym c.release-held.ensures.pool)
     (pool_lock c.args.rig c.requires c.sole.result sole c.both-own_pool_lock.result.0 c.both-own_pool_lock.result.1 c.both-own_pool_lock.ensures)

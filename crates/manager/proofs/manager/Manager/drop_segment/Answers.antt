@@ -1,5 +1,5 @@
 -- A segment is given up with all its records.
-use Rattle.std.proofs.Common.{◌≡◌, ◌<◌, ◌^◌, Bool, List, true, false, length, refl, ap, ◌∙◌, arith}
+use Rattle.std.proofs.Common.{◌<◌, ◌^◌, Bool, List, true, false, length, refl, ap, ◌∙◌, arith}
 use Rattle.std.proofs.lemmas.Option.{slice_get_within}
 use Rattle.wol_model.specs.Index.{Indexed}
 use Rattle.wol_promise.proofs.Lists.{all_map}

@@ -1,0 +1,389 @@
+// Runs of writes: consecutive writes of which some first ones go to one segment together.
+ghost use Rattle.std.specs.Prelude.{◌≡◌, ◌≢◌, ◌↔◌, ◌+◌, ◌≤◌, ◌<◌, ◌^◌, ◌∷◌, [], ◌++◌, ℕ, List, Option, None, Some, Ok, Err, IsNone, IsSome, IsOk, IfOk, IfSome, IsTrue, OnOk, length, map, take, slice_set, replicate};
+ghost use Rattle.std.specs.List.{list_any, range_with_len};
+ghost use Rattle.spin_model.specs.Spun.{state_of};
+ghost use Rattle.spin_model.specs.declared.spun.Spun.{Spun};
+ghost use Rattle.wol_model.specs.History.{worker};
+ghost use Rattle.wol_model.specs.Index.{listed_in, is_covered};
+ghost use Rattle.wol_model.specs.Placing.{Log as InLog};
+ghost use Rattle.wol_promise.specs.Ruled.{Noted, HasPassed, last_look};
+ghost use Rattle.log_segment.specs.Records.{count_of};
+ghost use Rattle.logger.specs.Lanes.{logger_of, first_count};
+ghost use Rattle.manager.specs.Answers.{IsPlaceOf};
+ghost use Rattle.manager.specs.Causes.{PartRoseOrClaimed, NoneRose};
+ghost use Rattle.manager.specs.Groups.{AreItemsOf, HasRun, log_writes, first_lbn, first_blocks, offered_group, run_writes, run_written, placed_all, place_told, ruled_run, tried_by, told_of, given_out, entered_by};
+ghost use Rattle.manager.specs.Joining.{GoTogether};
+ghost use Rattle.manager.specs.Offers.{IsTurnedAway, HasTakenWrite, ChangesLane, IsOn};
+ghost use Rattle.manager.specs.Seen.{look_of_manager};
+ghost use Rattle.manager.specs.Stands.{Keeps, Stands, IsReady, IsHome, IsNote, IsSameManager, nones_at, passed_in};
+ghost use Rattle.manager.specs.Stops.{Stops, TellsClaim};
+ghost use Rattle.manager.specs.Writing.{HaveAnswered, NeedsHome, NeedsLogs, TellsFault, IsAsBefore, IsLogAnswer, IsPlacedAnswer, takes_at};
+ghost use Rattle.manager.specs.declared.base.ManagerBase.{ManagerBase};
+ghost use Rattle.manager.specs.declared.part.Part.{Part};
+
+use crate::group::{list_group, put_group, reserve_places, together};
+use crate::manager::unasked;
+use crate::{Manager, Part, Place, WriteRefusal};
+use log_segment::Item;
+use logger::Shared;
+use offload_policy::{Room, Step, place};
+use std::sync::Wait;
+use wol_disk::{Block, Disk, Failed};
+
+/// The next version where all versions are spent.
+const SPENT: u64 = 1 << 63;
+
+/// The most items that one call looks at.
+const MOST_ITEMS: usize = 128;
+
+/// What became of a run that was offered to a lane.
+pub(crate) enum Taken {
+    /// No held segment has room for the first item, and the pool was empty.
+    NoRoom,
+    /// So many first items are in the log.
+    Written(usize),
+    /// A call of this part failed while so many first items were written. The manager is down from now on.
+    Failed(usize, Part),
+}
+
+/// How many first items of a run a disk was to take, and where they went, or why not.
+#[derive(Clone, Copy, Debug)]
+pub struct Ran {
+    pub items: usize,
+    pub answer: Result<Place, WriteRefusal>,
+}
+
+impl<D: Disk> Manager<D> {
+    // Asks the lane at this place of the view for room for the first item, and writes it there with others behind it that have room too.
+    fn offer_group<R: Wait>(
+        &mut self,
+        rt: &R,
+        shared: &Shared<D>,
+        lane: usize,
+        items: &[Item],
+        from: &[Block],
+    ) -> Taken
+        requires ready { IsReady D.state self.old }
+        requires at { IsHome shared.now self.old }
+        requires up { self.old.down ≡ None }
+        requires lane { lane < length self.old.lanes.items }
+        requires some { 1 ≤ length items.now }
+        requires items { AreItemsOf self.old.most (state_of D.state self.old.home).size items.now }
+        requires blocks { count_of items.now ≤ length from.now }
+        requires next { self.old.next + length items.now ≤ 2 ^ 63 }
+        requires reserved { length items.now ≤ self.old.index.reserved }
+        ensures ready { IsReady D.state self.new }
+        ensures at { IsHome shared.now self.new }
+        ensures no_room { result ≡ Taken.NoRoom → (self.new ≡ record self.old { lanes = self.new.lanes })
+            × ChangesLane (IsTurnedAway (first_count items.now)) lane self.old.lanes.items self.new.lanes.items }
+        ensures keeps { result ≡ Taken.NoRoom → (b : ManagerBase) (notes : List Noted) → Keeps D.tells D.state self.old b notes → Keeps D.tells D.state self.new b notes }
+        ensures taken { result ≢ Taken.NoRoom → (self.new ≡ record self.old { lanes = self.new.lanes; index = self.new.index; next = self.new.next; ups = self.new.ups; down = self.new.down })
+            × ChangesLane HasTakenWrite lane self.old.lanes.items self.new.lanes.items }
+        ensures tried { result ≢ Taken.NoRoom → (1 ≤ tried_by result) × (tried_by result ≤ length items.now) }
+        ensures stands { result ≢ Taken.NoRoom → (b : ManagerBase) (notes : List Noted) (passed : List ℕ) (n : Noted) → n.entry.pass ≡ worker
+            → IsNote (last_look b.volume.began.look notes) (offered_group self.old.next items.now from.now result) passed (look_of_manager self.new) n
+            → HasPassed (nones_at self.new.lanes.items b.lanes) (notes ++ n ∷ []) → Keeps D.tells D.state self.old b notes → Stands D.tells D.state self.new b (notes ++ n ∷ []) }
+        ensures look { (count : ℕ) → result ≡ Taken.Written count → look_of_manager self.new ≡ placed_all (InLog lane) (look_of_manager self.old) (log_writes self.old.next (take count items.now) from.now) }
+        ensures up { (count : ℕ) → result ≡ Taken.Written count → self.new.down ≡ None }
+        ensures next { self.new.next ≡ self.old.next + entered_by result }
+        ensures down { (count : ℕ) (p : Part) → result ≡ Taken.Failed count p → self.new.down ≡ Some p }
+        ensures named { (count : ℕ) (p : Part) → result ≡ Taken.Failed count p → IsOn (map logger_of self.old.lanes.items) lane p }
+        ensures cause { (count : ℕ) (p : Part) → result ≡ Taken.Failed count p → PartRoseOrClaimed D.state self.old self.new p }
+        ensures calm { (count : ℕ) → result ≡ Taken.Written count → NoneRose D.state self.old self.new }
+        ensures any_moment { (claimed : Option (Spun _)) × TellsClaim D.tells D.state (told_of result) self.old.lanes.items self.new.lanes.items claimed
+            × (IsTrue D.tells → (b : ManagerBase) (notes : List Noted) → Keeps D.tells D.state self.old b notes
+            → Stops D.state self.old self.new claimed b notes (log_writes self.old.next (take (tried_by result) items.now) from.now)) }
+    {
+        let reached = &mut self.lanes[lane];
+        let logger = reached.logger();
+        let Some((count, written)) = put_group(rt, shared, reached, self.next, items, from) else {
+            return Taken::NoRoom;
+        };
+        match written {
+            Ok(spot) => {
+                list_group(
+                    &mut self.index,
+                    self.next,
+                    lane as u32,
+                    spot,
+                    &items[..count],
+                );
+                self.next += count as u64;
+                self.ups[lane] = true;
+                Taken::Written(count)
+            }
+            Err((index, Failed)) => {
+                let part = Part::Segment {
+                    volume: logger,
+                    index,
+                };
+                self.down = Some(part);
+                Taken::Failed(count, part)
+            }
+        }
+    }
+
+    // Offers the run to the lane at this place of the view. `None` comes where it has no room, and that is noted.
+    fn try_run<R: Wait>(
+        &mut self,
+        rt: &R,
+        shared: &Shared<D>,
+        lane: u32,
+        items: &[Item],
+        from: &[Block],
+    ) -> Option<Ran>
+        requires ready { IsReady D.state self.old }
+        requires at { IsHome shared.now self.old }
+        requires up { self.old.down ≡ None }
+        requires lane { lane < length self.old.lanes.items }
+        requires some { 1 ≤ length items.now }
+        requires items { AreItemsOf self.old.most (state_of D.state self.old.home).size items.now }
+        requires blocks { count_of items.now ≤ length from.now }
+        requires next { self.old.next + length items.now ≤ 2 ^ 63 }
+        requires reserved { length items.now ≤ self.old.index.reserved }
+        ensures ready { IsReady D.state self.new }
+        ensures at { IsHome shared.now self.new }
+        ensures turned_away { IsNone result → (self.new ≡ record self.old { lanes = self.new.lanes; rooms = record { items = slice_set self.old.rooms.items lane Room.No } })
+            × ChangesLane (IsTurnedAway (first_count items.now)) lane self.old.lanes.items self.new.lanes.items }
+        ensures keeps { IsNone result → (b : ManagerBase) (notes : List Noted) → Keeps D.tells D.state self.old b notes → Keeps D.tells D.state self.new b notes }
+        ensures taken { IsSome result → (self.new ≡ record self.old { lanes = self.new.lanes; index = self.new.index; next = self.new.next; ups = self.new.ups; down = self.new.down })
+            × ChangesLane HasTakenWrite lane self.old.lanes.items self.new.lanes.items }
+        ensures tried { IfSome result (λ r. (1 ≤ r.items) × (r.items ≤ length items.now)) }
+        ensures joins { IfSome result (λ r. GoTogether self.old.home_up (listed_in self.old.index.entries) (passed_in self.old.rooms.items) items.now r.items) }
+        ensures answer { IfSome result (λ r. IsLogAnswer (map logger_of self.old.lanes.items) lane r.answer) }
+        ensures stands { IfSome result (λ r. (b : ManagerBase) (notes : List Noted) (passed : List ℕ) (n : Noted) → n.entry.pass ≡ worker
+            → IsNote (last_look b.volume.began.look notes) (run_written (run_writes self.old.next (take r.items items.now) from.now r.answer) r.answer) passed (look_of_manager self.new) n
+            → HasPassed (nones_at self.new.lanes.items b.lanes) (notes ++ n ∷ [])
+            → Keeps D.tells D.state self.old b notes → Stands D.tells D.state self.new b (notes ++ n ∷ [])) }
+        ensures look { IfSome result (λ r. OnOk r.answer (look_of_manager self.new ≡ placed_all (InLog lane) (look_of_manager self.old) (log_writes self.old.next (take r.items items.now) from.now))) }
+        ensures next { IfSome result (λ r. self.new.next ≡ self.old.next + given_out r.answer r.items) }
+        ensures fault { IfSome result (λ r. TellsFault D.state r.answer self.old self.new) }
+        ensures calm { IfSome result (λ r. OnOk r.answer (NoneRose D.state self.old self.new)) }
+        ensures any_moment { IfSome result (λ r. (claimed : Option (Spun _)) × TellsClaim D.tells D.state (IsOk r.answer) self.old.lanes.items self.new.lanes.items claimed
+            × (IsTrue D.tells → (b : ManagerBase) (notes : List Noted) → Keeps D.tells D.state self.old b notes
+            → Stops D.state self.old self.new claimed b notes (run_writes self.old.next (take r.items items.now) from.now r.answer))) }
+    {
+        let joining = together(&self.index, self.home_up, &self.rooms, items);
+        let front = &items[..joining];
+        match self.offer_group(rt, shared, lane as usize, front, from) {
+            Taken::NoRoom => {
+                self.rooms[lane as usize] = Room::No;
+                None
+            }
+            Taken::Written(count) => Some(Ran {
+                items: count,
+                answer: Ok(Place::Log {
+                    logger: self.logger(lane),
+                }),
+            }),
+            Taken::Failed(count, part) => Some(Ran {
+                items: count,
+                answer: Err(WriteRefusal::DiskFault(part)),
+            }),
+        }
+    }
+}
+
+impl<D: Disk> Manager<D> {
+    // Asks lanes as the rule says for the first item, until it is placed.
+    fn place_run<R: Wait>(
+        &mut self,
+        rt: &R,
+        shared: &Shared<D>,
+        covered: bool,
+        items: &[Item],
+        from: &[Block],
+    ) -> Ran
+        requires ready { IsReady D.state self.old }
+        requires at { IsHome shared.now self.old }
+        requires up { self.old.down ≡ None }
+        requires unasked { self.old.rooms.items ≡ replicate (length self.old.lanes.items) Room.Unknown }
+        requires some { 1 ≤ length items.now }
+        requires items { AreItemsOf self.old.most (state_of D.state self.old.home).size items.now }
+        requires blocks { count_of items.now ≤ length from.now }
+        requires covered { covered ≡ list_any (is_covered (listed_in self.old.index.entries)) (range_with_len (first_lbn items.now) (length (first_blocks items.now from.now))) }
+        requires next { self.old.next + length items.now ≤ 2 ^ 63 }
+        requires reserved { length items.now ≤ self.old.index.reserved }
+        ensures ready { IsReady D.state self.new }
+        ensures at { IsHome shared.now self.new }
+        ensures same { IsSameManager self.old self.new }
+        ensures answer { IsPlacedAnswer result.answer }
+        ensures run { HasRun D.tells D.state items.now from.now result.items result.answer (ruled_run self.old self.new items.now from.now) self.old self.new }
+        ensures placed { IsPlaceOf (map logger_of self.old.lanes.items) result.answer (ruled_run self.old self.new items.now from.now) }
+        ensures answered { HaveAnswered (first_count items.now) (takes_at (ruled_run self.old self.new items.now from.now) result.answer) self.new.rooms.items self.old.lanes.items self.new.lanes.items }
+        ensures waking { NeedsHome (ruled_run self.old self.new items.now from.now) result.answer self.old self.new }
+        ensures fault { TellsFault D.state result.answer self.old self.new }
+        ensures calm { OnOk result.answer (NoneRose D.state self.old self.new) }
+        ensures unchanged { IsAsBefore result.answer self.old self.new }
+    {
+        'asking: loop {
+            match place(self.home_up, covered, &self.ups, &self.rooms) {
+                Step::Ask(lane) => {
+                    if let Some(ran) = self.try_run(rt, shared, lane, items, from) {
+                        return ran;
+                    }
+                }
+                Step::Home | Step::WakeHome => {
+                    let first = items[0];
+                    let front = &from[..first.count as usize];
+                    return Ran {
+                        items: 1,
+                        answer: self.write_home(rt, shared, first.lbn, front),
+                    };
+                }
+                Step::Full => {
+                    return Ran {
+                        items: 0,
+                        answer: Err(WriteRefusal::Full),
+                    };
+                }
+                Step::Log(_) | Step::WakeLog(_) => unreachable!(),
+            }
+        }
+    }
+
+    /// Writes some first ones of the items as `write_run` does. Answers also how many a disk was to take where that failed.
+    pub fn write_some<R: Wait>(
+        &mut self,
+        rt: &R,
+        shared: &Shared<D>,
+        items: &[Item],
+        from: &[Block],
+    ) -> Ran
+        requires ready { IsReady D.state self.old }
+        requires at { IsHome shared.now self.old }
+        requires some { 1 ≤ length items.now }
+        requires items { AreItemsOf self.old.most (state_of D.state self.old.home).size items.now }
+        requires blocks { count_of items.now ≤ length from.now }
+        ensures ready { IsReady D.state self.new }
+        ensures at { IsHome shared.now self.new }
+        ensures same { IsSameManager self.old self.new }
+        ensures few { result.items ≤ 128 }
+
+        // What the manager stood for, it stands for with these writes as one entry, or with what the refusal says; wherever the call is
+        // stopped, each choice of images recovers to a cut by some first ones of them.
+        ensures run { HasRun D.tells D.state items.now from.now result.items result.answer (ruled_run self.old self.new items.now from.now) self.old self.new }
+
+        // The place of the first is the rule's, with room in each lane but those that were turned away in this call.
+        ensures placed { IsPlaceOf (map logger_of self.old.lanes.items) result.answer (ruled_run self.old self.new items.now from.now) }
+        ensures answered { HaveAnswered (first_count items.now) (takes_at (ruled_run self.old self.new items.now from.now) result.answer) self.new.rooms.items self.old.lanes.items self.new.lanes.items }
+
+        ensures waking_home { NeedsHome (ruled_run self.old self.new items.now from.now) result.answer self.old self.new }
+        ensures waking_logs { NeedsLogs (ruled_run self.old self.new items.now from.now) result.answer self.old self.new }
+
+        ensures down { (p : Part) → (result.answer ≡ Err (WriteRefusal.Down p)) ↔ (self.old.down ≡ Some p) }
+        ensures versions { (result.answer ≡ Err WriteRefusal.VersionsSpent) ↔ ((self.old.down ≡ None) × (self.old.next ≡ 2 ^ 63)) }
+        ensures memory { result.answer ≡ Err WriteRefusal.NoMemory → (self.old.down ≡ None) × (self.old.next < 2 ^ 63) × (self.old.index.reserved < 1) }
+        ensures fault { TellsFault D.state result.answer self.old self.new }
+        ensures calm { OnOk result.answer (NoneRose D.state self.old self.new) }
+        ensures unchanged { IsAsBefore result.answer self.old self.new }
+    {
+        self.rooms = unasked(self.lanes.len());
+        if let Some(part) = self.down {
+            return Ran {
+                items: 0,
+                answer: Err(WriteRefusal::Down(part)),
+            };
+        }
+        if self.next == SPENT {
+            return Ran {
+                items: 0,
+                answer: Err(WriteRefusal::VersionsSpent),
+            };
+        }
+        let asked = looked_at(items.len());
+        let Some(places) = reserve_places(&mut self.index, asked) else {
+            return Ran {
+                items: 0,
+                answer: Err(WriteRefusal::NoMemory),
+            };
+        };
+        let most = versioned(self.next, places);
+        let first = items[0];
+        let covered = self.index.covered(first.lbn, first.count);
+        self.place_run(rt, shared, covered, &items[..most], from)
+    }
+
+    /// Writes some first ones of the items, at least one: as one group to one segment of a log, or the first of them home.
+    /// Answers how many and where. Each of them goes where `write` would place it behind those before it. A group is the
+    /// longest such front, of at most 128 items, that the segment of the first has room for and in which, where a logger
+    /// was turned away for the first, none is smaller; it takes two syncs. `from` has the items' blocks in order. Where
+    /// there is no memory to list so many items, the first is written alone.
+    ///
+    /// What is told of a refusal comes in the order of `write`'s, and is that of `write` for the first item.
+    pub fn write_run<R: Wait>(
+        &mut self,
+        rt: &R,
+        shared: &Shared<D>,
+        items: &[Item],
+        from: &[Block],
+    ) -> Result<(u32, Place), WriteRefusal>
+        requires ready { IsReady D.state self.old }
+        requires at { IsHome shared.now self.old }
+        requires some { 1 ≤ length items.now }
+        requires items { AreItemsOf self.old.most (state_of D.state self.old.home).size items.now }
+        requires blocks { count_of items.now ≤ length from.now }
+        ensures ready { IsReady D.state self.new }
+        ensures at { IsHome shared.now self.new }
+        ensures same { IsSameManager self.old self.new }
+
+        // What the manager stood for, it stands for with these writes as one entry, or with what the refusal says; wherever the call is
+        // stopped, each choice of images recovers to a cut by some first ones of them.
+        ensures run { (tried : ℕ) × HasRun D.tells D.state items.now from.now tried (place_told result) (ruled_run self.old self.new items.now from.now) self.old self.new
+            × IfOk result (λ told. told.0 ≡ tried) }
+
+        // The place of the first is the rule's, with room in each lane but those that were turned away in this call.
+        ensures placed { IsPlaceOf (map logger_of self.old.lanes.items) (place_told result) (ruled_run self.old self.new items.now from.now) }
+        ensures answered { HaveAnswered (first_count items.now) (takes_at (ruled_run self.old self.new items.now from.now) (place_told result)) self.new.rooms.items self.old.lanes.items self.new.lanes.items }
+
+        ensures waking_home { NeedsHome (ruled_run self.old self.new items.now from.now) (place_told result) self.old self.new }
+        ensures waking_logs { NeedsLogs (ruled_run self.old self.new items.now from.now) (place_told result) self.old self.new }
+
+        ensures down { (p : Part) → (result ≡ Err (WriteRefusal.Down p)) ↔ (self.old.down ≡ Some p) }
+        ensures versions { (result ≡ Err WriteRefusal.VersionsSpent) ↔ ((self.old.down ≡ None) × (self.old.next ≡ 2 ^ 63)) }
+        ensures memory { result ≡ Err WriteRefusal.NoMemory → (self.old.down ≡ None) × (self.old.next < 2 ^ 63) × (self.old.index.reserved < 1) }
+        ensures fault { TellsFault D.state (place_told result) self.old self.new }
+        ensures calm { OnOk result (NoneRose D.state self.old self.new) }
+        ensures unchanged { IsAsBefore (place_told result) self.old self.new }
+    {
+        told(self.write_some(rt, shared, items, from))
+    }
+}
+
+// How many of so many items one call looks at.
+fn looked_at(items: usize) -> u32
+    requires some { 1 ≤ items }
+    ensures some { 1 ≤ result }
+    ensures within { result ≤ items }
+    ensures few { result ≤ 128 }
+{
+    items.min(MOST_ITEMS) as u32
+}
+
+// For how many of so many items there are versions.
+fn versioned(next: u64, items: usize) -> usize
+    requires left { next < 2 ^ 63 }
+    requires some { 1 ≤ items }
+    ensures some { 1 ≤ result }
+    ensures most { result ≤ items }
+    ensures left { next + result ≤ 2 ^ 63 }
+{
+    let left = SPENT - next;
+    if left < items as u64 {
+        left as usize
+    } else {
+        items
+    }
+}
+
+// What is told of a run: the place with the number of its items.
+fn told(ran: Ran) -> Result<(u32, Place), WriteRefusal>
+    requires few { ran.items < 2 ^ 32 }
+    ensures place { place_told result ≡ ran.answer }
+    ensures count { IfOk result (λ told. told.0 ≡ ran.items) }
+{
+    match ran.answer {
+        Ok(place) => Ok((ran.items as u32, place)),
+        Err(refusal) => Err(refusal),
+    }
+}
