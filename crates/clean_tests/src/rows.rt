@@ -115,7 +115,7 @@ pub(crate) fn cleaned<R: Wait>(
 }
 
 /// The lines of a check.
-pub(crate) fn checked<R: Abort + Wait>(
+pub(crate) fn checked<R: Abort + Threads + Wait + Sync>(
     rt: &R,
     alloc: Global,
     config: &Config,

@@ -1,7 +1,10 @@
 -- Chunks: no two have a block in common, and those that come one after another are all.
-use Rattle.std.proofs.Common.{◌≡◌, ◌⊎◌, inl, inr, ⊎_elim, ◌<◌, ◌≤◌, ◌+◌, ◌*◌, ℕ, zero, suc, Bool, true, false, refl, sym, ap, subst, ◌∙◌, arith}
+use Rattle.std.proofs.Common.{◌≡◌, ◌⊎◌, inl, inr, ⊎_elim, ◌<◌, ◌≤◌, ◌+◌, ◌*◌, ℕ, zero, suc, Bool, true, false, List, [], ◌∷◌, ◌++◌, length, refl, sym, ap, subst, ◌∙◌, arith}
 use Rattle.std.proofs.lemmas.Bool.{cases_lt}
-use Rattle.log_cleaner.specs.Chunks.{IsChunk}
+use Rattle.std.specs.List.{AllByRecursion}
+use Rattle.wol_model.specs.Index.{Listed}
+use Rattle.log_segment.specs.declared.item.Item.{Item}
+use Rattle.log_cleaner.specs.Chunks.{AreNext, IsChunk, IsNext, end_of}
 
 trichotomy : (a b : ℕ) → (a < b) ⊎ ((a ≡ b) ⊎ (b < a))
 trichotomy a b = ⊎_elim (λ lt. inl lt) (λ ge. ⊎_elim (λ gt. inr (inr gt)) (λ le. inr (inl (omega (arith, ge, le)))) (cases_lt b a)) (cases_lt a b)
@@ -135,3 +138,27 @@ cut_behind covered most first count c here = record {
     full : (count < most) ⊎ (most ≤ count) → count ≡ most
     full (inl less) = absurd (no_way (covered (first + count)) here (c.ends less))
     full (inr more) = let few = c.few in omega (arith, few, more)
+
+-- ---- Chunks one behind the other
+
+-- one more behind them
+pub next_push : (covered : ℕ → Bool) (es : List Listed) (most from : ℕ) (items : List Item) (i : Item) → AreNext covered es most from items → IsNext covered es most (end_of from items) i → AreNext covered es most from (items ++ i ∷ [])
+next_push covered es most from [] i are is = (is, tt)
+next_push covered es most from (j ∷ items) i are is = (are.0, next_push covered es most (j.lbn + j.count) items i are.1 is)
+
+pub end_push : (from : ℕ) (items : List Item) (i : Item) → end_of from (items ++ i ∷ []) ≡ i.lbn + i.count
+end_push from [] i = refl
+end_push from (j ∷ items) i = end_push (j.lbn + j.count) items i
+
+-- they end behind where they begin
+end_behind : (covered : ℕ → Bool) (es : List Listed) (most from : ℕ) (items : List Item) → AreNext covered es most from items → from ≤ end_of from items
+end_behind covered es most from [] are = omega arith
+end_behind covered es most from (i ∷ items) are = let rest = end_behind covered es most (i.lbn + i.count) items are.1 in let low = are.0.low in omega (arith, rest, low)
+
+pub end_past : (covered : ℕ → Bool) (es : List Listed) (most from : ℕ) (items : List Item) → 1 ≤ length items → AreNext covered es most from items → from < end_of from items
+end_past covered es most from [] some are = absurd (omega (arith, some))
+end_past covered es most from (i ∷ items) some are = let rest = end_behind covered es most (i.lbn + i.count) items are.1 in let low = are.0.low in let one = are.0.some in omega (arith, rest, low, one)
+
+pub next_small : (covered : ℕ → Bool) (es : List Listed) (most from : ℕ) (items : List Item) → most ≤ 128 → AreNext covered es most from items → AllByRecursion (λ (i : Item). i.count ≤ 128) items
+next_small covered es most from [] small are = tt
+next_small covered es most from (i ∷ items) small are = ((let f = are.0.few in omega (arith, f, small)), next_small covered es most (i.lbn + i.count) items small are.1)

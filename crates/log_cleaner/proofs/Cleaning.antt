@@ -1,5 +1,5 @@
 -- Chunk after chunk becomes tidy.
-use Rattle.std.proofs.Common.{◌≡◌, ◌⊎◌, inl, inr, ⊎_elim, ◌<◌, ◌≤◌, ◌+◌, ◌^◌, ℕ, zero, suc, Bool, true, false, ◌&&◌, List, [], ◌∷◌, ◌++◌, map, length, Some, Result, Ok, Err, refl, sym, ap, subst, ◌∙◌, arith, leb, ltb, length-append}
+use Rattle.std.proofs.Common.{◌≡◌, ◌⊎◌, inl, inr, ⊎_elim, ◌<◌, ◌≤◌, ◌+◌, ◌*◌, ◌^◌, ℕ, zero, suc, Bool, true, false, ◌&&◌, List, [], ◌∷◌, ◌++◌, map, length, take, get_or, Some, Result, Ok, Err, refl, sym, ap, subst, ◌∙◌, arith, leb, ltb, length-append, append_assoc}
 use Rattle.std.specs.Prelude.{Contains}
 use Rattle.std.specs.List.{AllByRecursion, range_with_len}
 use Rattle.std.proofs.lemmas.Bool.{cases_lt, leb-true, ltb-true, le-leb, lt-ltb}
@@ -10,16 +10,22 @@ use Rattle.spin_model.specs.Spun.{state_of}
 use Rattle.wol_model.specs.Blocks.{Write}
 use Rattle.wol_model.specs.Index.{Listed, Indexed, AreRising, listed_in, cover_of, block_numbers}
 use Rattle.wol_model.proofs.Counts.{marked_within}
-use Rattle.wol_promise.specs.Policy.{listing}
+use Rattle.wol_model.specs.Placing.{Log}
+use Rattle.wol_promise.specs.Policy.{Look, listing, placed}
+use Rattle.log_segment.specs.Records.{count_of}
+use Rattle.log_segment.specs.declared.item.Item.{Item}
+use Rattle.manager.specs.Groups.{AreItemsOf, placed_all}
+use Rattle.manager.specs.Seen.{look_of_manager}
+use Rattle.manager.proofs.GroupRecords.{count_more}
 use Rattle.wol_promise.proofs.Covers.{any_found}
 use Rattle.wol_promise.proofs.Lists.{all_push, all_mapped, all_map, all_member, range_push}
 use Rattle.redirect_map.specs.Index.{IsEntry, IsIndex}
 use Rattle.manager.specs.Stands.{IsInVolume, IsReady}
 use Rattle.manager.specs.declared.manager.Manager.{Manager}
 use Rattle.manager.proofs.RunSources.{same_version}
-use Rattle.log_cleaner.specs.Chunks.{AreTidyBelow, IsChunk, IsTidy, IsUppermost, KeepsJust, KeepsNone, NoneHomed, is_within}
+use Rattle.log_cleaner.specs.Chunks.{AreNext, AreTidyBelow, IsChunk, IsNext, IsTidy, IsUppermost, KeepsJust, KeepsNone, NoneHomed, end_of, is_within}
 use Rattle.log_cleaner.specs.Cleans.{CanClean, HasCleaned, IsChunkOf, IsLeftUntidy, IsOfUntidy, copied_blocks, covered_in}
-use Rattle.log_cleaner.specs.Steps.{HasBroken, HasCopied, HasRewritten, IsCopyAt, IsRefused, KeepsTidy, Rewrites, Settles, TidiesAll, ended, is_broken, rewritten, was_written}
+use Rattle.log_cleaner.specs.Steps.{AreCopiesAt, AreCoveredIn, HasBroken, HasCopied, HasRewritten, IsCopyAt, IsRefused, KeepsTidy, Rewrites, Settles, TidiesAll, ended, is_broken, rewritten, written_of}
 use Rattle.log_cleaner.specs.Underway.{AreChunks, CleansBy, EndsBy, HasCleanedSome}
 use Rattle.log_cleaner.specs.declared.answer.Cleaned.{Cleaned}
 use Rattle.log_cleaner.specs.declared.answer.CleanFault.{CleanFault}
@@ -27,7 +33,8 @@ use Rattle.log_cleaner.specs.declared.answer.CleanFault.TheVariants.{DiskFault, 
 use Rattle.log_cleaner.proofs.Chunking.{IsCutAt, chunk_at, cut_behind, cut_next, same_chunk}
 use Rattle.log_cleaner.proofs.Copying.{leaves_copies}
 use Rattle.log_cleaner.proofs.Stepping.{broken_then, copied_none, copied_then, empty_since}
-use Rattle.log_cleaner.proofs.Tidying.{clash, covers, listing_newest, listing_tidy, listing_upper, member_unmap, upper_of_tidy, within_first}
+use Rattle.log_cleaner.proofs.Together.{copied_count, listing_below}
+use Rattle.log_cleaner.proofs.Tidying.{clash, covers, listing_newest, listing_tidy, listing_unhomed, listing_upper, member_unmap, upper_of_tidy, within_first}
 
 -- ---- Within
 
@@ -58,51 +65,38 @@ chunk_fits state m first (suc n) ready some covered =
 
 -- ---- One chunk
 
-module _ {D : Type 0} (tells : Bool) (state : D → State) (old new : Manager D) (first count : ℕ) (can : CanClean old) (ready : IsReady state old) (r : HasRewritten tells state first count old new) where
-  unhomed : NoneHomed r.look.listed
-  unhomed = subst NoneHomed (sym r.listed_was) can.unhomed
-
-  below : AllByRecursion (λ (e : Listed). e.version < r.look.next) r.look.listed
-  below = subst (λ (es : List Listed). AllByRecursion (λ (e : Listed). e.version < r.look.next) es) (sym r.listed_was)
-      (subst (λ (n : ℕ). AllByRecursion (λ (e : Listed). e.version < n) (listed_in old.index.entries)) (sym r.next_was)
-      (all_mapped (λ (e : Listed). e.version < old.next) (λ (e : Indexed). e.listed) old.index.entries ready.below))
-
+module _ (l : Look) (lane first count version : ℕ) (w : Write) (unhomed : NoneHomed l.listed) (is : IsCopyAt first count version w) where
   -- its blocks have the record of the write
-  pub newest_upper : (version : ℕ) × IsUppermost (listed_in new.index.entries) version first count
-  newest_upper = (
-    r.look.next,
-    subst (λ (es : List Listed). IsUppermost es r.look.next first count) (sym r.listed_is)
-        (subst (λ (n : ℕ). IsUppermost (listing r.look r.lane r.write) r.look.next first n) r.is_copy.count_is
-        (subst (λ (f : ℕ). IsUppermost (listing r.look r.lane r.write) r.look.next f (length r.write.blocks)) r.is_copy.first_is (listing_newest r.look r.lane r.write unhomed below))),
-  )
+  newest_upper : AllByRecursion (λ (e : Listed). e.version < l.next) l.listed → IsUppermost (listing l lane w) l.next first count
+  newest_upper below = subst (λ (n : ℕ). IsUppermost (listing l lane w) l.next first n) is.count_is
+      (subst (λ (f : ℕ). IsUppermost (listing l lane w) l.next f (length w.blocks)) is.first_is (listing_newest l lane w unhomed below))
 
-  apart_of : (f c : ℕ) → ((b : ℕ) → is_within f c b ≡ true → is_within first count b ≡ false) → (b : ℕ) → is_within f c b ≡ true → is_within r.write.first (length r.write.blocks) b ≡ false
-  apart_of f c apart b is = ap (λ (n : ℕ). is_within r.write.first n b) r.is_copy.count_is ∙ ap (λ (n : ℕ). is_within n count b) r.is_copy.first_is ∙ apart b is
+  apart_of : (f c : ℕ) → ((b : ℕ) → is_within f c b ≡ true → is_within first count b ≡ false) → (b : ℕ) → is_within f c b ≡ true → is_within w.first (length w.blocks) b ≡ false
+  apart_of f c apart b inside = ap (λ (n : ℕ). is_within w.first n b) is.count_is ∙ ap (λ (n : ℕ). is_within n count b) is.first_is ∙ apart b inside
 
   -- chunks apart from it stay tidy, and keep their uppermost records
-  pub others_tidy : (f c : ℕ) → ((b : ℕ) → is_within f c b ≡ true → is_within first count b ≡ false) → IsTidy (listed_in old.index.entries) f c → IsTidy (listed_in new.index.entries) f c
-  others_tidy f c apart t = subst (λ (es : List Listed). IsTidy es f c) (sym r.listed_is)
-      (listing_tidy r.look r.lane r.write unhomed f c (apart_of f c apart) (subst (λ (es : List Listed). IsTidy es f c) (sym r.listed_was) t))
+  others_tidy : (f c : ℕ) → ((b : ℕ) → is_within f c b ≡ true → is_within first count b ≡ false) → IsTidy l.listed f c → IsTidy (listing l lane w) f c
+  others_tidy f c apart t = listing_tidy l lane w unhomed f c (apart_of f c apart) t
 
-  pub others_upper : (version f c : ℕ) → ((b : ℕ) → is_within f c b ≡ true → is_within first count b ≡ false) → IsUppermost (listed_in old.index.entries) version f c → IsUppermost (listed_in new.index.entries) version f c
-  others_upper version f c apart x = subst (λ (es : List Listed). IsUppermost es version f c) (sym r.listed_is)
-      (listing_upper r.look r.lane r.write unhomed version f c (apart_of f c apart) (subst (λ (es : List Listed). IsUppermost es version f c) (sym r.listed_was) x))
+  others_upper : (u f c : ℕ) → ((b : ℕ) → is_within f c b ≡ true → is_within first count b ≡ false) → IsUppermost l.listed u f c → IsUppermost (listing l lane w) u f c
+  others_upper u f c apart x = listing_upper l lane w unhomed u f c (apart_of f c apart) x
 
--- where it wasn't written, and no call of a disk failed, the records are as they were
-pub refused_same : {D : Type 0} (tells : Bool) (state : D → State) (first count : ℕ) (old new : Manager D) (answer : Result Bool CleanFault) → was_written answer ≡ false → is_broken answer ≡ false → (r : Rewrites tells state first count old new answer)
-    → HasCopied tells state old new [] × (new.index.entries ≡ old.index.entries) × (rewritten tells state first count old new answer r ≡ [])
-refused_same tells state first count old new (Ok true) not_ whole r = absurd (let wrong : true ≡ false = not_ in cc)
-refused_same tells state first count old new (Ok false) not_ whole r = (r.copied, r.entries, refl)
-refused_same tells state first count old new (Err (DiskFault p)) not_ whole r = absurd (let wrong : true ≡ false = whole in cc)
-refused_same tells state first count old new (Err VersionsSpent) not_ whole r = (r.0, r.2, refl)
-refused_same tells state first count old new (Err NoMemory) not_ whole r = (r.0, r.1, refl)
+-- where none was written, and no call of a disk failed, the records are as they were
+pub refused_same : {D : Type 0} (tells : Bool) (state : D → State) (items : List Item) (old new : Manager D) (answer : Result ℕ CleanFault) → written_of answer ≡ 0 → is_broken answer ≡ false → (r : Rewrites tells state items old new answer)
+    → HasCopied tells state old new [] × (new.index.entries ≡ old.index.entries) × (rewritten tells state items old new answer r ≡ [])
+refused_same tells state items old new (Ok zero) none whole r = (r.copied, r.entries, refl)
+refused_same tells state items old new (Ok (suc n)) none whole r = absurd (let wrong : suc n ≡ 0 = none in omega (arith, wrong))
+refused_same tells state items old new (Err (DiskFault p)) none whole r = absurd (let wrong : true ≡ false = whole in cc)
+refused_same tells state items old new (Err VersionsSpent) none whole r = (r.0, r.2, refl)
+refused_same tells state items old new (Err NoMemory) none whole r = (r.0, r.1, refl)
 
--- where it was written it was copied
-pub written_copied : {D : Type 0} (tells : Bool) (state : D → State) (first count : ℕ) (old new : Manager D) (answer : Result Bool CleanFault) → was_written answer ≡ true → (r : Rewrites tells state first count old new answer)
-    → (x : HasRewritten tells state first count old new) × (rewritten tells state first count old new answer r ≡ x.write ∷ [])
-written_copied tells state first count old new (Ok true) is r = (r, refl)
-written_copied tells state first count old new (Ok false) is r = absurd (let wrong : false ≡ true = is in cc)
-written_copied tells state first count old new (Err fault) is r = absurd (let wrong : false ≡ true = is in cc)
+-- where some were written they were copied
+pub written_copied : {D : Type 0} (tells : Bool) (state : D → State) (items : List Item) (old new : Manager D) (answer : Result ℕ CleanFault) (n : ℕ) → written_of answer ≡ n → 1 ≤ n → (r : Rewrites tells state items old new answer)
+    → (x : HasRewritten tells state (take n items) old new) × (n ≤ length items) × (rewritten tells state items old new answer r ≡ x.writes)
+written_copied tells state items old new (Ok zero) n is some r = absurd (let e : 0 ≡ n = is in omega (arith, e, some))
+written_copied tells state items old new (Ok (suc k)) n is some r =
+    let P : ℕ → Type 0 = λ m. (x : HasRewritten tells state (take m items) old new) × (m ≤ length items) × (r.0.writes ≡ x.writes) in subst P is (r.0, r.1, refl)
+written_copied tells state items old new (Err fault) n is some r = absurd (let e : 0 ≡ n = is in omega (arith, e, some))
 
 -- ---- Several chunks
 
@@ -219,44 +213,144 @@ module _ {D : Type 0} (tells : Bool) (state : D → State) (most : ℕ) (old now
     ends_unsettled all VersionsSpent broken = absurd broken
     ends_unsettled all NoMemory broken = absurd broken
 
+-- ---- Chunks behind others
+
+-- what is so of chunks before a block and of the records, whatever the manager
+record Upto (covered : ℕ → Bool) (olds : List Listed) (most next from : ℕ) (es : List Listed) (copies : List Write) : Type 0 where
+  chunks : AreChunks covered olds most next copies
+  few : copied_blocks copies ≤ from
+  within : from ≤ 2 ^ 32
+  upper : AreUpperBelow covered most from es
+  cut : covered from ≡ true → IsCutAt covered most from
+  behind : AllByRecursion (λ (w : Write). w.first < from) copies
+  stays : (f c : ℕ) → 1 ≤ c → from ≤ f → IsTidy olds f c → IsTidy es f c
+
+module _ (covered : ℕ → Bool) (es : List Listed) (most from : ℕ) (i : Item) (n : IsNext covered es most from i) where
+  next_here : covered i.lbn ≡ true
+  next_here = n.run i.lbn (omega arith) (let s = n.some in omega (arith, s))
+
+  next_chunk : (covered from ≡ true → IsCutAt covered most from) → IsChunk covered most i.lbn i.count
+  next_chunk cut = chunk_at covered most i.lbn i.count (cut_next covered most from i.lbn cut n.low n.bare next_here) n.some n.few n.run n.ends
+
+  -- what is so of the chunks before and of this one is so of those up to its end
+  one_more : (P : ℕ → ℕ → Type 0) → IsChunk covered most i.lbn i.count → ((x : ℕ) → x < from → covered x ≡ true → (first : ℕ) × (c : ℕ) × IsChunk covered most first c × (first ≤ x) × (x < first + c) × P first c) → P i.lbn i.count
+      → (x : ℕ) → x < i.lbn + i.count → covered x ≡ true → (first : ℕ) × (c : ℕ) × IsChunk covered most first c × (first ≤ x) × (x < first + c) × P first c
+  one_more P chunk before now_ x lt is = at (cases_lt x from) (cases_lt x i.lbn)
+    where
+      at : (x < from) ⊎ (from ≤ x) → (x < i.lbn) ⊎ (i.lbn ≤ x) → (first : ℕ) × (c : ℕ) × IsChunk covered most first c × (first ≤ x) × (x < first + c) × P first c
+      at (inl l) other = before x l is
+      at (inr g) (inl l) = absurd (clash (covered x) is (n.bare x g l))
+      at (inr g) (inr h) = (i.lbn, i.count, chunk, h, lt, now_)
+
+-- a chunk more
+upto_more : (covered : ℕ → Bool) (olds : List Listed) (most next from : ℕ) (l : Look) (lane : ℕ) (copies : List Write) → Upto covered olds most next from l.listed copies → NoneHomed l.listed → AllByRecursion (λ (e : Listed). e.version < l.next) l.listed
+    → (i : Item) → IsNext covered olds most from i → i.lbn + i.count ≤ 2 ^ 32 → (w : Write) → IsCopyAt i.lbn i.count (next + length copies) w → Upto covered olds most next (i.lbn + i.count) (listing l lane w) (copies ++ w ∷ [])
+upto_more covered olds most next from l lane copies u unhomed below i n size w is = record {
+  chunks = chunks_more covered olds most next i.lbn i.count copies (w ∷ []) u.chunks chunk n.untidy behind_later (omega arith) (is, tt);
+  few = let f = u.few in let e = blocks_more copies w in let c = is.count_is in let low = n.low in omega (arith, f, e, c, low);
+  within = size;
+  upper = one_more covered olds most from i n (λ first c. (version : ℕ) × IsUppermost (listing l lane w) version first c) chunk
+      (λ x lt inside. let o = u.upper x lt inside in (o.0, o.1, o.2, o.3, o.4, (o.5.0, others_upper l lane i.lbn i.count (next + length copies) w unhomed is o.5.0 o.0 o.1 (λ y within. apart_from x lt o.0 o.1 o.2 o.3 o.4 y within) o.5.1)))
+      (l.next, newest_upper l lane i.lbn i.count (next + length copies) w unhomed is below);
+  cut = λ here. cut_behind covered most i.lbn i.count chunk here;
+  behind = all_push (λ (v : Write). v.first < i.lbn + i.count) copies w
+      (all_map (λ (v : Write). v.first < from) (λ (v : Write). v.first < i.lbn + i.count) (λ v lt. let low = n.low in omega (arith, lt, low)) copies u.behind) (let f = is.first_is in let s = n.some in omega (arith, f, s));
+  stays = λ f c least le x. others_tidy l lane i.lbn i.count (next + length copies) w unhomed is f c (λ y inside. Rattle.log_cleaner.proofs.Tidying.not_so (is_within i.lbn i.count y) (λ at.
+      let v = inside_of f c y inside in let k = inside_of i.lbn i.count y at in let a = v.0 in let h = k.1 in omega (arith, a, h, le))) (u.stays f c least (let low = n.low in omega (arith, le, low)) x);
+}
+  where
+    chunk : IsChunk covered most i.lbn i.count
+    chunk = next_chunk covered olds most from i n u.cut
+
+    behind_later : AllByRecursion (λ (v : Write). v.first < i.lbn) copies
+    behind_later = all_map (λ (v : Write). v.first < from) (λ (v : Write). v.first < i.lbn) (λ v lt. let low = n.low in omega (arith, lt, low)) copies u.behind
+
+    apart_from : (x : ℕ) → x < from → (f c : ℕ) → IsChunk covered most f c → f ≤ x → x < f + c → (y : ℕ) → is_within f c y ≡ true → is_within i.lbn i.count y ≡ false
+    apart_from x lt f c k lo hi y inside = Rattle.log_cleaner.proofs.Tidying.not_so (is_within i.lbn i.count y) (λ at.
+        let v = inside_of f c y inside in let z = inside_of i.lbn i.count y at in
+        let same = (same_chunk covered most f c i.lbn i.count y k chunk v.0 v.1 z.0 z.1).0 in let low = n.low in omega (arith, lt, lo, same, low))
+
+-- chunks more
+upto_all : (covered : ℕ → Bool) (olds : List Listed) (most next lane : ℕ) (items : List Item) (ws : List Write) (from : ℕ) (l : Look) (copies : List Write) → Upto covered olds most next from l.listed copies → NoneHomed l.listed
+    → AllByRecursion (λ (e : Listed). e.version < l.next) l.listed → AreNext covered olds most from items → AllByRecursion (λ (i : Item). i.lbn + i.count ≤ 2 ^ 32) items → AreCopiesAt (next + length copies) items ws
+    → Upto covered olds most next (end_of from items) (placed_all (Log lane) l ws).listed (copies ++ ws)
+upto_all covered olds most next lane [] [] from l copies u unhomed below are sizes at = subst (Upto covered olds most next from l.listed) (sym (append-nil copies)) u
+upto_all covered olds most next lane [] (w ∷ ws) from l copies u unhomed below are sizes at = absurd at
+upto_all covered olds most next lane (i ∷ items) [] from l copies u unhomed below are sizes at = absurd at
+upto_all covered olds most next lane (i ∷ items) (w ∷ ws) from l copies u unhomed below are sizes at =
+    subst (Upto covered olds most next (end_of (i.lbn + i.count) items) (placed_all (Log lane) (placed (Log lane) l w) ws).listed) (append_assoc copies (w ∷ []) ws)
+    (upto_all covered olds most next lane items ws (i.lbn + i.count) (placed (Log lane) l w) (copies ++ w ∷ []) (upto_more covered olds most next from l lane copies u unhomed below i are.0 sizes.0 w at.0)
+    (listing_unhomed l lane w unhomed) (listing_below lane l w unhomed below) are.1 sizes.1
+    (subst (λ (v : ℕ). AreCopiesAt v items ws) (let e = length-append copies (w ∷ []) in let f : next + length copies + 1 ≡ next + length (copies ++ w ∷ []) = omega (arith, e) in f) at.1))
+
+-- the first ones of them end with the last one
+pub end_at : (from k : ℕ) (items : List Item) (d : Item) → k < length items → end_of from (take (suc k) items) ≡ (get_or items k d).lbn + (get_or items k d).count
+end_at from k [] d lt = absurd (omega (arith, lt))
+end_at from zero (i ∷ items) d lt = refl
+end_at from (suc k) (i ∷ items) d lt = end_at (i.lbn + i.count) k items d (omega (arith, lt))
+
+-- the first ones of them
+pub next_front : (covered : ℕ → Bool) (es : List Listed) (most k from : ℕ) (items : List Item) → AreNext covered es most from items → AreNext covered es most from (take k items)
+next_front covered es most zero from items are = tt
+next_front covered es most (suc k) from [] are = tt
+next_front covered es most (suc k) from (i ∷ items) are = (are.0, next_front covered es most k (i.lbn + i.count) items are.1)
+
+-- where the same blocks are covered, and what was tidy behind a block is still
+next_since : (covered before : ℕ → Bool) (es olds : List Listed) (most from : ℕ) → ((b : ℕ) → covered b ≡ before b) → ((f c : ℕ) → 1 ≤ c → from ≤ f → IsTidy olds f c → IsTidy es f c)
+    → (at : ℕ) → from ≤ at → (items : List Item) → AreNext covered es most at items → AreNext before olds most at items
+next_since covered before es olds most from same stays at le [] are = tt
+next_since covered before es olds most from same stays at le (i ∷ items) are =
+    let n = are.0 in (
+      record {
+        low = n.low;
+        bare = λ b l h. sym (same b) ∙ n.bare b l h;
+        some = n.some;
+        few = n.few;
+        run = λ b l h. sym (same b) ∙ n.run b l h;
+        ends = λ less. sym (same (i.lbn + i.count)) ∙ n.ends less;
+        untidy = λ t. n.untidy (stays i.lbn i.count n.some (let low = n.low in omega (arith, le, low)) t);
+      },
+      next_since covered before es olds most from same stays (i.lbn + i.count) (let low = n.low in omega (arith, le, low)) items are.1,
+    )
+
+-- ---- Chunks that a manager covers
+
+module _ {D : Type 0} (state : D → State) (m : Manager D) (ready : IsReady state m) (es : List Listed) (most : ℕ) where
+  next_inside : (from : ℕ) (i : Item) → IsNext (covered_in m) es most from i → (b : ℕ) → is_within i.lbn i.count b ≡ true → covered_in m b ≡ true
+  next_inside from i n b is = let w = inside_of i.lbn i.count b is in n.run b w.0 w.1
+
+  next_fits : (from : ℕ) (i : Item) → IsNext (covered_in m) es most from i → i.lbn + i.count ≤ (state_of state m.home).size
+  next_fits from i n = chunk_fits state m i.lbn i.count ready n.some (next_inside from i n)
+
+  pub next_items : (from : ℕ) (items : List Item) → AreNext (covered_in m) es most from items → AreItemsOf most (state_of state m.home).size items
+  next_items from [] are = tt
+  next_items from (i ∷ items) are = (record { some = are.0.some; few = are.0.few; within = next_fits from i are.0 }, next_items (i.lbn + i.count) items are.1)
+
+  pub next_covered_in : (from : ℕ) (items : List Item) → AreNext (covered_in m) es most from items → AreCoveredIn m items
+  next_covered_in from [] are = tt
+  next_covered_in from (i ∷ items) are = (next_inside from i are.0, next_covered_in (i.lbn + i.count) items are.1)
+
+  next_sizes : (from : ℕ) (items : List Item) → AreNext (covered_in m) es most from items → AllByRecursion (λ (i : Item). i.lbn + i.count ≤ 2 ^ 32) items
+  next_sizes from [] are = tt
+  next_sizes from (i ∷ items) are = ((let fits = next_fits from i are.0 in let small = ready.ready.home_small.1 in omega (arith, fits, small)), next_sizes (i.lbn + i.count) items are.1)
+
+  pub next_few : (from : ℕ) (items : List Item) → most ≤ 128 → AreNext (covered_in m) es most from items → count_of items ≤ 128 * length items
+  next_few from [] small are = omega arith
+  next_few from (i ∷ items) small are = let rest = next_few (i.lbn + i.count) items small are.1 in let e = count_more i items in let f = are.0.few in omega (arith, rest, e, f, small)
+
 -- ---- The next chunk
 
 module _ {D : Type 0} (tells : Bool) (state : D → State) (most : ℕ) (old now : Manager D) (copied from : ℕ) (settled : Bool) (can : CanClean old) (copies : List Write) (b : Between tells state most old now copied from settled copies)
-    (ready : IsReady state now) (lbn count : ℕ) (low : from ≤ lbn) (bare : (x : ℕ) → from ≤ x → x < lbn → covered_in now x ≡ false) (here : covered_in now lbn ≡ true)
+    (ready : IsReady state now) (lbn count : ℕ) (low : from ≤ lbn) (bare : (x : ℕ) → from ≤ x → x < lbn → covered_in now x ≡ false)
     (some : 1 ≤ count) (few : count ≤ most) (run : (x : ℕ) → lbn ≤ x → x < lbn + count → covered_in now x ≡ true) (ends : count < most → covered_in now (lbn + count) ≡ false) where
   same_cover : (x : ℕ) → covered_in now x ≡ covered_in old x
   same_cover x = b.done.copied.goes_on.covered x
 
-  pub chunk : IsChunk (covered_in old) most lbn count
-  chunk = chunk_at (covered_in old) most lbn count (cut_next (covered_in old) most from lbn b.cut low (λ x l h. sym (same_cover x) ∙ bare x l h) (sym (same_cover lbn) ∙ here)) some few
-      (λ x l h. sym (same_cover x) ∙ run x l h) (λ less. sym (same_cover (lbn + count)) ∙ ends less)
+  abbrev pub first_one : Item
+  first_one = record { lbn = lbn; count = count }
 
   pub end_within : lbn + count ≤ 2 ^ 32
   end_within = let fits = chunk_fits state now lbn count ready some (λ x is. let w = inside_of lbn count x is in run x w.0 w.1) in let small = ready.ready.home_small.1 in omega (arith, fits, small)
-
-  cut_then : covered_in old (lbn + count) ≡ true → IsCutAt (covered_in old) most (lbn + count)
-  cut_then is = cut_behind (covered_in old) most lbn count chunk is
-
-  -- what is so of the chunks before and of this one is so of those up to its end
-  one_more : (P : ℕ → ℕ → Type 0) → ((x : ℕ) → x < from → covered_in old x ≡ true → (first : ℕ) × (n : ℕ) × IsChunk (covered_in old) most first n × (first ≤ x) × (x < first + n) × P first n) → P lbn count
-      → (x : ℕ) → x < lbn + count → covered_in old x ≡ true → (first : ℕ) × (n : ℕ) × IsChunk (covered_in old) most first n × (first ≤ x) × (x < first + n) × P first n
-  one_more P before now_ x lt is = at (cases_lt x from) (cases_lt x lbn)
-    where
-      at : (x < from) ⊎ (from ≤ x) → (x < lbn) ⊎ (lbn ≤ x) → (first : ℕ) × (n : ℕ) × IsChunk (covered_in old) most first n × (first ≤ x) × (x < first + n) × P first n
-      at (inl l) other = before x l is
-      at (inr g) (inl l) = absurd (clash (covered_in old x) is (sym (same_cover x) ∙ bare x g l))
-      at (inr g) (inr h) = (lbn, count, chunk, h, lt, now_)
-
-  -- the chunks before it are tidy
-  tidy_before : settled ≡ true → AreTidyBelow (covered_in old) most lbn (listed_in now.index.entries)
-  tidy_before yes_ x lt is = ⊎_elim (λ l. b.tidy yes_ x l is) (λ g. absurd (clash (covered_in old x) is (sym (same_cover x) ∙ bare x g lt))) (cases_lt x from)
-
-  -- those that lie before a block lie before a later one
-  behind_later : AllByRecursion (λ (w : Write). w.first < lbn) copies
-  behind_later = all_map (λ (w : Write). w.first < from) (λ (w : Write). w.first < lbn) (λ w lt. omega (arith, lt, low)) copies b.behind
-
-  behind_end : AllByRecursion (λ (w : Write). w.first < lbn + count) copies
-  behind_end = all_map (λ (w : Write). w.first < from) (λ (w : Write). w.first < lbn + count) (λ w lt. omega (arith, lt, low)) copies b.behind
 
   pub between_tidy : IsTidy (listed_in now.index.entries) lbn count → Between tells state most old now copied (lbn + count) settled copies
   between_tidy t = record {
@@ -264,60 +358,108 @@ module _ {D : Type 0} (tells : Bool) (state : D → State) (most : ℕ) (old now
     count = b.count;
     few = let f = b.few in omega (arith, f, low);
     within = end_within;
-    upper = one_more (λ first n. (version : ℕ) × IsUppermost (listed_in now.index.entries) version first n) b.upper (t.version, upper_of_tidy (listed_in now.index.entries) lbn count t);
-    tidy = λ yes_. one_more (λ first n. IsTidy (listed_in now.index.entries) first n) (b.tidy yes_) t;
+    upper = one_more_old (λ first n. (version : ℕ) × IsUppermost (listed_in now.index.entries) version first n) b.upper (t.version, upper_of_tidy (listed_in now.index.entries) lbn count t);
+    tidy = λ yes_. one_more_old (λ first n. IsTidy (listed_in now.index.entries) first n) (b.tidy yes_) t;
     some = b.some;
-    cut = cut_then;
-    behind = behind_end;
+    cut = λ is. cut_behind (covered_in old) most lbn count chunk is;
+    behind = all_map (λ (w : Write). w.first < from) (λ (w : Write). w.first < lbn + count) (λ w lt. omega (arith, lt, low)) copies b.behind;
     stays = λ f c least le. b.stays f c least (omega (arith, le, low));
   }
+    where
+      -- it is the next one, but for being tidy
+      as_next : IsNext (covered_in old) [] most from first_one
+      as_next = record {
+        low = low;
+        bare = λ x l h. sym (same_cover x) ∙ bare x l h;
+        some = some;
+        few = few;
+        run = λ x l h. sym (same_cover x) ∙ run x l h;
+        ends = λ less. sym (same_cover (lbn + count)) ∙ ends less;
+        untidy = λ tidy. all_member (λ (e : Listed). ⊥) [] tidy.one.record_ tt tidy.one.listed;
+      }
 
-  module _ (untidy : IsTidy (listed_in now.index.entries) lbn count → ⊥) (new : Manager D) where
-    -- it wasn't tidy at the beginning either
-    untidy_old : IsTidy (listed_in old.index.entries) lbn count → ⊥
-    untidy_old t = untidy (b.stays lbn count some low t)
+      chunk : IsChunk (covered_in old) most lbn count
+      chunk = next_chunk (covered_in old) [] most from first_one as_next b.cut
+
+      one_more_old : (P : ℕ → ℕ → Type 0) → ((x : ℕ) → x < from → covered_in old x ≡ true → (first : ℕ) × (c : ℕ) × IsChunk (covered_in old) most first c × (first ≤ x) × (x < first + c) × P first c) → P lbn count
+          → (x : ℕ) → x < lbn + count → covered_in old x ≡ true → (first : ℕ) × (c : ℕ) × IsChunk (covered_in old) most first c × (first ≤ x) × (x < first + c) × P first c
+      one_more_old P before now_ = one_more (covered_in old) [] most from first_one as_next P chunk before now_
+
+  module _ (untidy : IsTidy (listed_in now.index.entries) lbn count → ⊥) (rest : List Item) (more : AreNext (covered_in now) (listed_in now.index.entries) most (lbn + count) rest) (new : Manager D) where
+    abbrev pub items : List Item
+    items = first_one ∷ rest
+
+    pub are_next : AreNext (covered_in now) (listed_in now.index.entries) most from items
+    are_next = (record { low = low; bare = bare; some = some; few = few; run = run; ends = ends; untidy = untidy }, more)
+
+    -- among the records at the beginning too
+    were_next : AreNext (covered_in old) (listed_in old.index.entries) most from items
+    were_next = next_since (covered_in now) (covered_in old) (listed_in now.index.entries) (listed_in old.index.entries) most from same_cover b.stays from (omega arith) items are_next
+
+    now_upto : Upto (covered_in old) (listed_in old.index.entries) most old.next from (listed_in now.index.entries) copies
+    now_upto = record { chunks = b.done.chunks; few = (let c = b.count in let f = b.few in omega (arith, c, f)); within = b.within; upper = b.upper; cut = b.cut; behind = b.behind; stays = b.stays }
+
+    now_below : AllByRecursion (λ (e : Listed). e.version < now.next) (listed_in now.index.entries)
+    now_below = all_mapped (λ (e : Listed). e.version < now.next) (λ (e : Indexed). e.listed) now.index.entries ready.below
+
+    next_is : now.next ≡ old.next + length copies
+    next_is = b.done.copied.next
+
+    -- after copies of some first ones
+    upto_then : (k lane : ℕ) (l : Look) → l.listed ≡ listed_in now.index.entries → l.next ≡ now.next → (ws : List Write) → AreCopiesAt now.next (take k items) ws
+        → Upto (covered_in old) (listed_in old.index.entries) most old.next (end_of from (take k items)) (placed_all (Log lane) l ws).listed (copies ++ ws)
+    upto_then k lane l listed next ws at = upto_all (covered_in old) (listed_in old.index.entries) most old.next lane (take k items) ws from l copies
+        (subst (λ (es : List Listed). Upto (covered_in old) (listed_in old.index.entries) most old.next from es copies) (sym listed) now_upto)
+        (subst NoneHomed (sym listed) b.done.copied.goes_on.can.unhomed)
+        (subst (λ (n : ℕ). AllByRecursion (λ (e : Listed). e.version < n) l.listed) (sym next) (subst (AllByRecursion (λ (e : Listed). e.version < now.next)) (sym listed) now_below))
+        (next_front (covered_in old) (listed_in old.index.entries) most k from items were_next)
+        (next_sizes state now ready (listed_in now.index.entries) most from (take k items) (next_front (covered_in now) (listed_in now.index.entries) most k from items are_next))
+        (subst (λ (n : ℕ). AreCopiesAt n (take k items) ws) next_is at)
 
     abbrev left_untidy : settled ≡ true → new.index.entries ≡ now.index.entries → IsLeftUntidy (covered_in old) most (listed_in new.index.entries) copies
     left_untidy yes_ same = record {
       first = lbn;
       count = count;
-      chunk = chunk;
+      chunk = next_chunk (covered_in old) (listed_in old.index.entries) most from first_one were_next.0 b.cut;
       before = subst (λ (es : List Indexed). AreTidyBelow (covered_in old) most lbn (listed_in es)) (sym same) (tidy_before yes_);
       behind = behind_later;
       untidy = λ t. untidy (subst (λ (es : List Indexed). IsTidy (listed_in es) lbn count) same t);
     }
+      where
+        tidy_before : settled ≡ true → AreTidyBelow (covered_in old) most lbn (listed_in now.index.entries)
+        tidy_before yes_ x lt is = ⊎_elim (λ l. b.tidy yes_ x l is) (λ g. absurd (clash (covered_in old x) is (sym (same_cover x) ∙ bare x g lt))) (cases_lt x from)
 
-    next_is : now.next ≡ old.next + length copies
-    next_is = b.done.copied.next
+        behind_later : AllByRecursion (λ (w : Write). w.first < lbn) copies
+        behind_later = all_map (λ (w : Write). w.first < from) (λ (w : Write). w.first < lbn) (λ w lt. omega (arith, lt, low)) copies b.behind
 
-    pub between_copied : (t : HasRewritten tells state lbn count now new) → Between tells state most old new (copied + count) (lbn + count) false (copies ++ t.write ∷ [])
-    between_copied t = record {
+    pub between_copied : (k : ℕ) → 1 ≤ k → (t : HasRewritten tells state (take k items) now new) → Between tells state most old new (copied + count_of (take k items)) (end_of from (take k items)) false (copies ++ t.writes)
+    between_copied k one t = record {
       done = record {
-        chunks = chunks_more (covered_in old) (listed_in old.index.entries) most old.next lbn count copies (t.write ∷ []) b.done.chunks chunk untidy_old behind_later (omega arith) (subst (λ (n : ℕ). IsCopyAt lbn count n t.write) next_is t.is_copy, tt);
-        copied = copied_then tells state old now new copies (t.write ∷ []) can b.done.copied t.copied;
-        untouched = λ none. absurd (some_last copies t.write none);
+        chunks = u.chunks;
+        copied = copied_then tells state old now new copies t.writes can b.done.copied t.copied;
+        untouched = λ none. absurd (some_more k one t.writes t.are none);
       };
-      count = let e = blocks_more copies t.write in let c = b.count in let n = t.is_copy.count_is in omega (arith, e, c, n);
-      few = let f = b.few in omega (arith, f, low);
-      within = end_within;
-      upper = one_more (λ first n. (version : ℕ) × IsUppermost (listed_in new.index.entries) version first n)
-          (λ x lt is. let o = b.upper x lt is in (o.0, o.1, o.2, o.3, o.4, (o.5.0, others_upper tells state now new lbn count now_can ready t o.5.0 o.0 o.1 (λ y inside. apart_from x lt o.0 o.1 o.2 o.3 o.4 y inside) o.5.1)))
-          (newest_upper tells state now new lbn count now_can ready t);
+      count = same_count;
+      few = let f = u.few in let c = same_count in omega (arith, f, c);
+      within = u.within;
+      upper = subst (AreUpperBelow (covered_in old) most (end_of from (take k items))) (sym t.listed_is) u.upper;
       tidy = λ wrong. absurd (let no_ : false ≡ true = wrong in cc);
-      some = λ yes_ none. some_last copies t.write none;
-      cut = cut_then;
-      behind = all_push (λ (w : Write). w.first < lbn + count) copies t.write behind_end (let f = t.is_copy.first_is in omega (arith, f, some));
-      stays = λ f c least le x. others_tidy tells state now new lbn count now_can ready t f c (λ y inside. Rattle.log_cleaner.proofs.Tidying.not_so (is_within lbn count y) (λ is.
-          let v = inside_of f c y inside in let w = inside_of lbn count y is in let l = v.0 in let h = w.1 in omega (arith, l, h, le))) (b.stays f c least (omega (arith, le, low)) x);
+      some = λ yes_ none. some_more k one t.writes t.are none;
+      cut = u.cut;
+      behind = u.behind;
+      stays = λ f c least le x. subst (λ (es : List Listed). IsTidy es f c) (sym t.listed_is) (u.stays f c least le x);
     }
       where
-        now_can : CanClean now
-        now_can = b.done.copied.goes_on.can
+        u : Upto (covered_in old) (listed_in old.index.entries) most old.next (end_of from (take k items)) (placed_all (Log t.lane) t.look t.writes).listed (copies ++ t.writes)
+        u = upto_then k t.lane t.look t.listed_was t.next_was t.writes t.are
 
-        apart_from : (x : ℕ) → x < from → (f n : ℕ) → IsChunk (covered_in old) most f n → f ≤ x → x < f + n → (y : ℕ) → is_within f n y ≡ true → is_within lbn count y ≡ false
-        apart_from x lt f n c l h y inside = Rattle.log_cleaner.proofs.Tidying.not_so (is_within lbn count y) (λ is.
-            let v = inside_of f n y inside in let w = inside_of lbn count y is in
-            let same = (same_chunk (covered_in old) most f n lbn count y c chunk v.0 v.1 w.0 w.1).0 in omega (arith, lt, l, same, low))
+        same_count : copied + count_of (take k items) ≡ copied_blocks (copies ++ t.writes)
+        same_count = let a = sum_by-append (λ (v : Write). length v.blocks) copies t.writes in let c = copied_count now.next (take k items) t.writes t.are in let d = b.count in omega (arith, a, c, d)
+
+        some_more : (k : ℕ) → 1 ≤ k → (ws : List Write) → AreCopiesAt now.next (take k items) ws → copies ++ ws ≡ [] → ⊥
+        some_more zero one ws at none = absurd (omega (arith, one))
+        some_more (suc k) one [] at none = absurd at
+        some_more (suc k) one (w ∷ ws) at none = let l = ap length none in let e = length-append copies (w ∷ ws) in omega (arith, l, e)
 
     ends_full : settled ≡ true → IsRefused tells state count now new → CleansBy tells state most old new copies (Ok (copied, true))
     ends_full yes_ r = (
@@ -327,23 +469,23 @@ module _ {D : Type 0} (tells : Bool) (state : D → State) (most : ℕ) (old now
       λ full. (let e = r.copied.next in let n = r.next in omega (arith, e, n), empty_since old now new b.done.copied.goes_on r.empty, left_untidy yes_ r.entries, r.room),
     )
 
-    -- the chunk wasn't written, and all was given up before, or a call of a disk failed
-    pub ends_by : (answer : Result Bool CleanFault) → was_written answer ≡ false → (is_broken answer ≡ false → settled ≡ true) → (f : Rewrites tells state lbn count now new answer)
-        → CleansBy tells state most old new (copies ++ rewritten tells state lbn count now new answer f) (ended copied answer)
-    ends_by (Ok true) not_ so f = absurd (let wrong : true ≡ false = not_ in cc)
-    ends_by (Ok false) not_ so f = subst (λ (ws : List Write). CleansBy tells state most old new ws (Ok (copied, true))) (sym (append-nil copies)) (ends_full (so refl) f)
-    ends_by (Err (DiskFault p)) not_ so f = (
-      chunks_more (covered_in old) (listed_in old.index.entries) most old.next lbn count copies f.copies b.done.chunks chunk untidy_old behind_later f.one (subst (λ (n : ℕ). AllByRecursion (IsCopyAt lbn count n) f.copies) next_is f.are),
+    -- none was written, and all was given up before, or a call of a disk failed
+    pub ends_by : (answer : Result ℕ CleanFault) → written_of answer ≡ 0 → (is_broken answer ≡ false → settled ≡ true) → (f : Rewrites tells state items now new answer)
+        → CleansBy tells state most old new (copies ++ rewritten tells state items now new answer f) (ended copied answer)
+    ends_by (Ok zero) none so f = subst (λ (ws : List Write). CleansBy tells state most old new ws (Ok (copied, true))) (sym (append-nil copies)) (ends_full (so refl) f)
+    ends_by (Ok (suc n)) none so f = absurd (let wrong : suc n ≡ 0 = none in omega (arith, wrong))
+    ends_by (Err (DiskFault p)) none so f = (
+      (upto_then f.tried 0 (look_of_manager now) refl refl f.copies f.are).chunks,
       broken_then tells state old now new p copies f.copies can b.done.copied f.broken,
     )
-    ends_by (Err VersionsSpent) not_ so f = subst (λ (ws : List Write). EndsBy tells state most old new ws VersionsSpent) (sym (append-nil copies)) (
+    ends_by (Err VersionsSpent) none so f = subst (λ (ws : List Write). EndsBy tells state most old new ws VersionsSpent) (sym (append-nil copies)) (
       record { chunks = b.done.chunks; copied = subst (HasCopied tells state old new) (append-nil copies) (copied_then tells state old now new copies [] can b.done.copied f.0); untouched = λ none. f.2 ∙ b.done.untouched none },
       f.1,
       left_untidy (so refl) f.2,
     )
-    ends_by (Err NoMemory) not_ so f = subst (λ (ws : List Write). EndsBy tells state most old new ws NoMemory) (sym (append-nil copies)) (
+    ends_by (Err NoMemory) none so f = let left = left_untidy (so refl) f.1 in subst (λ (ws : List Write). EndsBy tells state most old new ws NoMemory) (sym (append-nil copies)) (
       record { chunks = b.done.chunks; copied = subst (HasCopied tells state old new) (append-nil copies) (copied_then tells state old now new copies [] can b.done.copied f.0); untouched = λ none. f.1 ∙ b.done.untouched none },
-      (lbn, subst (λ (es : List Indexed). AreTidyBelow (covered_in old) most lbn (listed_in es)) (sym f.1) (tidy_before (so refl)), behind_later),
+      (lbn, left.before, left.behind),
     )
 
 -- all are tidy where no block is covered from here on

@@ -1,5 +1,5 @@
 -- Copies one after another, in a history and at each moment.
-use Rattle.std.proofs.Common.{◌≡◌, ◌+◌, ◌-◌, inl, ℕ, zero, suc, Bool, true, false, List, [], ◌∷◌, ◌++◌, length, take, drop, Option, None, Some, refl, sym, ap, subst, ◌∙◌, arith, append_assoc}
+use Rattle.std.proofs.Common.{◌≡◌, ◌≤◌, ◌+◌, ◌-◌, inl, ℕ, zero, suc, Bool, true, false, List, [], ◌∷◌, ◌++◌, length, take, drop, Option, None, Some, refl, sym, ap, subst, ◌∙◌, arith, append_assoc}
 use Rattle.std.specs.Prelude.{IsTrue, is_some, IsSome, slice_range}
 use Rattle.std.specs.List.{AllByRecursion, AllZip}
 use Rattle.std.specs.Option.{option_or}
@@ -57,15 +57,14 @@ cut_none a ws x (whole k le is) = is ∙ ap (λ (l : List Write). after a (ws ++
     nothing (suc k) = refl
 cut_none a ws x (torn w is none blend) = absurd (let wrong : [] ≡ w ∷ [] = is in cc)
 
-pub cut_one : (a : List Block) (ws : List Write) (w : Write) (x : List Block) → IsSome w.version → IsCopyOf (after a ws) w → IsCut a ws (w ∷ []) x → x ≡ after a ws
-cut_one a ws w x some same (whole zero le is) = is ∙ ap (after a) (append-nil ws)
-cut_one a ws w x some same (whole (suc k) le is) = is ∙ ap (λ (l : List Write). after a (ws ++ w ∷ l)) (nothing k) ∙ after_more a ws (w ∷ []) ∙ after_copy (after a ws) w same
+pub cut_some : (a : List Block) (ws fs : List Write) (x : List Block) → AreLogged fs → AllByRecursion (IsCopyOf (after a ws)) fs → IsCut a ws fs x → x ≡ after a ws
+cut_some a ws fs x logged same (whole k le is) = is ∙ after_more a ws (take k fs) ∙ after_copies (after a ws) (take k fs) (front (IsCopyOf (after a ws)) k fs same)
   where
-    nothing : (k : ℕ) → take {A = Write} k [] ≡ []
-    nothing zero = refl
-    nothing (suc k) = refl
-cut_one a ws w x some same (torn v is none blend) =
-    let e : w ≡ v = (let f : w ∷ [] ≡ v ∷ [] = is in cc) in absurd (no w.version (ap (λ (u : Write). u.version) e ∙ none) some)
+    front : (P : Write → Type 0) (k : ℕ) (vs : List Write) → AllByRecursion P vs → AllByRecursion P (take k vs)
+    front P zero vs all = tt
+    front P (suc k) [] all = tt
+    front P (suc k) (v ∷ vs) all = (all.0, front P k vs all.1)
+cut_some a ws fs x logged same (torn v is none blend) = absurd (no v.version none (subst AreLogged is logged).0)
   where
     no : (o : Option ℕ) → o ≡ None → IsSome o → ⊥
     no None e some = let wrong : false ≡ true = some in cc
@@ -128,6 +127,8 @@ module _ {D : Type 0} (tells : Bool) (state : D → State) (m : Manager D) (b : 
         }));
     in_use = k.in_use;
     passed = passed;
+    taken = k.taken;
+    still = k.still;
     ready = k.ready;
     locks = k.locks;
   }
@@ -194,6 +195,8 @@ module _ {D : Type 0} (tells : Bool) (state : D → State) (m : Manager D) (b : 
           (upholds_sooner (parts_of tells state) b.volume.began (seen m k.logs) ((notes ++ copy_notes l cs) ++ p ∷ []) (notes ++ n ∷ []) (writes (entries_of notes)) cs fs was history logged));
       in_use = k.in_use;
       passed = none_passed (nones_at m.lanes.items b.lanes) notes n note.passed_is (passed_before notes l (nones_at m.lanes.items b.lanes) cs (passed_front (nones_at m.lanes.items b.lanes) (notes ++ copy_notes l cs) p k.passed));
+      taken = k.taken;
+      still = k.still;
       ready = k.ready;
       locks = k.locks;
     };
@@ -231,11 +234,12 @@ module _ {D : Type 0} (tells : Bool) (state : D → State) where
       subst (Keeps tells state new b) (sym (append-nil notes)) (left_out tells state new b notes n o refl none calm (leaves b notes n refl (is_plain (last_look b.volume.began.look notes) o (look_of_manager new) passed) k).keeps)
 
   -- a call that wrote
-  pub keeps_wrote : (old new : Manager D) (w : Write) (passed : List ℕ) → old.down ≡ None → Leaves tells state old new (Wrote (w ∷ [])) passed worker → KeepsCopies tells state old new (w ∷ [])
-  keeps_wrote old new w passed up leaves b notes look k =
-      let n = plain_note (Wrote (w ∷ [])) (look_of_manager new) passed in
+  pub keeps_wrote : (old new : Manager D) (ws : List Write) (passed : List ℕ) → 1 ≤ length ws → old.down ≡ None → Leaves tells state old new (Wrote ws) passed worker → KeepsCopies tells state old new ws
+  keeps_wrote old new [] passed some up leaves b notes look k = absurd (omega (arith, some))
+  keeps_wrote old new (w ∷ ws) passed some up leaves b notes look k =
+      let n = plain_note (Wrote (w ∷ ws)) (look_of_manager new) passed in
       other_note tells state new b notes n _ refl refl refl (λ no. absurd (let wrong : false ≡ true = no in cc)) (unbroken tells state old b notes k up)
-      (leaves b notes n refl (is_plain (last_look b.volume.began.look notes) (Wrote (w ∷ [])) (look_of_manager new) passed) k).keeps
+      (leaves b notes n refl (is_plain (last_look b.volume.began.look notes) (Wrote (w ∷ ws)) (look_of_manager new) passed) k).keeps
 
   -- a call that failed, with this in flight
   pub leaves_broken : (old new : Manager D) (fs : List Write) (passed : List ℕ) → old.down ≡ None → Leaves tells state old new (Broke fs) passed worker → LeavesEntry tells state old new (Broke fs)
@@ -313,18 +317,3 @@ module _ {D : Type 0} (tells : Bool) (state : D → State) where
     where
       nothing : (f : Option (List Write)) → f ≡ None → Rattle.std.specs.Prelude.unwrap_or f [] ≡ []
       nothing f is = ap (λ (o : Option (List Write)). Rattle.std.specs.Prelude.unwrap_or o []) is
-
-  -- a call that writes a copy to a log
-  pub copies_wrote : (old new : Manager D) (w : Write) → old.down ≡ None → IsSome w.version → (IsTrue tells → (b : ManagerBase) (notes : List Noted) → Keeps tells state old b notes → IsCopyOf (array_of b notes) w)
-      → (IsTrue tells → (claimed : Option (Spun D)) × Claims tells state old.lanes.items new.lanes.items claimed × ((b : ManagerBase) (notes : List Noted) → Keeps tells state old b notes → Stops state old new claimed b notes (w ∷ []))) → AreCopies tells state old new (w ∷ [])
-  copies_wrote old new w up some same stops = record {
-    same = λ told b notes k. (same told b notes k, tt);
-    any_moment = λ told b notes k. let s = stops told in one_more old old new s.0 (no_call old) s.1 (λ before after was is home segments h zip.
-        cut_one b.volume.began.array (writes (entries_of notes)) w (recovered b.volume.began.owner home segments) some (same told b notes k)
-        (subst (λ (f : List Write). IsCut b.volume.began.array (writes (entries_of notes)) f (recovered b.volume.began.owner home segments)) (alone (flight_of (entries_of notes)) (unbroken tells state old b notes k up))
-        (s.2 b notes k before after was is home segments h zip)));
-    logged = (some, tt);
-  }
-    where
-      alone : (f : Option (List Write)) → f ≡ None → Rattle.std.specs.Prelude.unwrap_or f (w ∷ []) ≡ w ∷ []
-      alone f is = ap (λ (o : Option (List Write)). Rattle.std.specs.Prelude.unwrap_or o (w ∷ [])) is

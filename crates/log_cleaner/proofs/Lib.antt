@@ -5,6 +5,8 @@ pub mod Tidying
 pub mod Claiming
 pub mod Copying
 pub mod Stepping
+pub mod Together
+pub mod Reading
 pub mod Rewriting
 pub mod Cleaning
 pub mod Finding

@@ -1,19 +1,22 @@
 -- Blocks that are read and written again.
-use Rattle.std.proofs.Common.{◌≡◌, ◌⊎◌, inl, inr, ⊎_elim, ◌<◌, ◌≤◌, ◌+◌, ◌^◌, ℕ, zero, suc, Bool, true, false, cond, ◌||◌, ◌&&◌, not, List, [], ◌∷◌, ◌++◌, map, length, Option, None, Some, Result, Ok, Err, refl, sym, ap, subst, ◌∙◌, arith}
-use Rattle.std.specs.Prelude.{IsTrue, IsSome, slice_get, slice_index_or, slice_range, position, unwrap_or}
+use Rattle.std.proofs.Common.{◌≡◌, ◌⊎◌, inl, inr, ⊎_elim, ◌<◌, ◌≤◌, ◌+◌, ◌^◌, ℕ, zero, suc, Bool, true, false, cond, ◌||◌, ◌&&◌, not, List, [], ◌∷◌, ◌++◌, map, length, take, Option, None, Some, Result, Ok, Err, refl, sym, ap, subst, ◌∙◌, arith}
+use Rattle.std.specs.Prelude.{IsTrue, IsSome, slice_get, slice_index_or, position, unwrap_or}
 use Rattle.std.specs.List.{prefix_len}
 use Rattle.wol_model.proofs.Counts.{not_true}
 use Rattle.std.specs.List.{AllByRecursion, AllZip, list_any, range_with_len, zip}
 use Rattle.std.proofs.lemmas.Bool.{cases_lt}
 use Rattle.std.proofs.lemmas.Option.{same_Some, slice_get_within}
-use Rattle.std.proofs.lemmas.List.{append-nil}
+use Rattle.std.proofs.lemmas.List.{append-nil, length-take-le}
+use Rattle.std.proofs.lemmas.List.Sums.{sum_by-take-le}
 use Rattle.wol_disk.specs.Disk.{State, Block}
 use Rattle.spin_model.specs.declared.spun.Spun.{Spun}
 use Rattle.turn_lock.specs.Histories.{Entry, Begins}
 use Rattle.turn_lock.specs.Passes.{pass_mine, pass_number}
 use Rattle.seg_pool.specs.Holders.{Took}
 use Rattle.seg_pool.specs.Operations.{operation_of}
-use Rattle.logger.specs.Lanes.{HasNoRoom, held_in, pool_of, logger_of}
+use Rattle.logger.specs.Lanes.{HasNoRoom, first_count, held_in, pool_of, logger_of}
+use Rattle.log_segment.specs.Records.{count_of}
+use Rattle.log_segment.specs.declared.item.Item.{Item}
 use Rattle.logger.specs.declared.lane.HeldSegment.{HeldSegment}
 use Rattle.manager.specs.Offers.{IsTurnedAway}
 use Rattle.logger.specs.declared.lane.Lane.{Lane}
@@ -21,15 +24,17 @@ use Rattle.offload_policy.specs.Placing.{may_hold}
 use Rattle.offload_policy.specs.declared.Room.{Room}
 use Rattle.offload_policy.specs.declared.Room.TheVariants.{Unknown, Yes, No}
 use Rattle.wol_model.specs.Blocks.{Write}
-use Rattle.wol_model.specs.History.{Read, Kept, Broke, worker, writes, flight_of, IsCut}
+use Rattle.wol_model.specs.History.{Operation, Read, Kept, Broke, worker, writes, flight_of, IsCut}
 use Rattle.wol_model.specs.Index.{Indexed, listed_in, is_covered}
 use Rattle.wol_model.specs.Placing.{Home as AtHome, Log as InLog, Full as Nowhere, place, log_or}
 use Rattle.wol_model.specs.Placing as placing
 use Rattle.wol_model.specs.Recovered.{recovered}
-use Rattle.wol_promise.specs.Policy.{Look, woken, placed, rooms_but}
+use Rattle.wol_promise.specs.Policy.{Look, woken, rooms_but}
 use Rattle.wol_promise.specs.Ruled.{Noted, entries_of}
 use Rattle.wol_promise.proofs.Lists.{all_map}
-use Rattle.manager.specs.Answers.{home_write, log_write, written, was_read, IsPlaceOf}
+use Rattle.manager.specs.Answers.{was_read, IsPlaceOf}
+use Rattle.manager.specs.Groups.{AreItemsOf, HasRun, log_writes, placed_all, ruled_run, run_writes, run_written}
+use Rattle.manager.proofs.GroupRecords.{first_long}
 use Rattle.manager.specs.Causes.{PartRose}
 use Rattle.manager.specs.Reading.{HasOnlyRead, LaneRead, NeedsSources, needs_of}
 use Rattle.spin_model.specs.Operations.{use_of}
@@ -39,7 +44,7 @@ use Rattle.log_cleaner.proofs.Lists.{some_in}
 use Rattle.manager.specs.Seen.{look_of_manager}
 use Rattle.manager.specs.Stands.{Keeps, IsReady, IsSameManager, Leaves, passed_in}
 use Rattle.manager.specs.Stops.{Stops}
-use Rattle.manager.specs.Writing.{HasAnswered, HaveAnswered, NeedsHome, HasLook, TellsFault, IsAsBefore, ruled_place, takes_at, in_flight}
+use Rattle.manager.specs.Writing.{HasAnswered, HaveAnswered, NeedsHome, TellsFault, IsAsBefore, ruled_place, takes_at}
 use Rattle.manager.specs.declared.base.ManagerBase.{ManagerBase}
 use Rattle.manager.specs.declared.manager.Manager.{Manager}
 use Rattle.manager.specs.declared.part.Part.{Part}
@@ -56,13 +61,16 @@ use Rattle.manager.proofs.Placing.{rooms_are}
 use Rattle.manager.proofs.ReadThrough.{zip_at, zip_length}
 use Rattle.log_cleaner.specs.Chunks.{IsCopyOf, NoneHomed, is_within}
 use Rattle.log_cleaner.specs.Copies.{AreCopies, Claims, one_more, array_of}
-use Rattle.log_cleaner.proofs.Claiming.{fewer_read}
+use Rattle.log_cleaner.proofs.Claiming.{claims_of, fewer_read}
 use Rattle.log_cleaner.specs.Cleans.{CanClean, FindsAllEmpty, GoesOn, NoneHasRoom, covered_in}
-use Rattle.log_cleaner.specs.Steps.{Fails, HasBroken, HasCopied, HasRewritten, IsCopyAt, IsRefused, Rewrites}
+use Rattle.log_cleaner.specs.Steps.{AreCopiesAt, AreCoveredIn, AreRead, Fails, HasBroken, HasCopied, HasRewritten, IsRefused, Rewrites}
 use Rattle.log_cleaner.specs.Steps as steps
-use Rattle.log_cleaner.proofs.Copying.{copies_plain, cut_one, keeps_plain, keeps_wrote, leaves_broken, read_content, unbroken}
-use Rattle.log_cleaner.proofs.Stepping.{copied_then, empty_since, goes_none, goes_then, rose_of, set_awake}
-use Rattle.log_cleaner.proofs.Tidying.{clash, listing_covered, listing_unhomed, not_so}
+use Rattle.log_cleaner.specs.declared.answer.CleanFault.{CleanFault}
+use Rattle.log_cleaner.specs.declared.answer.CleanFault.TheVariants.{DiskFault, VersionsSpent, NoMemory}
+use Rattle.log_cleaner.proofs.Copying.{copies_plain, cut_some, keeps_plain, keeps_wrote, leaves_broken, read_content, unbroken}
+use Rattle.log_cleaner.proofs.Stepping.{broken_then, copied_then, empty_since, goes_none, goes_then, rose_of}
+use Rattle.log_cleaner.proofs.Together.{Covered, all_awake, all_covered, all_home, all_next, all_unhomed, copies_at, copies_covered, copies_logged, copies_long, copies_same, read_front, writes_front}
+use Rattle.log_cleaner.proofs.Tidying.{clash, not_so}
 
 -- ---- Flags
 
@@ -272,22 +280,21 @@ module _ {D : Type 0} (tells : Bool) (state : D → State) (old new : Manager D)
 
   -- ---- A write that was answered
 
-  write_goes_on : (lane : ℕ) (answer : Place) → ruled ≡ InLog lane → NeedsHome ruled (Ok answer) old new → look_of_manager new ≡ placed ruled (look_of_manager old) (home_write first blocks) → IsSameManager old new → new.down ≡ None
-      → HaveAnswered (length blocks) (takes_at ruled (Ok answer)) new.rooms.items old.lanes.items new.lanes.items → GoesOn old new
-  write_goes_on lane answer is needs look same up all =
-      let l : look_of_manager new ≡ placed (InLog lane) (look_of_manager old) (home_write first blocks) = look ∙ ap (λ (p : placing.Place). placed p (look_of_manager old) (home_write first blocks)) is in record {
-        same = same;
-        can = record {
-          up = up;
-          unhomed = subst (λ (m : Look). NoneHomed m.listed) (sym l) (listing_unhomed (look_of_manager old) lane (home_write first blocks) can.unhomed);
-          awake = subst (λ (m : Look). AllByRecursion (λ up. up ≡ true) m.ups) (sym l) (set_awake old.ups.items lane can.awake);
-        };
-        covered = λ b. ap (λ (m : Look). is_covered m.listed b) l ∙ listing_covered (look_of_manager old) lane (home_write first blocks) can.unhomed covered b;
-        home_up = ap (λ (m : Look). m.home_up) l;
-        home_needs = ap (λ es. needs_in (map (λ (e : Entry). use_of e.1) es)) (subst (λ (p : placing.Place). NeedsHome p (Ok answer) old new) is needs);
-        lanes = all.same;
-        pools = write_pools (Ok answer) all;
-      }
+  write_goes_on : (lane : ℕ) (answer : Place) (ws : List Write) → ruled ≡ InLog lane → NeedsHome ruled (Ok answer) old new → look_of_manager new ≡ placed_all (InLog lane) (look_of_manager old) ws → AllByRecursion (Covered lane (listed_in old.index.entries)) ws → IsSameManager old new
+      → new.down ≡ None → HaveAnswered (length blocks) (takes_at ruled (Ok answer)) new.rooms.items old.lanes.items new.lanes.items → GoesOn old new
+  write_goes_on lane answer ws is needs l all_in same up all = record {
+    same = same;
+    can = record {
+      up = up;
+      unhomed = subst (λ (m : Look). NoneHomed m.listed) (sym l) (all_unhomed lane ws (look_of_manager old) can.unhomed);
+      awake = subst (λ (m : Look). AllByRecursion (λ up. up ≡ true) m.ups) (sym l) (all_awake lane ws (look_of_manager old) can.awake);
+    };
+    covered = λ b. ap (λ (m : Look). is_covered m.listed b) l ∙ all_covered lane ws (look_of_manager old) can.unhomed all_in b;
+    home_up = ap (λ (m : Look). m.home_up) l ∙ all_home lane ws (look_of_manager old);
+    home_needs = ap (λ es. needs_in (map (λ (e : Entry). use_of e.1) es)) (subst (λ (p : placing.Place). NeedsHome p (Ok answer) old new) is needs);
+    lanes = all.same;
+    pools = write_pools (Ok answer) all;
+  }
 
   -- ---- A write that was refused before a disk was tried
 
@@ -314,72 +321,111 @@ module _ {D : Type 0} (tells : Bool) (state : D → State) (old new : Manager D)
     next = omega (arith, next);
   }
 
--- ---- Behind a read
+-- ---- Behind reads
 
--- a copy of what was read before is at each moment what the volume has
-copies_after_read : {D : Type 0} (tells : Bool) (state : D → State) (old mid new : Manager D) (w : Write) → HasCopied tells state old mid [] → IsSome w.version
-    → (IsTrue tells → (b : ManagerBase) (notes : List Noted) → Keeps tells state old b notes → IsCopyOf (array_of b notes) w)
-    → (IsTrue tells → (claimed : Option (Spun D)) × Claims tells state mid.lanes.items new.lanes.items claimed × ((b : ManagerBase) (notes : List Noted) → Keeps tells state mid b notes → Stops state mid new claimed b notes (w ∷ []))) → AreCopies tells state old new (w ∷ [])
-copies_after_read tells state old mid new w first some same stops = record {
-  same = λ told b notes k. (same told b notes k, tt);
+-- copies of what was read before are at each moment what the volume has
+copies_after_read : {D : Type 0} (tells : Bool) (state : D → State) (old mid new : Manager D) (ws : List Write) → HasCopied tells state old mid [] → AllByRecursion (λ (w : Write). IsSome w.version) ws
+    → (IsTrue tells → (b : ManagerBase) (notes : List Noted) → Keeps tells state old b notes → AllByRecursion (IsCopyOf (array_of b notes)) ws)
+    → (IsTrue tells → (claimed : Option (Spun D)) × Claims tells state mid.lanes.items new.lanes.items claimed × ((b : ManagerBase) (notes : List Noted) → Keeps tells state mid b notes → Stops state mid new claimed b notes ws)) → AreCopies tells state old new ws
+copies_after_read tells state old mid new ws first some same stops = record {
+  same = same;
   any_moment = λ told b notes k.
       let k1 = subst (Keeps tells state mid b) (append-nil notes) (first.keeps b notes (look_of_manager mid) k) in
       let s = stops told in
       one_more old mid new s.0 (first.copied.any_moment told b notes k) s.1 (λ before after was is home segments h zip.
-      cut_one b.volume.began.array (writes (entries_of notes)) w (recovered b.volume.began.owner home segments) some (same told b notes k)
+      cut_some b.volume.began.array (writes (entries_of notes)) ws (recovered b.volume.began.owner home segments) some (same told b notes k)
       (subst (λ (f : List Write). IsCut b.volume.began.array (writes (entries_of notes)) f (recovered b.volume.began.owner home segments)) (alone (flight_of (entries_of notes)) (unbroken tells state mid b notes k1 first.goes_on.can.up))
       (s.2 b notes k1 before after was is home segments h zip)));
-  logged = (some, tt);
+  logged = some;
 }
   where
-    alone : (f : Option (List Write)) → f ≡ None → unwrap_or f (w ∷ []) ≡ w ∷ []
-    alone f is = ap (λ (o : Option (List Write)). unwrap_or o (w ∷ [])) is
+    alone : (f : Option (List Write)) → f ≡ None → unwrap_or f ws ≡ ws
+    alone f is = ap (λ (o : Option (List Write)). unwrap_or o ws) is
 
--- what a write answered, of blocks that had been read
-pub record WriteTold {D : Type 0} (tells : Bool) (state : D → State) (mid new : Manager D) (first : ℕ) (blocks : List Block) (answer : Result Place WriteRefusal) : Type 0 where
+-- what a run of writes answered, of blocks that had been read, and how many of them were tried
+pub record WriteTold {D : Type 0} (tells : Bool) (state : D → State) (mid new : Manager D) (items : List Item) (from : List Block) (tried : ℕ) (answer : Result Place WriteRefusal) : Type 0 where
   pub same : IsSameManager mid new
-  pub stands : Leaves tells state mid new (written mid.next first blocks answer) (passed_in new.rooms.items) worker
-  pub placed : IsPlaceOf (map logger_of mid.lanes.items) answer (ruled_place mid new first blocks)
-  pub answered : HaveAnswered (length blocks) (takes_at (ruled_place mid new first blocks) answer) new.rooms.items mid.lanes.items new.lanes.items
-  pub look : HasLook (ruled_place mid new first blocks) (home_write first blocks) answer (look_of_manager mid) (look_of_manager new)
-  pub waking : NeedsHome (ruled_place mid new first blocks) answer mid new
+  pub run : HasRun tells state items from tried answer (ruled_run mid new items from) mid new
+  pub placed : IsPlaceOf (map logger_of mid.lanes.items) answer (ruled_run mid new items from)
+  pub answered : HaveAnswered (first_count items) (takes_at (ruled_run mid new items from) answer) new.rooms.items mid.lanes.items new.lanes.items
+  pub waking : NeedsHome (ruled_run mid new items from) answer mid new
   pub down : (p : Part) → answer ≡ Err (refused.Down p) → mid.down ≡ Some p
   pub versions : answer ≡ Err refused.VersionsSpent → mid.next ≡ 2 ^ 63
   pub unspent : mid.next ≡ 2 ^ 63 → answer ≡ Err refused.VersionsSpent
   pub fault : TellsFault state answer mid new
   pub unchanged : IsAsBefore answer mid new
-  pub any_moment : IsTrue tells → (claimed : Option (Spun D)) × Claims tells state mid.lanes.items new.lanes.items claimed × ((b : ManagerBase) (notes : List Noted) → Keeps tells state mid b notes → Stops state mid new claimed b notes (in_flight mid.next first blocks answer))
 
-module _ {D : Type 0} (tells : Bool) (state : D → State) (old mid new : Manager D) (can : CanClean old) (ready : IsReady state mid) (first : ℕ) (blocks : List Block) (some : 1 ≤ length blocks)
-    (covered : (b : ℕ) → is_within first (length blocks) b ≡ true → covered_in old b ≡ true) (read : HasCopied tells state old mid []) (entries : mid.index.entries ≡ old.index.entries)
-    (content : IsTrue tells → (b : ManagerBase) (notes : List Noted) → Keeps tells state old b notes → blocks ≡ slice_range (array_of b notes) first (first + length blocks)) where
-  abbrev w : Write
-  w = log_write mid.next first blocks
+module _ {D : Type 0} (tells : Bool) (state : D → State) (old mid new : Manager D) (can : CanClean old) (ready : IsReady state mid) (i : Item) (rest : List Item) (from : List Block) (tried : ℕ) (some : 1 ≤ i.count)
+    (enough : count_of (i ∷ rest) ≤ length from) (covered : AreCoveredIn old (i ∷ rest)) (read : HasCopied tells state old mid []) (entries : mid.index.entries ≡ old.index.entries)
+    (content : IsTrue tells → (b : ManagerBase) (notes : List Noted) → Keeps tells state old b notes → AreRead (array_of b notes) (i ∷ rest) from) where
+  abbrev items : List Item
+  items = i ∷ rest
 
-  covered_mid : (b : ℕ) → is_within first (length blocks) b ≡ true → covered_in mid b ≡ true
-  covered_mid b is = read.goes_on.covered b ∙ covered b is
+  abbrev first : List Block
+  first = take i.count from
+
+  long : length first ≡ i.count
+  long = first_long i rest from enough
+
+  some_first : 1 ≤ length first
+  some_first = let l = long in omega (arith, l, some)
+
+  covered_first : (b : ℕ) → is_within i.lbn (length first) b ≡ true → covered_in mid b ≡ true
+  covered_first b is = read.goes_on.covered b ∙ covered.0 b (subst (λ (n : ℕ). is_within i.lbn n b ≡ true) long is)
 
   same_next : mid.next ≡ old.next
   same_next = let e = read.next in omega (arith, e)
 
-  is_copy_at : IsCopyAt first (length blocks) old.next w
-  is_copy_at = record { first_is = refl; count_is = refl; version_is = ap Some same_next }
+  abbrev ws : List Write
+  ws = log_writes mid.next (take tried items) from
 
-  no_home : (answer : Result Place WriteRefusal) → ruled_place mid new first blocks ≡ AtHome → ⊥
-  no_home answer is = never_home tells state mid new read.goes_on.can ready first blocks some covered_mid is
+  enough_tried : count_of (take tried items) ≤ length from
+  enough_tried = let s = sum_by-take-le (λ (j : Item). j.count) items tried in omega (arith, s, enough)
 
-  logged_ends : (logger : ℕ) → WriteTold tells state mid new first blocks (Ok (place_.Log logger)) → (r : HasRewritten tells state first (length blocks) old new) × (r.write ≡ w)
+  are_copies : AreCopiesAt old.next (take tried items) ws
+  are_copies = subst (λ (n : ℕ). AreCopiesAt n (take tried items) ws) same_next (copies_at mid.next (take tried items) from enough_tried)
+
+  are_logged : AllByRecursion (λ (w : Write). IsSome w.version) ws
+  are_logged = copies_logged mid.next (take tried items) from
+
+  are_same : IsTrue tells → (b : ManagerBase) (notes : List Noted) → Keeps tells state old b notes → AllByRecursion (IsCopyOf (array_of b notes)) ws
+  are_same told b notes k = copies_same (array_of b notes) mid.next (take tried items) from enough_tried (read_front (array_of b notes) tried items from (content told b notes k))
+
+  front : (P : Item → Type 0) (k : ℕ) (js : List Item) → AllByRecursion P js → AllByRecursion P (take k js)
+  front P zero js all = tt
+  front P (suc k) [] all = tt
+  front P (suc k) (j ∷ js) all = (all.0, front P k js all.1)
+
+  are_covered : (lane : ℕ) → AllByRecursion (Covered lane (listed_in mid.index.entries)) ws
+  are_covered lane = subst (λ (es : List Indexed). AllByRecursion (Covered lane (listed_in es)) ws) (sym entries)
+      (copies_covered lane (listed_in old.index.entries) old.next (take tried items) ws are_copies (front (λ (j : Item). (b : ℕ) → is_within j.lbn j.count b ≡ true → covered_in old b ≡ true) tried items covered))
+
+  answered_first : (answer : Result Place WriteRefusal) → HaveAnswered i.count (takes_at (ruled_run mid new items from) answer) new.rooms.items mid.lanes.items new.lanes.items
+      → HaveAnswered (length first) (takes_at (ruled_place mid new i.lbn first) answer) new.rooms.items mid.lanes.items new.lanes.items
+  answered_first answer all = subst (λ (n : ℕ). HaveAnswered n (takes_at (ruled_place mid new i.lbn first) answer) new.rooms.items mid.lanes.items new.lanes.items) (sym long) all
+
+  no_home : ruled_place mid new i.lbn first ≡ AtHome → ⊥
+  no_home is = never_home tells state mid new read.goes_on.can ready i.lbn first some_first covered_first is
+
+  stops_of : (answer : Result Place WriteRefusal) → WriteTold tells state mid new items from tried answer → IsTrue tells → (claimed : Option (Spun D)) × Claims tells state mid.lanes.items new.lanes.items claimed
+      × ((b : ManagerBase) (notes : List Noted) → Keeps tells state mid b notes → Stops state mid new claimed b notes (run_writes mid.next (take tried items) from answer))
+  stops_of answer t told = (t.run.claimed, claims_of tells state _ mid.lanes.items new.lanes.items t.run.claimed t.answered.same t.run.claims, λ b notes k. t.run.any_moment told b notes k)
+
+  logged_ends : (logger : ℕ) → WriteTold tells state mid new items from tried (Ok (place_.Log logger)) → (r : HasRewritten tells state (take tried items) old new) × (r.writes ≡ ws)
   logged_ends logger t =
       let lane = t.placed.0 in let is = t.placed.2 in
-      let look = t.look ∙ ap (λ (p : placing.Place). placed p (look_of_manager mid) (home_write first blocks)) is in (
+      let look = t.run.look ∙ ap (λ (p : placing.Place). placed_all p (look_of_manager mid) ws) is in
+      let next = ap (λ (l : Look). l.next) look ∙ all_next lane ws (look_of_manager mid) in (
         record {
-          write = w;
-          is_copy = is_copy_at;
+          writes = ws;
+          are = are_copies;
           copied = record {
-            goes_on = goes_then old mid new read.goes_on (write_goes_on tells state mid new read.goes_on.can ready first blocks some covered_mid lane (place_.Log logger) is t.waking t.look t.same (t.fault ∙ read.goes_on.can.up) t.answered);
-            keeps = Rattle.log_cleaner.proofs.Copying.keeps_then tells state old mid new [] (w ∷ []) can.up read.keeps (keeps_wrote tells state mid new w (passed_in new.rooms.items) read.goes_on.can.up t.stands);
-            copied = copies_after_read tells state old mid new w read refl content t.any_moment;
-            next = let e = ap (λ (l : Look). l.next) look in let f = same_next in omega (arith, e, f);
+            goes_on = goes_then old mid new read.goes_on (write_goes_on tells state mid new read.goes_on.can ready i.lbn first some_first covered_first lane (place_.Log logger) ws is t.waking look (are_covered lane) t.same
+                (t.fault ∙ read.goes_on.can.up) (answered_first (Ok (place_.Log logger)) t.answered));
+            keeps = Rattle.log_cleaner.proofs.Copying.keeps_then tells state old mid new [] ws can.up read.keeps (keeps_wrote tells state mid new ws (passed_in new.rooms.items)
+                (let l = copies_long old.next (take tried items) ws are_copies in let k = length-take-le tried items t.run.are.within in let one = t.run.are.some refl in omega (arith, l, k, one)) read.goes_on.can.up t.run.stands);
+            copied = copies_after_read tells state old mid new ws read are_logged are_same (stops_of (Ok (place_.Log logger)) t);
+            next = let f = same_next in omega (arith, next, f);
           };
           look = look_of_manager mid;
           lane = lane;
@@ -390,84 +436,99 @@ module _ {D : Type 0} (tells : Bool) (state : D → State) (old mid new : Manage
         refl,
       )
 
-  full_ends : WriteTold tells state mid new first blocks (Err refused.Full) → IsRefused tells state (length blocks) old new
+  -- nothing was written
+  none_copied : (e : WriteRefusal) → run_writes mid.next (take tried items) from (Err e) ≡ [] → run_written [] (Err e) ≡ Kept → WriteTold tells state mid new items from tried (Err e) → new.down ≡ mid.down → new.home_up ≡ mid.home_up → needs_of new.spindle ≡ needs_of mid.spindle → new.ups.items ≡ mid.ups.items
+      → new.next ≡ mid.next → new.index.entries ≡ mid.index.entries → HasCopied tells state old new []
+  none_copied e none kept t down home needs ups next same = copied_then tells state old mid new [] [] can read
+      (unwritten tells state mid new read.goes_on.can ready i.lbn first some_first covered_first (Err e) t.same down home needs ups next same (answered_first (Err e) t.answered)
+      (subst (λ (o : Operation). Leaves tells state mid new o (passed_in new.rooms.items) worker) (ap (λ (vs : List Write). run_written vs (Err e)) none ∙ kept) t.run.stands)
+      (λ told. let s = stops_of (Err e) t told in (s.0, s.1, λ b notes k. subst (Stops state mid new s.0 b notes) none (s.2 b notes k))))
+
+  full_ends : WriteTold tells state mid new items from tried (Err refused.Full) → IsRefused tells state i.count old new
   full_ends t =
-      let rest = t.unchanged.rest in record {
-        copied = copied_then tells state old mid new [] [] can read (unwritten tells state mid new read.goes_on.can ready first blocks some covered_mid (Err refused.Full) t.same t.fault (ap (λ (m : Manager D). m.home_up) rest) (ap (λ (m : Manager D). needs_of m.spindle) rest) (ap (λ (m : Manager D). m.ups.items) rest) (ap (λ (m : Manager D). m.next) rest) t.unchanged.index t.answered t.stands t.any_moment);
+      let rest_ = t.unchanged.rest in record {
+        copied = none_copied refused.Full refl refl t t.fault (ap (λ (m : Manager D). m.home_up) rest_) (ap (λ (m : Manager D). needs_of m.spindle) rest_) (ap (λ (m : Manager D). m.ups.items) rest_) (ap (λ (m : Manager D). m.next) rest_) t.unchanged.index;
         entries = t.unchanged.index ∙ entries;
         next = below (ready.next.1) same_next (λ is. let wrong = t.unspent is in cc);
-        empty = empty_since old mid new read.goes_on (all_empty tells state mid new read.goes_on.can ready first blocks some covered_mid t.placed t.answered);
-        room = none_has_room tells state mid new read.goes_on.can ready first blocks some covered_mid t.placed t.answered;
+        empty = empty_since old mid new read.goes_on (all_empty tells state mid new read.goes_on.can ready i.lbn first some_first covered_first t.placed (answered_first (Err refused.Full) t.answered));
+        room = subst (λ (n : ℕ). NoneHasRoom n new) long (none_has_room tells state mid new read.goes_on.can ready i.lbn first some_first covered_first t.placed (answered_first (Err refused.Full) t.answered));
       }
     where
       below : {m n k : ℕ} → m ≤ k → m ≡ n → (m ≡ k → ⊥) → n < k
       below {m} {n} {k} le e ne = ⊎_elim (λ lt. omega (arith, lt, e)) (λ ge. absurd (ne (omega (arith, le, ge)))) (cases_lt m k)
 
-  spent_ends : WriteTold tells state mid new first blocks (Err refused.VersionsSpent) → HasCopied tells state old new [] × (new.next ≡ 2 ^ 63) × (new.index.entries ≡ old.index.entries)
+  spent_ends : WriteTold tells state mid new items from tried (Err refused.VersionsSpent) → HasCopied tells state old new [] × (new.next ≡ 2 ^ 63) × (new.index.entries ≡ old.index.entries)
   spent_ends t =
-      let rest = t.unchanged.rest in let n = ap (λ (m : Manager D). m.next) rest in
-      (copied_then tells state old mid new [] [] can read (unwritten tells state mid new read.goes_on.can ready first blocks some covered_mid (Err refused.VersionsSpent) t.same t.fault (ap (λ (m : Manager D). m.home_up) rest) (ap (λ (m : Manager D). needs_of m.spindle) rest) (ap (λ (m : Manager D). m.ups.items) rest) n t.unchanged.index t.answered t.stands t.any_moment), n ∙ t.versions refl, t.unchanged.index ∙ entries)
+      let rest_ = t.unchanged.rest in let n = ap (λ (m : Manager D). m.next) rest_ in
+      (none_copied refused.VersionsSpent refl refl t t.fault (ap (λ (m : Manager D). m.home_up) rest_) (ap (λ (m : Manager D). needs_of m.spindle) rest_) (ap (λ (m : Manager D). m.ups.items) rest_) n t.unchanged.index, n ∙ t.versions refl, t.unchanged.index ∙ entries)
 
-  memory_ends : WriteTold tells state mid new first blocks (Err refused.NoMemory) → HasCopied tells state old new [] × (new.index.entries ≡ old.index.entries)
+  memory_ends : WriteTold tells state mid new items from tried (Err refused.NoMemory) → HasCopied tells state old new [] × (new.index.entries ≡ old.index.entries)
   memory_ends t =
-      let rest = t.unchanged.rest in
-      (copied_then tells state old mid new [] [] can read (unwritten tells state mid new read.goes_on.can ready first blocks some covered_mid (Err refused.NoMemory) t.same t.fault (ap (λ (m : Manager D). m.home_up) rest) (ap (λ (m : Manager D). needs_of m.spindle) rest) (ap (λ (m : Manager D). m.ups.items) rest) (ap (λ (m : Manager D). m.next) rest) t.unchanged.index t.answered t.stands t.any_moment), t.unchanged.index ∙ entries)
+      let rest_ = t.unchanged.rest in
+      (none_copied refused.NoMemory refl refl t t.fault (ap (λ (m : Manager D). m.home_up) rest_) (ap (λ (m : Manager D). needs_of m.spindle) rest_) (ap (λ (m : Manager D). m.ups.items) rest_) (ap (λ (m : Manager D). m.next) rest_) t.unchanged.index, t.unchanged.index ∙ entries)
 
-  failed_ends : (logger index : ℕ) → WriteTold tells state mid new first blocks (Err (refused.DiskFault (part.Segment logger index))) → (f : Fails tells state first (length blocks) old new (part.Segment logger index)) × (f.copies ≡ w ∷ [])
+  failed_ends : (logger index : ℕ) → WriteTold tells state mid new items from tried (Err (refused.DiskFault (part.Segment logger index))) → (f : Fails tells state items old new (part.Segment logger index)) × (f.copies ≡ ws)
   failed_ends logger index t = (
     record {
-      copies = w ∷ [];
-      one = omega arith;
-      are = (is_copy_at, tt);
+      copies = ws;
+      tried = tried;
+      within = t.run.are.within;
+      are = are_copies;
       broken = record {
         down = t.fault.0;
         rose = (mid, read.goes_on, t.fault.1);
-        leaves = Rattle.log_cleaner.proofs.Copying.leaves_then tells state old mid new [] (w ∷ []) can.up (refl, tt) read.keeps (leaves_broken tells state mid new (w ∷ []) (passed_in new.rooms.items) read.goes_on.can.up t.stands);
-        copied = copies_after_read tells state old mid new w read refl content t.any_moment;
+        leaves = Rattle.log_cleaner.proofs.Copying.leaves_then tells state old mid new [] ws can.up are_logged read.keeps (leaves_broken tells state mid new ws (passed_in new.rooms.items) read.goes_on.can.up t.run.stands);
+        copied = copies_after_read tells state old mid new ws read are_logged are_same (stops_of (Err (refused.DiskFault (part.Segment logger index))) t);
       };
     },
     refl,
   )
 
-  -- with the copy that is noted of it
-  pub write_ends : (answer : Result Place WriteRefusal) → WriteTold tells state mid new first blocks answer
-      → (r : Rewrites tells state first (length blocks) old new (steps.told_of answer)) × (steps.noted answer [] (w ∷ []) ≡ steps.rewritten tells state first (length blocks) old new (steps.told_of answer) r)
-  write_ends (Ok place_.Home) t = absurd (no_home (Ok place_.Home) t.placed)
-  write_ends (Ok (place_.Log logger)) t = let l = logged_ends logger t in (l.0, ap (λ (v : Write). v ∷ []) (sym l.1))
+  some_rewritten : (n : ℕ) → 1 ≤ n → n ≤ length items → (r : HasRewritten tells state (take n items) old new) × (r.writes ≡ ws) → (x : Rewrites tells state items old new (Ok n)) × (ws ≡ steps.rewritten tells state items old new (Ok n) x)
+  some_rewritten zero one le r = absurd (omega (arith, one))
+  some_rewritten (suc n) one le r = ((r.0, le), sym r.1)
+
+  -- with the copies that are noted of it
+  pub write_ends : (answer : Result Place WriteRefusal) → WriteTold tells state mid new items from tried answer
+      → (r : Rewrites tells state items old new (steps.told_of tried answer)) × (steps.noted answer ws ≡ steps.rewritten tells state items old new (steps.told_of tried answer) r)
+  write_ends (Ok place_.Home) t = absurd (no_home t.placed)
+  write_ends (Ok (place_.Log logger)) t = some_rewritten tried (t.run.are.some refl) t.run.are.within (logged_ends logger t)
   write_ends (Err refused.Full) t = (full_ends t, refl)
-  write_ends (Err (refused.DiskFault (part.Home volume))) t = absurd (no_home (Err (refused.DiskFault (part.Home volume))) t.placed)
+  write_ends (Err (refused.DiskFault (part.Home volume))) t = absurd (no_home t.placed)
   write_ends (Err (refused.DiskFault (part.Segment logger index))) t = let f = failed_ends logger index t in (f.0, sym f.1)
   write_ends (Err (refused.Down p)) t = absurd (let wrong : None ≡ Some p = sym read.goes_on.can.up ∙ t.down p refl in cc)
   write_ends (Err refused.VersionsSpent) t = (spent_ends t, refl)
   write_ends (Err refused.NoMemory) t = (memory_ends t, refl)
+
+-- the same of any chunks, with the copies as they are noted
+pub run_ends : {D : Type 0} (tells : Bool) (state : D → State) (old mid new : Manager D) (can : CanClean old) (ready : IsReady state mid) (items : List Item) (from : List Block) (tried most size : ℕ) → 1 ≤ length items → AreItemsOf most size items → count_of items ≤ length from
+    → AreCoveredIn old items → HasCopied tells state old mid [] → mid.index.entries ≡ old.index.entries
+    → (IsTrue tells → (b : ManagerBase) (notes : List Noted) → Keeps tells state old b notes → AreRead (array_of b notes) items from)
+    → (answer : Result Place WriteRefusal) → WriteTold tells state mid new items from tried answer
+    → (r : Rewrites tells state items old new (steps.told_of tried answer)) × (steps.noted answer (take tried (log_writes mid.next items from)) ≡ steps.rewritten tells state items old new (steps.told_of tried answer) r)
+run_ends tells state old mid new can ready [] from tried most size some are enough covered read entries content answer t = absurd (omega (arith, some))
+run_ends tells state old mid new can ready (i ∷ rest) from tried most size some are enough covered read entries content answer t =
+    let x = write_ends tells state old mid new can ready i rest from tried are.0.some enough covered read entries content answer t in
+    (x.0, ap (steps.noted answer) (writes_front tried mid.next (i ∷ rest) from) ∙ x.1)
+
+-- where reading failed none was copied
+pub fault_ends : {D : Type 0} (tells : Bool) (state : D → State) (items : List Item) (old new : Manager D) (room : List Block) (done : List Write) (fault : CleanFault) → steps.ReadsAll tells state items old new room (Err fault)
+    → (f : steps.TellsFault tells state items old new fault) × (done ≡ done ++ steps.fault_copies tells state items old new fault f)
+fault_ends tells state items old new room done (DiskFault p) broken = (record { copies = []; tried = 0; within = omega arith; are = tt; broken = broken }, sym (append-nil done))
+fault_ends tells state items old new room done VersionsSpent broken = absurd broken
+fault_ends tells state items old new room done NoMemory broken = absurd broken
 
 -- ---- A read that was refused
 
 abbrev pub refused_as : ReadRefusal → Result Sources ReadRefusal
 refused_as refusal = Err refusal
 
-pub read_ends : {D : Type 0} (tells : Bool) (state : D → State) (old new : Manager D) (can : CanClean old) (read : HasOnlyRead state old new) (first count lbn : ℕ) (reply : List Block) (refusal : ReadRefusal)
-    → ((p : Part) → refused_as refusal ≡ Err (refused_read.DiskFault p) → (new.down ≡ Some p) × PartRose state old new p)
-    → ((p : Part) → refused_as refusal ≡ Err (refused_read.Down p) → old.down ≡ Some p)
-    → Leaves tells state old new (was_read lbn reply (Err refusal)) [] worker
-    → (IsTrue tells → (b : ManagerBase) (notes : List Noted) → Keeps tells state old b notes → Stops state old new None b notes [])
-    → (f : steps.TellsFault tells state first count old new (steps.fault_of refusal)) × (steps.fault_copies tells state first count old new (steps.fault_of refusal) f ≡ [])
-read_ends tells state old new can read first count lbn reply (refused_read.DiskFault p) cause down leaves stops = (
-  record {
-    copies = [];
-    one = omega arith;
-    are = tt;
-    broken = let c = cause p refl in read_broken tells state old new can read p c.0 c.1 leaves stops;
-  },
-  refl,
-)
-read_ends tells state old new can read first count lbn reply (refused_read.Down p) cause down leaves stops = absurd (let wrong : None ≡ Some p = sym can.up ∙ down p refl in cc)
-
--- what is noted behind other copies
-pub noted_behind : (answer : Result Place WriteRefusal) (done : List Write) (w : Write) → steps.noted answer done (done ++ w ∷ []) ≡ done ++ steps.noted answer [] (w ∷ [])
-noted_behind (Ok place) done w = refl
-noted_behind (Err (refused.DiskFault p)) done w = refl
-noted_behind (Err refused.Full) done w = sym (append-nil done)
-noted_behind (Err (refused.Down p)) done w = sym (append-nil done)
-noted_behind (Err refused.VersionsSpent) done w = sym (append-nil done)
-noted_behind (Err refused.NoMemory) done w = sym (append-nil done)
+pub read_ends : {D : Type 0} (tells : Bool) (state : D → State) (old mid new : Manager D) (can : CanClean old) → HasCopied tells state old mid [] → (read : HasOnlyRead state mid new) (lbn : ℕ) (reply room : List Block) (items : List Item) (refusal : ReadRefusal)
+    → ((p : Part) → refused_as refusal ≡ Err (refused_read.DiskFault p) → (new.down ≡ Some p) × PartRose state mid new p)
+    → ((p : Part) → refused_as refusal ≡ Err (refused_read.Down p) → mid.down ≡ Some p)
+    → Leaves tells state mid new (was_read lbn reply (Err refusal)) [] worker
+    → (IsTrue tells → (b : ManagerBase) (notes : List Noted) → Keeps tells state mid b notes → Stops state mid new None b notes [])
+    → steps.ReadsAll tells state items old new room (Err (steps.fault_of refusal))
+read_ends tells state old mid new can before read lbn reply room items (refused_read.DiskFault p) cause down leaves stops =
+    let c = cause p refl in broken_then tells state old mid new p [] [] can before (read_broken tells state mid new before.goes_on.can read p c.0 c.1 leaves stops)
+read_ends tells state old mid new can before read lbn reply room items (refused_read.Down p) cause down leaves stops = absurd (let wrong : None ≡ Some p = sym before.goes_on.can.up ∙ down p refl in cc)

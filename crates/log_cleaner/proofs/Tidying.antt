@@ -294,10 +294,10 @@ marked_full first n b = at (leb first b) refl
 
 module _ (l : Look) (lane : ℕ) (w : Write) (unhomed : NoneHomed l.listed) where
   -- an older record, whose blocks are homed no more
-  abbrev older : Listed → Listed
+  abbrev pub older : Listed → Listed
   older e = record e { homed = remarked e.first e.homed (λ b m. m && not (is_in w b)) }
 
-  abbrev newest_ : Listed
+  abbrev pub newest_ : Listed
   newest_ = record { version = l.next; first = w.first; keep = replicate (length w.blocks) true; lane = lane; homed = replicate (length w.blocks) false }
 
   pub listing_unhomed : NoneHomed (listing l lane w)

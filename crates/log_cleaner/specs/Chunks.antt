@@ -1,7 +1,8 @@
 -- Chunks of blocks that records cover, and records that keep one each.
-use Rattle.std.specs.Prelude.{◌≡◌, ◌≢◌, ◌<◌, ◌≤◌, ◌+◌, ◌*◌, ◌&&◌, nat_le, nat_lt, ℕ, Bool, true, false, List, length, Contains, slice_range}
+use Rattle.std.specs.Prelude.{⊤, ◌≡◌, ◌≢◌, ◌<◌, ◌≤◌, ◌+◌, ◌*◌, ◌&&◌, nat_le, nat_lt, ◌∷◌, [], ℕ, Bool, true, false, List, length, Contains, slice_range}
 use Rattle.std.specs.List.{AllByRecursion}
 use Rattle.wol_disk.specs.Disk.{Block}
+use Rattle.log_segment.specs.declared.item.Item.{Item}
 use Rattle.wol_model.specs.Blocks.{Write}
 use Rattle.wol_model.specs.Index.{Listed, cover_of, is_homed}
 
@@ -63,6 +64,28 @@ pub record IsClean (covered : ℕ → Bool) (most : ℕ) (es : List Listed) : Ty
 -- each covered block below this one lies in a chunk that is tidy
 abbrev pub AreTidyBelow : (covered : ℕ → Bool) → (most from : ℕ) → List Listed → Type 0
 AreTidyBelow covered most from es = (b : ℕ) → b < from → covered b ≡ true → (first : ℕ) × (count : ℕ) × IsChunk covered most first count × (first ≤ b) × (b < first + count) × IsTidy es first count
+
+-- ---- Chunks one behind the other
+
+-- The next chunk from a block on: no block before it is covered, its blocks are, and it isn't tidy among these records.
+pub record IsNext (covered : ℕ → Bool) (es : List Listed) (most from : ℕ) (i : Item) : Type 0 where
+  pub low : from ≤ i.lbn
+  pub bare : (b : ℕ) → from ≤ b → b < i.lbn → covered b ≡ false
+  pub some : 1 ≤ i.count
+  pub few : i.count ≤ most
+  pub run : (b : ℕ) → i.lbn ≤ b → b < i.lbn + i.count → covered b ≡ true
+  pub ends : i.count < most → covered (i.lbn + i.count) ≡ false
+  pub untidy : IsTidy es i.lbn i.count → ⊥
+
+-- each is the next one behind those before it
+abbrev pub AreNext : (covered : ℕ → Bool) → List Listed → (most from : ℕ) → List Item → Type 0
+AreNext covered es most from [] = ⊤
+AreNext covered es most from (i ∷ items) = IsNext covered es most from i × AreNext covered es most (i.lbn + i.count) items
+
+-- where they end
+abbrev pub end_of : (from : ℕ) → List Item → ℕ
+end_of from [] = from
+end_of from (i ∷ items) = end_of (i.lbn + i.count) items
 
 -- ---- Copies
 

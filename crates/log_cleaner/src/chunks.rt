@@ -1,17 +1,25 @@
 // The chunks of a volume's covered blocks, one after another.
-ghost use Rattle.std.specs.Prelude.{◌≡◌, ◌↔◌, ◌≤◌, ◌<◌, ◌+◌, ◌^◌, ℕ, true, false};
+ghost use Rattle.std.specs.Prelude.{◌≡◌, ◌↔◌, ◌≤◌, ◌<◌, ◌+◌, ◌^◌, ◌∷◌, ℕ, List, true, false, IfSome, take};
 ghost use Rattle.wol_model.specs.Index.{listed_in, is_covered};
 ghost use Rattle.redirect_map.specs.Index.{IsIndex};
 ghost use Rattle.redirect_map.specs.Masks.{in_mask};
-ghost use Rattle.log_cleaner.specs.Chunks.{IsTidy, is_within};
+ghost use Rattle.log_segment.specs.declared.item.Item.{Item};
+ghost use Rattle.log_cleaner.specs.Chunks.{IsNext, AreNext, IsTidy, is_within};
 
+use log_segment::Item;
 use redirect_map::{Index, Rec};
 
 /// Block numbers lie below this.
 pub(crate) const END: u64 = 1 << 32;
 
+/// The most chunks that are written together.
+pub(crate) const TOGETHER: usize = 8;
+
 /// The most blocks that are asked for at once.
 const WIDEST: u64 = 1 << 31;
+
+/// Once the next so many blocks are to be asked for, all that are left are asked for first.
+const FAR: u64 = 1024;
 
 // The first block from `low` to `high` on that a record covers, of which there is one.
 fn first_covered(index: &Index, low: u64, high: u64) -> u64
@@ -36,7 +44,7 @@ fn first_covered(index: &Index, low: u64, high: u64) -> u64
 }
 
 /// The first block from `from` on that a record covers, and `END` where there is none. It looks at ranges one behind
-/// the other, each twice as wide as the one before.
+/// the other, each twice as wide as the one before, and where nothing is near it sees first whether anything is left.
 pub(crate) fn next_covered(index: &Index, from: u64) -> u64
     requires { from ≤ 2 ^ 32 }
     ensures bounds { (from ≤ result) × (result ≤ 2 ^ 32) }
@@ -50,7 +58,11 @@ pub(crate) fn next_covered(index: &Index, from: u64) -> u64
     let mut low = from;
     let mut width = 1;
     'widening: while low < END {
-        let count = width.min(END - low);
+        let rest = END - low;
+        if width == FAR && rest < END && !index.covered(low, rest as u32) {
+            return END;
+        }
+        let count = width.min(rest);
         if index.covered(low, count as u32) {
             return first_covered(index, low, low + count - 1);
         }
@@ -110,4 +122,54 @@ pub(crate) fn is_tidy(index: &Index, lbn: u64, count: u32) -> bool
         return false;
     };
     index.alone(record.version) == record.keep && keeps_just(&record, lbn, count)
+}
+
+// The next chunk from this block on, where there is one and it isn't tidy.
+fn untidy_chunk(index: &Index, from: u64, most: u32) -> Option<Item>
+    requires from { from ≤ 2 ^ 32 }
+    requires most { (1 ≤ most) × (most ≤ 128) }
+    ensures next { IfSome result (IsNext (is_covered (listed_in index.now.entries)) (listed_in index.now.entries) most from) }
+    ensures within { IfSome result (λ i. i.lbn + i.count ≤ 2 ^ 32) }
+{
+    let lbn = next_covered(index, from);
+    if lbn == END {
+        return None;
+    }
+    let count = chunk_len(index, lbn, most);
+    if lbn + u64::from(count) > END || is_tidy(index, lbn, count) {
+        return None;
+    }
+    Some(Item { lbn, count })
+}
+
+/// Chunks that are written together: so many first ones of these.
+#[derive(Clone, Copy)]
+pub(crate) struct Gathered {
+    pub(crate) chunks: [Item; TOGETHER],
+    pub(crate) count: usize,
+}
+
+/// The chunk and those behind it, up to the first that is tidy and at most so many.
+pub(crate) fn gather(index: &Index, first: Item, most: u32, width: usize) -> Gathered
+    requires most { (1 ≤ most) × (most ≤ 128) }
+    requires within { first.lbn + first.count ≤ 2 ^ 32 }
+    requires width { width ≤ 8 }
+    ensures count { (1 ≤ result.count) × (result.count ≤ 8) }
+    ensures next { (rest : List Item) × (take result.count result.chunks ≡ first ∷ rest)
+        × AreNext (is_covered (listed_in index.now.entries)) (listed_in index.now.entries) most (first.lbn + first.count) rest }
+{
+    let mut gathered = Gathered {
+        chunks: [first; TOGETHER],
+        count: 1,
+    };
+    let mut from = first.lbn + u64::from(first.count);
+    for place in 1..width {
+        let Some(chunk) = untidy_chunk(index, from, most) else {
+            return gathered;
+        };
+        gathered.chunks[place] = chunk;
+        gathered.count = place + 1;
+        from = chunk.lbn + u64::from(chunk.count);
+    }
+    gathered
 }

@@ -1,36 +1,43 @@
 // Chunk after chunk is made tidy.
 ghost use Rattle.std.specs.Prelude.{◌≡◌, ◌≤◌, [], length};
+ghost use Rattle.std.specs.List.{AllByRecursion};
+ghost use Rattle.log_segment.specs.Records.{count_of};
 ghost use Rattle.manager.specs.Stands.{IsReady, IsHome};
 ghost use Rattle.log_cleaner.specs.Cleans.{CanClean, HasCleaned};
-ghost use Rattle.log_cleaner.specs.Steps.{Settles, ended, is_broken, was_written};
+ghost use Rattle.log_cleaner.specs.Steps.{Settles, ended, is_broken, written_of};
 ghost use Rattle.log_cleaner.specs.Underway.{CleansBy};
 
-use crate::chunks::{END, chunk_len, is_tidy, next_covered};
+use crate::chunks::{END, Gathered, TOGETHER, chunk_len, gather, is_tidy, next_covered};
 use crate::copies::{Copies, no_copies};
 use crate::copy::{rewrite, step_fault};
 use crate::giving::give_up;
 use crate::{CleanFault, Cleaned};
+use log_segment::Item;
 use logger::Shared;
 use manager::Manager;
+use redirect_map::Index;
 use std::alloc::Global;
 use std::sync::Wait;
 use wol_disk::{Block, Disk};
 
-/// The most blocks of a write.
-const MOST: usize = 128;
+/// The most blocks of the chunks that are written together.
+const ROOM: usize = 1024;
 
-// Whether the write was done.
-fn was_written(answer: &Result<bool, CleanFault>) -> bool
-    ensures { result ≡ was_written answer.now }
+/// The position of the first record of a segment.
+const FIRST: u32 = 1;
+
+// How many chunks were written.
+fn written_of(answer: &Result<usize, CleanFault>) -> usize
+    ensures { result ≡ written_of answer.now }
 {
     match answer {
         Ok(written) => *written,
-        Err(_) => false,
+        Err(_) => 0,
     }
 }
 
 // Whether a call of a disk failed.
-fn is_broken(answer: &Result<bool, CleanFault>) -> bool
+fn is_broken(answer: &Result<usize, CleanFault>) -> bool
     ensures { result ≡ is_broken answer.now }
 {
     match answer {
@@ -40,12 +47,51 @@ fn is_broken(answer: &Result<bool, CleanFault>) -> bool
 }
 
 // What cleaning answers where a chunk wasn't written.
-fn ended(answer: Result<bool, CleanFault>, copied: u64) -> Result<(u64, bool), CleanFault>
+fn ended(answer: Result<usize, CleanFault>, copied: u64) -> Result<(u64, bool), CleanFault>
     ensures { result ≡ ended copied answer }
 {
     match answer {
         Ok(_) => Ok((copied, true)),
         Err(fault) => Err(fault),
+    }
+}
+
+// How many blocks these chunks have.
+fn blocks_of(chunks: &[Item]) -> u64
+    requires few { length chunks.now ≤ 8 }
+    requires small { AllByRecursion (λ i. i.count ≤ 128) chunks.now }
+    ensures { result ≡ count_of chunks.now }
+{
+    let mut blocks = 0;
+    for chunk in chunks {
+        blocks += u64::from(chunk.count);
+    }
+    blocks
+}
+
+// Whether the record that has this block begins its segment. No proof rests on it.
+fn begins_segment(index: &Index, lbn: u64) -> bool {
+    match index.newest(lbn) {
+        Some(record) => record.pos == FIRST,
+        None => false,
+    }
+}
+
+// How many chunks are gathered next, where so many of these were written: as many as a new segment took, so that none is
+// read that has no room there, and more where a segment took two groups whole.
+fn next_width(index: &Index, gathered: &Gathered, written: usize, width: usize) -> usize
+    requires count { gathered.now.count ≤ 8 }
+    requires width { width ≤ 8 }
+    ensures { result ≤ 8 }
+{
+    let begins = begins_segment(index, gathered.chunks[0].lbn);
+    if written < gathered.count {
+        return if begins { written } else { width };
+    }
+    if begins {
+        width
+    } else {
+        TOGETHER.min(width * 2)
     }
 }
 
@@ -84,7 +130,7 @@ fn clean_all<R: Wait, D: Disk>(
     requires at { IsHome shared.now m.old }
     requires can { CanClean m.old }
     requires most { most ≡ m.old.most }
-    requires room { length room.old ≡ 128 }
+    requires room { 1024 ≤ length room.old }
     requires none { done.old.value.items ≡ [] }
     ensures ready { IsReady D.state m.new }
     ensures at { IsHome shared.now m.new }
@@ -94,6 +140,7 @@ fn clean_all<R: Wait, D: Disk>(
     let mut from = 0;
     let mut settled = true;
     let mut lean = false;
+    let mut width = TOGETHER;
     'chunks: loop {
         let lbn = next_covered(m.index(), from);
         if lbn == END {
@@ -105,30 +152,38 @@ fn clean_all<R: Wait, D: Disk>(
             continue 'chunks;
         }
         let count = chunk_len(m.index(), lbn, most);
-        if !is_tidy(m.index(), lbn, count) {
-            let answer = rewrite(rt, m, shared, lbn, &mut room[..count as usize], done);
-            if !was_written(&answer) {
-                if settled || is_broken(&answer) {
-                    return ended(answer, copied);
-                }
-                settle(rt, m, shared, lean)?;
-                settled = lean;
-                lean = true;
-                continue 'chunks;
-            }
-            copied += u64::from(count);
-            settled = false;
-            lean = false;
+        if is_tidy(m.index(), lbn, count) {
+            from = lbn + u64::from(count);
+            continue 'chunks;
         }
-        from = lbn + u64::from(count);
+        let gathered = gather(m.index(), Item { lbn, count }, most, width);
+        let chunks = &gathered.chunks[..gathered.count];
+        let answer = rewrite(rt, m, shared, chunks, room, done);
+        let written = written_of(&answer);
+        if written == 0 {
+            if settled || is_broken(&answer) {
+                return ended(answer, copied);
+            }
+            settle(rt, m, shared, lean)?;
+            settled = lean;
+            lean = true;
+            continue 'chunks;
+        }
+        width = next_width(m.index(), &gathered, written, width);
+        copied += blocks_of(&chunks[..written]);
+        let last = chunks[written - 1];
+        from = last.lbn + u64::from(last.count);
+        settled = false;
+        lean = false;
     }
 }
 
 /// Writes the chunks of a volume's covered blocks again that aren't tidy: the maximal runs of covered blocks, each cut
 /// after each `most` blocks from its start. A chunk is tidy where one record keeps just its blocks and no other record
-/// keeps any of them. For each in order its blocks are read and written again to a log. What may go is given up once they
-/// are written, and before that where one can't be written: first segments in which no record has a live block, each by
-/// one write of its head, then records one by one. Segments in which no record is left go to their pools.
+/// keeps any of them. For each in order its blocks are read and written again to a log, those behind it with it that the
+/// segment has room for, as one group. What may go is given up once they are written, and before that where one can't be
+/// written: first segments in which no record has a live block, each by one write of its head, then records one by one.
+/// Segments in which no record is left go to their pools.
 ///
 /// `done` becomes the copies, in order, also those before a refusal; only contracts read them.
 ///
@@ -154,7 +209,7 @@ pub fn clean<R: Wait, D: Disk>(
 {
     *done = no_copies();
     let before = m.index().len();
-    let Ok(mut room) = vec![in alloc; [0; 512]; MOST] else {
+    let Ok(mut room) = vec![in alloc; [0; 512]; ROOM] else {
         return Err(CleanFault::NoMemory);
     };
     let (copied, full) = clean_all(rt, m, shared, most, &mut room, done)?;

@@ -1,12 +1,13 @@
 // The copies of a cleaning, as contracts see them.
 ghost use base.Fml.{ftrue};
-ghost use Rattle.std.specs.Prelude.{◌≡◌, ◌++◌, ◌∷◌, List, []};
+ghost use Rattle.std.specs.Prelude.{◌≡◌, ◌++◌, List, [], take};
 ghost use Rattle.wol_disk.specs.Disk.{Block};
 ghost use Rattle.wol_model.specs.Blocks.{Write};
-ghost use Rattle.manager.specs.Answers.{log_write};
+ghost use Rattle.manager.specs.Groups.{log_writes};
 ghost use Rattle.log_cleaner.specs.Steps.{noted};
 
-use manager::{Manager, Place, WriteRefusal};
+use log_segment::Item;
+use manager::{Manager, Ran, WriteRefusal};
 use std::marker::{Model, PhantomData};
 use turn_lock::Chosen;
 use wol_disk::{Block, Disk};
@@ -33,31 +34,40 @@ pub fn no_copies() -> Copies
 }
 
 // These copies, which the caller's proof names by what is given.
-fn copies_of<D: Disk>(_done: &Copies, _m: &Manager<D>, _lbn: u64, _blocks: &[Block]) -> Copies
+fn copies_of<D: Disk>(_m: &Manager<D>, _chunks: &[Item], _blocks: &[Block]) -> Copies
     ghost copies: { List Write }
     ensures { result.value.items ≡ copies }
 {
     Chosen::pick()
 }
 
-/// The copies with one more: the write of these blocks from `lbn` on, to a log, that the manager does next.
-pub(crate) fn with_copy<D: Disk>(
-    done: &Copies,
-    m: &Manager<D>,
-    lbn: u64,
-    blocks: &[Block],
-) -> Copies
-    ensures { result.value.items ≡ done.now.value.items ++ log_write m.now.next lbn blocks.now ∷ [] }
+/// The copies of these chunks, to a log, that the manager would do next.
+pub(crate) fn next_copies<D: Disk>(m: &Manager<D>, chunks: &[Item], blocks: &[Block]) -> Copies
+    ensures { result.value.items ≡ log_writes m.now.next chunks.now blocks.now }
 {
-    copies_of(done, m, lbn, blocks)
+    copies_of(m, chunks, blocks)
 }
 
-/// The copies with the last write, where it was done or may be in flight.
-pub(crate) fn noted(done: &mut Copies, more: Copies, answer: &Result<Place, WriteRefusal>)
-    ensures { done.new.value.items ≡ noted answer.now done.old.value.items more.value.items }
+// Copies, and behind them some first ones of others.
+fn copies_behind(_done: &Copies, _more: &Copies, _count: usize) -> Copies
+    ghost copies: { List Write }
+    ensures { result.value.items ≡ copies }
 {
-    match answer {
-        Ok(_) | Err(WriteRefusal::DiskFault(_)) => *done = more,
+    Chosen::pick()
+}
+
+fn with_first(done: &Copies, more: &Copies, count: usize) -> Copies
+    ensures { result.value.items ≡ done.now.value.items ++ take count more.now.value.items }
+{
+    copies_behind(done, more, count)
+}
+
+/// The copies with those of the run that were done or may be in flight.
+pub(crate) fn noted(done: &mut Copies, more: &Copies, ran: Ran)
+    ensures { done.new.value.items ≡ done.old.value.items ++ noted ran.answer (take ran.items more.now.value.items) }
+{
+    match ran.answer {
+        Ok(_) | Err(WriteRefusal::DiskFault(_)) => *done = with_first(done, more, ran.items),
         Err(_) => {}
     }
 }

@@ -1,15 +1,18 @@
 // One chunk is written again.
-ghost use Rattle.std.specs.Prelude.{◌≡◌, ◌≤◌, ◌<◌, ◌^◌, ℕ, true, length};
+ghost use Rattle.std.specs.Prelude.{◌≡◌, ◌≤◌, length};
+ghost use Rattle.spin_model.specs.Spun.{state_of};
+ghost use Rattle.log_segment.specs.Records.{count_of};
+ghost use Rattle.manager.specs.Groups.{AreItemsOf};
 ghost use Rattle.manager.specs.Stands.{IsReady, IsHome};
 ghost use Rattle.manager.specs.declared.part.Part.{Part};
-ghost use Rattle.log_cleaner.specs.Chunks.{is_within};
-ghost use Rattle.log_cleaner.specs.Cleans.{CanClean, covered_in};
-ghost use Rattle.log_cleaner.specs.Steps.{RewritesBehind, fault_of, told_of};
+ghost use Rattle.log_cleaner.specs.Cleans.{CanClean};
+ghost use Rattle.log_cleaner.specs.Steps.{AreCoveredIn, ReadsAll, RewritesBehind, fault_of, told_of};
 
 use crate::CleanFault;
-use crate::copies::{Copies, noted, with_copy};
+use crate::copies::{Copies, next_copies, noted};
+use log_segment::Item;
 use logger::Shared;
-use manager::{Manager, Place, ReadRefusal, StepFault, WriteRefusal};
+use manager::{Manager, Ran, ReadRefusal, StepFault, WriteRefusal};
 use std::sync::Wait;
 use wol_disk::{Block, Disk};
 
@@ -33,13 +36,13 @@ fn read_fault(refusal: ReadRefusal) -> CleanFault
     }
 }
 
-// Whether a log had room for the write, by its answer.
-fn told(answer: Result<Place, WriteRefusal>) -> Result<bool, CleanFault>
-    ensures { result ≡ told_of answer }
+// How many chunks were written to a log, by what became of the run.
+fn told(ran: Ran) -> Result<usize, CleanFault>
+    ensures { result ≡ told_of ran.items ran.answer }
 {
-    match answer {
-        Ok(_) => Ok(true),
-        Err(WriteRefusal::Full) => Ok(false),
+    match ran.answer {
+        Ok(_) => Ok(ran.items),
+        Err(WriteRefusal::Full) => Ok(0),
         Err(WriteRefusal::DiskFault(part)) => Err(CleanFault::DiskFault(part)),
         Err(WriteRefusal::Down(part)) => Err(CleanFault::DiskFault(part)),
         Err(WriteRefusal::VersionsSpent) => Err(CleanFault::VersionsSpent),
@@ -47,32 +50,63 @@ fn told(answer: Result<Place, WriteRefusal>) -> Result<bool, CleanFault>
     }
 }
 
-/// Reads the blocks from `lbn` on and writes them again, to a log, which is one copy more. Tells whether one had room.
+// Reads the blocks of these chunks one behind the other. Answers how many these are.
+fn read_all<R: Wait, D: Disk>(
+    rt: &R,
+    m: &mut Manager<D>,
+    shared: &Shared<D>,
+    chunks: &[Item],
+    room: &mut [Block],
+) -> Result<usize, CleanFault>
+    requires ready { IsReady D.state m.old }
+    requires at { IsHome shared.now m.old }
+    requires can { CanClean m.old }
+    requires chunks { AreItemsOf m.old.most (state_of D.state m.old.home).size chunks.now }
+    requires covered { AreCoveredIn m.old chunks.now }
+    requires room { count_of chunks.now ≤ length room.old }
+    ensures ready { IsReady D.state m.new }
+    ensures at { IsHome shared.now m.new }
+    ensures read { ReadsAll D.tells D.state chunks.now m.old m.new room.new result }
+{
+    let mut blocks = 0;
+    for chunk in chunks {
+        let end = blocks + chunk.count as usize;
+        match m.read(rt, shared, chunk.lbn, &mut room[blocks..end]) {
+            Ok(_) => {}
+            Err(refusal) => return Err(read_fault(refusal)),
+        }
+        blocks = end;
+    }
+    Ok(blocks)
+}
+
+/// Reads the blocks of these chunks and writes them again to a log, as many of the first ones as go there together. Each is a
+/// copy more. Answers how many: none where no log had room for the first.
 pub(crate) fn rewrite<R: Wait, D: Disk>(
     rt: &R,
     m: &mut Manager<D>,
     shared: &Shared<D>,
-    lbn: u64,
-    blocks: &mut [Block],
+    chunks: &[Item],
+    room: &mut [Block],
     done: &mut Copies,
-) -> Result<bool, CleanFault>
+) -> Result<usize, CleanFault>
     requires ready { IsReady D.state m.old }
     requires at { IsHome shared.now m.old }
     requires can { CanClean m.old }
-    requires count { (1 ≤ length blocks.old) × (length blocks.old ≤ m.old.most) }
-    requires covered { (b : ℕ) → is_within lbn (length blocks.old) b ≡ true → covered_in m.old b ≡ true }
+    requires some { 1 ≤ length chunks.now }
+    requires few { length chunks.now ≤ 8 }
+    requires chunks { AreItemsOf m.old.most (state_of D.state m.old.home).size chunks.now }
+    requires covered { AreCoveredIn m.old chunks.now }
+    requires room { count_of chunks.now ≤ length room.old }
     ensures ready { IsReady D.state m.new }
     ensures at { IsHome shared.now m.new }
-    ensures rewritten { RewritesBehind D.tells D.state lbn (length blocks.old) m.old m.new
+    ensures rewritten { RewritesBehind D.tells D.state chunks.now m.old m.new
         done.old.value.items done.new.value.items result }
 {
-    match m.read(rt, shared, lbn, blocks) {
-        Ok(_) => {
-            let more = with_copy(done, m, lbn, blocks);
-            let answer = m.write(rt, shared, lbn, blocks);
-            noted(done, more, &answer);
-            told(answer)
-        }
-        Err(refusal) => Err(read_fault(refusal)),
-    }
+    let blocks = read_all(rt, m, shared, chunks, room)?;
+    let from = &room[..blocks];
+    let more = next_copies(m, chunks, from);
+    let ran = m.write_some(rt, shared, chunks, from);
+    noted(done, &more, ran);
+    told(ran)
 }

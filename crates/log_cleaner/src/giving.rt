@@ -1,8 +1,8 @@
 // What may go is given up once chunks were written again.
-ghost use Rattle.std.specs.Prelude.{◌≡◌, true, false, slice_index_or, IfSome};
+ghost use Rattle.std.specs.Prelude.{◌≡◌, ◌<◌, ◌≤◌, true, false, slice_index_or, IfSome, IfNone};
 ghost use Rattle.std.specs.List.{AllByRecursion};
 ghost use Rattle.std.specs.Option.{ForSome};
-ghost use Rattle.wol_model.specs.Index.{listed_in};
+ghost use Rattle.wol_model.specs.Index.{listed_in, has_due};
 ghost use Rattle.redirect_map.specs.Index.{entry_at, HasVersion};
 ghost use Rattle.manager.specs.Reclaim.{NoneLiveIn};
 ghost use Rattle.manager.specs.Stands.{IsReady, IsHome};
@@ -39,6 +39,34 @@ fn is_live_in(index: &Index, version: u64, lane: u32, segment: u32) -> bool
     index.live(version) != 0
 }
 
+// Whether the records of this version and of the one before lie in one segment. No proof rests on it.
+fn lies_beside(index: &Index, version: u64) -> bool {
+    let Some(record) = index.find(version) else {
+        return false;
+    };
+    let Some(before) = index.find(version.saturating_sub(1)) else {
+        return false;
+    };
+    record.lane == before.lane && record.segment == before.segment
+}
+
+// The least version from `from` on whose record may have a due block: `from` itself where its record lies beside the one before,
+// since copies lie one behind the other, and that is found fast.
+fn next_due(index: &Index, from: u64, ups: &[bool]) -> Option<u64>
+    ensures from { IfSome result (λ v. from ≤ v) }
+    ensures least { IfSome result (λ v. AllByRecursion
+        (λ e. from ≤ e.listed.version → e.listed.version < v → slice_index_or ups.now e.listed.lane false ≡ true
+        → has_due (listed_in index.now.entries) e.listed ≡ false) index.now.entries) }
+    ensures none { IfNone result (AllByRecursion
+        (λ e. from ≤ e.listed.version → slice_index_or ups.now e.listed.lane false ≡ true
+        → has_due (listed_in index.now.entries) e.listed ≡ false) index.now.entries) }
+{
+    if lies_beside(index, from) {
+        return Some(from);
+    }
+    index.first_due(from, ups)
+}
+
 // Whether no record in this segment has a live block. No block is home too, so live blocks are due, and their records are
 // among those that are marked.
 fn is_covered(index: &Index, ups: &[bool], lane: u32, segment: u32) -> bool
@@ -48,7 +76,7 @@ fn is_covered(index: &Index, ups: &[bool], lane: u32, segment: u32) -> bool
 {
     let mut from = 0;
     'records: while index.len() > 0 {
-        let Some(version) = index.first_due(from, ups) else {
+        let Some(version) = next_due(index, from, ups) else {
             return true;
         };
         if version >= END {

@@ -1,4 +1,4 @@
-use Rattle.std.proofs.Common.{◌+◌, ◌-◌, ◌*◌, ◌^◌, cond}
+use Rattle.std.proofs.Common.{◌+◌, ◌-◌, ◌*◌, ◌^◌, ◌≤◌, cond}
 use Rattle.manager.specs.Stands.{IsReady, IsHome}
 use Rattle.log_cleaner.proofs.Cleaning.{Between}
 use Rattle.log_cleaner.proofs.cleaner.clean_all.Given as goal
@@ -7,6 +7,7 @@ abbrev pub invariant-chunks : goal.invariant-chunks
 invariant-chunks g l = record {
   ready : IsReady g.D.Disk.state l.m;
   at : IsHome l.shared l.m;
+  width : l.width ≤ 8;
   between : Between g.D.Disk.tells g.D.Disk.state l.most l.initial.m l.m l.copied l.from l.settled l.done.value.items;
 }
 
