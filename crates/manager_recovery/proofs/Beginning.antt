@@ -30,10 +30,11 @@ use Rattle.logger.specs.declared.lane.HeldSegment.{HeldSegment}
 use Rattle.logger.specs.declared.lane.Lane.{Lane}
 use Rattle.logger.specs.declared.shared.Shared.{Shared}
 use Rattle.manager.specs.Seen.{look_of_manager}
-use Rattle.manager.specs.Stands.{nones_in, opened}
+use Rattle.manager.specs.Stands.{nones_in, opened, takes_in}
 use Rattle.manager_recovery.specs.Owned.{IsListedOf, Owned, read_of, owned_of, all_owned, records_in, writes_in, recovered_of}
 use Rattle.manager_recovery.specs.Left.{HasGiven, IsUsedLane, IsHandedBack}
-use Rattle.manager_recovery.specs.Opened.{Opens, IsInLane, base_at_opening, untold_write}
+use Rattle.manager_recovery.specs.Opened.{Opens, IsInLane, IsPlaceOf, base_at_opening, lane_at_opening, untold_write}
+use Rattle.manager_recovery.proofs.Gifts.{counts_takes}
 use Rattle.manager_recovery.proofs.InLanes.{all_in_lanes}
 use Rattle.manager_recovery.specs.Recovery.{IsRecovered}
 use Rattle.manager_recovery.specs.Scanned.{AreHeld, HoldsItsOwn, has_some, thinned}
@@ -305,6 +306,30 @@ module _ {D : Type 0} (tells : Bool) (state : D → State) (shared : Shared D) (
         (subst (λ (v : List ℕ). IsListedOf o.want.id v (all_owned state o.owned.items) entry.listed) view
         (subst (λ (w : Label). IsListedOf w.id n.view (all_owned state o.owned.items) entry.listed) want it))
 
+    place_at : (e : Indexed) → IsAmong r.index.entries e → IsPlaceOf o.want.id o.view (all_owned state o.owned.items) e
+    place_at e has =
+        let h = entry_here state n.lanes.items n.want.id n.want.home n.view all_gs c.all c.order c.view_ok.distinct r.index.entries c.same c.rising e has in let g = h.seg in let f = h.found in
+        let at = (told_at g h.among).found.each h.k f h.there in
+        let entry = entry_for state n.lanes.items n.want.id n.want.home n.view all_gs c.all c.order c.view_ok.distinct r.index.entries c.same c.rising g f in
+        let it : IsPlaceOf n.want.id n.view (all_owned state o.owned.items) entry = record {
+          segment = owned_of state g.part;
+          owned = contains_among (all_owned state o.owned.items) (owned_of state g.part) (was_owned g h.among);
+          lane = lane_named n.view g.part.logger h.is_seg.named;
+          index = refl;
+          k = h.k;
+          record_ = at.whose;
+          there = at.there;
+          version = ap (λ (x : RecordHead). x.version) at.head;
+          first = ap (λ (x : RecordHead). x.first) at.head;
+          pos = at.pos;
+        } in
+        subst (IsPlaceOf o.want.id o.view (all_owned state o.owned.items)) (sym h.is)
+        (subst (λ (v : List ℕ). IsPlaceOf o.want.id v (all_owned state o.owned.items) entry) view
+        (subst (λ (w : Label). IsPlaceOf w.id n.view (all_owned state o.owned.items) entry) want it))
+
+    places_told : AllByRecursion (IsPlaceOf o.want.id o.view (all_owned state o.owned.items)) r.index.entries
+    places_told = all_from (IsPlaceOf o.want.id o.view (all_owned state o.owned.items)) r.index.entries place_at
+
     listed_told : AllByRecursion (IsListedOf o.want.id o.view (all_owned state o.owned.items)) (listed_in r.index.entries)
     listed_told = all_mapped (IsListedOf o.want.id o.view (all_owned state o.owned.items)) (λ (e : Indexed). e.listed) r.index.entries
         (all_from (λ (e : Indexed). IsListedOf o.want.id o.view (all_owned state o.owned.items) e.listed) r.index.entries listed_at)
@@ -351,6 +376,7 @@ module _ {D : Type 0} (tells : Bool) (state : D → State) (shared : Shared D) (
           view = view i;
           look = look_of_manager (opened n.want.id n.home n.spindle lanes r.index r.next n.most);
         };
+        places = r.index.entries;
       };
       spindle = record { marker = record {}; id = pass_lock n.spindle };
       spindle_number = pass_number n.spindle;
@@ -361,16 +387,22 @@ module _ {D : Type 0} (tells : Bool) (state : D → State) (shared : Shared D) (
         spindle = record { marker = record {}; id = pass_lock (spindle_of l) };
         spindle_number = pass_number (spindle_of l);
         nones = nones_in (pass_mine (pool_of l));
+        takes = takes_in (pass_mine (pool_of l));
       }) lanes.items;
     }
 
+    given_all : AllZip (HasGiven o.owned.items back.fates) o.lanes.items lanes.items
+    given_all = lanes_through (HasGiven o.owned.items back.fates) (HoldsItsOwn state shared n.want.id n.most n.owned.items held.segments) (HasGiven o.owned.items back.fates) (λ x y z given h. h.pool ∙ given) o.lanes.items n.lanes.items lanes.items back.pools held.each
+
     finish : (ws : List Write) (array : List Block) → (b : IsBeginning state n r all_gs tells ws array) → array ≡ arrays → ws ≡ records → (IsTrue tells → array ≡ recovered_of o.want.id (read_of (state_of state o.home)) (all_owned state o.owned.items)) → (IsTrue tells → ws ≡ writes_in o.want.id (all_owned state o.owned.items))
         → (IsTrue tells → r.next ≡ next_version (records_in o.want.id (all_owned state o.owned.items))) → length r.index.entries ≡ length ws
-        → (IsTrue tells → AllByRecursion (IsListedOf o.want.id o.view (all_owned state o.owned.items)) (listed_in r.index.entries)) → Opens tells state shared o (opened n.want.id n.home n.spindle lanes r.index r.next n.most)
-    finish ws array b array_is ws_is is_array is_writes is_next many found = record {
+        → (IsTrue tells → AllByRecursion (IsListedOf o.want.id o.view (all_owned state o.owned.items)) (listed_in r.index.entries))
+        → (IsTrue tells → AllByRecursion (IsPlaceOf o.want.id o.view (all_owned state o.owned.items)) r.index.entries) → Opens tells state shared o (opened n.want.id n.home n.spindle lanes r.index r.next n.most)
+    finish ws array b array_is ws_is is_array is_writes is_next many found placed = record {
       base = opened_base tells state shared n r lanes all_gs c ws array b;
       is_base = same_base ws array b array_is ws_is;
       begins = record { owner = ap (λ (w : _). w.id) want; home_blocks = ap (λ (w : _). w.home) want; most = most; view = view; array = is_array; records = is_writes; next = is_next; listed = length-map r.index.entries (λ (e : Indexed). e.listed) ∙ many; found = found };
+      placed = placed;
       stands = opened_stands tells state shared n r lanes all_gs c ws array b;
       at = is_home state shared n r lanes all_gs c;
       spindle = back.spindle;
@@ -378,7 +410,8 @@ module _ {D : Type 0} (tells : Bool) (state : D → State) (shared : Shared D) (
       named = rec.named;
       recoverable = rec.recoverable;
       fates = back.fates;
-      pools = lanes_through (HasGiven o.owned.items back.fates) (HoldsItsOwn state shared n.want.id n.most n.owned.items held.segments) (HasGiven o.owned.items back.fates) (λ x y z given h. h.pool ∙ given) o.lanes.items n.lanes.items lanes.items back.pools held.each;
+      pools = given_all;
+      takes = counts_takes o.owned.items back.fates (lane_at_opening tells state o (opened n.want.id n.home n.spindle lanes r.index r.next n.most)) (λ l. refl) o.lanes.items lanes.items given_all;
       held = subst (AllByRecursion (IsInLane lanes.items)) back.owned (all_in_lanes state shared n r lanes.items all_gs c n.owned.items r.scans.items held.segments held.adopted refl);
       parts = back.parts;
     }
@@ -403,5 +436,5 @@ module _ {D : Type 0} (tells : Bool) (state : D → State) (shared : Shared D) (
     plain_writes is = sym (ap (λ (t : Bool). cond t (writes_in o.want.id (all_owned state o.owned.items)) (map untold_write r.index.entries)) is)
 
     pub opens_as : (t : Bool) → tells ≡ t → Opens tells state shared o (opened n.want.id n.home n.spindle lanes r.index r.next n.most)
-    opens_as true is = finish (first_writes sound (told is) home_size) (first_array sound (told is) home_size) (told_beginning sound (told is) home_size) (told_array is) (told_writes is) (λ t. refl) (λ t. refl) (λ t. next_told sound (told is) home_size) (many_told sound (told is) home_size) (λ t. listed_told sound (told is) home_size)
-    opens_as false is = finish (map untold_write r.index.entries) (replicate n.want.home []) (plain_beginning is) (plain_array is) (plain_writes is) (λ t. absurd (let bad : false ≡ true = sym is ∙ t in cc)) (λ t. absurd (let bad : false ≡ true = sym is ∙ t in cc)) (λ t. absurd (let bad : false ≡ true = sym is ∙ t in cc)) (sym (length-map r.index.entries untold_write)) (λ t. absurd (let bad : false ≡ true = sym is ∙ t in cc))
+    opens_as true is = finish (first_writes sound (told is) home_size) (first_array sound (told is) home_size) (told_beginning sound (told is) home_size) (told_array is) (told_writes is) (λ t. refl) (λ t. refl) (λ t. next_told sound (told is) home_size) (many_told sound (told is) home_size) (λ t. listed_told sound (told is) home_size) (λ t. places_told sound (told is) home_size)
+    opens_as false is = finish (map untold_write r.index.entries) (replicate n.want.home []) (plain_beginning is) (plain_array is) (plain_writes is) (λ t. absurd (let bad : false ≡ true = sym is ∙ t in cc)) (λ t. absurd (let bad : false ≡ true = sym is ∙ t in cc)) (λ t. absurd (let bad : false ≡ true = sym is ∙ t in cc)) (sym (length-map r.index.entries untold_write)) (λ t. absurd (let bad : false ≡ true = sym is ∙ t in cc)) (λ t. absurd (let bad : false ≡ true = sym is ∙ t in cc))

@@ -1,10 +1,11 @@
 -- What the passes of lanes give to their pools where segments are freed.
-use Rattle.std.proofs.Common.{◌≡◌, ◌≢◌, ℕ, zero, suc, Bool, cond, eqb, List, [], ◌∷◌, ◌++◌, map, Some, refl, sym, ap, subst, ◌∙◌}
+use Rattle.std.proofs.Common.{◌≡◌, ◌≢◌, ◌+◌, ℕ, zero, suc, Bool, cond, eqb, List, [], ◌∷◌, ◌++◌, map, Some, refl, sym, ap, subst, ◌∙◌, arith}
 use Rattle.std.specs.Prelude.{slice_get, slice_set, reverse, option_map}
 use Rattle.std.specs.List.{AllByRecursion, AllZip}
 use Rattle.std.proofs.lemmas.Bool.{eq-eqb, ne_eqb}
 use Rattle.std.proofs.lemmas.Grind.{reverse_onto}
 use Rattle.std.proofs.lemmas.List.{append_assoc, append-nil, map-append}
+use Rattle.std.proofs.lemmas.List.Sums.{sum_by-append}
 use Rattle.std.proofs.lemmas.Option.{same_Some, slice_get-map}
 use Rattle.wol_disk.specs.Disk.{State}
 use Rattle.wol_model.specs.Blocks.{AreApart}
@@ -16,8 +17,11 @@ use Rattle.log_segment.specs.declared.free.FreeSegment.{FreeSegment}
 use Rattle.logger.specs.Lanes.{IsSameLane, logger_of, pool_of}
 use Rattle.logger.specs.declared.lane.Lane.{Lane}
 use Rattle.logger.specs.declared.shared.Shared.{Shared}
+use Rattle.manager.specs.Stands.{takes_in}
+use Rattle.manager.specs.declared.base.LaneBase.{LaneBase}
 use Rattle.manager.proofs.Lanes.{all_at}
 use Rattle.manager_recovery.specs.Left.{Fate, Kept, Freed, HasGiven, IsUsedLane, freed_on}
+use Rattle.manager_recovery.specs.Opened.{CountsTakes}
 use Rattle.manager_recovery.specs.Scanned.{HasGivenNone, IsSeenAgain}
 use Rattle.manager_recovery.specs.declared.opening.OwnedPart.{OwnedPart}
 
@@ -31,7 +35,31 @@ gifts pass indexes = map (λ index. (pass, operation_of (Gave index))) (reverse 
 gifts_more : (pass index : ℕ) (indexes : List ℕ) → gifts pass (index ∷ indexes) ≡ gifts pass indexes ++ gift pass index ∷ []
 gifts_more pass index indexes = ap (map (gift pass)) (reverse_onto indexes index []) ∙ map-append (gift pass) (reverse indexes) (index ∷ [])
 
+takes_append : (es fs : List Entry) → takes_in (es ++ fs) ≡ takes_in es + takes_in fs
+takes_append es fs = sum_by-append _ es fs
+
+-- a gift takes nothing
+gifts_take : (pass : ℕ) (indexes : List ℕ) → takes_in (map (gift pass) indexes) ≡ 0
+gifts_take pass [] = refl
+gifts_take pass (index ∷ indexes) = let rest = gifts_take pass indexes in omega (arith, rest)
+
 module _ {D : Type 0} where
+  given_takes : (os : List (OwnedPart D)) (fates : List (Fate D)) (old new : Lane D) → HasGiven os fates old new → takes_in (pass_mine (pool_of new)) ≡ takes_in (pass_mine (pool_of old))
+  given_takes os fates old new has =
+      let given = reverse (freed_on (logger_of old) os fates) in
+      let pass = pass_number (pool_of old) in
+      let all = ap takes_in has ∙ takes_append (pass_mine (pool_of old)) (map (gift pass) given) in
+      let none = gifts_take pass given in
+      omega (arith, all, none)
+
+  -- the bases of lanes whose passes only gave count what those took before
+  pub counts_takes : (os : List (OwnedPart D)) (fates : List (Fate D)) (base_of : Lane D → LaneBase) → ((l : Lane D) → (base_of l).takes ≡ takes_in (pass_mine (pool_of l)))
+      → (xs ys : List (Lane D)) → AllZip (HasGiven os fates) xs ys → AllZip CountsTakes xs (map base_of ys)
+  counts_takes os fates base_of counts [] [] zip = tt
+  counts_takes os fates base_of counts [] (y ∷ ys) zip = absurd zip
+  counts_takes os fates base_of counts (x ∷ xs) [] zip = absurd zip
+  counts_takes os fates base_of counts (x ∷ xs) (y ∷ ys) zip = (counts y ∙ given_takes os fates x y zip.0, counts_takes os fates base_of counts xs ys zip.1)
+
   -- nothing was freed
   pub none_given : (old : Lane D) → HasGiven [] [] old old
   none_given old = sym (append-nil (pass_mine (pool_of old)))

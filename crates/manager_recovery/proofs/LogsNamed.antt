@@ -1,5 +1,5 @@
 -- The volumes that a refusal names are those in whose images owned segments lie.
-use Rattle.std.proofs.Common.{◌≡◌, ◌+◌, ℕ, suc, Bool, true, false, cond, List, [], ◌∷◌, ◌++◌, map, Some, sym, ap, ◌∙◌, subst, arith}
+use Rattle.std.proofs.Common.{◌≡◌, ℕ, suc, Bool, true, false, cond, List, [], ◌∷◌, ◌++◌, map, Some, sym, ap, ◌∙◌, subst, arith}
 use Rattle.std.specs.Prelude.{◌==◌, slice_get, option_map, Contains}
 use Rattle.std.specs.List.{AllByRecursion, AllZip, filter}
 use Rattle.std.proofs.lemmas.List.{map-append, length-map, get_or-map}
@@ -7,7 +7,7 @@ use Rattle.std.proofs.lemmas.Option.{slice_get_within, get_or_from_slice_get, sl
 use Rattle.wol_disk.specs.Disk.{State}
 use Rattle.log_scan.specs.declared.Found.{Found}
 use Rattle.log_scan.specs.declared.Scan.{Scan}
-use Rattle.manager_recovery.specs.Owned.{Head, AreFirstTwins, with_version}
+use Rattle.manager_recovery.specs.Owned.{Head, AreFirstTwins}
 use Rattle.manager_recovery.specs.Refused.{IsOnLog}
 use Rattle.manager_recovery.specs.Scanned.{IsSeenAgain, all_found, found_in, record_in, keeps_some, lane_of, head_of}
 use Rattle.manager_recovery.specs.declared.opening.OwnedPart.{OwnedPart}

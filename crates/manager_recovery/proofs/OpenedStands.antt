@@ -27,10 +27,11 @@ use Rattle.logger.specs.declared.lane.HeldSegment.{HeldSegment}
 use Rattle.logger.specs.declared.lane.Lane.{Lane}
 use Rattle.logger.specs.declared.shared.Shared.{Shared}
 use Rattle.manager.specs.Seen.{Logs, all_held, all_taken, parts_of, seen, look_of_manager}
-use Rattle.manager.specs.Stands.{Stands, AreNamed, nones_in}
+use Rattle.manager.specs.Stands.{Stands, StandsAt, AreNamed, nones_in, takes_in, takes_of}
 use Rattle.manager.specs.declared.base.LaneBase.{LaneBase}
 use Rattle.manager.specs.declared.base.ManagerBase.{ManagerBase}
 use Rattle.manager.proofs.Lanes.{all_at, none_taken}
+use Rattle.manager.proofs.Still.{same_place}
 use Rattle.manager_recovery.specs.Opening.{IsOpeningLane, IsHeldIn}
 use Rattle.manager_recovery.specs.Scanned.{lane_of, keeps_some}
 use Rattle.manager_recovery.specs.declared.opening.Opening.{Opening}
@@ -328,11 +329,12 @@ module _ {D : Type 0} (tells : Bool) (state : D → State) (shared : Shared D) (
     spindle = record { marker = record {}; id = pass_lock (spindle_of l) };
     spindle_number = pass_number (spindle_of l);
     nones = nones_in (pass_mine (pool_of l));
+    takes = takes_in (pass_mine (pool_of l));
   }
 
   abbrev pub opened_base : ManagerBase
   opened_base = record {
-    volume = record { marker = record {}; began = began };
+    volume = record { marker = record {}; began = began; places = r.index.entries };
     spindle = record { marker = record {}; id = pass_lock n.spindle };
     spindle_number = pass_number n.spindle;
     lanes = map lane_base lanes.items;
@@ -341,6 +343,10 @@ module _ {D : Type 0} (tells : Bool) (state : D → State) (shared : Shared D) (
   all_named : (ls : List (Lane D)) → AreNamed ls (map lane_base ls)
   all_named [] = tt
   all_named (l ∷ ls) = (record { logger = refl; pool = refl; pool_number = refl; spindle = refl; spindle_number = refl; nones = omega arith }, all_named ls)
+
+  took_none : (ls : List (Lane D)) → takes_of ls (map lane_base ls) ≡ 0
+  took_none [] = refl
+  took_none (l ∷ ls) = let rest = took_none ls in omega (arith, rest)
 
   abbrev HoldsIts : HeldSegment D → List Record → Type 0
   HoldsIts h rs = IsTrue tells → (made state shared n r lanes gs c).down ≡ None → Holds state h.segment rs
@@ -368,6 +374,8 @@ module _ {D : Type 0} (tells : Bool) (state : D → State) (shared : Shared D) (
       upholds = subst (λ (m : ManagerSeen (Spun D)). Upholds (parts_of tells state) began m [] [] None) (sym seen_is) upholds;
       in_use = λ t up. subst AreInUse (sym held_is) (each (λ (s : Held (Spun D)). (q : Record) × Contains s.records q × IsValid (extent_of q).cover) (λ k g is has. in_use_one t g has));
       passed = λ k. omega arith;
+      taken = let none = took_none lanes.items in omega (arith, none);
+      still = all_from (λ (e : Indexed). e.listed.version < r.next → (old : Indexed) × Contains r.index.entries old × StandsAt old e) r.index.entries (λ e has lt. (e, contains_among r.index.entries e has, same_place e));
       ready = is_ready state shared n r lanes gs c;
       locks = record { pass = refl; number = refl; each = all_named lanes.items; owner = refl; most_ = refl; view = c.loggers };
     };

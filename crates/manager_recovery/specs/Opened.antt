@@ -1,5 +1,5 @@
 -- The manager of a volume that was opened.
-use Rattle.std.specs.Prelude.{◌≡◌, Bool, List, [], None, Some, Contains, IsTrue, cond, length, map, replicate}
+use Rattle.std.specs.Prelude.{◌≡◌, ℕ, Bool, List, [], None, Some, Contains, IsTrue, cond, length, map, replicate, slice_get}
 use Rattle.std.specs.List.{AllByRecursion, AllZip}
 use Rattle.wol_disk.specs.Disk.{State}
 use Rattle.turn_lock.specs.Passes.{IsSamePass, pass_lock, pass_mine, pass_number}
@@ -7,18 +7,19 @@ use Rattle.spin_model.specs.Spun.{state_of}
 use Rattle.log_segment.specs.Segment.{disk_of, part_of}
 use Rattle.wol_model.specs.Blocks.{Write}
 use Rattle.wol_model.specs.Index.{Indexed}
+use Rattle.wol_model.specs.Log.{Record, position_of}
 use Rattle.logger.specs.Lanes.{IsSameLane, logger_of, held_in, pool_of, spindle_of}
 use Rattle.logger.specs.declared.lane.HeldSegment.{HeldSegment}
 use Rattle.logger.specs.declared.lane.Lane.{Lane}
 use Rattle.wol_promise.specs.Manager.{Base}
 use Rattle.wol_promise.specs.Stands.{next_version}
 use Rattle.manager.specs.Seen.{look_of_manager}
-use Rattle.manager.specs.Stands.{Stands, IsHome, nones_in}
+use Rattle.manager.specs.Stands.{Stands, IsHome, nones_in, takes_in}
 use Rattle.manager.specs.declared.base.LaneBase.{LaneBase}
 use Rattle.manager.specs.declared.base.ManagerBase.{ManagerBase}
 use Rattle.manager.specs.declared.manager.Manager.{Manager}
 use Rattle.logger.specs.declared.shared.Shared.{Shared}
-use Rattle.manager_recovery.specs.Owned.{IsListedOf, read_of, all_owned, records_in, writes_in, recovered_of}
+use Rattle.manager_recovery.specs.Owned.{IsListedOf, Owned, read_of, all_owned, records_in, records_of, writes_in, recovered_of}
 use Rattle.manager_recovery.specs.Refused.{IsNamesAnswer, IsRecoverable}
 use Rattle.manager_recovery.specs.Left.{Fate, HasGiven, LeavesParts, kept_of}
 use Rattle.manager_recovery.specs.declared.opening.Opening.{Opening}
@@ -64,16 +65,35 @@ module _ {D : Type 0} (tells : Bool) (state : D → State) (o : Opening D) (m : 
     spindle = record { marker = record {}; id = pass_lock (spindle_of l) };
     spindle_number = pass_number (spindle_of l);
     nones = nones_in (pass_mine (pool_of l));
+    takes = takes_in (pass_mine (pool_of l));
   }
 
   -- the base of its lock: a function of what it was opened of and of what it is
   abbrev pub base_at_opening : ManagerBase
   base_at_opening = record {
-    volume = record { marker = record {}; began = beginning };
+    volume = record { marker = record {}; began = beginning; places = m.index.entries };
     spindle = record { marker = record {}; id = pass_lock m.spindle };
     spindle_number = pass_number m.spindle;
     lanes = map lane_at_opening m.lanes.items;
   }
+
+-- a lane's base has in how many turns its pass had taken a segment
+abbrev pub CountsTakes : {D : Type 0} → Lane D → LaneBase → Type 0
+CountsTakes l b = b.takes ≡ takes_in (pass_mine (pool_of l))
+
+-- A listed record stands in an owned segment of its lane's logger: the segment has that index, and a record of that version and first block
+-- has its head at that position.
+pub record IsPlaceOf (id : ℕ) (view : List ℕ) (ss : List Owned) (e : Indexed) : Type 0 where
+  pub segment : Owned
+  pub owned : Contains ss segment
+  pub lane : slice_get view e.listed.lane ≡ Some segment.logger
+  pub index : e.index ≡ segment.index
+  pub k : ℕ
+  pub record_ : Record
+  pub there : slice_get (records_of id segment) k ≡ Some record_
+  pub version : e.listed.version ≡ record_.head.version
+  pub first : e.listed.first ≡ record_.head.first
+  pub pos : e.pos ≡ position_of (records_of id segment) k
 
 -- an owned segment that the lane of its logger holds
 pub record IsInLane {D : Type 0} (lanes : List (Lane D)) (o : OwnedPart D) : Type 0 where
@@ -90,6 +110,8 @@ pub record Opens {D : Type 0} (tells : Bool) (state : D → State) (shared : Sha
   pub base : ManagerBase
   pub is_base : base ≡ base_at_opening tells state o m
   pub begins : Begins tells state o base.volume.began
+  -- each listed record stands where the segments, as they read, have it
+  pub placed : IsTrue tells → AllByRecursion (IsPlaceOf o.want.id o.view (all_owned state o.owned.items)) base.volume.places
   pub stands : Stands tells state m base []
   pub at : IsHome shared m
   pub spindle : IsSamePass o.spindle m.spindle
@@ -101,6 +123,8 @@ pub record Opens {D : Type 0} (tells : Bool) (state : D → State) (shared : Sha
   pub held : AllByRecursion (IsInLane m.lanes.items) (kept_of fates)
   -- and their passes gave the others to the pools
   pub pools : AllZip (HasGiven o.owned.items fates) o.lanes.items m.lanes.items
+  -- they took none: the base counts what they took before
+  pub takes : AllZip CountsTakes o.lanes.items base.lanes
   pub parts : LeavesParts tells state o.want.id o.home m.home o.owned.items fates
 
 -- No disk call failed: home's count of faults is as before, and so is that of each owned segment that a lane holds now.

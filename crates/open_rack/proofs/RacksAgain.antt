@@ -24,8 +24,8 @@ use Rattle.volume_images.specs.Accepted.{HasHead}
 use Rattle.volume_images.specs.Volumes.{shape_in, shapes_of}
 use Rattle.rack.specs.Foreign.{AreForeign}
 use Rattle.rack.specs.Opens.{BeganWith, IsGone}
-use Rattle.rack.specs.Owners.{IsBegun, images_taken}
-use Rattle.rack.specs.Racks.{AreRising, IsClosable, IsOpenBase, IsRack, IsStation, base_of_station}
+use Rattle.rack.specs.Owners.{BeganInPlace, IsBegun, images_taken}
+use Rattle.rack.specs.Racks.{AreRising, IsClosable, IsOpenBase, IsRack, IsStation, KeepToViews, base_of_station}
 use Rattle.rack.specs.Rests.{IsPassAt, IsRest}
 use Rattle.rack.specs.declared.rack.Rack.{Rack}
 use Rattle.open_rack.specs.Again.{IsPassAgain, IsRackAgain, IsStationAgain}
@@ -127,10 +127,18 @@ module _ {D : Type 0} (state : D → State) (config : Config) (r : Rack D) (ks :
   began_with : (t : Told) → BeganWith state config t r → BeganWith state config t left_rack
   began_with t began = record {
     stations = of_bases (λ (b : ManagerBase). IsBegun config (images_taken config r.rest.images.items t) b.volume.began) r.stations.items ts.items stations began.stations;
+    placed = of_bases (λ (b : ManagerBase). BeganInPlace config (images_taken config r.rest.images.items t) b) r.stations.items ts.items stations began.placed;
     left = began.left;
     held = began.held;
     gone = λ k i v before image conf at here lt none. gone_with (shape_in config v) before i (began.gone k i v before image conf at here lt none);
     pools = began.pools;
+  }
+
+  views_with : (views : ℕ → List ℕ) → KeepToViews views r → KeepToViews views left_rack
+  views_with views keep = record {
+    opened = zip_each IsStationAgain (λ (s : Station D). views s.id ≡ (base_of_station s).volume.began.view) (λ (s : Station D). views s.id ≡ (base_of_station s).volume.began.view)
+        (λ s t again is. ap views again.id ∙ is ∙ ap (λ (b : ManagerBase). b.volume.began.view) (sym (base_again s t again))) r.stations.items ts.items stations keep.opened;
+    unused = keep.unused;
   }
 
 module _ {D : Type 0} (state : D → State) (config : Config) (r q : Rack D) (again : IsRackAgain r q) where
@@ -141,6 +149,10 @@ module _ {D : Type 0} (state : D → State) (config : Config) (r q : Rack D) (ag
   -- it began with the same
   pub began_again : (t : Told) → BeganWith state config t r → BeganWith state config t q
   began_again t began = subst (BeganWith state config t) (sym again.only) (began_with state config r q.keepers q.stations again.keepers again.stations t began)
+
+  -- its volumes kept to the same views
+  pub views_again : (views : ℕ → List ℕ) → KeepToViews views r → KeepToViews views q
+  views_again views keep = subst (KeepToViews views) (sym again.only) (views_with state config r q.keepers q.stations again.keepers again.stations views keep)
 
   pub rest_again : q.rest ≡ r.rest
   rest_again = ap (λ (w : Rack D). w.rest) again.only

@@ -33,7 +33,7 @@ use Rattle.rack.proofs.StillThere.{there_left}
 use Rattle.rack.proofs.SentNames.{none_named}
 use Rattle.open_rack.specs.Again.{IsRackAgain}
 use Rattle.open_rack.specs.Sessions.{IsClosed, IsOpened, OpensAndCloses}
-use Rattle.open_rack.proofs.RacksAgain.{began_again, rest_again}
+use Rattle.open_rack.proofs.RacksAgain.{began_again, rest_again, views_again}
 
 -- ---- Names that are out
 
@@ -209,6 +209,7 @@ module _ {D : Type 0} (tells : Bool) (state : D → State) (config : Config) (ol
       opened = opened;
       done = done;
       again = again;
+      users = (opened.rack.users.0, views_again state config r q again opened.rack.users.0 opened.rack.users.1);
       closed = closed;
       sooner = sooner;
       later = later;

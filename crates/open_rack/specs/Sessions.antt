@@ -14,7 +14,7 @@ use Rattle.volume_images.specs.Volumes.{images_read, shapes_of}
 use Rattle.rack.specs.Closes.{AreLeftOfParts, CameBackFaulty, IsClosedSpindle, IsClosedVolume, IsQuiet, LeavesOpen, LeavesUnopened, ListsFaulty, SharePools}
 use Rattle.rack.specs.Opens.{AreRefused, BeganWith, LeavesAll, RefusesVolume, WereThere}
 use Rattle.rack.specs.Owners.{HadRefused}
-use Rattle.rack.specs.Racks.{AreUnused, IsRack, IsUnused}
+use Rattle.rack.specs.Racks.{AreUnused, IsRack, IsUnused, KeepToViews}
 use Rattle.rack.specs.Rests.{IsImageOut, image_here}
 use Rattle.rack.specs.declared.rack.Rack.{Rack}
 use Rattle.rack.specs.declared.volume_fault.VolumeFault.{VolumeFault}
@@ -53,6 +53,8 @@ pub record OpensAndCloses {D : Type 0} (tells : Bool) (state : D → State) (con
   pub opened : IsOpened tells state config old bay before
   pub done : did before after
   pub again : IsRackAgain before after
+  -- a volume used the disks of its own image and of its view alone
+  pub users : (views : ℕ → List ℕ) × KeepToViews views after
   pub closed : IsClosed tells state config bay new after spindles
   pub sooner : old.faults ≤ bay.faults
   pub later : bay.faults ≤ new.faults

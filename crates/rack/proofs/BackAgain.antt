@@ -32,7 +32,7 @@ use Rattle.rack.specs.declared.rack.Rack.{Rack}
 use Rattle.rack.specs.declared.rack.Rest.{Rest}
 use Rattle.rack.proofs.FatesOf.{FateAt, stayed, went, fate_at, kept_owned}
 use Rattle.rack.proofs.Members.{all_member, is_member, segment_in_image}
-use Rattle.rack.proofs.MayReturn.{IsBackLane, lane_at, logger_seen, in_view, not_own, owned_at}
+use Rattle.rack.proofs.MayReturn.{IsBackLane, lane_at, logger_seen, in_view, not_own}
 use Rattle.rack.proofs.OpenAway.{is_pair}
 use Rattle.rack.proofs.Openable.{IsInImage}
 use Rattle.rack.proofs.SameOut.{same_out}

@@ -16,13 +16,13 @@ use Rattle.seg_pool.specs.declared.pool.Pool.{Pool}
 use Rattle.log_segment.specs.declared.free.FreeSegment.{FreeSegment}
 use Rattle.logger.specs.declared.shared.Shared.{Shared}
 use Rattle.volume_images.specs.Volumes.{shapes_of}
-use Rattle.rack.specs.Rests.{image_here, segment_here, pool_pass, spindle_pass, held_here, IsImageOut, IsPart, IsImageRest, AreImageRests, IsPassAt, AreLocks, OnlyAccess, IsRest}
-use Rattle.rack.specs.Racks.{IsClosable, AreKeepers, AreOut}
+use Rattle.rack.specs.Rests.{image_here, segment_here, pool_pass, spindle_pass, held_here, IsPart, IsImageRest, AreImageRests, IsPassAt, AreLocks, OnlyAccess, IsRest}
+use Rattle.rack.specs.Racks.{IsClosable, AreKeepers}
 use Rattle.rack.specs.Closing.{CanCloseStations, CanClosePool, CanClosePools, CanCloseSpindles, KeepsSpindles, RefillsAll, AreComplete}
 use Rattle.rack.specs.declared.rack.ImageRest.{ImageRest}
 use Rattle.rack.specs.declared.rack.Rack.{Rack}
 use Rattle.rack.specs.declared.rack.Rest.{Rest}
-use Rattle.rack.proofs.Members.{a_value, none_in, is_there}
+use Rattle.rack.proofs.Members.{a_value, none_in}
 
 module _ {D : Type 0} (state : D → State) (config : Config) where
   pub stations_may : (b : BayState) (r : Rack D) → IsClosable state config b r → CanCloseStations state config r.shared r.stations.items r.rest
@@ -154,18 +154,3 @@ module _ {D : Type 0} (state : D → State) (config : Config) where
                   let f = Rattle.rack.proofs.Members.element_at shared.pools.items k below in
                   let size : blocks_at k ≡ z.segment_blocks = rw f.1 (locks.pools k z f.0 at f.1).blocks in
                   record { of_volume = b.part.of_volume; sized = b.part.sized ∙ size }
-
-      pub images_out : (b : BayState) → AreOut config rest.images.items b → AreOut config cur.images.items b
-      images_out b are k v at = (λ out. (are k v at).0 (was_out k out), λ none. (are k v at).1 (was_none k none))
-        where
-          was_out : (k : ℕ) → IsImageOut cur.images.items k → IsImageOut rest.images.items k
-          was_out k out = let n = a_value (image_here cur.images.items k) out in let was = image_was k n.0 n.1 in is_there (image_here rest.images.items k) was.0 was.1
-
-          was_none : (k : ℕ) → image_here cur.images.items k ≡ None → image_here rest.images.items k ≡ None
-          was_none k none = Rattle.rack.proofs.Members.no_value (image_here rest.images.items k) (λ some. gone k none (a_value (image_here rest.images.items k) some))
-            where
-              gone : (k : ℕ) → image_here cur.images.items k ≡ None → (r : ImageRest D) × (image_here rest.images.items k ≡ Some r) → ⊥
-              gone k none r =
-                  let within = Rattle.rack.proofs.Members.here_within rest.images.items k r.0 r.1 in
-                  let x = subst (λ (o : Option (ImageRest D)). RefillsAll state (blocks_at k) rest k o (image_here cur.images.items k)) r.1 (filled_at k (omega (arith, within, is.parts.images.0, locks.pool_count))) in
-                  none-some x.0 (sym none ∙ x.1)

@@ -1,5 +1,5 @@
 -- A volume that lists no record when it is closed, while no call had failed: no log of it is left.
-use Rattle.std.proofs.Common.{◌≡◌, ◌≢◌, ◌<◌, ◌≤◌, ◌⊎◌, inl, inr, ℕ, Bool, false, List, [], ◌∷◌, length, map, Option, Some, None, is_some, refl, sym, ap, ◌∙◌, subst, arith}
+use Rattle.std.proofs.Common.{◌≡◌, ◌≢◌, ◌<◌, ◌≤◌, ◌⊎◌, inl, inr, ℕ, Bool, false, List, [], ◌∷◌, length, Option, Some, None, is_some, refl, sym, ap, ◌∙◌, subst, arith}
 use Rattle.std.specs.Prelude.{Contains, IsTrue, slice_get}
 use Rattle.std.specs.List.{AllByRecursion}
 use Rattle.std.proofs.lemmas.Bool.{cases_eq}
@@ -9,7 +9,7 @@ use Rattle.wol_model.specs.Extents.{IsValid}
 use Rattle.wol_model.specs.Heads.{Shape}
 use Rattle.wol_model.specs.History.{flight_of}
 use Rattle.wol_model.specs.Images.{Images, image_of, segment_of}
-use Rattle.wol_model.specs.Index.{Indexed, Listed, listed_in}
+use Rattle.wol_model.specs.Index.{Indexed, listed_in}
 use Rattle.wol_model.specs.Log.{Record, IsLog, extent_of}
 use Rattle.wol_promise.specs.Manager.{Held, AreInUse, IsFound}
 use Rattle.wol_promise.specs.Ruled.{entries_of, last_look}

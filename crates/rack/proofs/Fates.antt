@@ -9,7 +9,7 @@ use Rattle.std.proofs.lemmas.Option.{none-some, same_Some, slice_get-get_or}
 use Rattle.wol_disk.specs.Disk.{Block, Values, State, IsDisk, TellsContent, IsImageOf, reads}
 use Rattle.wol_disk.proofs.Calls.{now_leaves}
 use Rattle.wol_disk.proofs.Images.{image_reads}
-use Rattle.wol_model.specs.Heads.{Shape, free_block, owned_block}
+use Rattle.wol_model.specs.Heads.{Shape, owned_block}
 use Rattle.wol_model.specs.Heads as head
 use Rattle.wol_model.specs.Log.{IsIdle, IsLog}
 use Rattle.wol_promise.specs.Manager.{SaysOwnerOrFree}
@@ -84,18 +84,6 @@ module _ {D : Type 0} where
   pub kept_in : (os : List (OwnedPart D)) (fates : List (Fate D)) (part p : OwnedPart D) → HasFate os fates part (Kept p) → Contains (kept_of fates) p
   kept_in os fates part p has = kept_at fates has.place p has.is
 
-  -- a kept one is what became of one of them
-  pub kept_from : (state : D → State) (id : ℕ) (os : List (OwnedPart D)) (fates : List (Fate D)) → AreFates state id os fates → (p : OwnedPart D) → Contains (kept_of fates) p → (part : OwnedPart D) × Contains os part × HasFate os fates part (Kept p) × IsFateOf state id part (Kept p)
-  kept_from state id [] [] zip p has = absurd (none_in p has)
-  kept_from state id [] (f ∷ fates) zip p has = absurd zip
-  kept_from state id (o ∷ os) [] zip p has = absurd zip
-  kept_from state id (o ∷ os) (Freed g ∷ fates) zip p has = let more = kept_from state id os fates zip.1 p has in (more.0, later_in o more.0 os more.1, record { place = suc more.2.place; owned = more.2.owned; is = more.2.is }, more.3)
-  kept_from state id (o ∷ os) (Kept q ∷ fates) zip p has =
-      ⊎_elim
-      (λ (e : q ≡ p). (o, first_in o o os refl, record { place = 0; owned = refl; is = ap (λ (x : OwnedPart D). Some (Kept x)) e }, subst (λ (x : OwnedPart D). IsFateOf state id o (Kept x)) e zip.0))
-      (λ behind. let more = kept_from state id os fates zip.1 p behind in (more.0, later_in o more.0 os more.1, record { place = suc more.2.place; owned = more.2.owned; is = more.2.is }, more.3))
-      (in_cases q p (kept_of fates) has)
-
   -- ---- The indexes of those that were freed
 
   freed_at : (logger : ℕ) (os : List (OwnedPart D)) (fates : List (Fate D)) (n : ℕ) (part : OwnedPart D) (f : FreeSegment D) → slice_get os n ≡ Some part → slice_get fates n ≡ Some (Freed f) → part.logger ≡ logger → Contains (freed_on logger os fates) part.index
@@ -134,12 +122,6 @@ module _ {D : Type 0} where
       (λ (e : o.index ≡ i). record { part = o; free = g; fate = record { place = 0; owned = refl; is = refl }; on = eqb-true o.logger logger same; index = e })
       (λ later. freed_behind logger o os (Freed g) fates i (rest later))
       (in_cases o.index i (freed_on logger os fates) more)
-
-  pub freed_from : (logger : ℕ) (os : List (OwnedPart D)) (fates : List (Fate D)) (i : ℕ) → Contains (freed_on logger os fates) i → IsFreedAt logger os fates i
-  freed_from logger [] fates i has = absurd (none_in i has)
-  freed_from logger (o ∷ os) [] i has = absurd (none_in i has)
-  freed_from logger (o ∷ os) (Kept q ∷ fates) i has = freed_behind logger o os (Kept q) fates i (freed_from logger os fates i has)
-  freed_from logger (o ∷ os) (Freed g ∷ fates) i has = freed_first logger o os g fates i (eqb o.logger logger) refl has (λ more. freed_from logger os fates i more)
 
 -- ---- What a pass holds that gave these
 

@@ -1,5 +1,5 @@
 -- A rack before its first volume is opened.
-use Rattle.std.proofs.Common.{◌≡◌, ◌<◌, ◌≤◌, inl, ⊎_elim, true, ℕ, List, [], ◌∷◌, length, map, Option, None, Some, refl, sym, ap, subst, ◌∙◌, arith}
+use Rattle.std.proofs.Common.{◌≡◌, ◌≢◌, ◌<◌, ◌≤◌, inl, ⊎_elim, true, ℕ, List, [], ◌∷◌, length, map, Option, None, Some, refl, sym, ap, subst, ◌∙◌, arith}
 use Rattle.std.specs.Prelude.{All, Contains, IsSome, slice_get}
 use Rattle.std.proofs.lemmas.Bool.{cases_lt, false≢true}
 use Rattle.std.proofs.lemmas.List.{get_or_past}
@@ -24,9 +24,10 @@ use Rattle.manager.specs.declared.station.Station.{Station}
 use Rattle.volume_images.specs.Accepted.{HasHead}
 use Rattle.volume_images.specs.Volumes.{shapes_of}
 use Rattle.rack.specs.Foreign.{AreForeign}
-use Rattle.rack.specs.Opening.{IsSaidOf, HaveHeads, said_at, AreTried, IsOpeningRack}
+use Rattle.rack.specs.Making.{AreSettled}
+use Rattle.rack.specs.Opening.{IsSaidOf, HaveHeads, said_at, view_at, AreTried, IsOpeningRack}
 use Rattle.rack.specs.Racks.{IsStation, IsOpenBase, IsUnused, AreRising, AreOut, base_of_station}
-use Rattle.rack.specs.Rests.{image_here, segment_here, IsImageOut, IsRest}
+use Rattle.rack.specs.Rests.{image_here, segment_here, spindle_pass, IsImageOut, IsRest}
 use Rattle.rack.specs.Parts.{holder_by, IsOwnedPlace}
 use Rattle.seg_pool.specs.Holders.{is_held_by}
 use Rattle.rack.specs.declared.heads_said.Said.{Said}
@@ -75,6 +76,14 @@ module _ {D : Type 0} (state : D → State) (config : Config) (b : BayState) (sp
             let within : k < length said = ⊎_elim (λ (lt : k < length said). lt) (λ (past : length said ≤ k). absurd (none-some s (sym (get_or_past said k None past) ∙ e))) (cases_lt k (length said)) in
             (s, slice_get-get_or said k None within ∙ ap (λ (o : Option Said). Some o) e, held_owner (slice_get s.heads.items i) v held)
 
+    -- a pass of another's spindle wasn't used
+    others_unused : (v k : ℕ) (p : PassOf Spindle SpindleBase) → v ≢ k → spindle_pass r.rest v k ≡ Some p → pass_mine p ≡ []
+    others_unused v k p other here =
+        let lock = spindle_there state config spindles pools said r ready.first v k p here in
+        let at = spindle_in state config spindles pools said r ready.first v k lock.0 p lock.1 here in
+        let settled : AreSettled k at.0 = subst (AreSettled k) (get_or_from_slice_get spindles k at.0 at.0 at.1) (ready.first.spindles_are.settled k at.0 (slice_get_within spindles k at.0 at.1)) in
+        ap (λ (x : PassOf Spindle SpindleBase). pass_mine x) (sym (get_or_from_slice_get at.0.passes.items v p p at.4)) ∙ settled.others v p other (slice_get_within at.0.passes.items v p at.4)
+
     pub first_opening : IsOpeningRack state config b said 0 r
     first_opening = record {
       closable = record {
@@ -111,6 +120,10 @@ module _ {D : Type 0} (state : D → State) (config : Config) (b : BayState) (sp
         closed = λ k i w own image p says owned is here has. nothing_in w (subst (λ (l : List (Station D)). Contains (map (λ (s : Station D). s.id) l) w) none has);
         says = λ k i w own image p says owned is here tells c image_of. says_owner (length (shapes_of config)) w c (ready.heads k image own is says i p (Owned w) here owned c image_of);
         free = λ k i own image says free is. (supplier k image own is says).free i free;
+      };
+      users = record {
+        opened = subst (All (λ (s : Station D). view_at said s.id ≡ (base_of_station s).volume.began.view)) (sym none) (All-nil (λ (s : Station D). view_at said s.id ≡ (base_of_station s).volume.began.view));
+        unused = λ v k p other never here. others_unused v k p other here;
       };
       untouched = record {
         passes = λ v k p behind here. (let lock = pool_there state config spindles pools said r ready.first v k p here in (pool_new state config spindles pools said r ready.first v k lock.0 p lock.1 here).mine);

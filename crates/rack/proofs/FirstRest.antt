@@ -178,7 +178,7 @@ module _ {D : Type 0} (state : D → State) (config : Config) (spindles : List (
           let within = slice_get_within at.0.passes.items v p at.4 in
           let settled = first.spindles_are.settled k at.0 (slice_get_within spindles k at.0 at.1) in
           subst (λ (x : PassOf Spindle SpindleBase). has_token (pass_mine x) ≡ false) (get_or_from_slice_get at.0.passes.items v p p at.4)
-          ((subst (λ (x : Issued Spindle SpindleBase). AreSettled x) (get_or_from_slice_get spindles k at.0 at.0 at.1) settled).settled v p within);
+          ((subst (λ (x : Issued Spindle SpindleBase). AreSettled k x) (get_or_from_slice_get spindles k at.0 at.0 at.1) settled).settled v p within);
     }
       where
         in_order : (k : ℕ) (i : Issued Spindle SpindleBase) → slice_get spindles k ≡ Some i → IsInOrder i

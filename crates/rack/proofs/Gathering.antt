@@ -4,7 +4,7 @@ use Rattle.std.specs.Prelude.{slice_get, option_and_then, slice_index_or, All}
 use Rattle.std.proofs.lemmas.Bool.{cases_eq, cases_lt}
 use Rattle.std.proofs.lemmas.List.{get_or-set_same, get_or-set_other, get_or_push, get_or_default, get_or_append_left}
 use Rattle.std.proofs.lemmas.Option.{slice_get-get_or, slice_get_past, same_Some}
-use Rattle.turn_lock.specs.Passes.{IsPassOf, IsFree}
+use Rattle.turn_lock.specs.Passes.{IsPassOf, IsFree, pass_number}
 use Rattle.turn_lock.specs.declared.lock.TurnLock.{TurnLock}
 use Rattle.turn_lock.specs.declared.pass.PassOf.{PassOf}
 use Rattle.spin_model.specs.declared.spindle.Spindle.{Spindle}
@@ -66,6 +66,20 @@ module _ {D : Type 0} where
       let h : n < length old = omega (arith, taken.taken, within) in
       let row = some_element old n h in
       each n (get_or ps n d) (spindle_at_row old n k row h ∙ (taken.each n row d h).there)
+
+  -- each is the one in its row's place and has the row's number, and past the rows there is none
+  pub spindles_numbered : (l : TurnLock Spindle SpindleBase) (k : ℕ) (old new : List (VolumePasses D)) (ps : List (PassOf Spindle SpindleBase)) → AreSpindlesTaken k old new ps
+      → ((v : ℕ) → v < length old → (p : PassOf Spindle SpindleBase) × (spindle_of_row old v k ≡ Some p) × IsPassAt l v p)
+      → (v : ℕ) (d : PassOf Spindle SpindleBase) → v < length ps → (spindle_of_row old v k ≡ Some (get_or ps v d)) × (pass_number (get_or ps v d) ≡ v)
+  spindles_numbered l k old new ps taken here v d within =
+      let h : v < length old = omega (arith, taken.taken, within) in
+      let row = some_element old v h in
+      let t = here v h in
+      let there : spindle_of_row old v k ≡ Some (get_or ps v d) = spindle_at_row old v k row h ∙ (taken.each v row d h).there in
+      (there, ap (λ (p : PassOf Spindle SpindleBase). pass_number p) (sym (same_Some t.0 (get_or ps v d) (sym t.1 ∙ there))) ∙ t.2.number_is)
+
+  pub no_spindle_past : (k : ℕ) (old : List (VolumePasses D)) (v : ℕ) → length old ≤ v → spindle_of_row old v k ≡ None
+  no_spindle_past k old v past = ap (λ (o : Option (VolumePasses D)). option_and_then (λ p. slice_index_or p.spindles.items k None) o) (slice_get_past old v past)
 
   -- the places of other spindles are as they were
   pub spindles_kept : (k : ℕ) (old new : List (VolumePasses D)) (ps : List (PassOf Spindle SpindleBase)) → AreSpindlesTaken k old new ps → (v j : ℕ) → (j ≡ k → ⊥) → spindle_of_row new v j ≡ spindle_of_row old v j

@@ -1,19 +1,17 @@
 -- An image more goes back to its bay.
-use Rattle.std.proofs.Common.{◌≡◌, ◌≢◌, ◌<◌, ◌≤◌, ◌⊎◌, inl, inr, ℕ, suc, Bool, true, false, List, [], ◌∷◌, ◌++◌, length, get_or, Option, Some, None, is_some, refl, sym, ap, ◌∙◌, subst, arith, append_assoc}
+use Rattle.std.proofs.Common.{◌≡◌, ◌≢◌, ◌<◌, ◌≤◌, ◌⊎◌, inl, inr, ℕ, suc, List, [], ◌++◌, length, get_or, Option, Some, None, is_some, refl, sym, ap, ◌∙◌, subst, arith, append_assoc}
 use Rattle.std.specs.Prelude.{slice_get, Contains}
 use Rattle.std.proofs.lemmas.Bool.{cases_eq, cases_lt}
 use Rattle.std.proofs.lemmas.List.{append-nil, length-map, get_or-map}
 use Rattle.std.proofs.lemmas.List.Elements.{Contains-append_left, Contains-append_right}
 use Rattle.std.proofs.lemmas.Option.{none-some, same_Some}
-use Rattle.std.specs.Str.{bytes_eq}
-use Rattle.std.proofs.lemmas.Slice.Eq.{bytes_eq-Decides}
 use Rattle.wol_disk.specs.Disk.{Block, Values, State}
 use Rattle.wol_bay.specs.Bay.{AreApart, AreNamedApart, Name, Image, Told, at_name, without, stored, each_place, came_back}
 use Rattle.wol_bay.specs.Parts.{blocks_of, faulty_places}
-use Rattle.wol_bay.proofs.NameLists.{without_none, is_out}
+use Rattle.wol_bay.proofs.NameLists.{is_out}
 use Rattle.wol_config.specs.declared.config.Config.{Config}
 use Rattle.wol_config.specs.declared.config.VolumeConf.{VolumeConf}
-use Rattle.wol_bay.proofs.NamedApart.{other_put, other_gone, second_gone, put_apart}
+use Rattle.wol_bay.proofs.NamedApart.{other_put, other_gone}
 use Rattle.rack.specs.Rests.{image_here}
 use Rattle.rack.specs.Parts.{IsTogether}
 use Rattle.rack.specs.Closing.{IsStoredAs, GivesBack}

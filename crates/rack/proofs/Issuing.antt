@@ -21,15 +21,16 @@ new_in_order i count new = record {
 }
 
 -- no pass of a spindle was used
-pub new_settled : (i : Issued Spindle SpindleBase) → AreNewPasses i.lock i.passes.items → AreSettled i
-new_settled i new = record {
+pub new_settled : (k : ℕ) (i : Issued Spindle SpindleBase) → AreNewPasses i.lock i.passes.items → AreSettled k i
+new_settled k i new = record {
   settled = λ n d within. ap has_token (new n d within).mine;
   accesses = λ n d within. subst AreAccesses (sym (new n d within).mine) tt;
+  others = λ n d other within. (new n d within).mine;
   last = λ n d is. let one = new n d (omega (arith, is)) in (one.seen, one.mine);
 }
 
 -- one more lock behind those that are made
-pub one_more : (volumes timeout : ℕ) (made : List (Issued Spindle SpindleBase)) (i : Issued Spindle SpindleBase) → AreSpindlesOf volumes timeout made → IsInOrder i → AreSettled i → IsSpindleLock volumes (length made) timeout i.lock → AreSpindlesOf volumes timeout (made ++ i ∷ [])
+pub one_more : (volumes timeout : ℕ) (made : List (Issued Spindle SpindleBase)) (i : Issued Spindle SpindleBase) → AreSpindlesOf volumes timeout made → IsInOrder i → AreSettled (length made) i → IsSpindleLock volumes (length made) timeout i.lock → AreSpindlesOf volumes timeout (made ++ i ∷ [])
 one_more volumes timeout made i so_far order settled lock = record {
   each = All-push (λ x. IsInOrder x) made i so_far.each order;
   spindles = λ k d within.
@@ -39,5 +40,11 @@ one_more volumes timeout made i so_far order settled lock = record {
       let e : k ≡ length made = omega (arith, within, more, length_push made i) in
       subst (λ (x : Issued Spindle SpindleBase). IsSpindleLock volumes k timeout x.lock) (sym (get_or_push made i d k (sym e))) (subst (λ (n : ℕ). IsSpindleLock volumes n timeout i.lock) (sym e) lock))
       (cases_lt k (length made));
-  settled = All-push (λ x. AreSettled x) made i so_far.settled settled;
+  settled = λ k d within.
+      ⊎_elim
+      (λ (less : k < length made). subst (λ (x : Issued Spindle SpindleBase). AreSettled k x) (sym (get_or_append_left made (i ∷ []) d k less)) (so_far.settled k d less))
+      (λ (more : length made ≤ k).
+      let e : k ≡ length made = omega (arith, within, more, length_push made i) in
+      subst (λ (x : Issued Spindle SpindleBase). AreSettled k x) (sym (get_or_push made i d k (sym e))) (subst (λ (n : ℕ). AreSettled n i) (sym e) settled))
+      (cases_lt k (length made));
 }

@@ -1,11 +1,11 @@
 -- Segments that keep nothing of a volume.
-use Rattle.std.proofs.Common.{◌≡◌, ◌≢◌, ◌⊎◌, inl, inr, ⊎_elim, ℕ, ◌+◌, ◌^◌, ◌<◌, ◌≤◌, List, [], ◌∷◌, map, Option, None, Some, refl, sym, ap, ◌∙◌, subst, arith}
-use Rattle.std.specs.Prelude.{slice_get, unwrap_or}
+use Rattle.std.proofs.Common.{◌≡◌, ◌≢◌, ◌⊎◌, inl, ⊎_elim, ℕ, ◌^◌, ◌<◌, ◌≤◌, List, [], ◌∷◌, map, Option, refl, sym, ap, ◌∙◌, subst, arith}
+use Rattle.std.specs.Prelude.{unwrap_or}
 use Rattle.std.specs.List.{AllByRecursion}
 use Rattle.std.proofs.lemmas.Bool.{cases_eq}
 use Rattle.wol_disk.specs.Disk.{Block, Values, IsImageOf}
 use Rattle.wol_model.specs.Extents.{Extent, CoversNothing}
-use Rattle.wol_model.specs.Heads.{owned_block, free_block}
+use Rattle.wol_model.specs.Heads.{owned_block}
 use Rattle.wol_model.specs.Heads as head
 use Rattle.wol_model.specs.Log.{Record, IsLog, IsIdle, extent_of}
 use Rattle.wol_model.specs.Recovered.{extents_in}

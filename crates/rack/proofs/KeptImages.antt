@@ -237,14 +237,3 @@ module _ (Fronts : (k : ℕ) → (now was : List Block) → Type 0) (Keeps : (k 
               was_sized = two.was_sized;
               segments = λ i below. keeps k i (segment_of (shape_in config conf) two.now i) (segment_of (shape_in config conf) two.was i) (two.segments i below);
             }))
-
--- each choice that is left recovers to what one at entry did
-pub kept_recovers : (v : ℕ) (config : Config) (old : Told) (refused : ℕ → Bool) (images : Images) → length images ≡ length config.volumes.items
-    → ((k : ℕ) (conf : VolumeConf) → slice_get config.volumes.items k ≡ Some conf → refused k ≡ false → IsKeptImage (λ now was. k ≡ v → was ≡ now) (λ i now was. SegmentsKeep v now was) (shape_in config conf) (at_name conf.name old.images) (image_of images k))
-    → ((k : ℕ) (conf : VolumeConf) → slice_get config.volumes.items k ≡ Some conf → refused k ≡ true → MayLeave (at_name conf.name old.images) (image_of images k))
-    → (was : Images) × AreLeft config old was × (recovered_but (shapes_of config) refused images v ≡ recovered_but (shapes_of config) refused was v)
-kept_recovers v config old refused images count kept still =
-    let Fronts : (k : ℕ) → (now was : List Block) → Type 0 = λ k now was. k ≡ v → was ≡ now in
-    let Keeps : (k i : ℕ) → (now was : List Block) → Type 0 = λ k i now was. SegmentsKeep v now was in
-    let found = kept_before Fronts Keeps config old refused images kept still in
-    (found.0, found.1.left, before_same Fronts Keeps config old refused images kept still found.0 found.1 v (λ now was same. same refl) count (λ k i c d keeps. keeps))

@@ -1,6 +1,6 @@
 -- A lane comes back to its place.
 use Rattle.std.proofs.Common.{◌≡◌, ◌<◌, ℕ, [], length, Option, None, Some, option_and_then, refl, sym, ap, subst, ◌∙◌, arith}
-use Rattle.std.specs.Prelude.{slice_get, slice_set}
+use Rattle.std.specs.Prelude.{slice_get, slice_index_or, slice_set}
 use Rattle.std.specs.declared.alloc.Global.{Global}
 use Rattle.std.specs.declared.vec.Vec.{Vec}
 use Rattle.std.specs.Vec.{with_item}
@@ -69,3 +69,10 @@ module _ {D : Type 0} where
   -- the list at a bare place is empty
   pub held_bare : (r : Rest D) (v k : ℕ) (row : VolumePasses D) (x : Vec (ℕ × Spun D) Global) → slice_get r.passes.items v ≡ Some row → slice_get row.held.items k ≡ Some x → held_here r v k ≡ [] → x.items ≡ []
   held_bare r v k row x is at bare = sym (ap list_of (ap (option_and_then (λ (p : VolumePasses D). slice_get p.held.items k)) is ∙ at)) ∙ bare
+
+  -- nor are its passes there
+  pub pool_bare : (r : Rest D) (v k n : ℕ) (row : VolumePasses D) → slice_get r.passes.items v ≡ Some row → n ≡ k → pool_pass r v k ≡ None → slice_index_or row.pools.items n None ≡ None
+  pool_bare r v k n row is same bare = ap (λ (i : ℕ). slice_index_or row.pools.items i None) same ∙ sym (ap (option_and_then (λ (p : VolumePasses D). slice_index_or p.pools.items k None)) is) ∙ bare
+
+  pub spindle_bare : (r : Rest D) (v k n : ℕ) (row : VolumePasses D) → slice_get r.passes.items v ≡ Some row → n ≡ k → spindle_pass r v k ≡ None → slice_index_or row.spindles.items n None ≡ None
+  spindle_bare r v k n row is same bare = ap (λ (i : ℕ). slice_index_or row.spindles.items i None) same ∙ sym (ap (option_and_then (λ (p : VolumePasses D). slice_index_or p.spindles.items k None)) is) ∙ bare

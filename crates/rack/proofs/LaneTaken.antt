@@ -3,7 +3,7 @@ use Rattle.std.proofs.Common.{◌≡◌, ◌≢◌, ◌<◌, ⊎_elim, ℕ, List
 use Rattle.std.specs.Prelude.{slice_get, slice_set, slice_index_or, option_map}
 use Rattle.std.specs.Vec.{with_item}
 use Rattle.std.proofs.lemmas.Bool.{cases_eq}
-use Rattle.std.proofs.lemmas.List.{length-set, get_or-set_same, get_or-set_other}
+use Rattle.std.proofs.lemmas.List.{length-set, get_or-set_same, get_or-set_other, get_or_read}
 use Rattle.std.proofs.lemmas.List.Elements.{All-nil, All-cons, All-head}
 use Rattle.std.proofs.lemmas.Option.{slice_get-map}
 use Rattle.wol_config.specs.declared.config.Config.{Config}
@@ -99,3 +99,16 @@ module _ {D : Type 0} where
 
   pub spindle_read : (r : Rest D) (v k : ℕ) (row : VolumePasses D) → slice_get r.passes.items v ≡ Some row → spindle_pass r v k ≡ slice_index_or row.spindles.items k None
   spindle_read r v k row is = ap (option_and_then (λ (p : VolumePasses D). slice_index_or p.spindles.items k None)) is
+
+  -- and what was taken from it
+  pub pool_taken : (r : Rest D) (v k : ℕ) (row : VolumePasses D) (was : Option (PassOf (Pool (FreeSegment D)) PoolBase)) (p : PassOf (Pool (FreeSegment D)) PoolBase) → slice_get r.passes.items v ≡ Some row → HasPlace r v k
+      → was ≡ slice_index_or row.pools.items k was → pool_pass r v k ≡ Some p → was ≡ Some p
+  pool_taken r v k row was p is place read here =
+      let size = size_of r v k row place is in
+      get_or_read row.pools.items k was (omega (arith, size.1.pools, size.2)) read None ∙ sym (pool_read r v k row is) ∙ here
+
+  pub spindle_taken : (r : Rest D) (v k : ℕ) (row : VolumePasses D) (was : Option (PassOf Spindle SpindleBase)) (p : PassOf Spindle SpindleBase) → slice_get r.passes.items v ≡ Some row → HasPlace r v k
+      → was ≡ slice_index_or row.spindles.items k was → spindle_pass r v k ≡ Some p → was ≡ Some p
+  spindle_taken r v k row was p is place read here =
+      let size = size_of r v k row place is in
+      get_or_read row.spindles.items k was (omega (arith, size.1.spindles, size.2)) read None ∙ sym (spindle_read r v k row is) ∙ here

@@ -1,11 +1,11 @@
 -- What every volume recovers to once the rack is closed, where nothing was written since it was opened.
-use Rattle.std.proofs.Common.{◌≡◌, ◌≢◌, ◌⊎◌, inl, inr, ⊎_elim, ℕ, zero, suc, ◌+◌, ◌-◌, ◌*◌, ◌^◌, ◌<◌, ◌≤◌, Bool, true, false, not, cond, eqb, ◌||◌, List, [], ◌∷◌, ◌++◌, length, map, take, drop, Option, None, Some, option_map, is_some, refl, sym, ap, ◌∙◌, subst, arith}
-use Rattle.std.specs.Prelude.{Contains, All, IsTrue, slice_get, slice_index_or, slice_range, option_and_then}
+use Rattle.std.proofs.Common.{◌≡◌, ◌≢◌, ◌⊎◌, inl, inr, ⊎_elim, ℕ, ◌+◌, ◌-◌, ◌*◌, ◌^◌, ◌<◌, ◌≤◌, Bool, true, false, not, cond, eqb, ◌||◌, List, [], ◌∷◌, ◌++◌, length, map, take, drop, Option, None, Some, option_map, is_some, refl, sym, ap, ◌∙◌, subst, arith}
+use Rattle.std.specs.Prelude.{Contains, All, IsTrue, slice_get, slice_index_or, slice_range}
 use Rattle.std.proofs.Math.Seq.{drop-append-add}
 use Rattle.std.specs.List.{AllByRecursion, list_any}
-use Rattle.std.proofs.lemmas.Bool.{cases_eq, cases_lt, eqb-true, eq-eqb}
+use Rattle.std.proofs.lemmas.Bool.{cases_eq, eqb-true, eq-eqb}
 use Rattle.std.proofs.lemmas.List.{length-map, length-drop, length-take-le, take_all}
-use Rattle.std.proofs.lemmas.Option.{none-some, same_Some, slice_get_within, slice_get-map, slice_get-get_or, get_or_from_slice_get, slice_get_past}
+use Rattle.std.proofs.lemmas.Option.{same_Some, slice_get_within, slice_get-map, slice_get-get_or, get_or_from_slice_get}
 use Rattle.wol_disk.specs.Disk.{Block, Values, State, IsDisk, TellsContent, IsImage, IsImageOf, reads}
 use Rattle.wol_disk.proofs.Images.{image_reads}
 use Rattle.wol_model.specs.Heads.{Shape}
@@ -32,11 +32,10 @@ use Rattle.rack.specs.Closing.{ClosesStations, RefillsAll, KeepsSpindles, GivesB
 use Rattle.rack.specs.Opens.{HadSegmentBefore, BeganWith, WereThere}
 use Rattle.rack.specs.Owners.{HadRefused, IsBegun, RecoversSame, WasOpened, images_taken}
 use Rattle.rack.specs.Racks.{IsClosable, base_of_station}
-use Rattle.rack.specs.Rests.{image_here, segment_here, held_here, indexes_here, away_with, list_of, IsImageOut, IsSegmentHere, IsRest}
+use Rattle.rack.specs.Rests.{image_here, segment_here, away_with, IsImageOut, IsSegmentHere, IsRest}
 use Rattle.rack.specs.declared.rack.ImageRest.{ImageRest}
 use Rattle.rack.specs.declared.rack.Rack.{Rack}
 use Rattle.rack.specs.declared.rack.Rest.{Rest}
-use Rattle.rack.specs.declared.rack.VolumePasses.{VolumePasses}
 use Rattle.rack.proofs.AllBack.{both_slices}
 use Rattle.rack.proofs.Assembled.{assembled, assembled_size, assembled_front, assembled_segment, assembled_image}
 use Rattle.rack.proofs.Choices.{IsChoice, IsChosen, chosen}

@@ -50,6 +50,7 @@ pub mod LanesTaken
 pub mod Owning
 pub mod OpeningTaken
 pub mod OwnedOf
+pub mod OwnDisks
 pub mod AllEnded
 pub mod IssuedOne
 pub mod SameSegments

@@ -4,7 +4,7 @@ use Rattle.std.specs.Prelude.{Contains, slice_get}
 use Rattle.std.proofs.lemmas.Option.{same_Some}
 use Rattle.wol_disk.specs.Disk.{IsAmong}
 use Rattle.wol_model.specs.Extents.{Extent, IsValid, marked}
-use Rattle.wol_model.specs.Index.{AreRising, Indexed, Listed, listed_in, cover_of}
+use Rattle.wol_model.specs.Index.{AreRising, Indexed, Listed, listed_in}
 use Rattle.wol_model.specs.Log.{Record, extent_of}
 use Rattle.wol_promise.specs.Manager.{Held, IsEntryOf, IsFound, IsBacked, IsIndexOf, IsSorted, extents_held}
 use Rattle.rack.specs.Closes.{IsOfExtent, AreListedOf}

@@ -164,19 +164,3 @@ module _ {D : Type 0} (k : ℕ) (init : Rest D) where
             go : (v < n) ⊎ (n ≤ v) → held_here cur v k ≡ []
             go (inl less) = so_far.gone v less
             go (inr past) = past_held cur v (omega (arith, past, all))
-
-    -- there are none where the image isn't out
-    pub none_went : image_here init.images.items k ≡ None → PutsAllHeld init init k
-    none_went none = record {
-      rooms = refl;
-      rows = record { count = refl; rows = λ n all. all };
-      count = refl;
-      image = keeps_itself (image_here init.images.items k);
-      images = λ j differs. refl;
-      back = λ v i p has. absurd (none_in (i, p) (subst (λ (xs : List (ℕ × Spun D)). Contains xs (i, p)) (can.out v none) has));
-      others = λ i away. refl;
-      held = λ v. can.out v none;
-      held_others = λ v j differs. refl;
-      pools = λ v j. refl;
-      spindles = λ v j. refl;
-    }

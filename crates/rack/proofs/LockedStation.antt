@@ -149,7 +149,7 @@ module _ {D : Type 0} (tells : Bool) (state : D → State) (config : Config) (va
       (λ c. others (subst (λ (ids : List ℕ). Contains ids id) takes.view_is c))
       (subst (λ (ids : List ℕ). Rattle.std.specs.Prelude.AllPairs (λ j k. Rattle.std.proofs.Common.◌≢◌ j k) ids) (sym takes.view_is) takes.distinct)
       spindle.number_is
-      (λ j d below. let x = taken j d below in (x.number, x.spindle_number)))
+      (λ j d below. let x = taken j d below in (x.number, x.spindle_number)) (λ j d below. (taken j d below).unused))
 
   -- ---- The rack with it
 
@@ -183,4 +183,4 @@ module _ {D : Type 0} (tells : Bool) (state : D → State) (config : Config) (va
 
     pub opened : IsOpeningRack state config b said (id + 1) (record r { stations = stations; rest = record new { rooms = rooms } })
     opened = one_opening state config valid b said id r own ready lt at view new o takes station refl view_is others all inside is_station is_base rooms are_rooms stations stations_are unused station_cap
-        (manager_cap ∙ ap (λ (x : Rooms D). vec_capacity x.managers) same_rooms)
+        (manager_cap ∙ ap (λ (x : Rooms D). vec_capacity x.managers) same_rooms) own_view

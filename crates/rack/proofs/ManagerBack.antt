@@ -1,6 +1,6 @@
 -- A manager comes back to the rest of its rack.
 use Rattle.std.proofs.Common.{◌≡◌, ◌≢◌, ◌<◌, ◌⊎◌, ◌↔◌, inl, inr, ℕ, true, List, [], ◌∷◌, ◌++◌, length, map, Option, Some, None, is_some, refl, sym, ap, ◌∙◌, subst, arith}
-use Rattle.std.specs.Prelude.{Contains, All, AllPairs, IsSome, IfSome, slice_get, slice_index_or, option_and_then, vec_len}
+use Rattle.std.specs.Prelude.{Contains, All, AllPairs, IsSome, IfSome, slice_get, slice_index_or, option_and_then}
 use Rattle.std.specs.List.{AllByRecursion}
 use Rattle.std.proofs.lemmas.Bool.{cases_eq}
 use Rattle.std.proofs.lemmas.List.{get_or-map, length-map}
@@ -23,7 +23,7 @@ use Rattle.seg_pool.specs.declared.base.PoolBase.{PoolBase}
 use Rattle.seg_pool.specs.declared.pool.Pool.{Pool}
 use Rattle.log_segment.specs.Segment.{part_of}
 use Rattle.log_segment.specs.declared.free.FreeSegment.{FreeSegment}
-use Rattle.logger.specs.Lanes.{IsLane, IsHeld, HoldsAll, logger_of, pool_of, spindle_of, held_in, taken_in, indexes_in}
+use Rattle.logger.specs.Lanes.{IsLane, IsHeld, logger_of, pool_of, spindle_of, held_in, taken_in, indexes_in}
 use Rattle.logger.specs.declared.lane.HeldSegment.{HeldSegment}
 use Rattle.logger.specs.declared.lane.Lane.{Lane}
 use Rattle.logger.specs.declared.shared.Shared.{Shared}
@@ -180,9 +180,6 @@ module _ {D : Type 0} (state : D → State) (tells : Rattle.std.specs.Prelude.Bo
               (subst (λ (j : ℕ). Contains b.volume.began.view j) (sym at) (in_view l (subst (λ (xs : List (Lane D)). Contains xs l) lanes_same has)))),
         )) in
         record { pool = kept.pool; spindle = kept.spindle; held = kept.held }
-
-    not_viewed : (w : ℕ) → w ≡ b.volume.began.owner → Contains b.volume.began.view id → ⊥
-    not_viewed w same has = open_base.others (subst (λ (k : ℕ). Contains b.volume.began.view k) (sym owner_is) has)
 
     -- the pool and the list of each place that no lane has
     pool_same : (w k : ℕ) → (w ≡ b.volume.began.owner → Contains b.volume.began.view k → ⊥) → (pool_pass new w k ≡ pool_pass old w k) × (held_here new w k ≡ held_here old w k)
@@ -559,6 +556,7 @@ module _ {D : Type 0} (state : D → State) (tells : Rattle.std.specs.Prelude.Bo
       most = o.most;
       own_spindle = o.own_spindle;
       own_lanes = o.own_lanes;
+      untaken = o.untaken;
     }
       where
         out_still : (k : ℕ) → IsImageOut old.images.items k → IsImageOut new.images.items k

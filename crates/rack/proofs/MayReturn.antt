@@ -1,9 +1,9 @@
 -- What opening a volume hands back may come back to the rest that it was taken out of.
-use Rattle.std.proofs.Common.{◌≡◌, ◌≢◌, ⊎_elim, ℕ, ◌<◌, Bool, true, List, [], ◌∷◌, length, map, Option, None, Some, refl, sym, ap, ◌∙◌, subst, arith}
+use Rattle.std.proofs.Common.{◌≡◌, ◌≢◌, ⊎_elim, ℕ, ◌<◌, Bool, List, [], ◌∷◌, length, map, Option, None, Some, refl, sym, ap, ◌∙◌, subst, arith}
 use Rattle.std.specs.Prelude.{slice_get, is_some, All, AllPairs, Contains}
 use Rattle.std.specs.List.{AllZip}
 use Rattle.std.proofs.lemmas.List.{length-map, get_or-map}
-use Rattle.std.proofs.lemmas.List.Elements.{All-contains, All-contains_itself, All-filter, filter_passes}
+use Rattle.std.proofs.lemmas.List.Elements.{All-contains, All-contains_itself, All-filter}
 use Rattle.std.proofs.lemmas.List.Kept.{AllPairs-cons, AllPairs-filter}
 use Rattle.wol_disk.specs.Disk.{State}
 use Rattle.wol_bay.specs.Bay.{BayState}
@@ -31,15 +31,6 @@ use Rattle.rack.proofs.Without as without
 
 -- the partners of an element in lists that two relations hold of
 module _ {X Y : Type 0} (P Q : X → Y → Type 0) where
-  pub partner : (xs : List X) (ys : List Y) (x : X) → AllZip P xs ys → AllZip Q xs ys → Contains xs x → (y : Y) × Contains ys y × P x y × Q x y
-  partner [] [] x p q has = absurd (none_in x has)
-  partner [] (y ∷ ys) x p q has = absurd p
-  partner (a ∷ xs) [] x p q has = absurd p
-  partner (a ∷ xs) (y ∷ ys) x p q has = ⊎_elim
-      (λ (e : a ≡ x). (y, first_in y y ys refl, subst (λ (z : X). P z y) e p.0, subst (λ (z : X). Q z y) e q.0))
-      (λ more. let rest = partner xs ys x p.1 q.1 more in (rest.0, later_in y rest.0 ys rest.1, rest.2, rest.3))
-      (in_cases a x xs has)
-
   pub partner_of : (xs : List X) (ys : List Y) (y : Y) → AllZip P xs ys → AllZip Q xs ys → Contains ys y → (x : X) × Contains xs x × P x y × Q x y
   partner_of [] [] y p q has = absurd (none_in y has)
   partner_of [] (b ∷ ys) y p q has = absurd p
@@ -69,9 +60,6 @@ module _ {D : Type 0} (state : D → State) (tells : Bool) (config : Config) (va
   pub in_view : (k : ℕ) → Contains loggers k → Contains view k
   in_view k has = All-contains (Contains view) loggers k (All-filter (λ j. is_some (image_here r.rest.images.items j)) (Contains view) view (All-contains_itself view)) has
 
-  pub logger_out : (k : ℕ) → Contains loggers k → is_some (image_here r.rest.images.items k) ≡ true
-  logger_out k has = All-contains (λ j. is_some (image_here r.rest.images.items j) ≡ true) loggers k (filter_passes (λ j. is_some (image_here r.rest.images.items j)) view) has
-
   -- ---- Lanes
 
   -- a lane that was taken out, and as it is handed back
@@ -84,11 +72,6 @@ module _ {D : Type 0} (state : D → State) (tells : Bool) (config : Config) (va
 
   new_lane : (l : Lane D) → Contains o.lanes.items l → IsNewLane state r.rest id (segments_of config (logger_of l)) l
   new_lane l has = All-contains (λ (x : Lane D). IsNewLane state r.rest id (segments_of config (logger_of x)) x) o.lanes.items l takes.lanes.each has
-
-  pub lane_from : (l : Lane D) → Contains o.lanes.items l → (m : Lane D) × IsBackLane l m
-  lane_from l has =
-      let p = partner (IsUsedLane state r.shared o.want.id o.most) (HasGiven o.owned.items back.fates) o.lanes.items n.lanes.items l back.lanes back.pools has in
-      (p.0, record { before = has; after = p.1; taken = new_lane l has; used = p.2; given = p.3 })
 
   pub lane_to : (m : Lane D) → Contains n.lanes.items m → (l : Lane D) × IsBackLane l m
   lane_to m has =

@@ -4,7 +4,7 @@ use Rattle.std.specs.Prelude.{Contains, All, IsSome, slice_get}
 use Rattle.std.specs.List.{AllByRecursion}
 use Rattle.std.proofs.lemmas.Bool.{cases_eq}
 use Rattle.std.proofs.lemmas.Option.{slice_get-get_or}
-use Rattle.std.proofs.lemmas.List.{take-take, take_at, length-take, get_or-take, get_or_at, get_or_append_left, get_or_default, get_or-map, length-map, length-append, length_push}
+use Rattle.std.proofs.lemmas.List.{take-take, take_at, length-take, get_or-take, get_or_at, get_or_append_left, get_or-map, length-map, length_push}
 use Rattle.std.proofs.lemmas.List.Elements.{All-contains, Contains-push, Contains-get_or}
 
 pub no_value : {A : Type 0} (o : Option A) → (IsSome o → ⊥) → o ≡ None

@@ -6,7 +6,7 @@ use Rattle.wol_disk.specs.Disk.{State}
 use Rattle.wol_bay.specs.Bay.{BayState}
 use Rattle.wol_config.specs.Configs.{IsValid}
 use Rattle.wol_config.specs.declared.config.Config.{Config}
-use Rattle.turn_lock.specs.Passes.{pass_number}
+use Rattle.turn_lock.specs.Passes.{pass_mine, pass_number}
 use Rattle.logger.specs.Lanes.{logger_of, pool_of, spindle_of}
 use Rattle.logger.specs.declared.lane.Lane.{Lane}
 use Rattle.manager.specs.declared.base.ManagerBase.{ManagerBase}
@@ -78,6 +78,9 @@ module _ {D : Type 0} (tells : Bool) (state : D → State) (config : Config) (va
   numbers : All (λ (l : Lane D). (pass_number (pool_of l) ≡ id) × (pass_number (spindle_of l) ≡ id)) o.lanes.items
   numbers = λ j d below. number_of (get_or o.lanes.items j d) (lane_out state config valid b said id r own ready lt at view new o takes j d below) (takes.lanes.each j d below)
 
+  fresh : All (λ (l : Lane D). pass_mine (pool_of l) ≡ []) o.lanes.items
+  fresh = λ j d below. (let l = get_or o.lanes.items j d in ready.untouched.passes id (logger_of l) (pool_of l) (omega arith) (takes.lanes.each j d below).pool)
+
   own_number : pass_number o.spindle ≡ id
   own_number =
       let q = some_at r.shared.spindles.items id (let c = ready.closable.locks.spindle_count in omega (arith, lt, c)) in
@@ -87,7 +90,7 @@ module _ {D : Type 0} (tells : Bool) (state : D → State) (config : Config) (va
   pub base_new : IsOpenBase config r.shared new.images.items opens.base
   base_new =
       open_base tells state config r.shared new.images.items o m opens id takes.id takes.shape takes.most (still_out id (ap is_some (image_id state config valid b said id r own ready lt at).1)) outs
-      (λ has. others_new (subst (λ (l : List ℕ). Contains l id) takes.view_is has)) (subst (λ (l : List ℕ). Rattle.std.specs.Prelude.AllPairs (λ j k. j ≢ k) l) (sym takes.view_is) takes.distinct) own_number numbers
+      (λ has. others_new (subst (λ (l : List ℕ). Contains l id) takes.view_is has)) (subst (λ (l : List ℕ). Rattle.std.specs.Prelude.AllPairs (λ j k. j ≢ k) l) (sym takes.view_is) takes.distinct) own_number numbers fresh
 
   -- what it has is away
   pub rest_new : IsRestBut state config r.shared (away_with (bases ++ opens.base ∷ [])) new

@@ -1,6 +1,5 @@
 -- Parts that came back with a fault stay in the list of the bay.
 use Rattle.std.proofs.Common.{◌≡◌, ℕ, ◌+◌, List, [], ◌++◌, Option, None, Some, option_map, sym, ap, ◌∙◌, subst, append-nil, append_assoc}
-use Rattle.std.specs.Prelude.{Contains}
 use Rattle.std.proofs.lemmas.List.Elements.{Contains-append_left, Contains-append_right}
 use Rattle.wol_bay.specs.Bay.{Name, Told, sent_out}
 use Rattle.volume_images.specs.Left.{IsTold}

@@ -3,7 +3,7 @@ use Rattle.std.proofs.Common.{◌≡◌, ◌+◌, inl, ℕ, Bool, List, [], leng
 use Rattle.std.specs.Prelude.{IsErrOf}
 use Rattle.wol_disk.specs.Disk.{Block, State, Rose, IsImage, reads}
 use Rattle.wol_model.specs.Heads.{Shape}
-use Rattle.wol_bay.specs.Bay.{Image, Told, BayState, at_name, each_place}
+use Rattle.wol_bay.specs.Bay.{Image, Name, Told, BayState, at_name, each_place}
 use Rattle.wol_bay.specs.Refusals.{refusal}
 use Rattle.wol_bay.specs.declared.fault.BayFault.{BayFault}
 use Rattle.wol_bay.specs.declared.fault.BayFault.TheVariants as bay
@@ -111,13 +111,13 @@ module _ {D : Type 0} (tells : Bool) (state : D → State) (config : Config) (b 
   next_stayed r (Some t) None h = h
   next_stayed r (Some t) (Some t') h = stayed r t t' h
 
-  -- where there is no memory all is as it was
-  pub next_same : (r : ImageRefusal) (o o' : Option Told) → fault_of_image k r ≡ None → IsTold (Refuses volumes k shape v.name r) o o' → IsTold (λ old new. new ≡ old) o o'
-  next_same refusal.Absent o o' is h = absurd (cc is)
-  next_same (refusal.WrongLength bytes) o o' is h = absurd (cc is)
-  next_same refusal.BayFailed o o' is h = absurd (cc is)
-  next_same (refusal.Fault f) o o' is h = absurd (cc is)
-  next_same refusal.NoMemory o o' is h = h
+-- where there is no memory all is as it was
+pub back_at_once : (volumes own k : ℕ) (s : Shape) (name : Name) (r : ImageRefusal) (o o' : Option Told) → fault_of_image k r ≡ None → IsTold (Refuses volumes own s name r) o o' → IsTold (λ old new. new ≡ old) o o'
+back_at_once volumes own k s name refusal.Absent o o' is h = absurd (cc is)
+back_at_once volumes own k s name (refusal.WrongLength bytes) o o' is h = absurd (cc is)
+back_at_once volumes own k s name refusal.BayFailed o o' is h = absurd (cc is)
+back_at_once volumes own k s name (refusal.Fault f) o o' is h = absurd (cc is)
+back_at_once volumes own k s name refusal.NoMemory o o' is h = h
 
 pub untouched : (o : Option Told) → IsTold (λ old new. new ≡ old) o o
 untouched None = refl

@@ -1,6 +1,7 @@
 -- The rack may be closed once one volume more is open.
-use Rattle.std.proofs.Common.{◌≡◌, ◌≢◌, ◌⊎◌, inl, inr, ⊎_elim, ℕ, ◌+◌, ◌^◌, ◌<◌, ◌≤◌, List, [], ◌∷◌, ◌++◌, length, map, Option, None, Some, refl, sym, ap, ◌∙◌, subst, arith, vec_capacity}
+use Rattle.std.proofs.Common.{◌≡◌, ◌⊎◌, inl, inr, ⊎_elim, ℕ, ◌+◌, ◌^◌, ◌<◌, ◌≤◌, List, [], ◌∷◌, ◌++◌, length, map, Option, None, Some, refl, sym, ap, ◌∙◌, subst, arith, vec_capacity}
 use Rattle.std.specs.Prelude.{slice_get, IsSome, is_some, All, Contains}
+use Rattle.std.specs.Option.{option_map_or}
 use Rattle.std.specs.declared.alloc.Global.{Global}
 use Rattle.std.specs.declared.vec.Vec.{Vec}
 use Rattle.std.proofs.lemmas.List.{length-map, length_push, map_push}
@@ -8,7 +9,7 @@ use Rattle.std.proofs.lemmas.Bool.{cases_lt}
 use Rattle.std.proofs.lemmas.List.Elements.{All-push, Contains-push, Contains-push_cases, Contains-append_left}
 use Rattle.std.proofs.lemmas.Option.{none-some, same_Some, slice_get_within, slice_get-map}
 use Rattle.wol_disk.specs.Disk.{Block, State, TellsContent, IsImageOf}
-use Rattle.wol_model.specs.Heads.{owned_block, free_block, segment_block, SpellsSegment}
+use Rattle.wol_model.specs.Heads.{owned_block, free_block, SpellsSegment}
 use Rattle.wol_model.specs.Heads as head
 use Rattle.wol_model.specs.Log.{Record, IsLog}
 use Rattle.wol_model.proofs.Spellings.{one_segment_head}
@@ -26,9 +27,9 @@ use Rattle.manager_recovery.specs.Opening.{place_of}
 use Rattle.manager_recovery.specs.declared.opening.Opening.{Opening}
 use Rattle.volume_images.specs.Volumes.{shape_in, shapes_of}
 use Rattle.rack.specs.Rests.{image_here, segment_here, held_here, IsImageOut, IsRestBut, away_with, AreRooms}
-use Rattle.rack.specs.Racks.{base_of_station, AreRising, IsOpenBase, IsStation, IsUnused, IsClosable}
+use Rattle.rack.specs.Racks.{base_of_station, AreRising, IsOpenBase, IsStation, IsUnused, IsClosable, KeepToViews}
 use Rattle.rack.specs.Parts.{TakesOpening, IsOwnedPlace, loggers_out}
-use Rattle.rack.specs.Opening.{said_at, fault_at, IsSaidOf, AreTried, IsOpeningRack}
+use Rattle.rack.specs.Opening.{said_at, view_at, fault_at, IsSaidOf, AreTried, IsOpeningRack}
 use Rattle.rack.specs.declared.heads_said.Said.{Said}
 use Rattle.rack.specs.declared.rack.ImageRest.{ImageRest}
 use Rattle.rack.specs.declared.rack.Rack.{Rack}
@@ -38,7 +39,7 @@ use Rattle.rack.proofs.Asking.{some_at}
 use Rattle.rack.proofs.Members.{segment_in_image, a_value, no_value, here_within}
 use Rattle.rack.proofs.OneOpened.{with_rooms, rising_push, base_stays, out_stays}
 use Rattle.rack.proofs.OpenAway.{open_away, WasHere, was_here, segment_was, pool_was, spindle_was, held_none, owner_of}
-use Rattle.rack.proofs.Takes.{image_id}
+use Rattle.rack.proofs.Takes.{image_id, said_id}
 use Rattle.rack.proofs.Without as without
 
 -- a log of a volume says no other owner
@@ -175,7 +176,7 @@ module _ {D : Type 0} (state : D → State) (config : Config) (valid : IsValid c
 
   -- ---- The rack goes on being opened
 
-  module _ (unused : IsUnused s.worker × IsUnused s.helper × IsUnused s.keeper) (station_cap : vec_capacity stations ≡ vec_capacity r.stations) (manager_cap : vec_capacity rooms.managers ≡ vec_capacity r.rest.rooms.managers) where
+  module _ (unused : IsUnused s.worker × IsUnused s.helper × IsUnused s.keeper) (station_cap : vec_capacity stations ≡ vec_capacity r.stations) (manager_cap : vec_capacity rooms.managers ≡ vec_capacity r.rest.rooms.managers) (own_view : own.view ≡ view) where
     count_stations : length stations.items ≡ length r.stations.items + 1
     count_stations = ap (λ (xs : List (Station D)). length xs) stations_are ∙ length_push r.stations.items s
 
@@ -213,6 +214,18 @@ module _ {D : Type 0} (state : D → State) (config : Config) (valid : IsValid c
       further = λ k le within. let old = ready.tried.further k (omega (arith, le)) within in (λ none. stays k (old.0 none), λ out. old.1 (was k out));
     }
 
+    -- the view of the volume is the one that its image says
+    view_said : view_at said s.id ≡ (base_of_station s).volume.began.view
+    view_said = ap (view_at said) s_id ∙ ap (λ (x : Option Said). option_map_or (λ (y : Said). y.view) x []) (said_id state config valid b said id r own ready lt at) ∙ own_view ∙ sym view_is
+
+    users : KeepToViews (view_at said) next
+    users = record {
+      opened = subst (λ (xs : List (Station D)). All (λ (x : Station D). view_at said x.id ≡ (base_of_station x).volume.began.view) xs) (sym stations_are)
+          (All-push (λ (x : Station D). view_at said x.id ≡ (base_of_station x).volume.began.view) r.stations.items s ready.users.opened view_said);
+      unused = λ v k p other never here.
+          ready.users.unused v k p other never (spindle_was state config valid b said id r own ready lt at view new o takes (base_of_station s) owner view_is others all inside v k p here);
+    }
+
     pub one_opening : IsOpeningRack state config b said (id + 1) next
     one_opening = record {
       closable = one_closable;
@@ -241,6 +254,7 @@ module _ {D : Type 0} (state : D → State) (config : Config) (valid : IsValid c
             let p = a_value (segment_here image i) there in
             none-some p.0 (sym (ready.owners.free k i own_k (was_at k image now).image is head (was_at k image now).here) ∙ segment_before k i image p.0 now p.1));
       };
+      users = users;
       untouched = record {
         passes = λ v k p le here. ready.untouched.passes v k p (omega (arith, le)) (pool_was state config valid b said id r own ready lt at view new o takes (base_of_station s) owner view_is others all inside v k p here).0;
         here = λ v k i own_k image le is head now.

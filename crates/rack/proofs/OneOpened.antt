@@ -1,5 +1,5 @@
 -- The rack once one volume more is open.
-use Rattle.std.proofs.Common.{◌≡◌, ◌≢◌, ◌⊎◌, inl, inr, ⊎_elim, ℕ, ◌+◌, ◌<◌, ◌≤◌, List, [], ◌∷◌, ◌++◌, length, map, Option, None, Some, refl, sym, ap, ◌∙◌, subst, arith}
+use Rattle.std.proofs.Common.{◌≡◌, ⊎_elim, ℕ, ◌<◌, ◌≤◌, List, [], ◌∷◌, ◌++◌, length, Option, None, Some, refl, sym, ap, ◌∙◌, subst, arith}
 use Rattle.std.specs.Prelude.{slice_get}
 use Rattle.std.proofs.lemmas.Bool.{cases_lt}
 use Rattle.std.proofs.lemmas.List.{length_push}
@@ -66,6 +66,7 @@ base_stays config shared old new b stays is = record {
   most = is.most;
   own_spindle = is.own_spindle;
   own_lanes = is.own_lanes;
+  untaken = is.untaken;
 }
   where
     each : (ks : List ℕ) → Rattle.std.specs.List.AllByRecursion (IsImageOut old) ks → Rattle.std.specs.List.AllByRecursion (IsImageOut new) ks

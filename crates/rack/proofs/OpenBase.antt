@@ -1,21 +1,21 @@
 -- What the manager of a volume that was opened begins with, among the locks of its rack.
 use Rattle.std.proofs.Common.{◌≡◌, ◌≢◌, ℕ, ◌<◌, Bool, List, [], ◌∷◌, map, Option, Some, refl, sym, ap, ◌∙◌, subst}
-use Rattle.std.specs.Prelude.{slice_get, vec_len, IsSome, is_some, All, AllPairs, Contains}
+use Rattle.std.specs.Prelude.{slice_get, vec_len, All, AllPairs, Contains}
 use Rattle.std.specs.List.{AllByRecursion, AllZip}
 use Rattle.std.proofs.lemmas.List.Elements.{recursion_from_All}
 use Rattle.std.proofs.lemmas.Option.{same_Some}
 use Rattle.wol_disk.specs.Disk.{State}
 use Rattle.wol_model.specs.Heads.{Shape}
 use Rattle.wol_config.specs.declared.config.Config.{Config}
-use Rattle.turn_lock.specs.Passes.{lock_id, pass_number}
+use Rattle.turn_lock.specs.Passes.{lock_id, pass_mine, pass_number}
 use Rattle.log_layout.specs.Values.{shape_of}
 use Rattle.logger.specs.Lanes.{IsAt, IsSameLane, logger_of, pool_of, spindle_of}
 use Rattle.logger.specs.declared.lane.Lane.{Lane}
 use Rattle.logger.specs.declared.shared.Shared.{Shared}
-use Rattle.manager.specs.Stands.{AreNamed, IsLaneShared}
+use Rattle.manager.specs.Stands.{AreNamed, IsLaneShared, takes_in}
 use Rattle.manager.specs.declared.base.LaneBase.{LaneBase}
 use Rattle.manager.specs.declared.manager.Manager.{Manager}
-use Rattle.manager_recovery.specs.Opened.{Opens}
+use Rattle.manager_recovery.specs.Opened.{Opens, CountsTakes}
 use Rattle.manager_recovery.specs.declared.opening.Opening.{Opening}
 use Rattle.volume_images.specs.Volumes.{shapes_of}
 use Rattle.rack.specs.Rests.{IsImageOut}
@@ -47,6 +47,13 @@ module _ {D : Type 0} where
   lanes_named (l ∷ ls) [] named = absurd named
   lanes_named (l ∷ ls) (b ∷ bs) named = λ i. sym named.0.logger i ∷ lanes_named ls bs named.1 i
 
+  -- their passes had taken nothing
+  none_taken : (os : List (Lane D)) (bs : List LaneBase) → AllZip CountsTakes os bs → AllByRecursion (λ (l : Lane D). pass_mine (pool_of l) ≡ []) os → AllByRecursion (λ (b : LaneBase). b.takes ≡ 0) bs
+  none_taken [] [] counts fresh = tt
+  none_taken [] (b ∷ bs) counts fresh = absurd counts
+  none_taken (o ∷ os) [] counts fresh = absurd counts
+  none_taken (o ∷ os) (b ∷ bs) counts fresh = (counts.0 ∙ ap takes_in fresh.0, none_taken os bs counts.1 fresh.1)
+
   -- their passes have the volume's number
   own_numbers : (id : ℕ) (os ls : List (Lane D)) (bs : List LaneBase) → AllZip IsSameLane os ls → AreNamed ls bs → AllByRecursion (λ (l : Lane D). (pass_number (pool_of l) ≡ id) × (pass_number (spindle_of l) ≡ id)) os
       → AllByRecursion (λ (b : LaneBase). (b.pool_number ≡ id) × (b.spindle_number ≡ id)) bs
@@ -60,7 +67,7 @@ module _ {D : Type 0} where
 
 module _ {D : Type 0} (tells : Bool) (state : D → State) (config : Config) (shared : Shared D) (images : List (Option (ImageRest D))) (o : Opening D) (m : Manager D) (opens : Opens tells state shared o m) (id : ℕ) (id_is : o.want.id ≡ id)
     (shape : slice_get (shapes_of config) id ≡ Some (shape_of o.want)) (most : o.most ≡ most_of config) (out : IsImageOut images id) (outs : All (IsImageOut images) o.view) (other : Contains o.view id → ⊥) (distinct : AllPairs (λ j k. j ≢ k) o.view)
-    (spindle : pass_number o.spindle ≡ id) (numbers : All (λ (l : Lane D). (pass_number (pool_of l) ≡ id) × (pass_number (spindle_of l) ≡ id)) o.lanes.items) where
+    (spindle : pass_number o.spindle ≡ id) (numbers : All (λ (l : Lane D). (pass_number (pool_of l) ≡ id) × (pass_number (spindle_of l) ≡ id)) o.lanes.items) (fresh : All (λ (l : Lane D). pass_mine (pool_of l) ≡ []) o.lanes.items) where
   pub open_base : IsOpenBase config shared images opens.base
   open_base =
       let locks = opens.stands.keeps.locks in
@@ -82,4 +89,5 @@ module _ {D : Type 0} (tells : Bool) (state : D → State) (config : Config) (sh
         own_spindle = sym locks.number ∙ opens.spindle.1 ∙ spindle ∙ sym owner;
         own_lanes = subst (λ (k : ℕ). AllByRecursion (λ (b : LaneBase). (b.pool_number ≡ k) × (b.spindle_number ≡ k)) opens.base.lanes) (sym owner)
             (own_numbers id o.lanes.items m.lanes.items opens.base.lanes opens.lanes locks.each (recursion_from_All (λ (l : Lane D). (pass_number (pool_of l) ≡ id) × (pass_number (spindle_of l) ≡ id)) o.lanes.items numbers));
+        untaken = none_taken o.lanes.items opens.base.lanes opens.takes (recursion_from_All (λ (l : Lane D). pass_mine (pool_of l) ≡ []) o.lanes.items fresh);
       }

@@ -1,15 +1,16 @@
 -- The rack of all volumes, against what was taken out for it.
-use Rattle.std.proofs.Common.{◌≡◌, ◌⊎◌, inl, inr, ⊎_elim, ℕ, zero, suc, ◌+◌, ◌<◌, ◌≤◌, Bool, true, false, List, [], ◌∷◌, ◌++◌, length, map, Option, None, Some, option_map, refl, sym, ap, ◌∙◌, subst, arith}
+use Rattle.std.proofs.Common.{◌≡◌, inl, ⊎_elim, ℕ, zero, suc, ◌+◌, ◌<◌, ◌≤◌, Bool, true, false, List, [], ◌∷◌, ◌++◌, length, map, Option, None, Some, option_map, refl, sym, ap, ◌∙◌, subst, arith}
 use Rattle.std.specs.Prelude.{slice_get, slice_index_or, is_some, IfSome, IsTrue, All}
+use Rattle.std.specs.Option.{option_map_or}
 use Rattle.std.proofs.lemmas.List.{length-map}
 use Rattle.std.proofs.lemmas.Option.{none-some, slice_get_within, slice_get-map, slice_get-get_or, get_or_from_slice_get}
-use Rattle.wol_disk.specs.Disk.{State, Rose}
-use Rattle.wol_model.specs.Images.{image_size}
+use Rattle.wol_disk.specs.Disk.{State, reads}
 use Rattle.wol_bay.specs.Bay.{Image, Told, BayState, at_name, outs}
 use Rattle.wol_config.specs.Configs.{IsValid}
 use Rattle.wol_config.specs.declared.config.Config.{Config}
 use Rattle.wol_config.specs.declared.config.VolumeConf.{VolumeConf}
 use Rattle.log_layout.specs.Values.{segment_head}
+use Rattle.logger_view.specs.Stored.{HasView}
 use Rattle.turn_lock.specs.Passes.{pass_seen, pass_mine}
 use Rattle.turn_lock.specs.declared.pass.PassOf.{PassOf}
 use Rattle.spin_model.specs.declared.spindle.Spindle.{Spindle}
@@ -28,11 +29,11 @@ use Rattle.manager_recovery.specs.declared.refusal.OpenRefusal.TheVariants.{Disk
 use Rattle.volume_images.specs.Left.{IsTold}
 use Rattle.volume_images.specs.Volumes.{shape_in, shapes_of, NoneOut}
 use Rattle.rack.specs.Rests.{image_here, segment_here, IsImageOut}
-use Rattle.rack.specs.Making.{AreSettled, AreSpindlesOf}
+use Rattle.rack.specs.Making.{AreSettled}
 use Rattle.rack.specs.Parts.{in_image, segment_in, IsSetUp}
 use Rattle.rack.specs.Owners.{HadRefused}
-use Rattle.rack.specs.Opens.{out_names, HasFaulty, KeepsOthers, RefusesVolume, WasAccepted, WereThere, AreRefused, LeavesAll, KeepsAllSound}
-use Rattle.rack.specs.Opening.{IsTaken, StayedSo, HaveFaults, HasFaultOf, AreSameOut}
+use Rattle.rack.specs.Opens.{out_names, AreViewsAsRead, HasFaulty, KeepsOthers, RefusesVolume, WasAccepted, WereThere, LeavesAll, KeepsAllSound}
+use Rattle.rack.specs.Opening.{view_at, IsTaken, StayedSo, HaveFaults, HasFaultOf, AreSameOut}
 use Rattle.rack.specs.Closes.{AreLeftOfParts, HasFaultAt, IsNamedHere, has_station, is_kept_home, flight_in, IsQuiet, LeavesVolumes}
 use Rattle.rack.specs.Closing.{LeavesNoneOut}
 use Rattle.rack.specs.Racks.{IsUnused, AreUnused}
@@ -138,6 +139,19 @@ module _ {D : Type 0} (tells : Bool) (state : D → State) (config : Config) (va
           let was = taken.asked.entry telling old is k v of.said q at of.said_is e in
           (was.image, was.there, was.says.whole, was.says.size, of.said.view, map segment_head of.said.heads.items, was.says.accepted)
 
+  -- what the images say as they read is what was said of them
+  pub opened_views : IsTrue tells → (old : Told) → b.told ≡ Some old → AreViewsAsRead config r.rest.images.items old (view_at t.images.said.items)
+  opened_views telling old is k v at out = go (image_here taken.before.out.items k) refl
+    where
+      go : (o : Option (ImageRest D)) → image_here taken.before.out.items k ≡ o → (i : Image) × (at_name v.name old.images ≡ Some i) × HasView (reads i.blocks) (view_at t.images.said.items k)
+      go None e = absurd (let none = out_is k ∙ ap is_some e in cc (none, out))
+      go (Some q) e =
+          let shape : slice_get (shapes_of config) k ≡ Some (shape_in config v) = slice_get-map (shape_in config) config.volumes.items k ∙ ap (option_map (shape_in config)) at in
+          let of = taken.asked.out k (shape_in config v) q shape e in
+          let was = taken.asked.entry telling old is k v of.said q at of.said_is e in
+          let view_is : of.said.view ≡ view_at t.images.said.items k = ap (λ (o : Option Said). option_map_or (λ (s : Said). s.view) o []) (sym of.said_is) ∙ ap (λ (x : _). view_at x.items k) (sym taken.same.0) in
+          (was.image, was.there, subst (λ (ids : List ℕ). HasView (reads was.image.blocks) ids) view_is was.says.accepted.named.view)
+
 -- the keepers' passes weren't used
 pub fresh_passes : {D : Type 0} (tells : Bool) (state : D → State) (config : Config) (b b1 : BayState) (t : Taken D) (taken : IsTaken tells state config b b1 t)
     (r : Rack D) → IsSetUp t.spindles.items t.pools.items (length t.spindles.items) r → All (λ (p : PassOf Spindle SpindleBase). IsUnused p) r.keepers.items
@@ -148,7 +162,7 @@ fresh_passes {D} tells state config b b1 t taken r set_up = λ k d lt. unused k 
         let i = some_at t.spindles.items k (let c = set_up.keeper_count in omega (arith, lt, c)) in
         let within = slice_get_within t.spindles.items k i.0 i.1 in
         let same = get_or_from_slice_get t.spindles.items k i.0 i.0 i.1 in
-        let settled : AreSettled i.0 = subst AreSettled same (taken.spindles.settled k i.0 within) in
+        let settled : AreSettled k i.0 = subst (AreSettled k) same (taken.spindles.settled k i.0 within) in
         let count : length i.0.passes.items ≡ length t.spindles.items + 1 =
         (subst (λ (x : Issued Spindle SpindleBase). Rattle.rack.specs.Making.IsInOrder x) same (taken.spindles.each k i.0 within)).whole.count
         ∙ (subst (λ (x : Issued Spindle SpindleBase). Rattle.rack.specs.Rests.IsSpindleLock (length config.volumes.items) k config.timeout x.lock) same (taken.spindles.spindles k i.0 within)).passes

@@ -28,7 +28,8 @@ use Rattle.spin_model.specs.declared.spun.Spun.{Spun}
 use Rattle.manager.specs.declared.base.ManagerBase.{ManagerBase}
 use Rattle.manager.specs.declared.manager.Manager.{Manager}
 use Rattle.manager.specs.declared.station.Station.{Station}
-use Rattle.manager_recovery.specs.Opened.{Begins}
+use Rattle.logger.specs.declared.shared.Shared.{Shared}
+use Rattle.manager_recovery.specs.Opened.{Begins, IsPlaceOf, Opens}
 use Rattle.manager_recovery.specs.Opening.{place_of}
 use Rattle.manager_recovery.specs.Owned.{IsListedOf, read_of, all_owned, records_in, writes_in, heads_in, recovered_of, AreIntact, HaveNoTwins}
 use Rattle.manager_recovery.specs.Refused.{IsRecoverable}
@@ -38,7 +39,7 @@ use Rattle.volume_images.specs.Volumes.{shape_in, shapes_of}
 use Rattle.rack.specs.Locked.{IsLocked}
 use Rattle.rack.specs.Opening.{HasBegun, IsOpeningRack, said_at, fault_at}
 use Rattle.rack.specs.Opens.{IsLeftHere, IsGone}
-use Rattle.rack.specs.Owners.{images_taken, AreOwnedIn, IsBegun, IsOpeningOf}
+use Rattle.rack.specs.Owners.{images_taken, AreOwnedIn, BeganInPlace, IsBegun, IsOpeningOf}
 use Rattle.rack.specs.Parts.{TakesOpening, loggers_out, segment_in}
 use Rattle.rack.specs.Racks.{base_of_station}
 use Rattle.rack.specs.Rests.{image_here, segment_here, held_here, IsSegmentHere}
@@ -85,6 +86,19 @@ begun_of {D} tells state telling config out images id o b each image there of be
       most = begins.most ∙ of.most;
     }
 
+-- its listed records stood where the images have them
+pub placed_of : {D : Type 0} (tells : Bool) (state : D → State) (telling : IsTrue tells) (config : Config) (shared : Shared D) (out : List (Option (ImageRest D))) (images : Images) (id : ℕ) (o : Opening D) (m : Manager D)
+    → IsOpeningOf state config out images id o → (opens : Opens tells state shared o m) → BeganInPlace config images opens.base
+placed_of {D} tells state telling config shared out images id o m of opens =
+    let segments = all_owned state o.owned.items in
+    let began = opens.base.volume.began in
+    record {
+      owned = segments;
+      are_owned = subst (λ (v : ℕ). AreOwnedIn (shapes_of config) images v segments) (sym (opens.begins.owner ∙ of.id)) of.owned;
+      each = subst (λ (v : ℕ). AllByRecursion (IsPlaceOf v began.view segments) opens.base.volume.places) (sym opens.begins.owner)
+          (subst (λ (view : List ℕ). AllByRecursion (IsPlaceOf o.want.id view segments) opens.base.volume.places) (sym opens.begins.view) (opens.placed telling));
+    }
+
 -- a fault of a volume that was tried is none of the one at hand
 pub tried_before : {D : Type 0} (state : D → State) (config : Config) (valid : IsValid config) (b : BayState) (said : List (Option Said)) (id : ℕ) (r : Rack D) (own : Said)
     → (ready : IsOpeningRack state config b said id r) (lt : id < length (shapes_of config)) (at : slice_get said id ≡ Some (Some own)) (k : ℕ) (f : VolumeFault) → fault_at r.faults.items k ≡ Some f
@@ -125,6 +139,10 @@ module _ {D : Type 0} (tells : Bool) (state : D → State) (config : Config) (va
       (begun_of tells state telling config r.rest.images.items images id o locked.opens.base.volume.began
       (sized state config valid b said id r own ready lt at view own_view new o takes t begun.cut) (reads read.entry.blocks) read.read
       (opening_of state config valid b said id r own ready lt at view own_view new o takes t begun.cut) locked.opens.begins (locked.opens.recoverable telling))
+
+  station_placed : BeganInPlace config images (base_of_station station)
+  station_placed = subst (BeganInPlace config images) (sym locked.base)
+      (placed_of tells state telling config r.shared r.rest.images.items images id o locked.manager (opening_of state config valid b said id r own ready lt at view own_view new o takes t begun.cut) locked.opens)
 
   -- ---- What is left here
 
@@ -254,6 +272,9 @@ module _ {D : Type 0} (tells : Bool) (state : D → State) (config : Config) (va
       stations = subst (λ (xs : List (Station D)). All (λ s. IsBegun config (images_taken config new.images.items t) (base_of_station s).volume.began) xs) (sym are)
           (subst (λ (is : Images). All (λ s. IsBegun config is (base_of_station s).volume.began) (r.stations.items ++ station ∷ [])) (sym same_images)
           (All-push (λ (s : Station D). IsBegun config images (base_of_station s).volume.began) r.stations.items station begun.began.stations station_begun));
+      placed = subst (λ (xs : List (Station D)). All (λ s. BeganInPlace config (images_taken config new.images.items t) (base_of_station s)) xs) (sym are)
+          (subst (λ (is : Images). All (λ s. BeganInPlace config is (base_of_station s)) (r.stations.items ++ station ∷ [])) (sym same_images)
+          (All-push (λ (s : Station D). BeganInPlace config images (base_of_station s)) r.stations.items station begun.began.placed station_placed));
       left = still_left;
       held = λ w k i v before p conf there has. absurd (none_in (i, p) (subst (λ (xs : List (ℕ × Spun D)). Contains xs (i, p)) (none_held w k) has));
       gone = λ k i v before y conf there now within none. still_gone stations are k i v before y conf there now within (λ p here. none p (inl (y, now, here)));

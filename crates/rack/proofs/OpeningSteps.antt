@@ -8,7 +8,7 @@ use Rattle.wol_bay.specs.Bay.{BayState, Told}
 use Rattle.wol_config.specs.declared.config.Config.{Config}
 use Rattle.manager.specs.declared.station.Station.{Station}
 use Rattle.volume_images.specs.Volumes.{shapes_of}
-use Rattle.rack.specs.Opening.{said_at, fault_at, IsOpeningRack, HasBegun, AreRefusedBelow, HaveFaults}
+use Rattle.rack.specs.Opening.{said_at, view_at, fault_at, IsOpeningRack, HasBegun, AreRefusedBelow, HaveFaults}
 use Rattle.rack.specs.Opens.{AreRefused}
 use Rattle.rack.specs.Racks.{IsRack}
 use Rattle.rack.specs.Rests.{image_here}
@@ -56,6 +56,7 @@ module _ {D : Type 0} (tells : Bool) (state : D → State) (config : Config) (sa
         unheld = o.unheld;
         since = o.since;
         owners = o.owners;
+        users = o.users;
         station_room = let h = o.station_room in omega (arith, h);
         manager_room = let h = o.manager_room in omega (arith, h);
         tried = record {
@@ -110,6 +111,7 @@ module _ {D : Type 0} (tells : Bool) (state : D → State) (config : Config) (sa
       rest = o.closable.rest;
       foreign = o.closable.foreign;
       accesses = o.closable.accesses;
+      users = (view_at said, o.users);
     }
 
   pub begun_passed : (t : Told) (n : ℕ) → HasBegun state config t said n r → HasBegun state config t said (n + 1) r
@@ -124,7 +126,3 @@ module _ {D : Type 0} (tells : Bool) (state : D → State) (config : Config) (sa
 
   pub all_refused : (b0 b1 : BayState) (n : ℕ) → length r.faults.items ≡ n → AreRefusedBelow tells state config b0 b1 n r → AreRefused tells state config b0 b1 r
   all_refused b0 b1 n count below k v f at is = below k v f (inl (let w = slice_get_within r.faults.items k (Some f) is in omega (arith, w, count))) at (get_or_from_slice_get r.faults.items k (Some f) None is)
-
--- no volume was tried
-pub none_failed : {D : Type 0} (state : D → State) (said : List (Option Said)) (r : Rack D) → HaveFaults state said 0 r
-none_failed state said r k p lt out is = absurd (omega (arith, lt))

@@ -1,8 +1,9 @@
 -- The entries of a lock's other passes, where each made accesses only.
-use Rattle.std.proofs.Common.{◌≡◌, ◌≢◌, ◌⊎◌, ◌==◌, inl, inr, ℕ, Bool, true, false, cond, List, [], ◌∷◌, ◌++◌, map, refl, sym, ap, ◌∙◌, subst}
+use Rattle.std.proofs.Common.{◌≡◌, ◌≢◌, ◌⊎◌, ◌==◌, ◌<◌, ◌≤◌, inl, inr, ℕ, Bool, true, false, cond, List, [], ◌∷◌, ◌++◌, length, map, get_or, Option, None, Some, refl, sym, ap, ◌∙◌, subst, arith}
 use Rattle.std.specs.Prelude.{Contains, All}
 use Rattle.std.specs.List.{AllByRecursion}
-use Rattle.std.proofs.lemmas.List.Elements.{All-push, All-contains, Contains-append_left}
+use Rattle.std.proofs.lemmas.Bool.{cases_lt}
+use Rattle.std.proofs.lemmas.List.Elements.{All-push, All-contains, Contains-append_left, Contains-get_or}
 use Rattle.turn_lock.specs.Histories.{Entry, own}
 use Rattle.turn_lock.specs.Passes.{pass_number, pass_mine, IsPartOf, AreWhole}
 use Rattle.turn_lock.specs.declared.pass.PassOf.{PassOf}
@@ -10,7 +11,7 @@ use Rattle.spin_model.specs.Operations.{has_token}
 use Rattle.spin_model.specs.declared.spindle.Spindle.{Spindle}
 use Rattle.spin_model.specs.declared.spindle.SpindleBase.{SpindleBase}
 use Rattle.logger.specs.Lanes.{AreAccesses}
-use Rattle.rack.specs.Closing.{IsAccessBut}
+use Rattle.rack.specs.Closing.{IsAccessBut, entries_made}
 use Rattle.rack.proofs.Members.{is_member, of_map, in_map, all_member}
 use Rattle.rack.proofs.Unbroken.{self_equal}
 
@@ -41,6 +42,22 @@ by_others P nothing es ps keeper whole all n differs = go (is_member (map (λ (p
         (all_member (λ q. pass_number q ≢ n) ps (λ q has e. never (subst (λ (m : ℕ). Contains (map (λ (p : PassOf Spindle SpindleBase). pass_number p) ps) m) e (in_map (λ (p : PassOf Spindle SpindleBase). pass_number p) ps q has))))
         (λ e. differs (sym e))) in
         subst P (sym none) nothing
+
+-- and the entries of a number are those that the pass at its place made, where each pass is at the place of its number
+pub others_made : (es : List Entry) (ps : List (PassOf Spindle SpindleBase)) (keeper : PassOf Spindle SpindleBase) (at : ℕ → Option (PassOf Spindle SpindleBase)) → AreWhole es (ps ++ keeper ∷ [])
+    → ((v : ℕ) (d : PassOf Spindle SpindleBase) → v < length ps → (at v ≡ Some (get_or ps v d)) × (pass_number (get_or ps v d) ≡ v)) → ((v : ℕ) → length ps ≤ v → at v ≡ None)
+    → (n : ℕ) → n ≢ pass_number keeper → own n es ≡ entries_made (at n)
+others_made es ps keeper at whole here past n differs = go (cases_lt n (length ps))
+  where
+    go : (n < length ps) ⊎ (length ps ≤ n) → own n es ≡ entries_made (at n)
+    go (inl less) =
+        let is = here n keeper less in
+        let part = All-contains (λ q. IsPartOf es q) (ps ++ keeper ∷ []) (get_or ps n keeper) whole.parts (Contains-append_left ps (keeper ∷ []) (get_or ps n keeper) (Contains-get_or ps n keeper less)) in
+        ap (λ (m : ℕ). own m es) (sym is.1) ∙ part.mine ∙ sym (ap (λ (o : Option (PassOf Spindle SpindleBase)). entries_made o) is.0)
+    go (inr behind) =
+        let none : own n es ≡ [] = whole.no_more n (All-push (λ q. pass_number q ≢ n) ps keeper
+        (λ v d less e. let number = (here v d less).1 in omega (arith, number, e, less, behind)) (λ e. differs (sym e))) in
+        none ∙ sym (ap (λ (o : Option (PassOf Spindle SpindleBase)). entries_made o) (past n behind))
 
 pub others_access : (es : List Entry) (ps : List (PassOf Spindle SpindleBase)) (keeper : PassOf Spindle SpindleBase) → AreWhole es (ps ++ keeper ∷ []) → All (λ p. AreAccesses (pass_mine p)) ps → AllByRecursion (IsAccessBut (pass_number keeper)) es
 others_access es ps keeper whole accesses = by_own (pass_number keeper) es (by_others AreAccesses tt es ps keeper whole accesses)

@@ -1,5 +1,5 @@
 -- Images of names that aren't configured are as they were, whatever is done with the others.
-use Rattle.std.proofs.Common.{◌≡◌, ℕ, List, Option, None, Some, length, refl, ◌∙◌}
+use Rattle.std.proofs.Common.{ℕ, List, Option, None, Some, refl, ◌∙◌}
 use Rattle.wol_disk.specs.Disk.{State}
 use Rattle.wol_bay.specs.Bay.{Told, BayState}
 use Rattle.wol_config.specs.declared.config.Config.{Config}

@@ -40,9 +40,6 @@ behind : (p : ℕ × ℕ) (os : List Owned) (o : Owned) → AllByRecursion (IsBe
 behind p [] o all has = absurd has
 behind p (x ∷ os) o all has = ⊎_elim (λ same. subst (λ (y : Owned). IsBefore p (y.logger, y.index)) (sym same) all.0) (λ more. behind p os o all.1 more) has
 
-Within : List Owned → List Owned → Type 0
-Within xs ys = (o : Owned) → IsAmong xs o → IsAmong ys o
-
 -- lists in order with the same elements are the same
 same_sorted : (xs ys : List Owned) → AreInOrder (map (λ (o : Owned). (o.logger, o.index)) xs) → AreInOrder (map (λ (o : Owned). (o.logger, o.index)) ys)
     → ((o : Owned) → IsAmong xs o → IsAmong ys o) → ((o : Owned) → IsAmong ys o → IsAmong xs o) → xs ≡ ys

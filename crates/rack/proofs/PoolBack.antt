@@ -32,12 +32,9 @@ use Rattle.rack.specs.declared.rack.ImageRest.{ImageRest}
 use Rattle.rack.specs.declared.rack.Rest.{Rest}
 use Rattle.rack.specs.declared.rack.VolumePasses.{VolumePasses}
 use Rattle.rack.proofs.Gathering.{some_element}
-use Rattle.rack.proofs.Members.{no_value, a_value, is_there, in_map, of_map, is_member, all_member}
+use Rattle.rack.proofs.Members.{no_value, a_value, is_there, in_map, of_map, is_member}
 
 -- ---- Who has a segment, as passes use the pool
-
-not_elsewhere : {n : ℕ} → HeldBy n ≡ Elsewhere → ⊥
-not_elsewhere e = absurd (cc e)
 
 known_then : (hs : List Holder) (pass : ℕ) (u : PoolUse) (i : ℕ) → MayUsePool hs pass u → holder hs i ≢ Elsewhere → holder (pool_used hs pass u) i ≢ Elsewhere
 known_then hs pass (Took None) i may known = known

@@ -26,7 +26,7 @@ use Rattle.volume_images.specs.Accepted.{head_place}
 use Rattle.volume_images.specs.Volumes.{shape_in, shapes_of}
 use Rattle.rack.specs.Opening.{said_at, fault_at, IsOpeningRack, AreStillCut, HasBegun, AreRefusedBelow}
 use Rattle.rack.specs.Opens.{HadBefore, HadSegmentBefore, IsLeftHere, IsGone, RefusesVolume}
-use Rattle.rack.specs.Owners.{images_taken, IsBegun}
+use Rattle.rack.specs.Owners.{images_taken, BeganInPlace, IsBegun}
 use Rattle.rack.specs.Parts.{TakesOpening, PutsOpening, segment_in}
 use Rattle.rack.specs.Racks.{base_of_station, NamesVolumes}
 use Rattle.rack.specs.Rests.{image_here, segment_here, IsSegmentHere}
@@ -126,6 +126,7 @@ module _ {D : Type 0} (state : D → State) (sound : (d : D) → IsDisk (state d
     begun_again = record {
       began = record {
         stations = subst (λ (images : Images). All (λ (s : Station D). IsBegun config images (base_of_station s).volume.began) r.stations.items) (sym (taken_same last.images.items r.rest.images.items same_out config t)) begun.began.stations;
+        placed = subst (λ (images : Images). All (λ (s : Station D). BeganInPlace config images (base_of_station s)) r.stations.items) (sym (taken_same last.images.items r.rest.images.items same_out config t)) begun.began.placed;
         left = left;
         held = λ w k i v before p conf there has. absurd (none_in (i, p) (subst (λ (l : List (ℕ × Spun D)). Contains l (i, p)) (back_again.held_none state tells config valid b said id r own ready lt at view own_view away o takes n back last puts w k) has));
         gone = gone;

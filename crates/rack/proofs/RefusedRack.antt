@@ -1,7 +1,8 @@
 -- The rack once the opening of one volume was refused and came back.
-use Rattle.std.proofs.Common.{◌≡◌, ◌≢◌, ◌⊎◌, inl, inr, ⊎_elim, ℕ, ◌+◌, ◌<◌, ◌≤◌, ◌^◌, Bool, true, false, List, [], ◌∷◌, length, map, set, get_or, Option, None, Some, refl, sym, ap, ◌∙◌, subst, arith}
+use Rattle.std.proofs.Common.{◌≡◌, ◌≢◌, ⊎_elim, ℕ, ◌+◌, ◌<◌, ◌≤◌, ◌^◌, Bool, List, [], length, map, set, get_or, Option, None, Some, sym, ap, ◌∙◌, subst, arith}
 use Rattle.std.specs.Prelude.{slice_get, is_some, Contains}
 use Rattle.std.specs.List.{AllZip}
+use Rattle.std.specs.Option.{option_map_or}
 use Rattle.std.specs.declared.alloc.Global.{Global}
 use Rattle.std.specs.declared.vec.Vec.{Vec}
 use Rattle.std.proofs.lemmas.Bool.{cases_eq, cases_lt}
@@ -17,10 +18,13 @@ use Rattle.log_layout.specs.declared.segment.SegHead.TheVariants.{Free, Owned}
 use Rattle.seg_pool.specs.declared.base.PoolBase.{PoolBase}
 use Rattle.seg_pool.specs.declared.pool.Pool.{Pool}
 use Rattle.spin_model.specs.Spun.{state_of}
+use Rattle.spin_model.specs.declared.spindle.Spindle.{Spindle}
+use Rattle.spin_model.specs.declared.spindle.SpindleBase.{SpindleBase}
 use Rattle.spin_model.specs.declared.spun.Spun.{Spun}
 use Rattle.turn_lock.specs.Passes.{pass_mine}
 use Rattle.turn_lock.specs.declared.pass.PassOf.{PassOf}
 use Rattle.log_segment.specs.declared.free.FreeSegment.{FreeSegment}
+use Rattle.logger.specs.Lanes.{logger_of}
 use Rattle.manager.specs.declared.base.ManagerBase.{ManagerBase}
 use Rattle.manager.specs.declared.part.Part.TheVariants.{Home, Segment}
 use Rattle.manager.specs.declared.station.Station.{Station}
@@ -33,7 +37,7 @@ use Rattle.manager_recovery.specs.declared.refusal.OpenRefusal.{OpenRefusal}
 use Rattle.manager_recovery.specs.declared.refusal.OpenRefusal.TheVariants.{LabelDiffers, LoggerMissing, OutsideView, Damaged, Twins, DiskFault, NoMemory}
 use Rattle.volume_images.specs.Volumes.{shape_in, shapes_of}
 use Rattle.rack.specs.Foreign.{IsForeign}
-use Rattle.rack.specs.Opening.{said_at, fault_at, AreOwnersHere, AreTried, IsOpeningRack, IsStopped}
+use Rattle.rack.specs.Opening.{said_at, view_at, fault_at, AreOwnersHere, AreTried, IsOpeningRack, IsStopped}
 use Rattle.rack.specs.Parts.{TakesOpening, PutsOpening, IsOwnedPlace, loggers_out}
 use Rattle.rack.specs.Racks.{base_of_station, NamesVolumes, IsClosable}
 use Rattle.rack.specs.Rests.{image_here, segment_here, held_here, IsImageOut, AreRooms}
@@ -44,9 +48,10 @@ use Rattle.rack.specs.declared.rack.Rest.{Rest}
 use Rattle.rack.specs.declared.volume_fault.VolumeFault.{VolumeFault}
 use Rattle.rack.specs.declared.volume_fault.VolumeFault.TheVariants as volume_fault
 use Rattle.rack.proofs.BackAgain as back_again
-use Rattle.rack.proofs.BackAgain.{as_it_was, of_a_lane, still_here, handed_on}
+use Rattle.rack.proofs.BackAgain.{as_it_was, of_a_lane, spindle_still, spindle_of_home, spindle_of_lane, still_here, handed_on}
 use Rattle.rack.proofs.Fates.{kept_says}
 use Rattle.rack.proofs.FatesOf.{none_freed, freed_owned}
+use Rattle.rack.proofs.MayReturn as may
 use Rattle.rack.proofs.Members.{a_value, no_value, none_in, of_map, segment_in_image, here_within}
 use Rattle.rack.proofs.OneClosable.{one_owner}
 use Rattle.rack.proofs.OneOpened.{base_stays, out_stays}
@@ -54,7 +59,7 @@ use Rattle.rack.proofs.Openable.{can_open}
 use Rattle.rack.proofs.OpenNamed.{all_out, all_inside}
 use Rattle.rack.proofs.RestAgain.{rest_again, only_accesses, held_was, owner_is}
 use Rattle.rack.proofs.SameOut.{out_too}
-use Rattle.rack.proofs.Takes.{no_base}
+use Rattle.rack.proofs.Takes.{no_base, said_id}
 
 module _ {D : Type 0} (state : D → State) (sound : (d : D) → IsDisk (state d)) (tells : Bool) (config : Config) (valid : IsValid config) (b : BayState) (said : List (Option Said)) (id : ℕ) (r : Rack D) (own : Said)
     (ready : IsOpeningRack state config b said id r) (lt : id < length (shapes_of config)) (at : slice_get said id ≡ Some (Some own)) (view : List ℕ) (own_view : own.view ≡ view)
@@ -241,6 +246,15 @@ module _ {D : Type 0} (state : D → State) (sound : (d : D) → IsDisk (state d
               let heads : Some (Owned id) ≡ Some Free = sym was.head ∙ ap (λ (s : Said). slice_get s.heads.items part.index) saying ∙ ap (λ (j : ℕ). slice_get own_k.heads.items j) f ∙ head in
               cc heads
 
+      -- its lanes came back from the view that its image says
+      pass_unused : (v k : ℕ) (p : PassOf Spindle SpindleBase) → v ≢ k → (Contains (view_at said v) k → ⊥) → back_again.SpindleBack state tells config valid b said id r own ready lt at view own_view away o takes n back last puts v k p → pass_mine p ≡ []
+      pass_unused v k p other never (spindle_still before) = ready.users.unused v k p other never before
+      pass_unused v k p other never (spindle_of_home e f same) = absurd (other (e ∙ sym f))
+      pass_unused v k p other never (spindle_of_lane l m is e f g same) =
+          let in_view : Contains view (logger_of m) = may.in_view state tells config valid b said id r own ready lt at view own_view away o takes n back (logger_of m) (may.logger_seen state tells config valid b said id r own ready lt at view own_view away o takes n back m is.after) in
+          let view_is : view ≡ view_at said v = sym own_view ∙ ap (λ (x : Option Said). option_map_or (λ (y : Said). y.view) x []) (sym (said_id state config valid b said id r own ready lt at)) ∙ ap (view_at said) (sym e) in
+          absurd (never (subst (λ (xs : List ℕ). Contains xs k) view_is (subst (λ (j : ℕ). Contains view j) g in_view)))
+
       pub opening_again : IsOpeningRack state config b said (id + 1) next
       opening_again = record {
         closable = closable_again;
@@ -255,6 +269,7 @@ module _ {D : Type 0} (state : D → State) (sound : (d : D) → IsDisk (state d
         unheld = held_nothing;
         since = λ v k i p here holding. let w = held_was state tells config valid b said id r own ready lt at view own_view away o takes n back last puts named v k i p here holding in ready.since v k i w.before w.here w.held;
         owners = owners;
+        users = record { opened = ready.users.opened; unused = λ v k p other never here. pass_unused v k p other never (back_again.spindle_back state tells config valid b said id r own ready lt at view own_view away o takes n back last puts v k p here) };
         untouched = record {
           passes = λ v k p le here. by_pass v k p le (back_again.pool_back state tells config valid b said id r own ready lt at view own_view away o takes n back last puts v k p here);
           here = λ v k i own_k y le is head now.

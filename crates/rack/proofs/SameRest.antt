@@ -10,7 +10,7 @@ use Rattle.logger.specs.declared.shared.Shared.{Shared}
 use Rattle.manager.specs.declared.station.Station.{Station}
 use Rattle.volume_images.specs.Volumes.{shapes_of}
 use Rattle.rack.specs.Rests.{image_here, indexes_here, Away, away_with, AreImageRests, IsHolding, IsHeldHere, IsPart, IsRestBut, AreRooms, IsSegmentHere}
-use Rattle.rack.specs.Owners.{images_taken, IsBegun}
+use Rattle.rack.specs.Owners.{images_taken, BeganInPlace, IsBegun}
 use Rattle.rack.specs.Racks.{base_of_station, AreOut, IsOpenBase}
 use Rattle.rack.specs.Parts.{IsSameRest}
 use Rattle.rack.specs.Opening.{IsOpeningRack, HasBegun, IsStopped}
@@ -108,6 +108,7 @@ module _ {D : Type 0} (state : D → State) (config : Config) where
       let images = images_same r.rest new same in
       record {
         stations = subst (λ (l : List (Option (ImageRest D))). All (λ s. IsBegun config (images_taken config l t) (base_of_station s).volume.began) r.stations.items) (sym images) old.stations;
+        placed = subst (λ (l : List (Option (ImageRest D))). All (λ s. BeganInPlace config (images_taken config l t) (base_of_station s)) r.stations.items) (sym images) old.placed;
         left = λ k v before image at there here. old.left k v before image at there (sym (image_same r.rest new same k) ∙ here);
         held = λ w k i v before p at there has. old.held w k i v before p at there (subst (λ (l : List (ℕ × Spun D)). Contains l (i, p)) (same.places w k).held has);
         gone = λ k i v before image at there here within none. old.gone k i v before image at there (sym (image_same r.rest new same k) ∙ here) within (λ p is. none p (segment_same r.rest new same k i p is));

@@ -59,9 +59,6 @@ module _ {X : Type 0} where
 
 -- ---- Extents
 
-Apart : Cover → Cover → Type 0
-Apart c d = IsValid c → IsValid d → c.version ≢ d.version
-
 mapped : {X Y : Type 0} (P : Y → Type 0) (f : X → Y) (xs : List X) → AllByRecursion (λ x. P (f x)) xs → AllByRecursion P (map f xs)
 mapped P f [] all = tt
 mapped P f (x ∷ xs) all = (all.0, mapped P f xs all.1)

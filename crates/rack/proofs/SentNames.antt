@@ -6,15 +6,14 @@ use Rattle.std.proofs.lemmas.Bool.{cases_lt}
 use Rattle.std.proofs.lemmas.Option.{none-some, same_Some, slice_get_within, get_or_from_slice_get}
 use Rattle.std.proofs.lemmas.Slice.Eq.{bytes_eq-Decides}
 use Rattle.wol_disk.specs.Disk.{State}
-use Rattle.wol_bay.specs.Bay.{Name, Image, Told, BayState, at_name, without, outs, sent_out, IsHome, IsOut}
-use Rattle.wol_bay.proofs.NameLists.{without_none}
+use Rattle.wol_bay.specs.Bay.{Name, Image, Told, BayState, at_name, outs, sent_out, IsHome, IsOut}
 use Rattle.wol_config.specs.Configs.{IsValid}
 use Rattle.wol_config.specs.declared.config.Config.{Config}
 use Rattle.wol_config.specs.declared.config.VolumeConf.{VolumeConf}
 use Rattle.volume_images.specs.Formatted.{part_sizes}
 use Rattle.volume_images.specs.Left.{IsTold}
 use Rattle.volume_images.specs.Volumes.{shape_in, MayLeave, NoneOut}
-use Rattle.wol_bay.proofs.NamedApart.{other_gone, second_gone}
+use Rattle.wol_bay.proofs.NamedApart.{other_gone}
 use Rattle.rack.specs.Rests.{image_here, IsImageOut}
 use Rattle.rack.specs.Opens.{out_names}
 use Rattle.rack.specs.Opening.{StayedAs, StayedSo, HasSentOut, IsBackAtOnce, IsNextOpened, IsNextRefused}

@@ -275,15 +275,6 @@ pub record IsDealtTo {T : Type 0} (old new : List (Vec T Global)) (places : List
   pub left : (k : ℕ) (d : Vec T Global) → n ≤ k → slice_index_or new k d ≡ slice_index_or old k d
 
 module _ {T : Type 0} where
-  pub dealt_none : (old : List (Vec T Global)) (places : List (Option T)) → places ≡ [] → IsDealtTo old old places 0
-  dealt_none old places none = record {
-    count = refl;
-    so_far = none;
-    popped = λ k d lt. absurd (omega (arith, lt));
-    rooms = λ k d lt. absurd (omega (arith, lt));
-    left = λ k d behind. refl;
-  }
-
   pub dealt_next : (old new : List (Vec T Global)) (places newer_places : List (Option T)) (n : ℕ) (was now : Vec T Global) (last : Option T) → IsDealtTo old new places n → n < length old
       → was ≡ slice_index_or new n was → ((d : T) → 0 < vec_len was → last ≡ Some (slice_index_or was.items (vec_len was - 1) d)) → (vec_len was ≡ 0 → last ≡ None) → now.items ≡ take (vec_len was - 1) was.items → vec_capacity now ≡ vec_capacity was
       → newer_places ≡ places ++ last ∷ [] → IsDealtTo old (slice_set new n now) newer_places (n + 1)
@@ -318,9 +309,3 @@ module _ {T : Type 0} where
           by_first : (xs : List T) → 0 < length xs → ((d : T) → o ≡ Some (slice_index_or xs (vec_len v - 1) d)) → vec_len v ≡ length xs → o ≡ slice_get xs (length xs - 1)
           by_first [] lt is len = absurd (omega (arith, lt))
           by_first (x ∷ xs) lt is len = is x ∙ ap (λ (m : ℕ). Some (slice_index_or (x ∷ xs) (m - 1) x)) len ∙ sym (slice_get-get_or (x ∷ xs) (length (x ∷ xs) - 1) x (omega arith))
-
-  pub dealt_all : (old new : List (Vec T Global)) (places : List (Option T)) (n : ℕ) → IsDealtTo old new places n → length old ≤ n → (places ≡ map last_of old) × ArePopped old new
-  dealt_all old new places n so_far end = (
-    so_far.so_far ∙ ap (map last_of) (take_all n old end),
-    record { count = so_far.count; each = λ k d within. so_far.popped k d (omega (arith, within, end)); rooms = λ k d within. so_far.rooms k d (omega (arith, within, end)) },
-  )

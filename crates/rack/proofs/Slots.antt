@@ -1,8 +1,7 @@
 -- Slots of a pool that is filled and emptied.
-use Rattle.std.proofs.Common.{◌≡◌, ◌≢◌, ◌<◌, ◌+◌, ℕ, zero, suc, cond, List, [], ◌∷◌, length, map, Option, None, Some, is_some, refl, sym, ap, ◌∙◌, arith}
+use Rattle.std.proofs.Common.{◌≡◌, ◌≢◌, ◌<◌, ◌+◌, ℕ, zero, suc, cond, List, [], ◌∷◌, length, map, Option, None, Some, is_some, refl, ap, ◌∙◌, arith}
 use Rattle.std.specs.Prelude.{slice_index_or}
-use Rattle.std.proofs.lemmas.Option.{none-some, same_Some}
-use Rattle.spin_model.specs.declared.spun.Spun.{Spun}
+use Rattle.std.proofs.lemmas.Option.{none-some}
 use Rattle.seg_pool.specs.Holders.{holder}
 use Rattle.seg_pool.specs.Pools.{item_in, note_in, holder_in, item_at, note_at, base_of, ChangesOnly, IsSamePool}
 use Rattle.seg_pool.specs.declared.base.Holder.{Holder}
@@ -10,10 +9,6 @@ use Rattle.seg_pool.specs.declared.base.Holder.TheVariants.{Elsewhere, InPool, H
 use Rattle.seg_pool.specs.declared.pool.Pool.{Pool}
 use Rattle.seg_pool.specs.declared.pool.Slot.{Slot}
 use Rattle.seg_pool.specs.declared.pool.Slot.TheVariants.{Empty, Noted, Free}
-use Rattle.log_segment.specs.Segment.{free_part}
-use Rattle.log_segment.specs.declared.free.FreeSegment.{FreeSegment}
-use Rattle.log_layout.specs.declared.segment.SegHead.TheVariants as head
-use Rattle.rack.specs.Parts.{FillsSlot}
 
 pub get_map : {X Y : Type 0} (f : X → Y) (xs : List X) (i : ℕ) (d : X) → slice_index_or (map f xs) i (f d) ≡ f (slice_index_or xs i d)
 get_map f [] i d = refl
@@ -33,30 +28,6 @@ slot_holder (Free item) = refl
 
 pub holder_at : {T : Type 0} (p : Pool T) (i : ℕ) → holder (base_of p).holders i ≡ holder_of (item_at p i) (note_at p i)
 holder_at {T} p i = get_map (λ (s : Slot T). holder_in s) p.slots.items i Empty ∙ slot_holder (slice_index_or p.slots.items i Empty)
-
--- where a slot shows the same, it has the same holder
-pub same_holder : {T : Type 0} (p q : Pool T) (i : ℕ) → item_at q i ≡ item_at p i → note_at q i ≡ note_at p i → holder (base_of q).holders i ≡ holder (base_of p).holders i
-same_holder {T} p q i item note =
-    holder_at q i ∙ ap (λ (o : Option T). holder_of o (note_at q i)) item ∙ ap (holder_of (item_at p i)) note ∙ sym (holder_at p i)
-
-module _ {D : Type 0} (old new : Pool (FreeSegment D)) (index : ℕ) where
-  pub slot_noted : (owner : ℕ) (segment : Option (Spun D)) → ChangesOnly old new index None (Some owner) → FillsSlot index (head.Owned owner) segment old new
-  slot_noted owner segment changes = record {
-    holder_is = holder_at new index ∙ ap (λ (o : Option (FreeSegment D)). holder_of o (note_at new index)) changes.item_here ∙ ap (λ (o : Option ℕ). holder_of {T = FreeSegment D} None o) changes.note_here;
-    item = λ f is. absurd (none-some f (sym changes.item_here ∙ is));
-    items = changes.items;
-    notes = changes.notes;
-    holders = λ i other. same_holder old new i (changes.items i other) (changes.notes i other);
-  }
-
-  pub slot_given : (part : Spun D) (f : FreeSegment D) (segment : Option (Spun D)) → ChangesOnly old new index (Some f) None → free_part f ≡ part → segment ≡ Some part → FillsSlot index head.Free segment old new
-  slot_given part f segment changes part_is there = record {
-    holder_is = holder_at new index ∙ ap (λ (o : Option (FreeSegment D)). holder_of o (note_at new index)) changes.item_here;
-    item = λ x is. (refl, there ∙ ap (λ (p : Spun D). Some p) (sym part_is) ∙ ap (λ (y : FreeSegment D). Some (free_part y)) (same_Some f x (sym changes.item_here ∙ is)));
-    items = changes.items;
-    notes = changes.notes;
-    holders = λ i other. same_holder old new i (changes.items i other) (changes.notes i other);
-  }
 
 -- ---- How many slots have an item
 

@@ -1,5 +1,5 @@
 -- Spindles are closed one after another, the last first.
-use Rattle.std.proofs.Common.{◌≡◌, ◌≢◌, ◌<◌, ◌≤◌, ◌+◌, ◌-◌, ◌⊎◌, inl, inr, ℕ, List, [], ◌∷◌, ◌++◌, length, get_or, Some, refl, sym, ap, ◌∙◌, subst, arith}
+use Rattle.std.proofs.Common.{◌≡◌, ◌≢◌, ◌<◌, ◌≤◌, ◌+◌, ◌-◌, ◌⊎◌, inl, inr, ℕ, List, [], ◌∷◌, ◌++◌, length, get_or, Option, Some, refl, sym, ap, ◌∙◌, subst, arith}
 use Rattle.std.specs.Prelude.{All, slice_get, vec_capacity, slice_index_or}
 use Rattle.std.proofs.lemmas.Bool.{cases_eq}
 use Rattle.std.proofs.lemmas.List.{get_or_at, get_or_append_left, get_or_push, length_push}
@@ -9,7 +9,7 @@ use Rattle.turn_lock.specs.declared.pass.PassOf.{PassOf}
 use Rattle.spin_model.specs.Spindles.{SpindleView}
 use Rattle.spin_model.specs.declared.spindle.Spindle.{Spindle}
 use Rattle.spin_model.specs.declared.spindle.SpindleBase.{SpindleBase}
-use Rattle.rack.specs.Closing.{CanCloseSpindles, HasSpindlePasses, StandsClosed, KeepsOtherRows}
+use Rattle.rack.specs.Closing.{CanCloseSpindles, HasSpindlePasses, StandsClosed, KeepsOtherRows, entries_made}
 use Rattle.rack.specs.declared.rack.Rest.{Rest}
 use Rattle.rack.specs.declared.rack.VolumePasses.{VolumePasses}
 use Rattle.rack.proofs.Members.{get_left}
@@ -56,19 +56,31 @@ rows_then {D} a b c first then = record {
 pub rows_same : {D : Type 0} (a : Rest D) → KeepsOtherRows a a
 rows_same a = record { count = refl; each = λ v d less. refl }
 
+-- what a spindle stands for was made by the passes of any rest that has the same
+pub made_in : {D : Type 0} (a b : Rest D) (j k : ℕ) (l : TurnLock Spindle SpindleBase) (p : PassOf Spindle SpindleBase) (s : SpindleView) → j ≡ k
+    → ((v : ℕ) → Rattle.rack.specs.Rests.spindle_pass b v j ≡ Rattle.rack.specs.Rests.spindle_pass a v k) → StandsClosed b j l p s → StandsClosed a k l p s
+made_in a b j k l p s at same is = record {
+  entries = is.entries;
+  stands = is.stands;
+  keeper_part = is.keeper_part;
+  accesses = is.accesses;
+  ended = is.ended;
+  made = λ n differs. is.made n differs ∙ ap (λ (o : Option (PassOf Spindle SpindleBase)). entries_made o) (same n);
+}
+
 -- one spindle more stands behind the closed ones
-pub one_more_closed : (n m : ℕ) (closed : List SpindleView) (s : SpindleView) (locks : List (TurnLock Spindle SpindleBase)) (keepers : List (PassOf Spindle SpindleBase)) (l : TurnLock Spindle SpindleBase) (p : PassOf Spindle SpindleBase)
-    → length closed + (m + 1) ≡ n → slice_get locks m ≡ Some l → slice_get keepers m ≡ Some p → StandsClosed l p s
-    → ((k : ℕ) (f : TurnLock Spindle SpindleBase) (q : PassOf Spindle SpindleBase) (d : SpindleView) → m + 1 ≤ k → slice_get locks k ≡ Some f → slice_get keepers k ≡ Some q → StandsClosed f q (get_or closed (n - 1 - k) d))
-    → (k : ℕ) (f : TurnLock Spindle SpindleBase) (q : PassOf Spindle SpindleBase) (d : SpindleView) → k < n → m ≤ k → slice_get locks k ≡ Some f → slice_get keepers k ≡ Some q → StandsClosed f q (get_or (closed ++ s ∷ []) (n - 1 - k) d)
-one_more_closed n m closed s locks keepers l p count at_lock at_keeper stands so_far k f q d below from is_lock is_keeper = go (cases_eq k m)
+pub one_more_closed : {D : Type 0} (r : Rest D) (n m : ℕ) (closed : List SpindleView) (s : SpindleView) (locks : List (TurnLock Spindle SpindleBase)) (keepers : List (PassOf Spindle SpindleBase)) (l : TurnLock Spindle SpindleBase) (p : PassOf Spindle SpindleBase)
+    → length closed + (m + 1) ≡ n → slice_get locks m ≡ Some l → slice_get keepers m ≡ Some p → StandsClosed r m l p s
+    → ((k : ℕ) (f : TurnLock Spindle SpindleBase) (q : PassOf Spindle SpindleBase) (d : SpindleView) → m + 1 ≤ k → slice_get locks k ≡ Some f → slice_get keepers k ≡ Some q → StandsClosed r k f q (get_or closed (n - 1 - k) d))
+    → (k : ℕ) (f : TurnLock Spindle SpindleBase) (q : PassOf Spindle SpindleBase) (d : SpindleView) → k < n → m ≤ k → slice_get locks k ≡ Some f → slice_get keepers k ≡ Some q → StandsClosed r k f q (get_or (closed ++ s ∷ []) (n - 1 - k) d)
+one_more_closed r n m closed s locks keepers l p count at_lock at_keeper stands so_far k f q d below from is_lock is_keeper = go (cases_eq k m)
   where
-    go : (k ≡ m) ⊎ (k ≡ m → ⊥) → StandsClosed f q (get_or (closed ++ s ∷ []) (n - 1 - k) d)
+    go : (k ≡ m) ⊎ (k ≡ m → ⊥) → StandsClosed r k f q (get_or (closed ++ s ∷ []) (n - 1 - k) d)
     go (inl e) =
         let same_lock : l ≡ f = same_Some l f (sym at_lock ∙ ap (slice_get locks) (sym e) ∙ is_lock) in
         let same_keeper : p ≡ q = same_Some p q (sym at_keeper ∙ ap (slice_get keepers) (sym e) ∙ is_keeper) in
         let place : length closed ≡ n - 1 - k = omega (arith, count, e) in
-        subst (λ x. StandsClosed x q (get_or (closed ++ s ∷ []) (n - 1 - k) d)) same_lock (subst (λ x. StandsClosed l x (get_or (closed ++ s ∷ []) (n - 1 - k) d)) same_keeper
-        (subst (λ x. StandsClosed l p x) (sym (get_or_push closed s d (n - 1 - k) place)) stands))
+        subst (λ x. StandsClosed r k x q (get_or (closed ++ s ∷ []) (n - 1 - k) d)) same_lock (subst (λ x. StandsClosed r k l x (get_or (closed ++ s ∷ []) (n - 1 - k) d)) same_keeper
+        (subst (λ x. StandsClosed r k l p x) (sym (get_or_push closed s d (n - 1 - k) place)) (subst (λ (j : ℕ). StandsClosed r j l p s) (sym e) stands)))
     go (inr differs) =
-        subst (λ x. StandsClosed f q x) (sym (get_or_append_left closed (s ∷ []) d (n - 1 - k) (omega (arith, count, from, differs, below)))) (so_far k f q d (omega (arith, from, differs)) is_lock is_keeper)
+        subst (λ x. StandsClosed r k f q x) (sym (get_or_append_left closed (s ∷ []) d (n - 1 - k) (omega (arith, count, from, differs, below)))) (so_far k f q d (omega (arith, from, differs)) is_lock is_keeper)

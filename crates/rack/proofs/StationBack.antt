@@ -1,7 +1,6 @@
 -- The manager of a station that is closed comes back to the rest of its rack.
 use Rattle.std.proofs.Common.{◌≡◌, ◌≢◌, ◌≤◌, ◌+◌, ℕ, List, [], ◌∷◌, ◌++◌, length, map, Some, refl, sym, ap, ◌∙◌, subst, arith}
-use Rattle.std.specs.Prelude.{Contains, All, AllPairs, IsSome, IfSome, slice_get, slice_index_or, option_and_then, vec_len}
-use Rattle.std.specs.List.{AllByRecursion}
+use Rattle.std.specs.Prelude.{Contains, All, slice_get}
 use Rattle.std.proofs.lemmas.List.{get_or_at, get_or_append_left, get_or-map, length-map, length_push, map_push}
 use Rattle.std.proofs.lemmas.List.Elements.{All-contains}
 use Rattle.std.proofs.lemmas.Option.{slice_get-get_or}
@@ -24,6 +23,7 @@ use Rattle.rack.specs.Parts.{HasBack, CanPutLanes, IsHomeAway, PutsManager}
 use Rattle.rack.specs.Closing.{CanCloseStations, ClosesStation}
 use Rattle.rack.specs.declared.rack.Rest.{Rest}
 use Rattle.rack.specs.declared.rack.Rooms.{Rooms}
+use Rattle.rack.proofs.LanesAway.{lane_came}
 use Rattle.rack.proofs.Members.{get_left, all_last, all_front, all_member, of_map}
 use Rattle.rack.proofs.ManagerBack as back
 
@@ -116,6 +116,8 @@ module _ {D : Type 0} (state : D → State) (tells : Rattle.std.specs.Prelude.Bo
       images = (back.images_kept state tells config shared bases b s.id owner_is old open_base can.locks parts can.accesses not_again m (notes_of entries) keeps rooms mp home_is spindle_is lanes_is new put);
       homes = (back.homes_kept state tells config shared bases b s.id owner_is old open_base can.locks parts can.accesses not_again m (notes_of entries) keeps rooms mp home_is spindle_is lanes_is new put);
       places = λ w k differs. back.other_place state tells config shared bases b s.id owner_is old open_base can.locks parts can.accesses not_again m (notes_of entries) keeps rooms mp home_is spindle_is lanes_is new put w k (λ same has. differs (same ∙ owner_is)) (λ same. absurd (differs same));
+      spindles = λ v k differs away. (back.other_place state tells config shared bases b s.id owner_is old open_base can.locks parts can.accesses not_again m (notes_of entries) keeps rooms mp home_is spindle_is lanes_is new put v k
+          (λ same has. away (subst (λ (w : ℕ). Contains (away_with (b ∷ [])).lanes (w, k)) (sym same) (lane_came [] b k has))) (λ same e. differs (same ∙ sym e))).spindle;
       held = λ v k away. back.lists_kept state tells config shared bases b s.id owner_is old open_base can.locks parts can.accesses not_again m (notes_of entries) keeps rooms mp home_is spindle_is lanes_is new put v k away;
     }
 

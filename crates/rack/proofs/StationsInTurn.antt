@@ -1,10 +1,10 @@
 -- Stations are closed one after another, the last first.
-use Rattle.std.proofs.Common.{◌≡◌, ◌≢◌, ◌<◌, ◌≤◌, ◌+◌, ◌-◌, ◌⊎◌, inl, inr, ℕ, Bool, List, [], ◌∷◌, ◌++◌, length, drop, map, Option, Some, None, refl, sym, ap, ◌∙◌, subst, arith}
+use Rattle.std.proofs.Common.{◌≡◌, ◌≢◌, ◌<◌, ◌+◌, ◌-◌, ℕ, Bool, List, [], ◌∷◌, length, drop, map, Option, Some, None, refl, sym, ap, ◌∙◌, subst, arith}
 use Rattle.std.specs.Prelude.{Contains, slice_get, option_map}
 use Rattle.std.specs.List.{AllZip}
 use Rattle.std.proofs.lemmas.List.{append-nil, length-drop, get_or-drop, drop_more}
 use Rattle.std.proofs.lemmas.Option.{slice_get-get_or, slice_get-map, slice_get_within, get_or_from_slice_get}
-use Rattle.std.proofs.lemmas.List.Elements.{Contains-append_left, Contains-append_cases}
+use Rattle.std.proofs.lemmas.List.Elements.{Contains-append_left, Contains-append_right}
 use Rattle.wol_disk.specs.Disk.{State}
 use Rattle.logger.specs.Lanes.{logger_of}
 use Rattle.manager.specs.declared.station.Station.{Station}
@@ -34,6 +34,7 @@ module _ {D : Type 0} (tells : Bool) (state : D → State) where
     images = λ k. keeps_all (image_here r.images.items k);
     homes = λ k away. refl;
     held = λ v k away. refl;
+    spindles = λ v k differs away. refl;
   }
 
   module _ (s : Station D) (done : List (Station D)) (apart : (t : Station D) → Contains done t → t.id ≢ s.id) (init cur new : Rest D) (so_far : ClosesStations tells state done init cur) (one : ClosesStation tells state s cur new) where
@@ -61,10 +62,13 @@ module _ {D : Type 0} (tells : Bool) (state : D → State) where
       each = (one.closed, all_still done so_far.closings apart so_far.each);
       images = λ k. keeps_then (image_here init.images.items k) (image_here cur.images.items k) (image_here new.images.items k) (so_far.images k) (one.images k);
       homes = λ k away. one.homes k (λ e. away (first_in s.id k (map (λ (t : Station D). t.id) done) (sym e))) ∙ so_far.homes k (λ has. away (later_in s.id k (map (λ (t : Station D). t.id) done) has));
-      held = λ v k away.
-          one.held v k (λ has. away (own v k has)) ∙ so_far.held v k (λ has. away (Rattle.std.proofs.lemmas.List.Elements.Contains-append_right (Rattle.rack.proofs.LanesAway.lanes_with (base_of_station s)) (away_with (map (λ (t : Station D). base_of_station t) done)).lanes (v, k) has));
+      held = λ v k away. one.held v k (λ has. away (own v k has)) ∙ so_far.held v k (λ has. away (others v k has));
+      spindles = λ v k differs away. one.spindles v k differs (λ has. away (own v k has)) ∙ so_far.spindles v k differs (λ has. away (others v k has));
     }
       where
+        others : (v k : ℕ) → Contains (away_with (map (λ (t : Station D). base_of_station t) done)).lanes (v, k) → Contains (away_with (map (λ (t : Station D). base_of_station t) (s ∷ done))).lanes (v, k)
+        others v k has = Contains-append_right (Rattle.rack.proofs.LanesAway.lanes_with (base_of_station s)) (away_with (map (λ (t : Station D). base_of_station t) done)).lanes (v, k) has
+
         own : (v k : ℕ) → Contains (away_with (base_of_station s ∷ [])).lanes (v, k) → Contains (away_with (map (λ (t : Station D). base_of_station t) (s ∷ done))).lanes (v, k)
         own v k has =
             let mine : Contains (Rattle.rack.proofs.LanesAway.lanes_with (base_of_station s)) (v, k) =

@@ -3,10 +3,10 @@ use Rattle.std.proofs.Common.{◌≡◌, ◌<◌, ⊎_elim, ℕ, List, [], lengt
 use Rattle.std.specs.Prelude.{IsSome, slice_get, slice_index_or}
 use Rattle.std.proofs.lemmas.Bool.{cases_lt, false≢true}
 use Rattle.std.proofs.lemmas.List.{get_or_past}
-use Rattle.std.proofs.lemmas.Option.{none-some, slice_get-get_or, slice_get_past, slice_get_within}
+use Rattle.std.proofs.lemmas.Option.{slice_get-get_or, slice_get_past, slice_get_within}
 use Rattle.wol_disk.specs.Disk.{State}
 use Rattle.wol_model.specs.Heads.{Shape}
-use Rattle.seg_pool.specs.Pools.{IsEmptyPool, IsSamePool, item_at, note_at, room_of, volume_of, blocks_of, base_of, StandsFor}
+use Rattle.seg_pool.specs.Pools.{IsSamePool, item_at, note_at, room_of, volume_of, blocks_of, base_of, StandsFor}
 use Rattle.seg_pool.specs.declared.base.Holder.TheVariants.{Elsewhere, InPool, HeldBy}
 use Rattle.seg_pool.specs.declared.pool.Pool.{Pool}
 use Rattle.log_segment.specs.Segment.{IsBlank, free_part}
@@ -14,23 +14,12 @@ use Rattle.log_segment.specs.declared.free.FreeSegment.{FreeSegment}
 use Rattle.log_layout.specs.declared.segment.SegHead.{SegHead}
 use Rattle.log_layout.specs.declared.segment.SegHead.TheVariants.{Free, Owned}
 use Rattle.rack.specs.Rests.{segment_here}
-use Rattle.rack.specs.Parts.{of_head, either_part, item_part, IsBlankPart, IsFilledPool, TakesFree, IsSameBut, IsRefilled, CanFill, IsRestored, Restores, MaySupply, IsSupplied}
+use Rattle.rack.specs.Parts.{of_head, either_part, item_part, IsBlankPart, IsFilledPool, TakesFree, IsSameBut, IsRefilled, CanFill, IsRestored, Restores, IsSupplied}
 use Rattle.rack.specs.declared.heads_said.Said.{Said}
 use Rattle.rack.specs.declared.rack.ImageRest.{ImageRest}
 use Rattle.rack.proofs.Slots.{holder_of, holder_at}
 
 module _ {D : Type 0} (state : D → State) where
-  -- a pool without items and notes
-  pub supplied_none : (p : Pool (FreeSegment D)) (said : Option Said) (image : Option (ImageRest D)) → said ≡ None → MaySupply state p said image → IsEmptyPool p → ((i : ℕ) → note_at p i ≡ None) → IsSupplied state said image image p
-  supplied_none p None None is may empty unnoted = record {
-    holders = λ i. holder_at p i ∙ ap (λ (o : Option (FreeSegment D)). holder_of o (note_at p i)) (empty i) ∙ ap (λ (o : Option ℕ). holder_of {T = FreeSegment D} None o) (unnoted i);
-    supplies = refl;
-    places = empty;
-    restorable = λ last empties. empties;
-  }
-  supplied_none p None (Some r) is may empty unnoted = absurd may.may
-  supplied_none p (Some said) image is may empty unnoted = absurd (none-some said (sym is))
-
   in_pool_item : (o : Option (FreeSegment D)) (note : Option ℕ) → holder_of o note ≡ InPool → (f : FreeSegment D) × (o ≡ Some f)
   in_pool_item None None is = absurd (cc)
   in_pool_item None (Some pass) is = absurd (cc)
@@ -39,9 +28,6 @@ module _ {D : Type 0} (state : D → State) where
   held_none : (o : Option (FreeSegment D)) (note : Option ℕ) (pass : ℕ) → holder_of o note ≡ HeldBy pass → o ≡ None
   held_none None note pass is = refl
   held_none (Some f) note pass is = absurd (cc)
-
-  is_elsewhere : (o : Option (FreeSegment D)) (note : Option ℕ) → o ≡ None → note ≡ None → holder_of o note ≡ Elsewhere
-  is_elsewhere o note none unnoted = ap (λ (p : Option (FreeSegment D)). holder_of p note) none ∙ ap (λ (n : Option ℕ). holder_of {T = FreeSegment D} None n) unnoted
 
   module _ (said : Said) (r n : ImageRest D) (old p : Pool (FreeSegment D)) (volumes : ℕ) (s : Shape) (can : CanFill state volumes (volume_of old) s said r)
       (room : room_of old ≡ s.segments) (blocks : blocks_of old ≡ s.segment_blocks) (same : IsSamePool old p) (same_image : IsSameBut r n)

@@ -122,6 +122,8 @@ module _ {D : Type 0} (tells : Bool) (state : D → State) (config : Config) (va
       began = record {
         stations = subst (All (λ (s : Station D). Rattle.rack.specs.Owners.IsBegun config (images_taken config r.rest.images.items old) (base_of_station s).volume.began)) (sym set_up.stations.0)
             (All-nil (λ (s : Station D). Rattle.rack.specs.Owners.IsBegun config (images_taken config r.rest.images.items old) (base_of_station s).volume.began));
+        placed = subst (All (λ (s : Station D). Rattle.rack.specs.Owners.BeganInPlace config (images_taken config r.rest.images.items old) (base_of_station s))) (sym set_up.stations.0)
+            (All-nil (λ (s : Station D). Rattle.rack.specs.Owners.BeganInPlace config (images_taken config r.rest.images.items old) (base_of_station s)));
         left = λ k v before image at there here.
             let e = entered k v image at (sym (now k) ∙ here) in
             let same : e.entry.image ≡ before = same_Some e.entry.image before (sym e.entry.there ∙ there) in

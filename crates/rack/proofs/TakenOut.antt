@@ -1,6 +1,6 @@
 -- What was taken out for a rack, from which it is set up.
 use Rattle.std.proofs.Common.{◌≡◌, ⊎_elim, ℕ, ◌+◌, ◌<◌, ◌≤◌, Bool, List, [], ◌∷◌, ◌++◌, length, Option, None, Some, option_map, IfSome, refl, sym, ap, ◌∙◌, subst, arith}
-use Rattle.std.specs.Prelude.{slice_get, slice_index_or, IsSome, is_some, All}
+use Rattle.std.specs.Prelude.{slice_get, IsSome, is_some}
 use Rattle.std.proofs.lemmas.Bool.{cases_lt}
 use Rattle.std.proofs.lemmas.List.{length-map, get_or_past}
 use Rattle.std.proofs.lemmas.Option.{none-some, same_Some, slice_get_within, slice_get-map}
@@ -16,7 +16,7 @@ use Rattle.log_layout.specs.declared.segment.SegHead.TheVariants.{Free, Owned}
 use Rattle.spin_model.specs.declared.spun.Spun.{Spun}
 use Rattle.volume_images.specs.Accepted.{HasHead}
 use Rattle.volume_images.specs.Volumes.{shape_in, shapes_of, NoneOut}
-use Rattle.rack.specs.Rests.{image_here, segment_here, IsImageOut, IsImageRest}
+use Rattle.rack.specs.Rests.{image_here, segment_here, IsImageRest}
 use Rattle.rack.specs.Closing.{IsComplete, LeavesNoneOut}
 use Rattle.rack.specs.Opens.{out_names}
 use Rattle.rack.specs.Opening.{AreAsked, HasSentOut, said_at}

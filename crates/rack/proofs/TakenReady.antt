@@ -1,5 +1,5 @@
 -- A rack that was set up of what was taken out may have its first volume opened.
-use Rattle.std.proofs.Common.{◌≡◌, ◌≢◌, ◌⊎◌, inl, inr, ⊎_elim, ℕ, zero, suc, ◌+◌, ◌<◌, ◌≤◌, Bool, cond, List, [], ◌∷◌, ◌++◌, length, map, get_or, Option, None, Some, option_map, IfSome, refl, sym, ap, ◌∙◌, subst, arith}
+use Rattle.std.proofs.Common.{◌≡◌, ◌≢◌, ⊎_elim, ℕ, suc, ◌+◌, ◌<◌, ◌≤◌, Bool, cond, List, [], ◌∷◌, ◌++◌, length, Option, None, Some, option_map, IfSome, refl, sym, ap, ◌∙◌, subst, arith}
 use Rattle.std.specs.Prelude.{slice_get, vec_capacity, IsSome, is_some, All}
 use Rattle.std.proofs.lemmas.Bool.{cases_lt}
 use Rattle.std.proofs.lemmas.List.{length-map, get_or_past}
@@ -193,8 +193,8 @@ module _ {D : Type 0} (tells : Bool) (state : D → State) (config : Config) (va
     }
 
   module _ (home : NoneOut config b) (r : Rack D) (set_up : IsSetUp t.spindles.items t.pools.items (length t.spindles.items) r) (images_are : r.rest.images ≡ t.images.out) (faults_are : r.faults ≡ t.images.faults) where
-    pub settled : (k : ℕ) (i : Issued Spindle SpindleBase) → slice_get t.spindles.items k ≡ Some i → AreSettled i
-    settled k i is = subst AreSettled (get_or_from_slice_get t.spindles.items k i i is) (taken.spindles.settled k i (slice_get_within t.spindles.items k i is))
+    pub settled : (k : ℕ) (i : Issued Spindle SpindleBase) → slice_get t.spindles.items k ≡ Some i → AreSettled k i
+    settled k i is = subst (AreSettled k) (get_or_from_slice_get t.spindles.items k i i is) (taken.spindles.settled k i (slice_get_within t.spindles.items k i is))
 
     spindles_many : length t.spindles.items ≡ length (shapes_of config)
     spindles_many = taken.spindle_count ∙ sym many

@@ -3,7 +3,7 @@ use Rattle.std.proofs.Common.{◌≡◌, ◌≢◌, ⊎_elim, ℕ, zero, suc, �
 use Rattle.std.specs.Prelude.{slice_get, IsSome, is_some, Contains, All}
 use Rattle.std.specs.List.{flat_map}
 use Rattle.std.proofs.lemmas.Bool.{cases_lt}
-use Rattle.std.proofs.lemmas.List.{length-map, get_or-map, get_or_past}
+use Rattle.std.proofs.lemmas.List.{get_or_past}
 use Rattle.std.proofs.lemmas.List.Elements.{All-filter, filter_passes, Contains-append_cases}
 use Rattle.std.proofs.lemmas.Option.{none-some, same_Some, get_or_from_slice_get}
 use Rattle.wol_disk.specs.Disk.{State}
@@ -51,7 +51,7 @@ module _ {D : Type 0} (state : D → State) (config : Config) (valid : IsValid c
   pub parts : IsRestBut state config r.shared (away_with bases) r.rest
   parts = ready.closable.rest.parts
 
-  said_id : said_at said id ≡ Some own
+  pub said_id : said_at said id ≡ Some own
   said_id = get_or_from_slice_get said id (Some own) None at
 
   pub image_id : (image : ImageRest D) × (image_here r.rest.images.items id ≡ Some image)

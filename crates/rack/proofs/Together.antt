@@ -17,3 +17,12 @@ together_next {X} row left x o whole is kept =
     ∙ ap (λ (p : Option X). map (λ (q : X). Some q) row ++ (p ∷ reverse left)) (sym is)
     ∙ ap (λ (l : List (Option X)). map (λ (p : X). Some p) row ++ l) (sym (reverse-append left (o ∷ [])))
     ∙ kept
+
+-- one segment more is laid out
+pub laid_next : {X : Type 0} (done now : List (Option X)) (row rest : List X) (x : X) (whole : List (Option X)) → now ≡ done ++ Some x ∷ [] → row ≡ rest ++ x ∷ []
+    → done ++ map (λ (p : X). Some p) (reverse row) ≡ whole → now ++ map (λ (p : X). Some p) (reverse rest) ≡ whole
+laid_next {X} done now row rest x whole more is kept =
+    ap (λ (l : List (Option X)). l ++ map (λ (p : X). Some p) (reverse rest)) more
+    ∙ append_assoc done (Some x ∷ []) (map (λ (p : X). Some p) (reverse rest))
+    ∙ ap (λ (l : List X). done ++ map (λ (p : X). Some p) l) (sym (ap reverse is ∙ reverse-append rest (x ∷ [])))
+    ∙ kept

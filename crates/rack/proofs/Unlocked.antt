@@ -35,7 +35,7 @@ use Rattle.rack.specs.Closing.{KeepsButHome, home_here}
 use Rattle.rack.specs.Foreign.{IsForeign}
 use Rattle.rack.specs.Opens.{HadBefore, HadSegmentBefore, IsGone, BeganWith}
 use Rattle.rack.specs.Opening.{said_at, IsOpeningRack, HasBegun, IsStopped}
-use Rattle.rack.specs.Owners.{IsBegun}
+use Rattle.rack.specs.Owners.{BeganInPlace, IsBegun}
 use Rattle.rack.specs.Parts.{TakesOpening, CanPutLanes, PutsManager, loggers_out}
 use Rattle.rack.specs.Racks.{base_of_station, IsOpenBase}
 use Rattle.rack.specs.Rests.{image_here, segment_here, held_here, away_with, IsSegmentHere, IsRestBut, OnlyAccess, AreRooms}
@@ -347,6 +347,7 @@ module _ {D : Type 0} (tells : Bool) (state : D → State) (config : Config) (va
         pub unlocked_began : BeganWith state config t (record r { rest = new })
         unlocked_began = record {
           stations = subst (λ images. All (λ s. IsBegun config images (base_of_station s).volume.began) r.stations.items) (sym (taken_same new.images.items r.rest.images.items out_same config t)) begun.began.stations;
+          placed = subst (λ images. All (λ s. BeganInPlace config images (base_of_station s)) r.stations.items) (sym (taken_same new.images.items r.rest.images.items out_same config t)) begun.began.placed;
           left = λ k v before y at_k there here.
               let w = was k y here in
               let old = begun.began.left k v before w.image at_k there w.here in

@@ -39,10 +39,10 @@ use Rattle.manager.specs.declared.station.Station.{Station}
 use Rattle.volume_images.specs.Left.{IsTold}
 use Rattle.volume_images.specs.Volumes.{shape_in, shapes_of, images_read, AreLeft}
 use Rattle.rack.specs.Rests.{image_here, IsImageOut, IsSegmentHere}
-use Rattle.rack.specs.Racks.{base_of_station}
+use Rattle.rack.specs.Racks.{KeepToViews, base_of_station}
 use Rattle.rack.specs.Closing.{IsAccessBut}
 use Rattle.rack.specs.Owners.{recovered_but, RecoversSame, WasOpened}
-use Rattle.rack.specs.PoolUses.{PassesEmpty}
+use Rattle.rack.specs.PoolUses.{PassesEmpty, TakesFew}
 use Rattle.rack.specs.declared.rack.ImageRest.{ImageRest}
 use Rattle.rack.specs.declared.rack.Rack.{Rack}
 use Rattle.rack.specs.declared.rack.Rest.{Rest}
@@ -58,6 +58,9 @@ pub record IsClosedSpindle {D : Type 0} (r : Rack D) (k : ℕ) (s : SpindleView)
   pub accesses : (p : PassOf Spindle SpindleBase) → slice_get r.keepers.items k ≡ Some p → AllByRecursion (IsAccessBut (pass_number p)) entries
   -- and none has an access open at the end
   pub ended : (p : PassOf Spindle SpindleBase) → slice_get r.keepers.items k ≡ Some p → (n : ℕ) → n ≢ pass_number p → has_token (own n entries) ≡ false
+  -- they are of its own volume and of those whose views name it
+  pub users : (p : PassOf Spindle SpindleBase) → slice_get r.keepers.items k ≡ Some p → (views : ℕ → List ℕ) → KeepToViews views r
+      → (n : ℕ) → n ≢ pass_number p → n ≢ k → (Contains (views n) k → ⊥) → own n entries ≡ []
 
 -- ---- Volumes
 
@@ -197,11 +200,13 @@ pub record IsClosedVolume {D : Type 0} (tells : Bool) (config : Config) (out : L
       → IsTold (λ o n. LeavesNoLog config out s.id n) old.told new.told
 
 -- The pools of a rack whose volumes were closed so: each has the entries of its lock, by the passes of all volumes, in which each use
--- could be made where it stands. No more of a volume's entries passed over a pool than its pass found that pool empty.
+-- could be made where it stands. No more of a volume's entries passed over a pool than its pass found that pool empty, and where no call
+-- failed, its pass took no more segments than it wrote to logs.
 pub record SharePools {D : Type 0} (tells : Bool) (config : Config) (old new : BayState) (r : Rack D) (all : All (IsClosedVolume tells config r.rest.images.items old new) r.stations.items) : Type 0 where
   pub pools : (k : ℕ) → List Entry
   pub legal : (k : ℕ) (l : TurnLock (Pool (FreeSegment D)) PoolBase) → slice_get r.shared.pools.items k ≡ Some l → ArePoolUses (lock_id l).base.holders (uses_of (pools k))
   pub passed : (n : ℕ) (d : Station D) (within : n < length r.stations.items) → PassesEmpty pools (base_of_station (slice_index_or r.stations.items n d)).volume.began (notes_of (all n d within).entries)
+  pub taken : (n : ℕ) (d : Station D) (within : n < length r.stations.items) → TakesFew pools (base_of_station (slice_index_or r.stations.items n d)).volume.began (notes_of (all n d within).entries)
 
 -- the volumes of a rack are closed, and so are the pools that they shared
 abbrev pub AreClosedVolumes : {D : Type 0} → (tells : Bool) → Config → (old new : BayState) → Rack D → Type 0

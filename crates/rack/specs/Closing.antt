@@ -1,6 +1,7 @@
 -- What closing a rack does step by step. `state` is that of a part's disk.
 use Rattle.std.specs.Prelude.{false, ◌≡◌, ◌≢◌, ◌<◌, ◌≤◌, ◌+◌, ◌++◌, ◌⊎◌, ℕ, Bool, List, [], ◌∷◌, length, map, reverse, vec_capacity, Option, None, Some, IsSome, IfSome, option_map, option_and_then, slice_get, slice_index_or, All, Contains}
 use Rattle.std.specs.List.{AllByRecursion, AllZip}
+use Rattle.std.specs.Option.{option_map_or}
 use Rattle.wol_disk.specs.Disk.{Block, Values, State, Rose}
 use Rattle.wol_model.specs.Blocks.{AreApart}
 use Rattle.wol_model.specs.Heads.{Shape}
@@ -71,6 +72,7 @@ pub record ClosesStation {D : Type 0} (tells : Bool) (state : D → State) (s : 
   pub homes : (k : ℕ) → k ≢ s.id → home_here new k ≡ home_here old k
   pub places : (w k : ℕ) → w ≢ s.id → KeepsPlace old new w k
   pub held : (v k : ℕ) → (Contains (away_with (base_of_station s ∷ [])).lanes (v, k) → ⊥) → held_here new v k ≡ held_here old v k
+  pub spindles : (v k : ℕ) → v ≢ k → (Contains (away_with (base_of_station s ∷ [])).lanes (v, k) → ⊥) → spindle_pass new v k ≡ spindle_pass old v k
 
 -- each station was closed, and nothing else came back
 pub record ClosesStations {D : Type 0} (tells : Bool) (state : D → State) (stations : List (Station D)) (old new : Rest D) : Type 0 where
@@ -79,6 +81,7 @@ pub record ClosesStations {D : Type 0} (tells : Bool) (state : D → State) (sta
   pub images : (k : ℕ) → KeepsButHome (image_here old.images.items k) (image_here new.images.items k)
   pub homes : (k : ℕ) → (Contains (map (λ (s : Station D). s.id) stations) k → ⊥) → home_here new k ≡ home_here old k
   pub held : (v k : ℕ) → (Contains (away_with (map (λ (s : Station D). base_of_station s) stations)).lanes (v, k) → ⊥) → held_here new v k ≡ held_here old v k
+  pub spindles : (v k : ℕ) → v ≢ k → (Contains (away_with (map (λ (s : Station D). base_of_station s) stations)).lanes (v, k) → ⊥) → spindle_pass new v k ≡ spindle_pass old v k
 
 -- stations whose managers have what is away
 pub record CanCloseStations {D : Type 0} (state : D → State) (config : Config) (shared : Shared D) (stations : List (Station D)) (r : Rest D) : Type 0 where
@@ -221,8 +224,12 @@ module _ {D : Type 0} where
 abbrev pub IsAccessBut : (keeper : ℕ) → Entry → Type 0
 IsAccessBut keeper e = e.0 ≢ keeper → (use_of e.1 ≡ Needed) ⊎ (use_of e.1 ≡ Done)
 
--- a spindle stands for all entries of its lock, among which are those of its keeper
-pub record StandsClosed (l : TurnLock Spindle SpindleBase) (keeper : PassOf Spindle SpindleBase) (s : SpindleView) : Type 0 where
+-- the entries of a pass that is here
+abbrev pub entries_made : Option (PassOf Spindle SpindleBase) → List Entry
+entries_made p = option_map_or (λ (q : PassOf Spindle SpindleBase). pass_mine q) p []
+
+-- the spindle of volume k stands for all entries of its lock, among which are those of its keeper
+pub record StandsClosed {D : Type 0} (r : Rest D) (k : ℕ) (l : TurnLock Spindle SpindleBase) (keeper : PassOf Spindle SpindleBase) (s : SpindleView) : Type 0 where
   pub entries : List Entry
   pub stands : StandsFor s (lock_id l).base entries
   pub keeper_part : IsPartOf entries keeper
@@ -230,6 +237,8 @@ pub record StandsClosed (l : TurnLock Spindle SpindleBase) (keeper : PassOf Spin
   pub accesses : AllByRecursion (IsAccessBut (pass_number keeper)) entries
   -- and none has an access open at the end
   pub ended : (n : ℕ) → n ≢ pass_number keeper → has_token (own n entries) ≡ false
+  -- those of a volume are the ones that its pass made
+  pub made : (n : ℕ) → n ≢ pass_number keeper → own n entries ≡ entries_made (spindle_pass r n k)
 
 -- the passes of the lock of spindle k: one in each row, and the keeper's
 pub record HasSpindlePasses {D : Type 0} (r : Rest D) (k : ℕ) (l : TurnLock Spindle SpindleBase) (keeper : PassOf Spindle SpindleBase) : Type 0 where
@@ -248,10 +257,10 @@ pub record CanCloseSpindles {D : Type 0} (locks : List (TurnLock Spindle Spindle
   pub closed : length r.rooms.closed.items + length locks ≤ vec_capacity r.rooms.closed
 
 -- the closed spindles, the last first
-pub record AreClosed (locks : List (TurnLock Spindle SpindleBase)) (keepers : List (PassOf Spindle SpindleBase)) (closed : List SpindleView) : Type 0 where
+pub record AreClosed {D : Type 0} (r : Rest D) (locks : List (TurnLock Spindle SpindleBase)) (keepers : List (PassOf Spindle SpindleBase)) (closed : List SpindleView) : Type 0 where
   pub count : length closed ≡ length locks
   pub each : (k : ℕ) (l : TurnLock Spindle SpindleBase) (p : PassOf Spindle SpindleBase) (s : SpindleView) → slice_get locks k ≡ Some l → slice_get keepers k ≡ Some p
-      → slice_get (reverse closed) k ≡ Some s → StandsClosed l p s
+      → slice_get (reverse closed) k ≡ Some s → StandsClosed r k l p s
 
 -- ---- Images that go back
 

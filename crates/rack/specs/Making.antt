@@ -1,5 +1,5 @@
 -- What a rack is made of, before its volumes are opened.
-use Rattle.std.specs.Prelude.{◌≡◌, ◌≤◌, ◌<◌, ◌+◌, ◌∷◌, ◌++◌, ℕ, List, [], length, vec_capacity, Option, None, Some, Result, Ok, Err, slice_index_or, slice_set, false, All}
+use Rattle.std.specs.Prelude.{◌≡◌, ◌≢◌, ◌≤◌, ◌<◌, ◌+◌, ◌∷◌, ◌++◌, ℕ, List, [], length, vec_capacity, Option, None, Some, Result, Ok, Err, slice_index_or, slice_set, false, All}
 use Rattle.turn_lock.specs.Passes.{lock_passes, pass_seen, pass_mine, pass_number, IsPassOf, IsFree}
 use Rattle.turn_lock.specs.declared.pass.PassOf.{PassOf}
 use Rattle.spin_model.specs.Operations.{has_token}
@@ -30,17 +30,19 @@ pub record IsInOrder {T B : Type 0} (i : Issued T B) : Type 0 where
   pub whole : IsWholeLock i
   pub numbered : (n : ℕ) (d : PassOf T B) → n < length i.passes.items → pass_number (slice_index_or i.passes.items n d) ≡ n
 
--- no token of them is out, they made accesses only, and the last of them wasn't used
-pub record AreSettled (i : Issued Spindle SpindleBase) : Type 0 where
+-- the passes of the spindle of volume k: no token of them is out, they made accesses only, and of the volumes' passes only k's own was used
+pub record AreSettled (k : ℕ) (i : Issued Spindle SpindleBase) : Type 0 where
   pub settled : All (λ p. has_token (pass_mine p) ≡ false) i.passes.items
   pub accesses : All (λ p. AreAccesses (pass_mine p)) i.passes.items
+  pub others : (n : ℕ) (d : PassOf Spindle SpindleBase) → n ≢ k → n < length i.passes.items → pass_mine (slice_index_or i.passes.items n d) ≡ []
+  -- nor was the last, which is the keeper's
   pub last : (n : ℕ) (d : PassOf Spindle SpindleBase) → length i.passes.items ≡ n + 1 → (pass_seen (slice_index_or i.passes.items n d) ≡ []) × (pass_mine (slice_index_or i.passes.items n d) ≡ [])
 
 -- the locks of the first spindles, without a token out
 pub record AreSpindlesOf (volumes timeout : ℕ) (made : List (Issued Spindle SpindleBase)) : Type 0 where
   pub each : All (λ i. IsInOrder i) made
   pub spindles : (k : ℕ) (d : Issued Spindle SpindleBase) → k < length made → IsSpindleLock volumes k timeout (slice_index_or made k d).lock
-  pub settled : All (λ i. AreSettled i) made
+  pub settled : (k : ℕ) (d : Issued Spindle SpindleBase) → k < length made → AreSettled k (slice_index_or made k d)
 
 -- ---- Empty lists with room
 

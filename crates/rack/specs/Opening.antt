@@ -1,5 +1,6 @@
 -- The images that were taken out, what they say, and how far their volumes are opened. `state` is that of a part's disk.
 use Rattle.std.specs.Prelude.{true, ◌≡◌, ◌≢◌, ◌⊎◌, ◌≤◌, ◌<◌, ◌+◌, ◌++◌, ◌↔◌, ℕ, Bool, List, [], map, length, vec_capacity, Option, None, Some, is_some, option_map, slice_get, slice_index_or, slice_range, Contains, IsTrue, All}
+use Rattle.std.specs.Option.{option_map_or}
 use Rattle.wol_disk.specs.Disk.{Block, State, TellsContent, IsImageOf, reads}
 use Rattle.wol_model.specs.Heads.{Shape}
 use Rattle.wol_model.specs.Images.{image_size}
@@ -29,7 +30,7 @@ use Rattle.volume_images.specs.Volumes.{shape_in, shapes_of, MayLeave}
 use Rattle.rack.specs.Rests.{image_here, segment_here, pool_pass, held_here, IsImageOut, IsImageRest}
 use Rattle.rack.specs.Making.{AreSpindlesOf}
 use Rattle.rack.specs.Parts.{holder_by, IsIssuedPool, Supplies, IsOwnedPlace, segment_in}
-use Rattle.rack.specs.Racks.{IsClosable, NamesVolumes, AreUnused}
+use Rattle.rack.specs.Racks.{IsClosable, NamesVolumes, AreUnused, KeepToViews}
 use Rattle.rack.specs.Closing.{IsComplete}
 use Rattle.rack.specs.Opens.{HadBefore, IsAsRead, out_names, BeganWith, HasFaulty, KeepsOthers, RefusesVolume}
 use Rattle.rack.specs.declared.all.Taken.{Taken}
@@ -83,6 +84,10 @@ pub record AreCutOf {D : Type 0} (state : D → State) (s : Shape) (i : Image) (
 -- what the image of volume k says, where it is out
 abbrev pub said_at : List (Option Said) → (k : ℕ) → Option Said
 said_at said k = slice_index_or said k None
+
+-- the view that it says then
+abbrev pub view_at : List (Option Said) → (k : ℕ) → List ℕ
+view_at said k = option_map_or (λ (s : Said). s.view) (said_at said k) []
 
 abbrev pub fault_at : List (Option VolumeFault) → (k : ℕ) → Option VolumeFault
 fault_at faults k = slice_index_or faults k None
@@ -246,6 +251,8 @@ pub record IsOpeningRack {D : Type 0} (state : D → State) (config : Config) (b
   pub since : (v k i : ℕ) (p : PassOf (Pool (FreeSegment D)) PoolBase) → pool_pass r.rest v k ≡ Some p → holds (pass_lock p).base (pass_number p) (pass_mine p) i ≡ true → IsOwnedPlace said v k i
   pub owners : AreOwnersHere state said r
   pub untouched : AreUntouched state (length (shapes_of config)) n said r.rest
+  -- also those whose opening was refused used only disks of the views that their images say
+  pub users : KeepToViews (view_at said) r
 
 -- what it began with so far, where the bay told this at entry
 pub record HasBegun {D : Type 0} (state : D → State) (config : Config) (t : Told) (said : List (Option Said)) (n : ℕ) (r : Rack D) : Type 0 where

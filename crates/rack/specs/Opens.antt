@@ -10,6 +10,7 @@ use Rattle.wol_config.specs.declared.config.Config.{Config}
 use Rattle.wol_config.specs.declared.config.VolumeConf.{VolumeConf}
 use Rattle.turn_lock.specs.Passes.{lock_id}
 use Rattle.turn_lock.specs.declared.lock.TurnLock.{TurnLock}
+use Rattle.logger_view.specs.Stored.{HasView}
 use Rattle.seg_pool.specs.declared.base.PoolBase.{PoolBase}
 use Rattle.seg_pool.specs.declared.pool.Pool.{Pool}
 use Rattle.log_segment.specs.declared.free.FreeSegment.{FreeSegment}
@@ -31,7 +32,7 @@ use Rattle.volume_images.specs.Left.{IsTold}
 use Rattle.volume_images.specs.Volumes.{shape_in, shapes_of, MayLeave, AreLeft}
 use Rattle.rack.specs.Rests.{image_here, segment_here, held_here, IsImageOut, IsSegmentHere}
 use Rattle.rack.specs.Racks.{base_of_station}
-use Rattle.rack.specs.Owners.{images_taken, IsBegun, IsOpeningOf, RecoversSame, WasOpened}
+use Rattle.rack.specs.Owners.{images_taken, BeganInPlace, IsBegun, IsOpeningOf, RecoversSame, WasOpened}
 use Rattle.rack.specs.PoolUses.{HadSegments}
 use Rattle.volume_images.specs.declared.opening.ImageRefusal.{ImageRefusal}
 use Rattle.volume_images.specs.declared.opening.ImageRefusal.TheVariants as image_refusal
@@ -151,6 +152,8 @@ KeepsOthers config old new = (name : Name) → ((k : ℕ) (v : VolumeConf) → s
 -- as they read, and the parts that are here have images that they had.
 pub record BeganWith {D : Type 0} (state : D → State) (config : Config) (t : Told) (r : Rack D) : Type 0 where
   pub stations : All (λ s. IsBegun config (images_taken config r.rest.images.items t) (base_of_station s).volume.began) r.stations.items
+  -- its listed records stood where the images have them
+  pub placed : All (λ s. BeganInPlace config (images_taken config r.rest.images.items t) (base_of_station s)) r.stations.items
   pub left : (k : ℕ) (v : VolumeConf) (before : Image) (image : ImageRest D) → slice_get config.volumes.items k ≡ Some v → at_name v.name t.images ≡ Some before
       → image_here r.rest.images.items k ≡ Some image → IsLeftHere state (shape_in config v) before image
   -- also those that came back with a lane
@@ -172,6 +175,11 @@ WasAccepted config t k v = (i : Image) × (at_name v.name t.images ≡ Some i) �
 -- so was each image that is out
 abbrev pub WereThere : {D : Type 0} → Config → List (Option (ImageRest D)) → Told → Type 0
 WereThere config out t = (k : ℕ) (v : VolumeConf) → slice_get config.volumes.items k ≡ Some v → IsImageOut out k → WasAccepted config t k v
+
+-- these are the views of the images that are out, as they read
+abbrev pub AreViewsAsRead : {D : Type 0} → Config → List (Option (ImageRest D)) → Told → (views : ℕ → List ℕ) → Type 0
+AreViewsAsRead config out t views = (k : ℕ) (v : VolumeConf) → slice_get config.volumes.items k ≡ Some v → IsImageOut out k
+    → (i : Image) × (at_name v.name t.images ≡ Some i) × HasView (reads i.blocks) (views k)
 
 -- each volume without a station is refused for its fault
 abbrev pub AreRefused : {D : Type 0} → (tells : Bool) → (D → State) → Config → (old new : BayState) → Rack D → Type 0

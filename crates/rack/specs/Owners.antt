@@ -3,6 +3,7 @@ use Rattle.std.specs.Prelude.{false, true, ◌≡◌, ◌⊎◌, ◌<◌, ◌-�
 use Rattle.std.specs.List.{AllByRecursion}
 use Rattle.wol_disk.specs.Disk.{Block, State}
 use Rattle.wol_model.specs.Heads.{Shape, owned_block}
+use Rattle.wol_model.specs.Index.{Indexed}
 use Rattle.wol_model.specs.Images.{Images, image_of, home_of, home_in, segment_of, segments_of, all_segments, accepted, recovered_from}
 use Rattle.wol_model.specs.Log.{Record, IsLog}
 use Rattle.wol_model.specs.Recovered.{recovered}
@@ -14,6 +15,8 @@ use Rattle.wol_promise.specs.Stands.{next_version}
 use Rattle.log_layout.specs.Values.{shape_of}
 use Rattle.logger_view.specs.Stored.{HasView}
 use Rattle.spin_model.specs.Spun.{state_of}
+use Rattle.manager.specs.declared.base.ManagerBase.{ManagerBase}
+use Rattle.manager_recovery.specs.Opened.{IsPlaceOf}
 use Rattle.manager_recovery.specs.Opening.{AreInOrder}
 use Rattle.manager_recovery.specs.Owned.{IsListedOf, Owned, all_owned, read_of, records_in, writes_in, heads_in, AreIntact, HaveNoTwins}
 use Rattle.manager_recovery.specs.declared.opening.Opening.{Opening}
@@ -79,6 +82,17 @@ pub record IsBegun (config : Config) (images : Images) (b : Base) : Type 0 where
   pub found : AllByRecursion (IsListedOf b.owner b.view owned) b.look.listed
   pub view : (image : List Block) → image_of images b.owner ≡ Some image → HasView image b.view
   pub most : b.most ≡ most_of config
+
+-- Each of these records of volume v stands where these images have it: in a segment that they have as the volume's, on the logger of its
+-- lane, with its head at that position.
+pub record StandAsRead (config : Config) (images : Images) (v : ℕ) (view : List ℕ) (es : List Indexed) : Type 0 where
+  pub owned : List Owned
+  pub are_owned : AreOwnedIn (shapes_of config) images v owned
+  pub each : AllByRecursion (IsPlaceOf v view owned) es
+
+-- so do the records that a volume had listed when it was opened
+abbrev pub BeganInPlace : Config → Images → ManagerBase → Type 0
+BeganInPlace config images b = StandAsRead config images b.volume.began.owner b.volume.began.view b.volume.places
 
 -- volume v was opened of the images that weren't refused, among them those of the loggers of its view
 pub record WasOpened (config : Config) (refused : ℕ → Bool) (entry : Told) (v : ℕ) : Type 0 where

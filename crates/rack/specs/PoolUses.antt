@@ -1,10 +1,12 @@
 -- How the volumes used the pools of free segments, by the entries of the pools' locks.
-use Rattle.std.specs.Prelude.{◌≡◌, ℕ, List, length, Option, None, Some, slice_get}
+use Rattle.std.specs.Prelude.{◌≡◌, ◌≤◌, ℕ, List, length, sum_by, Option, None, Some, slice_get}
 use Rattle.std.specs.Option.{option_map_or}
 use Rattle.wol_disk.specs.Disk.{reads}
 use Rattle.wol_model.specs.Heads.{SegmentHead, Free, Owned}
+use Rattle.wol_model.specs.History.{flight_of}
 use Rattle.wol_promise.specs.Manager.{Base}
-use Rattle.wol_promise.specs.Ruled.{Noted, HasPassed}
+use Rattle.wol_promise.specs.Report.{logged_writes}
+use Rattle.wol_promise.specs.Ruled.{Noted, HasPassed, entries_of}
 use Rattle.wol_bay.specs.Bay.{Image, Told, at_name}
 use Rattle.wol_config.specs.declared.config.Config.{Config}
 use Rattle.wol_config.specs.declared.config.VolumeConf.{VolumeConf}
@@ -13,7 +15,7 @@ use Rattle.seg_pool.specs.Holders.{holder, ArePoolUses}
 use Rattle.seg_pool.specs.Operations.{uses_of}
 use Rattle.seg_pool.specs.declared.base.Holder.{Holder}
 use Rattle.seg_pool.specs.declared.base.Holder.TheVariants.{Elsewhere, InPool, HeldBy}
-use Rattle.manager.specs.Stands.{nones_in}
+use Rattle.manager.specs.Stands.{nones_in, takes_in}
 use Rattle.volume_images.specs.Accepted.{IsAccepted}
 use Rattle.volume_images.specs.Volumes.{shape_in, shapes_of}
 
@@ -50,3 +52,12 @@ times_empty pools v view place = option_map_or (λ (logger : ℕ). nones_in (own
 -- no more of a volume's entries passed over a pool than its pass found that pool empty
 abbrev pub PassesEmpty : (pools : ℕ → List Entry) → Base → List Noted → Type 0
 PassesEmpty pools base notes = HasPassed (times_empty pools base.owner base.view) notes
+
+-- how many segments the pass of volume v took of the pools of its view, by the entries of the pools' locks
+abbrev pub times_taken : (pools : ℕ → List Entry) → (v : ℕ) → (view : List ℕ) → ℕ
+times_taken pools v view = sum_by (λ (logger : ℕ). takes_in (own v (pools logger))) view
+
+-- Of all pools together a volume's pass took no more segments than the volume wrote to logs, where no call failed: one that wrote nothing
+-- to a log took nothing.
+abbrev pub TakesFew : (pools : ℕ → List Entry) → Base → List Noted → Type 0
+TakesFew pools base notes = flight_of (entries_of notes) ≡ None → times_taken pools base.owner base.view ≤ logged_writes notes

@@ -19,7 +19,7 @@ use Rattle.manager.specs.declared.base.ManagerBase.{ManagerBase}
 use Rattle.manager.specs.declared.station.Station.{Station}
 use Rattle.volume_images.specs.Formatted.{part_sizes}
 use Rattle.volume_images.specs.Volumes.{shape_in, shapes_of}
-use Rattle.rack.specs.Rests.{IsPassAt, AreLocks, IsRest, IsImageOut, OnlyAccess, image_here}
+use Rattle.rack.specs.Rests.{IsPassAt, AreLocks, IsRest, IsImageOut, OnlyAccess, image_here, spindle_pass}
 use Rattle.rack.specs.Foreign.{AreForeign}
 use Rattle.manager.specs.declared.part.Part.TheVariants.{Home, Segment}
 use Rattle.manager_recovery.specs.declared.refusal.OpenRefusal.TheVariants.{LabelDiffers, LoggerMissing, OutsideView, Damaged, Twins, DiskFault, NoMemory}
@@ -46,6 +46,8 @@ pub record IsOpenBase {D : Type 0} (config : Config) (shared : Shared D) (images
   pub most : b.volume.began.most ≡ most_of config
   pub own_spindle : b.spindle_number ≡ b.volume.began.owner
   pub own_lanes : AllByRecursion (λ (l : LaneBase). (l.pool_number ≡ b.volume.began.owner) × (l.spindle_number ≡ b.volume.began.owner)) b.lanes
+  -- no pass had taken a segment by then
+  pub untaken : AllByRecursion (λ (l : LaneBase). l.takes ≡ 0) b.lanes
 
 -- the lock of a volume's manager with its three passes, each in no turn
 pub record IsStation {D : Type 0} (s : Station D) : Type 0 where
@@ -106,6 +108,12 @@ NamesVolumes n (Refused (DiskFault (Home volume))) = ⊤
 NamesVolumes n (Refused (DiskFault (Segment volume index))) = volume < n
 NamesVolumes n (Refused NoMemory) = ⊥
 
+-- Which disks the volumes used, where these are their views: the pass of a volume at another's spindle was used only if its view names
+-- that volume. A station's view is the one that it was opened with.
+pub record KeepToViews {D : Type 0} (views : ℕ → List ℕ) (r : Rack D) : Type 0 where
+  pub opened : All (λ s. views s.id ≡ (base_of_station s).volume.began.view) r.stations.items
+  pub unused : (v k : ℕ) (p : PassOf Spindle SpindleBase) → v ≢ k → (Contains (views v) k → ⊥) → spindle_pass r.rest v k ≡ Some p → pass_mine p ≡ []
+
 -- The rack is whole: it may be closed, and a volume has a station exactly where it has no fault.
 pub record IsRack {D : Type 0} (state : D → State) (config : Config) (b : BayState) (r : Rack D) : Type 0 where
   pub out : AreOut config r.rest.images.items b
@@ -120,3 +128,5 @@ pub record IsRack {D : Type 0} (state : D → State) (config : Config) (b : BayS
   pub rest : IsRest state config r.shared (map (λ (s : Station D). base_of_station s) r.stations.items) r.rest
   pub foreign : AreForeign state (map (λ (s : Station D). base_of_station s) r.stations.items) r.rest
   pub accesses : OnlyAccess r.rest
+  -- a volume used the disks of its own image and of its view alone
+  pub users : (views : ℕ → List ℕ) × KeepToViews views r

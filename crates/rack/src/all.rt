@@ -4,11 +4,11 @@ ghost use Rattle.wol_bay.specs.Bay.{Name, outs};
 ghost use Rattle.wol_config.specs.Configs.{IsValid};
 ghost use Rattle.volume_images.specs.Left.{IsTold};
 ghost use Rattle.volume_images.specs.Volumes.{NoneOut, images_read, shapes_of};
-ghost use Rattle.rack.specs.Racks.{IsRack, IsUnused, AreUnused};
+ghost use Rattle.rack.specs.Racks.{IsRack, IsUnused, AreUnused, KeepToViews};
 ghost use Rattle.rack.specs.Rests.{IsImageOut};
 ghost use Rattle.rack.specs.Owners.{HadRefused};
 ghost use Rattle.rack.specs.Opening.{IsTaken};
-ghost use Rattle.rack.specs.Opens.{out_names, BeganWith, WereThere, AreRefused, LeavesAll, HasFaulty, KeepsOthers, KeepsAllSound};
+ghost use Rattle.rack.specs.Opens.{out_names, AreViewsAsRead, BeganWith, WereThere, AreRefused, LeavesAll, HasFaulty, KeepsOthers, KeepsAllSound};
 ghost use Rattle.wol_disk.specs.Disk.{Rose};
 ghost use Rattle.wol_model.specs.Images.{AreSound};
 ghost use Rattle.manager.specs.declared.part.Part.{Part};
@@ -97,6 +97,9 @@ pub fn open_all<R: Wait, B: Bay>(
     ensures began { IfOk result (λ r. IsTrue B.Part.tells → IfSome (B.state bay.old).told (λ t. BeganWith B.Part.state config.now t r)) }
     ensures there { IfOk result (λ r. IsTrue B.Part.tells → IfSome (B.state bay.old).told (λ t. WereThere config.now r.rest.images.items t)) }
     ensures refused { IfOk result (AreRefused B.Part.tells B.Part.state config.now (B.state bay.old) (B.state bay.new)) }
+    // a volume used no disk but those of its own image and of the view that this says, also where its opening was refused
+    ensures users { IfOk result (λ r. IsTrue B.Part.tells → IfSome (B.state bay.old).told (λ t. (views : ℕ → List ℕ) × KeepToViews views r
+        × AreViewsAsRead config.now r.rest.images.items t views)) }
     // no pass of a station was used
     ensures fresh { IfOk result (λ r. AreUnused r.stations.items) }
     ensures fresh_keepers { IfOk result (λ r. All (λ p. IsUnused p) r.keepers.items) }

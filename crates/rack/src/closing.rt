@@ -146,7 +146,7 @@ impl<D: Disk> Rest<D> {
         requires passes { HasSpindlePasses self.old id lock keeper }
         requires empty { room.items ≡ [] }
         requires room { length self.old.passes.items + 1 ≤ vec_capacity room }
-        ensures spindle { StandsClosed lock keeper result }
+        ensures spindle { StandsClosed self.old id lock keeper result }
         ensures images { self.new.images ≡ self.old.images }
         ensures rooms { self.new.rooms ≡ self.old.rooms }
         ensures rows { KeepsOtherRows self.old self.new }
@@ -161,7 +161,7 @@ impl<D: Disk> Rest<D> {
     fn close_spindles(&mut self, locks: Vec<TurnLock<Spindle>>, keepers: Vec<Pass<Spindle>>)
         requires locks { CanCloseSpindles locks.items keepers.items self.old }
         requires empty { self.old.rooms.closed.items ≡ [] }
-        ensures closed { AreClosed locks.items keepers.items self.new.rooms.closed.items }
+        ensures closed { AreClosed self.old locks.items keepers.items self.new.rooms.closed.items }
         ensures images { self.new.images ≡ self.old.images }
         ensures rows { KeepsOtherRows self.old self.new }
     {

@@ -78,14 +78,14 @@ fn open_next<R: Wait, B: Bay>(
     requires within { id < length config.now.volumes.items }
     requires home { (v : VolumeConf) → slice_get config.now.volumes.items id ≡ Some v → IsHome v.name (B.state bay.old) }
     requires spindle { IsSpindleLock (length config.now.volumes.items) id config.now.timeout spindle.old.lock }
-    requires passes { IsInOrder spindle.old × AreSettled spindle.old }
+    requires passes { IsInOrder spindle.old × AreSettled id spindle.old }
     ensures opened { IfOk result (λ r. IfOk r (λ pair. (v : VolumeConf) → slice_get config.now.volumes.items id ≡ Some v
         → IsNextOpened B.Part.tells B.Part.state config.now id v (B.state bay.old) (B.state bay.new) pair.0 pair.1)) }
     ensures refused { IfOk result (λ r. IfErr r (λ fault. (v : VolumeConf) → slice_get config.now.volumes.items id ≡ Some v
         → IsNextRefused B.Part.tells B.Part.state config.now id v (B.state bay.old) (B.state bay.new) fault)) }
     ensures err { OnErr result (IsBackAtOnce (B.state bay.old) (B.state bay.new)) }
     ensures spindle { spindle.new.lock ≡ spindle.old.lock }
-    ensures passes { IsInOrder spindle.new × AreSettled spindle.new }
+    ensures passes { IsInOrder spindle.new × AreSettled id spindle.new }
 {
     let volume = &config.volumes[id as usize];
     let Ok(segments) = Vec::with_capacity(alloc, volume.segments as usize) else {

@@ -374,9 +374,9 @@ impl<D: Disk> Rack<D> {
     ghost use Rattle.std.specs.Prelude.{◌≡◌, ◌<◌, ◌+◌, ℕ, Some, length, slice_get, OnOk, OnErr, IsTrue};
     ghost use Rattle.wol_bay.specs.Bay.{BayState, Told};
     ghost use Rattle.wol_config.specs.Configs.{IsValid};
-    ghost use Rattle.rack.specs.Racks.{IsRack, AreUnused};
+    ghost use Rattle.rack.specs.Racks.{IsRack, AreUnused, KeepToViews};
     ghost use Rattle.rack.specs.Opens.{BeganWith, AreRefused};
-    ghost use Rattle.rack.specs.Opening.{IsOpeningRack, HasBegun, AreRefusedBelow, HaveFaults, AreSameOut, IsStopped};
+    ghost use Rattle.rack.specs.Opening.{view_at, IsOpeningRack, HasBegun, AreRefusedBelow, HaveFaults, AreSameOut, IsStopped};
     ghost use Rattle.rack.specs.declared.heads_said.Said.{Said};
 
     // Opens one volume: it has a station then, or a fault. Where there is no memory all of it is in the rest.
@@ -450,6 +450,7 @@ impl<D: Disk> Rack<D> {
         ensures rack { (b : BayState) → IsOpeningRack D.state config.now b said.now 0 self.old → OnOk result (IsRack D.state config.now b self.new) }
         ensures keepers { self.new.keepers ≡ self.old.keepers }
         ensures fresh { AreUnused self.new.stations.items }
+        ensures users { OnOk result (KeepToViews (view_at said.now) self.new) }
         ensures same_out { AreSameOut self.old self.new }
         ensures refused { (b b' : BayState) → (IsTrue D.tells → (t : Told) → b.told ≡ Some t → HasBegun D.state config.now t said.now 0 self.old)
             → AreRefusedBelow D.tells D.state config.now b b' 0 self.old → OnOk result (AreRefused D.tells D.state config.now b b' self.new) }

@@ -86,7 +86,7 @@ pub(crate) fn ask<R: Wait>(
 }
 
 /// What is printed of all volumes.
-pub(crate) fn checked<R: Abort + Wait>(
+pub(crate) fn checked<R: Abort + Threads + Wait + Sync>(
     rt: &R,
     alloc: Global,
     config: &Config,

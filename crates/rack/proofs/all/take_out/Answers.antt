@@ -23,70 +23,54 @@ use Rattle.rack.proofs.all.take_out.Goals as goal
 
 pub issue_pools-requires-clause-each : goal.issue_pools-requires-clause-each
 issue_pools-requires-clause-each g c = λ k s is.
-    let v = c.args.config.now.volumes.ok.0 in
-    let many : length c.args.config.now.volumes.items ≡ vec_len c.args.config.now.volumes = omega (arith, v) in
-    let state = g.B.Part.Disk.state in
-    let can = may_issue g.B.Part.Disk.tells state c.args.config.now (g.B.Bay.state c.args.bay.now) (g.B.Bay.state c.open_images.new.bay) c.in-Ok.images c.in-Ok.ensures.asked k s is in
-    let at_said = subst (λ (l : List (Option Said)). CanIssue state (length c.args.config.now.volumes.items) k s (slice_index_or l k None) (image_here c.in-Ok.images.out.items k)) (sym c.as_slice.ensures.value) can in
-    let at_images = subst (λ (l : List (Option (ImageRest g.row.B-Part.Denot))). CanIssue state (length c.args.config.now.volumes.items) k s (slice_index_or c.as_slice.result.now k None) (slice_index_or l k None)) (sym c.as_mut_slice.ensures.value) at_said in
-    subst (λ (n : ℕ). CanIssue state n k s (slice_index_or c.as_slice.result.now k None) (slice_index_or c.as_mut_slice.result.now k None)) many at_images
+    let many : length c.args.config.now.volumes.items ≡ vec_len c.args.config.now.volumes = omega (arith, c.args.config.now.volumes.ok.0) in
+    let can = may_issue g.B.Part.Disk.tells g.B.Part.Disk.state c.args.config.now (g.B.Bay.state c.args.bay.now) (g.B.Bay.state c.open_images.new.bay) c.in-Ok.images c.in-Ok.ensures.asked k s is in
+    let at_said = subst (λ (l : List (Option Said)). CanIssue g.B.Part.Disk.state (length c.args.config.now.volumes.items) k s (slice_index_or l k None) (image_here c.in-Ok.images.out.items k)) (sym c.as_slice.ensures.value) can in
+    let at_images = subst (λ (l : List (Option (ImageRest g.row.B-Part.Denot))). CanIssue g.B.Part.Disk.state (length c.args.config.now.volumes.items) k s (slice_index_or c.as_slice.result.now k None) (slice_index_or l k None)) (sym c.as_mut_slice.ensures.value) at_said in
+    subst (λ (n : ℕ). CanIssue g.B.Part.Disk.state n k s (slice_index_or c.as_slice.result.now k None) (slice_index_or c.as_mut_slice.result.now k None)) many at_images
 
 pub give_back-requires-clause-images : goal.give_back-requires-clause-images
 give_back-requires-clause-images g c = λ k s r is here.
-    let state = g.B.Part.Disk.state in
-    let v = c.in-Ok.images.out.ok.0 in
     let count : length c.issue_pools.new.images ≡ length c.in-Ok.images.out.items = c.issue_pools.ensures.images ∙ ap length c.as_mut_slice.ensures.value in
-    let e = with_items_is c.in-Ok.images.out c.issue_pools.new.images (omega (arith, count, v)) in
-    let restores = λ (j : ℕ). subst (λ (l : List (Option (ImageRest g.row.B-Part.Denot))). Restores state j c.args.config.now.segment_blocks (slice_index_or c.in-Ok.images.said.items j None) (slice_index_or l j None) (slice_index_or c.issue_pools.new.images j None)) c.as_mut_slice.ensures.value
-    (subst (λ (l : List (Option Said)). Restores state j c.args.config.now.segment_blocks (slice_index_or l j None) (slice_index_or c.as_mut_slice.result.now j None) (slice_index_or c.issue_pools.new.images j None)) c.as_slice.ensures.value (c.in-Err-issue_pools.ensures.restores j)) in
-    (again g.B.Part.Disk.tells state c.args.config.now (g.B.Bay.state c.args.bay.now) (g.B.Bay.state c.open_images.new.bay) c.in-Ok.images c.in-Ok.ensures.asked c.issue_pools.new.images count restores k s r is (sym (ap (λ (l : List (Option (ImageRest g.row.B-Part.Denot))). image_here l k) e) ∙ here)).rest
+    let e = with_items_is c.in-Ok.images.out c.issue_pools.new.images (omega (arith, count, c.in-Ok.images.out.ok.0)) in
+    let restores = λ (j : ℕ). subst (λ (l : List (Option (ImageRest g.row.B-Part.Denot))). Restores g.B.Part.Disk.state j c.args.config.now.segment_blocks (slice_index_or c.in-Ok.images.said.items j None) (slice_index_or l j None) (slice_index_or c.issue_pools.new.images j None)) c.as_mut_slice.ensures.value
+    (subst (λ (l : List (Option Said)). Restores g.B.Part.Disk.state j c.args.config.now.segment_blocks (slice_index_or l j None) (slice_index_or c.as_mut_slice.result.now j None) (slice_index_or c.issue_pools.new.images j None)) c.as_slice.ensures.value (c.in-Err-issue_pools.ensures.restores j)) in
+    (again g.B.Part.Disk.tells g.B.Part.Disk.state c.args.config.now (g.B.Bay.state c.args.bay.now) (g.B.Bay.state c.open_images.new.bay) c.in-Ok.images c.in-Ok.ensures.asked c.issue_pools.new.images count restores k s r is (sym (ap (λ (l : List (Option (ImageRest g.row.B-Part.Denot))). image_here l k) e) ∙ here)).rest
 
 pub give_back-requires-clause-whole : goal.give_back-requires-clause-whole
 give_back-requires-clause-whole g c = λ k r here.
-    let state = g.B.Part.Disk.state in
-    let v = c.in-Ok.images.out.ok.0 in
     let count : length c.issue_pools.new.images ≡ length c.in-Ok.images.out.items = c.issue_pools.ensures.images ∙ ap length c.as_mut_slice.ensures.value in
-    let e = with_items_is c.in-Ok.images.out c.issue_pools.new.images (omega (arith, count, v)) in
-    let restores = λ (j : ℕ). subst (λ (l : List (Option (ImageRest g.row.B-Part.Denot))). Restores state j c.args.config.now.segment_blocks (slice_index_or c.in-Ok.images.said.items j None) (slice_index_or l j None) (slice_index_or c.issue_pools.new.images j None)) c.as_mut_slice.ensures.value
-    (subst (λ (l : List (Option Said)). Restores state j c.args.config.now.segment_blocks (slice_index_or l j None) (slice_index_or c.as_mut_slice.result.now j None) (slice_index_or c.issue_pools.new.images j None)) c.as_slice.ensures.value (c.in-Err-issue_pools.ensures.restores j)) in
+    let e = with_items_is c.in-Ok.images.out c.issue_pools.new.images (omega (arith, count, c.in-Ok.images.out.ok.0)) in
+    let restores = λ (j : ℕ). subst (λ (l : List (Option (ImageRest g.row.B-Part.Denot))). Restores g.B.Part.Disk.state j c.args.config.now.segment_blocks (slice_index_or c.in-Ok.images.said.items j None) (slice_index_or l j None) (slice_index_or c.issue_pools.new.images j None)) c.as_mut_slice.ensures.value
+    (subst (λ (l : List (Option Said)). Restores g.B.Part.Disk.state j c.args.config.now.segment_blocks (slice_index_or l j None) (slice_index_or c.as_mut_slice.result.now j None) (slice_index_or c.issue_pools.new.images j None)) c.as_slice.ensures.value (c.in-Err-issue_pools.ensures.restores j)) in
     let there = sym (ap (λ (l : List (Option (ImageRest g.row.B-Part.Denot))). image_here l k) e) ∙ here in
     let s = shape_here c.args.config.now c.issue_pools.new.images k r (let a = c.in-Ok.ensures.asked.out_count in omega (arith, count, a)) there in
-    (again g.B.Part.Disk.tells state c.args.config.now (g.B.Bay.state c.args.bay.now) (g.B.Bay.state c.open_images.new.bay) c.in-Ok.images c.in-Ok.ensures.asked c.issue_pools.new.images count restores k s.0 r s.1 there).all
+    (again g.B.Part.Disk.tells g.B.Part.Disk.state c.args.config.now (g.B.Bay.state c.args.bay.now) (g.B.Bay.state c.open_images.new.bay) c.in-Ok.images c.in-Ok.ensures.asked c.issue_pools.new.images count restores k s.0 r s.1 there).all
 
 pub give_back-requires-clause-out : goal.give_back-requires-clause-out
 give_back-requires-clause-out g c = λ k w at there.
-    let state = g.B.Part.Disk.state in
-    let vs = c.args.config.now.volumes.items in
-    let v = c.in-Ok.images.out.ok.0 in
     let count : length c.issue_pools.new.images ≡ length c.in-Ok.images.out.items = c.issue_pools.ensures.images ∙ ap length c.as_mut_slice.ensures.value in
-    let e = with_items_is c.in-Ok.images.out c.issue_pools.new.images (omega (arith, count, v)) in
-    let restores = λ (j : ℕ). subst (λ (l : List (Option (ImageRest g.row.B-Part.Denot))). Restores state j c.args.config.now.segment_blocks (slice_index_or c.in-Ok.images.said.items j None) (slice_index_or l j None) (slice_index_or c.issue_pools.new.images j None)) c.as_mut_slice.ensures.value
-    (subst (λ (l : List (Option Said)). Restores state j c.args.config.now.segment_blocks (slice_index_or l j None) (slice_index_or c.as_mut_slice.result.now j None) (slice_index_or c.issue_pools.new.images j None)) c.as_slice.ensures.value (c.in-Err-issue_pools.ensures.restores j)) in
-    let same = same_here g.B.Part.Disk.tells state c.args.config.now (g.B.Bay.state c.args.bay.now) (g.B.Bay.state c.open_images.new.bay) c.in-Ok.images c.in-Ok.ensures.asked c.issue_pools.new.images count restores k in
-    let home = subst (λ (x : VolumeConf). IsHome x.name (g.B.Bay.state c.args.bay.now)) (get_or_from_slice_get vs k w w at) (c.requires.home k w (slice_get_within vs k w at)) in
-    names_out c.args.config.now c.requires.config c.in-Ok.images.out.items (length vs) k w (g.B.Bay.state c.args.bay.now) (g.B.Bay.state c.open_images.new.bay) at
+    let e = with_items_is c.in-Ok.images.out c.issue_pools.new.images (omega (arith, count, c.in-Ok.images.out.ok.0)) in
+    let restores = λ (j : ℕ). subst (λ (l : List (Option (ImageRest g.row.B-Part.Denot))). Restores g.B.Part.Disk.state j c.args.config.now.segment_blocks (slice_index_or c.in-Ok.images.said.items j None) (slice_index_or l j None) (slice_index_or c.issue_pools.new.images j None)) c.as_mut_slice.ensures.value
+    (subst (λ (l : List (Option Said)). Restores g.B.Part.Disk.state j c.args.config.now.segment_blocks (slice_index_or l j None) (slice_index_or c.as_mut_slice.result.now j None) (slice_index_or c.issue_pools.new.images j None)) c.as_slice.ensures.value (c.in-Err-issue_pools.ensures.restores j)) in
+    let same = same_here g.B.Part.Disk.tells g.B.Part.Disk.state c.args.config.now (g.B.Bay.state c.args.bay.now) (g.B.Bay.state c.open_images.new.bay) c.in-Ok.images c.in-Ok.ensures.asked c.issue_pools.new.images count restores k in
+    let home = subst (λ (x : VolumeConf). IsHome x.name (g.B.Bay.state c.args.bay.now)) (get_or_from_slice_get c.args.config.now.volumes.items k w w at) (c.requires.home k w (slice_get_within c.args.config.now.volumes.items k w at)) in
+    names_out c.args.config.now c.requires.config c.in-Ok.images.out.items (length c.args.config.now.volumes.items) k w (g.B.Bay.state c.args.bay.now) (g.B.Bay.state c.open_images.new.bay) at
     (sym same ∙ sym (ap (λ (l : List (Option (ImageRest g.row.B-Part.Denot))). is_some (image_here l k)) e) ∙ there) home c.in-Ok.ensures.out
 
 pub end_spindles-requires-in-Err-issue_pools : goal.end_spindles-requires-in-Err-issue_pools
 end_spindles-requires-in-Err-issue_pools g c =
-    let v = c.in_ok-spindles.spindles.ok.0 in
-    let n = c.open_images.ensures.count in
     let m = ap length c.deref_mut.ensures.value in
-    let e = with_items_is c.in_ok-spindles.spindles c.open_images.new.spindles (omega (arith, v, n, m)) in
+    let e = with_items_is c.in_ok-spindles.spindles c.open_images.new.spindles (omega (arith, c.in_ok-spindles.spindles.ok.0, c.open_images.ensures.count, m)) in
     subst (All (λ (i : Issued Spindle SpindleBase). IsWholeLock i)) (sym e) (λ k d lt. (c.open_images.ensures.spindles.each k d lt).whole)
 
 pub returns-in-Ok-issue_pools-clause-taken : goal.returns-in-Ok-issue_pools-clause-taken
 returns-in-Ok-issue_pools-clause-taken g c =
-    let config = c.args.config.now in
-    let v = c.in-Ok.images.out.ok.0 in
-    let u = c.in_ok-spindles.spindles.ok.0 in
-    let w = config.volumes.ok.0 in
-    let n = c.open_images.ensures.count in
     let m = ap length c.deref_mut.ensures.value in
     let count : length c.issue_pools.new.images ≡ length c.in-Ok.images.out.items = c.issue_pools.ensures.images ∙ ap length c.as_mut_slice.ensures.value in
-    let e = with_items_is c.in-Ok.images.out c.issue_pools.new.images (omega (arith, count, v)) in
-    let es = with_items_is c.in_ok-spindles.spindles c.open_images.new.spindles (omega (arith, u, n, m)) in
-    let all : vec_len config.volumes ≡ length config.volumes.items = omega (arith, w) in
+    let e = with_items_is c.in-Ok.images.out c.issue_pools.new.images (omega (arith, count, c.in-Ok.images.out.ok.0)) in
+    let es = with_items_is c.in_ok-spindles.spindles c.open_images.new.spindles (omega (arith, c.in_ok-spindles.spindles.ok.0, c.open_images.ensures.count, m)) in
+    let all : vec_len c.args.config.now.volumes ≡ length c.args.config.now.volumes.items = omega (arith, c.args.config.now.volumes.ok.0) in
     record {
       before = c.in-Ok.images;
       same = (refl, refl);
@@ -96,31 +80,25 @@ returns-in-Ok-issue_pools-clause-taken g c =
       supplies = λ j. subst (λ (l : List (Option (ImageRest g.row.B-Part.Denot))). Supplies (slice_index_or c.in-Ok.images.said.items j None) (image_here c.in-Ok.images.out.items j) (image_here l j)) (sym e)
           (subst (λ (l : List (Option (ImageRest g.row.B-Part.Denot))). Supplies (slice_index_or c.in-Ok.images.said.items j None) (slice_index_or l j None) (slice_index_or c.issue_pools.new.images j None)) c.as_mut_slice.ensures.value
           (subst (λ (l : List (Option Said)). Supplies (slice_index_or l j None) (slice_index_or c.as_mut_slice.result.now j None) (slice_index_or c.issue_pools.new.images j None)) c.as_slice.ensures.value (c.in-Ok-issue_pools.ensures.supplies j)));
-      spindle_count = ap length es ∙ (let a = c.in_ok-spindles.ensures.count in let l = c.len-count.ensures in omega (arith, n, m, a, l, w));
-      spindles = subst (λ (l : List (Issued Spindle SpindleBase)). AreSpindlesOf (length config.volumes.items) config.timeout l) (sym es) c.open_images.ensures.spindles;
+      spindle_count = ap length es ∙ (let a = c.in_ok-spindles.ensures.count in let l = c.len-count.ensures in omega (arith, c.open_images.ensures.count, m, a, l, c.args.config.now.volumes.ok.0));
+      spindles = subst (λ (l : List (Issued Spindle SpindleBase)). AreSpindlesOf (length c.args.config.now.volumes.items) c.args.config.now.timeout l) (sym es) c.open_images.ensures.spindles;
       pool_count = c.in-Ok-issue_pools.ensures.count ∙ all;
       pools = λ k s i is at. subst (λ (x : ℕ). IsIssuedPool x k s (slice_index_or c.in-Ok.images.said.items k None) i) all
-          (subst (λ (l : List (Option Said)). IsIssuedPool (vec_len config.volumes) k s (slice_index_or l k None) i) c.as_slice.ensures.value (c.in-Ok-issue_pools.ensures.issued k s i is at));
+          (subst (λ (l : List (Option Said)). IsIssuedPool (vec_len c.args.config.now.volumes) k s (slice_index_or l k None) i) c.as_slice.ensures.value (c.in-Ok-issue_pools.ensures.issued k s i is at));
     }
 
 pub returns-in-Err-issue_pools-clause-home : goal.returns-in-Err-issue_pools-clause-home
 returns-in-Err-issue_pools-clause-home g c =
-    let state = g.B.Part.Disk.state in
-    let b = g.B.Bay.state c.args.bay.now in
-    let b1 = g.B.Bay.state c.open_images.new.bay in
-    let b2 = g.B.Bay.state c.give_back.new.bay in
-    let v = c.in-Ok.images.out.ok.0 in
     let count : length c.issue_pools.new.images ≡ length c.in-Ok.images.out.items = c.issue_pools.ensures.images ∙ ap length c.as_mut_slice.ensures.value in
-    let e = with_items_is c.in-Ok.images.out c.issue_pools.new.images (omega (arith, count, v)) in
-    let restores = λ (j : ℕ). subst (λ (l : List (Option (ImageRest g.row.B-Part.Denot))). Restores state j c.args.config.now.segment_blocks (slice_index_or c.in-Ok.images.said.items j None) (slice_index_or l j None) (slice_index_or c.issue_pools.new.images j None)) c.as_mut_slice.ensures.value
-    (subst (λ (l : List (Option Said)). Restores state j c.args.config.now.segment_blocks (slice_index_or l j None) (slice_index_or c.as_mut_slice.result.now j None) (slice_index_or c.issue_pools.new.images j None)) c.as_slice.ensures.value (c.in-Err-issue_pools.ensures.restores j)) in
-    home_again g.B.Part.Disk.tells state c.args.config.now b b1 c.in-Ok.images c.in-Ok.ensures.asked c.issue_pools.new.images count restores c.requires.home c.in-Ok.ensures.out b2
-    (subst (λ (l : List (Option (ImageRest g.row.B-Part.Denot))). LeavesNoneOut c.args.config.now l (outs b1) (outs b2)) e c.give_back.ensures.home)
+    let e = with_items_is c.in-Ok.images.out c.issue_pools.new.images (omega (arith, count, c.in-Ok.images.out.ok.0)) in
+    let restores = λ (j : ℕ). subst (λ (l : List (Option (ImageRest g.row.B-Part.Denot))). Restores g.B.Part.Disk.state j c.args.config.now.segment_blocks (slice_index_or c.in-Ok.images.said.items j None) (slice_index_or l j None) (slice_index_or c.issue_pools.new.images j None)) c.as_mut_slice.ensures.value
+    (subst (λ (l : List (Option Said)). Restores g.B.Part.Disk.state j c.args.config.now.segment_blocks (slice_index_or l j None) (slice_index_or c.as_mut_slice.result.now j None) (slice_index_or c.issue_pools.new.images j None)) c.as_slice.ensures.value (c.in-Err-issue_pools.ensures.restores j)) in
+    home_again g.B.Part.Disk.tells g.B.Part.Disk.state c.args.config.now (g.B.Bay.state c.args.bay.now) (g.B.Bay.state c.open_images.new.bay) c.in-Ok.images c.in-Ok.ensures.asked c.issue_pools.new.images count restores c.requires.home c.in-Ok.ensures.out (g.B.Bay.state c.give_back.new.bay)
+    (subst (λ (l : List (Option (ImageRest g.row.B-Part.Denot))). LeavesNoneOut c.args.config.now l (outs (g.B.Bay.state c.open_images.new.bay)) (outs (g.B.Bay.state c.give_back.new.bay))) e c.give_back.ensures.home)
 
 pub returns-in_err-spindles-clause-left : goal.returns-in_err-spindles-clause-left
 returns-in_err-spindles-clause-left g c =
-    let b = g.B.Bay.state c.args.bay.now in
-    on_err c.from_residual.result _ (λ telling. left_back g.B.Part.Disk.tells g.B.Part.Disk.state c.args.config.now b b (nothing_done b.told))
+    on_err c.from_residual.result _ (λ telling. left_back g.B.Part.Disk.tells g.B.Part.Disk.state c.args.config.now (g.B.Bay.state c.args.bay.now) (g.B.Bay.state c.args.bay.now) (nothing_done (g.B.Bay.state c.args.bay.now).told))
 
 pub returns-in-Err-clause-left : goal.returns-in-Err-clause-left
 returns-in-Err-clause-left g c = λ telling. left_back g.B.Part.Disk.tells g.B.Part.Disk.state c.args.config.now (g.B.Bay.state c.args.bay.now) (g.B.Bay.state c.open_images.new.bay) (c.in-Err.ensures.err.left telling)
@@ -130,32 +108,22 @@ returns-in-Err-clause-sound g c = λ telling. sound_back g.B.Part.Disk.tells g.B
 
 pub returns-in-Err-issue_pools-clause-left : goal.returns-in-Err-issue_pools-clause-left
 returns-in-Err-issue_pools-clause-left g c =
-    let state = g.B.Part.Disk.state in
-    let b = g.B.Bay.state c.args.bay.now in
-    let b1 = g.B.Bay.state c.open_images.new.bay in
-    let b2 = g.B.Bay.state c.give_back.new.bay in
-    let v = c.in-Ok.images.out.ok.0 in
     let count : length c.issue_pools.new.images ≡ length c.in-Ok.images.out.items = c.issue_pools.ensures.images ∙ ap length c.as_mut_slice.ensures.value in
-    let e = with_items_is c.in-Ok.images.out c.issue_pools.new.images (omega (arith, count, v)) in
-    let restores = λ (j : ℕ). subst (λ (l : List (Option (ImageRest g.row.B-Part.Denot))). Restores state j c.args.config.now.segment_blocks (slice_index_or c.in-Ok.images.said.items j None) (slice_index_or l j None) (slice_index_or c.issue_pools.new.images j None)) c.as_mut_slice.ensures.value
-    (subst (λ (l : List (Option Said)). Restores state j c.args.config.now.segment_blocks (slice_index_or l j None) (slice_index_or c.as_mut_slice.result.now j None) (slice_index_or c.issue_pools.new.images j None)) c.as_slice.ensures.value (c.in-Err-issue_pools.ensures.restores j)) in
-    left_again g.B.Part.Disk.tells state c.args.config.now c.requires.config b b1 b2 c.in-Ok.images c.in-Ok.ensures.asked c.in-Ok.ensures.out c.issue_pools.new.images count restores
-    (subst (λ (l : List (Option (ImageRest g.row.B-Part.Denot))). IsTold (GivesBack state c.args.config.now l 0) b1.told b2.told) e c.give_back.ensures.back) c.give_back.ensures.counts
+    let e = with_items_is c.in-Ok.images.out c.issue_pools.new.images (omega (arith, count, c.in-Ok.images.out.ok.0)) in
+    let restores = λ (j : ℕ). subst (λ (l : List (Option (ImageRest g.row.B-Part.Denot))). Restores g.B.Part.Disk.state j c.args.config.now.segment_blocks (slice_index_or c.in-Ok.images.said.items j None) (slice_index_or l j None) (slice_index_or c.issue_pools.new.images j None)) c.as_mut_slice.ensures.value
+    (subst (λ (l : List (Option Said)). Restores g.B.Part.Disk.state j c.args.config.now.segment_blocks (slice_index_or l j None) (slice_index_or c.as_mut_slice.result.now j None) (slice_index_or c.issue_pools.new.images j None)) c.as_slice.ensures.value (c.in-Err-issue_pools.ensures.restores j)) in
+    left_again g.B.Part.Disk.tells g.B.Part.Disk.state c.args.config.now c.requires.config (g.B.Bay.state c.args.bay.now) (g.B.Bay.state c.open_images.new.bay) (g.B.Bay.state c.give_back.new.bay) c.in-Ok.images c.in-Ok.ensures.asked c.in-Ok.ensures.out c.issue_pools.new.images count restores
+    (subst (λ (l : List (Option (ImageRest g.row.B-Part.Denot))). IsTold (GivesBack g.B.Part.Disk.state c.args.config.now l 0) (g.B.Bay.state c.open_images.new.bay).told (g.B.Bay.state c.give_back.new.bay).told) e c.give_back.ensures.back) c.give_back.ensures.counts
     (λ telling d. g.met.B.Part.Disk.told telling d) g.met.B.Part.Disk.sound
 
 pub returns-in-Err-issue_pools-clause-sound : goal.returns-in-Err-issue_pools-clause-sound
 returns-in-Err-issue_pools-clause-sound g c =
-    let state = g.B.Part.Disk.state in
-    let b = g.B.Bay.state c.args.bay.now in
-    let b1 = g.B.Bay.state c.open_images.new.bay in
-    let b2 = g.B.Bay.state c.give_back.new.bay in
-    let v = c.in-Ok.images.out.ok.0 in
     let count : length c.issue_pools.new.images ≡ length c.in-Ok.images.out.items = c.issue_pools.ensures.images ∙ ap length c.as_mut_slice.ensures.value in
-    let e = with_items_is c.in-Ok.images.out c.issue_pools.new.images (omega (arith, count, v)) in
-    let restores = λ (j : ℕ). subst (λ (l : List (Option (ImageRest g.row.B-Part.Denot))). Restores state j c.args.config.now.segment_blocks (slice_index_or c.in-Ok.images.said.items j None) (slice_index_or l j None) (slice_index_or c.issue_pools.new.images j None)) c.as_mut_slice.ensures.value
-    (subst (λ (l : List (Option Said)). Restores state j c.args.config.now.segment_blocks (slice_index_or l j None) (slice_index_or c.as_mut_slice.result.now j None) (slice_index_or c.issue_pools.new.images j None)) c.as_slice.ensures.value (c.in-Err-issue_pools.ensures.restores j)) in
-    sound_again g.B.Part.Disk.tells state c.args.config.now c.requires.config b b1 b2 c.in-Ok.images c.in-Ok.ensures.asked c.in-Ok.ensures.out c.issue_pools.new.images count restores
-    (subst (λ (l : List (Option (ImageRest g.row.B-Part.Denot))). IsTold (GivesBack state c.args.config.now l 0) b1.told b2.told) e c.give_back.ensures.back) c.give_back.ensures.counts
+    let e = with_items_is c.in-Ok.images.out c.issue_pools.new.images (omega (arith, count, c.in-Ok.images.out.ok.0)) in
+    let restores = λ (j : ℕ). subst (λ (l : List (Option (ImageRest g.row.B-Part.Denot))). Restores g.B.Part.Disk.state j c.args.config.now.segment_blocks (slice_index_or c.in-Ok.images.said.items j None) (slice_index_or l j None) (slice_index_or c.issue_pools.new.images j None)) c.as_mut_slice.ensures.value
+    (subst (λ (l : List (Option Said)). Restores g.B.Part.Disk.state j c.args.config.now.segment_blocks (slice_index_or l j None) (slice_index_or c.as_mut_slice.result.now j None) (slice_index_or c.issue_pools.new.images j None)) c.as_slice.ensures.value (c.in-Err-issue_pools.ensures.restores j)) in
+    sound_again g.B.Part.Disk.tells g.B.Part.Disk.state c.args.config.now c.requires.config (g.B.Bay.state c.args.bay.now) (g.B.Bay.state c.open_images.new.bay) (g.B.Bay.state c.give_back.new.bay) c.in-Ok.images c.in-Ok.ensures.asked c.in-Ok.ensures.out c.issue_pools.new.images count restores
+    (subst (λ (l : List (Option (ImageRest g.row.B-Part.Denot))). IsTold (GivesBack g.B.Part.Disk.state c.args.config.now l 0) (g.B.Bay.state c.open_images.new.bay).told (g.B.Bay.state c.give_back.new.bay).told) e c.give_back.ensures.back) c.give_back.ensures.counts
     (λ telling d. g.met.B.Part.Disk.told telling d) g.met.B.Part.Disk.sound
 
 pub returns-in_err-spindles-clause-others : goal.returns-in_err-spindles-clause-others
@@ -163,10 +131,5 @@ returns-in_err-spindles-clause-others g c = others_same c.args.config.now (g.B.B
 
 pub returns-in-Err-issue_pools-clause-others : goal.returns-in-Err-issue_pools-clause-others
 returns-in-Err-issue_pools-clause-others g c =
-    let config = c.args.config.now in
-    let b = g.B.Bay.state c.args.bay.now in
-    let b1 = g.B.Bay.state c.open_images.new.bay in
-    let b2 = g.B.Bay.state c.give_back.new.bay in
-    let out = c.in-Ok.images.out.items in
-    let n = length config.volumes.items in
-    others_then config b.told b1.told b2.told (sent_others config out n b b1 c.in-Ok.ensures.out) (back_others config _ g.B.Part.Disk.state b1.told b2.told c.give_back.ensures.back)
+    let n = length c.args.config.now.volumes.items in
+    others_then c.args.config.now (g.B.Bay.state c.args.bay.now).told (g.B.Bay.state c.open_images.new.bay).told (g.B.Bay.state c.give_back.new.bay).told (sent_others c.args.config.now c.in-Ok.images.out.items n (g.B.Bay.state c.args.bay.now) (g.B.Bay.state c.open_images.new.bay) c.in-Ok.ensures.out) (back_others c.args.config.now _ g.B.Part.Disk.state (g.B.Bay.state c.open_images.new.bay).told (g.B.Bay.state c.give_back.new.bay).told c.give_back.ensures.back)

@@ -21,7 +21,7 @@ loop-id-preserved c =
       count = let e = ap length p.items in let m = length_push c.loop-id.made.items i in omega (arith, e, m, so_far);
       room = let r = inv.room in let q = p.capacity in omega (arith, r, q);
       spindles = subst (λ (l' : List (Issued Spindle SpindleBase)). AreSpindlesOf c.args.volumes c.args.timeout l') (sym p.items)
-          (one_more c.args.volumes c.args.timeout c.loop-id.made.items i inv.spindles (new_in_order i (omega (arith, n, l, v)) new.passes) (new_settled i new.passes)
+          (one_more c.args.volumes c.args.timeout c.loop-id.made.items i inv.spindles (new_in_order i (omega (arith, n, l, v)) new.passes) (new_settled (length c.loop-id.made.items) i new.passes)
           (record {
             passes = omega (arith, l);
             volume = ap (λ (b : SpindleBase). b.volume) new.lock.0 ∙ c.new-spindle.ensures.volume ∙ sym so_far;

@@ -1,10 +1,27 @@
-use Rattle.std.proofs.Common.{◌<◌, None, length, arith}
-use Rattle.std.specs.Prelude.{slice_index_or}
+use Rattle.std.proofs.Common.{◌<◌, Option, None, length, sym, subst, ◌∙◌, arith}
+use Rattle.std.specs.Prelude.{IsSome, slice_index_or}
 use Rattle.std.proofs.lemmas.List.{get_or_default}
 use Rattle.std.proofs.lemmas.Option.{slice_get-get_or}
 use Rattle.log_layout.specs.declared.segment.SegHead.TheVariants.{Free}
-use Rattle.rack.proofs.Filling.{filled_next, filled_all}
+use Rattle.spin_model.specs.declared.spun.Spun.{Spun}
+use Rattle.rack.proofs.Filling.{filled_none, filled_next, filled_all}
 use Rattle.rack.proofs.pools.fill_pool.Goals as goal
+
+pub loop-index-init : goal.loop-index-init
+loop-index-init g c = filled_none g.D.Disk.state c.args.heads.now c.args.segments.now c.args.pool.now c.requires.stands c.requires.empty c.requires.notes
+
+pub fill_slot-requires-clause-none : goal.fill_slot-requires-clause-none
+fill_slot-requires-clause-none g c = (c.loop-index.invariant.none c.loop-index.index (omega arith)).0
+
+pub fill_slot-requires-clause-unnoted : goal.fill_slot-requires-clause-unnoted
+fill_slot-requires-clause-unnoted g c = (c.loop-index.invariant.none c.loop-index.index (omega arith)).1
+
+pub fill_slot-requires-clause-here : goal.fill_slot-requires-clause-here
+fill_slot-requires-clause-here g c =
+    let n = c.loop-index.index in
+    let lt : n < length c.args.heads.now = omega arith in
+    let in_now : n < length c.loop-index.segments = omega (arith, lt, c.requires.segments.count, c.loop-index.invariant.count) in
+    subst (λ (o : Option (Spun g.row.D.Denot)). IsSome o) (sym (c.loop-index.invariant.left n (omega arith)) ∙ sym (get_or_default c.loop-index.segments n c.index-segments-index.result None in_now)) (c.requires.segments.here n lt)
 
 pub loop-index-preserved : goal.loop-index-preserved
 loop-index-preserved g c =

@@ -17,9 +17,8 @@ loop-id-init g c = record {
 
 pub returns-in_default-clause-restores : goal.returns-in_default-clause-restores
 returns-in_default-clause-restores g c =
-    let config = c.args.config.now in
-    kept_at g.D.Disk.state config config.volumes.len c.args.said.now c.args.images.now
-    (length-map config.volumes.items (shape_in config) ∙ sym config.volumes.ok.0 ∙ sym c.requires.images) (c.requires.said ∙ sym c.requires.images) c.requires.each
+    kept_at g.D.Disk.state c.args.config.now c.args.config.now.volumes.len c.args.said.now c.args.images.now
+    (length-map c.args.config.now.volumes.items (shape_in c.args.config.now) ∙ sym c.args.config.now.volumes.ok.0 ∙ sym c.requires.images) (c.requires.said ∙ sym c.requires.images) c.requires.each
 
 pub issue_at-requires-clause-image : goal.issue_at-requires-clause-image
 issue_at-requires-clause-image g c = λ s is.

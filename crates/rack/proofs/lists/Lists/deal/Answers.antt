@@ -5,8 +5,45 @@ use Rattle.std.specs.declared.vec.Vec.{Vec}
 use Rattle.std.proofs.lemmas.List.{with_items_is}
 use Rattle.std.proofs.lemmas.Option.{slice_get_read}
 use Rattle.rack.specs.Parts.{last_of, ArePopped}
-use Rattle.rack.proofs.Dealing.{PoolPass, SpindlePass, AreDealtDown, dealt_down_next}
+use Rattle.rack.proofs.Dealing.{PoolPass, SpindlePass, AreDealtDown, dealt_down_none, empty, pool_places, spindle_places, dealt_down_next, dealt_down_all}
 use Rattle.rack.proofs.lists.Lists.deal.Goals as goal
+
+pub loop-left-init : goal.loop-left-init
+loop-left-init g c = dealt_down_none c.args.self.now c.len-left.result (c.len-left.ensures ∙ c.args.self.now.passes.ok.0) c.requires
+
+pub deal_one-requires-clause-empty : goal.deal_one-requires-clause-empty
+deal_one-requires-clause-empty g c =
+    let old = c.args.self.now in let new = c.loop-left.self in let n = c.loop-left.left - 1 in let p = c.index_mut-volume.result.now in
+    let down : c.loop-left.left ≡ n + 1 = omega (arith, c.loop-left-test.true) in
+    let so_far = subst (AreDealtDown old new) down c.loop-left.invariant in
+    let is : slice_get new.passes.items n ≡ Some p = slice_get_read new.passes.items (length new.passes.items) n p refl (omega (arith, so_far.within, so_far.count)) c.index_mut-volume.ensures.value in
+    (empty old new n c.requires so_far p is).pools.0
+
+pub deal_one-requires-clause-room : goal.deal_one-requires-clause-room
+deal_one-requires-clause-room g c =
+    let old = c.args.self.now in let new = c.loop-left.self in let n = c.loop-left.left - 1 in let p = c.index_mut-volume.result.now in
+    let down : c.loop-left.left ≡ n + 1 = omega (arith, c.loop-left-test.true) in
+    let so_far = subst (AreDealtDown old new) down c.loop-left.invariant in
+    let is : slice_get new.passes.items n ≡ Some p = slice_get_read new.passes.items (length new.passes.items) n p refl (omega (arith, so_far.within, so_far.count)) c.index_mut-volume.ensures.value in
+    let room = pool_places old new n c.requires so_far p is in
+    omega (arith, room, ap (λ (l : List (Vec (PoolPass g.row.D.Denot) Global)). length l) c.deref_mut.ensures.value)
+
+pub deal_one-requires-in-loop-left-clause-empty : goal.deal_one-requires-in-loop-left-clause-empty
+deal_one-requires-in-loop-left-clause-empty g c =
+    let old = c.args.self.now in let new = c.loop-left.self in let n = c.loop-left.left - 1 in let p = c.index_mut-volume.result.now in
+    let down : c.loop-left.left ≡ n + 1 = omega (arith, c.loop-left-test.true) in
+    let so_far = subst (AreDealtDown old new) down c.loop-left.invariant in
+    let is : slice_get new.passes.items n ≡ Some p = slice_get_read new.passes.items (length new.passes.items) n p refl (omega (arith, so_far.within, so_far.count)) c.index_mut-volume.ensures.value in
+    (empty old new n c.requires so_far p is).spindles.0
+
+pub deal_one-requires-in-loop-left-clause-room : goal.deal_one-requires-in-loop-left-clause-room
+deal_one-requires-in-loop-left-clause-room g c =
+    let old = c.args.self.now in let new = c.loop-left.self in let n = c.loop-left.left - 1 in let p = c.index_mut-volume.result.now in
+    let down : c.loop-left.left ≡ n + 1 = omega (arith, c.loop-left-test.true) in
+    let so_far = subst (AreDealtDown old new) down c.loop-left.invariant in
+    let is : slice_get new.passes.items n ≡ Some p = slice_get_read new.passes.items (length new.passes.items) n p refl (omega (arith, so_far.within, so_far.count)) c.index_mut-volume.ensures.value in
+    let room = spindle_places old new n c.requires so_far p is in
+    omega (arith, room, ap (λ (l : List (Vec SpindlePass Global)). length l) c.deref_mut-in-loop-left.ensures.value)
 
 pub loop-left-preserved : goal.loop-left-preserved
 loop-left-preserved g c =
@@ -23,3 +60,8 @@ loop-left-preserved g c =
     (c.deal_one.ensures.places ∙ ap (λ (l : List PoolRow). map last_of l) c.deref_mut.ensures.value) (subst (ArePopped new.rooms.pools.items) (sym pool_items) pools)
     (c.deal_one-in-loop-left.ensures.places ∙ ap (λ (l : List SpindleRow). map last_of l) c.deref_mut-in-loop-left.ensures.value) (subst (ArePopped new.rooms.spindles.items) (sym spindle_items) spindles)
     refl refl refl refl refl
+
+pub returns : goal.returns
+returns g c =
+    let none : c.loop-left.left ≡ 0 = omega (arith, c.loop-left-test.false) in
+    dealt_down_all c.args.self.now c.loop-left.self (subst (AreDealtDown c.args.self.now c.loop-left.self) none c.loop-left.invariant)

@@ -1,6 +1,6 @@
 use Rattle.std.proofs.Common.{◌≡◌, ◌+◌, List, length, refl, sym, subst, arith}
 use Rattle.std.specs.Prelude.{All}
-use Rattle.rack.proofs.Setting.{SpindleLock, AreSpindlesPut, spindles_none, last_size, spindles_next}
+use Rattle.rack.proofs.Setting.{SpindleLock, AreSpindlesPut, spindles_none, last_size, room_for_lock, room_for_keeper, room_for_row, spindles_next}
 use Rattle.rack.proofs.Together.{all_reverse}
 use Rattle.rack.proofs.lists.Lists.put_spindles.Goals as goal
 
@@ -16,6 +16,21 @@ unreachable-requires g c =
     let so_far = subst (λ (l : List SpindleLock). AreSpindlesPut all l old new) c.in-Some.ensures.items c.loop-lock.invariant in
     let size = last_size all rest i old new so_far in
     omega (arith, size, i.passes.ok.0, c.in_default-pop.ensures.cases)
+
+pub push_reserved-requires : goal.push_reserved-requires
+push_reserved-requires g c =
+    let so_far = subst (λ (l : List SpindleLock). AreSpindlesPut c.args.spindles.items l c.args.self.now c.loop-lock.self) c.in-Some.ensures.items c.loop-lock.invariant in
+    room_for_lock c.args.spindles.items c.pop.new.self.items c.in-Some.field-0 c.args.self.now c.loop-lock.self so_far
+
+pub push_reserved-requires-in-Some : goal.push_reserved-requires-in-Some
+push_reserved-requires-in-Some g c =
+    let so_far = subst (λ (l : List SpindleLock). AreSpindlesPut c.args.spindles.items l c.args.self.now c.loop-lock.self) c.in-Some.ensures.items c.loop-lock.invariant in
+    room_for_keeper c.args.spindles.items c.pop.new.self.items c.in-Some.field-0 c.args.self.now c.loop-lock.self so_far
+
+pub push_reserved-requires-in-Some-2 : goal.push_reserved-requires-in-Some-2
+push_reserved-requires-in-Some-2 g c =
+    let so_far = subst (λ (l : List SpindleLock). AreSpindlesPut c.args.spindles.items l c.args.self.now c.loop-lock.self) c.in-Some.ensures.items c.loop-lock.invariant in
+    room_for_row c.args.spindles.items c.pop.new.self.items c.in-Some.field-0 c.args.self.now c.loop-lock.self so_far
 
 pub loop-lock-preserved : goal.loop-lock-preserved
 loop-lock-preserved g c =

@@ -22,6 +22,9 @@ unreachable-requires g c =
     let h = All-pop (λ (o : Option Part). IsSome o) _ _ (Some c.in-Some.segment) c.in-Some.ensures.items c.loop-segment.invariant.here in
     false≢true (sym (ap is_some c.in_default-segment.is) ∙ h.1)
 
+pub push_reserved-requires : goal.push_reserved-requires
+push_reserved-requires g c = omega (arith, c.loop-segment.invariant.room, c.in-Some.ensures.len)
+
 pub loop-segment-preserved : goal.loop-segment-preserved
 loop-segment-preserved g c =
     let Part = Spun g.row.D.Denot in let inv = c.loop-segment.invariant in

@@ -18,8 +18,7 @@ said_none said k x lt is none = get_or_default said k None x lt ∙ sym is ∙ n
 
 pub open_one-requires-clause-said : goal.open_one-requires-clause-said
 open_one-requires-clause-said g c =
-    let t = c.loop-id-test.true in
-    let lt : c.loop-id.id < length c.args.said.now = omega (arith, t) in
+    let lt : c.loop-id.id < length c.args.said.now = omega (arith, c.loop-id-test.true) in
     (c.in-Some.own, slice_get-get_or c.args.said.now c.loop-id.id c.index-said-id.result lt ∙ ap Some (sym c.index-said-id.is ∙ c.in-Some.is), refl)
 
 pub returns-in_err-open_one-clause-fresh : goal.returns-in_err-open_one-clause-fresh
@@ -27,9 +26,8 @@ returns-in_err-open_one-clause-fresh g c = let there = c.loop-id.invariant.there
 
 pub returns-in_err-open_one-clause-stopped : goal.returns-in_err-open_one-clause-stopped
 returns-in_err-open_one-clause-stopped g c = λ b o.
-    let inv = c.loop-id.invariant in
-    let s = c.in_err-open_one.ensures.stopped b (inv.rack b o) in
-    on_err c.from_residual.result _ (record { closable = s.closable; fresh = s.fresh; same_out = s.same_out ∙ inv.same_out })
+    let s = c.in_err-open_one.ensures.stopped b (c.loop-id.invariant.rack b o) in
+    on_err c.from_residual.result _ (record { closable = s.closable; fresh = s.fresh; same_out = s.same_out ∙ c.loop-id.invariant.same_out })
 
 pub loop-id-preserved : goal.loop-id-preserved
 loop-id-preserved g c = elim c.match-own.branch [
@@ -73,24 +71,17 @@ loop-id-preserved g c = elim c.match-own.branch [
 
 pub returns-clause-rack : goal.returns-clause-rack
 returns-clause-rack g c = λ b o.
-    let t = c.loop-id-test.false in
-    let e = c.loop-id.auto.id-end in
-    let count = c.requires.count in
     let long = length-map c.args.config.now.volumes.items (shape_in c.args.config.now) in
-    whole g.D.Disk.tells g.D.Disk.state c.args.config.now c.args.said.now c.loop-id.self b c.loop-id.id (c.loop-id.invariant.rack b o) (omega (arith, t, e, count, long))
+    whole g.D.Disk.tells g.D.Disk.state c.args.config.now c.args.said.now c.loop-id.self b c.loop-id.id (c.loop-id.invariant.rack b o) (omega (arith, c.loop-id-test.false, c.loop-id.auto.id-end, c.requires.count, long))
+
+pub returns-clause-users : goal.returns-clause-users
+returns-clause-users g c = c.loop-id.invariant.there.1.users
 
 pub returns-clause-refused : goal.returns-clause-refused
 returns-clause-refused g c = λ b b' premise first.
-    let t = c.loop-id-test.false in
-    let e = c.loop-id.auto.id-end in
-    let count = c.requires.count in
     let long = length-map c.args.config.now.volumes.items (shape_in c.args.config.now) in
-    let inv = c.loop-id.invariant in
-    let faults = inv.there.1.tried.count in
-    all_refused g.D.Disk.tells g.D.Disk.state c.args.config.now c.args.said.now c.loop-id.self b b' c.loop-id.id (omega (arith, t, e, count, long, faults)) (inv.refused b b' premise first)
+    all_refused g.D.Disk.tells g.D.Disk.state c.args.config.now c.args.said.now c.loop-id.self b b' c.loop-id.id (omega (arith, c.loop-id-test.false, c.loop-id.auto.id-end, c.requires.count, long, c.loop-id.invariant.there.1.tried.count)) (c.loop-id.invariant.refused b b' premise first)
 
 pub returns-clause-failed : goal.returns-clause-failed
 returns-clause-failed g c =
-    let t = c.loop-id-test.false in
-    let e = c.loop-id.auto.id-end in
-    subst (λ (n : ℕ). HaveFaults g.D.Disk.state c.args.said.now n c.loop-id.self) (omega (arith, t, e)) c.loop-id.invariant.failed
+    subst (λ (n : ℕ). HaveFaults g.D.Disk.state c.args.said.now n c.loop-id.self) (omega (arith, c.loop-id-test.false, c.loop-id.auto.id-end)) c.loop-id.invariant.failed

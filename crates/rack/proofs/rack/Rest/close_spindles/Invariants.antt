@@ -1,4 +1,4 @@
-use Rattle.std.proofs.Common.{◌≡◌, ◌≤◌, ◌+◌, ◌-◌, ℕ, length, take, get_or, vec_len, Some}
+use Rattle.std.proofs.Common.{◌≡◌, ◌<◌, ◌≤◌, ◌+◌, ◌-◌, ℕ, length, take, get_or, vec_len, Some}
 use Rattle.std.specs.Prelude.{slice_get}
 use Rattle.turn_lock.specs.declared.lock.TurnLock.{TurnLock}
 use Rattle.turn_lock.specs.declared.pass.PassOf.{PassOf}
@@ -6,6 +6,7 @@ use Rattle.spin_model.specs.Spindles.{SpindleView}
 use Rattle.spin_model.specs.declared.spindle.Spindle.{Spindle}
 use Rattle.spin_model.specs.declared.spindle.SpindleBase.{SpindleBase}
 use Rattle.rack.specs.Closing.{CanCloseSpindles, StandsClosed, KeepsOtherRows}
+use Rattle.rack.specs.Rests.{spindle_pass}
 use Rattle.rack.proofs.rack.Rest.close_spindles.Given as goal
 
 -- the spindles behind those that are left are closed, the last first
@@ -17,7 +18,8 @@ invariant-loop-lock g l = record {
   left : CanCloseSpindles l.locks.items l.keepers.items l.self;
   count : length l.self.rooms.closed.items + length l.locks.items ≡ length l.fn.locks.items;
   closed : (k : ℕ) (f : TurnLock Spindle SpindleBase) (p : PassOf Spindle SpindleBase) (d : SpindleView) → length l.locks.items ≤ k → slice_get l.fn.locks.items k ≡ Some f → slice_get l.fn.keepers.items k ≡ Some p
-      → StandsClosed f p (get_or l.self.rooms.closed.items (length l.fn.locks.items - 1 - k) d);
+      → StandsClosed l.initial.self k f p (get_or l.self.rooms.closed.items (length l.fn.locks.items - 1 - k) d);
+  kept : (v k : ℕ) → k < length l.locks.items → spindle_pass l.self v k ≡ spindle_pass l.initial.self v k;
   images : l.self.images ≡ l.initial.self.images;
   rows : KeepsOtherRows l.initial.self l.self;
 }

@@ -21,28 +21,40 @@ row_of_three : {X : Type 0} (w h k : X) (row one two three : List X) → row ≡
 row_of_three {X} w h k row one two three empty first second third =
     third ∙ ap (λ (l : List X). l ++ k ∷ []) (second ∙ ap (λ (l : List X). l ++ h ∷ []) (first ∙ ap (λ (l : List X). l ++ w ∷ []) empty))
 
+pub push_reserved-requires : goal.push_reserved-requires
+push_reserved-requires g c =
+    let room = (all_last (λ r. (r.items ≡ []) × (3 ≤ vec_capacity r)) c.pop.new.self.items c.in-Some.passes (subst (λ l. All (λ r. (r.items ≡ []) × (3 ≤ vec_capacity r)) l) c.in-Some.ensures.items c.requires.3.rest.rooms.managers)) in
+    omega (arith, ap length room.0, room.1, c.in-Some.passes.ok.0)
+
+pub push_reserved-requires-2 : goal.push_reserved-requires-2
+push_reserved-requires-2 g c =
+    let room = (all_last (λ r. (r.items ≡ []) × (3 ≤ vec_capacity r)) c.pop.new.self.items c.in-Some.passes (subst (λ l. All (λ r. (r.items ≡ []) × (3 ≤ vec_capacity r)) l) c.in-Some.ensures.items c.requires.3.rest.rooms.managers)) in
+    omega (arith, ap length room.0, room.1, c.in-Some.passes.ok.0, c.push_reserved.ensures.len, c.push_reserved.ensures.capacity)
+
+pub push_reserved-requires-3 : goal.push_reserved-requires-3
+push_reserved-requires-3 g c =
+    let room = (all_last (λ r. (r.items ≡ []) × (3 ≤ vec_capacity r)) c.pop.new.self.items c.in-Some.passes (subst (λ l. All (λ r. (r.items ≡ []) × (3 ≤ vec_capacity r)) l) c.in-Some.ensures.items c.requires.3.rest.rooms.managers)) in
+    omega (arith, ap length room.0, room.1, c.in-Some.passes.ok.0, c.push_reserved.ensures.len, c.push_reserved.ensures.capacity, c.push_reserved-2.ensures.len, c.push_reserved-2.ensures.capacity)
+
 pub close-manager-requires-clause-count : goal.close-manager-requires-clause-count
 close-manager-requires-clause-count g c =
-    let can = c.requires.3 in
-    let empty = (all_last (λ r. (r.items ≡ []) × (3 ≤ vec_capacity r)) c.pop.new.self.items c.in-Some.passes (subst (λ l. All (λ r. (r.items ≡ []) × (3 ≤ vec_capacity r)) l) c.in-Some.ensures.items can.rest.rooms.managers)).0 in
+    let empty = (all_last (λ r. (r.items ≡ []) × (3 ≤ vec_capacity r)) c.pop.new.self.items c.in-Some.passes (subst (λ l. All (λ r. (r.items ≡ []) × (3 ≤ vec_capacity r)) l) c.in-Some.ensures.items c.requires.3.rest.rooms.managers)).0 in
     let items = row_of_three c.args.station.worker c.args.station.helper c.args.station.keeper c.in-Some.passes.items c.push_reserved.new.self.items c.push_reserved-2.new.self.items c.push_reserved-3.new.self.items
     empty c.push_reserved.ensures.items c.push_reserved-2.ensures.items c.push_reserved-3.ensures.items in
     let three : length c.push_reserved-3.new.self.items ≡ 3 = ap length items in
-    let station : IsStation c.args.station = all_last (λ t. IsStation t) c.requires.2 c.args.station can.each in
+    let station : IsStation c.args.station = all_last (λ t. IsStation t) c.requires.2 c.args.station c.requires.3.each in
     omega (arith, three, c.push_reserved-3.new.self.ok.0, station.passes)
 
 pub close-manager-requires-clause-passes : goal.close-manager-requires-clause-passes
 close-manager-requires-clause-passes g c =
-    let can = c.requires.3 in
-    let s = c.args.station in
-    let P : PassOf (Manager g.row.D.Denot) ManagerBase → Type 0 = λ p. IsPassOf s.lock p × IsFree p in
-    let empty = (all_last (λ r. (r.items ≡ []) × (3 ≤ vec_capacity r)) c.pop.new.self.items c.in-Some.passes (subst (λ l. All (λ r. (r.items ≡ []) × (3 ≤ vec_capacity r)) l) c.in-Some.ensures.items can.rest.rooms.managers)).0 in
-    let items = row_of_three s.worker s.helper s.keeper c.in-Some.passes.items c.push_reserved.new.self.items c.push_reserved-2.new.self.items c.push_reserved-3.new.self.items
+    let P : PassOf (Manager g.row.D.Denot) ManagerBase → Type 0 = λ p. IsPassOf c.args.station.lock p × IsFree p in
+    let empty = (all_last (λ r. (r.items ≡ []) × (3 ≤ vec_capacity r)) c.pop.new.self.items c.in-Some.passes (subst (λ l. All (λ r. (r.items ≡ []) × (3 ≤ vec_capacity r)) l) c.in-Some.ensures.items c.requires.3.rest.rooms.managers)).0 in
+    let items = row_of_three c.args.station.worker c.args.station.helper c.args.station.keeper c.in-Some.passes.items c.push_reserved.new.self.items c.push_reserved-2.new.self.items c.push_reserved-3.new.self.items
     empty c.push_reserved.ensures.items c.push_reserved-2.ensures.items c.push_reserved-3.ensures.items in
-    let station : IsStation s = all_last (λ t. IsStation t) c.requires.2 s can.each in
+    let station : IsStation c.args.station = all_last (λ t. IsStation t) c.requires.2 c.args.station c.requires.3.each in
     subst (λ (l : List (PassOf (Manager g.row.D.Denot) ManagerBase)). All P l) (sym items)
-    (All-cons P s.worker (s.helper ∷ s.keeper ∷ []) (station.worker_.own, station.worker_.free) (All-cons P s.helper (s.keeper ∷ []) (station.helper_.own, station.helper_.free)
-    (All-cons P s.keeper [] (station.keeper_.own, station.keeper_.free) (All-nil P))))
+    (All-cons P c.args.station.worker (c.args.station.helper ∷ c.args.station.keeper ∷ []) (station.worker_.own, station.worker_.free) (All-cons P c.args.station.helper (c.args.station.keeper ∷ []) (station.helper_.own, station.helper_.free)
+    (All-cons P c.args.station.keeper [] (station.keeper_.own, station.keeper_.free) (All-nil P))))
 
 pub put_manager-requires-clause-home : goal.put_manager-requires-clause-home
 put_manager-requires-clause-home g c =
@@ -71,11 +83,9 @@ returns-clause-rest g c = λ config shared before can.
 
 pub returns-clause-closed : goal.returns-clause-closed
 returns-clause-closed g c =
-    let can = c.requires.3 in
-    let s = c.args.station in
-    let empty = (all_last (λ r. (r.items ≡ []) × (3 ≤ vec_capacity r)) c.pop.new.self.items c.in-Some.passes (subst (λ l. All (λ r. (r.items ≡ []) × (3 ≤ vec_capacity r)) l) c.in-Some.ensures.items can.rest.rooms.managers)).0 in
-    let items = row_of_three s.worker s.helper s.keeper c.in-Some.passes.items c.push_reserved.new.self.items c.push_reserved-2.new.self.items c.push_reserved-3.new.self.items
+    let empty = (all_last (λ r. (r.items ≡ []) × (3 ≤ vec_capacity r)) c.pop.new.self.items c.in-Some.passes (subst (λ l. All (λ r. (r.items ≡ []) × (3 ≤ vec_capacity r)) l) c.in-Some.ensures.items c.requires.3.rest.rooms.managers)).0 in
+    let items = row_of_three c.args.station.worker c.args.station.helper c.args.station.keeper c.in-Some.passes.items c.push_reserved.new.self.items c.push_reserved-2.new.self.items c.push_reserved-3.new.self.items
     empty c.push_reserved.ensures.items c.push_reserved-2.ensures.items c.push_reserved-3.ensures.items in
-    station_closed g.D.Disk.state g.D.Disk.tells c.requires.0 c.requires.1 c.requires.2 s c.args.self.now can c.close-manager.result c.close-manager.ensures.0 c.close-manager.ensures.1
+    station_closed g.D.Disk.state g.D.Disk.tells c.requires.0 c.requires.1 c.requires.2 c.args.station c.args.self.now c.requires.3 c.close-manager.result c.close-manager.ensures.0 c.close-manager.ensures.1
     (record c.args.self.now.rooms { managers = c.pop.new.self }) c.release.result c.release.ensures.home c.release.ensures.spindle c.release.ensures.lanes c.put_manager.new.self c.put_manager.ensures
     (subst (λ (l : List (PassOf (Manager g.row.D.Denot) ManagerBase)). AreWhole c.close-manager.ensures.0 l) items c.close-manager.ensures.2)

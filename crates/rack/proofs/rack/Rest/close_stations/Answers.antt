@@ -26,19 +26,16 @@ close_station-requires g c = (
 
 pub loop-station-preserved : goal.loop-station-preserved
 loop-station-preserved g c =
-    let i = c.loop-station.invariant in
-    let all = c.args.stations.items in
-    let left = c.pop.new.self.items in
-    let count : length c.loop-station.stations.items ≡ length left + 1 = ap length c.in-Some.ensures.items ∙ length_push left c.in-Some.station in
-    let there = front_last all c.loop-station.stations.items left c.in-Some.station i.front c.in-Some.ensures.items in
-    let behind : ClosesStations g.D.Disk.tells g.D.Disk.state (drop (length left + 1) all) c.args.self.now c.loop-station.self =
-    subst (λ (n : ℕ). ClosesStations g.D.Disk.tells g.D.Disk.state (drop n all) c.args.self.now c.loop-station.self) count i.closed in
+    let count : length c.loop-station.stations.items ≡ length c.pop.new.self.items + 1 = ap length c.in-Some.ensures.items ∙ length_push c.pop.new.self.items c.in-Some.station in
+    let there = front_last c.args.stations.items c.loop-station.stations.items c.pop.new.self.items c.in-Some.station c.loop-station.invariant.front c.in-Some.ensures.items in
+    let behind : ClosesStations g.D.Disk.tells g.D.Disk.state (drop (length c.pop.new.self.items + 1) c.args.stations.items) c.args.self.now c.loop-station.self =
+    subst (λ (n : ℕ). ClosesStations g.D.Disk.tells g.D.Disk.state (drop n c.args.stations.items) c.args.self.now c.loop-station.self) count c.loop-station.invariant.closed in
     record {
-      front = front_less all c.loop-station.stations.items left c.in-Some.station i.front c.in-Some.ensures.items;
-      few = omega (arith, count, i.few);
-      may = λ config shared can. c.close_station.ensures.rest config shared left (subst (λ (l : List (Station g.row.D.Denot)). CanCloseStations g.D.Disk.state config shared l c.loop-station.self) c.in-Some.ensures.items (i.may config shared can));
-      closed = subst (λ (l : List (Station g.row.D.Denot)). ClosesStations g.D.Disk.tells g.D.Disk.state l c.args.self.now c.close_station.new.self) (sym (next_drop all (length left) c.in-Some.station there))
-          (one_closed g.D.Disk.tells g.D.Disk.state c.in-Some.station (drop (length left + 1) all) (apart_behind all (length left) c.in-Some.station c.requires.2.rising there) c.args.self.now c.loop-station.self c.close_station.new.self behind c.close_station.ensures.closed);
+      front = front_less c.args.stations.items c.loop-station.stations.items c.pop.new.self.items c.in-Some.station c.loop-station.invariant.front c.in-Some.ensures.items;
+      few = omega (arith, count, c.loop-station.invariant.few);
+      may = λ config shared can. c.close_station.ensures.rest config shared c.pop.new.self.items (subst (λ (l : List (Station g.row.D.Denot)). CanCloseStations g.D.Disk.state config shared l c.loop-station.self) c.in-Some.ensures.items (c.loop-station.invariant.may config shared can));
+      closed = subst (λ (l : List (Station g.row.D.Denot)). ClosesStations g.D.Disk.tells g.D.Disk.state l c.args.self.now c.close_station.new.self) (sym (next_drop c.args.stations.items (length c.pop.new.self.items) c.in-Some.station there))
+          (one_closed g.D.Disk.tells g.D.Disk.state c.in-Some.station (drop (length c.pop.new.self.items + 1) c.args.stations.items) (apart_behind c.args.stations.items (length c.pop.new.self.items) c.in-Some.station c.requires.2.rising there) c.args.self.now c.loop-station.self c.close_station.new.self behind c.close_station.ensures.closed);
     }
 
 pub returns-clause-rest : goal.returns-clause-rest

@@ -7,6 +7,13 @@ use Rattle.rack.proofs.HeldPut.{row_held, held_popped}
 use Rattle.rack.proofs.Rows.{size_of}
 use Rattle.rack.proofs.rack.Rest.pop_held.Goals as goal
 
+pub index_mut-requires : goal.index_mut-requires
+index_mut-requires g c =
+    let r = c.args.self.now in let v = c.args.id in let row = c.index_mut-passes.result.now in
+    let is : slice_get r.passes.items v ≡ Some row = slice_get_read r.passes.items (length r.passes.items) v row refl (omega (arith, c.requires.place.row)) c.index_mut-passes.ensures.value in
+    let size = size_of r v c.args.logger row c.requires.place is in
+    omega (arith, size.1.held, size.2, row.held.ok.0)
+
 pub returns : goal.returns
 returns g c =
     let r = c.args.self.now in let v = c.args.id in let k = c.args.logger in let row = c.index_mut-passes.result.now in let list = c.index_mut.result.now in

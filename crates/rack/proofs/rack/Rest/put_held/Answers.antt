@@ -24,6 +24,19 @@ pop_held-index-requires-clause-some g c =
     let e = ap length (held_is r v k row list is at) in
     omega (arith, e, c.len-segment-end.ensures, list.ok.0, c.loop-segment.invariant.left, c.loop-segment-test.true)
 
+pub index-requires-2 : goal.index-requires-2
+index-requires-2 g c =
+    let r = c.args.self.now in let v = c.args.id in let row = c.index.result.now in
+    let is : slice_get r.passes.items v ≡ Some row = slice_get_read r.passes.items (length r.passes.items) v row refl (omega (arith, c.requires.place.row)) c.index.ensures in
+    let size = size_of r v c.args.logger row c.requires.place is in
+    omega (arith, size.1.held, size.2, row.held.ok.0)
+
+pub index_mut-requires : goal.index_mut-requires
+index_mut-requires g c =
+    let mid = c.pop_held-index.new.self in let put = c.loop-segment.invariant.put in
+    let within = here_within mid.images.items c.args.logger put.can.image (mid_out c.args.self.now c.loop-segment.self mid c.args.id c.args.logger put c.pop_held-index.result c.pop_held-index.ensures) in
+    omega (arith, within, mid.images.ok.0)
+
 pub put_segment-requires : goal.put_segment-requires
 put_segment-requires g c =
     let h = c.pop_held-index.result in let mid = c.pop_held-index.new.self in let k = c.args.logger in let put = c.loop-segment.invariant.put in let n = c.loop-segment.self in

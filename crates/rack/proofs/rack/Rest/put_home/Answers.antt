@@ -6,7 +6,23 @@ use Rattle.rack.specs.Parts.{with_home}
 use Rattle.rack.specs.Rests.{image_here}
 use Rattle.rack.proofs.HomeMoved.{home_moved}
 use Rattle.rack.proofs.Returned.{here_within}
+use Rattle.rack.proofs.LanePut.{spindle_bare}
+use Rattle.rack.proofs.Rows.{size_of}
 use Rattle.rack.proofs.rack.Rest.put_home.Goals as goal
+
+pub index_mut-requires-2 : goal.index_mut-requires-2
+index_mut-requires-2 g c =
+    let r = c.args.self.now in let v = c.args.id in let row = c.index_mut-passes.result.now in
+    let is : slice_get r.passes.items v ≡ Some row = slice_get_read r.passes.items (length r.passes.items) v row refl (omega (arith, c.requires.place.row)) c.index_mut-passes.ensures.value in
+    let size = size_of r v v row c.requires.place is in
+    omega (arith, size.1.spindles, size.2, row.spindles.ok.0)
+
+pub fill-requires : goal.fill-requires
+fill-requires g c =
+    let r = c.args.self.now in let v = c.args.id in let row = c.index_mut-passes.result.now in
+    let is : slice_get r.passes.items v ≡ Some row = slice_get_read r.passes.items (length r.passes.items) v row refl (omega (arith, c.requires.place.row)) c.index_mut-passes.ensures.value in
+    let size = size_of r v v row c.requires.place is in
+    get_or_read row.spindles.items v c.index_mut-2.result.now (omega (arith, size.1.spindles, size.2)) c.index_mut-2.ensures.value None ∙ spindle_bare r v v v row is refl c.requires.spindle
 
 pub returns : goal.returns
 returns g c =

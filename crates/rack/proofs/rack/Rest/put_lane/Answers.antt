@@ -1,13 +1,51 @@
-use Rattle.std.proofs.Common.{◌≡◌, ℕ, Some, length, refl, ap, subst, ◌∙◌, arith}
+use Rattle.std.proofs.Common.{◌≡◌, ℕ, Some, None, length, refl, ap, subst, ◌∙◌, arith}
 use Rattle.std.specs.Prelude.{slice_get}
 use Rattle.std.specs.declared.alloc.Global.{Global}
 use Rattle.std.specs.declared.vec.Vec.{Vec}
 use Rattle.spin_model.specs.declared.spun.Spun.{Spun}
+use Rattle.std.proofs.lemmas.List.{get_or_read}
 use Rattle.std.proofs.lemmas.Option.{slice_get_read}
 use Rattle.logger.specs.Lanes.{logger_of}
-use Rattle.rack.proofs.LanePut.{lane_put, held_bare}
+use Rattle.rack.proofs.LanePut.{lane_put, pool_bare, spindle_bare, held_bare}
 use Rattle.rack.proofs.Rows.{size_of}
 use Rattle.rack.proofs.rack.Rest.put_lane.Goals as goal
+
+pub index_mut-requires : goal.index_mut-requires
+index_mut-requires g c =
+    let row = c.index_mut-passes.result.now in
+    let is : slice_get c.args.self.now.passes.items c.args.id ≡ Some row = slice_get_read c.args.self.now.passes.items (length c.args.self.now.passes.items) c.args.id row refl (omega (arith, c.requires.bare.place.row)) c.index_mut-passes.ensures.value in
+    let size = size_of c.args.self.now c.args.id (logger_of c.args.lane) row c.requires.bare.place is in
+    omega (arith, size.1.pools, size.2, c.release-logger.ensures.logger, row.pools.ok.0)
+
+pub fill-requires : goal.fill-requires
+fill-requires g c =
+    let row = c.index_mut-passes.result.now in
+    let is : slice_get c.args.self.now.passes.items c.args.id ≡ Some row = slice_get_read c.args.self.now.passes.items (length c.args.self.now.passes.items) c.args.id row refl (omega (arith, c.requires.bare.place.row)) c.index_mut-passes.ensures.value in
+    let size = size_of c.args.self.now c.args.id (logger_of c.args.lane) row c.requires.bare.place is in
+    get_or_read row.pools.items c.release-logger.result.logger c.index_mut.result.now (omega (arith, size.1.pools, size.2, c.release-logger.ensures.logger)) c.index_mut.ensures.value None
+    ∙ pool_bare c.args.self.now c.args.id (logger_of c.args.lane) c.release-logger.result.logger row is c.release-logger.ensures.logger c.requires.bare.pool
+
+pub index_mut-requires-2 : goal.index_mut-requires-2
+index_mut-requires-2 g c =
+    let row = c.index_mut-passes.result.now in
+    let is : slice_get c.args.self.now.passes.items c.args.id ≡ Some row = slice_get_read c.args.self.now.passes.items (length c.args.self.now.passes.items) c.args.id row refl (omega (arith, c.requires.bare.place.row)) c.index_mut-passes.ensures.value in
+    let size = size_of c.args.self.now c.args.id (logger_of c.args.lane) row c.requires.bare.place is in
+    omega (arith, size.1.spindles, size.2, c.release-logger.ensures.logger, row.spindles.ok.0)
+
+pub fill-requires-2 : goal.fill-requires-2
+fill-requires-2 g c =
+    let row = c.index_mut-passes.result.now in
+    let is : slice_get c.args.self.now.passes.items c.args.id ≡ Some row = slice_get_read c.args.self.now.passes.items (length c.args.self.now.passes.items) c.args.id row refl (omega (arith, c.requires.bare.place.row)) c.index_mut-passes.ensures.value in
+    let size = size_of c.args.self.now c.args.id (logger_of c.args.lane) row c.requires.bare.place is in
+    get_or_read row.spindles.items c.release-logger.result.logger c.index_mut-2.result.now (omega (arith, size.1.spindles, size.2, c.release-logger.ensures.logger)) c.index_mut-2.ensures.value None
+    ∙ spindle_bare c.args.self.now c.args.id (logger_of c.args.lane) c.release-logger.result.logger row is c.release-logger.ensures.logger c.requires.bare.spindle
+
+pub index_mut-requires-3 : goal.index_mut-requires-3
+index_mut-requires-3 g c =
+    let row = c.index_mut-passes.result.now in
+    let is : slice_get c.args.self.now.passes.items c.args.id ≡ Some row = slice_get_read c.args.self.now.passes.items (length c.args.self.now.passes.items) c.args.id row refl (omega (arith, c.requires.bare.place.row)) c.index_mut-passes.ensures.value in
+    let size = size_of c.args.self.now c.args.id (logger_of c.args.lane) row c.requires.bare.place is in
+    omega (arith, size.1.held, size.2, c.release-logger.ensures.logger, row.held.ok.0)
 
 pub destroy_empty-requires : goal.destroy_empty-requires
 destroy_empty-requires g c =

@@ -1,12 +1,24 @@
-use Rattle.std.proofs.Common.{◌<◌, length, is_some, refl, sym, ap, ◌∙◌, arith}
+use Rattle.std.proofs.Common.{◌<◌, length, is_some, refl, sym, ap, subst, ◌∙◌, arith}
 use Rattle.std.proofs.lemmas.List.{length-map}
 use Rattle.log_layout.specs.Values.{shape_of}
 use Rattle.volume_images.specs.Volumes.{shape_in}
+use Rattle.rack.specs.Parts.{CanPutLanes, PutsLanes}
+use Rattle.rack.specs.declared.rack.Rest.{Rest}
 use Rattle.rack.proofs.LanesTaken.{pairs_apart}
 use Rattle.rack.proofs.OpeningTaken.{owned_here_then, home_place, spindle_same, image_there, home_there, home_same}
 use Rattle.rack.proofs.OwnedOf.{shape_at}
 use Rattle.rack.proofs.Returned.{here_within}
 use Rattle.rack.proofs.rack.Rest.take_opening.Goals as goal
+
+pub take_lanes-requires-clause-config : goal.take_lanes-requires-clause-config
+take_lanes-requires-clause-config g c = let shapes = length-map c.args.config.now.volumes.items (shape_in c.args.config.now) in omega (arith, shapes, c.requires.ready.images, c.args.config.now.volumes.ok.0)
+
+pub put_lanes-requires : goal.put_lanes-requires
+put_lanes-requires g c = subst (λ (r : Rest g.row.D.Denot). CanPutLanes g.D.Disk.state r c.args.id c.in_ok-lanes.lanes.items) (sym c.in-Err.ensures.same) c.in_ok-lanes.ensures.back
+
+pub returns-in-Err-clause-same : goal.returns-in-Err-clause-same
+returns-in-Err-clause-same g c =
+    c.in_ok-lanes.ensures.restored c.put_lanes.new.self (subst (λ (r : Rest g.row.D.Denot). PutsLanes r c.put_lanes.new.self c.args.id c.in_ok-lanes.lanes.items) c.in-Err.ensures.same c.put_lanes.ensures)
 
 pub take_owned-requires-clause-here : goal.take_owned-requires-clause-here
 take_owned-requires-clause-here g c = owned_here_then c.args.self.now c.take_lanes.new.self c.args.said.now c.args.id c.in_ok-lanes.ensures.taken.passes.images c.requires.ready.owned

@@ -7,9 +7,8 @@ use Rattle.rack.proofs.rack.Rest.take_owned.Goals as goal
 
 pub loop-logger-init : goal.loop-logger-init
 loop-logger-init g c =
-    let r = c.args.self.now in
     record {
-      taken = subst (λ (l : List (OwnedPart g.row.D.Denot)). AreOwnedTo c.args.config.now c.args.said.now c.args.id r r l 0) (sym c.in_ok-owned.ensures.items) (owned_to_none c.args.config.now c.args.said.now c.args.id r);
+      taken = subst (λ (l : List (OwnedPart g.row.D.Denot)). AreOwnedTo c.args.config.now c.args.said.now c.args.id c.args.self.now c.args.self.now l 0) (sym c.in_ok-owned.ensures.items) (owned_to_none c.args.config.now c.args.said.now c.args.id c.args.self.now);
       room = omega (arith, c.count_owned-count.ensures, c.in_ok-owned.ensures.capacity);
     }
 
