@@ -1,5 +1,5 @@
 -- A session at the station of a volume that nobody else uses is one at a plain array.
-use Rattle.std.proofs.Common.{◌≡◌, ◌<◌, ◌^◌, ◌++◌, ◌∷◌, [], ℕ, Bool, true, false, List, map, None, Some, Option, Result, Ok, Err, refl, sym, ap, subst, ◌∙◌, inl, inr, append_assoc}
+use Rattle.std.proofs.Common.{◌≡◌, ◌<◌, ◌^◌, ◌++◌, ◌∷◌, [], ℕ, zero, suc, Bool, true, false, List, map, take, None, Some, Option, Result, Ok, Err, refl, sym, ap, subst, ◌∙◌, inl, inr, append_assoc}
 use Rattle.std.specs.Prelude.{◌⊎◌, IsTrue, IsSome}
 use Rattle.wol_disk.specs.Disk.{Block}
 use Rattle.turn_lock.specs.Histories.{Entry, own, Begins}
@@ -17,6 +17,7 @@ use Rattle.manager.specs.declared.base.ManagerBase.{ManagerBase}
 use Rattle.manager.specs.declared.part.ReadRefusal.TheVariants as refused_read
 use Rattle.manager.specs.declared.part.WriteRefusal.TheVariants as refused_write
 use Rattle.request_turns.specs.Causes.{CanTake}
+use Rattle.request_turns.specs.Entries.{IsFlight}
 use Rattle.request_turns.specs.Turns.{ManagerPass, began, notes_seen, coded, HasTurned, Stays}
 use Rattle.request_turns.proofs.Noting.{notes_at}
 use Rattle.nbd_session.specs.Turns.{Turn, Looked, NotLooked, Read, NotRead, Wrote, NotWrote}
@@ -25,6 +26,17 @@ use Rattle.nbd_station.specs.Pieces.{BreaksWith, Pieces, TakesWrites, IsTurnAt, 
 use Rattle.nbd_station.specs.Turns.{MakesTurn}
 use Rattle.nbd_station.proofs.Alone.{AreOf, all_begins, own_all}
 use Rattle.nbd_station.proofs.Noting.{is_broken, is_up, kept_same, read_same, read_told, wrote_more, broke_with}
+
+-- in flight of one payload was nothing, or that
+one_in_flight : (w : Write) (flight : List Write) → IsFlight (w ∷ []) flight → (flight ≡ []) ⊎ ((v : Write) × (flight ≡ v ∷ []) × (unversioned v ≡ w))
+one_in_flight w flight is = at is.count flight is.same
+  where
+    at : (n : ℕ) (ws : List Write) → map unversioned ws ≡ take n (w ∷ []) → (ws ≡ []) ⊎ ((v : Write) × (ws ≡ v ∷ []) × (unversioned v ≡ w))
+    at n [] same = inl refl
+    at zero (v ∷ ws) same = absurd (cc same)
+    at (suc n) (v ∷ []) same = inr (v, refl, (let is_it : unversioned v ≡ w = cc same in is_it))
+    at (suc zero) (v ∷ (u ∷ ws)) same = absurd (cc same)
+    at (suc (suc n)) (v ∷ (u ∷ ws)) same = absurd (cc same)
 
 -- what a pass has made, as pieces
 abbrev pub made : {D : Type 0} → ManagerPass D → Pieces
@@ -126,7 +138,7 @@ module _ {D : Type 0} (tells : Bool) (lock : LockId ManagerBase) (es : List Entr
       let P : Refusal → Type 0 = λ (x : Refusal). RefusesWrite (piece at blocks) x (pieces_of (base_in lock).look (notes_of h.before)) (pieces_of (base_in lock).look (notes_of h.before ++ h.note ∷ [])) in
       so p q h.before h.note h.turned fits (NotWrote at blocks r) (subst P (sym is) (
         takes_at p q h.before h.note h.turned fits h.cause,
-        elim h.entry.2 [
+        elim (one_in_flight (piece at blocks) h.entry.0 h.entry.2) [
           | inl none ↦ inl (subst (λ (ws : List Write). BreaksWith ws (pieces_of (base_in lock).look (notes_of h.before)) (pieces_of (base_in lock).look (notes_of h.before ++ h.note ∷ []))) none (broke_with (base_in lock).look (notes_of h.before) h.note h.entry.0 h.entry.1 h.cause.unbroken))
           | inr (v, one, same) ↦ inr (v, same, subst (λ (ws : List Write). BreaksWith ws (pieces_of (base_in lock).look (notes_of h.before)) (pieces_of (base_in lock).look (notes_of h.before ++ h.note ∷ []))) one (broke_with (base_in lock).look (notes_of h.before) h.note h.entry.0 h.entry.1 h.cause.unbroken))
         ],

@@ -89,7 +89,7 @@ fn served<R: Wait>(
 }
 
 // What `check` prints.
-fn checked<R: Abort + Wait>(
+fn checked<R: Abort + Threads + Wait + Sync>(
     rt: &R,
     alloc: Global,
     config: &Config,

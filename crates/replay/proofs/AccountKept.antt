@@ -9,7 +9,7 @@ use Rattle.wol_config.specs.declared.config.Config.{Config}
 use Rattle.volume_images.specs.Left.{IsTold}
 use Rattle.rack.specs.PoolUses.{ArePools}
 use Rattle.replay.specs.Account.{Account, EndsWithSummary, KeepsAccount}
-use Rattle.replay.specs.Histories.{BeginAsRead, History, IsHistory, answers_in}
+use Rattle.replay.specs.Histories.{BeginAsRead, History, IsHistory, answers_in, view_at}
 use Rattle.replay.specs.Leaves.{LeavesImages}
 use Rattle.replay.specs.Replays as replays
 use Rattle.replay.specs.Replays.{Replayed, Replays, status_in}
@@ -24,12 +24,12 @@ use Rattle.replay.proofs.HeadlineKept.{closed_yet, no_memory_yet}
 use Rattle.replay.proofs.Statuses.{not_success}
 
 -- a run that came to the end of its trace printed the summary
-summary_printed : {S T : Type 0} (left : S → Option (List ℕ)) (config : Config) (start now : Given S) (lines : List (Option TraceLine)) (windows : List ServedWindow) (awake : List (List Bool)) (result : Result T Stop) (text : List ℕ) (told : List (List ℕ))
-    (faults faults' : ℕ) (taken taken' : Option (List ℕ)) → IsSummaryOf left config start now lines windows awake result text → PrintsRun result told text faults faults' taken taken' → status_in result ≡ 0
-    → EndsWithSummary config lines windows awake taken taken'
-summary_printed left config start now lines windows awake (Ok done) text told faults faults' taken taken' (summed.of_all _ _ all summary) (calm, is) at_end = (joined_lines told, text, summary, is)
-summary_printed left config start now lines windows awake (Err stop.Sink) text told faults faults' taken taken' summary prints at_end = absurd (cc at_end)
-summary_printed left config start now lines windows awake (Err (stop.Fault f)) text told faults faults' taken taken' summary prints at_end = absurd (not_success f at_end)
+summary_printed : {S T : Type 0} (left : S → Option (List ℕ)) (config : Config) (views : ℕ → List ℕ) (start now : Given S) (lines : List (Option TraceLine)) (windows : List ServedWindow) (awake : List (List Bool)) (result : Result T Stop) (text : List ℕ) (told : List (List ℕ))
+    (faults faults' : ℕ) (taken taken' : Option (List ℕ)) → IsSummaryOf left config views start now lines windows awake result text → PrintsRun result told text faults faults' taken taken' → status_in result ≡ 0
+    → EndsWithSummary config views lines windows awake taken taken'
+summary_printed left config views start now lines windows awake (Ok done) text told faults faults' taken taken' (summed.of_all _ _ all summary) (calm, is) at_end = (joined_lines told, text, summary, is)
+summary_printed left config views start now lines windows awake (Err stop.Sink) text told faults faults' taken taken' summary prints at_end = absurd (cc at_end)
+summary_printed left config views start now lines windows awake (Err (stop.Fault f)) text told faults faults' taken taken' summary prints at_end = absurd (not_success f at_end)
 
 -- the disks, by the status
 short_or_not : {A B : Type 0} {n : ℕ} → A ⊎ ((n ≡ 9) × B) → A ⊎ (((n ≡ 7) ⊎ (n ≡ 9)) × B)
@@ -70,13 +70,14 @@ module _ {S T : Type 0} (tells : Bool) (left : S → Option (List ℕ)) (config 
           begun = first.0 v h here;
           history = history_told v h (r.are.each v h here);
           passed = r.passed v h here;
+          taken = r.taken v h here;
           works = r.worked.each v h here;
           alone = λ other. r.reclaims.alone other v h here;
           left = λ images left. (leaves.distinct v h here images left, λ intact. (leaves.listed v h here intact images left, leaves.on_loggers v h here intact images left));
         };
         disks = short_or_not r.disks;
         unbroken = r.unbroken;
-        printed = summary_printed left config start now r.run (r.earlier ++ r.last) r.awake result r.summary _ sink sink' taken taken' r.summary_is r.prints;
+        printed = summary_printed left config (view_at r.histories) start now r.run (r.earlier ++ r.last) r.awake result r.summary _ sink sink' taken taken' r.summary_is r.prints;
         placed = r.placed;
         reclaimed = r.reclaimed;
       })

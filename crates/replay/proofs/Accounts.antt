@@ -1,7 +1,8 @@
 -- A spindle's journal covers the account: its keeper began it, and each window of it.
 use Rattle.std.proofs.Common.{◌≡◌, ◌≢◌, ◌<◌, ◌≤◌, ◌⊎◌, ℕ, zero, suc, Bool, true, false, cond, List, [], ◌∷◌, ◌++◌, length, map, refl, sym, ap, subst, ◌∙◌, append_assoc, append-nil, length-append, inl, inr, arith}
-use Rattle.std.specs.Prelude.{◌==◌, slice_index_or}
+use Rattle.std.specs.Prelude.{◌==◌, Contains, slice_index_or}
 use Rattle.std.specs.List.{filter, AllByRecursion}
+use Rattle.std.proofs.lemmas.Bool.{cases_eq}
 use Rattle.std.proofs.lemmas.List.{map-append}
 use Rattle.turn_lock.specs.Histories.{Entry, own}
 use Rattle.turn_lock.specs.Passes.{pass_number, pass_mine}
@@ -18,6 +19,7 @@ use Rattle.trace_windows.specs.Laws.{AreInOrder}
 use Rattle.request_workers.specs.Begun.{SpindlePass}
 use Rattle.request_workers.specs.declared.floor.Floor.{Floor}
 use Rattle.request_workers.specs.declared.request.Reclaim.{Reclaim}
+use Rattle.rack.proofs.Members.{is_member}
 use Rattle.replay.specs.Served.{HaveStarted, ServedFromStart, ServedWindow, WasServed, WereServed}
 use Rattle.replay.proofs.RacksServed.{at_place, there_at}
 
@@ -138,6 +140,16 @@ own_uses keeper (e ∷ entries) = at (e.0 == keeper) (own_uses keeper entries)
         ≡ map (λ (x : Entry). use_of x.1) (cond t (e ∷ own keeper entries) (own keeper entries))
     at true same = ap (λ (l : List Use). use_of e.1 ∷ l) same
     at false same = same
+
+-- who used the spindle of volume k, where a pass of another made no entries unless its view names k
+pub named_users : (n k : ℕ) (views : ℕ → List ℕ) (entries : List Entry) → ((m : ℕ) → m ≢ n → m ≢ k → (Contains (views m) k → ⊥) → own m entries ≡ [])
+    → (m : ℕ) → m ≢ n → uses_by m (uses_of entries) ≢ [] → (m ≡ k) ⊎ Contains (views m) k
+named_users n k views entries none m other some = at (cases_eq m k) (is_member (views m) k)
+  where
+    at : (m ≡ k) ⊎ (m ≡ k → ⊥) → Contains (views m) k ⊎ (Contains (views m) k → ⊥) → (m ≡ k) ⊎ Contains (views m) k
+    at (inl same) member = inl same
+    at (inr differs) (inl has) = inr has
+    at (inr differs) (inr never) = absurd (some (own_uses m entries ∙ ap (λ (es : List Entry). map (λ (e : Entry). use_of e.1) es) (none m other differs never)))
 
 pub used_back : (n : ℕ) (moments : List ℕ) → map (λ (e : Entry). use_of e.1) (map (λ (u : Use). (n, operation_of u)) (map Began moments)) ≡ map Began moments
 used_back n [] = refl

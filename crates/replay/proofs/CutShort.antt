@@ -1,6 +1,6 @@
 -- The accounts of disks where memory ran out as a further window began: what their keepers' passes come to.
 use Rattle.std.proofs.Common.{◌≡◌, ◌≢◌, ◌⊎◌, ◌++◌, ◌<◌, ℕ, zero, suc, Bool, true, false, cond, not, List, [], ◌∷◌, length, map, refl, sym, ap, subst, ◌∙◌, Option, Some, inl, inr, append-nil, length-append, arith}
-use Rattle.std.specs.Prelude.{All, slice_get, slice_index_or}
+use Rattle.std.specs.Prelude.{All, Contains, slice_get, slice_index_or}
 use Rattle.std.proofs.lemmas.List.{map-append}
 use Rattle.wol_disk.specs.Disk.{State}
 use Rattle.wol_model.specs.Journal.{Began, Done, Needed, Started, Stayed, Use, needs_after, new_spindle}
@@ -18,7 +18,7 @@ use Rattle.wol_config.specs.declared.config.Config.{Config}
 use Rattle.trace_gen.specs.Generated.{targets_of}
 use Rattle.volume_images.specs.Volumes.{shapes_of}
 use Rattle.rack.specs.Closes.{IsClosedSpindle}
-use Rattle.rack.specs.Racks.{IsClosable, IsRack, IsUnused}
+use Rattle.rack.specs.Racks.{IsClosable, IsRack, IsUnused, KeepToViews}
 use Rattle.rack.specs.declared.rack.Rack.{Rack}
 use Rattle.request_workers.specs.Begun.{FailToBegin, HasBegun, HasStayed, HaveBegun, HaveBegunVolumes, SpindlePass}
 use Rattle.request_workers.specs.declared.floor.Floor.{Floor}
@@ -27,7 +27,7 @@ use Rattle.replay.specs.Served.{Further, HasStarted, ServedFromStart, ServedWind
 use Rattle.replay.specs.Sessions.{AreWindowsOf}
 use Rattle.replay.specs.Summed as summed
 use Rattle.replay.specs.Summed.{IsAccountBy, IsCutShort, column, started_uses, window_uses}
-use Rattle.replay.proofs.Accounts.{AreOthers, HasUsed, first_start, moments_of, others_access, own_uses, served_used, short_or_long, used_both}
+use Rattle.replay.proofs.Accounts.{AreOthers, HasUsed, first_start, moments_of, named_users, others_access, own_uses, served_used, short_or_long, used_both}
 use Rattle.replay.proofs.RacksServed.{a_member, at_place, there_at}
 use Rattle.replay.proofs.ToldAwake.{WasTold, all_told, begun_told, served_told, started_told, stayed_told, timeout_of, told_both, told_none}
 use Rattle.replay.proofs.Serving.{served_moments}
@@ -135,11 +135,11 @@ module _ {D : Type 0} (tells : Bool) (mode : Reclaim) (k start : ℕ) where
         (reached_begun moment (slice_index_or awake k false) (slice_index_or begun k d) (slice_index_or qs k d) (have k false d (begun_there d))))
 
     -- .. or at some alone
-    pub some_cut : (config : Config) (s : SpindleView) (qs : List SpindlePass) (d : SpindlePass)
-        → ((us : List Use) (xs : List Bool) → HasReached us xs (slice_index_or ps k d) (slice_index_or qs k d) → IsAccountBy config k us xs s) → FailToBegin moment begun qs → IsCutShort config k moment by told s
-    some_cut config s qs d account (inl same) =
+    pub some_cut : (config : Config) (views : ℕ → List ℕ) (s : SpindleView) (qs : List SpindlePass) (d : SpindlePass)
+        → ((us : List Use) (xs : List Bool) → HasReached us xs (slice_index_or ps k d) (slice_index_or qs k d) → IsAccountBy config views k us xs s) → FailToBegin moment begun qs → IsCutShort config views k moment by told s
+    some_cut config views s qs d account (inl same) =
         summed.no_turn (account by told (subst (λ (x : List SpindlePass). HasReached by told (slice_index_or ps k d) (slice_index_or x k d)) (sym same) (begun_reached d)))
-    some_cut config s qs d account (inr h) = at (side k h.count)
+    some_cut config views s qs d account (inr h) = at (side k h.count)
       where
         side : (a b : ℕ) → (a < b) ⊎ ((a ≡ b) ⊎ (b < a))
         side zero zero = inr (inl refl)
@@ -151,7 +151,7 @@ module _ {D : Type 0} (tells : Bool) (mode : Reclaim) (k start : ℕ) where
           | inr (inr gt) ↦ inr (inr (omega (arith, gt)))
         ]
 
-        at : (k < h.count) ⊎ ((k ≡ h.count) ⊎ (h.count < k)) → IsCutShort config k moment by told s
+        at : (k < h.count) ⊎ ((k ≡ h.count) ⊎ (h.count < k)) → IsCutShort config views k moment by told s
         at (inl less) = summed.began (slice_index_or h.awake k false) (account (by ++ Began moment ∷ []) (told ++ slice_index_or h.awake k false ∷ [])
             (reached_both by (Began moment ∷ []) told (slice_index_or h.awake k false ∷ []) (slice_index_or ps k d) (slice_index_or begun k d) (slice_index_or qs k d) (begun_reached d)
             (reached_begun moment (slice_index_or h.awake k false) (slice_index_or begun k d) (slice_index_or qs k d) (h.begun k false d less))))
@@ -174,9 +174,10 @@ uses_back : (n : ℕ) (us : List Use) → map (λ (e : Entry). use_of e.1) (map 
 uses_back n [] = refl
 uses_back n (u ∷ us) = λ i. use_back u i ∷ uses_back n us i
 
-account_reached : (config : Config) (k : ℕ) (s : SpindleView) (b : SpindleBase) (entries : List Entry) (o p : SpindlePass) (us : List Use) (xs : List Bool) → IsUnused o → HasReached us xs o p → StandsFor s b entries
-    → AreOthers (pass_number p) entries → IsPartOf entries p → (pass_lock p).base ≡ b → s.volume ≡ k → s.timeout ≡ config.timeout → ((m : ℕ) → m ≢ pass_number p → has_token (own m entries) ≡ false) → IsAccountBy config k us xs s
-account_reached config k s b entries o p us xs unused reached stands others part base volume timeout ended =
+account_reached : (config : Config) (views : ℕ → List ℕ) (k : ℕ) (s : SpindleView) (b : SpindleBase) (entries : List Entry) (o p : SpindlePass) (us : List Use) (xs : List Bool) → IsUnused o → HasReached us xs o p → StandsFor s b entries
+    → AreOthers (pass_number p) entries → IsPartOf entries p → (pass_lock p).base ≡ b → s.volume ≡ k → s.timeout ≡ config.timeout → ((m : ℕ) → m ≢ pass_number p → has_token (own m entries) ≡ false)
+    → ((m : ℕ) → m ≢ pass_number p → m ≢ k → (Contains (views m) k → ⊥) → own m entries ≡ []) → IsAccountBy config views k us xs s
+account_reached config views k s b entries o p us xs unused reached stands others part base volume timeout ended users =
     let mine : pass_mine p ≡ map (λ (u : Use). (pass_number p, operation_of u)) us =
     reached.used.mine ∙ (λ i. unused.mine i ++ map (λ (u : Use). (sym reached.used.number i, operation_of u)) us) in
     let told : answers_by (timeout_of p) new_spindle (pass_number p) (uses_of entries) ≡ xs = all_told xs o p entries unused reached.was part in
@@ -191,19 +192,20 @@ account_reached config k s b entries o p us xs unused reached stands others part
       kept = own_uses (pass_number p) entries ∙ ap (λ (es : List Entry). map (λ (e : Entry). use_of e.1) es) (part.mine ∙ mine) ∙ uses_back (pass_number p) us;
       others = others_access (pass_number p) entries others;
       done = λ m other. ap (needs_after false) (own_uses m entries) ∙ ended m other;
+      users = named_users (pass_number p) k views entries users;
       answers = rw stands.timeout now;
     }
 
 -- by what its keeper's pass reached
-pub record AccountOf {D : Type 0} (config : Config) (old new : Rack D) (k : ℕ) (s : SpindleView) : Type 0 where
+pub record AccountOf {D : Type 0} (config : Config) (views : ℕ → List ℕ) (old new : Rack D) (k : ℕ) (s : SpindleView) : Type 0 where
   pub pass : SpindlePass
   pub there : slice_get new.keepers.items k ≡ Some pass
   pub less : k < length old.keepers.items
-  pub so : (us : List Use) (xs : List Bool) → HasReached us xs (slice_index_or old.keepers.items k pass) pass → IsAccountBy config k us xs s
+  pub so : (us : List Use) (xs : List Bool) → HasReached us xs (slice_index_or old.keepers.items k pass) pass → IsAccountBy config views k us xs s
 
-module _ {D : Type 0} (state : D → State) (config : Config) (b : BayState) (old new : Rack D) (is : IsRack state config b old) (unused : All (λ (p : SpindlePass). IsUnused p) old.keepers.items) (closable : IsClosable state config b new)
-    (spindles : List SpindleView) (count : length spindles ≡ length (shapes_of config)) (each : (k : ℕ) (s : SpindleView) → slice_get spindles k ≡ Some s → IsClosedSpindle new k s) where
-  pub account_of : (k : ℕ) (s : SpindleView) → slice_get spindles k ≡ Some s → AccountOf config old new k s
+module _ {D : Type 0} (state : D → State) (config : Config) (views : ℕ → List ℕ) (b : BayState) (old new : Rack D) (is : IsRack state config b old) (unused : All (λ (p : SpindlePass). IsUnused p) old.keepers.items) (closable : IsClosable state config b new)
+    (keep : KeepToViews views new) (spindles : List SpindleView) (count : length spindles ≡ length (shapes_of config)) (each : (k : ℕ) (s : SpindleView) → slice_get spindles k ≡ Some s → IsClosedSpindle new k s) where
+  pub account_of : (k : ℕ) (s : SpindleView) → slice_get spindles k ≡ Some s → AccountOf config views old new k s
   account_of k s there =
       let lt = (at_place spindles k s there).0 in
       let cs = each k s there in
@@ -217,8 +219,8 @@ module _ {D : Type 0} (state : D → State) (config : Config) (b : BayState) (ol
         pass = p;
         there = keeper;
         less = less;
-        so = λ us xs reached. account_reached config k s (lock_id l).base cs.entries (slice_index_or old.keepers.items k p) p us xs (unused k p less) reached stands (cs.accesses p keeper) (cs.keeper_part p keeper)
-            (ap (λ x. x.base) own_lock) (stands.volume ∙ is_lock.volume) (stands.timeout ∙ is_lock.timeout_is) (cs.ended p keeper);
+        so = λ us xs reached. account_reached config views k s (lock_id l).base cs.entries (slice_index_or old.keepers.items k p) p us xs (unused k p less) reached stands (cs.accesses p keeper) (cs.keeper_part p keeper)
+            (ap (λ x. x.base) own_lock) (stands.volume ∙ is_lock.volume) (stands.timeout ∙ is_lock.timeout_is) (cs.ended p keeper) (cs.users p keeper views keep);
       }
 
 -- the account starts with the first window

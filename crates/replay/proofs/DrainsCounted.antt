@@ -11,11 +11,12 @@ use Rattle.wol_promise.specs.Report.{by_worker, drains, is_drained_write}
 use Rattle.wol_promise.specs.Ruled.{Noted, entries_of}
 use Rattle.run_laws.specs.Answers.{answers_of}
 use Rattle.run_laws.proofs.ReadLines.{volume_joined}
+use Rattle.manager.specs.declared.part.Place.{Place}
 use Rattle.manager.specs.declared.part.ReadRefusal.TheVariants as read
 use Rattle.manager.specs.declared.part.WriteRefusal.TheVariants as write
 use Rattle.trace_windows.specs.Requests.{asked}
 use Rattle.trace_windows.specs.declared.request.Request.{Request}
-use Rattle.request_turns.specs.Entries.{AreMade}
+use Rattle.request_turns.specs.Entries.{AreEntriesOf, AreMade, IsGroupEntry}
 use Rattle.request_turns.specs.declared.outcome.Outcome as turns
 use Rattle.request_turns.specs.declared.outcome.Outcome.TheVariants as outcome
 use Rattle.request_workers.specs.Requests.{answers_to, outcomes_of, own_requests, told}
@@ -26,6 +27,7 @@ use Rattle.replay.specs.Histories.{History, answers_in}
 use Rattle.replay.specs.Served.{ServedWindow, outcomes_in}
 use Rattle.replay.specs.Works.{AreClosings, AreWorked, AreWorks}
 use Rattle.replay.proofs.AnswersServed.{own_answers}
+use Rattle.replay.proofs.Grouped.{all_wrote, answers_behind, made_by_cases, wrote_all}
 use Rattle.replay.proofs.WritesPlaced.{all_counted, counted_more, does, joined}
 
 -- a write that was answered after a drain
@@ -51,41 +53,62 @@ help_drains after_drain (Read first reply) help = absurd help
 
 -- ---- The requests of a window
 
-one_drain : (r : Request) (rs : List Request) (o : turns.Outcome) (os : List turns.Outcome) (notes first rest : List Noted) (n : Noted) → notes ≡ first ++ rest → first ≡ n ∷ []
-    → is_drained_write n.after_drain n.entry.operation ≡ drained_in (told o) → drains rest ≡ count_by (does drained_in) (answers_to rs os) → drains notes ≡ count_by (does drained_in) (answers_to (r ∷ rs) (o ∷ os))
-one_drain r rs o os notes first rest n same one is others =
-    let all : drains notes ≡ drains (n ∷ rest) = ap drains (same ∙ ap (λ (l : List Noted). l ++ rest) one) in
+one_drain : (r : Request) (rs : List Request) (o : turns.Outcome) (os : List turns.Outcome) (first rest : List Noted) (n : Noted) → first ≡ n ∷ []
+    → is_drained_write n.after_drain n.entry.operation ≡ drained_in (told o) → drains rest ≡ count_by (does drained_in) (answers_to rs os) → drains (first ++ rest) ≡ count_by (does drained_in) (answers_to (r ∷ rs) (o ∷ os))
+one_drain r rs o os first rest n one is others =
+    let all : drains (first ++ rest) ≡ drains (n ∷ rest) = ap (λ (l : List Noted). drains (l ++ rest)) one in
     let here : cond {A = ℕ} (is_drained_write n.after_drain n.entry.operation) 1 0 ≡ cond {A = ℕ} (drained_in (told o)) 1 0 = ap (λ (t : Bool). cond {A = ℕ} t 1 0) is in
     let a = drains_more n rest in
     let b = counted_more drained_in (record { request = asked r; outcome = told o }) (answers_to rs os) in
     omega (arith, all, here, a, b, others)
 
-made_drains : (view : List ℕ) (rs : List Request) (os : List turns.Outcome) (notes : List Noted) → AreMade view rs os notes → drains notes ≡ count_by (does drained_in) (answers_to rs os)
-made_drains view [] [] notes made = ap drains made
-made_drains view [] (o ∷ os) notes made = absurd made
-made_drains view (r ∷ rs) [] notes made = absurd made
-made_drains view (r ∷ rs) (outcome.Read mark sources ∷ os) notes (first, rest, same, (n, one, entry), others) =
-    one_drain r rs (outcome.Read mark sources) os notes first rest n same one (ap (is_drained_write n.after_drain) entry.operation) (made_drains view rs os rest others)
-made_drains view (r ∷ rs) (outcome.Wrote place drained ∷ os) notes (first, rest, same, (n, one, (is_write, entry)), others) =
-    one_drain r rs (outcome.Wrote place drained) os notes first rest n same one (ap (is_drained_write n.after_drain) entry.operation ∙ entry.drain) (made_drains view rs os rest others)
-made_drains view (r ∷ rs) (outcome.NoRead (read.DiskFault p) ∷ os) notes (first, rest, same, (n, one, (is_read, broke)), others) =
-    one_drain r rs (outcome.NoRead (read.DiskFault p)) os notes first rest n same one (ap (is_drained_write n.after_drain) broke) (made_drains view rs os rest others)
-made_drains view (r ∷ rs) (outcome.NoRead (read.Down p) ∷ os) notes (first, rest, same, (n, one, (is_read, kept)), others) =
-    one_drain r rs (outcome.NoRead (read.Down p)) os notes first rest n same one (ap (is_drained_write n.after_drain) kept) (made_drains view rs os rest others)
-made_drains view (r ∷ rs) (outcome.NoWrite write.Full ∷ os) notes (first, rest, same, (n, one, (is_write, full)), others) = absurd full
-made_drains view (r ∷ rs) (outcome.NoWrite (write.DiskFault p) ∷ os) notes (first, rest, same, (n, one, (is_write, (ws, broke, flight))), others) =
-    one_drain r rs (outcome.NoWrite (write.DiskFault p)) os notes first rest n same one (ap (is_drained_write n.after_drain) broke) (made_drains view rs os rest others)
-made_drains view (r ∷ rs) (outcome.NoWrite (write.Down p) ∷ os) notes (first, rest, same, (n, one, (is_write, kept)), others) =
-    one_drain r rs (outcome.NoWrite (write.Down p)) os notes first rest n same one (ap (is_drained_write n.after_drain) kept) (made_drains view rs os rest others)
-made_drains view (r ∷ rs) (outcome.NoWrite write.VersionsSpent ∷ os) notes (first, rest, same, (n, one, (is_write, (kept, spent))), others) =
-    one_drain r rs (outcome.NoWrite write.VersionsSpent) os notes first rest n same one (ap (is_drained_write n.after_drain) kept) (made_drains view rs os rest others)
-made_drains view (r ∷ rs) (outcome.NoWrite write.NoMemory ∷ os) notes (first, rest, same, (n, one, (is_write, kept)), others) =
-    one_drain r rs (outcome.NoWrite write.NoMemory) os notes first rest n same one (ap (is_drained_write n.after_drain) kept) (made_drains view rs os rest others)
-made_drains view (r ∷ rs) (outcome.NotRun ∷ os) notes (first, rest, same, none, others) =
-    let all : drains notes ≡ drains rest = ap drains (same ∙ ap (λ (l : List Noted). l ++ rest) none) in
+request_drains : (view : List ℕ) (r : Request) (rs : List Request) (o : turns.Outcome) (os : List turns.Outcome) (first rest : List Noted) → AreEntriesOf view r rs o first → drains rest ≡ count_by (does drained_in) (answers_to rs os)
+    → drains (first ++ rest) ≡ count_by (does drained_in) (answers_to (r ∷ rs) (o ∷ os))
+request_drains view r rs (outcome.Read mark sources) os first rest (n, one, entry) others =
+    one_drain r rs (outcome.Read mark sources) os first rest n one (ap (is_drained_write n.after_drain) entry.operation) others
+request_drains view r rs (outcome.Wrote place drained) os first rest (n, one, (is_write, entry)) others =
+    one_drain r rs (outcome.Wrote place drained) os first rest n one (ap (is_drained_write n.after_drain) entry.operation ∙ entry.drain) others
+request_drains view r rs (outcome.NoRead (read.DiskFault p)) os first rest (n, one, (is_read, broke)) others =
+    one_drain r rs (outcome.NoRead (read.DiskFault p)) os first rest n one (ap (is_drained_write n.after_drain) broke) others
+request_drains view r rs (outcome.NoRead (read.Down p)) os first rest (n, one, (is_read, kept)) others =
+    one_drain r rs (outcome.NoRead (read.Down p)) os first rest n one (ap (is_drained_write n.after_drain) kept) others
+request_drains view r rs (outcome.NoWrite write.Full) os first rest (n, one, (is_write, full)) others = absurd full
+request_drains view r rs (outcome.NoWrite (write.DiskFault p)) os first rest (n, one, (is_write, (ws, broke, flight))) others =
+    one_drain r rs (outcome.NoWrite (write.DiskFault p)) os first rest n one (ap (is_drained_write n.after_drain) broke) others
+request_drains view r rs (outcome.NoWrite (write.Down p)) os first rest (n, one, (is_write, kept)) others =
+    one_drain r rs (outcome.NoWrite (write.Down p)) os first rest n one (ap (is_drained_write n.after_drain) kept) others
+request_drains view r rs (outcome.NoWrite write.VersionsSpent) os first rest (n, one, (is_write, (kept, spent))) others =
+    one_drain r rs (outcome.NoWrite write.VersionsSpent) os first rest n one (ap (is_drained_write n.after_drain) kept) others
+request_drains view r rs (outcome.NoWrite write.NoMemory) os first rest (n, one, (is_write, kept)) others =
+    one_drain r rs (outcome.NoWrite write.NoMemory) os first rest n one (ap (is_drained_write n.after_drain) kept) others
+request_drains view r rs outcome.NotRun os first rest none others =
+    let all : drains (first ++ rest) ≡ drains rest = ap (λ (l : List Noted). drains (l ++ rest)) none in
     let b = counted_more drained_in (record { request = asked r; outcome = told outcome.NotRun }) (answers_to rs os) in
-    let more = made_drains view rs os rest others in
-    omega (arith, all, b, more)
+    omega (arith, all, b, others)
+
+-- none of several writes in one entry followed a drain
+none_drained : (group : List Request) (place : Place) → count_by (does drained_in) (wrote_all group place) ≡ 0
+none_drained [] place = refl
+none_drained (r ∷ group) place =
+    let a = counted_more drained_in (record { request = asked r; outcome = told (outcome.Wrote place false) }) (wrote_all group place) in
+    let more = none_drained group place in
+    omega (arith, a, more)
+
+group_drains : (view : List ℕ) (group rs : List Request) (place : Place) (os : List turns.Outcome) (n : Noted) (rest : List Noted) → IsGroupEntry view group place n → drains rest ≡ count_by (does drained_in) (answers_to rs os)
+    → drains (n ∷ rest) ≡ count_by (does drained_in) (answers_to (group ++ rs) (all_wrote (length group) place ++ os))
+group_drains view group rs place os n rest entry more =
+    let here : cond {A = ℕ} (is_drained_write n.after_drain n.entry.operation) 1 0 ≡ 0
+    = ap (λ (t : Bool). cond {A = ℕ} t 1 0) (ap (is_drained_write n.after_drain) entry.together.operation ∙ entry.together.drain) in
+    let a = drains_more n rest in
+    let both : count_by (does drained_in) (answers_to (group ++ rs) (all_wrote (length group) place ++ os)) ≡ count_by (does drained_in) (wrote_all group place) + count_by (does drained_in) (answers_to rs os)
+    = ap (λ (l : List Answered). count_by (does drained_in) l) (answers_behind group rs place os) ∙ joined drained_in (wrote_all group place) (answers_to rs os) in
+    let none_here = none_drained group place in
+    omega (arith, here, a, both, none_here, more)
+
+made_drains : (view : List ℕ) (rs : List Request) (os : List turns.Outcome) (notes : List Noted) → AreMade view rs os notes → drains notes ≡ count_by (does drained_in) (answers_to rs os)
+made_drains view rs os notes made =
+    made_by_cases view (λ rs os notes. drains notes ≡ count_by (does drained_in) (answers_to rs os)) refl (λ r rs o os first rest entries others more. request_drains view r rs o os first rest entries more)
+    (λ group rs place os n rest two entry more. group_drains view group rs place os n rest entry more) rs os notes made
 
 -- ---- Windows
 
@@ -110,13 +133,13 @@ works_drains mode view v whole (s ∷ ss) notes (first, rest, same, work, others
     let both = drains_joined first rest in
     let split : drains first ≡ drains (work.served ++ work.closing) = ap drains work.split in
     let parts = drains_joined work.served work.closing in
-    let made = made_drains view (own_requests v rs) (outcomes_of v rs os) work.served work.made in
+    let of_requests = made_drains view (own_requests v rs) (outcomes_of v rs os) work.served work.made in
     let none = closing_drains mode whole work.closing work.closes in
     let own : count_by (does drained_in) (answers_of v (answers_to rs os)) ≡ count_by (does drained_in) (answers_to (own_requests v rs) (outcomes_of v rs os)) = ap (λ (l : List Answered). count_by (does drained_in) l) (own_answers v rs os) in
     let more = works_drains mode view v whole ss rest others in
     let here : count_by (does drained_in) (answers_of v (answers_in (s ∷ ss))) ≡ count_by (does drained_in) (answers_of v (answers_to rs os)) + count_by (does drained_in) (answers_of v (answers_in ss))
     = ap (λ (l : List Answered). count_by (does drained_in) l) (volume_joined v (answers_to rs os) (answers_in ss)) ∙ joined drained_in (answers_of v (answers_to rs os)) (answers_of v (answers_in ss)) in
-    omega (arith, all, both, split, parts, made, none, own, more, here)
+    omega (arith, all, both, split, parts, of_requests, none, own, more, here)
 
 -- ---- Histories
 

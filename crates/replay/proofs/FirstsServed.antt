@@ -1,5 +1,5 @@
 -- The answered requests of a volume are its first ones: all of the windows that went well, and the first ones of the window behind them.
-use Rattle.std.proofs.Common.{◌≡◌, ◌==◌, ◌<◌, ◌≤◌, ℕ, Bool, true, false, cond, List, [], ◌∷◌, ◌++◌, length, take, refl, sym, ap, subst, append-nil, Option, None, Some, arith}
+use Rattle.std.proofs.Common.{◌≡◌, ◌==◌, ◌<◌, ◌≤◌, ℕ, Bool, true, false, cond, List, [], ◌∷◌, ◌++◌, length, take, refl, sym, ap, subst, ◌∙◌, append-nil, Option, None, Some, arith}
 use Rattle.std.specs.Prelude.{slice_index_or, if◌then◌else◌}
 use Rattle.std.specs.List.{list_any, AllByRecursion}
 use Rattle.std.specs.Option.{option_or}
@@ -9,12 +9,13 @@ use Rattle.run_laws.specs.Answers.{answers_of, AreFirst}
 use Rattle.run_laws.specs.Laws.{AreAllAnswered}
 use Rattle.run_laws.proofs.Joins.{firsts_join}
 use Rattle.run_laws.proofs.ReadLines.{volume_joined}
+use Rattle.manager.specs.declared.part.Place.{Place}
 use Rattle.manager.specs.declared.part.WriteRefusal.TheVariants as write
 use Rattle.report.specs.declared.fault.Fault.{Fault}
 use Rattle.report.specs.declared.fault.Fault.TheVariants.{Memory}
 use Rattle.trace_windows.specs.Requests.{asked}
 use Rattle.trace_windows.specs.declared.request.Request.{Request}
-use Rattle.request_turns.specs.Entries.{AreMade}
+use Rattle.request_turns.specs.Entries.{AreEntriesOf, AreMade}
 use Rattle.request_turns.specs.declared.outcome.Outcome.{Outcome}
 use Rattle.request_turns.specs.declared.outcome.Outcome.TheVariants as outcome
 use Rattle.request_workers.specs.Requests.{answers_to, own_requests, outcomes_of, StopsAtRefusal, told}
@@ -28,6 +29,7 @@ use Rattle.replay.specs.Histories.{answers_in}
 use Rattle.replay.specs.Served.{ServedWindow, ServedFromStart, WasServed, WereServed}
 use Rattle.replay.specs.Sessions.{WentWell}
 use Rattle.replay.proofs.AnswersServed.{own_answers, all_both, desk_there}
+use Rattle.replay.proofs.Grouped.{all_wrote, answered_then, made_by_cases, stops_behind}
 
 -- ---- One window
 
@@ -50,19 +52,30 @@ first_answered (r ∷ rs) (outcome.NoRead refusal ∷ os) stops = rw (none_behin
 first_answered (r ∷ rs) (outcome.NoWrite refusal ∷ os) stops = rw (none_behind rs os stops.1) refl
 first_answered (r ∷ rs) (outcome.NotRun ∷ os) stops = rw (none_behind rs os stops.1) refl
 
+request_answered : (view : List ℕ) (r : Request) (rs : List Request) (o : Outcome) (os : List Outcome) (first : List Noted) → AreEntriesOf view r rs o first → StopsAtRefusal true (o ∷ os) → first_refused (r ∷ rs) (o ∷ os) ≡ None
+    → (StopsAtRefusal true os → first_refused rs os ≡ None → AreAllAnswered (answers_to rs os)) → AreAllAnswered (answers_to (r ∷ rs) (o ∷ os))
+request_answered view r rs (outcome.Read mark sources) os first entries stops none further = (refl, further stops.1 none)
+request_answered view r rs (outcome.Wrote place drained) os first entries stops none further = (refl, further stops.1 none)
+request_answered view r rs (outcome.NoRead refusal) os first entries stops none further = absurd (cc none)
+request_answered view r rs (outcome.NoWrite write.Full) os first (n, is_one, full) stops none further = absurd full.1
+request_answered view r rs (outcome.NoWrite (write.DiskFault p)) os first entries stops none further = absurd (cc none)
+request_answered view r rs (outcome.NoWrite (write.Down p)) os first entries stops none further = absurd (cc none)
+request_answered view r rs (outcome.NoWrite write.VersionsSpent) os first entries stops none further = absurd (cc none)
+request_answered view r rs (outcome.NoWrite write.NoMemory) os first entries stops none further = absurd (cc none)
+request_answered view r rs outcome.NotRun os first entries stops none further = absurd (cc (stops.0))
+
+-- nothing is told of several writes in one entry
+refused_behind : (group rs : List Request) (place : Place) (os : List Outcome) → first_refused (group ++ rs) (all_wrote (length group) place ++ os) ≡ first_refused rs os
+refused_behind [] rs place os = refl
+refused_behind (r ∷ group) rs place os = refused_behind group rs place os
+
 -- where nothing was refused, all requests were answered
 pub all_answered : (view : List ℕ) (rs : List Request) (os : List Outcome) (notes : List Noted) → AreMade view rs os notes → StopsAtRefusal true os → first_refused rs os ≡ None → AreAllAnswered (answers_to rs os)
-all_answered view [] os notes made stops none = tt
-all_answered view (r ∷ rs) [] notes made stops none = tt
-all_answered view (r ∷ rs) (outcome.Read mark sources ∷ os) notes (first, rest, same, entries, others) stops none = (refl, all_answered view rs os rest others stops.1 none)
-all_answered view (r ∷ rs) (outcome.Wrote place drained ∷ os) notes (first, rest, same, entries, others) stops none = (refl, all_answered view rs os rest others stops.1 none)
-all_answered view (r ∷ rs) (outcome.NoRead refusal ∷ os) notes made stops none = absurd (cc none)
-all_answered view (r ∷ rs) (outcome.NoWrite write.Full ∷ os) notes (first, rest, same, (n, one, full), others) stops none = absurd full.1
-all_answered view (r ∷ rs) (outcome.NoWrite (write.DiskFault p) ∷ os) notes made stops none = absurd (cc none)
-all_answered view (r ∷ rs) (outcome.NoWrite (write.Down p) ∷ os) notes made stops none = absurd (cc none)
-all_answered view (r ∷ rs) (outcome.NoWrite write.VersionsSpent ∷ os) notes made stops none = absurd (cc none)
-all_answered view (r ∷ rs) (outcome.NoWrite write.NoMemory ∷ os) notes made stops none = absurd (cc none)
-all_answered view (r ∷ rs) (outcome.NotRun ∷ os) notes made stops none = absurd (cc (stops.0))
+all_answered view rs os notes made =
+    made_by_cases view (λ rs os notes. StopsAtRefusal true os → first_refused rs os ≡ None → AreAllAnswered (answers_to rs os)) (λ stops none. tt)
+    (λ r rs o os first rest entries others further stops none. request_answered view r rs o os first entries stops none further)
+    (λ group rs place os n rest two entry further stops none. answered_then group rs place os (further (stops_behind (length group) place os stops) (sym (refused_behind group rs place os) ∙ none)))
+    rs os notes made
 
 no_own_outcomes : (v : ℕ) (rs : List Request) → outcomes_of v rs [] ≡ []
 no_own_outcomes v [] = refl

@@ -1,4 +1,4 @@
--- The writes in flight in a closed volume's history are those of its next request.
+-- The writes in flight in a closed volume's history are those of its next requests.
 use Rattle.std.proofs.Common.{◌≡◌, ◌≢◌, ◌==◌, ◌⊎◌, ◌++◌, ℕ, Bool, true, false, cond, List, [], ◌∷◌, map, refl, sym, ap, subst, ◌∙◌, Option, Some, inl, inr}
 use Rattle.std.specs.Prelude.{slice_get}
 use Rattle.std.specs.List.{AllByRecursion}
@@ -71,7 +71,7 @@ own_flight (e ∷ es) (help, others) ws flight = at (operation_of e) refl (e.0 =
 
 -- ---- One volume
 
--- the writes in flight in what the worker of volume v made are those of the next request
+-- the writes in flight in what the worker of volume v made are those of the next requests
 pub record StationFlew {D : Type 0} (v : ℕ) (answers : List Answered) (s : Station D) : Type 0 where
   pub notes : List Noted
   pub mine : pass_mine s.worker ≡ map coded notes
@@ -101,7 +101,7 @@ station_flew {D} tells mode ss olds news before middle after ps qs moved back un
 pub entries_flew : {D : Type 0} (v : ℕ) (answers : List Answered) (s : Station D) (es : List Entry) → StationFlew v answers s → pass_number s.worker ≡ worker → own (pass_number s.worker) es ≡ pass_mine s.worker
     → AllByRecursion (λ (e : history.Entry). e.pass ≢ worker → IsHelp e.operation) (entries_of (notes_of es)) → HasFlight (answers_of v answers) (notes_of es)
 entries_flew v answers s es flew number mine help ws flight = elim (own_flight es help ws flight) [
-  | inl none ↦ subst (λ (l : List Write). IsInFlight (answers_of v answers) l) (sym none) no_write
+  | inl none ↦ subst (λ (l : List Write). IsInFlight (answers_of v answers) l) (sym none) (no_write (answers_of v answers))
   | inr here ↦
       let made : own worker es ≡ map coded flew.notes = ap (λ (n : ℕ). own n es) (sym number) ∙ mine ∙ flew.mine in
       flew.flight ws (ap (λ (l : List Noted). flight_of (entries_of l)) (sym (ap notes_of made ∙ notes_back flew.notes)) ∙ here)

@@ -1,6 +1,7 @@
--- The writes that were in flight when a disk call of a volume failed are those of its next request.
-use Rattle.std.proofs.Common.{◌≡◌, ◌<◌, ◌⊎◌, ◌++◌, ℕ, Bool, true, false, cond, List, [], ◌∷◌, length, map, refl, sym, ap, subst, ◌∙◌, append_assoc, append-nil, Option, None, Some, inl, inr}
-use Rattle.std.specs.Prelude.{slice_get, slice_index_or}
+-- The writes that were in flight when a disk call of a volume failed are those of its next requests.
+use Rattle.std.proofs.Common.{◌≡◌, ◌<◌, ◌≤◌, ◌⊎◌, ◌++◌, ℕ, zero, suc, Bool, true, false, cond, List, [], ◌∷◌, length, map, take, drop, refl, sym, ap, subst, ◌∙◌, append_assoc, append-nil, Option, None, Some, is_some, inl, inr, arith}
+use Rattle.std.specs.Prelude.{slice_index_or}
+use Rattle.std.specs.List.{AllByRecursion}
 use Rattle.std.specs.Option.{option_or}
 use Rattle.std.proofs.lemmas.List.{map-append}
 use Rattle.wol_model.specs.ArrayLaws.{unversioned}
@@ -8,6 +9,7 @@ use Rattle.wol_model.specs.Blocks.{Write}
 use Rattle.wol_model.specs.History.{Broke, IsHelp, Kept, Operation, Read, Wrote, flight_from, flight_of}
 use Rattle.wol_model.specs.Trace as trace
 use Rattle.wol_model.specs.Trace.{payload}
+use Rattle.wol_model.specs.declared.trace.Kind.{Kind}
 use Rattle.wol_model.specs.declared.trace.Kind.TheVariants as kind
 use Rattle.wol_promise.specs.Outcomes.{Answered, answered_in, is_answered}
 use Rattle.wol_promise.specs.Ruled.{Noted, entries_of}
@@ -15,18 +17,19 @@ use Rattle.run_laws.specs.Answers.{answers_of, requests_in}
 use Rattle.run_laws.specs.Laws.{AreAllAnswered}
 use Rattle.run_laws.proofs.ReadLines.{volume_joined}
 use Rattle.turn_lock.specs.Passes.{pass_mine}
+use Rattle.manager.specs.declared.part.Place.{Place}
 use Rattle.manager.specs.declared.part.ReadRefusal.TheVariants as read
 use Rattle.manager.specs.declared.part.WriteRefusal.TheVariants as write
 use Rattle.manager.specs.declared.part.StepFault.{StepFault}
 use Rattle.trace_windows.specs.Requests.{asked}
 use Rattle.trace_windows.specs.declared.request.Request.{Request}
 use Rattle.request_turns.specs.Closed.{HasClosed}
-use Rattle.request_turns.specs.Entries.{AreMade}
+use Rattle.request_turns.specs.Entries.{AreEntriesOf, AreMade, IsFlight, IsGroupEntry, before_others, front_writes}
 use Rattle.request_turns.specs.Turns.{ManagerPass, coded}
 use Rattle.request_turns.specs.declared.outcome.Outcome.{Outcome}
 use Rattle.request_turns.specs.declared.outcome.Outcome.TheVariants as outcome
 use Rattle.request_workers.specs.Closed.{IsClosed}
-use Rattle.request_workers.specs.Requests.{StopsAtRefusal, answers_to, outcomes_of, own_requests}
+use Rattle.request_workers.specs.Requests.{StopsAtRefusal, answers_to, outcomes_of, own_requests, told}
 use Rattle.request_workers.specs.Worked.{HasWorked}
 use Rattle.request_workers.specs.declared.desk.Desk.{Desk}
 use Rattle.request_workers.specs.declared.floor.Floor.{Floor}
@@ -36,107 +39,192 @@ use Rattle.replay.specs.Histories.{answers_in}
 use Rattle.replay.specs.Served.{ServedFromStart, ServedWindow, WereServed}
 use Rattle.replay.proofs.AnswersServed.{own_answers}
 use Rattle.replay.proofs.FirstsServed.{EndsWell, here, later, never, none_behind, was_worked, window_answered}
+use Rattle.replay.proofs.Grouped.{all_wrote, all_wrote_answered, answers_behind, made_by_cases, none_stopped, stops_behind, wrote_all}
 use Rattle.replay.proofs.WindowBroken.{flight_joined}
 
--- ---- The next request
+-- ---- The next requests
 
--- the write is what this request asks for, and the request is the one behind the answered ones of these
-pub record IsNextWrite (answers : List Answered) (w : Write) (r : trace.Request) : Type 0 where
-  pub same : unversioned w ≡ payload r
-  pub kind_is : r.kind ≡ kind.Write
-  pub next : slice_get (requests_in answers) (length (answered_in answers)) ≡ Some r
+-- the requests behind the answered ones of these
+abbrev pub next_requests : List Answered → List trace.Request
+next_requests answers = drop (length (answered_in answers)) (requests_in answers)
 
--- no write was in flight, or that of the next request was
-pub data IsInFlight (answers : List Answered) : List Write → Type 0 where
-  no_write : IsInFlight answers []
-  next_write : (w : Write) (r : trace.Request) → IsNextWrite answers w r → IsInFlight answers (w ∷ [])
+-- The writes in flight are what some next requests ask for, each a write: several of them only on their way to a log together.
+pub record IsInFlight (answers : List Answered) (ws : List Write) : Type 0 where
+  pub requests : List trace.Request
+  pub next : requests ≡ take (length requests) (next_requests answers)
+  pub are_writes : AllByRecursion (λ (r : trace.Request). r.kind ≡ kind.Write) requests
+  pub same : map unversioned ws ≡ map payload requests
+  pub together : (length requests ≤ 1) ⊎ AllByRecursion (λ (w : Write). is_some w.version ≡ true) ws
 
--- the writes in flight in these notes are those of the next request
+-- the writes in flight in these notes are those of the next requests
 abbrev pub HasFlight : List Answered → List Noted → Type 0
 HasFlight answers notes = (ws : List Write) → flight_of (entries_of notes) ≡ Some ws → IsInFlight answers ws
 
-next_more : (answers more : List Answered) (ws : List Write)
-    → slice_get (requests_in more) (length (answered_in more)) ≡ slice_get (requests_in answers) (length (answered_in answers)) → IsInFlight answers ws → IsInFlight more ws
-next_more answers more [] same no_write = no_write
-next_more answers more (w ∷ (v ∷ ws)) same flight = elim flight [ ]
-next_more answers more (w ∷ []) same (next_write _ r is) = next_write w r (record { same = is.same; kind_is = is.kind_is; next = same ∙ is.next })
+pub no_write : (answers : List Answered) → IsInFlight answers []
+no_write answers = record { requests = []; next = refl; are_writes = tt; same = refl; together = inl (omega arith) }
+
+next_more : (answers more : List Answered) (ws : List Write) → next_requests more ≡ next_requests answers → IsInFlight answers ws → IsInFlight more ws
+next_more answers more ws same is = record {
+  requests = is.requests;
+  next = is.next ∙ ap (λ (l : List trace.Request). take (length is.requests) l) (sym same);
+  are_writes = is.are_writes;
+  same = is.same;
+  together = is.together;
+}
 
 -- behind answered requests
-skipped_front : (xs ys : List Answered) → AreAllAnswered xs → slice_get (requests_in (xs ++ ys)) (length (answered_in (xs ++ ys))) ≡ slice_get (requests_in ys) (length (answered_in ys))
+skipped_front : (xs ys : List Answered) → AreAllAnswered xs → next_requests (xs ++ ys) ≡ next_requests ys
 skipped_front [] ys all = refl
 skipped_front (x ∷ xs) ys (first, others) = at (is_answered x.outcome) first (skipped_front xs ys others)
   where
-    at : (t : Bool) → t ≡ true → slice_get (requests_in (xs ++ ys)) (length (answered_in (xs ++ ys))) ≡ slice_get (requests_in ys) (length (answered_in ys)) → slice_get (requests_in (x ∷ (xs ++ ys))) (length (cond t (x ∷ answered_in (xs ++ ys)) (answered_in (xs ++ ys)))) ≡ slice_get (requests_in ys) (length (answered_in ys))
+    at : (t : Bool) → t ≡ true → next_requests (xs ++ ys) ≡ next_requests ys → drop (length (cond t (x ∷ answered_in (xs ++ ys)) (answered_in (xs ++ ys)))) (requests_in (x ∷ (xs ++ ys))) ≡ next_requests ys
     at true is rest = rest
     at false is rest = absurd (cc is)
 
-no_next : (xs : List Answered) → AreAllAnswered xs → slice_get (requests_in xs) (length (answered_in xs)) ≡ None
-no_next xs all = ap (λ (l : List Answered). slice_get (requests_in l) (length (answered_in l))) (sym (append-nil xs)) ∙ skipped_front xs [] all
+no_next : (xs : List Answered) → AreAllAnswered xs → next_requests xs ≡ []
+no_next xs all = ap next_requests (sym (append-nil xs)) ∙ skipped_front xs [] all
+
+none_taken : {X : Type 0} (n : ℕ) → take {A = X} n [] ≡ []
+none_taken zero = refl
+none_taken (suc n) = refl
+
+none_mapped : (ws : List Write) → map unversioned ws ≡ [] → ws ≡ []
+none_mapped [] none = refl
+none_mapped (w ∷ ws) none = absurd (cc none)
 
 -- where all were answered none was in flight
 none_flying : (xs : List Answered) (ws : List Write) → AreAllAnswered xs → IsInFlight xs ws → ws ≡ []
-none_flying xs [] all no_write = refl
-none_flying xs (w ∷ (v ∷ ws)) all flight = elim flight [ ]
-none_flying xs (w ∷ []) all (next_write _ r is) = absurd (let no : None ≡ Some r = sym (no_next xs all) ∙ is.next in cc no)
+none_flying xs ws all is =
+    let none : is.requests ≡ [] = is.next ∙ ap (λ (l : List trace.Request). take (length is.requests) l) (no_next xs all) ∙ none_taken (length is.requests) in
+    none_mapped ws (is.same ∙ ap (λ (l : List trace.Request). map payload l) none)
+
+-- ---- The first writes among requests
+
+-- so many first payloads are those of some first requests, each a write
+record HasFront (rs : List Request) (count : ℕ) (payloads : List Write) : Type 0 where
+  requests : List trace.Request
+  next : requests ≡ take (length requests) (map asked rs)
+  are_writes : AllByRecursion (λ (r : trace.Request). r.kind ≡ kind.Write) requests
+  few : length requests ≤ count
+  same : take count payloads ≡ map payload requests
+
+no_front : (rs : List Request) (count : ℕ) → HasFront rs count []
+no_front rs count = record { requests = []; next = refl; are_writes = tt; few = omega arith; same = none_taken count }
+
+more_front : (r : Request) (rs : List Request) (payloads : List Write) → r.kind ≡ kind.Write → ((n : ℕ) → HasFront rs n payloads) → (count : ℕ) → HasFront (r ∷ rs) count (payload (asked r) ∷ payloads)
+more_front r rs payloads is rest zero = record { requests = []; next = refl; are_writes = tt; few = omega arith; same = refl }
+more_front r rs payloads is rest (suc n) =
+    let front = rest n in
+    let short = front.few in
+    record {
+      requests = asked r ∷ front.requests;
+      next = ap (λ (l : List trace.Request). asked r ∷ l) front.next;
+      are_writes = (is, front.are_writes);
+      few = omega (arith, short);
+      same = ap (λ (l : List Write). payload (asked r) ∷ l) front.same;
+    }
+
+front_of_writes : (rs : List Request) (count : ℕ) → HasFront rs count (front_writes rs)
+front_of_writes [] count = no_front [] count
+front_of_writes (r ∷ rs) count = at r.kind refl (front_of_writes rs)
+  where
+    at : (k : Kind) → r.kind ≡ k → ((n : ℕ) → HasFront rs n (front_writes rs)) → HasFront (r ∷ rs) count (before_others k (payload (asked r)) (front_writes rs))
+    at kind.Read is rest = no_front (r ∷ rs) count
+    at kind.Write is rest = more_front r rs (front_writes rs) is rest count
 
 -- ---- The requests of a window
 
+-- there are as many outcomes as requests
+asked_behind : (group rs : List Request) (place : Place) (os : List Outcome) → requests_in (answers_to rs os) ≡ map asked rs → requests_in (answers_to (group ++ rs) (all_wrote (length group) place ++ os)) ≡ map asked (group ++ rs)
+asked_behind [] rs place os rest = rest
+asked_behind (r ∷ group) rs place os rest = ap (λ (l : List trace.Request). asked r ∷ l) (asked_behind group rs place os rest)
+
+made_asked : (view : List ℕ) (rs : List Request) (os : List Outcome) (notes : List Noted) → AreMade view rs os notes → requests_in (answers_to rs os) ≡ map asked rs
+made_asked view rs os notes made =
+    made_by_cases view (λ rs os notes. requests_in (answers_to rs os) ≡ map asked rs) refl (λ r rs o os first rest entries others more. ap (λ (l : List trace.Request). asked r ∷ l) more)
+    (λ group rs place os n rest two entry more. asked_behind group rs place os more) rs os notes made
+
 -- nothing is noted of requests that weren't run
+request_not_run : (view : List ℕ) (r : Request) (rs : List Request) (o : Outcome) (os : List Outcome) (first rest : List Noted) → AreEntriesOf view r rs o first → StopsAtRefusal false (o ∷ os) → (StopsAtRefusal false os → rest ≡ []) → first ++ rest ≡ []
+request_not_run view r rs (outcome.Read mark sources) os first rest entries stops further = absurd (cc (stops.0))
+request_not_run view r rs (outcome.Wrote place drained) os first rest entries stops further = absurd (cc (stops.0))
+request_not_run view r rs (outcome.NoRead refusal) os first rest entries stops further = absurd (cc (stops.0))
+request_not_run view r rs (outcome.NoWrite refusal) os first rest entries stops further = absurd (cc (stops.0))
+request_not_run view r rs outcome.NotRun os first rest none stops further = (λ i. none i ++ rest) ∙ further stops.1
+
 not_run : (view : List ℕ) (rs : List Request) (os : List Outcome) (notes : List Noted) → AreMade view rs os notes → StopsAtRefusal false os → notes ≡ []
-not_run view [] [] notes made stops = made
-not_run view [] (o ∷ os) notes made stops = absurd made
-not_run view (r ∷ rs) [] notes made stops = absurd made
-not_run view (r ∷ rs) (outcome.Read mark sources ∷ os) notes made stops = absurd (cc (stops.0))
-not_run view (r ∷ rs) (outcome.Wrote place drained ∷ os) notes made stops = absurd (cc (stops.0))
-not_run view (r ∷ rs) (outcome.NoRead refusal ∷ os) notes made stops = absurd (cc (stops.0))
-not_run view (r ∷ rs) (outcome.NoWrite refusal ∷ os) notes made stops = absurd (cc (stops.0))
-not_run view (r ∷ rs) (outcome.NotRun ∷ os) notes (first, rest, same, none, others) stops = same ∙ (λ i. none i ++ rest) ∙ not_run view rs os rest others stops.1
+not_run view rs os notes made =
+    made_by_cases view (λ rs os notes. StopsAtRefusal false os → notes ≡ []) (λ stops. refl) (λ r rs o os first rest entries others further stops. request_not_run view r rs o os first rest entries stops further)
+    (λ group rs place os n rest two entry further stops. absurd (none_stopped (length group) place os (omega (arith, two)) stops)) rs os notes made
 
 -- the first note's operation comes before those of the rest
-one_more : (notes first rest : List Noted) (n : Noted) → notes ≡ first ++ rest → first ≡ n ∷ [] → flight_of (entries_of notes) ≡ flight_from n.entry.operation (flight_of (entries_of rest))
-one_more notes first rest n same one = ap (λ (l : List Noted). flight_of (entries_of l)) (same ∙ ap (λ (l : List Noted). l ++ rest) one)
+one_more : (first rest : List Noted) (n : Noted) → first ≡ n ∷ [] → flight_of (entries_of (first ++ rest)) ≡ flight_from n.entry.operation (flight_of (entries_of rest))
+one_more first rest n one = ap (λ (l : List Noted). flight_of (entries_of (l ++ rest))) one
 
-passing : (notes first rest : List Noted) (n : Noted) (o : Operation) → notes ≡ first ++ rest → first ≡ n ∷ [] → n.entry.operation ≡ o → ((x : Option (List Write)) → flight_from o x ≡ x) → flight_of (entries_of notes) ≡ flight_of (entries_of rest)
-passing notes first rest n o same one is through = one_more notes first rest n same one ∙ ap (λ (p : Operation). flight_from p (flight_of (entries_of rest))) is ∙ through (flight_of (entries_of rest))
+passing : (first rest : List Noted) (n : Noted) (o : Operation) → first ≡ n ∷ [] → n.entry.operation ≡ o → ((x : Option (List Write)) → flight_from o x ≡ x) → flight_of (entries_of (first ++ rest)) ≡ flight_of (entries_of rest)
+passing first rest n o one is through = one_more first rest n one ∙ ap (λ (p : Operation). flight_from p (flight_of (entries_of rest))) is ∙ through (flight_of (entries_of rest))
 
-breaking : (notes first rest : List Noted) (n : Noted) (ws : List Write) → notes ≡ first ++ rest → first ≡ n ∷ [] → n.entry.operation ≡ Broke ws → flight_of (entries_of notes) ≡ Some ws
-breaking notes first rest n ws same one is = one_more notes first rest n same one ∙ ap (λ (p : Operation). flight_from p (flight_of (entries_of rest))) is
+breaking : (first rest : List Noted) (n : Noted) (ws : List Write) → first ≡ n ∷ [] → n.entry.operation ≡ Broke ws → flight_of (entries_of (first ++ rest)) ≡ Some ws
+breaking first rest n ws one is = one_more first rest n one ∙ ap (λ (p : Operation). flight_from p (flight_of (entries_of rest))) is
 
 -- a request that was refused without a failed call, behind which none was run
-quiet : (view : List ℕ) (rs : List Request) (os : List Outcome) (notes first rest : List Noted) (n : Noted) (ws : List Write) → notes ≡ first ++ rest → first ≡ n ∷ [] → n.entry.operation ≡ Kept
-    → AreMade view rs os rest → StopsAtRefusal false os → flight_of (entries_of notes) ≡ Some ws → ⊥
-quiet view rs os notes first rest n ws same one kept others stops flight =
-    let no : None ≡ Some ws = ap (λ (l : List Noted). flight_of (entries_of l)) (sym (not_run view rs os rest others stops)) ∙ sym (passing notes first rest n Kept same one kept (λ x. refl)) ∙ flight in cc no
+quiet : (view : List ℕ) (rs : List Request) (os : List Outcome) (first rest : List Noted) (n : Noted) (ws : List Write) → first ≡ n ∷ [] → n.entry.operation ≡ Kept
+    → AreMade view rs os rest → StopsAtRefusal false os → flight_of (entries_of (first ++ rest)) ≡ Some ws → ⊥
+quiet view rs os first rest n ws one kept others stops flight =
+    let no : None ≡ Some ws = ap (λ (l : List Noted). flight_of (entries_of l)) (sym (not_run view rs os rest others stops)) ∙ sym (passing first rest n Kept one kept (λ x. refl)) ∙ flight in cc no
+
+-- a write that was refused, and the writes behind it that were to go with it
+refused_flight : (view : List ℕ) (r : Request) (rs : List Request) (o : Outcome) (os : List Outcome) (rest : List Noted) (ws : List Write) → is_answered (told o) ≡ false → r.kind ≡ kind.Write → AreMade view rs os rest → StopsAtRefusal false os
+    → IsFlight (payload (asked r) ∷ front_writes rs) ws → IsInFlight (answers_to (r ∷ rs) (o ∷ os)) ws
+refused_flight view r rs o os rest ws refused is_write others stops flight =
+    let front = more_front r rs (front_writes rs) is_write (front_of_writes rs) flight.count in
+    let short = front.few in
+    let answers : List Answered = answers_to (r ∷ rs) (o ∷ os) in
+    let none : answered_in answers ≡ [] = ap (λ (t : Bool). cond t (record { request = asked r; outcome = told o } ∷ answered_in (answers_to rs os)) (answered_in (answers_to rs os))) refused ∙ none_behind rs os stops in
+    let all : next_requests answers ≡ map asked (r ∷ rs) = ap (λ (l : List Answered). drop (length l) (requests_in answers)) none ∙ ap (λ (l : List trace.Request). asked r ∷ l) (made_asked view rs os rest others) in
+    record {
+      requests = front.requests;
+      next = front.next ∙ ap (λ (l : List trace.Request). take (length front.requests) l) (sym all);
+      are_writes = front.are_writes;
+      same = flight.same ∙ front.same;
+      together = elim flight.logged [
+        | inl few ↦ inl (omega (arith, few, short))
+        | inr logged ↦ inr logged
+      ];
+    }
+
+request_flight : (view : List ℕ) (r : Request) (rs : List Request) (o : Outcome) (os : List Outcome) (first rest : List Noted) → AreEntriesOf view r rs o first → AreMade view rs os rest → StopsAtRefusal true (o ∷ os)
+    → (StopsAtRefusal true os → HasFlight (answers_to rs os) rest) → HasFlight (answers_to (r ∷ rs) (o ∷ os)) (first ++ rest)
+request_flight view r rs (outcome.Read mark sources) os first rest (n, one, entry) others stops further ws flight =
+    next_more (answers_to rs os) (answers_to (r ∷ rs) (outcome.Read mark sources ∷ os)) ws refl (further stops.1 ws (sym (passing first rest n (Read r.lbn entry.reply) one entry.operation (λ x. refl)) ∙ flight))
+request_flight view r rs (outcome.Wrote place drained) os first rest (n, one, (is_write, entry)) others stops further ws flight =
+    next_more (answers_to rs os) (answers_to (r ∷ rs) (outcome.Wrote place drained ∷ os)) ws refl (further stops.1 ws (sym (passing first rest n (Wrote (entry.write ∷ [])) one entry.operation (λ x. refl)) ∙ flight))
+request_flight view r rs (outcome.NoRead (read.DiskFault p)) os first rest (n, one, (is_read, broke)) others stops further ws flight =
+    let none : [] ≡ ws = cc (sym (breaking first rest n [] one broke) ∙ flight) in
+    subst (λ (l : List Write). IsInFlight (answers_to (r ∷ rs) (outcome.NoRead (read.DiskFault p) ∷ os)) l) none (no_write (answers_to (r ∷ rs) (outcome.NoRead (read.DiskFault p) ∷ os)))
+request_flight view r rs (outcome.NoRead (read.Down p)) os first rest (n, one, (is_read, kept)) others stops further ws flight = absurd (quiet view rs os first rest n ws one kept others stops.1 flight)
+request_flight view r rs (outcome.NoWrite write.Full) os first rest (n, one, (is_write, full)) others stops further ws flight = absurd full
+request_flight view r rs (outcome.NoWrite (write.DiskFault p)) os first rest (n, one, (is_write, (vs, broke, flown))) others stops further ws flight =
+    let is : vs ≡ ws = cc (sym (breaking first rest n vs one broke) ∙ flight) in
+    subst (λ (l : List Write). IsInFlight (answers_to (r ∷ rs) (outcome.NoWrite (write.DiskFault p) ∷ os)) l) is (refused_flight view r rs (outcome.NoWrite (write.DiskFault p)) os rest vs refl is_write others stops.1 flown)
+request_flight view r rs (outcome.NoWrite (write.Down p)) os first rest (n, one, (is_write, kept)) others stops further ws flight = absurd (quiet view rs os first rest n ws one kept others stops.1 flight)
+request_flight view r rs (outcome.NoWrite write.VersionsSpent) os first rest (n, one, (is_write, (kept, spent))) others stops further ws flight = absurd (quiet view rs os first rest n ws one kept others stops.1 flight)
+request_flight view r rs (outcome.NoWrite write.NoMemory) os first rest (n, one, (is_write, kept)) others stops further ws flight = absurd (quiet view rs os first rest n ws one kept others stops.1 flight)
+request_flight view r rs outcome.NotRun os first rest entries others stops further ws flight = absurd (cc (stops.0))
+
+-- several writes in one entry, and what was in flight behind them
+group_flight : (view : List ℕ) (group rs : List Request) (place : Place) (os : List Outcome) (n : Noted) (rest : List Noted) → IsGroupEntry view group place n → (StopsAtRefusal true os → HasFlight (answers_to rs os) rest)
+    → StopsAtRefusal true (all_wrote (length group) place ++ os) → HasFlight (answers_to (group ++ rs) (all_wrote (length group) place ++ os)) (n ∷ rest)
+group_flight view group rs place os n rest entry further stops ws flight =
+    let past : flight_of (entries_of (n ∷ rest)) ≡ flight_of (entries_of rest) = ap (λ (p : Operation). flight_from p (flight_of (entries_of rest))) entry.together.operation in
+    next_more (answers_to rs os) (answers_to (group ++ rs) (all_wrote (length group) place ++ os)) ws
+    (ap next_requests (answers_behind group rs place os) ∙ skipped_front (wrote_all group place) (answers_to rs os) (all_wrote_answered group place))
+    (further (stops_behind (length group) place os stops) ws (sym past ∙ flight))
 
 pub made_flight : (view : List ℕ) (rs : List Request) (os : List Outcome) (notes : List Noted) → AreMade view rs os notes → StopsAtRefusal true os → HasFlight (answers_to rs os) notes
-made_flight view [] [] notes made stops ws flight = let no : None ≡ Some ws = ap (λ (l : List Noted). flight_of (entries_of l)) (sym made) ∙ flight in absurd (cc no)
-made_flight view [] (o ∷ os) notes made stops ws flight = absurd made
-made_flight view (r ∷ rs) [] notes made stops ws flight = absurd made
-made_flight view (r ∷ rs) (outcome.Read mark sources ∷ os) notes (first, rest, same, (n, one, entry), others) stops ws flight =
-    next_more (answers_to rs os) (answers_to (r ∷ rs) (outcome.Read mark sources ∷ os)) ws refl
-    (made_flight view rs os rest others stops.1 ws (sym (passing notes first rest n (Read r.lbn entry.reply) same one entry.operation (λ x. refl)) ∙ flight))
-made_flight view (r ∷ rs) (outcome.Wrote place drained ∷ os) notes (first, rest, same, (n, one, (is_write, entry)), others) stops ws flight =
-    next_more (answers_to rs os) (answers_to (r ∷ rs) (outcome.Wrote place drained ∷ os)) ws refl
-    (made_flight view rs os rest others stops.1 ws (sym (passing notes first rest n (Wrote (entry.write ∷ [])) same one entry.operation (λ x. refl)) ∙ flight))
-made_flight view (r ∷ rs) (outcome.NoRead (read.DiskFault p) ∷ os) notes (first, rest, same, (n, one, (is_read, broke)), others) stops ws flight =
-    let none : [] ≡ ws = cc (sym (breaking notes first rest n [] same one broke) ∙ flight) in subst (λ (l : List Write). IsInFlight (answers_to (r ∷ rs) (outcome.NoRead (read.DiskFault p) ∷ os)) l) none no_write
-made_flight view (r ∷ rs) (outcome.NoRead (read.Down p) ∷ os) notes (first, rest, same, (n, one, (is_read, kept)), others) stops ws flight =
-    absurd (quiet view rs os notes first rest n ws same one kept others stops.1 flight)
-made_flight view (r ∷ rs) (outcome.NoWrite write.Full ∷ os) notes (first, rest, same, (n, one, (is_write, full)), others) stops ws flight = absurd full
-made_flight view (r ∷ rs) (outcome.NoWrite (write.DiskFault p) ∷ os) notes (first, rest, same, (n, one, (is_write, (vs, broke, inl none))), others) stops ws flight =
-    let is : vs ≡ ws = cc (sym (breaking notes first rest n vs same one broke) ∙ flight) in
-    subst (λ (l : List Write). IsInFlight (answers_to (r ∷ rs) (outcome.NoWrite (write.DiskFault p) ∷ os)) l) (sym none ∙ is) no_write
-made_flight view (r ∷ rs) (outcome.NoWrite (write.DiskFault p) ∷ os) notes (first, rest, same, (n, one, (is_write, (vs, broke, inr (w, only, payload_is)))), others) stops ws flight =
-    let is : vs ≡ ws = cc (sym (breaking notes first rest n vs same one broke) ∙ flight) in
-    subst (λ (l : List Write). IsInFlight (answers_to (r ∷ rs) (outcome.NoWrite (write.DiskFault p) ∷ os)) l) (sym only ∙ is)
-    (next_write w (asked r) (record { same = payload_is; kind_is = is_write; next = ap (λ (l : List Answered). slice_get (requests_in (answers_to (r ∷ rs) (outcome.NoWrite (write.DiskFault p) ∷ os))) (length l)) (none_behind rs os stops.1) }))
-made_flight view (r ∷ rs) (outcome.NoWrite (write.Down p) ∷ os) notes (first, rest, same, (n, one, (is_write, kept)), others) stops ws flight =
-    absurd (quiet view rs os notes first rest n ws same one kept others stops.1 flight)
-made_flight view (r ∷ rs) (outcome.NoWrite write.VersionsSpent ∷ os) notes (first, rest, same, (n, one, (is_write, (kept, spent))), others) stops ws flight =
-    absurd (quiet view rs os notes first rest n ws same one kept others stops.1 flight)
-made_flight view (r ∷ rs) (outcome.NoWrite write.NoMemory ∷ os) notes (first, rest, same, (n, one, (is_write, kept)), others) stops ws flight =
-    absurd (quiet view rs os notes first rest n ws same one kept others stops.1 flight)
-made_flight view (r ∷ rs) (outcome.NotRun ∷ os) notes made stops ws flight = absurd (cc (stops.0))
+made_flight view rs os notes made =
+    made_by_cases view (λ rs os notes. StopsAtRefusal true os → HasFlight (answers_to rs os) notes) (λ stops ws flight. absurd (cc flight))
+    (λ r rs o os first rest entries others further stops. request_flight view r rs o os first rest entries others stops further) (λ group rs place os n rest two entry further. group_flight view group rs place os n rest entry further) rs os notes made
 
 -- ---- A worker's pass
 
@@ -168,7 +256,7 @@ adds_then {D} v xs ys p q r all left right = record {
   flight = λ ws flight. subst (λ (l : List Answered). IsInFlight l ws) (sym (volume_joined v xs ys)) (elim (which left.notes right.notes ws flight) [
     | inl first ↦
         let none = none_flying (answers_of v xs) ws all (left.flight ws first) in
-        subst (λ (l : List Write). IsInFlight (answers_of v xs ++ answers_of v ys) l) (sym none) no_write
+        subst (λ (l : List Write). IsInFlight (answers_of v xs ++ answers_of v ys) l) (sym none) (no_write (answers_of v xs ++ answers_of v ys))
     | inr second ↦ next_more (answers_of v ys) (answers_of v xs ++ answers_of v ys) ws (skipped_front (answers_of v xs) (answers_of v ys) all) (right.flight ws second)
   ]);
 }
@@ -186,7 +274,7 @@ with_turn tells v fault answers p q r left closed = record {
   mine = mine_both p q r left.notes (closed.note ∷ []) left.mine closed.turned.mine;
   flight = λ ws flight. elim (which left.notes (closed.note ∷ []) ws flight) [
     | inl first ↦ left.flight ws first
-    | inr second ↦ subst (λ (l : List Write). IsInFlight (answers_of v answers) l) (sym (help_flight closed.note.entry.operation ws closed.help second)) no_write
+    | inr second ↦ subst (λ (l : List Write). IsInFlight (answers_of v answers) l) (sym (help_flight closed.note.entry.operation ws closed.help second)) (no_write (answers_of v answers))
   ];
 }
 

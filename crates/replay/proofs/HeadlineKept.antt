@@ -1,25 +1,23 @@
 -- The headline holds of each run.
-use Rattle.std.proofs.Common.{◌≡◌, ◌<◌, ◌++◌, ℕ, Bool, true, false, List, [], ◌∷◌, length, map, take, refl, sym, ap, subst, ◌∙◌, Option, None, Some, is_some, unwrap_or, Result, Ok, Err, inl, inr, append-nil, arith}
-use Rattle.std.specs.Prelude.{IsTrue}
-use Rattle.std.specs.List.{AllByRecursion}
+use Rattle.std.proofs.Common.{◌≡◌, ◌<◌, ◌++◌, ℕ, Bool, false, List, [], ◌∷◌, length, take, refl, sym, ap, subst, ◌∙◌, Option, None, Some, is_some, Result, Ok, Err, inl, inr, append-nil, arith}
+use Rattle.std.specs.Prelude.{IsTrue, slice_get}
 use Rattle.std.specs.Option.{option_map_or}
 use Rattle.std.specs.Io.KnownBytes.{Appends}
 use Rattle.wol_io.specs.Streams.{AppendsFront}
 use Rattle.wol_io.proofs.Appending.{appends_none, front_whole}
 use Rattle.wol_bay.specs.Bay.{BayState, Told}
-use Rattle.wol_disk.specs.Disk.{Block, State}
-use Rattle.wol_model.specs.Blocks.{Write, after}
-use Rattle.wol_model.specs.History.{AreLegalNext, BreaksOnce, Broke, Entry, IsCut, Kept, Operation, Read, Wrote, flight_from, flight_of, written_by, writes, in_flight}
+use Rattle.wol_disk.specs.Disk.{Block, Rose, State}
+use Rattle.wol_model.specs.History.{AreLegalNext, IsCut, flight_of, writes, in_flight}
 use Rattle.wol_model.specs.Images.{recovered_from}
 use Rattle.wol_model.specs.Trace.{TraceLine}
-use Rattle.wol_model.proofs.Overlay.{after_more, after_none}
 use Rattle.wol_promise.specs.Outcomes.{Answered}
 use Rattle.wol_promise.specs.Ruled.{entries_of}
 use Rattle.wol_promise.specs.Run.{joined_lines}
 use Rattle.run_laws.specs.Answers.{answers_of}
+use Rattle.run_laws.specs.Headline.{HasOneHistory, IsReopened}
 use Rattle.wol_config.specs.declared.config.Config.{Config}
 use Rattle.volume_images.specs.Left.{IsTold}
-use Rattle.volume_images.specs.Volumes.{images_read, shapes_of}
+use Rattle.volume_images.specs.Volumes.{AreLeft, images_read, shapes_of}
 use Rattle.report.specs.Faults.{status_of}
 use Rattle.report.specs.declared.fault.Fault.TheVariants.{Volume}
 use Rattle.trace_gen.specs.Generated.{targets_of}
@@ -28,7 +26,7 @@ use Rattle.rack.proofs.NewFaults.{told_with}
 use Rattle.rack.specs.declared.volume_fault.VolumeFault.{VolumeFault}
 use Rattle.replay.specs.Ended as ended
 use Rattle.replay.specs.Givens.{HasGivenAll}
-use Rattle.replay.specs.Headline.{AreAllOpen, ArePrinted, HasNotBegun, HasOneHistory, Headline, HistoriesGoOn, KeepsHeadline, opened_array, plain_lines}
+use Rattle.replay.specs.Headlined.{AreAllOpen, ArePrinted, HasNotBegun, KeepsHeadline, MeetsHeadline}
 use Rattle.replay.specs.Histories.{ArePlainMarks, BeginAsRead, History, answers_in, is_broken, is_broken_at}
 use Rattle.replay.specs.Leaves.{LeavesImages}
 use Rattle.replay.specs.NotOpened.{AsksNone, LeavesBay}
@@ -40,7 +38,7 @@ use Rattle.replay.specs.declared.given.Given.{Given}
 use Rattle.replay.specs.declared.session.Options.{Options}
 use Rattle.replay.specs.declared.stop.Stop.{Stop}
 use Rattle.replay.specs.declared.stop.Stop.TheVariants as stop
-use Rattle.replay.proofs.ImagesLeft.{no_cut, none_or}
+use Rattle.replay.proofs.ImagesLeft.{none_or}
 use Rattle.replay.proofs.RacksServed.{a_member}
 use Rattle.replay.proofs.Statuses.{not_success}
 
@@ -67,10 +65,6 @@ printed_kept (Err (stop.Fault f)) lines summary faults faults' taken taken' (cal
     let here = subst (λ (l : List ℕ). Appends taken taken' l) (sym (append-nil (joined_lines (take k lines)))) is in
     record { count = k; ending = []; all = λ not_7 not_9. absurd (not_9 (ap status_of lacked)); whole = λ not_7. here; front = front_whole taken taken' _ here }
 
-lines_plain : (config : Config) (each : Bool) (answers : List Answered) (entry : Told) → ArePlainMarks config answers entry → lines_asked config each answers ≡ plain_lines config each entry answers
-lines_plain config true answers entry plain = plain
-lines_plain config false answers entry plain = refl
-
 -- ---- Runs over open volumes
 
 -- what holds of what was told at both ends, three times
@@ -91,27 +85,39 @@ module _ {S T : Type 0} (tells : Bool) (left : S → Option (List ℕ)) (config 
   abbrev answers : List Answered
   answers = answers_in (r.earlier ++ r.last)
 
-  -- a volume that was open
-  one_history : (entry exit : Told) → BeginAsRead config entry r.histories → LeavesImages tells config answers r.histories entry exit → (v : ℕ) → v < length (shapes_of config)
-      → HasOneHistory config entry exit old.faults new.faults v (answers_of v answers)
-  one_history entry exit begun images v lt =
-      let (h, here) = a_member r.histories v (omega (arith, lt, r.are.count)) in
-      let one = r.are.each v h here in
-      let array : h.base.array ≡ opened_array config (images_read config entry) v = (begun v h here).array ∙ ap (recovered_from (shapes_of config) (images_read config entry)) one.owner in
-      let broken : is_broken_at r.histories v ≡ is_some (flight_of (entries_of h.notes)) = ap (λ (o : Option History). option_map_or is_broken o false) here in
-      record {
-        history = entries_of h.notes;
-        legal = record { replies = subst (λ (a : List Block). AreLegalNext a (entries_of h.notes)) array (one.legal.replies telling); breaks = one.legal.breaks; helpers = one.legal.helpers };
-        first = r.are.first v;
-        served = one.answered;
-        reopens = λ left_ is_left. subst (λ (a : List Block). IsCut a (writes (entries_of h.notes)) (in_flight (entries_of h.notes)) (opened_array config left_ v)) array (images.stopped v h here left_ is_left);
-        one_action = images.action v h here;
-        calm = λ none. none_or (flight_of (entries_of h.notes)) (λ some. none (r.cause v (broken ∙ some)));
-      }
+  -- the history of a volume that was open
+  member : (v : ℕ) → v < length (shapes_of config) → (h : History) × (slice_get r.histories v ≡ Some h)
+  member v lt = a_member r.histories v (omega (arith, lt, r.are.count))
 
-  pub headline_kept : IsTold (λ entry exit. Headline left config options.each start now entry exit old.faults new.faults (status_in result) taken taken') old.told new.told
+  module _ (entry exit : Told) (begun : BeginAsRead config entry r.histories) (images : LeavesImages tells config answers r.histories entry exit) (v : ℕ) (h : History) (here : slice_get r.histories v ≡ Some h) where
+    abbrev opened : List Block
+    opened = recovered_from (shapes_of config) (images_read config entry) v
+
+    array : h.base.array ≡ opened
+    array = (begun v h here).array ∙ ap (recovered_from (shapes_of config) (images_read config entry)) (r.are.each v h here).owner
+
+    abbrev one_history : HasOneHistory opened (answers_of v answers)
+    one_history =
+        let one = r.are.each v h here in
+        record {
+          history = entries_of h.notes;
+          legal = record { replies = subst (λ (a : List Block). AreLegalNext a (entries_of h.notes)) array (one.legal.replies telling); breaks = one.legal.breaks; helpers = one.legal.helpers };
+          served = one.answered;
+          first = r.are.first v;
+        }
+
+    reopened : IsReopened (shapes_of config) (AreLeft config exit) (Rose old.faults new.faults) v opened (answers_of v answers) (entries_of h.notes)
+    reopened =
+        let broken : is_broken_at r.histories v ≡ is_some (flight_of (entries_of h.notes)) = ap (λ (o : Option History). option_map_or is_broken o false) here in
+        record {
+          cut = λ left_ is_left. subst (λ (a : List Block). IsCut a (writes (entries_of h.notes)) (in_flight (entries_of h.notes)) (recovered_from (shapes_of config) left_ v)) array (images.stopped v h here left_ is_left);
+          one_action = images.action v h here;
+          calm = λ none. none_or (flight_of (entries_of h.notes)) (λ some. none (r.cause v (broken ∙ some)));
+        }
+
+  pub headline_kept : IsTold (λ entry exit. MeetsHeadline left config options.each start now entry exit old.faults new.faults (status_in result) taken taken') old.told new.told
   headline_kept = told_thrice (λ entry exit. AreAllOpen config entry × BeginAsRead config entry r.histories) (λ entry exit. ArePlainMarks config answers entry) (LeavesImages tells config answers r.histories)
-      (λ entry exit. Headline left config options.each start now entry exit old.faults new.faults (status_in result) taken taken') old.told new.told
+      (λ entry exit. MeetsHeadline left config options.each start now entry exit old.faults new.faults (status_in result) taken taken') old.told new.told
       (told_with (λ entry exit. AreAllOpen config entry) (λ entry exit. BeginAsRead config entry r.histories) old.told new.told (r.open_ telling) (r.begun telling)) (r.marks telling) (r.images telling)
       (λ entry exit opened marks images. record {
         open_ = opened.0;
@@ -120,10 +126,13 @@ module _ {S T : Type 0} (tells : Bool) (left : S → Option (List ℕ)) (config 
         answers = answers;
         asked = r.asked;
         done = λ is. (to_the_end left config start now r.run r.last old.faults new.faults sink sink' result r.ends is, λ v. r.counts.at_0 v is);
-        printed = subst (λ (l : List (List ℕ)). ArePrinted l (status_in result) taken taken') (lines_plain config options.each answers entry marks)
-            (printed_kept result (lines_asked config options.each answers) r.summary sink sink' taken taken' r.prints);
-        each_volume = one_history entry exit opened.1 images;
-        sound = images.sound;
+        headline = record {
+          each_volume = λ v lt. one_history entry exit opened.1 images v (member v lt).0 (member v lt).1;
+          marks = marks;
+          reopens = λ v lt. reopened entry exit opened.1 images v (member v lt).0 (member v lt).1;
+          sound = images.sound;
+        };
+        printed = printed_kept result (lines_asked config options.each answers) r.summary sink sink' taken taken' r.prints;
       })
 
 -- ---- All runs
@@ -144,37 +153,3 @@ pub keeps_headline : {D S T : Type 0} (tells : Bool) (state : D → State) (left
 keeps_headline tells state left config options start now old new sink sink' taken taken' _ (replays.no_memory asks bay) = inl (no_memory_yet tells state config start now old new sink sink' taken taken' asks bay)
 keeps_headline tells state left config options start now old new sink sink' taken taken' _ (replays.closed k f asks first bay) = inl (closed_yet tells state config start now old new sink sink' taken taken' k f asks bay)
 keeps_headline tells state left config options start now old new sink sink' taken taken' result (replays.ran _ r) = inr (λ telling. headline_kept tells left config options start now old new result sink sink' taken taken' r telling)
-
--- ---- One run after the other
-
-abbrev operations : List Entry → List Operation
-operations es = map (λ (e : Entry). e.operation) es
-
-legal_on : (a : List Block) (es fs : List Entry) → AreLegalNext a es → AreLegalNext (after a (writes es)) fs → AreLegalNext a (es ++ fs)
-legal_on a [] fs legal next = subst (λ (x : List Block). AreLegalNext x fs) (after_none a) next
-legal_on a (e ∷ es) fs (first, rest) next = (first, legal_on (after a (written_by e.operation)) es fs rest (subst (λ (x : List Block). AreLegalNext x fs) (after_more a (written_by e.operation) (writes es)) next))
-
-breaks_on : (es fs : List Entry) → flight_of es ≡ None → BreaksOnce (operations fs) → BreaksOnce (operations (es ++ fs))
-breaks_on [] fs none breaks = breaks
-breaks_on (e ∷ es) fs none breaks = at e.operation none (λ rest. breaks_on es fs rest breaks)
-  where
-    at : (o : Operation) → flight_from o (flight_of es) ≡ None → (flight_of es ≡ None → BreaksOnce (operations (es ++ fs))) → BreaksOnce (o ∷ operations (es ++ fs))
-    at (Wrote ws) is further = further is
-    at (Read first reply) is further = further is
-    at Kept is further = further is
-    at (Broke ws) is further = absurd (cc is)
-
-all_on : {X : Type 0} (P : X → Type 0) (xs ys : List X) → AllByRecursion P xs → AllByRecursion P ys → AllByRecursion P (xs ++ ys)
-all_on P [] ys first next = next
-all_on P (x ∷ xs) ys (one, first) next = (one, all_on P xs ys first next)
-
-pub histories_go_on : HistoriesGoOn
-histories_go_on config entry exit again last faults faults' more more' v _ _ one is_left next none =
-    let began : List Block = opened_array config (images_read config entry) v in
-    let cut = subst (λ (ws : List Write). IsCut began (writes one.history) ws (opened_array config (images_read config again) v)) (ap (λ (o : Option (List Write)). unwrap_or o []) none) (one.reopens (images_read config again) is_left) in
-    let array : opened_array config (images_read config again) v ≡ after began (writes one.history) = no_cut began (writes one.history) (opened_array config (images_read config again) v) cut in
-    record {
-      replies = legal_on began one.history next.history one.legal.replies (subst (λ (a : List Block). AreLegalNext a next.history) array next.legal.replies);
-      breaks = breaks_on one.history next.history none next.legal.breaks;
-      helpers = all_on _ one.history next.history one.legal.helpers next.legal.helpers;
-    }

@@ -21,7 +21,7 @@ use Rattle.volume_images.specs.Volumes.{shapes_of}
 use Rattle.rack.specs.Closes.{IsClosedVolume}
 use Rattle.rack.specs.Racks.{base_of_station}
 use Rattle.rack.specs.declared.rack.ImageRest.{ImageRest}
-use Rattle.replay.specs.Histories.{History, AreHistories, IsHistory}
+use Rattle.replay.specs.Histories.{History, AreHistories, IsHistory, view_at}
 use Rattle.replay.proofs.AnswersServed.{operation_in}
 use Rattle.replay.proofs.EntriesOwn.{all_of_three, coded_all, noted_all, notes_back, own_notes, OfEntry}
 use Rattle.replay.proofs.PassesRuled.{IsRuled}
@@ -50,6 +50,13 @@ module _ {D : Type 0} (tells : Bool) (config : Config) (out : List (Option (Imag
   each_closed P [] all each v h here = absurd (cc here)
   each_closed P (s ∷ ss) all each zero h here = let same : history_of s (all 0 s (omega arith)) ≡ h = cc here in subst (λ (x : History). P x.base x.notes) same (each 0 s _)
   each_closed P (s ∷ ss) all each (suc v) h here = each_closed P ss (λ k d lt. all (suc k) d (omega (arith, lt))) (λ n d within. each (suc n) d _) v h here
+
+  -- a history's view is that of the station at its place
+  pub view_there : (ss : List (Station D)) (all : All (IsClosedVolume tells config out old new) ss) (v : ℕ) (d : Station D) → v < length ss → view_at (histories_of ss all) v ≡ (base_of_station (slice_index_or ss v d)).volume.began.view
+  unfolding histories_of
+  view_there [] all v d = λ lt. absurd (omega (arith, lt))
+  view_there (s ∷ ss) all zero d = λ lt. refl
+  view_there (s ∷ ss) all (suc v) d = let rest = view_there ss (λ k d lt. all (suc k) d (omega (arith, lt))) v d in λ lt. rest (omega (arith, lt))
 
   -- a history is that of the station at its place
   pub record IsHistoryAt (ss : List (Station D)) (v : ℕ) (h : History) : Type 0 where

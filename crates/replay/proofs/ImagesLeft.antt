@@ -10,19 +10,21 @@ use Rattle.wol_bay.specs.Bay.{BayState, Told}
 use Rattle.wol_model.specs.ArrayLaws.{unversioned}
 use Rattle.wol_model.specs.Blocks.{Write, after}
 use Rattle.wol_model.specs.History as history
-use Rattle.wol_model.specs.History.{IsCut, flight_of, torn, whole, worker, writes, in_flight}
+use Rattle.wol_model.specs.History.{IsCut, flight_of, whole, writes, in_flight}
 use Rattle.wol_model.specs.Extents.{AreDistinct, Extent, covers_of}
 use Rattle.wol_model.specs.Index.{Listed}
 use Rattle.wol_model.specs.Images.{Images, all_segments, recovered_from}
 use Rattle.wol_model.specs.Recovered.{extents_of}
 use Rattle.wol_model.specs.Trace.{Request, payload, payloads, write_to}
 use Rattle.wol_model.specs.declared.trace.Kind.TheVariants as kind
-use Rattle.wol_promise.specs.Outcomes.{Answered, of_volume}
+use Rattle.wol_promise.specs.Outcomes.{Answered, answered_in, of_volume}
 use Rattle.wol_promise.specs.Ruled.{entries_of, last_look}
 use Rattle.wol_promise.specs.Run.{KeepsSound}
 use Rattle.run_laws.specs.Answers.{answered_count, answers_of, requests_in}
+use Rattle.run_laws.specs.Headline.{IsOneAction}
 use Rattle.run_laws.specs.Laws.{AreAnsweredBy}
 use Rattle.run_laws.proofs.Cuts.{cuts_are_plain}
+use Rattle.run_laws.proofs.GoOn.{no_cut}
 use Rattle.run_laws.proofs.ReadLines.{all_of, volume_requests}
 use Rattle.wol_config.specs.declared.config.Config.{Config}
 use Rattle.manager.specs.Stands.{notes_of}
@@ -32,34 +34,44 @@ use Rattle.rack.specs.Closes.{AreListedOf, HasFaultyPart, IsClosedVolume, IsOnLo
 use Rattle.rack.specs.Racks.{base_of_station}
 use Rattle.rack.specs.Rests.{IsImageOut}
 use Rattle.rack.specs.declared.rack.ImageRest.{ImageRest}
-use Rattle.replay.specs.Headline.{IsOneAction}
 use Rattle.replay.specs.Histories.{AreHistories, BeginAsRead, History, is_broken, is_broken_at}
 use Rattle.replay.specs.Leaves.{LeavesImages, records_in, written_array}
 use Rattle.open_rack.proofs.AllOut.{accepted_all, recovered_all}
-use Rattle.replay.proofs.FlightServed.{HasFlight, IsInFlight, next_write, no_write}
+use Rattle.replay.proofs.FlightServed.{HasFlight, IsInFlight, next_requests, no_write}
 use Rattle.replay.proofs.HistoriesLeft.{IsHistoryAt}
 use Rattle.replay.proofs.RacksServed.{a_member}
 
--- ---- The next request
+-- ---- The next requests
 
-next_in : {X : Type 0} (xs : List X) (k : ℕ) (x : X) → slice_get xs k ≡ Some x → x ∷ [] ≡ take 1 (drop k xs)
-next_in [] k x here = absurd (cc here)
-next_in (y ∷ ys) zero x here = let same : y ≡ x = cc here in ap (λ z. z ∷ []) (sym same)
-next_in (y ∷ ys) (suc k) x here = next_in ys k x here
+of_its_volume : (v : ℕ) (xs : List Answered) → AllByRecursion (λ (a : Answered). a.request.volume ≡ v) xs → AllByRecursion (λ (r : Request). r.volume ≡ v) (requests_in xs)
+of_its_volume v [] all = tt
+of_its_volume v (x ∷ xs) (first, others) = (first, of_its_volume v xs others)
 
-of_its_volume : (v : ℕ) (xs : List Answered) (k : ℕ) (r : Request) → AllByRecursion (λ (a : Answered). a.request.volume ≡ v) xs → slice_get (requests_in xs) k ≡ Some r → r.volume ≡ v
-of_its_volume v [] k r all here = absurd (cc here)
-of_its_volume v (x ∷ xs) zero r (first, others) here = let same : x.request ≡ r = cc here in ap (λ (y : Request). y.volume) (sym same) ∙ first
-of_its_volume v (x ∷ xs) (suc k) r (first, others) here = of_its_volume v xs k r others here
+all_front : {X : Type 0} (P : X → Type 0) (k : ℕ) (xs : List X) → AllByRecursion P xs → AllByRecursion P (take k xs)
+all_front P zero xs all = tt
+all_front P (suc k) [] all = tt
+all_front P (suc k) (x ∷ xs) (first, others) = (first, all_front P k xs others)
 
-one_payload : (v : ℕ) (r : Request) → r.volume ≡ v → r.kind ≡ kind.Write → payloads v (r ∷ []) ≡ payload r ∷ []
-one_payload v r volume is = ap (λ k. cons_option (write_to v r k) []) is ∙ ap (λ (t : Bool). cons_option (cond t (Some (payload r)) None) []) (eq-eqb r.volume v volume)
+all_behind : {X : Type 0} (P : X → Type 0) (k : ℕ) (xs : List X) → AllByRecursion P xs → AllByRecursion P (drop k xs)
+all_behind P zero xs all = all
+all_behind P (suc k) [] all = tt
+all_behind P (suc k) (x ∷ xs) (first, others) = all_behind P k xs others
 
--- a cut of no writes in flight is the array
-pub no_cut : (a : List Block) (ws : List Write) (x : List Block) → IsCut a ws [] x → x ≡ after a ws
-no_cut a ws x (whole zero le same) = same ∙ ap (after a) (append-nil ws)
-no_cut a ws x (whole (suc k) le same) = absurd (omega (arith, le))
-no_cut a ws x (torn w one home blend) = absurd (cc one)
+-- what requests of a volume write to it, each of them a write
+written_to : (v : ℕ) (rs : List Request) → AllByRecursion (λ (r : Request). r.volume ≡ v) rs → AllByRecursion (λ (r : Request). r.kind ≡ kind.Write) rs → payloads v rs ≡ map payload rs
+written_to v [] here writes = refl
+written_to v (r ∷ rs) (volume, here) (is, writes) =
+    ap (λ k. cons_option (write_to v r k) (payloads v rs)) is
+    ∙ ap (λ (t : Bool). cons_option (cond t (Some (payload r)) None) (payloads v rs)) (eq-eqb r.volume v volume)
+    ∙ ap (λ (l : List Write). payload r ∷ l) (written_to v rs here writes)
+
+-- the writes in flight are those of the next requests of the volume
+flown_to : (v : ℕ) (answers : List Answered) (ws : List Write) (is : IsInFlight (answers_of v answers) ws) → map unversioned ws ≡ payloads v is.requests
+flown_to v answers ws is =
+    let own = answers_of v answers in
+    let here = all_front (λ (r : Request). r.volume ≡ v) (length is.requests) (next_requests own)
+    (all_behind (λ (r : Request). r.volume ≡ v) (length (answered_in own)) (requests_in own) (of_its_volume v own (all_of v answers))) in
+    is.same ∙ sym (written_to v is.requests (subst (λ (l : List Request). AllByRecursion (λ (r : Request). r.volume ≡ v) l) (sym is.next) here) is.are_writes)
 
 pub none_or : {X : Type 0} (x : Option X) → (IsTrue (is_some x) → ⊥) → x ≡ None
 none_or None never = refl
@@ -158,14 +170,18 @@ module _ {D : Type 0} (tells : Bool) (config : Config) (out : List (Option (Imag
     action_here = subst (λ (x : History). IsOneAction v (drop (answered_count answers v) (requests_in (answers_of v answers))) (in_flight (entries_of x.notes))) (sym hist.is) (by (flight_of entries) refl)
       where
         of_flight : (ws : List Write) → IsInFlight (answers_of v answers) ws → IsOneAction v (drop (answered_count answers v) (requests_in (answers_of v answers))) ws
-        of_flight [] no_write = inl refl
-        of_flight (w ∷ (u ∷ ws)) flight = elim flight [ ]
-        of_flight (w ∷ []) (next_write _ r is) = inr (ap (λ (x : Write). x ∷ []) is.same
-            ∙ sym (one_payload v r (of_its_volume v (answers_of v answers) (answered_count answers v) r (all_of v answers) is.next) is.kind_is)
-            ∙ ap (payloads v) (next_in (requests_in (answers_of v answers)) (answered_count answers v) r is.next))
+        of_flight ws is = record {
+          count = length is.requests;
+          asked = flown_to v answers ws is ∙ ap (payloads v) is.next;
+          together = elim is.together [
+            | inl few ↦ inl few
+            | inr logged ↦ inr (subst (λ (l : List Request). AllByRecursion (λ (r : Request). r.kind ≡ kind.Write) l) is.next is.are_writes, logged)
+          ];
+        }
 
         by : (o : Option (List Write)) → flight_of entries ≡ o → IsOneAction v (drop (answered_count answers v) (requests_in (answers_of v answers))) (in_flight entries)
-        by None none = inl (ap (λ (o : Option (List Write)). unwrap_or o []) none)
+        by None none = subst (λ (l : List Write). IsOneAction v (drop (answered_count answers v) (requests_in (answers_of v answers))) l) (sym (ap (λ (o : Option (List Write)). unwrap_or o []) none))
+            (of_flight [] (no_write (answers_of v answers)))
         by (Some ws) some = subst (λ (l : List Write). IsOneAction v (drop (answered_count answers v) (requests_in (answers_of v answers))) l) (sym (ap (λ (o : Option (List Write)). unwrap_or o []) some))
             (of_flight ws (flew v station hist.closed hist.there ws some))
 
@@ -177,19 +193,13 @@ module _ {D : Type 0} (tells : Bool) (config : Config) (out : List (Option (Imag
         no_cut array asked_writes (recovered_from (shapes_of config) images v) (cuts_are_plain v array (recovered_from (shapes_of config) images v) answers entries [] (are.first v) answered cut)
 
     flying : (ws : List Write) → flight_of entries ≡ Some ws → IsInFlight (answers_of v answers) ws → FlightOf config answers v (IsTrue (is_broken_at hs v)) entry left_
-    flying [] some no_write = record { requests = []; follow = refl; are_writes = tt; unless = λ whole. refl; cuts = cut_is [] (inl some) }
-    flying (w ∷ (u ∷ ws)) some flight = elim flight [ ]
-    flying (w ∷ []) some (next_write _ r is) =
-        let next : slice_get (of_volume v (requests_in answers)) (answered_count answers v) ≡ Some r = ap (λ (l : List Request). slice_get l (answered_count answers v)) (sym (volume_requests v answers)) ∙ is.next in
-        let volume : r.volume ≡ v = of_its_volume v (answers_of v answers) (answered_count answers v) r (all_of v answers) is.next in
-        let written : map unversioned (w ∷ []) ≡ payloads v (r ∷ []) = ap (λ (x : Write). x ∷ []) is.same ∙ sym (one_payload v r volume is.kind_is) in
-        record {
-          requests = r ∷ [];
-          follow = next_in (of_volume v (requests_in answers)) (answered_count answers v) r next;
-          are_writes = (is.kind_is, tt);
-          unless = λ whole. absurd (whole (broken_is ∙ ap is_some some));
-          cuts = λ lt images left. subst (λ (l : List Write). IsCut array asked_writes l (recovered_from (shapes_of config) images v)) written (cut_is (w ∷ []) (inl some) lt images left);
-        }
+    flying ws some is = record {
+      requests = is.requests;
+      follow = is.next ∙ ap (λ (l : List Request). take (length is.requests) (drop (answered_count answers v) l)) (volume_requests v answers);
+      are_writes = is.are_writes;
+      unless = λ whole. absurd (whole (broken_is ∙ ap is_some some));
+      cuts = λ lt images left. subst (λ (l : List Write). IsCut array asked_writes l (recovered_from (shapes_of config) images v)) (flown_to v answers ws is) (cut_is ws (inl some) lt images left);
+    }
 
     flight_here : FlightOf config answers v (IsTrue (is_broken_at hs v)) entry left_
     flight_here = by (flight_of entries) refl

@@ -1,5 +1,5 @@
 -- In the last window all requests of a volume were answered, but where a part of it failed, its versions ended or there was no memory.
-use Rattle.std.proofs.Common.{◌≡◌, ◌≢◌, ◌<◌, ◌≤◌, ◌==◌, ◌^◌, ℕ, Bool, true, false, cond, List, [], ◌∷◌, ◌++◌, length, map, Option, Some, refl, sym, ap, subst, ◌∙◌, append_assoc, append-nil, arith}
+use Rattle.std.proofs.Common.{◌≡◌, ◌≢◌, ◌<◌, ◌≤◌, ◌==◌, ◌^◌, ℕ, zero, suc, Bool, true, false, cond, List, [], ◌∷◌, ◌++◌, length, map, Option, Some, refl, sym, ap, subst, ◌∙◌, append_assoc, append-nil, arith}
 use Rattle.std.specs.Prelude.{slice_index_or, if◌then◌else◌, ◌||◌}
 use Rattle.std.specs.List.{list_any, AllByRecursion}
 use Rattle.std.specs.Option.{option_or}
@@ -10,13 +10,14 @@ use Rattle.wol_promise.specs.Ruled.{Noted}
 use Rattle.run_laws.specs.Answers.{answers_of}
 use Rattle.run_laws.specs.Laws.{AreAllAnswered}
 use Rattle.manager.specs.Stands.{notes_of}
+use Rattle.manager.specs.declared.part.Place.{Place}
 use Rattle.manager.specs.declared.part.ReadRefusal.TheVariants as read
 use Rattle.manager.specs.declared.part.StepFault.{StepFault}
 use Rattle.manager.specs.declared.part.WriteRefusal.TheVariants as write
 use Rattle.report.specs.declared.fault.Fault.{Fault}
 use Rattle.report.specs.declared.fault.Fault.TheVariants.{Memory}
 use Rattle.trace_windows.specs.declared.request.Request.{Request}
-use Rattle.request_turns.specs.Entries.{AreMade, TellsFault}
+use Rattle.request_turns.specs.Entries.{AreEntriesOf, AreMade, TellsFault}
 use Rattle.request_turns.specs.Turns.{ManagerPass, IsBroken, coded, notes_seen}
 use Rattle.request_turns.specs.declared.outcome.Outcome.{Outcome}
 use Rattle.request_turns.specs.declared.outcome.Outcome.TheVariants as outcome
@@ -34,6 +35,7 @@ use Rattle.replay.specs.Served.{ServedFromStart, ServedWindow, WereServed}
 use Rattle.replay.proofs.AnswersServed.{own_answers}
 use Rattle.replay.proofs.EntriesOwn.{all_mine, notes_back}
 use Rattle.replay.proofs.FirstsServed.{was_worked}
+use Rattle.replay.proofs.Grouped.{all_wrote, answered_then, made_by_cases, stops_behind}
 
 -- ---- Refused requests
 
@@ -49,26 +51,39 @@ pub part_left : {X : Type 0} (P : X → Type 0) (xs ys : List X) → AllByRecurs
 part_left P [] ys all = tt
 part_left P (x ∷ xs) ys all = (all.0, part_left P xs ys all.1)
 
-all_unless : (view : List ℕ) (seen : List Noted) (most : ℕ) → most < 2 ^ 63 → (IsBroken seen → ⊥) → (rs : List Request) (os : List Outcome) (notes : List Noted) → AreMade view rs os notes
-    → StopsAtRefusal true os → AllByRecursion (TellsFault seen) os → list_any lacked_memory os ≡ false → AllByRecursion (IsBelow most) notes → AreAllAnswered (answers_to rs os)
-all_unless view seen most few whole [] os notes made stops faults memory below = tt
-all_unless view seen most few whole (r ∷ rs) [] notes made stops faults memory below = tt
-all_unless view seen most few whole (r ∷ rs) (outcome.Read mark sources ∷ os) notes (first, rest, same, entries, others) stops faults memory below =
-    (refl, all_unless view seen most few whole rs os rest others stops.1 faults.1 memory (part_right (IsBelow most) first rest (subst (λ l. AllByRecursion (IsBelow most) l) same below)))
-all_unless view seen most few whole (r ∷ rs) (outcome.Wrote place drained ∷ os) notes (first, rest, same, entries, others) stops faults memory below =
-    (refl, all_unless view seen most few whole rs os rest others stops.1 faults.1 memory (part_right (IsBelow most) first rest (subst (λ l. AllByRecursion (IsBelow most) l) same below)))
-all_unless view seen most few whole (r ∷ rs) (outcome.NoRead (read.DiskFault p) ∷ os) notes made stops faults memory below = absurd (whole (down_breaks p seen faults.0))
-all_unless view seen most few whole (r ∷ rs) (outcome.NoRead (read.Down p) ∷ os) notes made stops faults memory below = absurd (whole (down_breaks p seen faults.0))
-all_unless view seen most few whole (r ∷ rs) (outcome.NoWrite write.Full ∷ os) notes (first, rest, same, (n, one, full), others) stops faults memory below = absurd full.1
-all_unless view seen most few whole (r ∷ rs) (outcome.NoWrite (write.DiskFault p) ∷ os) notes made stops faults memory below = absurd (whole (down_breaks p seen faults.0))
-all_unless view seen most few whole (r ∷ rs) (outcome.NoWrite (write.Down p) ∷ os) notes made stops faults memory below = absurd (whole (down_breaks p seen faults.0))
-all_unless view seen most few whole (r ∷ rs) (outcome.NoWrite write.VersionsSpent ∷ os) notes (first, rest, same, (n, one, spent), others) stops faults memory below =
-    let here : AllByRecursion (IsBelow most) (n ∷ []) = subst (λ l. AllByRecursion (IsBelow most) l) one (part_left (IsBelow most) first rest (subst (λ l. AllByRecursion (IsBelow most) l) same below)) in
-    let low : n.look.next ≤ most = here.0 in
-    let next : n.look.next ≡ 2 ^ 63 = spent.1.1 in
-    absurd (omega (arith, low, next, few))
-all_unless view seen most few whole (r ∷ rs) (outcome.NoWrite write.NoMemory ∷ os) notes made stops faults memory below = absurd (cc memory)
-all_unless view seen most few whole (r ∷ rs) (outcome.NotRun ∷ os) notes made stops faults memory below = absurd (cc (stops.0))
+module _ (view : List ℕ) (seen : List Noted) (most : ℕ) (few : most < 2 ^ 63) (whole : IsBroken seen → ⊥) where
+  request_unless : (r : Request) (rs : List Request) (o : Outcome) (os : List Outcome) (first : List Noted) → AreEntriesOf view r rs o first → StopsAtRefusal true (o ∷ os) → TellsFault seen o
+      → list_any lacked_memory (o ∷ os) ≡ false → AllByRecursion (IsBelow most) first → (StopsAtRefusal true os → list_any lacked_memory os ≡ false → AreAllAnswered (answers_to rs os)) → AreAllAnswered (answers_to (r ∷ rs) (o ∷ os))
+  request_unless r rs (outcome.Read mark sources) os first entries stops fault memory below further = (refl, further stops.1 memory)
+  request_unless r rs (outcome.Wrote place drained) os first entries stops fault memory below further = (refl, further stops.1 memory)
+  request_unless r rs (outcome.NoRead (read.DiskFault p)) os first entries stops fault memory below further = absurd (whole (down_breaks p seen fault))
+  request_unless r rs (outcome.NoRead (read.Down p)) os first entries stops fault memory below further = absurd (whole (down_breaks p seen fault))
+  request_unless r rs (outcome.NoWrite write.Full) os first (n, is_one, full) stops fault memory below further = absurd full.1
+  request_unless r rs (outcome.NoWrite (write.DiskFault p)) os first entries stops fault memory below further = absurd (whole (down_breaks p seen fault))
+  request_unless r rs (outcome.NoWrite (write.Down p)) os first entries stops fault memory below further = absurd (whole (down_breaks p seen fault))
+  request_unless r rs (outcome.NoWrite write.VersionsSpent) os first (n, is_one, spent) stops fault memory below further =
+      let here : AllByRecursion (IsBelow most) (n ∷ []) = subst (λ l. AllByRecursion (IsBelow most) l) is_one below in
+      let low : n.look.next ≤ most = here.0 in
+      let next : n.look.next ≡ 2 ^ 63 = spent.1.1 in
+      absurd (omega (arith, low, next, few))
+  request_unless r rs (outcome.NoWrite write.NoMemory) os first entries stops fault memory below further = absurd (cc memory)
+  request_unless r rs outcome.NotRun os first entries stops fault memory below further = absurd (cc (stops.0))
+
+  -- several writes in one entry lacked no memory
+  memory_behind : (n : ℕ) (place : Place) (os : List Outcome) → list_any lacked_memory (all_wrote n place ++ os) ≡ list_any lacked_memory os
+  memory_behind zero place os = refl
+  memory_behind (suc n) place os = memory_behind n place os
+
+  all_unless : (rs : List Request) (os : List Outcome) (notes : List Noted) → AreMade view rs os notes → StopsAtRefusal true os → AllByRecursion (TellsFault seen) os → list_any lacked_memory os ≡ false
+      → AllByRecursion (IsBelow most) notes → AreAllAnswered (answers_to rs os)
+  all_unless rs os notes made =
+      made_by_cases view (λ rs os notes. StopsAtRefusal true os → AllByRecursion (TellsFault seen) os → list_any lacked_memory os ≡ false → AllByRecursion (IsBelow most) notes → AreAllAnswered (answers_to rs os))
+      (λ stops faults memory below. tt)
+      (λ r rs o os first rest entries others further stops faults memory below.
+      request_unless r rs o os first entries stops faults.0 memory (part_left (IsBelow most) first rest below) (λ on none. further on faults.1 none (part_right (IsBelow most) first rest below)))
+      (λ group rs place os n rest two entry further stops faults memory below.
+      answered_then group rs place os
+      (further (stops_behind (length group) place os stops) (part_right (TellsFault seen) (all_wrote (length group) place) os faults) (sym (memory_behind (length group) place os) ∙ memory) below.1)) rs os notes made
 
 -- ---- Want of memory
 

@@ -4,6 +4,7 @@ pub mod Refused
 pub mod Waiting
 pub mod Serving
 pub mod AnswersServed
+pub mod Grouped
 pub mod FirstsServed
 pub mod LinesTold
 pub mod RacksServed
@@ -38,6 +39,7 @@ pub mod Statuses
 pub mod RunCounts
 pub mod RunKept
 pub mod RunReplayed
+pub mod ViewsKept
 pub mod RunImages
 pub mod RunFlown
 pub mod RunClosed

@@ -16,7 +16,7 @@ use Rattle.report.specs.declared.fault.Fault.TheVariants.{Memory}
 use Rattle.rack.specs.Closes.{AreClosedVolumes, AreLeftOfParts, HasFaultAt, HasFaultIn, IsClosedSpindle, IsQuiet, LeavesVolumes, ListsFaulty}
 use Rattle.rack.specs.Opens.{AreRefused, BeganWith, HasFaulty, KeepsAllSound, WereThere}
 use Rattle.rack.specs.Owners.{HadRefused}
-use Rattle.rack.specs.Racks.{AreUnused, IsRack, IsUnused}
+use Rattle.rack.specs.Racks.{AreUnused, IsRack, IsUnused, KeepToViews}
 use Rattle.rack.specs.Rests.{IsImageOut}
 use Rattle.rack.specs.declared.rack.Rack.{Rack}
 use Rattle.rack.specs.declared.rack.Rest.{Rest}
@@ -24,11 +24,12 @@ use Rattle.rack.specs.declared.volume_fault.VolumeFault.TheVariants as fault
 use Rattle.spin_model.specs.Spindles.{SpindleView}
 use Rattle.request_workers.specs.Begun.{SpindlePass}
 use Rattle.request_workers.specs.Stations.{AreStations}
-use Rattle.replay.specs.Headline.{AreAllOpen}
+use Rattle.replay.specs.Headlined.{AreAllOpen}
 use Rattle.replay.specs.NotOpened.{LeavesBay}
 use Rattle.replay.specs.Prints.{PrintsText, all_amounts}
 use Rattle.replay.specs.Replays.{Replayed, Replays, ran}
 use Rattle.open_rack.specs.NotOpened.{first_closed}
+use Rattle.replay.specs.Histories.{view_at}
 use Rattle.replay.specs.Runs.{RunsIn, closed, locks_of, no_memory, served}
 use Rattle.replay.specs.Sessions.{ServesSome, ServesWhole}
 use Rattle.replay.specs.declared.counting.Counted.{Counted}
@@ -38,10 +39,12 @@ use Rattle.replay.specs.declared.stop.Stop.{Stop}
 use Rattle.replay.specs.declared.stop.Stop.TheVariants as stop
 use Rattle.open_rack.proofs.FirstClosed.{none_closed, opened_out}
 use Rattle.rack.proofs.FailedParts.{gained_parts}
+use Rattle.replay.proofs.HistoriesLeft.{histories_of}
 use Rattle.replay.proofs.RacksServed.{at_place, each_station, station_count}
 use Rattle.replay.proofs.RunClosed.{leaves_bay, runs_closed}
 use Rattle.replay.proofs.RunFlown.{began_still, run_sound}
 use Rattle.replay.proofs.RunReplayed.{replays_none, replays_some, replays_whole}
+use Rattle.replay.proofs.ViewsKept.{keep_views, locks_count}
 
 -- what opening says of a rack
 pub record HasOpened {D : Type 0} (state : D → State) (tells : Bool) (config : Config) (entry opened : BayState) (r : Rack D) : Type 0 where
@@ -110,6 +113,10 @@ module _ {D S : Type 0} (T : Type 0) (state : D → State) (tells : Bool) (left 
         still None began = tt
         still (Some t) began = began_still state config r q rest shared locks stations news t began
 
+    -- its volumes kept to the views that they were opened with
+    kept_views : q.rest ≡ r.rest → locks_of q.stations.items ≡ locks_of r.stations.items → AreStations q.stations.items → KeepToViews (view_at (histories_of tells config q.rest.images.items opened left_ q.stations.items c.stations.0)) q
+    kept_views rest locks news = keep_views state tells config opened left_ r q o.is rest locks stations news count (locks_count q.stations.items r.stations.items locks) c.stations.0
+
   bay_left : q ≡ r → LeavesBay tells state config entry left_
   bay_left same =
       let closing = subst (λ (x : Rack D). HasClosedRack state tells config opened left_ x Q) same c in
@@ -126,7 +133,8 @@ module _ {D S : Type 0} (T : Type 0) (state : D → State) (tells : Bool) (left 
       let rest : q.rest ≡ r.rest = ap (λ (x : Rack D). x.rest) none.same in
       let news : AreStations q.stations.items = subst (λ (x : Rack D). AreStations x.stations.items) (sym none.same) (stations first) in
       subst (λ (x : Stop). Ran (Err x) faults' printed') same
-      (replays_none T state tells left config options start now entry opened left_ r q o.is (count first) (some first) (all_out first) o.began o.gained Q c.told o.counts c.stations.0 c.stations.1 o.fresh (o.unfaulty (all_out first))
+      (replays_none T state tells left config options start now entry opened left_ r q o.is (count first) (some first) (all_out first) o.began o.gained Q c.told o.counts c.stations.0 c.stations.1
+      (kept_views first rest (ap (λ (x : Rack D). locks_of x.stations.items) none.same) news) o.fresh (o.unfaulty (all_out first))
       (sound_still first rest (ap (λ (x : Rack D). x.shared) none.same) (ap (λ (x : Rack D). locks_of x.stations.items) none.same) news) (all_open first) faults faults' printed printed' none news c.spindles c.count (c.count ∙ length-map config.volumes.items (shape_in config)) c.each o.fresh_keepers)
   served_err result (served done first before moved from) e is open_ = at done from.served is
     where
@@ -136,7 +144,8 @@ module _ {D S : Type 0} (T : Type 0) (state : D → State) (tells : Bool) (left 
       at (Err y) w is =
           let same : y ≡ e = cc is in
           subst (λ (x : Stop). Ran (Err x) faults' printed') same
-          (replays_some T state tells left config options start now entry opened left_ r q o.is (count first) (some first) (all_out first) o.began o.gained Q c.told o.counts c.stations.0 c.stations.1 o.fresh (o.unfaulty (all_out first))
+          (replays_some T state tells left config options start now entry opened left_ r q o.is (count first) (some first) (all_out first) o.began o.gained Q c.told o.counts c.stations.0 c.stations.1
+          (kept_views first (ap (λ (x : Rack D). x.rest) from.only) (from.locks ∙ moved.locks) from.can.each) o.fresh (o.unfaulty (all_out first))
           (sound_still first (ap (λ (x : Rack D). x.rest) from.only) (ap (λ (x : Rack D). x.shared) from.only) (from.locks ∙ moved.locks) from.can.each) (all_open first) faults faults' printed printed' before moved done from y w c.spindles c.count (c.count ∙ length-map config.volumes.items (shape_in config)) c.each o.fresh_keepers)
 
   pub replayed_err : (result : Result Counted Stop) → RunsIn tells left config options start now r q faults faults' printed printed' result → (e : Stop) → result ≡ Err e → Comes (Err e) faults' printed'
@@ -161,7 +170,8 @@ module _ {D S : Type 0} (T : Type 0) (state : D → State) (tells : Bool) (left 
       at (Ok d) w is =
           let same : d ≡ counted = cc is in
           let here = subst (λ (x : Counted). ServesWhole tells left config options start now before r.keepers.items from.after q.keepers.items x faults faults' printed printed') same w in
-          replays_whole T state tells left config options start now entry opened left_ r q o.is (count first) (some first) (all_out first) o.began o.gained Q c.told o.counts c.stations.0 c.stations.1 o.fresh (o.unfaulty (all_out first))
+          replays_whole T state tells left config options start now entry opened left_ r q o.is (count first) (some first) (all_out first) o.began o.gained Q c.told o.counts c.stations.0 c.stations.1
+          (kept_views first (ap (λ (x : Rack D). x.rest) from.only) (from.locks ∙ moved.locks) from.can.each) o.fresh (o.unfaulty (all_out first))
           (sound_still first (ap (λ (x : Rack D). x.rest) from.only) (ap (λ (x : Rack D). x.shared) from.only) (from.locks ∙ moved.locks) from.can.each) (all_open first) faults faults' printed printed' before moved whole from counted here spindles sized each closed_ o.fresh_keepers done faults'' printed'' prints
 
   pub replayed_ok : (result : Result Counted Stop) → RunsIn tells left config options start now r q faults faults' printed printed' result → (counted : Counted) → result ≡ Ok counted → (spindles : List SpindleView)

@@ -20,7 +20,7 @@ use Rattle.volume_images.specs.Accepted.{HasHead, head_place}
 use Rattle.volume_images.specs.Left.{IsTold}
 use Rattle.volume_images.specs.Volumes.{shape_in, shapes_of}
 use Rattle.rack.specs.Opens.{BeganWith, HadSegmentBefore, IsGone, IsLeftHere, KeepsAllSound, WereThere}
-use Rattle.rack.specs.Owners.{HadRefused, IsBegun, images_taken}
+use Rattle.rack.specs.Owners.{BeganInPlace, HadRefused, IsBegun, images_taken}
 use Rattle.rack.specs.Racks.{AreUnused, base_of_station}
 use Rattle.rack.specs.Rests.{IsSegmentHere, held_here, image_here}
 use Rattle.rack.specs.declared.rack.ImageRest.{ImageRest}
@@ -62,6 +62,15 @@ module _ {D : Type 0} (state : D → State) (config : Config) (r q : Rack D) (re
       subst (λ (x : Rest D). IsBegun config (images_taken config x.images.items t) (base_of_station (slice_index_or q.stations.items k d)).volume.began) (sym rest)
       (subst (λ (b : ManagerBase). IsBegun config (images_taken config r.rest.images.items t) b.volume.began) (sym base) here)
 
+  placed_still : (t : Told) → BeganWith state config t r → (k : ℕ) (d : Station D) → k < length q.stations.items → BeganInPlace config (images_taken config q.rest.images.items t) (base_of_station (slice_index_or q.stations.items k d))
+  placed_still t with k d lt =
+      let (old, was) = a_member r.stations.items k (omega (arith, lt, same_count)) in
+      let (within, old_is) = at_place r.stations.items k old was in
+      let base : base_of_station (slice_index_or q.stations.items k d) ≡ base_of_station old = base_same r.stations.items q.stations.items locks k old (slice_index_or q.stations.items k d) was (there_at q.stations.items k d lt) in
+      let here = subst (λ (s : Station D). BeganInPlace config (images_taken config r.rest.images.items t) (base_of_station s)) (old_is old) (with.placed k old within) in
+      subst (λ (x : Rest D). BeganInPlace config (images_taken config x.images.items t) (base_of_station (slice_index_or q.stations.items k d))) (sym rest)
+      (subst (BeganInPlace config (images_taken config r.rest.images.items t)) (sym base) here)
+
   gone_still : (shape : Shape) (before : Image) (i : ℕ) → IsGone (length (shapes_of config)) shape before r.stations.items i → IsGone (length (shapes_of config)) shape before q.stations.items i
   gone_still shape before i gone = record { was = gone.was; had = gone.had; said = said gone.said }
     where
@@ -79,6 +88,7 @@ module _ {D : Type 0} (state : D → State) (config : Config) (r q : Rack D) (re
   pub began_still : (t : Told) → BeganWith state config t r → BeganWith state config t q
   began_still t with = record {
     stations = begun_still t with;
+    placed = placed_still t with;
     left = subst (λ (x : Rest D). (k : ℕ) (v : VolumeConf) (before : Image) (image : ImageRest D) → slice_get config.volumes.items k ≡ Some v → at_name v.name t.images ≡ Some before
         → image_here x.images.items k ≡ Some image → IsLeftHere state (shape_in config v) before image) (sym rest) with.left;
     held = subst (λ (x : Rest D). (w k i : ℕ) (v : VolumeConf) (before : Image) (p : Spun D) → slice_get config.volumes.items k ≡ Some v → at_name v.name t.images ≡ Some before

@@ -27,8 +27,8 @@ use Rattle.replay.specs.Endings.{fault_of_window}
 use Rattle.replay.proofs.HistoriesLeft.{each_closed, histories_of}
 use Rattle.rack.specs.Closes.{IsClosedSpindle, IsClosedVolume, SharePools}
 use Rattle.rack.specs.Opens.{BeganWith, HasFaulty, KeepsAllSound}
-use Rattle.rack.specs.PoolUses.{ArePools, PassesEmpty}
-use Rattle.rack.specs.Racks.{AreUnused, IsClosable, IsRack, IsUnused, base_of_station}
+use Rattle.rack.specs.PoolUses.{ArePools, PassesEmpty, TakesFew}
+use Rattle.rack.specs.Racks.{AreUnused, IsClosable, IsRack, IsUnused, KeepToViews, base_of_station}
 use Rattle.rack.specs.Rests.{IsImageOut, image_here}
 use Rattle.rack.proofs.Members.{a_value}
 use Rattle.rack.specs.declared.rack.Rack.{Rack}
@@ -42,14 +42,14 @@ use Rattle.request_workers.specs.declared.request.Reclaim.{Reclaim}
 use Rattle.request_workers.specs.declared.request.Reclaim.TheVariants as reclaim
 use Rattle.replay.specs.Ended.{memory}
 use Rattle.replay.specs.Givens.{HasGiven}
-use Rattle.replay.specs.Headline.{AreAllOpen}
-use Rattle.replay.specs.Histories.{AreHistories, CountAnswered, History, answers_in, is_broken_at, next_at}
+use Rattle.replay.specs.Headlined.{AreAllOpen}
+use Rattle.replay.specs.Histories.{AreHistories, CountAnswered, History, answers_in, is_broken_at, next_at, view_at}
 use Rattle.replay.specs.Prints.{CutsLines, PrintsText, all_amounts}
 use Rattle.replay.specs.Replays.{Replays, status_in}
 use Rattle.replay.specs.Runs.{RunsNone, ServesFrom}
 use Rattle.replay.specs.Served.{Further, ServedFromStart, ServedWindow, StartsOnce, WasNotRun, begins_alone, fails_to_begin, is_none_served, none_further}
 use Rattle.replay.specs.Sessions.{AreWindowsOf, EndsBy, ServesSome, ServesWhole, WentWell, at_end, lines_of_window}
-use Rattle.replay.specs.Summed.{HaveAccounts, HaveShortAccounts, IsAccountBy, IsCutShort, PrintsRun, column, lines_asked, of_all, of_none, started_uses}
+use Rattle.replay.specs.Summed.{HaveAccounts, HaveShortAccounts, IsAccountBy, IsCutShort, IsSummaryOf, PrintsRun, column, lines_asked, of_all, of_none, started_uses}
 use Rattle.replay.specs.declared.counting.Counted.{Counted}
 use Rattle.replay.specs.declared.given.Given.{Given}
 use Rattle.replay.specs.declared.session.Options.{Options}
@@ -217,8 +217,12 @@ module _ {D S : Type 0} (T : Type 0) (state : D → State) (tells : Bool) (left 
     (is : IsRack state config opened r) (counted_stations : length r.stations.items ≡ length (shapes_of config)) (some : 1 ≤ length r.stations.items) (all_out : (k : ℕ) → k < length (shapes_of config) → IsImageOut r.rest.images.items k)
     (began : IsTrue tells → IfSome entry.told (λ t. BeganWith state config t r)) (told_open : IsTold HasFaulty entry.told opened.told)
     (Q : Told → Told → Type 0) (told_left : IsTrue tells → IsTold Q opened.told left_.told) (opening : entry.faults ≤ opened.faults)
-    (closed : All (IsClosedVolume tells config q.rest.images.items opened left_) q.stations.items) (shared : SharePools tells config opened left_ q closed) (fresh : AreUnused r.stations.items)
+    (closed : All (IsClosedVolume tells config q.rest.images.items opened left_) q.stations.items) (shared : SharePools tells config opened left_ q closed)
+    (keep : KeepToViews (view_at (histories_of tells config q.rest.images.items opened left_ q.stations.items closed)) q) (fresh : AreUnused r.stations.items)
     (unfaulty : IsTold (λ x y. y.faulty ≡ x.faulty) entry.told opened.told) (sound : IsTrue tells → IsTold (KeepsAllSound config) entry.told left_.told) (open_ : IsTrue tells → IfSome entry.told (λ t. AreAllOpen config t)) (faults faults' : ℕ) (printed printed' : Option (List ℕ)) where
+  abbrev views : ℕ → List ℕ
+  views = view_at (histories_of tells config q.rest.images.items opened left_ q.stations.items closed)
+
   -- the pools began with the segments as the images had them
   pools_at : q.shared ≡ r.shared → (t : Told) → BeganWith state config t r → ArePools config t shared.pools
   pools_at same t with k v conf =
@@ -239,6 +243,11 @@ module _ {D S : Type 0} (T : Type 0) (state : D → State) (tells : Bool) (left 
   passed_by : (hs : List History) → hs ≡ histories_of tells config q.rest.images.items opened left_ q.stations.items closed → (v : ℕ) (h : History) → slice_get hs v ≡ Some h → PassesEmpty shared.pools h.base h.notes
   passed_by hs same v h here =
       each_closed tells config q.rest.images.items opened left_ (λ b notes. PassesEmpty shared.pools b notes) q.stations.items closed shared.passed v h (ap (λ (l : List History). slice_get l v) (sym same) ∙ here)
+
+  -- no more segments were taken than were written to logs
+  taken_by : (hs : List History) → hs ≡ histories_of tells config q.rest.images.items opened left_ q.stations.items closed → (v : ℕ) (h : History) → slice_get hs v ≡ Some h → TakesFew shared.pools h.base h.notes
+  taken_by hs same v h here =
+      each_closed tells config q.rest.images.items opened left_ (λ b notes. TakesFew shared.pools b notes) q.stations.items closed shared.taken v h (ap (λ (l : List History). slice_get l v) (sym same) ∙ here)
 
   -- there was no memory to serve
   pub replays_none : RunsNone tells left config options start now r q faults faults' printed printed' → AreStations q.stations.items → (spindles : List SpindleView) → length spindles ≡ length (shapes_of config)
@@ -272,6 +281,7 @@ module _ {D S : Type 0} (T : Type 0) (state : D → State) (tells : Bool) (left 
         pools = shared.pools;
         are_pools = pools_began (ap (λ (x : Rack D). x.shared) runs.same);
         passed = passed_by kept.kept is_none;
+        taken = taken_by kept.kept is_none;
         counts = counts_whole [] [] kept.kept kept.well 9 (λ v. tt);
         placed = placed_by tells config options.reclaim entry opened left_ [] [] [] kept [] (worked is_none runs stations);
         reclaimed = subst (λ (hs : List History). CountsReclaimed [] hs) (sym is_none) (none_reclaimed tells config q.rest.images.items opened left_ q.stations.items closed (numbered_all q.stations.items stations)
@@ -279,15 +289,15 @@ module _ {D S : Type 0} (T : Type 0) (state : D → State) (tells : Bool) (left 
         reclaims = kept.reclaims;
         awake = [];
         worked = worked is_none runs stations;
-        disks = inl (record {
+        disks = subst (λ (hs : List History). HaveAccounts config (view_at hs) [] [] [] ⊎ ((status_in {T = T} (Err (stop.Fault Memory)) ≡ 9) × HaveShortAccounts config (view_at hs) [] [] [])) (sym is_none) (inl (record {
           spindles = spindles;
           count = sized;
           each = λ k s there.
               let closable = subst (λ (x : Rack D). IsClosable state config opened x) (sym runs.same) (rack_closable state config opened r is) in
-              let a = account_of state config opened r q is unused closable spindles count each k s there in
+              let a = account_of state config views opened r q is unused closable keep spindles count each k s there in
               let here : slice_index_or r.keepers.items k a.pass ≡ a.pass = ap (λ (x : Rack D). slice_index_or x.keepers.items k a.pass) (sym runs.same) ∙ (at_place q.keepers.items k a.pass a.there).1 a.pass in
               a.so [] [] (subst (λ (p : SpindlePass). HasReached [] [] p a.pass) (sym here) (reached_none a.pass));
-        });
+        }));
         unbroken = λ is. absurd (cc is);
         marks = kept.marks;
         images = kept.images;
@@ -394,13 +404,13 @@ module _ {D S : Type 0} (T : Type 0) (state : D → State) (tells : Bool) (left 
 
       -- the accounts of the disks, where no further window began
       disks_by : (lines : List (Option TraceLine)) → AreWindowsOf config lines ss → (spindles : List SpindleView) → length spindles ≡ length (shapes_of config) → length spindles ≡ length config.volumes.items
-          → ((k : ℕ) (s : SpindleView) → slice_get spindles k ≡ Some s → IsClosedSpindle q k s) → HaveAccounts config lines ss (told_by ss middle ms served ends)
+          → ((k : ℕ) (s : SpindleView) → slice_get spindles k ≡ Some s → IsClosedSpindle q k s) → HaveAccounts config views lines ss (told_by ss middle ms served ends)
       disks_by lines are spindles count sized each = record {
         spindles = spindles;
         count = sized;
-        each = accounts_of state tells left config options start now opened r q faults faults' printed printed' is unused (told_by ss middle ms served ends) lines ss are before middle
+        each = accounts_of state tells left config options start now opened r q faults faults' printed printed' is unused (told_by ss middle ms served ends) views lines ss are before middle
             (subst (λ (l : List SpindlePass). ServedFromStart tells options.reclaim ss before r.keepers.items middle l) (sym passes) served)
-            (closable_after state config opened r q (rack_closable state config opened r is) from.only from.can (from.locks ∙ moved.locks) from.same) spindles count each keepers_told;
+            (closable_after state config opened r q (rack_closable state config opened r is) from.only from.can (from.locks ∙ moved.locks) from.same) keep spindles count each keepers_told;
       }
 
     closable_now : IsClosable state config opened q
@@ -417,7 +427,7 @@ module _ {D S : Type 0} (T : Type 0) (state : D → State) (tells : Bool) (left 
       so_on there further = ends_so tells options.reclaim (not (is_none_served ss)) middle ms from.after q.keepers.items there further
 
       abbrev DisksEnded : EndsOn tells middle from.after → Type 0
-      DisksEnded ends = HaveAccounts config lines ss (told_by ss middle ms served ends) ⊎ ((status_in {T = T} (Err e) ≡ 9) × HaveShortAccounts config lines ss (told_by ss middle ms served ends))
+      DisksEnded ends = HaveAccounts config views lines ss (told_by ss middle ms served ends) ⊎ ((status_in {T = T} (Err e) ≡ 9) × HaveShortAccounts config views lines ss (told_by ss middle ms served ends))
 
       alone : (ends : EndsOn tells middle from.after) → awake_last tells options.reclaim middle from.after ends ≡ [] → q.keepers.items ≡ ms → DisksEnded ends
       alone ends none passes = inl (disks_by ss middle ms served ends (awake_alone ss middle ms served ends none) passes unused lines are spindles count sized each)
@@ -425,8 +435,8 @@ module _ {D S : Type 0} (T : Type 0) (state : D → State) (tells : Bool) (left 
       at_9 : e ≡ stop.Fault Memory → status_in {T = T} (Err e) ≡ 9
       at_9 is = ap (λ (x : Stop). status_in {T = T} (Err x)) is
 
-      account_now : (k : ℕ) (s : SpindleView) → slice_get spindles k ≡ Some s → AccountOf config r q k s
-      account_now = account_of state config opened r q is unused closable_now spindles count each
+      account_now : (k : ℕ) (s : SpindleView) → slice_get spindles k ≡ Some s → AccountOf config views r q k s
+      account_now = account_of state config views opened r q is unused closable_now keep spindles count each
 
       failed : e ≡ stop.Fault Memory → (ends : EndsOn tells middle from.after) → awake_last tells options.reclaim middle from.after ends ≡ [] → (moment : ℕ) (begun : List SpindlePass)
           → StartsOnce (not (is_none_served ss)) moment ms begun → FailToBegin moment begun q.keepers.items → DisksEnded ends
@@ -439,8 +449,8 @@ module _ {D S : Type 0} (T : Type 0) (state : D → State) (tells : Bool) (left 
           each = inl (λ k s there.
               let a = account_now k s there in
               let here : slice_index_or q.keepers.items k a.pass ≡ a.pass = (at_place q.keepers.items k a.pass a.there).1 a.pass in
-              subst (λ (l : List (List Bool)). IsCutShort config k moment (started_uses (started (timed lines)) moment (moments_of ss)) (column k l) s) (sym (awake_alone ss middle ms served ends none))
-              (some_cut tells options.reclaim k (started (timed lines)) ss before r.keepers.items middle ms served a.less (first_is config lines ss are) moment begun once config s q.keepers.items a.pass
+              subst (λ (l : List (List Bool)). IsCutShort config views k moment (started_uses (started (timed lines)) moment (moments_of ss)) (column k l) s) (sym (awake_alone ss middle ms served ends none))
+              (some_cut tells options.reclaim k (started (timed lines)) ss before r.keepers.items middle ms served a.less (first_is config lines ss are) moment begun once config views s q.keepers.items a.pass
               (λ us xs reached. a.so us xs (subst (λ (p : SpindlePass). HasReached us xs (slice_index_or r.keepers.items k a.pass) p) here reached)) fails));
         },
       )
@@ -456,7 +466,7 @@ module _ {D S : Type 0} (T : Type 0) (state : D → State) (tells : Bool) (left 
           each = inr (λ k s there.
               let a = account_now k s there in
               let here : slice_index_or q.keepers.items k a.pass ≡ a.pass = (at_place q.keepers.items k a.pass a.there).1 a.pass in
-              subst (λ (l : List (List Bool)). IsAccountBy config k (started_uses (started (timed lines)) moment (moments_of ss) ++ Began moment ∷ []) (column k l) s) (sym (awake_by ss middle ms served ends (awake ∷ []) last))
+              subst (λ (l : List (List Bool)). IsAccountBy config views k (started_uses (started (timed lines)) moment (moments_of ss) ++ Began moment ∷ []) (column k l) s) (sym (awake_by ss middle ms served ends (awake ∷ []) last))
               (a.so _ _ (subst (λ (p : SpindlePass). HasReached (started_uses (started (timed lines)) moment (moments_of ss) ++ Began moment ∷ []) (column k (awake_in tells options.reclaim ss before r.keepers.items middle ms served ++ awake ∷ [])) (slice_index_or r.keepers.items k a.pass) p) here
               (all_reached tells options.reclaim k (started (timed lines)) ss before r.keepers.items middle ms served a.less (first_is config lines ss are) moment begun once awake q.keepers.items have a.pass))));
         },
@@ -532,13 +542,15 @@ module _ {D S : Type 0} (T : Type 0) (state : D → State) (tells : Bool) (left 
           pools = shared.pools;
           are_pools = pools_began (ap (λ (x : Rack D). x.shared) from.only);
           passed = passed_by kept.kept is_kept;
+          taken = taken_by kept.kept is_kept;
           counts = counts_some T tells left config options start now entry opened left_ w.run w.more w.earlier w.middle w.between from.after q.keepers.items faults faults' w.then printed' e w.last w.ends kept;
           placed = placed_by tells config options.reclaim entry opened left_ w.run w.earlier w.last kept awake worked;
           reclaimed = subst (λ (hs : List History). CountsReclaimed (w.earlier ++ w.last) hs) (sym is_kept) (reclaimed_by (w.earlier ++ w.last) w.middle w.between w.from_start on (subst (λ (hs : List History). (v : ℕ) (h : History) → slice_get hs v ≡ Some h → HasHistory (IsTrue tells) h.base h.notes × AllByRecursion IsRuled h.notes) (is_kept) (λ v h here. ((kept.are.each v h here).legal, kept.ruled v h here))));
           reclaims = kept.reclaims;
           awake = awake;
           worked = worked;
-          disks = disks_ended e (w.earlier ++ w.last) w.middle w.between w.from_start unused w.run w.are spindles count sized each there w.further;
+          disks = subst (λ (hs : List History). HaveAccounts config (view_at hs) w.run (w.earlier ++ w.last) awake ⊎ ((status_in {T = T} (Err e) ≡ 9) × HaveShortAccounts config (view_at hs) w.run (w.earlier ++ w.last) awake)) (sym is_kept)
+              (disks_ended e (w.earlier ++ w.last) w.middle w.between w.from_start unused w.run w.are spindles count sized each there w.further);
           unbroken = λ is. absurd (stop_some T e is);
           marks = kept.marks;
           images = kept.images;
@@ -569,8 +581,8 @@ module _ {D S : Type 0} (T : Type 0) (state : D → State) (tells : Bool) (left 
         let all_asked = subst (λ (ss : List ServedWindow). AreAllCounted (requests (most_of config) (targets_of config) w.lines) ss) all_windows
         (all_counted_asked (requests (most_of config) (targets_of config) w.lines) (w.served ++ []) kept.kept kept.sized kept.within kept.asked (λ v h here. (kept.are.each v h here).answered)
         (λ v. subst (λ (ss : List ServedWindow). AreAllAnswered (answers_of v (answers_in ss))) (sym all_windows) (kept.well v))) in
-        let summary = summary_now state tells left config options start now opened r q faults faults' printed printed' is unused awake before from.after counted w
-        (closable_after state config opened r q (rack_closable state config opened r is) from.only from.can (from.locks ∙ moved.locks) from.same) spindles count each
+        let summary = summary_now state tells left config options start now opened r q faults faults' printed printed' is unused awake views before from.after counted w
+        (closable_after state config opened r q (rack_closable state config opened r is) from.only from.can (from.locks ∙ moved.locks) from.same) keep spindles count each
         (keepers_told (w.served ++ []) from.after q.keepers.items from_start (inl refl) awake_same refl unused) all_asked sized in
         record {
           run = w.lines;
@@ -596,19 +608,21 @@ module _ {D S : Type 0} (T : Type 0) (state : D → State) (tells : Bool) (left 
           pools = shared.pools;
           are_pools = pools_began (ap (λ (x : Rack D). x.shared) from.only);
           passed = passed_by kept.kept is_kept;
+          taken = taken_by kept.kept is_kept;
           counts = counts_whole w.served [] kept.kept kept.well (status_in done) (λ v. tt);
           placed = placed_by tells config options.reclaim entry opened left_ w.lines w.served [] kept awake worked;
           reclaimed = subst (λ (hs : List History). CountsReclaimed (w.served ++ []) hs) (sym is_kept) (reclaimed_by (w.served ++ []) from.after q.keepers.items from_start (inl refl) (subst (λ (hs : List History). (v : ℕ) (h : History) → slice_get hs v ≡ Some h → HasHistory (IsTrue tells) h.base h.notes × AllByRecursion IsRuled h.notes) (is_kept) (λ v h here. ((kept.are.each v h here).legal, kept.ruled v h here))));
           reclaims = kept.reclaims;
           awake = awake;
           worked = worked;
-          disks = inl (disks_by (w.served ++ []) from.after q.keepers.items from_start (inl refl) awake_same refl unused w.lines are spindles count sized each);
+          disks = subst (λ (hs : List History). HaveAccounts config (view_at hs) w.lines (w.served ++ []) awake ⊎ ((status_in done ≡ 9) × HaveShortAccounts config (view_at hs) w.lines (w.served ++ []) awake)) (sym is_kept)
+              (inl (disks_by (w.served ++ []) from.after q.keepers.items from_start (inl refl) awake_same refl unused w.lines are spindles count sized each));
           unbroken = λ is v. subst (λ (hs : List History). is_broken_at hs v ≡ false) (sym is_kept)
               (unbroken_by (w.served ++ []) q.keepers.items from_start owned (subst (λ (ss : List ServedWindow). AllByRecursion WentWell ss) (sym all_windows) w.well) v);
           marks = kept.marks;
           images = kept.images;
           summary = text;
-          summary_is = of_all done text w.all summary;
+          summary_is = subst (λ (hs : List History). IsSummaryOf left config (view_at hs) start now w.lines (w.served ++ []) awake done text) (sym is_kept) (of_all done text w.all summary);
           prints = subst (λ (ss : List ServedWindow). PrintsRun done (lines_asked config options.each (answers_in ss)) text faults faults'' printed printed'') (sym all_windows)
               (prints_summed config options w.served text done faults faults' faults'' printed printed' printed'' w.prints w.calm prints);
         }

@@ -1,5 +1,5 @@
 -- Where a volume's versions ended a run, a write to it wasn't answered.
-use Rattle.std.proofs.Common.{◌≡◌, ◌==◌, ◌<◌, ℕ, zero, suc, Bool, true, false, cond, List, [], ◌∷◌, length, refl, subst, ◌∙◌, Option, None, Some, arith}
+use Rattle.std.proofs.Common.{◌≡◌, ◌==◌, ◌<◌, ℕ, zero, suc, Bool, true, false, cond, List, [], ◌∷◌, ◌++◌, length, refl, subst, ◌∙◌, Option, None, Some, arith}
 use Rattle.std.specs.Prelude.{⊤, Contains, if◌then◌else◌}
 use Rattle.std.specs.List.{list_any, AllByRecursion}
 use Rattle.std.specs.Option.{option_or}
@@ -7,6 +7,7 @@ use Rattle.std.proofs.lemmas.Bool.{eq-eqb}
 use Rattle.wol_model.specs.declared.trace.Kind.TheVariants as kind
 use Rattle.wol_promise.specs.Outcomes.{Answered, is_answered}
 use Rattle.wol_promise.specs.Ruled.{Noted}
+use Rattle.manager.specs.declared.part.Place.{Place}
 use Rattle.manager.specs.declared.part.StepFault.{StepFault}
 use Rattle.manager.specs.declared.part.StepFault.TheVariants as step
 use Rattle.manager.specs.declared.part.ReadRefusal.TheVariants as read
@@ -15,7 +16,7 @@ use Rattle.report.specs.declared.fault.Fault.{Fault}
 use Rattle.report.specs.declared.fault.Fault.TheVariants.{Memory, Versions}
 use Rattle.trace_windows.specs.Requests.{asked}
 use Rattle.trace_windows.specs.declared.request.Request.{Request}
-use Rattle.request_turns.specs.Entries.{AreMade}
+use Rattle.request_turns.specs.Entries.{AreEntriesOf, AreMade}
 use Rattle.request_turns.specs.declared.outcome.Outcome.{Outcome}
 use Rattle.request_turns.specs.declared.outcome.Outcome.TheVariants as outcome
 use Rattle.request_workers.specs.Floors.{HasRun}
@@ -25,6 +26,7 @@ use Rattle.request_workers.specs.declared.request.Reclaim.{Reclaim}
 use Rattle.replay.specs.Ended.{HasRefusedWrite}
 use Rattle.replay.specs.Endings.{fault_of_outcome, fault_of_reclaim, fault_of_window, first_refused, lacked_memory}
 use Rattle.replay.specs.Served.{ServedWindow}
+use Rattle.replay.proofs.Grouped.{all_wrote, made_by_cases}
 use Rattle.replay.proofs.RacksServed.{a_member}
 
 -- ---- Kinds
@@ -42,14 +44,21 @@ FitKinds [] os = ⊤
 FitKinds (r ∷ rs) [] = ⊤
 FitKinds (r ∷ rs) (o ∷ os) = FitsKind r o × FitKinds rs os
 
+request_kind : (view : List ℕ) (r : Request) (rs : List Request) (o : Outcome) (first : List Noted) → AreEntriesOf view r rs o first → FitsKind r o
+request_kind view r rs (outcome.Read mark sources) first entries = tt
+request_kind view r rs (outcome.Wrote place drained) first entries = tt
+request_kind view r rs (outcome.NoRead refusal) first entries = tt
+request_kind view r rs (outcome.NoWrite refusal) first (n, one, (is_write, refused)) = is_write
+request_kind view r rs outcome.NotRun first entries = tt
+
+kinds_behind : (group rs : List Request) (place : Place) (os : List Outcome) → FitKinds rs os → FitKinds (group ++ rs) (all_wrote (length group) place ++ os)
+kinds_behind [] rs place os rest = rest
+kinds_behind (r ∷ group) rs place os rest = (tt, kinds_behind group rs place os rest)
+
 made_kinds : (view : List ℕ) (rs : List Request) (os : List Outcome) (notes : List Noted) → AreMade view rs os notes → FitKinds rs os
-made_kinds view [] os notes made = tt
-made_kinds view (r ∷ rs) [] notes made = tt
-made_kinds view (r ∷ rs) (outcome.Read mark sources ∷ os) notes (first, rest, same, entries, others) = (tt, made_kinds view rs os rest others)
-made_kinds view (r ∷ rs) (outcome.Wrote place drained ∷ os) notes (first, rest, same, entries, others) = (tt, made_kinds view rs os rest others)
-made_kinds view (r ∷ rs) (outcome.NoRead refusal ∷ os) notes (first, rest, same, entries, others) = (tt, made_kinds view rs os rest others)
-made_kinds view (r ∷ rs) (outcome.NoWrite refusal ∷ os) notes (first, rest, same, (n, one, (is_write, refused)), others) = (is_write, made_kinds view rs os rest others)
-made_kinds view (r ∷ rs) (outcome.NotRun ∷ os) notes (first, rest, same, entries, others) = (tt, made_kinds view rs os rest others)
+made_kinds view rs os notes made =
+    made_by_cases view (λ rs os notes. FitKinds rs os) tt (λ r rs o os first rest entries others more. (request_kind view r rs o first entries, more)) (λ group rs place os n rest two entry more. kinds_behind group rs place os more)
+    rs os notes made
 
 -- ---- The refused request
 

@@ -1,6 +1,6 @@
 -- The summary of a trace that was served to its end: each disk's journal is that of its uses, and the keeper's are those of the account.
 use Rattle.std.proofs.Common.{◌≡◌, ◌≢◌, ◌++◌, ◌<◌, ◌-◌, ℕ, Bool, false, List, [], ◌∷◌, length, map, refl, sym, ap, subst, ◌∙◌, Option, Some, inl, inr, append-nil, arith}
-use Rattle.std.specs.Prelude.{All, slice_get, slice_index_or}
+use Rattle.std.specs.Prelude.{All, Contains, slice_get, slice_index_or}
 use Rattle.wol_model.specs.Journal.{Started, Use, needs_after, new_spindle}
 use Rattle.run_laws.specs.Journals.{answers_by, uses_by}
 use Rattle.wol_model.specs.Trace.{TraceLine, Window, pieces_of, requests, started, timed, windows}
@@ -20,7 +20,7 @@ use Rattle.wol_bay.specs.Bay.{BayState}
 use Rattle.wol_config.specs.declared.config.Config.{Config}
 use Rattle.volume_images.specs.Volumes.{shapes_of}
 use Rattle.rack.specs.Closes.{IsClosedSpindle}
-use Rattle.rack.specs.Racks.{IsClosable, IsRack, IsUnused}
+use Rattle.rack.specs.Racks.{IsClosable, IsRack, IsUnused, KeepToViews}
 use Rattle.rack.specs.declared.rack.Rack.{Rack}
 use Rattle.replay.specs.Prints.{all_amounts}
 use Rattle.replay.specs.Served.{ServedFromStart, ServedWindow}
@@ -29,7 +29,7 @@ use Rattle.replay.specs.Summed.{IsAccount, IsSummary, column}
 use Rattle.replay.specs.declared.counting.Counted.{Counted}
 use Rattle.replay.specs.declared.given.Given.{Given}
 use Rattle.replay.specs.declared.session.Options.{Options}
-use Rattle.replay.proofs.Accounts.{AreOthers, first_start, moments_of, others_access, own_uses, served_used, used_back}
+use Rattle.replay.proofs.Accounts.{AreOthers, first_start, moments_of, named_users, others_access, own_uses, served_used, used_back}
 use Rattle.replay.proofs.AllAsked.{AreAllCounted}
 use Rattle.replay.proofs.RacksServed.{a_member, at_place}
 use Rattle.replay.proofs.Serving.{served_moments}
@@ -38,12 +38,13 @@ use Rattle.wol_config.specs.Configs.{most_of}
 
 -- ---- One spindle
 
-module _ (config : Config) (k : ℕ) (s : SpindleView) (b : SpindleBase) (entries : List Entry) (n start : ℕ) (awake : List (List Bool)) (stands : StandsFor s b entries) (others : AreOthers n entries) (volume : s.volume ≡ k)
-    (timeout_is : s.timeout ≡ config.timeout) (answers : answers_by b.timeout new_spindle n (uses_of entries) ≡ column k awake) (ended : (m : ℕ) → m ≢ n → has_token (own m entries) ≡ false) where
+module _ (config : Config) (views : ℕ → List ℕ) (k : ℕ) (s : SpindleView) (b : SpindleBase) (entries : List Entry) (n start : ℕ) (awake : List (List Bool)) (stands : StandsFor s b entries) (others : AreOthers n entries) (volume : s.volume ≡ k)
+    (timeout_is : s.timeout ≡ config.timeout) (answers : answers_by b.timeout new_spindle n (uses_of entries) ≡ column k awake) (ended : (m : ℕ) → m ≢ n → has_token (own m entries) ≡ false)
+    (users : (m : ℕ) → m ≢ n → m ≢ k → (Contains (views m) k → ⊥) → own m entries ≡ []) where
   all_done : (m : ℕ) → m ≢ n → needs_after false (uses_by m (uses_of entries)) ≡ false
   all_done m other = ap (needs_after false) (own_uses m entries) ∙ ended m other
 
-  pub account_kept : (w : ℕ) (moments : List ℕ) → own n entries ≡ map (λ (u : Use). (n, operation_of u)) (keeper_uses start (w ∷ moments)) → IsAccount config k start (w ∷ moments) awake s
+  pub account_kept : (w : ℕ) (moments : List ℕ) → own n entries ≡ map (λ (u : Use). (n, operation_of u)) (keeper_uses start (w ∷ moments)) → IsAccount config views k start (w ∷ moments) awake s
   account_kept w moments mine = record {
     volume = volume;
     timeout_is = timeout_is;
@@ -54,10 +55,11 @@ module _ (config : Config) (k : ℕ) (s : SpindleView) (b : SpindleBase) (entrie
     kept = own_uses n entries ∙ ap (λ (es : List Entry). map (λ (e : Entry). use_of e.1) es) mine ∙ ap (λ (l : List Use). Started start ∷ l) (used_back n (w ∷ moments));
     others = others_access n entries others;
     done = all_done;
+    users = named_users n k views entries users;
     answers = rw stands.timeout answers;
   }
 
-  pub account_empty : own n entries ≡ [] → IsAccount config k start [] awake s
+  pub account_empty : own n entries ≡ [] → IsAccount config views k start [] awake s
   account_empty mine = record {
     volume = volume;
     timeout_is = timeout_is;
@@ -68,23 +70,25 @@ module _ (config : Config) (k : ℕ) (s : SpindleView) (b : SpindleBase) (entrie
     kept = own_uses n entries ∙ ap (λ (es : List Entry). map (λ (e : Entry). use_of e.1) es) mine;
     others = others_access n entries others;
     done = all_done;
+    users = named_users n k views entries users;
     answers = rw stands.timeout answers;
   }
 
 -- ---- All of them
 
 module _ {D S : Type 0} (state : D → State) (tells : Bool) (left : S → Option (List ℕ)) (config : Config) (options : Options) (start now : Given S) (b : BayState) (old new : Rack D) (faults faults' : ℕ) (printed printed' : Option (List ℕ))
-    (is : IsRack state config b old) (unused : All (λ (p : SpindlePass). IsUnused p) old.keepers.items) (awake : List (List Bool)) where
+    (is : IsRack state config b old) (unused : All (λ (p : SpindlePass). IsUnused p) old.keepers.items) (awake : List (List Bool)) (views : ℕ → List ℕ) where
   spindle_account : (lines : List (Option TraceLine)) (ss : List ServedWindow) (f g : Floor D) → ServedFromStart tells options.reclaim ss f old.keepers.items g new.keepers.items
       → moments_of ss ≡ map (λ (w : Window). w.moment) (windows (most_of config) (targets_of config) lines) → (k : ℕ) (s : SpindleView) (base : SpindleBase) (entries : List Entry) (p : SpindlePass)
       → k < length old.keepers.items → slice_get new.keepers.items k ≡ Some p → StandsFor s base entries → AreOthers (pass_number p) entries → own (pass_number p) entries ≡ pass_mine p
-      → s.volume ≡ k → s.timeout ≡ config.timeout → answers_by base.timeout new_spindle (pass_number p) (uses_of entries) ≡ column k awake → ((m : ℕ) → m ≢ pass_number p → has_token (own m entries) ≡ false) → IsAccount config k (started (timed lines)) (moments_of ss) awake s
+      → s.volume ≡ k → s.timeout ≡ config.timeout → answers_by base.timeout new_spindle (pass_number p) (uses_of entries) ≡ column k awake → ((m : ℕ) → m ≢ pass_number p → has_token (own m entries) ≡ false)
+      → ((m : ℕ) → m ≢ pass_number p → m ≢ k → (Contains (views m) k → ⊥) → own m entries ≡ []) → IsAccount config views k (started (timed lines)) (moments_of ss) awake s
   unfolding windows
-  spindle_account lines [] f g (floor, passes) moments k s base entries p lt there stands others mine volume timeout_is answers ended =
+  spindle_account lines [] f g (floor, passes) moments k s base entries p lt there stands others mine volume timeout_is answers ended users =
       let was : slice_index_or old.keepers.items k p ≡ p = ap (λ (x : List SpindlePass). slice_index_or x k p) (sym passes) ∙ (at_place new.keepers.items k p there).1 p in
       let none : pass_mine p ≡ [] = ap (λ (x : SpindlePass). pass_mine x) (sym was) ∙ (unused k p lt).mine in
-      account_empty config k s base entries (pass_number p) (started (timed lines)) awake stands others volume timeout_is answers ended (mine ∙ none)
-  spindle_account lines (w ∷ ss) f g served_ moments k s base entries p lt there stands others mine volume timeout_is answers ended =
+      account_empty config views k s base entries (pass_number p) (started (timed lines)) awake stands others volume timeout_is answers ended users (mine ∙ none)
+  spindle_account lines (w ∷ ss) f g served_ moments k s base entries p lt there stands others mine volume timeout_is answers ended users =
       let used = served_used tells options.reclaim k w ss f old.keepers.items g new.keepers.items p served_ lt in
       let at = (at_place new.keepers.items k p there).1 p in
       let same : pass_number (slice_index_or old.keepers.items k p) ≡ pass_number p = sym used.number ∙ ap (λ (x : SpindlePass). pass_number x) at in
@@ -92,13 +96,13 @@ module _ {D S : Type 0} (state : D → State) (tells : Bool) (left : S → Optio
       let all : pass_mine p ≡ map (λ (u : Use). (pass_number p, operation_of u)) uses =
       ap (λ (x : SpindlePass). pass_mine x) (sym at) ∙ used.mine ∙ (λ i. (unused k p lt).mine i ++ map (λ (u : Use). (same i, operation_of u)) uses) in
       let first : w.batch.moment ≡ started (timed lines) = first_start (pieces_of (most_of config) (targets_of config)) (timed lines) w.batch.moment (moments_of ss) moments in
-      account_kept config k s base entries (pass_number p) (started (timed lines)) awake stands others volume timeout_is answers ended w.batch.moment (moments_of ss)
+      account_kept config views k s base entries (pass_number p) (started (timed lines)) awake stands others volume timeout_is answers ended users w.batch.moment (moments_of ss)
       (subst (λ (t : ℕ). own (pass_number p) entries ≡ map (λ (u : Use). (pass_number p, operation_of u)) (keeper_uses t (moments_of (w ∷ ss)))) first (mine ∙ all))
 
   module _ (lines : List (Option TraceLine)) (ss : List ServedWindow) (are : AreWindowsOf config lines ss) (f g : Floor D) (from_start : ServedFromStart tells options.reclaim ss f old.keepers.items g new.keepers.items)
-      (closable : IsClosable state config b new) (spindles : List SpindleView) (count : length spindles ≡ length (shapes_of config)) (each : (k : ℕ) (s : SpindleView) → slice_get spindles k ≡ Some s → IsClosedSpindle new k s) where
+      (closable : IsClosable state config b new) (keep : KeepToViews views new) (spindles : List SpindleView) (count : length spindles ≡ length (shapes_of config)) (each : (k : ℕ) (s : SpindleView) → slice_get spindles k ≡ Some s → IsClosedSpindle new k s) where
     pub accounts_of : ((k : ℕ) (p : SpindlePass) (entries : List Entry) → k < length old.keepers.items → slice_get new.keepers.items k ≡ Some p → IsPartOf entries p
-        → answers_by (timeout_of p) new_spindle (pass_number p) (uses_of entries) ≡ column k awake) → (k : ℕ) (s : SpindleView) → slice_get spindles k ≡ Some s → IsAccount config k (started (timed lines)) (moments_of ss) awake s
+        → answers_by (timeout_of p) new_spindle (pass_number p) (uses_of entries) ≡ column k awake) → (k : ℕ) (s : SpindleView) → slice_get spindles k ≡ Some s → IsAccount config views k (started (timed lines)) (moments_of ss) awake s
     accounts_of told k s there =
         let lt = (at_place spindles k s there).0 in
         let cs = each k s there in
@@ -110,14 +114,14 @@ module _ {D S : Type 0} (state : D → State) (tells : Bool) (left : S → Optio
         let less : k < length old.keepers.items = omega (arith, lt, count, is.keepers.0) in
         spindle_account lines ss f g from_start (served_moments config (windows (most_of config) (targets_of config) lines) ss are) k s (lock_id l).base cs.entries p less keeper
         stands (cs.accesses p keeper) (cs.keeper_part p keeper).mine (stands.volume ∙ is_lock.volume) (stands.timeout ∙ is_lock.timeout_is)
-        (subst (λ x. answers_by x.base.timeout new_spindle (pass_number p) (uses_of cs.entries) ≡ column k awake) own_lock (told k p cs.entries less keeper (cs.keeper_part p keeper))) (cs.ended p keeper)
+        (subst (λ x. answers_by x.base.timeout new_spindle (pass_number p) (uses_of cs.entries) ≡ column k awake) own_lock (told k p cs.entries less keeper (cs.keeper_part p keeper))) (cs.ended p keeper) (cs.users p keeper views keep)
 
   module _ (f g : Floor D) (counted : Counted) (w : ServesWhole tells left config options start now f old.keepers.items g new.keepers.items counted faults faults' printed printed')
-      (closable : IsClosable state config b new) (spindles : List SpindleView) (count : length spindles ≡ length (shapes_of config)) (each : (k : ℕ) (s : SpindleView) → slice_get spindles k ≡ Some s → IsClosedSpindle new k s) where
+      (closable : IsClosable state config b new) (keep : KeepToViews views new) (spindles : List SpindleView) (count : length spindles ≡ length (shapes_of config)) (each : (k : ℕ) (s : SpindleView) → slice_get spindles k ≡ Some s → IsClosedSpindle new k s) where
     pub summary_now : ((k : ℕ) (p : SpindlePass) (entries : List Entry) → k < length old.keepers.items → slice_get new.keepers.items k ≡ Some p → IsPartOf entries p
         → answers_by (timeout_of p) new_spindle (pass_number p) (uses_of entries) ≡ column k awake) → AreAllCounted (requests (most_of config) (targets_of config) w.lines) w.served → length spindles ≡ length config.volumes.items
-        → IsSummary config w.lines (w.served ++ []) awake (summary_text counted.totals (printed_names config.volumes.items) (all_amounts config.powers counted.started counted.ended spindles))
-    summary_now told all sized = subst (λ (ss : List ServedWindow). IsSummary config w.lines ss awake (summary_text counted.totals (printed_names config.volumes.items) (all_amounts config.powers counted.started counted.ended spindles))) (sym (append-nil w.served)) (record {
+        → IsSummary config views w.lines (w.served ++ []) awake (summary_text counted.totals (printed_names config.volumes.items) (all_amounts config.powers counted.started counted.ended spindles))
+    summary_now told all sized = subst (λ (ss : List ServedWindow). IsSummary config views w.lines ss awake (summary_text counted.totals (printed_names config.volumes.items) (all_amounts config.powers counted.started counted.ended spindles))) (sym (append-nil w.served)) (record {
       totals = counted.totals;
       spindles = spindles;
       line_count = w.line_count;
@@ -128,6 +132,6 @@ module _ {D S : Type 0} (state : D → State) (tells : Bool) (left : S → Optio
       reads = w.totals_.reads ∙ all.reads;
       writes = w.totals_.writes ∙ all.writes;
       each = sized;
-      accounts = accounts_of w.lines w.served w.are f g w.from_start closable spindles count each told;
+      accounts = accounts_of w.lines w.served w.are f g w.from_start closable keep spindles count each told;
       text_is = λ i. summary_text counted.totals (printed_names config.volumes.items) (all_amounts config.powers (w.started_ i) (w.ended_ i) spindles);
     })

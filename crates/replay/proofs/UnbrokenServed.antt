@@ -6,6 +6,7 @@ use Rattle.std.specs.Option.{option_or}
 use Rattle.std.proofs.Math.Seq.{drop-append_seam}
 use Rattle.turn_lock.specs.Passes.{pass_mine, pass_number}
 use Rattle.wol_model.specs.History.{Broke, Kept, Operation, Read, Wrote, flight_from, flight_of, worker}
+use Rattle.wol_promise.specs.Outcomes.{is_answered}
 use Rattle.wol_promise.specs.Ruled.{Noted, entries_of}
 use Rattle.run_laws.specs.Laws.{AreAllAnswered}
 use Rattle.report.specs.declared.fault.Fault.TheVariants.{Memory}
@@ -13,7 +14,7 @@ use Rattle.manager.specs.Stands.{notes_of}
 use Rattle.manager.specs.declared.part.StepFault.{StepFault}
 use Rattle.trace_windows.specs.declared.request.Request.{Request}
 use Rattle.request_turns.specs.Begun.{HasBegunVolume}
-use Rattle.request_turns.specs.Entries.{AreMade}
+use Rattle.request_turns.specs.Entries.{AreEntriesOf, AreMade}
 use Rattle.request_turns.specs.Helped.{AreKept, made_since}
 use Rattle.request_turns.specs.Turns.{ManagerPass, coded}
 use Rattle.request_turns.specs.declared.outcome.Outcome.{Outcome}
@@ -22,7 +23,7 @@ use Rattle.request_turns.proofs.CountLaws.{IsWhole}
 use Rattle.request_workers.specs.Begun.{SpindlePass}
 use Rattle.request_workers.specs.Closed.{IsClosed}
 use Rattle.request_workers.specs.Helped.{AreAllKept}
-use Rattle.request_workers.specs.Requests.{answers_to}
+use Rattle.request_workers.specs.Requests.{answers_to, told}
 use Rattle.request_workers.specs.Worked.{HasWorked, HelpedIn, first_fault}
 use Rattle.request_workers.specs.declared.desk.Desk.{Desk}
 use Rattle.request_workers.specs.declared.floor.Floor.{Floor}
@@ -35,6 +36,7 @@ use Rattle.replay.specs.Sessions.{WentWell}
 use Rattle.replay.proofs.AnswersServed.{own_answers}
 use Rattle.replay.proofs.EntriesOwn.{notes_back}
 use Rattle.replay.proofs.FirstsServed.{window_answered}
+use Rattle.replay.proofs.Grouped.{answered_rest, made_by_cases}
 use Rattle.replay.proofs.Makes.{Makes, makes_both, makes_none, makes_same}
 use Rattle.replay.proofs.PassesRuled.{AreThere, helper_on, keeper_on, was_ruled, worker_on}
 
@@ -58,18 +60,22 @@ kept_whole : (notes : List Noted) → AllByRecursion (λ (n : Noted). n.entry.op
 kept_whole [] all = tt
 kept_whole (n ∷ notes) (first, others) = (subst IsWhole (sym first) tt, kept_whole notes others)
 
+-- the entry of an answered request
+request_whole : (view : List ℕ) (r : Request) (rs : List Request) (o : Outcome) (first rest : List Noted) → AreEntriesOf view r rs o first → is_answered (told o) ≡ true → AllByRecursion IsWholeNote rest → AllByRecursion IsWholeNote (first ++ rest)
+request_whole view r rs (outcome.Read mark sources) first rest (n, one, entry) is all =
+    subst (λ (l : List Noted). AllByRecursion IsWholeNote (l ++ rest)) (sym one) (subst IsWhole (sym entry.operation) tt, all)
+request_whole view r rs (outcome.Wrote place drained) first rest (n, one, (is_write, entry)) is all =
+    subst (λ (l : List Noted). AllByRecursion IsWholeNote (l ++ rest)) (sym one) (subst IsWhole (sym entry.operation) tt, all)
+request_whole view r rs (outcome.NoRead refusal) first rest entries is all = absurd (cc is)
+request_whole view r rs (outcome.NoWrite refusal) first rest entries is all = absurd (cc is)
+request_whole view r rs outcome.NotRun first rest entries is all = absurd (cc is)
+
 -- the entries of answered requests
 made_whole : (view : List ℕ) (rs : List Request) (os : List Outcome) (notes : List Noted) → AreMade view rs os notes → AreAllAnswered (answers_to rs os) → AllByRecursion IsWholeNote notes
-made_whole view [] [] notes made all = subst (λ (l : List Noted). AllByRecursion IsWholeNote l) (sym made) tt
-made_whole view [] (o ∷ os) notes made all = absurd made
-made_whole view (r ∷ rs) [] notes made all = absurd made
-made_whole view (r ∷ rs) (outcome.Read mark sources ∷ os) notes (first, rest, same, (n, one, entry), others) (is, all) =
-    subst (λ (l : List Noted). AllByRecursion IsWholeNote l) (sym (same ∙ ap (λ (l : List Noted). l ++ rest) one)) (subst IsWhole (sym entry.operation) tt, made_whole view rs os rest others all)
-made_whole view (r ∷ rs) (outcome.Wrote place drained ∷ os) notes (first, rest, same, (n, one, (is_write, entry)), others) (is, all) =
-    subst (λ (l : List Noted). AllByRecursion IsWholeNote l) (sym (same ∙ ap (λ (l : List Noted). l ++ rest) one)) (subst IsWhole (sym entry.operation) tt, made_whole view rs os rest others all)
-made_whole view (r ∷ rs) (outcome.NoRead refusal ∷ os) notes made (is, all) = absurd (cc is)
-made_whole view (r ∷ rs) (outcome.NoWrite refusal ∷ os) notes made (is, all) = absurd (cc is)
-made_whole view (r ∷ rs) (outcome.NotRun ∷ os) notes made (is, all) = absurd (cc is)
+made_whole view rs os notes made =
+    made_by_cases view (λ rs os notes. AreAllAnswered (answers_to rs os) → AllByRecursion IsWholeNote notes) (λ all. tt)
+    (λ r rs o os first rest entries others further all. request_whole view r rs o first rest entries all.0 (further all.1))
+    (λ group rs place os n rest two entry further all. (subst IsWhole (sym entry.together.operation) tt, further (answered_rest group rs place os all))) rs os notes made
 
 -- ---- Refused steps of reclaim
 

@@ -56,6 +56,10 @@ is_broken_at histories v = option_map_or is_broken (slice_get histories v) false
 abbrev pub next_at : List History → (v : ℕ) → ℕ
 next_at histories v = option_map_or next_after (slice_get histories v) 0
 
+-- the view that it was opened with
+abbrev pub view_at : List History → (v : ℕ) → List ℕ
+view_at histories v = option_map_or (λ (h : History). h.base.view) (slice_get histories v) []
+
 -- The entries are a legal history of volume v, each of them follows the rules of placing and reclaim, and the worker read and wrote in
 -- it what the answered requests of v ask for.
 pub record IsHistory (told : Type 0) (answers : List Answered) (v : ℕ) (h : History) : Type 0 where

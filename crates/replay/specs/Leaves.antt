@@ -14,10 +14,10 @@ use Rattle.wol_promise.specs.Policy.{PartName}
 use Rattle.wol_promise.specs.Ruled.{entries_of, last_look}
 use Rattle.wol_promise.specs.Run.{KeepsSound, LeavesCuts}
 use Rattle.run_laws.specs.Answers.{answered_count, answers_of, requests_in}
+use Rattle.run_laws.specs.Headline.{IsOneAction}
 use Rattle.wol_config.specs.declared.config.Config.{Config}
 use Rattle.rack.specs.Closes.{AreListedOf, HasFaultyPart, IsOnLogger}
 use Rattle.volume_images.specs.Volumes.{AreLeft, images_read, shapes_of}
-use Rattle.replay.specs.Headline.{IsOneAction}
 use Rattle.replay.specs.Histories.{History, is_broken, is_broken_at}
 
 -- what volume v recovers to of the images at entry as they read, behind what its answered requests wrote

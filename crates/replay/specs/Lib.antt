@@ -9,9 +9,9 @@ pub mod Leads
 pub mod Runs
 pub mod Histories
 pub mod Ended
-pub mod Headline
 pub mod Leaves
 pub mod Summed
+pub mod Headlined
 pub mod NotOpened
 pub mod Replays
 pub mod Completes

@@ -15,12 +15,12 @@ use Rattle.report.specs.declared.trouble.Trouble.{Trouble}
 use Rattle.trace_gen.specs.Generated.{targets_of}
 use Rattle.troubles.specs.Troubles.{trouble_of, trouble_of_part}
 use Rattle.rack.specs.Closes.{HasFaultyPart, part_named}
-use Rattle.rack.specs.PoolUses.{ArePools, PassesEmpty}
+use Rattle.rack.specs.PoolUses.{ArePools, PassesEmpty, TakesFew}
 use Rattle.rack.specs.declared.volume_fault.VolumeFault.{VolumeFault}
 use Rattle.replay.specs.Ended.{EndsFor}
 use Rattle.replay.specs.Givens.{HasGiven}
-use Rattle.replay.specs.Headline.{AreAllOpen}
-use Rattle.replay.specs.Histories.{History, AreHistories, ArePlainMarks, BeginAsRead, CountAnswered, LeavesReclaimed, answers_in, is_broken_at, next_at}
+use Rattle.replay.specs.Headlined.{AreAllOpen}
+use Rattle.replay.specs.Histories.{History, AreHistories, ArePlainMarks, BeginAsRead, CountAnswered, LeavesReclaimed, answers_in, is_broken_at, next_at, view_at}
 use Rattle.replay.specs.Leaves.{LeavesImages}
 use Rattle.replay.specs.NotOpened.{AsksNone, IsFirstClosed, LeavesBay}
 use Rattle.replay.specs.Placed.{CountsPlaced, CountsReclaimed}
@@ -79,6 +79,8 @@ pub record Replays {S T : Type 0} (tells : Bool) (left : S → Option (List ℕ)
   pub pools : (k : ℕ) → List Entry
   pub are_pools : IsTrue tells → IsTold (λ entry left_. ArePools config entry pools) old.told new.told
   pub passed : (v : ℕ) (h : History) → slice_get histories v ≡ Some h → PassesEmpty pools h.base h.notes
+  -- .. and of all pools together took no more segments than it wrote to logs, where no call failed
+  pub taken : (v : ℕ) (h : History) → slice_get histories v ≡ Some h → TakesFew pools h.base h.notes
   pub counts : CountAnswered (answers_in earlier) (answers_in (earlier ++ last)) (status_in result) histories
   -- the writes that are counted are those of the histories
   pub placed : CountsPlaced (earlier ++ last) histories
@@ -89,13 +91,13 @@ pub record Replays {S T : Type 0} (tells : Bool) (left : S → Option (List ℕ)
   pub awake : List (List Bool)
   pub worked : AreWorked options.reclaim (earlier ++ last) awake histories
   -- each disk was awake as its journal says; where memory ran out a window may have begun of which nothing was run
-  pub disks : HaveAccounts config run (earlier ++ last) awake ⊎ ((status_in result ≡ 9) × HaveShortAccounts config run (earlier ++ last) awake)
+  pub disks : HaveAccounts config (view_at histories) run (earlier ++ last) awake ⊎ ((status_in result ≡ 9) × HaveShortAccounts config (view_at histories) run (earlier ++ last) awake)
   -- at the end of the trace no call of a disk of a volume had failed
   pub unbroken : status_in result ≡ 0 → (v : ℕ) → is_broken_at histories v ≡ false
   pub marks : IsTrue tells → IsTold (λ entry left_. ArePlainMarks config (answers_in (earlier ++ last)) entry) old.told new.told
   pub images : IsTrue tells → IsTold (LeavesImages tells config (answers_in (earlier ++ last)) histories) old.told new.told
   pub summary : List ℕ
-  pub summary_is : IsSummaryOf left config start now run (earlier ++ last) awake result summary
+  pub summary_is : IsSummaryOf left config (view_at histories) start now run (earlier ++ last) awake result summary
   pub prints : PrintsRun result (lines_asked config options.each (answers_in (earlier ++ last))) summary sink sink' printed printed'
 
 -- A run over a bay: there was no memory to open its volumes; or one of them couldn't be opened; or all were open.

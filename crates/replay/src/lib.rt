@@ -5,8 +5,9 @@
 //! windows of a trace on a floor, `given.rt` gives the lines of a trace or of a seed, `counting.rt` and `ending.rt` say what a
 //! window counts and ends a run with, `printing.rt` prints the lines of reads and the summary.
 //!
-//! Of `specs/`, read `Headline` first (what is read back and what is reopened) and then `Account` (placing, reclaim and
-//! the disks' time): a page each. `Replays` has all that a run over open volumes comes to, of which both are had:
+//! The promise is `Headline` of `run_laws` (what is read back and what is reopened): read it first, and then of `specs/`
+//! `Headlined` (of which lines, images and output it holds) and `Account` (placing, reclaim and the disks' time): a page
+//! each. `Replays` has all that a run over open volumes comes to, of which both are had:
 //! `Histories` (what each volume's entries are, and how many of its requests were answered), `Works` (what each pass
 //! of a volume did, window by window), `Leaves` (images), `Placed` (what is counted), `Ended` (why a run ended),
 //! `Summed` (the summary and the disks' journals), `NotOpened` (a rack of which a volume isn't open), `Completes`
@@ -16,7 +17,6 @@
 mod counting;
 mod ending;
 mod given;
-mod laws;
 mod leading;
 mod printing;
 mod run;
@@ -24,7 +24,6 @@ mod session;
 mod stop;
 
 pub use given::Given;
-pub use laws::reopening_laws;
 pub use run::replay;
 pub use session::Options;
 pub use stop::{Stop, fault_of_trace};

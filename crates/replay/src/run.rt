@@ -7,7 +7,7 @@ ghost use Rattle.volume_images.specs.Left.{IsTold};
 ghost use Rattle.volume_images.specs.Volumes.{NoneOut};
 ghost use Rattle.rack.specs.Opens.{KeepsOthers};
 ghost use Rattle.replay.specs.Account.{KeepsAccount};
-ghost use Rattle.replay.specs.Headline.{KeepsHeadline};
+ghost use Rattle.replay.specs.Headlined.{KeepsHeadline};
 ghost use Rattle.replay.specs.Givens.{IsNew, IsWithin, faults_of, borrow_of};
 ghost use Rattle.replay.specs.Sessions.{AreOptions, IsSession};
 ghost use Rattle.replay.specs.Completes.{Completes, MayComplete};

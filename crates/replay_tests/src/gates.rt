@@ -1,4 +1,4 @@
-// Gates that hold one request back until something else was done.
+// Gates that hold one request back until something else was done, and one that counts.
 use std::sync::atomic::{AtomicBool, AtomicU64, Ordering};
 use std::thread::yield_now;
 use wol_disk::Fuse;
@@ -85,5 +85,30 @@ impl<'a> Gate for Awaiting<'a> {
             yield_now();
         }
         self.late.store(true, Ordering::SeqCst);
+    }
+}
+
+/// Counts how often it is passed.
+#[derive(Drop)]
+pub struct Counting {
+    passes: AtomicU64,
+}
+
+impl Counting {
+    pub(crate) fn new() -> Counting {
+        Counting {
+            passes: AtomicU64::new(0),
+        }
+    }
+
+    /// How often it was passed.
+    pub(crate) fn passes(&self) -> u64 {
+        self.passes.load(Ordering::SeqCst)
+    }
+}
+
+impl Gate for Counting {
+    fn pass(&self, _request: u64) {
+        self.passes.fetch_add(1, Ordering::SeqCst);
     }
 }

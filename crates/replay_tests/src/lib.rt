@@ -4,6 +4,8 @@
 #[cfg(test)]
 mod gates;
 #[cfg(test)]
+mod grouping;
+#[cfg(test)]
 mod helping;
 #[cfg(test)]
 mod rows;

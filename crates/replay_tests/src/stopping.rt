@@ -33,8 +33,8 @@ fn settle<B: Bay>(bay: &mut B, name: &str, sizes: &[u64]) -> Result<(), BayFault
     Ok(())
 }
 
-// One of the images that a crash may leave takes the place of an image in parts of these sizes.
-fn crash(bay: &mut MemBay, name: &str, sizes: &[u64], choice: &[u32]) -> Result<(), Fail>
+/// One of the images that a crash may leave takes the place of an image in parts of these sizes.
+pub(crate) fn crash(bay: &mut MemBay, name: &str, sizes: &[u64], choice: &[u32]) -> Result<(), Fail>
     requires { outs (mem_bay_state bay.old) ≡ Some [] }
     ensures { outs (mem_bay_state bay.new) ≡ Some [] }
 {

@@ -1,5 +1,5 @@
 -- The entry of a write after a drain, and of one whose drain failed.
-use Rattle.std.proofs.Common.{◌≡◌, ◌^◌, ℕ, Bool, true, false, List, [], ◌∷◌, ◌++◌, length, None, Some, Result, Ok, Err, refl, sym, ap, subst, ◌∙◌, inl, inr}
+use Rattle.std.proofs.Common.{◌≡◌, ◌^◌, ℕ, Bool, true, false, List, [], ◌∷◌, ◌++◌, length, None, Some, Result, Ok, Err, refl, sym, ap, subst, ◌∙◌, inl, inr, arith}
 use Rattle.std.specs.Prelude.{is_some, is_ok, ◌↔◌}
 use Rattle.std.specs.List.{list_any, range_with_len}
 use Rattle.turn_lock.specs.Passes.{pass_number}
@@ -71,11 +71,11 @@ module _ {D : Type 0} (old new : Manager D) (first : ℕ) (blocks : List Block) 
   drain_step client view (Err NoMemory) at look = (refl, ruled.refused w client (is_drained look))
 
   drain_entry : (view mine : List ℕ) (a : Result Place WriteRefusal) → IsPlaceOf view a P → HasLook P w a (look_of_manager old) (look_of_manager new)
-      → ((a ≡ Err VersionsSpent) → old.next ≡ 2 ^ 63) → IsWrittenAs mine w (written_outcome true a) (drain_note a)
+      → ((a ≡ Err VersionsSpent) → old.next ≡ 2 ^ 63) → IsWrittenAs mine w [] (written_outcome true a) (drain_note a)
   drain_entry view mine (Ok place.Home) at look spent = record { write = w; operation = refl; same = refl; logged = refl; placed = tt; drain = refl }
   drain_entry view mine (Ok (place.Log logger)) at look spent = absurd (let no : AtHome ≡ InLog at.0 = sym at_home ∙ at.2 in cc)
   drain_entry view mine (Err Full) at look spent = absurd (let no : AtHome ≡ Nowhere = sym at_home ∙ at in cc)
-  drain_entry view mine (Err (DiskFault p)) at look spent = (failed_write next first blocks p ∷ [], refl, inr (failed_write next first blocks p, refl, one_flight next first blocks p))
+  drain_entry view mine (Err (DiskFault p)) at look spent = (failed_write next first blocks p ∷ [], refl, (record { count = 1; same = λ t. one_flight next first blocks p t ∷ []; logged = inl (omega arith) }))
   drain_entry view mine (Err (Down p)) at look spent = refl
   drain_entry view mine (Err VersionsSpent) at look spent = (refl, ap (λ (k : Look). k.next) look ∙ spent refl)
   drain_entry view mine (Err NoMemory) at look spent = refl
@@ -164,7 +164,7 @@ write_broken tells new first blocks passed (fault.DiskFault d) p q t failed left
   note = note_of (pass_number p) (Broke []) (look_of_manager new) passed false;
   left = left;
   ruled = refl;
-  entry = ([], refl, inl refl);
+  entry = ([], refl, record { count = 0; same = refl; logged = inl (omega arith) });
   stays = λ kept. absurd (let no : Broke [] ≡ Kept = kept in cc);
   cause = takes;
   fault = broken d down;

@@ -17,3 +17,7 @@ pub mod Gaining
 pub mod HelpNotes
 pub mod Counting
 pub mod CountLaws
+pub mod MadeLaws
+pub mod GroupNotes
+pub mod GroupPayloads
+pub mod GroupTurns

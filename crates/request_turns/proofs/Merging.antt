@@ -115,6 +115,8 @@ module _ (notes : List Noted) (n1 n2 n : Noted) (kept : n1.entry.operation ≡ K
           (history_one (IsTrue tells) b.volume.began step s.keeps.upholds.history) s.keeps.upholds));
       in_use = s.keeps.in_use;
       passed = passed_one (nones_at m.lanes.items b.lanes) passed s.keeps.passed;
+      taken = s.keeps.taken;
+      still = s.keeps.still;
       ready = s.keeps.ready;
       locks = s.keeps.locks;
     };

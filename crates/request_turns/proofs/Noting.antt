@@ -6,10 +6,9 @@ use Rattle.turn_lock.specs.Histories.{Entry}
 use Rattle.turn_lock.specs.LockIds.{LockId}
 use Rattle.turn_lock.specs.Passes.{pass_lock, pass_number, pass_seen, pass_mine, IsFree, IsSamePass}
 use Rattle.wol_disk.specs.Disk.{State}
-use Rattle.wol_model.specs.History.{flight_of}
 use Rattle.wol_promise.specs.Code.{code_of, noted_of}
 use Rattle.wol_promise.specs.Policy.{Look}
-use Rattle.wol_promise.specs.Ruled.{Noted, entries_of}
+use Rattle.wol_promise.specs.Ruled.{Noted}
 use Rattle.wol_promise.specs.Stands.{HasHistory}
 use Rattle.wol_promise.proofs.OneMore.{last_more}
 use Rattle.wol_promise.proofs.ReadCode.{noted_is_back}

@@ -1,5 +1,5 @@
 -- A read's entry.
-use Rattle.std.proofs.Common.{◌≡◌, ◌+◌, ℕ, Bool, true, false, List, [], length, Option, None, Some, Result, Ok, Err, OnOk, IfOk, refl, sym, ap, subst, ◌∙◌, inl}
+use Rattle.std.proofs.Common.{◌≡◌, ◌+◌, ℕ, Bool, true, false, List, [], length, None, Some, Result, Ok, Err, OnOk, IfOk, refl, sym, ap, subst, ◌∙◌, inl}
 use Rattle.std.specs.Prelude.{IsSome, is_some, count_by, ◌↔◌}
 use Rattle.std.specs.List.{range_with_len}
 use Rattle.wol_disk.specs.Disk.{State, Block}
@@ -143,7 +143,7 @@ module _ {D : Type 0} (tells : Bool) (first : ℕ) (out : List Block) (answer : 
   read_counted_ t = counted_turn tells p i q r.note (last_look (began i).look (notes_seen i)) t t same begins mine owns r.left r.ruled refl (r.counted t)
 
 -- the entry of a read of a request's blocks is the request's
-entry_of_read : (view : List ℕ) (r : Request) (out : List Block) (n : Noted) → r.kind ≡ kind.Read → length out ≡ r.count → (a : Result Sources ReadRefusal) → IsReadAs r.lbn out a n → IsEntryOf view r (read_outcome out a) n
+entry_of_read : (view : List ℕ) (r : Request) (out : List Block) (n : Noted) → r.kind ≡ kind.Read → length out ≡ r.count → (a : Result Sources ReadRefusal) → IsReadAs r.lbn out a n → IsEntryOf view r [] (read_outcome out a) n
 entry_of_read view r out n reads counted (Ok s) is = record {
   kind_is = reads;
   reply = out;

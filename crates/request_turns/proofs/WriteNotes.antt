@@ -1,5 +1,5 @@
 -- A write's entry, where a log or home took it or it was refused.
-use Rattle.std.proofs.Common.{◌≡◌, ◌<◌, ◌≤◌, ◌^◌, ℕ, Bool, true, false, List, [], ◌∷◌, ◌++◌, map, Option, None, Some, Result, Ok, Err, refl, sym, ap, subst, ◌∙◌, inl, inr, arith}
+use Rattle.std.proofs.Common.{◌≡◌, ◌<◌, ◌≤◌, ◌^◌, ℕ, Bool, true, false, List, [], ◌∷◌, ◌++◌, map, None, Some, Result, Ok, Err, refl, sym, ap, subst, ◌∙◌, inl, arith}
 use Rattle.std.specs.Prelude.{is_some, ◌↔◌}
 use Rattle.wol_disk.specs.Disk.{State, Block}
 use Rattle.turn_lock.specs.Passes.{pass_lock, pass_number, pass_seen}
@@ -85,7 +85,7 @@ module _ {D : Type 0} (old new : Manager D) (first : ℕ) (blocks : List Block) 
       (record { operation_is = refl; look_is = refl; passed_is = refl; drain = refl; follows = λ _. write_step view a at look })
 
   write_entry : (view : List ℕ) (a : Result Place WriteRefusal) → is_full a ≡ false → IsPlaceOf view a P → HasLook P w a l (look_of_manager new)
-      → ((a ≡ Err VersionsSpent) → old.next ≡ 2 ^ 63) → IsWrittenAs view w (written_outcome false a) (write_note a)
+      → ((a ≡ Err VersionsSpent) → old.next ≡ 2 ^ 63) → IsWrittenAs view w [] (written_outcome false a) (write_note a)
   write_entry view (Ok place.Home) not_full at look spent = record { write = w; operation = refl; same = refl; logged = refl; placed = tt; drain = refl }
   write_entry view (Ok (place.Log logger)) not_full at look spent = record {
     write = log_write old.next first blocks;
@@ -96,7 +96,7 @@ module _ {D : Type 0} (old new : Manager D) (first : ℕ) (blocks : List Block) 
     drain = refl;
   }
   write_entry view (Err Full) not_full at look spent = absurd (let no : true ≡ false = not_full in cc)
-  write_entry view (Err (DiskFault p)) not_full at look spent = (failed_write old.next first blocks p ∷ [], refl, inr (failed_write old.next first blocks p, refl, one_flight old.next first blocks p))
+  write_entry view (Err (DiskFault p)) not_full at look spent = (failed_write old.next first blocks p ∷ [], refl, (record { count = 1; same = λ t. one_flight old.next first blocks p t ∷ []; logged = inl (omega arith) }))
   write_entry view (Err (Down p)) not_full at look spent = refl
   write_entry view (Err VersionsSpent) not_full at look spent = (refl, ap (λ (k : Look). k.next) look ∙ spent refl)
   write_entry view (Err NoMemory) not_full at look spent = refl
@@ -189,7 +189,7 @@ module _ {D : Type 0} (tells : Bool) (state : D → State) (old : Manager D) (b 
   pub spent_before : a ≡ Err VersionsSpent → IsUnbroken before × (l.next ≡ 2 ^ 63)
   spent_before is = let h = spent.0 is in (was_unbroken tells state old b before keeps h.0, is_next ∙ h.1)
 
-write_cause : {D : Type 0} (tells : Bool) (state : D → State) (old : Manager D) (b : ManagerBase) (before : List Noted) → Keeps tells state old b before → (l : Look) → l ≡ look_of_manager old → (drained : Bool)
+pub write_cause : {D : Type 0} (tells : Bool) (state : D → State) (old : Manager D) (b : ManagerBase) (before : List Noted) → Keeps tells state old b before → (l : Look) → l ≡ look_of_manager old → (drained : Bool)
     → (a : Result Place WriteRefusal) → is_full a ≡ false → ((p : Part) → (a ≡ Err (Down p)) ↔ (old.down ≡ Some p)) → ((a ≡ Err VersionsSpent) ↔ ((old.down ≡ None) × (old.next ≡ 2 ^ 63)))
     → IsCauseOfWrite before l (written_outcome drained a)
 write_cause tells state old b before keeps l is_l drained (Ok p) not_full down spent = can_take tells state old b before keeps l is_l (Ok p) down spent refl refl

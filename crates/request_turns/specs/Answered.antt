@@ -1,12 +1,12 @@
--- A request in one turn.
-use Rattle.std.specs.Prelude.{◌≡◌, Bool, List}
+-- A request, or several writes, in one turn.
+use Rattle.std.specs.Prelude.{◌≡◌, ◌≤◌, ℕ, Bool, List, [], length}
 use Rattle.turn_lock.specs.Histories.{Entry}
 use Rattle.wol_model.specs.History.{Kept}
 use Rattle.wol_promise.specs.Ruled.{Noted, last_look}
 use Rattle.trace_windows.specs.declared.request.Request.{Request}
 use Rattle.manager.specs.Stands.{notes_of}
 use Rattle.request_turns.specs.Turns.{ManagerPass, began, notes_seen, HasTurned, Stays}
-use Rattle.request_turns.specs.Entries.{IsEntryOf, TellsFault}
+use Rattle.request_turns.specs.Entries.{IsEntryOf, IsEntryOfFirst, TellsFault}
 use Rattle.request_turns.specs.declared.outcome.Outcome.{Outcome}
 
 -- one request, in one turn
@@ -14,6 +14,17 @@ pub record HasAnswered {D : Type 0} (tells : Bool) (r : Request) (o : Outcome) (
   pub before : List Entry
   pub note : Noted
   pub turned : HasTurned tells p q before note
-  pub entry : IsEntryOf (began p).view r o note
+  pub entry : IsEntryOf (began p).view r [] o note
+  pub stays : note.entry.operation ≡ Kept → Stays (last_look (began p).look (notes_of before)) note
+  pub fault : TellsFault (notes_seen q) o
+
+-- some first ones of these requests, `count`, in one turn, all with this outcome
+pub record HasAnsweredMany {D : Type 0} (tells : Bool) (rs : List Request) (count : ℕ) (o : Outcome) (p q : ManagerPass D) : Type 0 where
+  pub some : 1 ≤ count
+  pub within : count ≤ length rs
+  pub before : List Entry
+  pub note : Noted
+  pub turned : HasTurned tells p q before note
+  pub entry : IsEntryOfFirst (began p).view rs count o note
   pub stays : note.entry.operation ≡ Kept → Stays (last_look (began p).look (notes_of before)) note
   pub fault : TellsFault (notes_seen q) o

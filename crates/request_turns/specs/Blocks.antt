@@ -1,5 +1,5 @@
 -- Blocks that are read and written in one turn, and a look that asks for none.
-use Rattle.std.specs.Prelude.{◌≡◌, ◌↔◌, ℕ, Bool, List, Option, Result, IsSome}
+use Rattle.std.specs.Prelude.{◌≡◌, ◌↔◌, ℕ, Bool, List, [], Option, Result, IsSome}
 use Rattle.wol_disk.specs.Disk.{Block}
 use Rattle.turn_lock.specs.Histories.{Entry}
 use Rattle.wol_model.specs.History.{Kept}
@@ -30,7 +30,7 @@ pub record HasWrittenBlocks {D : Type 0} (tells : Bool) (first : ℕ) (blocks : 
   pub before : List Entry
   pub note : Noted
   pub turned : HasTurned tells p q before note
-  pub entry : IsWrittenAs (began p).view (home_write first blocks) o note
+  pub entry : IsWrittenAs (began p).view (home_write first blocks) [] o note
   pub stays : note.entry.operation ≡ Kept → Stays (last_look (began p).look (notes_of before)) note
   pub cause : IsCauseOfWrite (notes_of before) (last_look (began p).look (notes_of before)) o
   pub fault : TellsFault (notes_seen q) o

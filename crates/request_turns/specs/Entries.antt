@@ -1,6 +1,6 @@
 -- The entry that a request leaves, by its outcome.
-use Rattle.std.specs.Prelude.{⊤, ◌≡◌, ◌⊎◌, ◌+◌, ◌^◌, ◌∷◌, ◌++◌, ℕ, Bool, true, false, List, [], Option, None, Some, is_some, slice_get, count_by, length, Result, Ok, Err}
-use Rattle.std.specs.List.{range_with_len}
+use Rattle.std.specs.Prelude.{⊤, ◌≡◌, ◌⊎◌, ◌≤◌, ◌+◌, ◌^◌, ◌∷◌, ◌++◌, ℕ, Bool, true, false, List, [], Option, None, Some, is_some, slice_get, count_by, length, map, replicate, take, Result, Ok, Err}
+use Rattle.std.specs.List.{AllByRecursion, range_with_len}
 use Rattle.wol_disk.specs.Disk.{Block}
 use Rattle.wol_model.specs.ArrayLaws.{unversioned}
 use Rattle.wol_model.specs.Blocks.{Write}
@@ -8,6 +8,7 @@ use Rattle.wol_model.specs.History.{Operation, Wrote, Read, Kept, Broke}
 use Rattle.wol_model.specs.Index.{Listed, is_covered}
 use Rattle.wol_model.specs.Trace as trace
 use Rattle.wol_model.specs.Trace.{payload}
+use Rattle.wol_model.specs.declared.trace.Kind.{Kind}
 use Rattle.wol_model.specs.declared.trace.Kind.TheVariants as kind
 use Rattle.wol_promise.specs.Policy.{Look}
 use Rattle.wol_promise.specs.Ruled.{Noted}
@@ -124,58 +125,92 @@ pub record IsWriteEntry (view : List ℕ) (w : Write) (place : Place) (drained :
   pub placed : IsPlaced view place n.look
   pub drain : n.after_drain ≡ drained
 
--- in flight was nothing, or this payload
-abbrev pub IsFlight : Write → List Write → Type 0
-IsFlight w ws = (ws ≡ []) ⊎ ((v : Write) × (ws ≡ v ∷ []) × (unversioned v ≡ w))
+-- Writes of these payloads went to one log together: a Wrote of them, in order, each with a version; the newest record is on that logger.
+pub record AreWrittenTogether (view : List ℕ) (payloads : List Write) (place : Place) (n : Noted) : Type 0 where
+  pub writes : List Write
+  pub operation : n.entry.operation ≡ Wrote writes
+  pub same : map unversioned writes ≡ payloads
+  pub logged : AllByRecursion (λ (w : Write). is_some w.version ≡ true) writes
+  pub logger : is_log place ≡ true
+  pub placed : IsPlaced view place n.look
+  pub drain : n.after_drain ≡ false
+
+-- these requests all write, and their payloads went to one log together
+pub record IsGroupEntry (view : List ℕ) (rs : List Request) (place : Place) (n : Noted) : Type 0 where
+  pub kinds : AllByRecursion (λ (r : Request). r.kind ≡ kind.Write) rs
+  pub together : AreWrittenTogether view (map (λ (r : Request). payload (asked r)) rs) place n
+
+-- the payload of a request of this kind, before others; none where it reads
+abbrev pub before_others : Kind → Write → List Write → List Write
+before_others kind.Read w others = []
+before_others kind.Write w others = w ∷ others
+
+-- the payloads of the first ones of these requests, up to one that reads
+abbrev pub front_writes : List Request → List Write
+front_writes [] = []
+front_writes (r ∷ rs) = before_others r.kind (payload (asked r)) (front_writes rs)
+
+-- in flight was nothing, or some first ones of these payloads: more than one only on the way to a log
+pub record IsFlight (payloads flight : List Write) : Type 0 where
+  pub count : ℕ
+  pub same : map unversioned flight ≡ take count payloads
+  pub logged : (count ≤ 1) ⊎ AllByRecursion (λ (w : Write). is_some w.version ≡ true) flight
 
 -- what a refused read leaves
 abbrev pub IsRefusedRead : ReadRefusal → Noted → Type 0
 IsRefusedRead (refused_read.DiskFault p) n = n.entry.operation ≡ Broke []
 IsRefusedRead (refused_read.Down p) n = n.entry.operation ≡ Kept
 
--- what a refused write of this payload leaves; none is refused as full
-abbrev pub IsRefusedWrite : Write → WriteRefusal → Noted → Type 0
-IsRefusedWrite w refused.Full n = ⊥
-IsRefusedWrite w (refused.DiskFault p) n = (ws : List Write) × (n.entry.operation ≡ Broke ws) × IsFlight w ws
-IsRefusedWrite w (refused.Down p) n = n.entry.operation ≡ Kept
-IsRefusedWrite w refused.VersionsSpent n = (n.entry.operation ≡ Kept) × (n.look.next ≡ 2 ^ 63)
-IsRefusedWrite w refused.NoMemory n = n.entry.operation ≡ Kept
+-- what a refused write leaves that has the first of these payloads, where the others were to follow it; none is refused as full
+abbrev pub IsRefusedWrite : (payloads : List Write) → WriteRefusal → Noted → Type 0
+IsRefusedWrite payloads refused.Full n = ⊥
+IsRefusedWrite payloads (refused.DiskFault p) n = (flight : List Write) × (n.entry.operation ≡ Broke flight) × IsFlight payloads flight
+IsRefusedWrite payloads (refused.Down p) n = n.entry.operation ≡ Kept
+IsRefusedWrite payloads refused.VersionsSpent n = (n.entry.operation ≡ Kept) × (n.look.next ≡ 2 ^ 63)
+IsRefusedWrite payloads refused.NoMemory n = n.entry.operation ≡ Kept
 
--- the entry of a write of this payload with this outcome
-abbrev pub IsWrittenAs : (view : List ℕ) → Write → Outcome → Noted → Type 0
-IsWrittenAs view w (outcome.Read mark sources) n = ⊥
-IsWrittenAs view w (outcome.Wrote place drained) n = IsWriteEntry view w place drained n
-IsWrittenAs view w (outcome.NoRead refusal) n = ⊥
-IsWrittenAs view w (outcome.NoWrite refusal) n = IsRefusedWrite w refusal n
-IsWrittenAs view w outcome.NotRun n = ⊥
+-- the entry of a write of this payload with this outcome, where those `behind` were to follow it
+abbrev pub IsWrittenAs : (view : List ℕ) → Write → (behind : List Write) → Outcome → Noted → Type 0
+IsWrittenAs view w behind (outcome.Read mark sources) n = ⊥
+IsWrittenAs view w behind (outcome.Wrote place drained) n = IsWriteEntry view w place drained n
+IsWrittenAs view w behind (outcome.NoRead refusal) n = ⊥
+IsWrittenAs view w behind (outcome.NoWrite refusal) n = IsRefusedWrite (w ∷ behind) refusal n
+IsWrittenAs view w behind outcome.NotRun n = ⊥
 
 -- the entry of a read that gave these blocks, or was refused
 abbrev pub IsReadAs : (first : ℕ) → List Block → Result Sources ReadRefusal → Noted → Type 0
 IsReadAs first blocks (Ok sources) n = IsReadOf first blocks sources n
 IsReadAs first blocks (Err refusal) n = IsRefusedRead refusal n
 
--- the entry of a request with this outcome; `view` has the loggers of the volume's view
-abbrev pub IsEntryOf : (view : List ℕ) → Request → Outcome → Noted → Type 0
-IsEntryOf view r (outcome.Read mark sources) n = IsReadEntry r mark sources n
-IsEntryOf view r (outcome.Wrote place drained) n = (r.kind ≡ kind.Write) × IsWriteEntry view (payload (asked r)) place drained n
-IsEntryOf view r (outcome.NoRead refusal) n = (r.kind ≡ kind.Read) × IsRefusedRead refusal n
-IsEntryOf view r (outcome.NoWrite refusal) n = (r.kind ≡ kind.Write) × IsRefusedWrite (payload (asked r)) refusal n
-IsEntryOf view r outcome.NotRun n = ⊥
+-- the entry of a request with this outcome, where the requests `behind` came after it; `view` has the loggers of the volume's view
+abbrev pub IsEntryOf : (view : List ℕ) → Request → (behind : List Request) → Outcome → Noted → Type 0
+IsEntryOf view r behind (outcome.Read mark sources) n = IsReadEntry r mark sources n
+IsEntryOf view r behind (outcome.Wrote place drained) n = (r.kind ≡ kind.Write) × IsWriteEntry view (payload (asked r)) place drained n
+IsEntryOf view r behind (outcome.NoRead refusal) n = (r.kind ≡ kind.Read) × IsRefusedRead refusal n
+IsEntryOf view r behind (outcome.NoWrite refusal) n = (r.kind ≡ kind.Write) × IsRefusedWrite (payload (asked r) ∷ front_writes behind) refusal n
+IsEntryOf view r behind outcome.NotRun n = ⊥
 
 -- the entries of a request: one, and none where it wasn't run
-abbrev pub AreEntriesOf : (view : List ℕ) → Request → Outcome → List Noted → Type 0
-AreEntriesOf view r outcome.NotRun notes = notes ≡ []
-AreEntriesOf view r (outcome.Read mark sources) notes = (n : Noted) × (notes ≡ n ∷ []) × IsEntryOf view r (outcome.Read mark sources) n
-AreEntriesOf view r (outcome.Wrote place drained) notes = (n : Noted) × (notes ≡ n ∷ []) × IsEntryOf view r (outcome.Wrote place drained) n
-AreEntriesOf view r (outcome.NoRead refusal) notes = (n : Noted) × (notes ≡ n ∷ []) × IsEntryOf view r (outcome.NoRead refusal) n
-AreEntriesOf view r (outcome.NoWrite refusal) notes = (n : Noted) × (notes ≡ n ∷ []) × IsEntryOf view r (outcome.NoWrite refusal) n
+abbrev pub AreEntriesOf : (view : List ℕ) → Request → (behind : List Request) → Outcome → List Noted → Type 0
+AreEntriesOf view r behind outcome.NotRun notes = notes ≡ []
+AreEntriesOf view r behind (outcome.Read mark sources) notes = (n : Noted) × (notes ≡ n ∷ []) × IsEntryOf view r behind (outcome.Read mark sources) n
+AreEntriesOf view r behind (outcome.Wrote place drained) notes = (n : Noted) × (notes ≡ n ∷ []) × IsEntryOf view r behind (outcome.Wrote place drained) n
+AreEntriesOf view r behind (outcome.NoRead refusal) notes = (n : Noted) × (notes ≡ n ∷ []) × IsEntryOf view r behind (outcome.NoRead refusal) n
+AreEntriesOf view r behind (outcome.NoWrite refusal) notes = (n : Noted) × (notes ≡ n ∷ []) × IsEntryOf view r behind (outcome.NoWrite refusal) n
 
--- the entries of requests with these outcomes, in order; there are as many outcomes as requests
-abbrev pub AreMade : (view : List ℕ) → List Request → List Outcome → List Noted → Type 0
-AreMade view [] [] notes = notes ≡ []
-AreMade view [] (o ∷ os) notes = ⊥
-AreMade view (r ∷ rs) [] notes = ⊥
-AreMade view (r ∷ rs) (o ∷ os) notes = (first rest : List Noted) × (notes ≡ first ++ rest) × AreEntriesOf view r o first × AreMade view rs os rest
+-- the entries of requests with these outcomes, in order: one for each that was run, or one for several writes in a row
+pub data AreMade (view : List ℕ) : List Request → List Outcome → List Noted → Type 0 where
+  none : AreMade view [] [] []
+  one : (r : Request) (rs : List Request) (o : Outcome) (os : List Outcome) (notes first rest : List Noted) → notes ≡ first ++ rest
+      → AreEntriesOf view r rs o first → AreMade view rs os rest → AreMade view (r ∷ rs) (o ∷ os) notes
+  several : (all : List Request) (outcomes : List Outcome) (notes : List Noted) (group rs : List Request) (place : Place) (os : List Outcome) (n : Noted) (rest : List Noted) → 2 ≤ length group
+      → all ≡ group ++ rs → outcomes ≡ replicate (length group) (outcome.Wrote place false) ++ os → notes ≡ n ∷ rest
+      → IsGroupEntry view group place n → AreMade view rs os rest → AreMade view all outcomes notes
+
+-- the entry of some first ones of these requests, `count`, all with this outcome
+pub data IsEntryOfFirst (view : List ℕ) (rs : List Request) (count : ℕ) (o : Outcome) (n : Noted) : Type 0 where
+  one : (r : Request) (behind : List Request) → rs ≡ r ∷ behind → count ≡ 1 → IsEntryOf view r behind o n → IsEntryOfFirst view rs count o n
+  several : (place : Place) → 2 ≤ count → count ≤ length rs → o ≡ outcome.Wrote place false → IsGroupEntry view (take count rs) place n → IsEntryOfFirst view rs count o n
 
 -- ---- Causes
 

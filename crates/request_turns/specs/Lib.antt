@@ -6,6 +6,7 @@ pub mod Counts
 pub mod Causes
 pub mod Written
 pub mod Blocks
+pub mod Groups
 pub mod Closed
 pub mod Helped
 pub mod Begun

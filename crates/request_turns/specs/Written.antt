@@ -1,5 +1,5 @@
 -- What a write or a read within a turn leaves.
-use Rattle.std.specs.Prelude.{⊤, ◌≡◌, ℕ, Bool, List, Result, IsTrue}
+use Rattle.std.specs.Prelude.{⊤, ◌≡◌, ℕ, Bool, List, [], Result, IsTrue}
 use Rattle.wol_disk.specs.Disk.{Block}
 use Rattle.wol_model.specs.History.{Kept}
 use Rattle.wol_promise.specs.Ruled.{Noted, last_look}
@@ -20,7 +20,7 @@ pub record HasWritten {D : Type 0} (tells : Bool) (first : ℕ) (blocks : List B
   pub note : Noted
   pub left : HasLeft tells note p q
   pub ruled : IsTrue note.ruled
-  pub entry : IsWrittenAs (began p).view (home_write first blocks) o note
+  pub entry : IsWrittenAs (began p).view (home_write first blocks) [] o note
   pub stays : note.entry.operation ≡ Kept → Stays (last_look (began p).look (notes_seen p)) note
   pub cause : IsCauseOfWrite (notes_seen p) (last_look (began p).look (notes_seen p)) o
   pub fault : TellsFault (notes_seen q) o

@@ -2,15 +2,11 @@
 ghost use Rattle.std.specs.Prelude.{ℕ, Some, ◌≡◌, ◌++◌, ◌∷◌, [], ◌≤◌, ◌+◌, false, None, length};
 ghost use Rattle.turn_lock.specs.Passes.{pass_lock, pass_number, IsPassOf, IsFree, IsInTurn};
 ghost use Rattle.wol_model.specs.History.{worker};
-ghost use Rattle.wol_model.specs.Trace.{payload_block};
-ghost use Rattle.std.specs.List.{range_with_len};
 ghost use Rattle.manager.specs.Answers.{written};
 ghost use Rattle.manager.specs.Seen.{look_of_manager};
 ghost use Rattle.manager.specs.Stands.{Stands, IsShared, passed_in};
 ghost use Rattle.manager.specs.declared.part.Part.{Part};
 ghost use Rattle.request_turns.specs.Entries.{note_of, written_outcome, is_full};
-ghost use Rattle.request_turns.specs.Requests.{IsWithin};
-ghost use Rattle.request_turns.specs.Answered.{HasAnswered};
 ghost use Rattle.request_turns.specs.Blocks.{HasWrittenBlocks};
 ghost use Rattle.request_turns.specs.Counts.{HasCounted};
 ghost use Rattle.request_turns.specs.Turns.{notes_seen, HasLeft, IsBroken, WasDown};
@@ -19,18 +15,14 @@ ghost use Rattle.request_turns.specs.Written.{HasWritten};
 use crate::drain::drain_and_write;
 use crate::noted::{Memo, leave_noted};
 use crate::outcome::Outcome;
-use crate::payload::Payload;
 use crate::tally::Tally;
 use logger::Shared;
 use manager::{Manager, Place, WriteRefusal};
-use msr_trace::fill;
 use reclaimer::Fetch;
 use std::marker::Brand;
 use std::sync::Wait;
-use trace_windows::Request;
 use turn_lock::{Pass, Turn, TurnLock};
 use wol_disk::{Block, Disk};
-use wol_model::Kind;
 
 /// The outcome of a write with this answer.
 pub(crate) fn outcome_of(answer: Result<Place, WriteRefusal>, drained: bool) -> Outcome
@@ -42,8 +34,8 @@ pub(crate) fn outcome_of(answer: Result<Place, WriteRefusal>, drained: bool) -> 
     }
 }
 
-// Whether no log had room.
-fn is_full(answer: &Result<Place, WriteRefusal>) -> bool
+/// Whether no log had room.
+pub(crate) fn is_full(answer: &Result<Place, WriteRefusal>) -> bool
     ensures { result ≡ is_full answer.now }
 {
     matches!(answer, Err(WriteRefusal::Full))
@@ -127,40 +119,4 @@ pub fn write_blocks<D: Disk, R: Wait>(
 {
     let turn = lock.enter(rt, pass);
     write_within::<D, R, Brand>(rt, lock, turn, pass, shared, lbn, from, fetch, tally)
-}
-
-/// Writes the payload of a request in one turn. Where no log has room, all records are drained first.
-pub fn write_turn<D: Disk, R: Wait>(
-    rt: &R,
-    lock: &TurnLock<Manager<D>>,
-    pass: &mut Pass<Manager<D>>,
-    shared: &Shared<D>,
-    request: &Request,
-    payload: &mut Payload,
-    fetch: &mut Fetch,
-    tally: &mut Tally,
-) -> Outcome
-    requires own { IsPassOf lock.now pass.old }
-    requires free { IsFree pass.old }
-    requires client { pass_number pass.old ≡ worker }
-    requires shared { IsShared shared.now (pass_lock pass.old).base }
-    requires within { IsWithin (pass_lock pass.old).base request.now }
-    requires kind { request.now.kind ≡ Kind.Write }
-    ensures answered { HasAnswered D.tells request.now result pass.old pass.new }
-    ensures counted { HasCounted D.tells tally.old tally.new pass.old pass.new }
-{
-    let turn = lock.enter(rt, pass);
-    let from = &mut payload.blocks[..request.count as usize];
-    fill(request.line, request.lbn, from);
-    write_within::<D, R, Brand>(
-        rt,
-        lock,
-        turn,
-        pass,
-        shared,
-        request.lbn,
-        from,
-        fetch,
-        tally,
-    )
 }

@@ -1,6 +1,8 @@
 pub mod OneMore
 pub mod Opened
 pub mod Handing
+mod Batching
+mod Making
 pub mod Serving
 pub mod Working
 pub mod Roomy

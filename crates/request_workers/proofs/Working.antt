@@ -1,9 +1,15 @@
 -- A desk through a whole window.
-use Rattle.std.proofs.Common.{◌≡◌, ◌<◌, ℕ, Bool, List, [], ◌∷◌, ◌++◌, map, length, get_or, refl, ap, ◌∙◌, sym, subst, Option}
+use Rattle.std.proofs.Common.{◌≡◌, ◌<◌, ℕ, Bool, true, false, List, [], ◌∷◌, ◌++◌, map, length, take, drop, replicate, get_or, refl, ap, ◌∙◌, sym, subst, Option}
+use Rattle.std.specs.Prelude.{is_some}
+use Rattle.std.proofs.lemmas.List.{take_at, drop_at, length-map}
+use Rattle.wol_model.specs.ArrayLaws.{unversioned}
 use Rattle.wol_model.specs.Blocks.{Write}
-use Rattle.wol_model.specs.History.{Operation, Kept, Broke}
-use Rattle.wol_promise.specs.Outcomes.{Answered, WasRead, AreOutcomes, answered_in}
+use Rattle.wol_model.specs.History.{Operation, Wrote, Kept, Broke}
+use Rattle.wol_model.specs.Trace.{payload}
+use Rattle.wol_model.specs.declared.trace.Kind.TheVariants as kind
+use Rattle.wol_promise.specs.Outcomes.{Answered, WasRead, WasWritten, AreOutcomes, AreWritten, answered_in}
 use Rattle.wol_promise.specs.Ruled.{Noted}
+use Rattle.manager.specs.declared.part.Place.{Place}
 use Rattle.manager.specs.declared.part.ReadRefusal.{ReadRefusal}
 use Rattle.manager.specs.declared.part.ReadRefusal.TheVariants as refused_read
 use Rattle.manager.specs.declared.part.StepFault.{StepFault}
@@ -13,7 +19,8 @@ use Rattle.request_workers.specs.Closed.{IsClosed, HasClosedDesk, AreClosed}
 use Rattle.request_workers.specs.Collects.{IsCollected, HoldsOutcomes}
 use Rattle.request_workers.specs.Desks.{HaveOwn, AreServed}
 use Rattle.request_turns.specs.Counts.{Counts, blocks_between, records_between}
-use Rattle.request_turns.specs.Entries.{AreEntriesOf, AreMade, IsRefusedRead, IsRefusedWrite, TellsFault}
+use Rattle.request_turns.specs.Entries.{AreEntriesOf, AreMade, none, one, several, IsGroupEntry, IsRefusedRead, IsRefusedWrite, TellsFault, is_log}
+use Rattle.trace_windows.specs.Requests.{asked}
 use Rattle.request_workers.specs.Requests.{own_requests, outcomes_of, answers_to, StopsAtRefusal}
 use Rattle.request_workers.specs.Served.{HasServed}
 use Rattle.request_turns.specs.Turns.{ManagerPass, began, notes_seen}
@@ -25,7 +32,7 @@ use Rattle.request_turns.specs.declared.outcome.Outcome.{Outcome}
 use Rattle.request_turns.specs.declared.outcome.Outcome.TheVariants as outcome
 use Rattle.request_turns.specs.declared.tally.Tally.{Tally}
 use Rattle.request_workers.proofs.Counted.{from_none, closed_counted}
-use Rattle.request_workers.proofs.Serving.{made_length}
+use Rattle.request_turns.proofs.MadeLaws.{made_length}
 use Rattle.std.specs.List.{AllByRecursion}
 
 -- ---- Outcomes and operations
@@ -43,14 +50,14 @@ skips_read : (xs : List Answered) (r : ReadRefusal) (n : Noted) (ops : List Oper
 skips_read xs (refused_read.DiskFault p) n ops is h = skips_broke xs n.entry.operation ops [] is h
 skips_read xs (refused_read.Down p) n ops is h = skips_kept xs n.entry.operation ops is h
 
-skips_write : (xs : List Answered) (w : Write) (r : WriteRefusal) (n : Noted) (ops : List Operation) → IsRefusedWrite w r n → AreOutcomes xs ops → AreOutcomes xs (n.entry.operation ∷ ops)
+skips_write : (xs : List Answered) (w : List Write) (r : WriteRefusal) (n : Noted) (ops : List Operation) → IsRefusedWrite w r n → AreOutcomes xs ops → AreOutcomes xs (n.entry.operation ∷ ops)
 skips_write xs w refused.Full n ops is h = absurd is
 skips_write xs w (refused.DiskFault p) n ops is h = skips_broke xs n.entry.operation ops is.0 is.1 h
 skips_write xs w (refused.Down p) n ops is h = skips_kept xs n.entry.operation ops is h
 skips_write xs w refused.VersionsSpent n ops is h = skips_kept xs n.entry.operation ops is.0 h
 skips_write xs w refused.NoMemory n ops is h = skips_kept xs n.entry.operation ops is h
 
-one_more : (view : List ℕ) (r : Request) (o : Outcome) (rs : List Request) (os : List Outcome) (ns first rest : List Noted) → ns ≡ first ++ rest → AreEntriesOf view r o first → AreOutcomes (answered_in (answers_to rs os)) (operations rest)
+one_more : (view : List ℕ) (r : Request) (o : Outcome) (rs : List Request) (os : List Outcome) (ns first rest : List Noted) → ns ≡ first ++ rest → AreEntriesOf view r rs o first → AreOutcomes (answered_in (answers_to rs os)) (operations rest)
     → AreOutcomes (answered_in (answers_to (r ∷ rs) (o ∷ os))) (operations ns)
 unfolding operations
 one_more view r outcome.NotRun rs os ns first rest split are h = subst (λ (l : List Noted). AreOutcomes (answered_in (answers_to rs os)) (operations l)) (sym (split ∙ ap (λ (l : List Noted). l ++ rest) are)) h
@@ -69,12 +76,50 @@ one_more view r (outcome.NoRead x) rs os ns first rest split are h =
 one_more view r (outcome.NoWrite x) rs os ns first rest split are h =
     subst (λ (l : List Noted). AreOutcomes (answered_in (answers_to rs os)) (operations l)) (sym (split ∙ ap (λ (l : List Noted). l ++ rest) are.1)) (skips_write (answered_in (answers_to rs os)) _ x are.0 (operations rest) are.2.1 h)
 
+-- writes that went to this log together, each with its outcome
+told_of : Place → List Request → List Answered
+told_of place rs = map (λ (r : Request). record { request = asked r; outcome = WasWritten (is_log place) false }) rs
+
+told_first : (place : Place) (group rs : List Request) (os : List Outcome) → answered_in (answers_to (group ++ rs) (replicate (length group) (outcome.Wrote place false) ++ os)) ≡ told_of place group ++ answered_in (answers_to rs os)
+unfolding told_of
+told_first place [] rs os = refl
+told_first place (r ∷ group) rs os = ap (λ (l : List Answered). record { request = asked r; outcome = WasWritten (is_log place) false } ∷ l) (told_first place group rs os)
+
+told_written : (place : Place) (group : List Request) (ws : List Write) → is_log place ≡ true → AllByRecursion (λ (r : Request). r.kind ≡ kind.Write) group → map unversioned ws ≡ map (λ (r : Request). payload (asked r)) group
+    → AllByRecursion (λ (w : Write). is_some w.version ≡ true) ws → AreWritten (told_of place group) ws
+unfolding told_of
+told_written place [] [] log kinds same logged = tt
+told_written place [] (w ∷ ws) log kinds same logged = cc
+told_written place (r ∷ group) [] log kinds same logged = cc
+told_written place (r ∷ group) (w ∷ ws) log kinds same logged =
+    let front : unversioned w ≡ payload (asked r) = cc in
+    let behind : map unversioned ws ≡ map (λ (q : Request). payload (asked q)) group = cc in
+    ((kinds.0, record { same = front; place = logged.0 ∙ sym log }), told_written place group ws log kinds.1 behind logged.1)
+
+told_length : (place : Place) (group : List Request) (ws : List Write) → map unversioned ws ≡ map (λ (r : Request). payload (asked r)) group → length (told_of place group) ≡ length ws
+unfolding told_of
+told_length place group ws same = length-map group _ ∙ (sym (length-map group (λ (r : Request). payload (asked r))) ∙ (ap length (sym same) ∙ length-map ws unversioned))
+
+group_more : (view : List ℕ) (all : List Request) (outs : List Outcome) (notes : List Noted) (group rs : List Request) (place : Place) (os : List Outcome) (n : Noted) (rest : List Noted) → all ≡ group ++ rs
+    → outs ≡ replicate (length group) (outcome.Wrote place false) ++ os → notes ≡ n ∷ rest → IsGroupEntry view group place n → AreOutcomes (answered_in (answers_to rs os)) (operations rest) → AreOutcomes (answered_in (answers_to all outs)) (operations notes)
+unfolding operations
+group_more view all outs notes group rs place os n rest all_is outs_is notes_is entry h =
+    let t = entry.together in let ws = t.writes in let later = answered_in (answers_to rs os) in
+    let are : answered_in (answers_to all outs) ≡ told_of place group ++ later = (λ i. answered_in (answers_to (all_is i) (outs_is i))) ∙ told_first place group rs os in
+    let long = told_length place group ws t.same in
+    subst (λ (l : List Noted). AreOutcomes (answered_in (answers_to all outs)) (operations l)) (sym notes_is)
+    (subst (λ (o : Operation). AreOutcomes (answered_in (answers_to all outs)) (o ∷ operations rest)) (sym t.operation)
+    (subst (λ (xs : List Answered). AreOutcomes xs (Wrote ws ∷ operations rest)) (sym are) (
+      subst (λ (xs : List Answered). AreWritten xs ws) (sym (take_at (told_of place group) later (length ws) long)) (told_written place group ws t.logger entry.kinds t.same t.logged),
+      subst (λ (xs : List Answered). AreOutcomes xs (operations rest)) (sym (drop_at (told_of place group) later (length ws) long)) h,
+    )))
+
 pub made_outcomes : (view : List ℕ) (rs : List Request) (os : List Outcome) (ns : List Noted) → AreMade view rs os ns → AreOutcomes (answered_in (answers_to rs os)) (map (λ (n : Noted). n.entry.operation) ns)
 unfolding operations
-made_outcomes view [] [] ns m = subst (λ (l : List Noted). AreOutcomes [] (operations l)) (sym m) refl
-made_outcomes view [] (o ∷ os) ns m = absurd m
-made_outcomes view (r ∷ rs) [] ns m = absurd m
-made_outcomes view (r ∷ rs) (o ∷ os) ns m = one_more view r o rs os ns m.0 m.1 m.2 m.3 (made_outcomes view rs os m.1 m.4)
+made_outcomes view _ _ _ none = refl
+made_outcomes view _ _ _ (one r rs o os notes first rest is entries made) = one_more view r o rs os notes first rest is entries (made_outcomes view rs os rest made)
+made_outcomes view _ _ _ (several all outs notes group rs place os n rest two all_is outs_is notes_is entry made) =
+    group_more view all outs notes group rs place os n rest all_is outs_is notes_is entry (made_outcomes view rs os rest made)
 
 -- ---- A desk
 

@@ -19,6 +19,14 @@ pub record IsReadyDesk {D : Type 0} (l : ManagerLock D) (shared : Shared D) (d :
   pub empty : d.outcomes.items ≡ []
   pub room : length d.requests.items ≤ vec_capacity d.outcomes
 
+-- .. and so it is where as many outcomes are told: those of the requests before this place
+pub record IsReadyAt {D : Type 0} (l : ManagerLock D) (shared : Shared D) (at : ℕ) (d : Desk D) : Type 0 where
+  pub pass : IsPassAt l worker d.worker
+  pub shared_ : IsShared shared (pass_lock d.worker).base
+  pub within : All (IsWithin (pass_lock d.worker).base) d.requests.items
+  pub told : length d.outcomes.items ≡ at
+  pub room : length d.requests.items ≤ vec_capacity d.outcomes
+
 -- the desks from the lock at `start` on
 abbrev pub AreReady : {D : Type 0} → List (ManagerLock D) → Shared D → (start : ℕ) → List (Desk D) → Type 0
 AreReady {D} ls shared start ds = (k : ℕ) (l : ManagerLock D) (d : Desk D) → k < length ds → IsReadyDesk (slice_index_or ls (start + k) l) shared (slice_index_or ds k d)

@@ -1,5 +1,6 @@
 pub mod Requests
 pub mod Handed
+pub mod Batches
 pub mod Served
 pub mod Closed
 pub mod Helped

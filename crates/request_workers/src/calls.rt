@@ -50,7 +50,11 @@ fn refused_turn<D: Disk>(desks: &[Desk<D>]) -> Option<(u32, StepFault)>
 /// Runs one window of requests: each volume's in order, the volumes cut in order into runs of as many as their number
 /// divided by the workers' count, rounded up, and each run by a worker of the crew, or all by the caller alone, as
 /// `Sharing` says. The caller serves a run too, and those whose worker is not there. After the first request of a volume that
-/// isn't answered its later ones are not run. The gate is passed before each request that is run, in no turn.
+/// isn't answered its later ones are not run.
+///
+/// Writes of a volume with no read between them are served together, as many as have at most 128 blocks: those that go to one
+/// log in a row take one turn, and leave one entry. The gate is passed before each request that is run, in no turn: for writes
+/// that are served together before the first of them, so also for those that a refusal among them keeps from being run.
 ///
 /// In mode `Between` each volume in order has one reclaim turn after the requests. In mode `Beside` the caller reclaims beside
 /// the workers too, a step on each volume at a time, until a round of steps did nothing, and at most in as many rounds as

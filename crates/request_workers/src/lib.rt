@@ -3,7 +3,8 @@
 //!
 //! Workers live as long as the run. A window from the outside in: `calls.rt` (`window`) adds up, `hand_out.rt` hands each desk
 //! the requests of its volume, `slices.rt` runs a window over a floor, `hands.rt` hands each worker a run of desks, or has the
-//! caller serve all, `run.rt` serves a run, `serve.rt` the requests of one desk in order; `gather.rt` puts the outcomes into the
+//! caller serve all, `run.rt` serves a run, `serve.rt` the requests of one desk in order, in
+//! batches that `batch.rt` cuts; `gather.rt` puts the outcomes into the
 //! order of the trace. `closing.rt` takes the reclaim turns, `helper.rt` is the helper beside the workers, `begin.rt` the
 //! beginning of a window. `pool.rt` makes the places where workers are handed their `job.rt`, `work.rt` is what a worker does,
 //! `crew.rt` what the caller has of it. `setting.rt` says how stations become locks and passes and back, and `floor.rt` how
@@ -12,6 +13,7 @@
 //! and `Shares` what passes between the caller and its workers.
 #![tactic(auto)]
 
+mod batch;
 mod begin;
 pub mod calls;
 mod closing;

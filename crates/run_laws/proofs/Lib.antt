@@ -3,3 +3,4 @@ pub mod ReadLines
 pub mod Cuts
 pub mod Joins
 pub mod Accounts
+pub mod GoOn

@@ -9,7 +9,7 @@ use Rattle.wol_promise.specs.Run.{joined_lines}
 use Rattle.wol_config.specs.declared.config.Config.{Config}
 use Rattle.report.specs.Faults.{status_of}
 use Rattle.volume_images.specs.Left.{IsTold}
-use Rattle.replay.specs.Headline.{ArePrinted, HasNotBegun, Headline, KeepsHeadline}
+use Rattle.replay.specs.Headlined.{ArePrinted, HasNotBegun, KeepsHeadline, MeetsHeadline}
 use Rattle.replay.specs.Replays.{status_in}
 use Rattle.replay.specs.declared.given.Given.{Given}
 use Rattle.replay.specs.declared.session.Options.{Options}
@@ -96,7 +96,7 @@ keeps_ends : {D S T : Type 0} (tells : Bool) (state : D → State) (left : S →
     → KeepsHeadline tells state left config each start now old new (status_in result) taken then → EndsReplay config result status then taken' → KeepsHeadline tells state left config each start now old new status taken taken'
 keeps_ends tells state left config each start now old new result status taken then taken' (inl none) ends = inl (not_begun_ends tells state config start now old new result status taken then taken' none ends)
 keeps_ends tells state left config each start now old new result status taken then taken' (inr keeps) ends = inr (λ telling. on_told
-    (λ entry exit. Headline left config each start now entry exit old.faults new.faults (status_in result) taken then) (λ entry exit. Headline left config each start now entry exit old.faults new.faults status taken taken') old.told new.told (keeps telling)
+    (λ entry exit. MeetsHeadline left config each start now entry exit old.faults new.faults (status_in result) taken then) (λ entry exit. MeetsHeadline left config each start now entry exit old.faults new.faults status taken taken') old.told new.told (keeps telling)
     (λ entry exit h. record {
       open_ = h.open_;
       lines = h.lines;
@@ -104,9 +104,8 @@ keeps_ends tells state left config each start now old new result status taken th
       answers = h.answers;
       asked = h.asked;
       done = λ zero_is. h.done (of_success config result status then taken' ends zero_is);
+      headline = h.headline;
       printed = printed_ends config result _ status taken then taken' h.printed ends;
-      each_volume = h.each_volume;
-      sound = h.sound;
     }))
 
 pub runs_headline : {D : Type 0} (tells : Bool) (state : D → State) (options : Options) (start : GivenLines) (left : Option (List ℕ)) (faults faults' : ℕ) (left_of_trace : Option (List ℕ)) (old new : BayState) (sink status : ℕ) (taken taken' : Option (List ℕ))

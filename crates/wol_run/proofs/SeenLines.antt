@@ -10,6 +10,7 @@ use Rattle.volume_images.specs.Left.{IsTold}
 use Rattle.rack.specs.Opens.{KeepsOthers}
 use Rattle.replay.specs.Ended.{EndsFor, whole, no_line, refused, memory, sink_failed}
 use Rattle.replay.specs.Givens.{HasGiven, HasGivenAll, Refuses, faults_of}
+use Rattle.replay.specs.Histories.{view_at}
 use Rattle.replay.specs.NotOpened.{AsksNone}
 use Rattle.replay.specs.Replays.{Replayed, closed, no_memory, ran}
 use Rattle.replay.specs.Served.{ServedWindow}
@@ -59,10 +60,10 @@ module _ {S T : Type 0} (tells : Bool) (left : S → Option (List ℕ)) (config 
   ends_seen run last result memory = memory
   ends_seen run last result (sink_failed rose) = sink_failed rose
 
-  summary_seen : (lines : List (Option TraceLine)) (windows : List ServedWindow) (awake : List (List Bool)) (result : Result T Stop) (text : List ℕ) → IsSummaryOf left config start now lines windows awake result text
-      → IsSummaryOf (λ bytes. bytes) config (seen left start) (seen left now) lines windows awake result text
-  summary_seen lines windows awake result text (of_all r x all is) = of_all r x (all_seen left (targets_of config) start now lines all) is
-  summary_seen lines windows awake result text (of_none e) = of_none e
+  summary_seen : (views : ℕ → List ℕ) (lines : List (Option TraceLine)) (windows : List ServedWindow) (awake : List (List Bool)) (result : Result T Stop) (text : List ℕ) → IsSummaryOf left config views start now lines windows awake result text
+      → IsSummaryOf (λ bytes. bytes) config views (seen left start) (seen left now) lines windows awake result text
+  summary_seen views lines windows awake result text (of_all r x all is) = of_all r x (all_seen left (targets_of config) start now lines all) is
+  summary_seen views lines windows awake result text (of_none e) = of_none e
 
   module _ (options : Options) (printed printed' : Option (List ℕ)) where
     pub replayed_seen : {D : Type 0} (state : D → State) (result : Result T Stop) → Replayed tells state left config options start now old new sink sink' printed printed' result
@@ -91,6 +92,7 @@ module _ {S T : Type 0} (tells : Bool) (left : S → Option (List ℕ)) (config 
       pools = is.pools;
       are_pools = is.are_pools;
       passed = is.passed;
+      taken = is.taken;
       counts = is.counts;
       placed = is.placed;
       reclaimed = is.reclaimed;
@@ -101,7 +103,7 @@ module _ {S T : Type 0} (tells : Bool) (left : S → Option (List ℕ)) (config 
       marks = is.marks;
       images = is.images;
       summary = is.summary;
-      summary_is = summary_seen is.run (is.earlier ++ is.last) is.awake r is.summary is.summary_is;
+      summary_is = summary_seen (view_at is.histories) is.run (is.earlier ++ is.last) is.awake r is.summary is.summary_is;
       prints = is.prints;
       ahead = is.ahead;
       open_ = is.open_;

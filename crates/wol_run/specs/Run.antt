@@ -1,5 +1,5 @@
--- What a run of the program promises, by the words, by what was outside before and after it, and by
--- its status.
+-- What a run of the program promises, by its words, by what was outside before and after, and by
+-- its status. Of what doesn't tell its bytes nothing is said.
 use Rattle.std.specs.Prelude.{◌≡◌, ◌<◌, ◌⊎◌, ℕ, Bool, true, List, Some, IfSome, codes}
 use Rattle.wol_disk.specs.Disk.{State}
 use Rattle.solo.specs.Volume.{target_of}
@@ -184,8 +184,8 @@ ReadsInOrder tells (Nbd name) before =
 ReadsInOrder tells (Serve name) before =
     IsConfigured before.config.bytes × HasSoundImages tells before.config.bytes before.bay
 
--- the command is done, or there was no memory; or a view can't be changed as the words ask, or a
--- client's bytes or the volume's name are none
+-- the command is done, or out of memory; or a view can't be changed as the words ask, or a client's
+-- bytes or the volume's name are none
 abbrev pub ComesToItsEnd : Command → (status : ℕ) → Type 0
 ComesToItsEnd command status =
     IsDoneOrMemory status ⊎ ((changes_view command ≡ true) × (status ≡ 15))
@@ -195,32 +195,34 @@ ComesToItsEnd command status =
 
 pub record Run {D : Type 0} (tells : Bool) (state : D → State) (words : List (List ℕ))
     (before after : Outside) (status : ℕ) : Type 0 where
-  -- replay, soak: each answered read gives every block's last acknowledged write in its volume's
-  -- one legal history, and wherever the disks stop, reopening gives what that acknowledged
+  -- replay, soak, where disks tell what they hold: each answered read has the mark of every block's
+  -- last acknowledged write, and wherever the disks stop, images recover to the acknowledged writes
+  -- and at most what was in flight
   pub headline : (command : Command) → IsCommand words command
       → IfSome (replayed_by command before.trace.bytes)
       (IsHeadlineOf tells state before after status)
-  -- replay, soak: each entry of a volume's history follows the rules of placing and reclaim, and
-  -- what the summary says is counted of these entries and of the disks' journals
+  -- replay, soak, where disks tell: writes were placed and records reclaimed by the rules; at
+  -- status 0 a summary counts that and the disks' modelled time and energy
   pub account : (command : Command) → IsCommand words command
       → IfSome (replayed_by command before.trace.bytes)
       (IsAccountOf tells state before after status)
   -- the command does what its row says
   pub does : (command : Command) → IsCommand words command
       → Does tells state before after status command
-  -- the words are no command: that is told
+  -- where the words are no command, that is told, unless the output or memory failed
   pub refused : NoCommand words
       → EndsWith (codes "fault 1 words\n") 1 status before.sink.bytes after.sink.bytes
       ⊎ EndsWith (codes "fault 9 memory\n") 9 status before.sink.bytes after.sink.bytes
-  -- the status has its cause, which is one of 0 to 12, 14 or 15
+  -- the status is one of 0 to 12, 14 and 15; each but 9, out of memory, has its cause
   pub cause : IsCause tells state words before after status
-  -- it is 7 where a call of the sink failed; a count at its last value stands still
+  -- the status is 7 where the output failed (the count of its faults ends at its last value)
   pub sink : before.sink.faults < after.sink.faults → status ≡ 7
-  -- a configuration that is needed and is none is told, unless a source, the sink or memory failed
+  -- a configuration that is needed and isn't valid is told, unless input, output or memory failed
   pub config : (command : Command) → IsCommand words command → IsUnconfigured command before
       → (status ≡ 2) ⊎ (status ≡ 7) ⊎ (status ≡ 8) ⊎ (status ≡ 9)
-  -- what no command that the words ask for has a use for is as it was
+  -- what the command has no use for is as it was
   pub unused : LeavesUnused words before after
-  -- where no call failed and what is read is in order, the command comes to its end
+  -- where disks tell, no call failed and what is read is in order, the command is done, unless
+  -- memory ran out, or a view's change, a client's bytes or a name is refused
   pub complete : (command : Command) → IsCommand words command → ReadsInOrder tells command before
       → NothingFailed command before after → ComesToItsEnd command status

@@ -13,6 +13,7 @@ use inspection::{Asked, Stop};
 use report::Trouble;
 use std::alloc::Global;
 use std::sync::Wait;
+use std::thread::Threads;
 use wol_bay::Bay;
 use wol_io::{Sink, Source};
 
@@ -21,7 +22,7 @@ use wol_io::{Sink, Source};
 /// 0: all volumes are in order. 2: the source's bytes are no configuration. 7: the sink failed. 8: the source failed. 9:
 /// there was no memory, and what was printed before are the lines of some first volumes, or none. 4, 5, 6, 12: that of the
 /// first volume that isn't in order. Where the configuration isn't had the bay is as it was.
-pub fn inspect<R: Wait, C: Source, K: Sink, B: Bay>(
+pub fn inspect<R: Threads + Wait + Sync, C: Source, K: Sink, B: Bay>(
     rt: &R,
     alloc: Global,
     asked: Asked,
@@ -29,6 +30,8 @@ pub fn inspect<R: Wait, C: Source, K: Sink, B: Bay>(
     out: &mut K,
     bay: &mut B,
 ) -> u8
+where
+    B::Part: Send,
     requires home { NoneOut (B.state bay.old) }
     ensures home { NoneOut (B.state bay.new) }
     ensures content { RunsLook B.Part.tells B.Part.state asked (C.left source.old)

@@ -43,8 +43,9 @@ use wol_io::{Gate, Sink, Source};
 /// configured or whose image was refused. 7: the sink failed, and nothing more is written to it. 8: the source of the
 /// configuration or of the trace failed; the whole lines before were run. 9: there was no memory. 10: there are more than 2^32
 /// lines. 11: a volume has no version left for a write or a copy. 12: an image isn't there. 14: a client's bytes are no
-/// requests or no handshake. 15: a word names no volume, or a view can't be changed as the words ask. Where volumes are looked at it is the status of the first that isn't in order; where one isn't open, no line of a
-/// trace is run, no view is changed and nothing is cleaned.
+/// requests or no handshake. 15: a word names no volume, or a view can't be changed as the words ask. Where several volumes aren't
+/// in order it is the status of the first; where one isn't open, no line of a trace is run, no view is changed and nothing is
+/// cleaned. The words of logs, windows and views are those of docs/GLOSSARY.md.
 pub fn run<R: Threads + Wait + Sync, C: Source, S: Source, K: Sink, B: Bay, G: Gate + Sync>(
     rt: &R,
     alloc: Global,
@@ -57,7 +58,7 @@ pub fn run<R: Threads + Wait + Sync, C: Source, S: Source, K: Sink, B: Bay, G: G
 ) -> u8
 where
     B::Part: Send,
-    // No name is out of the bay at the call ..
+    // No image is handed out at the call ..
     requires home { NoneOut (B.state bay.old) }
     // .. nor at any exit.
     ensures home { NoneOut (B.state bay.new) }

@@ -1,4 +1,4 @@
-use Rattle.std.proofs.Common.{rules, ◌≡◌, ◌∙◌, sym, length}
+use Rattle.std.proofs.Common.{rules, ◌≡◌, length}
 use Rattle.request_turns.proofs.Payloads.{kept_length}
 use Rattle.request_turns.proofs.ReadNotes.{read_blocks_, read_counted_, read_answered}
 use Rattle.request_turns.proofs.read.read_turn.Goals as goal

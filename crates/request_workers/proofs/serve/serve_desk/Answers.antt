@@ -1,20 +1,19 @@
-use Rattle.std.proofs.Common.{◌≡◌, ◌<◌, ◌∙◌, length, get_or, ap, subst, arith}
-use Rattle.trace_windows.specs.declared.request.Request.{Request}
-use Rattle.request_workers.specs.Served.{HasServedNext}
-use Rattle.request_workers.proofs.Serving.{serving_none, serving_more_at, serving_room}
+use Rattle.std.proofs.Common.{arith, ap, length}
+use Rattle.request_workers.proofs.Serving.{up_to_none, up_to_both, ready_first, ready_next, all_served}
 use Rattle.request_workers.proofs.serve.serve_desk.Goals as goal
 
-pub loop-k-init : goal.loop-k-init
-loop-k-init g c = serving_none _ _ c.requires.ready.pass.free c.requires.ready.empty
+pub batches-init : goal.batches-init
+batches-init g c = up_to_none _ 0 _ (omega arith) c.requires.ready.pass.free
 
-pub serve_next-going-requires-clause-room : goal.serve_next-going-requires-clause-room
-serve_next-going-requires-clause-room g c =
-    let lt : c.loop-k.k < length c.args.desk.now.requests.items = (let t = c.loop-k-test.true in let n = c.len-k-end.ensures in let o = c.args.desk.now.requests.ok.0 in omega (arith, t, n, o)) in
-    serving_room _ c.args.desk.now.requests.items c.loop-k.k lt _ _ _ c.loop-k.invariant c.requires.ready.room
+pub serve_batch-next-requires-clause-ready : goal.serve_batch-next-requires-clause-ready
+serve_batch-next-requires-clause-ready g c = ready_next _ _ _ 0 _ _ _ (ready_first _ _ _ c.requires.ready) c.batches.invariant
 
-pub loop-k-preserved : goal.loop-k-preserved
-loop-k-preserved g c =
-    let s = c.loop-k.invariant in let rs = c.args.desk.now.requests.items in let x = c.index.result.now in
-    let lt : c.loop-k.k < length rs = (let t = c.loop-k-test.true in let n = c.len-k-end.ensures in let o = c.args.desk.now.requests.ok.0 in omega (arith, t, n, o)) in
-    let at : x ≡ get_or rs c.loop-k.k x = c.index.ensures ∙ ap (λ v. get_or v.items c.loop-k.k x) s.requests in
-    serving_more_at _ rs c.loop-k.k x lt _ _ _ _ _ s (subst (λ (r : Request). HasServedNext g.D.Disk.tells r c.loop-k.going c.loop-k.desk c.serve_next-going.new.desk c.serve_next-going.result) at c.serve_next-going.ensures)
+pub batches-preserved : goal.batches-preserved
+batches-preserved g c =
+    let t = c.batches-test.true in let l = c.len.ensures in let o = c.batches.desk.requests.ok.0 in let s = ap (λ v. length v.items) c.batches.invariant.served.requests in
+    up_to_both _ 0 _ _ _ _ _ c.batches.invariant (omega (arith, t, l, o, s)) c.serve_batch-next.ensures.served
+
+pub returns : goal.returns
+returns g c =
+    let t = c.batches-test.false in let l = c.len.ensures in let o = c.batches.desk.requests.ok.0 in let s = ap (λ v. length v.items) c.batches.invariant.served.requests in
+    all_served _ _ _ _ c.requires.ready.empty (omega (arith, t, l, o, s)) c.batches.invariant

@@ -1,6 +1,9 @@
-use Rattle.std.proofs.Common.{take}
-use Rattle.request_workers.specs.Served.{IsServing}
+use Rattle.std.proofs.Common.{length, ◌-◌}
+use Rattle.request_workers.specs.Served.{HasServedUpTo}
 use Rattle.request_workers.proofs.serve.serve_desk.Given as goal
 
-abbrev pub invariant-loop-k : goal.invariant-loop-k
-invariant-loop-k g l = IsServing g.D.Disk.tells (take l.k l.initial.desk.requests.items) l.going l.initial.desk l.desk
+abbrev pub invariant-batches : goal.invariant-batches
+invariant-batches g l = HasServedUpTo g.D.Disk.tells 0 l.next l.initial.desk l.desk
+
+abbrev pub decreases-batches : goal.decreases-batches
+decreases-batches g l = length l.initial.desk.requests.items - l.next

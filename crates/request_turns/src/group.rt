@@ -1,0 +1,177 @@
+// Several writes of one volume in one turn: those that go to one log together leave one entry.
+ghost use Rattle.std.specs.Prelude.{ℕ, ◌≡◌, ◌++◌, ◌∷◌, [], ◌≤◌, ◌+◌, ◌^◌, false, None, Some, length, map, take, sum_by};
+ghost use Rattle.std.specs.List.{AllByRecursion, flat_map};
+ghost use Rattle.turn_lock.specs.Passes.{pass_lock, pass_number, IsPassOf, IsFree, IsInTurn};
+ghost use Rattle.wol_model.specs.History.{worker};
+ghost use Rattle.log_segment.specs.Records.{count_of};
+ghost use Rattle.manager.specs.Groups.{AreItemsOf, run_writes, run_written};
+ghost use Rattle.manager.specs.Seen.{look_of_manager};
+ghost use Rattle.manager.specs.Stands.{Stands, IsShared, passed_in};
+ghost use Rattle.manager.specs.declared.part.Part.{Part};
+ghost use Rattle.request_turns.specs.Answered.{HasAnsweredMany};
+ghost use Rattle.request_turns.specs.Counts.{HasCounted};
+ghost use Rattle.request_turns.specs.Entries.{note_of};
+ghost use Rattle.request_turns.specs.Groups.{HasWrittenMany, item_of, blocks_of, answered_of};
+ghost use Rattle.request_turns.specs.Requests.{IsWithin};
+ghost use Rattle.request_turns.specs.Turns.{notes_seen, HasLeft, IsBroken, WasDown};
+
+use crate::drain::drain_and_write;
+use crate::noted::{Memo, leave_noted};
+use crate::outcome::Outcome;
+use crate::payload::Payload;
+use crate::tally::Tally;
+use crate::write::{is_full, outcome_of};
+use log_segment::Item;
+use logger::Shared;
+use manager::{Manager, Ran};
+use msr_trace::fill;
+use reclaimer::Fetch;
+use std::marker::Brand;
+use std::sync::Wait;
+use trace_windows::Request;
+use turn_lock::{Pass, Turn, TurnLock};
+use wol_disk::{Block, Disk};
+use wol_model::Kind;
+
+/// The most writes of a turn, and the most blocks that they have together.
+const MOST: usize = 128;
+
+// The items of requests, in front.
+fn list_items(requests: &[Request]) -> [Item; MOST]
+    requires { length requests.now ≤ 128 }
+    ensures { take (length requests.now) result ≡ map item_of requests.now }
+{
+    let mut items = [Item { lbn: 0, count: 0 }; MOST];
+    for place in 0..requests.len() {
+        let request = &requests[place];
+        items[place] = Item {
+            lbn: request.lbn,
+            count: request.count,
+        };
+    }
+    items
+}
+
+// Fills blocks with the payloads of requests, one behind the other.
+fn fill_all(requests: &[Request], out: &mut [Block])
+    requires room { sum_by (λ r. r.count) requests.now ≤ length out.old }
+    requires within { AllByRecursion (λ r. r.lbn + r.count ≤ 2 ^ 64) requests.now }
+    ensures same { length out.new ≡ length out.old }
+    ensures filled { take (sum_by (λ r. r.count) requests.now) out.new ≡ flat_map blocks_of requests.now }
+{
+    let mut at = 0;
+    for request in requests {
+        let end = at + request.count as usize;
+        fill(request.line, request.lbn, &mut out[at..end]);
+        at = end;
+    }
+}
+
+// Ends a turn in which some first ones of these items were tried with this answer, where `B` has the next version that
+// stood before.
+fn leave_run<D: Disk, B: Memo, N: Memo>(
+    lock: &TurnLock<Manager<D>>,
+    turn: Turn<Manager<D>>,
+    pass: &mut Pass<Manager<D>>,
+    items: &[Item],
+    from: &[Block],
+    ran: &Ran,
+)
+    requires own { IsPassOf lock.now pass.old }
+    requires turn { IsInTurn pass.old }
+    requires note { N.note ≡ note_of (pass_number pass.old) (run_written (run_writes B.next (take ran.now.items items.now) from.now ran.now.answer) ran.now.answer)
+        (look_of_manager turn.value) (passed_in turn.value.rooms.items) false }
+    requires value { Stands D.tells D.state turn.value (pass_lock pass.old).base (notes_seen pass.old ++ N.note ∷ []) }
+    ensures left { HasLeft D.tells N.note pass.old pass.new }
+    ensures broken { (p : Part) → turn.value.down ≡ Some p → WasDown p (notes_seen pass.new) }
+    ensures unbroken { turn.value.down ≡ None → IsBroken (notes_seen pass.new) → ⊥ }
+{
+    let _ = items;
+    let _ = from;
+    let _ = ran;
+    leave_noted::<D, N>(lock, turn, pass);
+}
+
+// How many of the items have this answer: those that were written, and else the first.
+fn answered(ran: &Ran) -> usize
+    ensures { result ≡ answered_of ran.now.items ran.now.answer }
+{
+    if ran.answer.is_ok() { ran.items } else { 1 }
+}
+
+// Writes some first ones of the items within a turn, and ends it. `B` has the next version at its beginning.
+fn write_run_within<D: Disk, R: Wait, B: Memo>(
+    rt: &R,
+    lock: &TurnLock<Manager<D>>,
+    mut turn: Turn<Manager<D>>,
+    pass: &mut Pass<Manager<D>>,
+    shared: &Shared<D>,
+    items: &[Item],
+    from: &[Block],
+    fetch: &mut Fetch,
+    tally: &mut Tally,
+) -> (usize, Outcome)
+    requires own { IsPassOf lock.now pass.old }
+    requires turn { IsInTurn pass.old }
+    requires client { pass_number pass.old ≡ worker }
+    requires next { B.next ≡ turn.value.next }
+    requires shared { IsShared shared.now (pass_lock pass.old).base }
+    requires some { 1 ≤ length items.now }
+    requires items { AreItemsOf (pass_lock pass.old).base.volume.began.most (pass_lock pass.old).base.volume.began.home_blocks items.now }
+    requires blocks { count_of items.now ≤ length from.now }
+    requires value { Stands D.tells D.state turn.value (pass_lock pass.old).base (notes_seen pass.old) }
+    ensures { HasWrittenMany D.tells items.now from.now result.0 result.1 tally.old tally.new pass.old pass.new }
+{
+    let ran = turn.value.write_some(rt, shared, items, from);
+    if is_full(&ran.answer) {
+        let first = items[0];
+        let from = &from[..first.count as usize];
+        let outcome = drain_and_write::<D, R, Brand>(
+            rt, lock, turn, pass, shared, first.lbn, from, fetch, tally,
+        );
+        return (1, outcome);
+    }
+    leave_run::<D, B, Brand>(lock, turn, pass, items, from, &ran);
+    (answered(&ran), outcome_of(ran.answer, false))
+}
+
+/// Writes the payloads of some first ones of these requests in one turn. Answers how many, and their outcome: all those
+/// that went to one log together, or the first alone; a refusal is the first's, whichever of them were to go with it. Where
+/// no log has room, all records are drained and the first is written alone. `payload` has room for all their blocks.
+pub fn write_many_turn<D: Disk, R: Wait>(
+    rt: &R,
+    lock: &TurnLock<Manager<D>>,
+    pass: &mut Pass<Manager<D>>,
+    shared: &Shared<D>,
+    requests: &[Request],
+    payload: &mut Payload,
+    fetch: &mut Fetch,
+    tally: &mut Tally,
+) -> (usize, Outcome)
+    requires own { IsPassOf lock.now pass.old }
+    requires free { IsFree pass.old }
+    requires client { pass_number pass.old ≡ worker }
+    requires shared { IsShared shared.now (pass_lock pass.old).base }
+    requires some { 1 ≤ length requests.now }
+    requires within { AllByRecursion (IsWithin (pass_lock pass.old).base) requests.now }
+    requires kinds { AllByRecursion (λ r. r.kind ≡ Kind.Write) requests.now }
+    requires blocks { 2 ≤ length requests.now → sum_by (λ r. r.count) requests.now ≤ 128 }
+    ensures answered { HasAnsweredMany D.tells requests.now result.0 result.1 pass.old pass.new }
+    ensures counted { HasCounted D.tells tally.old tally.new pass.old pass.new }
+{
+    let turn = lock.enter(rt, pass);
+    let items = list_items(requests);
+    let items = &items[..requests.len()];
+    fill_all(requests, &mut payload.blocks);
+    write_run_within::<D, R, Brand>(
+        rt,
+        lock,
+        turn,
+        pass,
+        shared,
+        items,
+        &payload.blocks,
+        fetch,
+        tally,
+    )
+}
