@@ -5,10 +5,12 @@ ghost use Rattle.wol_bay.specs.MemBay.{mem_bay_state};
 
 use fixtures::{Change, Formatted, ONE_BLOCK_EACH, SRC0, THREE, USR0, WEB0, put};
 use inspection::{Asked, inspect};
+use rack::format;
 use std::alloc::Global;
 use std::process::Abort;
 use std::sync::Wait;
 use std::test::Fail;
+use std::thread::Threads;
 use wol_bay::MemBay;
 use wol_config::read_config;
 use wol_io::MemSink;
@@ -33,7 +35,7 @@ const C: Formatted<'_> = Formatted {
 };
 
 // The exit status is that of the first trouble.
-fn tries<R: Abort + Wait>(
+fn tries<R: Abort + Threads + Wait + Sync>(
     rt: &R,
     alloc: Global,
     asked: Asked,
@@ -58,7 +60,7 @@ fn tries<R: Abort + Wait>(
     Ok(())
 }
 
-fn tries_rows<R: Abort + Wait>(
+fn tries_rows<R: Abort + Threads + Wait + Sync>(
     rt: &R,
     alloc: Global,
     asked: Asked,
@@ -379,4 +381,38 @@ fn a_record_that_passes_the_end_is_told_with_its_block(rt: HostRuntime) -> Resul
 #[test]
 fn a_segment_without_a_record_is_not_held(rt: HostRuntime) -> Result<(), Fail> {
     tries_rows(&rt, rt.alloc(), Asked::Check, &[HOLDS_NOTHING])
+}
+
+// Eleven volumes, each with one block more than the last; the second logs on the fourth.
+const ELEVEN: &str = r#"segment_blocks = 4
+awake_mw = 1
+standby_mw = 1
+wake_mj = 1
+volume = [
+  { name = "v0", host = "h", disk = 0, home_blocks = 1, segments = 1, view = [] },
+  { name = "v1", host = "h", disk = 1, home_blocks = 2, segments = 1, view = ["v3"] },
+  { name = "v2", host = "h", disk = 2, home_blocks = 3, segments = 1, view = [] },
+  { name = "v3", host = "h", disk = 3, home_blocks = 4, segments = 1, view = [] },
+  { name = "v4", host = "h", disk = 4, home_blocks = 5, segments = 1, view = [] },
+  { name = "v5", host = "h", disk = 5, home_blocks = 6, segments = 1, view = [] },
+  { name = "v6", host = "h", disk = 6, home_blocks = 7, segments = 1, view = [] },
+  { name = "v7", host = "h", disk = 7, home_blocks = 8, segments = 1, view = [] },
+  { name = "v8", host = "h", disk = 8, home_blocks = 9, segments = 1, view = [] },
+  { name = "v9", host = "h", disk = 9, home_blocks = 10, segments = 1, view = [] },
+  { name = "v10", host = "h", disk = 10, home_blocks = 11, segments = 1, view = [] },
+]
+"#;
+
+// The image of the fourth has another length. Each digest is that of so many blocks of zeros.
+const ELEVEN_LINES: &[u8] =
+    b"v0 ok sha256 076a27c79e5ace2a3d47f9dd2e83e4ff6ea8872b3c2218f66c92b89b55f36560 records 0 segments 0\nv1 logger 3 missing\nv2 ok sha256 80422bc3d307b4a25bdafcc84ac7fb01cb55a09810e8b0f37bb12e0edb5c48ca records 0 segments 0\nv3 length 1000\nv4 ok sha256 8ce8ba8e726ee8925e6560d86ac35be1097691d1cfac888e6bd20e804ea9eb15 records 0 segments 0\nv5 ok sha256 e80232b4d18d0bb7e794be263ba937626f383f9917d4b8a737ba893a8f752293 records 0 segments 0\nv6 ok sha256 6cf1b57d59e7111bc218dfb01dda93ac0f776715599a1c69f89035bd20c16a10 records 0 segments 0\nv7 ok sha256 ad7facb2586fc6e966c004d7d1d16b024f5805ff7cb47c7a85dabd8b48892ca7 records 0 segments 0\nv8 ok sha256 606f558e014930f9c1669f03c71c28945c4631568e39cd308c6c7f4077c7bfb9 records 0 segments 0\nv9 ok sha256 a11937f356a9b0ba592c82f5290bac8016cb33a3f9bc68d3490147c158ebb10d records 0 segments 0\nv10 ok sha256 07fa8a94dd06b17cdd8a23295f9687cd861be80591e8ab912dafabf21117f264 records 0 segments 0\n";
+
+#[test]
+fn many_volumes_are_told_in_order(rt: HostRuntime) -> Result<(), Fail> {
+    let alloc = rt.alloc();
+    let config = read_config(alloc, ELEVEN.as_bytes())?;
+    let mut bay = MemBay::new(alloc);
+    assert_eq!(rt; format(alloc, &mut bay, &config), Ok(()));
+    bay.put("v3", &[0; 1000])?;
+    tries(&rt, alloc, Asked::Check, ELEVEN, &mut bay, 6, ELEVEN_LINES)
 }

@@ -10,3 +10,6 @@ pub mod Placing
 pub mod Judging
 pub mod Quiet
 pub mod Completing
+pub mod Halves
+pub mod Ahead
+pub mod AsFound

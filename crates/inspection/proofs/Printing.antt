@@ -19,7 +19,7 @@ use Rattle.inspection.proofs.SameRacks.{rack_self, rack_then}
 
 -- ---- Lists of tellings
 
-text_last : (ts : List Telling) (t : Telling) → text_of (ts ++ t ∷ []) ≡ text_of ts ++ t.text
+pub text_last : (ts : List Telling) (t : Telling) → text_of (ts ++ t ∷ []) ≡ text_of ts ++ t.text
 text_last [] t = append-nil t.text
 text_last (u ∷ ts) t = ap (λ (x : List ℕ). u.text ++ x) (text_last ts t) ∙ sym (Rattle.std.proofs.Common.append_assoc u.text (text_of ts) t.text)
 
@@ -31,12 +31,12 @@ first_after : (o p q : Option Trouble) → first_of o (first_of p q) ≡ first_o
 first_after None p q = refl
 first_after (Some t) p q = refl
 
-first_last : (ts : List Telling) (t : Telling) → first_trouble (ts ++ t ∷ []) ≡ first_of (first_trouble ts) t.trouble
+pub first_last : (ts : List Telling) (t : Telling) → first_trouble (ts ++ t ∷ []) ≡ first_of (first_trouble ts) t.trouble
 first_last [] t = first_nothing t.trouble
 first_last (u ∷ ts) t = ap (λ (o : Option Trouble). first_of u.trouble o) (first_last ts t) ∙ first_after u.trouble (first_trouble ts) t.trouble
 
 -- an element of a list with one more
-last_or_before : {X : Type 0} (xs : List X) (x : X) (k : ℕ) (y : X) → slice_get (xs ++ x ∷ []) k ≡ Some y → (slice_get xs k ≡ Some y) ⊎ ((k ≡ length xs) × (y ≡ x))
+pub last_or_before : {X : Type 0} (xs : List X) (x : X) (k : ℕ) (y : X) → slice_get (xs ++ x ∷ []) k ≡ Some y → (slice_get xs k ≡ Some y) ⊎ ((k ≡ length xs) × (y ≡ x))
 last_or_before [] x zero y is = inr (refl, sym (same_Some x y is))
 last_or_before [] x (suc k) y is = absurd (let no : None ≡ Some y = is in cc)
 last_or_before (z ∷ xs) x zero y is = inl is

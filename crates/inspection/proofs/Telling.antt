@@ -1,6 +1,7 @@
 -- What was told of a rack's volumes is told of its bay's.
 use Rattle.std.proofs.Common.{◌≡◌, ◌≢◌, ◌⊎◌, inl, inr, ◌<◌, ◌≤◌, ℕ, Bool, List, [], ◌∷◌, ◌++◌, length, Option, None, Some, Result, Ok, Err, refl, sym, ap, subst, ◌∙◌, arith}
 use Rattle.std.specs.Prelude.{slice_get, IfSome, IsTrue}
+use Rattle.std.specs.List.{AllByRecursion}
 use Rattle.std.proofs.lemmas.List.{length-map}
 use Rattle.std.proofs.lemmas.Option.{same_Some}
 use Rattle.turn_lock.specs.Histories.{Entry, own}
@@ -13,14 +14,18 @@ use Rattle.wol_config.specs.declared.config.VolumeConf.{VolumeConf}
 use Rattle.wol_config.specs.Documents.{names_of}
 use Rattle.wol_model.specs.Images.{recovered_from}
 use Rattle.wol_model.proofs.Overlay.{after_none}
+use Rattle.wol_model.specs.Index.{Indexed}
+use Rattle.wol_promise.proofs.Lists.{all_member}
 use Rattle.wol_promise.specs.Policy.{Look, PartName}
 use Rattle.wol_promise.specs.Ruled.{Noted, last_look}
 use Rattle.manager.specs.Seen.{name_of}
-use Rattle.manager.specs.Stands.{Stands, notes_of}
+use Rattle.manager.specs.Stands.{AreStill, Stands, notes_of}
 use Rattle.manager.specs.declared.part.Part.{Part}
 use Rattle.manager.specs.declared.base.ManagerBase.{ManagerBase}
 use Rattle.manager.specs.declared.manager.Manager.{Manager}
 use Rattle.manager.specs.declared.station.Station.{Station}
+use Rattle.manager_recovery.specs.Opened.{IsPlaceOf}
+use Rattle.manager_recovery.specs.Owned.{Owned}
 use Rattle.log_dump.specs.Texts.{check_text}
 use Rattle.log_dump.specs.Volumes.{held_segments}
 use Rattle.log_dump.specs.declared.fault.DumpFault.{DumpFault}
@@ -38,7 +43,7 @@ use Rattle.volume_images.specs.Volumes.{shape_in, shapes_of}
 use Rattle.rack.specs.Closes.{HasFaultyPart, IsClosedVolume, part_named}
 use Rattle.rack.proofs.FailedParts.{faulty_since}
 use Rattle.rack.specs.Opens.{BeganWith}
-use Rattle.rack.specs.Owners.{IsBegun, images_taken}
+use Rattle.rack.specs.Owners.{BeganInPlace, IsBegun, StandAsRead, images_taken}
 use Rattle.rack.specs.Racks.{IsOpenBase, IsStation, IsUnused, NamesVolumes, base_of_station}
 use Rattle.rack.specs.declared.rack.Rack.{Rack}
 use Rattle.rack.specs.declared.volume_fault.VolumeFault.{VolumeFault}
@@ -52,6 +57,31 @@ use Rattle.inspection.specs.declared.asked.Asked.{Asked}
 use Rattle.inspection.specs.declared.asked.Asked.TheVariants.{Check, Dump}
 use Rattle.inspection.proofs.Opened.{rose_of}
 use Rattle.inspection.proofs.Unhelped.{all_at, broken_still, none_before, one_down, only_one, there_is}
+
+-- entries that stand still stand where those did
+still_placed : (v : ℕ) (view : List ℕ) (owned : List Owned) (places : List Indexed) (next now : ℕ) → next ≡ now → (es : List Indexed) → AllByRecursion (λ (e : Indexed). e.listed.version < now) es → AreStill places next es
+    → AllByRecursion (IsPlaceOf v view owned) places → AllByRecursion (IsPlaceOf v view owned) es
+still_placed v view owned places next now same [] below still each = tt
+still_placed v view owned places next now same (e ∷ es) below still each = (here, still_placed v view owned places next now same es below.1 still.1 each)
+  where
+    here : IsPlaceOf v view owned e
+    here =
+        let lt : e.listed.version < now = below.0 in
+        let stood = still.0 (omega (arith, lt, same)) in
+        let was : IsPlaceOf v view owned stood.0 = all_member (IsPlaceOf v view owned) places stood.0 each stood.1 in
+        let at = stood.2 in
+        record {
+          segment = was.segment;
+          owned = was.owned;
+          lane = ap (slice_get view) at.lane ∙ was.lane;
+          index = at.index ∙ was.index;
+          k = was.k;
+          record_ = was.record_;
+          there = was.there;
+          version = at.version ∙ was.version;
+          first = at.first ∙ was.first;
+          pos = at.pos ∙ was.pos;
+        }
 
 module _ {D : Type 0} (tells : Bool) (state : D → State) (config : Config) (asked : Asked) (did : Rack D → Rack D → Type 0) (old new : BayState) (spindles : List SpindleView) (session : OpensAndCloses tells state config did old new spindles) where
   -- the rack as it was opened, and as it was closed
@@ -147,6 +177,15 @@ module _ {D : Type 0} (tells : Bool) (state : D → State) (config : Config) (as
   listed_is : (t : Told) (m : Manager D) (b : ManagerBase) → IsBegun config (images_taken config before.rest.images.items t) b.volume.began → Stands tells state m b [] → length m.index.entries ≡ length b.volume.began.records
   listed_is t m b begun stands = sym (length-map m.index.entries (λ e. e.listed)) ∙ ap (λ (l : Look). length l.listed) (sym stands.look) ∙ begun.listed
 
+  -- each of its records stands where it stood, and there the images have it
+  places_of : (t : Told) (k : ℕ) (m : Manager D) (b : ManagerBase) → b.volume.began.owner ≡ k → b.volume.began.look.next ≡ b.volume.began.next → BeganInPlace config (images_taken config before.rest.images.items t) b → Stands tells state m b []
+      → StandAsRead config (images_taken config before.rest.images.items t) k b.volume.began.view m.index.entries
+  places_of t k m b is next placed stands = subst (λ (v : ℕ). StandAsRead config (images_taken config before.rest.images.items t) v b.volume.began.view m.index.entries) is (record {
+    owned = placed.owned;
+    are_owned = placed.are_owned;
+    each = still_placed b.volume.began.owner b.volume.began.view placed.owned b.volume.places b.volume.began.next m.next (sym next ∙ ap (λ (l : Look). l.next) stands.look) m.index.entries stands.keeps.ready.below stands.keeps.still placed.each;
+  })
+
   lines_of : (asked' : Asked) (t : Told) (k : ℕ) (m : Manager D) (b : ManagerBase) (text : List ℕ) → b.volume.began.owner ≡ k → IsBegun config (images_taken config before.rest.images.items t) b.volume.began → Stands tells state m b []
       → AppendsAsked config asked' k m b [] [] text → AreLinesOf config asked' before.rest.images.items t k b.volume.began m text
   lines_of Check t k m b text is is_begun stands lines =
@@ -168,6 +207,8 @@ module _ {D : Type 0} (tells : Bool) (state : D → State) (config : Config) (as
         began = begun;
         loggers_out = (base_is k (Ok tt) text look).loggers_out;
         stands = stands;
+        places = places_of t k look.looks.manager (base_of_station look.station) (owner k (Ok tt) text look) (ends k (Ok tt) text look).opening.next
+            (all_at (λ (s : Station D). BeganInPlace config (images_taken config before.rest.images.items t) (base_of_station s)) before.stations.items look.place look.station is.placed look.is_station.there) stands;
         lines_ = lines_of asked t k look.looks.manager (base_of_station look.station) text (owner k (Ok tt) text look) begun stands
             (subst (λ (b : ManagerBase). AppendsAsked config asked k look.looks.manager b [] [] text) (based k (Ok tt) text look)
             (subst (λ (es : List Entry). AppendsAsked config asked k look.looks.manager (pass_lock look.station.worker).base (notes_of es) [] text) (nothing k (Ok tt) text look) (look.looks.content told)));

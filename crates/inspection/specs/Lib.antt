@@ -1,4 +1,5 @@
 pub mod Looks
 pub mod Racks
 pub mod Lines
+pub mod Findings
 pub mod Runs

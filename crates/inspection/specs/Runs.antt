@@ -24,7 +24,7 @@ use Rattle.volume_images.specs.Left.{IsTold}
 use Rattle.volume_images.specs.Volumes.{images_read, shapes_of}
 use Rattle.rack.specs.Closes.{CameBackFaulty, HasFaultyPart, part_named}
 use Rattle.rack.specs.Opens.{RefusesVolume, WereThere}
-use Rattle.rack.specs.Owners.{images_taken, IsBegun}
+use Rattle.rack.specs.Owners.{images_taken, IsBegun, StandAsRead}
 use Rattle.rack.specs.Racks.{NamesVolumes}
 use Rattle.rack.specs.Rests.{IsImageOut, image_here}
 use Rattle.rack.specs.declared.rack.ImageRest.{ImageRest}
@@ -43,7 +43,8 @@ AreLinesOf config Check out t number b m text =
     text ≡ check_text (name_at (names_of config.volumes.items) number) (recovered_from (shapes_of config) (images_taken config out t) number) (length b.records) (held_segments m)
 AreLinesOf config Dump out t number b m text = IsDump config number m [] text
 
--- a volume in order: a manager that stands for what the images as they read recover to, where an image that was refused gives no segments, and its lines
+-- A volume in order: a manager that stands for what the images as they read recover to, where an image that was refused gives no segments, and
+-- its lines. Each of its records stands where those images have it: in the segment and at the block that `dump` names.
 pub record IsInOrder {D : Type 0} (tells : Bool) (state : D → State) (config : Config) (asked : Asked) (out : List (Option (ImageRest D))) (t : Told) (number : ℕ) (text : List ℕ) : Type 0 where
   pub base : ManagerBase
   pub manager : Manager D
@@ -51,6 +52,7 @@ pub record IsInOrder {D : Type 0} (tells : Bool) (state : D → State) (config :
   pub began : IsBegun config (images_taken config out t) base.volume.began
   pub loggers_out : AllByRecursion (λ l. IsImageOut out l) base.volume.began.view
   pub stands : Stands tells state manager base []
+  pub places : StandAsRead config (images_taken config out t) number base.volume.began.view manager.index.entries
   pub lines_ : AreLinesOf config asked out t number base.volume.began manager text
 
 -- a volume that wasn't opened, with the line of its fault, which is the first cause

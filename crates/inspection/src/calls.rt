@@ -1,23 +1,28 @@
 // All volumes of a bay are looked at.
-ghost use Rattle.std.specs.Prelude.{◌≡◌, ◌≤◌, ◌<◌, Err, IsTrue};
+ghost use Rattle.std.specs.Prelude.{◌≡◌, ◌≤◌, ◌<◌, Err, IfOk, IsTrue, OnErr};
 ghost use Rattle.wol_disk.specs.Disk.{Rose};
 ghost use Rattle.wol_bay.specs.Bay.{outs};
 ghost use Rattle.wol_config.specs.Configs.{IsValid};
 ghost use Rattle.volume_images.specs.Left.{IsTold};
 ghost use Rattle.volume_images.specs.Volumes.{NoneOut};
 ghost use Rattle.rack.specs.Opens.{KeepsAllSound, KeepsOthers, LeavesAll};
+ghost use Rattle.open_rack.specs.Sessions.{OpensAndCloses};
 ghost use Rattle.inspection.specs.Racks.{CanLook, IsSameRack};
 ghost use Rattle.inspection.specs.Lines.{PrintsVolumes, first_of};
+ghost use Rattle.inspection.specs.declared.asked.Asked.TheVariants.{Check};
 ghost use Rattle.inspection.specs.Runs.{Completes, Inspects, MayComplete};
 ghost use Rattle.inspection.specs.declared.calls.Stop.TheVariants.{Sink as sink_failed, Memory as no_memory};
 
 use crate::asked::Asked;
+use crate::beside::no_findings;
+use crate::found::append_found;
 use crate::lines::append_volume;
-use open_rack::{Work, with_open};
-use rack::Rack;
+use open_rack::Closed;
+use rack::{Rack, close_all, open_all};
 use report::Trouble;
 use std::alloc::Global;
 use std::sync::Wait;
+use std::thread::Threads;
 use wol_bay::Bay;
 use wol_config::Config;
 use wol_disk::{Disk, Failed, NoMemory};
@@ -84,45 +89,105 @@ fn print_volumes<D: Disk, R: Wait, K: Sink>(
     Ok(first)
 }
 
-// Prints the lines of all volumes of a rack.
-#[derive(Drop)]
-struct Inspecting {
-    asked: Asked,
+// Looks at the volumes side by side, a run of them after another, and prints the line of each in order. It answers what is
+// wrong with the first that isn't in order.
+fn print_checks<D: Disk + Send, R: Threads + Wait + Sync, K: Sink>(
+    rt: &R,
+    alloc: Global,
+    rack: &mut Rack<D>,
+    config: &Config,
+    out: &mut K,
+) -> Result<Option<Trouble>, Stop>
+    requires valid { IsValid config.now }
+    requires rack { CanLook config.now rack.old }
+    ensures same { IsSameRack rack.old rack.new }
+    ensures content { PrintsVolumes D.tells D.state config.now Check rack.old rack.new result (K.faults out.old) (K.faults out.new) (K.taken out.old) (K.taken out.new) }
+    ensures later { K.faults out.old ≤ K.faults out.new }
+{
+    let mut room = no_findings(alloc, rack.stations.len())?;
+    let findings = room.as_mut_slice();
+    let mut found = 0;
+    let mut first = None;
+    let mut lines = Vec::new(alloc);
+    for number in 0..config.volumes.len() {
+        let told = append_found(
+            rt,
+            alloc,
+            rack,
+            findings,
+            &mut found,
+            config,
+            number as u32,
+            &mut lines,
+        )?;
+        out.write(&lines)?;
+        lines.clear();
+        first = first_of(first, told);
+    }
+    Ok(first)
 }
 
-impl<R: Wait, D: Disk, K: Sink> Work<R, D, (), K> for Inspecting {
-    ghost use Rattle.std.specs.Prelude.{◌≤◌};
-    ghost use Rattle.inspection.specs.Racks.{IsSameRack};
-    ghost use Rattle.inspection.specs.Lines.{PrintsVolumes};
-
-    type Answer = Result<Option<Trouble>, Stop>;
-
-    ghost Ready = { λ work config given out. Unit {0} };
-
-    ghost Did = { λ work config before after given rest out now answer.
-        IsSameRack before after × (K.faults out ≤ K.faults now)
-        × PrintsVolumes D.tells D.state config work.asked before after answer (K.faults out) (K.faults now) (K.taken out) (K.taken now) };
-
-    fn run(
-        self,
-        rt: &R,
-        alloc: Global,
-        config: &Config,
-        rack: &mut Rack<D>,
-        _given: &mut (),
-        out: &mut K,
-    ) -> Result<Option<Trouble>, Stop> {
-        print_volumes(rt, alloc, self.asked, rack, config, out)
+// Prints what is asked of each volume of a rack, in order, and answers what is wrong with the first that isn't in order.
+fn print_lines<D: Disk + Send, R: Threads + Wait + Sync, K: Sink>(
+    rt: &R,
+    alloc: Global,
+    asked: Asked,
+    rack: &mut Rack<D>,
+    config: &Config,
+    out: &mut K,
+) -> Result<Option<Trouble>, Stop>
+    requires valid { IsValid config.now }
+    requires rack { CanLook config.now rack.old }
+    ensures same { IsSameRack rack.old rack.new }
+    ensures content { PrintsVolumes D.tells D.state config.now asked rack.old rack.new result (K.faults out.old) (K.faults out.new) (K.taken out.old) (K.taken out.new) }
+    ensures later { K.faults out.old ≤ K.faults out.new }
+{
+    match asked {
+        Asked::Check => print_checks(rt, alloc, rack, config, out),
+        Asked::Dump => print_volumes(rt, alloc, Asked::Dump, rack, config, out),
     }
+}
+
+// Opens all volumes, prints what is asked of each, and closes them.
+fn print_opened<R: Threads + Wait + Sync, K: Sink, B: Bay>(
+    rt: &R,
+    alloc: Global,
+    asked: Asked,
+    config: &Config,
+    bay: &mut B,
+    out: &mut K,
+) -> Result<Closed<Result<Option<Trouble>, Stop>>, NoMemory>
+where
+    B::Part: Send,
+    requires config { IsValid config.now }
+    requires home { NoneOut config.now (B.state bay.old) }
+    ensures none_out { NoneOut config.now (B.state bay.new) }
+    ensures home { outs (B.state bay.new) ≡ outs (B.state bay.old) }
+    ensures counts { (B.state bay.old).faults ≤ (B.state bay.new).faults }
+    ensures sound { IsTrue B.Part.tells → IsTold (KeepsAllSound config.now) (B.state bay.old).told (B.state bay.new).told }
+    ensures others { IsTold (KeepsOthers config.now) (B.state bay.old).told (B.state bay.new).told }
+    ensures did { IfOk result (λ c. OpensAndCloses B.Part.tells B.Part.state config.now
+        (λ before after. IsSameRack before after × (K.faults out.old ≤ K.faults out.new)
+        × PrintsVolumes B.Part.tells B.Part.state config.now asked before after c.answer (K.faults out.old) (K.faults out.new) (K.taken out.old) (K.taken out.new))
+        (B.state bay.old) (B.state bay.new) c.spindles.items) }
+    ensures left { OnErr result (IsTrue B.Part.tells → IsTold (LeavesAll B.Part.tells B.Part.state config.now (B.state bay.old) (B.state bay.new)) (B.state bay.old).told (B.state bay.new).told) }
+    ensures unwritten { OnErr result (out.new ≡ out.old) }
+{
+    let mut rack = open_all(alloc, rt, bay, config)?;
+    let answer = print_lines(rt, alloc, asked, &mut rack, config, out);
+    let spindles = close_all(rack, bay, config);
+    Ok(Closed { answer, spindles })
 }
 
 /// Opens all volumes of the configuration, prints the lines of each in order, and closes them. It answers what is wrong
 /// with the first volume that isn't in order, or nothing where all are. A volume is in order where it was opened and no
-/// call of a disk failed while it was looked at.
+/// call of a disk failed while it was looked at. For `Check` runs of eight volumes are looked at, at most four at a time,
+/// each by a thread where one can be had, before the lines of the run are printed; for `Dump` each is printed before the
+/// next is looked at.
 ///
 /// `Sink`: the sink failed. `Memory`: there was no memory, and the lines of some first volumes were printed. At each exit
 /// every image is back in the bay.
-pub fn inspect<R: Wait, K: Sink, B: Bay>(
+pub fn inspect<R: Threads + Wait + Sync, K: Sink, B: Bay>(
     rt: &R,
     alloc: Global,
     asked: Asked,
@@ -130,6 +195,8 @@ pub fn inspect<R: Wait, K: Sink, B: Bay>(
     bay: &mut B,
     out: &mut K,
 ) -> Result<Option<Trouble>, Stop>
+where
+    B::Part: Send,
     requires config { IsValid config.now }
     requires home { NoneOut config.now (B.state bay.old) }
     ensures none_out { NoneOut config.now (B.state bay.new) }
@@ -144,7 +211,6 @@ pub fn inspect<R: Wait, K: Sink, B: Bay>(
     ensures others { IsTold (KeepsOthers config.now) (B.state bay.old).told (B.state bay.new).told }
     ensures complete { MayComplete B.Part.tells config.now (B.state bay.old) (B.state bay.new) (K.faults out.old) (K.faults out.new) → Completes result }
 {
-    let work = Inspecting { asked };
-    let closed = with_open(rt, alloc, config, bay, work, &mut (), out)?;
+    let closed = print_opened(rt, alloc, asked, config, bay, out)?;
     closed.answer
 }

@@ -5,7 +5,7 @@ ghost use Rattle.manager.specs.declared.part.Part.{Part};
 ghost use Rattle.manager.specs.declared.station.Station.{Station};
 ghost use Rattle.report.specs.Names.{printed_names};
 ghost use Rattle.report.specs.Troubles.{IsAmong};
-ghost use Rattle.troubles.specs.Troubles.{trouble_of_part};
+ghost use Rattle.troubles.specs.Troubles.{trouble_of, trouble_of_part};
 ghost use Rattle.rack.specs.Racks.{IsStation, AreUnused, base_of_station};
 ghost use Rattle.inspection.specs.Looks.{IsConfiguredBase, LooksAt};
 ghost use Rattle.inspection.specs.Racks.{numbers_of, CanLook, IsSameStation, IsSameRack, IsStationAt};
@@ -16,7 +16,7 @@ use crate::turn::look;
 use log_dump::DumpFault;
 use logger::Shared;
 use manager::Station;
-use rack::Rack;
+use rack::{Rack, VolumeFault};
 use report::Word::Text;
 use report::{Trouble, append_line, trouble_text};
 use std::alloc::Global;
@@ -25,8 +25,8 @@ use troubles::{trouble_of, trouble_of_part};
 use wol_config::Config;
 use wol_disk::{Disk, NoMemory};
 
-// The place of the station of this volume.
-fn place_of<D: Disk>(stations: &[Station<D>], volume: u32) -> usize
+/// The place of the station of this volume.
+pub(crate) fn place_of<D: Disk>(stations: &[Station<D>], volume: u32) -> usize
     requires { Contains (numbers_of stations.now) volume }
     ensures { (s : Station _) × IsStationAt stations.now volume result s }
 {
@@ -38,8 +38,8 @@ fn place_of<D: Disk>(stations: &[Station<D>], volume: u32) -> usize
     unreachable!()
 }
 
-// Looks at the volume of a station.
-fn look_station<D: Disk, R: Wait>(
+/// Looks at the volume of a station.
+pub(crate) fn look_station<D: Disk, R: Wait>(
     rt: &R,
     alloc: Global,
     asked: Asked,
@@ -70,8 +70,8 @@ fn look_station<D: Disk, R: Wait>(
     )
 }
 
-// What is wrong with a volume that was looked at with this answer.
-fn trouble_told(answer: Result<(), DumpFault>) -> Result<Option<Trouble>, NoMemory>
+/// What is wrong with a volume that was looked at with this answer.
+pub(crate) fn trouble_told(answer: Result<(), DumpFault>) -> Result<Option<Trouble>, NoMemory>
     ensures ok { IfOk result (λ t. (t ≡ trouble_told answer) × (answer ≡ Err DumpFault.NoMemory → ⊥)) }
     ensures err { OnErr result (answer ≡ Err DumpFault.NoMemory) }
 {
@@ -115,8 +115,8 @@ fn look_at<D: Disk, R: Wait>(
     )
 }
 
-// Appends the line of a volume that isn't in order.
-fn append_trouble(
+/// Appends the line of a volume that isn't in order.
+pub(crate) fn append_trouble(
     alloc: Global,
     config: &Config,
     volume: u32,
@@ -133,6 +133,26 @@ fn append_trouble(
     trouble_text(&config.volumes, trouble, &mut text)?;
     let name = config.volumes[volume as usize].name.as_bytes();
     append_line(&[Text(name), Text(&text)], out)
+}
+
+/// Appends the line of a volume that has no station, and answers its trouble.
+pub(crate) fn append_fault(
+    alloc: Global,
+    config: &Config,
+    volume: u32,
+    fault: VolumeFault,
+    out: &mut Vec<u8>,
+) -> Result<Option<Trouble>, NoMemory>
+    requires valid { IsValid config.now }
+    requires volume { volume < length config.now.volumes.items }
+    requires names { IsAmong (length (printed_names config.now.volumes.items)) (trouble_of fault) }
+    ensures trouble { IfOk result (λ t. t ≡ Some (trouble_of fault)) }
+    ensures text { OnOk result (out.new.items ≡ out.old.items ++ trouble_line config.now volume (trouble_of fault)) }
+    ensures err { OnErr result (out.new.items ≡ out.old.items) }
+{
+    let trouble = trouble_of(fault);
+    append_trouble(alloc, config, volume, &trouble, out)?;
+    Ok(Some(trouble))
 }
 
 // Appends the lines of a volume that has a station, and answers what is wrong with it.
@@ -184,7 +204,5 @@ pub(crate) fn append_volume<D: Disk, R: Wait>(
     let Some(fault) = rack.faults[volume as usize] else {
         return append_open(rt, alloc, asked, rack, config, volume, out);
     };
-    let trouble = trouble_of(fault);
-    append_trouble(alloc, config, volume, &trouble, out)?;
-    Ok(Some(trouble))
+    append_fault(alloc, config, volume, fault, out)
 }

@@ -1,0 +1,49 @@
+use Rattle.open_rack.specs.Sessions.{IsClosed, IsOpened}
+use Rattle.open_rack.proofs.RacksAgain.{closable_again, rest_again}
+use Rattle.open_rack.proofs.Since.{home_again, none_out_still, opens_and_closes, sound_since}
+use Rattle.rack.proofs.FailedParts.{gained_parts}
+use Rattle.rack.proofs.OthersKept.{others_then}
+use Rattle.inspection.proofs.Opened.{can_look}
+use Rattle.inspection.proofs.SameRacks.{again_same}
+use Rattle.inspection.proofs.calls.print_opened.Goals as goal
+
+pub returns-in_err-rack-clause-none_out : goal.returns-in_err-rack-clause-none_out
+returns-in_err-rack-clause-none_out g c = none_out_still c.args.config.now (g.B.Bay.state c.args.bay.now) (g.B.Bay.state c.open_all.new.bay) c.in_err-rack.ensures.home c.requires.home
+
+pub print_lines-answer-requires-clause-rack : goal.print_lines-answer-requires-clause-rack
+print_lines-answer-requires-clause-rack g c κs within = can_look _ _ (g.B.Bay.state c.open_all.new.bay) _ c.in_ok-rack.ensures.rack
+
+pub close_all-spindles-requires-clause-rack : goal.close_all-spindles-requires-clause-rack
+close_all-spindles-requires-clause-rack g c =
+    closable_again g.B.Part.Disk.state c.args.config.now c.in_ok-rack.rack c.print_lines-answer.new.rack (again_same _ _ c.print_lines-answer.ensures.same) (g.B.Bay.state c.open_all.new.bay) c.in_ok-rack.ensures.rack
+
+pub returns-clause-home : goal.returns-clause-home
+returns-clause-home g c =
+    home_again c.args.config.now (g.B.Bay.state c.args.bay.now) (g.B.Bay.state c.open_all.new.bay) (g.B.Bay.state c.close_all-spindles.new.bay) c.in_ok-rack.rack c.print_lines-answer.new.rack
+    (rest_again g.B.Part.Disk.state c.args.config.now c.in_ok-rack.rack c.print_lines-answer.new.rack (again_same _ _ c.print_lines-answer.ensures.same)) c.requires.home c.in_ok-rack.ensures.out c.close_all-spindles.ensures.home
+
+pub returns-clause-none_out : goal.returns-clause-none_out
+returns-clause-none_out g c = none_out_still c.args.config.now (g.B.Bay.state c.args.bay.now) (g.B.Bay.state c.close_all-spindles.new.bay) (returns-clause-home g c) c.requires.home
+
+pub returns-clause-sound : goal.returns-clause-sound
+returns-clause-sound g c =
+    let o = c.in_ok-rack.ensures in let e = c.close_all-spindles.ensures in
+    let tells = g.B.Part.Disk.tells in let state = g.B.Part.Disk.state in let config = c.args.config.now in
+    let old = g.B.Bay.state c.args.bay.now in let bay = g.B.Bay.state c.open_all.new.bay in let new = g.B.Bay.state c.close_all-spindles.new.bay in
+    let opened : IsOpened tells state config old bay c.in_ok-rack.rack = record { rack = o.rack; fresh = o.fresh; fresh_keepers = o.fresh_keepers; began = o.began; there = o.there; kept = o.kept; faulty = o.faulty; unfaulty = o.unfaulty } in
+    λ telling. sound_since tells state config old bay new c.in_ok-rack.rack c.print_lines-answer.new.rack (again_same _ _ c.print_lines-answer.ensures.same) opened o.counts e.counts e.kept telling (λ t began there. e.sound t telling began there)
+
+pub returns-clause-did : goal.returns-clause-did
+returns-clause-did g c =
+    let o = c.in_ok-rack.ensures in let e = c.close_all-spindles.ensures in let p = c.print_lines-answer.ensures in
+    let tells = g.B.Part.Disk.tells in let state = g.B.Part.Disk.state in let config = c.args.config.now in
+    let old = g.B.Bay.state c.args.bay.now in let bay = g.B.Bay.state c.open_all.new.bay in let new = g.B.Bay.state c.close_all-spindles.new.bay in
+    let opened : IsOpened tells state config old bay c.in_ok-rack.rack = record { rack = o.rack; fresh = o.fresh; fresh_keepers = o.fresh_keepers; began = o.began; there = o.there; kept = o.kept; faulty = o.faulty; unfaulty = o.unfaulty } in
+    let closed : IsClosed tells state config bay new c.print_lines-answer.new.rack c.close_all-spindles.result.items = record { count = e.count; each = e.spindles; stations = e.stations.0; pools = e.stations.1; parts = e.parts; lists = e.faulty } in
+    opens_and_closes tells state config old bay new c.in_ok-rack.rack c.print_lines-answer.new.rack (again_same _ _ p.same) opened o.counts e.counts e.kept o.refused
+    (gained_parts state config c.print_lines-answer.new.rack.rest bay.told new.told e.faulty)
+    _ _ (p.same, p.later, p.content) closed o.failed o.complete e.cause e.left e.volumes e.unopened
+
+pub returns-clause-others : goal.returns-clause-others
+returns-clause-others g c =
+    others_then c.args.config.now (g.B.Bay.state c.args.bay.now).told (g.B.Bay.state c.open_all.new.bay).told (g.B.Bay.state c.close_all-spindles.new.bay).told c.open_all.ensures.others c.close_all-spindles.ensures.others

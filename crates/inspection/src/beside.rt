@@ -1,0 +1,286 @@
+// The volumes of a run of stations are looked at for `check`, in four threads where so many can be had.
+ghost use Rattle.std.specs.Prelude.{◌≡◌, ◌<◌, ◌≤◌, ◌+◌, ℕ, List, length, IfOk, All};
+ghost use Rattle.wol_config.specs.Configs.{IsValid};
+ghost use Rattle.manager.specs.declared.station.Station.{Station};
+ghost use Rattle.rack.specs.Racks.{IsStation, base_of_station};
+ghost use Rattle.inspection.specs.Looks.{IsConfiguredBase};
+ghost use Rattle.inspection.specs.Findings.{AreFoundTo, KeepsFound, CanAllBeLookedAt, AreEmpty, HaveFound, HasFound, CanBeLookedAt};
+
+use crate::asked::Asked;
+use crate::lines::look_station;
+use log_dump::DumpFault;
+use logger::Shared;
+use manager::Station;
+use std::alloc::Global;
+use std::sync::Wait;
+use std::thread::{Threads, join_mut};
+use wol_config::Config;
+use wol_disk::{Disk, NoMemory};
+
+// So many volumes are looked at before the lines of the first of them are printed, two by each thread.
+const RUN: usize = 8;
+
+/// What a look at a volume found: how it ended, and the lines of a volume in order.
+#[derive(Drop)]
+pub(crate) struct Finding {
+    pub answer: Result<(), DumpFault>,
+    pub text: Vec<u8>,
+}
+
+/// So many findings, each of nothing yet.
+pub(crate) fn no_findings(alloc: Global, count: usize) -> Result<Vec<Finding>, NoMemory>
+    ensures { IfOk result (λ fs. (length fs.items ≡ count) × AreEmpty fs.items) }
+{
+    let mut findings = Vec::new(alloc);
+    for made in 0..count {
+        let _ = made;
+        findings.push(Finding {
+            answer: Ok(()),
+            text: Vec::new(alloc),
+        })?;
+    }
+    Ok(findings)
+}
+
+// Looks at the volume of a station.
+fn find_one<D: Disk, R: Wait>(
+    rt: &R,
+    alloc: Global,
+    shared: &Shared<D>,
+    config: &Config,
+    station: &mut Station<D>,
+    finding: &mut Finding,
+)
+    requires valid { IsValid config.now }
+    requires ahead { CanBeLookedAt config.now shared.now station.old finding.old }
+    ensures { HasFound D.tells D.state config.now station.old station.new finding.new }
+{
+    finding.answer = look_station(
+        rt,
+        alloc,
+        Asked::Check,
+        station,
+        shared,
+        config,
+        &mut finding.text,
+    );
+}
+
+// Looks at the volumes of these stations, one after another.
+fn find_each<D: Disk, R: Wait>(
+    rt: &R,
+    alloc: Global,
+    shared: &Shared<D>,
+    config: &Config,
+    stations: &mut [Station<D>],
+    findings: &mut [Finding],
+)
+    requires valid { IsValid config.now }
+    requires count { length findings.old ≡ length stations.old }
+    requires ahead { CanAllBeLookedAt config.now shared.now stations.old findings.old }
+    ensures { HaveFound D.tells D.state config.now stations.old stations.new findings.new }
+{
+    for k in 0..stations.len() {
+        find_one(
+            rt,
+            alloc,
+            shared,
+            config,
+            &mut stations[k],
+            &mut findings[k],
+        );
+    }
+}
+
+// Looks at the volumes of both lists of stations, in two threads.
+fn find_both<'a, D: Disk + Send, R: Threads + Wait + Sync>(
+    rt: &'a R,
+    alloc: Global,
+    shared: &'a Shared<D>,
+    config: &'a Config,
+    front: &'a mut [Station<D>],
+    front_findings: &'a mut [Finding],
+    back: &'a mut [Station<D>],
+    back_findings: &'a mut [Finding],
+)
+    requires valid { IsValid config.now }
+    requires front_count { length front_findings.old ≡ length front.old }
+    requires front_ahead { CanAllBeLookedAt config.now shared.now front.old front_findings.old }
+    requires back_count { length back_findings.old ≡ length back.old }
+    requires back_ahead { CanAllBeLookedAt config.now shared.now back.old back_findings.old }
+    ensures front { HaveFound D.tells D.state config.now front.old front.new front_findings.new }
+    ensures back { HaveFound D.tells D.state config.now back.old back.new back_findings.new }
+{
+    let again = alloc;
+    join_mut(
+        rt,
+        &mut ||
+            requires { IsValid config.now × (length front_findings.now ≡ length front.now) × CanAllBeLookedAt config.now shared.now front.now front_findings.now }
+            ensures { HaveFound D.tells D.state config.entry.now front.entry.now front.exit.now front_findings.exit.now }
+        { find_each(rt, alloc, shared, config, front, front_findings) },
+        &mut ||
+            requires { IsValid config.now × (length back_findings.now ≡ length back.now) × CanAllBeLookedAt config.now shared.now back.now back_findings.now }
+            ensures { HaveFound D.tells D.state config.entry.now back.entry.now back.exit.now back_findings.exit.now }
+        { find_each(rt, again, shared, config, back, back_findings) },
+    );
+}
+
+// Looks at the volumes of these stations, each half of them in a thread.
+fn find_halves<D: Disk + Send, R: Threads + Wait + Sync>(
+    rt: &R,
+    alloc: Global,
+    shared: &Shared<D>,
+    config: &Config,
+    stations: &mut [Station<D>],
+    findings: &mut [Finding],
+)
+    requires valid { IsValid config.now }
+    requires count { length findings.old ≡ length stations.old }
+    requires ahead { CanAllBeLookedAt config.now shared.now stations.old findings.old }
+    ensures { HaveFound D.tells D.state config.now stations.old stations.new findings.new }
+{
+    if stations.len() < 2 {
+        find_each(rt, alloc, shared, config, stations, findings);
+        return;
+    }
+    let half = stations.len() / 2;
+    let (front, back) = stations.split_at_mut(half);
+    let (front_findings, back_findings) = findings.split_at_mut(half);
+    find_both(
+        rt,
+        alloc,
+        shared,
+        config,
+        front,
+        front_findings,
+        back,
+        back_findings,
+    );
+}
+
+// Looks at the volumes of both lists of stations, in two threads for each.
+fn find_quarters<'a, D: Disk + Send, R: Threads + Wait + Sync>(
+    rt: &'a R,
+    alloc: Global,
+    shared: &'a Shared<D>,
+    config: &'a Config,
+    front: &'a mut [Station<D>],
+    front_findings: &'a mut [Finding],
+    back: &'a mut [Station<D>],
+    back_findings: &'a mut [Finding],
+)
+    requires valid { IsValid config.now }
+    requires front_count { length front_findings.old ≡ length front.old }
+    requires front_ahead { CanAllBeLookedAt config.now shared.now front.old front_findings.old }
+    requires back_count { length back_findings.old ≡ length back.old }
+    requires back_ahead { CanAllBeLookedAt config.now shared.now back.old back_findings.old }
+    ensures front { HaveFound D.tells D.state config.now front.old front.new front_findings.new }
+    ensures back { HaveFound D.tells D.state config.now back.old back.new back_findings.new }
+{
+    let again = alloc;
+    join_mut(
+        rt,
+        &mut ||
+            requires { IsValid config.now × (length front_findings.now ≡ length front.now) × CanAllBeLookedAt config.now shared.now front.now front_findings.now }
+            ensures { HaveFound D.tells D.state config.entry.now front.entry.now front.exit.now front_findings.exit.now }
+        { find_halves(rt, alloc, shared, config, front, front_findings) },
+        &mut ||
+            requires { IsValid config.now × (length back_findings.now ≡ length back.now) × CanAllBeLookedAt config.now shared.now back.now back_findings.now }
+            ensures { HaveFound D.tells D.state config.entry.now back.entry.now back.exit.now back_findings.exit.now }
+        { find_halves(rt, again, shared, config, back, back_findings) },
+    );
+}
+
+// Looks at the volumes of these stations, each quarter of them in a thread where one can be had.
+fn find_all<D: Disk + Send, R: Threads + Wait + Sync>(
+    rt: &R,
+    alloc: Global,
+    shared: &Shared<D>,
+    config: &Config,
+    stations: &mut [Station<D>],
+    findings: &mut [Finding],
+)
+    requires valid { IsValid config.now }
+    requires count { length findings.old ≡ length stations.old }
+    requires ahead { CanAllBeLookedAt config.now shared.now stations.old findings.old }
+    ensures { HaveFound D.tells D.state config.now stations.old stations.new findings.new }
+{
+    let half = stations.len() / 2;
+    let (front, back) = stations.split_at_mut(half);
+    let (front_findings, back_findings) = findings.split_at_mut(half);
+    find_quarters(
+        rt,
+        alloc,
+        shared,
+        config,
+        front,
+        front_findings,
+        back,
+        back_findings,
+    );
+}
+
+// Looks at the volumes of the next run of stations, behind those that were looked at.
+fn find_run<D: Disk + Send, R: Threads + Wait + Sync>(
+    rt: &R,
+    alloc: Global,
+    shared: &Shared<D>,
+    config: &Config,
+    stations: &mut [Station<D>],
+    findings: &mut [Finding],
+    found: usize,
+    size: usize,
+)
+    requires valid { IsValid config.now }
+    requires stations { All (λ s. IsStation s × IsConfiguredBase config.now shared.now (base_of_station s)) stations.old }
+    requires going { (before : List (Station _)) × AreFoundTo D.tells D.state config.now before stations.old findings.old found }
+    requires size { found + size ≤ length stations.old }
+    ensures going { (before : List (Station _)) → AreFoundTo D.tells D.state config.now before stations.old findings.old found
+        → AreFoundTo D.tells D.state config.now before stations.new findings.new (found + size) }
+    ensures keeps { KeepsFound found stations.old stations.new findings.old findings.new }
+{
+    let (_, ahead) = stations.split_at_mut(found);
+    let (run, _) = ahead.split_at_mut(size);
+    let (_, ahead_findings) = findings.split_at_mut(found);
+    let (run_findings, _) = ahead_findings.split_at_mut(size);
+    find_all(rt, alloc, shared, config, run, run_findings);
+}
+
+/// Looks at the volumes of the next run of stations, unless that of the station at this place was looked at, and answers
+/// how many were.
+pub(crate) fn find_through<D: Disk + Send, R: Threads + Wait + Sync>(
+    rt: &R,
+    alloc: Global,
+    shared: &Shared<D>,
+    config: &Config,
+    stations: &mut [Station<D>],
+    findings: &mut [Finding],
+    found: usize,
+    place: usize,
+) -> usize
+    requires valid { IsValid config.now }
+    requires stations { All (λ s. IsStation s × IsConfiguredBase config.now shared.now (base_of_station s)) stations.old }
+    requires going { (before : List (Station _)) × AreFoundTo D.tells D.state config.now before stations.old findings.old found }
+    requires place { place < length stations.old }
+    ensures place { place < result }
+    ensures more { found ≤ result }
+    ensures going { (before : List (Station _)) → AreFoundTo D.tells D.state config.now before stations.old findings.old found
+        → AreFoundTo D.tells D.state config.now before stations.new findings.new result }
+    ensures keeps { KeepsFound found stations.old stations.new findings.old findings.new }
+{
+    if place < found {
+        return found;
+    }
+    let until = found.saturating_add(RUN).max(place + 1).min(stations.len());
+    find_run(
+        rt,
+        alloc,
+        shared,
+        config,
+        stations,
+        findings,
+        found,
+        until - found,
+    );
+    until
+}
