@@ -7,8 +7,8 @@
 # Cleaning writes the copies in groups, as many as a segment takes, each with two syncs, where logging takes two syncs for each. Besides it reads
 # each old record once, and writes and syncs one head for each segment that is given up and for each old record beside copies: at 10,000 records
 # 10,160 reads and 324 syncs in all, beside 716 syncs of logging the copies. It takes some four times the processor's time of logging them, since
-# the old records are read and leave the index. On 29 November 2026 cleaning took 0.56 times as long as logging the copies on a disk that
-# syncs some 2,000 times a second, 1.15 times on one that syncs some 8,000 times, and 2.3 to 2.8 times in memory, where a sync costs nothing.
+# the old records are read and leave the index. On 29 November 2026 cleaning took 0.56 times as long as logging the copies while the disk
+# synced some 2,000 times a second, 1.44 times while the same one synced 5,500 times, and 3.0 times in memory, where a sync costs nothing.
 # usage: bench/clean.sh [RECORDS [FOLDER]..]    how many records (10000 if left out), and the folders in which to clean (/dev/shm, which is a
 # memory file system, and /tmp or TMPDIR, which lies on a disk or not: `df` tells); RUNS says how many runs of each (7 if it isn't set); the
 # program is build/wol, as `make build` leaves it
