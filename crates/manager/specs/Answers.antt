@@ -1,9 +1,8 @@
 -- The operation that an answer stands for, and where a write goes.
-use Rattle.std.specs.Prelude.{⊤, ◌≡◌, ◌<◌, ◌≤◌, ◌+◌, ℕ, false, List, [], ◌∷◌, None, Some, Result, Ok, Err, slice_get}
+use Rattle.std.specs.Prelude.{⊤, ◌≡◌, ℕ, List, [], ◌∷◌, None, Some, Result, Ok, Err, slice_get}
 use Rattle.wol_disk.specs.Disk.{Block}
 use Rattle.wol_model.specs.Blocks.{Write}
 use Rattle.wol_model.specs.History.{Operation, Wrote, Read, Kept, Broke}
-use Rattle.wol_model.specs.Index.{Listed, is_covered}
 use Rattle.wol_model.specs.Placing.{Home as AtHome, Log as InLog, Full as Nowhere}
 use Rattle.wol_model.specs.Placing as placing
 use Rattle.manager.specs.declared.part.Part.{Part}
@@ -54,7 +53,3 @@ IsPlaceOf view (Err (DiskFault (part.Segment logger index))) p = (lane : ℕ) ×
 IsPlaceOf view (Err (Down d)) p = ⊤
 IsPlaceOf view (Err VersionsSpent) p = ⊤
 IsPlaceOf view (Err NoMemory) p = ⊤
-
--- blocks that no record of the index covers
-abbrev pub IsBare : List Listed → (first count : ℕ) → Type 0
-IsBare es first count = (b : ℕ) → first ≤ b → b < first + count → is_covered es b ≡ false

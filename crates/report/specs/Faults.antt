@@ -1,5 +1,5 @@
 -- What is printed of a run that wasn't done: the line of its fault.
-use Rattle.std.specs.Prelude.{ℕ, ⊤, ◌<◌, List, [], ◌∷◌, codes, decimal}
+use Rattle.std.specs.Prelude.{ℕ, List, [], ◌∷◌, codes, decimal}
 use Rattle.msr_trace.specs.declared.format.BadLine.{BadLine}
 use Rattle.msr_trace.specs.declared.format.BadLine.TheVariants as bad
 use Rattle.wol_config.specs.Keys.{key_text}
@@ -9,7 +9,7 @@ use Rattle.report.specs.declared.fault.Fault.{Fault}
 use Rattle.report.specs.declared.fault.Fault.TheVariants as fault
 use Rattle.report.specs.Words.{line_of, text_of}
 use Rattle.report.specs.Names.{name_at}
-use Rattle.report.specs.Troubles.{IsAmong, trouble_status, trouble_text}
+use Rattle.report.specs.Troubles.{trouble_status, trouble_text}
 
 -- why bytes are no configuration; want of memory has no such text
 unfoldable pub config_text : ConfigFault → List ℕ
@@ -60,9 +60,3 @@ status_of (fault.Versions volume) = 11
 -- the line of a fault, among volumes of these names
 unfoldable pub fault_text : (names : List (List ℕ)) → Fault → List ℕ
 fault_text names f = line_of (codes "fault" ∷ decimal (status_of f) ∷ cause_text names f ∷ [])
-
--- the volumes whose names a fault prints by their numbers are among so many
-abbrev pub NamesAmong : (count : ℕ) → Fault → Type 0
-NamesAmong count (fault.Volume volume trouble) = (volume < count) × IsAmong count trouble
-NamesAmong count (fault.Versions volume) = volume < count
-NamesAmong count _ = ⊤

@@ -1,10 +1,10 @@
 -- What a run over a trace leaves: histories, bytes and images.
-use Rattle.std.specs.Prelude.{◌≡◌, ◌≢◌, ◌<◌, ◌≤◌, ◌^◌, ℕ, List, [], ◌∷◌, ◌++◌, Option, None, Some, length, take, drop, slice_get, nat_lt, if◌then◌else◌}
+use Rattle.std.specs.Prelude.{◌≡◌, ◌≢◌, ◌<◌, ◌≤◌, ◌^◌, ℕ, List, [], ◌∷◌, ◌++◌, Option, None, Some, length, take, drop, nat_lt, if◌then◌else◌}
 use Rattle.std.specs.List.{flat_map, AllByRecursion}
 use Rattle.wol_disk.specs.Disk.{Block}
 use Rattle.wol_model.specs.Heads.{Shape}
 use Rattle.wol_model.specs.History.{IsCut}
-use Rattle.wol_model.specs.Images.{Images, image_of, image_size, recovered_from, AreSound}
+use Rattle.wol_model.specs.Images.{Images, recovered_from, AreSound}
 use Rattle.wol_model.specs.Trace.{Request, payloads, answer}
 use Rattle.wol_promise.specs.Outcomes.{of_volume}
 use Rattle.wol_model.specs.declared.trace.Kind.TheVariants as kind
@@ -53,15 +53,6 @@ pub record LeavesCuts (shapes : List Shape) (may_be : Images → Type 0) (entry 
   pub unless : (v : ℕ) → (is_faulty v → ⊥) → flight v ≡ []
   pub cuts : (images : Images) → may_be images → (v : ℕ) → v < length shapes
       → IsCut (recovered_from shapes entry v) (payloads v (take (n v) (of_volume v asked))) (payloads v (flight v)) (recovered_from shapes images v)
-
--- a volume's image is there with the configured length
-abbrev pub IsThere : List Shape → Images → (v : ℕ) → Type 0
-IsThere shapes images v = (s : Shape) × (image : List Block) × (slice_get shapes v ≡ Some s) × (image_of images v ≡ Some image) × (length image ≡ image_size s)
-
--- where a run ended before all volumes were open, each image left recovers to what one at entry did
-abbrev pub LeavesEntry : List Shape → (was may_be : Images → Type 0) → Type 0
-LeavesEntry shapes was may_be = (images : Images) → may_be images → (v : ℕ) → IsThere shapes images v
-    → (before : Images) × was before × (recovered_from shapes images v ≡ recovered_from shapes before v)
 
 -- where every image at entry was sound, every image at exit is
 abbrev pub KeepsSound : List Shape → (was may_be : Images → Type 0) → Type 0

@@ -1,5 +1,5 @@
 -- The accesses that passes begin at spindles, and which of them may wake a disk.
-use Rattle.std.specs.Prelude.{◌≡◌, ℕ, Bool, true, false, List, ◌∷◌, map}
+use Rattle.std.specs.Prelude.{ℕ, Bool, true, false, List, ◌∷◌, map}
 use Rattle.std.specs.List.{count_by}
 use Rattle.wol_model.specs.Journal.{Use, Started, Began, Needed, Done, Stayed}
 
@@ -11,25 +11,9 @@ is_need (Started at) = false
 is_need (Began at) = false
 is_need Stayed = false
 
--- the use ends an access
-abbrev pub is_done : Use → Bool
-is_done Done = true
-is_done Needed = false
-is_done (Started at) = false
-is_done (Began at) = false
-is_done Stayed = false
-
 -- the accesses that a pass's own uses began
 abbrev pub needs_in : (mine : List Use) → ℕ
 needs_in mine = count_by is_need mine
-
--- the accesses that are over
-abbrev pub dones_in : (mine : List Use) → ℕ
-dones_in mine = count_by is_done mine
-
--- a pass that is in no access
-abbrev pub IsSettled : (mine : List Use) → Type 0
-IsSettled mine = dones_in mine ≡ needs_in mine
 
 -- the keeper's entries since opening: one Started at the account's start, then one Began for each window's moment in order
 abbrev pub keeper_uses : (start : ℕ) → (moments : List ℕ) → List Use
