@@ -44,6 +44,7 @@ use Rattle.rack.specs.Closes.{HasFaultyPart, IsClosedVolume, part_named}
 use Rattle.rack.proofs.FailedParts.{faulty_since}
 use Rattle.rack.specs.Opens.{BeganWith}
 use Rattle.rack.specs.Owners.{BeganInPlace, IsBegun, StandAsRead, images_taken}
+use Rattle.rack.specs.Rests.{IsImageOut}
 use Rattle.rack.specs.Racks.{IsOpenBase, IsStation, IsUnused, NamesVolumes, base_of_station}
 use Rattle.rack.specs.declared.rack.Rack.{Rack}
 use Rattle.rack.specs.declared.volume_fault.VolumeFault.{VolumeFault}
@@ -249,6 +250,7 @@ module _ {D : Type 0} (tells : Bool) (state : D → State) (config : Config) (as
     name = (came_of is).0;
     base = (base_of_station is.looked.station).volume.began;
     owner = owner k is.answer [] is.looked;
+    is_out = subst (λ (n : ℕ). IsImageOut before.rest.images.items n) (owner k is.answer [] is.looked) (base_is k is.answer [] is.looked).out;
     began = base_began k is.answer [] is.looked;
     loggers_out = (base_is k is.answer [] is.looked).loggers_out;
     faulty = (came_of is).2;

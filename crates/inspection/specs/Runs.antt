@@ -74,6 +74,7 @@ pub record TellsPart {D : Type 0} (tells : Bool) (config : Config) (out : List (
   pub name : PartName
   pub base : Base
   pub owner : base.owner ≡ number
+  pub is_out : IsImageOut out number
   pub began : IsTrue tells → IfSome old.told (λ images. IsBegun config (images_taken config out images) base)
   pub loggers_out : AllByRecursion (λ l. IsImageOut out l) base.view
   pub faulty : IsTold (HasFaultyPart tells config number base.view name) old.told new.told
