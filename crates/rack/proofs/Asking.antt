@@ -77,7 +77,7 @@ pub image_said : {D : Type 0} (config : Config) (old new : BayState) (out : List
     → (r : RefusesImage config out old new k v f) → (i : Image) → at_name v.name t.images ≡ Some i → IsImageFault (length (shapes_of config)) k (shape_in config v) (reads i.blocks) r.image_fault
 image_said config old new out k v f t told r i at =
     let was = r.said t told in
-    subst (λ (x : Image). IsImageFault (length (shapes_of config)) k (shape_in config v) (reads x.blocks) r.image_fault) (same_Some was.0 i (sym was.1 ∙ at)) was.2
+    subst (λ (x : Image). IsImageFault (length (shapes_of config)) k (shape_in config v) (reads x.blocks) r.image_fault) (same_Some was.0 i (sym was.1 ∙ at)) was.4
 
 module _ {D : Type 0} (tells : Bool) (state : D → State) (config : Config) where
   image_later : (out : List (Option (ImageRest D))) (b b1 b2 : BayState) (k : ℕ) (v : VolumeConf) (f : VolumeFault) → b1.faults ≤ b2.faults → IsTold HasFaulty b1.told b2.told
@@ -118,7 +118,7 @@ module _ {D : Type 0} (tells : Bool) (state : D → State) (config : Config) whe
     not_out = r.not_out;
     image_fault = r.image_fault;
     is_fault = r.is_fault;
-    said = λ t told. (let then = told_there v.name t b.told b1.told told same in let was = r.said then.0 then.1 in (was.0, sym then.2.0 ∙ was.1, was.2));
+    said = λ t told. (let then = told_there v.name t b.told b1.told told same in let was = r.said then.0 then.1 in (was.0, sym then.2.0 ∙ was.1, was.2, was.3, was.4));
     cause = λ call. rose_since b.faults b1.faults b2.faults le (r.cause call);
     faulty = λ call. fault_since v.name r.image_fault b.told b1.told b2.told
         (told_each (SameAt v.name) HasFaulty b.told b1.told (λ x y s. s.1) same) (r.faulty call);

@@ -3,6 +3,7 @@ use Rattle.std.proofs.Common.{◌≡◌, ◌+◌, inl, ℕ, Bool, List, [], leng
 use Rattle.std.specs.Prelude.{IsErrOf}
 use Rattle.wol_disk.specs.Disk.{Block, State, Rose, IsImage, reads}
 use Rattle.wol_model.specs.Heads.{Shape}
+use Rattle.wol_model.specs.Images.{image_size}
 use Rattle.wol_bay.specs.Bay.{Image, Name, Told, BayState, at_name, each_place}
 use Rattle.wol_bay.specs.Refusals.{refusal}
 use Rattle.wol_bay.specs.declared.fault.BayFault.{BayFault}
@@ -42,12 +43,12 @@ module _ {D : Type 0} (tells : Bool) (state : D → State) (config : Config) (b 
   bay_answer answer (Some t) (Some t') h = h.0
 
   gave : (f : ImageFault) (t : Told) (o o' : Option Told) → IsTold (GaveBack volumes k shape v.name f) o o' → o ≡ Some t
-      → (i : Image) × (at_name v.name t.images ≡ Some i) × IsImageFault volumes k shape (reads i.blocks) f
+      → (i : Image) × (at_name v.name t.images ≡ Some i) × (i.rest ≡ []) × (length i.blocks ≡ image_size shape) × IsImageFault volumes k shape (reads i.blocks) f
   gave f t None o' h is = absurd (cc is)
   gave f t (Some u) None h is = absurd h
   gave f t (Some u) (Some u') h is =
       let same : u ≡ t = cc in
-      (h.before, sym (ap (λ (x : Told). at_name v.name x.images) same) ∙ h.there, h.refused)
+      (h.before, sym (ap (λ (x : Told). at_name v.name x.images) same) ∙ h.there, h.complete, h.size, h.refused)
 
   among_places : (f : ImageFault) (places : List ℕ) → IsFaultAt f places → IsFaultAmong v.name f (each_place v.name places)
   among_places (fault.Damaged block) places is = tt

@@ -84,14 +84,15 @@ pub record HasNewFault (name : Name) (f : ImageFault) (old new : Told) : Type 0 
   pub more_is : new.faulty ≡ old.faulty ++ more
   pub among : IsFaultAmong name f more
 
--- the image itself is refused: it isn't out; it was there, and said so as it read; and where a call failed the bay's count rose, and the part that
+-- the image itself is refused: it isn't out; it was there with the configured length, and said so as it read; and where a call failed the bay's count rose, and the part that
 -- is named came back with a fault
 pub record RefusesImage {D : Type 0} (config : Config) (out : List (Option (ImageRest D))) (old new : BayState) (k : ℕ) (v : VolumeConf) (f : VolumeFault) : Type 0 where
   pub not_out : image_here out k ≡ None
   pub image_fault : ImageFault
   pub is_fault : f ≡ fault_in_image k image_fault
   pub said : (t : Told) → old.told ≡ Some t
-      → (i : Image) × (at_name v.name t.images ≡ Some i) × IsImageFault (length (shapes_of config)) k (shape_in config v) (reads i.blocks) image_fault
+      → (i : Image) × (at_name v.name t.images ≡ Some i) × (i.rest ≡ []) × (length i.blocks ≡ image_size (shape_in config v))
+      × IsImageFault (length (shapes_of config)) k (shape_in config v) (reads i.blocks) image_fault
   pub cause : IsCallFault image_fault → Rose old.faults new.faults
   pub faulty : IsCallFault image_fault → IsTold (HasNewFault v.name image_fault) old.told new.told
 

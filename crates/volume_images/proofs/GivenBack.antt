@@ -190,6 +190,8 @@ module _ {D : Type 0} (state : D → State) where
             record {
               before = whole.image;
               there = whole.there;
+              complete = whole.rest;
+              size = whole.count ∙ all_sizes s;
               refused = refused state sound own s out.image (sent_parts state sound own s (blocks_at name (Some t)) out sent) whole.image.blocks whole.blocks volumes own given.after f given.refused;
               after = record { blocks = ws; rest = [] };
               places = places;

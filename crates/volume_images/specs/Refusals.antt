@@ -49,11 +49,13 @@ IsCallFault fault.LabelDiffers = ⊥
 IsCallFault fault.LabelFault = ⊤
 IsCallFault (fault.SegmentFault index) = ⊤
 
--- The image was read, refused for what it says, and is in the bay again: whatever a crash leaves of it, it might have left
--- before.
+-- The image was there with the blocks of its parts, was read, refused for what it says, and is in the bay again: whatever a
+-- crash leaves of it, it might have left before.
 pub record GaveBack (volumes own : ℕ) (s : Shape) (name : Name) (f : ImageFault) (old new : Told) : Type 0 where
   pub before : Image
   pub there : at_name name old.images ≡ Some before
+  pub complete : before.rest ≡ []
+  pub size : length before.blocks ≡ image_size s
   pub refused : IsImageFault volumes own s (reads before.blocks) f
   pub after : Image
   pub places : List ℕ
