@@ -8,7 +8,7 @@ use Rattle.turn_lock.specs.Passes.{pass_mine, pass_number}
 use Rattle.seg_pool.specs.Holders.{Gave}
 use Rattle.seg_pool.specs.Operations as pool
 use Rattle.log_segment.specs.Kept.{IsKeptOrIdle}
-use Rattle.log_segment.specs.Segment.{IsSegment, IsWhole, IsBroken, IsBlank, IsSame, Holds, disk_of, free_disk, segment_volume, owner_of, blocks_of, place_of}
+use Rattle.log_segment.specs.Segment.{IsSegment, IsWhole, IsBroken, IsBlank, IsSame, Holds, disk_of, free_disk, segment_volume, owner_of, blocks_of, place_of, valid_of}
 use Rattle.log_segment.specs.declared.free.FreeSegment.{FreeSegment}
 use Rattle.logger.specs.Lanes.{CutDown, GaveUp, Stayed, held_in, pool_of}
 use Rattle.logger.specs.declared.lane.HeldSegment.{HeldSegment}
@@ -79,6 +79,14 @@ pub record IsRetirable {D : Type 0} (l : Lane D) (index : ℕ) : Type 0 where
   pub there : slice_get (held_in l) place ≡ Some segment
   pub named : segment.index ≡ index
   pub whole : IsWhole segment.segment
+
+-- so many records of the held segment of this index keep a block
+pub record KeepsSoMany {D : Type 0} (l : Lane D) (index count : ℕ) : Type 0 where
+  pub place : ℕ
+  pub segment : HeldSegment D
+  pub there : slice_get (held_in l) place ≡ Some segment
+  pub named : segment.index ≡ index
+  pub counted : count ≡ valid_of segment.segment
 
 -- What giving up a segment did: it went to the pool; or it could not be freed, and is held still.
 pub data Retired {D T E : Type 0} (state : D → State) (old new : Lane D) (index : ℕ) (res : Result T E) : Type 0 where

@@ -2,6 +2,7 @@
 ghost use Rattle.std.specs.Prelude.{◌≡◌, ℕ, length};
 ghost use Rattle.turn_lock.specs.Passes.{pass_mine};
 ghost use Rattle.logger.specs.Lanes.{IsLane, HoldsAll, IsAt, IsSameLane, HasUsed, HasIndex, IsReadable, ReadFrom, taken_in, pool_of};
+ghost use Rattle.logger.specs.Trims.{IsRetirable, KeepsSoMany};
 
 use crate::lane::{HeldSegment, Lane, Spot};
 use crate::shared::Shared;
@@ -23,6 +24,15 @@ pub(crate) fn place_of_index<D: Disk>(held: &[HeldSegment<D>], index: u32) -> us
 }
 
 impl<D: Disk> Lane<D> {
+    /// How many records of the held segment of this index keep a block.
+    pub fn valid(&self, segment: u32) -> u32
+        requires { IsRetirable self.now segment }
+        ensures { KeepsSoMany self.now segment result }
+    {
+        let place = place_of_index(&self.held, segment);
+        self.held[place].segment.valid()
+    }
+
     /// Reads blocks of the record at a spot, from its block `skip` on. `Failed` is the disk's, and after it the bytes
     /// in `out` are open; the segment is as it was.
     pub fn read<R: Wait>(

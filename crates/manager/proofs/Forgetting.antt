@@ -21,6 +21,8 @@ use Rattle.redirect_map.specs.declared.record.Rec.{Rec}
 use Rattle.redirect_map.proofs.Bits.{some_bit}
 use Rattle.garbage_list.proofs.Going.{keep_is, some_block}
 use Rattle.manager.specs.Reclaim.{GoesIn, NoneLiveIn, lies_elsewhere, stays_behind, with_kept}
+use Rattle.manager.specs.Stands.{entries_at}
+use Rattle.manager.proofs.Counted.{count_mid, one_there}
 use Rattle.manager.proofs.Entries.{At, Found, among, entry_in, entry_of_version, some_of}
 use Rattle.manager.proofs.GivenUp.{given_is, given_list, keep_bits, keep_within, keeps_is}
 use Rattle.manager.proofs.Retiring.{covered_where}
@@ -80,6 +82,10 @@ each_member P (x ∷ xs) f = (f x (0, omega arith, refl), each_member P xs (λ y
 later : (a b : Bool) → b ≡ true → (a || b) ≡ true
 later true b is = refl
 later false b is = is
+
+is_true : (t : Bool) → not t ≡ false → t ≡ true
+is_true true is = refl
+is_true false is = absurd (false≢true (sym is))
 
 -- ---- the record of one version
 
@@ -173,10 +179,21 @@ module _ (lane index version : ℕ) (es : List Indexed) where
       none_kept = sym (keeps_is es f.entry r f.record_ entry_is.count r.keep small bits) ∙ ap not (eq-eqb (bit_and r.keep (bit_not w128 r.keep)) 0 nothing)
 
       -- the entry is gone
-      pub one_gone : (then_ : List Indexed) → then_ ≡ filter (λ (d : Indexed). keeps_a_block d.listed) (changed version (given_up r.keep) es) → then_ ≡ filter (stays_behind lane index version) es
-      one_gone then_ is = is
+      others_left : (then_ : List Indexed) → then_ ≡ filter (λ (d : Indexed). keeps_a_block d.listed) (changed version (given_up r.keep) es) → then_ ≡ at.front ++ at.back
+      others_left then_ is = is
           ∙ ap (filter (λ (d : Indexed). keeps_a_block d.listed)) (at.then_is (given_up r.keep) ∙ (λ i. at.front ++ given_is es f.entry r f.record_ entry_is.count r.keep small bits i ∷ at.back) ∙ sym (at.then_is (with_kept es)))
           ∙ given_list es version f.entry is_index at false none_kept
+
+      -- the segment has one record less
+      pub one_counted : (then_ : List Indexed) → then_ ≡ filter (λ (d : Indexed). keeps_a_block d.listed) (changed version (given_up r.keep) es) → entries_at lane index es ≡ entries_at lane index then_ + 1
+      one_counted then_ is = ap (entries_at lane index) at.is ∙ count_mid (λ (d : Indexed). eqb d.listed.lane lane && eqb d.index index) at.front f.entry at.back
+          ∙ (λ i. entries_at lane index (sym (others_left then_ is) i) + cond (is_here i) 1 0)
+        where
+          is_here : (eqb f.entry.listed.lane lane && eqb f.entry.index index) ≡ true
+          is_here = (λ i. eqb (sym f.record_.lane i) lane && eqb (sym f.record_.segment i) index) ∙ here
+
+      pub one_gone : (then_ : List Indexed) → then_ ≡ filter (λ (d : Indexed). keeps_a_block d.listed) (changed version (given_up r.keep) es) → then_ ≡ filter (stays_behind lane index version) es
+      one_gone then_ is = others_left then_ is
           ∙ sym (ap (filter (stays_behind lane index version)) at.is ∙ filter-append (stays_behind lane index version) at.front (f.entry ∷ at.back)
           ∙ (λ i. filter_all (stays_behind lane index version) at.front (all_front (λ (d : Indexed). stays_behind lane index version d ≡ true) at.front at.back others_stay) i
           ++ cond (gone i) (f.entry ∷ filter (stays_behind lane index version) at.back) (filter_all (stays_behind lane index version) at.back (all_back (λ (d : Indexed). stays_behind lane index version d ≡ true) at.front at.back others_stay) i)))
@@ -248,8 +265,17 @@ module _ (lane index : ℕ) (old : List Indexed) (none : NoneLiveIn lane index o
             let there = here_still d has (later (lies_elsewhere lane index d) (leb from d.listed.version) le) in
             absurd (false≢true (sym (quiet d there t (leb-true from d.listed.version le)) ∙ going is_index d there t))
 
-    pub forgetting_empty : IsIndex now → length now ≡ 0 → now ≡ filter (lies_elsewhere lane index) old
-    forgetting_empty is_index empty = none_left is_index (λ d has leaves le. absurd (let lt = has.1 in omega (arith, lt, empty)))
+    -- none is left where none is counted
+    pub forgetting_counted : entries_at lane index now ≡ 0 → now ≡ filter (lies_elsewhere lane index) old
+    forgetting_counted none_ = is ∙ filter_agree (left_from lane index from) (lies_elsewhere lane index) old (λ d has. at d has (lies_elsewhere lane index d) refl (leb from d.listed.version) refl)
+      where
+        at : (d : Indexed) → Contains old d → (t : Bool) → lies_elsewhere lane index d ≡ t → (s : Bool) → leb from d.listed.version ≡ s → (lies_elsewhere lane index d || leb from d.listed.version) ≡ lies_elsewhere lane index d
+        at d has true t s le = (λ i. t i || leb from d.listed.version) ∙ sym t
+        at d has false t false le = (λ i. t i || le i) ∙ sym t
+        at d has false t true le =
+            let there = here_still d has (later (lies_elsewhere lane index d) (leb from d.listed.version) le) in
+            let some = one_there (λ (e : Indexed). eqb e.listed.lane lane && eqb e.index index) now d there (is_true (eqb d.listed.lane lane && eqb d.index index) t) in
+            absurd (omega (arith, some, none_))
 
     pub forgetting_end : IsIndex now → (lanes : List Bool) → slice_index_or lanes lane false ≡ true
         → AllByRecursion (λ (e : Indexed). from ≤ e.listed.version → slice_index_or lanes e.listed.lane false ≡ true → has_going (listed_in now) e.listed ≡ false) now → now ≡ filter (lies_elsewhere lane index) old

@@ -13,18 +13,18 @@ use Rattle.wol_disk.specs.Disk.{State, IsDisk}
 use Rattle.wol_model.specs.Index.{Indexed}
 use Rattle.wol_promise.proofs.Lists.{all_member, member_of}
 use Rattle.wol_promise.proofs.OneMore.{last_more}
-use Rattle.log_segment.specs.Segment.{IsWhole}
+use Rattle.log_segment.specs.Segment.{IsWhole, valid_of}
 use Rattle.log_segment.specs.declared.free.FreeSegment.{FreeSegment}
 use Rattle.redirect_map.specs.Index.{Contents, IsIndex, entry_at}
 use Rattle.redirect_map.specs.declared.record.Rec.{Rec}
 use Rattle.logger.specs.Lanes.{IsLane, HoldsAll, IsSameLane, HasUsed, held_in, taken_in, pool_of, logger_of}
-use Rattle.logger.specs.Trims.{IsRetirable, Retired, gone, held_still}
+use Rattle.logger.specs.Trims.{IsRetirable, KeepsSoMany, Retired, gone, held_still}
 use Rattle.logger.specs.declared.lane.HeldSegment.{HeldSegment}
 use Rattle.logger.specs.declared.lane.Lane.{Lane}
 use Rattle.manager.specs.Causes.{AreCalm, PartRose}
 use Rattle.manager.specs.Offers.{ChangesLane}
 use Rattle.manager.specs.Reclaim.{IsTrimmedLane, HasDroppedSegment, KeepsOn, BreaksOff, NoneLiveIn, StopsSince, Always, lies_elsewhere}
-use Rattle.manager.specs.Stands.{Keeps, IsReady, IsReadyLane, IsPlacedIn, nones_in, nones_at, takes_in}
+use Rattle.manager.specs.Stands.{Keeps, IsReady, IsReadyLane, IsPlacedIn, entries_at, nones_in, nones_at, takes_in}
 use Rattle.manager.specs.Stops.{Stops}
 use Rattle.manager.specs.declared.manager.Manager.{Manager}
 use Rattle.manager.specs.declared.part.Part.{Part}
@@ -65,6 +65,12 @@ module _ {D : Type 0} (state : D → State) (m : Manager D) (ready : IsReady sta
   module _ (old : Lane D) (lane : slice_get m.lanes.items r.lane ≡ Some old) where
     pub old_lane : IsReadyLane state m.id m.most old
     old_lane = all_at (IsReadyLane state m.id m.most) m.lanes.items r.lane old lane ready.ready.each
+
+    -- as many records as its segment keeps lie there
+    pub counted_there : (count : ℕ) → KeepsSoMany old r.segment count → entries_at r.lane r.segment m.index.entries ≡ count
+    counted_there count keeps =
+        let there = all_at (λ (h : HeldSegment D). valid_of h.segment ≡ entries_at r.lane h.index m.index.entries) (held_in old) keeps.place keeps.segment keeps.there ((ready.up up).counted r.lane old lane) in
+        ap (λ (s : ℕ). entries_at r.lane s m.index.entries) (sym keeps.named) ∙ sym there ∙ sym keeps.counted
 
     -- its segment is held and whole
     pub retirable : IsRetirable old r.segment

@@ -7,14 +7,15 @@ use Rattle.std.proofs.lemmas.Bool.{cases_lt, cases_eq, ne_eqb, eq-eqb, eqb-true,
 use Rattle.wol_model.specs.Log.{has_bit}
 use Rattle.wol_model.specs.Extents.{has_newer, has_older}
 use Rattle.wol_model.specs.Index.{listed_in, Indexed, listed_covers, AreRising, is_due, goes, is_live, is_homed, block_numbers, has_due, has_going}
+use Rattle.std.proofs.lemmas.Option.{none-some, same_Some}
 use Rattle.version_marks.specs.Marks.{IsWithin, AreApart}
 use Rattle.redirect_map.specs.declared.entry.Entry.{Entry}
 use Rattle.redirect_map.specs.declared.record.Rec.{Rec}
 use Rattle.redirect_map.specs.declared.blocks.Cell.{Cell}
 use Rattle.redirect_map.specs.Masks.{in_mask}
 use Rattle.redirect_map.specs.Index.{cover_at}
-use Rattle.redirect_map.specs.Kept.{seen, keeps, one_keeps, is_version, IsInRange, IsUnhomed, AreEntries}
-use Rattle.redirect_map.specs.Cells.{cell_of, is_held, one_covers, take_one}
+use Rattle.redirect_map.specs.Kept.{seen, keeps, one_keeps, is_version, IsInRange, IsUnhomed, AreEntries, NoneHomed}
+use Rattle.redirect_map.specs.Cells.{cell_of, is_held, one_covers, take_one, version_in}
 use Rattle.redirect_map.specs.Marked.{there_bit, lane_bit, is_home, is_due_of, goes_of, IsMarked, AreMarked, AreThere, begins, AreBegun}
 use Rattle.redirect_map.proofs.Bits.{has_bit-zero, has_bit-above, has_bit-and, has_bit-or, has_bit-without}
 use Rattle.redirect_map.proofs.Seen.{all_from_places, all_of_map, all_before_map, all_at, covers_seen, homed_seen, newer_at, older_at}
@@ -22,6 +23,7 @@ use Rattle.redirect_map.proofs.Answering.{wide, range_at, any_block, no_any, sam
 use Rattle.redirect_map.proofs.Adding.{new_entry}
 use Rattle.redirect_map.proofs.Search.{place_unique}
 use Rattle.redirect_map.proofs.Stepping.{next_block, no_block, all_blocks}
+use Rattle.redirect_map.proofs.Without.{none_homed_at}
 use Rattle.redirect_map.proofs.Celled.{cell_there, held_at, alone_at, one_there}
 
 -- ---- One record by its masks
@@ -488,7 +490,46 @@ marked_same items F G M N known masks marked k e at =
     subst (λ (m : ℕ). IsMarked G m e) (sym (masks e.record.version)) (subst (λ (H : ℕ → Option Cell). IsMarked H (M e.record.version) e) (λ i b. sym (known b) i) (marked k e at))
 
 -- the same entries, of which the same is known
-pub all_kept : (items now : List Entry) (F G : ℕ → Option Cell) (M N : ℕ → ℕ) → now ≡ items → ((b : ℕ) → G b ≡ F b) → ((v : ℕ) → N v ≡ M v) → AreEntries items × ((b : ℕ) → F b ≡ cell_of items b) × AreMarked items F M
-    → AreEntries now × ((b : ℕ) → G b ≡ cell_of now b) × AreMarked now G N
-all_kept items now F G M N same known masks all = subst (λ (es : List Entry). AreEntries es × ((b : ℕ) → G b ≡ cell_of es b) × AreMarked es G N) (sym same)
-    (all.0, (λ b. known b ∙ all.1 b), marked_same items F G M N known masks all.2)
+pub all_kept : (items now : List Entry) (F G : ℕ → Option Cell) (M N : ℕ → ℕ) (homes : Bool) → now ≡ items → ((b : ℕ) → G b ≡ F b) → ((v : ℕ) → N v ≡ M v)
+    → AreEntries items × ((b : ℕ) → F b ≡ cell_of items b) × AreMarked items F M × (homes ≡ false → NoneHomed items) → AreEntries now × ((b : ℕ) → G b ≡ cell_of now b) × AreMarked now G N × (homes ≡ false → NoneHomed now)
+all_kept items now F G M N homes same known masks all = subst (λ (es : List Entry). AreEntries es × ((b : ℕ) → G b ≡ cell_of es b) × AreMarked es G N × (homes ≡ false → NoneHomed es)) (sym same)
+    (all.0, (λ b. known b ∙ all.1 b), marked_same items F G M N known masks all.2, all.3)
+
+-- a newer record keeps all blocks of a record, where its mask, moved, has all bits
+pub under_from : (first keep newer_first newer_keep moved b : ℕ) → keep < 2 ^ 128 → moved < 2 ^ 128 → ((i : ℕ) → has_bit moved i ≡ (ltb i 128 && in_mask newer_first newer_keep (first + i)))
+    → bit_and keep (bit_not w128 moved) ≡ 0 → in_mask first keep b ≡ true → in_mask newer_first newer_keep b ≡ true
+under_from first keep newer_first newer_keep moved b fits moved_fits bits none on =
+    let parts = and_parts (leb first b) (has_bit keep (b - first)) on in
+    let start = leb-true first b parts.0 in
+    let at : first + (b - first) ≡ b = omega (arith, start) in
+    let bit : has_bit moved (b - first) ≡ true = seen (has_bit keep (b - first)) (has_bit moved (b - first)) parts.1
+    (sym (has_bit-without keep moved (b - first) fits moved_fits) ∙ ap (λ (m : ℕ). has_bit m (b - first)) none ∙ has_bit-zero (b - first)) in
+    ap (in_mask newer_first newer_keep) (sym at) ∙ (and_parts (ltb (b - first) 128) (in_mask newer_first newer_keep (first + (b - first))) (sym (bits (b - first)) ∙ bit)).1
+  where
+    seen : (k m : Bool) → k ≡ true → (k && not m) ≡ false → m ≡ true
+    seen k true kept none_ = refl
+    seen true false kept none_ = absurd (false≢true (sym none_))
+    seen false false kept none_ = kept
+
+-- a record whose blocks all have a newer record has none that is due
+pub marked_beneath : (known : ℕ → Option Cell) (mask version : ℕ) (e : Entry) → (e.record.version ≡ version → ⊥) → ((b : ℕ) → keeps e b ≡ true → version_in (known b) ≡ Some version)
+    → has_bit mask there_bit ≡ true → has_bit mask (lane_bit true e.record.lane) ≡ true → IsMarked known mask e
+marked_beneath known mask version e other newer there going_ = record {
+  there = there;
+  due = λ b on. absurd (false≢true (sym (by (known b) (newer b (and_parts (keeps e b) (is_held e.record.version false (known b) && not (is_home e b)) on).0))
+      ∙ (and_parts (is_held e.record.version false (known b)) (not (is_home e b)) (and_parts (keeps e b) (is_held e.record.version false (known b) && not (is_home e b)) on).1).0));
+  going = λ b on. going_;
+}
+  where
+    by : (c : Option Cell) → version_in c ≡ Some version → is_held e.record.version false c ≡ false
+    by None is = absurd (none-some version is)
+    by (Some c) is = ap (λ (t : Bool). t && true) (ne_eqb c.version e.record.version (λ same. other (sym same ∙ same_Some c.version version is)))
+
+-- no block begins to go of an entry that has none homed
+pub begun_unhomed : (items : List Entry) (known : ℕ → Option Cell) (masks : ℕ → ℕ) (b : ℕ) → NoneHomed items → AreBegun false items known masks b
+begun_unhomed items known masks b none k e there begun_ =
+    absurd (false≢true (sym (ap (λ (m : ℕ). in_mask e.record.lbn m b) (none_homed_at items k e none there) ∙ no_mask (leb e.record.lbn b) (b - e.record.lbn)) ∙ (and_parts (is_home e b) (is_held e.record.version true (take_one (known b))) begun_).0))
+  where
+    no_mask : (t : Bool) (i : ℕ) → (t && has_bit 0 i) ≡ false
+    no_mask true i = has_bit-zero i
+    no_mask false i = refl

@@ -1,17 +1,18 @@
 -- Entries of which some blocks are homed no more.
-use Rattle.std.proofs.Common.{◌≡◌, ⊎_elim, ◌<◌, ◌≤◌, ◌+◌, ◌-◌, ◌*◌, ◌%◌, ◌^◌, ℕ, zero, suc, Bool, true, false, not, ◌&&◌, ◌||◌, List, [], ◌∷◌, map, drop, set, Some, refl, sym, ap, ◌∙◌, subst, arith, eqb, leb, bit_and}
+use Rattle.std.proofs.Common.{◌≡◌, ⊎_elim, ◌<◌, ◌≤◌, ◌+◌, ◌-◌, ◌*◌, ◌%◌, ◌^◌, ℕ, zero, suc, Bool, true, false, not, ◌&&◌, ◌||◌, List, [], ◌∷◌, ◌++◌, map, drop, set, Some, refl, sym, ap, ◌∙◌, subst, arith, eqb, leb, bit_and}
 use Rattle.std.specs.Prelude.{slice_get}
 use Rattle.std.specs.Int.{bit_not, w128}
-use Rattle.std.specs.List.{AllByRecursion, AllZip}
+use Rattle.std.specs.List.{AllByRecursion, AllZip, remove}
 use Rattle.std.proofs.lemmas.Bool.{cases_lt, cases_eq, ne_eqb, eq-eqb, leb-true, false≢true, and_parts, or_parts, or_left, or_right, not-true, false_from_ne_true}
+use Rattle.std.proofs.lemmas.Option.{none-some, same_Some}
 use Rattle.wol_model.specs.Log.{has_bit}
 use Rattle.wol_model.specs.Index.{AreRising}
 use Rattle.redirect_map.specs.declared.entry.Entry.{Entry}
 use Rattle.redirect_map.specs.declared.record.Rec.{Rec}
 use Rattle.redirect_map.specs.Masks.{in_mask}
-use Rattle.redirect_map.specs.Kept.{keeps, one_keeps, IsInRange, IsWithout, IsUnhomed, AreLive, AreEntries}
+use Rattle.redirect_map.specs.Kept.{keeps, one_keeps, IsInRange, IsWithout, IsUnhomed, AreLive, AreEntries, NoneHomed}
 use Rattle.redirect_map.specs.Cells.{cell_of, with_older}
-use Rattle.redirect_map.proofs.Bits.{has_bit-above, has_bit-without, has_bit-pow, small_from_bits}
+use Rattle.redirect_map.proofs.Bits.{has_bit-above, has_bit-zero, has_bit-without, has_bit-pow, small_from_bits}
 use Rattle.redirect_map.proofs.Seen.{in_mask-bit}
 use Rattle.redirect_map.proofs.Answering.{wide}
 
@@ -65,6 +66,37 @@ without_from r [] [] all = tt
 without_from r [] (n ∷ ns) all = absurd all
 without_from r (o ∷ os) [] all = absurd all
 without_from r (o ∷ os) (n ∷ ns) all = (record { same = all.0.same; homed = all.0.homed }, without_from r os ns all.1)
+
+-- where no entry has a homed block, all stay as they are
+pub unhomed_none : (r : Rec) (xs : List Entry) → NoneHomed xs → AllZip (IsUnhomed r) xs xs
+unhomed_none r [] none = tt
+unhomed_none r (x ∷ xs) none =
+    (record { same = refl; homed = λ i. no_bit i ∙ sym (ap (λ (t : Bool). t && not (in_mask r.lbn r.keep (x.record.lbn + i))) (no_bit i)) }, unhomed_none r xs none.1)
+  where
+    no_bit : (i : ℕ) → has_bit x.homed i ≡ false
+    no_bit i = ap (λ (m : ℕ). has_bit m i) none.0 ∙ has_bit-zero i
+
+-- a further entry without a homed block, another one at a place, and one less
+pub none_homed_added : (xs : List Entry) (x : Entry) → NoneHomed xs → x.homed ≡ 0 → NoneHomed (xs ++ x ∷ [])
+none_homed_added [] x none here = (here, tt)
+none_homed_added (y ∷ ys) x none here = (none.0, none_homed_added ys x none.1 here)
+
+pub none_homed_set : (xs : List Entry) (k : ℕ) (x : Entry) → NoneHomed xs → x.homed ≡ 0 → NoneHomed (set xs k x)
+none_homed_set [] k x none here = tt
+none_homed_set (y ∷ ys) zero x none here = (here, none.1)
+none_homed_set (y ∷ ys) (suc k) x none here = (none.0, none_homed_set ys k x none.1 here)
+
+pub none_homed_removed : (xs : List Entry) (k : ℕ) → NoneHomed xs → NoneHomed (remove xs k)
+none_homed_removed [] zero none = tt
+none_homed_removed [] (suc k) none = tt
+none_homed_removed (y ∷ ys) zero none = none.1
+none_homed_removed (y ∷ ys) (suc k) none = (none.0, none_homed_removed ys k none.1)
+
+-- the entry at a place
+pub none_homed_at : (xs : List Entry) (k : ℕ) (x : Entry) → NoneHomed xs → slice_get xs k ≡ Some x → x.homed ≡ 0
+none_homed_at [] k x none is = absurd (none-some x is)
+none_homed_at (y ∷ ys) zero x none is = subst (λ (d : Entry). d.homed ≡ 0) (same_Some y x is) none.0
+none_homed_at (y ∷ ys) (suc k) x none is = none_homed_at ys k x none.1 is
 
 -- ---- What stays
 

@@ -40,6 +40,10 @@ abbrev pub AreLive : List Entry → Type 0
 AreLive [] = ⊤
 AreLive (e ∷ es) = ((i : ℕ) → has_bit e.homed i ≡ true → (has_bit e.record.keep i ≡ true) × (one_keeps es (e.record.lbn + i) ≡ false)) × AreLive es
 
+-- no entry has a homed block
+abbrev pub NoneHomed : List Entry → Type 0
+NoneHomed es = AllByRecursion (λ e. e.homed ≡ 0) es
+
 -- what is so of the entries of each index
 pub record AreEntries (es : List Entry) : Type 0 where
   pub rising : AreRising (map (λ e. e.record.version) es)

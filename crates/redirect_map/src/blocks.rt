@@ -121,14 +121,21 @@ pub fn any_covered(blocks: &HashMap<u64, Cell>, lbn: u64, count: u32) -> bool
     false
 }
 
-// How many records keep the block.
-fn keepers_at(blocks: &HashMap<u64, Cell>, lbn: u64) -> u64
-    ensures { result ≡ keepers_of (get nat_eq blocks.now lbn) }
+// A record of this version, which is above all others, keeps the block too, if one does. Answers whether one did.
+fn cover_again(blocks: &mut HashMap<u64, Cell>, lbn: u64, version: u64) -> bool
+    requires { keepers_of (get nat_eq blocks.old lbn) + 1 < 2 ^ 64 }
+    ensures cells { result ≡ true → (b : ℕ) → get nat_eq blocks.new b
+        ≡ (if b == lbn then one_covers version (get nat_eq blocks.old b) else get nat_eq blocks.old b) }
+    ensures none { result ≡ false → get nat_eq blocks.old lbn ≡ None }
+    ensures same { result ≡ false → (b : ℕ) → get nat_eq blocks.new b ≡ get nat_eq blocks.old b }
+    ensures spare { spare blocks.old ≤ spare blocks.new }
 {
-    match newest_of(blocks, lbn) {
-        Some(cell) => cell.keepers,
-        None => 0,
-    }
+    let Some(cell) = blocks.get_mut(&lbn) else {
+        return false;
+    };
+    cell.version = version;
+    cell.keepers += 1;
+    true
 }
 
 // A record of this version, which is above all others, keeps the block too.
@@ -139,7 +146,10 @@ fn cover_one(blocks: &mut HashMap<u64, Cell>, lbn: u64, version: u64)
         ≡ (if b == lbn then one_covers version (get nat_eq blocks.old b) else get nat_eq blocks.old b) }
     ensures spare { spare blocks.old ≤ spare blocks.new + 1 }
 {
-    let keepers = keepers_at(blocks, lbn) + 1;
+    if cover_again(blocks, lbn, version) {
+        return;
+    }
+    let keepers = 1;
     let _ = blocks.insert(lbn, Cell { version, keepers });
 }
 
@@ -173,16 +183,22 @@ pub fn cover(blocks: &mut HashMap<u64, Cell>, one: &Rec)
     }
 }
 
-// A record keeps the block no more, one of several.
-fn lower_one(blocks: &mut HashMap<u64, Cell>, lbn: u64)
-    requires many { 1 < keepers_of (get nat_eq blocks.old lbn) }
-    ensures cells { (b : ℕ) → get nat_eq blocks.new b
+// A record keeps the block no more, if it is one of several. Answers whether it was.
+fn lower_one(blocks: &mut HashMap<u64, Cell>, lbn: u64) -> bool
+    ensures cells { result ≡ true → (b : ℕ) → get nat_eq blocks.new b
         ≡ (if b == lbn then take_one (get nat_eq blocks.old b) else get nat_eq blocks.old b) }
+    ensures few { result ≡ false → keepers_of (get nat_eq blocks.old lbn) ≤ 1 }
+    ensures same { result ≡ false → (b : ℕ) → get nat_eq blocks.new b ≡ get nat_eq blocks.old b }
     ensures spare { spare blocks.old ≤ spare blocks.new }
 {
-    if let Some(cell) = blocks.get_mut(&lbn) {
-        cell.keepers -= 1;
+    let Some(cell) = blocks.get_mut(&lbn) else {
+        return false;
+    };
+    if cell.keepers <= 1 {
+        return false;
     }
+    cell.keepers -= 1;
+    true
 }
 
 // A record keeps the block no more.
@@ -191,11 +207,10 @@ fn uncover_one(blocks: &mut HashMap<u64, Cell>, lbn: u64)
         ≡ (if b == lbn then take_one (get nat_eq blocks.old b) else get nat_eq blocks.old b) }
     ensures spare { spare blocks.old ≤ spare blocks.new }
 {
-    if keepers_at(blocks, lbn) > 1 {
-        lower_one(blocks, lbn);
-    } else {
-        blocks.remove(&lbn);
+    if lower_one(blocks, lbn) {
+        return;
     }
+    blocks.remove(&lbn);
 }
 
 // Bit i of a mask of blocks that a record keeps no more.

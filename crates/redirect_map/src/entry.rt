@@ -4,7 +4,7 @@ ghost use Rattle.std.specs.List.{AllZip, list_any, range_with_len};
 ghost use Rattle.std.specs.List.Sorted.{IsPartitionPoint};
 ghost use Rattle.wol_model.specs.Log.{has_bit};
 ghost use Rattle.wol_model.specs.Index.{AreRising};
-ghost use Rattle.redirect_map.specs.Kept.{is_version, keeps, IsKept, IsUnhomed, IsWithout, AreEntries};
+ghost use Rattle.redirect_map.specs.Kept.{is_version, keeps, IsKept, IsUnhomed, IsWithout, AreEntries, NoneHomed};
 ghost use Rattle.redirect_map.specs.Cells.{AreTabled};
 
 use crate::blocks::{Cell, newest_of};
@@ -133,8 +133,34 @@ fn unhome_bit(entries: &mut Entries, blocks: &HashMap<u64, Cell>, newer: &Rec, i
     }
 }
 
+// Whether a record may have a homed block, once one has those of the mask.
+pub fn with_homes(homes: bool, mask: u128) -> bool
+    ensures was { result ≡ false → homes ≡ false }
+    ensures none { result ≡ false → mask ≡ 0 }
+{
+    homes || mask != 0
+}
+
+// Blocks that the record keeps are homed no more. Where no record has a homed block all stays as it is.
+pub fn unhome(homes: bool, entries: &mut Entries, blocks: &HashMap<u64, Cell>, newer: &Rec)
+    requires homes { homes ≡ false → NoneHomed entries.old.items }
+    requires entries { AreEntries entries.old.items }
+    requires cells { AreTabled entries.old.items blocks.now }
+    requires count { newer.now.count ≤ 128 }
+    requires within { newer.now.lbn + newer.now.count ≤ 2 ^ 32 }
+    requires keep_within { newer.now.keep < 2 ^ newer.now.count }
+    ensures zip { AllZip (IsUnhomed newer.now) entries.old.items entries.new.items }
+    ensures none { homes ≡ false → NoneHomed entries.new.items }
+    ensures room { entries.new.room ≡ entries.old.room }
+{
+    if !homes {
+        return;
+    }
+    unhome_blocks(entries, blocks, newer);
+}
+
 // Blocks that the record keeps are homed no more.
-pub fn unhome(entries: &mut Entries, blocks: &HashMap<u64, Cell>, newer: &Rec)
+fn unhome_blocks(entries: &mut Entries, blocks: &HashMap<u64, Cell>, newer: &Rec)
     requires entries { AreEntries entries.old.items }
     requires cells { AreTabled entries.old.items blocks.now }
     requires count { newer.now.count ≤ 128 }

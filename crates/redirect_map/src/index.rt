@@ -10,10 +10,10 @@ ghost use Rattle.redirect_map.specs.Runs.{runs_of};
 ghost use Rattle.redirect_map.specs.Index.{cover_at, entry_at, HasVersion, entry_of, IsRecordOf, IsAnswer, changed, unhomed, with_homed, given_up, IsIndex};
 
 use crate::blocks::{Cell, any_covered, cover, held, held_both, newest_of, run_length, uncover};
-use crate::entry::{Entry, unhome};
+use crate::entry::{Entry, unhome, with_homes};
 use crate::list::Entries;
 use crate::marking::{
-    exact_mask, lanes_mask, mark_all_exactly, mark_blocks, new_mask, newest_versions,
+    exact_mask, lanes_mask, mark_all_exactly, mark_blocks, mark_given_up, new_mask, newest_versions,
 };
 use crate::record::Rec;
 use std::alloc::Global;
@@ -33,14 +33,16 @@ pub struct Index {
     blocks: HashMap<u64, Cell>,
     // The versions of which something may be due or may go.
     marks: VersionMarks,
+    // Whether a record may have a homed block: false until the first one is noted.
+    homes: bool,
 }
 
 impl Model for Index {
-    ghost use Rattle.std.specs.Prelude.{◌-◌, ◌/◌, min, map, nat_eq};
+    ghost use Rattle.std.specs.Prelude.{◌≡◌, ◌-◌, ◌/◌, min, map, nat_eq, false};
     ghost use Rattle.std.specs.HashMap.{get, spare};
     ghost use Rattle.version_marks.specs.Marks.{mask_of};
     ghost use Rattle.redirect_map.specs.Index.{Contents};
-    ghost use Rattle.redirect_map.specs.Kept.{seen, AreEntries};
+    ghost use Rattle.redirect_map.specs.Kept.{seen, AreEntries, NoneHomed};
     ghost use Rattle.redirect_map.specs.Cells.{AreTabled};
     ghost use Rattle.redirect_map.specs.Marked.{AreMarked};
 
@@ -49,7 +51,8 @@ impl Model for Index {
     ghost view = { λ a. record { entries = map seen a.entries.items; reserved = min (min a.entries.room (spare a.blocks / 128)) a.marks.room } };
 
     ghost invariant = { λ a. AreEntries a.entries.items × AreTabled a.entries.items a.blocks
-        × AreMarked a.entries.items (get nat_eq a.blocks) (mask_of a.marks) };
+        × AreMarked a.entries.items (get nat_eq a.blocks) (mask_of a.marks)
+        × (a.homes ≡ false → NoneHomed a.entries.items) };
 }
 
 impl Index {
@@ -61,6 +64,7 @@ impl Index {
             entries: Entries::new(alloc),
             blocks: HashMap::new(alloc),
             marks: VersionMarks::new(alloc),
+            homes: false,
         }
     }
 
@@ -104,7 +108,7 @@ impl Index {
             true,
         );
         self.marks.push(entry.version, new_mask(entry.lane));
-        unhome(&mut self.entries, &self.blocks, &entry);
+        unhome(self.homes, &mut self.entries, &self.blocks, &entry);
         self.entries.push(Entry {
             record: entry,
             homed: 0,
@@ -114,6 +118,7 @@ impl Index {
             &mut self.marks,
             &self.entries,
             &self.blocks,
+            &entry,
             &covered[..entry.count as usize],
         );
     }
@@ -221,6 +226,7 @@ impl Index {
     {
         let mut entry = self.entries.get(version).unwrap();
         entry.homed = mask;
+        self.homes = with_homes(self.homes, mask);
         self.marks.set(version, exact_mask(&self.blocks, &entry));
         self.entries.replace(version, entry);
     }
@@ -239,14 +245,13 @@ impl Index {
         ensures room { self.old.reserved ≤ self.new.reserved }
     {
         let mut entry = self.entries.get(version).unwrap();
-        mark_blocks(
+        mark_given_up(
+            self.homes,
             &mut self.marks,
             &self.entries,
             &self.blocks,
-            entry.record.lbn,
-            entry.record.count,
+            &entry.record,
             mask,
-            false,
         );
         uncover(&mut self.blocks, entry.record.lbn, entry.record.count, mask);
         entry.record.keep &= !mask;

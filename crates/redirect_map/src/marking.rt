@@ -1,11 +1,11 @@
 // Marks of records that may have a due block, or one that goes, by version.
-ghost use Rattle.std.specs.Prelude.{◌≡◌, ◌<◌, ◌≤◌, ◌^◌, ◌+◌, ℕ, Bool, true, false, nat_eq, slice_index_or, ◌==◌, ◌&&◌, ◌||◌};
+ghost use Rattle.std.specs.Prelude.{◌≡◌, ◌<◌, ◌≤◌, ◌^◌, ◌+◌, ℕ, Bool, true, false, nat_eq, slice_index_or, Some, ◌==◌, ◌&&◌, ◌||◌};
 ghost use Rattle.std.specs.HashMap.{get};
 ghost use Rattle.wol_model.specs.Log.{has_bit};
 ghost use Rattle.version_marks.specs.Marks.{mask_of};
 ghost use Rattle.redirect_map.specs.Masks.{in_mask};
-ghost use Rattle.redirect_map.specs.Kept.{IsInRange, AreEntries};
-ghost use Rattle.redirect_map.specs.Cells.{AreTabled};
+ghost use Rattle.redirect_map.specs.Kept.{IsInRange, AreEntries, NoneHomed};
+ghost use Rattle.redirect_map.specs.Cells.{AreTabled, version_in};
 ghost use Rattle.redirect_map.specs.Marked.{there_bit, lane_bit, is_home, begins, IsMarked, AreMarked, AreThere, AreBegun, KeepsBits};
 
 use crate::blocks::{Cell, held_both, newest_of, with_bit};
@@ -60,6 +60,27 @@ pub fn exact_mask(blocks: &HashMap<u64, Cell>, entry: &Entry) -> u128
     record_mask(entry.record.lane, due, going)
 }
 
+// Whether the newer record keeps all blocks that this one keeps.
+fn is_under(one: &Rec, newer: &Rec) -> bool
+    ensures { result ≡ true → (b : ℕ) → in_mask one.now.lbn one.now.keep b ≡ true → in_mask newer.now.lbn newer.now.keep b ≡ true }
+{
+    one.keep & !moved(newer.keep, newer.lbn, one.lbn) == 0
+}
+
+// The same mask, where a record was added that is the newest of all its blocks. Where it keeps all blocks of this one none of
+// them is due, and they need no look.
+fn mask_under(blocks: &HashMap<u64, Cell>, entry: &Entry, newer: &Rec) -> u128
+    requires entry { IsInRange entry.now }
+    requires newer { (b : ℕ) → in_mask newer.now.lbn newer.now.keep b ≡ true
+        → version_in (get nat_eq blocks.now b) ≡ Some newer.now.version }
+    ensures { IsMarked (get nat_eq blocks.now) result entry.now }
+{
+    if entry.record.version != newer.version && is_under(&entry.record, newer) {
+        return record_mask(entry.record.lane, false, true);
+    }
+    exact_mask(blocks, entry)
+}
+
 // Whether the block is home in this record.
 fn has_home(entry: &Entry, lbn: u64) -> bool
     ensures { result ≡ is_home entry.now lbn }
@@ -74,7 +95,11 @@ fn mark_going(marks: &mut VersionMarks, version: u64, lane: u32)
         → has_bit (mask_of marks.new version) (lane_bit true lane) ≡ true }
     ensures room { marks.new.room ≡ marks.old.room }
 {
-    let mask = with_bit(marks.get(version), lane_bit(true, lane as usize), true);
+    let old = marks.get(version);
+    let mask = with_bit(old, lane_bit(true, lane as usize), true);
+    if mask == old {
+        return;
+    }
     marks.set(version, mask);
 }
 
@@ -161,6 +186,32 @@ pub fn mark_blocks(
     }
 }
 
+// The same of the blocks of a mask that a record gives up. Where no record has a homed block none begins to go.
+pub fn mark_given_up(
+    homes: bool,
+    marks: &mut VersionMarks,
+    entries: &Entries,
+    blocks: &HashMap<u64, Cell>,
+    one: &Rec,
+    mask: u128,
+)
+    requires homes { homes ≡ false → NoneHomed entries.now.items }
+    requires entries { AreEntries entries.now.items }
+    requires there { AreThere entries.now.items (mask_of marks.old) }
+    requires count { one.now.count ≤ 128 }
+    requires within { one.now.lbn + one.now.count ≤ 2 ^ 32 }
+    requires mask { mask < 2 ^ one.now.count }
+    ensures more { KeepsBits marks.old marks.new }
+    ensures begun { (b : ℕ) → in_mask one.now.lbn mask b ≡ true
+        → AreBegun false entries.now.items (get nat_eq blocks.now) (mask_of marks.new) b }
+    ensures room { marks.new.room ≡ marks.old.room }
+{
+    if !homes {
+        return;
+    }
+    mark_blocks(marks, entries, blocks, one.lbn, one.count, mask, false);
+}
+
 // The versions of the newest records of the record's blocks, in order, and 0 where no record keeps one. No proof
 // rests on them: their marks are made exact, and those of any others may be.
 pub fn newest_versions(blocks: &HashMap<u64, Cell>, one: &Rec) -> [u64; 128]
@@ -176,14 +227,17 @@ pub fn newest_versions(blocks: &HashMap<u64, Cell>, one: &Rec) -> [u64; 128]
     versions
 }
 
-// Makes the marks of this version exact, if there is such a record.
+// Makes the marks of this version exact, if there is such a record, after the newer one was added.
 fn mark_exactly(
     marks: &mut VersionMarks,
     entries: &Entries,
     blocks: &HashMap<u64, Cell>,
+    newer: &Rec,
     version: u64,
 )
     requires entries { AreEntries entries.now.items }
+    requires newer { (b : ℕ) → in_mask newer.now.lbn newer.now.keep b ≡ true
+        → version_in (get nat_eq blocks.now b) ≡ Some newer.now.version }
     requires marked { AreMarked entries.now.items (get nat_eq blocks.now) (mask_of marks.old) }
     ensures marked { AreMarked entries.now.items (get nat_eq blocks.now) (mask_of marks.new) }
     ensures room { marks.new.room ≡ marks.old.room }
@@ -191,7 +245,7 @@ fn mark_exactly(
     let Some(entry) = entries.get(version) else {
         return;
     };
-    marks.set(version, exact_mask(blocks, &entry));
+    marks.set(version, mask_under(blocks, &entry, newer));
 }
 
 // The same, unless this version was the last one.
@@ -199,34 +253,41 @@ fn mark_next(
     marks: &mut VersionMarks,
     entries: &Entries,
     blocks: &HashMap<u64, Cell>,
+    newer: &Rec,
     last: u64,
     version: u64,
 )
     requires entries { AreEntries entries.now.items }
+    requires newer { (b : ℕ) → in_mask newer.now.lbn newer.now.keep b ≡ true
+        → version_in (get nat_eq blocks.now b) ≡ Some newer.now.version }
     requires marked { AreMarked entries.now.items (get nat_eq blocks.now) (mask_of marks.old) }
     ensures marked { AreMarked entries.now.items (get nat_eq blocks.now) (mask_of marks.new) }
     ensures room { marks.new.room ≡ marks.old.room }
 {
     if version != last {
-        mark_exactly(marks, entries, blocks, version);
+        mark_exactly(marks, entries, blocks, newer, version);
     }
 }
 
-// Makes the marks of these versions exact. Equal versions in a row are looked at once.
+// Makes the marks of these versions exact, after the newer record was added, which is the newest of all its blocks. Equal
+// versions in a row are looked at once.
 pub fn mark_all_exactly(
     marks: &mut VersionMarks,
     entries: &Entries,
     blocks: &HashMap<u64, Cell>,
+    newer: &Rec,
     versions: &[u64],
 )
     requires entries { AreEntries entries.now.items }
+    requires newer { (b : ℕ) → in_mask newer.now.lbn newer.now.keep b ≡ true
+        → version_in (get nat_eq blocks.now b) ≡ Some newer.now.version }
     requires marked { AreMarked entries.now.items (get nat_eq blocks.now) (mask_of marks.old) }
     ensures marked { AreMarked entries.now.items (get nat_eq blocks.now) (mask_of marks.new) }
     ensures room { marks.new.room ≡ marks.old.room }
 {
     let mut last = 0;
     for version in versions {
-        mark_next(marks, entries, blocks, last, *version);
+        mark_next(marks, entries, blocks, newer, last, *version);
         last = *version;
     }
 }

@@ -11,7 +11,7 @@ use Rattle.std.specs.Prelude.{slice_index_or}
 use Rattle.manager.proofs.Forgetting.{flag_set}
 use Rattle.manager.proofs.Lanes.{all_at}
 use Rattle.manager.proofs.ReadThrough.{never_some}
-use Rattle.manager.proofs.RetireCall.{calm_then, cause_broke, dropped_broke, dropped_then, keeps_then, lane_of, none_live, old_lane, ready_broke, ready_then, retirable, stands_broke, stops_broke, stops_then, there_is}
+use Rattle.manager.proofs.RetireCall.{calm_then, cause_broke, counted_there, dropped_broke, dropped_then, keeps_then, lane_of, none_live, old_lane, ready_broke, ready_then, retirable, stands_broke, stops_broke, stops_then, there_is}
 use Rattle.manager.proofs.manager.Manager.drop_segment.Goals as goal
 
 pub bounds-deref_mut-place : goal.bounds-deref_mut-place
@@ -40,12 +40,26 @@ retire-requires-clause-at g c =
     let l = c.index_mut-lane.result.now in let lane = lane_of state m c.requires.ready up c.args.version r f index l c.index_mut-lane.ensures.value in
     all_at (IsAt c.args.shared.now) m.lanes.items r.lane l lane c.requires.at.lanes_
 
+pub valid-count-requires : goal.valid-count-requires
+valid-count-requires g c =
+    let m = c.args.self.now in let state = g.D.Disk.state in let r = c.in-Some-find.record in
+    let up = never_some m.down c.in_default.not-Some in let f = found_of m.index.entries c.args.version r c.in-Some-find.ensures.value in let index = c.in-Some-find.ensures.index in
+    let l = c.index_mut-lane.result.now in let lane = lane_of state m c.requires.ready up c.args.version r f index l c.index_mut-lane.ensures.value in
+    retirable state m c.requires.ready up c.args.version r f index l lane
+
 pub retire-requires-clause-segment : goal.retire-requires-clause-segment
 retire-requires-clause-segment g c =
     let m = c.args.self.now in let state = g.D.Disk.state in let r = c.in-Some-find.record in
     let up = never_some m.down c.in_default.not-Some in let f = found_of m.index.entries c.args.version r c.in-Some-find.ensures.value in let index = c.in-Some-find.ensures.index in
     let l = c.index_mut-lane.result.now in let lane = lane_of state m c.requires.ready up c.args.version r f index l c.index_mut-lane.ensures.value in
     retirable state m c.requires.ready up c.args.version r f index l lane
+
+pub forget-requires-clause-count : goal.forget-requires-clause-count
+forget-requires-clause-count g c =
+    let m = c.args.self.now in let state = g.D.Disk.state in let r = c.in-Some-find.record in
+    let up = never_some m.down c.in_default.not-Some in let f = found_of m.index.entries c.args.version r c.in-Some-find.ensures.value in let index = c.in-Some-find.ensures.index in
+    let l = c.index_mut-lane.result.now in let lane = lane_of state m c.requires.ready up c.args.version r f index l c.index_mut-lane.ensures.value in
+    counted_there state m c.requires.ready up c.args.version r f index l lane c.valid-count.result c.valid-count.ensures
 
 pub forget-requires-clause-awake : goal.forget-requires-clause-awake
 forget-requires-clause-awake g c =

@@ -1,14 +1,16 @@
-use Rattle.std.proofs.Common.{nat_eq, ◌≡◌, ◌<◌, ◌≤◌, ◌∙◌, sym, ap, subst, map, length, arith, [], ◌∷◌, ◌++◌}
+use Rattle.std.proofs.Common.{Bool, cond, nat_eq, ◌<◌, ◌≤◌, ◌∙◌, refl, sym, ap, subst, map, length, arith, [], ◌∷◌}
 use Rattle.std.specs.HashMap.{get}
 use Rattle.std.proofs.lemmas.List.{length-append}
-use Rattle.std.specs.List.{AllByRecursion, AllZip}
+use Rattle.std.specs.List.{AllByRecursion}
 use Rattle.wol_model.specs.Log.{marks_of}
 use Rattle.wol_model.specs.Index.{Indexed}
 use Rattle.redirect_map.specs.Runs.{runs_of}
+use Rattle.redirect_map.specs.Cells.{one_covers, version_in}
 use Rattle.redirect_map.specs.Index.{Contents}
-use Rattle.redirect_map.specs.Kept.{seen, AreEntries, IsUnhomed}
+use Rattle.redirect_map.specs.Kept.{seen, AreEntries, NoneHomed}
 use Rattle.redirect_map.proofs.Adding.{IsNew, new_entry, below_new, some_run, entries_added, seen_added, zip_length}
 use Rattle.redirect_map.proofs.Tabling.{all_added}
+use Rattle.redirect_map.proofs.Without.{none_homed_added}
 use Rattle.redirect_map.proofs.Celled.{keepers_few}
 use Rattle.version_marks.specs.Marks.{mask_of}
 use Rattle.redirect_map.proofs.Marked.{marks_added}
@@ -41,6 +43,7 @@ invariant_of-self c = (
   subst AreEntries (sym c.push-2.ensures.items) (entries_added c.args.entry c.self.inside.entries.items c.unhome.new.entries.items c.self.invariant.0 c.unhome.ensures.zip (record { some = c.requires.some; count = c.requires.count; within = c.requires.within; keeps = c.requires.keeps; keep_within = c.requires.keep_within }) (subst (λ (v : Contents). AllByRecursion (λ (d : Indexed). d.listed.version < c.args.entry.version) v.entries) (sym c.self.view_is) c.requires.newest)),
   all_added c.args.entry c.self.inside.entries.items c.unhome.new.entries.items c.push-2.new.self.items (get nat_eq c.self.inside.blocks) (get nat_eq c.cover.new.blocks) c.unhome.ensures.zip c.push-2.ensures.items c.self.invariant.1 c.cover.ensures.cells,
   c.mark_all_exactly.ensures.marked,
+  (λ is. subst NoneHomed (sym c.push-2.ensures.items) (none_homed_added c.unhome.new.entries.items (new_entry c.args.entry) (c.unhome.ensures.none is) refl)),
 )
 
 pub push-requires : goal.push-requires
@@ -73,3 +76,6 @@ cover-requires-clause-few c = λ b.
     let few = keepers_few c.self.inside.entries.items b in
     let same = zip_length c.args.entry c.self.inside.entries.items c.unhome.new.entries.items c.unhome.ensures.zip in
     rw (c.self.invariant.1 b) (omega (arith, few, same, c.push-2.ensures.few, ap length c.push-2.ensures.items, length-append c.unhome.new.entries.items (new_entry c.args.entry ∷ [])))
+
+pub mark_all_exactly-requires-clause-newer : goal.mark_all_exactly-requires-clause-newer
+mark_all_exactly-requires-clause-newer c = λ b on. ap version_in (c.cover.ensures.cells b ∙ ap (λ (t : Bool). cond t (one_covers c.args.entry.version (get nat_eq c.self.inside.blocks b)) (get nat_eq c.self.inside.blocks b)) on)

@@ -1,4 +1,4 @@
-use Rattle.std.proofs.Common.{◌≡◌, ◌+◌, ℕ, true, List, Option, IsSome, map, sym, ap, subst, refl, ◌∙◌, set, nat_eq}
+use Rattle.std.proofs.Common.{◌≡◌, ◌+◌, ℕ, true, false, List, Option, IsSome, map, sym, ap, subst, refl, ◌∙◌, set, nat_eq}
 use Rattle.std.specs.Option.{ForSome}
 use Rattle.wol_model.specs.Log.{has_bit}
 use Rattle.wol_model.specs.Index.{listed_in, is_live}
@@ -10,12 +10,13 @@ use Rattle.std.specs.HashMap.{get}
 use Rattle.version_marks.specs.Marks.{mask_of}
 use Rattle.redirect_map.specs.Cells.{AreTabled}
 use Rattle.redirect_map.specs.declared.entry.Entry.{Entry}
-use Rattle.redirect_map.specs.Kept.{seen, AreEntries}
+use Rattle.redirect_map.specs.Kept.{seen, AreEntries, NoneHomed}
 use Rattle.redirect_map.specs.Marked.{there_bit, AreMarked}
 use Rattle.redirect_map.proofs.Answering.{range_at}
 use Rattle.redirect_map.proofs.Marked.{get_set_here, marks_set}
 use Rattle.redirect_map.specs.Listing.{place_in}
 use Rattle.redirect_map.proofs.Listing.{found_at}
+use Rattle.redirect_map.proofs.Without.{none_homed_set}
 use Rattle.redirect_map.proofs.index.Index.set_homed.Goals as goal
 
 pub unwrap-entry-requires : goal.unwrap-entry-requires
@@ -44,12 +45,13 @@ pub invariant_of-self : goal.invariant_of-self
 unfolding homed_entry
 invariant_of-self c =
     let at = (found_at c.self.inside.entries.items c.args.version c.unwrap-entry.result (sym c.get.ensures ∙ c.unwrap-entry.ensures)) in
-    subst (λ (es : List Entry). AreEntries es × AreTabled es c.self.inside.blocks × AreMarked es (get nat_eq c.self.inside.blocks) (mask_of c.set.new.self)) (sym c.replace.ensures.items) (
+    subst (λ (es : List Entry). AreEntries es × AreTabled es c.self.inside.blocks × AreMarked es (get nat_eq c.self.inside.blocks) (mask_of c.set.new.self) × (c.with_homes-self-inside.result ≡ false → NoneHomed es)) (sym c.replace.ensures.items) (
       entries_homed c.self.inside.entries.items c.args.version (place_in c.args.version c.self.inside.entries.items) c.unwrap-entry.result c.args.mask c.self.invariant.0 at (subst (λ (v : Contents). ForSome (entry_at v.entries c.args.version) (λ e. (i : ℕ) → has_bit c.args.mask i ≡ true → is_live (listed_in v.entries) e.listed (e.listed.first + i) ≡ true)) (sym c.self.view_is) c.requires.live),
       (λ b. c.self.invariant.1 b ∙ sym (cell_set_same c.self.inside.entries.items (place_in c.args.version c.self.inside.entries.items) c.unwrap-entry.result (homed_entry c.unwrap-entry.result c.args.mask) b at.at refl refl)),
       marks_set c.self.inside.entries.items (get nat_eq c.self.inside.blocks) (mask_of c.self.inside.marks) (mask_of c.set.new.self) (place_in c.args.version c.self.inside.entries.items) c.args.version c.exact_mask.result c.unwrap-entry.result (homed_entry c.unwrap-entry.result c.args.mask)
           c.self.invariant.0.rising at.at at.version_is at.version_is (ap (λ (v : ℕ). has_bit (mask_of c.self.inside.marks v) there_bit) (sym at.version_is) ∙ (c.self.invariant.2 (place_in c.args.version c.self.inside.entries.items) c.unwrap-entry.result at.at).there)
           c.set.ensures.masks c.exact_mask.ensures (λ j d found there. c.self.invariant.2 j d there),
+      (λ is. none_homed_set c.self.inside.entries.items (place_in c.args.version c.self.inside.entries.items) (homed_entry c.unwrap-entry.result c.args.mask) (c.self.invariant.3 (c.with_homes-self-inside.ensures.was is)) (c.with_homes-self-inside.ensures.none is)),
     )
 
 pub returns-clause-entries : goal.returns-clause-entries

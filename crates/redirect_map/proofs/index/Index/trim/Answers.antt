@@ -1,4 +1,4 @@
-use Rattle.std.proofs.Common.{Option, Some, None, OnSome, refl, ◌≡◌, ◌+◌, ℕ, true, List, ◌∙◌, sym, ap, subst, map, arith, nat_eq, set, IsSome}
+use Rattle.std.proofs.Common.{Option, ◌≡◌, ◌+◌, ℕ, true, List, ◌∙◌, sym, ap, subst, map, arith, nat_eq, set, IsSome, bit_and}
 use Rattle.std.specs.HashMap.{get}
 use Rattle.std.specs.List.{remove}
 use Rattle.std.specs.Option.{ForSome}
@@ -7,10 +7,13 @@ use Rattle.wol_model.specs.Index.{listed_in, goes}
 use Rattle.redirect_map.specs.declared.entry.Entry.{Entry}
 use Rattle.redirect_map.specs.Cells.{cell_of}
 use Rattle.redirect_map.specs.Index.{Contents, HasVersion, entry_at}
-use Rattle.redirect_map.specs.Kept.{seen, AreEntries}
+use Rattle.redirect_map.specs.Kept.{seen, AreEntries, NoneHomed}
 use Rattle.redirect_map.proofs.Answering.{is_there, range_at}
 use Rattle.redirect_map.proofs.Changing.{trimmed, entries_trimmed, changed_trimmed, entries_removed, changed_removed}
 use Rattle.redirect_map.proofs.Tabling.{all_less, cell_emptied, cell_trimmed, mask_fits}
+use Rattle.std.specs.Int.{bit_not, w128}
+use Rattle.std.specs.Int.Bits.{and_zero_l}
+use Rattle.redirect_map.proofs.Without.{none_homed_at, none_homed_removed, none_homed_set}
 use Rattle.version_marks.specs.Marks.{mask_of}
 use Rattle.redirect_map.specs.Marked.{there_bit, AreMarked}
 use Rattle.redirect_map.proofs.Marked.{get_set_here, marks_set, marks_removed, others_less}
@@ -41,9 +44,10 @@ invariant_of-self c =
       subst AreEntries (sym same) (entries_removed c.self.inside.entries.items (place_in c.args.version c.self.inside.entries.items) c.self.invariant.0),
       subst (λ (es : List Entry). (b : ℕ) → get nat_eq c.uncover.new.blocks b ≡ cell_of es b) (sym same) (table_removed c),
       subst (λ (es : List Entry). AreMarked es (get nat_eq c.uncover.new.blocks) (mask_of c.set.new.self)) (sym same)
-          (marks_removed c.self.inside.entries.items (get nat_eq c.uncover.new.blocks) (mask_of c.mark_blocks.new.marks) (mask_of c.set.new.self) (place_in c.args.version c.self.inside.entries.items) c.args.version 0 c.unwrap-entry.result
+          (marks_removed c.self.inside.entries.items (get nat_eq c.uncover.new.blocks) (mask_of c.mark_given_up.new.marks) (mask_of c.set.new.self) (place_in c.args.version c.self.inside.entries.items) c.args.version 0 c.unwrap-entry.result
           c.self.invariant.0.rising at.at at.version_is c.set.ensures.masks
-          (λ j d i found there. others_less c.self.inside.entries.items (remove c.self.inside.entries.items (place_in c.args.version c.self.inside.entries.items)) (get nat_eq c.self.inside.blocks) (get nat_eq c.uncover.new.blocks) (mask_of c.self.inside.marks) (mask_of c.mark_blocks.new.marks) c.unwrap-entry.result.record.lbn c.args.mask j i d c.self.invariant.2 c.mark_blocks.ensures.more c.mark_blocks.ensures.begun c.uncover.ensures.cells (table_removed c) found there)),
+          (λ j d i found there. others_less c.self.inside.entries.items (remove c.self.inside.entries.items (place_in c.args.version c.self.inside.entries.items)) (get nat_eq c.self.inside.blocks) (get nat_eq c.uncover.new.blocks) (mask_of c.self.inside.marks) (mask_of c.mark_given_up.new.marks) c.unwrap-entry.result.record.lbn c.args.mask j i d c.self.invariant.2 c.mark_given_up.ensures.more c.mark_given_up.ensures.begun c.uncover.ensures.cells (table_removed c) found there)),
+      (λ is. subst NoneHomed (sym same) (none_homed_removed c.self.inside.entries.items (place_in c.args.version c.self.inside.entries.items) (c.self.invariant.3 is))),
     )
 
 pub invariant_of-self-else-entry-eq0 : goal.invariant_of-self-else-entry-eq0
@@ -55,14 +59,16 @@ invariant_of-self-else-entry-eq0 c =
     let same = c.replace.ensures.items in (
       subst AreEntries (sym same) (entries_trimmed c.self.inside.entries.items (place_in c.args.version c.self.inside.entries.items) c.unwrap-entry.result c.args.mask c.self.invariant.0 at.at (omega arith) (omega arith)),
       subst (λ (es : List Entry). (b : ℕ) → get nat_eq c.uncover.new.blocks b ≡ cell_of es b) (sym same) table,
-      subst (λ (es : List Entry). AreMarked es (get nat_eq c.uncover.new.blocks) (mask_of c.set-else-entry-eq0.new.self)) (sym same) (marks_set c.self.inside.entries.items (get nat_eq c.uncover.new.blocks) (mask_of c.mark_blocks.new.marks) (mask_of c.set-else-entry-eq0.new.self) (place_in c.args.version c.self.inside.entries.items) c.args.version c.exact_mask.result c.unwrap-entry.result (trimmed c.unwrap-entry.result c.args.mask)
-          c.self.invariant.0.rising at.at at.version_is at.version_is (ap (λ (v : ℕ). has_bit (mask_of c.mark_blocks.new.marks v) there_bit) (sym at.version_is) ∙ c.mark_blocks.ensures.more c.unwrap-entry.result.record.version there_bit (c.self.invariant.2 (place_in c.args.version c.self.inside.entries.items) c.unwrap-entry.result at.at).there)
+      subst (λ (es : List Entry). AreMarked es (get nat_eq c.uncover.new.blocks) (mask_of c.set-else-entry-eq0.new.self)) (sym same) (marks_set c.self.inside.entries.items (get nat_eq c.uncover.new.blocks) (mask_of c.mark_given_up.new.marks) (mask_of c.set-else-entry-eq0.new.self) (place_in c.args.version c.self.inside.entries.items) c.args.version c.exact_mask.result c.unwrap-entry.result (trimmed c.unwrap-entry.result c.args.mask)
+          c.self.invariant.0.rising at.at at.version_is at.version_is (ap (λ (v : ℕ). has_bit (mask_of c.mark_given_up.new.marks v) there_bit) (sym at.version_is) ∙ c.mark_given_up.ensures.more c.unwrap-entry.result.record.version there_bit (c.self.invariant.2 (place_in c.args.version c.self.inside.entries.items) c.unwrap-entry.result at.at).there)
           c.set-else-entry-eq0.ensures.masks c.exact_mask.ensures
-          (λ j d found there. others_less c.self.inside.entries.items (set c.self.inside.entries.items (place_in c.args.version c.self.inside.entries.items) (trimmed c.unwrap-entry.result c.args.mask)) (get nat_eq c.self.inside.blocks) (get nat_eq c.uncover.new.blocks) (mask_of c.self.inside.marks) (mask_of c.mark_blocks.new.marks) c.unwrap-entry.result.record.lbn c.args.mask j j d c.self.invariant.2 c.mark_blocks.ensures.more c.mark_blocks.ensures.begun c.uncover.ensures.cells table found there)),
+          (λ j d found there. others_less c.self.inside.entries.items (set c.self.inside.entries.items (place_in c.args.version c.self.inside.entries.items) (trimmed c.unwrap-entry.result c.args.mask)) (get nat_eq c.self.inside.blocks) (get nat_eq c.uncover.new.blocks) (mask_of c.self.inside.marks) (mask_of c.mark_given_up.new.marks) c.unwrap-entry.result.record.lbn c.args.mask j j d c.self.invariant.2 c.mark_given_up.ensures.more c.mark_given_up.ensures.begun c.uncover.ensures.cells table found there)),
+      (λ is. subst NoneHomed (sym same) (none_homed_set c.self.inside.entries.items (place_in c.args.version c.self.inside.entries.items) (trimmed c.unwrap-entry.result c.args.mask) (c.self.invariant.3 is)
+          (ap (λ (m : ℕ). bit_and m (bit_not w128 c.args.mask)) (none_homed_at c.self.inside.entries.items (place_in c.args.version c.self.inside.entries.items) c.unwrap-entry.result (c.self.invariant.3 is) at.at) ∙ and_zero_l (bit_not w128 c.args.mask)))),
     )
 
-pub mark_blocks-requires-clause-mask : goal.mark_blocks-requires-clause-mask
-mark_blocks-requires-clause-mask c = mask_fits c.self.inside.entries.items c.args.version (place_in c.args.version c.self.inside.entries.items) c.unwrap-entry.result c.args.mask c.self.invariant.0 (found_at c.self.inside.entries.items c.args.version c.unwrap-entry.result (sym c.get.ensures ∙ c.unwrap-entry.ensures)) (subst (λ (v : Contents). ForSome (entry_at v.entries c.args.version) (λ e. (i : ℕ) → has_bit c.args.mask i ≡ true → goes (listed_in v.entries) e.listed (e.listed.first + i) ≡ true)) (sym c.self.view_is) c.requires.goes)
+pub mark_given_up-requires-clause-mask : goal.mark_given_up-requires-clause-mask
+mark_given_up-requires-clause-mask c = mask_fits c.self.inside.entries.items c.args.version (place_in c.args.version c.self.inside.entries.items) c.unwrap-entry.result c.args.mask c.self.invariant.0 (found_at c.self.inside.entries.items c.args.version c.unwrap-entry.result (sym c.get.ensures ∙ c.unwrap-entry.ensures)) (subst (λ (v : Contents). ForSome (entry_at v.entries c.args.version) (λ e. (i : ℕ) → has_bit c.args.mask i ≡ true → goes (listed_in v.entries) e.listed (e.listed.first + i) ≡ true)) (sym c.self.view_is) c.requires.goes)
 
 pub returns-then-entry-eq0-clause-entries : goal.returns-then-entry-eq0-clause-entries
 returns-then-entry-eq0-clause-entries c = rw (← c.self.view_is) (ap (map seen) c.remove.ensures.items ∙ changed_removed c.self.inside.entries.items c.args.version (place_in c.args.version c.self.inside.entries.items) c.unwrap-entry.result c.args.mask c.self.invariant.0 (found_at c.self.inside.entries.items c.args.version c.unwrap-entry.result (sym c.get.ensures ∙ c.unwrap-entry.ensures)) (omega arith) c.if-entry-eq0.true)
@@ -74,13 +80,13 @@ returns-else-entry-eq0-clause-entries c = rw (← c.self.view_is) (ap (map seen)
 pub uncover-requires-clause-mask : goal.uncover-requires-clause-mask
 uncover-requires-clause-mask c = mask_fits c.self.inside.entries.items c.args.version (place_in c.args.version c.self.inside.entries.items) c.unwrap-entry.result c.args.mask c.self.invariant.0 (found_at c.self.inside.entries.items c.args.version c.unwrap-entry.result (sym c.get.ensures ∙ c.unwrap-entry.ensures)) (subst (λ (v : Contents). ForSome (entry_at v.entries c.args.version) (λ e. (i : ℕ) → has_bit c.args.mask i ≡ true → goes (listed_in v.entries) e.listed (e.listed.first + i) ≡ true)) (sym c.self.view_is) c.requires.goes)
 
-pub mark_blocks-requires-clause-count : goal.mark_blocks-requires-clause-count
-mark_blocks-requires-clause-count c =
+pub mark_given_up-requires-clause-count : goal.mark_given_up-requires-clause-count
+mark_given_up-requires-clause-count c =
     let at = found_at c.self.inside.entries.items c.args.version c.unwrap-entry.result (sym c.get.ensures ∙ c.unwrap-entry.ensures) in
     (range_at c.self.inside.entries.items (place_in c.args.version c.self.inside.entries.items) c.unwrap-entry.result c.self.invariant.0 at.at).count
 
-pub mark_blocks-requires-clause-within : goal.mark_blocks-requires-clause-within
-mark_blocks-requires-clause-within c =
+pub mark_given_up-requires-clause-within : goal.mark_given_up-requires-clause-within
+mark_given_up-requires-clause-within c =
     let at = found_at c.self.inside.entries.items c.args.version c.unwrap-entry.result (sym c.get.ensures ∙ c.unwrap-entry.ensures) in
     (range_at c.self.inside.entries.items (place_in c.args.version c.self.inside.entries.items) c.unwrap-entry.result c.self.invariant.0 at.at).within
 

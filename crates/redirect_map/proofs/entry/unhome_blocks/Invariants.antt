@@ -2,7 +2,7 @@ use Rattle.std.proofs.Common.{◌≡◌, ◌+◌, ◌&&◌, nat_lt}
 use Rattle.std.specs.List.{AllZip}
 use Rattle.redirect_map.specs.Masks.{in_mask}
 use Rattle.redirect_map.specs.Kept.{IsWithout}
-use Rattle.redirect_map.proofs.entry.unhome.Given as goal
+use Rattle.redirect_map.proofs.entry.unhome_blocks.Given as goal
 
 -- the blocks so far are homed no more
 abbrev pub invariant-loop-i : goal.invariant-loop-i
