@@ -33,8 +33,7 @@ impl<T: Object> TurnLock<T> {
         ensures numbers { AreNumberedBelow 1024 (pass_seen pass.new) }
         ensures value { T.stands result.value (pass_lock pass.new).base (pass_seen pass.new) }
     {
-        let ticket = self.draw(&mut pass.seat);
-        self.wait_for(rt, &mut pass.seat, ticket);
+        self.await_turn(rt, &mut pass.seat);
         let value = self.take_value(&mut pass.seat);
         Turn { value, seal: () }
     }
@@ -82,6 +81,18 @@ impl<T: Object> TurnLock<T> {
     {
         let _ = operation;
         self.leave::<N>(turn, pass);
+    }
+
+    // Draws a ticket and waits until it is served. It stands apart so that no room for a value is made ready before the wait:
+    // a value is then moved once where it is taken out.
+    #[inline(never)]
+    fn await_turn<R: Wait>(&self, rt: &R, seat: &mut LockSeat<T>)
+        requires own { seat.old.table_id ≡ self.now.table.shared.table_id }
+        requires idle { (seat.old.me.0.stage ≡ Idle) × (seat.old.me.1 ≡ []) }
+        ensures { TurnCame T.stands seat.old seat.new }
+    {
+        let ticket = self.draw(seat);
+        self.wait_for(rt, seat, ticket);
     }
 
     // Draws a ticket.
