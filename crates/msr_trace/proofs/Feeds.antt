@@ -1,9 +1,11 @@
 -- Where the first line feed stands.
-use Rattle.std.proofs.Common.{◌≡◌, ℕ, ◌+◌, ◌≤◌, Bool, false, nat_lt, zero, suc, List, [], ◌∷◌, ◌++◌, length, take, drop, None, Some, inl, inr, refl, sym, ◌∙◌, arith}
+use Rattle.std.proofs.Common.{◌≡◌, ℕ, ◌+◌, ◌≤◌, Bool, true, false, nat_lt, zero, suc, List, [], ◌∷◌, ◌++◌, length, get_or, take, drop, Option, None, Some, inl, inr, refl, sym, ◌∙◌, arith}
 use Rattle.std.specs.Prelude.{position, Result, Ok, Err, OnErr}
 use Rattle.std.specs.List.{list_any, position_or_len}
 use Rattle.std.proofs.lemmas.List.{take_all, take_at}
-use Rattle.std.proofs.lemmas.Bool.{cases_Bool, ltb-false}
+use Rattle.std.proofs.lemmas.List.Sums.{position_or_len_is}
+use Rattle.memchr.specs.Find.{IsFirstByte}
+use Rattle.std.proofs.lemmas.Bool.{cases_Bool, le-ltb, lt-ltb, ltb-false}
 
 pub position_within : (p : ℕ → Bool) (xs : List ℕ) → position_or_len p xs ≤ length xs
 position_within p [] = omega arith
@@ -11,6 +13,19 @@ position_within p (x ∷ xs) = elim (cases_Bool (p x)) [
   | inl found ↦ rw found (omega arith)
   | inr other ↦ let h = position_within p xs in rw other (omega (arith, h))
 ]
+
+fails : (b : Bool) → ¬ (b ≡ true) → b ≡ false
+fails true h = absurd (h refl)
+fails false h = refl
+
+-- a search tells the position
+pub sought_position : (p : ℕ → Bool) (xs : List ℕ) (found : Option ℕ) → IsFirstByte p xs found → found ≡ position p xs
+sought_position p xs None h =
+    let all : position_or_len p xs ≡ length xs = position_or_len_is p xs (length xs) 0 (omega arith) (λ k l. fails (p (get_or xs k 0)) (h k (omega arith) l)) (λ l. absurd (omega (arith, l))) in
+    rw (all, le-ltb (length xs) (length xs) (omega arith)) refl
+sought_position p xs (Some at) h =
+    let here : position_or_len p xs ≡ at = position_or_len_is p xs at 0 (omega (arith, h.0.high)) (λ k l. fails (p (get_or xs k 0)) (h.0.before k (omega arith) l)) (λ l. h.1) in
+    rw (here, lt-ltb at (length xs) h.0.high) refl
 
 -- where one was found
 pub position_some : (p : ℕ → Bool) (xs : List ℕ) (at : ℕ) → Some at ≡ position p xs → at ≡ position_or_len p xs

@@ -5,6 +5,7 @@ pub mod FirstLine
 pub mod Holding
 pub mod Joined
 pub mod Marked
+pub mod Marks
 pub mod Numerals
 pub mod Parts
 pub mod ReadBack

@@ -178,7 +178,9 @@ fn first_record(alloc: Global, text: &[u8]) -> Result<Option<ByteRecord>, NoMemo
     }
 }
 
-// The fields of a line, by a reader of its own.
+// The fields of a line, by a reader of its own. It stands apart so that no line pays for the room of that reader.
+#[cold]
+#[inline(never)]
 fn split_alone(alloc: Global, line: &[u8]) -> Result<ByteRecord, NoMemory>
     requires some { 0 < length line.now }
     requires marks { list_any is_mark line.now ≡ false }

@@ -190,5 +190,5 @@ fn first_feed(bytes: &[u8], from: usize) -> usize
 fn feed_in(bytes: &[u8]) -> Option<usize>
     ensures { result ≡ position is_feed bytes.now }
 {
-    bytes.iter().position(|byte| *byte == b'\n')
+    memchr::memchr(b'\n', bytes)
 }

@@ -70,15 +70,11 @@ fn parse_body(alloc: Global, fields: &mut Fields, body: &[u8]) -> Result<Option<
     Ok(Some(line))
 }
 
-// Whether a quotation mark or a carriage return is there. It looks at all bytes, as many at once as the machine can.
+// Whether a quotation mark or a carriage return is there. `contains` looks at 32 bytes at once.
 fn has_mark(body: &[u8]) -> bool
     ensures { result ≡ list_any is_mark body.now }
 {
-    let mut found = false;
-    for byte in body {
-        found |= *byte == b'"' || *byte == b'\r';
-    }
-    found
+    body.contains(&b'"') || body.contains(&b'\r')
 }
 
 // Why a line is refused that has no mark and begins as a byte order mark does.

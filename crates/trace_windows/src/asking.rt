@@ -1,5 +1,5 @@
 // What a line asks for: the volume that it belongs to, and its requests.
-ghost use Rattle.std.specs.Prelude.{◌≡◌, ◌<◌, ◌≤◌, ◌^◌, ◌++◌, ◌&&◌, ◌==◌, ℕ, length, map, position, take, IfSome, OnOk, OnErr};
+ghost use Rattle.std.specs.Prelude.{◌≡◌, true, ◌<◌, ◌≤◌, ◌^◌, ◌++◌, ◌&&◌, ◌==◌, ℕ, length, map, position, take, IfSome, OnOk, OnErr};
 ghost use Rattle.std.specs.Str.{bytes_eq};
 ghost use Rattle.wol_config.specs.Configs.{IsValid, most_of};
 ghost use Rattle.trace_gen.specs.Generated.{target_of, targets_of};
@@ -32,7 +32,16 @@ fn place_of(volumes: &[VolumeConf], line: &Line) -> Option<usize>
 fn owns(volume: &VolumeConf, line: &Line) -> bool
     ensures { result ≡ (bytes_eq volume.now.host line.now.host && volume.now.disk == line.now.disk) }
 {
-    volume.host.as_bytes() == line.host.as_bytes() && volume.disk == line.disk
+    let own = volume.host.as_bytes();
+    let asked = line.host.as_bytes();
+    may_be_same(own, asked) && own == asked && volume.disk == line.disk
+}
+
+// Whether the names are of one length and end alike. Names of hosts differ at their ends more often than in front.
+fn may_be_same(own: &[u8], asked: &[u8]) -> bool
+    ensures { own.now ≡ asked.now → result ≡ true }
+{
+    own.len() == asked.len() && (own.is_empty() || own[own.len() - 1] == asked[own.len() - 1])
 }
 
 // How many blocks the home of a volume has.

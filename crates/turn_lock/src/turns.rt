@@ -1,5 +1,5 @@
 // A turn: draw a ticket, wait until it is served, take the value out, put it back, and let the next one come.
-ghost use Rattle.std.specs.Prelude.{◌≡◌, ◌<◌, ◌%◌, ◌^◌, ◌++◌, ◌∷◌, [], ℕ, Some, None};
+ghost use Rattle.std.specs.Prelude.{◌≡◌, true, false, ◌<◌, ◌%◌, ◌^◌, ◌++◌, ◌∷◌, [], ℕ, Some, None};
 ghost use Rattle.turn_lock.specs.Histories.{own, Begins, AreNumberedBelow};
 ghost use Rattle.turn_lock.specs.Passes.{pass_lock, pass_number, pass_seen, pass_mine, IsPassOf, IsFree, IsInTurn, IsSamePass};
 ghost use Rattle.turn_lock.specs.Steps.{HasDrawn, TurnCame};
@@ -33,8 +33,7 @@ impl<T: Object> TurnLock<T> {
         ensures numbers { AreNumberedBelow 1024 (pass_seen pass.new) }
         ensures value { T.stands result.value (pass_lock pass.new).base (pass_seen pass.new) }
     {
-        let ticket = self.draw(&mut pass.seat);
-        self.wait_for(rt, &mut pass.seat, ticket);
+        self.await_turn(rt, &mut pass.seat);
         let value = self.take_value(&mut pass.seat);
         Turn { value, seal: () }
     }
@@ -84,6 +83,20 @@ impl<T: Object> TurnLock<T> {
         self.leave::<N>(turn, pass);
     }
 
+    // Draws a ticket and waits until it is served. It stands apart so that no room for a value is made ready before the wait:
+    // a value is then moved once where it is taken out.
+    #[inline(never)]
+    fn await_turn<R: Wait>(&self, rt: &R, seat: &mut LockSeat<T>)
+        requires own { seat.old.table_id ≡ self.now.table.shared.table_id }
+        requires idle { (seat.old.me.0.stage ≡ Idle) × (seat.old.me.1 ≡ []) }
+        ensures { TurnCame T.stands seat.old seat.new }
+    {
+        let ticket = self.draw(seat);
+        if !self.has_come(seat, ticket) {
+            self.wait_for(rt, seat, ticket);
+        }
+    }
+
     // Draws a ticket.
     fn draw(&self, seat: &mut LockSeat<T>) -> u64
         requires own { seat.old.table_id ≡ self.now.table.shared.table_id }
@@ -93,14 +106,26 @@ impl<T: Object> TurnLock<T> {
         self.table.shared.fetch_add::<Draw>(seat, TICKET, 1)
     }
 
-    // Waits until the ticket is served.
+    // Whether the ticket is served: then the turn has come.
+    fn has_come(&self, seat: &mut LockSeat<T>, ticket: u64) -> bool
+        requires own { seat.old.table_id ≡ self.now.table.shared.table_id }
+        requires waits { (t : ℕ) × (t % 2 ^ 64 ≡ ticket) × (seat.old.me.0.stage ≡ Waiting t) × (seat.old.me.1 ≡ []) }
+        ensures came { result ≡ true → TurnCame T.stands seat.old seat.new }
+        ensures still { result ≡ false → (seat.new.table_id ≡ seat.old.table_id) × (seat.new.id ≡ seat.old.id) × (seat.new.me ≡ seat.old.me) }
+    {
+        self.table.shared.load::<Look<T>>(seat, SERVING) == ticket
+    }
+
+    // Waits until the ticket is served. It stands apart so that a turn that has come at once pays for no wait.
+    #[cold]
+    #[inline(never)]
     fn wait_for<R: Wait>(&self, rt: &R, seat: &mut LockSeat<T>, ticket: u64)
         requires own { seat.old.table_id ≡ self.now.table.shared.table_id }
         requires waits { (t : ℕ) × (t % 2 ^ 64 ≡ ticket) × (seat.old.me.0.stage ≡ Waiting t) × (seat.old.me.1 ≡ []) }
         ensures { TurnCame T.stands seat.old seat.new }
     {
         for _ in rt.forever() {
-            if self.table.shared.load::<Look<T>>(seat, SERVING) == ticket {
+            if self.has_come(seat, ticket) {
                 return;
             }
             self.rest(rt, ticket);

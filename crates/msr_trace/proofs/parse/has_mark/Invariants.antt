@@ -1,7 +1,0 @@
-use Rattle.std.proofs.Common.{◌≡◌, take}
-use Rattle.std.specs.List.{list_any}
-use Rattle.msr_trace.specs.Lines.{is_mark}
-use Rattle.msr_trace.proofs.parse.has_mark.Given as goal
-
-abbrev pub invariant-loop-byte : goal.invariant-loop-byte
-invariant-loop-byte l = l.found ≡ list_any is_mark (take l.byte-index l.body)
