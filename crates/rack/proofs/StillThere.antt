@@ -7,7 +7,7 @@ use Rattle.std.proofs.lemmas.Option.{get_or_from_slice_get, slice_get_within, sl
 use Rattle.wol_disk.specs.Disk.{Block, State}
 use Rattle.wol_model.specs.Heads.{Shape}
 use Rattle.wol_model.specs.Images.{Images, image_of}
-use Rattle.wol_promise.specs.Run.{IsThere}
+use Rattle.rack.specs.Opens.{IsThere}
 use Rattle.wol_bay.specs.Bay.{Name, Told, at_name}
 use Rattle.wol_config.specs.declared.config.Config.{Config}
 use Rattle.wol_config.specs.declared.config.VolumeConf.{VolumeConf}

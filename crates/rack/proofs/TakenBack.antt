@@ -10,7 +10,6 @@ use Rattle.wol_model.specs.Images.{Images, image_of, segment_of, IsSoundSegment,
 use Rattle.wol_model.specs.Log.{IsIdle}
 use Rattle.wol_model.specs.Recovered.{extents_in}
 use Rattle.wol_model.proofs.Images.{idle_none}
-use Rattle.wol_promise.specs.Run.{IsThere}
 use Rattle.wol_bay.specs.Bay.{Image, Told, BayState, at_name}
 use Rattle.wol_config.specs.Configs.{IsValid}
 use Rattle.wol_config.specs.declared.config.Config.{Config}
@@ -25,7 +24,7 @@ use Rattle.volume_images.specs.Volumes.{shape_in, shapes_of, MayLeave, AreLeft}
 use Rattle.rack.specs.Rests.{image_here, segment_here}
 use Rattle.rack.specs.Closing.{GivesBack}
 use Rattle.rack.specs.Owners.{RecoversSame}
-use Rattle.rack.specs.Opens.{LeavesAll, KeepsAllSound, HasFaulty, RefusesVolume}
+use Rattle.rack.specs.Opens.{IsThere, LeavesAll, KeepsAllSound, HasFaulty, RefusesVolume}
 use Rattle.rack.specs.Opening.{AreAsked, HasSentOut, StayedSo, LeavesNoMore, WasAtEntry, said_at}
 use Rattle.rack.specs.Parts.{IsRestored, Restores}
 use Rattle.rack.specs.declared.heads_said.Said.{Said}

@@ -26,8 +26,8 @@ use Rattle.manager_recovery.specs.declared.refusal.OpenRefusal.TheVariants as op
 use Rattle.volume_images.specs.Accepted.{HasHead, IsAccepted, IsImageFault, head_place}
 use Rattle.volume_images.specs.Formatted.{part_sizes}
 use Rattle.volume_images.specs.Refusals.{IsCallFault}
-use Rattle.wol_model.specs.Images.{Images, image_size}
-use Rattle.wol_promise.specs.Run.{IsThere, KeepsSound}
+use Rattle.wol_model.specs.Images.{Images, image_of, image_size}
+use Rattle.wol_promise.specs.Run.{KeepsSound}
 use Rattle.volume_images.specs.Left.{IsTold}
 use Rattle.volume_images.specs.Volumes.{shape_in, shapes_of, MayLeave, AreLeft}
 use Rattle.rack.specs.Rests.{image_here, segment_here, held_here, IsImageOut, IsSegmentHere}
@@ -186,6 +186,10 @@ AreViewsAsRead config out t views = (k : ℕ) (v : VolumeConf) → slice_get con
 abbrev pub AreRefused : {D : Type 0} → (tells : Bool) → (D → State) → Config → (old new : BayState) → Rack D → Type 0
 AreRefused tells state config old new r = (k : ℕ) (v : VolumeConf) (f : VolumeFault) → slice_get config.volumes.items k ≡ Some v → slice_get r.faults.items k ≡ Some (Some f)
     → RefusesVolume tells state config r.rest.images.items old new k v f
+
+-- a volume's image is there with the configured length
+abbrev pub IsThere : List Shape → Images → (v : ℕ) → Type 0
+IsThere shapes images v = (s : Shape) × (image : List Block) × (slice_get shapes v ≡ Some s) × (image_of images v ≡ Some image) × (length image ≡ image_size s)
 
 -- Whatever images a crash leaves, each volume that is there recovers to what it might have recovered to before: where the images that
 -- were refused give no segments, and also where they do, but for an opened volume of which they have a log.

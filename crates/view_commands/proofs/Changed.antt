@@ -14,12 +14,11 @@ use Rattle.wol_config.specs.declared.config.VolumeConf.{VolumeConf}
 use Rattle.wol_model.specs.Heads.{Shape, IsViewList}
 use Rattle.wol_model.specs.Images.{Images, image_of, image_size, recovered_from, segment_of, NamesOthers, AreSound}
 use Rattle.wol_model.specs.Log.{Record, IsLog}
-use Rattle.wol_promise.specs.Run.{IsThere}
 use Rattle.logger_view.specs.Stored.{HasView, with_view}
 use Rattle.logger_view.proofs.Callers.{same_view}
 use Rattle.manager.proofs.Lanes.{get_set, get_other}
 use Rattle.volume_images.specs.Volumes.{AreLeft, MayLeave, images_read, shape_in, shapes_of}
-use Rattle.rack.specs.Opens.{KeepsAllSound}
+use Rattle.rack.specs.Opens.{IsThere, KeepsAllSound}
 use Rattle.rack.proofs.SentNames.{names_differ}
 use Rattle.rack.proofs.SoundBefore.{at_front, some_image}
 use Rattle.inspection.proofs.Unhelped.{there_is}

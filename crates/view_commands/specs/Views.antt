@@ -4,7 +4,7 @@ use Rattle.wol_disk.specs.Disk.{Block}
 use Rattle.wol_bay.specs.Bay.{Told}
 use Rattle.wol_config.specs.declared.config.Config.{Config}
 use Rattle.wol_model.specs.Images.{Images, image_of, recovered_from}
-use Rattle.wol_promise.specs.Run.{IsThere}
+use Rattle.rack.specs.Opens.{IsThere}
 use Rattle.logger_view.specs.Stored.{HasView, IsFirstFault}
 use Rattle.volume_images.specs.Volumes.{images_read, shapes_of, AreLeft}
 use Rattle.view_change.specs.Changes.{Allows, changed, id_of}
