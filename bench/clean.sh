@@ -9,8 +9,9 @@
 # 10,160 reads and 324 syncs in all, beside 716 syncs of logging the copies. It takes 46 million instructions of the program, where logging takes
 # 19 million, since the old records leave the index; and the reads, one for each run of blocks that an old record has, take about as long as
 # the writes where both go to memory. One read for many neighbours takes no less: what lies between their live blocks is copied too. On
-# 29 November 2026, on a machine that others used too, cleaning lasted 0.70 times as long as logging the copies while the disk synced 64 KiB
-# some 620 times a second, 1.11 times while it did so 5,800 times, and 1.6 to 2.1 times in memory, where a sync costs nothing. Before, when
+# 29 November 2026, on a machine that others used too, cleaning by the proved program lasted 1.11 and 1.09 times as long as logging the copies
+# while the disk synced 64 KiB some 6,000 times a second, and 2.05 times in memory, where a sync costs nothing. An unproved build of the same
+# source, by which the instructions were counted, took 0.70 times while the disk synced 620 times a second, and 1.60 in memory. Before, when
 # cleaning took 140 million instructions, it lasted 1.44 times as long at 5,500 syncs a second, and 3.0 times in memory.
 # usage: bench/clean.sh [RECORDS [FOLDER]..]    how many records (10000 if left out), and the folders in which to clean (/dev/shm, which is a
 # memory file system, and /tmp or TMPDIR, which lies on a disk or not: `df` tells); RUNS says how many runs of each (7 if it isn't set); the
