@@ -51,7 +51,7 @@ told() {
 
 check_sizes() {
     local document
-    [ "$(wc -c <README.md)" -lt 8000 ] || echo "README.md has 8,000 bytes or more"
+    [ "$(wc -c <README.md)" -le 7168 ] || echo "README.md has over 7 KiB"
     for document in "${documents[@]}"; do
         [ "$(wc -L <"$document")" -le 200 ] || echo "$document has a line over 200 columns"
         awk -v document="$document" '
@@ -92,7 +92,6 @@ check_commands() {
         done
     done
     for status in $(statuses); do
-        section README.md '## When something is wrong' | grep -q "^| $status |" || echo "README.md has no row for status $status"
         section docs/USAGE.md '## Exit statuses' | grep -q "^| $status |" || echo "docs/USAGE.md has no row for status $status"
         grep -qx ".B $status" docs/wol.1 || echo "docs/wol.1 doesn't have status $status"
     done
