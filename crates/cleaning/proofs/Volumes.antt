@@ -36,7 +36,7 @@ use Rattle.rack.specs.Racks.{IsStation, IsUnused, base_of_station}
 use Rattle.rack.specs.Rests.{IsImageOut}
 use Rattle.rack.specs.declared.rack.Rack.{Rack}
 use Rattle.rack.specs.declared.rack.Rest.{Rest}
-use Rattle.open_rack.specs.Sessions.{OpensAndCloses}
+use Rattle.open_rack.specs.Sessions.{LeavesRecords, OpensAndCloses}
 use Rattle.open_rack.proofs.RacksAgain.{rest_again}
 use Rattle.open_rack.proofs.Since.{rose_before}
 use Rattle.spin_model.specs.Spindles.{SpindleView}
@@ -50,7 +50,6 @@ use Rattle.log_cleaner.specs.declared.answer.Cleaned.{Cleaned}
 use Rattle.log_cleaner.specs.declared.answer.CleanFault.{CleanFault}
 use Rattle.log_cleaner.specs.declared.answer.CleanFault.TheVariants.{DiskFault}
 use Rattle.inspection.proofs.Unhelped.{all_at, none_before}
-use Rattle.cleaning.specs.Runs.{LeavesRecords}
 use Rattle.cleaning.specs.Turns.{CleansIn, CleansOrLeaves, cleaned, left, operation_of}
 use Rattle.cleaning.proofs.Histories.{no_entries, none_cut, note_cut, note_done, one_entry}
 use Rattle.wol_config.specs.Configs.{most_of}

@@ -6,9 +6,8 @@ use Rattle.wol_disk.specs.Disk.{Rose, State}
 use Rattle.wol_io.specs.Streams.{AppendsFront}
 use Rattle.wol_bay.specs.Bay.{BayState, Told}
 use Rattle.wol_model.specs.History.{worker}
-use Rattle.wol_model.specs.Images.{AreSound, Images, all_segments, recovered_from}
-use Rattle.wol_model.specs.Index.{AreRising, Listed, is_covered, listed_in}
-use Rattle.wol_model.specs.Recovered.{extents_of}
+use Rattle.wol_model.specs.Images.{AreSound, Images, recovered_from}
+use Rattle.wol_model.specs.Index.{AreRising, is_covered, listed_in}
 use Rattle.wol_promise.specs.Manager.{Base}
 use Rattle.wol_promise.specs.Ruled.{Noted}
 use Rattle.wol_config.specs.declared.config.Config.{Config}
@@ -21,10 +20,11 @@ use Rattle.report.specs.declared.fault.Fault.TheVariants.{Memory, Volume}
 use Rattle.troubles.specs.Troubles.{trouble_of}
 use Rattle.volume_images.specs.Left.{IsTold}
 use Rattle.volume_images.specs.Volumes.{AreLeft, images_read, shapes_of}
-use Rattle.rack.specs.Closes.{AreListedOf, HasFaultyPart}
+use Rattle.rack.specs.Closes.{HasFaultyPart}
 use Rattle.rack.specs.Owners.{IsBegun}
 use Rattle.rack.specs.declared.volume_fault.VolumeFault.{VolumeFault}
 use Rattle.open_rack.specs.NotOpened.{IsFirstClosed}
+use Rattle.open_rack.specs.Sessions.{LeavesRecords}
 use Rattle.replay.specs.declared.stop.Stop.{Stop}
 use Rattle.replay.specs.declared.stop.Stop.TheVariants as stop
 use Rattle.log_cleaner.specs.Chunks.{IsChunk}
@@ -42,10 +42,6 @@ pub record LacksVersions (most : ℕ) (b : Base) : Type 0 where
   pub each : AllByRecursion (λ c. IsChunk (is_covered b.look.listed) most c.0 c.1) chunks
   pub apart : AreRising (map (λ (c : ℕ × ℕ). c.0) chunks)
   pub beyond : 2 ^ 63 < b.next + length chunks
-
--- whatever images a crash leaves, the records of this volume that keep a block in them are these
-abbrev pub LeavesRecords : Config → (number : ℕ) → List Listed → Told → Type 0
-LeavesRecords config number records left = (images : Images) → AreLeft config left images → AreListedOf records (extents_of number (all_segments (shapes_of config) images))
 
 -- A volume wasn't cleaned: the records that are left are those with which it was opened.
 pub record LeavesVolume (tells : Bool) (config : Config) (old new : BayState) (number : ℕ) : Type 0 where

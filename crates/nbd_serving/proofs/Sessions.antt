@@ -34,7 +34,7 @@ use Rattle.rack.specs.Rests.{IsImageOut, image_here}
 use Rattle.rack.specs.declared.rack.ImageRest.{ImageRest}
 use Rattle.rack.specs.declared.rack.Rack.{Rack}
 use Rattle.rack.proofs.Asking.{some_at}
-use Rattle.open_rack.specs.Sessions.{OpensAndCloses}
+use Rattle.open_rack.specs.Sessions.{LeavesRecords, OpensAndCloses}
 use Rattle.open_rack.proofs.RacksAgain.{rest_again}
 use Rattle.open_rack.proofs.Since.{all_at, rose_before, unmapped}
 use Rattle.open_rack.specs.NotOpened.{first_closed}
@@ -53,7 +53,7 @@ use Rattle.nbd_serving.specs.Entries.{AddsEntry}
 use Rattle.nbd_serving.proofs.Entries.{adds, noted}
 use Rattle.nbd_serving.specs.Racks.{ServesStation}
 use Rattle.nbd_serving.specs.Runs.{LeavesOthers, LeavesServed, ServesOpen}
-use Rattle.nbd_serving.specs.Volumes.{AreKept, IsKept, IsOpen, LeavesFront, LeavesRecords, front_of}
+use Rattle.nbd_serving.specs.Volumes.{AreKept, IsKept, IsOpen, LeavesFront, front_of}
 use Rattle.nbd_serving.specs.Wires.{Wire}
 use Rattle.nbd_serving.proofs.Recovered.{cut_pieces}
 use Rattle.wol_config.specs.Configs.{most_of}

@@ -27,7 +27,8 @@ use Rattle.nbd_session.specs.declared.session.Ended.{Ended}
 use Rattle.nbd_session.specs.declared.session.NbdFault.{NbdFault}
 use Rattle.nbd_station.specs.Pieces.{Pieces, pieces_of}
 use Rattle.nbd_serving.specs.Racks.{Begins}
-use Rattle.nbd_serving.specs.Volumes.{IsKept, IsOpen, KeepsBay, LeavesRecords}
+use Rattle.nbd_serving.specs.Volumes.{IsKept, IsOpen, KeepsBay}
+use Rattle.open_rack.specs.Sessions.{LeavesRecords}
 use Rattle.nbd_serving.specs.Entries.{AddsEntry}
 use Rattle.nbd_serving.specs.Wires.{Wire, answer_of}
 use Rattle.nbd_serving.specs.declared.serving.Beginning.{Beginning}

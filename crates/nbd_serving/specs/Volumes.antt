@@ -5,16 +5,14 @@ use Rattle.wol_disk.specs.Disk.{Block, State}
 use Rattle.wol_bay.specs.Bay.{BayState, Told}
 use Rattle.wol_config.specs.declared.config.Config.{Config}
 use Rattle.wol_config.specs.declared.config.VolumeConf.{VolumeConf}
-use Rattle.wol_model.specs.Images.{Images, all_segments, image_of, recovered_from}
-use Rattle.wol_model.specs.Index.{Listed}
-use Rattle.wol_model.specs.Recovered.{extents_of}
+use Rattle.wol_model.specs.Images.{Images, image_of, recovered_from}
 use Rattle.wol_promise.specs.Manager.{Base}
 use Rattle.volume_images.specs.Left.{IsTold}
 use Rattle.volume_images.specs.Volumes.{AreLeft, images_read, shapes_of}
-use Rattle.rack.specs.Closes.{AreListedOf}
 use Rattle.rack.specs.Opens.{WasAccepted}
 use Rattle.rack.specs.Owners.{IsBegun}
 use Rattle.open_rack.specs.NotOpened.{LeavesBay}
+use Rattle.open_rack.specs.Sessions.{LeavesRecords}
 
 -- the blocks of label and view of an image
 abbrev pub front_of : List Block → List Block
@@ -24,10 +22,6 @@ front_of image = slice_range image 0 2
 abbrev pub LeavesFront : Config → (v : ℕ) → (entry left : Told) → Type 0
 LeavesFront config v entry left = (images : Images) → AreLeft config left images
     → option_map front_of (image_of images v) ≡ option_map front_of (image_of (images_read config entry) v)
-
--- whatever images a crash leaves, these are the records of volume v in them that keep a block
-abbrev pub LeavesRecords : Config → (v : ℕ) → List Listed → (left : Told) → Type 0
-LeavesRecords config v records left = (images : Images) → AreLeft config left images → AreListedOf records (extents_of v (all_segments (shapes_of config) images))
 
 -- Volume v was open: its image was accepted, and this base is what the images gave as they were read. Its label and view are left.
 pub record IsOpen (config : Config) (v : ℕ) (conf : VolumeConf) (base : Base) (entry left : Told) : Type 0 where

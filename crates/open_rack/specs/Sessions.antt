@@ -2,16 +2,18 @@
 -- they are open, `new` the bay behind.
 use Rattle.std.specs.Prelude.{◌≡◌, ◌<◌, ◌≤◌, ◌++◌, ℕ, Bool, List, length, None, Some, All, IfSome, IsTrue, slice_get}
 use Rattle.wol_disk.specs.Disk.{State, Rose}
-use Rattle.wol_model.specs.Images.{AreSound}
-use Rattle.wol_bay.specs.Bay.{BayState, Name}
+use Rattle.wol_model.specs.Images.{AreSound, Images, all_segments}
+use Rattle.wol_model.specs.Index.{Listed}
+use Rattle.wol_model.specs.Recovered.{extents_of}
+use Rattle.wol_bay.specs.Bay.{BayState, Name, Told}
 use Rattle.wol_config.specs.declared.config.Config.{Config}
 use Rattle.wol_config.specs.declared.config.VolumeConf.{VolumeConf}
 use Rattle.spin_model.specs.Spindles.{SpindleView}
 use Rattle.manager.specs.declared.part.Part.{Part}
 use Rattle.manager_recovery.specs.declared.refusal.OpenRefusal.TheVariants.{DiskFault}
 use Rattle.volume_images.specs.Left.{IsTold}
-use Rattle.volume_images.specs.Volumes.{images_read, shapes_of}
-use Rattle.rack.specs.Closes.{AreLeftOfParts, CameBackFaulty, IsClosedSpindle, IsClosedVolume, IsQuiet, LeavesOpen, LeavesUnopened, ListsFaulty, SharePools}
+use Rattle.volume_images.specs.Volumes.{AreLeft, images_read, shapes_of}
+use Rattle.rack.specs.Closes.{AreLeftOfParts, AreListedOf, CameBackFaulty, IsClosedSpindle, IsClosedVolume, IsQuiet, LeavesOpen, LeavesUnopened, ListsFaulty, SharePools}
 use Rattle.rack.specs.Opens.{AreRefused, BeganWith, LeavesAll, RefusesVolume, WereThere}
 use Rattle.rack.specs.Owners.{HadRefused}
 use Rattle.rack.specs.Racks.{AreUnused, IsRack, IsUnused, KeepToViews}
@@ -20,6 +22,12 @@ use Rattle.rack.specs.declared.rack.Rack.{Rack}
 use Rattle.rack.specs.declared.volume_fault.VolumeFault.{VolumeFault}
 use Rattle.rack.specs.declared.volume_fault.VolumeFault.TheVariants.{Refused}
 use Rattle.open_rack.specs.Again.{IsRackAgain}
+
+-- whatever images a crash leaves, the records of volume v that keep a block in them are these
+abbrev pub LeavesRecords : Config → (v : ℕ) → List Listed → Told → Type 0
+LeavesRecords config v records left =
+    (images : Images) → AreLeft config left images
+    → AreListedOf records (extents_of v (all_segments (shapes_of config) images))
 
 -- what a rack is that was opened, and what it began with
 pub record IsOpened {D : Type 0} (tells : Bool) (state : D → State) (config : Config) (old bay : BayState) (r : Rack D) : Type 0 where
