@@ -14,6 +14,7 @@ use std::os::unix::fs::{FileExt, MetadataExt};
 use std::path::Path;
 use std::rt::Files;
 use std::sync::Arc;
+use std::sync::atomic::{AtomicBool, AtomicU64, Ordering};
 use wol_disk::{Block, Disk, Failed, NoMemory};
 
 /// A folder of images, which tells nothing of them. The image NAME is the file `NAME.vol`. The file is locked while
@@ -29,10 +30,24 @@ pub struct FileBay<'a, R: Files<File = File>> {
     faults: u64,
 }
 
-/// A part of an image in a file. The parts of an image share its open file, whose lock ends with the last of them.
+// The open file of an image, which its parts share, and what is synced of it: how many writes there were, of which the
+// first is whatever was written before the file was opened, and how many of these a sync has covered.
+#[derive(Drop)]
+struct ImageFile {
+    file: File,
+    written: AtomicU64,
+    synced: AtomicU64,
+    sync_failed: AtomicBool,
+}
+
+/// A part of an image in a file. The parts of an image share its open file, whose lock ends with the last of them. A part
+/// has nothing to sync where a sync by another part came behind its last write. Once a sync has failed all later ones of the
+/// file fail, since the system tells a failed sync once and may have lost what any part wrote.
 #[derive(Drop)]
 pub struct FilePart {
-    file: Arc<File, Global>,
+    image: Arc<ImageFile, Global>,
+    // the number of the last write of this part
+    last_write: u64,
     first: u64,
     blocks: u64,
     most_bytes: u64,
@@ -203,6 +218,39 @@ impl<'a, R: Files<File = File>> Bay for FileBay<'a, R> {
     }
 }
 
+impl ImageFile {
+    fn new(file: File) -> ImageFile {
+        ImageFile {
+            file,
+            written: AtomicU64::new(1),
+            synced: AtomicU64::new(0),
+            sync_failed: AtomicBool::new(false),
+        }
+    }
+
+    // The number of a write that has just ended.
+    fn number_of_write(&self) -> u64 {
+        self.written.fetch_add(1, Ordering::SeqCst).wrapping_add(1)
+    }
+
+    // Syncs the file, unless a sync that began behind this write has ended.
+    fn sync(&self, write: u64) -> Result<(), Failed> {
+        if self.sync_failed.load(Ordering::SeqCst) {
+            return Err(Failed);
+        }
+        if write <= self.synced.load(Ordering::SeqCst) {
+            return Ok(());
+        }
+        let written = self.written.load(Ordering::SeqCst);
+        if self.file.sync_data().is_err() {
+            self.sync_failed.store(true, Ordering::SeqCst);
+            return Err(Failed);
+        }
+        self.synced.fetch_max(written, Ordering::SeqCst);
+        Ok(())
+    }
+}
+
 // The parts of a file.
 fn parts_of(
     alloc: Global,
@@ -213,13 +261,14 @@ fn parts_of(
     ensures blank { IfOk result (λ parts. AreBlank ⟦<FilePart as Disk>⟧.state None sizes.now parts.items) }
     ensures cut { IfOk result (λ parts. AreCut ⟦<FilePart as Disk>⟧.state None sizes.now parts.items) }
 {
-    let shared = Arc::new(alloc, file)?;
+    let shared = Arc::new(alloc, ImageFile::new(file))?;
     let mut parts = Vec::new(alloc);
     let mut first: u64 = 0;
     for size in sizes {
-        let file = Arc::try_clone(&shared)?;
+        let image = Arc::try_clone(&shared)?;
         parts.push(FilePart {
-            file,
+            image,
+            last_write: 1,
             first,
             blocks: *size,
             most_bytes,
@@ -256,7 +305,11 @@ impl FilePart {
         ensures { length out.new ≡ length out.old }
     {
         let offset = self.offset_of(at)?;
-        match self.file.read_exact_at(out.as_flattened_mut(), offset) {
+        match self
+            .image
+            .file
+            .read_exact_at(out.as_flattened_mut(), offset)
+        {
             Ok(()) => Ok(()),
             Err(_) => Err(Failed),
         }
@@ -272,7 +325,7 @@ impl FilePart {
         if end > self.most_bytes {
             return Err(Failed);
         }
-        match self.file.write_all_at(bytes, offset) {
+        match self.image.file.write_all_at(bytes, offset) {
             Ok(()) => Ok(()),
             Err(_) => Err(Failed),
         }
@@ -316,14 +369,12 @@ impl Disk for FilePart {
 
     fn write(&mut self, at: u64, from: &[Block]) -> Result<(), Failed> {
         let done = self.write_blocks(at, from);
+        self.last_write = self.image.number_of_write();
         self.counted(done)
     }
 
     fn sync(&mut self) -> Result<(), Failed> {
-        let done = match self.file.sync_data() {
-            Ok(()) => Ok(()),
-            Err(_) => Err(Failed),
-        };
+        let done = self.image.sync(self.last_write);
         self.counted(done)
     }
 }
