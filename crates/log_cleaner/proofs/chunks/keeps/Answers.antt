@@ -1,6 +1,5 @@
-use Rattle.std.proofs.Common.{◌≡◌, ◌-◌, ◌&&◌, ◌<◌, ◌≤◌, ◌^◌, ℕ, Bool, true, false, refl, sym, ap, ◌∙◌, arith, leb, ltb}
-use Rattle.std.proofs.lemmas.Bool.{cases_lt, le-ltb}
-use Rattle.wol_model.specs.Log.{has_bit}
+use Rattle.std.proofs.Common.{◌≡◌, ◌-◌, ◌&&◌, ◌<◌, ◌≤◌, ◌^◌, Bool, true, false, refl, sym, ◌∙◌, arith, leb}
+use Rattle.std.proofs.lemmas.Bool.{le-ltb}
 use Rattle.redirect_map.proofs.Bits.{has_bit-above}
 use Rattle.log_cleaner.proofs.chunks.keeps.Goals as goal
 

@@ -1,6 +1,6 @@
 use Rattle.std.proofs.Common.{arith}
 use Rattle.log_cleaner.specs.Marks.{mark_of}
-use Rattle.log_cleaner.proofs.Marking.{all_marked, below_marked, marked_all, marked_more}
+use Rattle.log_cleaner.proofs.Marking.{all_marked, marked_all, marked_more}
 use Rattle.log_cleaner.proofs.marks.marks_of.Goals as goal
 
 pub returns-in_default : goal.returns-in_default
