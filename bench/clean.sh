@@ -6,13 +6,17 @@
 # cleaning and of logging, each less that of opening and closing.
 # Cleaning writes the copies in groups, as many as a segment takes, each with two syncs, where logging takes two syncs for each. Besides it reads
 # each old record once, and writes and syncs one head for each segment that is given up and for each old record beside copies: at 10,000 records
-# 10,160 reads and 324 syncs in all, beside 716 syncs of logging the copies. It takes 46 million instructions of the program, where logging takes
-# 19 million, since the old records leave the index; and the reads, one for each run of blocks that an old record has, take about as long as
-# the writes where both go to memory. One read for many neighbours takes no less: what lies between their live blocks is copied too. On
-# 29 November 2026, on a machine that others used too, cleaning by the proved program lasted 1.11 and 1.09 times as long as logging the copies
-# while the disk synced 64 KiB some 6,000 times a second, and 2.05 times in memory, where a sync costs nothing. An unproved build of the same
-# source, by which the instructions were counted, took 0.70 times while the disk synced 620 times a second, and 1.60 in memory. Before, when
-# cleaning took 140 million instructions, it lasted 1.44 times as long at 5,500 syncs a second, and 3.0 times in memory.
+# 10,160 reads and 324 syncs in all, beside 716 syncs of logging the copies. Of these syncs 180 are of groups and of the 45 segments that are
+# claimed for them, 88 of segments that are given up, and 56 of old records that lie in the one segment which copies fill up. It takes 37 million
+# instructions of the program, where logging takes 19 million, since the old records leave the index; and the reads, one for each run of blocks
+# that an old record has, take about as long as the writes where both go to memory. One read for many neighbours takes no less: what lies between
+# their live blocks is copied too. So cleaning takes less time than logging wherever 392 syncs take longer than reading the old records and
+# taking them out of the index, which is some 25 ms. Opening and closing sync 493 times with nothing to write, which took from 80 to 900 ms on
+# a disk that others used too: there the difference of two runs tells little.
+# On 29 November 2026, on a machine that others used too, an unproved build of this source took 0.75 times as long as logging the copies, the
+# median of 11 runs, on a memory file system where each sync was made to last 0.1 ms, so 10,000 a second; 0.34 times, the median of 15, while
+# the disk synced 64 KiB 400 times a second; and 2.2 times in memory, where a sync costs nothing. The proved program was measured last while
+# cleaning took 46 million instructions: 1.11 and 1.09 times while the disk synced 64 KiB some 6,000 times a second, and 2.05 times in memory.
 # usage: bench/clean.sh [RECORDS [FOLDER]..]    how many records (10000 if left out), and the folders in which to clean (/dev/shm, which is a
 # memory file system, and /tmp or TMPDIR, which lies on a disk or not: `df` tells); RUNS says how many runs of each (7 if it isn't set); the
 # program is build/wol, as `make build` leaves it

@@ -1,10 +1,10 @@
 -- A segment goes with all its records, none of which has a live block: what that makes of the listed records, and of a cleaning.
-use Rattle.std.proofs.Common.{◌≡◌, ◌⊎◌, inl, inr, ⊎_elim, ◌<◌, ◌≤◌, ◌+◌, ◌-◌, ℕ, Bool, true, false, not, ◌&&◌, List, [], ◌∷◌, length, Option, None, Some, Ok, Err, refl, sym, ap, subst, ◌∙◌, arith, eqb}
+use Rattle.std.proofs.Common.{◌≡◌, ◌⊎◌, inl, inr, ⊎_elim, ◌<◌, ◌≤◌, ◌+◌, ◌-◌, ℕ, Bool, true, false, not, ◌&&◌, List, [], ◌∷◌, length, Option, None, Some, Ok, Err, refl, sym, ap, subst, ◌∙◌, arith, eqb, ltb}
 use Rattle.std.specs.Prelude.{Contains, IfSome, IsTrue, IsSome, filter, slice_index_or}
 use Rattle.std.specs.List.{AllByRecursion}
 use Rattle.std.specs.Option.{ForSome}
 use Rattle.std.proofs.Math.ListN.{length-set}
-use Rattle.std.proofs.lemmas.Bool.{false≢true, eqb-true, cases_eq, cases_lt, eq-eqb, ne_eqb}
+use Rattle.std.proofs.lemmas.Bool.{false≢true, eqb-true, cases_eq, cases_lt, eq-eqb, lt-ltb, ne_eqb}
 use Rattle.std.proofs.lemmas.List.{append-nil}
 use Rattle.std.proofs.lemmas.Option.{same_Some}
 use Rattle.wol_disk.specs.Disk.{State}
@@ -13,6 +13,7 @@ use Rattle.wol_model.specs.Index.{Listed, Indexed, block_numbers, cover_of, has_
 use Rattle.wol_model.specs.Log.{has_bit}
 use Rattle.wol_model.proofs.Counts.{marked_within}
 use Rattle.wol_promise.proofs.Covers.{any_found, any_member}
+use Rattle.wol_promise.proofs.GiveUps.{newer_in}
 use Rattle.wol_promise.proofs.Lists.{all_map, all_mapped, all_member, member_map}
 use Rattle.wol_promise.proofs.Wholes.{above_of, member_unfilter, one_newer}
 use Rattle.redirect_map.specs.Index.{IsAnswer, IsIndex, entry_at, has_version}
@@ -123,6 +124,19 @@ module _ (es : List Indexed) (lane index : ℕ) (none : NoneLiveIn lane index es
     one = (left_upper t.version first count some (upper_of_tidy (listed_in es) first count t)).one;
     alone = left_all (λ (d : Listed). (d.version ≡ t.version → ⊥) → KeepsNone d first count) t.alone;
   }
+
+  -- what is live among those that are left was live
+  pub left_live : (d : Listed) (b : ℕ) → is_live (listed_in (filter (lies_elsewhere lane index) es)) d b ≡ true → is_live (listed_in es) d b ≡ true
+  left_live d b is =
+      let parts = both_true (covers d b) (not (has_newer (listed_covers (listed_in left)) d.version b)) is in
+      let none_newer : has_newer (listed_covers (listed_in es)) d.version b ≡ false = not_so (has_newer (listed_covers (listed_in es)) d.version b) (λ newer.
+      let bound = bounded es in
+      let a = above_of (lies_elsewhere lane index) es b bound.0 bound.1 (covered_where lane index es none b) bound.0 d.version (omega arith) newer in
+      let still : has_newer (listed_covers (listed_in left)) d.version b ≡ true =
+      newer_in left d.version b
+      ∙ any_member (λ (e : Indexed). covers e.listed b && ltb d.version e.listed.version) left a.entry (member_filter (lies_elsewhere lane index) es a.entry a.among a.passes) (λ i. a.keeps i && lt-ltb d.version a.entry.listed.version a.newer i) in
+      clash (not (has_newer (listed_covers (listed_in left)) d.version b)) parts.1 (ap not still)) in
+      λ i. parts.0 i && not (none_newer i)
 
 -- ---- The cleaning
 
@@ -238,7 +252,7 @@ live_zero n is = ⊎_elim (λ same. same) (λ other. absurd (clash (not (eqb n 0
 -- ---- The walk over what is due
 
 -- where no block is homed, a record without a due block has no live one
-quiet_none : (es : List Listed) (e : Listed) → ((b : ℕ) → is_homed e b ≡ false) → has_due es e ≡ false → (b : ℕ) → is_live es e b ≡ false
+pub quiet_none : (es : List Listed) (e : Listed) → ((b : ℕ) → is_homed e b ≡ false) → has_due es e ≡ false → (b : ℕ) → is_live es e b ≡ false
 quiet_none es e unhomed quiet b = not_so (is_live es e b) (λ is.
     let kept = both_true (covers e b) (not (has_newer (listed_covers es) e.version b)) is in
     let w = marked_within e.first e.keep b kept.0 in

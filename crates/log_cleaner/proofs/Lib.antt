@@ -12,3 +12,4 @@ pub mod Cleaning
 pub mod Finding
 pub mod Telling
 pub mod Dropping
+pub mod Marking

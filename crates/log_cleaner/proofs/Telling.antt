@@ -5,7 +5,7 @@ use Rattle.std.specs.List.{range_with_len}
 use Rattle.std.specs.Option.{option_map}
 use Rattle.std.proofs.lemmas.Bool.{cases_lt, cases_eq, eq-eqb, leb-true}
 use Rattle.std.proofs.lemmas.Option.{none-some}
-use Rattle.wol_model.specs.Extents.{Cover, newest, has_newer, has_older}
+use Rattle.wol_model.specs.Extents.{Cover, marked, newest, has_newer, has_older}
 use Rattle.wol_model.specs.Index.{Listed, Indexed, listed_in, cover_of, listed_covers, is_covered, is_live, is_older}
 use Rattle.wol_model.specs.Log.{has_bit}
 use Rattle.wol_promise.proofs.Covers.{any_found, any_member}
@@ -13,10 +13,10 @@ use Rattle.wol_promise.proofs.Lists.{all_member, member_map}
 use Rattle.redirect_map.specs.Index.{IsAnswer, IsIndex, cover_at, entry_at, has_version}
 use Rattle.redirect_map.specs.Masks.{IsMask, in_mask}
 use Rattle.redirect_map.specs.declared.record.Rec.{Rec}
-use Rattle.redirect_map.proofs.Seen.{in_mask-bit}
+use Rattle.redirect_map.proofs.Seen.{in_mask-bit, marked-marks_of}
 use Rattle.manager.proofs.Entries.{among, entry_of_version, some_of}
 use Rattle.manager.proofs.GivenUp.{same_mask}
-use Rattle.manager.proofs.RunContent.{newest_is, newest_listed}
+use Rattle.manager.proofs.RunContent.{IsNewest, newest_is, newest_listed}
 use Rattle.garbage_list.proofs.Nexts.{Answered, answered, unanswered}
 use Rattle.manager.proofs.RunSources.{same_version}
 use Rattle.wol_promise.proofs.Woken.{covered_is}
@@ -35,11 +35,31 @@ not_found p (y ∷ ys) x none has is = ⊎_elim
     at true here found rest = none-some y (sym found)
     at false here found rest = rest found
 
+-- where there is no newest record none covers the block
+pub none_covers : (es : List Indexed) (b : ℕ) → IsAnswer (newest cover_at es b) None → is_covered (listed_in es) b ≡ false
+none_covers es b a = covered_is (listed_in es) b ∙ ap is_some (newest_listed es b ∙ ap (option_map (λ (e : Indexed). e.listed)) (unanswered (newest cover_at es b) a))
+
+-- the newest record keeps the block, and what it keeps is covered
+pub newest_covers : (es : List Indexed) (b : ℕ) (r : Rec) → IsAnswer (newest cover_at es b) (Some r) → (in_mask r.lbn r.keep b ≡ true) × ((x : ℕ) → in_mask r.lbn r.keep x ≡ true → is_covered (listed_in es) x ≡ true)
+newest_covers es b r a = (
+  sym (mask b) ∙ its.covers,
+  λ x is. any_member (λ (d : Listed). covers d x) (listed_in es) n.entry.listed (member_map (λ (e : Indexed). e.listed) es n.entry its.among) (mask x ∙ is),
+)
+  where
+    n : Answered (newest cover_at es b) r
+    n = answered (newest cover_at es b) r a
+
+    its : IsNewest cover_at es b n.entry
+    its = newest_is cover_at es b n.entry n.is
+
+    mask : (x : ℕ) → covers n.entry.listed x ≡ in_mask r.lbn r.keep x
+    mask x = (λ i. marked (sym n.record_.first i) (sym n.record_.keep i) x) ∙ marked-marks_of r.lbn r.count r.keep x n.record_.within
+
 -- a record covers its first block
 pub is_found : (es : List Indexed) (first count : ℕ) → 1 ≤ count → IsTidy (listed_in es) first count → IsAnswer (newest cover_at es first) None → ⊥
 is_found es first count some t a = clash (is_covered (listed_in es) first)
     (any_member (λ (d : Listed). covers d first) (listed_in es) t.one.record_ t.one.listed (t.one.keeps first ∙ within_first first count some))
-    (covered_is (listed_in es) first ∙ ap is_some (newest_listed es first ∙ ap (option_map (λ (e : Indexed). e.listed)) (unanswered (newest cover_at es first) a)))
+    (none_covers es first a)
 
 module _ (es : List Indexed) (index : IsIndex es) (first count : ℕ) (some : 1 ≤ count) (t : IsTidy (listed_in es) first count) where
   abbrev L : List Listed

@@ -1,4 +1,5 @@
 pub mod Chunks
+pub mod Marks
 pub mod Copies
 pub mod Cleans
 pub mod Steps

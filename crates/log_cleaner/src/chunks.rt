@@ -72,6 +72,34 @@ pub(crate) fn next_covered(index: &Index, from: u64) -> u64
     END
 }
 
+// Whether the record keeps this block.
+fn keeps(record: &Rec, block: u64) -> bool
+    requires { record.now.lbn ≤ block }
+    ensures { result ≡ in_mask record.now.lbn record.now.keep block }
+{
+    let Rec { lbn, keep, .. } = *record;
+    let place = block - lbn;
+    place < 128 && keep >> place & 1 == 1
+}
+
+// Where the blocks that this record keeps end, from `lbn + count` on, which it keeps: so many blocks behind `lbn`, and at
+// most `most`.
+fn kept_end(record: &Rec, lbn: u64, count: u32, most: u32) -> u32
+    requires order { count < most }
+    requires most { most ≤ 128 }
+    requires within { lbn < 2 ^ 32 }
+    requires kept { in_mask record.now.lbn record.now.keep (lbn + count) ≡ true }
+    ensures count { (count < result) × (result ≤ most) }
+    ensures kept { (b : ℕ) → lbn + count ≤ b → b < lbn + result → in_mask record.now.lbn record.now.keep b ≡ true }
+{
+    for next in count + 1..most {
+        if !keeps(record, lbn + u64::from(next)) {
+            return next;
+        }
+    }
+    most
+}
+
 /// How many blocks the chunk has that begins with this covered block: up to the end of its run, and at most `most`.
 pub(crate) fn chunk_len(index: &Index, lbn: u64, most: u32) -> u32
     requires most { (1 ≤ most) × (most ≤ 128) }
@@ -81,10 +109,12 @@ pub(crate) fn chunk_len(index: &Index, lbn: u64, most: u32) -> u32
     ensures run { (b : ℕ) → lbn ≤ b → b < lbn + result → is_covered (listed_in index.now.entries) b ≡ true }
     ensures ends { result < most → is_covered (listed_in index.now.entries) (lbn + result) ≡ false }
 {
-    for count in 1..most {
-        if !index.covered(lbn + u64::from(count), 1) {
+    let mut count = 1;
+    'records: while count < most {
+        let Some(record) = index.newest(lbn + u64::from(count)) else {
             return count;
-        }
+        };
+        count = kept_end(&record, lbn, count, most);
     }
     most
 }

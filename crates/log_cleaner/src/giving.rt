@@ -8,8 +8,10 @@ ghost use Rattle.manager.specs.Reclaim.{NoneLiveIn};
 ghost use Rattle.manager.specs.Stands.{IsReady, IsHome};
 ghost use Rattle.log_cleaner.specs.Chunks.{NoneHomed};
 ghost use Rattle.log_cleaner.specs.Cleans.{CanClean};
+ghost use Rattle.log_cleaner.specs.Marks.{AreMarked};
 ghost use Rattle.log_cleaner.specs.Steps.{GivesSome, GivesAll, GivesUp, HasNoneLiveIn};
 
+use crate::marks::{MARKS, is_marked, marks_of};
 use logger::Shared;
 use manager::{Manager, StepFault};
 use reclaimer::{Gone, invalidate_one};
@@ -39,34 +41,6 @@ fn is_live_in(index: &Index, version: u64, lane: u32, segment: u32) -> bool
     index.live(version) != 0
 }
 
-// Whether the records of this version and of the one before lie in one segment. No proof rests on it.
-fn lies_beside(index: &Index, version: u64) -> bool {
-    let Some(record) = index.find(version) else {
-        return false;
-    };
-    let Some(before) = index.find(version.saturating_sub(1)) else {
-        return false;
-    };
-    record.lane == before.lane && record.segment == before.segment
-}
-
-// The least version from `from` on whose record may have a due block: `from` itself where its record lies beside the one before,
-// since copies lie one behind the other, and that is found fast.
-fn next_due(index: &Index, from: u64, ups: &[bool]) -> Option<u64>
-    ensures from { IfSome result (λ v. from ≤ v) }
-    ensures least { IfSome result (λ v. AllByRecursion
-        (λ e. from ≤ e.listed.version → e.listed.version < v → slice_index_or ups.now e.listed.lane false ≡ true
-        → has_due (listed_in index.now.entries) e.listed ≡ false) index.now.entries) }
-    ensures none { IfNone result (AllByRecursion
-        (λ e. from ≤ e.listed.version → slice_index_or ups.now e.listed.lane false ≡ true
-        → has_due (listed_in index.now.entries) e.listed ≡ false) index.now.entries) }
-{
-    if lies_beside(index, from) {
-        return Some(from);
-    }
-    index.first_due(from, ups)
-}
-
 // Whether no record in this segment has a live block. No block is home too, so live blocks are due, and their records are
 // among those that are marked.
 fn is_covered(index: &Index, ups: &[bool], lane: u32, segment: u32) -> bool
@@ -76,7 +50,7 @@ fn is_covered(index: &Index, ups: &[bool], lane: u32, segment: u32) -> bool
 {
     let mut from = 0;
     'records: while index.len() > 0 {
-        let Some(version) = next_due(index, from, ups) else {
+        let Some(version) = index.first_due(from, ups) else {
             return true;
         };
         if version >= END {
@@ -101,10 +75,17 @@ fn was_looked_at(looked: &mut [Option<u32>; LANES], lane: u32, segment: u32) -> 
 }
 
 // Whether there is a record of this version, whose segment wasn't the last of its lane that was looked at, and no record in
-// that segment has a live block.
-fn goes_whole(index: &Index, ups: &[bool], version: u64, looked: &mut [Option<u32>; LANES]) -> bool
+// that segment has a live block. Where the segment isn't marked that is known, and needs no look at records.
+fn goes_whole(
+    index: &Index,
+    ups: &[bool],
+    marks: &[bool; MARKS],
+    version: u64,
+    looked: &mut [Option<u32>; LANES],
+) -> bool
     requires unhomed { NoneHomed (listed_in index.now.entries) }
     requires awake { AllByRecursion (λ e. slice_index_or ups.now e.listed.lane false ≡ true) index.now.entries }
+    requires marked { AreMarked marks.now index.now.entries }
     ensures there { result ≡ true → HasVersion index.now.entries version }
     ensures covered { result ≡ true → ForSome (entry_at index.now.entries version) (λ e. NoneLiveIn e.listed.lane e.index index.now.entries) }
 {
@@ -113,6 +94,9 @@ fn goes_whole(index: &Index, ups: &[bool], version: u64, looked: &mut [Option<u3
     };
     if was_looked_at(looked, record.lane, record.segment) {
         return false;
+    }
+    if !is_marked(marks, record.lane, record.segment) {
+        return true;
     }
     is_covered(index, ups, record.lane, record.segment)
 }
@@ -131,13 +115,14 @@ fn give_up_segments<R: Wait, D: Disk>(
     ensures at { IsHome shared.now m.new }
     ensures given { GivesSome D.tells D.state m.old m.new result }
 {
+    let marks = marks_of(m.index(), m.ups());
     let mut looked = [None; LANES];
     let mut from = 0;
     for _step in 0..m.index().len() {
         let Some(version) = m.index().first_going(from, m.ups()) else {
             return Ok(());
         };
-        if goes_whole(m.index(), m.ups(), version, &mut looked) {
+        if goes_whole(m.index(), m.ups(), &marks, version, &mut looked) {
             m.drop_segment(rt, shared, version)?;
         }
         from = version.saturating_add(1);

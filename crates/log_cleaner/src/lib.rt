@@ -17,6 +17,7 @@ mod cleaner;
 mod copies;
 mod copy;
 mod giving;
+mod marks;
 
 pub use answer::{CleanFault, Cleaned};
 pub use cleaner::clean;

@@ -1,6 +1,7 @@
 use Rattle.std.proofs.Common.{[]}
 use Rattle.manager.specs.Stands.{IsReady, IsHome}
 use Rattle.log_cleaner.specs.Cleans.{CanClean}
+use Rattle.log_cleaner.specs.Marks.{AreMarked}
 use Rattle.log_cleaner.specs.Steps.{HasCopied, KeepsTidy}
 use Rattle.log_cleaner.proofs.giving.give_up_segments.Given as goal
 
@@ -11,4 +12,5 @@ invariant-loop-step g l = record {
   can : CanClean l.m;
   copied : HasCopied g.D.Disk.tells g.D.Disk.state l.initial.m l.m [];
   tidy : KeepsTidy l.initial.m l.m;
+  marked : AreMarked l.marks l.m.index.entries;
 }
