@@ -17,38 +17,10 @@ use Rattle.manager.specs.Stands.{AreNamed, IsNamed, nones_in, nones_at, passed_i
 use Rattle.manager.specs.Writing.{HasAnswered, HaveAnswered}
 use Rattle.manager.specs.declared.base.LaneBase.{LaneBase}
 use Rattle.manager.proofs.Frames.{times_more}
-use Rattle.manager.proofs.Lanes.{get_set, get_other}
-use Rattle.manager.proofs.Placing.{is_passed, none_passed_beyond}
-use Rattle.manager.proofs.ReadyLanes.{nones_none, nones_some}
-
--- ---- Elements by their places
-
-get_copies : {A : Type 0} (v : A) (n k : ℕ) (x : A) → slice_get (replicate n v) k ≡ Some x → x ≡ v
-get_copies v zero k x is = absurd (none-some x is)
-get_copies v (suc n) zero x is = sym (same_Some v x is)
-get_copies v (suc n) (suc k) x is = get_copies v n k x is
-
-pub length_copies : {A : Type 0} (v : A) (n : ℕ) → length (replicate n v) ≡ n
-length_copies v zero = refl
-length_copies v (suc n) = ap suc (length_copies v n)
-
-pub get_inside : {X : Type 0} (xs : List X) (k : ℕ) → k < length xs → (x : X) × (slice_get xs k ≡ Some x)
-get_inside [] k lt = absurd (omega arith)
-get_inside (x ∷ xs) zero lt = (x, refl)
-get_inside (x ∷ xs) (suc k) lt = get_inside xs k (omega arith)
-
--- what holds of the elements at each place
-pub zip_of : {X Y : Type 0} (R : X → Y → Type 0) (xs : List X) (ys : List Y) → length ys ≡ length xs → ((k : ℕ) (x : X) (y : Y) → slice_get xs k ≡ Some x → slice_get ys k ≡ Some y → R x y) → AllZip R xs ys
-zip_of R [] [] long each = tt
-zip_of R [] (y ∷ ys) long each = absurd (let no : suc (length ys) ≡ 0 = long in omega arith)
-zip_of R (x ∷ xs) [] long each = absurd (let no : 0 ≡ suc (length xs) = long in omega arith)
-zip_of R (x ∷ xs) (y ∷ ys) long each = (each 0 x y refl refl, zip_of R xs ys (let e : suc (length ys) ≡ suc (length xs) = long in omega arith) (λ k a b is_a is_b. each (suc k) a b is_a is_b))
-
-same_maps : {X Y : Type 0} (f : X → Y) (xs ys : List X) → AllZip (λ x y. f y ≡ f x) xs ys → map f ys ≡ map f xs
-same_maps f [] [] all = refl
-same_maps f [] (y ∷ ys) all = absurd all
-same_maps f (x ∷ xs) [] all = absurd all
-same_maps f (x ∷ xs) (y ∷ ys) all = λ i. all.0 i ∷ same_maps f xs ys all.1 i
+use Rattle.listed_records.proofs.Elements.{get_set, get_other, get_copies, length_copies, get_inside, zip_of, same_maps}
+use Rattle.volume_parts.proofs.Placing.{is_passed, none_passed_beyond}
+use Rattle.volume_parts.proofs.Lanes.{nones_none, nones_some}
+pub use Rattle.listed_records.proofs.Elements.{get_inside}
 
 -- ---- Pools
 

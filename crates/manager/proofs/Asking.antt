@@ -13,7 +13,7 @@ use Rattle.manager.specs.Writing.{HaveAnswered}
 use Rattle.manager.specs.declared.base.ManagerBase.{ManagerBase}
 use Rattle.manager.specs.declared.manager.Manager.{Manager}
 use Rattle.manager.proofs.Answered.{none_asked, one_turned_away}
-use Rattle.manager.proofs.Lanes.{all_set}
+use Rattle.listed_records.proofs.Elements.{all_set}
 
 -- some lanes were asked in vain, and nothing else changed
 pub record Asking {D : Type 0} (tells : Bool) (state : D → State) (shared : Shared D) (count : ℕ) (old now : Manager D) : Type 0 where

@@ -27,11 +27,10 @@ use Rattle.manager.specs.Seen.{Logs, AllHold, AllLanesHold, parts_of, seen, held
 use Rattle.manager.specs.Stands.{IsReady, IsReadyLane, IsPlacedIn}
 use Rattle.manager.specs.declared.base.ManagerBase.{ManagerBase}
 use Rattle.manager.specs.declared.manager.Manager.{Manager}
-use Rattle.manager.proofs.ClaimedWrites.{other_records}
-use Rattle.manager.proofs.Entries.{At, among}
-use Rattle.manager.proofs.GivenUp.{same_mask}
-use Rattle.manager.proofs.Lanes.{all_at, held_as, hold_map, lanes_map}
-use Rattle.manager.proofs.ReadContent.{same_place}
+use Rattle.listed_records.proofs.Groups.{other_records}
+use Rattle.listed_records.proofs.Entries.{At, among, same_mask}
+use Rattle.listed_records.proofs.Elements.{all_at}
+use Rattle.volume_parts.proofs.Lanes.{held_as, hold_map, lanes_map, same_place}
 
 -- ---- one segment less
 

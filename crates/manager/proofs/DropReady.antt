@@ -1,23 +1,22 @@
 -- A record gave up what goes: what holds of the manager between its calls then, whether its segment stays in the lane or went to the pool.
-use Rattle.std.proofs.Common.{◌≡◌, ◌≢◌, ◌⊎◌, inl, inr, ⊎_elim, ◌<◌, ◌≤◌, ◌+◌, ◌-◌, ◌^◌, ℕ, zero, suc, Bool, true, false, cond, not, ◌&&◌, List, [], ◌∷◌, ◌++◌, map, length, None, Some, refl, sym, ap, subst, ◌∙◌, arith, eqb, bit_and}
-use Rattle.std.specs.Prelude.{Contains, slice_get, slice_set, remove, filter}
+use Rattle.std.proofs.Common.{◌≡◌, ◌≢◌, ◌⊎◌, inl, inr, ⊎_elim, ◌<◌, ◌≤◌, ◌+◌, ◌-◌, ◌^◌, ℕ, Bool, true, false, cond, not, ◌&&◌, List, ◌∷◌, ◌++◌, map, length, None, Some, refl, sym, ap, subst, ◌∙◌, arith, eqb, bit_and}
+use Rattle.std.specs.Prelude.{Contains, slice_get, slice_set, remove}
 use Rattle.std.specs.Int.{bit_not, w128}
 use Rattle.std.specs.List.{AllByRecursion, count_by}
 use Rattle.std.specs.Option.{option_to_list}
 use Rattle.std.specs.Vec.{with_item}
 use Rattle.std.proofs.Math.ListN.{length-set}
 use Rattle.std.proofs.lemmas.Bool.{false≢true, eq-eqb, ne_eqb, cases_eq}
-use Rattle.std.proofs.lemmas.Option.{none-some, same_Some}
+use Rattle.std.proofs.lemmas.Option.{same_Some}
 use Rattle.turn_lock.specs.LockIds.{LockId}
 use Rattle.seg_pool.specs.declared.base.PoolBase.{PoolBase}
 use Rattle.wol_disk.specs.Disk.{State}
-use Rattle.wol_model.specs.Index.{Indexed, listed_in, goes, keeps_a_block}
-use Rattle.wol_model.proofs.Counts.{length_remarked}
-use Rattle.wol_promise.proofs.Lists.{all_map, member_front, member_behind}
+use Rattle.wol_model.specs.Index.{Indexed, listed_in, goes}
+use Rattle.wol_promise.proofs.Lists.{all_map}
 use Rattle.spin_model.specs.Spun.{state_of}
 use Rattle.log_segment.specs.Segment.{IsWhole, blocks_of, valid_of}
 use Rattle.log_segment.specs.declared.free.FreeSegment.{FreeSegment}
-use Rattle.redirect_map.specs.Index.{Contents, IsIndex, IsRecordOf, changed}
+use Rattle.redirect_map.specs.Index.{Contents, IsIndex, IsRecordOf}
 use Rattle.redirect_map.specs.Masks.{IsMask}
 use Rattle.redirect_map.specs.declared.record.Rec.{Rec}
 use Rattle.logger.specs.Lanes.{IsLane, HoldsAll, IsHeld, IsSameLane, AreWhole, held_in, taken_in, lane_owner, logger_of, segments_in, pool_of}
@@ -28,60 +27,9 @@ use Rattle.manager.specs.Reclaim.{given_of, with_kept}
 use Rattle.manager.specs.Stands.{IsReady, IsReadyLane, IsUp, IsPlacedIn, IsInVolume, entries_at}
 use Rattle.manager.specs.declared.manager.Manager.{Manager}
 use Rattle.manager.specs.declared.part.Part.{Part}
-use Rattle.manager.proofs.Counted.{all_changed, count-cons, count_mid, one_there, lies_there, lies_elsewhere, counted_set, held_set}
-use Rattle.manager.proofs.Entries.{At, among}
-use Rattle.manager.proofs.GivenUp.{keeps_is, given_list}
-use Rattle.manager.proofs.Lanes.{all_at, all_set, get_set, get_other}
-use Rattle.manager.proofs.ReadyLanes.{ready_set, placed_set, stays_set, same_or_not}
-
--- ---- lists
-
-pub all_removed : {X : Type 0} (P : X → Type 0) (xs : List X) (i : ℕ) → AllByRecursion P xs → AllByRecursion P (remove xs i)
-all_removed P [] zero all = tt
-all_removed P [] (suc i) all = tt
-all_removed P (x ∷ xs) zero all = all.1
-all_removed P (x ∷ xs) (suc i) all = (all.0, all_removed P xs i all.1)
-
--- each element stays but the one at this place
-pub member_removed : {X : Type 0} (xs : List X) (i : ℕ) (o z : X) → slice_get xs i ≡ Some o → Contains xs z → Contains (remove xs i) z ⊎ (o ≡ z)
-member_removed [] i o z at has = absurd (none-some o at)
-member_removed (x ∷ xs) zero o z at has = ⊎_elim (λ same. inr (sym (same_Some x o at) ∙ same)) (λ there. inl there) (member_front x xs z has)
-member_removed (x ∷ xs) (suc i) o z at has = ⊎_elim
-    (λ same. inl (0, omega arith, same))
-    (λ there. ⊎_elim (λ rest. inl (member_behind x (remove xs i) z rest)) (λ same. inr same) (member_removed xs i o z at there))
-    (member_front x xs z has)
-
-pub all_both : {X : Type 0} (P Q R : X → Type 0) → ((x : X) → P x → Q x → R x) → (xs : List X) → AllByRecursion P xs → AllByRecursion Q xs → AllByRecursion R xs
-all_both P Q R f [] ps qs = tt
-all_both P Q R f (x ∷ xs) ps qs = (f x ps.0 qs.0, all_both P Q R f xs ps.1 qs.1)
-
--- where none counts, each fails the test
-pub none_here : (test : Indexed → Bool) (es : List Indexed) → count_by test es ≡ 0 → AllByRecursion (λ (d : Indexed). test d ≡ false) es
-none_here test [] none = tt
-none_here test (x ∷ es) none = (at (test x) refl, none_here test es (let c = count-cons test x es in omega (arith, c, none)))
-  where
-    at : (t : Bool) → test x ≡ t → test x ≡ false
-    at true is = absurd (let c = count-cons test x es in let one : cond {A = ℕ} (test x) 1 0 ≡ 1 = ap (λ (t : Bool). cond {A = ℕ} t 1 0) is in omega (arith, c, none, one))
-    at false is = is
-
-all_filtered : (P : Indexed → Type 0) (test : Indexed → Bool) (es : List Indexed) → AllByRecursion P es → AllByRecursion P (filter test es)
-all_filtered P test [] all = tt
-all_filtered P test (x ∷ es) all = at (test x) (all_filtered P test es all.1)
-  where
-    at : (t : Bool) → AllByRecursion P (filter test es) → AllByRecursion P (cond t (x ∷ filter test es) (filter test es))
-    at true rest = (all.0, rest)
-    at false rest = rest
-
--- what is so of each entry, and of one that gave up what goes
-all_given : (P : Indexed → Type 0) (version : ℕ) (es : List Indexed) → ((d : Indexed) → P d → P (with_kept es d)) → AllByRecursion P es → AllByRecursion P (given_of version es)
-all_given P version es so all = all_filtered P (λ (d : Indexed). keeps_a_block d.listed) (changed version (with_kept es) es) (all_changed P version (with_kept es) so es all)
-
-long_kept : (es : List Indexed) (d : Indexed) → length (with_kept es d).listed.keep ≡ length d.listed.keep
-long_kept es d = length_remarked d.listed.first d.listed.keep (λ b m. m && not (goes (listed_in es) d.listed b))
-
-nothing_of : (t : Bool) → cond {A = ℕ} t 0 0 ≡ 0
-nothing_of true = refl
-nothing_of false = refl
+use Rattle.listed_records.proofs.Entries.{count_mid, one_there, lies_there, not_there as lies_elsewhere, At, among, keeps_is, given_list, none_here, all_given, long_kept, nothing_of}
+use Rattle.volume_parts.proofs.Lanes.{counted_set, held_set, ready_set, placed_set, stays_set}
+use Rattle.listed_records.proofs.Elements.{all_at, all_set, get_set, get_other, same_or_not, all_removed, member_removed, all_both}
 
 -- ---- the call
 

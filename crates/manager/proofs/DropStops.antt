@@ -42,19 +42,20 @@ use Rattle.manager.specs.Stands.{Keeps, IsReady}
 use Rattle.manager.specs.Stops.{ImageSince, HeldSince, was_held, was_free}
 use Rattle.manager.specs.declared.base.ManagerBase.{ManagerBase}
 use Rattle.manager.specs.declared.manager.Manager.{Manager}
-use Rattle.manager.specs.declared.part.Part.TheVariants as part
 use Rattle.manager.proofs.DropKeeps.{none_valid, named_trimmed}
 use Rattle.manager.proofs.DropPiece.{Piece, piece, was_held as its_held, was_lane as its_lane, set_mid, GoneLanes, gone_lanes}
-use Rattle.manager.proofs.Entries.{At, among}
-use Rattle.manager.proofs.GivenUp.{kept_marks, keep_within}
-use Rattle.manager.proofs.Lanes.{all_at, held_as, get_set, InLanes, in_lanes}
-use Rattle.manager.proofs.Moments.{one_of_place, stops_so}
-use Rattle.manager.proofs.Putting.{Pieces, untaken_set}
+use Rattle.listed_records.proofs.Entries.{At, among, kept_marks, keep_within}
+use Rattle.listed_records.proofs.Elements.{all_at, get_set}
+use Rattle.volume_parts.proofs.Lanes.{held_as, InLanes, in_lanes, untaken_set}
+use Rattle.volume_parts.proofs.Held.{one_of_place, IsMoved}
+use Rattle.manager.proofs.Moments.{stops_so}
+use Rattle.manager.proofs.Putting.{Pieces}
 use Rattle.manager.proofs.ReadContent.{unbroken, upholds_up}
 use Rattle.manager.proofs.ReadKeeps.{held_read, upholds_read}
-use Rattle.manager.proofs.ReadStops.{IsMoved, moved, logs as logs_read}
-use Rattle.manager.proofs.Vanishes.{gives_up, holds_trimmed, holds_without, three_stops, segment_breaks}
+use Rattle.manager.proofs.ReadStops.{moved, logs as logs_read}
+use Rattle.listed_records.proofs.Vanishes.{gives_up, holds_trimmed, holds_without, three_stops, segment_breaks}
 use Rattle.manager.proofs.WentHome.{risen}
+use Rattle.manager.specs.declared.part.Part.TheVariants as part
 
 -- ---- the segment's images
 

@@ -17,7 +17,6 @@ use Rattle.wol_promise.specs.Stands.{IsWhole, IsDataOf}
 use Rattle.wol_promise.proofs.Lists.{all_member, member_of}
 use Rattle.spin_model.specs.declared.spun.Spun.{Spun}
 use Rattle.log_segment.specs.Segment.{Holds, blocks_of, owner_of}
-use Rattle.log_segment.specs.Segment as log
 use Rattle.logger.specs.Lanes.{AreWhole, ReadFrom, held_in}
 use Rattle.logger.specs.declared.lane.HeldSegment.{HeldSegment}
 use Rattle.logger.specs.declared.lane.Lane.{Lane}
@@ -29,11 +28,12 @@ use Rattle.manager.specs.Stands.{Keeps, IsReady, IsPlacedIn}
 use Rattle.manager.specs.declared.base.ManagerBase.{ManagerBase}
 use Rattle.manager.specs.declared.manager.Manager.{Manager}
 use Rattle.manager.specs.declared.part.Part.{Part}
-use Rattle.manager.proofs.Entries.{Found, found_of, entry_of_version, among}
-use Rattle.manager.proofs.Lanes.{all_at}
-use Rattle.manager.proofs.ReadContent.{Standing, held_as, standing, same_place, upholds_up}
-use Rattle.manager.proofs.ReadThrough.{on_ok_like}
-use Rattle.manager.proofs.ReadyLanes.{get_of}
+use Rattle.listed_records.proofs.Entries.{Found, found_of, entry_of_version, among}
+use Rattle.listed_records.proofs.Elements.{all_at, get_of}
+use Rattle.volume_parts.proofs.Lanes.{Standing, held_as, standing, same_place}
+use Rattle.manager.proofs.ReadContent.{upholds_up}
+use Rattle.volume_parts.proofs.PartReads.{on_ok_like}
+use Rattle.log_segment.specs.Segment as log
 
 -- the segment that the index names for a record
 pub record RecordSpot {D : Type 0} (m : Manager D) (r : Rec) (lane : Lane D) : Type 0 where

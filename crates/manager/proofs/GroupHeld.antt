@@ -4,9 +4,9 @@ use Rattle.std.specs.Prelude.{Contains, slice_get, slice_set, IsTrue}
 use Rattle.std.specs.List.{flat_map}
 use Rattle.std.proofs.lemmas.List.{append-nil, length-replicate}
 use Rattle.std.proofs.lemmas.List.Elements.{Contains-append_right}
+use Rattle.std.proofs.Math.ListN.{length-set}
 use Rattle.turn_lock.specs.LockIds.{LockId}
 use Rattle.seg_pool.specs.declared.base.PoolBase.{PoolBase}
-use Rattle.std.proofs.Math.ListN.{length-set}
 use Rattle.wol_disk.specs.Disk.{State, Block, IsDisk, LeavesOnly, Rose}
 use Rattle.wol_disk.proofs.Calls.{now_leaves}
 use Rattle.wol_model.specs.Extents.{IsValid}
@@ -31,16 +31,16 @@ use Rattle.manager.specs.Seen.{parts_of, seen, all_held, all_taken, down_of}
 use Rattle.manager.specs.Stands.{Keeps}
 use Rattle.manager.specs.declared.base.ManagerBase.{ManagerBase}
 use Rattle.manager.specs.declared.manager.Manager.{Manager}
-use Rattle.manager.specs.declared.part.Part.TheVariants as part
-use Rattle.manager.proofs.Lanes.{all_at, get_set, held_as, InLanes, in_lanes}
-use Rattle.manager.proofs.ClaimedWrites.{other_records}
-use Rattle.manager.proofs.Putting.{parts, base, ws, is_up, old_lane, owner, logger, image_is_log, Pieces, untaken_set}
+use Rattle.listed_records.proofs.Elements.{all_at, get_set}
+use Rattle.volume_parts.proofs.Lanes.{held_as, InLanes, in_lanes, image_is_log, untaken_set}
+use Rattle.listed_records.proofs.Groups.{other_records, AreNew, indexed_by, some_valid, group_more, group_breaks}
+use Rattle.manager.proofs.Putting.{parts, base, ws, is_up, old_lane, owner, logger, Pieces}
 use Rattle.manager.proofs.ReadContent.{unbroken, upholds_up}
 use Rattle.manager.proofs.WentHome.{risen}
 use Rattle.manager.specs.Listing.{recs_at, entered_all}
 use Rattle.manager.specs.Groups.{AreItemsOf, log_writes}
-use Rattle.manager.proofs.GroupWrites.{AreNew, indexed_by, some_valid, group_more, group_breaks}
-use Rattle.manager.proofs.GroupRecords.{group_new, group_some, group_fits, group_written, group_long, group_indexed}
+use Rattle.volume_parts.proofs.Records.{group_new, group_some, group_fits, group_written, group_long, group_indexed}
+use Rattle.manager.specs.declared.part.Part.TheVariants as part
 
 -- ---- Records that end at a place
 

@@ -5,6 +5,7 @@ use Rattle.std.specs.List.{AllByRecursion}
 use Rattle.std.specs.Option.{option_to_list}
 use Rattle.std.proofs.Math.ListN.{length-set}
 use Rattle.std.proofs.lemmas.Grind.{flat_map-append}
+use Rattle.std.proofs.lemmas.Option.{same_Some}
 use Rattle.wol_disk.specs.Disk.{State, Block, IsDisk, LeavesOnly, Rose}
 use Rattle.wol_disk.proofs.Calls.{now_leaves}
 use Rattle.wol_model.specs.Blocks.{Write, AreApart}
@@ -43,17 +44,15 @@ use Rattle.manager.specs.Seen.{parts_of, may_be, seen, all_held, all_taken, down
 use Rattle.manager.specs.Stands.{Keeps}
 use Rattle.manager.specs.declared.base.ManagerBase.{ManagerBase}
 use Rattle.manager.specs.declared.manager.Manager.{Manager}
-use Rattle.manager.specs.declared.part.Part.TheVariants as part
-use Rattle.manager.proofs.Lanes.{AtEnd, at_end}
-use Rattle.manager.proofs.Putting.{is_up, old_lane, owner, logger, image_is_log, Pieces, untaken_set}
+use Rattle.volume_parts.proofs.Lanes.{AtEnd, at_end, image_is_log, untaken_set}
+use Rattle.manager.proofs.Putting.{is_up, old_lane, owner, logger, Pieces}
 use Rattle.manager.proofs.ReadContent.{unbroken, upholds_up}
 use Rattle.manager.proofs.WentHome.{risen}
 use Rattle.manager.specs.Listing.{recs_at, entered_all}
 use Rattle.manager.specs.Groups.{AreItemsOf, log_writes}
-use Rattle.manager.proofs.GroupExtents.{group_distinct, group_stops}
-use Rattle.manager.proofs.GroupWrites.{AreNew, FitBehind, written_as, indexed_by, extents_of_new, in_a_row, front_row, map_front, map_long, all_lie, all_lie_in_home, some_valid, group_more}
-use Rattle.manager.proofs.GroupRecords.{group_new, group_fits, group_written, group_long, group_indexed}
-use Rattle.std.proofs.lemmas.Option.{same_Some}
+use Rattle.listed_records.proofs.Groups.{group_distinct, group_stops, AreNew, FitBehind, written_as, indexed_by, extents_of_new, in_a_row, front_row, map_front, map_long, all_lie, all_lie_in_home, some_valid, group_more}
+use Rattle.volume_parts.proofs.Records.{group_new, group_fits, group_written, group_long, group_indexed}
+use Rattle.manager.specs.declared.part.Part.TheVariants as part
 
 -- ---- A new index is apart from all others of its lane, and no other lane has its place
 

@@ -29,14 +29,14 @@ use Rattle.manager.specs.Stops.{Stops}
 use Rattle.manager.specs.declared.base.ManagerBase.{ManagerBase}
 use Rattle.manager.specs.declared.manager.Manager.{Manager}
 use Rattle.manager.specs.declared.part.Part.{Part}
-use Rattle.manager.specs.declared.part.Part.TheVariants as part
-use Rattle.manager.proofs.Claims.{put_claimed}
-use Rattle.manager.proofs.ReadyLanes.{ready_set}
+use Rattle.volume_parts.proofs.Claims.{put_claimed}
+use Rattle.volume_parts.proofs.Lanes.{ready_set}
 use Rattle.manager.specs.Joining.{room_for}
 use Rattle.manager.specs.Listing.{recs_at, entered_all}
 use Rattle.manager.specs.Groups.{IsItemOf, AreItemsOf, log_writes, placed_all}
-use Rattle.manager.proofs.GroupRecords.{group_look_woken}
+use Rattle.volume_parts.proofs.Records.{group_look_woken}
 use Rattle.manager.proofs.GroupOffering.{group_position, group_ready, group_stands, group_stands_failed, group_stops_put, group_cause}
+use Rattle.manager.specs.declared.part.Part.TheVariants as part
 
 pub all_taken_front : {X : Type 0} (P : X → Type 0) (n : ℕ) (xs : List X) → AllByRecursion P xs → AllByRecursion P (take n xs)
 all_taken_front P zero xs all = tt

@@ -47,21 +47,20 @@ use Rattle.manager.specs.Stops.{Stops}
 use Rattle.manager.specs.declared.base.ManagerBase.{ManagerBase}
 use Rattle.manager.specs.declared.manager.Manager.{Manager}
 use Rattle.manager.specs.declared.part.Part.{Part}
-use Rattle.manager.specs.declared.part.Part.TheVariants as part
-use Rattle.manager.proofs.Claims.{put_claimed}
-use Rattle.manager.proofs.Counted.{counted_set, held_set, none_there, lies_there, lies_elsewhere}
-use Rattle.manager.proofs.Lanes.{all_at, all_set, get_set}
-use Rattle.manager.proofs.NewRecord.{entered}
+use Rattle.volume_parts.proofs.Claims.{put_claimed}
+use Rattle.volume_parts.proofs.Lanes.{counted_set, held_set, ready_set, placed_set, stays_set, stays_push, nones_some, takes_some}
+use Rattle.listed_records.proofs.Entries.{none_there, lies_there, not_there as lies_elsewhere, still_map, still_push}
+use Rattle.listed_records.proofs.Elements.{all_at, all_set, get_set, same_or_not}
+use Rattle.volume_parts.proofs.Records.{entered, count_more, group_long, group_some}
 use Rattle.manager.proofs.Putting.{Pieces}
-use Rattle.manager.proofs.ReadyLanes.{ready_set, locks_set, placed_set, stays_set, stays_push, same_or_not, takes_of_set, nones_some, takes_some}
-use Rattle.manager.proofs.Still.{still_map, still_push}
+use Rattle.manager.proofs.ReadyLanes.{locks_set, takes_of_set}
 use Rattle.manager.specs.Listing.{recs_at, entered_all}
 use Rattle.manager.specs.Groups.{AreItemsOf, log_writes}
-use Rattle.manager.proofs.GroupRecords.{count_more, group_long, group_some}
 use Rattle.manager.proofs.GroupHeld.{group_put, group_put_failed}
 use Rattle.manager.proofs.GroupNew.{group_claimed, group_claim_failed, apart_last}
 use Rattle.manager.proofs.GroupStops.{group_held_stops, group_claim_stops}
 use Rattle.seg_pool.specs.Holders.{Took}
+use Rattle.manager.specs.declared.part.Part.TheVariants as part
 
 -- ---- What a write asked of a pool
 

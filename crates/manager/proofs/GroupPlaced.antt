@@ -9,7 +9,6 @@ use Rattle.wol_model.specs.Blocks.{Write}
 use Rattle.wol_model.specs.History.{Operation, Kept, worker}
 use Rattle.wol_model.specs.Index.{listed_in}
 use Rattle.wol_model.specs.Placing.{Home as AtHome, Log as InLog, Full as Nowhere}
-use Rattle.wol_model.specs.Placing as placing
 use Rattle.wol_promise.specs.Policy.{Look, place_of, placed, version_at, AreWrites}
 use Rattle.wol_promise.specs.Ruled.{Noted, HasPassed, last_look}
 use Rattle.log_segment.specs.Records.{count_of}
@@ -27,18 +26,19 @@ use Rattle.manager.specs.Writing.{TellsFault, IsHomeAnswer, IsLogAnswer, in_flig
 use Rattle.manager.specs.declared.base.ManagerBase.{ManagerBase}
 use Rattle.manager.specs.declared.manager.Manager.{Manager}
 use Rattle.manager.specs.declared.part.Part.{Part}
-use Rattle.manager.specs.declared.part.Part.TheVariants as part
 use Rattle.manager.specs.declared.part.Place.{Place}
-use Rattle.manager.specs.declared.part.Place.TheVariants as place
 use Rattle.manager.specs.declared.part.WriteRefusal.{WriteRefusal}
 use Rattle.manager.specs.declared.part.WriteRefusal.TheVariants.{Full, DiskFault, Down, VersionsSpent, NoMemory}
 use Rattle.manager.proofs.Asking.{Asking}
-use Rattle.manager.proofs.Claims.{no_more_same}
+use Rattle.volume_parts.proofs.Claims.{no_more_same}
 use Rattle.manager.proofs.Placed.{look_same, claimed_before, stops_before, passed_log, passed_unplaced}
 use Rattle.manager.specs.Joining.{GoTogether}
 use Rattle.manager.specs.Groups.{first_lbn, first_blocks, home_writes, run_writes, run_written, ruled_run, HasRun, IsGroup, AreItemsOf, given_out, log_writes, placed_all}
-use Rattle.manager.proofs.GroupPlaces.{group_writes, group_group}
-use Rattle.manager.proofs.GroupRecords.{first_long}
+use Rattle.volume_parts.proofs.Places.{group_writes, group_group}
+use Rattle.volume_parts.proofs.Records.{first_long}
+use Rattle.wol_model.specs.Placing as placing
+use Rattle.manager.specs.declared.part.Part.TheVariants as part
+use Rattle.manager.specs.declared.part.Place.TheVariants as place
 
 -- ---- To a log
 

@@ -7,7 +7,6 @@ use Rattle.wol_disk.specs.Disk.{State, Block, IsDisk}
 use Rattle.wol_model.specs.Blocks.{Write}
 use Rattle.wol_model.specs.History.{Operation, Kept, worker}
 use Rattle.wol_model.specs.Index.{listed_in}
-use Rattle.wol_model.specs.Placing as placing
 use Rattle.wol_promise.specs.Policy.{Look, place_of, AreWrites}
 use Rattle.log_segment.specs.declared.item.Item.{Item}
 use Rattle.offload_policy.specs.declared.Room.{Room}
@@ -19,19 +18,18 @@ use Rattle.manager.specs.Stands.{Leaves, passed_in}
 use Rattle.manager.specs.Stops.{Stops}
 use Rattle.manager.specs.Writing.{HaveAnswered, NeedsHome, IsAsBefore, IsPlacedAnswer, ruled_place, takes_at, was_tried}
 use Rattle.manager.specs.declared.manager.Manager.{Manager}
-use Rattle.manager.specs.declared.part.Part.TheVariants as part
 use Rattle.manager.specs.declared.part.Place.{Place}
-use Rattle.manager.specs.declared.part.Place.TheVariants as place
 use Rattle.manager.specs.declared.part.WriteRefusal.{WriteRefusal}
 use Rattle.manager.specs.declared.part.WriteRefusal.TheVariants.{Full, DiskFault, Down, VersionsSpent, NoMemory}
-use Rattle.manager.proofs.Claims.{no_more_same}
+use Rattle.volume_parts.proofs.Claims.{no_more_same}
 use Rattle.manager.proofs.Refused.{keeps_then, stands_refused, stops_at_rest}
-use Rattle.manager.specs.Groups.{first_lbn, first_blocks, run_writes, run_written, ruled_run, HasRun, IsGroup}
-use Rattle.manager.specs.Groups.{placed_all, place_told}
+use Rattle.manager.specs.Groups.{first_lbn, first_blocks, run_writes, run_written, ruled_run, HasRun, IsGroup, placed_all, place_told}
 use Rattle.log_segment.specs.Records.{count_of}
 use Rattle.logger.specs.Lanes.{logger_of, first_count}
-use Rattle.manager.proofs.GroupRecords.{first_long}
-use Rattle.manager.proofs.JoiningLaws.{first_of_take, take_front}
+use Rattle.volume_parts.proofs.Records.{first_long, first_of_take, take_front}
+use Rattle.wol_model.specs.Placing as placing
+use Rattle.manager.specs.declared.part.Part.TheVariants as part
+use Rattle.manager.specs.declared.part.Place.TheVariants as place
 
 -- the first item is the first of each front
 first_front : (m : ℕ) (items : List Item) (from : List Block) → 1 ≤ m → (first_lbn (take m items) ≡ first_lbn items) × (first_blocks (take m items) from ≡ first_blocks items from)

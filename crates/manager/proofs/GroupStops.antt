@@ -15,7 +15,6 @@ use Rattle.wol_model.proofs.Images.{kept, idle_none}
 use Rattle.spin_model.specs.declared.spun.Spun.{Spun}
 use Rattle.spin_model.specs.Spun.{state_of}
 use Rattle.log_segment.specs.Records.{group_of, count_of}
-use Rattle.log_segment.specs.Segment as segment
 use Rattle.log_segment.specs.Segment.{part_of, disk_of, free_disk, free_part, owner_of}
 use Rattle.log_segment.specs.declared.free.FreeSegment.{FreeSegment}
 use Rattle.log_segment.specs.declared.item.Item.{Item}
@@ -33,13 +32,14 @@ use Rattle.manager.specs.Stands.{Keeps}
 use Rattle.manager.specs.Stops.{ImageSince, HeldSince, was_held, was_free, Stops}
 use Rattle.manager.specs.declared.base.ManagerBase.{ManagerBase}
 use Rattle.manager.specs.declared.manager.Manager.{Manager}
-use Rattle.manager.proofs.Lanes.{InLanes, AtEnd, held_as}
-use Rattle.manager.proofs.Moments.{still_logs, home_holds, stops_so, one_of_place}
+use Rattle.volume_parts.proofs.Lanes.{InLanes, AtEnd, held_as}
+use Rattle.manager.proofs.Moments.{still_logs, home_holds, stops_so}
+use Rattle.volume_parts.proofs.Held.{one_of_place}
 use Rattle.manager.proofs.Putting.{owner}
 use Rattle.manager.specs.Groups.{AreItemsOf, log_writes}
-use Rattle.manager.proofs.GroupExtents.{group_stops}
-use Rattle.manager.proofs.GroupWrites.{AreNew, extents_of_new, in_a_row, map_front, map_long}
-use Rattle.manager.proofs.GroupRecords.{group_new, group_written}
+use Rattle.listed_records.proofs.Groups.{group_stops, AreNew, extents_of_new, in_a_row, map_front, map_long}
+use Rattle.volume_parts.proofs.Records.{group_new, group_written}
+use Rattle.log_segment.specs.Segment as segment
 use Rattle.manager.proofs.GroupHeld as group_held
 use Rattle.manager.proofs.GroupNew as group_new_one
 

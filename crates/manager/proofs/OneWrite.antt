@@ -6,7 +6,6 @@ use Rattle.wol_disk.specs.Disk.{State, Block}
 use Rattle.spin_model.specs.declared.spun.Spun.{Spun}
 use Rattle.wol_model.specs.History.{Operation, Wrote, Broke, worker}
 use Rattle.wol_model.specs.Index.{Indexed, listed_in}
-use Rattle.wol_model.specs.Placing as placing
 use Rattle.wol_promise.specs.Policy.{Look, placed}
 use Rattle.wol_promise.specs.Ruled.{Noted}
 use Rattle.log_segment.specs.declared.item.Item.{Item}
@@ -19,11 +18,12 @@ use Rattle.manager.specs.Stops.{Stops, TellsClaim}
 use Rattle.manager.specs.Writing.{HaveAnswered, HasLook, NeedsHome, NeedsLogs, IsAsBefore, ruled_place, takes_at, was_tried, in_flight}
 use Rattle.manager.specs.declared.base.ManagerBase.{ManagerBase}
 use Rattle.manager.specs.declared.manager.Manager.{Manager}
-use Rattle.manager.specs.declared.part.Part.TheVariants as part
 use Rattle.manager.specs.declared.part.Place.{Place}
-use Rattle.manager.specs.declared.part.Place.TheVariants as place
 use Rattle.manager.specs.declared.part.WriteRefusal.{WriteRefusal}
 use Rattle.manager.specs.declared.part.WriteRefusal.TheVariants.{Full, DiskFault, Down, VersionsSpent, NoMemory}
+use Rattle.wol_model.specs.Placing as placing
+use Rattle.manager.specs.declared.part.Part.TheVariants as part
+use Rattle.manager.specs.declared.part.Place.TheVariants as place
 
 abbrev pub one : (lbn : ℕ) → List Block → List Item
 one lbn from = record { lbn = lbn; count = length from } ∷ []

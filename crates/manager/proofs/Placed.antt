@@ -17,7 +17,6 @@ use Rattle.wol_model.specs.History.{writes}
 use Rattle.wol_model.specs.Index.{listed_in, is_covered}
 use Rattle.wol_model.specs.Log.{Record}
 use Rattle.wol_model.specs.Placing.{Home as AtHome, Log as InLog, place as place_in_model}
-use Rattle.wol_model.specs.Placing as placing
 use Rattle.wol_promise.specs.Manager.{Held, is_homed_in}
 use Rattle.wol_promise.specs.Policy.{place_of}
 use Rattle.wol_promise.specs.Ruled.{Noted, HasPassed, entries_of}
@@ -41,17 +40,18 @@ use Rattle.manager.specs.Writing.{HaveAnswered, NeedsHome, TellsFault, IsHomeAns
 use Rattle.manager.specs.declared.base.ManagerBase.{ManagerBase}
 use Rattle.manager.specs.declared.manager.Manager.{Manager}
 use Rattle.manager.specs.declared.part.Part.{Part}
-use Rattle.manager.specs.declared.part.Part.TheVariants as part
 use Rattle.manager.specs.declared.part.Place.{Place}
-use Rattle.manager.specs.declared.part.Place.TheVariants as place
 use Rattle.manager.specs.declared.part.WriteRefusal.{WriteRefusal}
 use Rattle.manager.specs.declared.part.WriteRefusal.TheVariants.{Full, DiskFault, Down, VersionsSpent, NoMemory}
 use Rattle.manager.proofs.Answered.{loggers_same, held_same, one_takes, passed_more}
 use Rattle.manager.proofs.Asking.{Asking}
 use Rattle.manager.proofs.Calm.{none_asked_before}
-use Rattle.manager.proofs.Claims.{claim_before}
+use Rattle.volume_parts.proofs.Claims.{claim_before}
 use Rattle.manager.proofs.Moments.{still_logs, home_holds, stops_so}
-use Rattle.manager.proofs.Placing.{led_by, place_is, rooms_are}
+use Rattle.volume_parts.proofs.Placing.{led_by, place_is, rooms_are}
+use Rattle.wol_model.specs.Placing as placing
+use Rattle.manager.specs.declared.part.Part.TheVariants as part
+use Rattle.manager.specs.declared.part.Place.TheVariants as place
 
 -- ---- Answers
 

@@ -1,34 +1,25 @@
 -- What is known of a manager that is up when a write is put into one of its lanes.
-use Rattle.std.proofs.Common.{◌≡◌, ℕ, sym, subst, ◌∙◌, List, Bool, Option, None, Some, ap}
-use Rattle.std.specs.Prelude.{slice_get, slice_set, IsTrue}
-use Rattle.std.specs.List.{AllByRecursion}
+use Rattle.std.proofs.Common.{◌≡◌, ℕ, sym, ◌∙◌, List, Bool, Option, None, Some, ap}
+use Rattle.std.specs.Prelude.{slice_get, IsTrue}
 use Rattle.std.specs.Option.{option_map}
 use Rattle.std.proofs.lemmas.Option.{slice_get-map}
-use Rattle.wol_disk.specs.Disk.{State, Block, IsImageOf}
-use Rattle.wol_disk.proofs.Calls.{settled_only}
+use Rattle.wol_disk.specs.Disk.{State}
 use Rattle.wol_model.specs.Blocks.{Write}
 use Rattle.wol_model.specs.History.{writes, flight_of}
 use Rattle.wol_model.specs.Index.{Indexed}
-use Rattle.wol_model.specs.Log.{Record, IsLog}
 use Rattle.spin_model.specs.declared.spun.Spun.{Spun}
-use Rattle.log_segment.specs.Segment.{Holds, disk_of, owner_of}
-use Rattle.log_segment.specs.declared.segment.Segment.{Segment}
+use Rattle.log_segment.specs.Segment.{Holds}
 use Rattle.wol_promise.specs.Manager.{Parts, Base, AreInUse}
 use Rattle.wol_promise.specs.Ruled.{Noted, entries_of}
 use Rattle.wol_promise.specs.Stands.{Upholds}
-use Rattle.wol_promise.proofs.Lists.{all_map}
-use Rattle.logger.specs.Lanes.{logger_of, lane_owner, taken_in}
+use Rattle.logger.specs.Lanes.{logger_of, lane_owner}
 use Rattle.logger.specs.declared.lane.Lane.{Lane}
 use Rattle.manager.specs.Seen.{Logs, AllLanesHold, parts_of, all_held, all_taken, down_of}
 use Rattle.manager.specs.Stands.{Keeps, IsReadyLane}
 use Rattle.manager.specs.declared.base.ManagerBase.{ManagerBase}
 use Rattle.manager.specs.declared.manager.Manager.{Manager}
 use Rattle.manager.specs.declared.part.Part.{Part}
-use Rattle.manager.proofs.Lanes.{all_at, all_set, none_taken}
-
--- each image of a segment that holds records is a log of them
-pub image_is_log : {D : Type 0} (state : D → State) (seg : Segment D) (rs : List Record) (c : List Block) → Holds state seg rs → IsImageOf (disk_of state seg).values c → IsLog c (owner_of seg) rs
-image_is_log state seg rs c holds is = subst (λ (bs : List Block). IsLog bs (owner_of seg) rs) (sym (settled_only (disk_of state seg).values holds.disk.bs c holds.disk.settled is)) holds.disk.log
+use Rattle.listed_records.proofs.Elements.{all_at}
 
 module _ {D : Type 0} (tells : Bool) (state : D → State) (m : Manager D) (b : ManagerBase) (notes : List Noted) (kp : Keeps tells state m b notes) where
   abbrev pub parts : Parts (Spun D)
@@ -61,8 +52,3 @@ pub record Pieces {D : Type 0} (tells : Bool) (state : D → State) (m : Manager
   pub held : AllLanesHold (λ h rs. IsTrue tells → down ≡ None → Holds state h.segment rs) lanes logs
   pub upholds : Upholds (parts_of tells state) b.volume.began (record { home = m.home; held = all_held 0 lanes logs; taken = all_taken 0 lanes; indexed = indexed; next = next; home_up = m.home_up; ups = ups; down = down_of down }) notes (writes (entries_of notes)) (flight_of (entries_of notes))
   pub in_use : IsTrue tells → down ≡ None → AreInUse (all_held 0 lanes logs)
-
--- no lane has a taken segment, before and after
-pub untaken_set : {D : Type 0} (state : D → State) (id most : ℕ) (lanes : List (Lane D)) (k : ℕ) (new : Lane D) → AllByRecursion (IsReadyLane state id most) lanes → taken_in new ≡ None → all_taken 0 lanes ≡ all_taken 0 (slice_set lanes k new)
-untaken_set {D} state id most lanes k new ready is = let all = all_map (IsReadyLane state id most) (λ (l : Lane D). taken_in l ≡ None) (λ l is. is.untaken) lanes ready in
-    none_taken 0 lanes all ∙ sym (none_taken 0 (slice_set lanes k new) (all_set (λ (l : Lane D). taken_in l ≡ None) lanes k new all is))

@@ -1,9 +1,7 @@
 -- What a run's source gives is what the volume's array has there.
-use Rattle.std.proofs.Common.{◌≡◌, ◌≢◌, ⊎_elim, ◌<◌, ◌≤◌, ◌+◌, ◌-◌, ℕ, zero, suc, Bool, List, [], ◌∷◌, map, length, take, drop, Option, None, Some, refl, sym, ap, subst, ◌∙◌, arith}
+use Rattle.std.proofs.Common.{◌≡◌, ◌<◌, ◌≤◌, ◌+◌, ◌-◌, ℕ, Bool, List, length, take, drop, Option, None, Some, refl, sym, ap, subst, ◌∙◌, arith}
 use Rattle.std.specs.Prelude.{IsTrue, Contains, slice_get, slice_range}
-use Rattle.std.proofs.lemmas.Option.{none-some, same_Some}
 use Rattle.std.proofs.lemmas.List.{length-map}
-use Rattle.std.proofs.lemmas.List.Elements.{Contains-append_left, Contains-append_right}
 use Rattle.std.proofs.lemmas.List.FromFn.{length-map-range_with_len}
 use Rattle.wol_disk.specs.Disk.{State, Block, Values, IsImageOf, reads}
 use Rattle.wol_disk.proofs.Images.{image_reads}
@@ -13,77 +11,25 @@ use Rattle.wol_model.specs.History.{writes, flight_of}
 use Rattle.wol_model.specs.Log.{Record, IsNamed, has_bit, position_of}
 use Rattle.wol_promise.specs.Manager.{Held, IsBacked, extents_held}
 use Rattle.wol_promise.specs.Ruled.{Noted, entries_of}
-use Rattle.wol_promise.specs.Stands.{IsWhole, Upholds, place_in, AreApartPlaces}
+use Rattle.wol_promise.specs.Stands.{IsWhole, Upholds}
 use Rattle.wol_promise.proofs.Kept.{not_broken}
-use Rattle.wol_promise.proofs.Lists.{all_member, member_front, member_map, member_behind, member_of}
+use Rattle.wol_promise.proofs.Lists.{all_member, member_of}
 use Rattle.spin_model.specs.Spun.{state_of}
 use Rattle.spin_model.specs.declared.spun.Spun.{Spun}
-use Rattle.log_segment.specs.Segment.{Holds, part_of, owner_of}
+use Rattle.log_segment.specs.Segment.{Holds, owner_of}
 use Rattle.logger.specs.Lanes.{held_in}
 use Rattle.logger.specs.declared.lane.HeldSegment.{HeldSegment}
 use Rattle.logger.specs.declared.lane.Lane.{Lane}
 use Rattle.redirect_map.specs.Index.{cover_at}
 use Rattle.redirect_map.specs.declared.record.Rec.{Rec}
 use Rattle.manager.specs.Reading.{IsSource}
-use Rattle.manager.specs.Seen.{Logs, AllHold, AllLanesHold, held_with, all_held, parts_of, seen, down_of}
+use Rattle.manager.specs.Seen.{all_held, parts_of, seen, down_of}
 use Rattle.manager.specs.Stands.{Keeps}
 use Rattle.manager.specs.declared.base.ManagerBase.{ManagerBase}
 use Rattle.manager.specs.declared.manager.Manager.{Manager}
-use Rattle.manager.proofs.RunContent.{newest_is, bare_block, record_block, bare_run, row_run}
+use Rattle.listed_records.proofs.Contents.{newest_is, bare_block, record_block, bare_run, row_run, bare_source, entry_for, in_record, same_version}
 use Rattle.garbage_list.proofs.Nexts.{Answered}
-use Rattle.manager.proofs.RunSources.{bare_source, entry_for, in_record, same_version}
-
--- ---- held segments by place
-
--- the segment as a held one of the lane at this place
-abbrev pub held_as : {D : Type 0} → (lane : ℕ) → HeldSegment D → List Record → Held (Spun D)
-held_as lane h rs = record { part = part_of h.segment; lane = lane; index = h.index; broken = h.segment.broken; records = rs }
-
--- it stands among the held ones with these records
-pub record Standing {D : Type 0} (R : HeldSegment D → List Record → Type 0) (held : List (Held (Spun D))) (lane : ℕ) (h : HeldSegment D) : Type 0 where
-  pub records : List Record
-  pub has : R h records
-  pub among : Contains held (held_as lane h records)
-
-module _ {D : Type 0} (R : HeldSegment D → List Record → Type 0) where
-  in_lane : (lane : ℕ) (hs : List (HeldSegment D)) (logs : List (List Record)) (i : ℕ) (h : HeldSegment D) → AllHold R hs logs → slice_get hs i ≡ Some h → Standing R (held_with lane hs logs) lane h
-  in_lane lane [] logs i h all is = absurd (none-some h is)
-  in_lane lane (g ∷ hs) [] i h all is = absurd all
-  in_lane lane (g ∷ hs) (rs ∷ logs) zero h all is =
-      let same = same_Some g h is in
-      record { records = rs; has = subst (λ (k : HeldSegment D). R k rs) same all.0; among = (0, omega arith, λ j. held_as lane (same j) rs) }
-  in_lane lane (g ∷ hs) (rs ∷ logs) (suc i) h all is =
-      let rest = in_lane lane hs logs i h all.1 is in
-      record { records = rest.records; has = rest.has; among = member_behind (held_as lane g rs) (held_with lane hs logs) (held_as lane h rest.records) rest.among }
-
-  pub standing : (j lane k : ℕ) (lanes : List (Lane D)) (logs : Logs) (l : Lane D) (i : ℕ) (h : HeldSegment D) → lane ≡ j + k → AllLanesHold R lanes logs → slice_get lanes k ≡ Some l → slice_get (held_in l) i ≡ Some h
-      → Standing R (all_held j lanes logs) lane h
-  standing j lane k [] logs l i h place all is there = absurd (none-some l is)
-  standing j lane k (m ∷ lanes) [] l i h place all is there = absurd all
-  standing j lane zero (m ∷ lanes) (ls ∷ logs) l i h place all is there =
-      let same : m ≡ l = same_Some m l is in
-      let here = in_lane lane (held_in m) ls i h all.0 (ap (λ (n : Lane D). slice_get (held_in n) i) same ∙ there) in
-      let at : j ≡ lane = omega arith in
-      record {
-        records = here.records;
-        has = here.has;
-        among = Contains-append_left (held_with j (held_in m) ls) (all_held (j + 1) lanes logs) (held_as lane h here.records)
-            (subst (λ (n : ℕ). Contains (held_with n (held_in m) ls) (held_as lane h here.records)) (sym at) here.among);
-      }
-  standing j lane (suc k) (m ∷ lanes) (ls ∷ logs) l i h place all is there =
-      let rest = standing (j + 1) lane k lanes logs l i h (omega arith) all.1 is there in
-      record { records = rest.records; has = rest.has; among = Contains-append_right (held_with j (held_in m) ls) (all_held (j + 1) lanes logs) (held_as lane h rest.records) rest.among }
-
--- of segments whose places are apart, those of one place are the same
-pub same_place : {P : Type 0} (held : List (Held P)) (s t : Held P) → AreApartPlaces (map place_in held) → Contains held s → Contains held t → place_in s ≡ place_in t → s ≡ t
-same_place [] s t apart has has' same = absurd (let lt = has.1 in omega arith)
-same_place {P} (x ∷ held) s t apart has has' same = ⊎_elim
-    (λ here. ⊎_elim (λ here'. sym here ∙ here') (λ there'. absurd (away t there' (ap place_in here ∙ same))) (member_front x held t has'))
-    (λ there. ⊎_elim (λ here'. absurd (away s there (ap place_in here' ∙ sym same))) (λ there'. same_place held s t apart.1 there there' same) (member_front x held t has'))
-    (member_front x held s has)
-  where
-    away : (y : Held P) → Contains held y → place_in x ≡ place_in y → ⊥
-    away y has_y = all_member (λ (q : ℕ × ℕ). place_in x ≢ q) (map place_in held) (place_in y) apart.0 (member_map place_in held y has_y)
+use Rattle.volume_parts.proofs.Lanes.{held_as, Standing, standing, same_place}
 
 -- ---- a manager that is up
 

@@ -31,9 +31,11 @@ use Rattle.manager.specs.declared.part.Part.TheVariants.{Home, Segment}
 use Rattle.wol_promise.proofs.Kept.{read_more}
 use Rattle.wol_promise.proofs.OneMore.{last_more}
 use Rattle.manager.proofs.Frames.{none_passed}
-use Rattle.manager.proofs.ReadContent.{held_as, standing, unbroken, upholds_up}
-use Rattle.manager.proofs.ReadThrough.{zip_length, zip_at, above_none}
-use Rattle.manager.proofs.Touched.{IsTouched, touched_, touched, read_breaks, same_use}
+use Rattle.volume_parts.proofs.Lanes.{held_as, standing}
+use Rattle.manager.proofs.ReadContent.{unbroken, upholds_up}
+use Rattle.listed_records.proofs.Elements.{zip_length, zip_at}
+use Rattle.volume_parts.proofs.PartReads.{above_none}
+use Rattle.listed_records.proofs.Touched.{IsTouched, touched_, touched, read_breaks, same_use}
 use Rattle.manager.proofs.ReadyLanes.{down_counts}
 
 -- ---- lanes

@@ -1,76 +1,25 @@
 -- A lane's read, as its manager sees it.
-use Rattle.std.proofs.Common.{◌≡◌, inl, inr, ◌<◌, ◌≤◌, ◌+◌, ◌-◌, ℕ, Bool, List, length, None, Some, Result, Ok, Err, OnOk, OnErr, get_or, refl, sym, ap, subst, ◌∙◌, arith}
+use Rattle.std.proofs.Common.{◌≡◌, ◌<◌, ◌≤◌, ◌+◌, ◌-◌, ℕ, Bool, List, length, None, Some, get_or, refl, sym, ap, subst, ◌∙◌, arith}
 use Rattle.std.specs.Prelude.{Contains, slice_get, slice_set}
-use Rattle.std.specs.List.{AllByRecursion, AllZip}
+use Rattle.std.specs.List.{AllByRecursion}
 use Rattle.std.specs.Vec.{with_item}
 use Rattle.std.proofs.lemmas.Option.{same_Some, slice_get_read, slice_get_within}
-use Rattle.wol_disk.specs.Disk.{State, Block, Rose, IsDisk}
+use Rattle.wol_disk.specs.Disk.{State}
 use Rattle.wol_model.specs.Extents.{newest}
-use Rattle.wol_model.specs.Index.{Indexed}
 use Rattle.wol_promise.proofs.Lists.{all_map, all_member}
-use Rattle.turn_lock.specs.Passes.{pass_mine}
 use Rattle.log_segment.specs.Segment.{IsWhole, blocks_of, valid_of}
 use Rattle.redirect_map.specs.Index.{cover_at}
 use Rattle.redirect_map.specs.declared.record.Rec.{Rec}
-use Rattle.logger.specs.Lanes.{IsLane, HoldsAll, IsHeld, IsSameLane, AreWhole, ReadFrom, held_in, taken_in, pool_of}
+use Rattle.logger.specs.Lanes.{IsLane, HoldsAll, IsSameLane, AreWhole, held_in, taken_in}
 use Rattle.logger.specs.declared.lane.HeldSegment.{HeldSegment}
 use Rattle.logger.specs.declared.lane.Lane.{Lane}
-use Rattle.logger.specs.declared.lane.Spot.{Spot}
-use Rattle.manager.specs.Reading.{Counted, IsSource, SegmentRead, LaneRead}
+use Rattle.manager.specs.Reading.{IsSource}
 use Rattle.manager.specs.Stands.{IsReady, entries_at, IsReadyLane, IsPlacedIn}
 use Rattle.manager.specs.declared.manager.Manager.{Manager}
-use Rattle.manager.proofs.Counted.{counted_set}
-use Rattle.manager.proofs.Lanes.{all_at, all_set, get_set}
-use Rattle.manager.proofs.ReadyLanes.{get_of, ready_set, placed_set, stays_set}
-use Rattle.manager.proofs.ReadThrough.{zip_set, segment_self}
-use Rattle.manager.proofs.RunContent.{newest_is}
+use Rattle.volume_parts.proofs.Lanes.{counted_set, ready_set, placed_set}
+use Rattle.listed_records.proofs.Elements.{all_at, all_set, get_of}
+use Rattle.listed_records.proofs.Contents.{newest_is, entry_for, in_record}
 use Rattle.garbage_list.proofs.Nexts.{Answered}
-use Rattle.manager.proofs.RunSources.{entry_for, in_record}
-
--- ---- the lane
-
-count_of : {T E : Type 0} (r : Result T E) (a b : ℕ) → OnOk r (b ≡ a) → OnErr r (Rose a b) → Counted a b
-count_of (Ok x) a b ok err = inl ok
-count_of (Err e) a b ok err = inr err
-
-module _ {D T E : Type 0} (state : D → State) (sound : (d : D) → IsDisk (state d)) (l l' : Lane D) (spot : Spot) (skip : ℕ) (before after_ : List Block) (res : Result T E)
-    (was : IsLane state l) (is : IsLane state l') (whole : AreWhole (held_in l)) (same : IsSameLane l l') (moved : ReadFrom state l l' spot skip before after_ res) where
-  segment_read : SegmentRead state moved.old_segment moved.new_segment
-  segment_read = record {
-    index = moved.index;
-    same = moved.same;
-    broken = moved.whole ∙ sym (all_at (λ (h : HeldSegment D). IsWhole h.segment) (held_in l) moved.place moved.old_segment moved.there whole);
-    size = (all_at (IsHeld state _ _ _ _) (held_in l') moved.place moved.new_segment there' is.each).shape.size ∙ moved.same.blocks ∙ sym (all_at (IsHeld state _ _ _ _) (held_in l) moved.place moved.old_segment moved.there was.each).shape.size;
-    keeps = moved.keeps;
-    any_moment = moved.any_moment;
-    faults = count_of res _ _ moved.calm moved.cause;
-  }
-    where
-      there' : slice_get (held_in l') moved.place ≡ Some moved.new_segment
-      there' = ap (λ (hs : List (HeldSegment D)). slice_get hs moved.place) moved.held ∙ get_set (held_in l) moved.place moved.old_segment moved.new_segment moved.there
-
-  pub lane_read : taken_in l' ≡ taken_in l → pass_mine (pool_of l') ≡ pass_mine (pool_of l) → LaneRead state l l'
-  lane_read taken pool = record {
-    same = same;
-    taken = taken;
-    pool = pool;
-    held = subst (λ (hs : List (HeldSegment D)). AllZip (SegmentRead state) (held_in l) hs) (sym moved.held)
-        (zip_set (SegmentRead state) (segment_self state sound) (held_in l) moved.place moved.old_segment moved.new_segment moved.there segment_read);
-  }
-
-  -- its segments are whole still
-  pub whole_after : AreWhole (held_in l')
-  whole_after = subst (AllByRecursion (λ (h : HeldSegment D). IsWhole h.segment)) (sym moved.held) (all_set (λ (h : HeldSegment D). IsWhole h.segment) (held_in l) moved.place moved.new_segment whole moved.whole)
-
-  -- each has as many records that keep a block
-  pub counted_after : (k : ℕ) (es : List Indexed) → AllByRecursion (λ (h : HeldSegment D). valid_of h.segment ≡ entries_at k h.index es) (held_in l) → AllByRecursion (λ (h : HeldSegment D). valid_of h.segment ≡ entries_at k h.index es) (held_in l')
-  counted_after k es counted = subst (AllByRecursion (λ (h : HeldSegment D). valid_of h.segment ≡ entries_at k h.index es)) (sym moved.held)
-      (all_set (λ (h : HeldSegment D). valid_of h.segment ≡ entries_at k h.index es) (held_in l) moved.place moved.new_segment counted
-      (moved.valid ∙ all_at (λ (h : HeldSegment D). valid_of h.segment ≡ entries_at k h.index es) (held_in l) moved.place moved.old_segment moved.there counted ∙ ap (λ (i : ℕ). entries_at k i es) (sym moved.index)))
-
-  pub stays_after : (h : HeldSegment D) → Contains (held_in l) h → (t : HeldSegment D) × Contains (held_in l') t × (t.index ≡ h.index) × (blocks_of t.segment ≡ blocks_of h.segment)
-  stays_after h has = let t = stays_set (held_in l) moved.place moved.old_segment moved.new_segment moved.there moved.index moved.same.blocks h has in
-      (t.0, subst (λ (hs : List (HeldSegment D)). Contains hs t.0) (sym moved.held) t.1, t.2, t.3)
 
 -- ---- the spot of a run
 

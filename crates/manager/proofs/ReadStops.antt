@@ -1,16 +1,15 @@
 -- A read that is stopped at any moment leaves what was acknowledged.
-use Rattle.std.proofs.Common.{◌≡◌, ◌+◌, ℕ, Bool, true, false, List, [], ◌∷◌, ◌++◌, map, Option, None, Some, refl, sym, ap, subst, ◌∙◌}
+use Rattle.std.proofs.Common.{◌≡◌, Bool, true, false, List, [], ◌∷◌, Option, None, Some, refl, sym, ap, subst, ◌∙◌}
 use Rattle.std.specs.Prelude.{⊤, IsTrue, Contains, unwrap_or, is_some}
 use Rattle.std.specs.List.{AllByRecursion, AllZip}
-use Rattle.wol_disk.specs.Disk.{State, Block, IsDisk, IsImageOf, LeavesOnly}
+use Rattle.wol_disk.specs.Disk.{State, Block, IsDisk, IsImageOf}
 use Rattle.wol_model.specs.Blocks.{Write}
 use Rattle.wol_model.specs.Extents.{Extent}
 use Rattle.wol_model.specs.History.{writes, flight_of, IsCut}
 use Rattle.wol_model.specs.Holding.{Holds as HoldsArray}
-use Rattle.wol_model.specs.Log.{Record, IsLog, extent_of}
+use Rattle.wol_model.specs.Log.{IsLog}
 use Rattle.wol_promise.specs.Manager.{Held, Recovers, extents_held, is_homed_in}
 use Rattle.wol_promise.specs.Ruled.{Noted, entries_of}
-use Rattle.wol_promise.specs.Stands.{place_in}
 use Rattle.wol_promise.proofs.Choices.{AreLogs}
 use Rattle.wol_promise.proofs.Lists.{all_map}
 use Rattle.wol_promise.proofs.Stops.{still_stops}
@@ -20,66 +19,17 @@ use Rattle.log_segment.specs.Segment.{Holds, owner_of}
 use Rattle.logger.specs.Lanes.{held_in, logger_of, lane_owner, segments_in, pool_of, IsHeld}
 use Rattle.logger.specs.declared.lane.HeldSegment.{HeldSegment}
 use Rattle.logger.specs.declared.lane.Lane.{Lane}
-use Rattle.manager.specs.Reading.{SegmentRead, LaneRead, IsReadThrough}
-use Rattle.manager.specs.Seen.{Logs, AllHold, AllLanesHold, held_with, all_held, parts_of, down_of}
+use Rattle.manager.specs.Reading.{IsReadThrough}
+use Rattle.manager.specs.Seen.{all_held, parts_of, down_of}
 use Rattle.manager.specs.Stands.{Keeps, IsReady, IsReadyLane}
 use Rattle.manager.specs.Stops.{ImageSince, HeldSince, was_held, was_free, Stops}
 use Rattle.manager.specs.declared.base.ManagerBase.{ManagerBase}
 use Rattle.manager.specs.declared.manager.Manager.{Manager}
 use Rattle.manager.specs.declared.part.Part.{Part}
-use Rattle.manager.proofs.Moments.{IsSameHeld, same_held, same_member, rezip, one_of_place, each_member, stops_so, whole_now}
+use Rattle.volume_parts.proofs.Held.{IsSameHeld, same_held, same_member, rezip, one_of_place, each_member, IsMoved, moved_lanes, moved_extents}
+use Rattle.manager.proofs.Moments.{stops_so, whole_now}
 use Rattle.manager.proofs.ReadKeeps.{held_read}
-use Rattle.manager.proofs.Touched.{zip_all}
-
--- ---- segments that were read
-
--- at the same place, with the same records, and with no image since but logs of these
-pub record IsMoved {D : Type 0} (state : D → State) (owner : ℕ) (s t : Held (Spun D)) : Type 0 where
-  pub place : place_in t ≡ place_in s
-  pub records : t.records ≡ s.records
-  pub leaves : LeavesOnly (state_of state s.part) (state_of state t.part) (λ c. IsLog c owner t.records)
-
-module _ {D : Type 0} (state : D → State) (tells : Bool) (owner : ℕ) (P : Type 0) (told : IsTrue tells) (now : P) where
-  abbrev Owned : HeldSegment D → Type 0
-  Owned h = owner_of h.segment ≡ owner
-
-  abbrev Kept : HeldSegment D → List Record → Type 0
-  Kept h rs = IsTrue tells → P → Holds state h.segment rs
-
-  moved_hold : (k : ℕ) (hs is : List (HeldSegment D)) (logs : List (List Record)) → AllZip (SegmentRead state) hs is → AllByRecursion Owned hs → AllHold Kept hs logs → AllZip (IsMoved state owner) (held_with k hs logs) (held_with k is logs)
-  moved_hold k [] [] logs zip owned all = tt
-  moved_hold k [] (i ∷ is) logs zip owned all = absurd zip
-  moved_hold k (h ∷ hs) [] logs zip owned all = absurd zip
-  moved_hold k (h ∷ hs) (i ∷ is) [] zip owned all = tt
-  moved_hold k (h ∷ hs) (i ∷ is) (rs ∷ logs) zip owned all = let r = zip.0 in (
-    record {
-      place = λ j. (k, r.index j);
-      records = refl;
-      leaves = subst (λ (o : ℕ). LeavesOnly (state_of state h.segment.part) (state_of state i.segment.part) (λ c. IsLog c o rs)) owned.0 (r.any_moment rs (all.0 told now));
-    },
-    moved_hold k hs is logs zip.1 owned.1 all.1,
-  )
-
-  zip_append : {X Y : Type 0} (R : X → Y → Type 0) (xs us : List X) (ys vs : List Y) → AllZip R xs ys → AllZip R us vs → AllZip R (xs ++ us) (ys ++ vs)
-  zip_append R [] us [] vs p q = q
-  zip_append R [] us (y ∷ ys) vs p q = absurd p
-  zip_append R (x ∷ xs) us [] vs p q = absurd p
-  zip_append R (x ∷ xs) us (y ∷ ys) vs p q = (p.0, zip_append R xs us ys vs p.1 q)
-
-  pub moved_lanes : (k : ℕ) (ls ms : List (Lane D)) (logs : Logs) → AllZip (LaneRead state) ls ms → AllByRecursion (λ (l : Lane D). AllByRecursion Owned (held_in l)) ls → AllLanesHold Kept ls logs
-      → AllZip (IsMoved state owner) (all_held k ls logs) (all_held k ms logs)
-  moved_lanes k [] [] logs zip owned all = tt
-  moved_lanes k [] (m ∷ ms) logs zip owned all = absurd zip
-  moved_lanes k (l ∷ ls) [] logs zip owned all = absurd zip
-  moved_lanes k (l ∷ ls) (m ∷ ms) [] zip owned all = tt
-  moved_lanes k (l ∷ ls) (m ∷ ms) (rs ∷ logs) zip owned all = zip_append (IsMoved state owner) (held_with k (held_in l) rs) (all_held (k + 1) ls logs) (held_with k (held_in m) rs) (all_held (k + 1) ms logs)
-      (moved_hold k (held_in l) (held_in m) rs zip.0.held owned.0 all.0) (moved_lanes (k + 1) ls ms logs zip.1 owned.1 all.1)
-
-pub moved_extents : {D : Type 0} (state : D → State) (owner : ℕ) (held held' : List (Held (Spun D))) → AllZip (IsMoved state owner) held held' → extents_held held' ≡ extents_held held
-moved_extents state owner [] [] zip = refl
-moved_extents state owner [] (t ∷ held') zip = absurd zip
-moved_extents state owner (s ∷ held) [] zip = absurd zip
-moved_extents state owner (s ∷ held) (t ∷ held') zip = λ i. map extent_of (zip.0.records i) ++ moved_extents state owner held held' zip.1 i
+use Rattle.listed_records.proofs.Elements.{zip_all}
 
 -- ---- the call
 

@@ -7,7 +7,6 @@ use Rattle.wol_disk.specs.Disk.{State, IsDisk}
 use Rattle.turn_lock.specs.Passes.{pass_mine}
 use Rattle.log_segment.specs.Segment.{Holds}
 use Rattle.wol_model.specs.History.{Kept, writes}
-use Rattle.wol_model.specs.Placing as placing
 use Rattle.wol_promise.specs.Manager.{is_homed_in}
 use Rattle.wol_promise.specs.Ruled.{Noted, last_look, entries_of}
 use Rattle.wol_promise.proofs.Stops.{still_stops}
@@ -24,14 +23,16 @@ use Rattle.manager.specs.Writing.{HasAnswered, HaveAnswered, NeedsLogs, TellsFau
 use Rattle.manager.specs.declared.base.ManagerBase.{ManagerBase}
 use Rattle.manager.specs.declared.manager.Manager.{Manager}
 use Rattle.manager.specs.declared.part.Part.{Part}
-use Rattle.manager.specs.declared.part.Part.TheVariants as part
 use Rattle.manager.specs.declared.part.Place.{Place}
 use Rattle.manager.specs.declared.part.WriteRefusal.{WriteRefusal}
 use Rattle.manager.specs.declared.part.WriteRefusal.TheVariants.{Full, DiskFault, Down, VersionsSpent, NoMemory}
-use Rattle.manager.proofs.Answered.{get_inside, length_copies, none_asked, passed_more}
+use Rattle.listed_records.proofs.Elements.{get_inside, length_copies}
+use Rattle.manager.proofs.Answered.{none_asked, passed_more}
 use Rattle.manager.proofs.Frames.{ready_reframed, reframed, stands_kept}
 use Rattle.manager.proofs.Moments.{still_logs, home_holds, stops_so}
 use Rattle.manager.proofs.ReadStops.{stops_down}
+use Rattle.wol_model.specs.Placing as placing
+use Rattle.manager.specs.declared.part.Part.TheVariants as part
 
 -- ---- Loggers' spindles
 

@@ -28,20 +28,20 @@ use Rattle.manager.specs.Stands.{Keeps, IsReady, IsReadyLane, IsPlacedIn, entrie
 use Rattle.manager.specs.Stops.{Stops}
 use Rattle.manager.specs.declared.manager.Manager.{Manager}
 use Rattle.manager.specs.declared.part.Part.{Part}
-use Rattle.manager.specs.declared.part.Part.TheVariants as part
 use Rattle.manager.specs.declared.part.StepFault.{StepFault}
-use Rattle.manager.proofs.Calm.{calm_among, get_removed}
+use Rattle.volume_parts.proofs.Calm.{calm_among}
+use Rattle.listed_records.proofs.Elements.{get_removed, all_at, get_set, map_set, get_of}
 use Rattle.manager.proofs.DropCall.{keeps_pieces, passed_still, removed_indexes}
 use Rattle.manager.proofs.DropReady.{ready_broken}
-use Rattle.manager.proofs.Entries.{At, Found, among, entry_of_version}
+use Rattle.listed_records.proofs.Entries.{At, Found, among, entry_of_version, still_filter}
 use Rattle.manager.proofs.Frames.{none_passed}
-use Rattle.manager.proofs.Lanes.{all_at, get_set, map_set}
 use Rattle.manager.proofs.Putting.{Pieces}
-use Rattle.manager.proofs.ReadyLanes.{get_of, nones_more, takes_gave, down_counts}
+use Rattle.volume_parts.proofs.Lanes.{nones_more, takes_gave}
+use Rattle.manager.proofs.ReadyLanes.{down_counts}
 use Rattle.manager.proofs.RetireKeeps.{leaves}
 use Rattle.manager.proofs.RetireReady.{ready_less}
-use Rattle.manager.proofs.Still.{still_filter}
 use Rattle.manager.proofs.RetireStops.{failed_pieces, gone_stops, in_place_stops}
+use Rattle.manager.specs.declared.part.Part.TheVariants as part
 
 -- the record of the call, its entry and its lane
 module _ {D : Type 0} (state : D → State) (m : Manager D) (ready : IsReady state m) (up : m.down ≡ None) (version : ℕ) (r : Rec) (f : Found m.index.entries version r) (index : IsIndex m.index.entries) where

@@ -22,8 +22,8 @@ use Rattle.manager.specs.Stands.{Keeps}
 use Rattle.manager.specs.declared.base.ManagerBase.{ManagerBase}
 use Rattle.manager.specs.declared.manager.Manager.{Manager}
 use Rattle.manager.proofs.DropPiece.{GoneLanes, gone_lanes}
-use Rattle.manager.proofs.Lanes.{held_as}
-use Rattle.manager.proofs.Putting.{Pieces, untaken_set}
+use Rattle.volume_parts.proofs.Lanes.{held_as, untaken_set}
+use Rattle.manager.proofs.Putting.{Pieces}
 use Rattle.manager.proofs.ReadContent.{unbroken, upholds_up}
 use Rattle.manager.proofs.Retiring.{upheld}
 

@@ -22,11 +22,9 @@ use Rattle.logger.proofs.Indexes.{lacks_removed}
 use Rattle.manager.specs.Reclaim.{lies_elsewhere}
 use Rattle.manager.specs.Stands.{IsReady, IsReadyLane, IsUp, IsPlacedIn, IsInVolume, entries_at}
 use Rattle.manager.specs.declared.manager.Manager.{Manager}
-use Rattle.manager.proofs.Counted.{lies_there, counted_set}
-use Rattle.manager.proofs.DropReady.{all_both, all_removed, member_removed}
-use Rattle.manager.proofs.Lanes.{all_at, all_set, get_set, get_other}
-use Rattle.manager.proofs.ReadyLanes.{ready_set, same_or_not}
-use Rattle.manager.proofs.Retiring.{counts_elsewhere, is_false}
+use Rattle.listed_records.proofs.Entries.{lies_there, counts_elsewhere, is_false}
+use Rattle.volume_parts.proofs.Lanes.{counted_set, ready_set}
+use Rattle.listed_records.proofs.Elements.{all_both, all_removed, member_removed, all_at, all_set, get_set, get_other, same_or_not}
 
 module _ {D : Type 0} (state : D → State) (m : Manager D) (ready : IsReady state m) (up : m.down ≡ None) (k : ℕ) (old new : Lane D) (lane : slice_get m.lanes.items k ≡ Some old)
     (is_lane : IsLane state new) (same : IsSameLane old new) (all : HoldsAll old → HoldsAll new) (untaken : taken_in new ≡ None)

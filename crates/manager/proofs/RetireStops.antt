@@ -40,18 +40,20 @@ use Rattle.manager.specs.Stands.{Keeps, IsReady, IsReadyLane}
 use Rattle.manager.specs.Stops.{ImageSince, HeldSince, was_held, was_free}
 use Rattle.manager.specs.declared.base.ManagerBase.{ManagerBase}
 use Rattle.manager.specs.declared.manager.Manager.{Manager}
-use Rattle.manager.specs.declared.part.Part.TheVariants as part
 use Rattle.manager.proofs.DropPiece.{GoneLanes, gone_lanes}
 use Rattle.manager.proofs.DropStops.{partner, says_free}
-use Rattle.manager.proofs.Lanes.{all_at, held_as, get_set, InLanes, in_lanes}
-use Rattle.manager.proofs.Moments.{one_of_place, stops_so}
-use Rattle.manager.proofs.Putting.{Pieces, untaken_set}
+use Rattle.listed_records.proofs.Elements.{all_at, get_set}
+use Rattle.volume_parts.proofs.Lanes.{held_as, InLanes, in_lanes, untaken_set}
+use Rattle.volume_parts.proofs.Held.{one_of_place, IsMoved}
+use Rattle.manager.proofs.Moments.{stops_so}
+use Rattle.manager.proofs.Putting.{Pieces}
 use Rattle.manager.proofs.ReadContent.{unbroken, upholds_up}
 use Rattle.manager.proofs.ReadKeeps.{held_read, upholds_read}
-use Rattle.manager.proofs.ReadStops.{IsMoved, moved, logs as logs_read}
+use Rattle.manager.proofs.ReadStops.{moved, logs as logs_read}
 use Rattle.manager.proofs.Retiring.{upheld}
-use Rattle.manager.proofs.Vanishes.{three_stops, segment_breaks}
+use Rattle.listed_records.proofs.Vanishes.{three_stops, segment_breaks}
 use Rattle.manager.proofs.WentHome.{risen}
+use Rattle.manager.specs.declared.part.Part.TheVariants as part
 
 -- ---- the segment's images
 

@@ -1,12 +1,11 @@
 -- A segment is given up with all its records, none of which has a live block: what the manager upholds then, and how many entries other segments have.
-use Rattle.std.proofs.Common.{◌≡◌, ◌≢◌, ◌⊎◌, inl, inr, ⊎_elim, ◌+◌, ℕ, Bool, true, false, cond, not, ◌&&◌, List, [], ◌∷◌, ◌++◌, map, None, refl, sym, ap, subst, ◌∙◌, arith, eqb}
+use Rattle.std.proofs.Common.{◌≡◌, ◌≢◌, ⊎_elim, ℕ, Bool, true, false, not, ◌&&◌, List, [], ◌∷◌, ◌++◌, map, None, refl, sym, ap, subst, ◌∙◌, eqb}
 use Rattle.std.specs.Prelude.{Contains, filter}
-use Rattle.std.specs.List.{AllByRecursion, count_by}
+use Rattle.std.specs.List.{AllByRecursion}
 use Rattle.std.proofs.lemmas.Bool.{false≢true, eqb-true}
 use Rattle.wol_disk.specs.Disk.{State}
 use Rattle.wol_model.specs.History.{writes}
-use Rattle.wol_model.specs.Extents.{has_newer}
-use Rattle.wol_model.specs.Index.{Indexed, cover_of, is_live, listed_covers, listed_in}
+use Rattle.wol_model.specs.Index.{Indexed}
 use Rattle.wol_model.specs.Log.{Record}
 use Rattle.spin_model.specs.declared.spun.Spun.{Spun}
 use Rattle.wol_promise.specs.Manager.{Held, IsEntryOf}
@@ -14,62 +13,15 @@ use Rattle.wol_promise.specs.Ruled.{Noted, entries_of}
 use Rattle.wol_promise.specs.Stands.{Upholds, IsPlaced, AreApartPlaces, place_in}
 use Rattle.wol_promise.proofs.Lists.{all_map, all_member, member_front, member_map, member_mid}
 use Rattle.wol_promise.proofs.Retires.{member_without}
-use Rattle.wol_promise.proofs.Wholes.{AreCovered, all_filtered, retires_whole}
+use Rattle.wol_promise.proofs.Wholes.{all_filtered, retires_whole}
 use Rattle.logger.specs.declared.lane.HeldSegment.{HeldSegment}
 use Rattle.manager.specs.Reclaim.{NoneLiveIn, lies_elsewhere}
 use Rattle.manager.specs.Seen.{Logs, parts_of, seen, all_held, down_of}
-use Rattle.manager.specs.Stands.{entries_at}
 use Rattle.manager.specs.declared.base.ManagerBase.{ManagerBase}
 use Rattle.manager.specs.declared.manager.Manager.{Manager}
-use Rattle.manager.proofs.Counted.{count-cons, lies_there, lies_elsewhere as not_there}
-use Rattle.manager.proofs.Lanes.{held_as}
-
--- ---- truths
-
-pub is_false : (t : Bool) → not t ≡ true → t ≡ false
-is_false true is = absurd (false≢true is)
-is_false false is = refl
-
-newer_where : (c n : Bool) → (c && not n) ≡ false → c ≡ true → n ≡ true
-newer_where true true is c = refl
-newer_where true false is c = absurd (false≢true (sym is))
-newer_where false n is c = absurd (false≢true c)
-
-both_hold : (s t : Bool) → (s && t) ≡ true → (s ≡ true) × (t ≡ true)
-both_hold true t is = (refl, is)
-both_hold false t is = absurd (false≢true is)
-
--- each block that an entry of the segment keeps, a newer entry keeps
-pub covered_where : (k index : ℕ) (es : List Indexed) → NoneLiveIn k index es → (b : ℕ) → AreCovered (lies_elsewhere k index) b es
-covered_where k index es none b =
-    all_map (λ (e : Indexed). lies_elsewhere k index e ≡ false → (b : ℕ) → is_live (listed_in es) e.listed b ≡ false)
-    (λ (e : Indexed). lies_elsewhere k index e ≡ false → (cover_of e.listed).covers b ≡ true → has_newer (listed_covers (listed_in es)) e.listed.version b ≡ true)
-    (λ e so here keeps. newer_where ((cover_of e.listed).covers b) (has_newer (listed_covers (listed_in es)) e.listed.version b) (so here b) keeps) es none
-
--- ---- counts
-
--- what is counted among the entries that pass a test, where all that count pass it
-count_filter : (p test : Indexed → Bool) → ((d : Indexed) → p d ≡ true → test d ≡ true) → (es : List Indexed) → count_by p (filter test es) ≡ count_by p es
-count_filter p test pass [] = refl
-count_filter p test pass (x ∷ es) = at (test x) refl (count_filter p test pass es)
-  where
-    none : (t : Bool) → p x ≡ t → test x ≡ false → cond {A = ℕ} (p x) 1 0 ≡ 0
-    none true is fails = absurd (false≢true (sym fails ∙ pass x is))
-    none false is fails = ap (λ (t : Bool). cond {A = ℕ} t 1 0) is
-
-    at : (t : Bool) → test x ≡ t → count_by p (filter test es) ≡ count_by p es → count_by p (cond t (x ∷ filter test es) (filter test es)) ≡ count_by p (x ∷ es)
-    at true is rest = count-cons p x (filter test es) ∙ (λ i. cond (p x) 1 0 + rest i) ∙ sym (count-cons p x es)
-    at false is rest = rest ∙ (let c = count-cons p x es in let z = none (p x) refl is in omega (arith, c, z))
-
--- other segments have as many entries as before
-pub counts_elsewhere : (k index : ℕ) (es : List Indexed) (j x : ℕ) → (j ≢ k) ⊎ (x ≢ index) → entries_at j x (filter (lies_elsewhere k index) es) ≡ entries_at j x es
-counts_elsewhere k index es j x other = count_filter (λ (d : Indexed). eqb d.listed.lane j && eqb d.index x) (lies_elsewhere k index) passes es
-  where
-    passes : (d : Indexed) → (eqb d.listed.lane j && eqb d.index x) ≡ true → lies_elsewhere k index d ≡ true
-    passes d is =
-        let parts = both_hold (eqb d.listed.lane j) (eqb d.index x) is in
-        let lane = eqb-true d.listed.lane j parts.0 in let at = eqb-true d.index x parts.1 in
-        ap not (not_there k index d (⊎_elim (λ (ne : j ≢ k). inl (λ (same : d.listed.lane ≡ k). ne (sym lane ∙ same))) (λ (ne : x ≢ index). inr (λ (same : d.index ≡ index). ne (sym at ∙ same))) other))
+use Rattle.listed_records.proofs.Entries.{lies_there, is_false, both_hold, covered_where}
+use Rattle.volume_parts.proofs.Lanes.{held_as}
+pub use Rattle.listed_records.proofs.Entries.{covered_where}
 
 -- ---- places
 

@@ -15,8 +15,7 @@ use Rattle.wol_disk.proofs.Moments.{then_leaves, widened}
 use Rattle.wol_model.specs.Blocks.{Write, AreApart, block_of, last_written, overlaid, after}
 use Rattle.wol_model.specs.Extents.{Extent, IsValid}
 use Rattle.wol_model.specs.History.{Broke, writes, flight_of}
-use Rattle.wol_model.specs.Holding.{IsData}
-use Rattle.wol_model.specs.Holding.{Holds as HoldsArray}
+use Rattle.wol_model.specs.Holding.{IsData, Holds as HoldsArray}
 use Rattle.wol_model.specs.Index.{Indexed, listed_in, is_due, is_live, cover_of}
 use Rattle.wol_model.specs.Log.{Record, has_bit, extent_of}
 use Rattle.wol_model.proofs.Counts.{both, marked_within}
@@ -48,19 +47,18 @@ use Rattle.manager.specs.declared.base.ManagerBase.{ManagerBase}
 use Rattle.manager.specs.declared.manager.Manager.{Manager}
 use Rattle.manager.specs.declared.part.Part.{Part}
 use Rattle.manager.specs.declared.part.Part.TheVariants.{Home}
-use Rattle.manager.proofs.Counted.{all_changed, count_changed, counted_as}
-use Rattle.manager.proofs.Entries.{At, among}
+use Rattle.listed_records.proofs.Entries.{all_changed, count_changed, At, among, still_changed}
+use Rattle.volume_parts.proofs.Lanes.{counted_as, lanes_map}
 use Rattle.manager.proofs.Frames.{none_passed}
-use Rattle.manager.proofs.Lanes.{lanes_map}
-use Rattle.manager.proofs.LiveData.{puts_from, last_put, same_write, live_block}
+use Rattle.listed_records.proofs.Contents.{puts_from, last_put, same_write, live_block}
 use Rattle.manager.proofs.Moments.{stops_so}
-use Rattle.manager.proofs.PutBlocks.{blend_none}
+use Rattle.volume_parts.proofs.Accesses.{blend_none}
 use Rattle.manager.proofs.ReadContent.{unbroken, upholds_up}
 use Rattle.manager.proofs.ReadKeeps.{held_read}
-use Rattle.manager.proofs.ReadStops.{logs, moved, moved_extents}
+use Rattle.manager.proofs.ReadStops.{logs, moved}
+use Rattle.volume_parts.proofs.Held.{moved_extents}
 use Rattle.manager.proofs.WentHome.{risen}
 use Rattle.manager.proofs.ReadyLanes.{down_counts}
-use Rattle.manager.proofs.Still.{still_changed}
 
 -- ---- the manager between its calls
 

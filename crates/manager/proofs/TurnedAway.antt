@@ -23,10 +23,9 @@ use Rattle.manager.specs.Stands.{Keeps, IsReady, IsUp, IsPlacedIn, Ready, Locks,
 use Rattle.manager.specs.Stops.{Stops, ImageSince, HeldSince}
 use Rattle.manager.specs.declared.base.ManagerBase.{ManagerBase}
 use Rattle.manager.specs.declared.manager.Manager.{Manager}
-use Rattle.manager.proofs.Counted.{counted_same}
-use Rattle.manager.proofs.Lanes.{all_at, all_set, quiet_held, quiet_all}
-use Rattle.manager.proofs.Putting.{untaken_set}
-use Rattle.manager.proofs.ReadyLanes.{ready_set, locks_set, placed_set, nones_at_set, nones_none, takes_of_set, takes_none}
+use Rattle.volume_parts.proofs.Lanes.{counted_same, quiet_held, quiet_all, untaken_set, ready_set, placed_set, nones_none, takes_none}
+use Rattle.listed_records.proofs.Elements.{all_at, all_set}
+use Rattle.manager.proofs.ReadyLanes.{locks_set, nones_at_set, takes_of_set}
 use Rattle.wol_promise.proofs.Stops.{still_stops}
 use Rattle.manager.proofs.Moments.{still_logs, home_holds, stops_so}
 

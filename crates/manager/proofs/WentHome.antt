@@ -34,10 +34,10 @@ use Rattle.manager.specs.declared.base.ManagerBase.{ManagerBase}
 use Rattle.manager.specs.declared.manager.Manager.{Manager}
 use Rattle.manager.specs.declared.part.Part.{Part}
 use Rattle.manager.specs.declared.part.Part.TheVariants.{Home}
-use Rattle.manager.proofs.Lanes.{lanes_map}
+use Rattle.volume_parts.proofs.Lanes.{lanes_map}
 use Rattle.manager.proofs.Moments.{stops_so, still_logs}
 use Rattle.manager.proofs.ReadContent.{unbroken, upholds_up}
-use Rattle.manager.proofs.RunContent.{bare_block, newest_listed}
+use Rattle.listed_records.proofs.Contents.{bare_block, newest_listed}
 use Rattle.wol_promise.proofs.Woken.{covered_is}
 use Rattle.manager.proofs.ReadyLanes.{down_counts}
 

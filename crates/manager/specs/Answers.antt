@@ -1,26 +1,20 @@
 -- The operation that an answer stands for, and where a write goes.
-use Rattle.std.specs.Prelude.{⊤, ◌≡◌, ℕ, List, [], ◌∷◌, None, Some, Result, Ok, Err, slice_get}
+use Rattle.std.specs.Prelude.{⊤, ◌≡◌, ℕ, List, [], ◌∷◌, Some, Result, Ok, Err, slice_get}
 use Rattle.wol_disk.specs.Disk.{Block}
 use Rattle.wol_model.specs.Blocks.{Write}
 use Rattle.wol_model.specs.History.{Operation, Wrote, Read, Kept, Broke}
 use Rattle.wol_model.specs.Placing.{Home as AtHome, Log as InLog, Full as Nowhere}
-use Rattle.wol_model.specs.Placing as placing
 use Rattle.manager.specs.declared.part.Part.{Part}
-use Rattle.manager.specs.declared.part.Part.TheVariants as part
 use Rattle.manager.specs.declared.part.Place.{Place}
-use Rattle.manager.specs.declared.part.Place.TheVariants as place
 use Rattle.manager.specs.declared.part.Sources.{Sources}
 use Rattle.manager.specs.declared.part.ReadRefusal.{ReadRefusal}
-use Rattle.manager.specs.declared.part.ReadRefusal.TheVariants as refused_read
 use Rattle.manager.specs.declared.part.WriteRefusal.{WriteRefusal}
 use Rattle.manager.specs.declared.part.WriteRefusal.TheVariants.{Full, DiskFault, Down, VersionsSpent, NoMemory}
-
--- a write home, and one to a log under this version
-abbrev pub home_write : ℕ → List Block → Write
-home_write first blocks = record { first = first; blocks = blocks; version = None }
-
-abbrev pub log_write : (version first : ℕ) → List Block → Write
-log_write version first blocks = record { first = first; blocks = blocks; version = Some version }
+use Rattle.wol_model.specs.Placing as placing
+use Rattle.manager.specs.declared.part.Part.TheVariants as part
+use Rattle.manager.specs.declared.part.Place.TheVariants as place
+use Rattle.manager.specs.declared.part.ReadRefusal.TheVariants as refused_read
+pub use Rattle.volume_parts.specs.Items.{home_write, log_write}
 
 -- the write whose part failed: to a log where that is a segment, and home else
 abbrev pub failed_write : (next first : ℕ) → List Block → Part → Write

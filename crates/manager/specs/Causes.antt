@@ -1,5 +1,5 @@
 -- Where the count of faults of a part rose in a call, and where none did.
-use Rattle.std.specs.Prelude.{◌≡◌, ◌≢◌, ◌⊎◌, ℕ, List, Contains, slice_get, Some}
+use Rattle.std.specs.Prelude.{◌≡◌, ◌≢◌, ◌⊎◌, ℕ, Contains, slice_get, Some}
 use Rattle.std.specs.List.{AllByRecursion}
 use Rattle.wol_disk.specs.Disk.{State, Rose}
 use Rattle.spin_model.specs.Spun.{state_of}
@@ -11,6 +11,7 @@ use Rattle.logger.specs.declared.lane.Lane.{Lane}
 use Rattle.manager.specs.declared.manager.Manager.{Manager}
 use Rattle.manager.specs.declared.part.Part.{Part}
 use Rattle.manager.specs.declared.part.Part.TheVariants.{Home, Segment}
+pub use Rattle.volume_parts.specs.Reads.{AreCalm}
 
 -- the count of a segment that a lane of this logger holds
 pub record SegmentRose {D : Type 0} (state : D → State) (old new : Manager D) (logger index : ℕ) : Type 0 where
@@ -53,10 +54,6 @@ PartRoseOrClaimed state old new (Home volume) = PartRose state old new (Home vol
 PartRoseOrClaimed state old new (Segment volume index) = SegmentRose state old new volume index ⊎ ClaimRose state old new volume index
 
 -- ---- Where none rose
-
--- each of these segments that is among the later ones has the count that it had
-abbrev pub AreCalm : {D : Type 0} → (D → State) → (old new : List (HeldSegment D)) → Type 0
-AreCalm {D} state old new = (s t : HeldSegment D) → Contains old s → Contains new t → t.index ≡ s.index → (disk_of state t.segment).faults ≡ (disk_of state s.segment).faults
 
 -- No disk call failed: home's count is as before, and so is that of each segment that was held and is.
 pub record NoneRose {D : Type 0} (state : D → State) (old new : Manager D) : Type 0 where

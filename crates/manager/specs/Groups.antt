@@ -1,15 +1,12 @@
 -- Runs of writes: what their items stand for, and what becomes of them.
-use Rattle.std.specs.Prelude.{⊤, ◌≡◌, ◌⊎◌, ◌≤◌, ◌+◌, ◌∷◌, ℕ, Bool, true, List, [], Result, Ok, Err, OnOk, IsOk, length, take, drop, IsTrue, Option}
-use Rattle.std.specs.List.{AllByRecursion}
+use Rattle.std.specs.Prelude.{⊤, ◌≡◌, ◌⊎◌, ◌≤◌, ◌+◌, ℕ, Bool, true, List, [], Result, Ok, Err, OnOk, IsOk, length, take, IsTrue, Option}
 use Rattle.wol_disk.specs.Disk.{Block, State}
 use Rattle.spin_model.specs.declared.spun.Spun.{Spun}
 use Rattle.wol_model.specs.Blocks.{Write}
 use Rattle.wol_model.specs.History.{Operation, Wrote, Kept, Broke, worker}
-use Rattle.wol_model.specs.Placing as placing
-use Rattle.wol_promise.specs.Policy.{Look, placed, AreWrites}
+use Rattle.wol_promise.specs.Policy.{AreWrites}
 use Rattle.wol_promise.specs.Ruled.{Noted}
 use Rattle.log_segment.specs.declared.item.Item.{Item}
-use Rattle.manager.specs.Answers.{home_write, log_write}
 use Rattle.manager.specs.Seen.{look_of_manager}
 use Rattle.manager.specs.Stands.{Keeps, Leaves, passed_in}
 use Rattle.manager.specs.Stops.{Stops, TellsClaim}
@@ -18,33 +15,15 @@ use Rattle.manager.specs.declared.manager.Manager.{Manager}
 use Rattle.manager.specs.Writing.{ruled_place, was_tried}
 use Rattle.manager.specs.declared.run.Taken.{Taken}
 use Rattle.manager.specs.declared.run.Taken.TheVariants.{NoRoom, Written, Failed}
-use Rattle.manager.specs.declared.part.Part.TheVariants as part
 use Rattle.manager.specs.declared.part.Place.{Place}
-use Rattle.manager.specs.declared.part.Place.TheVariants as place
 use Rattle.manager.specs.declared.part.WriteRefusal.{WriteRefusal}
 use Rattle.manager.specs.declared.part.WriteRefusal.TheVariants.{Full, DiskFault, Down, VersionsSpent, NoMemory}
-
--- ---- Items
-
--- 1 to `most` blocks of a volume of this size
-pub record IsItemOf (most size : ℕ) (i : Item) : Type 0 where
-  pub some : 1 ≤ i.count
-  pub few : i.count ≤ most
-  pub within : i.lbn + i.count ≤ size
-
-abbrev pub AreItemsOf : (most size : ℕ) → List Item → Type 0
-AreItemsOf most size items = AllByRecursion (IsItemOf most size) items
+use Rattle.wol_model.specs.Placing as placing
+use Rattle.manager.specs.declared.part.Part.TheVariants as part
+use Rattle.manager.specs.declared.part.Place.TheVariants as place
+pub use Rattle.volume_parts.specs.Items.{IsItemOf, AreItemsOf, home_writes, log_writes, IsGroup, placed_all, first_lbn, first_blocks}
 
 -- ---- Writes
-
--- the writes of items that have these blocks in order: home, or to a log under versions from this one on
-abbrev pub home_writes : List Item → List Block → List Write
-home_writes [] from = []
-home_writes (i ∷ items) from = home_write i.lbn (take i.count from) ∷ home_writes items (drop i.count from)
-
-abbrev pub log_writes : (version : ℕ) → List Item → List Block → List Write
-log_writes version [] from = []
-log_writes version (i ∷ items) from = log_write version i.lbn (take i.count from) ∷ log_writes (version + 1) items (drop i.count from)
 
 -- the writes that an answer acknowledges, or that were in flight when a disk call failed
 abbrev pub run_writes : (next : ℕ) → List Item → List Block → Result Place WriteRefusal → List Write
@@ -66,33 +45,12 @@ run_written ws (Err (Down p)) = Kept
 run_written ws (Err VersionsSpent) = Kept
 run_written ws (Err NoMemory) = Kept
 
--- a write with fewer blocks than the first joins a group only where no logger was turned away for the first
-abbrev pub IsGroup : (passed : List ℕ) → List Write → Type 0
-IsGroup passed [] = ⊤
-IsGroup passed (w ∷ ws) = (passed ≡ []) ⊎ AllByRecursion (λ v. length w.blocks ≤ length v.blocks) ws
-
--- ---- Looks
-
--- after writes all of which have this place
-abbrev pub placed_all : placing.Place → Look → List Write → Look
-placed_all p l [] = l
-placed_all p l (w ∷ ws) = placed_all p (placed p l w) ws
-
 -- ---- Answers
 
 -- the answer of a run without the number of its items
 abbrev pub place_told : Result (ℕ × Place) WriteRefusal → Result Place WriteRefusal
 place_told (Ok told) = Ok told.1
 place_told (Err refusal) = Err refusal
-
--- where the first item begins, and its blocks
-abbrev pub first_lbn : List Item → ℕ
-first_lbn [] = 0
-first_lbn (i ∷ items) = i.lbn
-
-abbrev pub first_blocks : List Item → List Block → List Block
-first_blocks [] from = []
-first_blocks (i ∷ items) from = take i.count from
 
 -- where the rule places the first item, with room in each lane but those that are noted to have none
 abbrev pub ruled_run : {D : Type 0} → (old new : Manager D) → List Item → List Block → placing.Place

@@ -1,6 +1,9 @@
 pub mod Accesses
 pub mod Answers
 pub mod Causes
+pub mod Groups
+pub mod Joining
+pub mod Listing
 pub mod Offers
 pub mod Puts
 pub mod Reading
@@ -9,6 +12,3 @@ pub mod Seen
 pub mod Stands
 pub mod Stops
 pub mod Writing
-pub mod Groups
-pub mod Joining
-pub mod Listing

@@ -1,22 +1,12 @@
 -- What the steps of reclaim do to a manager, by their answers.
-use Rattle.std.specs.Prelude.{⊤, ◌≡◌, ◌∷◌, [], ◌++◌, ◌&&◌, ◌||◌, ℕ, Bool, true, false, not, ◌==◌, List, map, filter, slice_set, Option, None, Some, Result, Ok, Err, IsOk, IsTrue, OnOk, OnErr, option_map, if◌then◌else◌}
-use Rattle.std.specs.List.{AllByRecursion}
+use Rattle.std.specs.Prelude.{⊤, ◌≡◌, ◌∷◌, [], ◌++◌, ℕ, Bool, true, List, filter, slice_set, None, Some, Result, Ok, Err, IsOk, IsTrue, OnOk, OnErr}
 use Rattle.std.specs.Option.{ForSome}
-use Rattle.wol_disk.specs.Disk.{State, Block, Values, IsImageOf, IsBlend, LeavesOnly, Rose, only, reads}
-use Rattle.turn_lock.specs.Passes.{pass_number, pass_mine}
-use Rattle.spin_model.specs.Spun.{state_of, volume_of}
-use Rattle.spin_model.specs.declared.spun.Spun.{Spun}
-use Rattle.seg_pool.specs.Holders.{Gave}
-use Rattle.seg_pool.specs.Operations.{operation_of}
-use Rattle.wol_model.specs.Blocks.{block_of, overlaid}
+use Rattle.wol_disk.specs.Disk.{State, Block}
 use Rattle.wol_model.specs.History.{Broke, writes}
-use Rattle.wol_model.specs.Index.{Indexed, cover_of, goes, listed_in, homing, is_live, keeping, keeps_a_block}
+use Rattle.wol_model.specs.Index.{Indexed}
 use Rattle.wol_promise.specs.Ruled.{Noted, entries_of, last_look}
 use Rattle.wol_promise.specs.Stands.{IsDataOf}
 use Rattle.redirect_map.specs.Index.{entry_at, changed}
-use Rattle.redirect_map.specs.Masks.{in_mask}
-use Rattle.logger.specs.Lanes.{IsSameLane, HasUsed, held_in, pool_of}
-use Rattle.logger.specs.declared.lane.Lane.{Lane}
 use Rattle.manager.specs.Accesses.{HasUsedOnce}
 use Rattle.manager.specs.Causes.{PartRose}
 use Rattle.manager.specs.Offers.{ChangesLane}
@@ -28,6 +18,9 @@ use Rattle.manager.specs.declared.base.ManagerBase.{ManagerBase}
 use Rattle.manager.specs.declared.manager.Manager.{Manager}
 use Rattle.manager.specs.declared.part.StepFault.{StepFault}
 use Rattle.manager.specs.declared.part.StepFault.TheVariants.{DiskFault, Down}
+pub use Rattle.volume_parts.specs.Offers.{IsUsed, IsTrimmedLane}
+pub use Rattle.listed_records.specs.Changes.{put_block, with_put, with_kept, given_of, lies_elsewhere, NoneLiveIn, GoesIn, stays_behind}
+pub use Rattle.volume_parts.specs.Accesses.{IsPartlyPut, IsPut}
 
 -- ---- Answers
 
@@ -81,40 +74,12 @@ AreOf tells es version blocks b notes = IsTrue tells → ForSome (entry_at es ve
 
 -- ---- Reads of a record
 
--- the lane's spindle was needed once, and its pool wasn't asked
-pub record IsUsed {D : Type 0} (old new : Lane D) : Type 0 where
-  pub same : IsSameLane old new
-  pub used : HasUsed old new
-  pub pool : pass_mine (pool_of new) ≡ pass_mine (pool_of old)
-
 -- Of the manager nothing changed but the lane at this place, whose logger counts as awake.
 pub record HasFetched {D : Type 0} (lane : ℕ) (old new : Manager D) : Type 0 where
   pub rest : new ≡ record old { lanes = new.lanes; ups = record { items = slice_set old.ups.items lane true }; down = new.down }
   pub lanes : ChangesLane IsUsed lane old.lanes.items new.lanes.items
 
 -- ---- Blocks that are put home
-
--- what blocks from block `first` on have for block b, where it is in the mask: bit i of the mask is block `first + i`
-abbrev pub put_block : (first mask : ℕ) → List Block → (b : ℕ) → Option Block
-put_block first mask blocks b = if in_mask first mask b then block_of first blocks b else None
-
--- an image of before, in which some of these blocks are others
-abbrev pub IsPartlyPut : Option (List (Values Block)) → (ℕ → Option Block) → List Block → Type 0
-IsPartlyPut values over c = (d : List Block) × IsImageOf values d × IsBlend d (overlaid d over) c
-
--- a part before and after these blocks were written and synced
-pub record IsPut {D T E : Type 0} (state : D → State) (old new : Spun D) (over : ℕ → Option Block) (res : Result T E) : Type 0 where
-  pub volume : volume_of new ≡ volume_of old
-  pub size : (state_of state new).size ≡ (state_of state old).size
-  pub ok : OnOk res ((state_of state new).values ≡ option_map (λ vs. only (overlaid (reads vs) over)) (state_of state old).values)
-  pub images : (c : List Block) → IsImageOf (state_of state new).values c → IsPartlyPut (state_of state old).values over c
-  pub any_moment : LeavesOnly (state_of state old) (state_of state new) (IsPartlyPut (state_of state old).values over)
-  pub cause : OnErr res (Rose (state_of state old).faults (state_of state new).faults)
-  pub calm : OnOk res ((state_of state new).faults ≡ (state_of state old).faults)
-
--- the blocks of the mask become homed
-abbrev pub with_put : (mask : ℕ) → Indexed → Indexed
-with_put mask e = record e { listed = homing (in_mask e.listed.first mask) e.listed }
 
 -- Of the manager nothing changed but home, which took these blocks and counts as awake, and the marks of home of this version.
 pub record HasStored {D T : Type 0} (state : D → State) (version mask : ℕ) (blocks : List Block) (old new : Manager D) (res : Result T StepFault) : Type 0 where
@@ -126,22 +91,6 @@ pub record HasStored {D T : Type 0} (state : D → State) (version mask : ℕ) (
 
 -- ---- Blocks that are given up
 
--- the blocks that go are given up
-abbrev pub with_kept : List Indexed → Indexed → Indexed
-with_kept es e = record e { listed = keeping (listed_in es) e.listed }
-
--- the entries once this version's record gave up what goes: it is gone where it keeps nothing
-abbrev pub given_of : (version : ℕ) → List Indexed → List Indexed
-given_of version es = filter (λ e. keeps_a_block e.listed) (changed version (with_kept es) es)
-
--- The lane's spindle was needed once; and the segment of this index was given to its pool, or the pool wasn't asked.
-pub record IsTrimmedLane {D : Type 0} (index : ℕ) (given : Type 0) (old new : Lane D) : Type 0 where
-  pub same : IsSameLane old new
-  pub used : HasUsed old new
-  pub kept : (given → ⊥) → (pass_mine (pool_of new) ≡ pass_mine (pool_of old)) × (map (λ h. h.index) (held_in new) ≡ map (λ h. h.index) (held_in old))
-  pub gave : given → (pass_mine (pool_of new) ≡ pass_mine (pool_of old) ++ (pass_number (pool_of old), operation_of (Gave index)) ∷ [])
-      × (map (λ h. h.index) (held_in new) ≡ filter (λ i. not (i == index)) (map (λ h. h.index) (held_in old)))
-
 -- Of the manager nothing changed but the lane at this place, whose logger counts as awake, and the index. The record's segment went to its pool
 -- exactly where no record is left in it.
 pub record HasDropped {D T : Type 0} (version : ℕ) (e : Indexed) (old new : Manager D) (res : Result T StepFault) : Type 0 where
@@ -151,22 +100,6 @@ pub record HasDropped {D T : Type 0} (version : ℕ) (e : Indexed) (old new : Ma
   pub err : OnErr res (new.index ≡ old.index)
 
 -- ---- Segments that are given up with all their records
-
--- the entry doesn't lie in the segment of this index of this lane
-abbrev pub lies_elsewhere : (lane index : ℕ) → Indexed → Bool
-lies_elsewhere lane index e = not (e.listed.lane == lane && e.index == index)
-
--- no record in the segment has a live block
-abbrev pub NoneLiveIn : (lane index : ℕ) → List Indexed → Type 0
-NoneLiveIn lane index es = AllByRecursion (λ e. lies_elsewhere lane index e ≡ false → (b : ℕ) → is_live (listed_in es) e.listed b ≡ false) es
-
--- where the entry lies in the segment of this index of this lane, all that it keeps may go
-abbrev pub GoesIn : (lane index : ℕ) → List Indexed → Indexed → Type 0
-GoesIn lane index es e = lies_elsewhere lane index e ≡ false → (b : ℕ) → (cover_of e.listed).covers b ≡ true → goes (listed_in es) e.listed b ≡ true
-
--- the entry doesn't lie there, or has another version
-abbrev pub stays_behind : (lane index version : ℕ) → Indexed → Bool
-stays_behind lane index version e = lies_elsewhere lane index e || not (e.listed.version == version)
 
 -- Of the manager nothing changed but the lane at this place, whose logger counts as awake, and the index. The segment went to its pool with all its
 -- records, or it is held still, with all of them.

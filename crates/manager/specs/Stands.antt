@@ -1,92 +1,37 @@
 -- What a manager stands for, over the locks that it shares with others.
-use Rattle.std.specs.Prelude.{⊤, cond, is_some, ◌≡◌, ◌<◌, ◌≤◌, ◌^◌, ◌+◌, ◌-◌, ◌==◌, ◌&&◌, ℕ, Bool, true, false, not, List, [], ◌∷◌, ◌++◌, map, filter, length, replicate, vec_len, slice_get, slice_index_or, Contains, Option, None, Some, IsTrue}
-use Rattle.std.specs.List.{AllByRecursion, count_by, range_with_len}
+use Rattle.std.specs.Prelude.{⊤, cond, is_some, ◌≡◌, ◌<◌, ◌≤◌, ◌^◌, ◌+◌, ◌-◌, ℕ, Bool, true, false, List, [], ◌∷◌, ◌++◌, map, length, replicate, vec_len, slice_get, slice_index_or, Option, None, Some, IsTrue}
+use Rattle.std.specs.List.{AllByRecursion}
 use Rattle.std.specs.declared.alloc.Global.{Global}
 use Rattle.std.specs.declared.vec.Vec.{Vec}
 use Rattle.wol_disk.specs.Disk.{State}
 use Rattle.turn_lock.specs.Histories.{Entry}
-use Rattle.turn_lock.specs.Passes.{lock_id, pass_lock, pass_number, pass_mine, IsFree}
+use Rattle.turn_lock.specs.Passes.{lock_id, pass_lock, pass_number, pass_mine}
 use Rattle.turn_lock.specs.declared.pass.PassOf.{PassOf}
-use Rattle.spin_model.specs.Spun.{state_of, volume_of}
-use Rattle.spin_model.specs.Operations.{has_token}
+use Rattle.spin_model.specs.Spun.{state_of}
 use Rattle.spin_model.specs.declared.spun.Spun.{Spun}
 use Rattle.spin_model.specs.declared.spindle.Spindle.{Spindle}
 use Rattle.spin_model.specs.declared.spindle.SpindleBase.{SpindleBase}
-use Rattle.seg_pool.specs.Holders.{Took}
-use Rattle.seg_pool.specs.Operations.{use_of}
-use Rattle.log_segment.specs.Segment.{IsWhole, Holds, blocks_of, valid_of}
+use Rattle.log_segment.specs.Segment.{Holds}
 use Rattle.redirect_map.specs.Index.{Contents}
-use Rattle.offload_policy.specs.Placing.{may_hold}
-use Rattle.offload_policy.specs.declared.Room.{Room}
 use Rattle.offload_policy.specs.declared.Room.TheVariants.{Unknown}
 use Rattle.wol_model.specs.History.{Operation, writes, flight_of}
-use Rattle.wol_model.specs.Index.{Indexed}
 use Rattle.wol_promise.specs.Code.{noted_of}
 use Rattle.wol_promise.specs.Manager.{AreInUse}
 use Rattle.wol_promise.specs.Policy.{Look}
 use Rattle.wol_promise.specs.Ruled.{Noted, entries_of, IsStep, last_look, HasPassed}
 use Rattle.wol_promise.specs.Stands.{Upholds}
-use Rattle.logger.specs.Lanes.{IsLane, AreAccesses, HoldsAll, IsAt, logger_of, lane_owner, held_in, taken_in, pool_of, spindle_of}
+use Rattle.logger.specs.Lanes.{logger_of, pool_of, spindle_of}
 use Rattle.logger.specs.declared.lane.Lane.{Lane}
-use Rattle.logger.specs.declared.lane.HeldSegment.{HeldSegment}
 use Rattle.logger.specs.declared.shared.Shared.{Shared}
 use Rattle.manager.specs.Seen.{Logs, AllLanesHold, all_held, parts_of, seen, look_of_manager}
 use Rattle.manager.specs.declared.base.LaneBase.{LaneBase}
 use Rattle.manager.specs.declared.base.ManagerBase.{ManagerBase}
 use Rattle.manager.specs.declared.manager.Manager.{Manager}
+pub use Rattle.volume_parts.specs.Lanes.{IsReadyLane, Ready, IsPlacedIn, AreCounted, IsUp, At, nones_in, takes_in}
+pub use Rattle.listed_records.specs.Entries.{entries_at, IsInVolume, StandsAt, AreStill}
+pub use Rattle.volume_parts.specs.Offers.{passed_in}
 
 -- ---- Safety: what holds of each manager between its calls, whether or not its disks tell their content
-
--- a lane is this volume's, between calls, its pool's segments have room for any write, and its pass of the pool holds just its segments
-pub record IsReadyLane {D : Type 0} (state : D → State) (id most : ℕ) (l : Lane D) : Type 0 where
-  pub lane : IsLane state l
-  pub owner : lane_owner l ≡ id
-  pub untaken : taken_in l ≡ None
-  pub long : most + 2 ≤ (pass_lock (pool_of l)).base.blocks
-  pub all : HoldsAll l
-
--- its locks, lanes and flags
-pub record Ready {D : Type 0} (state : D → State) (id most : ℕ) (home : Spun D) (spindle : PassOf Spindle SpindleBase) (lanes : List (Lane D)) (ups : List Bool) (rooms : List Room) : Type 0 where
-  pub home_volume : volume_of home ≡ id
-  pub home_small : (1 ≤ (state_of state home).size) × ((state_of state home).size ≤ 2 ^ 32)
-  pub spindle_volume : (pass_lock spindle).base.volume ≡ id
-  pub spindle_free : IsFree spindle
-  pub settled : has_token (pass_mine spindle) ≡ false
-  pub accesses : AreAccesses (pass_mine spindle)
-  pub each : AllByRecursion (IsReadyLane state id most) lanes
-  pub flags : length ups ≡ length lanes
-  pub rooms_ : length rooms ≡ length lanes
-  pub few : length lanes ≤ 16
-  pub most_ : (1 ≤ most) × (most ≤ 128)
-
--- an entry of the index has its place inside a held segment of its lane
-pub record IsPlacedIn {D : Type 0} (lanes : List (Lane D)) (e : Indexed) : Type 0 where
-  pub lane : Lane D
-  pub segment : HeldSegment D
-  pub lane_is : slice_get lanes e.listed.lane ≡ Some lane
-  pub held : Contains (held_in lane) segment
-  pub index : segment.index ≡ e.index
-  pub behind : 1 ≤ e.pos
-  pub within : e.pos + length e.listed.keep < blocks_of segment.segment
-
--- how many entries of the index lie in the segment of this index of the lane at place k
-abbrev pub entries_at : (k index : ℕ) → List Indexed → ℕ
-entries_at k index es = count_by (λ (e : Indexed). e.listed.lane == k && e.index == index) es
-
--- each held segment has as many records that keep a block as the index has entries in it
-abbrev pub AreCounted : {D : Type 0} → List (Lane D) → List Indexed → Type 0
-AreCounted {D} lanes es = (k : ℕ) (l : Lane D) → slice_get lanes k ≡ Some l → AllByRecursion (λ (h : HeldSegment D). valid_of h.segment ≡ entries_at k h.index es) (held_in l)
-
--- while nothing failed: no segment is broken, each entry of the index has its place, and the segments have no other records
-pub record IsUp {D : Type 0} (lanes : List (Lane D)) (indexed : List Indexed) : Type 0 where
-  pub whole : AllByRecursion (λ (l : Lane D). AllByRecursion (λ (h : HeldSegment D). IsWhole h.segment) (held_in l)) lanes
-  pub placed : AllByRecursion (IsPlacedIn lanes) indexed
-  pub counted : AreCounted lanes indexed
-
--- an entry of the index has a version, and lies in the volume
-pub record IsInVolume (size : ℕ) (e : Indexed) : Type 0 where
-  pub least : 1 ≤ e.listed.version
-  pub lies : e.listed.first + length e.listed.keep ≤ size
 
 pub record IsReady {D : Type 0} (state : D → State) (m : Manager D) : Type 0 where
   pub ready : Ready state m.id m.most m.home m.spindle m.lanes.items m.ups.items m.rooms.items
@@ -113,32 +58,8 @@ opened {D} id home spindle lanes index next most = record {
 
 -- ---- Its locks
 
--- its passes are of the locks of these shared ones
-pub record At {D : Type 0} (shared : Shared D) (id : ℕ) (spindle : PassOf Spindle SpindleBase) (lanes : List (Lane D)) : Type 0 where
-  pub spindle_in : id < vec_len shared.spindles
-  pub spindle_is : (d : _) → pass_lock spindle ≡ lock_id (slice_index_or shared.spindles.items id d)
-  pub lanes_ : AllByRecursion (IsAt shared) lanes
-
 abbrev pub IsHome : {D : Type 0} → Shared D → Manager D → Type 0
 IsHome shared m = At shared m.id m.spindle m.lanes.items
-
--- in how many of these turns of a pool it was found empty
-abbrev pub nones_in : List Entry → ℕ
-nones_in entries = count_by (λ (e : Entry). is_none (use_of e.1)) entries
-  where
-    is_none : Rattle.seg_pool.specs.Holders.PoolUse → Bool
-    is_none (Took None) = true
-    is_none (Took (Some index)) = false
-    is_none (Rattle.seg_pool.specs.Holders.Gave index) = false
-
--- in how many of these turns a segment was taken
-abbrev pub takes_in : List Entry → ℕ
-takes_in entries = count_by (λ (e : Entry). is_taken (use_of e.1)) entries
-  where
-    is_taken : Rattle.seg_pool.specs.Holders.PoolUse → Bool
-    is_taken (Took None) = false
-    is_taken (Took (Some index)) = true
-    is_taken (Rattle.seg_pool.specs.Holders.Gave index) = false
 
 -- a lane's passes are those that the base names
 pub record IsNamed {D : Type 0} (l : Lane D) (b : LaneBase) : Type 0 where
@@ -198,18 +119,6 @@ pub record IsShared {D : Type 0} (shared : Shared D) (b : ManagerBase) : Type 0 
 abbrev pub HasTakenFew : {D : Type 0} → Manager D → ManagerBase → Type 0
 HasTakenFew m b = takes_of m.lanes.items b.lanes + b.volume.began.next ≤ m.next + cond (is_some m.down) 1 0
 
--- the record stands where it stood: it has the same version, first block, lane, segment and position
-pub record StandsAt (old e : Indexed) : Type 0 where
-  pub version : e.listed.version ≡ old.listed.version
-  pub first : e.listed.first ≡ old.listed.first
-  pub lane : e.listed.lane ≡ old.listed.lane
-  pub index : e.index ≡ old.index
-  pub pos : e.pos ≡ old.pos
-
--- each record of a version below this one stands where one of these places is
-abbrev pub AreStill : (places : List Indexed) → (next : ℕ) → List Indexed → Type 0
-AreStill places next es = AllByRecursion (λ e. e.listed.version < next → (old : Indexed) × Contains places old × StandsAt old e) es
-
 -- ---- The whole
 
 -- What a manager keeps up for what it began with and the entries since, at the end of a step of a turn.
@@ -244,10 +153,6 @@ abbrev pub StandsCoded : {D : Type 0} → (tells : Bool) → (D → State) → M
 StandsCoded tells state m b entries = Stands tells state m b (notes_of entries)
 
 -- ---- What a call leaves
-
--- the places of the view whose pools answered in the last write that they are empty
-abbrev pub passed_in : List Room → List ℕ
-passed_in rooms = filter (λ k. not (may_hold (slice_index_or rooms k Unknown))) (range_with_len 0 (length rooms))
 
 -- An entry with its notes, behind entries the last of which left the look l: its operation, the look that it leaves, the pools that were found empty;
 -- and where it is ruled it goes by the rules.

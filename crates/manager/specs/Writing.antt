@@ -1,28 +1,27 @@
 -- What a write does to a manager, by its answer.
-use Rattle.std.specs.Prelude.{⊤, ◌≡◌, ◌⊎◌, ◌&&◌, ◌==◌, ◌∷◌, ℕ, Bool, true, false, List, [], Some, length, Result, Ok, Err, slice_get, MatchBool}
+use Rattle.std.specs.Prelude.{⊤, ◌≡◌, ◌⊎◌, ◌&&◌, ◌∷◌, ℕ, Bool, true, false, List, [], Some, Result, Ok, Err, slice_get, MatchBool}
 use Rattle.std.specs.List.{AllByRecursion}
 use Rattle.wol_disk.specs.Disk.{Block, State}
 use Rattle.turn_lock.specs.Passes.{pass_mine}
 use Rattle.wol_model.specs.Blocks.{Write}
-use Rattle.wol_model.specs.Placing.{Home as AtHome, Log as InLog, Full as Nowhere}
-use Rattle.wol_model.specs.Placing as placing
 use Rattle.wol_promise.specs.Policy.{Look, placed, place_of}
-use Rattle.offload_policy.specs.declared.Room.{Room}
-use Rattle.offload_policy.specs.declared.Room.TheVariants.{Unknown, Yes, No}
+use Rattle.offload_policy.specs.declared.Room.TheVariants.{Unknown}
 use Rattle.logger.specs.Lanes.{HasUsed, spindle_of}
 use Rattle.logger.specs.declared.lane.Lane.{Lane}
 use Rattle.manager.specs.Accesses.{HasUsedOnce}
 use Rattle.manager.specs.Answers.{home_write, log_write, failed_write}
 use Rattle.manager.specs.Causes.{PartRoseOrClaimed}
-use Rattle.manager.specs.Offers.{IsTurnedAway, HasTakenWrite, IsOn}
+use Rattle.manager.specs.Offers.{IsOn}
 use Rattle.manager.specs.Seen.{look_of_manager}
 use Rattle.manager.specs.Stands.{passed_in}
 use Rattle.manager.specs.declared.manager.Manager.{Manager}
-use Rattle.manager.specs.declared.part.Part.TheVariants as part
 use Rattle.manager.specs.declared.part.Place.{Place}
-use Rattle.manager.specs.declared.part.Place.TheVariants as place
 use Rattle.manager.specs.declared.part.WriteRefusal.{WriteRefusal}
 use Rattle.manager.specs.declared.part.WriteRefusal.TheVariants.{Full, DiskFault, Down, VersionsSpent, NoMemory}
+use Rattle.wol_model.specs.Placing as placing
+use Rattle.manager.specs.declared.part.Part.TheVariants as part
+use Rattle.manager.specs.declared.part.Place.TheVariants as place
+pub use Rattle.volume_parts.specs.Offers.{is_at_home, is_in_log, HasAnswered, HaveAnswered}
 
 -- ---- Places
 
@@ -39,36 +38,9 @@ was_tried (Err NoMemory) = false
 abbrev pub ruled_place : {D : Type 0} → (old new : Manager D) → (first : ℕ) → List Block → placing.Place
 ruled_place old new first blocks = place_of (passed_in new.rooms.items) (look_of_manager old) (home_write first blocks)
 
--- whether home took the write
-abbrev pub is_at_home : placing.Place → Bool
-is_at_home AtHome = true
-is_at_home (InLog lane) = false
-is_at_home Nowhere = false
-
--- whether the logger at this place of the view took it
-abbrev pub is_in_log : (k : ℕ) → placing.Place → Bool
-is_in_log k AtHome = false
-is_in_log k (InLog lane) = lane == k
-is_in_log k Nowhere = false
-
 -- whether the lane at place k took a write that has this place and this answer
 abbrev pub takes_at : placing.Place → Result Place WriteRefusal → (k : ℕ) → Bool
 takes_at p answer k = was_tried answer && is_in_log k p
-
--- ---- Lanes
-
--- What became of a lane in a write: it took the write, or it was turned away exactly where that is noted, or it is as it was.
-abbrev pub HasAnswered : {D : Type 0} → (count : ℕ) → (took : Bool) → Room → (old new : Lane D) → Type 0
-HasAnswered count true r old new = (r ≡ Unknown) × HasTakenWrite old new
-HasAnswered count false No old new = IsTurnedAway count old new
-HasAnswered count false Unknown old new = new ≡ old
-HasAnswered count false Yes old new = ⊥
-
--- each lane by what is noted of its room
-pub record HaveAnswered {D : Type 0} (count : ℕ) (took : ℕ → Bool) (rooms : List Room) (old new : List (Lane D)) : Type 0 where
-  pub noted : length rooms ≡ length old
-  pub same : length new ≡ length old
-  pub each : (k : ℕ) (r : Room) (o n : Lane D) → slice_get rooms k ≡ Some r → slice_get old k ≡ Some o → slice_get new k ≡ Some n → HasAnswered count (took k) r o n
 
 -- ---- Looks and disks
 

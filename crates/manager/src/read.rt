@@ -16,11 +16,11 @@ ghost use Rattle.manager.specs.Stops.{Stops};
 ghost use Rattle.manager.specs.declared.base.ManagerBase.{ManagerBase};
 ghost use Rattle.manager.specs.declared.part.Part.{Part};
 
-use crate::fetch::fetch_at;
 use crate::{Manager, Part, ReadRefusal, Sources};
 use logger::{Shared, Spot};
 use redirect_map::Rec;
 use std::sync::Wait;
+use volume_parts::fetch_at;
 use wol_disk::{Block, Disk, Failed};
 
 // The same answer, where the refusal names the part.

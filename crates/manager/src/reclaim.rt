@@ -1,10 +1,8 @@
 // Steps of reclaim: a record is read, its due blocks are put home, and what may go of it is given up.
-ghost use Rattle.std.specs.Prelude.{◌≡◌, ◌+◌, ◌<◌, ◌≤◌, ◌^◌, ℕ, List, true, None, Ok, length, OnOk, IfOk, IsTrue, is_none};
+ghost use Rattle.std.specs.Prelude.{◌≡◌, ◌+◌, ℕ, List, true, None, Ok, length, OnOk, IfOk, IsTrue, is_none};
 ghost use Rattle.std.specs.Option.{ForSome};
-ghost use Rattle.wol_model.specs.Heads.{IsRecordHead};
 ghost use Rattle.wol_model.specs.Log.{has_bit};
 ghost use Rattle.wol_model.specs.Index.{listed_in, is_due, has_going};
-ghost use Rattle.log_layout.specs.Values.{record_head};
 ghost use Rattle.redirect_map.specs.Index.{entry_at, HasVersion};
 ghost use Rattle.manager.specs.Causes.{NoneRose};
 ghost use Rattle.manager.specs.Reading.{IsReadThrough};
@@ -13,33 +11,13 @@ ghost use Rattle.manager.specs.Stands.{Keeps, IsReady, IsHome};
 ghost use Rattle.manager.specs.declared.base.ManagerBase.{ManagerBase};
 ghost use Rattle.wol_promise.specs.Ruled.{Noted};
 
-use crate::put::put_at;
 use crate::{Manager, Part, StepFault};
 use garbage_list::may_go;
-use log_layout::RecHead;
+use listed_records::head_of;
 use logger::{Shared, Spot};
-use redirect_map::Rec;
 use std::sync::Wait;
+use volume_parts::put_at;
 use wol_disk::{Block, Disk, Failed};
-
-// The head of a record of this volume, as the index has it.
-fn head_of(owner: u32, listed: &Rec) -> RecHead
-    requires version { (1 ≤ listed.now.version) × (listed.now.version < 2 ^ 63) }
-    requires count { (1 ≤ listed.now.count) × (listed.now.count ≤ 128) }
-    requires range { listed.now.lbn + listed.now.count ≤ 2 ^ 32 }
-    requires kept { listed.now.keep < 2 ^ listed.now.count }
-    ensures value { result ≡ record { form = 2; keep = listed.now.keep; owner = owner; version = listed.now.version; lbn = listed.now.lbn; count = listed.now.count } }
-    ensures head { IsRecordHead (record_head result) }
-{
-    RecHead {
-        form: 2,
-        keep: listed.keep,
-        owner,
-        version: listed.version,
-        lbn: listed.lbn,
-        count: listed.count,
-    }
-}
 
 impl<D: Disk> Manager<D> {
     /// Reads the record of this version, all its blocks, kept or not. `DiskFault` comes only where the count of faults of

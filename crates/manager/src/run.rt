@@ -21,13 +21,14 @@ ghost use Rattle.manager.specs.Writing.{HaveAnswered, NeedsHome, NeedsLogs, Tell
 ghost use Rattle.manager.specs.declared.base.ManagerBase.{ManagerBase};
 ghost use Rattle.manager.specs.declared.part.Part.{Part};
 
-use crate::group::{list_group, put_group, reserve_places, together};
 use crate::manager::unasked;
 use crate::{Manager, Part, Place, WriteRefusal};
+use listed_records::reserve_places;
 use log_segment::Item;
 use logger::Shared;
 use offload_policy::{Room, Step, place};
 use std::sync::Wait;
+use volume_parts::{list_group, put_group, together};
 use wol_disk::{Block, Disk, Failed};
 
 /// The next version where all versions are spent.

@@ -17,11 +17,11 @@ ghost use Rattle.manager.specs.Writing.{HaveAnswered, HasLook, NeedsHome, NeedsL
 ghost use Rattle.manager.specs.declared.base.ManagerBase.{ManagerBase};
 ghost use Rattle.manager.specs.declared.part.Part.{Part};
 
-use crate::home::store_at;
 use crate::{Manager, Part, Place, WriteRefusal};
 use log_segment::Item;
 use logger::Shared;
 use std::sync::Wait;
+use volume_parts::store_at;
 use wol_disk::{Block, Disk, Failed};
 
 impl<D: Disk> Manager<D> {

@@ -5,12 +5,12 @@ use Rattle.std.proofs.lemmas.Option.{slice_get_within}
 use Rattle.redirect_map.specs.Index.{entry_at}
 use Rattle.wol_model.specs.Index.{Indexed, listed_in, has_going}
 use Rattle.logger.specs.Lanes.{IsAt}
-use Rattle.manager.proofs.Calm.{calm_trim, none_lane}
-use Rattle.manager.proofs.Copies.{refill_set}
+use Rattle.volume_parts.proofs.Calm.{calm_trim}
+use Rattle.manager.proofs.Calm.{none_lane}
+use Rattle.listed_records.proofs.Elements.{refill_set, all_at}
 use Rattle.manager.proofs.DropCall.{there_is, lane_of, old_lane, spot_ready, version_ready, count_ready, range_ready, its_head, its_owner, proper_keep, given_entries, gone_is, ready_then, ready_broke, dropped_then, keeps_then, stops_then, dropped_broke, cause_broke, stands_broke, stops_broke}
-use Rattle.manager.proofs.Entries.{found_of, some_of}
-use Rattle.manager.proofs.Lanes.{all_at}
-use Rattle.manager.proofs.ReadThrough.{never_some}
+use Rattle.listed_records.proofs.Entries.{found_of, some_of}
+use Rattle.volume_parts.proofs.PartReads.{never_some}
 use Rattle.manager.proofs.manager.Manager.drop_rec.Goals as goal
 
 pub bounds-deref_mut-place : goal.bounds-deref_mut-place

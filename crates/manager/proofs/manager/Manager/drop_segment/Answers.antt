@@ -5,13 +5,12 @@ use Rattle.wol_model.specs.Index.{Indexed}
 use Rattle.wol_promise.proofs.Lists.{all_map}
 use Rattle.logger.specs.Lanes.{IsAt}
 use Rattle.manager.proofs.Calm.{none_lane}
-use Rattle.manager.proofs.Copies.{refill_set}
-use Rattle.manager.proofs.Entries.{found_of}
-use Rattle.std.specs.Prelude.{slice_index_or}
-use Rattle.manager.proofs.Forgetting.{flag_set}
-use Rattle.manager.proofs.Lanes.{all_at}
-use Rattle.manager.proofs.ReadThrough.{never_some}
+use Rattle.listed_records.proofs.Elements.{refill_set, all_at}
+use Rattle.listed_records.proofs.Entries.{found_of}
+use Rattle.listed_records.proofs.Forgetting.{flag_set}
+use Rattle.volume_parts.proofs.PartReads.{never_some}
 use Rattle.manager.proofs.RetireCall.{calm_then, cause_broke, counted_there, dropped_broke, dropped_then, keeps_then, lane_of, none_live, old_lane, ready_broke, ready_then, retirable, stands_broke, stops_broke, stops_then, there_is}
+use Rattle.std.specs.Prelude.{slice_index_or}
 use Rattle.manager.proofs.manager.Manager.drop_segment.Goals as goal
 
 pub bounds-deref_mut-place : goal.bounds-deref_mut-place

@@ -1,11 +1,12 @@
 -- The record of a version is read, or can't be.
 use Rattle.std.proofs.Common.{ℕ, Some, refl, sym, ap, subst, ◌∙◌}
 use Rattle.manager.specs.Reclaim.{AreOf, HasFetched}
-use Rattle.manager.proofs.Entries.{found_of}
+use Rattle.listed_records.proofs.Entries.{found_of}
 use Rattle.manager.proofs.FetchRec.{same_record, same_entry, version_of, fetched_down}
 use Rattle.manager.proofs.ReadKeeps.{keeps_read, stands_broken}
 use Rattle.manager.proofs.ReadStops.{stops_read}
-use Rattle.manager.proofs.ReadThrough.{never_some, rose_down, through_then}
+use Rattle.volume_parts.proofs.PartReads.{never_some}
+use Rattle.manager.proofs.ReadThrough.{rose_down, through_then}
 use Rattle.manager.proofs.manager.Manager.fetch_rec.Goals as goal
 
 pub read_record-requires-clause-there : goal.read_record-requires-clause-there

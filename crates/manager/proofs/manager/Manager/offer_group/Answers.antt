@@ -18,11 +18,11 @@ use Rattle.manager.specs.Seen.{look_of_manager}
 use Rattle.manager.specs.Stands.{Stands, IsReadyLane}
 use Rattle.manager.specs.declared.part.Part.TheVariants as part
 use Rattle.manager.proofs.Bounds.{take_below, take_room, few_room, two_more, written_same, failed_same}
-use Rattle.manager.proofs.Calm.{calm_put, lane_at, none_lane}
-use Rattle.manager.proofs.Claims.{no_more_set, claim_like, put_claimed, put_tells}
-use Rattle.manager.proofs.Copies.{refill_set}
+use Rattle.volume_parts.proofs.Calm.{calm_put}
+use Rattle.manager.proofs.Calm.{lane_at, none_lane}
+use Rattle.volume_parts.proofs.Claims.{no_more_set, claim_like, put_claimed, put_tells}
+use Rattle.listed_records.proofs.Elements.{refill_set, all_at}
 use Rattle.manager.proofs.GroupOffered.{all_taken_front, items_small, first_few, offered_unready, offered_position, offered_ready, offered_look, offered_stands, offered_failed, offered_stops, offered_cause}
-use Rattle.manager.proofs.Lanes.{all_at}
 use Rattle.manager.proofs.TurnedAway.{away_more, away_takes, ready_away, keeps_away, quiet_stops}
 use Rattle.manager.proofs.manager.Manager.offer_group.Goals as goal
 

@@ -8,7 +8,8 @@ use Rattle.manager.specs.Causes.{PartRose}
 use Rattle.manager.specs.Stands.{nones_at}
 use Rattle.manager.proofs.Frames.{stands_kept, none_passed}
 use Rattle.manager.proofs.ReadKeeps.{stands_read, stands_broken}
-use Rattle.manager.proofs.ReadThrough.{never_some, rose_down, through_self, through_but_down}
+use Rattle.volume_parts.proofs.PartReads.{never_some}
+use Rattle.manager.proofs.ReadThrough.{rose_down, through_self, through_but_down}
 use Rattle.manager.proofs.ReadStops.{stops_read, stops_down}
 use Rattle.manager.proofs.manager.Manager.read.Goals as goal
 

@@ -8,13 +8,13 @@ use Rattle.wol_model.specs.Index.{listed_in}
 use Rattle.logger.specs.Lanes.{IsAt, held_in}
 use Rattle.manager.specs.Seen.{down_of, look_of_manager}
 use Rattle.manager.specs.Stands.{IsReady, IsReadyLane}
-use Rattle.manager.proofs.Calm.{calm_read, none_lane}
-use Rattle.manager.proofs.Copies.{refill_set}
-use Rattle.manager.proofs.Lanes.{all_at, get_set}
+use Rattle.volume_parts.proofs.Calm.{calm_read}
+use Rattle.manager.proofs.Calm.{none_lane}
+use Rattle.listed_records.proofs.Elements.{refill_set, all_at, get_set}
 use Rattle.manager.proofs.ReadContent.{log_content}
-use Rattle.manager.proofs.ReadLog.{spotted, spotted_in, lane_read, whole_after, counted_after, stays_after, ready_after, segment_after}
-use Rattle.manager.proofs.ReadThrough.{home_self, lanes_set, on_ok_like, err_like}
-use Rattle.manager.proofs.RunSources.{lane_run_of, needs_set, needs_none}
+use Rattle.manager.proofs.ReadLog.{spotted, spotted_in, ready_after, segment_after}
+use Rattle.volume_parts.proofs.PartReads.{lane_read, whole_after, counted_after, stays_after, home_self, lanes_set, on_ok_like, err_like, needs_set, needs_none}
+use Rattle.listed_records.proofs.Contents.{lane_run_of}
 use Rattle.wol_promise.proofs.Woken.{woken_log, log_reads_home, log_reads_lane}
 use Rattle.manager.proofs.manager.Manager.read_log.Goals as goal
 

@@ -6,13 +6,13 @@ use Rattle.std.proofs.Math.ListN.{length-set}
 use Rattle.std.proofs.lemmas.Option.{slice_get_within}
 use Rattle.logger.specs.Lanes.{IsAt, held_in}
 use Rattle.manager.specs.Stands.{IsReady, IsReadyLane}
-use Rattle.manager.proofs.Calm.{calm_read, none_lane}
-use Rattle.manager.proofs.Copies.{refill_set}
-use Rattle.manager.proofs.Entries.{found_of}
+use Rattle.volume_parts.proofs.Calm.{calm_read}
+use Rattle.manager.proofs.Calm.{none_lane}
+use Rattle.listed_records.proofs.Elements.{refill_set, all_at, get_set}
+use Rattle.listed_records.proofs.Entries.{found_of}
 use Rattle.manager.proofs.FetchRec.{spot_of, spot_in, data_blocks}
-use Rattle.manager.proofs.Lanes.{all_at, get_set}
-use Rattle.manager.proofs.ReadLog.{lane_read, whole_after, counted_after, stays_after, ready_after}
-use Rattle.manager.proofs.ReadThrough.{home_self, lanes_set, on_ok_like, err_like}
+use Rattle.volume_parts.proofs.PartReads.{lane_read, whole_after, counted_after, stays_after, home_self, lanes_set, on_ok_like, err_like}
+use Rattle.manager.proofs.ReadLog.{ready_after}
 use Rattle.manager.proofs.manager.Manager.read_record.Goals as goal
 
 pub bounds-deref_mut-place : goal.bounds-deref_mut-place

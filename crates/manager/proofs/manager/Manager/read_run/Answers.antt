@@ -1,7 +1,7 @@
 -- The covered blocks of a run are all of them or none.
 use Rattle.std.proofs.Common.{length, sym, subst}
 use Rattle.manager.specs.Reading.{IsSource}
-use Rattle.manager.proofs.RunSources.{bare_count, log_count}
+use Rattle.listed_records.proofs.Contents.{bare_count, log_count}
 use Rattle.manager.proofs.manager.Manager.read_run.Goals as goal
 
 pub returns-in_ok-read_home-in-None-clause-logged : goal.returns-in_ok-read_home-in-None-clause-logged

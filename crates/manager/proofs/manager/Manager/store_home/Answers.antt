@@ -12,10 +12,10 @@ use Rattle.manager.specs.Reclaim.{put_block}
 use Rattle.manager.specs.Stands.{IsInVolume}
 use Rattle.manager.specs.declared.part.Part.TheVariants.{Home}
 use Rattle.manager.proofs.Calm.{none_home}
-use Rattle.manager.proofs.Entries.{some_of, found_of, entry_of_version, among, entry_in, noted_home}
+use Rattle.listed_records.proofs.Entries.{some_of, found_of, entry_of_version, among, entry_in, noted_home}
 use Rattle.manager.proofs.Frames.{ready_homed}
-use Rattle.manager.proofs.PutBlocks.{put_same, put_like}
-use Rattle.manager.proofs.ReadThrough.{never_some}
+use Rattle.volume_parts.proofs.Accesses.{put_same, put_like}
+use Rattle.volume_parts.proofs.PartReads.{never_some}
 use Rattle.manager.proofs.StoreHome.{ready_put, put_keeps, put_fails, put_stops}
 use Rattle.manager.proofs.manager.Manager.store_home.Goals as goal
 

@@ -17,12 +17,12 @@ use Rattle.manager.specs.Stands.{IsNote, passed_in}
 use Rattle.manager.specs.Stops.{Stops}
 use Rattle.manager.specs.declared.manager.Manager.{Manager}
 use Rattle.manager.proofs.Bounds.{take_some, take_below, take_room, of_front, of_all, count_below, written_none, failed_none}
-use Rattle.manager.proofs.Claims.{claim_like}
-use Rattle.manager.proofs.Copies.{refill_set}
+use Rattle.volume_parts.proofs.Claims.{claim_like}
+use Rattle.listed_records.proofs.Elements.{refill_set}
 use Rattle.manager.proofs.GroupOffered.{all_taken_front}
 use Rattle.manager.proofs.GroupPlaced.{failed_run}
-use Rattle.manager.proofs.JoiningLaws.{first_of_take, take_front, joins_fewer}
-use Rattle.manager.proofs.Tried.{logger_at}
+use Rattle.volume_parts.proofs.Records.{first_of_take, take_front, joins_fewer}
+use Rattle.volume_parts.proofs.Lanes.{logger_at}
 use Rattle.manager.proofs.manager.Manager.try_run.Goals as goal
 
 pub offer_group-requires-clause-some : goal.offer_group-requires-clause-some

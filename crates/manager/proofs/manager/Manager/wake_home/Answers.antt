@@ -1,7 +1,7 @@
 use Rattle.std.proofs.Common.{true, [], refl, ◌∙◌}
 use Rattle.logger.proofs.Uses.{accesses_over}
 use Rattle.manager.proofs.Frames.{reframed, ready_reframed, stands_kept, none_passed}
-use Rattle.manager.proofs.ReadThrough.{home_self, lanes_self}
+use Rattle.volume_parts.proofs.PartReads.{home_self, lanes_self}
 use Rattle.manager.proofs.Refused.{stops_at_rest}
 use Rattle.manager.specs.Stands.{nones_at}
 use Rattle.manager.proofs.manager.Manager.wake_home.Goals as goal

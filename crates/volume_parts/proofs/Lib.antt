@@ -1,0 +1,9 @@
+pub mod Accesses
+pub mod Calm
+pub mod Claims
+pub mod Held
+pub mod Lanes
+pub mod PartReads
+pub mod Places
+pub mod Placing
+pub mod Records

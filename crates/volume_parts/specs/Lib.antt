@@ -1,0 +1,10 @@
+pub mod Accesses
+pub mod Claims
+pub mod Held
+pub mod Items
+pub mod Joining
+pub mod Lanes
+pub mod Listing
+pub mod Offers
+pub mod Puts
+pub mod Reads
