@@ -11,7 +11,8 @@ use std::sync::Wait;
 use turn_lock::{Pass, TurnLock};
 use wol_disk::{Block, Disk, Failed};
 
-// Reads blocks of the part, between a turn in which its spindle is needed and one in which it is done.
+/// Reads blocks of the part from block `at` on, between a turn in which its spindle is needed, so that a disk in standby
+/// spins up, and one in which it is done. `Failed` comes only where the part's count of faults rose in this call.
 pub fn fetch_at<R: Wait, D: Disk>(
     rt: &R,
     lock: &TurnLock<Spindle>,

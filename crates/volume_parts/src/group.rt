@@ -160,7 +160,8 @@ fn all_kept(count: u32) -> u128
     u128::MAX >> (128 - count)
 }
 
-/// Lists the records of a group that begins at this spot of a lane.
+/// Lists the records of a group that begins at this spot of a lane: one for each item, of consecutive versions, each with
+/// its head in front of its blocks.
 pub fn list_group(index: &mut Index, version: u64, lane: u32, spot: Spot, items: &[Item])
     requires below { AllByRecursion (λ e. e.listed.version < version) index.old.entries }
     requires items { AreItems items.now }

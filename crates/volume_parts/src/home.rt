@@ -20,7 +20,9 @@ fn store<D: Disk>(part: &mut Spun<D>, token: &Awake, at: u64, from: &[Block]) ->
     part.sync(token)
 }
 
-/// Writes blocks and syncs.
+/// Writes blocks to the part from block `at` on and syncs, between a turn in which its spindle is needed and one in which
+/// it is done. `Failed` comes only where the part's count of faults rose in this call; what was written then may be
+/// there in part.
 pub fn store_at<R: Wait, D: Disk>(
     rt: &R,
     lock: &TurnLock<Spindle>,

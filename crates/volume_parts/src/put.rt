@@ -54,7 +54,8 @@ fn put<D: Disk>(
     part.sync(token)
 }
 
-/// Writes the blocks of the mask and syncs. Bit i of the mask is block i of the slice, which begins at block `lbn`.
+/// Writes the blocks of the mask and syncs, as `store_at` does. Bit i of the mask is block i of the slice, which begins at
+/// block `lbn`; runs of them are written by one call each.
 pub fn put_at<R: Wait, D: Disk>(
     rt: &R,
     lock: &TurnLock<Spindle>,
