@@ -27,7 +27,10 @@ fn value(field: &[u8]) -> Option<u64>
     Some(value)
 }
 
-// A number with one more digit.
+// The greatest number that stays below 2^64 with any digit more.
+const ROOMY: u64 = (u64::MAX - 9) / 10;
+
+// A number with one more digit. Where it is small, as nearly always, it costs no test of either step.
 fn with_digit(value: u64, byte: u8) -> Option<u64>
     ensures { result ≡ with_digit value byte }
 {
@@ -35,5 +38,8 @@ fn with_digit(value: u64, byte: u8) -> Option<u64>
         return None;
     }
     let digit = u64::from(byte - b'0');
+    if value <= ROOMY {
+        return Some(value * 10 + digit);
+    }
     value.checked_mul(10)?.checked_add(digit)
 }

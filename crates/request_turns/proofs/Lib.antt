@@ -15,6 +15,7 @@ pub mod Waking
 pub mod Flagged
 pub mod Gaining
 pub mod HelpNotes
+mod InPlace
 pub mod Counting
 pub mod CountLaws
 pub mod MadeLaws

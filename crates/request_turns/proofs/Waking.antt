@@ -1,5 +1,5 @@
 -- A keeper's turn in which a manager is told which disks are awake.
-use Rattle.std.proofs.Common.{◌≡◌, ◌<◌, ℕ, Bool, false, List, [], ◌∷◌, ◌++◌, All, length, map, take, refl, sym, ap, subst, ◌∙◌, arith}
+use Rattle.std.proofs.Common.{◌≡◌, ◌<◌, ℕ, Bool, false, List, [], ◌∷◌, ◌++◌, All, length, map, take, slice_index_or, refl, sym, ap, subst, ◌∙◌, arith}
 use Rattle.std.specs.List.{AllByRecursion}
 use Rattle.std.proofs.lemmas.List.{length-map}
 use Rattle.std.proofs.lemmas.List.Elements.{All-nil, All-cons}
@@ -16,6 +16,7 @@ use Rattle.manager.specs.Stands.{Leaves, Stands, AreNamed}
 use Rattle.manager.specs.declared.base.LaneBase.{LaneBase}
 use Rattle.manager.specs.declared.base.ManagerBase.{ManagerBase}
 use Rattle.manager.specs.declared.manager.Manager.{Manager}
+use Rattle.request_turns.specs.Begun.{WasTold}
 use Rattle.request_turns.specs.Entries.{note_of}
 
 module _ {D : Type 0} (tells : Bool) (state : D → State) (old new : Manager D) (home : Bool) (ups : List Bool) (is : new ≡ record old { home_up = home; ups = record { items = ups } }) where
@@ -34,6 +35,14 @@ module _ {D : Type 0} (tells : Bool) (state : D → State) (old new : Manager D)
     drain = refl;
     follows = λ _. (refl, subst (λ (l : Look). IsKeep [] pass l (look_of_manager new)) (sym was.look) (ruled.flags number (as_many same) only_flags));
   }) was.keeps
+
+-- the same of a manager that was told by its keeper
+pub told_after : {D : Type 0} (tells : Bool) (state : D → State) (volume : ℕ) (awake : List Bool) (old new : Manager D) → WasTold tells state volume awake old new
+    → (b : ManagerBase) (notes : List Noted) (pass : ℕ) → pass ≡ keeper → Stands tells state old b notes → Stands tells state new b (notes ++ note_of pass Kept (look_of_manager new) [] false ∷ [])
+told_after tells state volume awake old new told b notes pass number s =
+    let f : ℕ → Bool = λ v. slice_index_or awake v false in
+    told_stands tells state old new _ _ told.flags b notes pass number
+    (length-map (map logger_of old.lanes.items) f ∙ (length-map old.lanes.items logger_of ∙ sym s.keeps.ready.ready.flags)) (told.leaves pass) s
 
 module _ {L : Type 0} (flags ups : List Bool) (lanes : List L) (g : L → ℕ) (f : ℕ → Bool) (long : length ups ≡ length lanes) (front : take (length lanes) flags ≡ map f (map g lanes)) where
   pub told_flags : take (length ups) flags ≡ map f (map g lanes)

@@ -1,15 +1,32 @@
 -- What a reclaim turn makes of the worker's pass.
-use Rattle.std.specs.Prelude.{◌≡◌, Bool, List, Option, None, Some}
+use Rattle.std.specs.Prelude.{◌≡◌, Bool, List, Option, None, Some, Result, OnOk, IfErr}
 use Rattle.turn_lock.specs.Histories.{Entry}
+use Rattle.wol_disk.specs.Disk.{State}
 use Rattle.wol_model.specs.History.{Kept, IsHelp}
 use Rattle.wol_promise.specs.Policy.{Look, AreReclaims, IsIdleLook}
 use Rattle.wol_promise.specs.Ruled.{Noted}
+use Rattle.manager.specs.Reclaim.{OnKept, OnFailed, KeepsOn, BreaksOff, Always}
+use Rattle.manager.specs.Seen.{look_of_manager}
+use Rattle.manager.specs.declared.manager.Manager.{Manager}
 use Rattle.manager.specs.declared.part.StepFault.{StepFault}
+use Rattle.request_turns.specs.Counts.{Counts, HasTaken}
 use Rattle.request_turns.specs.Turns.{ManagerPass, notes_seen, WasDown, faulty_part, HasTurned}
+use Rattle.request_turns.specs.declared.tally.Tally.{Tally}
 
 -- steps of reclaim led from one look to the other, wherever steps led to the first
 abbrev pub GoesOn : (l m : Look) → Type 0
 GoesOn l m = (k : Look) → AreReclaims k l → AreReclaims k m
+
+-- a manager from which all that was due or could go was reclaimed, with this answer, and what was counted
+pub record HasReclaimed {D T : Type 0} (tells : Bool) (state : D → State) (answer : Result T StepFault) (done : Tally) (m n : Manager D) : Type 0 where
+  pub down : IfErr answer (λ f. n.down ≡ Some (faulty_part f))
+  pub idle : OnOk answer (IsIdleLook (look_of_manager n))
+  pub look : OnKept answer (GoesOn (look_of_manager m) (look_of_manager n))
+  pub none : Tally
+  pub fresh : Counts 0 0 none
+  pub taken : OnKept answer (HasTaken none done (look_of_manager m) (look_of_manager n))
+  pub keeps : OnKept answer (KeepsOn tells state m n Always)
+  pub broke : OnFailed answer (BreaksOff tells state m n Always)
 
 -- One turn, whose entry changes no content. It leaves an idle look, unless a step was refused; that comes only where the part that it names was down.
 pub record HasClosed {D : Type 0} (tells : Bool) (fault : Option StepFault) (p q : ManagerPass D) : Type 0 where

@@ -1,17 +1,17 @@
 -- What turns of a manager's lock add to a pass: entries with their notes.
-use Rattle.std.specs.Prelude.{⊤, ◌≡◌, ◌⊎◌, ◌∷◌, ◌++◌, Bool, true, List, [], Some, map, is_some, IsTrue}
+use Rattle.std.specs.Prelude.{⊤, ◌≡◌, ◌⊎◌, ◌∷◌, ◌++◌, Bool, true, List, [], Option, None, Some, map, is_some, IsTrue}
 use Rattle.std.specs.List.{AllByRecursion}
 use Rattle.turn_lock.specs.Histories.{Entry, own, Begins}
-use Rattle.turn_lock.specs.Passes.{pass_lock, pass_number, pass_seen, pass_mine, IsFree, IsSamePass}
+use Rattle.turn_lock.specs.Passes.{pass_lock, pass_number, pass_seen, pass_mine, value_of, IsFree, IsSamePass}
 use Rattle.turn_lock.specs.declared.pass.PassOf.{PassOf}
 use Rattle.wol_model.specs.Blocks.{Write}
 use Rattle.wol_model.specs.History.{Kept, worker, flight_of, IsHelp}
-use Rattle.wol_promise.specs.Code.{code_of}
+use Rattle.wol_promise.specs.Code.{code_of, no_note}
 use Rattle.wol_promise.specs.Manager.{Base}
 use Rattle.wol_promise.specs.Policy.{Look}
 use Rattle.wol_promise.specs.Ruled.{Noted, IsDrained, entries_of, last_look}
 use Rattle.wol_promise.specs.Stands.{HasHistory}
-use Rattle.manager.specs.Seen.{name_of}
+use Rattle.manager.specs.Seen.{look_of_manager, name_of}
 use Rattle.manager.specs.Stands.{notes_of}
 use Rattle.manager.specs.declared.base.ManagerBase.{ManagerBase}
 use Rattle.manager.specs.declared.manager.Manager.{Manager}
@@ -34,6 +34,15 @@ began p = (pass_lock p).base.volume.began
 -- the entries that it has seen
 abbrev pub notes_seen : {D : Type 0} → ManagerPass D → List Noted
 notes_seen p = notes_of (pass_seen p)
+
+-- what is known of a manager, or nothing where there is none
+abbrev pub look_or_nothing : {D : Type 0} → Option (Manager D) → Look
+look_or_nothing None = (no_note 0).look
+look_or_nothing (Some m) = look_of_manager m
+
+-- what is known of the manager of a turn that keeps it in its place
+abbrev pub look_in_place : {D : Type 0} → ManagerPass D → Look
+look_in_place p = look_or_nothing (value_of p)
 
 -- a disk call of the volume failed
 abbrev pub IsBroken : List Noted → Type 0

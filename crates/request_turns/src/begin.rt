@@ -5,10 +5,10 @@ ghost use Rattle.turn_lock.specs.Passes.{pass_lock};
 ghost use Rattle.wol_model.specs.History.{keeper};
 ghost use Rattle.logger.specs.Lanes.{logger_of};
 ghost use Rattle.manager.specs.declared.base.LaneBase.{LaneBase};
-ghost use Rattle.request_turns.specs.Begun.{HasBegunVolume};
+ghost use Rattle.request_turns.specs.Begun.{CanBeTold, HasBegunVolume, WasTold};
 ghost use Rattle.request_turns.specs.Helped.{IsPassAt};
 
-use crate::noted::leave_step;
+use crate::noted::leave_step_in_place;
 use manager::Manager;
 use std::sync::Wait;
 use turn_lock::{Pass, TurnLock};
@@ -31,6 +31,16 @@ fn flags<D: Disk>(manager: &Manager<D>, awake: &[bool]) -> [bool; LANES]
     flags
 }
 
+// Tells a manager which disks are awake.
+fn tell<D: Disk>(manager: &mut Manager<D>, volume: usize, awake: &[bool])
+    requires { CanBeTold D.state volume awake.now manager.old }
+    ensures { WasTold D.tells D.state volume awake.now manager.old manager.new }
+{
+    let ups = flags(manager, awake);
+    let lanes = manager.ups().len();
+    manager.begin(awake[volume], &ups[..lanes]);
+}
+
 /// One turn of a volume's keeper, in which its manager is told which disks are awake.
 pub fn begin_volume<R: Wait, D: Disk>(
     rt: &R,
@@ -45,9 +55,13 @@ pub fn begin_volume<R: Wait, D: Disk>(
     requires view { AllByRecursion (λ (b : LaneBase). b.logger < length awake.now) (pass_lock pass.old).base.lanes }
     ensures { HasBegunVolume D.tells awake.now pass.old pass.new }
 {
-    let mut turn = lock.enter(rt, pass);
-    let ups = flags(&turn.value, awake);
-    let lanes = turn.value.ups().len();
-    turn.value.begin(awake[volume], &ups[..lanes]);
-    leave_step(lock, turn, pass, false);
+    lock.enter_in_place(rt, pass);
+    lock.change(
+        pass,
+        |manager: &mut Manager<D>|
+            requires { CanBeTold D.state volume awake.now manager.now }
+            ensures { WasTold D.tells D.state volume awake.entry.now manager.old manager.new }
+        { tell(manager, volume, awake) },
+    );
+    leave_step_in_place(lock, pass, false);
 }

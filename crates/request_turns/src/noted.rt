@@ -1,13 +1,14 @@
 // How a turn ends: with an entry that the caller's proof names, with its notes.
 ghost use Rattle.std.specs.Prelude.{ℕ, ◌≡◌, ◌++◌, ◌∷◌, [], false, None, Some};
-ghost use Rattle.turn_lock.specs.Passes.{pass_lock, pass_number, IsPassOf, IsInTurn};
+ghost use Rattle.turn_lock.specs.Passes.{pass_lock, pass_number, IsPassOf, IsInTurn, IsInTurnWith};
 ghost use Rattle.wol_promise.specs.Code.{no_note};
 ghost use Rattle.wol_promise.specs.Ruled.{Noted};
 ghost use Rattle.manager.specs.Stands.{Stands};
 ghost use Rattle.manager.specs.Seen.{look_of_manager};
+ghost use Rattle.manager.specs.declared.manager.Manager.{Manager};
 ghost use Rattle.manager.specs.declared.part.Part.{Part};
 ghost use Rattle.request_turns.specs.Entries.{note_of, step_operation};
-ghost use Rattle.request_turns.specs.Turns.{notes_seen, HasLeft, IsBroken, WasDown};
+ghost use Rattle.request_turns.specs.Turns.{look_in_place, notes_seen, HasLeft, IsBroken, WasDown};
 
 use manager::Manager;
 use std::marker::Brand;
@@ -76,4 +77,34 @@ pub(crate) fn leave_step<D: Disk>(
     ensures left { HasLeft D.tells (note_of (pass_number pass.old) (step_operation failed) (look_of_manager turn.value) [] false) pass.old pass.new }
 {
     leave_named::<D, Brand>(lock, turn, pass, failed);
+}
+
+// As `leave_named`, where the manager stayed in its place.
+fn leave_named_in_place<D: Disk, N: Memo>(
+    lock: &TurnLock<Manager<D>>,
+    pass: &mut Pass<Manager<D>>,
+    failed: bool,
+)
+    requires own { IsPassOf lock.now pass.old }
+    requires note { N.note ≡ note_of (pass_number pass.old) (step_operation failed) (look_in_place pass.old) [] false }
+    requires value { (m : Manager _) × IsInTurnWith m pass.old × Stands D.tells D.state m (pass_lock pass.old).base (notes_seen pass.old ++ note_of (pass_number pass.old) (step_operation failed) (look_of_manager m) [] false ∷ []) }
+    ensures broken { (m : Manager _) (p : Part) → IsInTurnWith m pass.old → m.down ≡ Some p → WasDown p (notes_seen pass.new) }
+    ensures left { (m : Manager _) → IsInTurnWith m pass.old → HasLeft D.tells (note_of (pass_number pass.old) (step_operation failed) (look_of_manager m) [] false) pass.old pass.new }
+{
+    let _ = failed;
+    lock.leave_in_place::<Brand>(pass);
+}
+
+/// Ends a turn of steps of reclaim in which the manager stayed in its place.
+pub(crate) fn leave_step_in_place<D: Disk>(
+    lock: &TurnLock<Manager<D>>,
+    pass: &mut Pass<Manager<D>>,
+    failed: bool,
+)
+    requires own { IsPassOf lock.now pass.old }
+    requires value { (m : Manager _) × IsInTurnWith m pass.old × Stands D.tells D.state m (pass_lock pass.old).base (notes_seen pass.old ++ note_of (pass_number pass.old) (step_operation failed) (look_of_manager m) [] false ∷ []) }
+    ensures broken { (m : Manager _) (p : Part) → IsInTurnWith m pass.old → m.down ≡ Some p → WasDown p (notes_seen pass.new) }
+    ensures left { (m : Manager _) → IsInTurnWith m pass.old → HasLeft D.tells (note_of (pass_number pass.old) (step_operation failed) (look_of_manager m) [] false) pass.old pass.new }
+{
+    leave_named_in_place::<D, Brand>(lock, pass, failed);
 }

@@ -8,13 +8,13 @@ ghost use Rattle.manager.specs.Reclaim.{OnKept, OnFailed, KeepsOn, BreaksOff, Al
 ghost use Rattle.manager.specs.Seen.{look_of_manager};
 ghost use Rattle.manager.specs.Stands.{IsReady, IsHome, IsShared};
 ghost use Rattle.reclaimer.specs.Fetches.{due_entry, going_entry};
-ghost use Rattle.request_turns.specs.Closed.{GoesOn, HasClosed};
+ghost use Rattle.request_turns.specs.Closed.{GoesOn, HasClosed, HasReclaimed};
 ghost use Rattle.request_turns.specs.Counts.{HasTaken, HasCounted};
 ghost use Rattle.request_turns.specs.Helped.{IsPassAt};
 ghost use Rattle.request_turns.specs.Turns.{faulty_part};
 
 use crate::answer::{has_failed, refusal_in};
-use crate::noted::leave_step;
+use crate::noted::leave_step_in_place;
 use crate::tally::Tally;
 use logger::Shared;
 use manager::{Manager, StepFault};
@@ -112,6 +112,22 @@ fn reclaim_all<R: Wait, D: Disk>(
     }
 }
 
+// The same, with what was reclaimed.
+fn reclaim_anew<R: Wait, D: Disk>(
+    rt: &R,
+    m: &mut Manager<D>,
+    shared: &Shared<D>,
+    room: &mut Fetch,
+) -> (Result<(), StepFault>, Tally)
+    requires ready { IsReady D.state m.old }
+    requires at { IsHome shared.now m.old }
+    ensures { HasReclaimed D.tells D.state result.0 result.1 m.old m.new }
+{
+    let mut done = Tally::new();
+    let answer = reclaim_all(rt, m, shared, room, &mut done);
+    (answer, done)
+}
+
 /// One turn in which all that is due goes home and all that may go is given up, within reach. A refused step ends it. Where a
 /// disk call failed, nothing of the turn is counted.
 pub fn reclaim_turn<D: Disk, R: Wait>(
@@ -127,11 +143,16 @@ pub fn reclaim_turn<D: Disk, R: Wait>(
     ensures closed { HasClosed D.tells result pass.old pass.new }
     ensures counted { HasCounted D.tells tally.old tally.new pass.old pass.new }
 {
-    let mut turn = lock.enter(rt, pass);
-    let mut done = Tally::new();
-    let answer = reclaim_all(rt, &mut turn.value, shared, room, &mut done);
+    lock.enter_in_place(rt, pass);
+    let (answer, done) = lock.change(
+        pass,
+        |m: &mut Manager<D>|
+            requires { IsReady D.state m.now × IsHome shared.now m.now }
+            ensures { HasReclaimed D.tells D.state result.0 result.1 m.old m.new }
+        { reclaim_anew(rt, m, shared, room) },
+    );
     let failed = has_failed(&answer);
-    leave_step(lock, turn, pass, failed);
+    leave_step_in_place(lock, pass, failed);
     tally.add_unless(failed, done);
     refusal_in(answer)
 }

@@ -1,5 +1,5 @@
 -- What a contract sees of a lock and of a pass.
-use Rattle.std.specs.Prelude.{◌≡◌, ◌≢◌, ◌<◌, ℕ, List, [], ◌∷◌, ◌++◌, length, slice_index_or, All, None}
+use Rattle.std.specs.Prelude.{◌≡◌, ◌≢◌, ◌<◌, ℕ, List, [], ◌∷◌, ◌++◌, length, slice_index_or, All, Option, None, Some}
 use Rattle.turn_lock.specs.Histories.{Entry, own, Begins}
 use Rattle.turn_lock.specs.LockIds.{LockId}
 use Rattle.turn_lock.specs.Views.{claim_of, total}
@@ -15,6 +15,11 @@ lock_id l = record { table = l.table.shared.table_id; base = l.base.value }
 -- how many passes it has
 unfoldable pub lock_passes : {T B : Type 0} → TurnLock T B → ℕ
 lock_passes l = l.table.shared.key.passes
+
+-- the first of what a seat holds
+abbrev pub first_held : {T : Type 0} → List (ℕ × Option T) → Option T
+first_held [] = None
+first_held (x ∷ xs) = x.1
 
 module _ {T B : Type 0} where
   -- the lock that the pass is of
@@ -44,6 +49,14 @@ module _ {T B : Type 0} where
   -- it is in a turn
   abbrev pub IsInTurn : PassOf T B → Type 0
   IsInTurn p = ((t : ℕ) × (p.seat.me.0.stage ≡ Holding t)) × (p.seat.me.1 ≡ (0, None) ∷ [])
+
+  -- the value of a turn that keeps it in its place
+  abbrev pub value_of : PassOf T B → Option T
+  value_of p = first_held p.seat.me.1
+
+  -- it is in a turn, and y is the value, which stayed in its place
+  abbrev pub IsInTurnWith : T → PassOf T B → Type 0
+  IsInTurnWith y p = ((t : ℕ) × (p.seat.me.0.stage ≡ Holding t)) × (p.seat.me.1 ≡ (0, Some y) ∷ [])
 
   -- of the same lock, with the same number
   abbrev pub IsSamePass : PassOf T B → PassOf T B → Type 0

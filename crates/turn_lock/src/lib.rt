@@ -10,7 +10,8 @@
 //! passes are told at `enter`, add to `Kept` (the rule), `Comes` and `TurnCame`; to change how threads wait, only
 //! `bells.rt` and `rest` in `turns.rt`, on which no proof rests. An object's method has a clause for all bases,
 //! entries and numbers, `Stands old .. → Stands new (.. ++ (number, operation) ∷ [])`; a turn is `enter`, that
-//! method, `leave_as` with the operation as numbers. `turn_lock_tests` has a counter and a desk that owns a pass of
+//! method, `leave_as` with the operation as numbers; or `enter_in_place`, `change` with that method, and
+//! `leave_in_place`, where the value is not moved. `turn_lock_tests` has a counter and a desk that owns a pass of
 //! a gauge's lock, which is the pattern for all nesting.
 #![tactic(auto, unfolding(crate::specs::Passes::pass_lock, crate::specs::Passes::pass_number, crate::specs::Passes::pass_seen, crate::specs::Passes::pass_mine, crate::specs::Passes::lock_id, crate::specs::Passes::lock_passes))]
 

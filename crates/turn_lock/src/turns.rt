@@ -1,7 +1,9 @@
 // A turn: draw a ticket, wait until it is served, take the value out, put it back, and let the next one come.
+ghost use denote.Ref.{MutBor};
+ghost use Rattle.std.specs.Fn.{FnOnceReturnsAtMut};
 ghost use Rattle.std.specs.Prelude.{◌≡◌, true, false, ◌<◌, ◌%◌, ◌^◌, ◌++◌, ◌∷◌, [], ℕ, Some, None};
 ghost use Rattle.turn_lock.specs.Histories.{own, Begins, AreNumberedBelow};
-ghost use Rattle.turn_lock.specs.Passes.{pass_lock, pass_number, pass_seen, pass_mine, IsPassOf, IsFree, IsInTurn, IsSamePass};
+ghost use Rattle.turn_lock.specs.Passes.{pass_lock, pass_number, pass_seen, pass_mine, IsPassOf, IsFree, IsInTurn, IsInTurnWith, IsSamePass};
 ghost use Rattle.turn_lock.specs.Steps.{HasDrawn, TurnCame};
 ghost use Rattle.turn_lock.specs.Views.{turned};
 ghost use Rattle.turn_lock.specs.declared.view.Stage.TheVariants.{Idle, Waiting, Holding};
@@ -51,8 +53,7 @@ impl<T: Object> TurnLock<T> {
     {
         let Turn { value, seal: _ } = turn;
         self.put_value(&mut pass.seat, value);
-        let ticket = self.raise::<N>(&mut pass.seat);
-        self.wake(ticket.wrapping_add(1));
+        self.leave_in_place::<N>(pass);
     }
 
     /// The same with the operation given as numbers, so that no caller picks a name.
@@ -81,6 +82,50 @@ impl<T: Object> TurnLock<T> {
     {
         let _ = operation;
         self.leave::<N>(turn, pass);
+    }
+
+    /// As `enter`, but the value stays in its place, where `change` reads and writes it. It costs no move.
+    pub fn enter_in_place<R: Wait>(&self, rt: &R, pass: &mut Pass<T>)
+        requires own { IsPassOf self.now pass.old }
+        requires free { IsFree pass.old }
+        ensures same { IsSamePass pass.old pass.new }
+        ensures seen { Begins (pass_seen pass.old) (pass_seen pass.new) }
+        ensures mine { pass_mine pass.new ≡ pass_mine pass.old }
+        ensures own { own (pass_number pass.new) (pass_seen pass.new) ≡ pass_mine pass.new }
+        ensures number { pass_number pass.new < 1024 }
+        ensures numbers { AreNumberedBelow 1024 (pass_seen pass.new) }
+        ensures value { (y : T) × IsInTurnWith y pass.new × T.stands y (pass_lock pass.new).base (pass_seen pass.new) }
+    {
+        self.await_turn(rt, &mut pass.seat);
+    }
+
+    /// Lets `work` read and write the value in its place, in a turn that `enter_in_place` began.
+    pub fn change<A, F: FnOnce(&mut T) -> A>(&self, pass: &mut Pass<T>, work: F) -> A
+        requires own { IsPassOf self.now pass.old }
+        requires turn { (y : T) × IsInTurnWith y pass.old }
+        requires work { (p : MutBor T) → IsInTurnWith p.now pass.old → F.pre work p }
+        ensures same { IsSamePass pass.old pass.new }
+        ensures seen { pass_seen pass.new ≡ pass_seen pass.old }
+        ensures mine { pass_mine pass.new ≡ pass_mine pass.old }
+        ensures worked { (y : T) → IsInTurnWith y pass.old → (z : T) × FnOnceReturnsAtMut F.FnOnce work y result z × IsInTurnWith z pass.new }
+    {
+        match pass.seat.slot_mut(&self.table.shared, VALUE) {
+            Some(value) => work(value),
+            None => unreachable!(),
+        }
+    }
+
+    /// Ends a turn that `enter_in_place` began with one entry, as `leave` does.
+    pub fn leave_in_place<N: Named>(&self, pass: &mut Pass<T>)
+        requires own { IsPassOf self.now pass.old }
+        requires value { (y : T) × IsInTurnWith y pass.old × T.stands y (pass_lock pass.old).base (pass_seen pass.old ++ (pass_number pass.old, N.operation) ∷ []) }
+        ensures same { IsSamePass pass.old pass.new }
+        ensures free { IsFree pass.new }
+        ensures seen { pass_seen pass.new ≡ pass_seen pass.old ++ (pass_number pass.old, N.operation) ∷ [] }
+        ensures mine { pass_mine pass.new ≡ pass_mine pass.old ++ (pass_number pass.old, N.operation) ∷ [] }
+    {
+        let ticket = self.raise::<N>(&mut pass.seat);
+        self.wake(ticket.wrapping_add(1));
     }
 
     // Draws a ticket and waits until it is served. It stands apart so that no room for a value is made ready before the wait:
