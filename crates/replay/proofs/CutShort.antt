@@ -11,7 +11,7 @@ use Rattle.turn_lock.specs.Passes.{IsPartOf, lock_id, pass_lock, pass_mine, pass
 use Rattle.spin_model.specs.Operations.{has_token, operation_of, use_of, uses_of}
 use Rattle.spin_model.specs.Spindles.{SpindleView, StandsFor}
 use Rattle.spin_model.specs.declared.spindle.SpindleBase.{SpindleBase}
-use Rattle.run_laws.specs.Journals.{answers_by, uses_by}
+use Rattle.run_laws.specs.Journals.{answers_by}
 use Rattle.wol_bay.specs.Bay.{BayState}
 use Rattle.wol_config.specs.Configs.{most_of}
 use Rattle.wol_config.specs.declared.config.Config.{Config}

@@ -77,10 +77,6 @@ all_answered view rs os notes made =
     (λ group rs place os n rest two entry further stops none. answered_then group rs place os (further (stops_behind (length group) place os stops) (sym (refused_behind group rs place os) ∙ none)))
     rs os notes made
 
-no_own_outcomes : (v : ℕ) (rs : List Request) → outcomes_of v rs [] ≡ []
-no_own_outcomes v [] = refl
-no_own_outcomes v (r ∷ rs) = refl
-
 no_refused : (rs : List Request) → first_refused rs [] ≡ None
 no_refused [] = refl
 no_refused (r ∷ rs) = refl

@@ -1,29 +1,23 @@
 -- A line more of those that are given, and what comes after the last.
-use Rattle.std.proofs.Common.{◌≡◌, ◌<◌, ◌+◌, ◌^◌, ℕ, false, List, [], ◌∷◌, ◌++◌, length, map, Option, Some, Ok, refl, sym, ap, ◌∙◌, arith, length-append}
+use Rattle.std.proofs.Common.{◌≡◌, ◌<◌, ◌+◌, ◌^◌, ℕ, false, List, [], ◌∷◌, ◌++◌, length, map, Option, Some, refl, sym, ap, ◌∙◌, arith, length-append}
 use Rattle.std.specs.List.{list_any, range_with_len}
 use Rattle.std.proofs.lemmas.List.FromFn.{map-range_with_len_more}
 use Rattle.wol_model.specs.Trace.{Target, TraceLine}
 use Rattle.msr_trace.specs.Lines.{is_feed}
-use Rattle.msr_trace.specs.Reading.{Reading, IsDone, RefusesLine, TakesLine, pending}
+use Rattle.msr_trace.specs.Reading.{Reading, IsDone, RefusesLine, pending}
 use Rattle.std.specs.Io.KnownBytes.{Keeps}
 use Rattle.msr_trace.specs.declared.format.BadLine.{BadLine}
 use Rattle.msr_trace.specs.declared.format.TraceFault.{TraceFault}
 use Rattle.msr_trace.specs.declared.format.TraceFault.TheVariants as fault
 use Rattle.trace_gen.specs.Generated.{Generator, line}
 use Rattle.solo.specs.Requests.{HasLinesBefore}
-use Rattle.solo.proofs.Running.{has_all, has_bad, has_kept, has_more, has_next, has_none}
+use Rattle.solo.proofs.Running.{has_all, has_bad, has_kept, has_next, has_none}
 use Rattle.replay.specs.declared.given.Given.{Given}
 use Rattle.replay.specs.declared.given.Given.TheVariants.{Trace, Generated}
 use Rattle.replay.specs.Givens.{HasGiven, HasGivenAll, Refuses, RefusesTrace}
 
 module _ {S : Type 0} (left : S → Option (List ℕ)) (targets : List Target) where
   -- ---- A trace
-
-  pub read_more : (start : Given S) (r q : Reading S) (ls : List (Option TraceLine)) (l : Option TraceLine) → HasGiven left targets start (Trace r) ls
-      → TakesLine (pending left r) (pending left q) (Ok l) → q.given ≡ r.given + 1 → HasGiven left targets start (Trace q) (ls ++ l ∷ [])
-  read_more (Trace s) r q ls l (has, count) takes more =
-      (has_more (pending left s) (pending left r) (pending left q) ls l has takes, omega (arith, count, more, length-append ls (l ∷ [])))
-  read_more (Generated g n) r q ls l has takes more = absurd has
 
   pub read_all : (start : Given S) (r q : Reading S) (ls : List (Option TraceLine)) → HasGiven left targets start (Trace r) ls → IsDone left r q → HasGivenAll left targets start (Trace q) ls
   read_all (Trace s) r q ls (has, count) done = (has_all (pending left s) (pending left r) (left q.source) q.held ls has done.kept done.none_held done.at_end, done.none_held, done.at_end)

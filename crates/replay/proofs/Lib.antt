@@ -12,7 +12,6 @@ pub mod ServingOn
 pub mod Accounts
 pub mod Closed
 pub mod LinesServed
-pub mod Energies
 pub mod Stopped
 pub mod WindowBroken
 pub mod RunEnded

@@ -7,7 +7,7 @@ use Rattle.msr_trace.specs.declared.format.Line.{Line}
 use Rattle.std.specs.Io.KnownBytes.{Appends, Keeps}
 use Rattle.wol_io.proofs.Appending.{appends_both, appends_kept, appends_none, keeps_same}
 use Rattle.wol_model.specs.Trace as trace
-use Rattle.wol_model.specs.Trace.{Target, TraceLine, Window, joins, pieces_of, windows, timed, started, ended}
+use Rattle.wol_model.specs.Trace.{Target, TraceLine, Window, joins, pieces_of, windows, started, ended}
 use Rattle.wol_promise.specs.Run.{joined_lines}
 use Rattle.wol_config.specs.declared.config.Config.{Config}
 use Rattle.wol_config.specs.declared.config.VolumeConf.{VolumeConf}

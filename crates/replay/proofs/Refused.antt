@@ -1,5 +1,5 @@
 -- The requests that were looked at.
-use Rattle.std.proofs.Common.{◌≡◌, ◌≢◌, ◌<◌, ◌+◌, ℕ, Bool, true, false, cond, List, [], ◌∷◌, length, drop, get_or, Option, None, Some, Result, Ok, Err, inl, inr, refl, sym, ap, ◌∙◌}
+use Rattle.std.proofs.Common.{◌≡◌, ◌<◌, ◌+◌, ℕ, Bool, true, false, cond, List, [], ◌∷◌, length, drop, get_or, Option, None, Some, refl, sym, ap, ◌∙◌}
 use Rattle.std.specs.List.{list_any}
 use Rattle.std.specs.Option.{option_or}
 use Rattle.std.proofs.lemmas.List.{drop_more}
@@ -9,7 +9,6 @@ use Rattle.manager.specs.declared.part.StepFault.{StepFault}
 use Rattle.manager.specs.declared.part.StepFault.TheVariants as step
 use Rattle.manager.specs.declared.part.WriteRefusal.{WriteRefusal}
 use Rattle.manager.specs.declared.part.WriteRefusal.TheVariants as write
-use Rattle.wol_config.specs.declared.config.Config.{Config}
 use Rattle.report.specs.declared.fault.Fault.{Fault}
 use Rattle.report.specs.declared.fault.Fault.TheVariants.{Memory, TraceSource}
 use Rattle.trace_windows.specs.declared.request.Request.{Request}
@@ -17,9 +16,6 @@ use Rattle.request_turns.specs.declared.outcome.Outcome.{Outcome}
 use Rattle.request_turns.specs.declared.outcome.Outcome.TheVariants as outcome
 use Rattle.request_workers.specs.declared.request.Window.{Window}
 use Rattle.replay.specs.Endings.{fault_of_outcome, fault_of_read, fault_of_reclaim, fault_of_window, fault_of_write, first_refused, lacked_memory}
-use Rattle.replay.specs.Sessions.{Finishes}
-use Rattle.replay.specs.declared.session.Options.{Options}
-use Rattle.replay.specs.declared.stop.Stop.{Stop}
 use Rattle.replay.specs.declared.stop.Stop.TheVariants as stop
 
 -- the first of those that are left is the next one, or the first of the others
@@ -71,12 +67,3 @@ window_refused rs w is = at (list_any lacked_memory w.outcomes.items) is
     at : (b : Bool) → cond b (Some Memory) (option_or (first_refused rs w.outcomes.items) (fault_of_reclaim w.fault)) ≡ Some TraceSource → ⊥
     at true is = cc
     at false is = either_refused (first_refused rs w.outcomes.items) (fault_of_reclaim w.fault) (none_refused rs w.outcomes.items) (step_refused w.fault) is
-
--- what was printed of a window and what it refused isn't a failed source
-pub finish_refused : {T : Type 0} (result : Result T Stop) (config : Config) (options : Options) (rs : List Request) (w : Window) (faults faults' : ℕ) (printed new : Option (List ℕ))
-    → Finishes result config options rs w faults faults' printed new → result ≢ Err (stop.Fault TraceSource)
-finish_refused (Ok x) config options rs w faults faults' printed new finishes is = cc
-finish_refused (Err e) config options rs w faults faults' printed new (inl (f, refused, of, calm, prints)) is =
-    let same : f ≡ TraceSource = cc in window_refused rs w (refused ∙ ap (λ (x : Fault). Some x) same)
-finish_refused (Err stop.Sink) config options rs w faults faults' printed new (inr cuts) is = cc
-finish_refused (Err (stop.Fault f)) config options rs w faults faults' printed new (inr (memory, calm, some)) is = cc

@@ -7,7 +7,7 @@ use Rattle.std.proofs.lemmas.List.{map-append}
 use Rattle.std.proofs.lemmas.List.Quantifiers.{position-Some}
 use Rattle.std.proofs.lemmas.Bool.{eqb-true}
 use Rattle.wol_model.specs.Trace as trace
-use Rattle.wol_model.specs.Trace.{Numbered, Target, TraceLine, Window, home_of, numbered_from, pieces, requests, requests_of, requests_on, volume_of, windows}
+use Rattle.wol_model.specs.Trace.{Numbered, Target, TraceLine, home_of, numbered_from, pieces, requests, requests_of, requests_on, volume_of, windows}
 use Rattle.wol_model.specs.declared.trace.Piece.{Piece}
 use Rattle.wol_promise.specs.Outcomes.{Answered, of_volume}
 use Rattle.wol_config.specs.declared.config.Config.{Config}

@@ -1,7 +1,6 @@
 -- A run over a bay whose volumes couldn't all be opened.
-use Rattle.std.proofs.Common.{◌≡◌, ◌<◌, ◌≤◌, ◌⊎◌, ℕ, zero, suc, Bool, true, false, List, [], length, refl, sym, ap, subst, ◌∙◌, Option, None, Some, is_some, not, Err, inl, inr, arith}
-use Rattle.std.specs.Prelude.{All, IfSome, IsTrue, slice_get, slice_index_or}
-use Rattle.std.proofs.lemmas.List.{length-map}
+use Rattle.std.proofs.Common.{◌≡◌, ◌≤◌, ℕ, Bool, true, List, [], refl, sym, ap, subst, Option, None, Some, is_some, not, Err, inl, inr}
+use Rattle.std.specs.Prelude.{All, IfSome, IsTrue, slice_get}
 use Rattle.wol_disk.specs.Disk.{Rose, State}
 use Rattle.wol_bay.specs.Bay.{BayState, Told}
 use Rattle.wol_model.specs.History.{writes}
@@ -15,7 +14,6 @@ use Rattle.manager.specs.declared.station.Station.{Station}
 use Rattle.manager_recovery.specs.declared.refusal.OpenRefusal.TheVariants as refusal
 use Rattle.report.specs.declared.fault.Fault.{Fault}
 use Rattle.volume_images.specs.Left.{IsTold}
-use Rattle.volume_images.specs.Volumes.{shape_in, shapes_of}
 use Rattle.rack.specs.Closes.{AreLeftOfParts, flight_in, HasFaultAt, HasFaultIn, IsQuiet, LeavesVolumes, ListsFaulty, has_station, is_kept_home}
 use Rattle.rack.specs.Opens.{AreRefused, BeganWith, HasFaulty, KeepsAllSound, LeavesAll, RefusesVolume, WereThere}
 use Rattle.rack.specs.Owners.{HadRefused}

@@ -29,19 +29,8 @@ use Rattle.rack.specs.declared.rack.Rest.{Rest}
 use Rattle.replay.specs.Histories.{answers_in}
 use Rattle.replay.specs.Runs.{locks_of}
 use Rattle.replay.specs.Served.{ServedFromStart, ServedWindow}
-use Rattle.replay.proofs.FirstsServed.{EndsWell}
-use Rattle.replay.proofs.FlightEnded.{StationFlew, station_flew}
 use Rattle.replay.proofs.RacksServed.{a_member, at_place, there_at}
 use Rattle.replay.proofs.RunLeft.{base_same}
-use Rattle.replay.proofs.StationsRan.{AreNumbered, EndsOn}
-
-pub run_flew : {D : Type 0} (tells : Bool) (mode : Reclaim) (ss : List ServedWindow) (olds news : List (Station D)) (before middle after : Floor D) (ps qs : List _) → IsMoved olds before → IsMoved news after
-    → length news ≡ length olds → ((v : ℕ) (s : Station D) → slice_get olds v ≡ Some s → AreNumbered s) → AreUnused olds → ServedFromStart tells mode ss before ps middle qs → EndsOn tells middle after → EndsWell ss
-    → (v : ℕ) (s : Station D) → slice_get news v ≡ Some s → StationFlew v (answers_in ss) s
-run_flew tells mode ss olds news before middle after ps qs moved back same numbers unused served_ ends well v s here =
-    let less = (at_place news v s here).0 in
-    let (old, was) = a_member olds v (omega (arith, less, same)) in
-    station_flew tells mode ss olds news before middle after ps qs moved back unused served_ ends well v old s was here (numbers v old was)
 
 -- ---- Sound images
 

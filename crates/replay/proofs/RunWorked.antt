@@ -1,5 +1,5 @@
 -- What the worker and the keeper of each closed volume did in the windows of a run.
-use Rattle.std.proofs.Common.{◌≡◌, ◌≢◌, ◌==◌, ◌<◌, ◌≤◌, ◌⊎◌, ◌++◌, ℕ, Bool, true, false, cond, List, [], ◌∷◌, length, map, refl, sym, ap, subst, ◌∙◌, Option, None, Some, is_some, append-nil, length-append, inl, inr, arith}
+use Rattle.std.proofs.Common.{◌≡◌, ◌≢◌, ◌==◌, ◌<◌, ◌≤◌, ◌⊎◌, ◌++◌, ℕ, Bool, true, false, cond, List, [], ◌∷◌, length, map, refl, sym, ap, subst, ◌∙◌, Option, None, Some, is_some, length-append, inl, inr, arith}
 use Rattle.std.specs.Prelude.{All, IsTrue, slice_get, slice_index_or}
 use Rattle.std.specs.List.{AllByRecursion, filter}
 use Rattle.std.specs.Option.{option_map_or}
@@ -40,7 +40,7 @@ use Rattle.replay.proofs.ReclaimedLeft.{own_noted}
 use Rattle.replay.proofs.StationsRan.{AreNumbered, EndsOn, desk, first, moved_at, worker_same}
 use Rattle.replay.proofs.UnbrokenServed.{IsWholeNote, MakesWhole, served_whole, whole_flight}
 use Rattle.replay.proofs.WindowBroken.{broken_in}
-use Rattle.replay.proofs.WorksServed.{BeginsOn, WorksOn, all_begins, awake_count, awake_few, awake_in, awake_last, awake_last_none, served_works}
+use Rattle.replay.proofs.WorksServed.{BeginsOn, WorksOn, all_begins, awake_count, awake_few, awake_in, awake_last, served_works}
 
 -- ---- Where nothing is reclaimed
 
@@ -254,16 +254,6 @@ module _ {D : Type 0} (tells : Bool) (mode : Reclaim) (config : Config) (out : L
       at : (o : Option History) → slice_get (histories_of tells config out opened left_ news closed) v ≡ o → is_broken_at (histories_of tells config out opened left_ news closed) v ≡ false
       at None here = ap (λ (x : Option History). option_map_or is_broken x false) here
       at (Some h) here = ap (λ (x : Option History). option_map_or is_broken x false) here ∙ ap is_some (unbroken v h here (each v h here).0 (each v h here).1 well no_more)
-
-  -- where no further window began
-  pub told_is : (no_more : after ≡ middle) → ends ≡ inl no_more → told_awake ≡ awake_in tells mode ss before ps middle qs served
-  unfolding told_awake
-  told_is no_more is =
-      let none : awake_last tells mode middle after ends ≡ [] = ap (awake_last tells mode middle after) is ∙ no_last after no_more in
-      ap (λ (l : List (List Bool)). awake_in tells mode ss before ps middle qs served ++ l) none ∙ append-nil (awake_in tells mode ss before ps middle qs served)
-    where
-      no_last : (x : Floor D) (same : x ≡ middle) → awake_last tells mode middle x (inl same) ≡ []
-      no_last x same = awake_last_none tells mode middle x same
 
 -- where nothing was served
 pub none_worked : {D : Type 0} (tells : Bool) (mode : Reclaim) (config : Config) (out : List (Option (ImageRest D))) (opened left_ : BayState) (ss : List (Station D)) (closed : All (IsClosedVolume tells config out opened left_) ss)

@@ -1,18 +1,18 @@
 -- Windows that are served one after another.
-use Rattle.std.proofs.Common.{◌≡◌, ◌≤◌, ◌<◌, ◌+◌, ◌^◌, ℕ, zero, suc, Bool, true, false, not, List, [], ◌∷◌, ◌++◌, length, length-append, map, min, refl, sym, ap, subst, zero-add, ◌∙◌, append-nil, Option, Result, Ok, Err, inl, inr, arith}
+use Rattle.std.proofs.Common.{◌≡◌, ◌<◌, ◌+◌, ℕ, zero, suc, Bool, true, false, not, List, [], ◌∷◌, ◌++◌, length, length-append, map, min, refl, sym, ap, subst, zero-add, ◌∙◌, append-nil, Option, Result, Ok, Err, inl, inr, arith}
 use Rattle.std.specs.Prelude.{count_by, sum_by, slice_index_or, slice_set}
-use Rattle.std.specs.Prelude.{All, OnErr, OnOk, IfErr}
+use Rattle.std.specs.Prelude.{OnErr, OnOk, IfErr}
 use Rattle.std.specs.List.{flat_map, AllByRecursion}
 use Rattle.std.proofs.lemmas.List.Elements.{All-from_recursion}
 use Rattle.std.proofs.lemmas.Bool.{cases_eq}
-use Rattle.std.proofs.lemmas.List.{length-map, get_or-set_same, get_or-set_other}
+use Rattle.std.proofs.lemmas.List.{get_or-set_same, get_or-set_other}
 use Rattle.std.proofs.lemmas.List.Concat.{flat_map-append}
 use Rattle.std.proofs.lemmas.List.Sums.{sum_by-append}
 use Rattle.wol_model.specs.Trace.{Window}
 use Rattle.wol_promise.specs.Run.{joined_lines}
 use Rattle.wol_config.specs.declared.config.Config.{Config}
-use Rattle.wol_config.specs.Configs.{IsValid, most_of}
-use Rattle.trace_gen.specs.Generated.{target_of, targets_of}
+use Rattle.wol_config.specs.Configs.{most_of}
+use Rattle.trace_gen.specs.Generated.{targets_of}
 use Rattle.trace_windows.specs.Batches.{Batched, IsBatchOf}
 use Rattle.trace_windows.specs.Cutting.{next_number}
 use Rattle.trace_windows.specs.Requests.{IsInside, numbered, requests_in, requests_in_all}
@@ -22,7 +22,7 @@ use Rattle.report.specs.declared.totals.Totals.{Totals}
 use Rattle.request_turns.specs.declared.outcome.Outcome.{Outcome}
 use Rattle.request_turns.specs.Helped.{ManagerLock}
 use Rattle.request_workers.specs.Begun.{SpindlePass, FailToBegin, HaveBegun, HaveBegunVolumes}
-use Rattle.request_workers.specs.Floors.{AreInside, HasRun}
+use Rattle.request_workers.specs.Floors.{HasRun}
 use Rattle.request_workers.specs.Requests.{AreOfVolumes}
 use Rattle.request_workers.specs.declared.floor.Floor.{Floor}
 use Rattle.request_workers.specs.declared.request.Reclaim.{Reclaim}
@@ -184,13 +184,6 @@ all_at P [] all k d lt = absurd (omega (arith, lt))
 all_at P (x ∷ xs) (first, others) zero d lt = first
 all_at P (x ∷ xs) (first, others) (suc k) d lt = all_at P xs others k d (omega (arith, lt))
 
-pub inside_all : (config : Config) (rs : List Request) → AllByRecursion (IsInside (most_of config) (targets_of config)) rs → All (λ (r : Request). r.volume < length config.volumes.items) rs
-inside_all config rs all = All-from_recursion (λ (r : Request). r.volume < length config.volumes.items) rs (each rs all)
-  where
-    each : (xs : List Request) → AllByRecursion (IsInside (most_of config) (targets_of config)) xs → AllByRecursion (λ (r : Request). r.volume < length config.volumes.items) xs
-    each [] all = tt
-    each (x ∷ xs) (first, others) = (omega (arith, first.volume, length-map config.volumes.items target_of), each xs others)
-
 module _ {D : Type 0} (config : Config) (ls : List (ManagerLock D)) (sizes : AreVolumes config ls) (rs : List Request) (lie : AllByRecursion (IsInside (most_of config) (targets_of config)) rs) where
   pub of_volumes : (n : ℕ) → n ≡ length ls → AreOfVolumes n rs
   of_volumes n is = All-from_recursion (λ (r : Request). r.volume < n) rs (each rs lie)
@@ -198,19 +191,6 @@ module _ {D : Type 0} (config : Config) (ls : List (ManagerLock D)) (sizes : Are
       each : (xs : List Request) → AllByRecursion (IsInside (most_of config) (targets_of config)) xs → AllByRecursion (λ (r : Request). r.volume < n) xs
       each [] all = tt
       each (x ∷ xs) (first, others) = (omega (arith, first.volume, sizes.count, is), each xs others)
-
-  pub within_volumes : AreInside ls rs
-  within_volumes k l lt j r here of =
-      let size = sizes.sizes k l lt in
-      let inside = all_at (IsInside (most_of config) (targets_of config)) rs lie j r here in
-      record {
-        some = inside.some;
-        few = rw size.most inside.short;
-        fits = rw (size.home, ← of) inside.within;
-      }
-
-pub few_volumes : {D : Type 0} (config : Config) (ls : List (ManagerLock D)) (n : ℕ) → AreVolumes config ls → IsValid config → n ≡ length ls → n ≤ 2 ^ 32
-few_volumes config ls n sizes valid is = let most = valid.count.1 in omega (arith, is, sizes.count, length-map config.volumes.items target_of, most)
 
 -- ---- A window is begun and served
 

@@ -1,5 +1,5 @@
 -- The summary of a trace that was served to its end: each disk's journal is that of its uses, and the keeper's are those of the account.
-use Rattle.std.proofs.Common.{◌≡◌, ◌≢◌, ◌++◌, ◌<◌, ◌-◌, ℕ, Bool, false, List, [], ◌∷◌, length, map, refl, sym, ap, subst, ◌∙◌, Option, Some, inl, inr, append-nil, arith}
+use Rattle.std.proofs.Common.{◌≡◌, ◌≢◌, ◌++◌, ◌<◌, ◌-◌, ℕ, Bool, false, List, [], ◌∷◌, length, map, sym, ap, subst, ◌∙◌, Option, Some, append-nil, arith}
 use Rattle.std.specs.Prelude.{All, Contains, slice_get, slice_index_or}
 use Rattle.wol_model.specs.Journal.{Started, Use, needs_after, new_spindle}
 use Rattle.run_laws.specs.Journals.{answers_by, uses_by}

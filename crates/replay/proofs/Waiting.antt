@@ -4,7 +4,7 @@ use Rattle.std.specs.Io.KnownBytes.{Appends}
 use Rattle.std.proofs.lemmas.List.{take_more, length-take-le}
 use Rattle.std.proofs.lemmas.List.Concat.{flat_map-append}
 use Rattle.wol_io.specs.Streams.{AppendsFront}
-use Rattle.wol_io.proofs.Appending.{appends_both, appends_kept, appends_none, front_last, front_longer, keeps_same}
+use Rattle.wol_io.proofs.Appending.{appends_both, appends_kept, front_last, front_longer}
 use Rattle.wol_promise.specs.Run.{joined_lines}
 use Rattle.trace_windows.specs.declared.request.Request.{Request}
 use Rattle.request_turns.specs.declared.outcome.Outcome.{Outcome}
@@ -20,9 +20,6 @@ pub record IsPending (lines : List (List ℕ)) (printed now : Option (List ℕ))
   pub parts : lines ≡ handed ++ waiting
   pub taken : Appends printed now (joined_lines handed)
   pub text_ : text ≡ joined_lines waiting
-
-pub pending_none : (printed : Option (List ℕ)) (text : List ℕ) → text ≡ [] → IsPending [] printed printed text
-pending_none printed text is = record { handed = []; waiting = []; parts = refl; taken = appends_none printed printed (keeps_same printed); text_ = is }
 
 -- more lines wait
 pub pending_more : (lines more : List (List ℕ)) (printed now : Option (List ℕ)) (text new : List ℕ) → IsPending lines printed now text → new ≡ text ++ joined_lines more → IsPending (lines ++ more) printed now new
@@ -54,12 +51,6 @@ pending_handed lines printed now new text left p (inr (empty, more)) = record {
   taken = rw (pending_whole lines printed now text p) (appends_both printed now new (joined_lines p.handed) text p.taken more);
   text_ = empty;
 }
-
--- nothing waits
-pub pending_end : (lines : List (List ℕ)) (printed now : Option (List ℕ)) (text : List ℕ) → IsPending lines printed now text → text ≡ [] → Appends printed now (joined_lines lines)
-pending_end lines printed now text p empty =
-    let whole : joined_lines lines ≡ joined_lines p.handed = pending_whole lines printed now text p ∙ ap (λ (x : List ℕ). joined_lines p.handed ++ x) empty ∙ append-nil (joined_lines p.handed) in
-    rw whole p.taken
 
 -- a front of what waits is a front of the lines, and of more lines
 pub pending_front : (lines rest : List (List ℕ)) (printed now new : Option (List ℕ)) (text : List ℕ) → IsPending lines printed now text → AppendsFront now new text → AppendsFront printed new (joined_lines (lines ++ rest))
