@@ -2,7 +2,7 @@
 use Rattle.std.proofs.Common.{◌≡◌, ◌≢◌, ◌⊎◌, inl, inr, ⊎_elim, ℕ, zero, suc, ◌+◌, ◌-◌, ◌*◌, ◌<◌, ◌≤◌, Bool, List, [], ◌∷◌, ◌++◌, length, map, take, drop, get_or, Option, None, Some, option_map, refl, sym, ap, ◌∙◌, subst, arith}
 use Rattle.std.specs.Prelude.{slice_get, slice_range, IsTrue}
 use Rattle.std.proofs.Math.Nat.{suc-mul}
-use Rattle.std.proofs.lemmas.List.{drop-drop, take_all, length-map, get_or-map, get_or_past}
+use Rattle.std.proofs.lemmas.List.{take_all, length-map, get_or-map, get_or_past}
 use Rattle.std.proofs.lemmas.Bool.{cases_lt}
 use Rattle.std.proofs.lemmas.Option.{none-some, same_Some, slice_get-map}
 use Rattle.wol_disk.specs.Disk.{Block, Values, State, TellsContent, IsImage, IsImageOf}
@@ -19,36 +19,16 @@ use Rattle.spin_model.specs.declared.spun.Spun.{Spun}
 use Rattle.volume_images.specs.Left.{IsTold}
 use Rattle.volume_images.specs.Volumes.{shape_in, shapes_of, MayLeave, NoneOut}
 use Rattle.volume_images.proofs.SettledParts.{cut_image}
-use Rattle.rack.specs.Rests.{image_here, IsImageOut}
-use Rattle.rack.specs.Closing.{IsComplete, GivesBack, LeavesNoneOut}
-use Rattle.rack.specs.Parts.{IsTogether}
+use Rattle.rack_parts.specs.Rests.{image_here, IsImageOut}
+use Rattle.rack_parts.specs.Closing.{IsComplete, GivesBack, LeavesNoneOut}
+use Rattle.rack_parts.specs.Parts.{IsTogether}
 use Rattle.rack.specs.Opening.{AreCutOf, AreAsked, HasSentOut, HasAllBack, LeavesNoMore, StayedSo}
 use Rattle.rack.specs.declared.images.Images.{Images}
-use Rattle.rack.specs.declared.rack.ImageRest.{ImageRest}
-use Rattle.rack.proofs.Asking.{some_at}
-use Rattle.rack.proofs.CutParts.{reads_range}
-use Rattle.rack.proofs.SentNames.{cases_name, none_named}
-
-image_both : (vs ws : List (Values Block)) (c d : List Block) → IsImage vs c → IsImage ws d → IsImage (vs ++ ws) (c ++ d)
-image_both [] ws [] d i j = j
-image_both [] ws (x ∷ c) d i j = absurd i
-image_both (v ∷ vs) ws [] d i j = absurd i
-image_both (v ∷ vs) ws (x ∷ c) d i j = (i.0, image_both vs ws c d i.1 j)
-
-take_join : {A : Type 0} (m k : ℕ) (ys : List A) → take m ys ++ take k (drop m ys) ≡ take (m + k) ys
-take_join zero k ys = ap (λ (n : ℕ). take n ys) (let e : k ≡ 0 + k = omega arith in e)
-take_join (suc m) k [] = take_all k [] (omega arith) ∙ sym (take_all (suc m + k) [] (omega arith))
-take_join (suc m) k (y ∷ ys) = let e : suc (m + k) ≡ suc m + k = omega arith in ap (λ l. y ∷ l) (take_join m k ys) ∙ ap (λ (n : ℕ). take n (y ∷ ys)) e
-
-pub slice_join : {A : Type 0} (xs : List A) (a b c : ℕ) → a ≤ b → b ≤ c → slice_range xs a b ++ slice_range xs b c ≡ slice_range xs a c
-slice_join xs a b c le le' =
-    let at : a + (b - a) ≡ b = omega (arith, le) in
-    let long : b - a + (c - b) ≡ c - a = omega (arith, le, le') in
-    ap (λ l. take (b - a) (drop a xs) ++ take (c - b) l) (sym (drop-drop (b - a) a xs ∙ ap (λ (n : ℕ). drop n xs) at)) ∙ take_join (b - a) (c - b) (drop a xs) ∙ ap (λ (n : ℕ). take n (drop a xs)) long
-
--- the whole from its parts
-pub both_slices : (bs : List (Values Block)) (a b c : ℕ) (x y : List Block) → a ≤ b → b ≤ c → IsImage (slice_range bs a b) x → IsImage (slice_range bs b c) y → IsImage (slice_range bs a c) (x ++ y)
-both_slices bs a b c x y le le' i j = subst (λ (vs : List (Values Block)). IsImage vs (x ++ y)) (slice_join bs a b c le le') (image_both (slice_range bs a b) (slice_range bs b c) x y i j)
+use Rattle.rack_parts.specs.declared.rack.ImageRest.{ImageRest}
+use Rattle.rack_closing.proofs.Places.{some_at}
+use Rattle.rack_closing.proofs.CutParts.{reads_range}
+use Rattle.rack_closing.proofs.Names.{cases_name}
+use Rattle.rack.proofs.SentNames.{none_named}
 
 module _ {D : Type 0} (state : D → State) where
   rows_image : (size : ℕ) (bs : List (Values Block)) (at : ℕ) (ps : List (Spun D)) (x : List Block)

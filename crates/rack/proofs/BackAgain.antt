@@ -24,18 +24,18 @@ use Rattle.manager_recovery.specs.declared.opening.Opening.{Opening}
 use Rattle.manager_recovery.specs.declared.opening.OwnedPart.{OwnedPart}
 use Rattle.volume_images.specs.Volumes.{shapes_of}
 use Rattle.rack.specs.Opening.{IsOpeningRack}
-use Rattle.rack.specs.Parts.{TakesOpening, PutsOpening, HasBack, IsSameBut, segment_in, with_home, loggers_out}
-use Rattle.rack.specs.Rests.{image_here, segment_here, pool_pass, spindle_pass, held_here, IsRow}
-use Rattle.rack.specs.declared.heads_said.Said.{Said}
-use Rattle.rack.specs.declared.rack.ImageRest.{ImageRest}
-use Rattle.rack.specs.declared.rack.Rack.{Rack}
-use Rattle.rack.specs.declared.rack.Rest.{Rest}
+use Rattle.rack_parts.specs.Parts.{TakesOpening, PutsOpening, HasBack, IsSameBut, segment_in, with_home, loggers_out}
+use Rattle.rack_parts.specs.Rests.{image_here, segment_here, pool_pass, spindle_pass, held_here, IsRow}
+use Rattle.rack_parts.specs.declared.heads_said.Said.{Said}
+use Rattle.rack_parts.specs.declared.rack.ImageRest.{ImageRest}
+use Rattle.rack_parts.specs.declared.rack.Rack.{Rack}
+use Rattle.rack_parts.specs.declared.rack.Rest.{Rest}
 use Rattle.rack.proofs.FatesOf.{FateAt, stayed, went, fate_at, kept_owned}
-use Rattle.rack.proofs.Members.{all_member, is_member, segment_in_image}
+use Rattle.rack_parts.proofs.Members.{all_member, is_member, segment_in_image}
 use Rattle.rack.proofs.MayReturn.{IsBackLane, lane_at, logger_seen, in_view, not_own}
 use Rattle.rack.proofs.OpenAway.{is_pair}
 use Rattle.rack.proofs.Openable.{IsInImage}
-use Rattle.rack.proofs.SameOut.{same_out}
+use Rattle.rack_closing.proofs.SameOut.{same_out}
 use Rattle.rack.proofs.Without as without
 
 module _ {D : Type 0} (state : D → State) (tells : Bool) (config : Config) (valid : IsValid config) (b : BayState) (said : List (Option Said)) (id : ℕ) (r : Rack D) (own : Said)

@@ -13,11 +13,10 @@ use Rattle.seg_pool.specs.declared.base.PoolBase.{PoolBase}
 use Rattle.seg_pool.specs.declared.pool.Pool.{Pool}
 use Rattle.log_segment.specs.declared.free.FreeSegment.{FreeSegment}
 use Rattle.manager.proofs.Lanes.{get_set, get_other}
-use Rattle.rack.specs.Making.{AreEmptyPasses}
-use Rattle.rack.specs.Parts.{last_of, ArePopped, AreEmptied, CanDeal, Deals}
+use Rattle.rack.specs.Making.{AreEmptyPasses, last_of, ArePopped, AreEmptied, CanDeal, Deals}
 use Rattle.rack.specs.declared.lists.Lists.{Lists}
-use Rattle.rack.specs.declared.rack.VolumePasses.{VolumePasses}
-use Rattle.rack.proofs.Rows.{all_read}
+use Rattle.rack_parts.specs.declared.rack.VolumePasses.{VolumePasses}
+use Rattle.rack_parts.proofs.Rows.{all_read}
 use Rattle.rack.proofs.Setting.{map_same}
 
 -- each row has so many elements left, and the room that it had

@@ -18,14 +18,14 @@ use Rattle.volume_images.specs.Refusals.{IsCallFault}
 use Rattle.volume_images.specs.Volumes.{shape_in, shapes_of}
 use Rattle.volume_images.specs.declared.reading.ImageFault.{ImageFault}
 use Rattle.volume_images.specs.declared.reading.ImageFault.TheVariants as fault
-use Rattle.rack.specs.Closes.{CameBackFaulty, HasFaultAt, HasFaultIn, HasFaultyPart, IsNamedHere, IsPartHere, ListsFaulty, part_named, place_in}
-use Rattle.rack.specs.Opens.{AreRefused, HasFaulty, HasNewFault, RefusesImage, fault_in_image}
-use Rattle.rack.specs.Rests.{IsImageOut}
-use Rattle.rack.specs.declared.rack.Rack.{Rack}
-use Rattle.rack.specs.declared.rack.Rest.{Rest}
-use Rattle.rack.specs.declared.volume_fault.VolumeFault.TheVariants.{Refused}
-use Rattle.rack.proofs.Asking.{some_at}
-use Rattle.rack.proofs.NewFaults.{told_each}
+use Rattle.rack_closing.specs.Closes.{CameBackFaulty, HasFaultAt, HasFaultIn, HasFaultyPart, IsNamedHere, IsPartHere, ListsFaulty, part_named, place_in}
+use Rattle.rack_closing.specs.Opens.{AreRefused, HasFaulty, HasNewFault, RefusesImage, fault_in_image}
+use Rattle.rack_parts.specs.Rests.{IsImageOut}
+use Rattle.rack_parts.specs.declared.rack.Rack.{Rack}
+use Rattle.rack_parts.specs.declared.rack.Rest.{Rest}
+use Rattle.rack_parts.specs.declared.volume_fault.VolumeFault.TheVariants.{Refused}
+use Rattle.rack_closing.proofs.Places.{some_at}
+use Rattle.rack_closing.proofs.NewFaults.{told_each}
 
 -- a fault of a disk that refuses an image comes of a call that failed
 pub call_failed : (k : ℕ) (p : Part) (f : ImageFault) → Refused (DiskFault p) ≡ fault_in_image k f → IsCallFault f

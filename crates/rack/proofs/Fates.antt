@@ -29,9 +29,9 @@ use Rattle.manager.specs.declared.station.Station.{Station}
 use Rattle.manager_recovery.specs.Left.{Fate, Kept, Freed, IsFateOf, AreFates, HasGiven, freed_on, kept_of}
 use Rattle.manager_recovery.specs.declared.opening.OwnedPart.{OwnedPart}
 use Rattle.volume_images.specs.Accepted.{HasHead, head_place}
-use Rattle.rack.specs.Opens.{HadBefore, HadSegmentBefore, IsGone}
-use Rattle.rack.proofs.Members.{first_in, later_in, in_cases, none_in}
-use Rattle.rack.proofs.StationParts.{zip_at}
+use Rattle.rack_closing.specs.Opens.{HadBefore, HadSegmentBefore, IsGone}
+use Rattle.rack_parts.proofs.Members.{first_in, later_in, in_cases, none_in}
+use Rattle.rack_closing.proofs.StationParts.{zip_at}
 
 -- two elements of a list are the same where their numbers are, of which no two are
 pub same_by : {X : Type 0} (f : X → ℕ) (xs : List X) (x y : X) → AllPairs (λ (j k : ℕ). j ≢ k) (map f xs) → Contains xs x → Contains xs y → f x ≡ f y → x ≡ y

@@ -8,8 +8,8 @@ use Rattle.log_segment.specs.declared.free.FreeSegment.{FreeSegment}
 use Rattle.manager_recovery.specs.Left.{Fate, Kept, Freed, AreFates, IsFateOf, kept_of, freed_on}
 use Rattle.manager_recovery.specs.Opening.{AreInOrder, IsBefore, place_of}
 use Rattle.manager_recovery.specs.declared.opening.OwnedPart.{OwnedPart}
-use Rattle.rack.proofs.Members.{first_in, later_in, in_cases, none_in, of_recursion}
-use Rattle.rack.proofs.OwnedSegments.{never_itself}
+use Rattle.rack_parts.proofs.Members.{first_in, later_in, in_cases, none_in, of_recursion}
+use Rattle.rack_closing.proofs.OwnedSegments.{never_itself}
 
 module _ {D : Type 0} (state : D → State) (id : ℕ) where
   -- what became of the segment at a place

@@ -15,12 +15,12 @@ use Rattle.manager_recovery.specs.declared.opening.Opening.{Opening}
 use Rattle.manager_recovery.specs.declared.opening.OwnedPart.{OwnedPart}
 use Rattle.volume_images.specs.Volumes.{shapes_of}
 use Rattle.rack.specs.Opening.{said_at, HasFaultOf, IsOpeningRack}
-use Rattle.rack.specs.Parts.{TakesOpening, IsOwnedPlace}
-use Rattle.rack.specs.declared.heads_said.Said.{Said}
-use Rattle.rack.specs.declared.rack.Rack.{Rack}
-use Rattle.rack.specs.declared.rack.Rest.{Rest}
-use Rattle.rack.specs.declared.rack.Rooms.{Rooms}
-use Rattle.rack.proofs.Members.{of_map}
+use Rattle.rack_parts.specs.Parts.{TakesOpening, IsOwnedPlace}
+use Rattle.rack_parts.specs.declared.heads_said.Said.{Said}
+use Rattle.rack_parts.specs.declared.rack.Rack.{Rack}
+use Rattle.rack_parts.specs.declared.rack.Rest.{Rest}
+use Rattle.rack_parts.specs.declared.rack.Rooms.{Rooms}
+use Rattle.rack_parts.proofs.Members.{of_map}
 use Rattle.rack.proofs.Openable.{IsInImage, parts_in_images}
 use Rattle.rack.proofs.Without as without
 

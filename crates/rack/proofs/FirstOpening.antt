@@ -23,17 +23,17 @@ use Rattle.logger.specs.Lanes.{AreAccesses}
 use Rattle.manager.specs.declared.station.Station.{Station}
 use Rattle.volume_images.specs.Accepted.{HasHead}
 use Rattle.volume_images.specs.Volumes.{shapes_of}
-use Rattle.rack.specs.Foreign.{AreForeign}
-use Rattle.rack.specs.Making.{AreSettled}
+use Rattle.rack_parts.specs.Foreign.{AreForeign}
+use Rattle.rack_parts.specs.Locks.{AreSettled}
 use Rattle.rack.specs.Opening.{IsSaidOf, HaveHeads, said_at, view_at, AreTried, IsOpeningRack}
-use Rattle.rack.specs.Racks.{IsStation, IsOpenBase, IsUnused, AreRising, AreOut, base_of_station}
-use Rattle.rack.specs.Rests.{image_here, segment_here, spindle_pass, IsImageOut, IsRest}
-use Rattle.rack.specs.Parts.{holder_by, IsOwnedPlace}
+use Rattle.rack_parts.specs.Racks.{IsStation, IsOpenBase, IsUnused, AreRising, AreOut, base_of_station}
+use Rattle.rack_parts.specs.Rests.{image_here, segment_here, spindle_pass, IsImageOut, IsRest}
+use Rattle.rack_parts.specs.Parts.{holder_by, IsOwnedPlace}
 use Rattle.seg_pool.specs.Holders.{is_held_by}
-use Rattle.rack.specs.declared.heads_said.Said.{Said}
-use Rattle.rack.specs.declared.locks.Issued.{Issued}
-use Rattle.rack.specs.declared.rack.ImageRest.{ImageRest}
-use Rattle.rack.specs.declared.rack.Rack.{Rack}
+use Rattle.rack_parts.specs.declared.heads_said.Said.{Said}
+use Rattle.rack_parts.specs.declared.locks.Issued.{Issued}
+use Rattle.rack_parts.specs.declared.rack.ImageRest.{ImageRest}
+use Rattle.rack_parts.specs.declared.rack.Rack.{Rack}
 use Rattle.rack.proofs.FirstRest.{held_owner, new_holds, AreFirst, IsSupplier, nothing_in, pool_new, spindle_in, holder_is, first_rest, first_locks, first_keepers, spindle_there, pool_there}
 
 -- what always begins with an owner's head says the owner

@@ -27,17 +27,18 @@ use Rattle.log_segment.specs.declared.free.FreeSegment.{FreeSegment}
 use Rattle.log_layout.specs.declared.segment.SegHead.{SegHead}
 use Rattle.log_layout.specs.declared.segment.SegHead.TheVariants.{Free, Owned}
 use Rattle.volume_images.specs.Volumes.{shapes_of}
-use Rattle.rack.specs.Making.{IsInOrder, AreSettled, AreSpindlesOf}
-use Rattle.rack.specs.Rests.{IsPart, IsRow, image_here, segment_here, pool_pass, spindle_pass, away_with, AreImageRests, IsPoolLock, IsSpindleLock, ArePoolPasses, AreSpindlePasses, AreHandedBack, ArePlaced, IsHeldHere, AreLocks, IsRest}
-use Rattle.rack.specs.Racks.{AreKeepers}
-use Rattle.rack.specs.Parts.{of_head, holder_by, IsIssuedPool, IsSetUp}
-use Rattle.rack.specs.declared.heads_said.Said.{Said}
-use Rattle.rack.specs.declared.locks.Issued.{Issued}
-use Rattle.rack.specs.declared.rack.ImageRest.{ImageRest}
-use Rattle.rack.specs.declared.rack.Rack.{Rack}
-use Rattle.rack.specs.declared.rack.VolumePasses.{VolumePasses}
-use Rattle.rack.proofs.Returned.{here_within}
-use Rattle.rack.proofs.Rows.{all_read}
+use Rattle.rack_parts.specs.Locks.{IsInOrder, AreSettled, AreSpindlesOf}
+use Rattle.rack_parts.specs.Rests.{IsPart, IsRow, image_here, segment_here, pool_pass, spindle_pass, away_with, AreImageRests, IsPoolLock, IsSpindleLock, ArePoolPasses, AreSpindlePasses, AreHandedBack, ArePlaced, IsHeldHere, AreLocks, IsRest}
+use Rattle.rack_parts.specs.Racks.{AreKeepers}
+use Rattle.rack_parts.specs.Parts.{of_head, holder_by, IsIssuedPool}
+use Rattle.rack.specs.Making.{IsSetUp}
+use Rattle.rack_parts.specs.declared.heads_said.Said.{Said}
+use Rattle.rack_parts.specs.declared.locks.Issued.{Issued}
+use Rattle.rack_parts.specs.declared.rack.ImageRest.{ImageRest}
+use Rattle.rack_parts.specs.declared.rack.Rack.{Rack}
+use Rattle.rack_parts.specs.declared.rack.VolumePasses.{VolumePasses}
+use Rattle.rack_parts.proofs.Returned.{here_within}
+use Rattle.rack_parts.proofs.Rows.{all_read}
 
 there_at : {X : Type 0} (xs : List X) (k : ℕ) → k < length xs → (x : X) × (slice_get xs k ≡ Some x)
 there_at [] k lt = absurd (omega (arith, lt))

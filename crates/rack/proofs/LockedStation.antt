@@ -21,15 +21,15 @@ use Rattle.manager_recovery.specs.declared.opening.Opening.{Opening}
 use Rattle.volume_images.specs.Volumes.{shapes_of}
 use Rattle.rack.specs.Locked.{IsLocked}
 use Rattle.rack.specs.Opening.{IsOpeningRack}
-use Rattle.rack.specs.Parts.{TakesOpening, loggers_out}
-use Rattle.rack.specs.Racks.{base_of_station, IsOpenBase, IsStation, IsUnused}
-use Rattle.rack.specs.Rests.{image_here, IsImageOut, AreRooms}
-use Rattle.rack.specs.declared.heads_said.Said.{Said}
-use Rattle.rack.specs.declared.rack.ImageRest.{ImageRest}
-use Rattle.rack.specs.declared.rack.Rack.{Rack}
-use Rattle.rack.specs.declared.rack.Rest.{Rest}
-use Rattle.rack.specs.declared.rack.Rooms.{Rooms}
-use Rattle.rack.proofs.Asking.{some_at}
+use Rattle.rack_parts.specs.Parts.{TakesOpening, loggers_out}
+use Rattle.rack_parts.specs.Racks.{base_of_station, IsOpenBase, IsStation, IsUnused}
+use Rattle.rack_parts.specs.Rests.{image_here, IsImageOut, AreRooms}
+use Rattle.rack_parts.specs.declared.heads_said.Said.{Said}
+use Rattle.rack_parts.specs.declared.rack.ImageRest.{ImageRest}
+use Rattle.rack_parts.specs.declared.rack.Rack.{Rack}
+use Rattle.rack_parts.specs.declared.rack.Rest.{Rest}
+use Rattle.rack_parts.specs.declared.rack.Rooms.{Rooms}
+use Rattle.rack_closing.proofs.Places.{some_at}
 use Rattle.rack.proofs.OneClosable.{one_opening}
 use Rattle.rack.proofs.OpenBase.{open_base}
 use Rattle.rack.proofs.OpenNamed.{all_out, all_inside}

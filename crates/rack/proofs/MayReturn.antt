@@ -17,15 +17,15 @@ use Rattle.manager_recovery.specs.declared.opening.Opening.{Opening}
 use Rattle.manager_recovery.specs.declared.opening.OwnedPart.{OwnedPart}
 use Rattle.volume_images.specs.Volumes.{shapes_of}
 use Rattle.rack.specs.Opening.{IsOpeningRack}
-use Rattle.rack.specs.Parts.{TakesOpening, IsNewLane, IsBarePlace, CanPutLanes, IsOwedPlace, CanPutOwned, HasPlace, loggers_out, segments_of}
-use Rattle.rack.specs.Rests.{image_here, segment_here, IsRow}
-use Rattle.rack.specs.declared.heads_said.Said.{Said}
-use Rattle.rack.specs.declared.rack.Rack.{Rack}
-use Rattle.rack.specs.declared.rack.Rest.{Rest}
+use Rattle.rack_parts.specs.Parts.{TakesOpening, IsNewLane, IsBarePlace, CanPutLanes, IsOwedPlace, CanPutOwned, HasPlace, loggers_out, segments_of}
+use Rattle.rack_parts.specs.Rests.{image_here, segment_here, IsRow}
+use Rattle.rack_parts.specs.declared.heads_said.Said.{Said}
+use Rattle.rack_parts.specs.declared.rack.Rack.{Rack}
+use Rattle.rack_parts.specs.declared.rack.Rest.{Rest}
 use Rattle.rack.proofs.FatesOf.{kept_in_order, kept_owned}
-use Rattle.rack.proofs.Members.{all_member, first_in, later_in, in_cases, none_in, in_map, of_map, segment_in_image, here_within}
+use Rattle.rack_parts.proofs.Members.{all_member, first_in, later_in, in_cases, none_in, in_map, of_map, segment_in_image, here_within}
 use Rattle.rack.proofs.Openable.{IsInImage, parts_in_images}
-use Rattle.rack.proofs.OwnedSegments.{never_itself}
+use Rattle.rack_closing.proofs.OwnedSegments.{never_itself}
 use Rattle.rack.proofs.Takes.{parts, can_take}
 use Rattle.rack.proofs.Without as without
 
@@ -46,7 +46,7 @@ order_apart [] order = λ i j d lt within. absurd (omega (arith, within))
 order_apart {D} (o ∷ os) order = AllPairs-cons (λ (x y : OwnedPart D). place_of x ≢ place_of y) o os (all_member (λ (p : OwnedPart D). place_of o ≢ place_of p) os (λ p has same. never_itself (place_of p) (subst (λ (q : ℕ × ℕ). IsBefore q (place_of p)) same (behind p has)))) (order_apart os order.1)
   where
     behind : (p : OwnedPart D) → Contains os p → IsBefore (place_of o) (place_of p)
-    behind p has = Rattle.rack.proofs.Members.of_recursion (IsBefore (place_of o)) (map place_of os) (place_of p) order.0 (in_map place_of os p has)
+    behind p has = Rattle.rack_parts.proofs.Members.of_recursion (IsBefore (place_of o)) (map place_of os) (place_of p) order.0 (in_map place_of os p has)
 
 module _ {D : Type 0} (state : D → State) (tells : Bool) (config : Config) (valid : IsValid config) (b : BayState) (said : List (Option Said)) (id : ℕ) (r : Rack D) (own : Said)
     (ready : IsOpeningRack state config b said id r) (lt : id < length (shapes_of config)) (at : slice_get said id ≡ Some (Some own)) (view : List ℕ) (own_view : own.view ≡ view)

@@ -16,15 +16,15 @@ use Rattle.manager_recovery.specs.Opened.{Opens}
 use Rattle.manager_recovery.specs.Opening.{CanOpen, place_of}
 use Rattle.manager_recovery.specs.declared.opening.Opening.{Opening}
 use Rattle.volume_images.specs.Volumes.{shapes_of}
-use Rattle.rack.specs.Rests.{image_here, away_with, IsImageOut, IsRestBut, OnlyAccess}
-use Rattle.rack.specs.Racks.{base_of_station, IsOpenBase}
-use Rattle.rack.specs.Parts.{TakesOpening, IsNewLane, loggers_out, segments_of}
+use Rattle.rack_parts.specs.Rests.{image_here, away_with, IsImageOut, IsRestBut, OnlyAccess}
+use Rattle.rack_parts.specs.Racks.{base_of_station, IsOpenBase}
+use Rattle.rack_parts.specs.Parts.{TakesOpening, IsNewLane, loggers_out, segments_of}
 use Rattle.rack.specs.Opening.{IsOpeningRack}
-use Rattle.rack.specs.declared.heads_said.Said.{Said}
-use Rattle.rack.specs.declared.rack.Rack.{Rack}
-use Rattle.rack.specs.declared.rack.Rest.{Rest}
-use Rattle.rack.proofs.Asking.{some_at}
-use Rattle.rack.proofs.Members.{a_value}
+use Rattle.rack_parts.specs.declared.heads_said.Said.{Said}
+use Rattle.rack_parts.specs.declared.rack.Rack.{Rack}
+use Rattle.rack_parts.specs.declared.rack.Rest.{Rest}
+use Rattle.rack_closing.proofs.Places.{some_at}
+use Rattle.rack_parts.proofs.Members.{a_value}
 use Rattle.rack.proofs.OpenAway.{open_away, spindle_was}
 use Rattle.rack.proofs.OpenBase.{open_base}
 use Rattle.rack.proofs.OpenNamed.{all_out, all_inside}

@@ -28,14 +28,14 @@ use Rattle.volume_images.specs.declared.attach.OutImage.{OutImage}
 use Rattle.volume_images.proofs.HeadSteps.{only_same}
 use Rattle.volume_images.proofs.ReadOut.{parts_of, read_parts}
 use Rattle.volume_images.proofs.SentOut.{cut_sizes}
-use Rattle.rack.specs.Rests.{segment_here, IsPart, IsImageRest}
-use Rattle.rack.specs.Closing.{IsComplete}
-use Rattle.rack.specs.Opens.{IsAsRead}
+use Rattle.rack_parts.specs.Rests.{segment_here, IsPart, IsImageRest}
+use Rattle.rack_parts.specs.Closing.{IsComplete}
+use Rattle.rack_closing.specs.Opens.{IsAsRead}
 use Rattle.rack.specs.Opening.{IsSaidOf, HaveHeads, IsCutOf, AreCutOf, WasAtEntry}
-use Rattle.rack.specs.Parts.{IsLaidOut}
-use Rattle.rack.specs.declared.heads_said.Said.{Said}
-use Rattle.rack.specs.declared.rack.ImageRest.{ImageRest}
-use Rattle.rack.proofs.CutParts.{cut_reads, cut_had, cut_synced, cut_at}
+use Rattle.rack_parts.specs.Parts.{IsLaidOut}
+use Rattle.rack_parts.specs.declared.heads_said.Said.{Said}
+use Rattle.rack_parts.specs.declared.rack.ImageRest.{ImageRest}
+use Rattle.rack_closing.proofs.CutParts.{cut_reads, cut_had, cut_synced, cut_at}
 
 module _ {D : Type 0} (state : D → State) (sound : (d : D) → IsDisk (state d)) (volumes k : ℕ) (s : Shape) (blocks : Option (List (Values Block))) (o : OutImage D) (cut : IsCutOpenable state volumes k s blocks o) where
   sized_before : ArePartsOf state k s cut.before

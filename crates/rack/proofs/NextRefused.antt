@@ -19,12 +19,12 @@ use Rattle.volume_images.specs.declared.opening.ImageRefusal.{ImageRefusal}
 use Rattle.volume_images.specs.declared.opening.ImageRefusal.TheVariants as refusal
 use Rattle.volume_images.specs.declared.reading.ImageFault.{ImageFault}
 use Rattle.volume_images.specs.declared.reading.ImageFault.TheVariants as fault
-use Rattle.rack.specs.Opens.{fault_in_image, fault_of_image, HasFaulty, IsFaultAmong, HasNewFault, RefusesVolume, RefusesImage}
+use Rattle.rack_closing.specs.Opens.{fault_in_image, fault_of_image, HasFaulty, IsFaultAmong, HasNewFault, RefusesVolume, RefusesImage}
 use Rattle.rack.specs.Opening.{StayedAs}
-use Rattle.rack.specs.declared.volume_fault.VolumeFault.{VolumeFault}
-use Rattle.rack.specs.declared.volume_fault.VolumeFault.TheVariants.{Absent, WrongLength, BayFailed}
-use Rattle.rack.proofs.Members.{in_map}
-use Rattle.rack.proofs.NewFaults.{told_each}
+use Rattle.rack_parts.specs.declared.volume_fault.VolumeFault.{VolumeFault}
+use Rattle.rack_parts.specs.declared.volume_fault.VolumeFault.TheVariants.{Absent, WrongLength, BayFailed}
+use Rattle.rack_parts.proofs.Members.{in_map}
+use Rattle.rack_closing.proofs.NewFaults.{told_each}
 
 -- no further part came back with a fault
 pub no_more : (t : Told) → HasFaulty t t

@@ -26,17 +26,17 @@ use Rattle.manager.specs.declared.station.Station.{Station}
 use Rattle.manager_recovery.specs.Opening.{place_of}
 use Rattle.manager_recovery.specs.declared.opening.Opening.{Opening}
 use Rattle.volume_images.specs.Volumes.{shape_in, shapes_of}
-use Rattle.rack.specs.Rests.{image_here, segment_here, held_here, IsImageOut, IsRestBut, away_with, AreRooms}
-use Rattle.rack.specs.Racks.{base_of_station, AreRising, IsOpenBase, IsStation, IsUnused, IsClosable, KeepToViews}
-use Rattle.rack.specs.Parts.{TakesOpening, IsOwnedPlace, loggers_out}
+use Rattle.rack_parts.specs.Rests.{image_here, segment_here, held_here, IsImageOut, IsRestBut, away_with, AreRooms}
+use Rattle.rack_parts.specs.Racks.{base_of_station, AreRising, IsOpenBase, IsStation, IsUnused, IsClosable, KeepToViews}
+use Rattle.rack_parts.specs.Parts.{TakesOpening, IsOwnedPlace, loggers_out}
 use Rattle.rack.specs.Opening.{said_at, view_at, fault_at, IsSaidOf, AreTried, IsOpeningRack}
-use Rattle.rack.specs.declared.heads_said.Said.{Said}
-use Rattle.rack.specs.declared.rack.ImageRest.{ImageRest}
-use Rattle.rack.specs.declared.rack.Rack.{Rack}
-use Rattle.rack.specs.declared.rack.Rest.{Rest}
-use Rattle.rack.specs.declared.rack.Rooms.{Rooms}
-use Rattle.rack.proofs.Asking.{some_at}
-use Rattle.rack.proofs.Members.{segment_in_image, a_value, no_value, here_within}
+use Rattle.rack_parts.specs.declared.heads_said.Said.{Said}
+use Rattle.rack_parts.specs.declared.rack.ImageRest.{ImageRest}
+use Rattle.rack_parts.specs.declared.rack.Rack.{Rack}
+use Rattle.rack_parts.specs.declared.rack.Rest.{Rest}
+use Rattle.rack_parts.specs.declared.rack.Rooms.{Rooms}
+use Rattle.rack_closing.proofs.Places.{some_at}
+use Rattle.rack_parts.proofs.Members.{segment_in_image, a_value, no_value, here_within}
 use Rattle.rack.proofs.OneOpened.{with_rooms, rising_push, base_stays, out_stays}
 use Rattle.rack.proofs.OpenAway.{open_away, WasHere, was_here, segment_was, pool_was, spindle_was, held_none, owner_of}
 use Rattle.rack.proofs.Takes.{image_id, said_id}

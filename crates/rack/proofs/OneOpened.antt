@@ -9,11 +9,11 @@ use Rattle.wol_bay.specs.Bay.{BayState}
 use Rattle.wol_config.specs.declared.config.Config.{Config}
 use Rattle.manager.specs.declared.base.ManagerBase.{ManagerBase}
 use Rattle.logger.specs.declared.shared.Shared.{Shared}
-use Rattle.rack.specs.Rests.{image_here, IsImageOut, Away, IsRestBut}
-use Rattle.rack.specs.Racks.{AreOut, AreRising, IsOpenBase}
-use Rattle.rack.specs.declared.rack.ImageRest.{ImageRest}
-use Rattle.rack.specs.declared.rack.Rest.{Rest}
-use Rattle.rack.specs.declared.rack.Rooms.{Rooms}
+use Rattle.rack_parts.specs.Rests.{image_here, IsImageOut, Away, IsRestBut}
+use Rattle.rack_parts.specs.Racks.{AreOut, AreRising, IsOpenBase}
+use Rattle.rack_parts.specs.declared.rack.ImageRest.{ImageRest}
+use Rattle.rack_parts.specs.declared.rack.Rest.{Rest}
+use Rattle.rack_parts.specs.declared.rack.Rooms.{Rooms}
 
 -- the rooms of a rest don't matter for its parts
 pub with_rooms : {D : Type 0} (state : D → State) (config : Config) (shared : Shared D) (away : Away) (q : Rest D) (rooms : Rooms D) → IsRestBut state config shared away q → IsRestBut state config shared away (record q { rooms = rooms })

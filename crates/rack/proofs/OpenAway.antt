@@ -23,16 +23,16 @@ use Rattle.manager.specs.declared.station.Station.{Station}
 use Rattle.manager_recovery.specs.Opening.{place_of}
 use Rattle.manager_recovery.specs.declared.opening.Opening.{Opening}
 use Rattle.volume_images.specs.Volumes.{shapes_of}
-use Rattle.rack.specs.Rests.{image_here, segment_here, pool_pass, spindle_pass, held_here, indexes_here, away_with, IsRestBut, IsImageRest, IsPart, IsRow, IsHeldHere}
-use Rattle.rack.specs.Racks.{base_of_station}
-use Rattle.rack.specs.Parts.{TakesOpening, IsTakenOf, IsOwnedPlace, loggers_out, segment_in}
+use Rattle.rack_parts.specs.Rests.{image_here, segment_here, pool_pass, spindle_pass, held_here, indexes_here, away_with, IsRestBut, IsImageRest, IsPart, IsRow, IsHeldHere}
+use Rattle.rack_parts.specs.Racks.{base_of_station}
+use Rattle.rack_parts.specs.Parts.{TakesOpening, IsTakenOf, IsOwnedPlace, loggers_out, segment_in}
 use Rattle.rack.specs.Opening.{IsOpeningRack}
-use Rattle.rack.specs.declared.heads_said.Said.{Said}
-use Rattle.rack.specs.declared.rack.ImageRest.{ImageRest}
-use Rattle.rack.specs.declared.rack.Rack.{Rack}
-use Rattle.rack.specs.declared.rack.Rest.{Rest}
-use Rattle.rack.proofs.LanesAway.{lane_stays, lane_came, lane_cases, home_stays, home_came, home_cases, is_lane_of}
-use Rattle.rack.proofs.Members.{segment_in_image, a_value, in_cases, first_in, later_in}
+use Rattle.rack_parts.specs.declared.heads_said.Said.{Said}
+use Rattle.rack_parts.specs.declared.rack.ImageRest.{ImageRest}
+use Rattle.rack_parts.specs.declared.rack.Rack.{Rack}
+use Rattle.rack_parts.specs.declared.rack.Rest.{Rest}
+use Rattle.rack_parts.proofs.LanesAway.{lane_stays, lane_came, lane_cases, home_stays, home_came, home_cases, is_lane_of}
+use Rattle.rack_parts.proofs.Members.{segment_in_image, a_value, in_cases, first_in, later_in}
 use Rattle.rack.proofs.Takes.{parts, contains_map}
 use Rattle.rack.proofs.Without as without
 

@@ -18,9 +18,9 @@ use Rattle.manager.specs.declared.manager.Manager.{Manager}
 use Rattle.manager_recovery.specs.Opened.{Opens, CountsTakes}
 use Rattle.manager_recovery.specs.declared.opening.Opening.{Opening}
 use Rattle.volume_images.specs.Volumes.{shapes_of}
-use Rattle.rack.specs.Rests.{IsImageOut}
-use Rattle.rack.specs.Racks.{IsOpenBase}
-use Rattle.rack.specs.declared.rack.ImageRest.{ImageRest}
+use Rattle.rack_parts.specs.Rests.{IsImageOut}
+use Rattle.rack_parts.specs.Racks.{IsOpenBase}
+use Rattle.rack_parts.specs.declared.rack.ImageRest.{ImageRest}
 use Rattle.wol_config.specs.Configs.{most_of}
 
 module _ {D : Type 0} where

@@ -12,10 +12,10 @@ use Rattle.manager_recovery.specs.declared.opening.Opening.{Opening}
 use Rattle.manager_recovery.specs.declared.opening.OwnedPart.{OwnedPart}
 use Rattle.manager_recovery.proofs.Indexing.{all_named}
 use Rattle.manager_recovery.proofs.Places.{at_position, loggers_are}
-use Rattle.rack.specs.Parts.{TakesOpening, loggers_out}
-use Rattle.rack.specs.declared.heads_said.Said.{Said}
-use Rattle.rack.specs.declared.rack.Rest.{Rest}
-use Rattle.rack.proofs.Members.{a_value, of_recursion}
+use Rattle.rack_parts.specs.Parts.{TakesOpening, loggers_out}
+use Rattle.rack_parts.specs.declared.heads_said.Said.{Said}
+use Rattle.rack_parts.specs.declared.rack.Rest.{Rest}
+use Rattle.rack_parts.proofs.Members.{a_value, of_recursion}
 use Rattle.rack.proofs.Takes.{contains_map}
 
 logger_named : (view : List ℕ) (logger : ℕ) → is_named view logger ≡ true → Contains view logger

@@ -29,16 +29,16 @@ use Rattle.manager_recovery.specs.declared.opening.Opening.{Opening}
 use Rattle.manager_recovery.specs.declared.opening.OwnedPart.{OwnedPart}
 use Rattle.volume_images.specs.Accepted.{head_place}
 use Rattle.volume_images.specs.Volumes.{shapes_of}
-use Rattle.rack.specs.Rests.{image_here, segment_here, away_with, IsRestBut, IsPart, IsRow}
-use Rattle.rack.specs.Racks.{base_of_station}
+use Rattle.rack_parts.specs.Rests.{image_here, segment_here, away_with, IsRestBut, IsPart, IsRow}
+use Rattle.rack_parts.specs.Racks.{base_of_station}
 use Rattle.manager.specs.declared.station.Station.{Station}
-use Rattle.rack.specs.Parts.{TakesOpening, IsNewLane, IsTakenOf, loggers_out, segments_of, holder_by, holder_said, IsOwnedPlace, IsHomeAway, IsSameBut, with_home}
+use Rattle.rack_parts.specs.Parts.{TakesOpening, IsNewLane, IsTakenOf, loggers_out, segments_of, holder_by, holder_said, IsOwnedPlace, IsHomeAway, IsSameBut, with_home}
 use Rattle.rack.specs.Opening.{said_at, IsOpeningRack}
-use Rattle.rack.specs.declared.heads_said.Said.{Said}
-use Rattle.rack.specs.declared.rack.ImageRest.{ImageRest}
-use Rattle.rack.specs.declared.rack.Rack.{Rack}
-use Rattle.rack.specs.declared.rack.Rest.{Rest}
-use Rattle.rack.proofs.Asking.{some_at}
+use Rattle.rack_parts.specs.declared.heads_said.Said.{Said}
+use Rattle.rack_parts.specs.declared.rack.ImageRest.{ImageRest}
+use Rattle.rack_parts.specs.declared.rack.Rack.{Rack}
+use Rattle.rack_parts.specs.declared.rack.Rest.{Rest}
+use Rattle.rack_closing.proofs.Places.{some_at}
 use Rattle.rack.proofs.Shapes.{valid_shape}
 use Rattle.rack.proofs.Takes.{parts, image_id}
 
@@ -203,7 +203,7 @@ module _ {D : Type 0} (state : D → State) (config : Config) (valid : IsValid c
     where
       of_head : Option Rattle.log_layout.specs.declared.segment.SegHead.SegHead → Holder
       of_head None = Rattle.seg_pool.specs.declared.base.Holder.TheVariants.Elsewhere
-      of_head (Some h) = Rattle.rack.specs.Parts.holder_said h
+      of_head (Some h) = Rattle.rack_parts.specs.Parts.holder_said h
 
   owned_part : (p : OwnedPart D) → IsInImage p → IsOwned state o.lanes.items p
   owned_part p is =

@@ -28,26 +28,29 @@ use Rattle.manager.specs.declared.station.Station.{Station}
 use Rattle.manager_recovery.specs.declared.refusal.OpenRefusal.TheVariants.{DiskFault}
 use Rattle.volume_images.specs.Left.{IsTold}
 use Rattle.volume_images.specs.Volumes.{shape_in, shapes_of, NoneOut}
-use Rattle.rack.specs.Rests.{image_here, segment_here, IsImageOut}
-use Rattle.rack.specs.Making.{AreSettled}
-use Rattle.rack.specs.Parts.{in_image, segment_in, IsSetUp}
-use Rattle.rack.specs.Owners.{HadRefused}
-use Rattle.rack.specs.Opens.{out_names, AreViewsAsRead, HasFaulty, KeepsOthers, RefusesVolume, WasAccepted, WereThere, LeavesAll, KeepsAllSound}
+use Rattle.rack_parts.specs.Rests.{image_here, segment_here, IsImageOut, out_names}
+use Rattle.rack_parts.specs.Locks.{AreSettled}
+use Rattle.rack_parts.specs.Parts.{in_image, segment_in}
+use Rattle.rack.specs.Making.{IsSetUp}
+use Rattle.rack_closing.specs.Owners.{HadRefused}
+use Rattle.rack_closing.specs.Opens.{AreViewsAsRead, HasFaulty, KeepsOthers, RefusesVolume, WasAccepted, WereThere, LeavesAll, KeepsAllSound}
 use Rattle.rack.specs.Opening.{view_at, IsTaken, StayedSo, HaveFaults, HasFaultOf, AreSameOut}
-use Rattle.rack.specs.Closes.{AreLeftOfParts, HasFaultAt, IsNamedHere, has_station, is_kept_home, flight_in, IsQuiet, LeavesVolumes}
-use Rattle.rack.specs.Closing.{LeavesNoneOut}
-use Rattle.rack.specs.Racks.{IsUnused, AreUnused}
+use Rattle.rack_closing.specs.Closes.{AreLeftOfParts, HasFaultAt, IsNamedHere, has_station, is_kept_home, flight_in, IsQuiet, LeavesVolumes}
+use Rattle.rack_parts.specs.Closing.{LeavesNoneOut}
+use Rattle.rack_parts.specs.Racks.{IsUnused, AreUnused}
 use Rattle.rack.specs.declared.all.Taken.{Taken}
-use Rattle.rack.specs.declared.heads_said.Said.{Said}
-use Rattle.rack.specs.declared.locks.Issued.{Issued}
-use Rattle.rack.specs.declared.rack.ImageRest.{ImageRest}
-use Rattle.rack.specs.declared.rack.Rack.{Rack}
-use Rattle.rack.specs.declared.volume_fault.VolumeFault.{VolumeFault}
-use Rattle.rack.specs.declared.volume_fault.VolumeFault.TheVariants.{Refused}
-use Rattle.rack.proofs.Asking.{some_at, refuses_later}
-use Rattle.rack.proofs.NewFaults.{told_each, told_with}
+use Rattle.rack_parts.specs.declared.heads_said.Said.{Said}
+use Rattle.rack_parts.specs.declared.locks.Issued.{Issued}
+use Rattle.rack_parts.specs.declared.rack.ImageRest.{ImageRest}
+use Rattle.rack_parts.specs.declared.rack.Rack.{Rack}
+use Rattle.rack_parts.specs.declared.volume_fault.VolumeFault.{VolumeFault}
+use Rattle.rack_parts.specs.declared.volume_fault.VolumeFault.TheVariants.{Refused}
+use Rattle.rack_closing.proofs.Places.{some_at}
+use Rattle.rack.proofs.Asking.{refuses_later}
+use Rattle.rack_closing.proofs.NewFaults.{told_each, told_with}
 use Rattle.rack.proofs.StillThere.{there_left}
-use Rattle.rack.proofs.SentNames.{names_differ, names_alike, none_named}
+use Rattle.rack_closing.proofs.Names.{names_differ}
+use Rattle.rack.proofs.SentNames.{names_alike, none_named}
 use Rattle.rack.proofs.TakenReady.{alike}
 
 -- lists with the same images out
@@ -164,8 +167,8 @@ fresh_passes {D} tells state config b b1 t taken r set_up = λ k d lt. unused k 
         let same = get_or_from_slice_get t.spindles.items k i.0 i.0 i.1 in
         let settled : AreSettled k i.0 = subst (AreSettled k) same (taken.spindles.settled k i.0 within) in
         let count : length i.0.passes.items ≡ length t.spindles.items + 1 =
-        (subst (λ (x : Issued Spindle SpindleBase). Rattle.rack.specs.Making.IsInOrder x) same (taken.spindles.each k i.0 within)).whole.count
-        ∙ (subst (λ (x : Issued Spindle SpindleBase). Rattle.rack.specs.Rests.IsSpindleLock (length config.volumes.items) k config.timeout x.lock) same (taken.spindles.spindles k i.0 within)).passes
+        (subst (λ (x : Issued Spindle SpindleBase). Rattle.rack_parts.specs.Locks.IsInOrder x) same (taken.spindles.each k i.0 within)).whole.count
+        ∙ (subst (λ (x : Issued Spindle SpindleBase). Rattle.rack_parts.specs.Rests.IsSpindleLock (length config.volumes.items) k config.timeout x.lock) same (taken.spindles.spindles k i.0 within)).passes
         ∙ ap (λ (n : ℕ). n + 1) (sym taken.spindle_count) in
         let p = some_at i.0.passes.items (length t.spindles.items) (omega (arith, count)) in
         let is : slice_index_or r.keepers.items k d ≡ p.0 = get_or_from_slice_get r.keepers.items k p.0 d (set_up.keepers k i.0 i.1 ∙ p.1) in

@@ -38,24 +38,24 @@ use Rattle.volume_images.specs.Accepted.{head_place}
 use Rattle.volume_images.specs.Volumes.{shape_in, shapes_of}
 use Rattle.rack.specs.Locked.{IsLocked}
 use Rattle.rack.specs.Opening.{HasBegun, IsOpeningRack, said_at, fault_at}
-use Rattle.rack.specs.Opens.{IsLeftHere, IsGone}
-use Rattle.rack.specs.Owners.{images_taken, AreOwnedIn, BeganInPlace, IsBegun, IsOpeningOf}
-use Rattle.rack.specs.Parts.{TakesOpening, loggers_out, segment_in}
-use Rattle.rack.specs.Racks.{base_of_station}
-use Rattle.rack.specs.Rests.{image_here, segment_here, held_here, IsSegmentHere}
-use Rattle.rack.specs.declared.heads_said.Said.{Said}
-use Rattle.rack.specs.declared.rack.ImageRest.{ImageRest}
-use Rattle.rack.specs.declared.rack.Rack.{Rack}
-use Rattle.rack.specs.declared.rack.Rest.{Rest}
-use Rattle.rack.specs.declared.rack.Rooms.{Rooms}
-use Rattle.rack.specs.declared.volume_fault.VolumeFault.{VolumeFault}
-use Rattle.rack.proofs.CutParts.{reads_range}
-use Rattle.rack.proofs.Members.{segment_in_image, none_in, of_map, is_member}
+use Rattle.rack_closing.specs.Opens.{IsLeftHere, IsGone}
+use Rattle.rack_closing.specs.Owners.{images_taken, AreOwnedIn, BeganInPlace, IsBegun, IsOpeningOf}
+use Rattle.rack_parts.specs.Parts.{TakesOpening, loggers_out, segment_in}
+use Rattle.rack_parts.specs.Racks.{base_of_station}
+use Rattle.rack_parts.specs.Rests.{image_here, segment_here, held_here, IsSegmentHere}
+use Rattle.rack_parts.specs.declared.heads_said.Said.{Said}
+use Rattle.rack_parts.specs.declared.rack.ImageRest.{ImageRest}
+use Rattle.rack_parts.specs.declared.rack.Rack.{Rack}
+use Rattle.rack_parts.specs.declared.rack.Rest.{Rest}
+use Rattle.rack_parts.specs.declared.rack.Rooms.{Rooms}
+use Rattle.rack_parts.specs.declared.volume_fault.VolumeFault.{VolumeFault}
+use Rattle.rack_closing.proofs.CutParts.{reads_range}
+use Rattle.rack_parts.proofs.Members.{segment_in_image, none_in, of_map, is_member}
 use Rattle.rack.proofs.OpenAway.{is_pair}
 use Rattle.rack.proofs.Openable.{IsInImage, parts_in_images}
 use Rattle.rack.proofs.OpeningOf.{sized, opening_of, read_at}
-use Rattle.rack.proofs.OwnedSegments.{recovered_owned}
-use Rattle.rack.proofs.SameOut.{same_out, taken_same}
+use Rattle.rack_closing.proofs.OwnedSegments.{recovered_owned}
+use Rattle.rack_closing.proofs.SameOut.{same_out, taken_same}
 use Rattle.rack.proofs.Takes.{image_id}
 use Rattle.rack.proofs.Without as without
 

@@ -24,16 +24,16 @@ use Rattle.manager_recovery.specs.declared.opening.Opening.{Opening}
 use Rattle.manager_recovery.specs.declared.opening.OwnedPart.{OwnedPart}
 use Rattle.volume_images.specs.Volumes.{shape_in, shapes_of, image_read, images_read}
 use Rattle.rack.specs.Opening.{said_at, SaysOf, AreStillCut, IsOpeningRack}
-use Rattle.rack.specs.Owners.{images_taken, IsOwnedIn, IsOpeningOf}
-use Rattle.rack.specs.Parts.{TakesOpening, IsOwnedPlace}
-use Rattle.rack.specs.Rests.{image_here}
-use Rattle.rack.specs.declared.heads_said.Said.{Said}
-use Rattle.rack.specs.declared.rack.ImageRest.{ImageRest}
-use Rattle.rack.specs.declared.rack.Rack.{Rack}
-use Rattle.rack.specs.declared.rack.Rest.{Rest}
-use Rattle.rack.proofs.Asking.{some_at}
-use Rattle.rack.proofs.FinalImages.{accepted_at, volume_at}
-use Rattle.rack.proofs.Members.{all_member, of_map, in_map, map_map, here_within}
+use Rattle.rack_closing.specs.Owners.{images_taken, IsOwnedIn, IsOpeningOf}
+use Rattle.rack_parts.specs.Parts.{TakesOpening, IsOwnedPlace}
+use Rattle.rack_parts.specs.Rests.{image_here}
+use Rattle.rack_parts.specs.declared.heads_said.Said.{Said}
+use Rattle.rack_parts.specs.declared.rack.ImageRest.{ImageRest}
+use Rattle.rack_parts.specs.declared.rack.Rack.{Rack}
+use Rattle.rack_parts.specs.declared.rack.Rest.{Rest}
+use Rattle.rack_closing.proofs.Places.{some_at}
+use Rattle.rack_closing.proofs.FinalImages.{accepted_at, volume_at}
+use Rattle.rack_parts.proofs.Members.{all_member, of_map, in_map, map_map, here_within}
 use Rattle.rack.proofs.Openable.{IsInImage, parts_in_images}
 use Rattle.rack.proofs.Takes.{image_id}
 

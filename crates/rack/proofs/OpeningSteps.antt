@@ -9,14 +9,14 @@ use Rattle.wol_config.specs.declared.config.Config.{Config}
 use Rattle.manager.specs.declared.station.Station.{Station}
 use Rattle.volume_images.specs.Volumes.{shapes_of}
 use Rattle.rack.specs.Opening.{said_at, view_at, fault_at, IsOpeningRack, HasBegun, AreRefusedBelow, HaveFaults}
-use Rattle.rack.specs.Opens.{AreRefused}
-use Rattle.rack.specs.Racks.{IsRack}
-use Rattle.rack.specs.Rests.{image_here}
-use Rattle.rack.specs.declared.heads_said.Said.{Said}
-use Rattle.rack.specs.declared.rack.ImageRest.{ImageRest}
-use Rattle.rack.specs.declared.rack.Rack.{Rack}
-use Rattle.rack.proofs.Asking.{some_at}
-use Rattle.rack.proofs.Members.{of_map, none_in, in_cases}
+use Rattle.rack_closing.specs.Opens.{AreRefused}
+use Rattle.rack_parts.specs.Racks.{IsRack}
+use Rattle.rack_parts.specs.Rests.{image_here}
+use Rattle.rack_parts.specs.declared.heads_said.Said.{Said}
+use Rattle.rack_parts.specs.declared.rack.ImageRest.{ImageRest}
+use Rattle.rack_parts.specs.declared.rack.Rack.{Rack}
+use Rattle.rack_closing.proofs.Places.{some_at}
+use Rattle.rack_parts.proofs.Members.{of_map, none_in, in_cases}
 
 -- a member has a place
 place_of : {X : Type 0} (xs : List X) (x : X) → Contains xs x → (k : ℕ) × (slice_get xs k ≡ Some x)

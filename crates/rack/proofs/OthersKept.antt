@@ -4,11 +4,11 @@ use Rattle.wol_disk.specs.Disk.{State}
 use Rattle.wol_bay.specs.Bay.{Told, BayState}
 use Rattle.wol_config.specs.declared.config.Config.{Config}
 use Rattle.volume_images.specs.Left.{IsTold}
-use Rattle.rack.specs.Closing.{GivesBack}
-use Rattle.rack.specs.Opens.{KeepsOthers}
+use Rattle.rack_parts.specs.Closing.{GivesBack}
+use Rattle.rack_closing.specs.Opens.{KeepsOthers}
 use Rattle.rack.specs.Opening.{HasSentOut, StayedSo}
-use Rattle.rack.specs.declared.rack.ImageRest.{ImageRest}
-use Rattle.rack.proofs.NewFaults.{told_each}
+use Rattle.rack_parts.specs.declared.rack.ImageRest.{ImageRest}
+use Rattle.rack_closing.proofs.NewFaults.{told_each}
 
 pub others_same : (config : Config) (o : Option Told) → IsTold (KeepsOthers config) o o
 others_same config None = refl

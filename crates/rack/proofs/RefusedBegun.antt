@@ -25,28 +25,28 @@ use Rattle.manager_recovery.specs.declared.refusal.OpenRefusal.{OpenRefusal}
 use Rattle.volume_images.specs.Accepted.{head_place}
 use Rattle.volume_images.specs.Volumes.{shape_in, shapes_of}
 use Rattle.rack.specs.Opening.{said_at, fault_at, IsOpeningRack, AreStillCut, HasBegun, AreRefusedBelow}
-use Rattle.rack.specs.Opens.{HadBefore, HadSegmentBefore, IsLeftHere, IsGone, RefusesVolume}
-use Rattle.rack.specs.Owners.{images_taken, BeganInPlace, IsBegun}
-use Rattle.rack.specs.Parts.{TakesOpening, PutsOpening, segment_in}
-use Rattle.rack.specs.Racks.{base_of_station, NamesVolumes}
-use Rattle.rack.specs.Rests.{image_here, segment_here, IsSegmentHere}
-use Rattle.rack.specs.declared.heads_said.Said.{Said}
-use Rattle.rack.specs.declared.rack.ImageRest.{ImageRest}
-use Rattle.rack.specs.declared.rack.Rack.{Rack}
-use Rattle.rack.specs.declared.rack.Rest.{Rest}
-use Rattle.rack.specs.declared.volume_fault.VolumeFault.{VolumeFault}
-use Rattle.rack.specs.declared.volume_fault.VolumeFault.TheVariants as volume_fault
+use Rattle.rack_closing.specs.Opens.{HadBefore, HadSegmentBefore, IsLeftHere, IsGone, RefusesVolume}
+use Rattle.rack_closing.specs.Owners.{images_taken, BeganInPlace, IsBegun}
+use Rattle.rack_parts.specs.Parts.{TakesOpening, PutsOpening, segment_in}
+use Rattle.rack_parts.specs.Racks.{base_of_station, NamesVolumes}
+use Rattle.rack_parts.specs.Rests.{image_here, segment_here, IsSegmentHere}
+use Rattle.rack_parts.specs.declared.heads_said.Said.{Said}
+use Rattle.rack_parts.specs.declared.rack.ImageRest.{ImageRest}
+use Rattle.rack_parts.specs.declared.rack.Rack.{Rack}
+use Rattle.rack_parts.specs.declared.rack.Rest.{Rest}
+use Rattle.rack_parts.specs.declared.volume_fault.VolumeFault.{VolumeFault}
+use Rattle.rack_parts.specs.declared.volume_fault.VolumeFault.TheVariants as volume_fault
 use Rattle.rack.proofs.BackAgain as back_again
 use Rattle.rack.proofs.BackAgain.{still_here, handed_on}
 use Rattle.rack.proofs.Fates.{kept_had, freed_gone}
 use Rattle.rack.proofs.FatesOf.{FateAt, stayed, went}
-use Rattle.rack.proofs.Members.{none_in, segment_in_image}
+use Rattle.rack_parts.proofs.Members.{none_in, segment_in_image}
 use Rattle.rack.proofs.OpenAway.{is_pair}
 use Rattle.rack.proofs.Openable.{parts_in_images}
 use Rattle.rack.proofs.OpeningOf.{opening_of}
 use Rattle.rack.proofs.RefusedRack.{next, image_before, segment_now, place_at, named, fault_own, fault_other}
 use Rattle.rack.proofs.RestAgain.{owner_is}
-use Rattle.rack.proofs.SameOut.{taken_same, opening_too, refuses_too}
+use Rattle.rack_closing.proofs.SameOut.{taken_same, opening_too, refuses_too}
 use Rattle.rack.proofs.Takes.{image_id}
 
 module _ {D : Type 0} (state : D → State) (sound : (d : D) → IsDisk (state d)) (tells : Bool) (config : Config) (valid : IsValid config) (b : BayState) (said : List (Option Said)) (id : ℕ) (r : Rack D) (own : Said)
@@ -150,7 +150,7 @@ module _ {D : Type 0} (state : D → State) (sound : (d : D) → IsDisk (state d
         after = n;
         of = λ t telling told.
             let opening = opening_of state config valid b said id r own ready lt at view own_view away o takes t (begun telling t told).cut in
-            subst (λ (j : ℕ). Rattle.rack.specs.Owners.IsOpeningOf state config last.images.items (images_taken config last.images.items t) j o) (sym e)
+            subst (λ (j : ℕ). Rattle.rack_closing.specs.Owners.IsOpeningOf state config last.images.items (images_taken config last.images.items t) j o) (sym e)
             (opening_too r.rest.images.items last.images.items (sym same_out) state config t id o opening);
         refuses = refuses;
       })))

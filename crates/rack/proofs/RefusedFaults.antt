@@ -20,19 +20,19 @@ use Rattle.manager_recovery.specs.declared.refusal.OpenRefusal.{OpenRefusal}
 use Rattle.manager_recovery.specs.declared.refusal.OpenRefusal.TheVariants.{DiskFault}
 use Rattle.volume_images.specs.Volumes.{shapes_of}
 use Rattle.rack.specs.Opening.{fault_at, IsOpeningRack, HasFaultOf, HaveFaults}
-use Rattle.rack.specs.Parts.{TakesOpening, PutsOpening, IsOwnedPlace}
-use Rattle.rack.specs.Racks.{NamesVolumes}
-use Rattle.rack.specs.declared.heads_said.Said.{Said}
-use Rattle.rack.specs.declared.rack.Rack.{Rack}
-use Rattle.rack.specs.declared.rack.Rest.{Rest}
-use Rattle.rack.specs.declared.volume_fault.VolumeFault.{VolumeFault}
-use Rattle.rack.specs.declared.volume_fault.VolumeFault.TheVariants as volume_fault
+use Rattle.rack_parts.specs.Parts.{TakesOpening, PutsOpening, IsOwnedPlace}
+use Rattle.rack_parts.specs.Racks.{NamesVolumes}
+use Rattle.rack_parts.specs.declared.heads_said.Said.{Said}
+use Rattle.rack_parts.specs.declared.rack.Rack.{Rack}
+use Rattle.rack_parts.specs.declared.rack.Rest.{Rest}
+use Rattle.rack_parts.specs.declared.volume_fault.VolumeFault.{VolumeFault}
+use Rattle.rack_parts.specs.declared.volume_fault.VolumeFault.TheVariants as volume_fault
 use Rattle.rack.proofs.BackAgain as back_again
 use Rattle.rack.proofs.FatesOf.{kept_owned}
 use Rattle.rack.proofs.MayReturn.{owned_at}
 use Rattle.rack.proofs.RefusedRack.{next, place_at, named, fault_own, fault_other}
 use Rattle.rack.proofs.RestAgain.{owner_is}
-use Rattle.rack.proofs.SameOut.{out_too}
+use Rattle.rack_closing.proofs.SameOut.{out_too}
 use Rattle.rack.proofs.Takes.{image_id}
 
 -- a count that rose isn't zero

@@ -15,13 +15,13 @@ use Rattle.manager_recovery.specs.declared.refusal.OpenRefusal.{OpenRefusal}
 use Rattle.manager_recovery.specs.declared.refusal.OpenRefusal.TheVariants.{LabelDiffers, LoggerMissing, OutsideView, Damaged, Twins, DiskFault, NoMemory}
 use Rattle.volume_images.specs.Volumes.{shapes_of}
 use Rattle.rack.specs.Opening.{IsOpeningRack}
-use Rattle.rack.specs.Parts.{TakesOpening}
-use Rattle.rack.specs.Racks.{NamesVolumes}
-use Rattle.rack.specs.declared.heads_said.Said.{Said}
-use Rattle.rack.specs.declared.rack.Rack.{Rack}
-use Rattle.rack.specs.declared.rack.Rest.{Rest}
-use Rattle.rack.specs.declared.volume_fault.VolumeFault.TheVariants.{Refused}
-use Rattle.rack.proofs.Members.{first_in, later_in, of_map}
+use Rattle.rack_parts.specs.Parts.{TakesOpening}
+use Rattle.rack_parts.specs.Racks.{NamesVolumes}
+use Rattle.rack_parts.specs.declared.heads_said.Said.{Said}
+use Rattle.rack_parts.specs.declared.rack.Rack.{Rack}
+use Rattle.rack_parts.specs.declared.rack.Rest.{Rest}
+use Rattle.rack_parts.specs.declared.volume_fault.VolumeFault.TheVariants.{Refused}
+use Rattle.rack_parts.proofs.Members.{first_in, later_in, of_map}
 use Rattle.rack.proofs.Openable.{IsInImage, parts_in_images}
 
 -- what was found in a list is one of it

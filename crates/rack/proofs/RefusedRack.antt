@@ -36,29 +36,29 @@ use Rattle.manager_recovery.specs.declared.opening.OwnedPart.{OwnedPart}
 use Rattle.manager_recovery.specs.declared.refusal.OpenRefusal.{OpenRefusal}
 use Rattle.manager_recovery.specs.declared.refusal.OpenRefusal.TheVariants.{LabelDiffers, LoggerMissing, OutsideView, Damaged, Twins, DiskFault, NoMemory}
 use Rattle.volume_images.specs.Volumes.{shape_in, shapes_of}
-use Rattle.rack.specs.Foreign.{IsForeign}
+use Rattle.rack_parts.specs.Foreign.{IsForeign}
 use Rattle.rack.specs.Opening.{said_at, view_at, fault_at, AreOwnersHere, AreTried, IsOpeningRack, IsStopped}
-use Rattle.rack.specs.Parts.{TakesOpening, PutsOpening, IsOwnedPlace, loggers_out}
-use Rattle.rack.specs.Racks.{base_of_station, NamesVolumes, IsClosable}
-use Rattle.rack.specs.Rests.{image_here, segment_here, held_here, IsImageOut, AreRooms}
-use Rattle.rack.specs.declared.heads_said.Said.{Said}
-use Rattle.rack.specs.declared.rack.ImageRest.{ImageRest}
-use Rattle.rack.specs.declared.rack.Rack.{Rack}
-use Rattle.rack.specs.declared.rack.Rest.{Rest}
-use Rattle.rack.specs.declared.volume_fault.VolumeFault.{VolumeFault}
-use Rattle.rack.specs.declared.volume_fault.VolumeFault.TheVariants as volume_fault
+use Rattle.rack_parts.specs.Parts.{TakesOpening, PutsOpening, IsOwnedPlace, loggers_out}
+use Rattle.rack_parts.specs.Racks.{base_of_station, NamesVolumes, IsClosable}
+use Rattle.rack_parts.specs.Rests.{image_here, segment_here, held_here, IsImageOut, AreRooms}
+use Rattle.rack_parts.specs.declared.heads_said.Said.{Said}
+use Rattle.rack_parts.specs.declared.rack.ImageRest.{ImageRest}
+use Rattle.rack_parts.specs.declared.rack.Rack.{Rack}
+use Rattle.rack_parts.specs.declared.rack.Rest.{Rest}
+use Rattle.rack_parts.specs.declared.volume_fault.VolumeFault.{VolumeFault}
+use Rattle.rack_parts.specs.declared.volume_fault.VolumeFault.TheVariants as volume_fault
 use Rattle.rack.proofs.BackAgain as back_again
 use Rattle.rack.proofs.BackAgain.{as_it_was, of_a_lane, spindle_still, spindle_of_home, spindle_of_lane, still_here, handed_on}
 use Rattle.rack.proofs.Fates.{kept_says}
 use Rattle.rack.proofs.FatesOf.{none_freed, freed_owned}
 use Rattle.rack.proofs.MayReturn as may
-use Rattle.rack.proofs.Members.{a_value, no_value, none_in, of_map, segment_in_image, here_within}
+use Rattle.rack_parts.proofs.Members.{a_value, no_value, none_in, of_map, segment_in_image, here_within}
 use Rattle.rack.proofs.OneClosable.{one_owner}
 use Rattle.rack.proofs.OneOpened.{base_stays, out_stays}
 use Rattle.rack.proofs.Openable.{can_open}
 use Rattle.rack.proofs.OpenNamed.{all_out, all_inside}
 use Rattle.rack.proofs.RestAgain.{rest_again, only_accesses, held_was, owner_is}
-use Rattle.rack.proofs.SameOut.{out_too}
+use Rattle.rack_closing.proofs.SameOut.{out_too}
 use Rattle.rack.proofs.Takes.{no_base, said_id}
 
 module _ {D : Type 0} (state : D → State) (sound : (d : D) → IsDisk (state d)) (tells : Bool) (config : Config) (valid : IsValid config) (b : BayState) (said : List (Option Said)) (id : ℕ) (r : Rack D) (own : Said)

@@ -30,19 +30,19 @@ use Rattle.manager_recovery.specs.Opening.{place_of}
 use Rattle.manager_recovery.specs.declared.opening.Opening.{Opening}
 use Rattle.volume_images.specs.Volumes.{shapes_of}
 use Rattle.rack.specs.Opening.{IsOpeningRack}
-use Rattle.rack.specs.Parts.{TakesOpening, PutsOpening, IsOwnedPlace, loggers_out}
-use Rattle.rack.specs.Racks.{base_of_station}
-use Rattle.rack.specs.Rests.{image_here, segment_here, pool_pass, spindle_pass, held_here, indexes_here, away_with, IsPassAt, IsRestBut, IsImageRest, IsPart, IsHolding, IsHeldHere, OnlyAccess}
-use Rattle.rack.specs.declared.heads_said.Said.{Said}
-use Rattle.rack.specs.declared.rack.ImageRest.{ImageRest}
-use Rattle.rack.specs.declared.rack.Rack.{Rack}
-use Rattle.rack.specs.declared.rack.Rest.{Rest}
+use Rattle.rack_parts.specs.Parts.{TakesOpening, PutsOpening, IsOwnedPlace, loggers_out}
+use Rattle.rack_parts.specs.Racks.{base_of_station}
+use Rattle.rack_parts.specs.Rests.{image_here, segment_here, pool_pass, spindle_pass, held_here, indexes_here, away_with, IsPassAt, IsRestBut, IsImageRest, IsPart, IsHolding, IsHeldHere, OnlyAccess}
+use Rattle.rack_parts.specs.declared.heads_said.Said.{Said}
+use Rattle.rack_parts.specs.declared.rack.ImageRest.{ImageRest}
+use Rattle.rack_parts.specs.declared.rack.Rack.{Rack}
+use Rattle.rack_parts.specs.declared.rack.Rest.{Rest}
 use Rattle.rack.proofs.BackAgain as back_again
 use Rattle.rack.proofs.BackAgain.{as_it_was, of_a_lane, spindle_still, spindle_of_home, spindle_of_lane, still_here, handed_on}
 use Rattle.rack.proofs.Fates.{held_before, held_still}
 use Rattle.rack.proofs.FatesOf.{stayed, went}
 use Rattle.rack.proofs.FaultsKept.{taken_owner}
-use Rattle.rack.proofs.Members.{a_value, segment_in_image, none_in}
+use Rattle.rack_parts.proofs.Members.{a_value, segment_in_image, none_in}
 use Rattle.rack.proofs.OpenAway.{is_pair}
 use Rattle.rack.proofs.Takes.{parts, no_home, no_lane}
 

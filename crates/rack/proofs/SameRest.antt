@@ -9,16 +9,16 @@ use Rattle.wol_model.specs.Blocks.{AreApart}
 use Rattle.logger.specs.declared.shared.Shared.{Shared}
 use Rattle.manager.specs.declared.station.Station.{Station}
 use Rattle.volume_images.specs.Volumes.{shapes_of}
-use Rattle.rack.specs.Rests.{image_here, indexes_here, Away, away_with, AreImageRests, IsHolding, IsHeldHere, IsPart, IsRestBut, AreRooms, IsSegmentHere}
-use Rattle.rack.specs.Owners.{images_taken, BeganInPlace, IsBegun}
-use Rattle.rack.specs.Racks.{base_of_station, AreOut, IsOpenBase}
-use Rattle.rack.specs.Parts.{IsSameRest}
+use Rattle.rack_parts.specs.Rests.{image_here, indexes_here, Away, away_with, AreImageRests, IsHolding, IsHeldHere, IsPart, IsRestBut, AreRooms, IsSegmentHere}
+use Rattle.rack_closing.specs.Owners.{images_taken, BeganInPlace, IsBegun}
+use Rattle.rack_parts.specs.Racks.{base_of_station, AreOut, IsOpenBase}
+use Rattle.rack_parts.specs.Parts.{IsSameRest}
 use Rattle.rack.specs.Opening.{IsOpeningRack, HasBegun, IsStopped}
-use Rattle.rack.specs.Opens.{BeganWith}
-use Rattle.rack.specs.declared.heads_said.Said.{Said}
-use Rattle.rack.specs.declared.rack.ImageRest.{ImageRest}
-use Rattle.rack.specs.declared.rack.Rack.{Rack}
-use Rattle.rack.specs.declared.rack.Rest.{Rest}
+use Rattle.rack_closing.specs.Opens.{BeganWith}
+use Rattle.rack_parts.specs.declared.heads_said.Said.{Said}
+use Rattle.rack_parts.specs.declared.rack.ImageRest.{ImageRest}
+use Rattle.rack_parts.specs.declared.rack.Rack.{Rack}
+use Rattle.rack_parts.specs.declared.rack.Rest.{Rest}
 
 module _ {D : Type 0} (old new : Rest D) (same : IsSameRest old new) where
   images_same : new.images.items ≡ old.images.items

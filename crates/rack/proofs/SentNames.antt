@@ -1,9 +1,8 @@
 -- What a bay tells while images go out of it in order.
-use Rattle.std.proofs.Common.{◌≡◌, ◌≢◌, ⊎_elim, ℕ, zero, suc, ◌+◌, ◌<◌, ◌≤◌, Bool, true, false, cond, List, [], ◌∷◌, ◌++◌, length, get_or, Option, None, Some, option_map, IfSome, Result, Ok, Err, IfOk, IfErr, refl, sym, ap, ◌∙◌, subst, arith, append_assoc}
+use Rattle.std.proofs.Common.{◌≡◌, ◌≢◌, ℕ, zero, suc, ◌+◌, ◌<◌, ◌≤◌, Bool, true, false, cond, List, [], ◌∷◌, ◌++◌, length, Option, None, Some, option_map, IfSome, Result, Ok, Err, IfOk, IfErr, refl, sym, ap, ◌∙◌, subst, arith, append_assoc}
 use Rattle.std.specs.Prelude.{slice_get, is_some, All}
 use Rattle.std.specs.Str.{bytes_eq}
-use Rattle.std.proofs.lemmas.Bool.{cases_lt}
-use Rattle.std.proofs.lemmas.Option.{none-some, same_Some, slice_get_within, get_or_from_slice_get}
+use Rattle.std.proofs.lemmas.Option.{none-some, same_Some}
 use Rattle.std.proofs.lemmas.Slice.Eq.{bytes_eq-Decides}
 use Rattle.wol_disk.specs.Disk.{State}
 use Rattle.wol_bay.specs.Bay.{Name, Image, Told, BayState, at_name, outs, sent_out, IsHome, IsOut}
@@ -14,37 +13,15 @@ use Rattle.volume_images.specs.Formatted.{part_sizes}
 use Rattle.volume_images.specs.Left.{IsTold}
 use Rattle.volume_images.specs.Volumes.{shape_in, MayLeave, NoneOut}
 use Rattle.wol_bay.proofs.NamedApart.{other_gone}
-use Rattle.rack.specs.Rests.{image_here, IsImageOut}
-use Rattle.rack.specs.Opens.{out_names}
+use Rattle.rack_parts.specs.Rests.{image_here, IsImageOut, out_names}
 use Rattle.rack.specs.Opening.{StayedAs, StayedSo, HasSentOut, IsBackAtOnce, IsNextOpened, IsNextRefused}
 use Rattle.rack.specs.Making.{image_by}
-use Rattle.rack.specs.declared.heads_said.Said.{Said}
-use Rattle.rack.specs.declared.volume_fault.VolumeFault.{VolumeFault}
-use Rattle.rack.specs.declared.rack.ImageRest.{ImageRest}
+use Rattle.rack_parts.specs.declared.heads_said.Said.{Said}
+use Rattle.rack_parts.specs.declared.volume_fault.VolumeFault.{VolumeFault}
+use Rattle.rack_parts.specs.declared.rack.ImageRest.{ImageRest}
 use Rattle.rack.proofs.NextRefused.{no_more}
-use Rattle.rack.proofs.Asking.{still_there, at_less, at_new, SameAt}
-
--- two names are the same or not
-pub cases_name : {P : Type 0} (x y : Name) → (x ≡ y → P) → (x ≢ y → P) → P
-cases_name {P} x y one other = go (bytes_eq x y) refl
-  where
-    go : (b : Bool) → bytes_eq x y ≡ b → P
-    go true e = one ((bytes_eq-Decides x y).0 e)
-    go false e = other (λ is. let f : true ≡ false = sym ((bytes_eq-Decides x y).1 is) ∙ e in cc)
-
--- the volumes of a configuration have names of their own
-pub names_differ : (config : Config) → IsValid config → (j k : ℕ) (v w : VolumeConf) → slice_get config.volumes.items j ≡ Some v → slice_get config.volumes.items k ≡ Some w → j ≢ k → v.name ≢ w.name
-names_differ config valid j k v w at at' other = λ same.
-    let vs = config.volumes.items in
-    let lt = slice_get_within vs j v at in
-    let lt' = slice_get_within vs k w at' in
-    let one : get_or vs j v ≡ v = get_or_from_slice_get vs j v v at in
-    let two : get_or vs k v ≡ w = get_or_from_slice_get vs k w v at' in
-    let N : VolumeConf → Name = λ u. u.name in
-    ⊎_elim
-    (λ (below : j < k). (valid.apart j k v below lt').names (ap N one ∙ same ∙ sym (ap N two)))
-    (λ (above : k ≤ j). (valid.apart k j v (omega (arith, above, other)) lt).names (ap N two ∙ sym same ∙ sym (ap N one)))
-    (cases_lt j k)
+use Rattle.rack_closing.proofs.Places.{still_there, at_less, at_new}
+use Rattle.rack.proofs.Asking.{SameAt}
 
 none_out : (D : Type 0) (config : Config) (vs : List VolumeConf) → out_names {D = D} config vs [] ≡ []
 none_out D config [] = refl

@@ -19,15 +19,14 @@ use Rattle.manager.specs.declared.base.ManagerBase.{ManagerBase}
 use Rattle.manager.specs.declared.manager.Manager.{Manager}
 use Rattle.manager.specs.declared.station.Station.{Station}
 use Rattle.manager_recovery.proofs.Lists.{zip_get, zip_length}
-use Rattle.rack.specs.Making.{AreLists, AreEmptyPasses}
-use Rattle.rack.specs.Rests.{IsRow, AreRooms, held_here, list_of}
-use Rattle.rack.specs.Parts.{PutsSpindles, PutsPools, CanDeal, Deals, IsSetUp}
+use Rattle.rack.specs.Making.{AreLists, AreEmptyPasses, PutsSpindles, PutsPools, CanDeal, Deals, IsSetUp}
+use Rattle.rack_parts.specs.Rests.{IsRow, AreRooms, held_here, list_of}
 use Rattle.rack.specs.declared.lists.Lists.{Lists}
-use Rattle.rack.specs.declared.locks.Issued.{Issued}
-use Rattle.rack.specs.declared.rack.Rack.{Rack}
-use Rattle.rack.specs.declared.rack.Rooms.{Rooms}
-use Rattle.rack.specs.declared.rack.VolumePasses.{VolumePasses}
-use Rattle.rack.proofs.Rows.{all_read}
+use Rattle.rack_parts.specs.declared.locks.Issued.{Issued}
+use Rattle.rack_parts.specs.declared.rack.Rack.{Rack}
+use Rattle.rack_parts.specs.declared.rack.Rooms.{Rooms}
+use Rattle.rack_parts.specs.declared.rack.VolumePasses.{VolumePasses}
+use Rattle.rack_parts.proofs.Rows.{all_read}
 use Rattle.rack.proofs.Dealing.{get_take}
 
 there_at : {X : Type 0} (xs : List X) (k : ℕ) → k < length xs → (x : X) × (slice_get xs k ≡ Some x)

@@ -15,10 +15,9 @@ use Rattle.spin_model.specs.declared.spindle.SpindleBase.{SpindleBase}
 use Rattle.seg_pool.specs.declared.base.PoolBase.{PoolBase}
 use Rattle.seg_pool.specs.declared.pool.Pool.{Pool}
 use Rattle.log_segment.specs.declared.free.FreeSegment.{FreeSegment}
-use Rattle.rack.specs.Making.{AreLists}
-use Rattle.rack.specs.Parts.{PutsSpindles, PutsPools, last_of, ArePopped}
+use Rattle.rack.specs.Making.{AreLists, PutsSpindles, PutsPools, last_of, ArePopped}
 use Rattle.rack.specs.declared.lists.Lists.{Lists}
-use Rattle.rack.specs.declared.locks.Issued.{Issued}
+use Rattle.rack_parts.specs.declared.locks.Issued.{Issued}
 
 module _ {X Y : Type 0} where
   pub zip_push : (R : X → Y → Type 0) (xs : List X) (ys : List Y) (x : X) (y : Y) → AllZip R xs ys → R x y → AllZip R (xs ++ x ∷ []) (ys ++ y ∷ [])

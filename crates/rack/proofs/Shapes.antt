@@ -8,7 +8,7 @@ use Rattle.wol_config.specs.Configs.{IsValid}
 use Rattle.wol_config.specs.declared.config.Config.{Config}
 use Rattle.wol_config.specs.declared.config.VolumeConf.{VolumeConf}
 use Rattle.volume_images.specs.Volumes.{shape_in, shapes_of}
-use Rattle.rack.proofs.Asking.{some_at}
+use Rattle.rack_closing.proofs.Places.{some_at}
 
 -- the sizes of a valid configuration are in their ranges
 pub valid_shape : (config : Config) → IsValid config → (k : ℕ) (s : Shape) → slice_get (shapes_of config) k ≡ Some s → IsShape s × (s.segment_blocks ≡ config.segment_blocks)

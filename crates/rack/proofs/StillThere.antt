@@ -7,19 +7,19 @@ use Rattle.std.proofs.lemmas.Option.{get_or_from_slice_get, slice_get_within, sl
 use Rattle.wol_disk.specs.Disk.{Block, State}
 use Rattle.wol_model.specs.Heads.{Shape}
 use Rattle.wol_model.specs.Images.{Images, image_of}
-use Rattle.rack.specs.Opens.{IsThere}
+use Rattle.rack_closing.specs.Opens.{IsThere}
 use Rattle.wol_bay.specs.Bay.{Name, Told, at_name}
 use Rattle.wol_config.specs.declared.config.Config.{Config}
 use Rattle.wol_config.specs.declared.config.VolumeConf.{VolumeConf}
 use Rattle.manager.proofs.Lanes.{get_set, get_other}
 use Rattle.volume_images.specs.Volumes.{shapes_of, image_read, images_read, MayLeave, AreLeft}
-use Rattle.rack.specs.Closes.{AreLeftOfParts}
-use Rattle.rack.specs.Owners.{HadRefused}
-use Rattle.rack.specs.Rests.{image_here}
-use Rattle.rack.specs.declared.rack.ImageRest.{ImageRest}
-use Rattle.rack.specs.declared.rack.Rack.{Rack}
-use Rattle.rack.proofs.LeftImage.{volume_at}
-use Rattle.rack.proofs.Reopening.{reads_are_left}
+use Rattle.rack_closing.specs.Closes.{AreLeftOfParts}
+use Rattle.rack_closing.specs.Owners.{HadRefused}
+use Rattle.rack_parts.specs.Rests.{image_here}
+use Rattle.rack_parts.specs.declared.rack.ImageRest.{ImageRest}
+use Rattle.rack_parts.specs.declared.rack.Rack.{Rack}
+use Rattle.rack_closing.proofs.LeftImage.{volume_at}
+use Rattle.rack_closing.proofs.Reopening.{reads_are_left}
 
 -- whatever a crash had left of the images, that of volume v was there
 abbrev pub WasThere : Config → Told → (v : ℕ) → Type 0

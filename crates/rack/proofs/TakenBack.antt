@@ -21,25 +21,25 @@ use Rattle.spin_model.specs.Spun.{state_of}
 use Rattle.spin_model.specs.declared.spun.Spun.{Spun}
 use Rattle.volume_images.specs.Left.{IsTold}
 use Rattle.volume_images.specs.Volumes.{shape_in, shapes_of, MayLeave, AreLeft}
-use Rattle.rack.specs.Rests.{image_here, segment_here}
-use Rattle.rack.specs.Closing.{GivesBack}
-use Rattle.rack.specs.Owners.{RecoversSame}
-use Rattle.rack.specs.Opens.{IsThere, LeavesAll, KeepsAllSound, HasFaulty, RefusesVolume}
+use Rattle.rack_parts.specs.Rests.{image_here, segment_here}
+use Rattle.rack_parts.specs.Closing.{GivesBack}
+use Rattle.rack_closing.specs.Owners.{RecoversSame}
+use Rattle.rack_closing.specs.Opens.{IsThere, LeavesAll, KeepsAllSound, HasFaulty, RefusesVolume}
 use Rattle.rack.specs.Opening.{AreAsked, HasSentOut, StayedSo, LeavesNoMore, WasAtEntry, said_at}
-use Rattle.rack.specs.Parts.{IsRestored, Restores}
-use Rattle.rack.specs.declared.heads_said.Said.{Said}
+use Rattle.rack_parts.specs.Parts.{IsRestored, Restores}
+use Rattle.rack_parts.specs.declared.heads_said.Said.{Said}
 use Rattle.rack.specs.declared.images.Images.{Images as Asked}
-use Rattle.rack.specs.declared.rack.ImageRest.{ImageRest}
-use Rattle.rack.specs.declared.volume_fault.VolumeFault.{VolumeFault}
-use Rattle.rack.proofs.AllBack.{both_slices, slice_join}
-use Rattle.rack.proofs.Asking.{some_at, refuses_later}
-use Rattle.rack.proofs.CutParts.{reads_range}
-use Rattle.rack.proofs.KeptImages.{IsKeptImage, AreTwo, IsBefore, kept_before, before_same, before_all}
-use Rattle.rack.proofs.LeftImage.{IsLeftNow, left_image}
-use Rattle.rack.proofs.NewFaults.{told_each}
-use Rattle.rack.proofs.SameRecovered.{SegmentsKeep, keeping}
-use Rattle.rack.proofs.SentNames.{names_differ}
-use Rattle.rack.proofs.SoundBefore.{sound_before}
+use Rattle.rack_parts.specs.declared.rack.ImageRest.{ImageRest}
+use Rattle.rack_parts.specs.declared.volume_fault.VolumeFault.{VolumeFault}
+use Rattle.rack_closing.proofs.Places.{both_slices, slice_join, some_at}
+use Rattle.rack.proofs.Asking.{refuses_later}
+use Rattle.rack_closing.proofs.CutParts.{reads_range}
+use Rattle.rack_closing.proofs.KeptImages.{IsKeptImage, AreTwo, IsBefore, kept_before, before_same, before_all}
+use Rattle.rack_closing.proofs.LeftImage.{IsLeftNow, left_image}
+use Rattle.rack_closing.proofs.NewFaults.{told_each}
+use Rattle.rack_closing.proofs.SameRecovered.{SegmentsKeep, keeping}
+use Rattle.rack_closing.proofs.Names.{names_differ}
+use Rattle.rack_closing.proofs.SoundBefore.{sound_before}
 use Rattle.rack.proofs.StillThere.{WasThere, conf_there, there_may}
 use Rattle.rack.proofs.TakenOut.{idle_of_free, same_here, again}
 

@@ -25,24 +25,25 @@ use Rattle.spin_model.specs.declared.spun.Spun.{Spun}
 use Rattle.volume_images.specs.Accepted.{head_place}
 use Rattle.volume_images.specs.Volumes.{shape_in, shapes_of}
 use Rattle.rack.specs.Opening.{IsCutOf, SaysOf, WasAtEntry, IsTaken, HasBegun, AreRefusedBelow, said_at, fault_at}
-use Rattle.rack.specs.Opens.{IsAsRead, IsLeftHere, IsGone, RefusesVolume}
-use Rattle.rack.specs.Owners.{images_taken}
-use Rattle.rack.specs.Racks.{base_of_station}
-use Rattle.rack.specs.Rests.{image_here, segment_here, IsSegmentHere}
-use Rattle.rack.specs.Parts.{IsSetUp, holder_by, of_head}
-use Rattle.rack.specs.PoolUses.{HadSegments, holder_of}
+use Rattle.rack_closing.specs.Opens.{IsAsRead, IsLeftHere, IsGone, RefusesVolume}
+use Rattle.rack_closing.specs.Owners.{images_taken}
+use Rattle.rack_parts.specs.Racks.{base_of_station}
+use Rattle.rack_parts.specs.Rests.{image_here, segment_here, IsSegmentHere}
+use Rattle.rack.specs.Making.{IsSetUp}
+use Rattle.rack_parts.specs.Parts.{holder_by, of_head}
+use Rattle.rack_closing.specs.PoolUses.{HadSegments, holder_of}
 use Rattle.rack.specs.declared.all.Taken.{Taken}
-use Rattle.rack.specs.declared.heads_said.Said.{Said}
-use Rattle.rack.specs.declared.locks.Issued.{Issued}
-use Rattle.rack.specs.declared.rack.ImageRest.{ImageRest}
-use Rattle.rack.specs.declared.rack.Rack.{Rack}
-use Rattle.rack.specs.declared.volume_fault.VolumeFault.{VolumeFault}
-use Rattle.rack.specs.declared.volume_fault.VolumeFault.TheVariants.{Absent, WrongLength, Refused, LabelFault, BayFailed}
-use Rattle.rack.proofs.Asking.{some_at}
-use Rattle.rack.proofs.CutParts.{reads_range}
+use Rattle.rack_parts.specs.declared.heads_said.Said.{Said}
+use Rattle.rack_parts.specs.declared.locks.Issued.{Issued}
+use Rattle.rack_parts.specs.declared.rack.ImageRest.{ImageRest}
+use Rattle.rack_parts.specs.declared.rack.Rack.{Rack}
+use Rattle.rack_parts.specs.declared.volume_fault.VolumeFault.{VolumeFault}
+use Rattle.rack_parts.specs.declared.volume_fault.VolumeFault.TheVariants.{Absent, WrongLength, Refused, LabelFault, BayFailed}
+use Rattle.rack_closing.proofs.Places.{some_at}
+use Rattle.rack_closing.proofs.CutParts.{reads_range}
 use Rattle.rack.proofs.FirstOpening.{some_of}
 use Rattle.rack.proofs.FirstRest.{from_map}
-use Rattle.rack.proofs.Members.{none_in}
+use Rattle.rack_parts.proofs.Members.{none_in}
 use Rattle.rack.proofs.TakenReady.{IsLess, less, none_before, silent, same_said, says, still}
 
 -- a refusal of an image is one of the rack where the image isn't out
@@ -120,10 +121,10 @@ module _ {D : Type 0} (tells : Bool) (state : D → State) (config : Config) (va
     pub begun_first : HasBegun state config old t.images.said.items 0 r
     begun_first = record {
       began = record {
-        stations = subst (All (λ (s : Station D). Rattle.rack.specs.Owners.IsBegun config (images_taken config r.rest.images.items old) (base_of_station s).volume.began)) (sym set_up.stations.0)
-            (All-nil (λ (s : Station D). Rattle.rack.specs.Owners.IsBegun config (images_taken config r.rest.images.items old) (base_of_station s).volume.began));
-        placed = subst (All (λ (s : Station D). Rattle.rack.specs.Owners.BeganInPlace config (images_taken config r.rest.images.items old) (base_of_station s))) (sym set_up.stations.0)
-            (All-nil (λ (s : Station D). Rattle.rack.specs.Owners.BeganInPlace config (images_taken config r.rest.images.items old) (base_of_station s)));
+        stations = subst (All (λ (s : Station D). Rattle.rack_closing.specs.Owners.IsBegun config (images_taken config r.rest.images.items old) (base_of_station s).volume.began)) (sym set_up.stations.0)
+            (All-nil (λ (s : Station D). Rattle.rack_closing.specs.Owners.IsBegun config (images_taken config r.rest.images.items old) (base_of_station s).volume.began));
+        placed = subst (All (λ (s : Station D). Rattle.rack_closing.specs.Owners.BeganInPlace config (images_taken config r.rest.images.items old) (base_of_station s))) (sym set_up.stations.0)
+            (All-nil (λ (s : Station D). Rattle.rack_closing.specs.Owners.BeganInPlace config (images_taken config r.rest.images.items old) (base_of_station s)));
         left = λ k v before image at there here.
             let e = entered k v image at (sym (now k) ∙ here) in
             let same : e.entry.image ≡ before = same_Some e.entry.image before (sym e.entry.there ∙ there) in

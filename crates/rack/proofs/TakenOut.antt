@@ -16,15 +16,14 @@ use Rattle.log_layout.specs.declared.segment.SegHead.TheVariants.{Free, Owned}
 use Rattle.spin_model.specs.declared.spun.Spun.{Spun}
 use Rattle.volume_images.specs.Accepted.{HasHead}
 use Rattle.volume_images.specs.Volumes.{shape_in, shapes_of, NoneOut}
-use Rattle.rack.specs.Rests.{image_here, segment_here, IsImageRest}
-use Rattle.rack.specs.Closing.{IsComplete, LeavesNoneOut}
-use Rattle.rack.specs.Opens.{out_names}
+use Rattle.rack_parts.specs.Rests.{image_here, segment_here, IsImageRest, out_names}
+use Rattle.rack_parts.specs.Closing.{IsComplete, LeavesNoneOut}
 use Rattle.rack.specs.Opening.{AreAsked, HasSentOut, said_at}
-use Rattle.rack.specs.Parts.{CanIssue, Restores}
-use Rattle.rack.specs.declared.heads_said.Said.{Said}
+use Rattle.rack_parts.specs.Parts.{CanIssue, Restores}
+use Rattle.rack_parts.specs.declared.heads_said.Said.{Said}
 use Rattle.rack.specs.declared.images.Images.{Images}
-use Rattle.rack.specs.declared.rack.ImageRest.{ImageRest}
-use Rattle.rack.proofs.Asking.{some_at}
+use Rattle.rack_parts.specs.declared.rack.ImageRest.{ImageRest}
+use Rattle.rack_closing.proofs.Places.{some_at}
 use Rattle.rack.proofs.SentNames.{names_alike, none_named}
 
 -- a segment with a free head is idle
@@ -116,12 +115,12 @@ module _ {D : Type 0} (tells : Bool) (state : D → State) (config : Config) (b 
             let heads : length said.heads.items ≡ s.segments = subst (λ (x : Said). length x.heads.items ≡ s.segments) same was.says.count in
             record {
               rest = record {
-                label = subst (Rattle.rack.specs.Rests.IsPart state k 2) (sym restored.same.label) was.rest.label;
-                home = subst (λ (h : Option (Spun D)). IfSome h (Rattle.rack.specs.Rests.IsPart state k s.home)) (sym restored.same.home) was.rest.home;
+                label = subst (Rattle.rack_parts.specs.Rests.IsPart state k 2) (sym restored.same.label) was.rest.label;
+                home = subst (λ (h : Option (Spun D)). IfSome h (Rattle.rack_parts.specs.Rests.IsPart state k s.home)) (sym restored.same.home) was.rest.home;
                 count = restored.same.count ∙ was.rest.count;
                 segments = λ j p there. by_head j (slice_get said.heads.items j) refl
                     (λ free. let found = restored.free j free in
-                    subst (λ (m : ℕ). Rattle.rack.specs.Rests.IsPart state k m p) (sym blocks) (subst (Rattle.rack.specs.Rests.IsPart state k config.segment_blocks) (same_Some found.0 p (sym found.1 ∙ there)) found.2.part))
+                    subst (λ (m : ℕ). Rattle.rack_parts.specs.Rests.IsPart state k m p) (sym blocks) (subst (Rattle.rack_parts.specs.Rests.IsPart state k config.segment_blocks) (same_Some found.0 p (sym found.1 ∙ there)) found.2.part))
                     (λ owner owned. was.rest.segments j p (sym (restored.owned j owner owned) ∙ there))
                     (λ none. absurd (beyond j p heads none there (restored.same.count ∙ was.rest.count)));
                 row = subst (λ x. (x.items ≡ []) × (s.segments ≤ Rattle.std.specs.Prelude.vec_capacity x)) (sym restored.same.row) was.rest.row;

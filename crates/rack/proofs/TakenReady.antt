@@ -21,23 +21,25 @@ use Rattle.volume_images.specs.Formatted.{part_sizes}
 use Rattle.volume_images.specs.Volumes.{shape_in, shapes_of, NoneOut}
 use Rattle.volume_images.specs.declared.reading.ImageFault.{ImageFault}
 use Rattle.volume_images.specs.declared.reading.ImageFault.TheVariants as fault
-use Rattle.rack.specs.Making.{AreSettled, AreSpindlesOf}
-use Rattle.rack.specs.Rests.{image_here, segment_here, IsImageOut, IsPart, IsImageRest}
-use Rattle.rack.specs.Racks.{NamesVolumes}
-use Rattle.rack.specs.Opens.{out_names, fault_in_image, RefusesVolume}
+use Rattle.rack_parts.specs.Locks.{AreSettled, AreSpindlesOf}
+use Rattle.rack_parts.specs.Rests.{image_here, segment_here, IsImageOut, IsPart, IsImageRest, out_names}
+use Rattle.rack_parts.specs.Racks.{NamesVolumes}
+use Rattle.rack_closing.specs.Opens.{fault_in_image, RefusesVolume}
 use Rattle.rack.specs.Opening.{HaveHeads, IsSaidOf, IsOut, AreTried, IsOpeningRack, IsTaken, HasSentOut, said_at, fault_at}
-use Rattle.rack.specs.Parts.{IsSameBut, TakesFree, Supplies, IsSetUp, IsIssuedPool}
+use Rattle.rack_parts.specs.Parts.{IsSameBut, TakesFree, Supplies, IsIssuedPool}
+use Rattle.rack.specs.Making.{IsSetUp}
 use Rattle.rack.specs.declared.all.Taken.{Taken}
-use Rattle.rack.specs.declared.heads_said.Said.{Said}
-use Rattle.rack.specs.declared.locks.Issued.{Issued}
-use Rattle.rack.specs.declared.rack.ImageRest.{ImageRest}
-use Rattle.rack.specs.declared.rack.Rack.{Rack}
-use Rattle.rack.specs.declared.volume_fault.VolumeFault.{VolumeFault}
-use Rattle.rack.specs.declared.volume_fault.VolumeFault.TheVariants.{Absent, WrongLength, Refused, LabelFault, BayFailed}
-use Rattle.rack.proofs.Asking.{some_at}
+use Rattle.rack_parts.specs.declared.heads_said.Said.{Said}
+use Rattle.rack_parts.specs.declared.locks.Issued.{Issued}
+use Rattle.rack_parts.specs.declared.rack.ImageRest.{ImageRest}
+use Rattle.rack_parts.specs.declared.rack.Rack.{Rack}
+use Rattle.rack_parts.specs.declared.volume_fault.VolumeFault.{VolumeFault}
+use Rattle.rack_parts.specs.declared.volume_fault.VolumeFault.TheVariants.{Absent, WrongLength, Refused, LabelFault, BayFailed}
+use Rattle.rack_closing.proofs.Places.{some_at}
 use Rattle.rack.proofs.FirstRest.{IsSupplier, AreFirst}
 use Rattle.rack.proofs.FirstOpening.{IsReadyFirst, first_opening}
-use Rattle.rack.proofs.SentNames.{names_out, names_differ, neither, not_this}
+use Rattle.rack.proofs.SentNames.{names_out, neither, not_this}
+use Rattle.rack_closing.proofs.Names.{names_differ}
 
 -- ---- Names
 

@@ -16,14 +16,14 @@ use Rattle.spin_model.specs.declared.spun.Spun.{Spun}
 use Rattle.manager.specs.declared.base.ManagerBase.{ManagerBase}
 use Rattle.manager.specs.declared.station.Station.{Station}
 use Rattle.volume_images.specs.Volumes.{shapes_of}
-use Rattle.rack.specs.Rests.{image_here, segment_here, pool_pass, spindle_pass, away_with, IsRestBut}
-use Rattle.rack.specs.Racks.{base_of_station}
-use Rattle.rack.specs.Parts.{HasPlace, IsUsablePlace, CanTake, IsOwnedPlace, segments_of, segment_in}
+use Rattle.rack_parts.specs.Rests.{image_here, segment_here, pool_pass, spindle_pass, away_with, IsRestBut}
+use Rattle.rack_parts.specs.Racks.{base_of_station}
+use Rattle.rack_parts.specs.Parts.{HasPlace, IsUsablePlace, CanTake, IsOwnedPlace, segments_of, segment_in}
 use Rattle.rack.specs.Opening.{said_at, IsOpeningRack}
 use Rattle.rack.proofs.Shapes.{valid_shape}
-use Rattle.rack.specs.declared.heads_said.Said.{Said}
-use Rattle.rack.specs.declared.rack.ImageRest.{ImageRest}
-use Rattle.rack.specs.declared.rack.Rack.{Rack}
+use Rattle.rack_parts.specs.declared.heads_said.Said.{Said}
+use Rattle.rack_parts.specs.declared.rack.ImageRest.{ImageRest}
+use Rattle.rack_parts.specs.declared.rack.Rack.{Rack}
 
 -- an element of a list that was mapped comes from one
 pub contains_map : {A B : Type 0} (f : A → B) (xs : List A) (y : B) → Contains (map f xs) y → (x : A) × Contains xs x × (f x ≡ y)

@@ -31,28 +31,28 @@ use Rattle.manager_recovery.specs.declared.opening.Opening.{Opening}
 use Rattle.manager_recovery.specs.declared.opening.OwnedPart.{OwnedPart}
 use Rattle.volume_images.specs.Accepted.{head_place}
 use Rattle.volume_images.specs.Volumes.{shape_in, shapes_of}
-use Rattle.rack.specs.Closing.{KeepsButHome, home_here}
-use Rattle.rack.specs.Foreign.{IsForeign}
-use Rattle.rack.specs.Opens.{HadBefore, HadSegmentBefore, IsGone, BeganWith}
+use Rattle.rack_parts.specs.Closing.{KeepsButHome, home_here}
+use Rattle.rack_parts.specs.Foreign.{IsForeign}
+use Rattle.rack_closing.specs.Opens.{HadBefore, HadSegmentBefore, IsGone, BeganWith}
 use Rattle.rack.specs.Opening.{said_at, IsOpeningRack, HasBegun, IsStopped}
-use Rattle.rack.specs.Owners.{BeganInPlace, IsBegun}
-use Rattle.rack.specs.Parts.{TakesOpening, CanPutLanes, PutsManager, loggers_out}
-use Rattle.rack.specs.Racks.{base_of_station, IsOpenBase}
-use Rattle.rack.specs.Rests.{image_here, segment_here, held_here, away_with, IsSegmentHere, IsRestBut, OnlyAccess, AreRooms}
-use Rattle.rack.specs.declared.heads_said.Said.{Said}
-use Rattle.rack.specs.declared.rack.ImageRest.{ImageRest}
-use Rattle.rack.specs.declared.rack.Rack.{Rack}
-use Rattle.rack.specs.declared.rack.Rest.{Rest}
+use Rattle.rack_closing.specs.Owners.{BeganInPlace, IsBegun}
+use Rattle.rack_parts.specs.Parts.{TakesOpening, CanPutLanes, PutsManager, loggers_out}
+use Rattle.rack_parts.specs.Racks.{base_of_station, IsOpenBase}
+use Rattle.rack_parts.specs.Rests.{image_here, segment_here, held_here, away_with, IsSegmentHere, IsRestBut, OnlyAccess, AreRooms}
+use Rattle.rack_parts.specs.declared.heads_said.Said.{Said}
+use Rattle.rack_parts.specs.declared.rack.ImageRest.{ImageRest}
+use Rattle.rack_parts.specs.declared.rack.Rack.{Rack}
+use Rattle.rack_parts.specs.declared.rack.Rest.{Rest}
 use Rattle.rack.proofs.Fates.{HasFate, has_fate, kept_in, freed_in, held_before, kept_says, kept_had, freed_gone, same_by}
-use Rattle.rack.proofs.LanesTaken.{pairs_apart}
-use Rattle.rack.proofs.ManagerBack as back
-use Rattle.rack.proofs.Members.{segment_in_image, in_map, of_recursion}
+use Rattle.rack_parts.proofs.LanesTaken.{pairs_apart}
+use Rattle.rack_parts.proofs.ManagerBack as back
+use Rattle.rack_parts.proofs.Members.{segment_in_image, in_map, of_recursion}
 use Rattle.rack.proofs.NewBase.{owner_new, view_new, others_new, all_new, inside_new, base_new, rest_new, accesses_new, unmanaged}
 use Rattle.rack.proofs.OneClosable.{one_owner}
 use Rattle.rack.proofs.OneOpened.{base_stays, out_stays}
 use Rattle.rack.proofs.OpenAway as away
 use Rattle.rack.proofs.Openable.{IsInImage, parts_in_images}
-use Rattle.rack.proofs.SameOut.{same_out, taken_same}
+use Rattle.rack_closing.proofs.SameOut.{same_out, taken_same}
 use Rattle.rack.proofs.Takes.{contains_map, no_home}
 use Rattle.rack.proofs.Without as without
 
@@ -202,7 +202,7 @@ module _ {D : Type 0} (tells : Bool) (state : D → State) (config : Config) (va
         let one : g.0 ≡ s.0 = same_Some g.0 s.0 (sym g.1 ∙ s.1) in
         let given : HasGiven o.owned.items opens.fates s.0 l = subst (λ (x : Lane D). HasGiven o.owned.items opens.fates x l) one g.2 in
         let held = held_before o.owned.items opens.fates s.0 l s.2.pool given h.index each.holding in
-        let lane = All-contains (λ (x : Lane D). Rattle.rack.specs.Parts.IsNewLane state r.rest id (Rattle.rack.specs.Parts.segments_of config (logger_of x)) x) o.lanes.items s.0 takes.lanes.each
+        let lane = All-contains (λ (x : Lane D). Rattle.rack_parts.specs.Parts.IsNewLane state r.rest id (Rattle.rack_parts.specs.Parts.segments_of config (logger_of x)) x) o.lanes.items s.0 takes.lanes.each
         (in_lanes.0, slice_get_within o.lanes.items in_lanes.0 s.0 s.1, get_or_from_slice_get o.lanes.items in_lanes.0 s.0 s.0 s.1) in
         let place = ready.since id (logger_of s.0) h.index (pool_of s.0) lane.pool held.0 in
         let from = contains_map place_of o.owned.items (logger_of s.0, h.index) (takes.owned.all (logger_of s.0) h.index place) in

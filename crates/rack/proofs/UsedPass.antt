@@ -12,9 +12,9 @@ use Rattle.wol_model.specs.Journal.{Needed, Done}
 use Rattle.logger.specs.Lanes.{AreAccesses}
 use Rattle.spin_model.specs.declared.spindle.Spindle.{Spindle}
 use Rattle.spin_model.specs.declared.spindle.SpindleBase.{SpindleBase}
-use Rattle.rack.specs.Making.{IsInOrder, AreSettled, AreSpindlesOf}
-use Rattle.rack.specs.Rests.{IsSpindleLock}
-use Rattle.rack.specs.declared.locks.Issued.{Issued}
+use Rattle.rack_parts.specs.Locks.{IsInOrder, AreSettled, AreSpindlesOf}
+use Rattle.rack_parts.specs.Rests.{IsSpindleLock}
+use Rattle.rack_parts.specs.declared.locks.Issued.{Issued}
 
 -- a pass made no turn, or two of an access
 abbrev pub Uses : (p q : PassOf Spindle SpindleBase) → Type 0

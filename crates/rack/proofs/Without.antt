@@ -9,11 +9,11 @@ use Rattle.wol_config.specs.declared.config.Config.{Config}
 use Rattle.spin_model.specs.declared.spun.Spun.{Spun}
 use Rattle.manager_recovery.specs.Opening.{place_of}
 use Rattle.manager_recovery.specs.declared.opening.Opening.{Opening}
-use Rattle.rack.specs.Rests.{image_here, segment_here, pool_pass, spindle_pass, held_here}
-use Rattle.rack.specs.Parts.{TakesOpening, IsSameBut, loggers_out, segment_in, with_home}
-use Rattle.rack.specs.declared.heads_said.Said.{Said}
-use Rattle.rack.specs.declared.rack.ImageRest.{ImageRest}
-use Rattle.rack.specs.declared.rack.Rest.{Rest}
+use Rattle.rack_parts.specs.Rests.{image_here, segment_here, pool_pass, spindle_pass, held_here}
+use Rattle.rack_parts.specs.Parts.{TakesOpening, IsSameBut, loggers_out, segment_in, with_home}
+use Rattle.rack_parts.specs.declared.heads_said.Said.{Said}
+use Rattle.rack_parts.specs.declared.rack.ImageRest.{ImageRest}
+use Rattle.rack_parts.specs.declared.rack.Rest.{Rest}
 
 module _ {D : Type 0} (state : D → State) (config : Config) (said : List (Option Said)) (id : ℕ) (view : List ℕ) (old new : Rest D) (o : Opening D) (takes : TakesOpening state config old new said id view o) where
   -- the image of volume k then

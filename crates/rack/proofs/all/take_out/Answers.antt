@@ -7,15 +7,15 @@ use Rattle.spin_model.specs.declared.spindle.SpindleBase.{SpindleBase}
 use Rattle.wol_bay.specs.Bay.{IsHome, outs}
 use Rattle.wol_config.specs.declared.config.VolumeConf.{VolumeConf}
 use Rattle.volume_images.specs.Left.{IsTold}
-use Rattle.rack.specs.Closing.{GivesBack, LeavesNoneOut}
-use Rattle.rack.specs.Making.{IsWholeLock, AreSpindlesOf}
-use Rattle.rack.specs.Parts.{CanIssue, IsIssuedPool, Supplies, Restores}
-use Rattle.rack.specs.Rests.{image_here}
-use Rattle.rack.specs.declared.heads_said.Said.{Said}
-use Rattle.rack.specs.declared.locks.Issued.{Issued}
-use Rattle.rack.specs.declared.rack.ImageRest.{ImageRest}
+use Rattle.rack_parts.specs.Closing.{GivesBack, LeavesNoneOut}
+use Rattle.rack_parts.specs.Locks.{IsWholeLock, AreSpindlesOf}
+use Rattle.rack_parts.specs.Parts.{CanIssue, IsIssuedPool, Supplies, Restores}
+use Rattle.rack_parts.specs.Rests.{image_here}
+use Rattle.rack_parts.specs.declared.heads_said.Said.{Said}
+use Rattle.rack_parts.specs.declared.locks.Issued.{Issued}
+use Rattle.rack_parts.specs.declared.rack.ImageRest.{ImageRest}
 use Rattle.rack.proofs.SentNames.{names_out}
-use Rattle.rack.proofs.Issues.{on_err}
+use Rattle.rack_parts.proofs.Issues.{on_err}
 use Rattle.rack.proofs.OthersKept.{others_same, others_then, back_others, sent_others}
 use Rattle.rack.proofs.TakenBack.{left_back, sound_back, nothing_done, left_again, sound_again}
 use Rattle.rack.proofs.TakenOut.{shape_here, may_issue, again, same_here, home_again}

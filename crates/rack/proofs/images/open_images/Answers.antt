@@ -5,8 +5,9 @@ use Rattle.wol_bay.specs.Bay.{IsHome}
 use Rattle.wol_config.specs.declared.config.VolumeConf.{VolumeConf}
 use Rattle.volume_images.specs.Volumes.{shape_in}
 use Rattle.rack.specs.Opening.{HasSentOut, AreAsked}
-use Rattle.rack.proofs.Asking.{some_at, asked_more, asked_later, none_asked}
-use Rattle.rack.proofs.NewFaults.{same_faulty}
+use Rattle.rack_closing.proofs.Places.{some_at}
+use Rattle.rack.proofs.Asking.{asked_more, asked_later, none_asked}
+use Rattle.rack_closing.proofs.NewFaults.{same_faulty}
 use Rattle.rack.proofs.OthersKept.{others_same, others_then, back_others, sent_others}
 use Rattle.rack.proofs.SentNames.{same_until, sent_on, none_sent, next_home, names_out, sent_same}
 use Rattle.rack.proofs.AllBack.{all_back, all_whole, nothing_out}

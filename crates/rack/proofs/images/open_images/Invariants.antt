@@ -1,5 +1,5 @@
 use Rattle.std.proofs.Common.{◌≡◌, ◌≤◌, length, vec_capacity}
-use Rattle.rack.specs.Making.{AreSpindlesOf}
+use Rattle.rack_parts.specs.Locks.{AreSpindlesOf}
 use Rattle.rack.specs.Opening.{AreAsked, HasSentOut}
 use Rattle.rack.proofs.images.open_images.Given as goal
 

@@ -1,0 +1,11 @@
+use Rattle.std.proofs.Common.{◌≡◌, ◌≤◌, map, take, is_some, length, vec_capacity}
+use Rattle.rack_parts.specs.declared.rack.ImageRest.{ImageRest}
+use Rattle.std.specs.Prelude.{Option}
+use Rattle.rack_parts.proofs.rack.Rest.present.Given as goal
+
+-- those of the images so far
+abbrev pub invariant-loop-image : goal.invariant-loop-image
+invariant-loop-image g l = record {
+  so_far : l.present.items ≡ map (λ (i : Option (ImageRest g.row.D.Denot)). is_some i) (take l.image-index l.self.images.items);
+  room : length l.self.images.items ≤ vec_capacity l.present;
+}
